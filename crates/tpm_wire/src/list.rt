@@ -1,0 +1,79 @@
+//! Entries one after the other.
+
+ghost use Rattle.std.specs.Prelude.{◌≡◌, ◌-◌, ℕ, ◌+◌, ◌*◌, ◌≤◌, ◌<◌, ◌^◌, length, true, false};
+ghost use Rattle.tpm_wire.specs.Layout.Form.{list};
+ghost use Rattle.tpm_wire.specs.Buffers.{TakesAs, TakesNumbered, numbered};
+ghost use Rattle.std.specs.Prelude.{◌++◌, All, IfOk};
+ghost use Rattle.tpm_wire.specs.Spelling.{spelling, IsSpelled, joined_all};
+
+use crate::cursor::Cursor;
+use crate::refusal::Refusal;
+use crate::wire::{Buffer, Wire};
+use arrayvec::ArrayVec;
+
+/// Reads so many entries.
+pub fn take_list<T: Wire + Default + Drop, const N: usize>(
+    cursor: &mut Cursor<'_>,
+    count: usize,
+) -> Result<ArrayVec<T, N>, Refusal>
+    requires { count ≤ N }
+    ensures reads { TakesAs (λ v. v.items) (list count false (λ _. T.layout)) cursor.old cursor.new result }
+    ensures spelled { IfOk result (λ v. cursor.old.here.rest ≡ joined_all T.layout v.items ++ cursor.new.here.rest) }
+    ensures count { IfOk result (λ v. length v.items ≡ count) }
+{
+    let mut entries = ArrayVec::new();
+    for _ in 0..count {
+        entries.push(T::take(cursor)?);
+    }
+    Ok(entries)
+}
+
+/// Reads entries to the end of the area, but at most `N`. To the codes of entry `i` it adds `first + 0x100 * i`.
+pub fn take_rest<T: Wire + Default + Drop, const N: usize>(
+    cursor: &mut Cursor<'_>,
+    first: u32,
+) -> Result<ArrayVec<T, N>, Refusal>
+    requires { first + 0x100 * N ≤ 0xF40 }
+    ensures reads { TakesNumbered (λ v. v.items) (list N true (λ before. numbered (first + 0x100 * length before) T.layout)) cursor.old cursor.new result }
+    ensures spelled { IfOk result (λ v. cursor.old.here.rest ≡ joined_all T.layout v.items ++ cursor.new.here.rest) }
+{
+    let mut entries = ArrayVec::new();
+    while cursor.left() > 0 && entries.len() < N {
+        cursor.number(first + 0x100 * entries.len() as u32);
+        entries.push(T::take(cursor)?);
+    }
+    Ok(entries)
+}
+
+/// Each of the entries has a spelling.
+pub fn known_list<T: Wire>(entries: &[T])
+    ensures { All (IsSpelled T.layout) entries.now }
+{
+    for entry in entries {
+        entry.known();
+    }
+}
+
+/// Adds the entries' spellings at the end.
+pub fn put_list<T: Wire>(entries: &[T], out: &mut Buffer)
+    requires { length out.old.items + length (joined_all T.layout entries.now) ≤ 4096 }
+    ensures { out.new.items ≡ out.old.items ++ joined_all T.layout entries.now }
+{
+    for entry in entries {
+        entry.put(out);
+    }
+}
+
+/// How many bytes the entries take, of which there are at most eight.
+pub fn list_len<T: Wire>(entries: &[T]) -> usize
+    requires count { length entries.now ≤ 8 }
+    requires short { T.most ≤ 4096 }
+    ensures value { result ≡ length (joined_all T.layout entries.now) }
+    ensures fits { result ≤ length entries.now * T.most }
+{
+    let mut sum = 0;
+    for entry in entries {
+        sum += entry.len();
+    }
+    sum
+}
