@@ -3,12 +3,12 @@ use Rattle.std.proofs.Common.{◌≡◌, ℕ, zero, suc, ◌+◌, ◌-◌, ◌�
 use Rattle.std.specs.Prelude.{◌&&◌}
 use Rattle.std.proofs.lemmas.Bool.{eqb-true, cases_Bool}
 use Rattle.std.proofs.lemmas.List.{take_at, take-append-drop, length-take, length-drop, nil_from_length, drop-append-le}
-use Rattle.tpm_wire.specs.Rules.{Rules}
+use Rattle.tpm_wire.specs.Rules.{Rules, IsSound}
 use Rattle.tpm_wire.specs.Token.{number_of, Here, past, or_fault}
 use Rattle.tpm_wire.specs.Layout.{Form}
 use Rattle.tpm_wire.specs.Reading.{refuse, unless, found, entries, read, ◌>>=◌}
 use Rattle.tpm_wire.specs.Path.{Next, each, steps}
-use Rattle.tpm_wire.proofs.Runs.{IsSound, meant, run}
+use Rattle.tpm_wire.proofs.Runs.{meant, run}
 
 pub bind_same : {A B E : Type 0} (r : Result A E) (f g : A → Result B E) → ((x : A) → f x ≡ g x) → (r >>= f) ≡ (r >>= g)
 bind_same (Ok x) f g e = e x

@@ -29,6 +29,14 @@ raw n = Form.text n (λ bytes. Ok bytes) (λ bytes. bytes)
 abbrev pub to_the_end : {r : Rules} {A : Type 0} → (List A → Form r A) → Form r (List A)
 to_the_end l = Form.by_left (λ left. Form.list left true l)
 
+-- all bytes that are left in the area
+abbrev pub remaining : {r : Rules} → Form r (List ℕ)
+remaining = Form.by_left raw
+
+-- a value, and all bytes that are left behind it in the area
+abbrev pub cut : {r : Rules} {A : Type 0} → Form r A → Form r (A × List ℕ)
+cut l = Form.field (λ x. x.0) l (λ a. Form.field (λ x. x.1) remaining (λ rest. Form.done (a, rest)))
+
 -- the first where the test holds, and otherwise the second
 abbrev pub either : {r : Rules} {A : Type 0} → Bool → Form r A → Form r A → Form r A
 either true x y = x

@@ -1,8 +1,9 @@
 -- Which bytes spell a value, and where others have their fault.
-use Rattle.std.specs.Prelude.{◌≡◌, ◌⊎◌, ℕ, zero, suc, ◌-◌, Bool, true, false, List, [], ◌∷◌, ◌++◌, length, take, drop, Option, Some, None, Result, Ok, Err, ◌==◌, ◌&&◌, if◌then◌else◌}
+use Rattle.std.specs.Prelude.{◌≡◌, ◌⊎◌, ◌↔◌, ℕ, zero, suc, ◌-◌, Bool, true, false, List, [], ◌∷◌, ◌++◌, length, take, drop, Option, Some, None, Result, Ok, Err, ◌==◌, ◌&&◌, if◌then◌else◌}
 use Rattle.tpm_wire.specs.Rules.{Rules}
 use Rattle.tpm_wire.specs.Token.{Token, spelled, spelled_all, number_of, Here, past, at_start, or_fault}
 use Rattle.tpm_wire.specs.Layout.{Form}
+use Rattle.tpm_wire.specs.Reading.{read}
 
 -- What a layout says from a place on: it ends, or asks for a token, and by its value goes on.
 -- Each token has a mark, and a number of bytes that are left in its area.
@@ -108,9 +109,35 @@ abbrev pub Fault : {r : Rules} {A : Type 0} → Form r A → List ℕ → r.Answ
 Fault l bytes e = (path : List Token) × IsPath (start l (length bytes)) (at_start bytes) path
     × IsRefused (after_all (start l (length bytes)) path) (past (length (spelled_all path)) (at_start bytes)) e
 
+-- What a function returned, as view sees it, is what the bytes spell, or else their fault.
+abbrev pub Decodes : {r : Rules} {X A : Type 0} → Form r A → (X → A) → List ℕ → Result X r.Answer → Type 0
+Decodes l view bytes (Ok x) = Spells l (view x) bytes
+Decodes l view bytes (Err e) = Fault l bytes e
+
 -- Bytes spell one value, or have one fault.
 pub record ExactlyOne {r : Rules} {A : Type 0} (l : Form r A) (bytes : List ℕ) : Type 0 where
   pub some : ((x : A) × Spells l x bytes) ⊎ ((e : r.Answer) × Fault l bytes e)
   pub one_value : (x y : A) → Spells l x bytes → Spells l y bytes → x ≡ y
   pub one_fault : (e f : r.Answer) → Fault l bytes e → Fault l bytes f → e ≡ f
   pub not_both : (x : A) (e : r.Answer) → Spells l x bytes → Fault l bytes e → ⊥
+
+-- ---- a part of the bytes
+
+-- what a layout says in an area where so many bytes are left, with nothing behind it
+abbrev pub alone : {r : Rules} {A : Type 0} → r.Mark → Form r A → ℕ → Next r A
+alone mark l left = steps mark l (λ x left. Next.ends x) left
+
+-- From a place on the bytes begin with a path that ends with the value, and behind it is the other place.
+abbrev pub Begins : {r : Rules} {A : Type 0} → r.Mark → Form r A → A → Here → Here → Type 0
+Begins mark l x h behind = (path : List Token) × IsPath (alone mark l (length h.rest)) h path
+    × (behind ≡ past (length (spelled_all path)) h) × (ended (after_all (alone mark l (length h.rest)) path) ≡ Some x)
+
+-- From a place on the bytes begin with a path, and the token that is asked for after it is refused there with this answer.
+abbrev pub FaultFrom : {r : Rules} {A : Type 0} → r.Mark → Form r A → Here → r.Answer → Type 0
+FaultFrom mark l h e = (path : List Token) × IsPath (alone mark l (length h.rest)) h path
+    × IsRefused (after_all (alone mark l (length h.rest)) path) (past (length (spelled_all path)) h) e
+
+-- What reading answers in the rest of an area is what its one path says.
+pub record ReadsItsPath {r : Rules} {A : Type 0} (mark : r.Mark) (l : Form r A) (h : Here) : Type 0 where
+  pub value : (x : A) (behind : Here) → (read mark l h ≡ Ok (x, behind)) ↔ Begins mark l x h behind
+  pub fault : (e : r.Answer) → (read mark l h ≡ Err e) ↔ FaultFrom mark l h e

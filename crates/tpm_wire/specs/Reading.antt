@@ -1,5 +1,5 @@
 -- Reading from left to right, with the first fault that is met.
-use Rattle.std.specs.Prelude.{ℕ, zero, suc, ◌-◌, Bool, List, [], ◌∷◌, ◌++◌, length, take, Option, Some, None, Result, Ok, Err, ◌==◌, ◌&&◌, if◌then◌else◌}
+use Rattle.std.specs.Prelude.{◌≡◌, ℕ, zero, suc, ◌-◌, Bool, List, [], ◌∷◌, ◌++◌, length, take, Option, Some, None, Result, Ok, Err, ◌==◌, ◌&&◌, if◌then◌else◌}
 use Rattle.tpm_wire.specs.Rules.{Rules}
 use Rattle.tpm_wire.specs.Token.{number_of, Here, past, at_start, or_fault}
 use Rattle.tpm_wire.specs.Layout.{Form}
@@ -45,3 +45,8 @@ finish r x = if length x.1.rest == 0 then Ok x else refuse r r.whole r.over x.1
 
 abbrev pub read_all : {r : Rules} {A : Type 0} → Form r A → List ℕ → Result A r.Answer
 read_all {r = r} l bytes = read r.whole l (at_start bytes) >>= finish r >>= λ x. Ok x.0
+
+-- What a function returned, as view sees it, is what reading gives.
+abbrev pub Gives : {X A E : Type 0} → (X → A) → Result A E → Result X E → Type 0
+Gives view r (Ok x) = r ≡ Ok (view x)
+Gives view r (Err e) = r ≡ Err e
