@@ -1,0 +1,30 @@
+-- The hash algorithms of this profile: TPMI_ALG_HASH (Part 2, 9.27, with the numbers of 6.3).
+use Rattle.std.specs.Prelude.{ℕ, Option, Some, None, ◌==◌, if◌then◌else◌}
+use Rattle.tpm_wire.specs.Buffers.{Layout}
+use Rattle.tpm_wire.specs.Layout.Form.{number}
+use Rattle.tpm_types.specs.declared.alg.Alg.{Alg}
+use Rattle.tpm_types.specs.declared.alg.Alg.TheVariants.{Sha1, Sha256}
+
+abbrev pub alg_number : Alg → ℕ
+alg_number Sha1 = 0x0004
+alg_number Sha256 = 0x000B
+
+abbrev pub alg_of : ℕ → Option Alg
+alg_of n = if n == 0x0004 then Some Sha1 else if n == 0x000B then Some Sha256 else None
+
+-- how many bytes its digests have
+abbrev pub digest_len : Alg → ℕ
+digest_len Sha1 = 20
+digest_len Sha256 = 32
+
+-- how many bytes it takes at a time, which are those of an HMAC's padded key (FIPS 180-4, section 1; FIPS 198-1, section 3)
+abbrev pub block_len : Alg → ℕ
+block_len Sha1 = 64
+block_len Sha256 = 64
+
+-- the code of another hash
+abbrev pub hash_code : ℕ
+hash_code = 0x083
+
+unfoldable pub hash : Layout Alg
+hash = number 2 (λ left. alg_of) alg_number hash_code

@@ -1,0 +1,4 @@
+pub mod Limits
+pub mod Alg
+pub mod Tpma
+pub mod Tpm2b

@@ -1,0 +1,21 @@
+//! What a third bank of registers changes.
+
+use tpm_wire::Bounded;
+
+/// How many bytes a digest, a nonce and an authorization value have at most: the longest digest of a bank.
+pub const DIGEST_BYTES: usize = 32;
+
+/// How many bytes a Name has at most: the number of a hash, and its digest.
+pub const NAME_BYTES: usize = 34;
+
+/// How many bytes the public area of an NV index has at most.
+pub const PUBLIC_BYTES: usize = 46;
+
+/// How many entries a list with one for each bank has at most.
+pub const BANKS: usize = 2;
+
+/// A nonce: TPM2B_NONCE (Part 2, 10.4.4).
+pub type Nonce = Bounded<DIGEST_BYTES>;
+
+/// An authorization value, or what proves it: TPM2B_AUTH (Part 2, 10.4.5).
+pub type AuthValue = Bounded<DIGEST_BYTES>;

@@ -1,0 +1,136 @@
+//! Sized buffers: TPM2B_DIGEST and TPM2B_NAME (Part 2, 10.4.2 and 10.5.3).
+
+ghost use Rattle.std.specs.Prelude.{◌≡◌, ℕ, List, ◌+◌, ◌≤◌, ◌<◌, length, MatchOption};
+ghost use Rattle.std.specs.Int.{to_be_bytes, w32};
+ghost use Rattle.tpm_types.specs.Limits.{digest_bytes, name_bytes};
+ghost use Rattle.tpm_types.specs.Tpm2b.{digest, name};
+
+use crate::limits::{DIGEST_BYTES, NAME_BYTES};
+use std::marker::Model;
+use tpm_wire::{Bounded, Buffer, Cursor, Refusal, Wire};
+
+/// A digest, TPM2B_DIGEST: at most as many bytes as the longest digest of a bank.
+#[derive(Default, Drop)]
+pub struct Digest {
+    bytes: Bounded<DIGEST_BYTES>,
+}
+
+impl Model for Digest {
+    ghost Value = { List ℕ };
+
+    ghost view = { λ d. d.bytes };
+
+    ghost invariant = { λ d. length d.bytes ≤ digest_bytes };
+}
+
+impl Digest {
+    /// The digest of these bytes, if they are at most `DIGEST_BYTES`.
+    pub fn new(bytes: &[u8]) -> Option<Self>
+        ensures { MatchOption result (digest_bytes < length bytes.now) (λ d. (d ≡ bytes.now) × (length bytes.now ≤ digest_bytes)) }
+    {
+        match Bounded::new(bytes) {
+            Some(bytes) => Some(Digest { bytes }),
+            None => None,
+        }
+    }
+
+    /// Its bytes.
+    pub fn as_slice(&self) -> &[u8]
+        ensures value { result.now ≡ self.now }
+        ensures fits { length result.now ≤ digest_bytes }
+    {
+        self.bytes.as_slice()
+    }
+}
+
+impl Wire for Digest {
+    ghost layout = { digest };
+
+    ghost most = { digest_bytes + 2 };
+
+    fn known(&self) {
+        self.bytes.known();
+    }
+
+    fn len(&self) -> usize {
+        self.bytes.len()
+    }
+
+    fn put(&self, out: &mut Buffer) {
+        self.bytes.put(out);
+    }
+
+    fn take(cursor: &mut Cursor<'_>) -> Result<Self, Refusal> {
+        Ok(Digest {
+            bytes: Bounded::take(cursor)?,
+        })
+    }
+}
+
+/// The Name of an entity, TPM2B_NAME: the number of a hash and a digest, or 4 bytes of a handle.
+#[derive(Default, Drop)]
+pub struct Name {
+    bytes: Bounded<NAME_BYTES>,
+}
+
+impl Model for Name {
+    ghost Value = { List ℕ };
+
+    ghost view = { λ n. n.bytes };
+
+    ghost invariant = { λ n. length n.bytes ≤ name_bytes };
+}
+
+impl Name {
+    /// The Name of these bytes, if they are at most `NAME_BYTES`.
+    pub fn new(bytes: &[u8]) -> Option<Self>
+        ensures { MatchOption result (name_bytes < length bytes.now) (λ n. (n ≡ bytes.now) × (length bytes.now ≤ name_bytes)) }
+    {
+        match Bounded::new(bytes) {
+            Some(bytes) => Some(Name { bytes }),
+            None => None,
+        }
+    }
+
+    /// The Name of a register, a session or a permanent handle: the 4 bytes of its handle (Part 1, 16).
+    pub fn of_handle(handle: u32) -> Self
+        ensures { result ≡ to_be_bytes w32 handle }
+    {
+        match Name::new(&handle.to_be_bytes()) {
+            Some(name) => name,
+            None => unreachable!(),
+        }
+    }
+
+    /// Its bytes.
+    pub fn as_slice(&self) -> &[u8]
+        ensures value { result.now ≡ self.now }
+        ensures fits { length result.now ≤ name_bytes }
+    {
+        self.bytes.as_slice()
+    }
+}
+
+impl Wire for Name {
+    ghost layout = { name };
+
+    ghost most = { name_bytes + 2 };
+
+    fn known(&self) {
+        self.bytes.known();
+    }
+
+    fn len(&self) -> usize {
+        self.bytes.len()
+    }
+
+    fn put(&self, out: &mut Buffer) {
+        self.bytes.put(out);
+    }
+
+    fn take(cursor: &mut Cursor<'_>) -> Result<Self, Refusal> {
+        Ok(Name {
+            bytes: Bounded::take(cursor)?,
+        })
+    }
+}
