@@ -1,6 +1,6 @@
 //! Entries one after the other.
 
-ghost use Rattle.std.specs.Prelude.{◌≡◌, ◌-◌, ℕ, ◌+◌, ◌*◌, ◌≤◌, ◌<◌, ◌^◌, length, true, false};
+ghost use Rattle.std.specs.Prelude.{◌≡◌, ◌-◌, min, ℕ, ◌+◌, ◌*◌, ◌≤◌, ◌<◌, ◌^◌, length, true, false};
 ghost use Rattle.tpm_wire.specs.Layout.Form.{list};
 ghost use Rattle.tpm_wire.specs.Buffers.{TakesAs, TakesNumbered, numbered};
 ghost use Rattle.std.specs.Prelude.{◌++◌, All, IfOk};
@@ -71,9 +71,17 @@ pub fn list_len<T: Wire>(entries: &[T]) -> usize
     ensures value { result ≡ length (joined_all T.layout entries.now) }
     ensures fits { result ≤ length entries.now * T.most }
 {
-    let mut sum = 0;
+    capped_len(entries)
+}
+
+/// How many bytes the entries take, up to the greatest number.
+pub(crate) fn capped_len<T: Wire>(entries: &[T]) -> usize
+    ensures value { result ≡ min (length (joined_all T.layout entries.now)) (2 ^ 64 - 1) }
+    ensures fits { result ≤ length entries.now * T.most }
+{
+    let mut sum: usize = 0;
     for entry in entries {
-        sum += entry.len();
+        sum = sum.saturating_add(entry.len());
     }
     sum
 }
