@@ -2,6 +2,7 @@
 use Rattle.std.specs.Prelude.{ℕ, Option, Some, None, ◌==◌, if◌then◌else◌}
 use Rattle.tpm_wire.specs.Buffers.{Layout}
 use Rattle.tpm_wire.specs.Layout.Form.{number}
+use Rattle.tpm_types.specs.Codes.{hash_code}
 use Rattle.tpm_types.specs.declared.alg.Alg.{Alg}
 use Rattle.tpm_types.specs.declared.alg.Alg.TheVariants.{Sha1, Sha256}
 
@@ -21,10 +22,6 @@ digest_len Sha256 = 32
 abbrev pub block_len : Alg → ℕ
 block_len Sha1 = 64
 block_len Sha256 = 64
-
--- the code of another hash
-abbrev pub hash_code : ℕ
-hash_code = 0x083
 
 unfoldable pub hash : Layout Alg
 hash = number 2 (λ left. alg_of) alg_number hash_code

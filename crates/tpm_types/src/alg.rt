@@ -4,10 +4,8 @@ ghost use Rattle.std.specs.Prelude.{◌≡◌, ◌≤◌};
 ghost use Rattle.tpm_types.specs.Limits.{digest_bytes};
 ghost use Rattle.tpm_types.specs.Alg.{alg_of, alg_number, digest_len, block_len, hash};
 
+use crate::codes::HASH;
 use tpm_wire::{Buffer, Cursor, Refusal, Wire};
-
-/// TPM_RC_HASH (Part 2, 6.6.3): the hash is none of this profile.
-pub const HASH: u32 = 0x083;
 
 /// A hash algorithm, which has a bank of registers.
 #[derive(Clone, Copy, Debug, PartialEq, Eq)]

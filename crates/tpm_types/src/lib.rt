@@ -2,11 +2,22 @@
 #![tactic(auto)]
 
 mod alg;
+mod codes;
+mod constants;
+mod handle_sets;
+mod handles;
 mod limits;
 mod tpm2b;
 mod tpma;
 
-pub use alg::{Alg, HASH};
+pub use alg::Alg;
+pub use codes::{HASH, MODE, RESERVED_BITS, SYMMETRIC, VALUE};
+pub use constants::{SessionType, StartupType};
+pub use handle_sets::{BindHandle, NullHandle, NvAuthHandle, OwnerHandle, PcrOrNull};
+pub use handles::{
+    AuthSession, NvIndex, PcrIndex, PolicyHandle, REGISTERS, RH_NULL, RH_OWNER, RS_PW,
+    SessionHandle,
+};
 pub use limits::{AuthValue, BANKS, DIGEST_BYTES, NAME_BYTES, Nonce, PUBLIC_BYTES};
 pub use tpm2b::{Digest, Name};
-pub use tpma::{RESERVED_BITS, SessionAttrs};
+pub use tpma::{NvAttrs, SessionAttrs};

@@ -1,6 +1,6 @@
 //! Sized buffers: TPM2B_DIGEST and TPM2B_NAME (Part 2, 10.4.2 and 10.5.3).
 
-ghost use Rattle.std.specs.Prelude.{◌≡◌, ℕ, List, ◌+◌, ◌≤◌, ◌<◌, length, MatchOption};
+ghost use Rattle.std.specs.Prelude.{◌≡◌, ℕ, List, [], ◌+◌, ◌≤◌, ◌<◌, length, MatchOption};
 ghost use Rattle.std.specs.Int.{to_be_bytes, w32};
 ghost use Rattle.tpm_types.specs.Limits.{digest_bytes, name_bytes};
 ghost use Rattle.tpm_types.specs.Tpm2b.{digest, name};
@@ -10,7 +10,7 @@ use std::marker::Model;
 use tpm_wire::{Bounded, Buffer, Cursor, Refusal, Wire};
 
 /// A digest, TPM2B_DIGEST: at most as many bytes as the longest digest of a bank.
-#[derive(Default, Drop)]
+#[derive(Clone, Copy, Debug, PartialEq, Eq)]
 pub struct Digest {
     bytes: Bounded<DIGEST_BYTES>,
 }
@@ -21,6 +21,19 @@ impl Model for Digest {
     ghost view = { λ d. d.bytes };
 
     ghost invariant = { λ d. length d.bytes ≤ digest_bytes };
+
+    ghost inverse = { λ bytes. record { bytes = bytes } };
+}
+
+/// No bytes.
+impl Default for Digest {
+    fn default() -> Self
+        ensures { result ≡ [] }
+    {
+        Digest {
+            bytes: Bounded::default(),
+        }
+    }
 }
 
 impl Digest {
@@ -68,7 +81,7 @@ impl Wire for Digest {
 }
 
 /// The Name of an entity, TPM2B_NAME: the number of a hash and a digest, or 4 bytes of a handle.
-#[derive(Default, Drop)]
+#[derive(Clone, Copy, Debug, PartialEq, Eq)]
 pub struct Name {
     bytes: Bounded<NAME_BYTES>,
 }
@@ -79,6 +92,19 @@ impl Model for Name {
     ghost view = { λ n. n.bytes };
 
     ghost invariant = { λ n. length n.bytes ≤ name_bytes };
+
+    ghost inverse = { λ bytes. record { bytes = bytes } };
+}
+
+/// No bytes.
+impl Default for Name {
+    fn default() -> Self
+        ensures { result ≡ [] }
+    {
+        Name {
+            bytes: Bounded::default(),
+        }
+    }
 }
 
 impl Name {

@@ -1,0 +1,134 @@
+//! Numbers that stand for a choice (Part 2, 6).
+
+ghost use Rattle.std.specs.Prelude.{◌≡◌, ℕ, Some};
+
+use crate::codes::VALUE;
+use tpm_wire::{Buffer, Cursor, Refusal, Wire};
+
+/// How a device starts: TPM_SU (Part 2, 6.10).
+#[derive(Clone, Copy, Debug, PartialEq, Eq)]
+pub enum StartupType {
+    /// TPM_SU_CLEAR: anew.
+    Clear,
+    /// TPM_SU_STATE: from a saved state.
+    State,
+}
+
+impl StartupType {
+    ghost use Rattle.tpm_types.specs.Constants.{startup_of, startup_number};
+
+    /// The value of this number, if it is one.
+    pub fn from_number(n: u16) -> Option<Self>
+        ensures { result ≡ startup_of n }
+    {
+        match n {
+            0 => Some(StartupType::Clear),
+            1 => Some(StartupType::State),
+            _ => None,
+        }
+    }
+
+    /// Its number.
+    pub fn number(self) -> u16
+        ensures value { result ≡ startup_number self }
+        ensures in_set { startup_of result ≡ Some self }
+    {
+        match self {
+            StartupType::Clear => 0,
+            StartupType::State => 1,
+        }
+    }
+}
+
+/// 2 bytes, else VALUE.
+#[tactic(auto, unfolding(crate::specs::Constants::startup_type))]
+impl Wire for StartupType {
+    ghost use Rattle.tpm_types.specs.Constants.{startup_type};
+
+    ghost layout = { startup_type };
+
+    ghost most = { 2 };
+
+    fn known(&self) {
+        let _number = self.number();
+    }
+
+    fn len(&self) -> usize {
+        2
+    }
+
+    fn put(&self, out: &mut Buffer) {
+        self.number().put(out);
+    }
+
+    fn take(cursor: &mut Cursor<'_>) -> Result<Self, Refusal> {
+        let refusal = cursor.refusal(VALUE);
+        StartupType::from_number(u16::take(cursor)?).ok_or(refusal)
+    }
+}
+
+/// What a session is for: TPM_SE (Part 2, 6.11).
+#[derive(Clone, Copy, Debug, PartialEq, Eq)]
+pub enum SessionType {
+    /// TPM_SE_HMAC: authorization by HMAC.
+    Hmac,
+    /// TPM_SE_POLICY: authorization by policy.
+    Policy,
+    /// TPM_SE_TRIAL: the digest of a policy.
+    Trial,
+}
+
+impl SessionType {
+    ghost use Rattle.tpm_types.specs.Constants.{session_type_of, session_type_number};
+
+    /// The value of this number, if it is one.
+    pub fn from_number(n: u8) -> Option<Self>
+        ensures { result ≡ session_type_of n }
+    {
+        match n {
+            0 => Some(SessionType::Hmac),
+            1 => Some(SessionType::Policy),
+            3 => Some(SessionType::Trial),
+            _ => None,
+        }
+    }
+
+    /// Its number.
+    pub fn number(self) -> u8
+        ensures value { result ≡ session_type_number self }
+        ensures in_set { session_type_of result ≡ Some self }
+    {
+        match self {
+            SessionType::Hmac => 0,
+            SessionType::Policy => 1,
+            SessionType::Trial => 3,
+        }
+    }
+}
+
+/// 1 byte, else VALUE.
+#[tactic(auto, unfolding(crate::specs::Constants::session_type))]
+impl Wire for SessionType {
+    ghost use Rattle.tpm_types.specs.Constants.{session_type};
+
+    ghost layout = { session_type };
+
+    ghost most = { 1 };
+
+    fn known(&self) {
+        let _number = self.number();
+    }
+
+    fn len(&self) -> usize {
+        1
+    }
+
+    fn put(&self, out: &mut Buffer) {
+        self.number().put(out);
+    }
+
+    fn take(cursor: &mut Cursor<'_>) -> Result<Self, Refusal> {
+        let refusal = cursor.refusal(VALUE);
+        SessionType::from_number(u8::take(cursor)?).ok_or(refusal)
+    }
+}
