@@ -1,5 +1,5 @@
 -- The hash algorithms of this profile: TPMI_ALG_HASH (Part 2, 9.27, with the numbers of 6.3).
-use Rattle.std.specs.Prelude.{ℕ, Option, Some, None, ◌==◌, if◌then◌else◌}
+use Rattle.std.specs.Prelude.{◌≡◌, ℕ, Option, Some, None, ◌==◌, if◌then◌else◌, List, length}
 use Rattle.tpm_wire.specs.Buffers.{Layout}
 use Rattle.tpm_wire.specs.Layout.Form.{number}
 use Rattle.tpm_types.specs.Codes.{hash_code}
@@ -25,3 +25,7 @@ block_len Sha256 = 64
 
 unfoldable pub hash : Layout Alg
 hash = number 2 (λ left. alg_of) alg_number hash_code
+
+-- the digest is as long as those of its hash
+abbrev pub IsDigestValue : Alg × List ℕ → Type 0
+IsDigestValue d = length d.1 ≡ digest_len d.0

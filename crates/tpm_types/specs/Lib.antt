@@ -6,3 +6,5 @@ pub mod Handles
 pub mod HandleSets
 pub mod Constants
 pub mod Tpm2b
+pub mod Tpms
+pub mod Tpml

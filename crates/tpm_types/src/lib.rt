@@ -9,6 +9,8 @@ mod handles;
 mod limits;
 mod tpm2b;
 mod tpma;
+mod tpml;
+mod tpms;
 
 pub use alg::Alg;
 pub use codes::{HASH, MODE, RESERVED_BITS, SYMMETRIC, VALUE};
@@ -21,3 +23,5 @@ pub use handles::{
 pub use limits::{AuthValue, BANKS, DIGEST_BYTES, NAME_BYTES, Nonce, PUBLIC_BYTES};
 pub use tpm2b::{Digest, Name};
 pub use tpma::{NvAttrs, SessionAttrs};
+pub use tpml::{DigestValues, Digests, MOST_DIGESTS, OrDigests, Selections};
+pub use tpms::{Auth, AuthReply, NvPublic, SELECT_BYTES, Selection};

@@ -1,0 +1,273 @@
+//! Structures of several fields: TPMS (Part 2, 10 to 13).
+
+use crate::alg::Alg;
+use crate::codes::VALUE;
+use crate::handles::{AuthSession, NvIndex, PcrIndex};
+use crate::limits::{AuthValue, Nonce, PUBLIC_BYTES};
+use crate::tpm2b::Digest;
+use crate::tpma::{NvAttrs, SessionAttrs};
+use tpm_wire::{Buffer, Cursor, Refusal, SIZE, Wire, put_bytes};
+
+/// How many bytes of bits a selection has, one bit for each register.
+pub const SELECT_BYTES: usize = 3;
+
+/// Registers of one bank: TPMS_PCR_SELECTION (Part 2, 10.6.2).
+#[derive(Clone, Copy, Debug, PartialEq, Eq, Default)]
+pub struct Selection {
+    /// The hash of the bank.
+    pub hash: Alg,
+    /// Register i is selected where bit `i % 8` of byte `i / 8` is set.
+    pub select: [u8; SELECT_BYTES],
+}
+
+impl Selection {
+    ghost use Rattle.std.specs.Prelude.{◌≡◌};
+    ghost use Rattle.tpm_types.specs.Tpms.{is_selected};
+
+    /// Whether the register is selected.
+    pub fn is_selected(&self, register: PcrIndex) -> bool
+        ensures { result ≡ is_selected self.now.select register }
+    {
+        let i = register.number() as usize;
+        self.select[i / 8] & (1 << (i % 8)) != 0
+    }
+}
+
+/// A hash, else HASH; the number of bytes, 3, else VALUE; the bytes.
+#[tactic(auto, unfolding(crate::specs::Tpms::selection))]
+impl Wire for Selection {
+    ghost use Rattle.tpm_types.specs.Tpms.{selection};
+
+    ghost layout = { selection };
+
+    ghost most = { 6 };
+
+    fn known(&self) {
+        self.hash.known();
+    }
+
+    fn len(&self) -> usize {
+        self.hash.len() + 1 + SELECT_BYTES
+    }
+
+    fn put(&self, out: &mut Buffer) {
+        self.hash.put(out);
+        (SELECT_BYTES as u8).put(out);
+        put_bytes(out, &self.select);
+    }
+
+    fn take(cursor: &mut Cursor<'_>) -> Result<Self, Refusal> {
+        let hash = Alg::take(cursor)?;
+        let refusal = cursor.refusal(VALUE);
+        let size = u8::take(cursor)? as usize;
+        if size != SELECT_BYTES {
+            return Err(refusal);
+        }
+        let mut select = [0; SELECT_BYTES];
+        select.copy_from_slice(cursor.bytes(SELECT_BYTES)?);
+        Ok(Selection { hash, select })
+    }
+}
+
+/// A session in a command: TPMS_AUTH_COMMAND (Part 2, 10.13.2).
+#[derive(Clone, Copy, Debug, PartialEq, Eq, Default)]
+pub struct Auth {
+    /// The session, or the password.
+    pub session: AuthSession,
+    /// The caller's nonce, nonceCaller.
+    pub nonce: Nonce,
+    /// sessionAttributes.
+    pub attrs: SessionAttrs,
+    /// The HMAC, or the password.
+    pub hmac: AuthValue,
+}
+
+/// The fields in their order.
+#[tactic(auto, unfolding(crate::specs::Tpms::auth_command))]
+impl Wire for Auth {
+    ghost use Rattle.tpm_types.specs.Tpms.{auth_command};
+
+    ghost layout = { auth_command };
+
+    ghost most = { 73 };
+
+    fn known(&self) {
+        self.session.known();
+        self.nonce.known();
+        self.attrs.known();
+        self.hmac.known();
+    }
+
+    fn len(&self) -> usize {
+        self.session.len() + self.nonce.len() + self.attrs.len() + self.hmac.len()
+    }
+
+    fn put(&self, out: &mut Buffer) {
+        self.session.put(out);
+        self.nonce.put(out);
+        self.attrs.put(out);
+        self.hmac.put(out);
+    }
+
+    fn take(cursor: &mut Cursor<'_>) -> Result<Self, Refusal> {
+        Ok(Auth {
+            session: AuthSession::take(cursor)?,
+            nonce: Nonce::take(cursor)?,
+            attrs: SessionAttrs::take(cursor)?,
+            hmac: AuthValue::take(cursor)?,
+        })
+    }
+}
+
+/// A session in a response: TPMS_AUTH_RESPONSE (Part 2, 10.13.3).
+#[derive(Clone, Copy, Debug, PartialEq, Eq, Default)]
+pub struct AuthReply {
+    /// The device's nonce, nonceTPM.
+    pub nonce: Nonce,
+    /// sessionAttributes.
+    pub attrs: SessionAttrs,
+    /// The HMAC.
+    pub hmac: AuthValue,
+}
+
+/// The fields in their order.
+#[tactic(auto, unfolding(crate::specs::Tpms::auth_response))]
+impl Wire for AuthReply {
+    ghost use Rattle.tpm_types.specs.Tpms.{auth_response};
+
+    ghost layout = { auth_response };
+
+    ghost most = { 69 };
+
+    fn known(&self) {
+        self.nonce.known();
+        self.attrs.known();
+        self.hmac.known();
+    }
+
+    fn len(&self) -> usize {
+        self.nonce.len() + self.attrs.len() + self.hmac.len()
+    }
+
+    fn put(&self, out: &mut Buffer) {
+        self.nonce.put(out);
+        self.attrs.put(out);
+        self.hmac.put(out);
+    }
+
+    fn take(cursor: &mut Cursor<'_>) -> Result<Self, Refusal> {
+        Ok(AuthReply {
+            nonce: Nonce::take(cursor)?,
+            attrs: SessionAttrs::take(cursor)?,
+            hmac: AuthValue::take(cursor)?,
+        })
+    }
+}
+
+/// What is public of an NV index: TPMS_NV_PUBLIC (Part 2, 13.5), in buffers with its size before it, TPM2B_NV_PUBLIC.
+#[derive(Clone, Copy, Debug, PartialEq, Eq)]
+pub struct NvPublic {
+    /// nvIndex.
+    pub index: NvIndex,
+    /// nameAlg: the hash of its Name and its policy.
+    pub alg: Alg,
+    /// Its attributes.
+    pub attrs: NvAttrs,
+    /// authPolicy.
+    pub policy: Digest,
+    /// How many bytes its data have.
+    pub data_size: u16,
+}
+
+#[tactic(auto, unfolding(crate::specs::Tpms::nv_public_area))]
+impl NvPublic {
+    ghost use Rattle.std.specs.Prelude.{◌≡◌, ℕ, ◌+◌, ◌++◌, ◌≤◌, length, IfOk};
+    ghost use Rattle.tpm_wire.specs.Buffers.{Takes};
+    ghost use Rattle.tpm_wire.specs.Spelling.{spelling, Fits};
+    ghost use Rattle.tpm_types.specs.Limits.{public_bytes};
+    ghost use Rattle.tpm_types.specs.Tpms.{nv_public_area};
+
+    /// How many bytes the area has, TPMS_NV_PUBLIC.
+    pub fn area_len(&self) -> usize
+        ensures value { result ≡ length (spelling nv_public_area self.now) }
+        ensures fits { result ≤ public_bytes }
+    {
+        self.index.len()
+            + self.alg.len()
+            + self.attrs.len()
+            + self.policy.len()
+            + self.data_size.len()
+    }
+
+    /// Adds the area at the end, TPMS_NV_PUBLIC: the bytes that the Name of the index is made of (Part 1, 16).
+    pub fn put_area(&self, out: &mut Buffer)
+        requires { length out.old.items + length (spelling nv_public_area self.now) ≤ 4096 }
+        ensures { out.new.items ≡ out.old.items ++ spelling nv_public_area self.now }
+    {
+        self.index.put(out);
+        self.alg.put(out);
+        self.attrs.put(out);
+        self.policy.put(out);
+        self.data_size.put(out);
+    }
+
+    /// The area has a spelling.
+    fn known_area(&self)
+        ensures { (left : ℕ) → Fits left nv_public_area self.now }
+    {
+        self.index.known();
+        self.alg.known();
+        self.attrs.known();
+        self.policy.known();
+        self.data_size.known();
+    }
+
+    fn take_area(cursor: &mut Cursor<'_>) -> Result<Self, Refusal>
+        ensures reads { Takes nv_public_area cursor.old cursor.new result }
+        ensures spelled { IfOk result (λ p. cursor.old.here.rest ≡ spelling nv_public_area p ++ cursor.new.here.rest) }
+    {
+        Ok(NvPublic {
+            index: NvIndex::take(cursor)?,
+            alg: Alg::take(cursor)?,
+            attrs: NvAttrs::take(cursor)?,
+            policy: Digest::take(cursor)?,
+            data_size: u16::take(cursor)?,
+        })
+    }
+}
+
+/// The size of the area, else SIZE; the area, of that many bytes: bytes left in it are SIZE.
+#[tactic(auto, unfolding(crate::specs::Tpms::nv_public, tpm_wire::specs::Structures::sized))]
+impl Wire for NvPublic {
+    ghost use Rattle.tpm_types.specs.Tpms.{nv_public};
+
+    ghost layout = { nv_public };
+
+    ghost most = { 48 };
+
+    fn known(&self) {
+        let _size = self.area_len();
+        self.known_area();
+    }
+
+    fn len(&self) -> usize {
+        2 + self.area_len()
+    }
+
+    fn put(&self, out: &mut Buffer) {
+        (self.area_len() as u16).put(out);
+        self.put_area(out);
+    }
+
+    fn take(cursor: &mut Cursor<'_>) -> Result<Self, Refusal> {
+        let refusal = cursor.refusal(SIZE);
+        let size = u16::take(cursor)? as usize;
+        if size > PUBLIC_BYTES {
+            return Err(refusal);
+        }
+        let outer = cursor.enter(size)?;
+        let public = NvPublic::take_area(cursor)?;
+        cursor.leave(outer)?;
+        Ok(public)
+    }
+}
