@@ -8,3 +8,5 @@ pub mod Constants
 pub mod Tpm2b
 pub mod Tpms
 pub mod Tpml
+pub mod Tpmt
+pub mod Attest

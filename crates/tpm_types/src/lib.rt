@@ -2,6 +2,7 @@
 #![tactic(auto)]
 
 mod alg;
+mod attest;
 mod codes;
 mod constants;
 mod handle_sets;
@@ -11,8 +12,10 @@ mod tpm2b;
 mod tpma;
 mod tpml;
 mod tpms;
+mod tpmt;
 
 pub use alg::Alg;
+pub use attest::QuoteInfo;
 pub use codes::{HASH, MODE, RESERVED_BITS, SYMMETRIC, VALUE};
 pub use constants::{SessionType, StartupType};
 pub use handle_sets::{BindHandle, NullHandle, NvAuthHandle, OwnerHandle, PcrOrNull};
@@ -21,7 +24,8 @@ pub use handles::{
     SessionHandle,
 };
 pub use limits::{AuthValue, BANKS, DIGEST_BYTES, NAME_BYTES, Nonce, PUBLIC_BYTES};
-pub use tpm2b::{Digest, Name};
+pub use tpm2b::{Digest, EncryptedSalt, Name};
 pub use tpma::{NvAttrs, SessionAttrs};
 pub use tpml::{DigestValues, Digests, MOST_DIGESTS, OrDigests, Selections};
 pub use tpms::{Auth, AuthReply, NvPublic, SELECT_BYTES, Selection};
+pub use tpmt::{KeyBits, SymDef};

@@ -1,10 +1,11 @@
-//! Sized buffers: TPM2B_DIGEST and TPM2B_NAME (Part 2, 10.4.2 and 10.5.3).
+//! Sized buffers: TPM2B (Part 2, 10.4).
 
 ghost use Rattle.std.specs.Prelude.{◌≡◌, ℕ, List, [], ◌+◌, ◌≤◌, ◌<◌, length, MatchOption};
 ghost use Rattle.std.specs.Int.{to_be_bytes, w32};
 ghost use Rattle.tpm_types.specs.Limits.{digest_bytes, name_bytes};
 ghost use Rattle.tpm_types.specs.Tpm2b.{digest, name};
 
+use crate::codes::VALUE;
 use crate::limits::{DIGEST_BYTES, NAME_BYTES};
 use std::marker::Model;
 use tpm_wire::{Bounded, Buffer, Cursor, Refusal, Wire};
@@ -158,5 +159,40 @@ impl Wire for Name {
         Ok(Name {
             bytes: Bounded::take(cursor)?,
         })
+    }
+}
+
+/// The salt of a session, TPM2B_ENCRYPTED_SECRET (Part 2, 11.4.3): in this profile there is none.
+#[derive(Clone, Copy, Debug, PartialEq, Eq)]
+pub enum EncryptedSalt {
+    /// No bytes.
+    Empty,
+}
+
+/// A size of 0 in 2 bytes, else VALUE.
+#[tactic(auto, unfolding(crate::specs::Tpm2b::encrypted_salt))]
+impl Wire for EncryptedSalt {
+    ghost use Rattle.tpm_types.specs.Tpm2b.{encrypted_salt};
+
+    ghost layout = { encrypted_salt };
+
+    ghost most = { 2 };
+
+    fn known(&self) {}
+
+    fn len(&self) -> usize {
+        2
+    }
+
+    fn put(&self, out: &mut Buffer) {
+        0u16.put(out);
+    }
+
+    fn take(cursor: &mut Cursor<'_>) -> Result<Self, Refusal> {
+        let refusal = cursor.refusal(VALUE);
+        if u16::take(cursor)? != 0 {
+            return Err(refusal);
+        }
+        Ok(EncryptedSalt::Empty)
     }
 }

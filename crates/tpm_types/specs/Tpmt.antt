@@ -1,0 +1,69 @@
+-- Structures by a choice: TPMT (Part 2, 11.1).
+use Rattle.std.specs.Prelude.{ℕ, Option, Some, None, ◌==◌, ◌||◌, if◌then◌else◌}
+use Rattle.tpm_wire.specs.Buffers.{Layout, number_in}
+use Rattle.tpm_wire.specs.Layout.{either}
+use Rattle.tpm_wire.specs.Layout.Form.{number, field, done}
+use Rattle.tpm_types.specs.Codes.{value_code, mode_code, symmetric_code}
+use Rattle.tpm_types.specs.Alg.{hash}
+use Rattle.tpm_types.specs.declared.alg.Alg.{Alg}
+use Rattle.tpm_types.specs.declared.alg.Alg.TheVariants.{Sha256}
+use Rattle.tpm_types.specs.declared.tpmt.SymDef.{SymDef}
+use Rattle.tpm_types.specs.declared.tpmt.SymDef.TheVariants.{Null, Aes, Xor}
+use Rattle.tpm_types.specs.declared.tpmt.KeyBits.{KeyBits}
+use Rattle.tpm_types.specs.declared.tpmt.KeyBits.TheVariants.{Bits128, Bits256}
+
+-- TPM_ALG_ID (6.3)
+abbrev pub alg_aes : ℕ
+alg_aes = 0x0006
+
+abbrev pub alg_xor : ℕ
+alg_xor = 0x000A
+
+abbrev pub alg_null : ℕ
+alg_null = 0x0010
+
+abbrev pub alg_cfb : ℕ
+alg_cfb = 0x0043
+
+-- TPMI_ALG_SYM+ (9.29)
+unfoldable pub algorithm : Layout ℕ
+algorithm = number_in 2 (λ n. n == alg_null || n == alg_aes || n == alg_xor) symmetric_code
+
+abbrev pub algorithm_of : SymDef → ℕ
+algorithm_of Null = alg_null
+algorithm_of (Aes bits) = alg_aes
+algorithm_of (Xor alg) = alg_xor
+
+-- TPMI_AES_KEY_BITS (11.1.1)
+abbrev pub key_bits_of : ℕ → Option KeyBits
+key_bits_of n = if n == 128 then Some Bits128 else if n == 256 then Some Bits256 else None
+
+abbrev pub key_bits_number : KeyBits → ℕ
+key_bits_number Bits128 = 128
+key_bits_number Bits256 = 256
+
+unfoldable pub key_bits : Layout KeyBits
+key_bits = number 2 (λ left. key_bits_of) key_bits_number value_code
+
+-- TPMI_ALG_SYM_MODE (9.31): CFB alone
+unfoldable pub mode : Layout ℕ
+mode = number_in 2 (λ n. n == alg_cfb) mode_code
+
+-- the bits of an AES key, and otherwise any
+abbrev pub bits_of : SymDef → KeyBits
+bits_of (Aes bits) = bits
+bits_of _ = Bits128
+
+-- the hash of XOR, and otherwise any
+abbrev pub hash_of : SymDef → Alg
+hash_of (Xor alg) = alg
+hash_of _ = Sha256
+
+-- TPMT_SYM_DEF (11.1.6)
+unfoldable pub sym_def : Layout SymDef
+sym_def =
+    field algorithm_of algorithm (λ n.
+    either (n == alg_null) (done Null) (
+    either (n == alg_aes)
+    (field bits_of key_bits (λ bits. field (λ _. alg_cfb) mode (λ _. done (Aes bits))))
+    (field hash_of hash (λ alg. done (Xor alg)))))

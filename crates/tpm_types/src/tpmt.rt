@@ -1,0 +1,146 @@
+//! Structures by a choice: TPMT (Part 2, 11.1).
+
+ghost use Rattle.std.specs.Prelude.{◌≡◌, Some};
+
+use crate::alg::Alg;
+use crate::codes::{MODE, SYMMETRIC, VALUE};
+use tpm_wire::{Buffer, Cursor, Refusal, Wire};
+
+const AES: u16 = 0x0006;
+
+const XOR: u16 = 0x000A;
+
+const NULL: u16 = 0x0010;
+
+const CFB: u16 = 0x0043;
+
+/// How many bits an AES key has: TPMI_AES_KEY_BITS (Part 2, 11.1.1).
+#[derive(Clone, Copy, Debug, PartialEq, Eq)]
+pub enum KeyBits {
+    /// 128 bits.
+    Bits128,
+    /// 256 bits.
+    Bits256,
+}
+
+impl KeyBits {
+    ghost use Rattle.tpm_types.specs.Tpmt.{key_bits_of, key_bits_number};
+
+    /// The size of this number of bits, if it is one.
+    pub fn from_number(n: u16) -> Option<Self>
+        ensures { result ≡ key_bits_of n }
+    {
+        match n {
+            128 => Some(KeyBits::Bits128),
+            256 => Some(KeyBits::Bits256),
+            _ => None,
+        }
+    }
+
+    /// The number of bits.
+    pub fn number(self) -> u16
+        ensures value { result ≡ key_bits_number self }
+        ensures in_set { key_bits_of result ≡ Some self }
+    {
+        match self {
+            KeyBits::Bits128 => 128,
+            KeyBits::Bits256 => 256,
+        }
+    }
+}
+
+/// 2 bytes, else VALUE.
+#[tactic(auto, unfolding(crate::specs::Tpmt::key_bits))]
+impl Wire for KeyBits {
+    ghost use Rattle.tpm_types.specs.Tpmt.{key_bits};
+
+    ghost layout = { key_bits };
+
+    ghost most = { 2 };
+
+    fn known(&self) {
+        let _number = self.number();
+    }
+
+    fn len(&self) -> usize {
+        2
+    }
+
+    fn put(&self, out: &mut Buffer) {
+        self.number().put(out);
+    }
+
+    fn take(cursor: &mut Cursor<'_>) -> Result<Self, Refusal> {
+        let refusal = cursor.refusal(VALUE);
+        KeyBits::from_number(u16::take(cursor)?).ok_or(refusal)
+    }
+}
+
+/// How parameters are encrypted: TPMT_SYM_DEF (Part 2, 11.1.6). It is read and never used.
+#[derive(Clone, Copy, Debug, PartialEq, Eq)]
+pub enum SymDef {
+    /// TPM_ALG_NULL: not at all.
+    Null,
+    /// TPM_ALG_AES in CFB mode, with a key of so many bits.
+    Aes(KeyBits),
+    /// TPM_ALG_XOR, with a mask by this hash.
+    Xor(Alg),
+}
+
+/// The algorithm, else SYMMETRIC; of AES the bits of the key, else VALUE, and the mode, else MODE; of XOR the hash, else HASH.
+#[tactic(auto, unfolding(crate::specs::Tpmt::sym_def, crate::specs::Tpmt::algorithm, crate::specs::Tpmt::mode))]
+impl Wire for SymDef {
+    ghost use Rattle.tpm_types.specs.Tpmt.{sym_def};
+
+    ghost layout = { sym_def };
+
+    ghost most = { 6 };
+
+    fn known(&self) {
+        match self {
+            SymDef::Null => {}
+            SymDef::Aes(bits) => bits.known(),
+            SymDef::Xor(alg) => alg.known(),
+        }
+    }
+
+    fn len(&self) -> usize {
+        match self {
+            SymDef::Null => 2,
+            SymDef::Aes(bits) => 2 + bits.len() + 2,
+            SymDef::Xor(alg) => 2 + alg.len(),
+        }
+    }
+
+    fn put(&self, out: &mut Buffer) {
+        match self {
+            SymDef::Null => NULL.put(out),
+            SymDef::Aes(bits) => {
+                AES.put(out);
+                bits.put(out);
+                CFB.put(out);
+            }
+            SymDef::Xor(alg) => {
+                XOR.put(out);
+                alg.put(out);
+            }
+        }
+    }
+
+    fn take(cursor: &mut Cursor<'_>) -> Result<Self, Refusal> {
+        let refusal = cursor.refusal(SYMMETRIC);
+        match u16::take(cursor)? {
+            NULL => Ok(SymDef::Null),
+            AES => {
+                let bits = KeyBits::take(cursor)?;
+                let refusal = cursor.refusal(MODE);
+                if u16::take(cursor)? != CFB {
+                    return Err(refusal);
+                }
+                Ok(SymDef::Aes(bits))
+            }
+            XOR => Ok(SymDef::Xor(Alg::take(cursor)?)),
+            _ => Err(refusal),
+        }
+    }
+}
