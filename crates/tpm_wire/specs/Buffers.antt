@@ -57,6 +57,14 @@ abbrev pub TakesNumbered : {X A : Type 0} → (X → A) → Layout A → Place �
 TakesNumbered view l old new (Ok x) = read 0 l old.here ≡ Ok (view x, new.here)
 TakesNumbered view l old new (Err e) = read 0 l old.here ≡ Err e
 
+-- the same rest of an area, so many bytes further on
+abbrev pub later_place : ℕ → Here → Here
+later_place k h = record { rest = h.rest; at = h.at + k }
+
+-- the same fault, so many bytes further on
+abbrev pub later_refusal : ℕ → Refusal → Refusal
+later_refusal k e = record { code = e.code; at = e.at + k }
+
 -- An area of n bytes begins at the old place, and what comes after it is kept.
 abbrev pub Enters : ℕ → Place → Place → Result Here Refusal → Type 0
 Enters n old new (Ok outer) = (n ≤ length old.here.rest) × (outer ≡ past n old.here) × (new ≡ record { here = record { rest = take n old.here.rest; at = old.here.at }; number = old.number })

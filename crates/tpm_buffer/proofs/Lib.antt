@@ -1,0 +1,4 @@
+pub mod Spelled
+pub mod Prefix
+pub mod Staged
+pub mod Within

@@ -1,0 +1,76 @@
+-- Every command has a spelling.
+use Rattle.std.proofs.Common.{◌≡◌, ℕ, ◌+◌, ◌-◌, ◌^◌, ◌<◌, ◌≤◌, ◌⊎◌, Bool, true, false, eqb, leb, List, [], ◌∷◌, length, All, Some, refl, ap, ◌∙◌, arith, inl, inr, subst, cond, None}
+use Rattle.std.specs.Prelude.{◌||◌, ◌&&◌}
+use Rattle.std.proofs.lemmas.Bool.{le-leb, eq-eqb}
+use Rattle.std.proofs.lemmas.List.{length-append, nil_from_length}
+use Rattle.tpm_wire.specs.Structures.{sized_bytes}
+use Rattle.tpm_wire.specs.Spelling.{spelling, Fits, IsSpelled, joined, joined_all}
+use Rattle.tpm_wire.specs.Reading.{read_all}
+use Rattle.tpm_wire.specs.Buffers.{buffer}
+use Rattle.tpm_wire.specs.Path.{Spells}
+use Rattle.tpm_wire.proofs.Buffers.{buffer_sound, buffer_roomy}
+use Rattle.tpm_wire.proofs.Again.{fit_list, read_again}
+use Rattle.tpm_wire.proofs.Whole.{read_spells}
+use Rattle.tpm_types.specs.declared.tpms.Auth.{Auth}
+use Rattle.tpm_types.specs.Tpma.{session_attrs}
+use Rattle.tpm_types.specs.Handles.{auth_session}
+use Rattle.tpm_types.specs.Tpms.{auth_command}
+use Rattle.tpm_buffer.specs.declared.code.CommandCode.{CommandCode}
+use Rattle.tpm_buffer.specs.declared.command.Command.{Command}
+use Rattle.tpm_buffer.specs.Codes.{code_of, code_number, command_code}
+use Rattle.tpm_buffer.specs.Commands.{sessions, authorization_size, authorization, tag, tag_of, command_size, code_for, rest_of, header, command}
+
+-- a session has at least nine bytes
+auth_long : (a : Auth) → 9 ≤ length (spelling auth_command a)
+unfolding auth_command auth_session session_attrs sized_bytes
+auth_long a = simp length-append (omega arith)
+
+some_long : (auths : List Auth) → 0 < length auths → 9 ≤ length (joined_all auth_command auths)
+some_long [] some = absurd (omega arith)
+some_long (a ∷ auths) some = omega (arith, auth_long a, length-append (spelling auth_command a) (joined (λ _. spelling auth_command) (a ∷ []) auths))
+
+pub fits_authorization : (t : ℕ) (auths : List Auth) (left : ℕ) → ((t ≡ 0x8001) × (length auths ≡ 0)) ⊎ ((t ≡ 0x8002) × (0 < length auths)) → length auths ≤ 3
+    → All (IsSpelled auth_command) auths → length (spelling (authorization t) auths) < 2 ^ 16 → length (spelling (authorization t) auths) ≤ left → Fits left (authorization t) auths
+unfolding authorization authorization_size sessions
+fits_authorization t auths left (inl none) three each small room = rw (none.0) (nil_from_length auths none.1)
+fits_authorization t auths left (inr some) three each small room =
+    let n = length (joined_all auth_command auths) in
+    let long = some_long auths some.1 in
+    let least : leb 9 n ≡ true = le-leb 9 n long in
+    let fits : 4 + n ≤ left = omega (arith, subst (λ (k : ℕ). length (spelling (authorization k) auths) ≤ left) some.0 room) in
+    let below : 4 + n < 2 ^ 16 = omega (arith, subst (λ (k : ℕ). length (spelling (authorization k) auths) < 2 ^ 16) some.0 small) in
+    let most : leb n (left - 4) ≡ true = le-leb n (left - 4) (omega arith) in
+    rw some.0 ((omega arith, rw (least, most) refl), (refl, fit_list auth_command true 3 n [] auths each three (inr (refl, refl))))
+
+abbrev tag_by : Bool → ℕ
+tag_by b = cond b 0x8001 0x8002
+
+two_tags : (b : Bool) → (tag_by b ≡ 0x8001) ⊎ (tag_by b ≡ 0x8002)
+two_tags true = inl refl
+two_tags false = inr refl
+
+tag_meant : (t : ℕ) → (t ≡ 0x8001) ⊎ (t ≡ 0x8002) → cond (eqb t 0x8001 || eqb t 0x8002) (Some t) None ≡ Some t
+tag_meant t (inl e) = rw e refl
+tag_meant t (inr e) = rw e refl
+
+size_meant : (n left : ℕ) → n ≡ left + 6 → 10 ≤ n → n ≤ 4096 → cond ((eqb n (left + 6)) && leb 10 n && leb n 4096) (Some n) None ≡ Some n
+size_meant n left e least most = rw (eq-eqb n (left + 6) e, le-leb 10 n least, le-leb n 4096 most) refl
+
+-- the code's number stands for the code
+abbrev pub IsCode : CommandCode → Type 0
+IsCode code = (code_number code < 2 ^ 32) × (code_of (code_number code) ≡ Some code)
+
+fits_command : (c : Command) → IsCode (code_for c.body) → length (spelling (rest_of (code_for c.body) (tag_of c)) c) ≤ 4000
+    → ((left : ℕ) → length (spelling (rest_of (code_for c.body) (tag_of c)) c) ≤ left → Fits left (rest_of (code_for c.body) (tag_of c)) c)
+    → Fits (length (spelling command c)) command c
+unfolding command header tag command_size command_code
+fits_command c code short rest =
+    let n = length (spelling (rest_of (code_for c.body) (tag_of c)) c) in
+    let total = 10 + n in
+    let tags = two_tags (eqb (length c.auths.items) 0) in
+    (((omega arith, tag_meant (tag_of c) tags), ((omega arith, size_meant (10 + n) _ (omega arith) (omega arith) (omega arith)), ((code.0, code.1), refl))), rest _ (omega arith))
+
+-- bytes that are the spelling of a command spell it
+pub encoded : (c : Command) (bytes : List ℕ) → bytes ≡ spelling command c → IsCode (code_for c.body) → length (spelling (rest_of (code_for c.body) (tag_of c)) c) ≤ 4000
+    → ((left : ℕ) → length (spelling (rest_of (code_for c.body) (tag_of c)) c) ≤ left → Fits left (rest_of (code_for c.body) (tag_of c)) c) → Spells command c bytes
+encoded c bytes is code short rest = read_spells buffer buffer_sound command bytes c (ap (read_all command) is ∙ read_again buffer buffer_roomy command c (fits_command c code short rest))

@@ -1,0 +1,77 @@
+-- The handles of the commands (Part 3, the command table of each).
+use Rattle.std.specs.Prelude.{ℕ, ◌+◌, ◌*◌, Bool, true, false, is_some, List, [], ◌∷◌}
+use Rattle.tpm_wire.specs.Buffers.{Layout, number_in, numbered}
+use Rattle.tpm_wire.specs.Layout.Form.{done, field}
+use Rattle.tpm_types.specs.Codes.{value_code}
+use Rattle.tpm_types.specs.Handles.{is_pcr, is_owner, is_null, is_nv_index, is_policy}
+use Rattle.tpm_types.specs.HandleSets.{pcr_or_null_of, nv_auth_of, bind_of}
+use Rattle.tpm_buffer.specs.declared.handles.HandleKind.{HandleKind}
+use Rattle.tpm_buffer.specs.declared.handles.HandleKind.TheVariants.{Pcr, PcrOrNull, Owner, Null, OwnerOrNull, Index, OwnerOrIndex, Policy}
+use Rattle.tpm_buffer.specs.declared.code.CommandCode.{CommandCode}
+use Rattle.tpm_buffer.specs.declared.code.CommandCode.TheVariants as codes
+
+abbrev pub admits : HandleKind → ℕ → Bool
+admits Pcr n = is_pcr n
+admits PcrOrNull n = is_some (pcr_or_null_of n)
+admits Owner n = is_owner n
+admits Null n = is_null n
+admits OwnerOrNull n = is_some (bind_of n)
+admits Index n = is_nv_index n
+admits OwnerOrIndex n = is_some (nv_auth_of n)
+admits Policy n = is_policy n
+
+-- what the handles of each command may be
+abbrev pub handle_kinds : CommandCode → List HandleKind
+handle_kinds codes.NvUndefineSpace = Owner ∷ Index ∷ []
+handle_kinds codes.NvDefineSpace = Owner ∷ []
+handle_kinds codes.NvIncrement = OwnerOrIndex ∷ Index ∷ []
+handle_kinds codes.PcrReset = Pcr ∷ []
+handle_kinds codes.Startup = []
+handle_kinds codes.NvRead = OwnerOrIndex ∷ Index ∷ []
+handle_kinds codes.FlushContext = []
+handle_kinds codes.NvReadPublic = Index ∷ []
+handle_kinds codes.PolicyAuthValue = Policy ∷ []
+handle_kinds codes.PolicyCommandCode = Policy ∷ []
+handle_kinds codes.PolicyOr = Policy ∷ []
+handle_kinds codes.StartAuthSession = Null ∷ OwnerOrNull ∷ []
+handle_kinds codes.PcrRead = []
+handle_kinds codes.PolicyPcr = Policy ∷ []
+handle_kinds codes.PolicyRestart = Policy ∷ []
+handle_kinds codes.PcrExtend = PcrOrNull ∷ []
+handle_kinds codes.PolicyGetDigest = Policy ∷ []
+
+-- The first handle needs authorization.
+abbrev pub needs_authorization : CommandCode → Bool
+needs_authorization codes.NvUndefineSpace = true
+needs_authorization codes.NvDefineSpace = true
+needs_authorization codes.NvIncrement = true
+needs_authorization codes.PcrReset = true
+needs_authorization codes.NvRead = true
+needs_authorization codes.PcrExtend = true
+needs_authorization _ = false
+
+-- what is added to the codes of a handle, counted from 1
+abbrev pub handle : ℕ → ℕ
+handle n = 0x100 * n
+
+abbrev pub first : List ℕ → ℕ
+first [] = 0
+first (n ∷ ns) = n
+
+abbrev pub others : List ℕ → List ℕ
+others [] = []
+others (n ∷ ns) = ns
+
+abbrev pub second : List ℕ → ℕ
+second ns = first (others ns)
+
+-- handles of these kinds, the first of which has this number
+abbrev pub handles_from : ℕ → List HandleKind → Layout (List ℕ)
+handles_from i [] = done []
+handles_from i (kind ∷ kinds) =
+    field first (numbered (handle i) (number_in 4 (admits kind) value_code)) (λ n.
+    field others (handles_from (i + 1) kinds) (λ ns.
+    done (n ∷ ns)))
+
+abbrev pub handles : CommandCode → Layout (List ℕ)
+handles code = handles_from 1 (handle_kinds code)

@@ -1,0 +1,5 @@
+pub mod Codes
+pub mod Handles
+pub mod Parameters
+pub mod Commands
+pub mod Areas

@@ -1,0 +1,270 @@
+//! A command as a value.
+
+ghost use Rattle.std.specs.Prelude.{◌≡◌};
+ghost use Rattle.tpm_buffer.specs.Handles.{first as first_of, second as second_of};
+ghost use Rattle.tpm_buffer.specs.Commands.{register_in as the_register, index_in as the_index, policy_in as the_policy, pcr_or_null_in as the_pcr_or_null, nv_auth_in as the_nv_auth, bind_in as the_bind, body_from, code_for};
+
+use crate::code::CommandCode;
+use crate::params::Params;
+use arrayvec::ArrayVec;
+use tpm_types::{
+    Alg, Auth, AuthValue, BindHandle, Digest, DigestValues, Nonce, NvAuthHandle, NvIndex, NvPublic,
+    OrDigests, PcrIndex, PcrOrNull, PolicyHandle, Selections, SessionHandle, SessionType,
+    StartupType, SymDef,
+};
+
+/// What a command does, with its handles and parameters: the command of that name in Part 3.
+///
+/// A handle that can have one value alone, as TPM_RH_OWNER of NV_DefineSpace, has no field.
+#[derive(Drop)]
+pub enum CommandBody {
+    NvUndefineSpace {
+        index: NvIndex,
+    },
+    NvDefineSpace {
+        auth: AuthValue,
+        public: NvPublic,
+    },
+    NvIncrement {
+        by: NvAuthHandle,
+        index: NvIndex,
+    },
+    PcrReset {
+        register: PcrIndex,
+    },
+    Startup(StartupType),
+    NvRead {
+        by: NvAuthHandle,
+        index: NvIndex,
+        size: u16,
+        offset: u16,
+    },
+    FlushContext(SessionHandle),
+    NvReadPublic {
+        index: NvIndex,
+    },
+    PolicyAuthValue {
+        session: PolicyHandle,
+    },
+    PolicyCommandCode {
+        session: PolicyHandle,
+        code: u32,
+    },
+    PolicyOr {
+        session: PolicyHandle,
+        digests: OrDigests,
+    },
+    StartAuthSession(StartAuth),
+    PcrRead(Selections),
+    PolicyPcr {
+        session: PolicyHandle,
+        pcr_digest: Digest,
+        selections: Selections,
+    },
+    PolicyRestart {
+        session: PolicyHandle,
+    },
+    PcrExtend {
+        register: PcrOrNull,
+        digests: DigestValues,
+    },
+    PolicyGetDigest {
+        session: PolicyHandle,
+    },
+}
+
+/// What a session is started with (Part 3, 11.1): tpmKey is TPM_RH_NULL and the salt is empty.
+#[derive(Drop)]
+pub struct StartAuth {
+    pub bind: BindHandle,
+    pub nonce_caller: Nonce,
+    pub session_type: SessionType,
+    pub symmetric: SymDef,
+    pub auth_hash: Alg,
+}
+
+/// A command, and the sessions that authorize it: none under tag 0x8001, one to three under 0x8002.
+#[derive(Drop)]
+pub struct Command {
+    pub body: CommandBody,
+    pub auths: ArrayVec<Auth, 3>,
+}
+
+/// What a command begins with (Part 1, 18.1): the tag, the number of bytes of the buffer, and the code.
+#[derive(Clone, Copy, Debug, Drop, PartialEq, Eq)]
+pub struct Header {
+    pub tag: u16,
+    pub size: u32,
+    pub code: CommandCode,
+}
+
+impl CommandBody {
+    /// The command's code.
+    pub fn code(&self) -> CommandCode
+        ensures { result ≡ code_for self.now }
+    {
+        match self {
+            CommandBody::NvUndefineSpace { .. } => CommandCode::NvUndefineSpace,
+            CommandBody::NvDefineSpace { .. } => CommandCode::NvDefineSpace,
+            CommandBody::NvIncrement { .. } => CommandCode::NvIncrement,
+            CommandBody::PcrReset { .. } => CommandCode::PcrReset,
+            CommandBody::Startup(_) => CommandCode::Startup,
+            CommandBody::NvRead { .. } => CommandCode::NvRead,
+            CommandBody::FlushContext(_) => CommandCode::FlushContext,
+            CommandBody::NvReadPublic { .. } => CommandCode::NvReadPublic,
+            CommandBody::PolicyAuthValue { .. } => CommandCode::PolicyAuthValue,
+            CommandBody::PolicyCommandCode { .. } => CommandCode::PolicyCommandCode,
+            CommandBody::PolicyOr { .. } => CommandCode::PolicyOr,
+            CommandBody::StartAuthSession(_) => CommandCode::StartAuthSession,
+            CommandBody::PcrRead(_) => CommandCode::PcrRead,
+            CommandBody::PolicyPcr { .. } => CommandCode::PolicyPcr,
+            CommandBody::PolicyRestart { .. } => CommandCode::PolicyRestart,
+            CommandBody::PcrExtend { .. } => CommandCode::PcrExtend,
+            CommandBody::PolicyGetDigest { .. } => CommandCode::PolicyGetDigest,
+        }
+    }
+}
+
+fn register_in(handle: u32) -> PcrIndex
+    ensures { result ≡ the_register handle }
+{
+    match PcrIndex::from_number(handle) {
+        Some(register) => register,
+        None => PcrIndex::default(),
+    }
+}
+
+fn index_in(handle: u32) -> NvIndex
+    ensures { result ≡ the_index handle }
+{
+    match NvIndex::from_number(handle).or(NvIndex::from_number(0x01000000)) {
+        Some(index) => index,
+        None => unreachable!(),
+    }
+}
+
+fn policy_in(handle: u32) -> PolicyHandle
+    ensures { result ≡ the_policy handle }
+{
+    match PolicyHandle::from_number(handle).or(PolicyHandle::from_number(0x03000000)) {
+        Some(session) => session,
+        None => unreachable!(),
+    }
+}
+
+fn pcr_or_null_in(handle: u32) -> PcrOrNull
+    ensures { result ≡ the_pcr_or_null handle }
+{
+    match PcrOrNull::from_number(handle) {
+        Some(register) => register,
+        None => PcrOrNull::Null,
+    }
+}
+
+fn nv_auth_in(handle: u32) -> NvAuthHandle
+    ensures { result ≡ the_nv_auth handle }
+{
+    match NvAuthHandle::from_number(handle) {
+        Some(by) => by,
+        None => NvAuthHandle::Owner,
+    }
+}
+
+fn bind_in(handle: u32) -> BindHandle
+    ensures { result ≡ the_bind handle }
+{
+    match BindHandle::from_number(handle) {
+        Some(bind) => bind,
+        None => BindHandle::Null,
+    }
+}
+
+fn first(handles: &[u32]) -> u32
+    ensures { result ≡ first_of handles.now }
+{
+    match handles {
+        [handle, ..] => *handle,
+        [] => 0,
+    }
+}
+
+fn second(handles: &[u32]) -> u32
+    ensures { result ≡ second_of handles.now }
+{
+    match handles {
+        [_, handle, ..] => *handle,
+        _ => 0,
+    }
+}
+
+/// The command of which these are the handles and the parameters.
+pub(crate) fn body_of(handles: &[u32], params: Params) -> CommandBody
+    ensures { result ≡ body_from handles.now params }
+{
+    match params {
+        Params::NvUndefineSpace => CommandBody::NvUndefineSpace {
+            index: index_in(second(handles)),
+        },
+        Params::NvDefineSpace { auth, public } => CommandBody::NvDefineSpace { auth, public },
+        Params::NvIncrement => CommandBody::NvIncrement {
+            by: nv_auth_in(first(handles)),
+            index: index_in(second(handles)),
+        },
+        Params::PcrReset => CommandBody::PcrReset {
+            register: register_in(first(handles)),
+        },
+        Params::Startup(startup_type) => CommandBody::Startup(startup_type),
+        Params::NvRead { size, offset } => CommandBody::NvRead {
+            by: nv_auth_in(first(handles)),
+            index: index_in(second(handles)),
+            size,
+            offset,
+        },
+        Params::FlushContext(session) => CommandBody::FlushContext(session),
+        Params::NvReadPublic => CommandBody::NvReadPublic {
+            index: index_in(first(handles)),
+        },
+        Params::PolicyAuthValue => CommandBody::PolicyAuthValue {
+            session: policy_in(first(handles)),
+        },
+        Params::PolicyCommandCode(code) => CommandBody::PolicyCommandCode {
+            session: policy_in(first(handles)),
+            code,
+        },
+        Params::PolicyOr(digests) => CommandBody::PolicyOr {
+            session: policy_in(first(handles)),
+            digests,
+        },
+        Params::StartAuthSession {
+            nonce_caller,
+            session_type,
+            symmetric,
+            auth_hash,
+        } => CommandBody::StartAuthSession(StartAuth {
+            bind: bind_in(second(handles)),
+            nonce_caller,
+            session_type,
+            symmetric,
+            auth_hash,
+        }),
+        Params::PcrRead(selections) => CommandBody::PcrRead(selections),
+        Params::PolicyPcr {
+            pcr_digest,
+            selections,
+        } => CommandBody::PolicyPcr {
+            session: policy_in(first(handles)),
+            pcr_digest,
+            selections,
+        },
+        Params::PolicyRestart => CommandBody::PolicyRestart {
+            session: policy_in(first(handles)),
+        },
+        Params::PcrExtend(digests) => CommandBody::PcrExtend {
+            register: pcr_or_null_in(first(handles)),
+            digests,
+        },
+        Params::PolicyGetDigest => CommandBody::PolicyGetDigest {
+            session: policy_in(first(handles)),
+        },
+    }
+}

@@ -1,0 +1,69 @@
+//! From bytes to a command.
+
+ghost use Rattle.std.specs.Prelude.{◌≡◌, ◌≤◌, ◌<◌, ◌↔◌, Ok, Err, length};
+ghost use Rattle.tpm_wire.specs.declared.refusal.Refusal.{Refusal as RefusalOf};
+ghost use Rattle.tpm_wire.specs.Reading.{read_all};
+ghost use Rattle.tpm_wire.specs.Buffers.{TakesNumbered};
+ghost use Rattle.tpm_wire.specs.Path.{Spells, Fault};
+ghost use Rattle.tpm_buffer.specs.declared.command.Command.{Command as CommandOf};
+ghost use Rattle.tpm_buffer.specs.Commands.{command};
+
+use crate::command::{Command, body_of};
+use crate::handles::take_handles;
+use crate::header::{long_fault, take_authorization, take_header};
+use crate::params::take_params;
+use tpm_wire::{Cursor, Refusal, SIZE};
+
+#[tactic(auto, unfolding(crate::specs::Commands::command))]
+fn take_command(cursor: &mut Cursor<'_>) -> Result<Command, Refusal>
+    requires { cursor.old.number ≡ 0 }
+    ensures { TakesNumbered (λ c. c) command cursor.old cursor.new result }
+{
+    let header = take_header(cursor)?;
+    let handles = take_handles(cursor, header.code)?;
+    let auths = take_authorization(cursor, header.tag)?;
+    let params = take_params(cursor, header.code)?;
+    let body = body_of(handles.as_slice(), params);
+    Ok(Command { body, auths })
+}
+
+#[tactic(auto, unfolding(crate::specs::Commands::command))]
+fn decode_long(bytes: &[u8]) -> Result<Command, Refusal>
+    requires { 4096 < length bytes.now }
+    ensures { result ≡ read_all command bytes.now }
+{
+    Err(long_fault(bytes))
+}
+
+fn decode_short(bytes: &[u8]) -> Result<Command, Refusal>
+    requires { length bytes.now ≤ 4096 }
+    ensures { result ≡ read_all command bytes.now }
+{
+    let mut cursor = Cursor::new(bytes);
+    let command = take_command(&mut cursor)?;
+    if cursor.left() > 0 {
+        return Err(Refusal {
+            code: SIZE,
+            at: cursor.at(),
+        });
+    }
+    Ok(command)
+}
+
+fn decode(bytes: &[u8]) -> Result<Command, Refusal>
+    ensures { result ≡ read_all command bytes.now }
+{
+    if bytes.len() > 4096 {
+        decode_long(bytes)
+    } else {
+        decode_short(bytes)
+    }
+}
+
+/// The command that the bytes spell, all of them, or the response code and the position of their first fault.
+pub fn decode_command(bytes: &[u8]) -> Result<Command, Refusal>
+    ensures ok { (c : CommandOf) → (result ≡ Ok c) ↔ Spells command c bytes.now }
+    ensures err { (e : RefusalOf) → (result ≡ Err e) ↔ Fault command bytes.now e }
+{
+    decode(bytes)
+}

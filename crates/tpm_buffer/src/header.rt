@@ -1,0 +1,137 @@
+//! A command's header and its authorization area (Part 1, 18.1 and 18.6).
+
+ghost use Rattle.std.specs.Prelude.{◌≡◌, ◌<◌, length};
+ghost use Rattle.tpm_wire.specs.Token.{at_start};
+ghost use Rattle.tpm_wire.specs.Reading.{read};
+ghost use Rattle.tpm_wire.specs.Buffers.{Takes, TakesNumbered};
+ghost use Rattle.tpm_buffer.specs.Codes.{command_code};
+ghost use Rattle.tpm_buffer.specs.Commands.{tag, command_size, header, sessions, authorization_size, authorization};
+
+use crate::code::CommandCode;
+use crate::command::Header;
+use arrayvec::ArrayVec;
+use tpm_types::Auth;
+use tpm_wire::{Cursor, Refusal, Wire, take_rest};
+
+/// The tag of a buffer without sessions, TPM_ST_NO_SESSIONS.
+pub const NO_SESSIONS: u16 = 0x8001;
+
+/// The tag of a buffer with sessions, TPM_ST_SESSIONS.
+pub const SESSIONS: u16 = 0x8002;
+
+/// The code of another tag, TPM_RC_BAD_TAG.
+pub const BAD_TAG: u32 = 0x01E;
+
+/// The code of a size that is not the number of bytes, or is outside 10 to 4,096: TPM_RC_COMMAND_SIZE.
+pub const COMMAND_SIZE: u32 = 0x142;
+
+/// The code of a command that is not in the table, TPM_RC_COMMAND_CODE.
+pub const COMMAND_CODE: u32 = 0x143;
+
+/// The code of an authorization area of a wrong size, or with more than three sessions: TPM_RC_AUTHSIZE.
+pub const AUTHSIZE: u32 = 0x144;
+
+#[tactic(auto, unfolding(crate::specs::Commands::tag))]
+fn take_tag(cursor: &mut Cursor<'_>) -> Result<u16, Refusal>
+    ensures { Takes tag cursor.old cursor.new result }
+{
+    let refusal = cursor.refusal(BAD_TAG);
+    let tag = u16::take(cursor)?;
+    if tag != NO_SESSIONS && tag != SESSIONS {
+        return Err(refusal);
+    }
+    Ok(tag)
+}
+
+#[tactic(auto, unfolding(crate::specs::Commands::command_size))]
+pub(crate) fn take_size(cursor: &mut Cursor<'_>) -> Result<u32, Refusal>
+    ensures { Takes command_size cursor.old cursor.new result }
+{
+    let refusal = cursor.refusal(COMMAND_SIZE);
+    let size = u32::take(cursor)?;
+    if size < 10 || size > 4096 || size as usize - 6 != cursor.left() {
+        return Err(refusal);
+    }
+    Ok(size)
+}
+
+#[tactic(auto, unfolding(crate::specs::Codes::command_code))]
+fn take_code(cursor: &mut Cursor<'_>) -> Result<CommandCode, Refusal>
+    ensures { Takes command_code cursor.old cursor.new result }
+{
+    let refusal = cursor.refusal(COMMAND_CODE);
+    CommandCode::from_number(u32::take(cursor)?).ok_or(refusal)
+}
+
+#[tactic(auto, unfolding(crate::specs::Commands::header))]
+pub(crate) fn take_header(cursor: &mut Cursor<'_>) -> Result<Header, Refusal>
+    requires { cursor.old.number ≡ 0 }
+    ensures { TakesNumbered (λ h. h) header cursor.old cursor.new result }
+{
+    let tag = take_tag(cursor)?;
+    let size = take_size(cursor)?;
+    let code = take_code(cursor)?;
+    Ok(Header { tag, size, code })
+}
+
+// No buffer has so many bytes, so the tag is refused or else the size.
+#[tactic(auto, unfolding(crate::specs::Commands::header, crate::specs::Commands::tag, crate::specs::Commands::command_size))]
+pub(crate) fn long_fault(bytes: &[u8]) -> Refusal
+    requires { 4096 < length bytes.now }
+    ensures { read 0 header (at_start bytes.now) ≡ Err result }
+{
+    let tag = u16::from_be_bytes([bytes[0], bytes[1]]);
+    if tag != NO_SESSIONS && tag != SESSIONS {
+        return Refusal {
+            code: BAD_TAG,
+            at: 0,
+        };
+    }
+    Refusal {
+        code: COMMAND_SIZE,
+        at: 2,
+    }
+}
+
+#[tactic(auto, unfolding(crate::specs::Commands::sessions))]
+fn take_sessions(cursor: &mut Cursor<'_>) -> Result<ArrayVec<Auth, 3>, Refusal>
+    ensures { TakesNumbered (λ v. v.items) sessions cursor.old cursor.new result }
+{
+    take_rest(cursor, 0x900)
+}
+
+#[tactic(auto, unfolding(crate::specs::Commands::authorization_size))]
+fn take_authorization_size(cursor: &mut Cursor<'_>) -> Result<u32, Refusal>
+    requires { cursor.old.number ≡ 0 }
+    ensures { Takes authorization_size cursor.old cursor.new result }
+{
+    let refusal = cursor.refusal(AUTHSIZE);
+    let size = u32::take(cursor)?;
+    if size < 9 || size as usize > cursor.left() {
+        return Err(refusal);
+    }
+    Ok(size)
+}
+
+/// The sessions of a command with this tag.
+#[tactic(auto, unfolding(crate::specs::Commands::authorization))]
+pub(crate) fn take_authorization(
+    cursor: &mut Cursor<'_>,
+    tag: u16,
+) -> Result<ArrayVec<Auth, 3>, Refusal>
+    ensures { TakesNumbered (λ v. v.items) (authorization tag) cursor.old cursor.new result }
+{
+    if tag != SESSIONS {
+        return Ok(ArrayVec::new());
+    }
+    cursor.number(0);
+    let size = take_authorization_size(cursor)? as usize;
+    let outer = cursor.enter(size)?;
+    let auths = take_sessions(cursor)?;
+    cursor.number(0);
+    if cursor.left() > 0 {
+        return Err(cursor.refusal(AUTHSIZE));
+    }
+    cursor.leave(outer)?;
+    Ok(auths)
+}

@@ -1,0 +1,23 @@
+//! Commands and responses in buffers.
+#![tactic(auto)]
+
+mod code;
+mod command;
+mod cuts;
+mod decode;
+mod encode;
+mod handles;
+mod header;
+mod laws;
+mod params;
+mod stages;
+
+pub use code::CommandCode;
+pub use command::{Command, CommandBody, Header, StartAuth};
+pub use cuts::areas;
+pub use decode::decode_command;
+pub use encode::encode_command;
+pub use header::{AUTHSIZE, BAD_TAG, COMMAND_CODE, COMMAND_SIZE, NO_SESSIONS, SESSIONS};
+pub use laws::{command_or_fault, fault_before_params, no_prefix, parameters_in_command};
+pub use params::{Params, decode_params};
+pub use stages::{Areas, Handled, Headed, header as read_header};

@@ -1,0 +1,207 @@
+//! A command's parameters alone (Part 3).
+
+ghost use Rattle.std.specs.Prelude.{◌≡◌, ◌≤◌, ◌<◌, ◌^◌, length};
+ghost use Rattle.tpm_wire.specs.Path.{Decodes};
+ghost use Rattle.tpm_wire.specs.Reading.{read_all};
+ghost use Rattle.tpm_wire.specs.Buffers.{TakesNumbered};
+ghost use Rattle.tpm_buffer.specs.Parameters.{parameters, startup, nv_define_space, nv_read, flush_context, policy_command_code, policy_or, start_auth_session, pcr_read, policy_pcr, pcr_extend};
+
+use crate::code::CommandCode;
+use tpm_types::{
+    Alg, AuthValue, Digest, DigestValues, EncryptedSalt, Nonce, NvPublic, OrDigests, Selections,
+    SessionHandle, SessionType, StartupType, SymDef,
+};
+use tpm_wire::{Cursor, Refusal, SIZE, Wire};
+
+/// A command's parameters, without its handles and sessions.
+#[derive(Drop)]
+pub enum Params {
+    NvUndefineSpace,
+    NvDefineSpace {
+        auth: AuthValue,
+        public: NvPublic,
+    },
+    NvIncrement,
+    PcrReset,
+    Startup(StartupType),
+    NvRead {
+        size: u16,
+        offset: u16,
+    },
+    FlushContext(SessionHandle),
+    NvReadPublic,
+    PolicyAuthValue,
+    PolicyCommandCode(u32),
+    PolicyOr(OrDigests),
+    StartAuthSession {
+        nonce_caller: Nonce,
+        session_type: SessionType,
+        symmetric: SymDef,
+        auth_hash: Alg,
+    },
+    PcrRead(Selections),
+    PolicyPcr {
+        pcr_digest: Digest,
+        selections: Selections,
+    },
+    PolicyRestart,
+    PcrExtend(DigestValues),
+    PolicyGetDigest,
+}
+
+#[tactic(auto, unfolding(crate::specs::Parameters::startup))]
+fn take_startup(cursor: &mut Cursor<'_>) -> Result<Params, Refusal>
+    ensures { TakesNumbered (λ p. p) startup cursor.old cursor.new result }
+{
+    cursor.number(0x140);
+    Ok(Params::Startup(StartupType::take(cursor)?))
+}
+
+#[tactic(auto, unfolding(crate::specs::Parameters::nv_define_space))]
+fn take_nv_define_space(cursor: &mut Cursor<'_>) -> Result<Params, Refusal>
+    ensures { TakesNumbered (λ p. p) nv_define_space cursor.old cursor.new result }
+{
+    cursor.number(0x140);
+    let auth = AuthValue::take(cursor)?;
+    cursor.number(0x240);
+    let public = NvPublic::take(cursor)?;
+    Ok(Params::NvDefineSpace { auth, public })
+}
+
+#[tactic(auto, unfolding(crate::specs::Parameters::nv_read))]
+fn take_nv_read(cursor: &mut Cursor<'_>) -> Result<Params, Refusal>
+    ensures { TakesNumbered (λ p. p) nv_read cursor.old cursor.new result }
+{
+    cursor.number(0x140);
+    let size = u16::take(cursor)?;
+    cursor.number(0x240);
+    let offset = u16::take(cursor)?;
+    Ok(Params::NvRead { size, offset })
+}
+
+#[tactic(auto, unfolding(crate::specs::Parameters::flush_context))]
+fn take_flush_context(cursor: &mut Cursor<'_>) -> Result<Params, Refusal>
+    ensures { TakesNumbered (λ p. p) flush_context cursor.old cursor.new result }
+{
+    cursor.number(0x140);
+    Ok(Params::FlushContext(SessionHandle::take(cursor)?))
+}
+
+#[tactic(auto, unfolding(crate::specs::Parameters::policy_command_code))]
+fn take_policy_command_code(cursor: &mut Cursor<'_>) -> Result<Params, Refusal>
+    ensures { TakesNumbered (λ p. p) policy_command_code cursor.old cursor.new result }
+{
+    cursor.number(0x140);
+    Ok(Params::PolicyCommandCode(u32::take(cursor)?))
+}
+
+#[tactic(auto, unfolding(crate::specs::Parameters::policy_or))]
+fn take_policy_or(cursor: &mut Cursor<'_>) -> Result<Params, Refusal>
+    ensures { TakesNumbered (λ p. p) policy_or cursor.old cursor.new result }
+{
+    cursor.number(0x140);
+    Ok(Params::PolicyOr(OrDigests::take(cursor)?))
+}
+
+#[tactic(auto, unfolding(crate::specs::Parameters::start_auth_session))]
+fn take_start_auth_session(cursor: &mut Cursor<'_>) -> Result<Params, Refusal>
+    ensures { TakesNumbered (λ p. p) start_auth_session cursor.old cursor.new result }
+{
+    cursor.number(0x140);
+    let nonce_caller = Nonce::take(cursor)?;
+    cursor.number(0x240);
+    let _salt = EncryptedSalt::take(cursor)?;
+    cursor.number(0x340);
+    let session_type = SessionType::take(cursor)?;
+    cursor.number(0x440);
+    let symmetric = SymDef::take(cursor)?;
+    cursor.number(0x540);
+    let auth_hash = Alg::take(cursor)?;
+    Ok(Params::StartAuthSession {
+        nonce_caller,
+        session_type,
+        symmetric,
+        auth_hash,
+    })
+}
+
+#[tactic(auto, unfolding(crate::specs::Parameters::pcr_read))]
+fn take_pcr_read(cursor: &mut Cursor<'_>) -> Result<Params, Refusal>
+    ensures { TakesNumbered (λ p. p) pcr_read cursor.old cursor.new result }
+{
+    cursor.number(0x140);
+    Ok(Params::PcrRead(Selections::take(cursor)?))
+}
+
+#[tactic(auto, unfolding(crate::specs::Parameters::policy_pcr))]
+fn take_policy_pcr(cursor: &mut Cursor<'_>) -> Result<Params, Refusal>
+    ensures { TakesNumbered (λ p. p) policy_pcr cursor.old cursor.new result }
+{
+    cursor.number(0x140);
+    let pcr_digest = Digest::take(cursor)?;
+    cursor.number(0x240);
+    let selections = Selections::take(cursor)?;
+    Ok(Params::PolicyPcr {
+        pcr_digest,
+        selections,
+    })
+}
+
+#[tactic(auto, unfolding(crate::specs::Parameters::pcr_extend))]
+fn take_pcr_extend(cursor: &mut Cursor<'_>) -> Result<Params, Refusal>
+    ensures { TakesNumbered (λ p. p) pcr_extend cursor.old cursor.new result }
+{
+    cursor.number(0x140);
+    Ok(Params::PcrExtend(DigestValues::take(cursor)?))
+}
+
+/// The parameters of a command with this code.
+pub(crate) fn take_params(cursor: &mut Cursor<'_>, code: CommandCode) -> Result<Params, Refusal>
+    ensures { TakesNumbered (λ p. p) (parameters code) cursor.old cursor.new result }
+{
+    match code {
+        CommandCode::NvUndefineSpace => Ok(Params::NvUndefineSpace),
+        CommandCode::NvDefineSpace => take_nv_define_space(cursor),
+        CommandCode::NvIncrement => Ok(Params::NvIncrement),
+        CommandCode::PcrReset => Ok(Params::PcrReset),
+        CommandCode::Startup => take_startup(cursor),
+        CommandCode::NvRead => take_nv_read(cursor),
+        CommandCode::FlushContext => take_flush_context(cursor),
+        CommandCode::NvReadPublic => Ok(Params::NvReadPublic),
+        CommandCode::PolicyAuthValue => Ok(Params::PolicyAuthValue),
+        CommandCode::PolicyCommandCode => take_policy_command_code(cursor),
+        CommandCode::PolicyOr => take_policy_or(cursor),
+        CommandCode::StartAuthSession => take_start_auth_session(cursor),
+        CommandCode::PcrRead => take_pcr_read(cursor),
+        CommandCode::PolicyPcr => take_policy_pcr(cursor),
+        CommandCode::PolicyRestart => Ok(Params::PolicyRestart),
+        CommandCode::PcrExtend => take_pcr_extend(cursor),
+        CommandCode::PolicyGetDigest => Ok(Params::PolicyGetDigest),
+    }
+}
+
+fn decode(code: CommandCode, bytes: &[u8]) -> Result<Params, Refusal>
+    requires { length bytes.now < 2 ^ 32 }
+    ensures { result ≡ read_all (parameters code) bytes.now }
+{
+    let mut cursor = Cursor::new(bytes);
+    let params = take_params(&mut cursor, code)?;
+    if cursor.left() > 0 {
+        return Err(Refusal {
+            code: SIZE,
+            at: cursor.at(),
+        });
+    }
+    Ok(params)
+}
+
+/// The parameters that the bytes spell, all of them, or the code and the position of their first fault, counted from
+/// the first of these bytes: INSUFFICIENT, VALUE, SIZE, HASH, SYMMETRIC, MODE or RESERVED_BITS with the parameter's
+/// number, or SIZE for bytes left over.
+pub fn decode_params(code: CommandCode, bytes: &[u8]) -> Result<Params, Refusal>
+    requires { length bytes.now < 2 ^ 32 }
+    ensures decodes { Decodes (parameters code) (λ p. p) bytes.now result }
+    ensures reads { result ≡ read_all (parameters code) bytes.now }
+{
+    decode(code, bytes)
+}
