@@ -1,0 +1,4 @@
+pub mod Lengths
+pub mod Hashers
+pub mod Trimming
+pub mod Filling

@@ -1,0 +1,5 @@
+pub mod Hashes
+pub mod Hmac
+pub mod Sessions
+pub mod Hashers
+pub mod Pair

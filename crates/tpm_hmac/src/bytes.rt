@@ -1,0 +1,23 @@
+//! Authorization values and comparisons.
+
+ghost use Rattle.std.specs.Prelude.{◌≡◌, ◌↔◌, ℕ, ◌≤◌, List, length, IsTrue};
+ghost use Rattle.tpm_hmac.specs.Sessions.{trim as trim_of};
+
+/// The bytes without trailing zeros, as an authorization value is used (Part 1, "Authorization Values").
+pub fn trim(bytes: &[u8]) -> &[u8]
+    ensures value { result.now ≡ trim_of bytes.now }
+    ensures shorter { length result.now ≤ length bytes.now }
+{
+    let mut len = bytes.len();
+    while len > 0 && bytes[len - 1] == 0 {
+        len -= 1;
+    }
+    &bytes[..len]
+}
+
+/// Whether both are the same list of bytes. It looks at every byte of two lists of one length, wherever they differ.
+pub fn same(a: &[u8], b: &[u8]) -> bool
+    ensures { IsTrue result ↔ (a.now ≡ b.now) }
+{
+    a == b
+}

@@ -1,0 +1,14 @@
+//! Hashes, HMAC and the MACs of sessions (TPM 2.0 Library, Part 1).
+#![tactic(auto)]
+
+mod bytes;
+mod hashing;
+mod mac;
+mod pair;
+mod session;
+
+pub use bytes::{same, trim};
+pub use hashing::hash;
+pub use mac::hmac;
+pub use pair::Pair;
+pub use session::{command_mac, response_mac};

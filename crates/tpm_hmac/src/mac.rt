@@ -1,0 +1,124 @@
+//! HMAC (RFC 2104).
+
+ghost use Rattle.std.specs.Prelude.{◌≡◌, ℕ, ◌+◌, ◌<◌, ◌≤◌, List, [], ◌++◌, length, take, drop};
+ghost use Rattle.std.specs.List.{flat_map};
+ghost use Rattle.tpm_types.specs.declared.alg.Alg.{Alg};
+ghost use Rattle.tpm_types.specs.Alg.{digest_len, block_len};
+ghost use Rattle.tpm_hmac.specs.Hmac.{filled, block_key, xored as xored_bytes, hmac as hmac_of};
+ghost use Rattle.tpm_hmac.specs.Hashers.{Holding, MacHolds};
+
+use crate::hashing::Hasher;
+use tpm_types::{Alg, Digest};
+
+// How many bytes the longest block of a hash has.
+const BLOCK_BYTES: usize = 64;
+
+// The bytes that the key's block is changed by, for the inner and for the outer hash.
+const INNER_PAD: u8 = 0x36;
+
+const OUTER_PAD: u8 = 0x5C;
+
+fn xored(block: &[u8; BLOCK_BYTES], with: u8) -> [u8; BLOCK_BYTES]
+    ensures { result ≡ xored_bytes with block.now }
+{
+    let mut out = *block;
+    for byte in out.iter_mut() {
+        *byte ^= with;
+    }
+    out
+}
+
+// Writes the bytes over those from this place on.
+fn put(block: &mut [u8; BLOCK_BYTES], at: usize, bytes: &[u8])
+    requires { at + length bytes.now ≤ BLOCK_BYTES }
+    ensures { block.new ≡ take at block.old ++ (bytes.now ++ drop (at + length bytes.now) block.old) }
+{
+    block[at..at + bytes.len()].copy_from_slice(bytes);
+}
+
+// Both parts, joined, and zeros behind them.
+fn fill(front: &[u8], back: &[u8]) -> [u8; BLOCK_BYTES]
+    requires { length front.now + length back.now ≤ BLOCK_BYTES }
+    ensures { result ≡ filled BLOCK_BYTES (front.now ++ back.now) }
+{
+    let mut block = [0; BLOCK_BYTES];
+    put(&mut block, 0, front);
+    put(&mut block, front.len(), back);
+    block
+}
+
+// The key, of which both parts are one, as a block.
+#[tactic(auto, unfolding(crate::specs::Hmac::block_key))]
+fn key_block(alg: Alg, front: &[u8], back: &[u8]) -> [u8; BLOCK_BYTES]
+    ensures { take (block_len alg) result ≡ block_key alg (front.now ++ back.now) }
+{
+    if front.len() + back.len() > alg.block_len() {
+        let mut hasher = Hasher::new(alg);
+        hasher.update(front);
+        hasher.update(back);
+        fill(hasher.finish().as_slice(), &[])
+    } else {
+        fill(front, back)
+    }
+}
+
+// A hasher that has taken in the key's block, changed by the pad.
+fn keyed(alg: Alg, block: &[u8; BLOCK_BYTES], pad: u8) -> Hasher
+    ensures { Holding alg result (xored_bytes pad (take (block_len alg) block.now)) }
+{
+    let mut hasher = Hasher::new(alg);
+    hasher.update(&xored(block, pad)[..alg.block_len()]);
+    hasher
+}
+
+/// An HMAC of a text that comes piece by piece.
+#[derive(Drop)]
+pub(crate) struct Mac {
+    inner: Hasher,
+    outer: Hasher,
+}
+
+impl Mac {
+    /// The HMAC of the empty text, under both parts of the key, joined.
+    pub(crate) fn new(alg: Alg, front: &[u8], back: &[u8]) -> Self
+        ensures { MacHolds alg (front.now ++ back.now) result [] }
+    {
+        let block = key_block(alg, front, back);
+        Mac {
+            inner: keyed(alg, &block, INNER_PAD),
+            outer: keyed(alg, &block, OUTER_PAD),
+        }
+    }
+
+    pub(crate) fn update(&mut self, bytes: &[u8])
+        ensures { (a : Alg) (k m : List ℕ) → MacHolds a k self.old m → MacHolds a k self.new (m ++ bytes.now) }
+    {
+        self.inner.update(bytes);
+    }
+
+    pub(crate) fn update_all(&mut self, parts: &[&[u8]])
+        ensures { (a : Alg) (k m : List ℕ) → MacHolds a k self.old m → MacHolds a k self.new (m ++ flat_map (λ p. p.now) parts.now) }
+    {
+        self.inner.update_all(parts);
+    }
+
+    #[tactic(auto, unfolding(crate::specs::Hmac::hmac))]
+    pub(crate) fn finish(self) -> Digest
+        ensures { (a : Alg) (k m : List ℕ) → MacHolds a k self m → result ≡ hmac_of a k m }
+    {
+        let mut outer = self.outer;
+        outer.update(self.inner.finish().as_slice());
+        outer.finish()
+    }
+}
+
+/// The HMAC under the key of the parts, joined (RFC 2104). A key longer than the hash's block is hashed first.
+#[tactic(auto, using(crate::proofs::Lengths::lengths))]
+pub fn hmac(alg: Alg, key: &[u8], parts: &[&[u8]]) -> Digest
+    ensures value { result ≡ hmac_of alg key.now (flat_map (λ p. p.now) parts.now) }
+    ensures len { length result ≡ digest_len alg }
+{
+    let mut mac = Mac::new(alg, key, &[]);
+    mac.update_all(parts);
+    mac.finish()
+}
