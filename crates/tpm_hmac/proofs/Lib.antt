@@ -1,4 +1,5 @@
-pub mod Lengths
+pub mod DigestLengths
 pub mod Hashers
 pub mod Trimming
 pub mod Filling
+pub mod Differences

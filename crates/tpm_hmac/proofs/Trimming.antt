@@ -1,5 +1,5 @@
 -- Trailing zeros.
-use Rattle.std.proofs.Common.{◌≡◌, ℕ, zero, suc, ◌+◌, ◌<◌, List, [], ◌∷◌, ◌++◌, length, take, slice_index_or, refl, ap, sym, ◌∙◌, arith}
+use Rattle.std.proofs.Common.{◌≡◌, ℕ, zero, suc, ◌+◌, ◌<◌, List, [], ◌∷◌, ◌++◌, length, take, replicate, slice_index_or, refl, ap, sym, ◌∙◌, arith}
 use Rattle.std.proofs.lemmas.List.{take_more}
 use Rattle.tpm_hmac.specs.Sessions.{trim, before_trimmed}
 
@@ -32,3 +32,40 @@ trim-take_other bytes n k next within other =
 
 pub trim-nothing : (bytes : List ℕ) (n : ℕ) → n ≡ 0 → trim (take n bytes) ≡ take n bytes
 trim-nothing bytes n none = rw none refl
+
+-- ---- laws
+
+zeros_before : (b : ℕ) (rest trimmed : List ℕ) (count : ℕ) → rest ≡ trimmed ++ replicate count 0 → (n : ℕ) × (b ∷ rest ≡ before_trimmed b trimmed ++ replicate n 0)
+zeros_before zero rest [] count is = (suc count, ap (◌∷◌ 0) is)
+zeros_before zero rest (x ∷ xs) count is = (count, ap (◌∷◌ 0) is)
+zeros_before (suc b) rest trimmed count is = (count, ap (◌∷◌ (suc b)) is)
+
+pub trim-zeros : (bytes : List ℕ) → (count : ℕ) × (bytes ≡ trim bytes ++ replicate count 0)
+trim-zeros [] = (0, refl)
+trim-zeros (b ∷ bytes) = let behind = trim-zeros bytes in zeros_before b bytes (trim bytes) behind.0 behind.1
+
+last_before : (b : ℕ) (trimmed : List ℕ) → ((front : List ℕ) → trimmed ≡ front ++ 0 ∷ [] → ⊥) → (front : List ℕ) → before_trimmed b trimmed ≡ front ++ 0 ∷ [] → ⊥
+last_before zero [] none [] is = cc
+last_before zero [] none (x ∷ front) is = cc
+last_before (suc b) [] none [] is = cc
+last_before (suc b) [] none (x ∷ []) is = cc
+last_before (suc b) [] none (x ∷ y ∷ front) is = cc
+last_before zero (c ∷ trimmed) none [] is = cc
+last_before (suc b) (c ∷ trimmed) none [] is = cc
+last_before zero (c ∷ trimmed) none (x ∷ front) is = none front cc
+last_before (suc b) (c ∷ trimmed) none (x ∷ front) is = none front cc
+
+pub trim-last : (bytes front : List ℕ) → trim bytes ≡ front ++ 0 ∷ [] → ⊥
+trim-last [] [] is = cc
+trim-last [] (x ∷ front) is = cc
+trim-last (b ∷ bytes) front is = last_before b (trim bytes) (trim-last bytes) front is
+
+again_before : (b : ℕ) (trimmed : List ℕ) → trim trimmed ≡ trimmed → trim (before_trimmed b trimmed) ≡ before_trimmed b trimmed
+again_before zero [] same = refl
+again_before (suc b) [] same = refl
+again_before zero (c ∷ trimmed) same = ap (before_trimmed 0) same
+again_before (suc b) (c ∷ trimmed) same = ap (before_trimmed (suc b)) same
+
+pub trim-trim : (bytes : List ℕ) → trim (trim bytes) ≡ trim bytes
+trim-trim [] = refl
+trim-trim (b ∷ bytes) = again_before b (trim bytes) (trim-trim bytes)

@@ -3,12 +3,16 @@
 
 mod bytes;
 mod hashing;
+mod laws;
 mod mac;
 mod pair;
 mod session;
+#[cfg(test)]
+mod tests;
 
 pub use bytes::{same, trim};
 pub use hashing::hash;
+pub use laws::{lengths, trimmed};
 pub use mac::hmac;
 pub use pair::Pair;
 pub use session::{command_mac, response_mac};

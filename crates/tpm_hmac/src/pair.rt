@@ -61,7 +61,7 @@ impl Pair {
             &[],
             p_hash,
             caller,
-            self.nonce.as_slice(),
+            self.nonce(),
             attrs,
         );
         let accepted = same(mac, expected.as_slice());

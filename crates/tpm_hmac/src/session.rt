@@ -11,7 +11,7 @@ use tpm_types::{Alg, Digest, SessionAttrs};
 
 /// The MAC of a command, under the session key followed by the trimmed authorization value. `p_hash` is its cpHash, `newer`
 /// its nonceCaller, and `older` the session's nonceTPM (Part 1, "HMAC Computation").
-#[tactic(auto, using(crate::proofs::Lengths::lengths))]
+#[tactic(auto, using(crate::proofs::DigestLengths::lengths))]
 pub fn command_mac(
     alg: Alg,
     session_key: &[u8],

@@ -1,5 +1,5 @@
 use Rattle.std.proofs.Common.{length, ◌++◌, ◌∙◌, ap, append_assoc}
-use Rattle.tpm_hmac.proofs.Lengths.{length-hmac}
+use Rattle.tpm_hmac.proofs.DigestLengths.{length-hmac}
 use Rattle.tpm_hmac.proofs.session.command_mac.Goals as goal
 
 pub returns-clause-value : goal.returns-clause-value

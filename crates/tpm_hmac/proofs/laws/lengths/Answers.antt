@@ -1,0 +1,8 @@
+use Rattle.tpm_hmac.proofs.DigestLengths.{length-digest, length-hmac}
+use Rattle.tpm_hmac.proofs.laws.lengths.Goals as goal
+
+pub returns-clause-digests : goal.returns-clause-digests
+returns-clause-digests c = length-digest
+
+pub returns-clause-macs : goal.returns-clause-macs
+returns-clause-macs c = length-hmac

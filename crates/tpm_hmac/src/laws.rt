@@ -1,0 +1,21 @@
+//! What holds of every digest, every MAC and every trimmed value.
+
+ghost use Rattle.std.specs.Prelude.{◌≡◌, ◌≢◌, ℕ, List, [], ◌∷◌, ◌++◌, length, replicate};
+ghost use Rattle.tpm_types.specs.declared.alg.Alg.{Alg};
+ghost use Rattle.tpm_types.specs.Alg.{digest_len};
+ghost use Rattle.tpm_hmac.specs.Hashes.{digest};
+ghost use Rattle.tpm_hmac.specs.Hmac.{hmac};
+ghost use Rattle.tpm_hmac.specs.Sessions.{trim};
+
+/// Each digest and each MAC has its hash's length.
+pub fn lengths()
+    ensures digests { (alg : Alg) (message : List ℕ) → length (digest alg message) ≡ digest_len alg }
+    ensures macs { (alg : Alg) (key text : List ℕ) → length (hmac alg key text) ≡ digest_len alg }
+{}
+
+/// What is trimmed off is zeros, and all of them: what is left does not end in one, and is not trimmed further.
+pub fn trimmed()
+    ensures zeros { (bytes : List ℕ) → (count : ℕ) × (bytes ≡ trim bytes ++ replicate count 0) }
+    ensures last { (bytes front : List ℕ) → trim bytes ≢ front ++ 0 ∷ [] }
+    ensures again { (bytes : List ℕ) → trim (trim bytes) ≡ trim bytes }
+{}
