@@ -65,8 +65,8 @@ impl Pair {
             attrs,
         );
         let accepted = same(mac, expected.as_slice());
-        if accepted && let Some(nonce) = Bounded::new(next.as_slice()) {
-            self.nonce = nonce;
+        if accepted {
+            self.nonce = *next;
         }
         accepted
     }
