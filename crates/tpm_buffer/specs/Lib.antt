@@ -3,3 +3,4 @@ pub mod Handles
 pub mod Parameters
 pub mod Commands
 pub mod Areas
+pub mod Replies

@@ -10,6 +10,7 @@ mod handles;
 mod header;
 mod laws;
 mod params;
+mod response;
 mod stages;
 
 pub use code::CommandCode;
@@ -20,4 +21,5 @@ pub use encode::encode_command;
 pub use header::{AUTHSIZE, BAD_TAG, COMMAND_CODE, COMMAND_SIZE, NO_SESSIONS, SESSIONS};
 pub use laws::{command_or_fault, fault_before_params, no_prefix, parameters_in_command};
 pub use params::{Params, decode_params};
+pub use response::{ErrorCode, NvData, ReplyBody, Response, StartReply};
 pub use stages::{Areas, Handled, Headed, header as read_header};
