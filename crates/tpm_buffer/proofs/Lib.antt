@@ -2,3 +2,4 @@ pub mod Spelled
 pub mod Prefix
 pub mod Staged
 pub mod Within
+pub mod Answered

@@ -53,7 +53,7 @@ tag_meant : (t : ℕ) → (t ≡ 0x8001) ⊎ (t ≡ 0x8002) → cond (eqb t 0x80
 tag_meant t (inl e) = rw e refl
 tag_meant t (inr e) = rw e refl
 
-size_meant : (n left : ℕ) → n ≡ left + 6 → 10 ≤ n → n ≤ 4096 → cond ((eqb n (left + 6)) && leb 10 n && leb n 4096) (Some n) None ≡ Some n
+pub size_meant : (n left : ℕ) → n ≡ left + 6 → 10 ≤ n → n ≤ 4096 → cond ((eqb n (left + 6)) && leb 10 n && leb n 4096) (Some n) None ≡ Some n
 size_meant n left e least most = rw (eq-eqb n (left + 6) e, le-leb 10 n least, le-leb n 4096 most) refl
 
 -- the code's number stands for the code

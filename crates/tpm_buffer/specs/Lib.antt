@@ -4,3 +4,4 @@ pub mod Parameters
 pub mod Commands
 pub mod Areas
 pub mod Replies
+pub mod Responses

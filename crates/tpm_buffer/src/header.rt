@@ -97,7 +97,7 @@ pub(crate) fn long_fault(bytes: &[u8]) -> Refusal
 fn take_sessions(cursor: &mut Cursor<'_>) -> Result<ArrayVec<Auth, 3>, Refusal>
     ensures { TakesNumbered (λ v. v.items) sessions cursor.old cursor.new result }
 {
-    take_rest(cursor, 0x900)
+    take_rest(cursor, 3, 0x900)
 }
 
 #[tactic(auto, unfolding(crate::specs::Commands::authorization_size))]

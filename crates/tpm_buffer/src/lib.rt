@@ -10,6 +10,9 @@ mod handles;
 mod header;
 mod laws;
 mod params;
+mod reply_decode;
+mod reply_encode;
+mod reply_params;
 mod response;
 mod stages;
 

@@ -28,17 +28,20 @@ pub fn take_list<T: Wire + Default + Drop, const N: usize>(
     Ok(entries)
 }
 
-/// Reads entries to the end of the area, but at most `N`. To the codes of entry `i` it adds `first + 0x100 * i`.
+/// Reads entries to the end of the area, but at most so many. To the codes of entry `i`, from 0, it adds `first + 0x100 * i`.
 pub fn take_rest<T: Wire + Default + Drop, const N: usize>(
     cursor: &mut Cursor<'_>,
+    most: usize,
     first: u32,
 ) -> Result<ArrayVec<T, N>, Refusal>
-    requires { first + 0x100 * N ≤ 0xF40 }
-    ensures reads { TakesNumbered (λ v. v.items) (list N true (λ before. numbered (first + 0x100 * length before) T.layout)) cursor.old cursor.new result }
+    requires room { most ≤ N }
+    requires numbers { first + 0x100 * most ≤ 0xF40 }
+    ensures reads { TakesNumbered (λ v. v.items) (list most true (λ before. numbered (first + 0x100 * length before) T.layout)) cursor.old cursor.new result }
     ensures spelled { IfOk result (λ v. cursor.old.here.rest ≡ joined_all T.layout v.items ++ cursor.new.here.rest) }
+    ensures few { IfOk result (λ v. length v.items ≤ most) }
 {
     let mut entries = ArrayVec::new();
-    while cursor.left() > 0 && entries.len() < N {
+    while cursor.left() > 0 && entries.len() < most {
         cursor.number(first + 0x100 * entries.len() as u32);
         entries.push(T::take(cursor)?);
     }

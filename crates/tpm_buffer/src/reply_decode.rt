@@ -1,0 +1,231 @@
+//! From bytes to a response.
+
+ghost use Rattle.std.specs.Prelude.{◌≡◌, ◌≤◌, ◌<◌, ◌↔◌, IfOk, Ok, Err, length};
+ghost use Rattle.tpm_wire.specs.declared.refusal.Refusal.{Refusal as RefusalOf};
+ghost use Rattle.tpm_wire.specs.Token.{at_start};
+ghost use Rattle.tpm_wire.specs.Reading.{read, read_all};
+ghost use Rattle.tpm_wire.specs.Buffers.{Takes, TakesNumbered};
+ghost use Rattle.tpm_wire.specs.Path.{Spells, Fault};
+ghost use Rattle.tpm_buffer.specs.declared.response.Response.{Response as ResponseOf};
+ghost use Rattle.tpm_buffer.specs.Replies.{reply_parameters};
+ghost use Rattle.tpm_buffer.specs.Responses.{response_tag, response_code, parameter_size, further_sessions, reply_sessions, with_sessions, without_sessions, reply_behind, reply, behind_code, response, Reply as ReplyOf};
+
+use crate::code::CommandCode;
+use crate::header::{BAD_TAG, COMMAND_SIZE, NO_SESSIONS, SESSIONS, take_size};
+use crate::reply_params::{take_reply_handles, take_reply_params};
+use crate::response::{ErrorCode, ReplyBody, Response};
+use arrayvec::ArrayVec;
+use tpm_types::{AuthReply, VALUE};
+use tpm_wire::{Cursor, Refusal, SIZE, Wire, take_rest};
+
+/// The tag of a response to a command with a wrong tag, TPM_ST_RSP_COMMAND.
+pub const RSP_COMMAND: u16 = 0x00C4;
+
+#[tactic(auto, unfolding(crate::specs::Responses::response_tag))]
+fn take_tag(cursor: &mut Cursor<'_>) -> Result<u16, Refusal>
+    ensures { Takes response_tag cursor.old cursor.new result }
+{
+    let refusal = cursor.refusal(BAD_TAG);
+    let tag = u16::take(cursor)?;
+    if tag != NO_SESSIONS && tag != SESSIONS && tag != RSP_COMMAND {
+        return Err(refusal);
+    }
+    Ok(tag)
+}
+
+#[tactic(auto, unfolding(crate::specs::Responses::response_code))]
+fn take_code(cursor: &mut Cursor<'_>, tag: u16) -> Result<u32, Refusal>
+    ensures { Takes (response_code tag) cursor.old cursor.new result }
+{
+    let refusal = cursor.refusal(VALUE);
+    let code = u32::take(cursor)?;
+    let goes_with = match tag {
+        SESSIONS => code == 0,
+        RSP_COMMAND => code == BAD_TAG,
+        _ => code != BAD_TAG,
+    };
+    if !goes_with {
+        return Err(refusal);
+    }
+    Ok(code)
+}
+
+#[tactic(auto, unfolding(crate::specs::Responses::parameter_size))]
+fn take_parameter_size(cursor: &mut Cursor<'_>) -> Result<u32, Refusal>
+    ensures { Takes parameter_size cursor.old cursor.new result }
+{
+    let refusal = cursor.refusal(SIZE);
+    let size = u32::take(cursor)?;
+    if size as usize > cursor.left() {
+        return Err(refusal);
+    }
+    Ok(size)
+}
+
+#[tactic(auto, unfolding(crate::specs::Responses::further_sessions))]
+fn take_further_sessions(cursor: &mut Cursor<'_>) -> Result<ArrayVec<AuthReply, 3>, Refusal>
+    ensures reads { TakesNumbered (λ v. v.items) further_sessions cursor.old cursor.new result }
+    ensures few { IfOk result (λ v. length v.items ≤ 2) }
+{
+    take_rest(cursor, 2, 0xA00)
+}
+
+/// The sessions of a response, of which there is one at least.
+#[tactic(auto, unfolding(crate::specs::Responses::reply_sessions))]
+pub(crate) fn take_sessions(cursor: &mut Cursor<'_>) -> Result<ArrayVec<AuthReply, 3>, Refusal>
+    ensures { TakesNumbered (λ v. v.items) reply_sessions cursor.old cursor.new result }
+{
+    cursor.number(0x900);
+    let first = AuthReply::take(cursor)?;
+    let mut auths = take_further_sessions(cursor)?;
+    auths.insert(0, first);
+    Ok(auths)
+}
+
+// What a reply is made of.
+#[derive(Drop)]
+struct Reply {
+    body: ReplyBody,
+    auths: ArrayVec<AuthReply, 3>,
+}
+
+#[tactic(auto, unfolding(crate::specs::Responses::with_sessions))]
+fn take_with_sessions(
+    cursor: &mut Cursor<'_>,
+    code: CommandCode,
+    handles: &[u32],
+) -> Result<Reply, Refusal>
+    ensures { TakesNumbered (λ r. record { body = r.body; auths = r.auths.items }) (with_sessions (reply_parameters code handles.now)) cursor.old cursor.new result }
+{
+    cursor.number(0);
+    let size = take_parameter_size(cursor)? as usize;
+    let outer = cursor.enter(size)?;
+    let body = take_reply_params(cursor, code, handles)?;
+    cursor.number(0);
+    cursor.leave(outer)?;
+    let auths = take_sessions(cursor)?;
+    Ok(Reply { body, auths })
+}
+
+#[tactic(auto, unfolding(crate::specs::Responses::without_sessions))]
+fn take_without_sessions(
+    cursor: &mut Cursor<'_>,
+    code: CommandCode,
+    handles: &[u32],
+) -> Result<Reply, Refusal>
+    ensures { TakesNumbered (λ r. record { body = r.body; auths = r.auths.items }) (without_sessions (reply_parameters code handles.now)) cursor.old cursor.new result }
+{
+    let body = take_reply_params(cursor, code, handles)?;
+    Ok(Reply {
+        body,
+        auths: ArrayVec::new(),
+    })
+}
+
+fn take_behind(
+    cursor: &mut Cursor<'_>,
+    tag: u16,
+    code: CommandCode,
+    handles: &[u32],
+) -> Result<Reply, Refusal>
+    ensures { TakesNumbered (λ r. record { body = r.body; auths = r.auths.items }) (reply_behind tag (reply_parameters code handles.now)) cursor.old cursor.new result }
+{
+    if tag == SESSIONS {
+        take_with_sessions(cursor, code, handles)
+    } else {
+        take_without_sessions(cursor, code, handles)
+    }
+}
+
+fn take_reply(cursor: &mut Cursor<'_>, tag: u16, code: CommandCode) -> Result<Reply, Refusal>
+    ensures { TakesNumbered (λ r. record { body = r.body; auths = r.auths.items }) (reply code tag) cursor.old cursor.new result }
+{
+    let handles = take_reply_handles(cursor, code)?;
+    let reply = take_behind(cursor, tag, code, handles.as_slice())?;
+    Ok(reply)
+}
+
+fn take_behind_code(
+    cursor: &mut Cursor<'_>,
+    tag: u16,
+    number: u32,
+    code: CommandCode,
+) -> Result<Response, Refusal>
+    ensures { TakesNumbered (λ r. r) (behind_code code tag number) cursor.old cursor.new result }
+{
+    match ErrorCode::from_number(number) {
+        Some(error) => Ok(Response::Code(error)),
+        None => {
+            let reply = take_reply(cursor, tag, code)?;
+            Ok(Response::Done {
+                body: reply.body,
+                auths: reply.auths,
+            })
+        }
+    }
+}
+
+#[tactic(auto, unfolding(crate::specs::Responses::response))]
+fn take_response(cursor: &mut Cursor<'_>, code: CommandCode) -> Result<Response, Refusal>
+    requires { cursor.old.number ≡ 0 }
+    ensures { TakesNumbered (λ r. r) (response code) cursor.old cursor.new result }
+{
+    let tag = take_tag(cursor)?;
+    let _size = take_size(cursor)?;
+    let number = take_code(cursor, tag)?;
+    let response = take_behind_code(cursor, tag, number, code)?;
+    Ok(response)
+}
+
+// No buffer has so many bytes, so the tag is refused or else the size.
+#[tactic(auto, unfolding(crate::specs::Responses::response, crate::specs::Responses::response_tag, crate::specs::Commands::command_size))]
+fn decode_long(code: CommandCode, bytes: &[u8]) -> Result<Response, Refusal>
+    requires { 4096 < length bytes.now }
+    ensures { result ≡ read_all (response code) bytes.now }
+{
+    let tag = u16::from_be_bytes([bytes[0], bytes[1]]);
+    if tag != NO_SESSIONS && tag != SESSIONS && tag != RSP_COMMAND {
+        return Err(Refusal {
+            code: BAD_TAG,
+            at: 0,
+        });
+    }
+    Err(Refusal {
+        code: COMMAND_SIZE,
+        at: 2,
+    })
+}
+
+fn decode_short(code: CommandCode, bytes: &[u8]) -> Result<Response, Refusal>
+    requires { length bytes.now ≤ 4096 }
+    ensures { result ≡ read_all (response code) bytes.now }
+{
+    let mut cursor = Cursor::new(bytes);
+    let response = take_response(&mut cursor, code)?;
+    if cursor.left() > 0 {
+        return Err(Refusal {
+            code: SIZE,
+            at: cursor.at(),
+        });
+    }
+    Ok(response)
+}
+
+fn decode(code: CommandCode, bytes: &[u8]) -> Result<Response, Refusal>
+    ensures { result ≡ read_all (response code) bytes.now }
+{
+    if bytes.len() > 4096 {
+        decode_long(code, bytes)
+    } else {
+        decode_short(code, bytes)
+    }
+}
+
+/// The response to a command with this code that the bytes spell, all of them, or the response code and the position
+/// of their first fault.
+pub fn decode_response(code: CommandCode, bytes: &[u8]) -> Result<Response, Refusal>
+    ensures ok { (r : ResponseOf) → (result ≡ Ok r) ↔ Spells (response code) r bytes.now }
+    ensures err { (e : RefusalOf) → (result ≡ Err e) ↔ Fault (response code) bytes.now e }
+{
+    decode(code, bytes)
+}

@@ -1,0 +1,134 @@
+//! A response's handle and parameters (Part 3).
+
+ghost use Rattle.std.specs.Prelude.{◌≡◌};
+ghost use Rattle.tpm_wire.specs.Buffers.{TakesNumbered};
+ghost use Rattle.tpm_buffer.specs.Handles.{first as first_of};
+ghost use Rattle.tpm_buffer.specs.Replies.{session_handle, reply_handles, session_in as the_session, reply_parameters, nv_read_reply, nv_read_public_reply, start_auth_session_reply, pcr_read_reply, policy_get_digest_reply};
+
+use crate::code::CommandCode;
+use crate::response::{NvData, ReplyBody, StartReply};
+use arrayvec::ArrayVec;
+use tpm_types::{Digest, Digests, Name, Nonce, NvPublic, Selections, SessionHandle};
+use tpm_wire::{Cursor, Refusal, Wire};
+
+#[tactic(auto, unfolding(crate::specs::Replies::session_handle))]
+fn take_session_handle(cursor: &mut Cursor<'_>) -> Result<ArrayVec<u32, 1>, Refusal>
+    ensures { TakesNumbered (λ v. v.items) session_handle cursor.old cursor.new result }
+{
+    cursor.number(0x100);
+    let session = SessionHandle::take(cursor)?;
+    let mut list = ArrayVec::new();
+    list.push(session.number());
+    Ok(list)
+}
+
+/// The handle of a response to a command with this code, where it has one.
+pub(crate) fn take_reply_handles(
+    cursor: &mut Cursor<'_>,
+    code: CommandCode,
+) -> Result<ArrayVec<u32, 1>, Refusal>
+    ensures { TakesNumbered (λ v. v.items) (reply_handles code) cursor.old cursor.new result }
+{
+    match code {
+        CommandCode::StartAuthSession => take_session_handle(cursor),
+        _ => Ok(ArrayVec::new()),
+    }
+}
+
+fn session_in(handles: &[u32]) -> SessionHandle
+    ensures { result ≡ the_session (first_of handles.now) }
+{
+    let number = match handles {
+        [handle, ..] => *handle,
+        [] => 0,
+    };
+    match SessionHandle::from_number(number).or(SessionHandle::from_number(0x02000000)) {
+        Some(session) => session,
+        None => unreachable!(),
+    }
+}
+
+#[tactic(auto, unfolding(crate::specs::Replies::nv_read_reply))]
+fn take_nv_read(cursor: &mut Cursor<'_>) -> Result<ReplyBody, Refusal>
+    ensures { TakesNumbered (λ r. r) nv_read_reply cursor.old cursor.new result }
+{
+    cursor.number(0x140);
+    Ok(ReplyBody::NvRead(NvData::take(cursor)?))
+}
+
+#[tactic(auto, unfolding(crate::specs::Replies::nv_read_public_reply))]
+fn take_nv_read_public(cursor: &mut Cursor<'_>) -> Result<ReplyBody, Refusal>
+    ensures { TakesNumbered (λ r. r) nv_read_public_reply cursor.old cursor.new result }
+{
+    cursor.number(0x140);
+    let public = NvPublic::take(cursor)?;
+    cursor.number(0x240);
+    let name = Name::take(cursor)?;
+    Ok(ReplyBody::NvReadPublic { public, name })
+}
+
+#[tactic(auto, unfolding(crate::specs::Replies::start_auth_session_reply))]
+fn take_start_auth_session(cursor: &mut Cursor<'_>, handles: &[u32]) -> Result<ReplyBody, Refusal>
+    ensures { TakesNumbered (λ r. r) (start_auth_session_reply handles.now) cursor.old cursor.new result }
+{
+    cursor.number(0x140);
+    let nonce_tpm = Nonce::take(cursor)?;
+    Ok(ReplyBody::StartAuthSession(StartReply {
+        session: session_in(handles),
+        nonce_tpm,
+    }))
+}
+
+#[tactic(auto, unfolding(crate::specs::Replies::pcr_read_reply))]
+fn take_pcr_read(cursor: &mut Cursor<'_>) -> Result<ReplyBody, Refusal>
+    ensures { TakesNumbered (λ r. r) pcr_read_reply cursor.old cursor.new result }
+{
+    cursor.number(0x140);
+    let update_counter = u32::take(cursor)?;
+    cursor.number(0x240);
+    let selections = Selections::take(cursor)?;
+    cursor.number(0x340);
+    let digests = Digests::take(cursor)?;
+    Ok(ReplyBody::PcrRead {
+        update_counter,
+        selections,
+        digests,
+    })
+}
+
+#[tactic(auto, unfolding(crate::specs::Replies::policy_get_digest_reply))]
+fn take_policy_get_digest(cursor: &mut Cursor<'_>) -> Result<ReplyBody, Refusal>
+    ensures { TakesNumbered (λ r. r) policy_get_digest_reply cursor.old cursor.new result }
+{
+    cursor.number(0x140);
+    Ok(ReplyBody::PolicyGetDigest(Digest::take(cursor)?))
+}
+
+/// The reply to a command with this code, of which the handle was read before.
+pub(crate) fn take_reply_params(
+    cursor: &mut Cursor<'_>,
+    code: CommandCode,
+    handles: &[u32],
+) -> Result<ReplyBody, Refusal>
+    ensures { TakesNumbered (λ r. r) (reply_parameters code handles.now) cursor.old cursor.new result }
+{
+    match code {
+        CommandCode::NvUndefineSpace => Ok(ReplyBody::NvUndefineSpace),
+        CommandCode::NvDefineSpace => Ok(ReplyBody::NvDefineSpace),
+        CommandCode::NvIncrement => Ok(ReplyBody::NvIncrement),
+        CommandCode::PcrReset => Ok(ReplyBody::PcrReset),
+        CommandCode::Startup => Ok(ReplyBody::Startup),
+        CommandCode::NvRead => take_nv_read(cursor),
+        CommandCode::FlushContext => Ok(ReplyBody::FlushContext),
+        CommandCode::NvReadPublic => take_nv_read_public(cursor),
+        CommandCode::PolicyAuthValue => Ok(ReplyBody::PolicyAuthValue),
+        CommandCode::PolicyCommandCode => Ok(ReplyBody::PolicyCommandCode),
+        CommandCode::PolicyOr => Ok(ReplyBody::PolicyOr),
+        CommandCode::StartAuthSession => take_start_auth_session(cursor, handles),
+        CommandCode::PcrRead => take_pcr_read(cursor),
+        CommandCode::PolicyPcr => Ok(ReplyBody::PolicyPcr),
+        CommandCode::PolicyRestart => Ok(ReplyBody::PolicyRestart),
+        CommandCode::PcrExtend => Ok(ReplyBody::PcrExtend),
+        CommandCode::PolicyGetDigest => take_policy_get_digest(cursor),
+    }
+}
