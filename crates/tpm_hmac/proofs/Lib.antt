@@ -3,3 +3,4 @@ pub mod Hashers
 pub mod Trimming
 pub mod Filling
 pub mod Differences
+pub mod KdfaBlocks

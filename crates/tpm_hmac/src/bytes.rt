@@ -1,6 +1,6 @@
-//! Authorization values and comparisons.
+//! Trimmed values, comparisons, and parts of a list that are written.
 
-ghost use Rattle.std.specs.Prelude.{◌≡◌, ◌↔◌, ℕ, ◌≤◌, List, length, IsTrue};
+ghost use Rattle.std.specs.Prelude.{◌≡◌, ◌↔◌, ◌+◌, ◌≤◌, ◌++◌, length, take, drop, IsTrue};
 ghost use Rattle.tpm_hmac.specs.Sessions.{trim as trim_of};
 
 /// The bytes without trailing zeros, as an authorization value is used (Part 1, "Authorization Values").
@@ -27,4 +27,12 @@ pub fn same(a: &[u8], b: &[u8]) -> bool
         differences |= x ^ y;
     }
     differences == 0
+}
+
+/// Writes the bytes over those from this place on.
+pub(crate) fn put(out: &mut [u8], at: usize, bytes: &[u8])
+    requires { at + length bytes.now ≤ length out.old }
+    ensures { out.new ≡ take at out.old ++ (bytes.now ++ drop (at + length bytes.now) out.old) }
+{
+    out[at..at + bytes.len()].copy_from_slice(bytes);
 }

@@ -3,6 +3,7 @@
 
 mod bytes;
 mod hashing;
+mod kdf;
 mod laws;
 mod mac;
 mod pair;
@@ -12,6 +13,7 @@ mod tests;
 
 pub use bytes::{same, trim};
 pub use hashing::hash;
+pub use kdf::kdfa;
 pub use laws::{lengths, trimmed};
 pub use mac::hmac;
 pub use pair::Pair;

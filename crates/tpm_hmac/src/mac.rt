@@ -1,12 +1,13 @@
 //! HMAC (RFC 2104).
 
-ghost use Rattle.std.specs.Prelude.{◌≡◌, ℕ, ◌+◌, ◌<◌, ◌≤◌, List, [], ◌++◌, length, take, drop};
+ghost use Rattle.std.specs.Prelude.{◌≡◌, ℕ, ◌+◌, ◌<◌, ◌≤◌, List, [], ◌++◌, length, take};
 ghost use Rattle.std.specs.List.{flat_map};
 ghost use Rattle.tpm_types.specs.declared.alg.Alg.{Alg};
 ghost use Rattle.tpm_types.specs.Alg.{digest_len, block_len};
 ghost use Rattle.tpm_hmac.specs.Hmac.{filled, block_key, xored as xored_bytes, hmac as hmac_of};
 ghost use Rattle.tpm_hmac.specs.Hashers.{Holding, MacHolds};
 
+use crate::bytes::put;
 use crate::hashing::Hasher;
 use tpm_types::{Alg, Digest};
 
@@ -26,14 +27,6 @@ fn xored(block: &[u8; BLOCK_BYTES], with: u8) -> [u8; BLOCK_BYTES]
         *byte ^= with;
     }
     out
-}
-
-// Writes the bytes over those from this place on.
-fn put(block: &mut [u8; BLOCK_BYTES], at: usize, bytes: &[u8])
-    requires { at + length bytes.now ≤ BLOCK_BYTES }
-    ensures { block.new ≡ take at block.old ++ (bytes.now ++ drop (at + length bytes.now) block.old) }
-{
-    block[at..at + bytes.len()].copy_from_slice(bytes);
 }
 
 // Both parts, joined, and zeros behind them.

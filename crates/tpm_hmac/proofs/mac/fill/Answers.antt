@@ -2,4 +2,4 @@ use Rattle.tpm_hmac.proofs.Filling.{fill_both}
 use Rattle.tpm_hmac.proofs.mac.fill.Goals as goal
 
 pub returns : goal.returns
-returns c = fill_both 64 c.args.front.now c.args.back.now c.put.new.block c.put-2.new.block c.requires c.put.ensures c.put-2.ensures
+returns c = fill_both 64 c.args.front.now c.args.back.now c.put.new.out c.put-2.new.out c.requires c.put.ensures c.put-2.ensures
