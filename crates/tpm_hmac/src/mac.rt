@@ -4,15 +4,13 @@ ghost use Rattle.std.specs.Prelude.{◌≡◌, ℕ, ◌+◌, ◌<◌, ◌≤◌,
 ghost use Rattle.std.specs.List.{flat_map};
 ghost use Rattle.tpm_types.specs.declared.alg.Alg.{Alg};
 ghost use Rattle.tpm_types.specs.Alg.{digest_len, block_len};
+ghost use Rattle.tpm_types.specs.Limits.{block_bytes};
 ghost use Rattle.tpm_hmac.specs.Hmac.{filled, block_key, xored as xored_bytes, hmac as hmac_of};
 ghost use Rattle.tpm_hmac.specs.Hashers.{Holding, MacHolds};
 
 use crate::bytes::put;
 use crate::hashing::Hasher;
-use tpm_types::{Alg, Digest};
-
-// How many bytes the longest block of a hash has.
-const BLOCK_BYTES: usize = 64;
+use tpm_types::{Alg, BLOCK_BYTES, Digest};
 
 // The bytes that the key's block is changed by, for the inner and for the outer hash.
 const INNER_PAD: u8 = 0x36;
@@ -31,8 +29,8 @@ fn xored(block: &[u8; BLOCK_BYTES], with: u8) -> [u8; BLOCK_BYTES]
 
 // Both parts, joined, and zeros behind them.
 fn fill(front: &[u8], back: &[u8]) -> [u8; BLOCK_BYTES]
-    requires { length front.now + length back.now ≤ BLOCK_BYTES }
-    ensures { result ≡ filled BLOCK_BYTES (front.now ++ back.now) }
+    requires { length front.now + length back.now ≤ block_bytes }
+    ensures { result ≡ filled block_bytes (front.now ++ back.now) }
 {
     let mut block = [0; BLOCK_BYTES];
     put(&mut block, 0, front);

@@ -13,6 +13,10 @@ name_bytes = 34
 abbrev pub public_bytes : ℕ
 public_bytes = 46
 
+-- how many bytes the longest block of a hash has, which the key of an HMAC fills
+abbrev pub block_bytes : ℕ
+block_bytes = 64
+
 -- how many entries a list with one for each bank has at most
 abbrev pub banks : ℕ
 banks = 2

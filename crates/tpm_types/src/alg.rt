@@ -1,7 +1,7 @@
 //! Hash algorithms: TPMI_ALG_HASH (Part 2, 9.27).
 
 ghost use Rattle.std.specs.Prelude.{◌≡◌, ◌≤◌};
-ghost use Rattle.tpm_types.specs.Limits.{digest_bytes};
+ghost use Rattle.tpm_types.specs.Limits.{digest_bytes, block_bytes};
 ghost use Rattle.tpm_types.specs.Alg.{alg_of, alg_number, digest_len, block_len, hash};
 
 use crate::codes::HASH;
@@ -55,7 +55,8 @@ impl Alg {
 
     /// How many bytes it takes at a time, which are those of the padded key of an HMAC (FIPS 198-1, section 3).
     pub fn block_len(self) -> usize
-        ensures { result ≡ block_len self }
+        ensures value { result ≡ block_len self }
+        ensures fits { result ≤ block_bytes }
     {
         match self {
             Alg::Sha1 => 64,

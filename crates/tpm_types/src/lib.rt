@@ -23,7 +23,7 @@ pub use handles::{
     AuthSession, NvIndex, PcrIndex, PolicyHandle, REGISTERS, RH_NULL, RH_OWNER, RS_PW,
     SessionHandle,
 };
-pub use limits::{AuthValue, BANKS, DIGEST_BYTES, NAME_BYTES, Nonce, PUBLIC_BYTES};
+pub use limits::{AuthValue, BANKS, BLOCK_BYTES, DIGEST_BYTES, NAME_BYTES, Nonce, PUBLIC_BYTES};
 pub use tpm2b::{Digest, EncryptedSalt, Name};
 pub use tpma::{NvAttrs, SessionAttrs};
 pub use tpml::{DigestValues, Digests, MOST_DIGESTS, OrDigests, Selections};

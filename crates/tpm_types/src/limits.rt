@@ -11,6 +11,9 @@ pub const NAME_BYTES: usize = 34;
 /// How many bytes the public area of an NV index has at most.
 pub const PUBLIC_BYTES: usize = 46;
 
+/// How many bytes the longest block of a hash has, which the key of an HMAC fills.
+pub const BLOCK_BYTES: usize = 64;
+
 /// How many entries a list with one for each bank has at most.
 pub const BANKS: usize = 2;
 
