@@ -91,7 +91,7 @@ impl Wire for SessionAttrs {
     ghost most = { 1 };
 
     fn known(&self) {
-        let _bits = self.bits;
+        let _number = self.number();
     }
 
     fn len(&self) -> usize {
@@ -99,7 +99,7 @@ impl Wire for SessionAttrs {
     }
 
     fn put(&self, out: &mut Buffer) {
-        self.bits.put(out);
+        self.number().put(out);
     }
 
     fn take(cursor: &mut Cursor<'_>) -> Result<Self, Refusal> {
@@ -291,7 +291,7 @@ impl Wire for NvAttrs {
     ghost most = { 4 };
 
     fn known(&self) {
-        let _bits = self.bits;
+        let _number = self.number();
     }
 
     fn len(&self) -> usize {
@@ -299,7 +299,7 @@ impl Wire for NvAttrs {
     }
 
     fn put(&self, out: &mut Buffer) {
-        self.bits.put(out);
+        self.number().put(out);
     }
 
     fn take(cursor: &mut Cursor<'_>) -> Result<Self, Refusal> {

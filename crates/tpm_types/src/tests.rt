@@ -1,0 +1,76 @@
+//! Each structure's bytes both ways, and the first fault of others. Bytes, codes and places are written out by hand from
+//! the tables of Part 2.
+
+mod alg;
+mod attest;
+mod constants;
+mod handle_sets;
+mod handles;
+mod tpm2b;
+mod tpma;
+mod tpml;
+mod tpms;
+mod tpmt;
+
+use crate::PcrIndex;
+use std::process::Abort;
+use std::test::*;
+use tpm_wire::{Buffer, Cursor, Wire};
+
+/// The parts, joined.
+fn joined(parts: &[&[u8]]) -> Buffer {
+    let mut all = Buffer::new();
+    for &part in parts {
+        let _ = all.try_extend_from_slice(part);
+    }
+    all
+}
+
+/// The bytes are a value, all of them, whose spelling they are.
+fn goes_both_ways<T: Wire + Drop>(rt: &impl Abort, bytes: &[u8]) -> T {
+    assert!(rt; bytes.len() <= 4096);
+    let mut cursor = Cursor::new(bytes);
+    match T::take(&mut cursor) {
+        Ok(value) => {
+            assert_eq!(rt; cursor.left(), 0);
+            assert_eq!(rt; cursor.at() as usize, bytes.len());
+            assert_eq!(rt; value.len(), bytes.len());
+            assert!(rt; value.len() <= 4096);
+            let mut out = Buffer::new();
+            value.put(&mut out);
+            assert_eq!(rt; out.as_slice(), bytes);
+            value
+        }
+        Err(refusal) => panic!(rt; "refused {} at {}", refusal.code, refusal.at),
+    }
+}
+
+/// The bytes are refused with this code at this place, and as parameter 2 with its number added.
+fn refuses<T: Wire + Drop>(rt: &impl Abort, bytes: &[u8], code: u32, at: u32) {
+    assert!(rt; bytes.len() <= 4096);
+    for number in [0, 0x240] {
+        let mut cursor = Cursor::new(bytes);
+        cursor.number(number);
+        match T::take(&mut cursor) {
+            Ok(_) => panic!(rt; "taken"),
+            Err(refusal) => {
+                assert!(rt; code <= 0xFFF);
+                assert_eq!(rt; refusal.code, code + number);
+                assert_eq!(rt; refusal.at, at);
+            }
+        }
+    }
+}
+
+/// Each beginning of the bytes is too short, at the place that stands for its length.
+fn is_cut_at<T: Wire + Drop>(rt: &impl Abort, bytes: &[u8], places: &[u32]) {
+    assert_eq!(rt; bytes.len(), places.len());
+    for n in 0..bytes.len() {
+        refuses::<T>(rt, &bytes[..n], 0x09A, places[n]);
+    }
+}
+
+/// The register of this number.
+fn register(rt: &impl Abort, number: u32) -> PcrIndex {
+    PcrIndex::from_number(number).expect(rt, "a register")
+}
