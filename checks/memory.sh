@@ -1,0 +1,52 @@
+# Each request of the program for memory, refused in turn: `out of memory` with status 3, or the
+# answer as if none had been refused (the program may ask again for less), and never another answer.
+
+compiler=
+for word in "${CC:-cc}" gcc clang; do
+    if command -v "$word" >/dev/null 2>&1; then
+        compiler=$word
+        break
+    fi
+done
+
+# refuses NAME WORD..: the words are run undisturbed first, and then with each request refused.
+refuses() {
+    name="refused memory: $1"
+    shift
+    "$program" "$@" >"$room/whole" 2>"$room/whole.err" </dev/null
+    whole=$?
+    request=0 wanting=0 wrong=
+    while [ $request -lt 10000 ]; do
+        request=$((request + 1))
+        rm -f "$room/refused"
+        LD_PRELOAD="$room/refuse.so" REFUSE=$request REFUSED="$room/refused" \
+            "$program" "$@" >"$room/out" 2>"$room/err" </dev/null
+        status=$?
+        [ -e "$room/refused" ] || break
+        if [ $status -eq 3 ] && [ "$(cat "$room/err")" = 'out of memory' ]; then
+            wanting=$((wanting + 1))
+        elif [ $status -ne $whole ] || ! cmp -s "$room/out" "$room/whole" ||
+            ! cmp -s "$room/err" "$room/whole.err"; then
+            wrong="$wrong $request (status $status)"
+        fi
+    done
+    if [ -n "$wrong" ]; then
+        fail "$name" "another answer at request$wrong"
+    elif [ $wanting -eq 0 ]; then
+        fail "$name" "no request was refused"
+    else
+        pass "$name ($((request - 1)) requests, $wanting times out of memory)"
+    fi
+}
+
+if [ -z "$compiler" ]; then
+    skip "refused memory" "no C compiler was found for checks/refuse.c, which refuses it"
+elif ! "$compiler" -shared -fPIC -O1 -o "$room/refuse.so" checks/refuse.c -ldl 2>"$room/err"; then
+    skip "refused memory" "$compiler does not compile checks/refuse.c: $(head -n 1 "$room/err")"
+else
+    refuses "show of a command" show $startup
+    refuses "show of a refusal" show 8001000000
+    refuses "show of text that is not hexadecimal" show no
+    refuses "help" show --help
+    refuses "a usage fault" show
+fi

@@ -1,0 +1,97 @@
+# The program's statuses and what it writes where, by the script ./tpmtool: 0 done, 1 refused, 2 usage,
+# 3 a reading or writing fault.
+
+program=crates/tpmtool/out/tpmtool
+startup=80010000000c000001440000
+
+# runs NAME STATUS OUTPUT ERRORS WORD..: the output and what goes to standard error are whole texts.
+runs() {
+    name=$1 wanted=$2
+    printf '%s' "$3" >"$room/out.wanted"
+    printf '%s' "$4" >"$room/err.wanted"
+    shift 4
+    ./tpmtool "$@" >"$room/out" 2>"$room/err" </dev/null
+    judge $?
+}
+
+# runs_without_output NAME TARGET WORD..: standard output is closed (-) or a file that takes nothing.
+runs_without_output() {
+    name=$1 target=$2 wanted=3
+    : >"$room/out"
+    : >"$room/out.wanted"
+    echo 'writing failed' >"$room/err.wanted"
+    shift 2
+    case $target in
+    -) ./tpmtool "$@" >&- 2>"$room/err" </dev/null ;;
+    *) ./tpmtool "$@" >"$target" 2>"$room/err" </dev/null ;;
+    esac
+    judge $?
+}
+
+judge() {
+    if [ "$1" -ne "$wanted" ]; then
+        fail "$name" "status $1 in place of $wanted"
+    elif ! cmp -s "$room/out" "$room/out.wanted"; then
+        fail "$name" "it wrote: $(cat "$room/out")"
+    elif ! cmp -s "$room/err" "$room/err.wanted"; then
+        fail "$name" "it complained: $(cat "$room/err")"
+    else
+        pass "$name"
+    fi
+}
+
+runs "a command is shown, status 0" 0 'command Startup size 12
+parameters 0000
+' '' show $startup
+
+runs "a refusal is printed, status 1" 1 'refused 01e at 0
+' '' show 80030000000c000001440000
+
+runs "the empty buffer is refused, status 1" 1 'refused 09a at 0
+' '' show ''
+
+runs "text that is not hexadecimal, status 1" 1 'not hexadecimal
+' '' show -
+
+runs "no words, status 2 with usage on standard error" 2 '' "error: 'tpmtool' requires a subcommand but one was not provided
+  [subcommands: show, help]
+
+Usage: tpmtool <COMMAND>
+
+For more information, try '--help'.
+"
+
+runs "a missing word, status 2 with usage on standard error" 2 '' "error: the following required arguments were not provided:
+  <HEX>
+
+Usage: tpmtool show <HEX>
+
+For more information, try '--help'.
+" show
+
+runs "a word that is not text, status 2 with usage on standard error" 2 '' "error: invalid UTF-8 was detected in one or more arguments
+
+Usage: tpmtool <COMMAND>
+
+For more information, try '--help'.
+" show "$(printf '\377')"
+
+runs "help on standard output, status 0" 0 'Prints the command that a buffer spells, or where it is refused
+
+Usage: tpmtool show <HEX>
+
+Arguments:
+  <HEX>  The buffer, in hexadecimal
+
+Options:
+  -h, --help  Print help
+' '' show --help
+
+runs_without_output "a closed standard output, status 3" - show $startup
+runs_without_output "a closed standard output for a refusal, status 3" - show ''
+runs_without_output "a closed standard output for help, status 3" - --help
+if [ -c /dev/full ]; then
+    runs_without_output "a full standard output, status 3" /dev/full show $startup
+else
+    skip "a full standard output, status 3" "there is no /dev/full"
+fi

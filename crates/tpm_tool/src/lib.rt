@@ -1,0 +1,16 @@
+//! What the program does for each of its subcommands.
+#![tactic(auto)]
+
+mod fault;
+mod shown;
+mod status;
+mod text;
+
+pub use fault::ToolFault;
+pub use shown::show;
+pub use status::Status;
+
+#[cfg(test)]
+mod tests;
+#[cfg(test)]
+mod vectors;

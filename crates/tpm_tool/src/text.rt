@@ -1,0 +1,102 @@
+//! The program's lines.
+
+ghost use Rattle.std.specs.Prelude.{◌≡◌, ◌++◌, IfOk, OnOk, string_bytes};
+ghost use Rattle.tpm_buffer.specs.Areas.{areas_view};
+ghost use Rattle.tpm_tool.specs.Text.{lines_from, refusal_line, bytes_text, command_line, handle_line, session_line, parameters_line, command_text};
+
+use std::alloc::{AllocError, Global};
+use tpm_buffer::{Areas, CommandCode};
+use tpm_types::Auth;
+use tpm_wire::Refusal;
+
+/// Adds the line of a refusal.
+#[tactic(auto, unfolding(crate::specs::Text::refusal_line))]
+pub(crate) fn push_refusal(text: &mut String, refusal: &Refusal) -> Result<(), AllocError>
+    ensures { OnOk result (string_bytes text.new ≡ string_bytes text.old ++ refusal_line refusal.now) }
+{
+    let Refusal { code, at } = *refusal;
+    writeln!(text, "refused {code:03x} at {at}")
+}
+
+/// Bytes in hexadecimal, or `-` for none.
+pub(crate) fn shown_bytes(alloc: Global, bytes: &[u8]) -> Result<String, AllocError>
+    ensures { IfOk result (λ text. string_bytes text ≡ bytes_text bytes.now) }
+{
+    if bytes.is_empty() {
+        return String::from_str(alloc, "-");
+    }
+    hex::encode(alloc, bytes)
+}
+
+#[tactic(auto, unfolding(crate::specs::Text::command_line))]
+fn push_name(text: &mut String, code: CommandCode, size: usize) -> Result<(), AllocError>
+    ensures { OnOk result (string_bytes text.new ≡ string_bytes text.old ++ command_line code size) }
+{
+    let name = code.name();
+    writeln!(text, "command {name} size {size}")
+}
+
+#[tactic(auto, unfolding(crate::specs::Text::handle_line))]
+fn push_handle(text: &mut String, i: usize, handle: u32) -> Result<(), AllocError>
+    ensures { OnOk result (string_bytes text.new ≡ string_bytes text.old ++ handle_line i handle) }
+{
+    writeln!(text, "handle {i} {handle:08x}")
+}
+
+fn push_handles(text: &mut String, handles: &[u32]) -> Result<(), AllocError>
+    ensures { OnOk result (string_bytes text.new ≡ string_bytes text.old ++ lines_from handle_line 1 handles.now) }
+{
+    for (before, handle) in handles.iter().enumerate() {
+        push_handle(text, before + 1, *handle)?;
+    }
+    Ok(())
+}
+
+#[tactic(auto, unfolding(crate::specs::Text::session_line))]
+fn push_session(alloc: Global, text: &mut String, i: usize, auth: &Auth) -> Result<(), AllocError>
+    ensures { OnOk result (string_bytes text.new ≡ string_bytes text.old ++ session_line i auth.now) }
+{
+    let session = auth.session.number();
+    let nonce = shown_bytes(alloc, auth.nonce.as_slice())?;
+    let attributes = auth.attrs.number();
+    let hmac = shown_bytes(alloc, auth.hmac.as_slice())?;
+    writeln!(
+        text,
+        "session {i} {session:08x} nonce {nonce} attributes {attributes:02x} hmac {hmac}"
+    )
+}
+
+fn push_sessions(alloc: Global, text: &mut String, auths: &[Auth]) -> Result<(), AllocError>
+    ensures { OnOk result (string_bytes text.new ≡ string_bytes text.old ++ lines_from session_line 1 auths.now) }
+{
+    for (before, auth) in auths.iter().enumerate() {
+        push_session(alloc, text, before + 1, auth)?;
+    }
+    Ok(())
+}
+
+#[tactic(auto, unfolding(crate::specs::Text::parameters_line))]
+fn push_parameters(alloc: Global, text: &mut String, bytes: &[u8]) -> Result<(), AllocError>
+    ensures { OnOk result (string_bytes text.new ≡ string_bytes text.old ++ parameters_line bytes.now) }
+{
+    let bytes = shown_bytes(alloc, bytes)?;
+    writeln!(text, "parameters {bytes}")
+}
+
+/// Adds the lines of a command of so many bytes.
+#[tactic(auto, unfolding(crate::specs::Text::command_text))]
+pub(crate) fn push_command(
+    alloc: Global,
+    text: &mut String,
+    size: usize,
+    areas: &Areas<'_>,
+) -> Result<(), AllocError>
+    ensures { OnOk result (string_bytes text.new
+        ≡ string_bytes text.old ++ command_text size (areas_view areas.now).0 areas.now.params.now) }
+{
+    push_name(text, areas.code(), size)?;
+    push_handles(text, areas.handles())?;
+    push_sessions(alloc, text, areas.auths())?;
+    push_parameters(alloc, text, areas.params())?;
+    Ok(())
+}
