@@ -19,7 +19,7 @@ use Rattle.tpm_buffer.specs.declared.response.Response.TheVariants as responses
 use Rattle.tpm_buffer.specs.Commands.{command_size}
 use Rattle.tpm_buffer.specs.Replies.{code_for_reply, reply_handles, reply_handles_of, parameters_of_reply}
 use Rattle.tpm_buffer.proofs.Spelled.{size_meant}
-use Rattle.tpm_buffer.specs.Responses.{response_tag, code_tag, reply_tag, goes_with, response_code, further_sessions, reply_sessions, parameter_size, with_sessions, without_sessions, reply_behind, Reply, reply, done_with, behind_code, response}
+use Rattle.tpm_buffer.specs.Responses.{response_front, response_tag, code_tag, reply_tag, goes_with, response_code, further_sessions, reply_sessions, parameter_size, with_sessions, without_sessions, reply_behind, Reply, reply, done_with, behind_code, response}
 
 pub fits_sessions : (a : AuthReply) (others : List AuthReply) → length others ≤ 2 → IsSpelled auth_response a → All (IsSpelled auth_response) others
     → Fits (length (spelling reply_sessions (a ∷ others))) reply_sessions (a ∷ others)
@@ -49,16 +49,16 @@ code_behind : (code : CommandCode) (n : ℕ) → eqb n 0 ≡ false → spelling 
 code_behind code n e = rw e refl
 
 fits_code : (code : CommandCode) (n : ℕ) → 0 < n → n < 2 ^ 32 → Fits 10 (response code) (responses.Code n)
-unfolding response response_tag command_size response_code
+unfolding response response_front response_tag command_size response_code
 fits_code code n some small =
     let none : eqb n 0 ≡ false = ne_eqb n 0 (λ e. omega (arith, some, e)) in
     let tags = one_tag n (eqb n 0x01E) refl in
     let rest = code_behind code n none in
-    ((tags.small, tags.is_tag), ((rw rest (omega arith), rw rest refl), ((small, tags.goes), rw none refl)))
+    (((tags.small, tags.is_tag), ((rw rest (omega arith), rw rest refl), refl)), ((small, tags.goes), rw none refl))
 
 -- what is written of a code
 pub code_text : (code : CommandCode) (n : ℕ) → 0 < n → spelling (response code) (responses.Code n) ≡ bytes_high_first 2 (code_tag n) ++ (bytes_high_first 4 10 ++ bytes_high_first 4 n)
-unfolding response response_tag command_size response_code
+unfolding response response_front response_tag command_size response_code
 code_text code n some =
     let rest = code_behind code n (ne_eqb n 0 (λ e. omega (arith, some, e))) in
     rw (rest, append-nil (bytes_high_first 4 n)) refl
@@ -114,13 +114,13 @@ done_tag (a ∷ others) = record { is_tag = refl; small = omega arith; goes = re
 fits_done : (body : ReplyBody) (auths : List AuthReply) → length (spelling (reply (code_for_reply body) (reply_tag auths)) (made body auths)) ≤ 4000
     → Fits (length (spelling (reply (code_for_reply body) (reply_tag auths)) (made body auths))) (reply (code_for_reply body) (reply_tag auths)) (made body auths)
     → Fits (length (spelling (response (code_for_reply body)) (done_with (made body auths)))) (response (code_for_reply body)) (done_with (made body auths))
-unfolding response response_tag command_size response_code
+unfolding response response_front response_tag command_size response_code
 fits_done body auths short behind =
     let text = spelling (reply (code_for_reply body) (reply_tag auths)) (made body auths) in
     let n = length text in
     let same : length (text ++ []) ≡ n = ap length (append-nil text) in
     let tags = done_tag auths in
-    ((tags.small, tags.is_tag), ((omega (arith, short, same), size_meant (10 + length (text ++ [])) _ (omega arith) (omega arith) (omega (arith, short, same))), ((omega arith, tags.goes), (at_left (reply (code_for_reply body) (reply_tag auths)) (made body auths) _ n behind (omega (arith, same)), refl))))
+    (((tags.small, tags.is_tag), ((omega (arith, short, same), size_meant (10 + length (text ++ [])) _ (omega arith) (omega arith) (omega (arith, short, same))), refl)), ((omega arith, tags.goes), (at_left (reply (code_for_reply body) (reply_tag auths)) (made body auths) _ n behind (omega (arith, same)), refl)))
 
 pub done_spelled : (body : ReplyBody) (auths : List AuthReply) (bytes : List ℕ) → bytes ≡ spelling (response (code_for_reply body)) (done_with (made body auths))
     → length (spelling (reply (code_for_reply body) (reply_tag auths)) (made body auths)) ≤ 4000

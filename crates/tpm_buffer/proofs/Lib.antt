@@ -3,3 +3,4 @@ pub mod Prefix
 pub mod Staged
 pub mod Within
 pub mod Answered
+pub mod Replied

@@ -1,5 +1,5 @@
 -- A command: a header, handles, sessions and parameters (Part 1, 18; Part 2, 6.9).
-use Rattle.std.specs.Prelude.{ℕ, ◌+◌, ◌*◌, true, List, [], ◌∷◌, length, Option, Some, None, nat_le, ◌==◌, ◌&&◌, ◌||◌, if◌then◌else◌}
+use Rattle.std.specs.Prelude.{ℕ, ◌+◌, ◌*◌, Bool, true, List, [], ◌∷◌, length, Option, Some, None, nat_le, ◌==◌, ◌&&◌, ◌||◌, if◌then◌else◌}
 use Rattle.tpm_wire.specs.Buffers.{Layout, number_in, numbered}
 use Rattle.tpm_wire.specs.Layout.{either}
 use Rattle.tpm_wire.specs.Layout.Form.{done, number, field, area, list}
@@ -28,8 +28,12 @@ use Rattle.tpm_buffer.specs.Parameters.{parameters}
 
 -- ---- the header
 
+-- TPM_ST_NO_SESSIONS or TPM_ST_SESSIONS
+abbrev pub is_tag : ℕ → Bool
+is_tag n = n == 0x8001 || n == 0x8002
+
 unfoldable pub tag : Layout ℕ
-tag = number_in 2 (λ n. (n == 0x8001) || (n == 0x8002)) 0x01E
+tag = number_in 2 is_tag 0x01E
 
 -- the number of bytes of the buffer, of which six are read with it
 unfoldable pub command_size : Layout ℕ

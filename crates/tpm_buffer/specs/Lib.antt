@@ -2,6 +2,6 @@ pub mod Codes
 pub mod Handles
 pub mod Parameters
 pub mod Commands
-pub mod Areas
 pub mod Replies
 pub mod Responses
+pub mod Areas

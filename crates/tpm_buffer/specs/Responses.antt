@@ -17,8 +17,12 @@ use Rattle.tpm_buffer.specs.Replies.{code_for_reply, reply_handles, reply_handle
 
 -- ---- the header
 
+-- TPM_ST_NO_SESSIONS, TPM_ST_SESSIONS or TPM_ST_RSP_COMMAND
+abbrev pub is_response_tag : ℕ → Bool
+is_response_tag n = n == 0x8001 || n == 0x8002 || n == 0x00C4
+
 unfoldable pub response_tag : Layout ℕ
-response_tag = number_in 2 (λ n. (n == 0x8001) || (n == 0x8002) || (n == 0x00C4)) 0x01E
+response_tag = number_in 2 is_response_tag 0x01E
 
 -- With sessions the code is 0; under TPM_ST_RSP_COMMAND it is TPM_RC_BAD_TAG, which has no other tag.
 abbrev pub goes_with : ℕ → ℕ → Bool
@@ -26,6 +30,10 @@ goes_with t n = if t == 0x8002 then n == 0 else if t == 0x00C4 then n == 0x01E e
 
 unfoldable pub response_code : ℕ → Layout ℕ
 response_code t = number_in 4 (goes_with t) value_code
+
+-- the tag, and the number of bytes of the buffer
+unfoldable pub response_front : Layout (ℕ × ℕ)
+response_front = field (λ f. f.0) response_tag (λ t. field (λ f. f.1) command_size (λ size. done (t, size)))
 
 -- ---- the sessions
 
@@ -113,10 +121,9 @@ size_of_response code r = 10 + length (spelling (behind_code code (tag_of_respon
 
 unfoldable pub response : CommandCode → Layout Response
 response code =
-    field tag_of_response response_tag (λ t.
-    field (size_of_response code) command_size (λ size.
-    field code_of_response (response_code t) (λ n.
-    behind_code code t n)))
+    field (λ r. (tag_of_response r, size_of_response code r)) response_front (λ f.
+    field code_of_response (response_code f.0) (λ n.
+    behind_code code f.0 n))
 
 -- ---- a response whose parameters are not judged
 
@@ -143,10 +150,9 @@ cut_behind_code code t n = either (n == 0)
 
 unfoldable pub reply_cut : CommandCode → Layout ReplyCut
 reply_cut code =
-    field (λ c. if c.code == 0 then reply_tag c.auths else code_tag c.code) response_tag (λ t.
-    field (λ c. 10) command_size (λ size.
-    field (λ c. c.code) (response_code t) (λ n.
-    cut_behind_code code t n)))
+    field (λ c. (if c.code == 0 then reply_tag c.auths else code_tag c.code, 10)) response_front (λ f.
+    field (λ c. c.code) (response_code f.0) (λ n.
+    cut_behind_code code f.0 n))
 
 -- A response answers a command: a code answers any, and a reply its own.
 abbrev pub Answers : CommandCode → Response → Type 0

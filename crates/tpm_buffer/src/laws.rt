@@ -1,14 +1,17 @@
-//! What holds of commands in bytes.
+//! What holds of commands and responses in bytes.
 
 ghost use Rattle.std.specs.Prelude.{◌≡◌, ◌-◌, List, [], ◌++◌, ℕ, length};
 ghost use Rattle.tpm_wire.specs.declared.refusal.Refusal.{Refusal};
 ghost use Rattle.tpm_wire.specs.Layout.{cut};
 ghost use Rattle.tpm_wire.specs.Buffers.{later_refusal};
 ghost use Rattle.tpm_wire.specs.Path.{ExactlyOne, Fault, Spells};
+ghost use Rattle.tpm_buffer.specs.declared.code.CommandCode.{CommandCode};
 ghost use Rattle.tpm_buffer.specs.declared.command.Command.{Command};
+ghost use Rattle.tpm_buffer.specs.declared.response.Response.{Response};
 ghost use Rattle.tpm_buffer.specs.declared.params.Params.{Params};
 ghost use Rattle.tpm_buffer.specs.Parameters.{parameters};
 ghost use Rattle.tpm_buffer.specs.Commands.{body_from, with_auths, header, front, Checked, before_params, command};
+ghost use Rattle.tpm_buffer.specs.Responses.{response};
 
 /// One reading: bytes spell one command, all of them, or have one fault.
 pub fn command_or_fault()
@@ -34,4 +37,14 @@ pub fn parameters_in_command()
         → Spells command (with_auths (body_from x.handles p) x.auths) bytes }
     ensures fault { (bytes rest : List ℕ) (x : Checked) (e : Refusal) → Spells (cut before_params) (x, rest) bytes → Fault (parameters x.header.code) rest e
         → Fault command bytes (later_refusal (length bytes - length rest) e) }
+{}
+
+/// One reading: bytes spell one response to a command with a given code, all of them, or have one fault.
+pub fn response_or_fault()
+    ensures { (code : CommandCode) (bytes : List ℕ) → ExactlyOne (response code) bytes }
+{}
+
+/// One reading: no response's spelling is the begin of that of another response to a command with the same code.
+pub fn no_response_prefix()
+    ensures { (code : CommandCode) (bytes more : List ℕ) (r q : Response) → Spells (response code) r bytes → Spells (response code) q (bytes ++ more) → more ≡ [] }
 {}

@@ -13,16 +13,23 @@ mod params;
 mod reply_decode;
 mod reply_encode;
 mod reply_params;
+mod reply_stages;
 mod response;
 mod stages;
 
 pub use code::CommandCode;
 pub use command::{Command, CommandBody, Header, StartAuth};
-pub use cuts::areas;
+pub use cuts::{areas, reply_areas};
 pub use decode::decode_command;
 pub use encode::encode_command;
 pub use header::{AUTHSIZE, BAD_TAG, COMMAND_CODE, COMMAND_SIZE, NO_SESSIONS, SESSIONS};
-pub use laws::{command_or_fault, fault_before_params, no_prefix, parameters_in_command};
+pub use laws::{
+    command_or_fault, fault_before_params, no_prefix, no_response_prefix, parameters_in_command,
+    response_or_fault,
+};
 pub use params::{Params, decode_params};
+pub use reply_decode::{RSP_COMMAND, decode_response};
+pub use reply_encode::encode_response;
+pub use reply_stages::ReplyAreas;
 pub use response::{ErrorCode, NvData, ReplyBody, Response, StartReply};
 pub use stages::{Areas, Handled, Headed, header as read_header};

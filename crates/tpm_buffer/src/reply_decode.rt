@@ -8,7 +8,7 @@ ghost use Rattle.tpm_wire.specs.Buffers.{Takes, TakesNumbered};
 ghost use Rattle.tpm_wire.specs.Path.{Spells, Fault};
 ghost use Rattle.tpm_buffer.specs.declared.response.Response.{Response as ResponseOf};
 ghost use Rattle.tpm_buffer.specs.Replies.{reply_parameters};
-ghost use Rattle.tpm_buffer.specs.Responses.{response_tag, response_code, parameter_size, further_sessions, reply_sessions, with_sessions, without_sessions, reply_behind, reply, behind_code, response, Reply as ReplyOf};
+ghost use Rattle.tpm_buffer.specs.Responses.{response_front, response_tag, response_code, parameter_size, further_sessions, reply_sessions, with_sessions, without_sessions, reply_behind, reply, behind_code, response, Reply as ReplyOf};
 
 use crate::code::CommandCode;
 use crate::header::{BAD_TAG, COMMAND_SIZE, NO_SESSIONS, SESSIONS, take_size};
@@ -33,8 +33,20 @@ fn take_tag(cursor: &mut Cursor<'_>) -> Result<u16, Refusal>
     Ok(tag)
 }
 
+/// The tag and the size of a response.
+#[tactic(auto, unfolding(crate::specs::Responses::response_front))]
+pub(crate) fn take_front(cursor: &mut Cursor<'_>) -> Result<(u16, u32), Refusal>
+    requires { cursor.old.number ≡ 0 }
+    ensures reads { TakesNumbered (λ f. f) response_front cursor.old cursor.new result }
+    ensures number { IfOk result (λ f. cursor.new.number ≡ 0) }
+{
+    let tag = take_tag(cursor)?;
+    let size = take_size(cursor)?;
+    Ok((tag, size))
+}
+
 #[tactic(auto, unfolding(crate::specs::Responses::response_code))]
-fn take_code(cursor: &mut Cursor<'_>, tag: u16) -> Result<u32, Refusal>
+pub(crate) fn take_code(cursor: &mut Cursor<'_>, tag: u16) -> Result<u32, Refusal>
     ensures { Takes (response_code tag) cursor.old cursor.new result }
 {
     let refusal = cursor.refusal(VALUE);
@@ -51,7 +63,7 @@ fn take_code(cursor: &mut Cursor<'_>, tag: u16) -> Result<u32, Refusal>
 }
 
 #[tactic(auto, unfolding(crate::specs::Responses::parameter_size))]
-fn take_parameter_size(cursor: &mut Cursor<'_>) -> Result<u32, Refusal>
+pub(crate) fn take_parameter_size(cursor: &mut Cursor<'_>) -> Result<u32, Refusal>
     ensures { Takes parameter_size cursor.old cursor.new result }
 {
     let refusal = cursor.refusal(SIZE);
@@ -170,30 +182,37 @@ fn take_response(cursor: &mut Cursor<'_>, code: CommandCode) -> Result<Response,
     requires { cursor.old.number ≡ 0 }
     ensures { TakesNumbered (λ r. r) (response code) cursor.old cursor.new result }
 {
-    let tag = take_tag(cursor)?;
-    let _size = take_size(cursor)?;
+    let (tag, _size) = take_front(cursor)?;
     let number = take_code(cursor, tag)?;
     let response = take_behind_code(cursor, tag, number, code)?;
     Ok(response)
 }
 
 // No buffer has so many bytes, so the tag is refused or else the size.
-#[tactic(auto, unfolding(crate::specs::Responses::response, crate::specs::Responses::response_tag, crate::specs::Commands::command_size))]
+#[tactic(auto, unfolding(crate::specs::Responses::response_front, crate::specs::Responses::response_tag, crate::specs::Commands::command_size))]
+pub(crate) fn long_fault(bytes: &[u8]) -> Refusal
+    requires { 4096 < length bytes.now }
+    ensures { read 0 response_front (at_start bytes.now) ≡ Err result }
+{
+    let tag = u16::from_be_bytes([bytes[0], bytes[1]]);
+    if tag != NO_SESSIONS && tag != SESSIONS && tag != RSP_COMMAND {
+        return Refusal {
+            code: BAD_TAG,
+            at: 0,
+        };
+    }
+    Refusal {
+        code: COMMAND_SIZE,
+        at: 2,
+    }
+}
+
+#[tactic(auto, unfolding(crate::specs::Responses::response))]
 fn decode_long(code: CommandCode, bytes: &[u8]) -> Result<Response, Refusal>
     requires { 4096 < length bytes.now }
     ensures { result ≡ read_all (response code) bytes.now }
 {
-    let tag = u16::from_be_bytes([bytes[0], bytes[1]]);
-    if tag != NO_SESSIONS && tag != SESSIONS && tag != RSP_COMMAND {
-        return Err(Refusal {
-            code: BAD_TAG,
-            at: 0,
-        });
-    }
-    Err(Refusal {
-        code: COMMAND_SIZE,
-        at: 2,
-    })
+    Err(long_fault(bytes))
 }
 
 fn decode_short(code: CommandCode, bytes: &[u8]) -> Result<Response, Refusal>

@@ -250,7 +250,7 @@ fn known_reply(body: &ReplyBody, auths: &[AuthReply])
     }
 }
 
-#[tactic(auto, unfolding(crate::specs::Responses::response, crate::specs::Responses::response_tag, crate::specs::Responses::response_code, crate::specs::Commands::command_size))]
+#[tactic(auto, unfolding(crate::specs::Responses::response, crate::specs::Responses::response_front, crate::specs::Responses::response_tag, crate::specs::Responses::response_code, crate::specs::Commands::command_size))]
 fn put_done(body: &ReplyBody, auths: &[AuthReply], out: &mut Buffer)
     requires few { length auths.now ≤ 3 }
     requires empty { length out.old.items ≡ 0 }
