@@ -4,3 +4,4 @@ pub mod Staged
 pub mod Within
 pub mod Answered
 pub mod Replied
+pub mod Canonical

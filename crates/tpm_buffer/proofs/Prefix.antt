@@ -4,7 +4,7 @@ use Rattle.std.specs.Prelude.{◌&&◌}
 use Rattle.std.proofs.lemmas.Bool.{eqb-true}
 use Rattle.std.proofs.lemmas.List.{length-append, length-drop, nil_from_length, take-append-le, drop-append-le}
 use Rattle.tpm_wire.specs.Token.{number_of, Here, past, at_start, or_fault}
-use Rattle.tpm_wire.specs.Reading.{read, read_all, finish, ◌>>=◌}
+use Rattle.tpm_wire.specs.Reading.{read, finish, ◌>>=◌}
 use Rattle.tpm_wire.specs.Buffers.{buffer, number_in}
 use Rattle.tpm_wire.specs.Path.{Spells}
 use Rattle.tpm_wire.proofs.Buffers.{buffer_sound}

@@ -1,5 +1,5 @@
 -- What is read of a response is what its bytes spell.
-use Rattle.std.proofs.Common.{◌≡◌, List, ℕ, Result, Ok, Err}
+use Rattle.std.proofs.Common.{List, ℕ, Result, Ok, Err}
 use Rattle.tpm_wire.specs.declared.refusal.Refusal.{Refusal}
 use Rattle.tpm_wire.specs.Reading.{read_all, Gives}
 use Rattle.tpm_wire.specs.Path.{Decodes}

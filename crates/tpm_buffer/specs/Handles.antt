@@ -1,5 +1,5 @@
 -- The handles of the commands (Part 3, the command table of each).
-use Rattle.std.specs.Prelude.{ℕ, ◌+◌, ◌*◌, Bool, true, false, is_some, List, [], ◌∷◌}
+use Rattle.std.specs.Prelude.{◌≡◌, ℕ, ◌+◌, ◌*◌, Bool, true, false, is_some, List, [], ◌∷◌}
 use Rattle.tpm_wire.specs.Buffers.{Layout, number_in, numbered}
 use Rattle.tpm_wire.specs.Layout.Form.{done, field}
 use Rattle.tpm_types.specs.Codes.{value_code}
@@ -75,3 +75,9 @@ handles_from i (kind ∷ kinds) =
 
 abbrev pub handles : CommandCode → Layout (List ℕ)
 handles code = handles_from 1 (handle_kinds code)
+
+-- handles of these kinds
+abbrev pub AreAdmitted : List HandleKind → List ℕ → Type 0
+AreAdmitted [] ns = ns ≡ []
+AreAdmitted (kind ∷ kinds) [] = ⊥
+AreAdmitted (kind ∷ kinds) (n ∷ ns) = (admits kind n ≡ true) × AreAdmitted kinds ns

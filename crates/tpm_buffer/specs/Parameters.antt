@@ -172,3 +172,23 @@ parameters codes.PolicyPcr = policy_pcr
 parameters codes.PolicyRestart = done params.PolicyRestart
 parameters codes.PcrExtend = pcr_extend
 parameters codes.PolicyGetDigest = done params.PolicyGetDigest
+
+-- the command that has these parameters
+abbrev pub params_code : Params → CommandCode
+params_code params.NvUndefineSpace = codes.NvUndefineSpace
+params_code (params.NvDefineSpace auth public) = codes.NvDefineSpace
+params_code params.NvIncrement = codes.NvIncrement
+params_code params.PcrReset = codes.PcrReset
+params_code (params.Startup kind) = codes.Startup
+params_code (params.NvRead size offset) = codes.NvRead
+params_code (params.FlushContext handle) = codes.FlushContext
+params_code params.NvReadPublic = codes.NvReadPublic
+params_code params.PolicyAuthValue = codes.PolicyAuthValue
+params_code (params.PolicyCommandCode code) = codes.PolicyCommandCode
+params_code (params.PolicyOr digests) = codes.PolicyOr
+params_code (params.StartAuthSession nonce_caller kind symmetric alg) = codes.StartAuthSession
+params_code (params.PcrRead selected) = codes.PcrRead
+params_code (params.PolicyPcr pcr_digest selected) = codes.PolicyPcr
+params_code params.PolicyRestart = codes.PolicyRestart
+params_code (params.PcrExtend digests) = codes.PcrExtend
+params_code params.PolicyGetDigest = codes.PolicyGetDigest

@@ -1,6 +1,7 @@
 //! From bytes to a command.
 
-ghost use Rattle.std.specs.Prelude.{◌≡◌, ◌≤◌, ◌<◌, ◌↔◌, Ok, Err, length};
+ghost use Rattle.std.specs.Prelude.{◌≡◌, ◌≤◌, ◌<◌, ◌↔◌, IfOk, Ok, Err, length};
+ghost use Rattle.tpm_wire.specs.Spelling.{spelling};
 ghost use Rattle.tpm_wire.specs.declared.refusal.Refusal.{Refusal as RefusalOf};
 ghost use Rattle.tpm_wire.specs.Reading.{read_all};
 ghost use Rattle.tpm_wire.specs.Buffers.{TakesNumbered};
@@ -17,7 +18,8 @@ use tpm_wire::{Cursor, Refusal, SIZE};
 #[tactic(auto, unfolding(crate::specs::Commands::command))]
 fn take_command(cursor: &mut Cursor<'_>) -> Result<Command, Refusal>
     requires { cursor.old.number ≡ 0 }
-    ensures { TakesNumbered (λ c. c) command cursor.old cursor.new result }
+    ensures reads { TakesNumbered (λ c. c) command cursor.old cursor.new result }
+    ensures spelled { IfOk result (λ c. length cursor.new.here.rest ≡ 0 → cursor.old.here.rest ≡ spelling command c) }
 {
     let header = take_header(cursor)?;
     let handles = take_handles(cursor, header.code)?;
@@ -30,14 +32,16 @@ fn take_command(cursor: &mut Cursor<'_>) -> Result<Command, Refusal>
 #[tactic(auto, unfolding(crate::specs::Commands::command))]
 fn decode_long(bytes: &[u8]) -> Result<Command, Refusal>
     requires { 4096 < length bytes.now }
-    ensures { result ≡ read_all command bytes.now }
+    ensures reads { result ≡ read_all command bytes.now }
+    ensures spelled { IfOk result (λ c. bytes.now ≡ spelling command c) }
 {
     Err(long_fault(bytes))
 }
 
 fn decode_short(bytes: &[u8]) -> Result<Command, Refusal>
     requires { length bytes.now ≤ 4096 }
-    ensures { result ≡ read_all command bytes.now }
+    ensures reads { result ≡ read_all command bytes.now }
+    ensures spelled { IfOk result (λ c. bytes.now ≡ spelling command c) }
 {
     let mut cursor = Cursor::new(bytes);
     let command = take_command(&mut cursor)?;
@@ -51,7 +55,8 @@ fn decode_short(bytes: &[u8]) -> Result<Command, Refusal>
 }
 
 fn decode(bytes: &[u8]) -> Result<Command, Refusal>
-    ensures { result ≡ read_all command bytes.now }
+    ensures reads { result ≡ read_all command bytes.now }
+    ensures spelled { IfOk result (λ c. bytes.now ≡ spelling command c) }
 {
     if bytes.len() > 4096 {
         decode_long(bytes)
@@ -66,4 +71,12 @@ pub fn decode_command(bytes: &[u8]) -> Result<Command, Refusal>
     ensures err { (e : RefusalOf) → (result ≡ Err e) ↔ Fault command bytes.now e }
 {
     decode(bytes)
+}
+
+/// One spelling: a command is spelled by these bytes alone.
+pub fn one_spelling(a: &[u8], b: &[u8])
+    ensures { (c : CommandOf) → Spells command c a.now → Spells command c b.now → a.now ≡ b.now }
+{
+    let _one = decode(a);
+    let _other = decode(b);
 }

@@ -1,9 +1,10 @@
 //! What the handles of a command may be, and their reading.
 
-ghost use Rattle.std.specs.Prelude.{◌≡◌, ◌+◌, ◌≤◌, ◌*◌, length};
+ghost use Rattle.std.specs.Prelude.{◌≡◌, true, ◌+◌, ◌≤◌, ◌*◌, length, ◌++◌, IfOk};
+ghost use Rattle.tpm_wire.specs.Spelling.{spelling};
 ghost use Rattle.tpm_wire.specs.Buffers.{TakesNumbered, number_in, numbered};
 ghost use Rattle.tpm_types.specs.Codes.{value_code};
-ghost use Rattle.tpm_buffer.specs.Handles.{admits as is_admitted, handle_kinds, needs_authorization as does_need, handle, handles as handles_layout, handles_from};
+ghost use Rattle.tpm_buffer.specs.Handles.{admits as is_admitted, handle_kinds, needs_authorization as does_need, handle, handles as handles_layout, handles_from, AreAdmitted};
 
 use crate::code::CommandCode;
 use arrayvec::ArrayVec;
@@ -44,7 +45,9 @@ impl HandleKind {
     // The handle of this number, counted from 1.
     fn take(self, cursor: &mut Cursor<'_>, number: u32) -> Result<u32, Refusal>
         requires { (1 ≤ number) × (number ≤ 2) }
-        ensures { TakesNumbered (λ n. n) (numbered (handle number) (number_in 4 (is_admitted self) value_code)) cursor.old cursor.new result }
+        ensures reads { TakesNumbered (λ n. n) (numbered (handle number) (number_in 4 (is_admitted self) value_code)) cursor.old cursor.new result }
+        ensures spelled { IfOk result (λ x. cursor.old.here.rest ≡ spelling (numbered (handle number) (number_in 4 (is_admitted self) value_code)) x ++ cursor.new.here.rest) }
+        ensures admitted { IfOk result (λ x. is_admitted self x ≡ true) }
     {
         cursor.number(0x100 * number);
         let refusal = cursor.refusal(VALUE);
@@ -58,7 +61,9 @@ impl HandleKind {
 
 fn take_kinds(cursor: &mut Cursor<'_>, kinds: &[HandleKind]) -> Result<ArrayVec<u32, 2>, Refusal>
     requires { length kinds.now ≤ 2 }
-    ensures { TakesNumbered (λ v. v.items) (handles_from 1 kinds.now) cursor.old cursor.new result }
+    ensures reads { TakesNumbered (λ v. v.items) (handles_from 1 kinds.now) cursor.old cursor.new result }
+    ensures spelled { IfOk result (λ x. cursor.old.here.rest ≡ spelling (handles_from 1 kinds.now) x.items ++ cursor.new.here.rest) }
+    ensures admitted { IfOk result (λ x. AreAdmitted kinds.now x.items) }
 {
     let mut list = ArrayVec::new();
     match kinds {
@@ -80,7 +85,9 @@ pub(crate) fn take_handles(
     cursor: &mut Cursor<'_>,
     code: CommandCode,
 ) -> Result<ArrayVec<u32, 2>, Refusal>
-    ensures { TakesNumbered (λ v. v.items) (handles_layout code) cursor.old cursor.new result }
+    ensures reads { TakesNumbered (λ v. v.items) (handles_layout code) cursor.old cursor.new result }
+    ensures spelled { IfOk result (λ x. cursor.old.here.rest ≡ spelling (handles_layout code) x.items ++ cursor.new.here.rest) }
+    ensures admitted { IfOk result (λ x. AreAdmitted (handle_kinds code) x.items) }
 {
     take_kinds(cursor, code.handle_kinds())
 }

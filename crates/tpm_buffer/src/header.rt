@@ -1,11 +1,12 @@
 //! A command's header and its authorization area (Part 1, 18.1 and 18.6).
 
-ghost use Rattle.std.specs.Prelude.{◌≡◌, ◌<◌, length};
+ghost use Rattle.std.specs.Prelude.{◌≡◌, ◌≢◌, ◌<◌, ◌≤◌, ◌+◌, true, ◌++◌, IfOk, length};
+ghost use Rattle.tpm_wire.specs.Spelling.{spelling};
 ghost use Rattle.tpm_wire.specs.Token.{at_start};
 ghost use Rattle.tpm_wire.specs.Reading.{read};
 ghost use Rattle.tpm_wire.specs.Buffers.{Takes, TakesNumbered};
 ghost use Rattle.tpm_buffer.specs.Codes.{command_code};
-ghost use Rattle.tpm_buffer.specs.Commands.{tag, command_size, header, sessions, authorization_size, authorization};
+ghost use Rattle.tpm_buffer.specs.Commands.{is_tag, tag, command_size, header, sessions, authorization_size, authorization};
 
 use crate::code::CommandCode;
 use crate::command::Header;
@@ -33,7 +34,10 @@ pub const AUTHSIZE: u32 = 0x144;
 
 #[tactic(auto, unfolding(crate::specs::Commands::tag))]
 fn take_tag(cursor: &mut Cursor<'_>) -> Result<u16, Refusal>
-    ensures { Takes tag cursor.old cursor.new result }
+    ensures reads { Takes tag cursor.old cursor.new result }
+    ensures spelled { IfOk result (λ x. cursor.old.here.rest ≡ spelling tag x ++ cursor.new.here.rest) }
+    ensures tag { IfOk result (λ x. is_tag x ≡ true) }
+    ensures two { IfOk result (λ x. length cursor.old.here.rest ≡ 2 + length cursor.new.here.rest) }
 {
     let refusal = cursor.refusal(BAD_TAG);
     let tag = u16::take(cursor)?;
@@ -45,7 +49,9 @@ fn take_tag(cursor: &mut Cursor<'_>) -> Result<u16, Refusal>
 
 #[tactic(auto, unfolding(crate::specs::Commands::command_size))]
 pub(crate) fn take_size(cursor: &mut Cursor<'_>) -> Result<u32, Refusal>
-    ensures { Takes command_size cursor.old cursor.new result }
+    ensures reads { Takes command_size cursor.old cursor.new result }
+    ensures spelled { IfOk result (λ x. cursor.old.here.rest ≡ spelling command_size x ++ cursor.new.here.rest) }
+    ensures size { IfOk result (λ x. x ≡ length cursor.old.here.rest + 2) }
 {
     let refusal = cursor.refusal(COMMAND_SIZE);
     let size = u32::take(cursor)?;
@@ -57,7 +63,8 @@ pub(crate) fn take_size(cursor: &mut Cursor<'_>) -> Result<u32, Refusal>
 
 #[tactic(auto, unfolding(crate::specs::Codes::command_code))]
 fn take_code(cursor: &mut Cursor<'_>) -> Result<CommandCode, Refusal>
-    ensures { Takes command_code cursor.old cursor.new result }
+    ensures reads { Takes command_code cursor.old cursor.new result }
+    ensures spelled { IfOk result (λ x. cursor.old.here.rest ≡ spelling command_code x ++ cursor.new.here.rest) }
 {
     let refusal = cursor.refusal(COMMAND_CODE);
     CommandCode::from_number(u32::take(cursor)?).ok_or(refusal)
@@ -66,7 +73,10 @@ fn take_code(cursor: &mut Cursor<'_>) -> Result<CommandCode, Refusal>
 #[tactic(auto, unfolding(crate::specs::Commands::header))]
 pub(crate) fn take_header(cursor: &mut Cursor<'_>) -> Result<Header, Refusal>
     requires { cursor.old.number ≡ 0 }
-    ensures { TakesNumbered (λ h. h) header cursor.old cursor.new result }
+    ensures reads { TakesNumbered (λ h. h) header cursor.old cursor.new result }
+    ensures spelled { IfOk result (λ x. cursor.old.here.rest ≡ spelling header x ++ cursor.new.here.rest) }
+    ensures tag { IfOk result (λ x. is_tag x.tag ≡ true) }
+    ensures size { IfOk result (λ x. x.size ≡ length cursor.old.here.rest) }
 {
     let tag = take_tag(cursor)?;
     let size = take_size(cursor)?;
@@ -95,7 +105,9 @@ pub(crate) fn long_fault(bytes: &[u8]) -> Refusal
 
 #[tactic(auto, unfolding(crate::specs::Commands::sessions))]
 fn take_sessions(cursor: &mut Cursor<'_>) -> Result<ArrayVec<Auth, 3>, Refusal>
-    ensures { TakesNumbered (λ v. v.items) sessions cursor.old cursor.new result }
+    ensures reads { TakesNumbered (λ v. v.items) sessions cursor.old cursor.new result }
+    ensures spelled { IfOk result (λ x. cursor.old.here.rest ≡ spelling sessions x.items ++ cursor.new.here.rest) }
+    ensures some { IfOk result (λ x. length cursor.new.here.rest < length cursor.old.here.rest → 0 < length x.items) }
 {
     take_rest(cursor, 3, 0x900)
 }
@@ -103,7 +115,9 @@ fn take_sessions(cursor: &mut Cursor<'_>) -> Result<ArrayVec<Auth, 3>, Refusal>
 #[tactic(auto, unfolding(crate::specs::Commands::authorization_size))]
 fn take_authorization_size(cursor: &mut Cursor<'_>) -> Result<u32, Refusal>
     requires { cursor.old.number ≡ 0 }
-    ensures { Takes authorization_size cursor.old cursor.new result }
+    ensures reads { Takes authorization_size cursor.old cursor.new result }
+    ensures spelled { IfOk result (λ x. cursor.old.here.rest ≡ spelling authorization_size x ++ cursor.new.here.rest) }
+    ensures least { IfOk result (λ x. 9 ≤ x) }
 {
     let refusal = cursor.refusal(AUTHSIZE);
     let size = u32::take(cursor)?;
@@ -119,7 +133,10 @@ pub(crate) fn take_authorization(
     cursor: &mut Cursor<'_>,
     tag: u16,
 ) -> Result<ArrayVec<Auth, 3>, Refusal>
-    ensures { TakesNumbered (λ v. v.items) (authorization tag) cursor.old cursor.new result }
+    ensures reads { TakesNumbered (λ v. v.items) (authorization tag) cursor.old cursor.new result }
+    ensures spelled { IfOk result (λ x. cursor.old.here.rest ≡ spelling (authorization tag) x.items ++ cursor.new.here.rest) }
+    ensures none { IfOk result (λ x. tag ≢ 0x8002 → length x.items ≡ 0) }
+    ensures some { IfOk result (λ x. tag ≡ 0x8002 → 0 < length x.items) }
 {
     if tag != SESSIONS {
         return Ok(ArrayVec::new());

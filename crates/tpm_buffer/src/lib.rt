@@ -20,7 +20,7 @@ mod stages;
 pub use code::CommandCode;
 pub use command::{Command, CommandBody, Header, StartAuth};
 pub use cuts::{areas, reply_areas};
-pub use decode::decode_command;
+pub use decode::{decode_command, one_spelling};
 pub use encode::encode_command;
 pub use header::{AUTHSIZE, BAD_TAG, COMMAND_CODE, COMMAND_SIZE, NO_SESSIONS, SESSIONS};
 pub use laws::{

@@ -1,10 +1,12 @@
 //! A command's parameters alone (Part 3).
 
-ghost use Rattle.std.specs.Prelude.{◌≡◌, ◌≤◌, ◌<◌, ◌^◌, length};
+ghost use Rattle.std.specs.Prelude.{◌≡◌, ◌≤◌, ◌<◌, ◌^◌, length, ◌++◌, IfOk};
+ghost use Rattle.tpm_wire.specs.Spelling.{spelling};
 ghost use Rattle.tpm_wire.specs.Path.{Decodes};
 ghost use Rattle.tpm_wire.specs.Reading.{read_all};
 ghost use Rattle.tpm_wire.specs.Buffers.{TakesNumbered};
-ghost use Rattle.tpm_buffer.specs.Parameters.{parameters, startup, nv_define_space, nv_read, flush_context, policy_command_code, policy_or, start_auth_session, pcr_read, policy_pcr, pcr_extend};
+ghost use Rattle.tpm_buffer.specs.declared.code.CommandCode.TheVariants as codes;
+ghost use Rattle.tpm_buffer.specs.Parameters.{parameters, params_code, startup, nv_define_space, nv_read, flush_context, policy_command_code, policy_or, start_auth_session, pcr_read, policy_pcr, pcr_extend};
 
 use crate::code::CommandCode;
 use tpm_types::{
@@ -51,7 +53,9 @@ pub enum Params {
 
 #[tactic(auto, unfolding(crate::specs::Parameters::startup))]
 fn take_startup(cursor: &mut Cursor<'_>) -> Result<Params, Refusal>
-    ensures { TakesNumbered (λ p. p) startup cursor.old cursor.new result }
+    ensures reads { TakesNumbered (λ p. p) startup cursor.old cursor.new result }
+    ensures spelled { IfOk result (λ x. cursor.old.here.rest ≡ spelling startup x ++ cursor.new.here.rest) }
+    ensures code { IfOk result (λ x. params_code x ≡ codes.Startup) }
 {
     cursor.number(0x140);
     Ok(Params::Startup(StartupType::take(cursor)?))
@@ -59,7 +63,9 @@ fn take_startup(cursor: &mut Cursor<'_>) -> Result<Params, Refusal>
 
 #[tactic(auto, unfolding(crate::specs::Parameters::nv_define_space))]
 fn take_nv_define_space(cursor: &mut Cursor<'_>) -> Result<Params, Refusal>
-    ensures { TakesNumbered (λ p. p) nv_define_space cursor.old cursor.new result }
+    ensures reads { TakesNumbered (λ p. p) nv_define_space cursor.old cursor.new result }
+    ensures spelled { IfOk result (λ x. cursor.old.here.rest ≡ spelling nv_define_space x ++ cursor.new.here.rest) }
+    ensures code { IfOk result (λ x. params_code x ≡ codes.NvDefineSpace) }
 {
     cursor.number(0x140);
     let auth = AuthValue::take(cursor)?;
@@ -70,7 +76,9 @@ fn take_nv_define_space(cursor: &mut Cursor<'_>) -> Result<Params, Refusal>
 
 #[tactic(auto, unfolding(crate::specs::Parameters::nv_read))]
 fn take_nv_read(cursor: &mut Cursor<'_>) -> Result<Params, Refusal>
-    ensures { TakesNumbered (λ p. p) nv_read cursor.old cursor.new result }
+    ensures reads { TakesNumbered (λ p. p) nv_read cursor.old cursor.new result }
+    ensures spelled { IfOk result (λ x. cursor.old.here.rest ≡ spelling nv_read x ++ cursor.new.here.rest) }
+    ensures code { IfOk result (λ x. params_code x ≡ codes.NvRead) }
 {
     cursor.number(0x140);
     let size = u16::take(cursor)?;
@@ -81,7 +89,9 @@ fn take_nv_read(cursor: &mut Cursor<'_>) -> Result<Params, Refusal>
 
 #[tactic(auto, unfolding(crate::specs::Parameters::flush_context))]
 fn take_flush_context(cursor: &mut Cursor<'_>) -> Result<Params, Refusal>
-    ensures { TakesNumbered (λ p. p) flush_context cursor.old cursor.new result }
+    ensures reads { TakesNumbered (λ p. p) flush_context cursor.old cursor.new result }
+    ensures spelled { IfOk result (λ x. cursor.old.here.rest ≡ spelling flush_context x ++ cursor.new.here.rest) }
+    ensures code { IfOk result (λ x. params_code x ≡ codes.FlushContext) }
 {
     cursor.number(0x140);
     Ok(Params::FlushContext(SessionHandle::take(cursor)?))
@@ -89,7 +99,9 @@ fn take_flush_context(cursor: &mut Cursor<'_>) -> Result<Params, Refusal>
 
 #[tactic(auto, unfolding(crate::specs::Parameters::policy_command_code))]
 fn take_policy_command_code(cursor: &mut Cursor<'_>) -> Result<Params, Refusal>
-    ensures { TakesNumbered (λ p. p) policy_command_code cursor.old cursor.new result }
+    ensures reads { TakesNumbered (λ p. p) policy_command_code cursor.old cursor.new result }
+    ensures spelled { IfOk result (λ x. cursor.old.here.rest ≡ spelling policy_command_code x ++ cursor.new.here.rest) }
+    ensures code { IfOk result (λ x. params_code x ≡ codes.PolicyCommandCode) }
 {
     cursor.number(0x140);
     Ok(Params::PolicyCommandCode(u32::take(cursor)?))
@@ -97,7 +109,9 @@ fn take_policy_command_code(cursor: &mut Cursor<'_>) -> Result<Params, Refusal>
 
 #[tactic(auto, unfolding(crate::specs::Parameters::policy_or))]
 fn take_policy_or(cursor: &mut Cursor<'_>) -> Result<Params, Refusal>
-    ensures { TakesNumbered (λ p. p) policy_or cursor.old cursor.new result }
+    ensures reads { TakesNumbered (λ p. p) policy_or cursor.old cursor.new result }
+    ensures spelled { IfOk result (λ x. cursor.old.here.rest ≡ spelling policy_or x ++ cursor.new.here.rest) }
+    ensures code { IfOk result (λ x. params_code x ≡ codes.PolicyOr) }
 {
     cursor.number(0x140);
     Ok(Params::PolicyOr(OrDigests::take(cursor)?))
@@ -105,7 +119,9 @@ fn take_policy_or(cursor: &mut Cursor<'_>) -> Result<Params, Refusal>
 
 #[tactic(auto, unfolding(crate::specs::Parameters::start_auth_session))]
 fn take_start_auth_session(cursor: &mut Cursor<'_>) -> Result<Params, Refusal>
-    ensures { TakesNumbered (λ p. p) start_auth_session cursor.old cursor.new result }
+    ensures reads { TakesNumbered (λ p. p) start_auth_session cursor.old cursor.new result }
+    ensures spelled { IfOk result (λ x. cursor.old.here.rest ≡ spelling start_auth_session x ++ cursor.new.here.rest) }
+    ensures code { IfOk result (λ x. params_code x ≡ codes.StartAuthSession) }
 {
     cursor.number(0x140);
     let nonce_caller = Nonce::take(cursor)?;
@@ -127,7 +143,9 @@ fn take_start_auth_session(cursor: &mut Cursor<'_>) -> Result<Params, Refusal>
 
 #[tactic(auto, unfolding(crate::specs::Parameters::pcr_read))]
 fn take_pcr_read(cursor: &mut Cursor<'_>) -> Result<Params, Refusal>
-    ensures { TakesNumbered (λ p. p) pcr_read cursor.old cursor.new result }
+    ensures reads { TakesNumbered (λ p. p) pcr_read cursor.old cursor.new result }
+    ensures spelled { IfOk result (λ x. cursor.old.here.rest ≡ spelling pcr_read x ++ cursor.new.here.rest) }
+    ensures code { IfOk result (λ x. params_code x ≡ codes.PcrRead) }
 {
     cursor.number(0x140);
     Ok(Params::PcrRead(Selections::take(cursor)?))
@@ -135,7 +153,9 @@ fn take_pcr_read(cursor: &mut Cursor<'_>) -> Result<Params, Refusal>
 
 #[tactic(auto, unfolding(crate::specs::Parameters::policy_pcr))]
 fn take_policy_pcr(cursor: &mut Cursor<'_>) -> Result<Params, Refusal>
-    ensures { TakesNumbered (λ p. p) policy_pcr cursor.old cursor.new result }
+    ensures reads { TakesNumbered (λ p. p) policy_pcr cursor.old cursor.new result }
+    ensures spelled { IfOk result (λ x. cursor.old.here.rest ≡ spelling policy_pcr x ++ cursor.new.here.rest) }
+    ensures code { IfOk result (λ x. params_code x ≡ codes.PolicyPcr) }
 {
     cursor.number(0x140);
     let pcr_digest = Digest::take(cursor)?;
@@ -149,7 +169,9 @@ fn take_policy_pcr(cursor: &mut Cursor<'_>) -> Result<Params, Refusal>
 
 #[tactic(auto, unfolding(crate::specs::Parameters::pcr_extend))]
 fn take_pcr_extend(cursor: &mut Cursor<'_>) -> Result<Params, Refusal>
-    ensures { TakesNumbered (λ p. p) pcr_extend cursor.old cursor.new result }
+    ensures reads { TakesNumbered (λ p. p) pcr_extend cursor.old cursor.new result }
+    ensures spelled { IfOk result (λ x. cursor.old.here.rest ≡ spelling pcr_extend x ++ cursor.new.here.rest) }
+    ensures code { IfOk result (λ x. params_code x ≡ codes.PcrExtend) }
 {
     cursor.number(0x140);
     Ok(Params::PcrExtend(DigestValues::take(cursor)?))
@@ -157,7 +179,9 @@ fn take_pcr_extend(cursor: &mut Cursor<'_>) -> Result<Params, Refusal>
 
 /// The parameters of a command with this code.
 pub(crate) fn take_params(cursor: &mut Cursor<'_>, code: CommandCode) -> Result<Params, Refusal>
-    ensures { TakesNumbered (λ p. p) (parameters code) cursor.old cursor.new result }
+    ensures reads { TakesNumbered (λ p. p) (parameters code) cursor.old cursor.new result }
+    ensures spelled { IfOk result (λ x. cursor.old.here.rest ≡ spelling (parameters code) x ++ cursor.new.here.rest) }
+    ensures code { IfOk result (λ x. params_code x ≡ code) }
 {
     match code {
         CommandCode::NvUndefineSpace => Ok(Params::NvUndefineSpace),
