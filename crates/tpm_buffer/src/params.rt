@@ -1,6 +1,6 @@
 //! A command's parameters alone (Part 3).
 
-ghost use Rattle.std.specs.Prelude.{◌≡◌, ◌≤◌, ◌<◌, ◌^◌, length, ◌++◌, IfOk};
+ghost use Rattle.std.specs.Prelude.{◌≡◌, ◌≤◌, ◌<◌, ◌^◌, length, ◌++◌, IfOk, IsErr};
 ghost use Rattle.tpm_wire.specs.Spelling.{spelling};
 ghost use Rattle.tpm_wire.specs.Path.{Decodes};
 ghost use Rattle.tpm_wire.specs.Reading.{read_all};
@@ -219,13 +219,30 @@ fn decode(code: CommandCode, bytes: &[u8]) -> Result<Params, Refusal>
     Ok(params)
 }
 
+// No command has so many bytes of parameters: where none of them is refused, bytes are left over.
+fn long_fault(code: CommandCode, bytes: &[u8]) -> Refusal
+    requires { 4096 ≤ length bytes.now }
+{
+    let mut cursor = Cursor::new(&bytes[..4096]);
+    match take_params(&mut cursor, code) {
+        Ok(_) => Refusal {
+            code: SIZE,
+            at: cursor.at(),
+        },
+        Err(refusal) => refusal,
+    }
+}
+
 /// The parameters that the bytes spell, all of them, or the code and the position of their first fault, counted from
 /// the first of these bytes: INSUFFICIENT, VALUE, SIZE, HASH, SYMMETRIC, MODE or RESERVED_BITS with the parameter's
-/// number, or SIZE for bytes left over.
+/// number, or SIZE for bytes left over. A slice of 4 GiB or more, where a position need not fit 32 bits, is refused;
+/// the contract says no more of it.
 pub fn decode_params(code: CommandCode, bytes: &[u8]) -> Result<Params, Refusal>
-    requires { length bytes.now < 2 ^ 32 }
-    ensures decodes { Decodes (parameters code) (λ p. p) bytes.now result }
-    ensures reads { result ≡ read_all (parameters code) bytes.now }
+    ensures decodes { length bytes.now < 2 ^ 32 → Decodes (parameters code) (λ p. p) bytes.now result }
+    ensures long { 2 ^ 32 ≤ length bytes.now → IsErr result }
 {
+    if bytes.len() > u32::MAX as usize {
+        return Err(long_fault(code, bytes));
+    }
     decode(code, bytes)
 }
