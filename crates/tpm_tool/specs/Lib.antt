@@ -1,3 +1,4 @@
 pub mod Status
 pub mod Text
 pub mod Show
+pub mod Build

@@ -1,7 +1,5 @@
 -- What `show` prints (this profile).
-use Rattle.std.specs.Prelude.{◌≡◌, ℕ, List, length, Result, Ok, Err}
-use Rattle.hex.specs.Hex.{decode_of}
-use Rattle.hex.specs.declared.error.FromHexError.{FromHexError}
+use Rattle.std.specs.Prelude.{◌≡◌, ℕ, List, length, Option, Some, None}
 use Rattle.tpm_wire.specs.declared.refusal.Refusal.{Refusal}
 use Rattle.tpm_wire.specs.Layout.{cut}
 use Rattle.tpm_wire.specs.Path.{Spells, Fault}
@@ -9,7 +7,7 @@ use Rattle.tpm_buffer.specs.declared.command.Command.{Command}
 use Rattle.tpm_buffer.specs.Commands.{Checked, before_params, command}
 use Rattle.tpm_tool.specs.declared.status.Status.{Status}
 use Rattle.tpm_tool.specs.declared.status.Status.TheVariants.{Done, Refused}
-use Rattle.tpm_tool.specs.Text.{command_text, refusal_line, not_hexadecimal_line}
+use Rattle.tpm_tool.specs.Text.{bytes_in, command_text, refusal_line, not_hexadecimal_line}
 
 -- The bytes spell a command, and these are what stands before its parameters, and the parameters as they came.
 abbrev pub HasAreas : List ℕ → Checked → List ℕ → Type 0
@@ -20,11 +18,10 @@ abbrev pub ShowsBytes : List ℕ → Status → List ℕ → Type 0
 ShowsBytes bytes Done text = (areas : Checked) × (parameters : List ℕ) × HasAreas bytes areas parameters × (text ≡ command_text (length bytes) areas parameters)
 ShowsBytes bytes Refused text = (refusal : Refusal) × Fault command bytes refusal × (text ≡ refusal_line refusal)
 
-abbrev pub ShowsDecoded : Result (List ℕ) FromHexError → Status → List ℕ → Type 0
-ShowsDecoded (Ok bytes) status text = ShowsBytes bytes status text
-ShowsDecoded (Err fault) Done text = ⊥
-ShowsDecoded (Err fault) Refused text = text ≡ not_hexadecimal_line
+abbrev pub ShowsDecoded : Option (List ℕ) → Status → List ℕ → Type 0
+ShowsDecoded (Some bytes) status text = ShowsBytes bytes status text
+ShowsDecoded None status text = (status ≡ Refused) × (text ≡ not_hexadecimal_line)
 
--- For these hexadecimal digits, two to a byte and in either case, this is the status and the text.
+-- For this text of digits, this is the status and what is printed.
 abbrev pub Shows : List ℕ → Status → List ℕ → Type 0
-Shows hex status text = ShowsDecoded (decode_of hex) status text
+Shows hex status text = ShowsDecoded (bytes_in hex) status text

@@ -1,7 +1,8 @@
 -- The program's lines (this profile).
-use Rattle.std.specs.Prelude.{ℕ, ◌+◌, ◌-◌, false, List, [], ◌∷◌, ◌++◌, length, replicate, codes}
+use Rattle.std.specs.Prelude.{ℕ, ◌+◌, ◌-◌, false, List, [], ◌∷◌, ◌++◌, length, replicate, codes, Option, Some, None, Result, Ok, Err}
 use Rattle.std.specs.Fmt.{decimal, digits}
-use Rattle.hex.specs.Hex.{encode_lower}
+use Rattle.hex.specs.Hex.{decode_of, encode_lower}
+use Rattle.hex.specs.declared.error.FromHexError.{FromHexError}
 use Rattle.tpm_wire.specs.declared.refusal.Refusal.{Refusal}
 use Rattle.tpm_types.specs.declared.tpms.Auth.{Auth}
 use Rattle.tpm_buffer.specs.declared.code.CommandCode.{CommandCode}
@@ -23,10 +24,21 @@ lines_from one i (x ∷ xs) = one i x ++ lines_from one (i + 1) xs
 abbrev pub hexadecimal : ℕ → ℕ → List ℕ
 hexadecimal least n = replicate (least - length (digits 16 false n)) 48 ++ digits 16 false n
 
+abbrev pub value_of : Result (List ℕ) FromHexError → Option (List ℕ)
+value_of (Ok bytes) = Some bytes
+value_of (Err fault) = None
+
+-- the bytes of hexadecimal digits, two to a byte and in either case, where a text is that
+abbrev pub bytes_in : List ℕ → Option (List ℕ)
+bytes_in text = value_of (decode_of text)
+
 -- bytes in hexadecimal, lower case, and no bytes as `-`
 abbrev pub bytes_text : List ℕ → List ℕ
 bytes_text [] = codes "-"
 bytes_text (byte ∷ bytes) = encode_lower (byte ∷ bytes)
+
+unfoldable pub bytes_line : List ℕ → List ℕ
+bytes_line bytes = line (bytes_text bytes ∷ [])
 
 -- ---- refusals
 

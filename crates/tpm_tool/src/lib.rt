@@ -1,11 +1,15 @@
 //! What the program does for each of its subcommands.
 #![tactic(auto)]
 
+mod answer;
+mod built;
 mod fault;
+mod hexadecimal;
 mod shown;
 mod status;
 mod text;
 
+pub use built::build;
 pub use fault::ToolFault;
 pub use shown::show;
 pub use status::Status;

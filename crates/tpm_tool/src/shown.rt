@@ -7,10 +7,11 @@ ghost use Rattle.tpm_buffer.specs.Areas.{areas_view};
 ghost use Rattle.tpm_buffer.specs.Commands.{command};
 ghost use Rattle.tpm_tool.specs.Show.{HasAreas, Shows, ShowsBytes};
 
+use crate::answer::Answer;
 use crate::fault::ToolFault;
+use crate::hexadecimal::decoded;
 use crate::status::Status;
-use crate::text::{push_command, push_refusal};
-use hex::FromHexError;
+use crate::text::push_command;
 use std::alloc::{AllocError, Global};
 use std::io::Write;
 use tpm_buffer::{Areas, areas, decode_command, fault_before_params};
@@ -26,32 +27,28 @@ fn areas_of_command(bytes: &[u8]) -> Result<Areas<'_>, Refusal>
     areas(bytes)
 }
 
-fn shown_bytes(alloc: Global, bytes: &[u8]) -> Result<(Status, String), AllocError>
-    ensures { IfOk result (λ shown. ShowsBytes bytes.now shown.0 (string_bytes shown.1)) }
+fn answer_to_bytes(alloc: Global, bytes: &[u8]) -> Result<Answer, AllocError>
+    ensures { IfOk result (λ a. ShowsBytes bytes.now a.status (string_bytes a.text)) }
 {
-    let mut text = String::new(alloc);
     match areas_of_command(bytes) {
         Ok(areas) => {
+            let mut text = String::new(alloc);
             push_command(alloc, &mut text, bytes.len(), &areas)?;
-            Ok((Status::Done, text))
+            Ok(Answer {
+                status: Status::Done,
+                text,
+            })
         }
-        Err(refusal) => {
-            push_refusal(&mut text, &refusal)?;
-            Ok((Status::Refused, text))
-        }
+        Err(refusal) => Answer::refusal(alloc, &refusal),
     }
 }
 
-fn shown(alloc: Global, hex: &str) -> Result<(Status, String), AllocError>
-    ensures { IfOk result (λ shown. Shows hex.now shown.0 (string_bytes shown.1)) }
+fn answer(alloc: Global, hex: &str) -> Result<Answer, AllocError>
+    ensures { IfOk result (λ a. Shows hex.now a.status (string_bytes a.text)) }
 {
-    match hex::decode(alloc, hex) {
-        Ok(bytes) => shown_bytes(alloc, bytes.as_slice()),
-        Err(FromHexError::OutOfMemory) => Err(AllocError),
-        Err(_) => {
-            let text = String::from_str(alloc, "not hexadecimal\n")?;
-            Ok((Status::Refused, text))
-        }
+    match decoded(alloc, hex)? {
+        Some(bytes) => answer_to_bytes(alloc, bytes.as_slice()),
+        None => Answer::not_hexadecimal(alloc),
     }
 }
 
@@ -69,8 +66,5 @@ pub fn show<W: Write>(alloc: Global, out: &mut W, hex: &str) -> Result<Status, T
     ensures { IfOk result (λ status. (text : List ℕ) × Shows hex.now status text
         × Appends (W.contents out.old) (W.contents out.new) text) }
 {
-    let (status, text) = shown(alloc, hex)?;
-    out.write_all(text.as_bytes())
-        .map_err(|_| ToolFault::Write)?;
-    Ok(status)
+    answer(alloc, hex)?.print(out)
 }

@@ -1,10 +1,11 @@
-//! What `show` prints, in whole texts.
+//! What the subcommands print, in whole texts.
 
 use super::*;
 use std::alloc::Global;
 use std::io;
 use std::io::{ErrorKind, Write};
 use std::test::Fail;
+use tpm_buffer::CommandCode;
 
 fn shown(alloc: Global, hex: &str) -> Result<(Status, String), Fail> {
     let mut out = Vec::new(alloc);
@@ -139,6 +140,147 @@ fn a_refusal_is_printed_with_its_position(rt: HostRuntime) -> Result<(), Fail> {
     Ok(())
 }
 
+fn built(
+    alloc: Global,
+    name: CommandCode,
+    handles: &str,
+    sessions: &str,
+    parameters: &str,
+) -> Result<(Status, String), Fail> {
+    let mut out = Vec::new(alloc);
+    let status = build(alloc, &mut out, name, handles, sessions, parameters)?;
+    Ok((status, String::from_utf8(out)?))
+}
+
+#[test]
+fn parts_are_joined(rt: HostRuntime) -> Result<(), Fail> {
+    let (status, text) = built(rt.alloc(), CommandCode::Startup, "-", "-", "0000")?;
+    assert_eq!(rt; status, Status::Done);
+    assert_eq!(rt; text.as_str(), "80010000000c000001440000\n");
+    let (status, text) = built(
+        rt.alloc(),
+        CommandCode::PcrReset,
+        "00000010",
+        "400000090000010000",
+        "-",
+    )?;
+    assert_eq!(rt; status, Status::Done);
+    assert_eq!(rt;
+        text.as_str(),
+        "80020000001b0000013d0000001000000009400000090000010000\n"
+    );
+    Ok(())
+}
+
+// NV_Read of the index 01800001 by the owner.
+#[test]
+fn two_handles_and_two_sessions_are_joined(rt: HostRuntime) -> Result<(), Fail> {
+    let (status, text) = built(
+        rt.alloc(),
+        CommandCode::NvRead,
+        "4000000101800001",
+        "400000090001ef010002abcd020000020000200000",
+        "00080000",
+    )?;
+    assert_eq!(rt; status, Status::Done);
+    let wanted = "80020000002f0000014e4000000101800001\
+        00000015\
+        400000090001ef010002abcd\
+        020000020000200000\
+        00080000\n";
+    assert_eq!(rt; text.as_str(), wanted);
+    Ok(())
+}
+
+#[test]
+fn parts_are_read_in_either_case_and_no_digits_are_no_bytes(rt: HostRuntime) -> Result<(), Fail> {
+    let (status, text) = built(
+        rt.alloc(),
+        CommandCode::PolicyCommandCode,
+        "03ABCDEF",
+        "",
+        "0000AbCd",
+    )?;
+    assert_eq!(rt; status, Status::Done);
+    assert_eq!(rt; text.as_str(), "8001000000120000016c03abcdef0000abcd\n");
+    Ok(())
+}
+
+#[test]
+fn joined_parts_that_spell_no_command_are_refused(rt: HostRuntime) -> Result<(), Fail> {
+    // Startup with type 2.
+    let (status, text) = built(rt.alloc(), CommandCode::Startup, "-", "-", "0002")?;
+    assert_eq!(rt; status, Status::Refused);
+    assert_eq!(rt; text.as_str(), "refused 1c4 at 10\n");
+    // The second handle is missing.
+    let (status, text) = built(rt.alloc(), CommandCode::NvIncrement, "40000001", "-", "-")?;
+    assert_eq!(rt; status, Status::Refused);
+    assert_eq!(rt; text.as_str(), "refused 29a at 14\n");
+    // A session of eight bytes is none.
+    let (status, text) = built(
+        rt.alloc(),
+        CommandCode::PcrReset,
+        "00000010",
+        "4000000900000100",
+        "-",
+    )?;
+    assert_eq!(rt; status, Status::Refused);
+    assert_eq!(rt; text.as_str(), "refused 144 at 14\n");
+    Ok(())
+}
+
+fn zeros(alloc: Global, bytes: usize) -> Result<String, Fail> {
+    let mut text = String::new(alloc);
+    for _ in 0..bytes {
+        text.push_str("00")?;
+    }
+    Ok(text)
+}
+
+// A Startup with parameters of 4,086 bytes has 4,096 bytes, and those after the second are left over.
+#[test]
+fn no_buffer_has_more_than_4096_bytes(rt: HostRuntime) -> Result<(), Fail> {
+    for (bytes, wanted) in [
+        (4086, "refused 095 at 12\n"),
+        (4087, "refused 142 at 2\n"),
+        (5000, "refused 142 at 2\n"),
+    ] {
+        let parameters = zeros(rt.alloc(), bytes)?;
+        let (status, text) = built(
+            rt.alloc(),
+            CommandCode::Startup,
+            "-",
+            "-",
+            parameters.as_str(),
+        )?;
+        assert_eq!(rt; status, Status::Refused);
+        assert_eq!(rt; text.as_str(), wanted, "{bytes}");
+    }
+    Ok(())
+}
+
+#[test]
+fn a_part_that_is_not_hexadecimal_comes_before_the_limit(rt: HostRuntime) -> Result<(), Fail> {
+    let long = zeros(rt.alloc(), 5000)?;
+    for (handles, sessions, parameters) in [
+        ("0", "-", "0000"),
+        ("-", "--", "0000"),
+        ("-", "-", "000g"),
+        ("x", "-", long.as_str()),
+    ] {
+        let (status, text) = built(
+            rt.alloc(),
+            CommandCode::Startup,
+            handles,
+            sessions,
+            parameters,
+        )?;
+        assert_eq!(rt; status, Status::Refused);
+        assert_eq!(rt; text.as_str(), "not hexadecimal\n");
+    }
+    Ok(())
+}
+
 /// A writer that takes a byte at a time, as long as it is the next of a text, and so many of them.
 #[derive(Drop)]
 struct Expecting<'a> {
@@ -164,6 +306,12 @@ impl Write for Expecting<'_> {
     }
 }
 
+fn build_startup<W: Write>(alloc: Global, out: &mut W) -> Result<Status, ToolFault> {
+    build(alloc, out, CommandCode::Startup, "-", "-", "0000")
+}
+
+const STARTUP_LINE: &str = "80010000000c000001440000\n";
+
 #[test]
 fn each_write_that_fails_is_answered(rt: HostRuntime) {
     let text = STARTUP_TEXT.as_bytes();
@@ -171,28 +319,42 @@ fn each_write_that_fails_is_answered(rt: HostRuntime) {
         let mut out = Expecting { rest: text, writes };
         assert_eq!(rt; show(rt.alloc(), &mut out, STARTUP), Err(ToolFault::Write));
     }
-    let mut out = Expecting {
-        rest: text,
+    let line = STARTUP_LINE.as_bytes();
+    for writes in 0..line.len() {
+        let mut out = Expecting { rest: line, writes };
+        assert_eq!(rt; build_startup(rt.alloc(), &mut out), Err(ToolFault::Write));
+    }
+}
+
+fn writer_for(text: &str) -> Expecting<'_> {
+    Expecting {
+        rest: text.as_bytes(),
         writes: text.len(),
-    };
+    }
+}
+
+#[test]
+fn with_memory_and_a_writer_all_is_done(rt: HostRuntime) {
+    let mut out = writer_for(STARTUP_TEXT);
     assert_eq!(rt; show(rt.alloc(), &mut out, STARTUP), Ok(Status::Done));
+    assert_eq!(rt; out.rest.len(), 0);
+    let mut out = writer_for(STARTUP_LINE);
+    assert_eq!(rt; build_startup(rt.alloc(), &mut out), Ok(Status::Done));
     assert_eq!(rt; out.rest.len(), 0);
 }
 
-// The writer asks for no memory. Run with requests that are refused, this shows that such a one is
-// answered; with none, that the command is shown.
+// The writers ask for no memory. Run with a request that is refused, this shows that such a one is
+// answered, and never another text.
 #[test]
 fn want_of_memory_is_answered(rt: HostRuntime) {
-    let text = STARTUP_TEXT.as_bytes();
-    let mut out = Expecting {
-        rest: text,
-        writes: text.len(),
-    };
+    let mut out = writer_for(STARTUP_TEXT);
     match show(rt.alloc(), &mut out, STARTUP) {
-        Ok(status) => {
-            assert_eq!(rt; status, Status::Done);
-            assert_eq!(rt; out.rest.len(), 0);
-        }
+        Ok(status) => assert!(rt; status == Status::Done && out.rest.is_empty()),
+        Err(fault) => assert_eq!(rt; fault, ToolFault::Memory),
+    }
+    let mut out = writer_for(STARTUP_LINE);
+    match build_startup(rt.alloc(), &mut out) {
+        Ok(status) => assert!(rt; status == Status::Done && out.rest.is_empty()),
         Err(fault) => assert_eq!(rt; fault, ToolFault::Memory),
     }
 }

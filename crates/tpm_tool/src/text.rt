@@ -1,9 +1,10 @@
 //! The program's lines.
 
-ghost use Rattle.std.specs.Prelude.{◌≡◌, ◌++◌, IfOk, OnOk, string_bytes};
+ghost use Rattle.std.specs.Prelude.{◌≡◌, ◌++◌, OnOk, string_bytes};
 ghost use Rattle.tpm_buffer.specs.Areas.{areas_view};
-ghost use Rattle.tpm_tool.specs.Text.{lines_from, refusal_line, bytes_text, command_line, handle_line, session_line, parameters_line, command_text};
+ghost use Rattle.tpm_tool.specs.Text.{lines_from, refusal_line, bytes_line, command_line, handle_line, session_line, parameters_line, command_text};
 
+use crate::hexadecimal::shown_bytes;
 use std::alloc::{AllocError, Global};
 use tpm_buffer::{Areas, CommandCode};
 use tpm_types::Auth;
@@ -18,14 +19,13 @@ pub(crate) fn push_refusal(text: &mut String, refusal: &Refusal) -> Result<(), A
     writeln!(text, "refused {code:03x} at {at}")
 }
 
-/// Bytes in hexadecimal, or `-` for none.
-pub(crate) fn shown_bytes(alloc: Global, bytes: &[u8]) -> Result<String, AllocError>
-    ensures { IfOk result (λ text. string_bytes text ≡ bytes_text bytes.now) }
+/// Adds a line of bytes in hexadecimal.
+#[tactic(auto, unfolding(crate::specs::Text::bytes_line))]
+pub(crate) fn push_bytes(alloc: Global, text: &mut String, bytes: &[u8]) -> Result<(), AllocError>
+    ensures { OnOk result (string_bytes text.new ≡ string_bytes text.old ++ bytes_line bytes.now) }
 {
-    if bytes.is_empty() {
-        return String::from_str(alloc, "-");
-    }
-    hex::encode(alloc, bytes)
+    let bytes = shown_bytes(alloc, bytes)?;
+    writeln!(text, "{bytes}")
 }
 
 #[tactic(auto, unfolding(crate::specs::Text::command_line))]

@@ -1,0 +1,56 @@
+//! What a subcommand answers: a status and a text.
+
+ghost use Rattle.std.specs.Prelude.{◌≡◌, IfOk, string_bytes};
+ghost use Rattle.std.specs.Io.KnownBytes.{Appends};
+ghost use Rattle.tpm_tool.specs.declared.status.Status.TheVariants.{Refused};
+
+use crate::fault::ToolFault;
+use crate::status::Status;
+use crate::text::push_refusal;
+use std::alloc::{AllocError, Global};
+use std::io::Write;
+use tpm_wire::Refusal;
+
+/// A whole text, and the status for it.
+#[derive(Drop)]
+pub(crate) struct Answer {
+    pub(crate) status: Status,
+    pub(crate) text: String,
+}
+
+impl Answer {
+    ghost use Rattle.tpm_tool.specs.Text.{refusal_line, not_hexadecimal_line};
+
+    /// The line of a refusal.
+    pub(crate) fn refusal(alloc: Global, refusal: &Refusal) -> Result<Self, AllocError>
+        ensures { IfOk result (λ a. (a.status ≡ Refused) × (string_bytes a.text ≡ refusal_line refusal.now)) }
+    {
+        let mut text = String::new(alloc);
+        push_refusal(&mut text, refusal)?;
+        Ok(Answer {
+            status: Status::Refused,
+            text,
+        })
+    }
+
+    /// That a text is not hexadecimal.
+    pub(crate) fn not_hexadecimal(alloc: Global) -> Result<Self, AllocError>
+        ensures { IfOk result (λ a. (a.status ≡ Refused) × (string_bytes a.text ≡ not_hexadecimal_line)) }
+    {
+        let text = String::from_str(alloc, "not hexadecimal\n")?;
+        Ok(Answer {
+            status: Status::Refused,
+            text,
+        })
+    }
+
+    /// Writes the text, and answers the status.
+    pub(crate) fn print<W: Write>(&self, out: &mut W) -> Result<Status, ToolFault>
+        ensures { IfOk result (λ status. (status ≡ self.now.status)
+            × Appends (W.contents out.old) (W.contents out.new) (string_bytes self.now.text)) }
+    {
+        out.write_all(self.text.as_bytes())
+            .map_err(|_| ToolFault::Write)?;
+        Ok(self.status)
+    }
+}
