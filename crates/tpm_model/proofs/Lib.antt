@@ -1,0 +1,6 @@
+pub mod Accepted
+pub mod Runs
+pub mod Rising
+pub mod Spelled
+pub mod Nonces
+pub mod Replay

@@ -1,0 +1,198 @@
+-- A sealed buffer that is accepted twice has one text, and so one nonce.
+use Rattle.std.proofs.Common.{◌≡◌, ◌≢◌, ℕ, ◌<◌, ◌≤◌, List, [], ◌∷◌, ◌++◌, length, take, drop, Ok, Some, None, Option, Bool, true, false, not, ◌&&◌, ◌||◌, refl, sym, ap, ◌∙◌, subst, arith, inl, inr, append_assoc}
+use Rattle.std.specs.Prelude.{◌==◌, if◌then◌else◌, bytes_eq}
+use Rattle.std.specs.List.{flat_map}
+use Rattle.std.specs.Int.{w32, to_be_bytes}
+use Rattle.std.proofs.lemmas.List.{drop_at, append_cancel_left, append_cancel_right, take-take}
+use Rattle.std.proofs.lemmas.Bool.Decides.{nat_tests}
+use Rattle.std.proofs.lemmas.Slice.Eq.{bytes_eq-Decides}
+use Rattle.tpm_wire.specs.Buffers.{buffer}
+use Rattle.tpm_wire.proofs.Agreement.{bind_ok}
+use Rattle.tpm_wire.proofs.Buffers.{buffer_sound}
+use Rattle.tpm_wire.proofs.Whole.{exactly_one}
+use Rattle.tpm_types.specs.declared.tpms.Auth.{Auth}
+use Rattle.tpm_types.specs.Handles.{rs_pw, is_session}
+use Rattle.tpm_buffer.specs.declared.code.CommandCode.{CommandCode}
+use Rattle.tpm_buffer.specs.declared.command.Command.{Command}
+use Rattle.tpm_buffer.specs.Codes.{code_number}
+use Rattle.tpm_buffer.specs.Commands.{command}
+use Rattle.tpm_buffer.specs.Handles.{first}
+use Rattle.tpm_hmac.specs.Hashes.{digest}
+use Rattle.tpm_hmac.specs.Hmac.{hmac}
+use Rattle.tpm_hmac.specs.Sessions.{cp_hash, mac_text}
+use Rattle.tpm_hmac.proofs.DigestLengths.{length-digest, length-hmac}
+use Rattle.tpm_model.specs.Steps.{History, Accepted, PowerCycle, Origin}
+use Rattle.tpm_model.specs.Sessions.{Session, slot_of, loaded, lives, last_nonce, begins, authorizes}
+use Rattle.tpm_model.specs.Present.{Present, present}
+use Rattle.tpm_model.specs.Entities.{Entity, entity_of, names_of}
+use Rattle.tpm_model.specs.Authorization.{refuse, is_empty, Password, BySession, by_session, check_loaded, check_session, check_entity, proof_by, proof_of, check_proof, first_loaded, failure, Signed, command_text, needs_none, is_signed, key_for, Proof, ByMac}
+use Rattle.tpm_model.specs.Answers.{Commands, Presented, presented, Done, next}
+use Rattle.tpm_model.specs.Runs.{Event, after}
+use Rattle.tpm_model.specs.Runs.Event.{Given, Cycled}
+use Rattle.tpm_model.specs.Premises.{IsAccepted, IsSealed, nonces, IsAmong, AreApart, NoncesDiffer, least_nonce, Keyed, keyed, mac_of, text_in, text_checked, texts_checked, NoCollision}
+use Rattle.tpm_model.proofs.Accepted.{Passed, passed, ok_is, next_is}
+use Rattle.tpm_model.proofs.Runs.{after-append}
+use Rattle.tpm_model.proofs.Spelled.{was_read, spelled_by}
+use Rattle.tpm_model.proofs.Nonces.{held, fresh, sound_along, apart_across, apart_front, nonces-append}
+
+-- ---- what the checks of a session let through
+
+no_password : (n : ℕ) → is_session n ≡ true → (n == rs_pw) ≡ false
+no_password n s = elim (n == rs_pw) as (λ b. (n == rs_pw) ≡ b → b ≡ false)
+    [ true ↦ λ e. let same : n ≡ rs_pw = grind (arith, nat_tests) in absurd (let bad : is_session rs_pw ≡ true = subst (λ m. is_session m ≡ true) same s in let z : ⊥ = cc in z) | false ↦ λ e. refl ] refl
+
+-- a session's command proves itself by the HMAC of that session
+by_its_session : (s : Option Session) (e : Entity) (code : CommandCode) (names : List (List ℕ)) (params : List ℕ) (update_counter : ℕ) (a : Auth) (others : List Auth) (proof : Proof)
+    → is_session a.session ≡ true → proof_of s e code names params update_counter (a ∷ others) ≡ Ok proof
+    → (y : Session) × (s ≡ Some y) × (proof ≡ ByMac (record { session = y; key = key_for y e; p_hash = cp_hash y.hash (code_number code) names params; auth = a }))
+by_its_session None e code names params update_counter a others proof is p =
+    let b = bind_ok (check_loaded a.session None) _ proof p in
+    absurd (let c : by_session None ≡ Ok b.0 = subst (λ t. (if t then Ok Password else by_session None) ≡ Ok b.0) (no_password a.session is) b.1 in let z : ⊥ = cc in z)
+by_its_session (Some y) e code names params update_counter a others proof is p =
+    let b = bind_ok (check_loaded a.session (Some y)) _ proof p in
+    let by : BySession y ≡ b.0 = ok_is (BySession y) b.0 (subst (λ t. (if t then Ok Password else by_session (Some y)) ≡ Ok b.0) (no_password a.session is) b.1) in
+    let c = bind_ok (check_session b.0 a others) _ proof b.2 in
+    let d = bind_ok (check_entity b.0 e code update_counter) _ proof c.2 in
+    (y, refl, sym (ap (λ x. proof_by x e code names params a) by ∙ ok_is (proof_by b.0 e code names params a) proof d.2))
+
+some_bytes : (bytes : List ℕ) → 0 < length bytes → is_empty bytes ≡ false
+some_bytes [] p = absurd (omega arith)
+some_bytes (b ∷ bytes) p = refl
+
+both_false : (a b : Bool) → b ≡ false → (a && b) ≡ false
+both_false true b e = e
+both_false false b e = refl
+
+refused_not : (b : Bool) (code : ℕ) → refuse (not b) code ≡ Ok tt → b ≡ true
+refused_not true code e = refl
+refused_not false code e = absurd (let z : ⊥ = cc in z)
+
+-- a sealed command that was accepted
+pub record WasSigned (p : Present) (bytes : List ℕ) (x : Presented) (a : Auth) : Type 0 where
+  pub signed : Signed
+  pub is : loaded p.session a.session ≡ Some signed.session
+  pub hashed : List ℕ
+  pub text_is : command_text signed ≡ mac_text (digest signed.session.hash hashed) a.nonce signed.session.nonce a.attrs
+  pub mac : a.hmac ≡ mac_of (keyed signed)
+  pub text : text_in x.proof ≡ keyed signed ∷ []
+
+by_mac : (e : Entity) (x : Signed) → 0 < length x.auth.hmac → check_proof e (ByMac x) ≡ Ok tt → x.auth.hmac ≡ mac_of (keyed x)
+by_mac e x some c =
+    let none : needs_none x ≡ false = both_false (is_empty x.key) (is_empty x.auth.hmac) (some_bytes x.auth.hmac some) in
+    let mac = hmac x.session.hash x.key (command_text x) in
+    let same : bytes_eq x.auth.hmac mac ≡ true = subst (λ t. (if t then true else bytes_eq x.auth.hmac mac) ≡ true) none (refused_not (is_signed x) (failure e) c) in
+    (bytes_eq-Decides x.auth.hmac mac).0 same
+
+was_signed : (has : Commands) (p : Present) (bytes n : List ℕ) (d : Done) (a : Auth) (s : Passed has p bytes n d)
+    → d.command.auths.items ≡ a ∷ [] → is_session a.session ≡ true → 0 < length a.hmac → WasSigned p bytes s.x a
+was_signed has p bytes n d a s one is some =
+    let x = s.x in
+    let r = was_read has p bytes x s.asked in
+    let auths : x.auths ≡ a ∷ [] = sym s.auths ∙ one in
+    let e = entity_of p (first x.handles) in
+    let names = names_of p x.handles in
+    let proof : proof_of (loaded p.session a.session) e x.code names x.params p.update_counter (a ∷ []) ≡ Ok x.proof =
+    subst (λ l. proof_of (first_loaded (loaded p.session) l) e x.code names x.params p.update_counter l ≡ Ok x.proof) auths r.proof in
+    let y = by_its_session (loaded p.session a.session) e x.code names x.params p.update_counter a [] x.proof is proof in
+    let signed : Signed = record { session = y.0; key = key_for y.0 e; p_hash = cp_hash y.0.hash (code_number x.code) names x.params; auth = a } in
+    let checked : check_proof x.entity (ByMac signed) ≡ Ok tt = subst (λ q. check_proof x.entity q ≡ Ok tt) y.2 s.proof in
+    let none : needs_none signed ≡ false = both_false (is_empty signed.key) (is_empty a.hmac) (some_bytes a.hmac some) in
+    record {
+      signed = signed;
+      is = y.1;
+      hashed = to_be_bytes w32 (code_number x.code) ++ (flat_map (λ name. name) names ++ x.params);
+      text_is = refl;
+      mac = by_mac x.entity signed some checked;
+      text = ap text_in y.2 ∙ ap (λ t. if t then [] else keyed signed ∷ []) none;
+    }
+
+-- ---- its text is among those that are checked
+
+among_later : {A : Type 0} (x : A) (xs ys : List A) → IsAmong x ys → IsAmong x (xs ++ ys)
+among_later x [] ys i = i
+among_later x (y ∷ xs) ys i = inr (among_later x xs ys i)
+
+among_here : (has : Commands) (o : Origin) (h : History) (es fs : List Event) (bytes n : List ℕ) (x : Keyed)
+    → text_checked (presented has (present o (after has o h es)) bytes) ≡ x ∷ [] → IsAmong x (texts_checked has o h (es ++ Given bytes n ∷ fs))
+among_here has o h [] fs bytes n x e = subst (λ xs. IsAmong x (xs ++ texts_checked has o (next has o h bytes n) fs)) (sym e) (inl refl)
+among_here has o h (Given b m ∷ es) fs bytes n x e =
+    among_later x (text_checked (presented has (present o h) b)) (texts_checked has o (next has o h b m) (es ++ Given bytes n ∷ fs)) (among_here has o (next has o h b m) es fs bytes n x e)
+among_here has o h (Cycled ∷ es) fs bytes n x e = among_here has o (PowerCycle ∷ h) es fs bytes n x e
+
+-- ---- cutting texts
+
+cut_front : (a b x y : List ℕ) → length a ≡ length b → a ++ x ≡ b ++ y → x ≡ y
+cut_front a b x y l e = sym (drop_at a x (length a) refl) ∙ ap (drop (length a)) e ∙ drop_at b y (length a) (sym l)
+
+same_older : (p q newer u v : List ℕ) (f : ℕ) → length p ≡ length q → mac_text p newer u f ≡ mac_text q newer v f → u ≡ v
+same_older p q newer u v f l e =
+    append_cancel_right u v (f ∷ []) (append_cancel_left newer (u ++ f ∷ []) (v ++ f ∷ []) (cut_front p q (newer ++ (u ++ f ∷ [])) (newer ++ (v ++ f ∷ [])) l e))
+
+-- equal front parts of two nonces
+same_front : (j k : ℕ) (x y : List ℕ) → least_nonce ≤ j → least_nonce ≤ k → take j x ≡ take k y → take least_nonce x ≡ take least_nonce y
+same_front j k x y a b e = sym (take-take least_nonce j x a) ∙ ap (take least_nonce) e ∙ take-take least_nonce k y b
+
+-- ---- the two nonces
+
+chosen : (b a : Bool) (n old : List ℕ) → a ≡ true → (if b || a then n else old) ≡ n
+chosen true a n old e = refl
+chosen false true n old e = refl
+chosen false false n old e = absurd (let z : ⊥ = cc in z)
+
+its_slot : (a : Auth) → is_session a.session ≡ true → authorizes (slot_of a.session) (a ∷ []) ≡ true
+its_slot a is = rw is (let same : (slot_of a.session == slot_of a.session) ≡ true = grind (arith, nat_tests) in same)
+
+-- The nonce of the session's last step before the first use differs from that before the second.
+uses_apart : (has : Commands) (o : Origin) (es fs : List Event) (k : ℕ) (n : List ℕ) (g : History) → lives k (after has o [] es) ≡ true
+    → (lives k g ≡ true → last_nonce k g ≡ n) → lives k (after has o g fs) ≡ true → AreApart (nonces es ++ n ∷ nonces fs)
+    → take least_nonce (last_nonce k (after has o [] es)) ≢ take least_nonce (last_nonce k (after has o g fs))
+uses_apart has o es fs k n g before start live differ =
+    let h = after has o [] es in
+    let old = fresh (λ _. ⊥) has o k es [] (λ p. absurd (let z : ⊥ = cc in z)) before in
+    let new = fresh (λ x. x ≡ n) has o k fs g start live in
+    apart_across (nonces es) (n ∷ nonces fs) (last_nonce k h) (last_nonce k (after has o g fs)) differ (elim old [ inl none ↦ absurd none | inr i ↦ i ]) new
+
+-- the nonces up to the second use
+first_nonces : (es fs gs : List Event) (bytes n m : List ℕ) → NoncesDiffer (es ++ Given bytes n ∷ fs ++ Given bytes m ∷ gs) → AreApart (nonces es ++ n ∷ nonces fs)
+first_nonces es fs gs bytes n m differ =
+    let listed : nonces (es ++ Given bytes n ∷ fs ++ Given bytes m ∷ gs) ≡ (nonces es ++ n ∷ nonces fs) ++ m ∷ nonces gs =
+    nonces-append (es ++ Given bytes n ∷ fs) (Given bytes m ∷ gs) ∙ ap (λ (l : List (List ℕ)). l ++ m ∷ nonces gs) (nonces-append es (Given bytes n ∷ fs)) in
+    apart_front (nonces es ++ n ∷ nonces fs) (m ∷ nonces gs) (subst AreApart listed differ)
+
+one_nonce : (p q : Present) (bytes : List ℕ) (x y : Presented) (a : Auth) (v : WasSigned p bytes x a) (w : WasSigned q bytes y a)
+    → (keyed v.signed).text ≡ (keyed w.signed).text → v.signed.session.nonce ≡ w.signed.session.nonce
+one_nonce p q bytes x y a v w one_text =
+    let s = v.signed.session in
+    let t = w.signed.session in
+    let one_length = sym (length-hmac s.hash v.signed.key (command_text v.signed)) ∙ ap length (sym v.mac ∙ w.mac) ∙ length-hmac t.hash w.signed.key (command_text w.signed) in
+    let lengths = length-digest s.hash v.hashed ∙ one_length ∙ sym (length-digest t.hash w.hashed) in
+    same_older (digest s.hash v.hashed) (digest t.hash w.hashed) a.nonce s.nonce t.nonce a.attrs lengths (sym v.text_is ∙ one_text ∙ w.text_is)
+
+pub twice : (has : Commands) (o : Origin) (es fs gs : List Event) (bytes n m : List ℕ)
+    → NoncesDiffer (es ++ Given bytes n ∷ fs ++ Given bytes m ∷ gs) → NoCollision has o (es ++ Given bytes n ∷ fs ++ Given bytes m ∷ gs) → IsSealed bytes
+    → IsAccepted has o (after has o [] es) bytes n → IsAccepted has o (after has o [] (es ++ Given bytes n ∷ fs)) bytes m → ⊥
+twice has o es fs gs bytes n m differ apart (c, a, spells, one, is, some) (d, first) (e, second) =
+    let h = after has o [] es in
+    let j = after has o [] (es ++ Given bytes n ∷ fs) in
+    let g : History = Accepted d.command d.reply n ∷ h in
+    let s = passed has (present o h) bytes n d first in
+    let t = passed has (present o j) bytes m e second in
+    let reading = exactly_one buffer buffer_sound command bytes in
+    let d_auths : d.command.auths.items ≡ a ∷ [] = ap (λ (x : Command). x.auths.items) (reading.one_value d.command c (spelled_by has (present o h) bytes n d s) spells) ∙ one in
+    let e_auths : e.command.auths.items ≡ a ∷ [] = ap (λ (x : Command). x.auths.items) (reading.one_value e.command c (spelled_by has (present o j) bytes m e t) spells) ∙ one in
+    let v = was_signed has (present o h) bytes n d a s d_auths is some in
+    let w = was_signed has (present o j) bytes m e a t e_auths is some in
+    let among_v = subst (λ (l : List Event). IsAmong (keyed v.signed) (texts_checked has o [] l)) (sym (append_assoc es (Given bytes n ∷ fs) (Given bytes m ∷ gs)))
+    (among_here has o [] es (fs ++ Given bytes m ∷ gs) bytes n (keyed v.signed) (ap text_checked s.asked ∙ v.text)) in
+    let among_w = among_here has o [] (es ++ Given bytes n ∷ fs) gs bytes m (keyed w.signed) (ap text_checked t.asked ∙ w.text) in
+    let one_text = apart (keyed v.signed) (keyed w.signed) among_v among_w (sym v.mac ∙ w.mac) in
+    let older = one_nonce (present o h) (present o j) bytes s.x t.x a v w one_text in
+    let k = slot_of a.session in
+    let x = held o a.session h v.signed.session (sound_along has o k es) v.is in
+    let y = held o a.session j w.signed.session (sound_along has o k (es ++ Given bytes n ∷ fs)) w.is in
+    let front = same_front x.long y.long (last_nonce k h) (last_nonce k j) x.enough y.enough (sym x.is ∙ older ∙ y.is) in
+    let there : j ≡ after has o g fs = after-append has o [] es (Given bytes n ∷ fs) ∙ ap (λ (l : History). after has o l fs) (next_is has o h bytes n d first) in
+    let by_it = ap (authorizes k) d_auths ∙ its_slot a is in
+    uses_apart has o es fs k n g x.live (λ _. chosen (begins k d.command.body d.reply.body) (authorizes k d.command.auths.items) n (last_nonce k h) by_it)
+    (subst (λ (l : History). lives k l ≡ true) there y.live) (first_nonces es fs gs bytes n m differ)
+    (front ∙ ap (λ (l : History). take least_nonce (last_nonce k l)) there)

@@ -1,0 +1,144 @@
+-- What a device answers to a buffer, by the order of its checks (this profile).
+use Rattle.std.specs.Prelude.{ℕ, ◌+◌, ◌-◌, Bool, not, ◌==◌, List, [], ◌∷◌, is_none, Result, Ok, Err, if◌then◌else◌}
+use Rattle.tpm_wire.specs.declared.refusal.Refusal.{Refusal}
+use Rattle.tpm_wire.specs.Buffers.{Layout}
+use Rattle.tpm_wire.specs.Token.{Here, at_start}
+use Rattle.tpm_wire.specs.Reading.{read, read_all, ◌>>=◌}
+use Rattle.tpm_wire.specs.Spelling.{spelling}
+use Rattle.tpm_types.specs.declared.tpms.Auth.{Auth}
+use Rattle.tpm_types.specs.Handles.{is_nv_index, is_policy}
+use Rattle.tpm_buffer.specs.declared.code.CommandCode.{CommandCode}
+use Rattle.tpm_buffer.specs.declared.code.CommandCode.TheVariants as codes
+use Rattle.tpm_buffer.specs.declared.command.Command.{Command}
+use Rattle.tpm_buffer.specs.declared.response.ReplyBody.{ReplyBody}
+use Rattle.tpm_buffer.specs.declared.response.Response.TheVariants as responses
+use Rattle.tpm_buffer.specs.Handles.{handle, first, handles, needs_authorization}
+use Rattle.tpm_buffer.specs.Parameters.{parameters}
+use Rattle.tpm_buffer.specs.Commands.{header, authorization, body_from, with_auths, code_for}
+use Rattle.tpm_buffer.specs.Replies.{parameters_of_reply}
+use Rattle.tpm_buffer.specs.Responses.{Reply, response, done_with}
+use Rattle.tpm_model.specs.Codes.{initialize_code, auth_missing_code, auth_context_code, command_code_code, reference_h0_code, handle_code}
+use Rattle.tpm_model.specs.Steps.{History, Accepted, Origin}
+use Rattle.tpm_model.specs.Sessions.{loaded}
+use Rattle.tpm_model.specs.Present.{Present, present}
+use Rattle.tpm_model.specs.Entities.{Entity, entity_of, names_of}
+use Rattle.tpm_model.specs.Authorization.{refuse, Proof, proof_of, check_proof, first_loaded, reply_auths}
+use Rattle.tpm_model.specs.Actions.{action}
+
+-- ---- checks by the grammar
+
+-- a fault by its code alone
+abbrev pub code_only : {A : Type 0} → Result A Refusal → Result A ℕ
+code_only (Ok x) = Ok x
+code_only (Err e) = Err e.code
+
+-- what a cut of the command says from a place on
+abbrev pub by_grammar : {A : Type 0} → Layout A → Here → Result (A × Here) ℕ
+by_grammar l h = code_only (read 0 l h)
+
+-- ---- the other checks before the authorization
+
+-- which commands a device has
+abbrev pub Commands : Type 0
+Commands = CommandCode → Bool
+
+-- A command that the device does not have is as one that the profile does not have.
+abbrev pub check_has : Bool → Result (Unit {0}) ℕ
+check_has has = refuse (not has) command_code_code
+
+-- TPM2_Startup comes first, and once (Part 3, TPM2_Startup).
+abbrev pub check_started : Bool → CommandCode → Result (Unit {0}) ℕ
+check_started started codes.Startup = refuse started initialize_code
+check_started started _ = refuse (not started) initialize_code
+
+-- The i-th handle, from 1: a policy session is loaded, an index is defined.
+abbrev pub check_handle : Present → ℕ → ℕ → Result (Unit {0}) ℕ
+check_handle p i n =
+    if is_policy n then refuse (is_none (loaded p.session n)) (reference_h0_code + i - 1)
+    else if is_nv_index n then refuse (is_none (p.counter n)) (handle_code + handle i)
+    else Ok tt
+
+abbrev pub check_handles : Present → ℕ → List ℕ → Result (Unit {0}) ℕ
+check_handles p i [] = Ok tt
+check_handles p i (n ∷ ns) = do
+  _ ← check_handle p i n
+  check_handles p (i + 1) ns
+
+-- Sessions are there where a handle needs authorization, and nowhere else.
+abbrev pub check_tag : CommandCode → ℕ → Result (Unit {0}) ℕ
+check_tag code tag = if needs_authorization code then refuse (tag == 0x8001) auth_missing_code else refuse (tag == 0x8002) auth_context_code
+
+-- ---- the chain of checks
+
+-- what was read before the parameters, and how the command is authorized
+pub record Presented : Type 0 where
+  pub code : CommandCode
+  pub handles : List ℕ
+  pub auths : List Auth
+  -- the parameters as they came
+  pub params : List ℕ
+  pub entity : Entity
+  pub proof : Proof
+
+-- all checks before the password or the HMAC is compared
+abbrev pub presented : Commands → Present → List ℕ → Result Presented ℕ
+presented has p bytes = do
+  head ← by_grammar header (at_start bytes)
+  _ ← check_has (has head.0.code)
+  _ ← check_started p.started head.0.code
+  list ← by_grammar (handles head.0.code) head.1
+  _ ← check_handles p 1 list.0
+  _ ← check_tag head.0.code head.0.tag
+  auths ← by_grammar (authorization head.0.tag) list.1
+  proof ← proof_of (first_loaded (loaded p.session) auths.0) (entity_of p (first list.0)) head.0.code (names_of p list.0) auths.1.rest p.update_counter auths.0
+  Ok (record { code = head.0.code; handles = list.0; auths = auths.0; params = auths.1.rest; entity = entity_of p (first list.0); proof = proof })
+
+-- all checks before the parameters
+abbrev pub permitted : Commands → Present → List ℕ → Result Presented ℕ
+permitted has p bytes = do
+  x ← presented has p bytes
+  _ ← check_proof x.entity x.proof
+  Ok x
+
+-- a command that was done, and its reply
+pub record Done : Type 0 where
+  pub command : Command
+  pub reply : Reply
+
+-- the parameters of a reply, in bytes
+abbrev pub reply_params : ReplyBody → List ℕ
+reply_params body = spelling (parameters_of_reply body) body
+
+-- the parameters, their end, and the action
+abbrev pub performed : Present → List ℕ → Presented → Result Done ℕ
+performed p nonce x = do
+  params ← code_only (read_all (parameters x.code) x.params)
+  body ← action p (body_from x.handles params) nonce
+  Ok (record {
+    command = with_auths (body_from x.handles params) x.auths;
+    reply = record { body = body; auths = reply_auths x.proof x.code (reply_params body) nonce };
+  })
+
+-- what is done, or the code of the first check that fails
+abbrev pub outcome : Commands → Present → List ℕ → List ℕ → Result Done ℕ
+outcome has p bytes nonce = do
+  x ← permitted has p bytes
+  performed p nonce x
+
+-- ---- the answer
+
+-- in bytes; a code is spelled alike for every command
+abbrev pub answered : Result Done ℕ → List ℕ
+answered (Ok d) = spelling (response (code_for d.command.body)) (done_with d.reply)
+answered (Err code) = spelling (response codes.Startup) (responses.Code code)
+
+abbrev pub answer : Commands → Origin → History → (bytes nonce : List ℕ) → List ℕ
+answer has o h bytes nonce = answered (outcome has (present o h) bytes nonce)
+
+abbrev pub with_outcome : History → (nonce : List ℕ) → Result Done ℕ → History
+with_outcome h nonce (Ok d) = Accepted d.command d.reply nonce ∷ h
+with_outcome h nonce (Err code) = h
+
+-- the history after a buffer: a step more where it was accepted, and otherwise the same
+abbrev pub next : Commands → Origin → History → (bytes nonce : List ℕ) → History
+next has o h bytes nonce = with_outcome h nonce (outcome has (present o h) bytes nonce)

@@ -1,0 +1,17 @@
+-- A caller and a device that agree on a session.
+use Rattle.std.specs.Prelude.{◌≡◌, ℕ, List, Some}
+use Rattle.tpm_types.specs.declared.alg.Alg.{Alg}
+use Rattle.tpm_model.specs.Steps.{History, Origin}
+use Rattle.tpm_model.specs.Sessions.{Session, session_at, loaded}
+
+-- what a caller holds of its session
+pub record CallerSession : Type 0 where
+  pub handle : ℕ
+  pub hash : Alg
+  pub key : List ℕ
+  -- the last nonceTPM that it has seen
+  pub nonce : List ℕ
+
+-- The caller's session lives at the history, with its handle, hash, key and nonceTPM.
+abbrev pub InStep : Origin → History → CallerSession → Type 0
+InStep o h c = (s : Session) × (loaded (session_at o h) c.handle ≡ Some s) × (s.hash ≡ c.hash) × (s.key ≡ c.key) × (s.nonce ≡ c.nonce)

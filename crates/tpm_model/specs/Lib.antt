@@ -1,0 +1,14 @@
+pub mod Codes
+pub mod Steps
+pub mod Registers
+pub mod Policies
+pub mod Sessions
+pub mod Counters
+pub mod Present
+pub mod Entities
+pub mod Authorization
+pub mod Actions
+pub mod Answers
+pub mod Runs
+pub mod Premises
+pub mod InStep

@@ -1,0 +1,179 @@
+-- Sessions at a history (Part 1, "Session-Based Authorizations"; Part 3, TPM2_StartAuthSession).
+use Rattle.std.specs.Prelude.{ℕ, ◌+◌, ◌%◌, Bool, true, false, not, ◌&&◌, ◌||◌, ◌==◌, is_none, find, List, [], ◌∷◌, length, take, Option, Some, None, option_map, if◌then◌else◌}
+use Rattle.tpm_types.specs.declared.alg.Alg.{Alg}
+use Rattle.tpm_types.specs.declared.constants.SessionType.{SessionType}
+use Rattle.tpm_types.specs.declared.constants.SessionType.TheVariants.{Hmac, Trial}
+use Rattle.tpm_types.specs.declared.handle_sets.BindHandle.{BindHandle}
+use Rattle.tpm_types.specs.declared.handle_sets.BindHandle.TheVariants as binds
+use Rattle.tpm_types.specs.declared.tpms.Auth.{Auth}
+use Rattle.tpm_types.specs.declared.tpms.Selection.{Selection}
+use Rattle.tpm_types.specs.Handles.{is_session, is_hmac_session, is_policy}
+use Rattle.tpm_types.specs.Tpma.{continues}
+use Rattle.tpm_buffer.specs.declared.command.CommandBody.{CommandBody}
+use Rattle.tpm_buffer.specs.declared.command.CommandBody.TheVariants as bodies
+use Rattle.tpm_buffer.specs.declared.command.StartAuth.{StartAuth}
+use Rattle.tpm_buffer.specs.declared.response.ReplyBody.{ReplyBody}
+use Rattle.tpm_buffer.specs.declared.response.ReplyBody.TheVariants as replies
+use Rattle.tpm_hmac.specs.Sessions.{session_key}
+use Rattle.tpm_model.specs.Steps.{History, PowerCycle, Accepted, Origin}
+use Rattle.tpm_model.specs.Registers.{register_value, update_counter, composite}
+use Rattle.tpm_model.specs.Policies.{Assertion, Policy as PolicyHeld, policy_of}
+use Rattle.tpm_model.specs.Policies.Assertion.{PcrAsserted, OrAsserted, CodeAsserted, AuthValueAsserted}
+
+-- ---- slots and handles (Part 2, 7.2; three slots, and the lowest free one is taken, in this profile)
+
+abbrev pub slots : List ℕ
+slots = 0 ∷ 1 ∷ 2 ∷ []
+
+abbrev pub slot_of : ℕ → ℕ
+slot_of handle = handle % 0x1000000
+
+abbrev pub is_hmac : SessionType → Bool
+is_hmac Hmac = true
+is_hmac _ = false
+
+abbrev pub is_trial : SessionType → Bool
+is_trial Trial = true
+is_trial _ = false
+
+abbrev pub handle_for : SessionType → ℕ → ℕ
+handle_for kind slot = (if is_hmac kind then 0x02000000 else 0x03000000) + slot
+
+-- ---- a session's life
+
+-- The command started the session of this slot.
+abbrev pub begins : ℕ → CommandBody → ReplyBody → Bool
+begins k (bodies.StartAuthSession start) (replies.StartAuthSession reply) = slot_of reply.session == k
+begins k _ _ = false
+
+-- The slot's session is the first of these, which authorize a command.
+abbrev pub authorizes : ℕ → List Auth → Bool
+authorizes k [] = false
+authorizes k (a ∷ others) = is_session a.session && slot_of a.session == k
+
+-- It authorizes for the last time: continueSession is clear.
+abbrev pub closes : ℕ → List Auth → Bool
+closes k [] = false
+closes k (a ∷ others) = is_session a.session && slot_of a.session == k && not (continues a.attrs)
+
+-- The command flushed the slot, or all of them.
+abbrev pub clears : ℕ → CommandBody → Bool
+clears k (bodies.Startup kind) = true
+clears k (bodies.FlushContext handle) = slot_of handle == k
+clears k _ = false
+
+-- The last TPM2_StartAuthSession that answered the slot stands after the last power cycle, and no later step flushed it or
+-- was authorized by it with continueSession clear.
+abbrev pub lives : ℕ → History → Bool
+lives k [] = false
+lives k (PowerCycle ∷ h) = false
+lives k (Accepted c r n ∷ h) = begins k c.body r.body || (if clears k c.body || closes k c.auths.items then false else lives k h)
+
+-- how a session was started
+pub record Start : Type 0 where
+  pub request : StartAuth
+  pub nonce : List ℕ
+
+abbrev pub started_by : CommandBody → List ℕ → Option Start → Option Start
+started_by (bodies.StartAuthSession start) nonce old = Some (record { request = start; nonce = nonce })
+started_by _ nonce old = old
+
+-- the last start that answered the slot
+abbrev pub start_of : ℕ → History → Option Start
+start_of k [] = None
+start_of k (PowerCycle ∷ h) = None
+start_of k (Accepted c r n ∷ h) = if begins k c.body r.body then started_by c.body n (start_of k h) else start_of k h
+
+-- the nonce handed in at the last step that started the slot's session or was authorized by it
+abbrev pub last_nonce : ℕ → History → List ℕ
+last_nonce k [] = []
+last_nonce k (PowerCycle ∷ h) = []
+last_nonce k (Accepted c r n ∷ h) = if begins k c.body r.body || authorizes k c.auths.items then n else last_nonce k h
+
+-- ---- a policy session's assertions
+
+-- What TPM2_PolicyPCR asserts in a session of this type and hash: the composite of the registers as they are, with the
+-- update counter. A trial takes any digest that it is given for the composite, and keeps no update counter.
+abbrev pub pcr_assertion : History → SessionType → Alg → List ℕ → List Selection → Assertion
+pcr_assertion h Trial alg [] sels = PcrAsserted sels (composite alg (register_value h) sels) None
+pcr_assertion h Trial alg pcr_digest sels = PcrAsserted sels pcr_digest None
+pcr_assertion h _ alg pcr_digest sels = PcrAsserted sels (composite alg (register_value h) sels) (Some (update_counter h))
+
+-- in the session of this start
+abbrev pub pcr_asserted : History → Option Start → List ℕ → List Selection → List Assertion → List Assertion
+pcr_asserted h None pcr_digest sels old = old
+pcr_asserted h (Some start) pcr_digest sels old = pcr_assertion h start.request.session_type start.request.auth_hash pcr_digest sels ∷ old
+
+abbrev pub asserted_by : ℕ → CommandBody → History → List Assertion → List Assertion
+asserted_by k (bodies.PolicyPcr handle pcr_digest sels) h old = if slot_of handle == k then pcr_asserted h (start_of k h) pcr_digest sels old else old
+asserted_by k (bodies.PolicyOr handle digests) h old = if slot_of handle == k then OrAsserted digests ∷ old else old
+asserted_by k (bodies.PolicyCommandCode handle code) h old = if slot_of handle == k then CodeAsserted code ∷ old else old
+asserted_by k (bodies.PolicyAuthValue handle) h old = if slot_of handle == k then AuthValueAsserted ∷ old else old
+asserted_by k (bodies.PolicyRestart handle) h old = if slot_of handle == k then [] else old
+asserted_by k _ h old = old
+
+-- what the slot's session asserts: the policy commands on it, the newest first, since the latest of its start, its last
+-- TPM2_PolicyRestart and the last step that it authorized
+abbrev pub assertions_of : ℕ → History → List Assertion
+assertions_of k [] = []
+assertions_of k (PowerCycle ∷ h) = []
+assertions_of k (Accepted c r n ∷ h) =
+    if begins k c.body r.body || authorizes k c.auths.items then [] else asserted_by k c.body h (assertions_of k h)
+
+-- ---- a session as it is held
+
+pub record Session : Type 0 where
+  pub session_type : SessionType
+  pub hash : Alg
+  pub key : List ℕ
+  pub nonce : List ℕ
+  pub is_bound : Bool
+  pub policy : PolicyHeld
+
+abbrev pub is_owner_bind : BindHandle → Bool
+is_owner_bind binds.Owner = true
+is_owner_bind binds.Null = false
+
+-- the authValue of what a session is bound to
+abbrev pub bound_value : Origin → BindHandle → Option (List ℕ)
+bound_value o binds.Owner = Some o.owner
+bound_value o binds.Null = None
+
+-- the first bytes of a nonce that is handed in, as many as the session's nonces have
+abbrev pub nonce_from : StartAuth → List ℕ → List ℕ
+nonce_from start nonce = take (length start.nonce_caller) nonce
+
+abbrev pub key_of : Origin → Start → List ℕ
+key_of o s = session_key s.request.auth_hash (bound_value o s.request.bind) (nonce_from s.request s.nonce) s.request.nonce_caller
+
+abbrev pub as_session : Origin → (last : List ℕ) → List Assertion → Start → Session
+as_session o last made s = record {
+  session_type = s.request.session_type;
+  hash = s.request.auth_hash;
+  key = key_of o s;
+  nonce = nonce_from s.request last;
+  is_bound = is_owner_bind s.request.bind;
+  policy = policy_of s.request.auth_hash made;
+}
+
+-- the session of a slot, where one lives
+abbrev pub session_at : Origin → History → ℕ → Option Session
+session_at o h k = if lives k h then option_map (as_session o (last_nonce k h) (assertions_of k h)) (start_of k h) else None
+
+-- ---- looking up a session
+
+-- The handle is of the session's kind.
+abbrev pub is_handle_of : ℕ → Session → Bool
+is_handle_of handle s = if is_hmac s.session_type then is_hmac_session handle else is_policy handle
+
+abbrev pub if_of_kind : ℕ → Option Session → Option Session
+if_of_kind handle None = None
+if_of_kind handle (Some s) = if is_handle_of handle s then Some s else None
+
+-- the session of this handle, among those of the slots: one of the handle's kind is in use there
+abbrev pub loaded : (ℕ → Option Session) → ℕ → Option Session
+loaded session handle = if_of_kind handle (session (slot_of handle))
+
+-- the lowest free slot
+abbrev pub free_slot : (ℕ → Option Session) → Option ℕ
+free_slot session = find (λ k. is_none (session k)) slots
