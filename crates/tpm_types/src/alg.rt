@@ -5,7 +5,7 @@ ghost use Rattle.tpm_types.specs.Limits.{digest_bytes, block_bytes};
 ghost use Rattle.tpm_types.specs.Alg.{alg_of, alg_number, digest_len, block_len, hash};
 
 use crate::codes::HASH;
-use tpm_wire::{Buffer, Cursor, Refusal, Wire};
+use tpm_wire::{Buffer, Cursor, Duplicate, Refusal, Wire};
 
 /// A hash algorithm, which has a bank of registers.
 #[derive(Clone, Copy, Debug, PartialEq, Eq)]
@@ -17,6 +17,12 @@ pub enum Alg {
 impl Default for Alg {
     fn default() -> Self {
         Alg::Sha256
+    }
+}
+
+impl Duplicate for Alg {
+    fn duplicate(&self) -> Self {
+        *self
     }
 }
 

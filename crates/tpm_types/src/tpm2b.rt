@@ -8,10 +8,10 @@ ghost use Rattle.tpm_types.specs.Tpm2b.{digest, name};
 use crate::codes::VALUE;
 use crate::limits::{DIGEST_BYTES, NAME_BYTES};
 use std::marker::Model;
-use tpm_wire::{Bounded, Buffer, Cursor, Refusal, Wire};
+use tpm_wire::{Bounded, Buffer, Cursor, Duplicate, Refusal, Wire};
 
 /// A digest, TPM2B_DIGEST: at most as many bytes as the longest digest of a bank.
-#[derive(Clone, Copy, Debug, PartialEq, Eq)]
+#[derive(Debug, Drop, PartialEq, Eq)]
 pub struct Digest {
     bytes: Bounded<DIGEST_BYTES>,
 }
@@ -24,6 +24,14 @@ impl Model for Digest {
     ghost invariant = { λ d. length d.bytes ≤ digest_bytes };
 
     ghost inverse = { λ bytes. record { bytes = bytes } };
+}
+
+impl Duplicate for Digest {
+    fn duplicate(&self) -> Self {
+        Digest {
+            bytes: self.bytes.duplicate(),
+        }
+    }
 }
 
 /// No bytes.
@@ -82,7 +90,7 @@ impl Wire for Digest {
 }
 
 /// The Name of an entity, TPM2B_NAME: the number of a hash and a digest, or 4 bytes of a handle.
-#[derive(Clone, Copy, Debug, PartialEq, Eq)]
+#[derive(Debug, Drop, PartialEq, Eq)]
 pub struct Name {
     bytes: Bounded<NAME_BYTES>,
 }
@@ -95,6 +103,14 @@ impl Model for Name {
     ghost invariant = { λ n. length n.bytes ≤ name_bytes };
 
     ghost inverse = { λ bytes. record { bytes = bytes } };
+}
+
+impl Duplicate for Name {
+    fn duplicate(&self) -> Self {
+        Name {
+            bytes: self.bytes.duplicate(),
+        }
+    }
 }
 
 /// No bytes.

@@ -10,7 +10,7 @@ use crate::tpm2b::Digest;
 use crate::tpms::Selection;
 use arrayvec::ArrayVec;
 use std::marker::Model;
-use tpm_wire::{Buffer, Counted, Cursor, Refusal, Wire, put_bytes};
+use tpm_wire::{Buffer, Counted, Cursor, Duplicate, Refusal, Wire, duplicates, put_bytes};
 
 /// How many digests a list has at most.
 pub const MOST_DIGESTS: usize = 8;
@@ -25,7 +25,7 @@ pub type Digests = Counted<Digest, 0, MOST_DIGESTS>;
 pub type OrDigests = Counted<Digest, 2, MOST_DIGESTS>;
 
 /// A hash, and a digest as long as those of that hash: TPMT_HA (Part 2, 10.3.2).
-#[derive(Clone, Copy)]
+#[derive(Drop)]
 struct DigestValue {
     alg: Alg,
     digest: Digest,
@@ -66,11 +66,20 @@ impl DigestValue {
     }
 
     /// The hash and the digest.
-    fn pair(self) -> (Alg, Digest)
-        ensures value { result ≡ self }
+    fn pair(&self) -> (Alg, Digest)
+        ensures value { result ≡ self.now }
         ensures whole { IsDigestValue result }
     {
-        (self.alg, self.digest)
+        (self.alg, self.digest.duplicate())
+    }
+}
+
+impl Duplicate for DigestValue {
+    fn duplicate(&self) -> Self {
+        DigestValue {
+            alg: self.alg,
+            digest: self.digest.duplicate(),
+        }
     }
 }
 
@@ -133,9 +142,9 @@ impl DigestValues {
         if entries.len() > BANKS || !are_digest_values(entries) {
             return None;
         }
-        let mut found = ArrayVec::new();
-        let _ = found.try_extend_from_slice(entries);
-        Some(DigestValues { entries: found })
+        Some(DigestValues {
+            entries: duplicates(entries),
+        })
     }
 
     /// The hashes with their digests.
@@ -161,8 +170,11 @@ impl DigestValues {
         ensures { result ≡ self.now }
     {
         let mut found: ArrayVec<DigestValue, BANKS> = ArrayVec::new();
-        for &(alg, digest) in self.as_slice() {
-            found.push(DigestValue { alg, digest });
+        for (alg, digest) in self.as_slice() {
+            found.push(DigestValue {
+                alg: *alg,
+                digest: digest.duplicate(),
+            });
         }
         match Counted::new(found.as_slice()) {
             Some(values) => values,

@@ -6,7 +6,7 @@ use crate::handles::{AuthSession, NvIndex, PcrIndex};
 use crate::limits::{AuthValue, Nonce, PUBLIC_BYTES};
 use crate::tpm2b::Digest;
 use crate::tpma::{NvAttrs, SessionAttrs};
-use tpm_wire::{Buffer, Cursor, Refusal, SIZE, Wire, put_bytes};
+use tpm_wire::{Buffer, Cursor, Duplicate, Refusal, SIZE, Wire, put_bytes};
 
 /// How many bytes of bits a selection has, one bit for each register.
 pub const SELECT_BYTES: usize = 3;
@@ -18,6 +18,12 @@ pub struct Selection {
     pub hash: Alg,
     /// Register i is selected where bit `i % 8` of byte `i / 8` is set.
     pub select: [u8; SELECT_BYTES],
+}
+
+impl Duplicate for Selection {
+    fn duplicate(&self) -> Self {
+        *self
+    }
 }
 
 impl Selection {
@@ -70,7 +76,7 @@ impl Wire for Selection {
 }
 
 /// A session in a command: TPMS_AUTH_COMMAND (Part 2, 10.13.2).
-#[derive(Clone, Copy, Debug, PartialEq, Eq, Default)]
+#[derive(Debug, Default, Drop, PartialEq, Eq)]
 pub struct Auth {
     /// The session, or the password.
     pub session: AuthSession,
@@ -120,7 +126,7 @@ impl Wire for Auth {
 }
 
 /// A session in a response: TPMS_AUTH_RESPONSE (Part 2, 10.13.3).
-#[derive(Clone, Copy, Debug, PartialEq, Eq, Default)]
+#[derive(Debug, Default, Drop, PartialEq, Eq)]
 pub struct AuthReply {
     /// The device's nonce, nonceTPM.
     pub nonce: Nonce,
@@ -165,7 +171,7 @@ impl Wire for AuthReply {
 }
 
 /// What is public of an NV index: TPMS_NV_PUBLIC (Part 2, 13.5), in buffers with its size before it, TPM2B_NV_PUBLIC.
-#[derive(Clone, Copy, Debug, PartialEq, Eq)]
+#[derive(Debug, Drop, PartialEq, Eq)]
 pub struct NvPublic {
     /// nvIndex.
     pub index: NvIndex,

@@ -5,6 +5,7 @@ ghost use Rattle.tpm_wire.specs.Spelling.{joined_all};
 ghost use Rattle.tpm_wire.specs.Structures.{counted};
 
 use crate::cursor::{Cursor, SIZE};
+use crate::duplicate::Duplicate;
 use crate::list::{capped_len, known_list, put_list, take_list};
 use crate::refusal::Refusal;
 use crate::wire::{Buffer, Wire};
@@ -13,11 +14,11 @@ use std::marker::Model;
 
 /// From `LEAST` to `MOST` entries. In a buffer their number lies before them, in 4 bytes.
 #[derive(Drop)]
-pub struct Counted<T: Wire + Default + Copy, const LEAST: usize, const MOST: usize> {
+pub struct Counted<T: Wire + Default + Duplicate + Drop, const LEAST: usize, const MOST: usize> {
     entries: ArrayVec<T, MOST>,
 }
 
-impl<T: Wire + Default + Copy, const LEAST: usize, const MOST: usize> Model
+impl<T: Wire + Default + Duplicate + Drop, const LEAST: usize, const MOST: usize> Model
     for Counted<T, LEAST, MOST> {
     ghost use Rattle.std.specs.Prelude.{◌+◌, ◌≤◌, ◌<◌, ◌^◌, List, length};
     ghost use Rattle.tpm_wire.specs.Spelling.{joined_all};
@@ -29,7 +30,11 @@ impl<T: Wire + Default + Copy, const LEAST: usize, const MOST: usize> Model
     ghost invariant = { λ c. (LEAST ≤ length c.entries.items) × (length c.entries.items ≤ MOST) × (length c.entries.items < 2 ^ 32) × (4 + length (joined_all T.layout c.entries.items) < 2 ^ 64) };
 }
 
-impl<T: Wire + Default + Copy, const LEAST: usize, const MOST: usize> Counted<T, LEAST, MOST> {
+impl<T: Wire + Default + Duplicate + Drop, const LEAST: usize, const MOST: usize> Counted<
+    T,
+    LEAST,
+    MOST,
+> {
     /// A copy of these entries, if they are from `LEAST` to `MOST`.
     pub fn new(entries: &[T]) -> Option<Self>
         requires count { MOST ≤ 8 }
@@ -40,9 +45,9 @@ impl<T: Wire + Default + Copy, const LEAST: usize, const MOST: usize> Counted<T,
             return None;
         }
         let _len = capped_len(entries);
-        let mut found = ArrayVec::new();
-        let _ = found.try_extend_from_slice(entries);
-        Some(Counted { entries: found })
+        Some(Counted {
+            entries: duplicates(entries),
+        })
     }
 
     /// The entries.
@@ -56,7 +61,7 @@ impl<T: Wire + Default + Copy, const LEAST: usize, const MOST: usize> Counted<T,
 }
 
 #[tactic(auto, unfolding(crate::specs::Structures::counted))]
-impl<T: Wire + Default + Copy, const LEAST: usize, const MOST: usize> Wire
+impl<T: Wire + Default + Duplicate + Drop, const LEAST: usize, const MOST: usize> Wire
     for Counted<T, LEAST, MOST> {
     ghost layout = { counted LEAST MOST T.layout };
 
@@ -86,4 +91,16 @@ impl<T: Wire + Default + Copy, const LEAST: usize, const MOST: usize> Wire
             entries: take_list(cursor, count)?,
         })
     }
+}
+
+/// The same entries again.
+pub fn duplicates<T: Default + Duplicate + Drop, const N: usize>(entries: &[T]) -> ArrayVec<T, N>
+    requires { length entries.now ≤ N }
+    ensures { result.items ≡ entries.now }
+{
+    let mut found = ArrayVec::new();
+    for entry in entries {
+        found.push(entry.duplicate());
+    }
+    found
 }
