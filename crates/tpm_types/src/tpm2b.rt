@@ -92,17 +92,17 @@ impl Wire for Digest {
 /// The Name of an entity, TPM2B_NAME: the number of a hash and a digest, or 4 bytes of a handle.
 #[derive(Debug, Drop, PartialEq, Eq)]
 pub struct Name {
-    bytes: Bounded<NAME_BYTES>,
+    name: Bounded<NAME_BYTES>,
 }
 
 impl Model for Name {
     ghost Value = { List ℕ };
 
-    ghost view = { λ n. n.bytes };
+    ghost view = { λ n. n.name };
 
-    ghost invariant = { λ n. length n.bytes ≤ name_bytes };
+    ghost invariant = { λ n. length n.name ≤ name_bytes };
 
-    ghost inverse = { λ bytes. record { bytes = bytes } };
+    ghost inverse = { λ bytes. record { name = bytes } };
 }
 
 impl Duplicate for Name {
@@ -119,7 +119,7 @@ impl Default for Name {
         ensures { result ≡ [] }
     {
         Name {
-            bytes: Bounded::default(),
+            name: Bounded::default(),
         }
     }
 }
@@ -130,7 +130,7 @@ impl Name {
         ensures { MatchOption result (name_bytes < length bytes.now) (λ n. (n ≡ bytes.now) × (length bytes.now ≤ name_bytes)) }
     {
         match Bounded::new(bytes) {
-            Some(bytes) => Some(Name { bytes }),
+            Some(name) => Some(Name { name }),
             None => None,
         }
     }
@@ -150,7 +150,7 @@ impl Name {
         ensures value { result.now ≡ self.now }
         ensures fits { length result.now ≤ name_bytes }
     {
-        self.bytes.as_slice()
+        self.name.as_slice()
     }
 }
 
@@ -160,20 +160,20 @@ impl Wire for Name {
     ghost most = { name_bytes + 2 };
 
     fn known(&self) {
-        self.bytes.known();
+        self.name.known();
     }
 
     fn len(&self) -> usize {
-        self.bytes.len()
+        self.name.len()
     }
 
     fn put(&self, out: &mut Buffer) {
-        self.bytes.put(out);
+        self.name.put(out);
     }
 
     fn take(cursor: &mut Cursor<'_>) -> Result<Self, Refusal> {
         Ok(Name {
-            bytes: Bounded::take(cursor)?,
+            name: Bounded::take(cursor)?,
         })
     }
 }

@@ -26,17 +26,17 @@ const AUDIT: u8 = 1 << 7;
 /// The attributes of a session, TPMA_SESSION (Part 2, 8.4): one byte, whose bits 3 and 4 are clear.
 #[derive(Clone, Copy, Debug, PartialEq, Eq)]
 pub struct SessionAttrs {
-    bits: u8,
+    byte: u8,
 }
 
 impl Model for SessionAttrs {
     ghost Value = { ℕ };
 
-    ghost view = { λ a. a.bits };
+    ghost view = { λ a. a.byte };
 
-    ghost invariant = { λ a. is_session_attrs a.bits ≡ true };
+    ghost invariant = { λ a. is_session_attrs a.byte ≡ true };
 
-    ghost inverse = { λ n. record { bits = n } };
+    ghost inverse = { λ n. record { byte = n } };
 }
 
 /// No attribute is set.
@@ -44,7 +44,7 @@ impl Default for SessionAttrs {
     fn default() -> Self
         ensures { result ≡ 0 }
     {
-        SessionAttrs { bits: 0 }
+        SessionAttrs { byte: 0 }
     }
 }
 
@@ -54,7 +54,7 @@ impl SessionAttrs {
         ensures { result ≡ (if is_session_attrs n then Some n else None) }
     {
         if n & SESSION_RESERVED == 0 {
-            Some(SessionAttrs { bits: n })
+            Some(SessionAttrs { byte: n })
         } else {
             None
         }
@@ -65,21 +65,21 @@ impl SessionAttrs {
         ensures value { result ≡ self }
         ensures in_set { is_session_attrs result ≡ true }
     {
-        self.bits
+        self.byte
     }
 
     /// continueSession: the session goes on after the command.
     pub fn continues(self) -> bool
         ensures { result ≡ continues self }
     {
-        self.bits & CONTINUE_SESSION != 0
+        self.number() & CONTINUE_SESSION != 0
     }
 
     /// Whether any attribute of auditing and of encrypted parameters is set.
     pub fn audits_or_encrypts(self) -> bool
         ensures { result ≡ audits_or_encrypts self }
     {
-        self.bits & (AUDIT_EXCLUSIVE | AUDIT_RESET | DECRYPT | ENCRYPT | AUDIT) != 0
+        self.number() & (AUDIT_EXCLUSIVE | AUDIT_RESET | DECRYPT | ENCRYPT | AUDIT) != 0
     }
 }
 
@@ -185,63 +185,63 @@ impl NvAttrs {
     pub fn is_counter(self) -> bool
         ensures { result ≡ is_counter self }
     {
-        self.bits >> 4 & 15 == COUNTER
+        self.number() >> 4 & 15 == COUNTER
     }
 
     /// OWNERWRITE: the owner's authorization lets it be written.
     pub fn owner_writes(self) -> bool
         ensures { result ≡ owner_writes self }
     {
-        self.bits & OWNER_WRITE != 0
+        self.number() & OWNER_WRITE != 0
     }
 
     /// AUTHWRITE: its own authorization value lets it be written.
     pub fn auth_writes(self) -> bool
         ensures { result ≡ auth_writes self }
     {
-        self.bits & AUTH_WRITE != 0
+        self.number() & AUTH_WRITE != 0
     }
 
     /// POLICYWRITE: its policy lets it be written.
     pub fn policy_writes(self) -> bool
         ensures { result ≡ policy_writes self }
     {
-        self.bits & POLICY_WRITE != 0
+        self.number() & POLICY_WRITE != 0
     }
 
     /// OWNERREAD: the owner's authorization lets it be read.
     pub fn owner_reads(self) -> bool
         ensures { result ≡ owner_reads self }
     {
-        self.bits & OWNER_READ != 0
+        self.number() & OWNER_READ != 0
     }
 
     /// AUTHREAD: its own authorization value lets it be read.
     pub fn auth_reads(self) -> bool
         ensures { result ≡ auth_reads self }
     {
-        self.bits & AUTH_READ != 0
+        self.number() & AUTH_READ != 0
     }
 
     /// POLICYREAD: its policy lets it be read.
     pub fn policy_reads(self) -> bool
         ensures { result ≡ policy_reads self }
     {
-        self.bits & POLICY_READ != 0
+        self.number() & POLICY_READ != 0
     }
 
     /// NO_DA: failed authorizations of the index don't count towards a lockout.
     pub fn no_da(self) -> bool
         ensures { result ≡ no_da self }
     {
-        self.bits & NO_DA != 0
+        self.number() & NO_DA != 0
     }
 
     /// WRITTEN: the index has a value.
     pub fn is_written(self) -> bool
         ensures { result ≡ is_written self }
     {
-        self.bits & WRITTEN != 0
+        self.number() & WRITTEN != 0
     }
 
     /// The same attributes, with WRITTEN set.
@@ -249,7 +249,7 @@ impl NvAttrs {
         ensures { result ≡ with_written self }
     {
         NvAttrs {
-            bits: self.bits | WRITTEN,
+            bits: self.number() | WRITTEN,
         }
     }
 
@@ -257,14 +257,14 @@ impl NvAttrs {
     pub fn is_writable(self) -> bool
         ensures { result ≡ is_writable self }
     {
-        self.bits & (PP_WRITE | OWNER_WRITE | AUTH_WRITE | POLICY_WRITE) != 0
+        self.number() & (PP_WRITE | OWNER_WRITE | AUTH_WRITE | POLICY_WRITE) != 0
     }
 
     /// Whether any of PPREAD, OWNERREAD, AUTHREAD and POLICYREAD is set.
     pub fn is_readable(self) -> bool
         ensures { result ≡ is_readable self }
     {
-        self.bits & (PP_READ | OWNER_READ | AUTH_READ | POLICY_READ) != 0
+        self.number() & (PP_READ | OWNER_READ | AUTH_READ | POLICY_READ) != 0
     }
 
     /// Whether any attribute is set that no definition may set: POLICY_DELETE, WRITELOCKED, ORDERLY, CLEAR_STCLEAR,
@@ -279,7 +279,7 @@ impl NvAttrs {
             | READ_LOCKED
             | WRITTEN
             | PLATFORM_CREATE;
-        self.bits & undefinable != 0
+        self.number() & undefinable != 0
     }
 }
 

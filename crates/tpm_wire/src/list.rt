@@ -88,3 +88,48 @@ pub(crate) fn capped_len<T: Wire>(entries: &[T]) -> usize
     }
     sum
 }
+
+#[cfg(test)]
+mod tests {
+    use super::*;
+    use std::test::*;
+
+    #[test]
+    fn so_many_entries(rt: HostRuntime) {
+        let mut cursor = Cursor::new(&[0x00, 0x01, 0x00, 0x02, 0x00]);
+        match take_list::<u16, 4>(&mut cursor, 2) {
+            Ok(entries) => {
+                assert_eq!(&rt; entries.as_slice(), [1, 2].as_slice());
+                known_list(entries.as_slice());
+                assert_eq!(&rt; list_len(entries.as_slice()), 4);
+                let mut out = Buffer::new();
+                put_list(entries.as_slice(), &mut out);
+                assert_eq!(&rt; out.as_slice(), [0x00, 0x01, 0x00, 0x02].as_slice());
+            }
+            Err(_) => panic!(&rt; "refused"),
+        }
+        assert_eq!(&rt; cursor.at(), 4);
+    }
+
+    #[test]
+    fn entries_to_the_end(rt: HostRuntime) {
+        let mut cursor = Cursor::new(&[0x00, 0x01, 0x00, 0x02]);
+        match take_rest::<u16, 3>(&mut cursor, 0x900) {
+            Ok(entries) => assert_eq!(&rt; entries.as_slice(), [1, 2].as_slice()),
+            Err(_) => panic!(&rt; "refused"),
+        }
+        // No more than there is room for: the rest is left.
+        let mut cursor = Cursor::new(&[0x00, 0x01, 0x00, 0x02, 0x00]);
+        match take_rest::<u16, 2>(&mut cursor, 0x900) {
+            Ok(entries) => assert_eq!(&rt; entries.len(), 2),
+            Err(_) => panic!(&rt; "refused"),
+        }
+        assert_eq!(&rt; cursor.left(), 1);
+        // The third entry lacks a byte.
+        let mut cursor = Cursor::new(&[0x00, 0x01, 0x00, 0x02, 0x00]);
+        match take_rest::<u16, 3>(&mut cursor, 0x900) {
+            Ok(_) => panic!(&rt; "taken"),
+            Err(refusal) => assert_eq!(&rt; refusal, Refusal { code: 0xB9A, at: 4 }),
+        }
+    }
+}

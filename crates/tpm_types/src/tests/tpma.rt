@@ -49,49 +49,72 @@ fn nv_attributes(rt: HostRuntime) {
     refuses::<NvAttrs>(&rt, &[0x01, 0x00, 0x00, 0x00], 0x0A1, 0);
 }
 
+const T: bool = true;
+
+const F: bool = false;
+
+fn queries(attrs: NvAttrs) -> [bool; 12] {
+    [
+        attrs.is_counter(),
+        attrs.owner_writes(),
+        attrs.auth_writes(),
+        attrs.policy_writes(),
+        attrs.owner_reads(),
+        attrs.auth_reads(),
+        attrs.policy_reads(),
+        attrs.no_da(),
+        attrs.is_written(),
+        attrs.is_writable(),
+        attrs.is_readable(),
+        attrs.is_undefinable(),
+    ]
+}
+
 #[test]
 fn queries_of_nv_attributes(rt: HostRuntime) {
-    // A counter that the owner and its own value write and read, without lockout.
-    let counter = NvAttrs::from_number(0x0206_0016).expect(&rt, "no reserved bit");
-    assert!(&rt; counter.is_counter());
-    assert!(&rt; counter.owner_writes() && counter.auth_writes() && !counter.policy_writes());
-    assert!(&rt; counter.owner_reads() && counter.auth_reads() && !counter.policy_reads());
-    assert!(&rt; counter.no_da() && !counter.is_written());
-    assert!(&rt; counter.is_writable() && counter.is_readable() && !counter.is_undefinable());
-    assert_eq!(&rt; counter.with_written().number(), 0x2206_0016);
-    assert!(&rt; counter.with_written().is_written());
-    // A counter by policy alone.
-    let policy = NvAttrs::from_number(0x0008_0018).expect(&rt, "no reserved bit");
-    assert!(&rt; policy.policy_writes() && !policy.owner_writes() && !policy.auth_writes());
-    assert!(&rt; policy.policy_reads() && !policy.owner_reads() && !policy.auth_reads());
-    assert!(&rt; !policy.no_da());
-    // The platform's bits alone also let an index be written and read.
-    let platform = NvAttrs::from_number(0x0001_0001).expect(&rt, "no reserved bit");
-    assert!(&rt; platform.is_writable() && platform.is_readable() && !platform.is_counter());
-    let none = NvAttrs::from_number(0x0000_0010).expect(&rt, "no reserved bit");
-    assert!(&rt; none.is_counter() && !none.is_writable() && !none.is_readable());
-    // Bits 10, 11 and 26 to 30.
-    for undefinable in [0x0400, 0x0800, 1 << 26, 1 << 27, 1 << 28, 1 << 29, 1 << 30] {
-        assert!(&rt;
-            NvAttrs::from_number(undefinable)
-                .expect(&rt, "no reserved bit")
-                .is_undefinable()
-        );
+    // counter; writes: owner, auth, policy; reads: owner, auth, policy; no_da, written; writable, readable, undefinable
+    for (number, expected) in [
+        (0x0000_0000, [F, F, F, F, F, F, F, F, F, F, F, F]),
+        // PPWRITE, OWNERWRITE, AUTHWRITE, POLICYWRITE
+        (0x0000_0001, [F, F, F, F, F, F, F, F, F, T, F, F]),
+        (0x0000_0002, [F, T, F, F, F, F, F, F, F, T, F, F]),
+        (0x0000_0004, [F, F, T, F, F, F, F, F, F, T, F, F]),
+        (0x0000_0008, [F, F, F, T, F, F, F, F, F, T, F, F]),
+        // TPM_NT: counter, bits, extend, pin fail
+        (0x0000_0010, [T, F, F, F, F, F, F, F, F, F, F, F]),
+        (0x0000_0020, [F, F, F, F, F, F, F, F, F, F, F, F]),
+        (0x0000_0040, [F, F, F, F, F, F, F, F, F, F, F, F]),
+        (0x0000_0090, [F, F, F, F, F, F, F, F, F, F, F, F]),
+        // POLICY_DELETE, WRITELOCKED, WRITEALL to GLOBALLOCK
+        (0x0000_0400, [F, F, F, F, F, F, F, F, F, F, F, T]),
+        (0x0000_0800, [F, F, F, F, F, F, F, F, F, F, F, T]),
+        (0x0000_F000, [F, F, F, F, F, F, F, F, F, F, F, F]),
+        // PPREAD, OWNERREAD, AUTHREAD, POLICYREAD
+        (0x0001_0000, [F, F, F, F, F, F, F, F, F, F, T, F]),
+        (0x0002_0000, [F, F, F, F, T, F, F, F, F, F, T, F]),
+        (0x0004_0000, [F, F, F, F, F, T, F, F, F, F, T, F]),
+        (0x0008_0000, [F, F, F, F, F, F, T, F, F, F, T, F]),
+        // NO_DA, ORDERLY, CLEAR_STCLEAR, READLOCKED, WRITTEN, PLATFORMCREATE, READ_STCLEAR
+        (0x0200_0000, [F, F, F, F, F, F, F, T, F, F, F, F]),
+        (0x0400_0000, [F, F, F, F, F, F, F, F, F, F, F, T]),
+        (0x0800_0000, [F, F, F, F, F, F, F, F, F, F, F, T]),
+        (0x1000_0000, [F, F, F, F, F, F, F, F, F, F, F, T]),
+        (0x2000_0000, [F, F, F, F, F, F, F, F, T, F, F, T]),
+        (0x4000_0000, [F, F, F, F, F, F, F, F, F, F, F, T]),
+        (0x8000_0000, [F, F, F, F, F, F, F, F, F, F, F, F]),
+        // a counter of the owner and its own value, before and after its first increment
+        (0x0206_0016, [T, T, T, F, T, T, F, T, F, T, T, F]),
+        (0x2206_0016, [T, T, T, F, T, T, F, T, T, T, T, T]),
+    ] {
+        let attrs = NvAttrs::from_number(number).expect(&rt, "no reserved bit");
+        assert_eq!(&rt; queries(attrs), expected);
     }
-    assert!(&rt;
-        !NvAttrs::from_number(0x8000_F000)
-            .expect(&rt, "no reserved bit")
-            .is_undefinable()
-    );
-    // Other kinds of index: TPM_NT in bits 7 to 4.
-    assert!(&rt;
-        !NvAttrs::from_number(0x0000_0020)
-            .expect(&rt, "no reserved bit")
-            .is_counter()
-    );
-    assert!(&rt;
-        !NvAttrs::from_number(0x0000_0030)
-            .expect(&rt, "no reserved bit")
-            .is_counter()
-    );
+}
+
+#[test]
+fn written_is_added(rt: HostRuntime) {
+    for (before, after) in [(0x0206_0016, 0x2206_0016), (0x2000_0010, 0x2000_0010)] {
+        let attrs = NvAttrs::from_number(before).expect(&rt, "no reserved bit");
+        assert_eq!(&rt; attrs.with_written().number(), after);
+    }
 }
