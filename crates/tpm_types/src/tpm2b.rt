@@ -108,7 +108,7 @@ impl Model for Name {
 impl Duplicate for Name {
     fn duplicate(&self) -> Self {
         Name {
-            bytes: self.bytes.duplicate(),
+            name: self.name.duplicate(),
         }
     }
 }

@@ -114,20 +114,20 @@ mod tests {
     #[test]
     fn entries_to_the_end(rt: HostRuntime) {
         let mut cursor = Cursor::new(&[0x00, 0x01, 0x00, 0x02]);
-        match take_rest::<u16, 3>(&mut cursor, 0x900) {
+        match take_rest::<u16, 3>(&mut cursor, 3, 0x900) {
             Ok(entries) => assert_eq!(&rt; entries.as_slice(), [1, 2].as_slice()),
             Err(_) => panic!(&rt; "refused"),
         }
         // No more than there is room for: the rest is left.
         let mut cursor = Cursor::new(&[0x00, 0x01, 0x00, 0x02, 0x00]);
-        match take_rest::<u16, 2>(&mut cursor, 0x900) {
+        match take_rest::<u16, 2>(&mut cursor, 2, 0x900) {
             Ok(entries) => assert_eq!(&rt; entries.len(), 2),
             Err(_) => panic!(&rt; "refused"),
         }
         assert_eq!(&rt; cursor.left(), 1);
         // The third entry lacks a byte.
         let mut cursor = Cursor::new(&[0x00, 0x01, 0x00, 0x02, 0x00]);
-        match take_rest::<u16, 3>(&mut cursor, 0x900) {
+        match take_rest::<u16, 3>(&mut cursor, 3, 0x900) {
             Ok(_) => panic!(&rt; "taken"),
             Err(refusal) => assert_eq!(&rt; refusal, Refusal { code: 0xB9A, at: 4 }),
         }

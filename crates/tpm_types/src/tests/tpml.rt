@@ -1,5 +1,6 @@
 use super::{goes_both_ways, is_cut_at, joined, refuses};
 use crate::{Alg, Digest, DigestValues, Digests, OrDigests, Selection, Selections};
+use arrayvec::ArrayVec;
 use std::test::*;
 
 #[test]
@@ -109,25 +110,38 @@ fn digests_of_an_or(rt: HostRuntime) {
     );
 }
 
+// So many digests of one byte.
+fn digests(count: usize) -> ArrayVec<Digest, 9> {
+    let mut found = ArrayVec::new();
+    for _ in 0..count {
+        let _ = found.try_push(Digest::new(&[0x01]).unwrap_or_default());
+    }
+    found
+}
+
 #[test]
 fn new_lists_of_digests(rt: HostRuntime) {
-    let one = Digest::new(&[0x01]).expect(&rt, "one byte");
-    assert!(&rt; Digests::new(&[]).is_some());
-    assert_eq!(&rt;
-        Digests::new(&[one; 8])
-            .expect(&rt, "eight")
-            .as_slice()
-            .len(),
-        8
-    );
-    assert!(&rt; Digests::new(&[one; 9]).is_none());
-    assert!(&rt; OrDigests::new(&[one]).is_none());
-    assert_eq!(&rt;
-        OrDigests::new(&[one, one]).expect(&rt, "two").as_slice(),
-        [one, one].as_slice()
-    );
-    assert!(&rt; OrDigests::new(&[one; 8]).is_some());
-    assert!(&rt; OrDigests::new(&[one; 9]).is_none());
+    for (count, is_reply, is_or) in [
+        (0, true, false),
+        (1, true, false),
+        (2, true, true),
+        (8, true, true),
+        (9, false, false),
+    ] {
+        let entries = digests(count);
+        match Digests::new(entries.as_slice()) {
+            Some(list) => {
+                assert!(&rt; is_reply, "{count}");
+                assert_eq!(&rt; list.as_slice(), entries.as_slice());
+            }
+            None => assert!(&rt; !is_reply, "{count}"),
+        }
+        assert_eq!(&rt;
+            OrDigests::new(entries.as_slice()).is_some(),
+            is_or,
+            "{count}"
+        );
+    }
 }
 
 #[test]
@@ -141,8 +155,8 @@ fn digests_under_their_hashes(rt: HostRuntime) {
     ]);
     let values = goes_both_ways::<DigestValues>(&rt, both.as_slice());
     assert_eq!(&rt; values.as_slice().len(), 2);
-    let (alg, digest) = values.as_slice()[1];
-    assert_eq!(&rt; alg, Alg::Sha256);
+    let (alg, digest) = &values.as_slice()[1];
+    assert_eq!(&rt; *alg, Alg::Sha256);
     assert_eq!(&rt; digest.as_slice(), [0x22; 32].as_slice());
     let _ = goes_both_ways::<DigestValues>(&rt, &[0x00, 0x00, 0x00, 0x00]);
     refuses::<DigestValues>(&rt, &[0x00, 0x00, 0x00], 0x09A, 0);
@@ -169,15 +183,20 @@ fn digests_under_their_hashes(rt: HostRuntime) {
 
 #[test]
 fn new_digests_under_their_hashes(rt: HostRuntime) {
-    let sha1 = Digest::new(&[0x11; 20]).expect(&rt, "20 bytes");
-    let sha256 = Digest::new(&[0x22; 32]).expect(&rt, "32 bytes");
-    let two = DigestValues::new(&[(Alg::Sha1, sha1), (Alg::Sha256, sha256)]).expect(&rt, "two");
-    let (alg, digest) = two.as_slice()[0];
-    assert_eq!(&rt; alg, Alg::Sha1);
-    assert_eq!(&rt; digest, sha1);
+    let sha1 = || Digest::new(&[0x11; 20]).expect(&rt, "20 bytes");
+    let sha256 = || Digest::new(&[0x22; 32]).expect(&rt, "32 bytes");
+    let two = DigestValues::new(&[(Alg::Sha1, sha1()), (Alg::Sha256, sha256())]).expect(&rt, "two");
+    let (alg, digest) = &two.as_slice()[0];
+    assert_eq!(&rt; *alg, Alg::Sha1);
+    assert_eq!(&rt; *digest, sha1());
     assert!(&rt; DigestValues::new(&[]).is_some());
-    assert!(&rt; DigestValues::new(&[(Alg::Sha1, sha1); 3]).is_none());
+    let three = [
+        (Alg::Sha1, sha1()),
+        (Alg::Sha1, sha1()),
+        (Alg::Sha1, sha1()),
+    ];
+    assert!(&rt; DigestValues::new(&three).is_none());
     // A digest that isn't as long as those of its hash.
-    assert!(&rt; DigestValues::new(&[(Alg::Sha256, sha1)]).is_none());
-    assert!(&rt; DigestValues::new(&[(Alg::Sha1, sha1), (Alg::Sha1, sha256)]).is_none());
+    assert!(&rt; DigestValues::new(&[(Alg::Sha256, sha1())]).is_none());
+    assert!(&rt; DigestValues::new(&[(Alg::Sha1, sha1()), (Alg::Sha1, sha256())]).is_none());
 }
