@@ -47,6 +47,8 @@ else
     refuses "show of a command" show $startup
     refuses "show of a refusal" show 8001000000
     refuses "show of text that is not hexadecimal" show no
+    refuses "joined parts" build PCR_Reset 00000010 400000090000010000 -
+    refuses "joined parts that are refused" build Startup - - 0002
     refuses "help" show --help
     refuses "a usage fault" show
 fi

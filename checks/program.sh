@@ -53,8 +53,14 @@ runs "the empty buffer is refused, status 1" 1 'refused 09a at 0
 runs "text that is not hexadecimal, status 1" 1 'not hexadecimal
 ' '' show -
 
+runs "parts are joined, status 0" 0 '80020000001b0000013d0000001000000009400000090000010000
+' '' build PCR_Reset 00000010 400000090000010000 -
+
+runs "joined parts are refused, status 1" 1 'refused 1c4 at 10
+' '' build Startup - - 0002
+
 runs "no words, status 2 with usage on standard error" 2 '' "error: 'tpmtool' requires a subcommand but one was not provided
-  [subcommands: show, help]
+  [subcommands: show, build, help]
 
 Usage: tpmtool <COMMAND>
 
@@ -68,6 +74,14 @@ Usage: tpmtool show <HEX>
 
 For more information, try '--help'.
 " show
+
+runs "an unknown name, status 2 with usage on standard error" 2 '' "error: invalid value 'startup' for '<NAME>'
+  [possible values: NV_UndefineSpace, NV_DefineSpace, NV_Increment, PCR_Reset, Startup, NV_Read, FlushContext, NV_ReadPublic, PolicyAuthValue, PolicyCommandCode, PolicyOR, StartAuthSession, PCR_Read, PolicyPCR, PolicyRestart, PCR_Extend, PolicyGetDigest]
+
+  tip: a similar value exists: 'Startup'
+
+For more information, try '--help'.
+" build startup - - 0000
 
 runs "a word that is not text, status 2 with usage on standard error" 2 '' "error: invalid UTF-8 was detected in one or more arguments
 
@@ -89,6 +103,7 @@ Options:
 
 runs_without_output "a closed standard output, status 3" - show $startup
 runs_without_output "a closed standard output for a refusal, status 3" - show ''
+runs_without_output "a closed standard output for joined parts, status 3" - build Startup - - 0000
 runs_without_output "a closed standard output for help, status 3" - --help
 if [ -c /dev/full ]; then
     runs_without_output "a full standard output, status 3" /dev/full show $startup

@@ -1,1 +1,2 @@
 pub mod Stop
+pub mod Names

@@ -1,11 +1,15 @@
 //! The words that follow the program's name: what they ask for, or the text of usage or help.
 #![tactic(auto)]
 
+mod given;
+mod names;
+mod program;
 mod stop;
 mod task;
 
+pub use given::{Words, words_not_text};
 pub use stop::Stop;
-pub use task::{Task, read_words, words_not_text};
+pub use task::Task;
 
 #[cfg(test)]
 mod tests;

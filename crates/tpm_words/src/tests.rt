@@ -1,16 +1,25 @@
 use super::*;
 use std::alloc::Global;
 use std::test::Fail;
+use tpm_buffer::CommandCode;
 
-fn usage(alloc: Global, words: &[&str]) -> Result<String, Fail> {
-    match read_words(alloc, words) {
+fn words(alloc: Global, given: &[&str]) -> Result<Words, Fail> {
+    let mut words = Vec::new(alloc);
+    for word in given {
+        words.push(String::from_str(alloc, word)?)?;
+    }
+    Ok(Words::new(alloc, words)?)
+}
+
+fn usage(alloc: Global, given: &[&str]) -> Result<String, Fail> {
+    match words(alloc, given)?.task(alloc) {
         Err(Stop::Usage(text)) => Ok(text),
         _ => Err(Fail::from("no usage fault")),
     }
 }
 
-fn help(alloc: Global, words: &[&str]) -> Result<String, Fail> {
-    match read_words(alloc, words) {
+fn help(alloc: Global, given: &[&str]) -> Result<String, Fail> {
+    match words(alloc, given)?.task(alloc) {
         Err(Stop::Help(text)) => Ok(text),
         _ => Err(Fail::from("no help")),
     }
@@ -22,8 +31,9 @@ Reads and writes TPM 2.0 commands
 Usage: tpmtool <COMMAND>
 
 Commands:
-  show  Prints the command that a buffer spells, or where it is refused
-  help  Print this message or the help of the given subcommand(s)
+  show   Prints the command that a buffer spells, or where it is refused
+  build  Prints the buffer of a command, joined from its parts
+  help   Print this message or the help of the given subcommand(s)
 
 Options:
   -h, --help  Print help
@@ -41,17 +51,63 @@ Options:
   -h, --help  Print help
 ";
 
+const BUILD_HELP: &str = "\
+Prints the buffer of a command, joined from its parts
+
+Usage: tpmtool build <NAME> <HANDLES> <SESSIONS> <PARAMETERS>
+
+Arguments:
+  <NAME>        The command's name [possible values: NV_UndefineSpace, NV_DefineSpace, NV_Increment, PCR_Reset, Startup, NV_Read, FlushContext, NV_ReadPublic, PolicyAuthValue, PolicyCommandCode, PolicyOR, StartAuthSession, PCR_Read, PolicyPCR, PolicyRestart, PCR_Extend, PolicyGetDigest]
+  <HANDLES>     Its handles, in hexadecimal or - for none
+  <SESSIONS>    The sessions of its authorization area, in hexadecimal or - for none
+  <PARAMETERS>  Its parameters, in hexadecimal or - for none
+
+Options:
+  -h, --help  Print help
+";
+
 #[test]
-fn show_takes_its_digits(rt: HostRuntime) {
+fn show_takes_its_digits(rt: HostRuntime) -> Result<(), Fail> {
     for hex in ["8001", "", "-", "FF", "no digits"] {
-        let words = ["./tpmtool", "show", hex];
-        assert_eq!(rt; read_words(rt.alloc(), &words), Ok(Task::Show { hex }));
+        let words = words(rt.alloc(), &["./tpmtool", "show", hex])?;
+        assert_eq!(rt; words.task(rt.alloc()), Ok(Task::Show { hex }));
     }
-    let words = ["tpmtool", "show", "--", "--help"];
-    assert_eq!(rt;
-        read_words(rt.alloc(), &words),
-        Ok(Task::Show { hex: "--help" })
-    );
+    let words = words(rt.alloc(), &["tpmtool", "show", "--", "--help"])?;
+    assert_eq!(rt; words.task(rt.alloc()), Ok(Task::Show { hex: "--help" }));
+    Ok(())
+}
+
+#[test]
+fn build_takes_a_name_and_three_parts(rt: HostRuntime) -> Result<(), Fail> {
+    for (word, name) in [
+        ("NV_UndefineSpace", CommandCode::NvUndefineSpace),
+        ("NV_DefineSpace", CommandCode::NvDefineSpace),
+        ("NV_Increment", CommandCode::NvIncrement),
+        ("PCR_Reset", CommandCode::PcrReset),
+        ("Startup", CommandCode::Startup),
+        ("NV_Read", CommandCode::NvRead),
+        ("FlushContext", CommandCode::FlushContext),
+        ("NV_ReadPublic", CommandCode::NvReadPublic),
+        ("PolicyAuthValue", CommandCode::PolicyAuthValue),
+        ("PolicyCommandCode", CommandCode::PolicyCommandCode),
+        ("PolicyOR", CommandCode::PolicyOr),
+        ("StartAuthSession", CommandCode::StartAuthSession),
+        ("PCR_Read", CommandCode::PcrRead),
+        ("PolicyPCR", CommandCode::PolicyPcr),
+        ("PolicyRestart", CommandCode::PolicyRestart),
+        ("PCR_Extend", CommandCode::PcrExtend),
+        ("PolicyGetDigest", CommandCode::PolicyGetDigest),
+    ] {
+        let words = words(rt.alloc(), &["tpmtool", "build", word, "00", "-", ""])?;
+        let wanted = Task::Build {
+            name,
+            handles: "00",
+            sessions: "-",
+            parameters: "",
+        };
+        assert_eq!(rt; words.task(rt.alloc()), Ok(wanted));
+    }
+    Ok(())
 }
 
 #[test]
@@ -83,7 +139,7 @@ fn help_is_given_where_it_is_asked_for(rt: HostRuntime) -> Result<(), Fail> {
 fn a_missing_subcommand_is_a_usage_fault(rt: HostRuntime) -> Result<(), Fail> {
     let wanted = "\
 error: 'tpmtool' requires a subcommand but one was not provided
-  [subcommands: show, help]
+  [subcommands: show, build, help]
 
 Usage: tpmtool <COMMAND>
 
@@ -121,6 +177,41 @@ Usage: tpmtool show <HEX>
 For more information, try '--help'.
 ";
     assert_eq!(rt; usage(rt.alloc(), &["tpmtool", "show"])?.as_str(), wanted);
+    Ok(())
+}
+
+#[test]
+fn build_without_all_parts_is_a_usage_fault(rt: HostRuntime) -> Result<(), Fail> {
+    let wanted = "\
+error: the following required arguments were not provided:
+  <PARAMETERS>
+
+Usage: tpmtool build <NAME> <HANDLES> <SESSIONS> <PARAMETERS>
+
+For more information, try '--help'.
+";
+    let given = ["tpmtool", "build", "Startup", "-", "-"];
+    assert_eq!(rt; usage(rt.alloc(), &given)?.as_str(), wanted);
+    Ok(())
+}
+
+// Names are those of the table, in its letter case.
+#[test]
+fn an_unknown_name_is_a_usage_fault(rt: HostRuntime) -> Result<(), Fail> {
+    for (name, wanted) in [
+        ("startup", "error: invalid value 'startup' for '<NAME>'\n"),
+        (
+            "PCR_Event",
+            "error: invalid value 'PCR_Event' for '<NAME>'\n",
+        ),
+        (
+            "TPM2_Startup",
+            "error: invalid value 'TPM2_Startup' for '<NAME>'\n",
+        ),
+    ] {
+        let text = usage(rt.alloc(), &["tpmtool", "build", name, "-", "-", "0000"])?;
+        assert!(rt; text.as_str().starts_with(wanted), "{name}");
+    }
     Ok(())
 }
 

@@ -4,8 +4,8 @@
 use std::process::ExitCode;
 use std::rt::Env;
 use std::{env, io};
-use tpm_tool::{ToolFault, show};
-use tpm_words::{Stop, Task, read_words, words_not_text};
+use tpm_tool::{Status, ToolFault, build, show};
+use tpm_words::{Stop, Task, Words, words_not_text};
 
 /// The status of a usage fault.
 const USAGE: u8 = 2;
@@ -13,11 +13,24 @@ const USAGE: u8 = 2;
 /// The status of a reading or writing fault, of want of memory and of input too long.
 const FAULT: u8 = 3;
 
-fn words<R: Env + AllocGlobal>(rt: &R) -> Result<Vec<String>, Stop> {
+fn words<R: Env + AllocGlobal>(rt: &R) -> Result<Words, Stop> {
     match env::args(rt) {
-        Ok(words) => Ok(words.collect(rt.alloc())?),
+        Ok(words) => Ok(Words::new(rt.alloc(), words.collect(rt.alloc())?)?),
         Err(error) if error.kind() == io::ErrorKind::OutOfMemory => Err(Stop::Memory),
         Err(_) => Err(words_not_text(rt.alloc())),
+    }
+}
+
+fn perform<R: AllocGlobal + Print>(rt: &R, task: Task<'_>) -> Result<Status, ToolFault> {
+    let out = &mut io::writer(rt);
+    match task {
+        Task::Show { hex } => show(rt.alloc(), out, hex),
+        Task::Build {
+            name,
+            handles,
+            sessions,
+            parameters,
+        } => build(rt.alloc(), out, name, handles, sessions, parameters),
     }
 }
 
@@ -40,8 +53,8 @@ fn run<R: Env + AllocGlobal + Print + Eprint>(rt: &R) -> Result<u8, ToolFault> {
         Ok(words) => words,
         Err(stop) => return stopped(rt, stop),
     };
-    match read_words(rt.alloc(), words.as_slice()) {
-        Ok(Task::Show { hex }) => Ok(show(rt.alloc(), &mut io::writer(rt), hex)?.number()),
+    match words.task(rt.alloc()) {
+        Ok(task) => Ok(perform(rt, task)?.number()),
         Err(stop) => stopped(rt, stop),
     }
 }
