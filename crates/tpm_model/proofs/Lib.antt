@@ -4,3 +4,5 @@ pub mod Rising
 pub mod Spelled
 pub mod Nonces
 pub mod Replay
+pub mod Again
+pub mod Worked

@@ -139,7 +139,7 @@ chosen true a n old e = refl
 chosen false true n old e = refl
 chosen false false n old e = absurd (let z : ⊥ = cc in z)
 
-its_slot : (a : Auth) → is_session a.session ≡ true → authorizes (slot_of a.session) (a ∷ []) ≡ true
+pub its_slot : (a : Auth) → is_session a.session ≡ true → authorizes (slot_of a.session) (a ∷ []) ≡ true
 its_slot a is = rw is (let same : (slot_of a.session == slot_of a.session) ≡ true = grind (arith, nat_tests) in same)
 
 -- The nonce of the session's last step before the first use differs from that before the second.

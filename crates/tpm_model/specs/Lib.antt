@@ -12,3 +12,4 @@ pub mod Answers
 pub mod Runs
 pub mod Premises
 pub mod InStep
+pub mod Examples

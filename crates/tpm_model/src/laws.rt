@@ -1,24 +1,38 @@
-//! What holds of every run.
+//! What holds of every run, whatever commands a device has. Each law stands over the definitions alone.
 
-ghost use Rattle.std.specs.Prelude.{◌≡◌, ℕ, ◌<◌, List, [], ◌∷◌, ◌++◌, Some};
+ghost use Rattle.std.specs.Prelude.{◌≡◌, true, ℕ, ◌<◌, List, [], ◌∷◌, ◌++◌, Some};
+ghost use Rattle.tpm_wire.specs.Path.{Spells};
 ghost use Rattle.tpm_types.specs.declared.handle_sets.NvAuthHandle.{NvAuthHandle};
+ghost use Rattle.tpm_types.specs.declared.tpms.Auth.{Auth};
+ghost use Rattle.tpm_types.specs.Handles.{is_session};
 ghost use Rattle.tpm_buffer.specs.declared.command.CommandBody.TheVariants.{NvIncrement};
-ghost use Rattle.tpm_model.specs.Steps.{Origin};
+ghost use Rattle.tpm_buffer.specs.Commands.{command};
+ghost use Rattle.tpm_model.specs.Steps.{History, Origin};
+ghost use Rattle.tpm_model.specs.Policies.{policy_of};
+ghost use Rattle.tpm_model.specs.Sessions.{Session, slot_of, session_at};
 ghost use Rattle.tpm_model.specs.Counters.{value_at};
-ghost use Rattle.tpm_model.specs.Present.{present};
-ghost use Rattle.tpm_model.specs.Answers.{Commands, Done, outcome};
+ghost use Rattle.tpm_model.specs.Present.{Present, present};
+ghost use Rattle.tpm_model.specs.Answers.{Commands, Done, outcome, next};
 ghost use Rattle.tpm_model.specs.Runs.{Event, after};
 ghost use Rattle.tpm_model.specs.Runs.Event.{Given};
+ghost use Rattle.tpm_model.specs.Examples.{Examples};
 ghost use Rattle.tpm_model.specs.Premises.{IsAccepted, IsSealed, NoncesDiffer, NoCollision};
 
-/// No replay.
+/// What is done is what was asked: an accepted buffer spells the command that stands in the step.
+pub fn accepted_is_spelled()
+    ensures { (has : Commands) (p : Present) (bytes n : List ℕ) (d : Done) → outcome has p bytes n ≡ Ok d → Spells command d.command bytes }
+{}
+
+/// No replay: in the run of a new device, where the nonces handed in differ pairwise in their first 16 bytes and no two
+/// different texts that are checked have the same HMAC, no buffer with an HMAC is accepted twice.
 pub fn no_replay()
     ensures { (has : Commands) (o : Origin) (es fs gs : List Event) (bytes n m : List ℕ) →
         NoncesDiffer (es ++ Given bytes n ∷ fs ++ Given bytes m ∷ gs) → NoCollision has o (es ++ Given bytes n ∷ fs ++ Given bytes m ∷ gs) →
         IsSealed bytes → IsAccepted has o (after has o [] es) bytes n → IsAccepted has o (after has o [] (es ++ Given bytes n ∷ fs)) bytes m → ⊥ }
 {}
 
-/// No counter goes back.
+/// No counter goes back: an increment that is accepted leaves a value greater than each that the index had before, and
+/// greater than the number that made the device, whatever was undefined, defined again or cycled in between.
 pub fn no_counter_goes_back()
     ensures had { (has : Commands) (o : Origin) (es fs : List Event) (bytes n : List ℕ) (d : Done) (by : NvAuthHandle) (i w : ℕ) →
         value_at o (after has o [] es) i ≡ Some w →
@@ -27,4 +41,16 @@ pub fn no_counter_goes_back()
     ensures made { (has : Commands) (o : Origin) (es : List Event) (bytes n : List ℕ) (d : Done) (by : NvAuthHandle) (i : ℕ) →
         outcome has (present o (after has o [] es)) bytes n ≡ Ok d → d.command.body ≡ NvIncrement by i →
         (v : ℕ) × (value_at o (after has o [] (es ++ Given bytes n ∷ [])) i ≡ Some v) × (o.greatest < v) }
+{}
+
+/// A policy serves once: a session that has authorized a command, and is still there, asserts nothing.
+pub fn policy_starts_again()
+    ensures { (has : Commands) (o : Origin) (h : History) (bytes n : List ℕ) (d : Done) (a : Auth) (s : Session) →
+        outcome has (present o h) bytes n ≡ Ok d → d.command.auths.items ≡ a ∷ [] → is_session a.session ≡ true →
+        session_at o (next has o h bytes n) (slot_of a.session) ≡ Some s → s.policy ≡ policy_of s.hash [] }
+{}
+
+/// Answers worked out from the definitions alone, byte for byte: those that need no hash.
+pub fn worked_examples()
+    ensures { Examples }
 {}

@@ -1,6 +1,10 @@
 //! The model of a device: what it answers, by the history of what it has accepted, and what holds of every run.
+//!
+//! The definitions stand in `specs/`, and there is no code but laws: functions that do nothing, whose contracts are proved.
 #![tactic(auto)]
 
 mod laws;
 
-pub use laws::{no_counter_goes_back, no_replay};
+pub use laws::{
+    accepted_is_spelled, no_counter_goes_back, no_replay, policy_starts_again, worked_examples,
+};
