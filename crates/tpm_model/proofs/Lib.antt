@@ -5,4 +5,8 @@ pub mod Spelled
 pub mod Nonces
 pub mod Replay
 pub mod Again
+pub mod Nonzero
+pub mod Coded
+pub mod Refused
+pub mod Told
 pub mod Worked

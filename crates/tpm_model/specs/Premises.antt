@@ -1,5 +1,6 @@
 -- What the laws on runs speak of.
-use Rattle.std.specs.Prelude.{◌≡◌, ◌≢◌, ◌⊎◌, ℕ, ◌<◌, true, List, [], ◌∷◌, ◌++◌, length, take, Result, Ok, Err, if◌then◌else◌}
+use Rattle.std.specs.Prelude.{◌≡◌, ◌≢◌, ◌⊎◌, ℕ, ◌<◌, true, List, [], ◌∷◌, ◌++◌, length, take, drop, Result, Ok, Err, if◌then◌else◌}
+use Rattle.tpm_wire.specs.Token.{number_of}
 use Rattle.tpm_wire.specs.Path.{Spells}
 use Rattle.tpm_types.specs.declared.alg.Alg.{Alg}
 use Rattle.tpm_types.specs.declared.tpms.Auth.{Auth}
@@ -16,6 +17,10 @@ use Rattle.tpm_model.specs.Runs.{Event}
 use Rattle.tpm_model.specs.Runs.Event.{Given, Cycled}
 
 -- ---- accepted buffers
+
+-- the response code of a response (Part 1, 18.2): behind the tag and the size, in four bytes
+abbrev pub code_in : List ℕ → ℕ
+code_in bytes = number_of (take 4 (drop 6 bytes))
 
 -- The buffer is done, and answered with code 0.
 abbrev pub IsAccepted : Commands → Origin → History → (bytes nonce : List ℕ) → Type 0

@@ -1,6 +1,6 @@
 //! What holds of every run, whatever commands a device has. Each law stands over the definitions alone.
 
-ghost use Rattle.std.specs.Prelude.{◌≡◌, true, ℕ, ◌<◌, List, [], ◌∷◌, ◌++◌, Some};
+ghost use Rattle.std.specs.Prelude.{◌≡◌, true, ℕ, ◌<◌, ◌^◌, List, [], ◌∷◌, ◌++◌, Some, Ok, Err};
 ghost use Rattle.tpm_wire.specs.Path.{Spells};
 ghost use Rattle.tpm_types.specs.declared.handle_sets.NvAuthHandle.{NvAuthHandle};
 ghost use Rattle.tpm_types.specs.declared.tpms.Auth.{Auth};
@@ -12,11 +12,11 @@ ghost use Rattle.tpm_model.specs.Policies.{policy_of};
 ghost use Rattle.tpm_model.specs.Sessions.{Session, slot_of, session_at};
 ghost use Rattle.tpm_model.specs.Counters.{value_at};
 ghost use Rattle.tpm_model.specs.Present.{Present, present};
-ghost use Rattle.tpm_model.specs.Answers.{Commands, Done, outcome, next};
+ghost use Rattle.tpm_model.specs.Answers.{Commands, Done, outcome, answer, next};
 ghost use Rattle.tpm_model.specs.Runs.{Event, after};
 ghost use Rattle.tpm_model.specs.Runs.Event.{Given};
 ghost use Rattle.tpm_model.specs.Examples.{Examples};
-ghost use Rattle.tpm_model.specs.Premises.{IsAccepted, IsSealed, NoncesDiffer, NoCollision};
+ghost use Rattle.tpm_model.specs.Premises.{code_in, IsAccepted, IsSealed, NoncesDiffer, NoCollision};
 
 /// What is done is what was asked: an accepted buffer spells the command that stands in the step.
 pub fn accepted_is_spelled()
@@ -53,4 +53,15 @@ pub fn policy_starts_again()
 /// Answers worked out from the definitions alone, byte for byte: those that need no hash.
 pub fn worked_examples()
     ensures { Examples }
+{}
+
+/// What is done is answered with code 0.
+pub fn done_with_code_zero()
+    ensures { (has : Commands) (o : Origin) (h : History) (bytes n : List ℕ) (d : Done) → outcome has (present o h) bytes n ≡ Ok d → code_in (answer has o h bytes n) ≡ 0 }
+{}
+
+/// What is not done is answered with its code, which is not 0 and has four bytes.
+pub fn refused_with_a_code()
+    ensures some { (has : Commands) (p : Present) (bytes n : List ℕ) (code : ℕ) → outcome has p bytes n ≡ Err code → (0 < code) × (code < 2 ^ 32) }
+    ensures answered { (has : Commands) (o : Origin) (h : History) (bytes n : List ℕ) (code : ℕ) → outcome has (present o h) bytes n ≡ Err code → code_in (answer has o h bytes n) ≡ code }
 {}

@@ -1,0 +1,263 @@
+-- What is not done is refused with a code.
+use Rattle.std.proofs.Common.{◌≡◌, ℕ, suc, ◌+◌, ◌<◌, List, [], ◌∷◌, length, Result, Ok, Err, Option, Some, None, Bool, true, false, not, refl, sym, ap, ◌∙◌, subst, arith}
+use Rattle.std.specs.Prelude.{◌^◌, ◌&&◌, ◌||◌, if◌then◌else◌, ok_or, is_some, ◌==◌, nat_lt, nat_le, bytes_eq, take, drop}
+use Rattle.std.specs.Int.{w64, to_be_bytes}
+use Rattle.tpm_wire.specs.declared.refusal.Refusal.{Refusal}
+use Rattle.tpm_wire.specs.Buffers.{Layout, number_in, numbered}
+use Rattle.tpm_wire.specs.Token.{Here, at_start}
+use Rattle.tpm_wire.specs.Reading.{read, read_all, ◌>>=◌}
+use Rattle.tpm_wire.proofs.Agreement.{bind_ok}
+use Rattle.tpm_types.specs.declared.constants.StartupType.TheVariants.{Clear, State}
+use Rattle.tpm_types.specs.declared.handle_sets.PcrOrNull.TheVariants as registers
+use Rattle.tpm_types.specs.declared.constants.StartupType.{StartupType}
+use Rattle.tpm_types.specs.declared.handle_sets.PcrOrNull.{PcrOrNull}
+use Rattle.tpm_types.specs.declared.handle_sets.NvAuthHandle.{NvAuthHandle}
+use Rattle.tpm_types.specs.declared.tpms.Auth.{Auth}
+use Rattle.tpm_types.specs.declared.tpms.NvPublic.{NvPublic}
+use Rattle.tpm_types.specs.Alg.{digest_len}
+use Rattle.tpm_types.specs.Codes.{value_code}
+use Rattle.tpm_types.specs.Handles.{rs_pw, is_policy, is_nv_index}
+use Rattle.tpm_types.specs.Tpma.{no_da, audits_or_encrypts, owner_writes, owner_reads}
+use Rattle.tpm_buffer.specs.declared.handles.HandleKind.{HandleKind}
+use Rattle.tpm_buffer.specs.declared.code.CommandCode.{CommandCode}
+use Rattle.tpm_buffer.specs.declared.code.CommandCode.TheVariants as codes
+use Rattle.tpm_buffer.specs.declared.command.CommandBody.{CommandBody}
+use Rattle.tpm_buffer.specs.declared.command.CommandBody.TheVariants as bodies
+use Rattle.tpm_buffer.specs.declared.command.StartAuth.{StartAuth}
+use Rattle.tpm_buffer.specs.declared.response.ReplyBody.{ReplyBody}
+use Rattle.tpm_buffer.specs.Codes.{code_number}
+use Rattle.tpm_buffer.specs.Handles.{admits, handle, first, handle_kinds, handles_from, handles, needs_authorization}
+use Rattle.tpm_buffer.specs.Parameters.{parameters}
+use Rattle.tpm_buffer.specs.Commands.{header, authorization, body_from}
+use Rattle.tpm_hmac.specs.Sessions.{trim}
+use Rattle.tpm_model.specs.Sessions.{Session, is_hmac, is_trial, loaded, free_slot}
+use Rattle.tpm_model.specs.Counters.{Counter, next_value}
+use Rattle.tpm_model.specs.Present.{Present}
+use Rattle.tpm_model.specs.Entities.{Entity, Register, Index, entity_of, names_of}
+use Rattle.tpm_model.specs.Authorization.{refuse, is_empty, differs, has_policy, Authorizer, Password, BySession, by_session, check_loaded, check_no_trial, check_no_nonce, check_session, check_auth, check_policy_allowed, check_policy, check_entity, proof_of, Proof, NotAsked, ByPassword, ByMac, failure, check_proof, first_loaded}
+use Rattle.tpm_model.specs.Actions.{check_startup, check_extend, start_session, check_policy_pcr, is_definable, most_counters, counter_size, check_define, defined_counter, may, increment, read_counter, then_reply, action, policy_session}
+use Rattle.tpm_model.specs.Answers.{Commands, code_only, by_grammar, check_has, check_started, check_handle, check_handles, check_tag, Presented, presented, permitted, performed, outcome}
+use Rattle.tpm_model.proofs.Accepted.{ok_is}
+use Rattle.tpm_model.proofs.Nonzero.{IsAnswered, IfRefused, IsCoded, read_coded, read_all_coded}
+use Rattle.tpm_model.proofs.Coded.{coded_header, coded_handles, coded_authorization, coded_parameters}
+
+-- What is refused is refused with a code.
+data IfErr {A : Type 0} : Result A ℕ → Type 0 where
+  not_refused : {x : A} → IfErr (Ok x)
+  with_code : {n : ℕ} → IsAnswered n → IfErr (Err n)
+
+its_code : {A : Type 0} {n : ℕ} → IfErr {A = A} (Err n) → IsAnswered n
+its_code (with_code c) = c
+
+next_too : {A B : Type 0} (r : Result A ℕ) (f : A → Result B ℕ) → IfErr r → ((x : A) → IfErr (f x)) → IfErr (r >>= f)
+next_too (Ok x) f c d = d x
+next_too (Err n) f c d = with_code (its_code c)
+
+-- the same, where it is known what came before
+afterwards : {A B : Type 0} (r : Result A ℕ) (f : A → Result B ℕ) → IfErr r → ((x : A) → r ≡ Ok x → IfErr (f x)) → IfErr (r >>= f)
+afterwards (Ok x) f c d = d x refl
+afterwards (Err n) f c d = with_code (its_code c)
+
+tested : (b : Bool) (n : ℕ) → IsAnswered n → IfErr (refuse b n)
+tested true n c = with_code c
+tested false n c = not_refused
+
+test_first : {B : Type 0} (b : Bool) (n : ℕ) (f : Unit {0} → Result B ℕ) → IsAnswered n → ((x : Unit {0}) → IfErr (f x)) → IfErr (refuse b n >>= f)
+test_first b n f c d = next_too (refuse b n) f (tested b n c) d
+
+looked_up : {A : Type 0} (o : Option A) (n : ℕ) → IsAnswered n → IfErr (ok_or o n)
+looked_up None n c = with_code c
+looked_up (Some x) n c = not_refused
+
+one_of : {A : Type 0} (b : Bool) (x y : Result A ℕ) → IfErr x → IfErr y → IfErr (if b then x else y)
+one_of true x y c d = c
+one_of false x y c d = d
+
+of_code : {A : Type 0} (r : Result A Refusal) → IfRefused r → IfErr (code_only r)
+of_code (Ok x) c = not_refused
+of_code (Err e) c = with_code c
+
+grammar : {A : Type 0} (l : Layout A) (h : Here) → IsCoded l → IfErr (by_grammar l h)
+grammar l h c = of_code (read 0 l h) (read_coded 0 l h (omega arith) c)
+
+-- ---- before the authorization
+
+start_checked : (started : Bool) (code : CommandCode) → IfErr (check_started started code)
+start_checked started codes.Startup = tested started 0x100 (omega arith, omega arith)
+start_checked started _ = tested (not started) 0x100 (omega arith, omega arith)
+
+handle_checked : (p : Present) (i n : ℕ) → 0 < i → i < 256 → IfErr (check_handle p i n)
+handle_checked p i n some small =
+    one_of (is_policy n) _ _ (tested _ _ (omega (arith, some), omega (arith, small)))
+    (one_of (is_nv_index n) _ _ (tested _ _ (omega (arith, some), omega (arith, small))) not_refused)
+
+handles_checked : (p : Present) (i : ℕ) (ns : List ℕ) → 0 < i → i + length ns < 256 → IfErr (check_handles p i ns)
+handles_checked p i [] some small = not_refused
+handles_checked p i (n ∷ ns) some small =
+    next_too (check_handle p i n) _ (handle_checked p i n some (omega (arith, small))) (λ _. handles_checked p (i + 1) ns (omega arith) (omega (arith, small)))
+
+abbrev handles_read : List ℕ → Here → Result (List ℕ × Here) Refusal
+handles_read ns h = Ok (ns, h)
+
+same_list : (ns ms : List ℕ) (g h : Here) → handles_read ns g ≡ handles_read ms h → ns ≡ ms
+same_list ns ms g h e = let both : (ns, g) ≡ (ms, h) = cc in ap (λ (x : List ℕ × Here). x.0) both
+
+as_many_kinds : (i : ℕ) (kinds : List HandleKind) (h : Here) (x : List ℕ × Here) → read 0 (handles_from i kinds) h ≡ Ok x → length x.0 ≡ length kinds
+as_many_kinds i [] h x e = ap length (sym (same_list [] x.0 h x.1 e))
+as_many_kinds i (kind ∷ kinds) h x e =
+    let a = bind_ok (read 0 (numbered (handle i) (number_in 4 (admits kind) value_code)) h) (λ y. read 0 (handles_from (i + 1) kinds) y.1 >>= λ z. handles_read (y.0 ∷ z.0) z.1) x e in
+    let b = bind_ok (read 0 (handles_from (i + 1) kinds) a.0.1) (λ z. handles_read (a.0.0 ∷ z.0) z.1) x a.2 in
+    let rest = as_many_kinds (i + 1) kinds a.0.1 b.0 b.1 in
+    ap length (sym (same_list (a.0.0 ∷ b.0.0) x.0 b.0.1 x.1 b.2)) ∙ ap suc rest
+
+few_kinds : (code : CommandCode) → length (handle_kinds code) < 250
+few_kinds codes.NvUndefineSpace = omega arith
+few_kinds codes.NvIncrement = omega arith
+few_kinds _ = omega arith
+
+code_ok : {A : Type 0} (r : Result A Refusal) (x : A) → code_only r ≡ Ok x → r ≡ Ok x
+code_ok (Ok y) x e = let same : y ≡ x = ok_is y x e in ap (λ (z : _). let k : Result _ Refusal = Ok z in k) same
+code_ok (Err e) x c = absurd (let k : ⊥ = cc in k)
+
+few_handles : (code : CommandCode) (h : Here) (x : List ℕ × Here) → by_grammar (handles code) h ≡ Ok x → 1 + length x.0 < 256
+few_handles code h x e = omega (arith, as_many_kinds 1 (handle_kinds code) h x (code_ok _ x e), few_kinds code)
+
+tag_checked : (code : CommandCode) (tag : ℕ) → IfErr (check_tag code tag)
+tag_checked code tag = one_of (needs_authorization code) _ _ (tested _ _ (omega arith, omega arith)) (tested _ _ (omega arith, omega arith))
+
+-- ---- the authorization
+
+session_checked : (by : Authorizer) (a : Auth) (others : List Auth) → IfErr (check_session by a others)
+session_checked by a others =
+    test_first (audits_or_encrypts a.attrs) 0x982 _ (omega arith, omega arith) (λ _. next_too (check_no_trial by) _ (no_trial by) (λ _. next_too (check_no_nonce by a.nonce) _ (no_nonce by) (λ _. tested (not (is_empty others)) 0xA82 (omega arith, omega arith))))
+  where
+    no_trial : (by : Authorizer) → IfErr (check_no_trial by)
+    no_trial Password = not_refused
+    no_trial (BySession s) = tested _ _ (omega arith, omega arith)
+
+    no_nonce : (by : Authorizer) → IfErr (check_no_nonce by a.nonce)
+    no_nonce Password = tested _ _ (omega arith, omega arith)
+    no_nonce (BySession s) = not_refused
+
+auth_checked : (e : Entity) (code : CommandCode) → IfErr (check_auth e code)
+auth_checked (Index public auth) code = tested _ _ (omega arith, omega arith)
+auth_checked _ code = not_refused
+
+policy_allowed : (e : Entity) (code : CommandCode) → IfErr (check_policy_allowed e code)
+policy_allowed (Index public auth) code = tested _ _ (omega arith, omega arith)
+policy_allowed _ code = with_code (omega arith, omega arith)
+
+policy_checked : (e : Entity) (code : CommandCode) (n : ℕ) (s : Session) → IfErr (check_policy e code n s)
+policy_checked e code n s =
+    next_too (check_policy_allowed e code) _ (policy_allowed e code) (λ _.
+    test_first (differs s.policy.update_counter n) 0x128 _ (omega arith, omega arith) (λ _. test_first (not (has_policy e s)) 0x99D _ (omega arith, omega arith) (λ _. tested (differs s.policy.code (code_number code)) 0x9A4 (omega arith, omega arith))))
+
+entity_checked : (by : Authorizer) (e : Entity) (code : CommandCode) (n : ℕ) → IfErr (check_entity by e code n)
+entity_checked Password e code n = auth_checked e code
+entity_checked (BySession s) e code n = one_of (is_hmac s.session_type) _ _ (auth_checked e code) (policy_checked e code n s)
+
+session_loaded : (handle : ℕ) (s : Option Session) → IfErr (check_loaded handle s)
+session_loaded handle s = one_of (handle == rs_pw) _ _ not_refused (found s)
+  where
+    found : (s : Option Session) → IfErr (by_session s)
+    found None = with_code (omega arith, omega arith)
+    found (Some s) = not_refused
+
+proof_found : (s : Option Session) (e : Entity) (code : CommandCode) (names : List (List ℕ)) (params : List ℕ) (n : ℕ) (auths : List Auth) → IfErr (proof_of s e code names params n auths)
+proof_found s e code names params n [] = not_refused
+proof_found s e code names params n (a ∷ others) =
+    next_too (check_loaded a.session s) _ (session_loaded a.session s) (λ by. next_too (check_session by a others) _ (session_checked by a others) (λ _. next_too (check_entity by e code n) _ (entity_checked by e code n) (λ _. not_refused)))
+
+failure_is : (e : Entity) → IsAnswered (failure e)
+failure_is (Index public auth) = go (no_da public.attrs)
+  where
+    go : (b : Bool) → IsAnswered ((if b then 0x0A2 else 0x08E) + 0x900)
+    go true = (omega arith, omega arith)
+    go false = (omega arith, omega arith)
+failure_is Register = (omega arith, omega arith)
+failure_is _ = (omega arith, omega arith)
+
+proof_checked : (e : Entity) (x : Proof) → IfErr (check_proof e x)
+proof_checked e NotAsked = not_refused
+proof_checked e (ByPassword given wanted) = tested _ _ (failure_is e)
+proof_checked e (ByMac x) = tested _ _ (failure_is e)
+
+-- ---- the action
+
+replied : {A : Type 0} (r : Result A ℕ) (reply : ReplyBody) → IfErr r → IfErr (then_reply r reply)
+replied r reply c = next_too r _ c (λ _. not_refused)
+
+startup_checked : (kind : StartupType) → IfErr (check_startup kind)
+startup_checked Clear = not_refused
+startup_checked State = with_code (omega arith, omega arith)
+
+extend_checked : (q : PcrOrNull) → IfErr (check_extend q)
+extend_checked (registers.Pcr q) = tested _ _ (omega arith, omega arith)
+extend_checked registers.Null = not_refused
+
+policy_pcr_checked : (s : Session) (composite : List ℕ) (n : ℕ) (d : List ℕ) → IfErr (check_policy_pcr s composite n d)
+policy_pcr_checked s composite n d = one_of (is_trial s.session_type) _ _ not_refused
+    (test_first (differs s.policy.update_counter n) 0x128 _ (omega arith, omega arith) (λ _. tested (not (is_empty d) && not (bytes_eq d composite)) 0x1C4 (omega arith, omega arith)))
+
+define_checked : (there : Option Counter) (n : ℕ) (auth : List ℕ) (public : NvPublic) → IfErr (check_define there n auth public)
+define_checked there n auth public =
+    test_first (not (is_definable public.attrs)) 0x2C2 _ (omega arith, omega arith) (λ _. test_first (nat_lt (digest_len public.alg) (length (trim auth))) 0x1D5 _ (omega arith, omega arith) (λ _. test_first (not (is_empty public.policy) && not (length public.policy == digest_len public.alg)) 0x2D5 _ (omega arith, omega arith) (λ _. test_first (not (public.data_size == counter_size)) 0x2D5 _ (omega arith, omega arith) (λ _. test_first (is_some there) 0x14C _ (omega arith, omega arith) (λ _. tested (nat_le most_counters n) 0x14B (omega arith, omega arith))))))
+
+increment_checked : (most : ℕ) (there : Option Counter) (by : NvAuthHandle) (i : ℕ) → IfErr (increment most there by i)
+increment_checked most there by i = next_too (defined_counter there) _ (looked_up there _ (omega arith, omega arith)) (λ c.
+    test_first (not (may by (owner_writes c.public.attrs) i)) 0x149 _ (omega arith, omega arith) (λ _. test_first (nat_le (2 ^ 64) (next_value most c.value)) 0x146 _ (omega arith, omega arith) (λ _. not_refused {x = next_value most c.value})))
+
+read_checked : (there : Option Counter) (by : NvAuthHandle) (i size offset : ℕ) → IfErr (read_counter there by i size offset)
+read_checked there by i size offset = next_too (defined_counter there) _ (looked_up there _ (omega arith, omega arith)) (λ c.
+    test_first (not (may by (owner_reads c.public.attrs) i)) 0x149 _ (omega arith, omega arith) (λ _. next_too (ok_or c.value 0x14A) _ (looked_up c.value 0x14A (omega arith, omega arith)) (λ v. test_first (nat_lt counter_size (offset + size)) 0x146 _ (omega arith, omega arith) (λ _. not_refused {x = take size (drop offset (to_be_bytes w64 v))}))))
+
+start_session_checked : (session : ℕ → Option Session) (s : StartAuth) (n : List ℕ) → IfErr (start_session session s n)
+start_session_checked session s n =
+    test_first (nat_lt (length s.nonce_caller) 16 || nat_lt (digest_len s.auth_hash) (length s.nonce_caller)) 0x1D5 _ (omega arith, omega arith) (λ _. next_too (ok_or (free_slot session) 0x903) _ (looked_up (free_slot session) 0x903 (omega arith, omega arith)) (λ k. not_refused))
+
+in_policy : (p : Present) (handle : ℕ) (f : Session → Result ReplyBody ℕ) → ((s : Session) → IfErr (f s)) → IfErr (policy_session (loaded p.session handle) >>= f)
+in_policy p handle f c = next_too (policy_session (loaded p.session handle)) f (looked_up (loaded p.session handle) _ (omega arith, omega arith)) c
+
+acted : (p : Present) (body : CommandBody) (n : List ℕ) → IfErr (action p body n)
+acted p (bodies.Startup kind) n = replied _ _ (startup_checked kind)
+acted p (bodies.PcrExtend q digests) n = replied _ _ (extend_checked q)
+acted p (bodies.PcrReset q) n = replied _ _ (tested _ _ (omega arith, omega arith))
+acted p (bodies.PcrRead sels) n = not_refused
+acted p (bodies.StartAuthSession start) n = start_session_checked p.session start n
+acted p (bodies.FlushContext handle) n = replied _ _ (tested _ _ (omega arith, omega arith))
+acted p (bodies.PolicyPcr handle d sels) n = in_policy p handle _ (λ s. replied _ _ (policy_pcr_checked s _ _ d))
+acted p (bodies.PolicyOr handle digests) n = in_policy p handle _ (λ s. replied _ _ (tested _ _ (omega arith, omega arith)))
+acted p (bodies.PolicyCommandCode handle code) n = in_policy p handle _ (λ s. replied _ _ (tested _ _ (omega arith, omega arith)))
+acted p (bodies.PolicyAuthValue handle) n = replied _ _ (looked_up (loaded p.session handle) _ (omega arith, omega arith))
+acted p (bodies.PolicyRestart handle) n = replied _ _ (looked_up (loaded p.session handle) _ (omega arith, omega arith))
+acted p (bodies.PolicyGetDigest handle) n = in_policy p handle _ (λ s. not_refused)
+acted p (bodies.NvDefineSpace auth public) n = replied _ _ (define_checked (p.counter public.index) p.counters auth public)
+acted p (bodies.NvUndefineSpace index) n = replied _ _ (looked_up (p.counter index) _ (omega arith, omega arith))
+acted p (bodies.NvIncrement by index) n = replied _ _ (increment_checked p.greatest (p.counter index) by index)
+acted p (bodies.NvRead by index size offset) n = next_too (read_counter (p.counter index) by index size offset) _ (read_checked (p.counter index) by index size offset) (λ _. not_refused)
+acted p (bodies.NvReadPublic index) n = next_too (defined_counter (p.counter index)) _ (looked_up (p.counter index) _ (omega arith, omega arith)) (λ _. not_refused)
+
+-- ---- the whole
+
+was_presented : (has : Commands) (p : Present) (bytes : List ℕ) → IfErr (presented has p bytes)
+was_presented has p bytes =
+    next_too (by_grammar header (at_start bytes)) _ (grammar header (at_start bytes) coded_header) (λ head.
+    next_too (check_has (has head.0.code)) _ (tested _ _ (omega arith, omega arith)) (λ _.
+    next_too (check_started p.started head.0.code) _ (start_checked p.started head.0.code) (λ _.
+    afterwards (by_grammar (handles head.0.code) head.1) _ (grammar (handles head.0.code) head.1 (coded_handles head.0.code)) (λ list is.
+    next_too (check_handles p 1 list.0) _ (handles_checked p 1 list.0 (omega arith) (few_handles head.0.code head.1 list is)) (λ _.
+    next_too (check_tag head.0.code head.0.tag) _ (tag_checked head.0.code head.0.tag) (λ _.
+    next_too (by_grammar (authorization head.0.tag) list.1) _ (grammar (authorization head.0.tag) list.1 (coded_authorization head.0.tag)) (λ auths.
+    next_too (proof_of (first_loaded (loaded p.session) auths.0) (entity_of p (first list.0)) head.0.code (names_of p list.0) auths.1.rest p.update_counter auths.0) _
+    (proof_found (first_loaded (loaded p.session) auths.0) (entity_of p (first list.0)) head.0.code (names_of p list.0) auths.1.rest p.update_counter auths.0) (λ _. not_refused))))))))
+
+was_permitted : (has : Commands) (p : Present) (bytes : List ℕ) → IfErr (permitted has p bytes)
+was_permitted has p bytes = next_too (presented has p bytes) _ (was_presented has p bytes) (λ x. next_too (check_proof x.entity x.proof) _ (proof_checked x.entity x.proof) (λ _. not_refused))
+
+was_performed : (p : Present) (n : List ℕ) (x : Presented) → IfErr (performed p n x)
+was_performed p n x =
+    next_too (code_only (read_all (parameters x.code) x.params)) _ (of_code (read_all (parameters x.code) x.params) (read_all_coded (parameters x.code) x.params (coded_parameters x.code)))
+    (λ params. next_too (action p (body_from x.handles params) n) _ (acted p (body_from x.handles params) n) (λ _. not_refused))
+
+pub refused_with : (has : Commands) (p : Present) (bytes n : List ℕ) (code : ℕ) → outcome has p bytes n ≡ Err code → IsAnswered code
+refused_with has p bytes n code e = its_code (subst IfErr e (next_too (permitted has p bytes) (performed p n) (was_permitted has p bytes) (λ x. was_performed p n x)))
