@@ -10,8 +10,8 @@ ghost use Rattle.tpm_buffer.specs.declared.command.Command.{Command as CommandOf
 ghost use Rattle.tpm_buffer.specs.Commands.{command};
 
 use crate::command::{Command, body_of};
+use crate::front::{long_fault, take_authorization, take_header};
 use crate::handles::take_handles;
-use crate::header::{long_fault, take_authorization, take_header};
 use crate::params::take_params;
 use tpm_wire::{Cursor, Refusal, SIZE};
 

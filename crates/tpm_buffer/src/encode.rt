@@ -8,7 +8,7 @@ ghost use Rattle.tpm_buffer.specs.Parameters.{parameters};
 ghost use Rattle.tpm_buffer.specs.Commands.{authorization, tag_of, code_for, handles_of, params_of, body_from, rest_of, command as command_layout};
 
 use crate::command::{Command, CommandBody};
-use crate::header::{NO_SESSIONS, SESSIONS};
+use crate::front::{NO_SESSIONS, SESSIONS};
 use arrayvec::ArrayVec;
 use tpm_types::{Auth, EncryptedSalt, RH_NULL, RH_OWNER};
 use tpm_wire::{Buffer, Wire, known_list, list_len, put_list};

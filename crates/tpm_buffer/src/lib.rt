@@ -6,8 +6,8 @@ mod command;
 mod cuts;
 mod decode;
 mod encode;
+mod front;
 mod handles;
-mod header;
 mod laws;
 mod params;
 mod reply_decode;
@@ -22,7 +22,7 @@ pub use command::{Command, CommandBody, Header, StartAuth};
 pub use cuts::{areas, reply_areas};
 pub use decode::{decode_command, one_spelling};
 pub use encode::encode_command;
-pub use header::{AUTHSIZE, BAD_TAG, COMMAND_CODE, COMMAND_SIZE, NO_SESSIONS, SESSIONS};
+pub use front::{AUTHSIZE, BAD_TAG, COMMAND_CODE, COMMAND_SIZE, NO_SESSIONS, SESSIONS};
 pub use laws::{
     command_or_fault, fault_before_params, no_prefix, no_response_prefix, parameters_in_command,
     response_or_fault,
@@ -32,4 +32,4 @@ pub use reply_decode::{RSP_COMMAND, decode_response};
 pub use reply_encode::encode_response;
 pub use reply_stages::ReplyAreas;
 pub use response::{ErrorCode, NvData, ReplyBody, Response, StartReply};
-pub use stages::{Areas, Handled, Headed, header as read_header};
+pub use stages::{Areas, Handled, Headed, header};

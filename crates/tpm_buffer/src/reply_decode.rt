@@ -11,7 +11,7 @@ ghost use Rattle.tpm_buffer.specs.Replies.{reply_parameters};
 ghost use Rattle.tpm_buffer.specs.Responses.{response_front, response_tag, response_code, parameter_size, further_sessions, reply_sessions, with_sessions, without_sessions, reply_behind, reply, behind_code, response, Reply as ReplyOf};
 
 use crate::code::CommandCode;
-use crate::header::{BAD_TAG, COMMAND_SIZE, NO_SESSIONS, SESSIONS, take_size};
+use crate::front::{BAD_TAG, COMMAND_SIZE, NO_SESSIONS, SESSIONS, take_size};
 use crate::reply_params::{take_reply_handles, take_reply_params};
 use crate::response::{ErrorCode, ReplyBody, Response};
 use arrayvec::ArrayVec;

@@ -9,7 +9,7 @@ ghost use Rattle.tpm_buffer.specs.declared.response.Response.TheVariants as resp
 ghost use Rattle.tpm_buffer.specs.Replies.{code_for_reply, reply_handles, reply_handles_of, parameters_of_reply};
 ghost use Rattle.tpm_buffer.specs.Responses.{code_tag, reply_sessions, reply_tag, reply_behind, reply, response as response_layout, Answers};
 
-use crate::header::{BAD_TAG, NO_SESSIONS, SESSIONS};
+use crate::front::{BAD_TAG, NO_SESSIONS, SESSIONS};
 use crate::reply_decode::RSP_COMMAND;
 use crate::response::{ErrorCode, ReplyBody, Response};
 use arrayvec::ArrayVec;

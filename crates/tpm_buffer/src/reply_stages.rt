@@ -7,7 +7,7 @@ ghost use Rattle.tpm_buffer.specs.Responses.{raw_with_sessions, raw_without_sess
 ghost use Rattle.tpm_buffer.specs.Areas.{reply_view, handle_of, place_of_params};
 
 use crate::code::CommandCode;
-use crate::header::SESSIONS;
+use crate::front::SESSIONS;
 use crate::reply_decode::{long_fault, take_code, take_front, take_parameter_size, take_sessions};
 use crate::reply_params::take_reply_handles;
 use arrayvec::ArrayVec;

@@ -10,8 +10,8 @@ ghost use Rattle.tpm_buffer.specs.Areas.{head_and_rest, IsHandled, HasHandles, I
 
 use crate::code::CommandCode;
 use crate::command::Header;
+use crate::front::{long_fault, take_authorization, take_header};
 use crate::handles::take_handles;
-use crate::header::{long_fault, take_authorization, take_header};
 use arrayvec::ArrayVec;
 use tpm_types::Auth;
 use tpm_wire::{Cursor, Refusal};
