@@ -36,7 +36,7 @@ use Rattle.tpm_model.specs.Present.{Present}
 use Rattle.tpm_model.specs.Entities.{Entity, Register, Index, entity_of, names_of}
 use Rattle.tpm_model.specs.Authorization.{refuse, is_empty, differs, has_policy, Authorizer, Password, BySession, by_session, check_loaded, check_no_trial, check_no_nonce, check_session, check_auth, check_policy_allowed, check_policy, check_entity, proof_of, Proof, NotAsked, ByPassword, ByMac, failure, check_proof, first_loaded}
 use Rattle.tpm_model.specs.Actions.{check_startup, check_extend, start_session, check_policy_pcr, is_definable, most_counters, counter_size, check_define, defined_counter, may, increment, read_counter, then_reply, action, policy_session}
-use Rattle.tpm_model.specs.Answers.{Commands, code_only, by_grammar, check_has, check_started, check_handle, check_handles, check_tag, Presented, presented, permitted, performed, outcome}
+use Rattle.tpm_model.specs.Answers.{Commands, code_only, by_grammar, check_has, check_started, check_handle, check_handles, check_tag, Presented, proof_in, presented, permitted, performed, outcome}
 use Rattle.tpm_model.proofs.Accepted.{ok_is}
 use Rattle.tpm_model.proofs.Nonzero.{IsAnswered, IfRefused, IsCoded, read_coded, read_all_coded}
 use Rattle.tpm_model.proofs.Coded.{coded_header, coded_handles, coded_authorization, coded_parameters}
@@ -248,7 +248,7 @@ was_presented has p bytes =
     next_too (check_handles p 1 list.0) _ (handles_checked p 1 list.0 (omega arith) (few_handles head.0.code head.1 list is)) (λ _.
     next_too (check_tag head.0.code head.0.tag) _ (tag_checked head.0.code head.0.tag) (λ _.
     next_too (by_grammar (authorization head.0.tag) list.1) _ (grammar (authorization head.0.tag) list.1 (coded_authorization head.0.tag)) (λ auths.
-    next_too (proof_of (first_loaded (loaded p.session) auths.0) (entity_of p (first list.0)) head.0.code (names_of p list.0) auths.1.rest p.update_counter auths.0) _
+    next_too (proof_in p head.0.code list.0 auths.1.rest auths.0) _
     (proof_found (first_loaded (loaded p.session) auths.0) (entity_of p (first list.0)) head.0.code (names_of p list.0) auths.1.rest p.update_counter auths.0) (λ _. not_refused))))))))
 
 was_permitted : (has : Commands) (p : Present) (bytes : List ℕ) → IfErr (permitted has p bytes)

@@ -12,15 +12,12 @@ use Rattle.tpm_wire.proofs.Whole.{read_spells}
 use Rattle.tpm_wire.proofs.Cuts.{cut_read, parted}
 use Rattle.tpm_types.specs.declared.tpms.Auth.{Auth}
 use Rattle.tpm_buffer.specs.declared.command.Header.{Header}
-use Rattle.tpm_buffer.specs.Handles.{handles, first}
+use Rattle.tpm_buffer.specs.Handles.{handles}
 use Rattle.tpm_buffer.specs.Parameters.{parameters}
 use Rattle.tpm_buffer.specs.Commands.{header, authorization, body_from, with_auths, Checked, before_params, command}
 use Rattle.tpm_buffer.proofs.Staged.{of_parts}
-use Rattle.tpm_model.specs.Sessions.{loaded}
 use Rattle.tpm_model.specs.Present.{Present}
-use Rattle.tpm_model.specs.Entities.{entity_of, names_of}
-use Rattle.tpm_model.specs.Authorization.{proof_of, first_loaded}
-use Rattle.tpm_model.specs.Answers.{Commands, Presented, presented, Done, code_only, by_grammar, check_has, check_started, check_handles, check_tag}
+use Rattle.tpm_model.specs.Answers.{Commands, Presented, proof_in, presented, Done, code_only, by_grammar, check_has, check_started, check_handles, check_tag}
 use Rattle.tpm_model.proofs.Accepted.{Passed, ok_is}
 
 -- how the areas before the parameters were read, and the proof of authorization found
@@ -32,7 +29,7 @@ pub record Read (p : Present) (bytes : List ℕ) (x : Presented) : Type 0 where
   pub handles : x.handles ≡ before.handles
   pub auths : x.auths ≡ before.auths
   pub params : x.params ≡ place.rest
-  pub proof : proof_of (first_loaded (loaded p.session) x.auths) (entity_of p (first x.handles)) x.code (names_of p x.handles) x.params p.update_counter x.auths ≡ Ok x.proof
+  pub proof : proof_in p x.code x.handles x.params x.auths ≡ Ok x.proof
 
 code_ok : {A : Type 0} (r : Result A Refusal) (x : A) → code_only r ≡ Ok x → r ≡ Ok x
 code_ok (Ok y) x e = let same : y ≡ x = ok_is y x e in ap (λ (z : _). let k : Result _ Refusal = Ok z in k) same
@@ -57,7 +54,7 @@ was_read has p bytes x e =
     let g = bind_ok (check_tag head.0.code head.0.tag) _ x f.2 in
     let i = bind_ok (by_grammar (authorization head.0.tag) list.1) _ x g.2 in
     let auths = i.0 in
-    let j = bind_ok (proof_of (first_loaded (loaded p.session) auths.0) (entity_of p (first list.0)) head.0.code (names_of p list.0) auths.1.rest p.update_counter auths.0) _ x i.2 in
+    let j = bind_ok (proof_in p head.0.code list.0 auths.1.rest auths.0) _ x i.2 in
     subst (Read p bytes) (ok_is _ x j.2) (record {
       before = record { header = head.0; handles = list.0; auths = auths.0 };
       place = auths.1;

@@ -131,7 +131,7 @@ read_counter there by index size offset = do
 
 -- ---- the table
 
--- the first of two, and then the reply
+-- a check, and then the reply
 abbrev pub then_reply : {A : Type 0} → Result A ℕ → ReplyBody → Result ReplyBody ℕ
 then_reply check reply = check >>= λ _. Ok reply
 

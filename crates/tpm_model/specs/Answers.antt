@@ -32,7 +32,8 @@ abbrev pub code_only : {A : Type 0} → Result A Refusal → Result A ℕ
 code_only (Ok x) = Ok x
 code_only (Err e) = Err e.code
 
--- what a cut of the command says from a place on
+-- What a cut of the command says from a place on. What is read there is what its one path says, or its one fault
+-- (tpm_wire, one_reading_within).
 abbrev pub by_grammar : {A : Type 0} → Layout A → Here → Result (A × Here) ℕ
 by_grammar l h = code_only (read 0 l h)
 
@@ -75,10 +76,14 @@ pub record Presented : Type 0 where
   pub code : CommandCode
   pub handles : List ℕ
   pub auths : List Auth
-  -- the parameters as they came
   pub params : List ℕ
   pub entity : Entity
   pub proof : Proof
+
+-- the checks of the sessions, with what is present, and the parameters as they came
+abbrev pub proof_in : Present → CommandCode → (handles : List ℕ) → (params : List ℕ) → List Auth → Result Proof ℕ
+proof_in p code handles params auths =
+    proof_of (first_loaded (loaded p.session) auths) (entity_of p (first handles)) code (names_of p handles) params p.update_counter auths
 
 -- all checks before the password or the HMAC is compared
 abbrev pub presented : Commands → Present → List ℕ → Result Presented ℕ
@@ -90,7 +95,7 @@ presented has p bytes = do
   _ ← check_handles p 1 list.0
   _ ← check_tag head.0.code head.0.tag
   auths ← by_grammar (authorization head.0.tag) list.1
-  proof ← proof_of (first_loaded (loaded p.session) auths.0) (entity_of p (first list.0)) head.0.code (names_of p list.0) auths.1.rest p.update_counter auths.0
+  proof ← proof_in p head.0.code list.0 auths.1.rest auths.0
   Ok (record { code = head.0.code; handles = list.0; auths = auths.0; params = auths.1.rest; entity = entity_of p (first list.0); proof = proof })
 
 -- all checks before the parameters

@@ -17,7 +17,7 @@ use Rattle.tpm_buffer.specs.declared.response.ReplyBody.TheVariants as replies
 use Rattle.tpm_hmac.specs.Sessions.{session_key}
 use Rattle.tpm_model.specs.Steps.{History, PowerCycle, Accepted, Origin}
 use Rattle.tpm_model.specs.Registers.{register_value, update_counter, composite}
-use Rattle.tpm_model.specs.Policies.{Assertion, Policy as PolicyHeld, policy_of}
+use Rattle.tpm_model.specs.Policies.{Assertion, Policy, policy_of}
 use Rattle.tpm_model.specs.Policies.Assertion.{PcrAsserted, OrAsserted, CodeAsserted, AuthValueAsserted}
 
 -- ---- slots and handles (Part 2, 7.2; three slots, and the lowest free one is taken, in this profile)
@@ -46,15 +46,19 @@ abbrev pub begins : ℕ → CommandBody → ReplyBody → Bool
 begins k (bodies.StartAuthSession start) (replies.StartAuthSession reply) = slot_of reply.session == k
 begins k _ _ = false
 
+-- the session of this slot, and no password
+abbrev pub is_of_slot : ℕ → Auth → Bool
+is_of_slot k a = is_session a.session && slot_of a.session == k
+
 -- The slot's session is the first of these, which authorize a command.
 abbrev pub authorizes : ℕ → List Auth → Bool
 authorizes k [] = false
-authorizes k (a ∷ others) = is_session a.session && slot_of a.session == k
+authorizes k (a ∷ others) = is_of_slot k a
 
 -- It authorizes for the last time: continueSession is clear.
 abbrev pub closes : ℕ → List Auth → Bool
 closes k [] = false
-closes k (a ∷ others) = is_session a.session && slot_of a.session == k && not (continues a.attrs)
+closes k (a ∷ others) = is_of_slot k a && not (continues a.attrs)
 
 -- The command flushed the slot, or all of them.
 abbrev pub clears : ℕ → CommandBody → Bool
@@ -62,8 +66,8 @@ clears k (bodies.Startup kind) = true
 clears k (bodies.FlushContext handle) = slot_of handle == k
 clears k _ = false
 
--- The last TPM2_StartAuthSession that answered the slot stands after the last power cycle, and no later step flushed it or
--- was authorized by it with continueSession clear.
+-- The last TPM2_StartAuthSession that answered the slot stands after the last power cycle, and no later step was a
+-- TPM2_Startup, flushed it, or was authorized by it with continueSession clear.
 abbrev pub lives : ℕ → History → Bool
 lives k [] = false
 lives k (PowerCycle ∷ h) = false
@@ -128,7 +132,7 @@ pub record Session : Type 0 where
   pub key : List ℕ
   pub nonce : List ℕ
   pub is_bound : Bool
-  pub policy : PolicyHeld
+  pub policy : Policy
 
 abbrev pub is_owner_bind : BindHandle → Bool
 is_owner_bind binds.Owner = true
