@@ -5,3 +5,4 @@ pub mod Within
 pub mod Answered
 pub mod Replied
 pub mod Canonical
+pub mod Framed

@@ -5,3 +5,4 @@ pub mod Commands
 pub mod Replies
 pub mod Responses
 pub mod Areas
+pub mod Frames
