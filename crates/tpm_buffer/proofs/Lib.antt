@@ -6,3 +6,4 @@ pub mod Answered
 pub mod Replied
 pub mod Canonical
 pub mod Framed
+pub mod Filled

@@ -6,3 +6,4 @@ pub mod Replies
 pub mod Responses
 pub mod Areas
 pub mod Frames
+pub mod Reads

@@ -11,6 +11,7 @@ mod framer;
 mod handles;
 mod laws;
 mod params;
+mod reader;
 mod reply_decode;
 mod reply_encode;
 mod reply_params;
@@ -30,6 +31,7 @@ pub use laws::{
     response_or_fault,
 };
 pub use params::{Params, decode_params};
+pub use reader::{ReadFault, read_frame};
 pub use reply_decode::{RSP_COMMAND, decode_response};
 pub use reply_encode::encode_response;
 pub use reply_stages::ReplyAreas;

@@ -1,0 +1,99 @@
+-- What several reads of a source give.
+use Rattle.std.proofs.Common.{◌≡◌, ℕ, ◌+◌, ◌-◌, ◌≤◌, ◌<◌, List, [], ◌++◌, length, take, drop, Option, Some, None, refl, sym, ap, ◌∙◌, append_assoc, arith, length-take, length-take-le, length-drop, length-append, Ok}
+use Rattle.std.proofs.lemmas.List.{take-append-le, take_at, take_all}
+use Rattle.std.proofs.lemmas.Slice.{take-put_mid}
+use Rattle.std.proofs.Math.Seq.{take-append-add}
+use Rattle.std.specs.Io.KnownBytes.{Consumes, IsAtEnd}
+use Rattle.tpm_buffer.specs.Frames.{stated, IsFrame, IsPart}
+use Rattle.tpm_buffer.specs.Reads.{ReadsInto}
+use Rattle.tpm_buffer.proofs.Framed.{stated_more, sized_part}
+use borrow.Rule.Slice.PartMut.{put_mid, post_of}
+
+-- the bytes of one read and then of others
+pub consumes_both : (a b c : Option (List ℕ)) (xs ys : List ℕ) → Consumes a b xs → Consumes b c ys → Consumes a c (xs ++ ys)
+consumes_both None b c xs ys f g = tt
+consumes_both (Some l) None c xs ys f g = absurd f
+consumes_both (Some l) (Some m) None xs ys f g = absurd g
+consumes_both (Some l) (Some m) (Some n) xs ys f g = f ∙ ap (λ (r : List ℕ). xs ++ r) g ∙ sym (append_assoc xs ys n)
+
+pub consumes_none : (a : Option (List ℕ)) → Consumes a a []
+consumes_none None = tt
+consumes_none (Some l) = refl
+
+-- the front of a room after a read into the rest of it
+pub front_read : (count k n : ℕ) (room part : List ℕ) → count ≤ length room → n ≤ length part → take (count + n) (put_mid count k room part) ≡ take count room ++ take n part
+front_read count k n room part within le =
+    let len = length-take-le count room within in
+    ap (λ m. take (m + n) (put_mid count k room part)) (sym len) ∙ take-append-add (take count room) (part ++ post_of count k room) n
+    ∙ ap (λ (r : List ℕ). take count room ++ r) (take-append-le n part (post_of count k room) le)
+
+pub room_read : (count k n : ℕ) (room part : List ℕ) → count ≤ length room → n ≤ length part → count + n ≤ length (put_mid count k room part)
+room_read count k n room part within le =
+    omega (arith, length-append (take count room) (part ++ post_of count k room), length-append part (post_of count k room), length-take-le count room within, le)
+
+-- ---- a frame in two reads: its first six bytes, and the rest
+
+module _ (front part : List ℕ) (size : ℕ) (six : length front ≡ 6) (states : size ≡ stated front) (least : 10 ≤ size) (most : size ≤ 4096) where
+  both : (n : ℕ) → n ≤ length part → length (front ++ take n part) ≡ 6 + n
+  both n le = length-append front (take n part) ∙ ap (λ m. m + length (take n part)) six ∙ ap (λ m. 6 + m) (length-take-le n part le)
+
+  says : (n : ℕ) → stated (front ++ take n part) ≡ size
+  says n = stated_more front (take n part) (omega (arith, six)) ∙ sym states
+
+  -- less than the rest
+  pub read_part : (n : ℕ) → n ≤ length part → 6 + n < size → IsPart (front ++ take n part)
+  read_part n le lt =
+      sized_part (front ++ take n part) (omega (arith, both n le)) (omega (arith, says n, least)) (omega (arith, says n, most)) (omega (arith, both n le, says n, lt))
+
+  -- all of the rest
+  pub read_whole : (n : ℕ) → n ≤ length part → 6 + n ≡ size → IsFrame (front ++ take n part)
+  read_whole n le is = record {
+    least = omega (arith, both n le, is, least);
+    most = omega (arith, both n le, is, most);
+    states_it = omega (arith, both n le, says n, is);
+  }
+
+-- where the two stand in the room
+pub in_room : (front part behind : List ℕ) (size : ℕ) → length front ≡ 6 → 6 + length part ≡ size → take size (put_mid 6 (size - 6) (front ++ behind) part) ≡ front ++ part
+in_room front part behind size six is =
+    take-put_mid 6 (size - 6) (front ++ behind) part size (sym is) (omega (arith, six, length-append front behind))
+    ∙ ap (λ (r : List ℕ). r ++ part) (take_at front behind 6 six)
+
+-- a first read that filled its part of the room, and the next one
+module _ (old mid new : Option (List ℕ)) (room front part : List ℕ) (count size : ℕ) (full : length room ≡ 4096) (front_part : length front ≡ length (take 6 room))
+    (count_fits : count ≤ length front) (first : Consumes old mid (take count front)) (filled : 6 ≤ count)
+    (states : size ≡ stated (take 6 (front ++ drop 6 room))) (least : 10 ≤ size) (most : size ≤ 4096)
+    (next_part : length part ≡ length (take (size - 6) (drop 6 (front ++ drop 6 room)))) where
+  six : length front ≡ 6
+  six = front_part ∙ length-take-le 6 room (omega (arith, full))
+
+  rest : 6 + length part ≡ size
+  rest = omega (arith, next_part, length-take (size - 6) (drop 6 (front ++ drop 6 room)), length-drop 6 (front ++ drop 6 room), length-append front (drop 6 room), length-drop 6 room, six, full, least, most)
+
+  all_first : Consumes old mid front
+  all_first = rw (← take_all count front (omega (arith, six, filled))) first
+
+  says_front : size ≡ stated front
+  says_front = states ∙ ap stated (take_at front (drop 6 room) 6 six)
+
+  pub failed_inside : (n : ℕ) → n < length part → Consumes mid new (take n part) → (bytes : List ℕ) × Consumes old new bytes × IsPart bytes
+  failed_inside n lt more =
+      (front ++ take n part, consumes_both old mid new front (take n part) all_first more, read_part front part size six says_front least most n (omega (arith, lt)) (omega (arith, lt, rest)))
+
+  pub ended_inside : (n : ℕ) → n ≤ length part → Consumes mid new (take n part) → (n < length part → IsAtEnd new) → 6 + n < size
+      → (bytes : List ℕ) × Consumes old new bytes × (IsPart bytes × (0 < length bytes) × IsAtEnd new)
+  ended_inside n le more end lt = (
+    front ++ take n part,
+    consumes_both old mid new front (take n part) all_first more,
+    (read_part front part size six says_front least most n le lt, omega (arith, length-append front (take n part), six), end (omega (arith, lt, rest))),
+  )
+
+  pub whole_frame : (n : ℕ) → n ≤ length part → Consumes mid new (take n part) → size ≤ 6 + n → ReadsInto old new (put_mid 6 (size - 6) (front ++ drop 6 room) part) (Ok size)
+  whole_frame n le more all =
+      let there : take size (put_mid 6 (size - 6) (front ++ drop 6 room) part) ≡ front ++ take n part =
+      in_room front part (drop 6 room) size six rest ∙ ap (λ (r : List ℕ). front ++ r) (sym (take_all n part (omega (arith, rest, all)))) in (
+        omega (arith, least, rest, room_read 6 (size - 6) (size - 6) (front ++ drop 6 room) part (omega (arith, six, length-append front (drop 6 room))) (omega (arith, rest))),
+        rw there (consumes_both old mid new front (take n part) all_first more),
+        (λ none. absurd (omega (arith, none, least))),
+        (λ some. rw there (read_whole front part size six says_front least most n le (omega (arith, rest, le, all)))),
+      )
