@@ -9,7 +9,7 @@ use crate::bytes::same;
 use crate::session::command_mac;
 use std::marker::Model;
 use tpm_types::{Alg, DIGEST_BYTES, SessionAttrs};
-use tpm_wire::Bounded;
+use tpm_wire::{Bounded, Duplicate};
 
 /// A key, and the nonce that the next command has to name. Sessions take its place once there are any: until then nothing is
 /// promised of the stored nonce after `accept`.
@@ -66,7 +66,7 @@ impl Pair {
         );
         let accepted = same(mac, expected.as_slice());
         if accepted {
-            self.nonce = *next;
+            self.nonce = next.duplicate();
         }
         accepted
     }
