@@ -1,0 +1,24 @@
+//! Commands and responses in bytes, beside what is proved of them. Bytes, codes and places are written out by hand from
+//! the tables of Parts 2 and 3.
+#![tactic(auto)]
+
+#[cfg(test)]
+mod bytes;
+#[cfg(test)]
+mod changed;
+#[cfg(test)]
+mod codes;
+#[cfg(test)]
+mod commands;
+#[cfg(test)]
+mod handles;
+#[cfg(test)]
+mod headers;
+#[cfg(test)]
+mod parameters;
+#[cfg(test)]
+mod responses;
+#[cfg(test)]
+mod sessions;
+#[cfg(test)]
+mod steps;
