@@ -6,8 +6,8 @@ mod command;
 mod cuts;
 mod decode;
 mod encode;
-mod front;
 mod framer;
+mod front;
 mod handles;
 mod laws;
 mod params;
@@ -24,8 +24,8 @@ pub use command::{Command, CommandBody, Header, StartAuth};
 pub use cuts::{areas, reply_areas};
 pub use decode::{decode_command, one_spelling};
 pub use encode::encode_command;
-pub use front::{AUTHSIZE, BAD_TAG, COMMAND_CODE, COMMAND_SIZE, NO_SESSIONS, SESSIONS};
 pub use framer::{Framer, Status};
+pub use front::{AUTHSIZE, BAD_TAG, COMMAND_CODE, COMMAND_SIZE, NO_SESSIONS, SESSIONS};
 pub use laws::{
     command_or_fault, fault_before_params, no_prefix, no_response_prefix, parameters_in_command,
     response_or_fault,

@@ -5,8 +5,7 @@ use crate::steps::{Step, refused};
 use std::process::Abort;
 use std::test::*;
 use tpm_buffer::{
-    CommandBody, CommandCode, Params, areas, decode_command, decode_params, encode_command,
-    header,
+    CommandBody, CommandCode, Params, areas, decode_command, decode_params, encode_command, header,
 };
 use tpm_types::{
     Alg, Auth, BindHandle, KeyBits, NvAuthHandle, NvPublic, PcrOrNull, Selection, SessionType,
