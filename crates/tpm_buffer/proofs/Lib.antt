@@ -7,3 +7,4 @@ pub mod Replied
 pub mod Canonical
 pub mod Framed
 pub mod Filled
+pub mod Streamed

@@ -7,3 +7,4 @@ pub mod Responses
 pub mod Areas
 pub mod Frames
 pub mod Reads
+pub mod Streams

@@ -18,6 +18,7 @@ mod reply_params;
 mod reply_stages;
 mod response;
 mod stages;
+mod stream_laws;
 
 pub use code::CommandCode;
 pub use command::{Command, CommandBody, Header, StartAuth};
@@ -37,3 +38,4 @@ pub use reply_encode::encode_response;
 pub use reply_stages::ReplyAreas;
 pub use response::{ErrorCode, NvData, ReplyBody, Response, StartReply};
 pub use stages::{Areas, Handled, Headed, header};
+pub use stream_laws::{broken_for_ever, frames_of_a_stream, frames_of_pieces, frames_read};
