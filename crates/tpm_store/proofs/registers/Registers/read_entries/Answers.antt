@@ -1,0 +1,17 @@
+use Rattle.std.proofs.Common.{◌≡◌, ℕ, List, ◌∷◌, [], ◌++◌, ◌∙◌, ◌+◌, ap, sym, length, arith}
+use Rattle.tpm_store.specs.Stands.{held}
+use Rattle.tpm_store.specs.Select.{values_of, first_of}
+use Rattle.tpm_store.proofs.Entries.{entries_next}
+use Rattle.tpm_store.proofs.registers.Registers.read_entries.Goals as goal
+
+pub loop-selection-preserved : goal.loop-selection-preserved
+loop-selection-preserved c =
+    let values = c.loop-selection.values.items in
+    let step = entries_next c.args.self.now c.as_slice-selection-items.result.now c.args.selections.now c.loop-selection.selection-index _ c.loop-selection.read.items values
+    c.read_selected.new.values.items c.bank.result.now c.read_selected.result c.as_slice-selection-items.ensures.value c.loop-selection-test.true c.loop-selection.invariant.read c.loop-selection.invariant.values
+    c.bank.ensures.bank c.read_selected.ensures.selection c.read_selected.ensures.values in
+    record {
+      read = c.push.ensures.items ∙ step.0;
+      count = omega (arith, c.push.ensures.len, c.loop-selection.invariant.count);
+      values = step.1;
+    }

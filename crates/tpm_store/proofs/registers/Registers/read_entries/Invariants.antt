@@ -1,0 +1,11 @@
+use Rattle.std.specs.Prelude.{◌≡◌, length, take}
+use Rattle.tpm_model.specs.Registers.{selections_read, values_read}
+use Rattle.tpm_store.specs.Stands.{held}
+use Rattle.tpm_store.proofs.registers.Registers.read_entries.Given as goal
+
+abbrev pub invariant-loop-selection : goal.invariant-loop-selection
+invariant-loop-selection l = record {
+  read : l.read.items ≡ selections_read (take l.selection-index l.selections);
+  count : length l.read.items ≡ l.selection-index;
+  values : l.values.items ≡ values_read (held l.self) (take l.selection-index l.selections);
+}

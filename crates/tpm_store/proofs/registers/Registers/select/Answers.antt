@@ -1,0 +1,15 @@
+use Rattle.std.proofs.Common.{◌≡◌, ℕ, List, ◌∙◌, ap, take, refl}
+use Rattle.tpm_types.specs.declared.tpms.Selection.{Selection}
+use Rattle.tpm_model.specs.Registers.{selections_read, register_value}
+use Rattle.tpm_store.specs.Stands.{held}
+use Rattle.tpm_store.proofs.Entries.{values_same, held_is}
+use Rattle.tpm_store.proofs.registers.Registers.select.Goals as goal
+
+pub returns : goal.returns
+returns c = λ h st.
+    let sels = c.args.selections.now in
+    let read = c.in-Some-Some.ensures in
+    let values = c.in-Some-Some.ensures' in
+    let one : c.in-Some-Some.read ≡ selections_read sels = read.0 ∙ c.as_slice.ensures.value ∙ c.read_entries-read.ensures.selections in
+    let two : c.in-Some-Some.values ≡ take 8 _ = values.0 ∙ c.as_slice-2.ensures.value ∙ c.read_entries-read.ensures.values ∙ ap (take 8) (values_same (held c.args.self.now) (register_value h) sels (held_is h c.args.self.now st)) in
+    rw (one, two) refl

@@ -1,0 +1,41 @@
+use Rattle.std.proofs.Common.{◌≡◌, ℕ, List, ◌∷◌, [], ◌++◌, ◌∙◌, ap, sym, length, append_assoc}
+use Rattle.tpm_types.specs.declared.tpms.Selection.{Selection}
+use Rattle.tpm_store.specs.Select.{registers_of, chosen, bits_of, values_of}
+use Rattle.tpm_store.proofs.Choice.{count_is}
+use Rattle.tpm_store.proofs.Entries.{chosen_is, select_of_first, values_of_three}
+use Rattle.tpm_store.proofs.registers.read_selected.Goals as goal
+
+pub returns-clause-selection : goal.returns-clause-selection
+returns-clause-selection c =
+    let s = c.args.selection.now in
+    let bank = c.args.bank.now in
+    let old = c.args.values.now.items in
+    let n = length old in
+    let one = c.read_byte-first.new.values.items in
+    let two = c.read_byte-second.new.values.items in
+    let e1 = count_is bank old one (chosen n s.select (registers_of 0)) c.read_byte-first.ensures.values in
+    let e2 = count_is bank one two (chosen (length one) s.select (registers_of 1)) c.read_byte-second.ensures.values in
+    ap (λ (l : List ℕ). let r : Selection = record { hash = s.hash; select = l } in r)
+    (ap (λ (x : ℕ). x ∷ c.read_byte-second.result ∷ c.read_byte-third.result ∷ []) c.read_byte-first.ensures.bits
+    ∙ ap (λ (x : ℕ). bits_of (chosen n s.select (registers_of 0)) ∷ x ∷ c.read_byte-third.result ∷ []) c.read_byte-second.ensures.bits
+    ∙ ap (λ (x : ℕ). bits_of (chosen n s.select (registers_of 0)) ∷ bits_of (chosen (length one) s.select (registers_of 1)) ∷ x ∷ []) c.read_byte-third.ensures.bits
+    ∙ sym (select_of_first n s (length one) (length two) e1 e2))
+
+pub returns-clause-values : goal.returns-clause-values
+returns-clause-values c =
+    let s = c.args.selection.now in
+    let bank = c.args.bank.now in
+    let old = c.args.values.now.items in
+    let n = length old in
+    let one = c.read_byte-first.new.values.items in
+    let two = c.read_byte-second.new.values.items in
+    let x = chosen n s.select (registers_of 0) in
+    let y = chosen (length one) s.select (registers_of 1) in
+    let z = chosen (length two) s.select (registers_of 2) in
+    let e1 = count_is bank old one x c.read_byte-first.ensures.values in
+    let e2 = count_is bank one two y c.read_byte-second.ensures.values in
+    c.read_byte-third.ensures.values
+    ∙ ap (λ (l : List (List ℕ)). l ++ values_of bank z) (c.read_byte-second.ensures.values ∙ ap (λ (l : List (List ℕ)). l ++ values_of bank y) c.read_byte-first.ensures.values)
+    ∙ append_assoc (old ++ values_of bank x) (values_of bank y) (values_of bank z)
+    ∙ append_assoc old (values_of bank x) (values_of bank y ++ values_of bank z)
+    ∙ ap (λ (l : List (List ℕ)). old ++ l) (sym (values_of_three bank x y z) ∙ ap (values_of bank) (sym (chosen_is n s (length one) (length two) e1 e2)))
