@@ -28,7 +28,7 @@ returns-in_err-_command-clause-err c =
     rw (p.1, p.2) ((c.in_err-_command.ensures.err _).0 refl)
 
 pub returns-clause-ok : goal.returns-clause-ok
-returns-clause-ok c = has_areas _ c.in_ok-_command._command c.areas.result ((c.in_ok-_command.ensures.ok _).0 refl) c.areas.ensures
+returns-clause-ok c = has_areas _ c.in_ok-_command._command c.areas.result ((c.in_ok-_command.ensures.ok _).0 refl) c.areas.ensures.decodes
 
 pub returns-clause-err : goal.returns-clause-err
-returns-clause-err c = has_fault _ c.areas.result (c.fault_before_params.ensures.sessions _) c.areas.ensures
+returns-clause-err c = has_fault _ c.areas.result (c.fault_before_params.ensures.sessions _) c.areas.ensures.decodes
