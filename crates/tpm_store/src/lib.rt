@@ -2,6 +2,8 @@
 #![tactic(auto)]
 
 mod registers;
+#[cfg(test)]
+mod tests;
 mod value;
 
 pub use registers::{LOCALITY, Registers};
