@@ -2,6 +2,7 @@
 
 ghost use Rattle.std.specs.Prelude.{◌≡◌};
 ghost use Rattle.tpm_buffer.specs.Handles.{first as first_of, second as second_of};
+ghost use Rattle.tpm_buffer.specs.Parameters.{params_code};
 ghost use Rattle.tpm_buffer.specs.Commands.{register_in as the_register, index_in as the_index, policy_in as the_policy, pcr_or_null_in as the_pcr_or_null, nv_auth_in as the_nv_auth, bind_in as the_bind, body_from, code_for};
 
 use crate::code::CommandCode;
@@ -197,74 +198,79 @@ fn second(handles: &[u32]) -> u32
     }
 }
 
-/// The command of which these are the handles and the parameters.
-pub(crate) fn body_of(handles: &[u32], params: Params) -> CommandBody
-    ensures { result ≡ body_from handles.now params }
-{
-    match params {
-        Params::NvUndefineSpace => CommandBody::NvUndefineSpace {
-            index: index_in(second(handles)),
-        },
-        Params::NvDefineSpace { auth, public } => CommandBody::NvDefineSpace { auth, public },
-        Params::NvIncrement => CommandBody::NvIncrement {
-            by: nv_auth_in(first(handles)),
-            index: index_in(second(handles)),
-        },
-        Params::PcrReset => CommandBody::PcrReset {
-            register: register_in(first(handles)),
-        },
-        Params::Startup(startup_type) => CommandBody::Startup(startup_type),
-        Params::NvRead { size, offset } => CommandBody::NvRead {
-            by: nv_auth_in(first(handles)),
-            index: index_in(second(handles)),
-            size,
-            offset,
-        },
-        Params::FlushContext(session) => CommandBody::FlushContext(session),
-        Params::NvReadPublic => CommandBody::NvReadPublic {
-            index: index_in(first(handles)),
-        },
-        Params::PolicyAuthValue => CommandBody::PolicyAuthValue {
-            session: policy_in(first(handles)),
-        },
-        Params::PolicyCommandCode(code) => CommandBody::PolicyCommandCode {
-            session: policy_in(first(handles)),
-            code,
-        },
-        Params::PolicyOr(digests) => CommandBody::PolicyOr {
-            session: policy_in(first(handles)),
-            digests,
-        },
-        Params::StartAuthSession {
-            nonce_caller,
-            session_type,
-            symmetric,
-            auth_hash,
-        } => CommandBody::StartAuthSession(StartAuth {
-            bind: bind_in(second(handles)),
-            nonce_caller,
-            session_type,
-            symmetric,
-            auth_hash,
-        }),
-        Params::PcrRead(selections) => CommandBody::PcrRead(selections),
-        Params::PolicyPcr {
-            pcr_digest,
-            selections,
-        } => CommandBody::PolicyPcr {
-            session: policy_in(first(handles)),
-            pcr_digest,
-            selections,
-        },
-        Params::PolicyRestart => CommandBody::PolicyRestart {
-            session: policy_in(first(handles)),
-        },
-        Params::PcrExtend(digests) => CommandBody::PcrExtend {
-            register: pcr_or_null_in(first(handles)),
-            digests,
-        },
-        Params::PolicyGetDigest => CommandBody::PolicyGetDigest {
-            session: policy_in(first(handles)),
-        },
+impl CommandBody {
+    /// The command of these parameters, with its handles by their numbers, in their order. A handle that is missing, or that
+    /// the command cannot have, is never met where both were read under one code; in its place stands one of its kind: register 0,
+    /// index 0x01000000, session 0x03000000, TPM_RH_NULL or TPM_RH_OWNER.
+    pub fn from_parts(handles: &[u32], params: Params) -> Self
+        ensures body { result ≡ body_from handles.now params }
+        ensures code { code_for result ≡ params_code params }
+    {
+        match params {
+            Params::NvUndefineSpace => CommandBody::NvUndefineSpace {
+                index: index_in(second(handles)),
+            },
+            Params::NvDefineSpace { auth, public } => CommandBody::NvDefineSpace { auth, public },
+            Params::NvIncrement => CommandBody::NvIncrement {
+                by: nv_auth_in(first(handles)),
+                index: index_in(second(handles)),
+            },
+            Params::PcrReset => CommandBody::PcrReset {
+                register: register_in(first(handles)),
+            },
+            Params::Startup(startup_type) => CommandBody::Startup(startup_type),
+            Params::NvRead { size, offset } => CommandBody::NvRead {
+                by: nv_auth_in(first(handles)),
+                index: index_in(second(handles)),
+                size,
+                offset,
+            },
+            Params::FlushContext(session) => CommandBody::FlushContext(session),
+            Params::NvReadPublic => CommandBody::NvReadPublic {
+                index: index_in(first(handles)),
+            },
+            Params::PolicyAuthValue => CommandBody::PolicyAuthValue {
+                session: policy_in(first(handles)),
+            },
+            Params::PolicyCommandCode(code) => CommandBody::PolicyCommandCode {
+                session: policy_in(first(handles)),
+                code,
+            },
+            Params::PolicyOr(digests) => CommandBody::PolicyOr {
+                session: policy_in(first(handles)),
+                digests,
+            },
+            Params::StartAuthSession {
+                nonce_caller,
+                session_type,
+                symmetric,
+                auth_hash,
+            } => CommandBody::StartAuthSession(StartAuth {
+                bind: bind_in(second(handles)),
+                nonce_caller,
+                session_type,
+                symmetric,
+                auth_hash,
+            }),
+            Params::PcrRead(selections) => CommandBody::PcrRead(selections),
+            Params::PolicyPcr {
+                pcr_digest,
+                selections,
+            } => CommandBody::PolicyPcr {
+                session: policy_in(first(handles)),
+                pcr_digest,
+                selections,
+            },
+            Params::PolicyRestart => CommandBody::PolicyRestart {
+                session: policy_in(first(handles)),
+            },
+            Params::PcrExtend(digests) => CommandBody::PcrExtend {
+                register: pcr_or_null_in(first(handles)),
+                digests,
+            },
+            Params::PolicyGetDigest => CommandBody::PolicyGetDigest {
+                session: policy_in(first(handles)),
+            },
+        }
     }
 }

@@ -9,7 +9,7 @@ ghost use Rattle.tpm_wire.specs.Path.{Spells, Fault};
 ghost use Rattle.tpm_buffer.specs.declared.command.Command.{Command as CommandOf};
 ghost use Rattle.tpm_buffer.specs.Commands.{command};
 
-use crate::command::{Command, body_of};
+use crate::command::{Command, CommandBody};
 use crate::front::{long_fault, take_authorization, take_header};
 use crate::handles::take_handles;
 use crate::params::take_params;
@@ -25,7 +25,7 @@ fn take_command(cursor: &mut Cursor<'_>) -> Result<Command, Refusal>
     let handles = take_handles(cursor, header.code)?;
     let auths = take_authorization(cursor, header.tag)?;
     let params = take_params(cursor, header.code)?;
-    let body = body_of(handles.as_slice(), params);
+    let body = CommandBody::from_parts(handles.as_slice(), params);
     Ok(Command { body, auths })
 }
 

@@ -206,7 +206,8 @@ pub(crate) fn take_params(cursor: &mut Cursor<'_>, code: CommandCode) -> Result<
 
 fn decode(code: CommandCode, bytes: &[u8]) -> Result<Params, Refusal>
     requires { length bytes.now < 2 ^ 32 }
-    ensures { result ≡ read_all (parameters code) bytes.now }
+    ensures reads { result ≡ read_all (parameters code) bytes.now }
+    ensures code { IfOk result (λ p. params_code p ≡ code) }
 {
     let mut cursor = Cursor::new(bytes);
     let params = take_params(&mut cursor, code)?;
@@ -239,6 +240,8 @@ fn long_fault(code: CommandCode, bytes: &[u8]) -> Refusal
 /// the contract says no more of it.
 pub fn decode_params(code: CommandCode, bytes: &[u8]) -> Result<Params, Refusal>
     ensures decodes { length bytes.now < 2 ^ 32 → Decodes (parameters code) (λ p. p) bytes.now result }
+    ensures reads { length bytes.now < 2 ^ 32 → result ≡ read_all (parameters code) bytes.now }
+    ensures code { IfOk result (λ p. params_code p ≡ code) }
     ensures long { 2 ^ 32 ≤ length bytes.now → IsErr result }
 {
     if bytes.len() > u32::MAX as usize {

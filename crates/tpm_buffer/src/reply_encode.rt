@@ -231,7 +231,8 @@ fn put_code(error: ErrorCode, out: &mut Buffer)
 }
 
 fn encode_code(error: ErrorCode) -> Buffer
-    ensures { (code : CodeOf) → Spells (response_layout code) (responses.Code error) result.items }
+    ensures spells { (code : CodeOf) → Spells (response_layout code) (responses.Code error) result.items }
+    ensures bytes { (code : CodeOf) → result.items ≡ spelling (response_layout code) (responses.Code error) }
 {
     let mut out = ArrayVec::new();
     put_code(error, &mut out);
@@ -264,7 +265,8 @@ fn put_done(body: &ReplyBody, auths: &[AuthReply], out: &mut Buffer)
 
 fn encode_done(body: &ReplyBody, auths: &[AuthReply]) -> Buffer
     requires { length auths.now ≤ 3 }
-    ensures { Spells (response_layout (code_for_reply body.now)) (responses.Done body.now (record { items = auths.now })) result.items }
+    ensures spells { Spells (response_layout (code_for_reply body.now)) (responses.Done body.now (record { items = auths.now })) result.items }
+    ensures bytes { result.items ≡ spelling (response_layout (code_for_reply body.now)) (responses.Done body.now (record { items = auths.now })) }
 {
     let mut out = ArrayVec::new();
     put_done(body, auths, &mut out);
@@ -277,7 +279,8 @@ fn encode_done(body: &ReplyBody, auths: &[AuthReply]) -> Buffer
 /// The bytes that spell the response: a code in 10 bytes, under tag 0x00C4 where it is TPM_RC_BAD_TAG and 0x8001 else;
 /// a reply under tag 0x8001 where it has no sessions and 0x8002 else.
 pub fn encode_response(response: &Response) -> Buffer
-    ensures { (code : CodeOf) → Answers code response.now → Spells (response_layout code) response.now result.items }
+    ensures spells { (code : CodeOf) → Answers code response.now → Spells (response_layout code) response.now result.items }
+    ensures bytes { (code : CodeOf) → Answers code response.now → result.items ≡ spelling (response_layout code) response.now }
 {
     match response {
         Response::Code(error) => encode_code(*error),

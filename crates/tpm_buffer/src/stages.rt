@@ -75,6 +75,13 @@ impl<'a> Headed<'a> {
         self.header.code
     }
 
+    /// The command's tag: 0x8001 without sessions, 0x8002 with them (Part 2, 6.9).
+    pub fn tag(&self) -> u16
+        ensures { result ≡ self.now.header.tag }
+    {
+        self.header.tag
+    }
+
     /// Reads the handles, or answers their first fault: INSUFFICIENT or VALUE with the handle's number.
     pub fn handles(self) -> Result<Handled<'a>, Refusal>
         ensures decodes { HasHandles self.entry result }

@@ -19,6 +19,6 @@ returns-clause-spelled c nothing =
     let text = c.in_ok-header.ensures.spelled ∙ ap (λ (r : List ℕ). spelling header h ++ r) (
     c.in_ok-handles.ensures.spelled ∙ ap (λ (r : List ℕ). spelling (handles h.code) hs ++ r) (
     c.in_ok-auths.ensures.spelled ∙ ap (λ (r : List ℕ). spelling (authorization h.tag) auths ++ r) last)) in
-    let body = c.body_of-body.ensures ∙ ap (λ (ns : List ℕ). body_from ns p) c.as_slice.ensures.value in
+    let body = c.from_parts-body.ensures.body ∙ ap (λ (ns : List ℕ). body_from ns p) c.as_slice.ensures.value in
     canonical h hs auths p c.args.cursor.now.here.rest c.in_ok-header.ensures.tag c.in_ok-header.ensures.size c.in_ok-handles.ensures.admitted c.in_ok-params.ensures.code c.in_ok-auths.ensures.none c.in_ok-auths.ensures.some text
     ∙ ap (λ (b : CommandBody). spelling command (with_auths b auths)) (sym body)
