@@ -1,0 +1,4 @@
+pub mod Kept
+pub mod Alike
+pub mod Own
+pub mod Passing

@@ -1,0 +1,117 @@
+-- What was permitted and performed is the answer.
+use Rattle.std.proofs.Common.{◌≡◌, ℕ, ◌<◌, List, [], ◌∷◌, Result, Ok, Err, refl, sym, ap, subst, ◌∙◌}
+use Rattle.std.specs.Prelude.{IfOk}
+use Rattle.tpm_wire.specs.declared.refusal.Refusal.{Refusal}
+use Rattle.tpm_wire.specs.Token.{at_start}
+use Rattle.tpm_wire.specs.Reading.{read, read_all, ◌>>=◌}
+use Rattle.tpm_wire.specs.Spelling.{spelling}
+use Rattle.tpm_types.specs.declared.tpms.Auth.{Auth}
+use Rattle.tpm_buffer.specs.declared.code.CommandCode.{CommandCode}
+use Rattle.tpm_buffer.specs.declared.code.CommandCode.TheVariants as codes
+use Rattle.tpm_buffer.specs.declared.command.CommandBody.{CommandBody}
+use Rattle.tpm_buffer.specs.declared.params.Params.{Params}
+use Rattle.tpm_buffer.specs.declared.response.ReplyBody.{ReplyBody}
+use Rattle.tpm_buffer.specs.declared.response.Response.{Response}
+use Rattle.tpm_buffer.specs.declared.response.Response.TheVariants as responses
+use Rattle.tpm_buffer.specs.declared.stages.Areas.{Areas}
+use Rattle.tpm_buffer.specs.declared.stages.Handled.{Handled}
+use Rattle.tpm_buffer.specs.declared.stages.Headed.{Headed}
+use Rattle.tpm_buffer.specs.Handles.{first}
+use Rattle.tpm_buffer.specs.Parameters.{parameters}
+use Rattle.tpm_buffer.specs.Commands.{header, body_from, with_auths, code_for}
+use Rattle.tpm_buffer.specs.Replies.{code_for_reply}
+use Rattle.tpm_buffer.specs.Responses.{response, Answers}
+use Rattle.tpm_buffer.specs.Areas.{IsHandled, IsAreas}
+use Rattle.tpm_model.specs.Steps.{History, Origin}
+use Rattle.tpm_model.specs.Present.{Present, present}
+use Rattle.tpm_model.specs.Entities.{Entity, entity_of}
+use Rattle.tpm_model.specs.Authorization.{Proof, check_proof, reply_auths}
+use Rattle.tpm_model.specs.Actions.{action}
+use Rattle.tpm_model.specs.Answers.{Commands, Presented, Done, check_has, check_started, check_handles, check_tag, proof_in, presented, permitted, performed, outcome, answered, reply_params}
+use Rattle.tpm_model.proofs.Accepted.{ok_is}
+use Rattle.tpm_model.proofs.Nonzero.{IfRefused, read_all_coded}
+use Rattle.tpm_model.proofs.Coded.{coded_parameters}
+use Rattle.tpm_model.proofs.Refused.{refused_with}
+use Rattle.tpm_device.specs.declared.device.Device.{Device}
+use Rattle.tpm_device.specs.Passwords.{by_password, replies_to}
+use Rattle.tpm_device.specs.Stands.{Stands, holds, presented_in, reply_in}
+use Rattle.tpm_device.proofs.Alike.{Alike, permitted_alike}
+
+-- ---- before the parameters
+
+abbrev with_proof : Present → Areas → Proof → Presented
+with_proof p x proof = record {
+  code = x.header.code;
+  handles = x.handles.items;
+  auths = x.auths.items;
+  params = x.params.now;
+  entity = entity_of p (first x.handles.items);
+  proof = proof;
+}
+
+-- What is left are the sessions.
+pub sessions_left : (has : Commands) (p : Present) (bytes : List ℕ) (headed : Headed) (handled : Handled) (x : Areas) → read 0 header (at_start bytes) ≡ Ok (headed.header, headed.cursor.here)
+    → IsHandled headed (Ok handled) → IsAreas handled (Ok x) → check_has (has headed.header.code) ≡ Ok tt → check_started p.started headed.header.code ≡ Ok tt
+    → check_handles p 1 handled.handles.items ≡ Ok tt → check_tag headed.header.code headed.header.tag ≡ Ok tt
+    → presented has p bytes ≡ (proof_in p x.header.code x.handles.items x.params.now x.auths.items >>= λ proof. Ok (with_proof p x proof))
+sessions_left has p bytes headed handled x heads hs from is_had was_started were_handles was_tag =
+    let areas_read = rw hs.1 at from.0 in
+    rw (from.2, from.1, hs.1, heads, is_had, was_started, hs.0, were_handles, was_tag, areas_read) refl
+
+pub not_proved : (has : Commands) (p : Present) (bytes : List ℕ) (x : Areas) (code : ℕ)
+    → presented has p bytes ≡ (proof_in p x.header.code x.handles.items x.params.now x.auths.items >>= λ proof. Ok (with_proof p x proof))
+    → proof_in p x.header.code x.handles.items x.params.now x.auths.items ≡ Err code → permitted has p bytes ≡ Err code
+not_proved has p bytes x code left is = rw (left, is) refl
+
+pub proof_checked : (has : Commands) (p : Present) (bytes : List ℕ) (x : Areas)
+    → presented has p bytes ≡ (proof_in p x.header.code x.handles.items x.params.now x.auths.items >>= λ proof. Ok (with_proof p x proof))
+    → proof_in p x.header.code x.handles.items x.params.now x.auths.items ≡ Ok (by_password (entity_of p (first x.handles.items)) x.auths.items)
+    → permitted has p bytes ≡ (check_proof (entity_of p (first x.handles.items)) (by_password (entity_of p (first x.handles.items)) x.auths.items) >>= λ _. Ok (presented_in p x))
+proof_checked has p bytes x left is = rw (left, is) refl
+
+stands_alike : (o : Origin) (h : History) (d : Device) → Stands o h d → Alike (present o h) (holds d)
+stands_alike o h d st = record {
+  started = sym st.started;
+  owner = sym st.owner;
+  update_counter = sym st.registers.updates;
+  session = st.sessions;
+  counter = st.counters;
+}
+
+-- What the device permits is permitted at the history.
+pub outcome_at : (has : Commands) (o : Origin) (h : History) (d : Device) → Stands o h d → (bytes n : List ℕ) (r : Result Presented ℕ) → permitted has (holds d) bytes ≡ r
+    → outcome has (present o h) bytes n ≡ (r >>= performed (present o h) n)
+outcome_at has o h d st bytes n r is = ap (λ (x : Result Presented ℕ). x >>= performed (present o h) n) (permitted_alike has (present o h) (holds d) (stands_alike o h d st) bytes ∙ is)
+
+pub permitted_some : (has : Commands) (p : Present) (bytes : List ℕ) (code : ℕ) → permitted has p bytes ≡ Err code → 0 < code
+permitted_some has p bytes code is = (refused_with has p bytes [] code (rw is refl)).0
+
+-- ---- the parameters and the action
+
+pub read_some : (code : CommandCode) (bytes : List ℕ) (e : Refusal) → Err e ≡ read_all (parameters code) bytes → 0 < e.code
+read_some code bytes e is = (subst IfRefused (sym is) (read_all_coded (parameters code) bytes (coded_parameters code))).0
+
+password_replied : (e : Entity) (auths : List Auth) (code : CommandCode) (params n : List ℕ) → reply_auths (by_password e auths) code params n ≡ replies_to auths
+password_replied e [] code params n = refl
+password_replied e (a ∷ others) code params n = refl
+
+abbrev pub done_by : CommandBody → ReplyBody → List Auth → Done
+done_by body reply auths = record { command = with_auths body auths; reply = record { body = reply; auths = replies_to auths } }
+
+pub performed_is : (p q : Present) (n : List ℕ) (x : Areas) (params : Params) (body : CommandBody) (reply : ReplyBody) → read_all (parameters x.header.code) x.params.now ≡ Ok params
+    → body ≡ body_from x.handles.items params → Ok reply ≡ action p body n → performed p n (presented_in q x) ≡ Ok (done_by body reply x.auths.items)
+performed_is p q n x params body reply reads is acted =
+    let e = entity_of q (first x.handles.items) in
+    rw (reads, sym is, sym acted, password_replied e x.auths.items x.header.code (reply_params reply) n) refl
+
+-- ---- the bytes
+
+pub spelled : (r : Result Done ℕ) (it : Response) (items : List ℕ) → IfOk r (λ d. code_for d.command.body ≡ code_for_reply d.reply.body) → Ok it ≡ reply_in r
+    → ((code : CommandCode) → Answers code it → items ≡ spelling (response code) it) → items ≡ answered r
+spelled (Ok d) it items own is text =
+    (rw (ok_is it _ is) at text) (code_for d.command.body) own
+spelled (Err e) it items own is text = absurd (cc)
+
+pub spelled_code : (r : Result Done ℕ) (code : ℕ) (items : List ℕ) → Err code ≡ reply_in r → items ≡ spelling (response codes.Startup) (responses.Code code) → items ≡ answered r
+spelled_code (Ok d) code items is text = absurd (cc)
+spelled_code (Err e) code items is text = text ∙ ap (λ (n : ℕ). spelling (response codes.Startup) (responses.Code n)) (cc)

@@ -1,0 +1,294 @@
+//! A device: the order of its checks, and its actions.
+
+ghost use Rattle.std.specs.Prelude.{◌≡◌, ℕ, ◌<◌, ◌^◌, List, [], ◌∷◌, true, length, Ok, IfOk, IfErr, OnOk, OnErr};
+ghost use Rattle.tpm_wire.specs.Reading.{Gives};
+ghost use Rattle.tpm_types.specs.declared.tpms.Auth.{Auth as AuthOf};
+ghost use Rattle.tpm_types.specs.declared.handle_sets.PcrOrNull.{PcrOrNull as PcrOrNullOf};
+ghost use Rattle.tpm_buffer.specs.declared.code.CommandCode.{CommandCode as CodeOf};
+ghost use Rattle.tpm_buffer.specs.declared.command.CommandBody.TheVariants as bodies;
+ghost use Rattle.tpm_buffer.specs.declared.response.ReplyBody.TheVariants as replies;
+ghost use Rattle.tpm_buffer.specs.declared.response.Response.TheVariants as responses;
+ghost use Rattle.tpm_buffer.specs.Handles.{first as first_of};
+ghost use Rattle.tpm_buffer.specs.Commands.{with_auths, code_for};
+ghost use Rattle.tpm_buffer.specs.Responses.{Reply};
+ghost use Rattle.tpm_model.specs.Steps.{History, Accepted, PowerCycle, Origin};
+ghost use Rattle.tpm_model.specs.Present.{present};
+ghost use Rattle.tpm_model.specs.Entities.{entity_of, auth_value as auth_value_of};
+ghost use Rattle.tpm_model.specs.Authorization.{check_proof, password_reply as password_reply_of};
+ghost use Rattle.tpm_model.specs.Actions.{action, then_reply, check_startup, check_extend, check_reset};
+ghost use Rattle.tpm_model.specs.Answers.{proof_in, permitted, performed, outcome, answer, next, with_outcome};
+ghost use Rattle.tpm_device.specs.Commands.{has_command};
+ghost use Rattle.tpm_device.specs.Passwords.{by_password, replies_to as replies_of};
+ghost use Rattle.tpm_device.specs.Stands.{Stands, holds, presented_in, reply_in};
+
+use crate::checks::{check_first, check_handles, check_has, check_started, check_tag, first};
+use crate::codes::{BAD_AUTH, PARAMETER_1, SESSION_1};
+use arrayvec::ArrayVec;
+use tpm_buffer::{
+    Areas, CommandBody, ErrorCode, ReplyBody, Response, decode_params, encode_response, header,
+};
+use tpm_hmac::{same, trim};
+use tpm_store::Registers;
+use tpm_types::{
+    Auth, AuthReply, AuthValue, DigestValues, PcrIndex, PcrOrNull, RH_OWNER, Selections,
+    SessionAttrs, StartupType, VALUE,
+};
+use tpm_wire::{Buffer, Duplicate};
+
+/// A device of this profile, with the commands TPM2_Startup, TPM2_PCR_Read, TPM2_PCR_Extend and TPM2_PCR_Reset.
+#[derive(Drop)]
+pub struct Device {
+    owner: AuthValue,
+    greatest: u64,
+    started: bool,
+    registers: Registers,
+}
+
+// What a password is answered with.
+fn password_reply() -> AuthReply
+    ensures { result ≡ password_reply_of }
+{
+    match SessionAttrs::from_number(0x01) {
+        Some(attrs) => AuthReply {
+            nonce: AuthValue::default(),
+            attrs,
+            hmac: AuthValue::default(),
+        },
+        None => unreachable!(),
+    }
+}
+
+// The replies to these sessions: a password's, or none.
+fn replies_to(auths: &[Auth]) -> ArrayVec<AuthReply, 3>
+    ensures { result.items ≡ replies_of auths.now }
+{
+    let mut replies = ArrayVec::new();
+    if !auths.is_empty() {
+        replies.push(password_reply());
+    }
+    replies
+}
+
+// The response that is this code.
+fn refused(code: u32) -> Response
+    requires { 0 < code }
+    ensures { result ≡ responses.Code code }
+{
+    match ErrorCode::from_number(code) {
+        Some(error) => Response::Code(error),
+        None => unreachable!(),
+    }
+}
+
+impl Device {
+    /// A device that is not started. The owner has this authorization value, and no counter of the device has had a greater value
+    /// than this.
+    pub fn new(owner: &AuthValue, greatest: u64) -> Self
+        ensures { Stands (record { owner = owner.now; greatest = greatest }) [] result }
+    {
+        Device {
+            owner: owner.duplicate(),
+            greatest,
+            started: false,
+            registers: Registers::new(),
+        }
+    }
+
+    /// The power is switched off and on: the registers, the update counter and whether the device is started are as on a new device.
+    pub fn power_cycle(&mut self)
+        ensures { (o : Origin) (h : History) → Stands o h self.old → Stands o (PowerCycle ∷ h) self.new }
+    {
+        self.started = false;
+        self.registers = Registers::new();
+    }
+
+    // The authorization value of what the handle names: the owner's, and none for a register or TPM_RH_NULL.
+    fn auth_value(&self, handle: u32) -> &[u8]
+        ensures { result.now ≡ auth_value_of (entity_of (holds self.now) handle) }
+    {
+        if handle == RH_OWNER {
+            return trim(self.owner.as_slice());
+        }
+        &[]
+    }
+
+    // The checks of the sessions before the password.
+    fn check_sessions(&self, auths: &[Auth]) -> Result<(), u32>
+        ensures { (code : CodeOf) (handles params : List ℕ) →
+            Gives (λ x. by_password (entity_of (holds self.now) (first_of handles)) auths.now) (proof_in (holds self.now) code handles params auths.now) result }
+    {
+        match auths {
+            [] => Ok(()),
+            [auth, others @ ..] => check_first(auth, others),
+        }
+    }
+
+    // The password, if there is one, is that of what the first handle names.
+    fn check_password(&self, handles: &[u32], auths: &[Auth]) -> Result<(), u32>
+        ensures { result ≡ check_proof (entity_of (holds self.now) (first_of handles.now)) (by_password (entity_of (holds self.now) (first_of handles.now)) auths.now) }
+    {
+        match auths {
+            [] => Ok(()),
+            [auth, ..] => {
+                if !same(trim(auth.hmac.as_slice()), self.auth_value(first(handles))) {
+                    return Err(BAD_AUTH + SESSION_1);
+                }
+                Ok(())
+            }
+        }
+    }
+
+    // The checks before the parameters.
+    fn permit<'a>(&self, bytes: &'a [u8]) -> Result<Areas<'a>, u32>
+        ensures tells { Gives (presented_in (holds self.now)) (permitted has_command (holds self.now) bytes.now) result }
+        ensures has { IfOk result (λ x. has_command x.header.code ≡ true) }
+        ensures short { IfOk result (λ x. length x.params.now < 2 ^ 32) }
+    {
+        let headed = match header(bytes) {
+            Ok(headed) => headed,
+            Err(refusal) => return Err(refusal.code),
+        };
+        let code = headed.code();
+        let tag = headed.tag();
+        check_has(code)?;
+        check_started(self.started, code)?;
+        let handled = match headed.handles() {
+            Ok(handled) => handled,
+            Err(refusal) => return Err(refusal.code),
+        };
+        check_handles(handled.list())?;
+        check_tag(code, tag)?;
+        let areas = match handled.areas() {
+            Ok(areas) => areas,
+            Err(refusal) => return Err(refusal.code),
+        };
+        self.check_sessions(areas.auths())?;
+        self.check_password(areas.handles(), areas.auths())?;
+        Ok(areas)
+    }
+
+    // TPM2_Startup (Part 3, TPM2_Startup).
+    fn start(&mut self, kind: StartupType) -> Result<ReplyBody, u32>
+        ensures answer { result ≡ then_reply (check_startup kind) replies.Startup }
+        ensures stands { OnOk result ((o : Origin) (h : History) (auths : List AuthOf) (r : Reply) (n : List ℕ) → Stands o h self.old →
+            Stands o (Accepted (with_auths (bodies.Startup kind) auths) r n ∷ h) self.new) }
+        ensures refused { OnErr result (self.new ≡ self.old) }
+        ensures some { IfErr result (λ code. 0 < code) }
+    {
+        match kind {
+            StartupType::Clear => {
+                self.started = true;
+                self.registers = Registers::new();
+                Ok(ReplyBody::Startup)
+            }
+            StartupType::State => Err(VALUE + PARAMETER_1),
+        }
+    }
+
+    // TPM2_PCR_Extend (Part 3, TPM2_PCR_Extend).
+    fn extend(&mut self, register: PcrOrNull, digests: &DigestValues) -> Result<ReplyBody, u32>
+        ensures answer { result ≡ then_reply (check_extend register) replies.PcrExtend }
+        ensures stands { OnOk result ((o : Origin) (h : History) (auths : List AuthOf) (r : Reply) (n : List ℕ) → Stands o h self.old →
+            Stands o (Accepted (with_auths (bodies.PcrExtend register digests.now) auths) r n ∷ h) self.new) }
+        ensures refused { OnErr result (self.new ≡ self.old) }
+        ensures some { IfErr result (λ code. 0 < code) }
+    {
+        match register {
+            PcrOrNull::Pcr(register) => {
+                self.registers.extend(register, digests)?;
+                Ok(ReplyBody::PcrExtend)
+            }
+            PcrOrNull::Null => Ok(ReplyBody::PcrExtend),
+        }
+    }
+
+    // TPM2_PCR_Reset (Part 3, TPM2_PCR_Reset).
+    fn reset(&mut self, register: PcrIndex) -> Result<ReplyBody, u32>
+        ensures answer { result ≡ then_reply (check_reset register) replies.PcrReset }
+        ensures stands { OnOk result ((o : Origin) (h : History) (auths : List AuthOf) (r : Reply) (n : List ℕ) → Stands o h self.old →
+            Stands o (Accepted (with_auths (bodies.PcrReset register) auths) r n ∷ h) self.new) }
+        ensures refused { OnErr result (self.new ≡ self.old) }
+        ensures some { IfErr result (λ code. 0 < code) }
+    {
+        self.registers.reset(register)?;
+        Ok(ReplyBody::PcrReset)
+    }
+
+    // TPM2_PCR_Read (Part 3, TPM2_PCR_Read).
+    fn read(&self, selections: &Selections) -> ReplyBody
+        ensures { (o : Origin) (h : History) (n : List ℕ) → Stands o h self.now → Ok result ≡ action (present o h) (bodies.PcrRead selections.now) n }
+    {
+        let (selections, digests) = self.registers.select(selections);
+        ReplyBody::PcrRead {
+            update_counter: self.registers.counter(),
+            selections,
+            digests,
+        }
+    }
+
+    // The action of a command that the device has.
+    fn act(&mut self, body: &CommandBody) -> Result<ReplyBody, u32>
+        requires { has_command (code_for body.now) ≡ true }
+        ensures answer { (o : Origin) (h : History) (n : List ℕ) → Stands o h self.old → result ≡ action (present o h) body.now n }
+        ensures stands { OnOk result ((o : Origin) (h : History) (auths : List AuthOf) (r : Reply) (n : List ℕ) → Stands o h self.old →
+            Stands o (Accepted (with_auths body.now auths) r n ∷ h) self.new) }
+        ensures refused { OnErr result (self.new ≡ self.old) }
+        ensures some { IfErr result (λ code. 0 < code) }
+    {
+        match body {
+            CommandBody::Startup(kind) => self.start(*kind),
+            CommandBody::PcrExtend { register, digests } => self.extend(*register, digests),
+            CommandBody::PcrReset { register } => self.reset(*register),
+            CommandBody::PcrRead(selections) => Ok(self.read(selections)),
+            _ => unreachable!(),
+        }
+    }
+
+    // The parameters and the action.
+    fn perform(&mut self, areas: &Areas<'_>) -> Result<Response, u32>
+        requires has { has_command areas.now.header.code ≡ true }
+        requires short { length areas.now.params.now < 2 ^ 32 }
+        ensures answer { (o : Origin) (h : History) (n : List ℕ) → Stands o h self.old →
+            result ≡ reply_in (performed (present o h) n (presented_in (holds self.old) areas.now)) }
+        ensures stands { (o : Origin) (h : History) (n : List ℕ) → Stands o h self.old →
+            Stands o (with_outcome h n (performed (present o h) n (presented_in (holds self.old) areas.now))) self.new }
+        ensures some { IfErr result (λ code. 0 < code) }
+    {
+        let params = match decode_params(areas.code(), areas.params()) {
+            Ok(params) => params,
+            Err(refusal) => return Err(refusal.code),
+        };
+        let body = self.act(&CommandBody::from_parts(areas.handles(), params))?;
+        Ok(Response::Done {
+            body,
+            auths: replies_to(areas.auths()),
+        })
+    }
+
+    // The response before it is spelled, or the code of the first check that fails.
+    fn respond(&mut self, bytes: &[u8]) -> Result<Response, u32>
+        ensures answer { (o : Origin) (h : History) (n : List ℕ) → Stands o h self.old → result ≡ reply_in (outcome has_command (present o h) bytes.now n) }
+        ensures stands { (o : Origin) (h : History) (n : List ℕ) → Stands o h self.old → Stands o (next has_command o h bytes.now n) self.new }
+        ensures some { IfErr result (λ code. 0 < code) }
+    {
+        match self.permit(bytes) {
+            Ok(areas) => self.perform(&areas),
+            Err(code) => Err(code),
+        }
+    }
+
+    /// Answers a command with its response, byte for byte: the bytes of a command, of any number and value, and a nonce of 64 bytes that
+    /// a new session's or the next nonceTPM is the front of. The first check that fails gives the response code, and then nothing
+    /// changes: the header, handles, authorization area and parameters by the grammar (tpm_buffer), COMMAND_CODE for a command that
+    /// the device does not have, INITIALIZE, AUTH_MISSING, AUTH_CONTEXT, REFERENCE_S0, ATTRIBUTES, NONCE, BAD_AUTH, and the action's
+    /// own (VALUE for a start from a saved state, LOCALITY). A code stands alone in 10 bytes.
+    pub fn execute(&mut self, bytes: &[u8], nonce: &[u8; 64]) -> Buffer
+        ensures answer { (o : Origin) (h : History) → Stands o h self.old → result.items ≡ answer has_command o h bytes.now nonce.now }
+        ensures stands { (o : Origin) (h : History) → Stands o h self.old → Stands o (next has_command o h bytes.now nonce.now) self.new }
+    {
+        match self.respond(bytes) {
+            Ok(response) => encode_response(&response),
+            Err(code) => encode_response(&refused(code)),
+        }
+    }
+}
