@@ -127,6 +127,3 @@ fn take_up_to(held: &mut Buffer, size: usize, piece: &[u8]) -> usize
     put_bytes(held, &piece[..count]);
     count
 }
-
-#[cfg(test)]
-mod tests;

@@ -89,6 +89,3 @@ fn fill<R: Source>(source: &mut R, room: &mut [u8]) -> Result<usize, ReadFailed>
     }
     Ok(count)
 }
-
-#[cfg(test)]
-mod tests;

@@ -1,9 +1,12 @@
+//! Frames of readers.
+
 ghost use Rattle.std.specs.Prelude.{None};
 
-use super::{ReadFault, read_frame};
 use std::io;
 use std::io::Read;
 use std::process::Abort;
+use std::test::*;
+use tpm_buffer::{ReadFault, read_frame};
 use tpm_wire::{Buffer, ReadFailed, Reads, Refusal, SliceSource, Source};
 
 // PCR_Read of register 0 in SHA-256.

@@ -1,4 +1,7 @@
-use super::{Framer, Status};
+//! Frames of pieces.
+
+use std::test::*;
+use tpm_buffer::{Framer, Status};
 use tpm_wire::Refusal;
 
 // PCR_Read of register 0 in SHA-256.
