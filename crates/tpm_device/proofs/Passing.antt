@@ -2,8 +2,7 @@
 use Rattle.std.proofs.Common.{◌≡◌, ℕ, ◌<◌, List, [], ◌∷◌, Result, Ok, Err, refl, sym, ap, subst, ◌∙◌}
 use Rattle.std.specs.Prelude.{IfOk}
 use Rattle.tpm_wire.specs.declared.refusal.Refusal.{Refusal}
-use Rattle.tpm_wire.specs.Token.{at_start}
-use Rattle.tpm_wire.specs.Reading.{read, read_all, ◌>>=◌}
+use Rattle.tpm_wire.specs.Reading.{read_all, ◌>>=◌}
 use Rattle.tpm_wire.specs.Spelling.{spelling}
 use Rattle.tpm_types.specs.declared.tpms.Auth.{Auth}
 use Rattle.tpm_buffer.specs.declared.code.CommandCode.{CommandCode}
@@ -14,57 +13,34 @@ use Rattle.tpm_buffer.specs.declared.response.ReplyBody.{ReplyBody}
 use Rattle.tpm_buffer.specs.declared.response.Response.{Response}
 use Rattle.tpm_buffer.specs.declared.response.Response.TheVariants as responses
 use Rattle.tpm_buffer.specs.declared.stages.Areas.{Areas}
-use Rattle.tpm_buffer.specs.declared.stages.Handled.{Handled}
-use Rattle.tpm_buffer.specs.declared.stages.Headed.{Headed}
 use Rattle.tpm_buffer.specs.Handles.{first}
 use Rattle.tpm_buffer.specs.Parameters.{parameters}
-use Rattle.tpm_buffer.specs.Commands.{header, body_from, with_auths, code_for}
+use Rattle.tpm_buffer.specs.Commands.{command_size, body_from, with_auths, code_for}
 use Rattle.tpm_buffer.specs.Replies.{code_for_reply}
-use Rattle.tpm_buffer.specs.Responses.{response, Answers}
-use Rattle.tpm_buffer.specs.Areas.{IsHandled, IsAreas}
+use Rattle.tpm_buffer.specs.Responses.{response_tag, response_front, response_code, response, code_of_response, Answers}
 use Rattle.tpm_model.specs.Steps.{History, Origin}
 use Rattle.tpm_model.specs.Present.{Present, present}
 use Rattle.tpm_model.specs.Entities.{Entity, entity_of}
-use Rattle.tpm_model.specs.Authorization.{Proof, check_proof, reply_auths}
+use Rattle.tpm_model.specs.Authorization.{check_proof, reply_auths}
 use Rattle.tpm_model.specs.Actions.{action}
-use Rattle.tpm_model.specs.Answers.{Commands, Presented, Done, check_has, check_started, check_handles, check_tag, proof_in, presented, permitted, performed, outcome, answered, reply_params}
+use Rattle.tpm_model.specs.Answers.{Commands, Presented, Done, proof_in, presented, permitted, performed, outcome, answered, reply_params}
+use Rattle.tpm_model.specs.Premises.{code_in}
 use Rattle.tpm_model.proofs.Accepted.{ok_is}
 use Rattle.tpm_model.proofs.Nonzero.{IfRefused, read_all_coded}
 use Rattle.tpm_model.proofs.Coded.{coded_parameters}
 use Rattle.tpm_model.proofs.Refused.{refused_with}
 use Rattle.tpm_device.specs.declared.device.Device.{Device}
 use Rattle.tpm_device.specs.Passwords.{by_password, replies_to}
-use Rattle.tpm_device.specs.Stands.{Stands, holds, presented_in, reply_in}
+use Rattle.tpm_device.specs.Stands.{Stands, holds, IsRead, presented_in, reply_in}
 use Rattle.tpm_device.proofs.Alike.{Alike, permitted_alike}
 
 -- ---- before the parameters
 
-abbrev with_proof : Present → Areas → Proof → Presented
-with_proof p x proof = record {
-  code = x.header.code;
-  handles = x.handles.items;
-  auths = x.auths.items;
-  params = x.params.now;
-  entity = entity_of p (first x.handles.items);
-  proof = proof;
-}
-
--- What is left are the sessions.
-pub sessions_left : (has : Commands) (p : Present) (bytes : List ℕ) (headed : Headed) (handled : Handled) (x : Areas) → read 0 header (at_start bytes) ≡ Ok (headed.header, headed.cursor.here)
-    → IsHandled headed (Ok handled) → IsAreas handled (Ok x) → check_has (has headed.header.code) ≡ Ok tt → check_started p.started headed.header.code ≡ Ok tt
-    → check_handles p 1 handled.handles.items ≡ Ok tt → check_tag headed.header.code headed.header.tag ≡ Ok tt
-    → presented has p bytes ≡ (proof_in p x.header.code x.handles.items x.params.now x.auths.items >>= λ proof. Ok (with_proof p x proof))
-sessions_left has p bytes headed handled x heads hs from is_had was_started were_handles was_tag =
-    let areas_read = rw hs.1 at from.0 in
-    rw (from.2, from.1, hs.1, heads, is_had, was_started, hs.0, were_handles, was_tag, areas_read) refl
-
-pub not_proved : (has : Commands) (p : Present) (bytes : List ℕ) (x : Areas) (code : ℕ)
-    → presented has p bytes ≡ (proof_in p x.header.code x.handles.items x.params.now x.auths.items >>= λ proof. Ok (with_proof p x proof))
+pub not_proved : (has : Commands) (p : Present) (bytes : List ℕ) (x : Areas) (code : ℕ) → IsRead p (presented has p bytes) (Ok x)
     → proof_in p x.header.code x.handles.items x.params.now x.auths.items ≡ Err code → permitted has p bytes ≡ Err code
 not_proved has p bytes x code left is = rw (left, is) refl
 
-pub proof_checked : (has : Commands) (p : Present) (bytes : List ℕ) (x : Areas)
-    → presented has p bytes ≡ (proof_in p x.header.code x.handles.items x.params.now x.auths.items >>= λ proof. Ok (with_proof p x proof))
+pub proof_checked : (has : Commands) (p : Present) (bytes : List ℕ) (x : Areas) → IsRead p (presented has p bytes) (Ok x)
     → proof_in p x.header.code x.handles.items x.params.now x.auths.items ≡ Ok (by_password (entity_of p (first x.handles.items)) x.auths.items)
     → permitted has p bytes ≡ (check_proof (entity_of p (first x.handles.items)) (by_password (entity_of p (first x.handles.items)) x.auths.items) >>= λ _. Ok (presented_in p x))
 proof_checked has p bytes x left is = rw (left, is) refl
@@ -115,3 +91,8 @@ spelled (Err e) it items own is text = absurd (cc)
 pub spelled_code : (r : Result Done ℕ) (code : ℕ) (items : List ℕ) → Err code ≡ reply_in r → items ≡ spelling (response codes.Startup) (responses.Code code) → items ≡ answered r
 spelled_code (Ok d) code items is text = absurd (cc)
 spelled_code (Err e) code items is text = text ∙ ap (λ (n : ℕ). spelling (response codes.Startup) (responses.Code n)) (cc)
+
+pub zero_told : (it : Response) (items : List ℕ) → code_of_response it ≡ 0 → ((code : CommandCode) → Answers code it → items ≡ spelling (response code) it) → code_in items ≡ 0
+unfolding response response_front response_tag response_code command_size
+zero_told (responses.Done body auths) items done text = ap code_in (text (code_for_reply body) refl)
+zero_told (responses.Code n) items done text = ap code_in (text codes.Startup tt) ∙ rw done refl

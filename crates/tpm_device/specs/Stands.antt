@@ -1,5 +1,6 @@
 -- A device that holds what the queries at a history give.
 use Rattle.std.specs.Prelude.{◌≡◌, ℕ, None, Result, Ok, Err}
+use Rattle.tpm_wire.specs.Reading.{◌>>=◌}
 use Rattle.tpm_buffer.specs.declared.stages.Areas.{Areas}
 use Rattle.tpm_buffer.specs.declared.response.Response.{Response}
 use Rattle.tpm_buffer.specs.Handles.{first}
@@ -9,7 +10,8 @@ use Rattle.tpm_model.specs.Sessions.{session_at}
 use Rattle.tpm_model.specs.Counters.{counter_at, greatest}
 use Rattle.tpm_model.specs.Present.{Present}
 use Rattle.tpm_model.specs.Entities.{entity_of}
-use Rattle.tpm_model.specs.Answers.{Presented, Done}
+use Rattle.tpm_model.specs.Authorization.{Proof}
+use Rattle.tpm_model.specs.Answers.{Presented, Done, proof_in}
 use Rattle.tpm_store.specs.Stands.{StandsRegisters, held}
 use Rattle.tpm_device.specs.declared.device.Device.{Device}
 use Rattle.tpm_device.specs.Passwords.{by_password}
@@ -39,11 +41,25 @@ holds d = record {
   greatest = d.greatest;
 }
 
--- what was read before the parameters, and how the command is authorized
+-- what was read before the parameters, with what is left to be compared
+abbrev pub presented_with : Present → Areas → Proof → Presented
+presented_with p x proof = record {
+  code = x.header.code;
+  handles = x.handles.items;
+  auths = x.auths.items;
+  params = x.params.now;
+  entity = entity_of p (first x.handles.items);
+  proof = proof;
+}
+
+-- Of the checks before the last, those of the sessions are left, or one before them fails.
+abbrev pub IsRead : Present → Result Presented ℕ → Result Areas ℕ → Type 0
+IsRead p r (Ok x) = r ≡ (proof_in p x.header.code x.handles.items x.params.now x.auths.items >>= λ proof. Ok (presented_with p x proof))
+IsRead p r (Err code) = r ≡ Err code
+
+-- what was read before the parameters, where a password authorizes
 abbrev pub presented_in : Present → Areas → Presented
-presented_in p x =
-    let e = entity_of p (first x.handles.items) in
-    record { code = x.header.code; handles = x.handles.items; auths = x.auths.items; params = x.params.now; entity = e; proof = by_password e x.auths.items }
+presented_in p x = presented_with p x (by_password (entity_of p (first x.handles.items)) x.auths.items)
 
 -- the response of what was done, or the code of the check that failed
 abbrev pub reply_in : Result Done ℕ → Result Response ℕ

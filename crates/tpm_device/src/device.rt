@@ -10,16 +10,17 @@ ghost use Rattle.tpm_buffer.specs.declared.response.ReplyBody.TheVariants as rep
 ghost use Rattle.tpm_buffer.specs.declared.response.Response.TheVariants as responses;
 ghost use Rattle.tpm_buffer.specs.Handles.{first as first_of};
 ghost use Rattle.tpm_buffer.specs.Commands.{with_auths, code_for};
-ghost use Rattle.tpm_buffer.specs.Responses.{Reply};
+ghost use Rattle.tpm_buffer.specs.Responses.{Reply, code_of_response};
 ghost use Rattle.tpm_model.specs.Steps.{History, Accepted, PowerCycle, Origin};
 ghost use Rattle.tpm_model.specs.Present.{present};
 ghost use Rattle.tpm_model.specs.Entities.{entity_of, auth_value as auth_value_of};
 ghost use Rattle.tpm_model.specs.Authorization.{check_proof, password_reply as password_reply_of};
 ghost use Rattle.tpm_model.specs.Actions.{action, then_reply, check_startup, check_extend, check_reset};
-ghost use Rattle.tpm_model.specs.Answers.{proof_in, permitted, performed, outcome, answer, next, with_outcome};
+ghost use Rattle.tpm_model.specs.Answers.{proof_in, presented, permitted, performed, outcome, answer, next, with_outcome};
+ghost use Rattle.tpm_model.specs.Premises.{code_in};
 ghost use Rattle.tpm_device.specs.Commands.{has_command};
 ghost use Rattle.tpm_device.specs.Passwords.{by_password, replies_to as replies_of};
-ghost use Rattle.tpm_device.specs.Stands.{Stands, holds, presented_in, reply_in};
+ghost use Rattle.tpm_device.specs.Stands.{Stands, holds, IsRead, presented_in, reply_in};
 
 use crate::checks::{check_first, check_handles, check_has, check_started, check_tag, first};
 use crate::codes::{BAD_AUTH, PARAMETER_1, SESSION_1};
@@ -138,9 +139,9 @@ impl Device {
         }
     }
 
-    // The checks before the parameters.
-    fn permit<'a>(&self, bytes: &'a [u8]) -> Result<Areas<'a>, u32>
-        ensures tells { Gives (presented_in (holds self.now)) (permitted has_command (holds self.now) bytes.now) result }
+    // The checks before those of the sessions, and what was read.
+    fn read_areas<'a>(&self, bytes: &'a [u8]) -> Result<Areas<'a>, u32>
+        ensures reads { IsRead (holds self.now) (presented has_command (holds self.now) bytes.now) result }
         ensures has { IfOk result (λ x. has_command x.header.code ≡ true) }
         ensures short { IfOk result (λ x. length x.params.now < 2 ^ 32) }
     {
@@ -158,10 +159,19 @@ impl Device {
         };
         check_handles(handled.list())?;
         check_tag(code, tag)?;
-        let areas = match handled.areas() {
-            Ok(areas) => areas,
-            Err(refusal) => return Err(refusal.code),
-        };
+        match handled.areas() {
+            Ok(areas) => Ok(areas),
+            Err(refusal) => Err(refusal.code),
+        }
+    }
+
+    // All checks before the parameters.
+    fn permit<'a>(&self, bytes: &'a [u8]) -> Result<Areas<'a>, u32>
+        ensures tells { Gives (presented_in (holds self.now)) (permitted has_command (holds self.now) bytes.now) result }
+        ensures has { IfOk result (λ x. has_command x.header.code ≡ true) }
+        ensures short { IfOk result (λ x. length x.params.now < 2 ^ 32) }
+    {
+        let areas = self.read_areas(bytes)?;
         self.check_sessions(areas.auths())?;
         self.check_password(areas.handles(), areas.auths())?;
         Ok(areas)
@@ -252,6 +262,8 @@ impl Device {
             result ≡ reply_in (performed (present o h) n (presented_in (holds self.old) areas.now)) }
         ensures stands { (o : Origin) (h : History) (n : List ℕ) → Stands o h self.old →
             Stands o (with_outcome h n (performed (present o h) n (presented_in (holds self.old) areas.now))) self.new }
+        ensures refused { OnErr result (self.new ≡ self.old) }
+        ensures done { IfOk result (λ r. code_of_response r ≡ 0) }
         ensures some { IfErr result (λ code. 0 < code) }
     {
         let params = match decode_params(areas.code(), areas.params()) {
@@ -269,6 +281,8 @@ impl Device {
     fn respond(&mut self, bytes: &[u8]) -> Result<Response, u32>
         ensures answer { (o : Origin) (h : History) (n : List ℕ) → Stands o h self.old → result ≡ reply_in (outcome has_command (present o h) bytes.now n) }
         ensures stands { (o : Origin) (h : History) (n : List ℕ) → Stands o h self.old → Stands o (next has_command o h bytes.now n) self.new }
+        ensures refused { OnErr result (self.new ≡ self.old) }
+        ensures done { IfOk result (λ r. code_of_response r ≡ 0) }
         ensures some { IfErr result (λ code. 0 < code) }
     {
         match self.permit(bytes) {
@@ -285,6 +299,7 @@ impl Device {
     pub fn execute(&mut self, bytes: &[u8], nonce: &[u8; 64]) -> Buffer
         ensures answer { (o : Origin) (h : History) → Stands o h self.old → result.items ≡ answer has_command o h bytes.now nonce.now }
         ensures stands { (o : Origin) (h : History) → Stands o h self.old → Stands o (next has_command o h bytes.now nonce.now) self.new }
+        ensures refused { 0 < code_in result.items → self.new ≡ self.old }
     {
         match self.respond(bytes) {
             Ok(response) => encode_response(&response),

@@ -3,59 +3,43 @@ use Rattle.tpm_wire.specs.Reading.{◌>>=◌}
 use Rattle.tpm_buffer.specs.Handles.{first}
 use Rattle.tpm_model.specs.Authorization.{check_proof}
 use Rattle.tpm_model.specs.Entities.{entity_of}
-use Rattle.tpm_model.specs.Answers.{check_has, check_started, check_handles, check_tag, proof_in}
+use Rattle.tpm_model.specs.Answers.{proof_in}
 use Rattle.tpm_device.specs.Commands.{has_command}
 use Rattle.tpm_device.specs.Passwords.{by_password}
 use Rattle.tpm_device.specs.Stands.{holds, presented_in}
-use Rattle.tpm_device.proofs.Passing.{sessions_left, not_proved, proof_checked}
+use Rattle.tpm_device.proofs.Passing.{not_proved, proof_checked}
 use Rattle.tpm_device.proofs.device.Device.permit.Goals as goal
 
 pub returns-in_err-check_sessions-clause-tells : goal.returns-in_err-check_sessions-clause-tells
 returns-in_err-check_sessions-clause-tells c =
     let p = holds c.args.self.now in
-    let headed = c.in-Ok.headed in
-    let x = c.in-Ok-areas.areas in
-    let is_had : check_has (has_command headed.header.code) ≡ Ok tt = search rules in
-    let was_started : check_started p.started headed.header.code ≡ Ok tt = search rules in
-    let were_handles : check_handles p 1 c.in-Ok-handles.handled.handles.items ≡ Ok tt = search rules in
-    let was_tag : check_tag headed.header.code headed.header.tag ≡ Ok tt = search rules in
-    let left = sessions_left has_command p c.args.bytes.now headed c.in-Ok-handles.handled x c.in-Ok.ensures.reads c.in-Ok-handles.ensures.reads c.in-Ok-areas.ensures.reads is_had was_started were_handles was_tag in
-    let is : c.from_residual-in_err-check_sessions.result ≡ Err c.in_err-check_sessions.field-0.0 = search rules in
-    let refused : proof_in p x.header.code x.handles.items x.params.now x.auths.items ≡ Err c.in_err-check_sessions.field-0.0 =
+    let x = c.in_ok-areas.areas in
+    let code = c.in_err-check_sessions.field-0.0 in
+    let is : c.from_residual-in_err-check_sessions.result ≡ Err code = search rules in
+    let refused : proof_in p x.header.code x.handles.items x.params.now x.auths.items ≡ Err code =
     rw (sym c.auths.ensures) (c.in_err-check_sessions.ensures x.header.code x.handles.items x.params.now) in
-    rw is (not_proved has_command p c.args.bytes.now x c.in_err-check_sessions.field-0.0 left refused)
+    rw is (not_proved has_command p c.args.bytes.now x code c.in_ok-areas.ensures.reads refused)
 
 pub returns-in_err-check_password-clause-tells : goal.returns-in_err-check_password-clause-tells
 returns-in_err-check_password-clause-tells c =
     let p = holds c.args.self.now in
-    let headed = c.in-Ok.headed in
-    let x = c.in-Ok-areas.areas in
+    let x = c.in_ok-areas.areas in
     let e = entity_of p (first x.handles.items) in
-    let is_had : check_has (has_command headed.header.code) ≡ Ok tt = search rules in
-    let was_started : check_started p.started headed.header.code ≡ Ok tt = search rules in
-    let were_handles : check_handles p 1 c.in-Ok-handles.handled.handles.items ≡ Ok tt = search rules in
-    let was_tag : check_tag headed.header.code headed.header.tag ≡ Ok tt = search rules in
-    let left = sessions_left has_command p c.args.bytes.now headed c.in-Ok-handles.handled x c.in-Ok.ensures.reads c.in-Ok-handles.ensures.reads c.in-Ok-areas.ensures.reads is_had was_started were_handles was_tag in
-    let is : c.from_residual-in_err-check_password.result ≡ Err c.in_err-check_password.field-0.0 = search rules in
+    let code = c.in_err-check_password.field-0.0 in
+    let is : c.from_residual-in_err-check_password.result ≡ Err code = search rules in
     let proof : proof_in p x.header.code x.handles.items x.params.now x.auths.items ≡ Ok (by_password e x.auths.items) =
     rw (sym c.auths.ensures) (c.in_ok-check_sessions.ensures x.header.code x.handles.items x.params.now) in
-    let refused : check_proof e (by_password e x.auths.items) ≡ Err c.in_err-check_password.field-0.0 =
-    rw (sym c.handles-2.ensures, sym c.auths-2.ensures) (sym c.check_password.ensures ∙ c.in_err-check_password.was) in
-    rw is (proof_checked has_command p c.args.bytes.now x left proof ∙ ap (λ (r : Result (Unit {0}) ℕ). r >>= λ _. Ok (presented_in p x)) refused)
+    let refused : check_proof e (by_password e x.auths.items) ≡ Err code =
+    rw (sym c.handles.ensures, sym c.auths-2.ensures) (sym c.check_password.ensures ∙ c.in_err-check_password.was) in
+    rw is (proof_checked has_command p c.args.bytes.now x c.in_ok-areas.ensures.reads proof ∙ ap (λ (r : Result (Unit {0}) ℕ). r >>= λ _. Ok (presented_in p x)) refused)
 
 pub returns-clause-tells : goal.returns-clause-tells
 returns-clause-tells c =
     let p = holds c.args.self.now in
-    let headed = c.in-Ok.headed in
-    let x = c.in-Ok-areas.areas in
+    let x = c.in_ok-areas.areas in
     let e = entity_of p (first x.handles.items) in
-    let is_had : check_has (has_command headed.header.code) ≡ Ok tt = search rules in
-    let was_started : check_started p.started headed.header.code ≡ Ok tt = search rules in
-    let were_handles : check_handles p 1 c.in-Ok-handles.handled.handles.items ≡ Ok tt = search rules in
-    let was_tag : check_tag headed.header.code headed.header.tag ≡ Ok tt = search rules in
-    let left = sessions_left has_command p c.args.bytes.now headed c.in-Ok-handles.handled x c.in-Ok.ensures.reads c.in-Ok-handles.ensures.reads c.in-Ok-areas.ensures.reads is_had was_started were_handles was_tag in
     let proof : proof_in p x.header.code x.handles.items x.params.now x.auths.items ≡ Ok (by_password e x.auths.items) =
     rw (sym c.auths.ensures) (c.in_ok-check_sessions.ensures x.header.code x.handles.items x.params.now) in
     let passed : check_proof e (by_password e x.auths.items) ≡ Ok tt =
-    rw (sym c.handles-2.ensures, sym c.auths-2.ensures) (sym c.check_password.ensures ∙ c.in_ok-check_password.was) in
-    proof_checked has_command p c.args.bytes.now x left proof ∙ ap (λ (r : Result (Unit {0}) ℕ). r >>= λ _. Ok (presented_in p x)) passed
+    rw (sym c.handles.ensures, sym c.auths-2.ensures) (sym c.check_password.ensures ∙ c.in_ok-check_password.was) in
+    proof_checked has_command p c.args.bytes.now x c.in_ok-areas.ensures.reads proof ∙ ap (λ (r : Result (Unit {0}) ℕ). r >>= λ _. Ok (presented_in p x)) passed
