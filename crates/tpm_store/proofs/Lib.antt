@@ -1,2 +1,4 @@
 pub mod Choice
 pub mod Entries
+pub mod Slots
+pub mod Steps

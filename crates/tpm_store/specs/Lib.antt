@@ -1,3 +1,4 @@
 pub mod Value
 pub mod Select
+pub mod Slots
 pub mod Stands

@@ -1,5 +1,5 @@
 -- What is read of a selection, register by register (Part 3, TPM2_PCR_Read).
-use Rattle.std.specs.Prelude.{ℕ, ◌+◌, ◌-◌, ◌*◌, ◌%◌, List, [], ◌∷◌, length, map, take, filter, slice_index_or}
+use Rattle.std.specs.Prelude.{ℕ, ◌+◌, ◌-◌, ◌*◌, ◌%◌, List, [], ◌∷◌, map, take, filter, slice_index_or}
 use Rattle.tpm_types.specs.Tpma.{mask}
 use Rattle.tpm_types.specs.Tpms.{is_selected}
 use Rattle.tpm_types.specs.declared.tpms.Selection.{Selection}

@@ -1,4 +1,4 @@
-use Rattle.std.specs.Prelude.{◌≡◌, ◌<◌, ◌^◌, ◌++◌, ◌≤◌, length, take}
+use Rattle.std.specs.Prelude.{◌≡◌, ◌<◌, ◌^◌, ◌++◌, length, take}
 use Rattle.tpm_store.specs.Select.{registers_of, chosen, bits_of, values_of}
 use Rattle.tpm_store.proofs.registers.read_byte.Given as goal
 

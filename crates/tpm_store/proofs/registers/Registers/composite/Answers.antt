@@ -1,11 +1,10 @@
-use Rattle.std.proofs.Common.{◌≡◌, ℕ, List, ◌∷◌, [], ◌++◌, ◌∙◌, ◌+◌, ap, sym, length, map, take, Bor, arith}
+use Rattle.std.proofs.Common.{◌≡◌, ℕ, List, ◌∙◌, ap, sym, length, take, Bor, arith}
 use Rattle.std.specs.Prelude.{flat_map}
 use Rattle.std.proofs.lemmas.List.{take_all}
 use Rattle.std.proofs.lemmas.List.Folds.{flat_map-map}
 use Rattle.tpm_hmac.specs.Hashes.{digest}
-use Rattle.tpm_model.specs.Registers.{selected_values, selected_by, register_value}
+use Rattle.tpm_model.specs.Registers.{selected_values, register_value}
 use Rattle.tpm_store.specs.Stands.{held}
-use Rattle.tpm_store.specs.Select.{values_of}
 use Rattle.tpm_store.proofs.Entries.{parts_next, values_same, held_is}
 use Rattle.tpm_store.proofs.registers.Registers.composite.Goals as goal
 

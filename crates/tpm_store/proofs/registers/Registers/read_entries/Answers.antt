@@ -1,6 +1,4 @@
-use Rattle.std.proofs.Common.{◌≡◌, ℕ, List, ◌∷◌, [], ◌++◌, ◌∙◌, ◌+◌, ap, sym, length, arith}
-use Rattle.tpm_store.specs.Stands.{held}
-use Rattle.tpm_store.specs.Select.{values_of, first_of}
+use Rattle.std.proofs.Common.{◌∙◌, arith}
 use Rattle.tpm_store.proofs.Entries.{entries_next}
 use Rattle.tpm_store.proofs.registers.Registers.read_entries.Goals as goal
 

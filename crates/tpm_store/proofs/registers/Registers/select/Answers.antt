@@ -1,5 +1,4 @@
-use Rattle.std.proofs.Common.{◌≡◌, ℕ, List, ◌∙◌, ap, take, refl}
-use Rattle.tpm_types.specs.declared.tpms.Selection.{Selection}
+use Rattle.std.proofs.Common.{◌≡◌, ◌∙◌, ap, take, refl}
 use Rattle.tpm_model.specs.Registers.{selections_read, register_value}
 use Rattle.tpm_store.specs.Stands.{held}
 use Rattle.tpm_store.proofs.Entries.{values_same, held_is}
