@@ -291,11 +291,14 @@ impl Device {
         }
     }
 
-    /// Answers a command with its response, byte for byte: the bytes of a command, of any number and value, and a nonce of 64 bytes that
-    /// a new session's or the next nonceTPM is the front of. The first check that fails gives the response code, and then nothing
-    /// changes: the header, handles, authorization area and parameters by the grammar (tpm_buffer), COMMAND_CODE for a command that
-    /// the device does not have, INITIALIZE, AUTH_MISSING, AUTH_CONTEXT, REFERENCE_S0, ATTRIBUTES, NONCE, BAD_AUTH, and the action's
-    /// own (VALUE for a start from a saved state, LOCALITY). A code stands alone in 10 bytes.
+    /// Answers the bytes of a command, whatever they are, with the bytes of a response. The nonce is 64 fresh random bytes, of which a
+    /// session's next nonceTPM is the front; none of the commands that are there yet makes a session.
+    ///
+    /// The first check that fails gives the response code, which stands alone in 10 bytes, and then nothing has changed. In this
+    /// order: the header (tpm_buffer's codes), and COMMAND_CODE for a command that the device does not have; INITIALIZE; the handles;
+    /// AUTH_CONTEXT and AUTH_MISSING; the authorization area; REFERENCE_S0 for a session that is no password, ATTRIBUTES, NONCE,
+    /// ATTRIBUTES for a second session, BAD_AUTH for a wrong password; the parameters; VALUE for a start from a saved state, or
+    /// LOCALITY for a register that is not for locality 0 (Part 1, "Command Processing"; the order is this profile's).
     pub fn execute(&mut self, bytes: &[u8], nonce: &[u8; 64]) -> Buffer
         ensures answer { (o : Origin) (h : History) → Stands o h self.old → result.items ≡ answer has_command o h bytes.now nonce.now }
         ensures stands { (o : Origin) (h : History) → Stands o h self.old → Stands o (next has_command o h bytes.now nonce.now) self.new }

@@ -4,8 +4,6 @@
 mod checks;
 mod codes;
 mod device;
-#[cfg(test)]
-mod tests;
 
 pub use codes::{
     ATTRIBUTES, AUTH_CONTEXT, AUTH_MISSING, BAD_AUTH, HANDLE, INITIALIZE, NONCE, REFERENCE_H0,
