@@ -15,7 +15,7 @@ use Rattle.tpm_types.specs.declared.handle_sets.PcrOrNull.TheVariants as registe
 use Rattle.tpm_types.specs.declared.handle_sets.NvAuthHandle.TheVariants as authorities
 use Rattle.tpm_types.specs.declared.handle_sets.BindHandle.TheVariants as binds
 
--- ---- the owner, TPMI_RH_OWNER without the null handle (Part 2, 9.13)
+-- ---- the owner, TPMI_RH_OWNER without the null handle (Part 2, 9.18)
 
 abbrev pub owner_of : ℕ → Option OwnerHandle
 owner_of n = if is_owner n then Some owners.Owner else None
@@ -49,7 +49,7 @@ pcr_or_null_number (registers.Pcr n) = n
 unfoldable pub pcr_or_null : Layout PcrOrNull
 pcr_or_null = number 4 (λ left. pcr_or_null_of) pcr_or_null_number value_code
 
--- ---- the owner or an index, TPMI_RH_NV_AUTH without the platform (Part 2, 9.18)
+-- ---- the owner or an index, TPMI_RH_NV_AUTH without the platform (Part 2, 9.22)
 
 abbrev pub nv_auth_of : ℕ → Option NvAuthHandle
 nv_auth_of n = if is_owner n then Some authorities.Owner else if is_nv_index n then Some (authorities.Index n) else None

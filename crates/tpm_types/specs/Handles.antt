@@ -44,23 +44,9 @@ is_policy n = kind_of n == 0x03
 abbrev pub is_session : ℕ → Bool
 is_session n = is_hmac_session n || is_policy n
 
--- ---- sets of several kinds
-
 -- what authorizes: a session, or the password
 abbrev pub is_auth_session : ℕ → Bool
 is_auth_session n = is_session n || n == rs_pw
-
--- a register, or none
-abbrev pub is_pcr_or_null : ℕ → Bool
-is_pcr_or_null n = is_pcr n || is_null n
-
--- whose authorization an NV command takes: the owner's, or that of an index
-abbrev pub is_nv_auth : ℕ → Bool
-is_nv_auth n = is_owner n || is_nv_index n
-
--- what a session is bound to: the owner, or nothing
-abbrev pub is_bind : ℕ → Bool
-is_bind n = is_owner n || is_null n
 
 -- ---- their layouts: 4 bytes
 

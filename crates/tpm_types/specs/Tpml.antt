@@ -19,7 +19,7 @@ selections = counted 0 banks selection
 abbrev pub most_digests : ℕ
 most_digests = 8
 
--- TPML_DIGEST (10.9.4), as responses have it
+-- TPML_DIGEST (10.9.5), as responses have it
 abbrev pub digests : Layout (List (List ℕ))
 digests = counted 0 most_digests digest
 
@@ -34,6 +34,6 @@ digest_value =
     field (λ d. d.1) (raw (digest_len alg)) (λ digest.
     done (alg, digest)))
 
--- TPML_DIGEST_VALUES (10.9.5)
+-- TPML_DIGEST_VALUES (10.9.6)
 abbrev pub digest_values : Layout (List (Alg × List ℕ))
 digest_values = counted 0 banks digest_value

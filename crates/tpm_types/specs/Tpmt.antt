@@ -34,7 +34,7 @@ algorithm_of Null = alg_null
 algorithm_of (Aes bits) = alg_aes
 algorithm_of (Xor alg) = alg_xor
 
--- TPMI_AES_KEY_BITS (11.1.1)
+-- TPMI_AES_KEY_BITS (11.1.2)
 abbrev pub key_bits_of : ℕ → Option KeyBits
 key_bits_of n = if n == 128 then Some Bits128 else if n == 256 then Some Bits256 else None
 

@@ -16,11 +16,13 @@ pub struct QuoteInfo {
 /// The fields in their order.
 #[tactic(auto, unfolding(crate::specs::Attest::quote_info))]
 impl Wire for QuoteInfo {
+    ghost use Rattle.std.specs.Prelude.{◌+◌, ◌*◌};
+    ghost use Rattle.tpm_types.specs.Limits.{digest_bytes, banks};
     ghost use Rattle.tpm_types.specs.Attest.{quote_info};
 
     ghost layout = { quote_info };
 
-    ghost most = { 50 };
+    ghost most = { (4 + banks * 6) + (2 + digest_bytes) };
 
     fn known(&self) {
         self.selections.known();

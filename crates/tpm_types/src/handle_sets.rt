@@ -6,7 +6,7 @@ use crate::codes::VALUE;
 use crate::handles::{NvIndex, PcrIndex, RH_NULL, RH_OWNER};
 use tpm_wire::{Buffer, Cursor, Refusal, Wire};
 
-/// The owner, TPM_RH_OWNER alone.
+/// The owner, TPM_RH_OWNER alone: TPMI_RH_OWNER (Part 2, 9.18) without TPM_RH_NULL.
 #[derive(Clone, Copy, Debug, PartialEq, Eq)]
 pub enum OwnerHandle {
     /// TPM_RH_OWNER.
@@ -64,7 +64,7 @@ impl Wire for OwnerHandle {
     }
 }
 
-/// No object, TPM_RH_NULL alone.
+/// No object, TPM_RH_NULL alone (Part 2, 7.4).
 #[derive(Clone, Copy, Debug, PartialEq, Eq)]
 pub enum NullHandle {
     /// TPM_RH_NULL.
@@ -183,7 +183,7 @@ impl Wire for PcrOrNull {
     }
 }
 
-/// Whose authorization an NV command takes: TPMI_RH_NV_AUTH (Part 2, 9.18) without the platform's.
+/// Whose authorization an NV command takes: TPMI_RH_NV_AUTH (Part 2, 9.22) without the platform's.
 #[derive(Clone, Copy, Debug, PartialEq, Eq)]
 pub enum NvAuthHandle {
     /// TPM_RH_OWNER: the owner's.
@@ -244,7 +244,7 @@ impl Wire for NvAuthHandle {
     }
 }
 
-/// What a session is bound to.
+/// What a session is bound to: TPMI_DH_ENTITY+ (Part 2, 9.6), of which this profile has the owner and nothing.
 #[derive(Clone, Copy, Debug, PartialEq, Eq)]
 pub enum BindHandle {
     /// TPM_RH_OWNER: the owner's authorization value.

@@ -15,7 +15,7 @@ mod tpmt;
 use crate::PcrIndex;
 use std::process::Abort;
 use std::test::*;
-use tpm_wire::{Buffer, Cursor, Wire};
+use tpm_wire::{Buffer, Cursor, Wire, no_prefix, one_reading, one_reading_within, taken_back};
 
 /// The parts, joined.
 fn joined(parts: &[&[u8]]) -> Buffer {
@@ -26,7 +26,7 @@ fn joined(parts: &[&[u8]]) -> Buffer {
     all
 }
 
-/// The bytes are a value, all of them, whose spelling they are.
+/// The bytes are a value, all of them, whose spelling they are, and the laws hold of its type.
 fn goes_both_ways<T: Wire + Drop>(rt: &impl Abort, bytes: &[u8]) -> T {
     assert!(rt; bytes.len() <= 4096);
     let mut cursor = Cursor::new(bytes);
@@ -39,16 +39,20 @@ fn goes_both_ways<T: Wire + Drop>(rt: &impl Abort, bytes: &[u8]) -> T {
             let mut out = Buffer::new();
             value.put(&mut out);
             assert_eq!(rt; out.as_slice(), bytes);
+            taken_back(&value);
+            no_prefix(&value, &value);
+            one_reading::<T>();
+            one_reading_within::<T>();
             value
         }
         Err(refusal) => panic!(rt; "refused {} at {}", refusal.code, refusal.at),
     }
 }
 
-/// The bytes are refused with this code at this place, and as parameter 2 with its number added.
+/// The bytes are refused with this code at this place, and as parameter 2 and session 1 with its number added.
 fn refuses<T: Wire + Drop>(rt: &impl Abort, bytes: &[u8], code: u32, at: u32) {
     assert!(rt; bytes.len() <= 4096);
-    for number in [0, 0x240] {
+    for number in [0, 0x240, 0x900] {
         let mut cursor = Cursor::new(bytes);
         cursor.number(number);
         match T::take(&mut cursor) {

@@ -18,7 +18,7 @@ pub const MOST_DIGESTS: usize = 8;
 /// Registers of each bank: TPML_PCR_SELECTION (Part 2, 10.9.7), at most an entry for each bank.
 pub type Selections = Counted<Selection, 0, BANKS>;
 
-/// Digests in a response: TPML_DIGEST (Part 2, 10.9.4), at most 8.
+/// Digests in a response: TPML_DIGEST (Part 2, 10.9.5), at most 8.
 pub type Digests = Counted<Digest, 0, MOST_DIGESTS>;
 
 /// The digests of TPM2_PolicyOR: TPML_DIGEST, 2 to 8.
@@ -115,7 +115,7 @@ impl Wire for DigestValue {
     }
 }
 
-/// Digests of one event, at most one for each bank: TPML_DIGEST_VALUES (Part 2, 10.9.5).
+/// Digests of one event, at most one for each bank: TPML_DIGEST_VALUES (Part 2, 10.9.6).
 #[derive(Drop)]
 pub struct DigestValues {
     entries: ArrayVec<(Alg, Digest), BANKS>,

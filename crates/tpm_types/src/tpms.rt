@@ -91,11 +91,13 @@ pub struct Auth {
 /// The fields in their order.
 #[tactic(auto, unfolding(crate::specs::Tpms::auth_command))]
 impl Wire for Auth {
+    ghost use Rattle.std.specs.Prelude.{◌+◌};
+    ghost use Rattle.tpm_types.specs.Limits.{digest_bytes};
     ghost use Rattle.tpm_types.specs.Tpms.{auth_command};
 
     ghost layout = { auth_command };
 
-    ghost most = { 73 };
+    ghost most = { 4 + (2 + digest_bytes) + 1 + (2 + digest_bytes) };
 
     fn known(&self) {
         self.session.known();
@@ -139,11 +141,13 @@ pub struct AuthReply {
 /// The fields in their order.
 #[tactic(auto, unfolding(crate::specs::Tpms::auth_response))]
 impl Wire for AuthReply {
+    ghost use Rattle.std.specs.Prelude.{◌+◌};
+    ghost use Rattle.tpm_types.specs.Limits.{digest_bytes};
     ghost use Rattle.tpm_types.specs.Tpms.{auth_response};
 
     ghost layout = { auth_response };
 
-    ghost most = { 69 };
+    ghost most = { (2 + digest_bytes) + 1 + (2 + digest_bytes) };
 
     fn known(&self) {
         self.nonce.known();
@@ -245,11 +249,13 @@ impl NvPublic {
 /// The size of the area, else SIZE; the area, of that many bytes: bytes left in it are SIZE.
 #[tactic(auto, unfolding(crate::specs::Tpms::nv_public, tpm_wire::specs::Structures::sized))]
 impl Wire for NvPublic {
+    ghost use Rattle.std.specs.Prelude.{◌+◌};
+    ghost use Rattle.tpm_types.specs.Limits.{public_bytes};
     ghost use Rattle.tpm_types.specs.Tpms.{nv_public};
 
     ghost layout = { nv_public };
 
-    ghost most = { 48 };
+    ghost most = { 2 + public_bytes };
 
     fn known(&self) {
         let _size = self.area_len();

@@ -14,7 +14,7 @@ const NULL: u16 = 0x0010;
 
 const CFB: u16 = 0x0043;
 
-/// How many bits an AES key has: TPMI_AES_KEY_BITS (Part 2, 11.1.1).
+/// How many bits an AES key has: TPMI_AES_KEY_BITS (Part 2, 11.1.2).
 #[derive(Clone, Copy, Debug, PartialEq, Eq)]
 pub enum KeyBits {
     /// 128 bits.

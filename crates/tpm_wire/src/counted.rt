@@ -60,6 +60,7 @@ impl<T: Wire + Default + Duplicate + Drop, const LEAST: usize, const MOST: usize
     }
 }
 
+/// The number of the entries, from `LEAST` to `MOST`, else SIZE; the entries.
 #[tactic(auto, unfolding(crate::specs::Structures::counted))]
 impl<T: Wire + Default + Duplicate + Drop, const LEAST: usize, const MOST: usize> Wire
     for Counted<T, LEAST, MOST> {

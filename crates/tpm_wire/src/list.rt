@@ -1,9 +1,8 @@
 //! Entries one after the other.
 
-ghost use Rattle.std.specs.Prelude.{◌≡◌, ◌-◌, min, ℕ, ◌+◌, ◌*◌, ◌≤◌, ◌<◌, ◌^◌, length, true, false};
+ghost use Rattle.std.specs.Prelude.{◌≡◌, ◌-◌, min, ℕ, ◌+◌, ◌*◌, ◌≤◌, ◌<◌, ◌^◌, ◌++◌, length, true, false, All, IfOk};
 ghost use Rattle.tpm_wire.specs.Layout.Form.{list};
 ghost use Rattle.tpm_wire.specs.Buffers.{TakesAs, TakesNumbered, numbered};
-ghost use Rattle.std.specs.Prelude.{◌++◌, All, IfOk};
 ghost use Rattle.tpm_wire.specs.Spelling.{spelling, IsSpelled, joined_all};
 
 use crate::cursor::Cursor;
@@ -11,7 +10,7 @@ use crate::refusal::Refusal;
 use crate::wire::{Buffer, Wire};
 use arrayvec::ArrayVec;
 
-/// Reads so many entries.
+/// Reads so many entries, or answers the first fault in one of them.
 pub fn take_list<T: Wire + Default + Drop, const N: usize>(
     cursor: &mut Cursor<'_>,
     count: usize,
@@ -28,7 +27,8 @@ pub fn take_list<T: Wire + Default + Drop, const N: usize>(
     Ok(entries)
 }
 
-/// Reads entries to the end of the area, but at most so many. To the codes of entry `i`, from 0, it adds `first + 0x100 * i`.
+/// Reads entries to the end of the area, but at most so many, or answers the first fault in one of them. To the codes of
+/// entry `i`, from 0, it adds `first + 0x100 * i`.
 pub fn take_rest<T: Wire + Default + Drop, const N: usize>(
     cursor: &mut Cursor<'_>,
     most: usize,

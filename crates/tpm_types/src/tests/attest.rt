@@ -21,4 +21,10 @@ fn what_a_quote_says(rt: HostRuntime) {
         0x083,
         4,
     );
+    refuses::<QuoteInfo>(
+        &rt,
+        &[0x00, 0x00, 0x00, 0x01, 0x00, 0x0B, 0x04, 0x80, 0x00, 0x00],
+        0x084,
+        6,
+    );
 }

@@ -16,6 +16,14 @@ fn selections_of_at_most_two_banks(rt: HostRuntime) {
         selections.as_slice()[1].select.as_slice(),
         [0x01, 0x00, 0x00].as_slice()
     );
+    // The same bank twice is two entries.
+    let twice = joined(&[&bytes[..4], &bytes[4..10], &bytes[4..10]]);
+    assert_eq!(&rt;
+        goes_both_ways::<Selections>(&rt, twice.as_slice())
+            .as_slice()
+            .len(),
+        2
+    );
     let none = goes_both_ways::<Selections>(&rt, &[0x00, 0x00, 0x00, 0x00]);
     assert!(&rt; none.as_slice().is_empty());
     is_cut_at::<Selections>(
@@ -103,6 +111,12 @@ fn digests_of_an_or(rt: HostRuntime) {
         0x095,
         0,
     );
+    refuses::<OrDigests>(
+        &rt,
+        &[0x00, 0x00, 0x00, 0x02, 0x00, 0x00, 0x00, 0x21],
+        0x095,
+        6,
+    );
     is_cut_at::<OrDigests>(
         &rt,
         &[0x00, 0x00, 0x00, 0x02, 0x00, 0x00, 0x00, 0x00],
@@ -159,6 +173,15 @@ fn digests_under_their_hashes(rt: HostRuntime) {
     assert_eq!(&rt; *alg, Alg::Sha256);
     assert_eq!(&rt; digest.as_slice(), [0x22; 32].as_slice());
     let _ = goes_both_ways::<DigestValues>(&rt, &[0x00, 0x00, 0x00, 0x00]);
+    // The same hash twice is two digests.
+    let twice = joined(&[
+        &[0x00, 0x00, 0x00, 0x02],
+        &[0x00, 0x04],
+        &[0x11; 20],
+        &[0x00, 0x04],
+        &[0x22; 20],
+    ]);
+    let _ = goes_both_ways::<DigestValues>(&rt, twice.as_slice());
     refuses::<DigestValues>(&rt, &[0x00, 0x00, 0x00], 0x09A, 0);
     refuses::<DigestValues>(&rt, &[0x00, 0x00, 0x00, 0x01], 0x09A, 4);
     refuses::<DigestValues>(&rt, &[0x00, 0x00, 0x00, 0x01, 0x00], 0x09A, 4);
@@ -178,6 +201,12 @@ fn digests_under_their_hashes(rt: HostRuntime) {
     ]);
     refuses::<DigestValues>(&rt, short.as_slice(), 0x09A, 28);
     refuses::<DigestValues>(&rt, &[0x00, 0x00, 0x00, 0x01, 0x00, 0x0C], 0x083, 4);
+    let second = joined(&[
+        &[0x00, 0x00, 0x00, 0x02, 0x00, 0x04],
+        &[0x11; 20],
+        &[0x00, 0x10],
+    ]);
+    refuses::<DigestValues>(&rt, second.as_slice(), 0x083, 26);
     refuses::<DigestValues>(&rt, &[0x00, 0x00, 0x00, 0x03], 0x095, 0);
 }
 

@@ -42,7 +42,9 @@ fn sizes_of_aes_keys(rt: HostRuntime) {
         goes_both_ways::<KeyBits>(&rt, &[0x00, 0x80]),
         KeyBits::Bits128
     );
+    is_cut_at::<KeyBits>(&rt, &[0x00, 0x80], &[0, 0]);
     refuses::<KeyBits>(&rt, &[0x00, 0x00], 0x084, 0);
+    refuses::<KeyBits>(&rt, &[0x00, 0xC0], 0x084, 0);
     assert_eq!(&rt; KeyBits::from_number(256), Some(KeyBits::Bits256));
     assert_eq!(&rt; KeyBits::from_number(192), None);
     assert_eq!(&rt; KeyBits::Bits256.number(), 256);
