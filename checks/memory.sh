@@ -47,6 +47,8 @@ else
     refuses "show of a command" show $startup
     refuses "show of a refusal" show 8001000000
     refuses "show of text that is not hexadecimal" show no
+    refuses "show of a response" show --reply PCR_Reset 80020000001300000000000000000000010000
+    refuses "show of a response code" show --reply Startup 80010000000a00000100
     refuses "joined parts" build PCR_Reset 00000010 400000090000010000 -
     refuses "joined parts that are refused" build Startup - - 0002
     refuses "help" show --help

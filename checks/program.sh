@@ -53,6 +53,17 @@ runs "the empty buffer is refused, status 1" 1 'refused 09a at 0
 runs "text that is not hexadecimal, status 1" 1 'not hexadecimal
 ' '' show -
 
+runs "a response is shown, status 0" 0 'reply PCR_Reset size 19
+parameters -
+session 1 nonce - attributes 01 hmac -
+' '' show --reply PCR_Reset 80020000001300000000000000000000010000
+
+runs "a response code is shown, status 0" 0 'reply code 100
+' '' show --reply Startup 80010000000a00000100
+
+runs "a refusal of a response is printed, status 1" 1 'refused 084 at 6
+' '' show --reply Startup 00c40000000a00000100
+
 runs "parts are joined, status 0" 0 '80020000001b0000013d0000001000000009400000090000010000
 ' '' build PCR_Reset 00000010 400000090000010000 -
 
@@ -83,6 +94,12 @@ runs "an unknown name, status 2 with usage on standard error" 2 '' "error: inval
 For more information, try '--help'.
 " build startup - - 0000
 
+runs "a response to an unknown command, status 2 with usage on standard error" 2 '' "error: invalid value 'GetRandom' for '--reply <NAME>'
+  [possible values: NV_UndefineSpace, NV_DefineSpace, NV_Increment, PCR_Reset, Startup, NV_Read, FlushContext, NV_ReadPublic, PolicyAuthValue, PolicyCommandCode, PolicyOR, StartAuthSession, PCR_Read, PolicyPCR, PolicyRestart, PCR_Extend, PolicyGetDigest]
+
+For more information, try '--help'.
+" show --reply GetRandom 8001
+
 runs "a word that is not text, status 2 with usage on standard error" 2 '' "error: invalid UTF-8 was detected in one or more arguments
 
 Usage: tpmtool <COMMAND>
@@ -90,19 +107,21 @@ Usage: tpmtool <COMMAND>
 For more information, try '--help'.
 " show "$(printf '\377')"
 
-runs "help on standard output, status 0" 0 'Prints the command that a buffer spells, or where it is refused
+runs "help on standard output, status 0" 0 'Prints the command or the response that a buffer spells, or where it is refused
 
-Usage: tpmtool show <HEX>
+Usage: tpmtool show [OPTIONS] <HEX>
 
 Arguments:
   <HEX>  The buffer, in hexadecimal
 
 Options:
-  -h, --help  Print help
+      --reply <NAME>  Reads the buffer as a response to this command [possible values: NV_UndefineSpace, NV_DefineSpace, NV_Increment, PCR_Reset, Startup, NV_Read, FlushContext, NV_ReadPublic, PolicyAuthValue, PolicyCommandCode, PolicyOR, StartAuthSession, PCR_Read, PolicyPCR, PolicyRestart, PCR_Extend, PolicyGetDigest]
+  -h, --help          Print help
 ' '' show --help
 
 runs_without_output "a closed standard output, status 3" - show $startup
 runs_without_output "a closed standard output for a refusal, status 3" - show ''
+runs_without_output "a closed standard output for a response, status 3" - show --reply Startup 80010000000a00000100
 runs_without_output "a closed standard output for joined parts, status 3" - build Startup - - 0000
 runs_without_output "a closed standard output for help, status 3" - --help
 if [ -c /dev/full ]; then

@@ -4,6 +4,7 @@ pub mod Staged
 pub mod Within
 pub mod Answered
 pub mod Replied
+pub mod Parted
 pub mod Canonical
 pub mod Framed
 pub mod Filled

@@ -11,7 +11,7 @@ ghost use Rattle.tpm_buffer.specs.declared.response.Response.{Response};
 ghost use Rattle.tpm_buffer.specs.declared.params.Params.{Params};
 ghost use Rattle.tpm_buffer.specs.Parameters.{parameters};
 ghost use Rattle.tpm_buffer.specs.Commands.{body_from, with_auths, header, front, Checked, before_params, command};
-ghost use Rattle.tpm_buffer.specs.Responses.{response};
+ghost use Rattle.tpm_buffer.specs.Responses.{response, ReplyCut, reply_cut};
 
 /// One reading: bytes spell one command, all of them, or have one fault.
 pub fn command_or_fault()
@@ -47,4 +47,9 @@ pub fn response_or_fault()
 /// One reading: no response's spelling is the begin of that of another response to a command with the same code.
 pub fn no_response_prefix()
     ensures { (code : CommandCode) (bytes more : List ℕ) (r q : Response) → Spells (response code) r bytes → Spells (response code) q (bytes ++ more) → more ≡ [] }
+{}
+
+/// Bytes that spell a response have its areas, with its parameters as they came.
+pub fn areas_of_a_response()
+    ensures { (code : CommandCode) (bytes : List ℕ) (r : Response) → Spells (response code) r bytes → (c : ReplyCut) × Spells (reply_cut code) c bytes }
 {}

@@ -28,8 +28,8 @@ pub use encode::encode_command;
 pub use framer::{Framer, Status};
 pub use front::{AUTHSIZE, BAD_TAG, COMMAND_CODE, COMMAND_SIZE, NO_SESSIONS, SESSIONS};
 pub use laws::{
-    command_or_fault, fault_before_params, no_prefix, no_response_prefix, parameters_in_command,
-    response_or_fault,
+    areas_of_a_response, command_or_fault, fault_before_params, no_prefix, no_response_prefix,
+    parameters_in_command, response_or_fault,
 };
 pub use params::{Params, decode_params};
 pub use reader::{ReadFault, read_frame};

@@ -1,4 +1,5 @@
 pub mod Status
 pub mod Text
+pub mod ReplyText
 pub mod Show
 pub mod Build

@@ -5,7 +5,9 @@ mod answer;
 mod built;
 mod fault;
 mod hexadecimal;
+mod reply_text;
 mod shown;
+mod shown_reply;
 mod status;
 mod text;
 

@@ -10,11 +10,12 @@ ghost use Rattle.tpm_tool.specs.Show.{HasAreas, Shows, ShowsBytes};
 use crate::answer::Answer;
 use crate::fault::ToolFault;
 use crate::hexadecimal::decoded;
+use crate::shown_reply::answer_to_reply;
 use crate::status::Status;
 use crate::text::push_command;
 use std::alloc::{AllocError, Global};
 use std::io::Write;
-use tpm_buffer::{Areas, areas, decode_command, fault_before_params};
+use tpm_buffer::{Areas, CommandCode, areas, decode_command, fault_before_params};
 use tpm_wire::Refusal;
 
 // The areas of a command that the bytes spell.
@@ -43,28 +44,39 @@ fn answer_to_bytes(alloc: Global, bytes: &[u8]) -> Result<Answer, AllocError>
     }
 }
 
-fn answer(alloc: Global, hex: &str) -> Result<Answer, AllocError>
-    ensures { IfOk result (λ a. Shows hex.now a.status (string_bytes a.text)) }
+fn answer(alloc: Global, reply: Option<CommandCode>, hex: &str) -> Result<Answer, AllocError>
+    ensures { IfOk result (λ a. Shows reply hex.now a.status (string_bytes a.text)) }
 {
-    match decoded(alloc, hex)? {
-        Some(bytes) => answer_to_bytes(alloc, bytes.as_slice()),
-        None => Answer::not_hexadecimal(alloc),
+    let Some(bytes) = decoded(alloc, hex)? else {
+        return Answer::not_hexadecimal(alloc);
+    };
+    match reply {
+        Some(command) => answer_to_reply(alloc, command, bytes.as_slice()),
+        None => answer_to_bytes(alloc, bytes.as_slice()),
     }
 }
 
-/// Prints the command that hexadecimal digits spell, or its refusal.
+/// Prints the command that hexadecimal digits spell, or the response to the command `reply`, or the refusal.
 ///
-/// The lines are `command NAME size N`, a line `handle I HHHHHHHH` for each handle, a line
-/// `session I HHHHHHHH nonce X attributes XX hmac X` for each session, and `parameters X`; for a
-/// buffer that spells no command `refused XXX at N`, the response code and how many bytes precede
-/// the fault; and for text that is not hexadecimal, two digits to a byte in either case,
-/// `not hexadecimal`. No digits are the empty buffer.
+/// For a command the lines are `command NAME size N`, a line `handle I HHHHHHHH` for each handle, a line
+/// `session I HHHHHHHH nonce X attributes XX hmac X` for each session, and `parameters X`. For a response of
+/// code 0 they are `reply NAME size N`, `handle 1 HHHHHHHH` where it has a handle, `parameters X`, and a line
+/// `session I nonce X attributes XX hmac X` for each session; for any other code `reply code XXX` alone.
+///
+/// A buffer that spells neither is `refused XXX at N`, the response code and how many bytes precede the fault;
+/// and text that is not hexadecimal, two digits to a byte in either case, is `not hexadecimal`. No digits are
+/// the empty buffer.
 ///
 /// Where a request for memory is refused the answer is `Memory`, and where the writer fails it is
 /// `Write`. What was written before is then left open.
-pub fn show<W: Write>(alloc: Global, out: &mut W, hex: &str) -> Result<Status, ToolFault>
-    ensures { IfOk result (λ status. (text : List ℕ) × Shows hex.now status text
+pub fn show<W: Write>(
+    alloc: Global,
+    out: &mut W,
+    reply: Option<CommandCode>,
+    hex: &str,
+) -> Result<Status, ToolFault>
+    ensures { IfOk result (λ status. (text : List ℕ) × Shows reply hex.now status text
         × Appends (W.contents out.old) (W.contents out.new) text) }
 {
-    answer(alloc, hex)?.print(out)
+    answer(alloc, reply, hex)?.print(out)
 }

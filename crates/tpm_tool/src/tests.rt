@@ -7,9 +7,11 @@ use std::io::{ErrorKind, Write};
 use std::test::Fail;
 use tpm_buffer::CommandCode;
 
+mod replies;
+
 fn shown(alloc: Global, hex: &str) -> Result<(Status, String), Fail> {
     let mut out = Vec::new(alloc);
-    let status = show(alloc, &mut out, hex)?;
+    let status = show(alloc, &mut out, None, hex)?;
     Ok((status, String::from_utf8(out)?))
 }
 
@@ -317,7 +319,10 @@ fn each_write_that_fails_is_answered(rt: HostRuntime) {
     let text = STARTUP_TEXT.as_bytes();
     for writes in 0..text.len() {
         let mut out = Expecting { rest: text, writes };
-        assert_eq!(rt; show(rt.alloc(), &mut out, STARTUP), Err(ToolFault::Write));
+        assert_eq!(rt;
+            show(rt.alloc(), &mut out, None, STARTUP),
+            Err(ToolFault::Write)
+        );
     }
     let line = STARTUP_LINE.as_bytes();
     for writes in 0..line.len() {
@@ -336,7 +341,7 @@ fn writer_for(text: &str) -> Expecting<'_> {
 #[test]
 fn with_memory_and_a_writer_all_is_done(rt: HostRuntime) {
     let mut out = writer_for(STARTUP_TEXT);
-    assert_eq!(rt; show(rt.alloc(), &mut out, STARTUP), Ok(Status::Done));
+    assert_eq!(rt; show(rt.alloc(), &mut out, None, STARTUP), Ok(Status::Done));
     assert_eq!(rt; out.rest.len(), 0);
     let mut out = writer_for(STARTUP_LINE);
     assert_eq!(rt; build_startup(rt.alloc(), &mut out), Ok(Status::Done));
@@ -348,7 +353,7 @@ fn with_memory_and_a_writer_all_is_done(rt: HostRuntime) {
 #[test]
 fn want_of_memory_is_answered(rt: HostRuntime) {
     let mut out = writer_for(STARTUP_TEXT);
-    match show(rt.alloc(), &mut out, STARTUP) {
+    match show(rt.alloc(), &mut out, None, STARTUP) {
         Ok(status) => assert!(rt; status == Status::Done && out.rest.is_empty()),
         Err(fault) => assert_eq!(rt; fault, ToolFault::Memory),
     }

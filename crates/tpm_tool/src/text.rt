@@ -36,8 +36,9 @@ fn push_name(text: &mut String, code: CommandCode, size: usize) -> Result<(), Al
     writeln!(text, "command {name} size {size}")
 }
 
+/// Adds the line of a handle.
 #[tactic(auto, unfolding(crate::specs::Text::handle_line))]
-fn push_handle(text: &mut String, i: usize, handle: u32) -> Result<(), AllocError>
+pub(crate) fn push_handle(text: &mut String, i: usize, handle: u32) -> Result<(), AllocError>
     ensures { OnOk result (string_bytes text.new ≡ string_bytes text.old ++ handle_line i handle) }
 {
     writeln!(text, "handle {i} {handle:08x}")
@@ -75,8 +76,13 @@ fn push_sessions(alloc: Global, text: &mut String, auths: &[Auth]) -> Result<(),
     Ok(())
 }
 
+/// Adds the line of the parameters.
 #[tactic(auto, unfolding(crate::specs::Text::parameters_line))]
-fn push_parameters(alloc: Global, text: &mut String, bytes: &[u8]) -> Result<(), AllocError>
+pub(crate) fn push_parameters(
+    alloc: Global,
+    text: &mut String,
+    bytes: &[u8],
+) -> Result<(), AllocError>
     ensures { OnOk result (string_bytes text.new ≡ string_bytes text.old ++ parameters_line bytes.now) }
 {
     let bytes = shown_bytes(alloc, bytes)?;

@@ -38,7 +38,12 @@ impl Words {
 }
 
 fn show_task<'a>(words: &ArgMatches<'a>) -> Option<Task<'a>> {
+    let reply = match words.get_str("reply") {
+        Some(name) => Some(command_named(name)?),
+        None => None,
+    };
     Some(Task::Show {
+        reply,
         hex: words.get_str("HEX")?,
     })
 }

@@ -7,9 +7,15 @@ fn required<'a>(alloc: Global, name: &'a str, help: &'a str) -> Arg<'a> {
     Arg::new(alloc, name).required(true).help(help)
 }
 
-fn show_words<'a>(alloc: Global) -> Result<Command<'a>, AllocError> {
+fn show_words<'a>(alloc: Global, names: &'a [&'a str]) -> Result<Command<'a>, AllocError> {
+    let reply = Arg::new(alloc, "reply")
+        .long("reply")
+        .value_name("NAME")
+        .value_parser(names)
+        .help("Reads the buffer as a response to this command");
     Command::new(alloc, "show")
-        .about("Prints the command that a buffer spells, or where it is refused")
+        .about("Prints the command or the response that a buffer spells, or where it is refused")
+        .arg(reply)?
         .arg(required(alloc, "HEX", "The buffer, in hexadecimal"))
 }
 
@@ -44,6 +50,6 @@ pub(crate) fn program<'a>(alloc: Global, names: &'a [&'a str]) -> Result<Command
         .bin_name("tpmtool")?
         .about("Reads and writes TPM 2.0 commands")
         .subcommand_required(true)
-        .subcommand(show_words(alloc)?)?
+        .subcommand(show_words(alloc, names)?)?
         .subcommand(build_words(alloc, names)?)
 }

@@ -5,8 +5,10 @@ use tpm_buffer::CommandCode;
 /// What the words ask for.
 #[derive(Debug, PartialEq, Eq, Drop)]
 pub enum Task<'a> {
-    /// `show HEX`: print the command that the hexadecimal digits spell.
+    /// `show [--reply NAME] HEX`: print the command that the hexadecimal digits spell, or the response.
     Show {
+        /// The command that a response answers, or none for a command.
+        reply: Option<CommandCode>,
         /// The digits.
         hex: &'a str,
     },

@@ -31,7 +31,7 @@ Reads and writes TPM 2.0 commands
 Usage: tpmtool <COMMAND>
 
 Commands:
-  show   Prints the command that a buffer spells, or where it is refused
+  show   Prints the command or the response that a buffer spells, or where it is refused
   build  Prints the buffer of a command, joined from its parts
   help   Print this message or the help of the given subcommand(s)
 
@@ -40,15 +40,16 @@ Options:
 ";
 
 const SHOW_HELP: &str = "\
-Prints the command that a buffer spells, or where it is refused
+Prints the command or the response that a buffer spells, or where it is refused
 
-Usage: tpmtool show <HEX>
+Usage: tpmtool show [OPTIONS] <HEX>
 
 Arguments:
   <HEX>  The buffer, in hexadecimal
 
 Options:
-  -h, --help  Print help
+      --reply <NAME>  Reads the buffer as a response to this command [possible values: NV_UndefineSpace, NV_DefineSpace, NV_Increment, PCR_Reset, Startup, NV_Read, FlushContext, NV_ReadPublic, PolicyAuthValue, PolicyCommandCode, PolicyOR, StartAuthSession, PCR_Read, PolicyPCR, PolicyRestart, PCR_Extend, PolicyGetDigest]
+  -h, --help          Print help
 ";
 
 const BUILD_HELP: &str = "\
@@ -70,10 +71,34 @@ Options:
 fn show_takes_its_digits(rt: HostRuntime) -> Result<(), Fail> {
     for hex in ["8001", "", "-", "FF", "no digits"] {
         let words = words(rt.alloc(), &["./tpmtool", "show", hex])?;
-        assert_eq!(rt; words.task(rt.alloc()), Ok(Task::Show { hex }));
+        assert_eq!(rt; words.task(rt.alloc()), Ok(Task::Show { reply: None, hex }));
     }
     let words = words(rt.alloc(), &["tpmtool", "show", "--", "--help"])?;
-    assert_eq!(rt; words.task(rt.alloc()), Ok(Task::Show { hex: "--help" }));
+    assert_eq!(rt;
+        words.task(rt.alloc()),
+        Ok(Task::Show {
+            reply: None,
+            hex: "--help"
+        })
+    );
+    Ok(())
+}
+
+#[test]
+fn show_takes_the_command_that_a_response_answers(rt: HostRuntime) -> Result<(), Fail> {
+    for given in [
+        ["tpmtool", "show", "--reply", "PCR_Reset", "8002"].as_slice(),
+        &["tpmtool", "show", "8002", "--reply", "PCR_Reset"],
+        &["tpmtool", "show", "--reply=PCR_Reset", "8002"],
+        &["tpmtool", "show", "--reply", "PCR_Reset", "--", "8002"],
+    ] {
+        let words = words(rt.alloc(), given)?;
+        let wanted = Task::Show {
+            reply: Some(CommandCode::PcrReset),
+            hex: "8002",
+        };
+        assert_eq!(rt; words.task(rt.alloc()), Ok(wanted));
+    }
     Ok(())
 }
 
@@ -216,11 +241,33 @@ fn an_unknown_name_is_a_usage_fault(rt: HostRuntime) -> Result<(), Fail> {
 }
 
 #[test]
+fn a_response_to_an_unknown_command_is_a_usage_fault(rt: HostRuntime) -> Result<(), Fail> {
+    for (name, wanted) in [
+        (
+            "startup",
+            "error: invalid value 'startup' for '--reply <NAME>'\n",
+        ),
+        (
+            "GetRandom",
+            "error: invalid value 'GetRandom' for '--reply <NAME>'\n",
+        ),
+        (
+            "",
+            "error: a value is required for '--reply <NAME>' but none was supplied\n",
+        ),
+    ] {
+        let text = usage(rt.alloc(), &["tpmtool", "show", "--reply", name, "8001"])?;
+        assert!(rt; text.as_str().starts_with(wanted), "{name}");
+    }
+    Ok(())
+}
+
+#[test]
 fn a_word_too_many_is_a_usage_fault(rt: HostRuntime) -> Result<(), Fail> {
     let wanted = "\
 error: unexpected argument '0000' found
 
-Usage: tpmtool show <HEX>
+Usage: tpmtool show [OPTIONS] <HEX>
 
 For more information, try '--help'.
 ";
@@ -238,7 +285,7 @@ error: unexpected argument '--raw' found
 
   tip: to pass '--raw' as a value, use '-- --raw'
 
-Usage: tpmtool show <HEX>
+Usage: tpmtool show [OPTIONS] <HEX>
 
 For more information, try '--help'.
 ";

@@ -24,7 +24,7 @@ fn words<R: Env + AllocGlobal>(rt: &R) -> Result<Words, Stop> {
 fn perform<R: AllocGlobal + Print>(rt: &R, task: Task<'_>) -> Result<Status, ToolFault> {
     let out = &mut io::writer(rt);
     match task {
-        Task::Show { hex } => show(rt.alloc(), out, hex),
+        Task::Show { reply, hex } => show(rt.alloc(), out, reply, hex),
         Task::Build {
             name,
             handles,

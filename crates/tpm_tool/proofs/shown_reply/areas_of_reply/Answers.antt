@@ -1,0 +1,39 @@
+use Rattle.std.proofs.Common.{List, ℕ, Result, Ok, Err, IfOk, IfErr, refl}
+use Rattle.std.proofs.lemmas.Result.{err_from_is_err_and}
+use Rattle.tpm_wire.specs.declared.refusal.Refusal.{Refusal}
+use Rattle.tpm_wire.specs.Path.{Decodes, Fault, Spells}
+use Rattle.tpm_wire.specs.Buffers.{buffer}
+use Rattle.tpm_wire.proofs.Buffers.{buffer_sound}
+use Rattle.tpm_wire.proofs.Whole.{exactly_one}
+use Rattle.tpm_buffer.specs.declared.code.CommandCode.{CommandCode}
+use Rattle.tpm_buffer.specs.declared.response.Response.{Response}
+use Rattle.tpm_buffer.specs.declared.reply_stages.ReplyAreas.{ReplyAreas}
+use Rattle.tpm_buffer.specs.Areas.{reply_view}
+use Rattle.tpm_buffer.specs.Responses.{ReplyCut, reply_cut, response}
+use Rattle.tpm_tool.specs.Show.{HasReplyAreas}
+use Rattle.tpm_tool.proofs.shown_reply.areas_of_reply.Goals as goal
+
+-- what the cut gave
+abbrev Cut : CommandCode → List ℕ → Result ReplyAreas Refusal → Type 0
+Cut code bytes r = Decodes (reply_cut code) reply_view bytes r
+
+has_areas : (code : CommandCode) (bytes : List ℕ) (x : Response) (r : Result ReplyAreas Refusal) → Spells (response code) x bytes → Cut code bytes r
+    → IfOk r (λ a. HasReplyAreas code bytes (reply_view a))
+has_areas code bytes x (Ok a) spelled given = ((x, spelled), given)
+has_areas code bytes x (Err e) spelled given = tt
+
+no_fault : (code : CommandCode) (bytes : List ℕ) (r : Result ReplyAreas Refusal) → ((c : ReplyCut) × Spells (reply_cut code) c bytes) → Cut code bytes r
+    → IfErr r (λ e. Fault (response code) bytes e)
+no_fault code bytes (Ok a) has given = tt
+no_fault code bytes (Err e) has given = absurd ((exactly_one buffer buffer_sound (reply_cut code) bytes).not_both has.0 e has.1 given)
+
+pub returns-in_err-_response-clause-err : goal.returns-in_err-_response-clause-err
+returns-in_err-_response-clause-err c =
+    let p = err_from_is_err_and c.from_residual.result c.from_residual.ensures.1 in
+    rw (p.1, p.2) ((c.in_err-_response.ensures.err _).0 refl)
+
+pub returns-clause-ok : goal.returns-clause-ok
+returns-clause-ok c = has_areas _ _ c.in_ok-_response._response c.reply_areas.result ((c.in_ok-_response.ensures.ok _).0 refl) c.reply_areas.ensures
+
+pub returns-clause-err : goal.returns-clause-err
+returns-clause-err c = no_fault _ _ c.reply_areas.result (c.areas_of_a_response.ensures _ _ _ ((c.in_ok-_response.ensures.ok _).0 refl)) c.reply_areas.ensures

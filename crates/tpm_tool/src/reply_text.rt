@@ -1,0 +1,98 @@
+//! The program's lines of a response.
+
+ghost use Rattle.std.specs.Prelude.{◌≡◌, ◌++◌, OnOk, string_bytes};
+ghost use Rattle.tpm_buffer.specs.Areas.{reply_view};
+ghost use Rattle.tpm_tool.specs.Text.{lines_from};
+ghost use Rattle.tpm_tool.specs.ReplyText.{reply_code_line, reply_line, reply_handle_line, reply_session_line, reply_text, response_text};
+
+use crate::hexadecimal::shown_bytes;
+use crate::text::{push_handle, push_parameters};
+use std::alloc::{AllocError, Global};
+use tpm_buffer::{CommandCode, ReplyAreas};
+use tpm_types::AuthReply;
+
+#[tactic(auto, unfolding(crate::specs::ReplyText::reply_code_line))]
+fn push_code(text: &mut String, code: u32) -> Result<(), AllocError>
+    ensures { OnOk result (string_bytes text.new ≡ string_bytes text.old ++ reply_code_line code) }
+{
+    writeln!(text, "reply code {code:03x}")
+}
+
+#[tactic(auto, unfolding(crate::specs::ReplyText::reply_line))]
+fn push_name(text: &mut String, command: CommandCode, size: usize) -> Result<(), AllocError>
+    ensures { OnOk result (string_bytes text.new ≡ string_bytes text.old ++ reply_line command size) }
+{
+    let name = command.name();
+    writeln!(text, "reply {name} size {size}")
+}
+
+fn push_first_handle(text: &mut String, handle: Option<u32>) -> Result<(), AllocError>
+    ensures { OnOk result (string_bytes text.new ≡ string_bytes text.old ++ reply_handle_line handle) }
+{
+    match handle {
+        Some(handle) => push_handle(text, 1, handle),
+        None => Ok(()),
+    }
+}
+
+#[tactic(auto, unfolding(crate::specs::ReplyText::reply_session_line))]
+fn push_session(
+    alloc: Global,
+    text: &mut String,
+    i: usize,
+    auth: &AuthReply,
+) -> Result<(), AllocError>
+    ensures { OnOk result (string_bytes text.new ≡ string_bytes text.old ++ reply_session_line i auth.now) }
+{
+    let nonce = shown_bytes(alloc, auth.nonce.as_slice())?;
+    let attributes = auth.attrs.number();
+    let hmac = shown_bytes(alloc, auth.hmac.as_slice())?;
+    writeln!(
+        text,
+        "session {i} nonce {nonce} attributes {attributes:02x} hmac {hmac}"
+    )
+}
+
+fn push_sessions(alloc: Global, text: &mut String, auths: &[AuthReply]) -> Result<(), AllocError>
+    ensures { OnOk result (string_bytes text.new ≡ string_bytes text.old ++ lines_from reply_session_line 1 auths.now) }
+{
+    for (before, auth) in auths.iter().enumerate() {
+        push_session(alloc, text, before + 1, auth)?;
+    }
+    Ok(())
+}
+
+#[tactic(auto, unfolding(crate::specs::ReplyText::reply_text))]
+fn push_reply(
+    alloc: Global,
+    text: &mut String,
+    command: CommandCode,
+    size: usize,
+    areas: &ReplyAreas<'_>,
+) -> Result<(), AllocError>
+    ensures { OnOk result (string_bytes text.new ≡ string_bytes text.old ++ reply_text command size (reply_view areas.now)) }
+{
+    push_name(text, command, size)?;
+    push_first_handle(text, areas.handle())?;
+    push_parameters(alloc, text, areas.params())?;
+    push_sessions(alloc, text, areas.auths())?;
+    Ok(())
+}
+
+/// Adds the lines of a response to this command, of so many bytes.
+pub(crate) fn push_response(
+    alloc: Global,
+    text: &mut String,
+    command: CommandCode,
+    size: usize,
+    areas: &ReplyAreas<'_>,
+) -> Result<(), AllocError>
+    ensures { OnOk result (string_bytes text.new ≡ string_bytes text.old ++ response_text command size (reply_view areas.now)) }
+{
+    let code = areas.code();
+    if code == 0 {
+        push_reply(alloc, text, command, size, areas)
+    } else {
+        push_code(text, code)
+    }
+}
