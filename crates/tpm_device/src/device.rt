@@ -145,24 +145,16 @@ impl Device {
         ensures has { IfOk result (λ x. has_command x.header.code ≡ true) }
         ensures short { IfOk result (λ x. length x.params.now < 2 ^ 32) }
     {
-        let headed = match header(bytes) {
-            Ok(headed) => headed,
-            Err(refusal) => return Err(refusal.code),
-        };
+        let headed = header(bytes).map_err(|refusal| refusal.code)?;
         let code = headed.code();
         let tag = headed.tag();
         check_has(code)?;
         check_started(self.started, code)?;
-        let handled = match headed.handles() {
-            Ok(handled) => handled,
-            Err(refusal) => return Err(refusal.code),
-        };
+        let handled = headed.handles().map_err(|refusal| refusal.code)?;
         check_handles(handled.list())?;
         check_tag(code, tag)?;
-        match handled.areas() {
-            Ok(areas) => Ok(areas),
-            Err(refusal) => Err(refusal.code),
-        }
+        let areas = handled.areas().map_err(|refusal| refusal.code)?;
+        Ok(areas)
     }
 
     // All checks before the parameters.
