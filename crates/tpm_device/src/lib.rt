@@ -5,8 +5,5 @@ mod checks;
 mod codes;
 mod device;
 
-pub use codes::{
-    ATTRIBUTES, AUTH_CONTEXT, AUTH_MISSING, BAD_AUTH, HANDLE, INITIALIZE, NONCE, REFERENCE_H0,
-    REFERENCE_S0,
-};
+pub use codes::{AUTH_CONTEXT, AUTH_MISSING, INITIALIZE};
 pub use device::Device;
