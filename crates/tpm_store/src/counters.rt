@@ -1,6 +1,6 @@
 //! Counters in non-volatile memory (Part 1, "NV Memory"; Part 3, "Non-volatile Storage").
 
-ghost use Rattle.std.specs.Prelude.{◌≡◌, ℕ, ◌+◌, ◌^◌, ◌≤◌, nat_le, List, [], ◌∷◌, ◌++◌, length, not, ◌&&◌, Some, None, option_map, IfSome, IfNone, IfOk, OnOk, OnErr, if◌then◌else◌};
+ghost use Rattle.std.specs.Prelude.{◌≡◌, ℕ, ◌^◌, ◌≤◌, nat_le, List, [], ◌∷◌, ◌++◌, length, Some, None, option_map, IfSome, IfNone, OnOk, OnErr, if◌then◌else◌};
 ghost use Rattle.arrayvec.specs.ArrayVec.{ArrayVec as ArrayVecOf};
 ghost use Rattle.tpm_types.specs.declared.tpms.Auth.{Auth};
 ghost use Rattle.tpm_types.specs.Limits.{digest_bytes};
@@ -81,13 +81,7 @@ impl Counter {
     fn public(&self) -> NvPublic
         ensures { result ≡ public_with self.now.public self.now.value }
     {
-        NvPublic {
-            index: self.public.index,
-            alg: self.public.alg,
-            attrs: self.attrs(),
-            policy: self.public.policy.duplicate(),
-            data_size: self.public.data_size,
-        }
+        with_attrs(&self.public, self.attrs())
     }
 
     // Its Name: the number of its hash, and the hash of its public area.
@@ -103,7 +97,20 @@ impl Counter {
     }
 }
 
-// The Name of these bytes.
+// A public area with other attributes.
+fn with_attrs(public: &NvPublic, attrs: NvAttrs) -> NvPublic
+    ensures { result ≡ record { index = public.now.index; alg = public.now.alg; attrs = attrs; policy = public.now.policy; data_size = public.now.data_size } }
+{
+    NvPublic {
+        index: public.index,
+        alg: public.alg,
+        attrs,
+        policy: public.policy.duplicate(),
+        data_size: public.data_size,
+    }
+}
+
+// The Name of a hash's number and a digest under it.
 fn joined(alg: &[u8; 2], digest: &[u8]) -> Name
     requires { length digest.now ≤ digest_bytes }
     ensures { result ≡ alg.now ++ digest.now }
@@ -127,13 +134,7 @@ fn defined(public: &NvPublic, auth: &[u8]) -> Counter
         None => unreachable!(),
     };
     Counter {
-        public: NvPublic {
-            index: public.index,
-            alg: public.alg,
-            attrs: public.attrs,
-            policy: public.policy.duplicate(),
-            data_size: public.data_size,
-        },
+        public: with_attrs(public, public.attrs),
         auth,
         value: None,
     }
