@@ -202,6 +202,7 @@ impl CommandBody {
     /// The command of these parameters, with its handles by their numbers, in their order. A handle that is missing, or that
     /// the command cannot have, is never met where both were read under one code; in its place stands one of its kind: register 0,
     /// index 0x01000000, session 0x03000000, TPM_RH_NULL or TPM_RH_OWNER.
+    #[inline(never)]
     pub fn from_parts(handles: &[u32], params: Params) -> Self
         ensures body { result ≡ body_from handles.now params }
         ensures code { code_for result ≡ params_code params }

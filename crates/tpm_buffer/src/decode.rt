@@ -38,31 +38,22 @@ fn decode_long(bytes: &[u8]) -> Result<Command, Refusal>
     Err(long_fault(bytes))
 }
 
-fn decode_short(bytes: &[u8]) -> Result<Command, Refusal>
-    requires { length bytes.now ≤ 4096 }
-    ensures reads { result ≡ read_all command bytes.now }
-    ensures spelled { IfOk result (λ c. bytes.now ≡ spelling command c) }
-{
-    let mut cursor = Cursor::new(bytes);
-    let command = take_command(&mut cursor)?;
-    if cursor.left() > 0 {
-        return Err(Refusal {
-            code: SIZE,
-            at: cursor.at(),
-        });
-    }
-    Ok(command)
-}
-
 fn decode(bytes: &[u8]) -> Result<Command, Refusal>
     ensures reads { result ≡ read_all command bytes.now }
     ensures spelled { IfOk result (λ c. bytes.now ≡ spelling command c) }
 {
     if bytes.len() > 4096 {
-        decode_long(bytes)
-    } else {
-        decode_short(bytes)
+        return decode_long(bytes);
     }
+    let mut cursor = Cursor::new(bytes);
+    let command = take_command(&mut cursor);
+    if command.is_ok() && cursor.left() > 0 {
+        return Err(Refusal {
+            code: SIZE,
+            at: cursor.at(),
+        });
+    }
+    command
 }
 
 /// The command that the bytes spell, all of them, or the response code and the position of their first fault.

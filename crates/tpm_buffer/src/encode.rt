@@ -312,25 +312,37 @@ fn known_rest(tag: u16, command: &Command)
 }
 
 #[tactic(auto, unfolding(crate::specs::Commands::command, crate::specs::Commands::header, crate::specs::Commands::tag, crate::specs::Commands::command_size, crate::specs::Codes::command_code))]
-fn put_command(command: &Command, out: &mut Buffer)
-    requires { length out.old.items ≡ 0 }
-    ensures { out.new.items ≡ out.old.items ++ spelling command_layout command.now }
+fn put_command(tag: u16, len: usize, command: &Command, out: &mut Buffer)
+    requires empty { length out.old.items ≡ 0 }
+    requires tag { tag ≡ tag_of command.now }
+    requires len { len ≡ length (spelling (rest_of (code_for command.now.body) tag) command.now) }
+    requires fits { len ≤ 4000 }
+    ensures { out.new.items ≡ spelling command_layout command.now }
 {
-    let tag = tag_for(command);
     tag.put(out);
-    (10 + rest_len(tag, command) as u32).put(out);
+    (10 + len as u32).put(out);
     command.body.code().number().put(out);
     put_rest(tag, command, out);
 }
 
+// The bytes that spell it, into an empty buffer. It is out of line since a function pays for each place of a buffer in it.
+#[inline(never)]
+fn spell(command: &Command, out: &mut Buffer)
+    requires { length out.old.items ≡ 0 }
+    ensures { Spells command_layout command.now out.new.items }
+{
+    let tag = tag_for(command);
+    let len = rest_len(tag, command);
+    known_rest(tag, command);
+    put_command(tag, len, command, out);
+}
+
 /// The bytes that spell the command: 10 to 4,096 of them, under tag 0x8001 where it has no sessions and 0x8002 else.
+#[inline(never)]
 pub fn encode_command(command: &Command) -> Buffer
     ensures { Spells command_layout command.now result.items }
 {
     let mut out = ArrayVec::new();
-    put_command(command, &mut out);
-    let tag = tag_for(command);
-    let _len = rest_len(tag, command);
-    known_rest(tag, command);
+    spell(command, &mut out);
     out
 }

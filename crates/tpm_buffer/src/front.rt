@@ -129,6 +129,7 @@ fn take_authorization_size(cursor: &mut Cursor<'_>) -> Result<u32, Refusal>
 
 /// The sessions of a command with this tag.
 #[tactic(auto, unfolding(crate::specs::Commands::authorization))]
+#[inline(never)]
 pub(crate) fn take_authorization(
     cursor: &mut Cursor<'_>,
     tag: u16,

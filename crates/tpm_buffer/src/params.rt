@@ -52,6 +52,7 @@ pub enum Params {
 }
 
 #[tactic(auto, unfolding(crate::specs::Parameters::startup))]
+#[inline(never)]
 fn take_startup(cursor: &mut Cursor<'_>) -> Result<Params, Refusal>
     ensures reads { TakesNumbered (λ p. p) startup cursor.old cursor.new result }
     ensures spelled { IfOk result (λ x. cursor.old.here.rest ≡ spelling startup x ++ cursor.new.here.rest) }
@@ -62,6 +63,7 @@ fn take_startup(cursor: &mut Cursor<'_>) -> Result<Params, Refusal>
 }
 
 #[tactic(auto, unfolding(crate::specs::Parameters::nv_define_space))]
+#[inline(never)]
 fn take_nv_define_space(cursor: &mut Cursor<'_>) -> Result<Params, Refusal>
     ensures reads { TakesNumbered (λ p. p) nv_define_space cursor.old cursor.new result }
     ensures spelled { IfOk result (λ x. cursor.old.here.rest ≡ spelling nv_define_space x ++ cursor.new.here.rest) }
@@ -75,6 +77,7 @@ fn take_nv_define_space(cursor: &mut Cursor<'_>) -> Result<Params, Refusal>
 }
 
 #[tactic(auto, unfolding(crate::specs::Parameters::nv_read))]
+#[inline(never)]
 fn take_nv_read(cursor: &mut Cursor<'_>) -> Result<Params, Refusal>
     ensures reads { TakesNumbered (λ p. p) nv_read cursor.old cursor.new result }
     ensures spelled { IfOk result (λ x. cursor.old.here.rest ≡ spelling nv_read x ++ cursor.new.here.rest) }
@@ -88,6 +91,7 @@ fn take_nv_read(cursor: &mut Cursor<'_>) -> Result<Params, Refusal>
 }
 
 #[tactic(auto, unfolding(crate::specs::Parameters::flush_context))]
+#[inline(never)]
 fn take_flush_context(cursor: &mut Cursor<'_>) -> Result<Params, Refusal>
     ensures reads { TakesNumbered (λ p. p) flush_context cursor.old cursor.new result }
     ensures spelled { IfOk result (λ x. cursor.old.here.rest ≡ spelling flush_context x ++ cursor.new.here.rest) }
@@ -98,6 +102,7 @@ fn take_flush_context(cursor: &mut Cursor<'_>) -> Result<Params, Refusal>
 }
 
 #[tactic(auto, unfolding(crate::specs::Parameters::policy_command_code))]
+#[inline(never)]
 fn take_policy_command_code(cursor: &mut Cursor<'_>) -> Result<Params, Refusal>
     ensures reads { TakesNumbered (λ p. p) policy_command_code cursor.old cursor.new result }
     ensures spelled { IfOk result (λ x. cursor.old.here.rest ≡ spelling policy_command_code x ++ cursor.new.here.rest) }
@@ -108,6 +113,7 @@ fn take_policy_command_code(cursor: &mut Cursor<'_>) -> Result<Params, Refusal>
 }
 
 #[tactic(auto, unfolding(crate::specs::Parameters::policy_or))]
+#[inline(never)]
 fn take_policy_or(cursor: &mut Cursor<'_>) -> Result<Params, Refusal>
     ensures reads { TakesNumbered (λ p. p) policy_or cursor.old cursor.new result }
     ensures spelled { IfOk result (λ x. cursor.old.here.rest ≡ spelling policy_or x ++ cursor.new.here.rest) }
@@ -118,6 +124,7 @@ fn take_policy_or(cursor: &mut Cursor<'_>) -> Result<Params, Refusal>
 }
 
 #[tactic(auto, unfolding(crate::specs::Parameters::start_auth_session))]
+#[inline(never)]
 fn take_start_auth_session(cursor: &mut Cursor<'_>) -> Result<Params, Refusal>
     ensures reads { TakesNumbered (λ p. p) start_auth_session cursor.old cursor.new result }
     ensures spelled { IfOk result (λ x. cursor.old.here.rest ≡ spelling start_auth_session x ++ cursor.new.here.rest) }
@@ -142,6 +149,7 @@ fn take_start_auth_session(cursor: &mut Cursor<'_>) -> Result<Params, Refusal>
 }
 
 #[tactic(auto, unfolding(crate::specs::Parameters::pcr_read))]
+#[inline(never)]
 fn take_pcr_read(cursor: &mut Cursor<'_>) -> Result<Params, Refusal>
     ensures reads { TakesNumbered (λ p. p) pcr_read cursor.old cursor.new result }
     ensures spelled { IfOk result (λ x. cursor.old.here.rest ≡ spelling pcr_read x ++ cursor.new.here.rest) }
@@ -152,6 +160,7 @@ fn take_pcr_read(cursor: &mut Cursor<'_>) -> Result<Params, Refusal>
 }
 
 #[tactic(auto, unfolding(crate::specs::Parameters::policy_pcr))]
+#[inline(never)]
 fn take_policy_pcr(cursor: &mut Cursor<'_>) -> Result<Params, Refusal>
     ensures reads { TakesNumbered (λ p. p) policy_pcr cursor.old cursor.new result }
     ensures spelled { IfOk result (λ x. cursor.old.here.rest ≡ spelling policy_pcr x ++ cursor.new.here.rest) }
@@ -168,6 +177,7 @@ fn take_policy_pcr(cursor: &mut Cursor<'_>) -> Result<Params, Refusal>
 }
 
 #[tactic(auto, unfolding(crate::specs::Parameters::pcr_extend))]
+#[inline(never)]
 fn take_pcr_extend(cursor: &mut Cursor<'_>) -> Result<Params, Refusal>
     ensures reads { TakesNumbered (λ p. p) pcr_extend cursor.old cursor.new result }
     ensures spelled { IfOk result (λ x. cursor.old.here.rest ≡ spelling pcr_extend x ++ cursor.new.here.rest) }
@@ -178,6 +188,7 @@ fn take_pcr_extend(cursor: &mut Cursor<'_>) -> Result<Params, Refusal>
 }
 
 /// The parameters of a command with this code.
+#[inline(never)]
 pub(crate) fn take_params(cursor: &mut Cursor<'_>, code: CommandCode) -> Result<Params, Refusal>
     ensures reads { TakesNumbered (λ p. p) (parameters code) cursor.old cursor.new result }
     ensures spelled { IfOk result (λ x. cursor.old.here.rest ≡ spelling (parameters code) x ++ cursor.new.here.rest) }

@@ -43,17 +43,17 @@ pub fn read_frame<R: Source>(source: &mut R) -> Result<Option<Buffer>, ReadFault
     ensures failures { CountsDevice (R.failed source.old) (R.failed source.new) result }
     ensures frame { ReadsFrame (R.coming source.old) (R.coming source.new) result }
 {
-    let mut bytes = [0; 4096];
-    let size = read_into(source, &mut bytes)?;
+    let mut frame = Buffer::from_array_in((), [0; 4096]);
+    let size = read_into(source, frame.as_mut_slice())?;
     if size == 0 {
         return Ok(None);
     }
-    let mut frame = Buffer::from_array_in((), bytes);
     frame.truncate(size);
     Ok(Some(frame))
 }
 
 /// Reads the next frame to the front of the room, and says how many bytes it has: none at the end of the input.
+#[inline(never)]
 fn read_into<R: Source>(source: &mut R, room: &mut [u8]) -> Result<usize, ReadFault>
     requires { length room.old ≡ 4096 }
     ensures failures { CountsDevice (R.failed source.old) (R.failed source.new) result }

@@ -230,6 +230,7 @@ fn put_code(error: ErrorCode, out: &mut Buffer)
     error.number().put(out);
 }
 
+#[inline(never)]
 fn encode_code(error: ErrorCode) -> Buffer
     ensures spells { (code : CodeOf) → Spells (response_layout code) (responses.Code error) result.items }
     ensures bytes { (code : CodeOf) → result.items ≡ spelling (response_layout code) (responses.Code error) }
@@ -252,6 +253,7 @@ fn known_reply(body: &ReplyBody, auths: &[AuthReply])
 }
 
 #[tactic(auto, unfolding(crate::specs::Responses::response, crate::specs::Responses::response_front, crate::specs::Responses::response_tag, crate::specs::Responses::response_code, crate::specs::Commands::command_size))]
+#[inline(never)]
 fn put_done(body: &ReplyBody, auths: &[AuthReply], out: &mut Buffer)
     requires few { length auths.now ≤ 3 }
     requires empty { length out.old.items ≡ 0 }
@@ -263,6 +265,7 @@ fn put_done(body: &ReplyBody, auths: &[AuthReply], out: &mut Buffer)
     put_reply(body, auths, out);
 }
 
+#[inline(never)]
 fn encode_done(body: &ReplyBody, auths: &[AuthReply]) -> Buffer
     requires { length auths.now ≤ 3 }
     ensures spells { Spells (response_layout (code_for_reply body.now)) (responses.Done body.now (record { items = auths.now })) result.items }

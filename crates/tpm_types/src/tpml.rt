@@ -1,8 +1,10 @@
 //! Counted lists: TPML (Part 2, 10.9).
 
-ghost use Rattle.std.specs.Prelude.{◌≡◌, ◌≢◌, ◌↔◌, ℕ, ◌+◌, ◌*◌, ◌≤◌, List, length, IsTrue, All, MatchOption};
+ghost use Rattle.std.specs.Prelude.{◌≡◌, ◌≢◌, ◌↔◌, ℕ, ◌+◌, ◌*◌, ◌≤◌, ◌++◌, List, length, IsTrue, All, MatchOption};
+ghost use Rattle.tpm_wire.specs.Spelling.{spelling, IsSpelled, joined_all};
 ghost use Rattle.tpm_types.specs.Limits.{digest_bytes, banks};
 ghost use Rattle.tpm_types.specs.Alg.{digest_len, IsDigestValue};
+ghost use Rattle.tpm_types.specs.Tpml.{digest_value};
 
 use crate::alg::Alg;
 use crate::limits::BANKS;
@@ -164,24 +166,69 @@ fn are_digest_values(entries: &[(Alg, Digest)]) -> bool
     entries.iter().all(|(alg, digest)| digest.as_slice().len() == alg.digest_len())
 }
 
-impl DigestValues {
-    /// The digests, each one value with its hash.
-    fn values(&self) -> Counted<DigestValue, 0, BANKS>
-        ensures { result ≡ self.now }
-    {
-        let mut found: ArrayVec<DigestValue, BANKS> = ArrayVec::new();
-        for (alg, digest) in self.as_slice() {
-            found.push(DigestValue {
-                alg: *alg,
-                digest: digest.duplicate(),
-            });
-        }
-        match Counted::new(found.as_slice()) {
-            Some(values) => values,
-            None => unreachable!(),
-        }
-    }
+/// The digest has a spelling with its hash.
+#[tactic(auto, unfolding(crate::specs::Tpml::digest_value))]
+fn known_value(alg: Alg, digest: &Digest)
+    requires { length digest.now ≡ digest_len alg }
+    ensures { IsSpelled digest_value (alg, digest.now) }
+{
+    alg.known();
+    let _len = digest.as_slice().len();
+}
 
+/// Each of the digests has a spelling with its hash.
+fn known_values(entries: &[(Alg, Digest)])
+    requires { All IsDigestValue entries.now }
+    ensures { All (IsSpelled digest_value) entries.now }
+{
+    for value in entries {
+        known_value(value.0, &value.1);
+    }
+}
+
+/// How many bytes the digest takes with its hash.
+#[tactic(auto, unfolding(crate::specs::Tpml::digest_value))]
+fn value_len(alg: Alg, digest: &Digest) -> usize
+    ensures value { result ≡ length (spelling digest_value (alg, digest.now)) }
+    ensures fits { result ≤ 2 + digest_bytes }
+{
+    alg.len() + digest.as_slice().len()
+}
+
+/// How many bytes the digests take, each with its hash.
+fn values_len(entries: &[(Alg, Digest)]) -> usize
+    requires { length entries.now ≤ banks }
+    ensures value { result ≡ length (joined_all digest_value entries.now) }
+    ensures fits { result ≤ length entries.now * (2 + digest_bytes) }
+{
+    let mut sum = 0;
+    for value in entries {
+        sum += value_len(value.0, &value.1);
+    }
+    sum
+}
+
+/// Adds the digest, behind its hash.
+#[tactic(auto, unfolding(crate::specs::Tpml::digest_value))]
+fn put_value(alg: Alg, digest: &Digest, out: &mut Buffer)
+    requires { length out.old.items + length (spelling digest_value (alg, digest.now)) ≤ 4096 }
+    ensures { out.new.items ≡ out.old.items ++ spelling digest_value (alg, digest.now) }
+{
+    alg.put(out);
+    put_bytes(out, digest.as_slice());
+}
+
+/// Adds the digests, each behind its hash.
+fn put_values(entries: &[(Alg, Digest)], out: &mut Buffer)
+    requires { length out.old.items + length (joined_all digest_value entries.now) ≤ 4096 }
+    ensures { out.new.items ≡ out.old.items ++ joined_all digest_value entries.now }
+{
+    for value in entries {
+        put_value(value.0, &value.1, out);
+    }
+}
+
+impl DigestValues {
     /// The same digests, each apart from its hash.
     fn of(values: &Counted<DigestValue, 0, BANKS>) -> Self
         ensures { result ≡ values.now }
@@ -195,6 +242,7 @@ impl DigestValues {
 }
 
 /// Their number, at most `BANKS`, else SIZE; for each a hash, else HASH, and the bytes of the digest.
+#[tactic(auto, unfolding(tpm_wire::specs::Structures::counted))]
 impl Wire for DigestValues {
     ghost use Rattle.tpm_types.specs.Tpml.{digest_values};
 
@@ -203,15 +251,16 @@ impl Wire for DigestValues {
     ghost most = { 4 + banks * (2 + digest_bytes) };
 
     fn known(&self) {
-        self.values().known();
+        known_values(self.as_slice());
     }
 
     fn len(&self) -> usize {
-        self.values().len()
+        4 + values_len(self.as_slice())
     }
 
     fn put(&self, out: &mut Buffer) {
-        self.values().put(out);
+        (self.entries.len() as u32).put(out);
+        put_values(self.as_slice(), out);
     }
 
     fn take(cursor: &mut Cursor<'_>) -> Result<Self, Refusal> {
