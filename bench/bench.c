@@ -1,5 +1,5 @@
-// Times the library beside the system's libcrypto, in one process. Where a row has work on both sides, both have to give the
-// same bytes. Of libcrypto the plain functions are taken, which look nothing up and so cost least, though later interfaces
+// Times the library beside the system's libcrypto, or beside copying or hashes of its own, in one process. Where a row has work
+// on both sides, both have to give the same bytes, unless it says otherwise. Of libcrypto the plain functions are taken, which look nothing up and so cost least, though later interfaces
 // are recommended.
 #define OPENSSL_SUPPRESS_DEPRECATED
 #include <openssl/crypto.h>
@@ -16,15 +16,12 @@
 
 size_t tpm_bench_hash(uint16_t alg, const uint8_t *message, size_t message_len, uint8_t *out, size_t out_len);
 size_t tpm_bench_hmac(uint16_t alg, const uint8_t *key, size_t key_len, const uint8_t *text, size_t text_len, uint8_t *out, size_t out_len);
-
-// ---- what is worked on
-
-enum { SHORT = 64, LONG = 1 << 20, KEY = 32, OUT = 4096 };
-enum { SHA1_ALG = 0x0004, SHA256_ALG = 0x000B }; // TPM_ALG_ID
-
-static uint8_t message[LONG];
-static uint8_t key[KEY];
-static HMAC_CTX *macs;
+uint32_t tpm_bench_decode_command(const uint8_t *bytes, size_t len);
+uint32_t tpm_bench_decode_pcr_read_reply(const uint8_t *bytes, size_t len);
+size_t tpm_bench_encode_command(const uint8_t *bytes, size_t len, uint32_t times, uint8_t *out, size_t out_len);
+size_t tpm_bench_push_frames(const uint8_t *stream, size_t len, size_t most, uint8_t *out, size_t out_len);
+size_t tpm_bench_execute(const uint8_t *bytes, size_t len, uint32_t times, uint8_t *out, size_t out_len);
+size_t tpm_bench_read_frames(const uint8_t *stream, size_t len, size_t most, uint8_t *out, size_t out_len);
 
 static void want(int ok, const char *what) {
     if (ok)
@@ -33,15 +30,111 @@ static void want(int ok, const char *what) {
     exit(1);
 }
 
+// ---- what is worked on: a message
+
+enum { SHORT = 64, LONG = 1 << 20, KEY = 32 };
+enum { SHA1_ALG = 0x0004, SHA256_ALG = 0x000B }; // TPM_ALG_ID
+
+static uint8_t message[LONG];
+static uint8_t key[KEY];
+static HMAC_CTX *macs;
+
+// ---- buffers
+
+struct buffer {
+    size_t len;
+    uint8_t bytes[4096];
+};
+
+enum { PCR_EXTEND, PCR_READ, NV_READ, START_AUTH_SESSION, PCR_READ_REPLY, BUFFERS };
+static struct buffer buffers[BUFFERS];
+
+static void add(struct buffer *buffer, const char *hex) {
+    unsigned byte;
+    for (; sscanf(hex, " %2x", &byte) == 1; hex += strspn(hex, " ") + 2)
+        buffer->bytes[buffer->len++] = (uint8_t)byte;
+}
+
+static void fill(struct buffer *buffer, size_t count) {
+    for (size_t i = 0; i < count; i++)
+        buffer->bytes[buffer->len++] = (uint8_t)(i + count);
+}
+
+static struct buffer *begin(int which, const char *header) {
+    add(&buffers[which], header);
+    return &buffers[which];
+}
+
+static void make_buffers(void) {
+    struct buffer *b = begin(PCR_EXTEND, "8002 00000057 00000182");
+    add(b, "00000010  00000009 40000009 0000 01 0000"); // register 16; a password, which is empty
+    add(b, "00000002 0004");                            // two digests
+    fill(b, 20);
+    add(b, "000B");
+    fill(b, 32);
+    want(b->len == 0x57, "the length of PCR_Extend");
+
+    b = begin(PCR_READ, "8001 00000014 0000017E");
+    add(b, "00000001 000B 03 010000"); // register 0 of SHA-256
+    want(b->len == 0x14, "the length of PCR_Read");
+
+    b = begin(NV_READ, "8002 00000063 0000014E");
+    add(b, "01800001 01800001  00000049 02000000 0020"); // an index, by itself; an HMAC session
+    fill(b, 32);
+    add(b, "01 0020");
+    fill(b, 32);
+    add(b, "0008 0000"); // eight bytes from the first
+    want(b->len == 0x63, "the length of NV_Read");
+
+    b = begin(START_AUTH_SESSION, "8001 0000003B 00000176");
+    add(b, "40000007 40000001 0020"); // no key; bound to the owner
+    fill(b, 32);
+    add(b, "0000 00 0010 000B"); // no salt; an HMAC session; no encryption; SHA-256
+    want(b->len == 0x3B, "the length of StartAuthSession");
+
+    b = begin(PCR_READ_REPLY, "8001 000000D2 00000000");
+    add(b, "0000002A  00000002 0004 03 FF0000 000B 03 000000  00000008"); // registers 0 to 7 of SHA-1
+    for (int i = 0; i < 8; i++) {
+        add(b, "0014");
+        fill(b, 20);
+    }
+    want(b->len == 0xD2, "the length of PCR_Read's reply");
+}
+
+// ---- a stream of frames
+
+enum { FRAMES = 10000 };
+static const size_t frame_sizes[] = {10, 59, 12, 87, 210, 14, 99, 138}; // and 4,096 bytes in each hundredth
+enum { SIZES = sizeof frame_sizes / sizeof frame_sizes[0] };
+static uint8_t stream[FRAMES * 256];
+static size_t stream_len;
+
+static void make_stream(void) {
+    for (size_t i = 0; i < FRAMES; i++) {
+        size_t size = i % 100 == 99 ? 4096 : frame_sizes[i % SIZES];
+        uint8_t *frame = stream + stream_len;
+        want(stream_len + size <= sizeof stream, "the length of the stream");
+        frame[0] = 0x80, frame[1] = 0x01, frame[2] = 0, frame[3] = 0, frame[4] = (uint8_t)(size >> 8), frame[5] = (uint8_t)size;
+        for (size_t k = 6; k < size; k++)
+            frame[k] = (uint8_t)(i + k);
+        stream_len += size;
+    }
+}
+
+enum { OUT = sizeof stream };
+
 static void make_ready(void) {
     for (size_t i = 0; i < sizeof message; i++)
         message[i] = (uint8_t)(i * 131 + (i >> 8));
     for (size_t i = 0; i < sizeof key; i++)
         key[i] = (uint8_t)(i + 1);
     want((macs = HMAC_CTX_new()) != NULL, "out of memory");
+    make_buffers();
+    make_stream();
 }
 
-// ---- work: each function does it once, and answers how many bytes it wrote to out
+// ---- work: each function does it once, and answers how many bytes it wrote to out. Its argument is how many bytes of the
+// message are worked on, which buffer, or how many bytes a piece of the stream has.
 
 static size_t hash_sha1(size_t len, uint8_t *out) { return tpm_bench_hash(SHA1_ALG, message, len, out, OUT); }
 static size_t hash_sha256(size_t len, uint8_t *out) { return tpm_bench_hash(SHA256_ALG, message, len, out, OUT); }
@@ -66,20 +159,64 @@ static size_t libcrypto_hmac(const EVP_MD *md, size_t len, uint8_t *out) {
 static size_t libcrypto_hmac_sha1(size_t len, uint8_t *out) { return libcrypto_hmac(EVP_sha1(), len, out); }
 static size_t libcrypto_hmac_sha256(size_t len, uint8_t *out) { return libcrypto_hmac(EVP_sha256(), len, out); }
 
+// Decoding writes nothing here. It answers that it was done.
+static size_t decode_command(size_t which, uint8_t *out) {
+    (void)out;
+    return tpm_bench_decode_command(buffers[which].bytes, buffers[which].len) == 0;
+}
+
+static size_t decode_response(size_t which, uint8_t *out) {
+    (void)out;
+    return tpm_bench_decode_pcr_read_reply(buffers[which].bytes, buffers[which].len) == 0;
+}
+
+enum { TIMES = 1000 };
+static size_t encode_command(size_t which, uint8_t *out) {
+    return tpm_bench_encode_command(buffers[which].bytes, buffers[which].len, TIMES, out, OUT);
+}
+
+static size_t push_frames(size_t most, uint8_t *out) { return tpm_bench_push_frames(stream, stream_len, most, out, OUT); }
+static size_t read_frames(size_t most, uint8_t *out) { return tpm_bench_read_frames(stream, stream_len, most, out, OUT); }
+
+// The answer has the response code in its seventh to tenth byte.
+static size_t execute(size_t which, uint8_t *out) {
+    size_t len = tpm_bench_execute(buffers[which].bytes, buffers[which].len, TIMES, out, OUT);
+    return len >= 10 && memcmp(out + 6, "\0\0\0\0", 4) == 0 ? len : 0;
+}
+
+// What PCR_Extend in both banks hashes, by the library: each register's value and the digest behind it.
+static size_t hashes_of_extend(size_t argument, uint8_t *out) {
+    (void)argument;
+    return hash_sha1(2 * SHA_DIGEST_LENGTH, out) + hash_sha256(2 * SHA256_DIGEST_LENGTH, out);
+}
+
+static size_t copy_buffer(size_t which, uint8_t *out) {
+    memcpy(out, buffers[which].bytes, buffers[which].len);
+    return buffers[which].len;
+}
+
+static size_t copy_stream(size_t most, uint8_t *out) {
+    (void)most;
+    memcpy(out, stream, stream_len);
+    return stream_len;
+}
+
 // ---- rows: for another one, an export in crates/tpm_bench, a function above, and a line below
 
-typedef size_t work(size_t len, uint8_t *out);
+typedef size_t work(size_t argument, uint8_t *out);
 
 struct timed {
     work *work; // NULL: nothing is done on this side
+    int inner;  // how many times each call does it; 0 is once
     long times; // how many calls make a round
-    double ns;  // the least that a call took so far
+    double ns;  // the least that it took so far
 };
 
 struct row {
     const char *name;
-    size_t len; // how many bytes of the message are worked on
+    size_t argument;
     struct timed here, there;
+    int apart; // the two give other bytes
 };
 
 static struct row rows[] = {
@@ -91,17 +228,32 @@ static struct row rows[] = {
     {"hmac SHA-1, 1 MiB", LONG, {hmac_sha1}, {libcrypto_hmac_sha1}},
     {"hmac SHA-256, 64 bytes", SHORT, {hmac_sha256}, {libcrypto_hmac_sha256}},
     {"hmac SHA-256, 1 MiB", LONG, {hmac_sha256}, {libcrypto_hmac_sha256}},
+    {"decode PCR_Extend", PCR_EXTEND, {decode_command}, {NULL}},
+    {"decode NV_Read", NV_READ, {decode_command}, {NULL}},
+    {"decode StartAuthSession", START_AUTH_SESSION, {decode_command}, {NULL}},
+    {"decode reply of PCR_Read", PCR_READ_REPLY, {decode_response}, {NULL}},
+    {"encode PCR_Extend", PCR_EXTEND, {encode_command, TIMES}, {copy_buffer}},
+    {"encode NV_Read", NV_READ, {encode_command, TIMES}, {copy_buffer}},
+    {"encode StartAuthSession", START_AUTH_SESSION, {encode_command, TIMES}, {copy_buffer}},
+    {"execute PCR_Read", PCR_READ, {execute, TIMES}, {NULL}},
+    {"execute PCR_Extend", PCR_EXTEND, {execute, TIMES}, {hashes_of_extend}, 1},
+    {"Framer, pieces of 1", 1, {push_frames}, {copy_stream}},
+    {"Framer, pieces of 64", 64, {push_frames}, {copy_stream}},
+    {"Framer, pieces of 4,096", 4096, {push_frames}, {copy_stream}},
+    {"read_frame, pieces of 1", 1, {read_frames}, {copy_stream}},
+    {"read_frame, pieces of 64", 64, {read_frames}, {copy_stream}},
+    {"read_frame, pieces of 4,096", 4096, {read_frames}, {copy_stream}},
 };
 enum { ROWS = sizeof rows / sizeof rows[0] };
 
 // What the ratios are to: SHA-256 of 64 bytes by libcrypto.
-static struct timed unit = {libcrypto_sha256, 0, 0};
+static struct timed unit = {libcrypto_sha256, 0, 0, 0};
 
 // ---- timing
 
 // Other work on the machine only adds time, so the least of many rounds is taken, and the rounds of all rows take turns.
-enum { ROUNDS = 25 };
-static const double ROUND_NS = 4e6;
+enum { ROUNDS = 100 };
+static const double ROUND_NS = 1e6;
 
 static double now(void) {
     struct timespec t;
@@ -109,39 +261,39 @@ static double now(void) {
     return (double)t.tv_sec * 1e9 + (double)t.tv_nsec;
 }
 
-static double once(const struct timed *timed, size_t len) {
+static double once(const struct timed *timed, size_t argument) {
     static uint8_t out[OUT];
     double start = now();
     for (long i = 0; i < timed->times; i++)
-        want(timed->work(len, out) > 0, "a call failed");
-    return (now() - start) / (double)timed->times;
+        want(timed->work(argument, out) > 0, "a call failed");
+    return (now() - start) / (double)timed->times / (timed->inner > 0 ? timed->inner : 1);
 }
 
-static void first(struct timed *timed, size_t len) {
+static void first(struct timed *timed, size_t argument) {
     if (timed->work == NULL)
         return;
     timed->times = 1;
-    timed->ns = once(timed, len);
-    while (timed->ns * (double)timed->times < ROUND_NS) {
+    timed->ns = once(timed, argument);
+    while (timed->ns * (timed->inner > 0 ? timed->inner : 1) * (double)timed->times < ROUND_NS) {
         timed->times *= 2;
-        timed->ns = once(timed, len);
+        timed->ns = once(timed, argument);
     }
 }
 
-static void again(struct timed *timed, size_t len) {
+static void again(struct timed *timed, size_t argument) {
     if (timed->work == NULL)
         return;
-    double ns = once(timed, len);
+    double ns = once(timed, argument);
     if (ns < timed->ns)
         timed->ns = ns;
 }
 
 static void check(const struct row *row) {
     static uint8_t here[OUT], there[OUT];
-    if (row->there.work == NULL)
+    if (row->there.work == NULL || row->apart)
         return;
-    size_t len = row->here.work(row->len, here);
-    want(len > 0 && len == row->there.work(row->len, there) && memcmp(here, there, len) == 0, row->name);
+    size_t len = row->here.work(row->argument, here);
+    want(len > 0 && len == row->there.work(row->argument, there) && memcmp(here, there, len) == 0, row->name);
 }
 
 static void print(const struct timed *timed) {
@@ -149,23 +301,39 @@ static void print(const struct timed *timed) {
         printf(" %14.0f %10.2f", timed->ns, timed->ns / unit.ns);
 }
 
-int main(void) {
+// Does one row so many times and times nothing, for a profiler.
+static int run(const char *name, long times) {
+    static uint8_t out[OUT];
+    for (size_t i = 0; i < ROWS; i++) {
+        if (strcmp(rows[i].name, name) != 0)
+            continue;
+        for (long k = 0; k < times; k++)
+            want(rows[i].here.work(rows[i].argument, out) > 0, "a call failed");
+        return 0;
+    }
+    want(0, "no row has this name");
+    return 1;
+}
+
+int main(int argc, char **argv) {
     make_ready();
+    if (argc == 3)
+        return run(argv[1], atol(argv[2]));
     first(&unit, SHORT);
     for (size_t i = 0; i < ROWS; i++) {
         check(&rows[i]);
-        first(&rows[i].here, rows[i].len);
-        first(&rows[i].there, rows[i].len);
+        first(&rows[i].here, rows[i].argument);
+        first(&rows[i].there, rows[i].argument);
     }
     for (int round = 0; round < ROUNDS; round++) {
         again(&unit, SHORT);
         for (size_t i = 0; i < ROWS; i++) {
-            again(&rows[i].here, rows[i].len);
-            again(&rows[i].there, rows[i].len);
+            again(&rows[i].here, rows[i].argument);
+            again(&rows[i].there, rows[i].argument);
         }
     }
     printf("A unit is SHA-256 of 64 bytes by %s: %.0f ns\n\n", OpenSSL_version(OPENSSL_VERSION), unit.ns);
-    printf("%-28s %14s %10s %14s %10s\n", "", "ns", "units", "libcrypto ns", "units");
+    printf("%-28s %14s %10s %14s %10s\n", "", "ns", "units", "beside it ns", "units");
     for (size_t i = 0; i < ROWS; i++) {
         printf("%-28s", rows[i].name);
         print(&rows[i].here);

@@ -1,47 +1,15 @@
 //! What `bench/run` measures, for C: each function here calls one of the library's, over slices and numbers.
 #![tactic(auto)]
 
-ghost use Rattle.std.specs.Prelude.{◌≡◌, ℕ, ◌≤◌, length, take, MatchOption};
-ghost use Rattle.tpm_types.specs.Alg.{alg_of, digest_len};
-ghost use Rattle.tpm_types.specs.Limits.{digest_bytes};
-ghost use Rattle.tpm_hmac.specs.Hashes.{digest};
-ghost use Rattle.tpm_hmac.specs.Hmac.{hmac as hmac_of};
+mod buffers;
+mod device;
+mod hashes;
+mod out;
+mod streams;
 
-use tpm_hmac::{hash, hmac};
-use tpm_types::{Alg, Digest};
-
-// Writes the digest to the beginning of `out`, and answers its length.
-fn put(out: &mut [u8], digest: &Digest) -> usize
-    requires { length digest.now ≤ length out.old }
-    ensures value { result ≡ length digest.now }
-    ensures written { take (length digest.now) out.new ≡ digest.now }
-{
-    let bytes = digest.as_slice();
-    out[..bytes.len()].copy_from_slice(bytes);
-    bytes.len()
-}
-
-/// The hash of the message, at the beginning of `out`, which has room for the longest digest. It answers the length, or 0
-/// where the number is no hash's (Part 2, 6.3).
-#[unsafe(no_mangle)]
-pub extern "C" fn tpm_bench_hash(alg: u16, message: &[u8], out: &mut [u8]) -> usize
-    requires { digest_bytes ≤ length out.old }
-    ensures { MatchOption (alg_of alg) (result ≡ 0) (λ a. (result ≡ digest_len a) × (take (digest_len a) out.new ≡ digest a message.now)) }
-{
-    match Alg::from_number(alg) {
-        Some(alg) => put(out, &hash(alg, &[message])),
-        None => 0,
-    }
-}
-
-/// The HMAC of the text under the key, as `tpm_bench_hash` gives the hash.
-#[unsafe(no_mangle)]
-pub extern "C" fn tpm_bench_hmac(alg: u16, key: &[u8], text: &[u8], out: &mut [u8]) -> usize
-    requires { digest_bytes ≤ length out.old }
-    ensures { MatchOption (alg_of alg) (result ≡ 0) (λ a. (result ≡ digest_len a) × (take (digest_len a) out.new ≡ hmac_of a key.now text.now)) }
-{
-    match Alg::from_number(alg) {
-        Some(alg) => put(out, &hmac(alg, key, &[text])),
-        None => 0,
-    }
-}
+pub use buffers::{
+    tpm_bench_decode_command, tpm_bench_decode_pcr_read_reply, tpm_bench_encode_command,
+};
+pub use device::tpm_bench_execute;
+pub use hashes::{tpm_bench_hash, tpm_bench_hmac};
+pub use streams::{tpm_bench_push_frames, tpm_bench_read_frames};

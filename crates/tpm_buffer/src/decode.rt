@@ -57,6 +57,7 @@ fn decode(bytes: &[u8]) -> Result<Command, Refusal>
 }
 
 /// The command that the bytes spell, all of them, or the response code and the position of their first fault.
+#[inline(never)]
 pub fn decode_command(bytes: &[u8]) -> Result<Command, Refusal>
     ensures ok { (c : CommandOf) → (result ≡ Ok c) ↔ Spells command c bytes.now }
     ensures err { (e : RefusalOf) → (result ≡ Err e) ↔ Fault command bytes.now e }

@@ -153,7 +153,8 @@ fn take_reply(cursor: &mut Cursor<'_>, tag: u16, code: CommandCode) -> Result<Re
     ensures { TakesNumbered (λ r. record { body = r.body; auths = r.auths.items }) (reply code tag) cursor.old cursor.new result }
 {
     let handles = take_reply_handles(cursor, code)?;
-    take_behind(cursor, tag, code, handles.as_slice())
+    let reply = take_behind(cursor, tag, code, handles.as_slice())?;
+    Ok(reply)
 }
 
 fn take_behind_code(
@@ -183,7 +184,8 @@ fn take_response(cursor: &mut Cursor<'_>, code: CommandCode) -> Result<Response,
 {
     let (tag, _size) = take_front(cursor)?;
     let number = take_code(cursor, tag)?;
-    take_behind_code(cursor, tag, number, code)
+    let response = take_behind_code(cursor, tag, number, code)?;
+    Ok(response)
 }
 
 // No buffer has so many bytes, so the tag is refused or else the size.
@@ -213,25 +215,34 @@ fn decode_long(code: CommandCode, bytes: &[u8]) -> Result<Response, Refusal>
     Err(long_fault(bytes))
 }
 
-fn decode(code: CommandCode, bytes: &[u8]) -> Result<Response, Refusal>
+fn decode_short(code: CommandCode, bytes: &[u8]) -> Result<Response, Refusal>
+    requires { length bytes.now ≤ 4096 }
     ensures { result ≡ read_all (response code) bytes.now }
 {
-    if bytes.len() > 4096 {
-        return decode_long(code, bytes);
-    }
     let mut cursor = Cursor::new(bytes);
-    let response = take_response(&mut cursor, code);
-    if response.is_ok() && cursor.left() > 0 {
+    let response = take_response(&mut cursor, code)?;
+    if cursor.left() > 0 {
         return Err(Refusal {
             code: SIZE,
             at: cursor.at(),
         });
     }
-    response
+    Ok(response)
+}
+
+fn decode(code: CommandCode, bytes: &[u8]) -> Result<Response, Refusal>
+    ensures { result ≡ read_all (response code) bytes.now }
+{
+    if bytes.len() > 4096 {
+        decode_long(code, bytes)
+    } else {
+        decode_short(code, bytes)
+    }
 }
 
 /// The response to a command with this code that the bytes spell, all of them, or the response code and the position
 /// of their first fault.
+#[inline(never)]
 pub fn decode_response(code: CommandCode, bytes: &[u8]) -> Result<Response, Refusal>
     ensures ok { (r : ResponseOf) → (result ≡ Ok r) ↔ Spells (response code) r bytes.now }
     ensures err { (e : RefusalOf) → (result ≡ Err e) ↔ Fault (response code) bytes.now e }
