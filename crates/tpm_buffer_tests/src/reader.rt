@@ -2,6 +2,7 @@
 
 ghost use Rattle.std.specs.Prelude.{None};
 
+use crate::checks::bytes;
 use std::io;
 use std::io::Read;
 use std::process::Abort;
@@ -9,11 +10,8 @@ use std::test::*;
 use tpm_buffer::{ReadFault, read_frame};
 use tpm_wire::{Buffer, ReadFailed, Reads, Refusal, SliceSource, Source};
 
-// PCR_Read of register 0 in SHA-256.
-const PCR_READ: [u8; 20] = [
-    0x80, 0x01, 0x00, 0x00, 0x00, 0x14, 0x00, 0x00, 0x01, 0x7E, 0x00, 0x00, 0x00, 0x01, 0x00, 0x0B,
-    0x03, 0x01, 0x00, 0x00,
-];
+/// PCR_Read of register 0 in SHA-256, of 20 bytes.
+const PCR_READ: &str = "8001 00000014 0000017e 00000001 000b 03 010000";
 
 const BAD_SIZE: ReadFault = ReadFault::Broken(Refusal { code: 0x142, at: 2 });
 
@@ -94,95 +92,101 @@ impl Source for Endless {
     }
 }
 
-// What is answered of these bytes, by a source that tells them, by one that gives one byte a read, and by readers of the
-// two kinds, which are the same.
-fn answered(rt: &impl Abort, bytes: &[u8]) -> Result<Option<Buffer>, ReadFault> {
-    let answer = read_frame(&mut SliceSource::new(bytes));
-    assert_eq!(rt; read_frame(&mut OneByOne::new(bytes, 0)), answer);
-    assert_eq!(rt; read_frame(&mut Reads::new(bytes)), answer);
-    assert_eq!(rt;
-        read_frame(&mut Reads::new(OneByOne::new(bytes, 0))),
-        answer
-    );
-    answer
+/// What is answered is this frame, or none.
+fn is_frame(rt: &impl Abort, answer: Result<Option<Buffer>, ReadFault>, frame: Option<&[u8]>) {
+    match (answer, frame) {
+        (Ok(Some(read)), Some(frame)) => assert!(rt; read.as_slice() == frame),
+        (Ok(None), None) => {}
+        _ => panic!(rt; "another answer"),
+    }
 }
 
-fn frame(bytes: &[u8]) -> Buffer {
-    let mut frame = Buffer::new();
-    let _ = frame.try_extend_from_slice(bytes);
-    frame
+fn is_fault(rt: &impl Abort, answer: Result<Option<Buffer>, ReadFault>, fault: ReadFault) {
+    assert!(rt; answer.err() == Some(fault));
+}
+
+/// These bytes end with this fault: from a source that tells them, from one that gives one byte a read, and from readers
+/// of the two kinds.
+fn faults(rt: &impl Abort, bytes: &[u8], fault: ReadFault) {
+    is_fault(rt, read_frame(&mut SliceSource::new(bytes)), fault);
+    is_fault(rt, read_frame(&mut OneByOne::new(bytes, 0)), fault);
+    is_fault(rt, read_frame(&mut Reads::new(bytes)), fault);
+    is_fault(
+        rt,
+        read_frame(&mut Reads::new(OneByOne::new(bytes, 0))),
+        fault,
+    );
+}
+
+/// These bytes are this frame or none, from the same four.
+fn frames(rt: &impl Abort, bytes: &[u8], frame: Option<&[u8]>) {
+    is_frame(rt, read_frame(&mut SliceSource::new(bytes)), frame);
+    is_frame(rt, read_frame(&mut OneByOne::new(bytes, 0)), frame);
+    is_frame(rt, read_frame(&mut Reads::new(bytes)), frame);
+    is_frame(
+        rt,
+        read_frame(&mut Reads::new(OneByOne::new(bytes, 0))),
+        frame,
+    );
 }
 
 #[test]
 fn frames_are_read_one_after_the_other(rt: HostRuntime) {
     // Startup with the tag 8003, and then PCR_Read.
-    let startup = [
-        0x80, 0x03, 0x00, 0x00, 0x00, 0x0C, 0x00, 0x00, 0x01, 0x44, 0x00, 0x00,
-    ];
-    let mut stream = [0; 32];
-    stream[..12].copy_from_slice(&startup);
-    stream[12..].copy_from_slice(&PCR_READ);
-    let mut source = SliceSource::new(&stream);
-    for bytes in [startup.as_slice(), &PCR_READ] {
-        assert_eq!(rt; read_frame(&mut source), Ok(Some(frame(bytes))));
-    }
-    assert_eq!(rt; read_frame(&mut source), Ok(None));
-    assert_eq!(rt; source.failures(), 0);
+    let startup = bytes(&rt, "8003 0000000c 00000144 0000");
+    let read = bytes(&rt, PCR_READ);
+    let both = bytes(
+        &rt,
+        "8003 0000000c 00000144 0000 8001 00000014 0000017e 00000001 000b 03 010000",
+    );
+    let mut source = SliceSource::new(both.as_slice());
+    is_frame(&rt, read_frame(&mut source), Some(startup.as_slice()));
+    is_frame(&rt, read_frame(&mut source), Some(read.as_slice()));
+    is_frame(&rt, read_frame(&mut source), None);
+    assert!(rt; source.failures() == 0);
 }
 
 #[test]
 fn an_end_is_none_before_the_first_byte_and_inside_after_it(rt: HostRuntime) {
-    assert_eq!(rt; answered(&rt, &[]), Ok(None));
+    let whole = bytes(&rt, PCR_READ);
+    assert!(rt; whole.len() == 20);
+    frames(&rt, &[], None);
     for k in 1..20 {
-        assert_eq!(rt;
-            answered(&rt, &PCR_READ[..k]),
-            Err(ReadFault::EndInside),
-            "after {k}"
-        );
+        faults(&rt, &whole.as_slice()[..k], ReadFault::EndInside);
     }
-    assert_eq!(rt; answered(&rt, &PCR_READ), Ok(Some(frame(&PCR_READ))));
+    frames(&rt, whole.as_slice(), Some(whole.as_slice()));
 }
 
 #[test]
 fn a_bad_size_is_refused(rt: HostRuntime) {
-    for low in [[0x00, 0x09], [0x10, 0x01]] {
-        let front = [0x80, 0x01, 0x00, 0x00, low[0], low[1]];
-        assert_eq!(rt; answered(&rt, &front), Err(BAD_SIZE));
-        assert_eq!(rt; answered(&rt, &front[..3]), Err(ReadFault::EndInside));
-    }
+    faults(&rt, &[0x80, 0x01, 0, 0, 0, 0x09], BAD_SIZE);
+    faults(&rt, &[0x80, 0x01, 0, 0, 0x10, 0x01], BAD_SIZE);
+    faults(&rt, &[0x80, 0x01, 0, 0, 0, 0x09, 0x01], BAD_SIZE);
+    faults(&rt, &[0x80, 0x01, 0], ReadFault::EndInside);
 }
 
 #[test]
 fn a_failed_read_is_a_device_fault(rt: HostRuntime) {
+    let whole = bytes(&rt, PCR_READ);
     for k in 1..21 {
-        let mut source = OneByOne::new(&PCR_READ, k);
-        assert_eq!(rt;
-            read_frame(&mut source),
-            Err(ReadFault::Device),
-            "at read {k}"
-        );
-        assert_eq!(rt; source.failures(), 1);
-        assert_eq!(rt; source.reads, k);
-        let mut source = Reads::new(OneByOne::new(&PCR_READ, k));
-        assert_eq!(rt;
-            read_frame(&mut source),
-            Err(ReadFault::Device),
-            "at read {k}"
-        );
-        assert_eq!(rt; source.failures(), 1);
+        let mut source = OneByOne::new(whole.as_slice(), k);
+        is_fault(&rt, read_frame(&mut source), ReadFault::Device);
+        assert!(rt; source.failures() == 1 && source.reads == k);
+        let mut source = Reads::new(OneByOne::new(whole.as_slice(), k));
+        is_fault(&rt, read_frame(&mut source), ReadFault::Device);
+        assert!(rt; source.failures() == 1);
     }
-    let mut source = OneByOne::new(&PCR_READ, 21);
-    assert_eq!(rt; read_frame(&mut source), Ok(Some(frame(&PCR_READ))));
-    assert_eq!(rt; source.failures(), 0);
-    assert_eq!(rt; source.reads, 20);
+    let mut source = OneByOne::new(whole.as_slice(), 21);
+    is_frame(&rt, read_frame(&mut source), Some(whole.as_slice()));
+    assert!(rt; source.failures() == 0 && source.reads == 20);
 }
 
 #[test]
 fn an_endless_source_is_left_after_six_reads(rt: HostRuntime) {
     for byte in [0x00, 0xFF] {
         let mut source = Endless { byte, reads: 0 };
-        assert_eq!(rt; read_frame(&mut source), Err(BAD_SIZE));
-        assert_eq!(rt; source.reads, 6);
+        is_fault(&rt, read_frame(&mut source), BAD_SIZE);
+        assert!(rt; source.reads == 6);
     }
 }
 
@@ -191,7 +195,6 @@ fn there_are_as_many_reads_as_bytes_at_most(rt: HostRuntime) {
     let mut most = [0; 4100];
     most[4] = 0x10;
     let mut source = OneByOne::new(&most, 0);
-    assert_eq!(rt; read_frame(&mut source), Ok(Some(frame(&most[..4096]))));
-    assert_eq!(rt; source.reads, 4096);
-    assert_eq!(rt; source.bytes.len(), 4);
+    is_frame(&rt, read_frame(&mut source), Some(&most[..4096]));
+    assert!(rt; source.reads == 4096 && source.bytes.len() == 4);
 }
