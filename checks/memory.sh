@@ -9,18 +9,19 @@ for word in "${CC:-cc}" gcc clang; do
     fi
 done
 
-# refuses NAME WORD..: the words are run undisturbed first, and then with each request refused.
+# refuses NAME WORD..: the words are run undisturbed first, and then with each request refused. $room/script
+# is standard input.
 refuses() {
     name="refused memory: $1"
     shift
-    "$program" "$@" >"$room/whole" 2>"$room/whole.err" </dev/null
+    "$program" "$@" >"$room/whole" 2>"$room/whole.err" <"$room/script"
     whole=$?
     request=0 wanting=0 wrong=
     while [ $request -lt 10000 ]; do
         request=$((request + 1))
         rm -f "$room/refused"
         LD_PRELOAD="$room/refuse.so" REFUSE=$request REFUSED="$room/refused" \
-            "$program" "$@" >"$room/out" 2>"$room/err" </dev/null
+            "$program" "$@" >"$room/out" 2>"$room/err" <"$room/script"
         status=$?
         [ -e "$room/refused" ] || break
         if [ $status -eq 3 ] && [ "$(cat "$room/err")" = 'out of memory' ]; then
@@ -44,6 +45,7 @@ if [ -z "$compiler" ]; then
 elif ! "$compiler" -shared -fPIC -O1 -o "$room/refuse.so" checks/refuse.c -ldl 2>"$room/err"; then
     skip "refused memory" "$compiler does not compile checks/refuse.c: $(head -n 1 "$room/err")"
 else
+    : >"$room/script"
     refuses "show of a command" show $startup
     refuses "show of a refusal" show 8001000000
     refuses "show of text that is not hexadecimal" show no
@@ -51,6 +53,10 @@ else
     refuses "show of a response code" show --reply Startup 80010000000a00000100
     refuses "joined parts" build PCR_Reset 00000010 400000090000010000 -
     refuses "joined parts that are refused" build Startup - - 0002
+    printf '%s\n' $startup power no >"$room/script"
+    refuses "a script" run
+    refuses "an owner value" run --owner 6f776e6572
+    refuses "an owner value that is not hexadecimal" run --owner no
     refuses "help" show --help
     refuses "a usage fault" show
 fi

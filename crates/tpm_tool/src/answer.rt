@@ -3,6 +3,7 @@
 ghost use Rattle.std.specs.Prelude.{◌≡◌, IfOk, string_bytes};
 ghost use Rattle.std.specs.Io.KnownBytes.{Appends};
 ghost use Rattle.tpm_tool.specs.declared.status.Status.TheVariants.{Refused};
+ghost use Rattle.tpm_tool.specs.Text.{not_hexadecimal_line};
 
 use crate::fault::ToolFault;
 use crate::status::Status;
@@ -19,7 +20,7 @@ pub(crate) struct Answer {
 }
 
 impl Answer {
-    ghost use Rattle.tpm_tool.specs.Text.{refusal_line, not_hexadecimal_line};
+    ghost use Rattle.tpm_tool.specs.Text.{refusal_line};
 
     /// The line of a refusal.
     pub(crate) fn refusal(alloc: Global, refusal: &Refusal) -> Result<Self, AllocError>
@@ -53,4 +54,15 @@ impl Answer {
             .map_err(|_| ToolFault::Write)?;
         Ok(self.status)
     }
+}
+
+/// Prints that a word is not hexadecimal.
+///
+/// Where a request for memory is refused the answer is `Memory`, and where the writer fails it is
+/// `Write`. What was written before is then left open.
+pub fn not_hexadecimal<W: Write>(alloc: Global, out: &mut W) -> Result<Status, ToolFault>
+    ensures { IfOk result (λ status. (status ≡ Refused)
+        × Appends (W.contents out.old) (W.contents out.new) not_hexadecimal_line) }
+{
+    Answer::not_hexadecimal(alloc)?.print(out)
 }

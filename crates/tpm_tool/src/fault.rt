@@ -1,10 +1,11 @@
 //! What keeps a subcommand from its answer.
 
 ghost use Rattle.std.specs.Prelude.{◌≡◌};
-ghost use Rattle.tpm_tool.specs.declared.fault.ToolFault.TheVariants.{Memory};
+ghost use Rattle.tpm_tool.specs.declared.fault.ToolFault.TheVariants.{Memory, Read};
 
 use std::alloc::AllocError;
 use thiserror::Error;
+use tpm_wire::ReadFailed;
 
 /// What keeps a subcommand from its answer. The program prints it on standard error and ends with
 /// status 3.
@@ -29,5 +30,13 @@ impl From<AllocError> for ToolFault {
 
     fn from(_error: AllocError) -> ToolFault {
         ToolFault::Memory
+    }
+}
+
+impl From<ReadFailed> for ToolFault {
+    ghost from_gives = { λ _ fault. fault ≡ Read };
+
+    fn from(_: ReadFailed) -> ToolFault {
+        ToolFault::Read
     }
 }

@@ -5,10 +5,14 @@ ghost use Rattle.tpm_tool.specs.Text.{bytes_in, bytes_text};
 
 use hex::FromHexError;
 use std::alloc::{AllocError, Global};
+use std::convert::AsSlice;
 
 /// The bytes of hexadecimal digits, or `None` for any other text.
-pub(crate) fn decoded(alloc: Global, text: &str) -> Result<Option<Vec<u8>>, AllocError>
-    ensures { IfOk result (λ bytes. option_map (λ v. v.items) bytes ≡ bytes_in text.now) }
+pub(crate) fn decoded<T: AsSlice<u8> + Drop>(
+    alloc: Global,
+    text: T,
+) -> Result<Option<Vec<u8>>, AllocError>
+    ensures { IfOk result (λ bytes. option_map (λ v. v.items) bytes ≡ bytes_in (T.items text)) }
 {
     match hex::decode(alloc, text) {
         Ok(bytes) => Ok(Some(bytes)),

@@ -5,14 +5,18 @@ mod answer;
 mod built;
 mod fault;
 mod hexadecimal;
+mod lines;
 mod reply_text;
+mod script;
 mod shown;
 mod shown_reply;
 mod status;
 mod text;
 
+pub use answer::not_hexadecimal;
 pub use built::build;
 pub use fault::ToolFault;
+pub use script::run_script;
 pub use shown::show;
 pub use status::Status;
 

@@ -2,6 +2,7 @@
 
 use crate::names::{command_named, command_names};
 use crate::program::program;
+use crate::run::run_task;
 use crate::stop::Stop;
 use crate::task::Task;
 use clap::error::ErrorKind;
@@ -28,7 +29,7 @@ impl Words {
     pub fn task(&self, alloc: Global) -> Result<Task<'_>, Stop> {
         let mut program = program(alloc, self.names.as_slice())?;
         match program.try_get_matches_from_mut(self.given.as_slice()) {
-            Ok(matches) => match asked(&matches) {
+            Ok(matches) => match asked(alloc, &matches)? {
                 Some(task) => Ok(task),
                 None => Err(Stop::Usage(program.render_usage()?)),
             },
@@ -57,12 +58,15 @@ fn build_task<'a>(words: &ArgMatches<'a>) -> Option<Task<'a>> {
     })
 }
 
-fn asked<'a>(matches: &ArgMatches<'a>) -> Option<Task<'a>> {
-    let (name, words) = matches.subcommand()?;
+fn asked<'a>(alloc: Global, matches: &ArgMatches<'a>) -> Result<Option<Task<'a>>, Stop> {
+    let Some((name, words)) = matches.subcommand() else {
+        return Ok(None);
+    };
     match name {
-        "show" => show_task(words),
-        "build" => build_task(words),
-        _ => None,
+        "show" => Ok(show_task(words)),
+        "build" => Ok(build_task(words)),
+        "run" => Ok(Some(run_task(alloc, words)?)),
+        _ => Ok(None),
     }
 }
 

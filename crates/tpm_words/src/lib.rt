@@ -4,6 +4,7 @@
 mod given;
 mod names;
 mod program;
+mod run;
 mod stop;
 mod task;
 

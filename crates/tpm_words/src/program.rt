@@ -44,6 +44,23 @@ fn build_words<'a>(alloc: Global, names: &'a [&'a str]) -> Result<Command<'a>, A
         .arg(parameters)
 }
 
+/// The subcommand `run`.
+pub(crate) fn run_words<'a>(alloc: Global) -> Result<Command<'a>, AllocError> {
+    let owner = Arg::new(alloc, "owner")
+        .long("owner")
+        .value_name("HEX")
+        .help("The owner's authorization value, in hexadecimal; empty if it is not given");
+    let greatest = Arg::new(alloc, "greatest")
+        .long("greatest")
+        .value_name("N")
+        .help("The greatest value that a counter has had; 0 if it is not given");
+    Command::new(alloc, "run")
+        .bin_name("tpmtool run")?
+        .about("Runs the commands on standard input, one a line, on a new device")
+        .arg(owner)?
+        .arg(greatest)
+}
+
 /// The program, with the names of the commands.
 pub(crate) fn program<'a>(alloc: Global, names: &'a [&'a str]) -> Result<Command<'a>, AllocError> {
     Command::new(alloc, "tpmtool")
@@ -51,5 +68,6 @@ pub(crate) fn program<'a>(alloc: Global, names: &'a [&'a str]) -> Result<Command
         .about("Reads and writes TPM 2.0 commands")
         .subcommand_required(true)
         .subcommand(show_words(alloc, names)?)?
-        .subcommand(build_words(alloc, names)?)
+        .subcommand(build_words(alloc, names)?)?
+        .subcommand(run_words(alloc)?)
 }

@@ -1,6 +1,7 @@
 //! What the words ask for.
 
 use tpm_buffer::CommandCode;
+use tpm_types::AuthValue;
 
 /// What the words ask for.
 #[derive(Debug, PartialEq, Eq, Drop)]
@@ -22,5 +23,12 @@ pub enum Task<'a> {
         sessions: &'a str,
         /// The parameters, likewise.
         parameters: &'a str,
+    },
+    /// `run [--owner HEX] [--greatest N]`: run the script on standard input.
+    Run {
+        /// The owner's authorization value, or none where its text is not hexadecimal.
+        owner: Option<AuthValue>,
+        /// The greatest value that a counter of the device has had.
+        greatest: u64,
     },
 }

@@ -2,6 +2,7 @@ use super::*;
 use std::alloc::Global;
 use std::test::Fail;
 use tpm_buffer::CommandCode;
+use tpm_types::AuthValue;
 
 fn words(alloc: Global, given: &[&str]) -> Result<Words, Fail> {
     let mut words = Vec::new(alloc);
@@ -33,6 +34,7 @@ Usage: tpmtool <COMMAND>
 Commands:
   show   Prints the command or the response that a buffer spells, or where it is refused
   build  Prints the buffer of a command, joined from its parts
+  run    Runs the commands on standard input, one a line, on a new device
   help   Print this message or the help of the given subcommand(s)
 
 Options:
@@ -164,7 +166,7 @@ fn help_is_given_where_it_is_asked_for(rt: HostRuntime) -> Result<(), Fail> {
 fn a_missing_subcommand_is_a_usage_fault(rt: HostRuntime) -> Result<(), Fail> {
     let wanted = "\
 error: 'tpmtool' requires a subcommand but one was not provided
-  [subcommands: show, build, help]
+  [subcommands: show, build, run, help]
 
 Usage: tpmtool <COMMAND>
 
@@ -309,4 +311,105 @@ For more information, try '--help'.
         Stop::Usage(text) => assert_eq!(rt; text.as_str(), wanted),
         _ => assert!(rt; false, "no usage fault"),
     }
+}
+
+fn run_given(alloc: Global, given: &[&str]) -> Result<(Option<AuthValue>, u64), Fail> {
+    match words(alloc, given)?.task(alloc) {
+        Ok(Task::Run { owner, greatest }) => Ok((owner, greatest)),
+        _ => Err(Fail::from("no run")),
+    }
+}
+
+#[test]
+fn run_takes_an_owner_value_and_a_number(rt: HostRuntime) -> Result<(), Fail> {
+    for (given, owner, greatest) in [
+        (["tpmtool", "run"].as_slice(), b"".as_slice(), 0),
+        (&["tpmtool", "run", "--owner", "6f776E6572"], b"owner", 0),
+        (&["tpmtool", "run", "--owner", ""], b"", 0),
+        (&["tpmtool", "run", "--owner="], b"", 0),
+        (
+            &["tpmtool", "run", "--greatest", "0041", "--owner=00"],
+            b"\0",
+            41,
+        ),
+        (
+            &["tpmtool", "run", "--greatest", "18446744073709551615"],
+            b"",
+            u64::MAX,
+        ),
+    ] {
+        let wanted = (AuthValue::new(owner), greatest);
+        assert_eq!(rt; run_given(rt.alloc(), given)?, wanted);
+    }
+    let most = "2122232425262728292a2b2c2d2e2f303132333435363738393a3b3c3d3e3f40";
+    let (owner, _) = run_given(rt.alloc(), &["tpmtool", "run", "--owner", most])?;
+    assert_eq!(rt; owner, AuthValue::new(b"!\"#$%&'()*+,-./0123456789:;<=>?@"));
+    Ok(())
+}
+
+// What is said of it belongs on standard output.
+#[test]
+fn an_owner_value_that_is_not_hexadecimal_is_no_usage_fault(rt: HostRuntime) -> Result<(), Fail> {
+    for text in ["-", "0", "0g", "owner", "é"] {
+        let (owner, _) = run_given(rt.alloc(), &["tpmtool", "run", "--owner", text])?;
+        assert_eq!(rt; owner, None);
+    }
+    Ok(())
+}
+
+#[test]
+fn an_owner_value_of_33_bytes_is_a_usage_fault(rt: HostRuntime) -> Result<(), Fail> {
+    let owner = "000000000000000000000000000000000000000000000000000000000000000000";
+    let wanted = "\
+error: invalid value '000000000000000000000000000000000000000000000000000000000000000000' for '--owner <HEX>': it has more than 32 bytes
+
+Usage: tpmtool run [OPTIONS]
+
+For more information, try '--help'.
+";
+    let given = ["tpmtool", "run", "--owner", owner];
+    assert_eq!(rt; usage(rt.alloc(), &given)?.as_str(), wanted);
+    Ok(())
+}
+
+#[test]
+fn a_greatest_value_is_a_decimal_number_below_2_to_the_64(rt: HostRuntime) -> Result<(), Fail> {
+    for text in [
+        "",
+        "+1",
+        "-0",
+        "-1",
+        "1 ",
+        "0x10",
+        "1_000",
+        "18446744073709551616",
+        "100000000000000000000",
+    ] {
+        let word = format!(in rt.alloc(); "--greatest={text}")?;
+        let given = ["tpmtool", "run", word.as_str()];
+        let wanted = format!(in rt.alloc();
+            "\
+error: invalid value '{text}' for '--greatest <N>': it is no decimal number up to 18446744073709551615
+
+Usage: tpmtool run [OPTIONS]
+
+For more information, try '--help'.
+"
+        )?;
+        assert_eq!(rt; usage(rt.alloc(), &given)?.as_str(), wanted.as_str());
+    }
+    Ok(())
+}
+
+// A fault of the words comes before what is said of a value.
+#[test]
+fn usage_faults_come_first(rt: HostRuntime) -> Result<(), Fail> {
+    for given in [
+        ["tpmtool", "run", "--owner", "no", "--greatest=x"].as_slice(),
+        &["tpmtool", "run", "--owner", "no", "more"],
+        &["tpmtool", "run", "--owner"],
+    ] {
+        usage(rt.alloc(), given)?;
+    }
+    Ok(())
 }

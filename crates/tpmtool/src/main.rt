@@ -4,7 +4,9 @@
 use std::process::ExitCode;
 use std::rt::Env;
 use std::{env, io};
-use tpm_tool::{Status, ToolFault, build, show};
+use tpm_device::Device;
+use tpm_tool::{Status, ToolFault, build, not_hexadecimal, run_script, show};
+use tpm_wire::Reads;
 use tpm_words::{Stop, Task, Words, words_not_text};
 
 /// The status of a usage fault.
@@ -21,7 +23,7 @@ fn words<R: Env + AllocGlobal>(rt: &R) -> Result<Words, Stop> {
     }
 }
 
-fn perform<R: AllocGlobal + Print>(rt: &R, task: Task<'_>) -> Result<Status, ToolFault> {
+fn perform<R: AllocGlobal + Input + Print>(rt: &R, task: Task<'_>) -> Result<Status, ToolFault> {
     let out = &mut io::writer(rt);
     match task {
         Task::Show { reply, hex } => show(rt.alloc(), out, reply, hex),
@@ -31,6 +33,13 @@ fn perform<R: AllocGlobal + Print>(rt: &R, task: Task<'_>) -> Result<Status, Too
             sessions,
             parameters,
         } => build(rt.alloc(), out, name, handles, sessions, parameters),
+        Task::Run { owner, greatest } => match owner {
+            Some(owner) => {
+                let device = Device::new(&owner, greatest);
+                run_script(rt.alloc(), &mut Reads::new(rt.reader()), out, device)
+            }
+            None => not_hexadecimal(rt.alloc(), out),
+        },
     }
 }
 
@@ -48,7 +57,7 @@ fn stopped<R: Print + Eprint>(rt: &R, stop: Stop) -> Result<u8, ToolFault> {
     }
 }
 
-fn run<R: Env + AllocGlobal + Print + Eprint>(rt: &R) -> Result<u8, ToolFault> {
+fn run<R: Env + AllocGlobal + Input + Print + Eprint>(rt: &R) -> Result<u8, ToolFault> {
     let words = match words(rt) {
         Ok(words) => words,
         Err(stop) => return stopped(rt, stop),

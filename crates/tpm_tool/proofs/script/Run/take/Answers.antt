@@ -1,0 +1,22 @@
+use Rattle.std.proofs.Common.{◌≡◌, false, [], refl, arith, rules}
+use Rattle.std.specs.Prelude.{nat_eq}
+use Rattle.std.proofs.lemmas.Result.{IfOk-weaker}
+use Rattle.tpm_tool.specs.Progress.{place}
+use Rattle.tpm_tool.proofs.Scripts.{takes_feed, leads_too_long}
+use Rattle.tpm_tool.proofs.script.Run.take.Goals as goal
+
+pub returns-then-byte-eq10 : goal.returns-then-byte-eq10
+returns-then-byte-eq10 c =
+    rw c.if-byte-eq10.true (IfOk-weaker c.end_line.result _ _ (λ status ended. takes_feed c.args.self.now c.end_line.new.self _ status c.requires.open ended) c.end_line.ensures)
+
+pub returns-then-len-ge-MOST_DIGITS : goal.returns-then-len-ge-MOST_DIGITS
+returns-then-len-ge-MOST_DIGITS c =
+    let run = c.args.self.now in
+    let other : nat_eq c.args.byte 10 ≡ false = search rules in
+    record {
+      events = [];
+      leads = leads_too_long (place run) (place run) c.args.byte c.requires.open.line other (omega arith) refl;
+      performs = λ o h stands. record { stands = stands; text = c.in_ok-push_refused.ensures };
+      number = omega arith;
+      open_again = tt;
+    }

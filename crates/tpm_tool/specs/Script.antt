@@ -1,0 +1,123 @@
+-- What `run` prints (this profile).
+use Rattle.std.specs.Prelude.{◌≡◌, ◌⊎◌, ℕ, ◌+◌, ◌≤◌, ◌==◌, nat_lt, List, [], ◌∷◌, ◌++◌, length, map, codes, Option, Some, None, Result, Ok, Err, if◌then◌else◌}
+use Rattle.std.specs.Int.{to_be_bytes, w128}
+use Rattle.std.specs.Str.{bytes_eq}
+use Rattle.std.specs.Fmt.{decimal}
+use Rattle.std.specs.Io.KnownBytes.{Consumes, IsAtEnd}
+use Rattle.tpm_wire.specs.Sources.{one_more}
+use Rattle.tpm_model.specs.Steps.{History, Origin}
+use Rattle.tpm_model.specs.Answers.{Commands}
+use Rattle.tpm_model.specs.Runs.{Event, Given, Cycled, run}
+use Rattle.tpm_tool.specs.declared.status.Status.{Status}
+use Rattle.tpm_tool.specs.declared.status.Status.TheVariants.{Done, Refused}
+use Rattle.tpm_tool.specs.declared.fault.ToolFault.{ToolFault}
+use Rattle.tpm_tool.specs.declared.fault.ToolFault.TheVariants.{Memory, Read, Write, InputTooLong}
+use Rattle.tpm_tool.specs.Text.{bytes_in, bytes_line, line}
+
+-- ---- the lines of an input
+
+-- this byte, and then these lines
+abbrev pub onto_first : ℕ → List (List ℕ) → List (List ℕ)
+onto_first byte [] = (byte ∷ []) ∷ []
+onto_first byte (first ∷ others) = (byte ∷ first) ∷ others
+
+-- A line ends with a line feed, which is no part of it. The last may do without.
+abbrev pub lines_of : List ℕ → List (List ℕ)
+lines_of [] = []
+lines_of (byte ∷ bytes) = if byte == 10 then [] ∷ lines_of bytes else onto_first byte (lines_of bytes)
+
+-- ---- what a line asks for
+
+pub data Line : Type 0 where
+  Blank : Line
+  Power : Line
+  Command : (bytes : List ℕ) → Line
+  NotHexadecimal : Line
+
+-- those of a buffer of 4,096 bytes
+abbrev pub most_digits : ℕ
+most_digits = 8192
+
+abbrev pub command_in : Option (List ℕ) → Line
+command_in (Some bytes) = Command bytes
+command_in None = NotHexadecimal
+
+abbrev pub line_of : List ℕ → Line
+line_of text =
+    if nat_lt most_digits (length text) then NotHexadecimal
+    else if length text == 0 then Blank
+    else if bytes_eq text (codes "power") then Power
+    else command_in (bytes_in text)
+
+-- ---- what lines ask of a device, up to one that is not hexadecimal, and the number of that line, where there is one
+
+pub record Script : Type 0 where
+  pub events : List Event
+  pub refused : Option ℕ
+
+-- the nonce of the k-th command, from 1: k as a number of sixteen bytes, four times
+abbrev pub nonce_of : ℕ → List ℕ
+nonce_of k = let number = to_be_bytes w128 k in number ++ (number ++ (number ++ number))
+
+-- Of these lines the first command is the k-th.
+abbrev pub events_from : ℕ → List Line → List Event
+events_from k [] = []
+events_from k (Blank ∷ lines) = events_from k lines
+events_from k (Power ∷ lines) = Cycled ∷ events_from k lines
+events_from k (Command bytes ∷ lines) = Given bytes (nonce_of k) ∷ events_from (k + 1) lines
+events_from k (NotHexadecimal ∷ lines) = []
+
+-- Of these lines the first has number n.
+abbrev pub refused_from : ℕ → List Line → Option ℕ
+refused_from n [] = None
+refused_from n (NotHexadecimal ∷ lines) = Some n
+refused_from n (_ ∷ lines) = refused_from (n + 1) lines
+
+abbrev pub script_from : (n k : ℕ) → List Line → Script
+script_from n k lines = record { events = events_from k lines; refused = refused_from n lines }
+
+abbrev pub script : List ℕ → Script
+script bytes = script_from 1 1 (map line_of (lines_of bytes))
+
+-- ---- what is printed
+
+-- a line for each event: `power`, or the answer to the buffer
+abbrev pub events_text : List Event → (answers : List (List ℕ)) → List ℕ
+events_text [] answers = []
+events_text (Cycled ∷ events) answers = line (codes "power" ∷ []) ++ events_text events answers
+events_text (Given bytes nonce ∷ events) (answer ∷ answers) = bytes_line answer ++ events_text events answers
+events_text (Given bytes nonce ∷ events) [] = []
+
+unfoldable pub refused_line : ℕ → List ℕ
+refused_line n = line (codes "line" ∷ (decimal n ++ codes ":") ∷ codes "not" ∷ codes "hexadecimal" ∷ [])
+
+abbrev pub refused_text : Option ℕ → List ℕ
+refused_text None = []
+refused_text (Some n) = refused_line n
+
+-- A device at this history is run: its answers, and then the line that is not hexadecimal.
+abbrev pub script_text : Commands → Origin → History → Script → List ℕ
+script_text has o h s = events_text s.events (run has o h s.events) ++ refused_text s.refused
+
+abbrev pub status_for : Option ℕ → Status
+status_for None = Done
+status_for (Some n) = Refused
+
+-- ---- what is read
+
+abbrev pub most_bytes : ℕ
+most_bytes = 16777216
+
+-- A read failed where the answer is Read, and nowhere else.
+abbrev pub CountsRead : {X : Type 0} → ℕ → ℕ → Result X ToolFault → Type 0
+CountsRead old new (Ok x) = new ≡ old
+CountsRead old new (Err Read) = new ≡ one_more old
+CountsRead old new (Err Memory) = new ≡ old
+CountsRead old new (Err Write) = new ≡ old
+CountsRead old new (Err InputTooLong) = new ≡ old
+
+-- These bytes of the input were read, not too many; and it has ended, or whatever comes makes no difference.
+pub record ReadsScript (old new : Option (List ℕ)) (bytes : List ℕ) : Type 0 where
+  pub read : Consumes old new bytes
+  pub most : length bytes ≤ most_bytes
+  pub whole : IsAtEnd new ⊎ ((more : List ℕ) → script (bytes ++ more) ≡ script bytes)

@@ -1,0 +1,56 @@
+//! The lines of a script.
+
+ghost use Rattle.std.specs.Prelude.{◌≡◌, IfOk};
+ghost use Rattle.tpm_tool.specs.Script.{line_of, nonce_of};
+ghost use Rattle.tpm_tool.specs.Progress.{read_as};
+
+use crate::hexadecimal::decoded;
+use std::alloc::{AllocError, Global};
+
+/// How many digits a line has at most: those of a buffer of 4,096 bytes.
+pub(crate) const MOST_DIGITS: usize = 8192;
+
+/// What a line of a script asks for.
+#[derive(Drop)]
+pub(crate) enum Line {
+    /// Nothing: the empty line.
+    Blank,
+    /// A power cycle.
+    Power,
+    /// The answer to this buffer.
+    Command(Vec<u8>),
+    /// It isn't hexadecimal, or has too many digits.
+    NotHexadecimal,
+}
+
+/// What this line asks for.
+pub(crate) fn read_line(alloc: Global, text: &[u8]) -> Result<Line, AllocError>
+    ensures { IfOk result (λ line. read_as line ≡ line_of text.now) }
+{
+    if text.len() > MOST_DIGITS {
+        return Ok(Line::NotHexadecimal);
+    }
+    if text.is_empty() {
+        return Ok(Line::Blank);
+    }
+    if text == b"power".as_slice() {
+        return Ok(Line::Power);
+    }
+    match decoded(alloc, text)? {
+        Some(bytes) => Ok(Line::Command(bytes)),
+        None => Ok(Line::NotHexadecimal),
+    }
+}
+
+/// The nonce of the k-th command, from 1: k as a number of sixteen bytes, four times.
+pub(crate) fn nonce(k: u64) -> [u8; 64]
+    ensures { result ≡ nonce_of k }
+{
+    let number = u128::from(k).to_be_bytes();
+    let mut nonce = [0; 64];
+    nonce[..16].copy_from_slice(&number);
+    nonce[16..32].copy_from_slice(&number);
+    nonce[32..48].copy_from_slice(&number);
+    nonce[48..].copy_from_slice(&number);
+    nonce
+}

@@ -1,0 +1,52 @@
+//! The words of the subcommand `run`.
+
+use crate::program::run_words;
+use crate::stop::Stop;
+use crate::task::Task;
+use clap::error::ErrorKind;
+use clap::{ArgMatches, Error};
+use hex::FromHexError;
+use std::alloc::{AllocError, Global};
+use tpm_types::AuthValue;
+
+/// The task of the words of `run`.
+pub(crate) fn run_task<'a>(alloc: Global, words: &ArgMatches<'a>) -> Result<Task<'a>, Stop> {
+    let owner = owner(alloc, words.get_str("owner").unwrap_or(""))?;
+    let greatest = greatest(alloc, words.get_str("greatest").unwrap_or("0"))?;
+    Ok(Task::Run { owner, greatest })
+}
+
+// The value that hexadecimal digits are, or none for any other text. A usage fault where it has too many bytes.
+fn owner(alloc: Global, text: &str) -> Result<Option<AuthValue>, Stop> {
+    match hex::decode(alloc, text) {
+        Ok(bytes) => match AuthValue::new(bytes.as_slice()) {
+            Some(owner) => Ok(Some(owner)),
+            None => Err(invalid(alloc, text, "--owner <HEX>", "it has more than 32 bytes")),
+        },
+        Err(FromHexError::OutOfMemory) => Err(Stop::Memory),
+        Err(_) => Ok(None),
+    }
+}
+
+// A number of decimal digits alone, without a sign. A usage fault where it is none, or not below 2^64.
+fn greatest(alloc: Global, text: &str) -> Result<u64, Stop> {
+    if text.bytes().all(|byte| byte.is_ascii_digit())
+        && let Ok(greatest) = text.parse()
+    {
+        return Ok(greatest);
+    }
+    let reason = "it is no decimal number up to 18446744073709551615";
+    Err(invalid(alloc, text, "--greatest <N>", reason))
+}
+
+fn invalid(alloc: Global, text: &str, word: &str, reason: &str) -> Stop {
+    match invalid_error(alloc, text, word, reason) {
+        Ok(error) => Stop::of(alloc, &error),
+        Err(AllocError) => Stop::Memory,
+    }
+}
+
+fn invalid_error(alloc: Global, text: &str, word: &str, reason: &str) -> Result<Error, AllocError> {
+    let message = format!(in alloc; "invalid value '{text}' for '{word}': {reason}")?;
+    run_words(alloc)?.error(ErrorKind::ValueValidation, message.as_str())
+}
