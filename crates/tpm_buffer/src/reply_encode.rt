@@ -231,13 +231,12 @@ fn put_code(error: ErrorCode, out: &mut Buffer)
 }
 
 #[inline(never)]
-fn encode_code(error: ErrorCode) -> Buffer
-    ensures spells { (code : CodeOf) → Spells (response_layout code) (responses.Code error) result.items }
-    ensures bytes { (code : CodeOf) → result.items ≡ spelling (response_layout code) (responses.Code error) }
+fn spell_code(error: ErrorCode, out: &mut Buffer)
+    requires { length out.old.items ≡ 0 }
+    ensures spells { (code : CodeOf) → Spells (response_layout code) (responses.Code error) out.new.items }
+    ensures bytes { (code : CodeOf) → out.new.items ≡ spelling (response_layout code) (responses.Code error) }
 {
-    let mut out = ArrayVec::new();
-    put_code(error, &mut out);
-    out
+    put_code(error, out);
 }
 
 fn known_reply(body: &ReplyBody, auths: &[AuthReply])
@@ -266,17 +265,27 @@ fn put_done(body: &ReplyBody, auths: &[AuthReply], out: &mut Buffer)
 }
 
 #[inline(never)]
-fn encode_done(body: &ReplyBody, auths: &[AuthReply]) -> Buffer
-    requires { length auths.now ≤ 3 }
-    ensures spells { Spells (response_layout (code_for_reply body.now)) (responses.Done body.now (record { items = auths.now })) result.items }
-    ensures bytes { result.items ≡ spelling (response_layout (code_for_reply body.now)) (responses.Done body.now (record { items = auths.now })) }
+fn spell_done(body: &ReplyBody, auths: &[AuthReply], out: &mut Buffer)
+    requires few { length auths.now ≤ 3 }
+    requires empty { length out.old.items ≡ 0 }
+    ensures spells { Spells (response_layout (code_for_reply body.now)) (responses.Done body.now (record { items = auths.now })) out.new.items }
+    ensures bytes { out.new.items ≡ spelling (response_layout (code_for_reply body.now)) (responses.Done body.now (record { items = auths.now })) }
 {
-    let mut out = ArrayVec::new();
-    put_done(body, auths, &mut out);
+    put_done(body, auths, out);
     let _len = reply_len(body, auths);
     known_handles(body);
     known_reply(body, auths);
-    out
+}
+
+fn spell(response: &Response, out: &mut Buffer)
+    requires { length out.old.items ≡ 0 }
+    ensures spells { (code : CodeOf) → Answers code response.now → Spells (response_layout code) response.now out.new.items }
+    ensures bytes { (code : CodeOf) → Answers code response.now → out.new.items ≡ spelling (response_layout code) response.now }
+{
+    match response {
+        Response::Code(error) => spell_code(*error, out),
+        Response::Done { body, auths } => spell_done(body, auths.as_slice(), out),
+    }
 }
 
 /// The bytes that spell the response: a code in 10 bytes, under tag 0x00C4 where it is TPM_RC_BAD_TAG and 0x8001 else;
@@ -285,8 +294,7 @@ pub fn encode_response(response: &Response) -> Buffer
     ensures spells { (code : CodeOf) → Answers code response.now → Spells (response_layout code) response.now result.items }
     ensures bytes { (code : CodeOf) → Answers code response.now → result.items ≡ spelling (response_layout code) response.now }
 {
-    match response {
-        Response::Code(error) => encode_code(*error),
-        Response::Done { body, auths } => encode_done(body, auths.as_slice()),
-    }
+    let mut out = ArrayVec::new();
+    spell(response, &mut out);
+    out
 }

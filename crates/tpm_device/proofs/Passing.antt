@@ -1,5 +1,5 @@
 -- What was permitted and performed is the answer.
-use Rattle.std.proofs.Common.{◌≡◌, ℕ, ◌<◌, List, [], ◌∷◌, Result, Ok, Err, refl, sym, ap, subst, ◌∙◌}
+use Rattle.std.proofs.Common.{◌≡◌, ℕ, zero, suc, ◌<◌, List, [], ◌∷◌, Result, Ok, Err, refl, sym, ap, subst, ◌∙◌, arith}
 use Rattle.std.specs.Prelude.{IfOk}
 use Rattle.tpm_wire.specs.declared.refusal.Refusal.{Refusal}
 use Rattle.tpm_wire.specs.Reading.{read_all, ◌>>=◌}
@@ -31,7 +31,7 @@ use Rattle.tpm_model.proofs.Coded.{coded_parameters}
 use Rattle.tpm_model.proofs.Refused.{refused_with}
 use Rattle.tpm_device.specs.declared.device.Device.{Device}
 use Rattle.tpm_device.specs.Passwords.{by_password, replies_to}
-use Rattle.tpm_device.specs.Stands.{Stands, holds, IsRead, presented_in, reply_in}
+use Rattle.tpm_device.specs.Stands.{Stands, holds, IsRead, presented_in, reply_in, response_in}
 use Rattle.tpm_device.proofs.Alike.{Alike, permitted_alike}
 
 -- ---- before the parameters
@@ -82,17 +82,26 @@ performed_is p q n x params body reply reads is acted =
 
 -- ---- the bytes
 
-pub spelled : (r : Result Done ℕ) (it : Response) (items : List ℕ) → IfOk r (λ d. code_for d.command.body ≡ code_for_reply d.reply.body) → Ok it ≡ reply_in r
+pub done_in : (r : Result Done ℕ) (it : Response) → Ok it ≡ reply_in r → it ≡ response_in r
+done_in (Ok d) it is = ok_is it _ is
+done_in (Err e) it is = absurd (cc)
+
+pub code_alone_in : (r : Result Done ℕ) (code : ℕ) → Err code ≡ reply_in r → responses.Code code ≡ response_in r
+code_alone_in (Ok d) code is = absurd (cc)
+code_alone_in (Err e) code is = ap responses.Code (cc)
+
+pub spelled : (r : Result Done ℕ) (it : Response) (items : List ℕ) → IfOk r (λ d. code_for d.command.body ≡ code_for_reply d.reply.body) → it ≡ response_in r
     → ((code : CommandCode) → Answers code it → items ≡ spelling (response code) it) → items ≡ answered r
-spelled (Ok d) it items own is text =
-    (rw (ok_is it _ is) at text) (code_for d.command.body) own
-spelled (Err e) it items own is text = absurd (cc)
+spelled (Ok d) it items own is text = (rw is at text) (code_for d.command.body) own
+spelled (Err e) it items own is text = (rw is at text) codes.Startup tt
 
-pub spelled_code : (r : Result Done ℕ) (code : ℕ) (items : List ℕ) → Err code ≡ reply_in r → items ≡ spelling (response codes.Startup) (responses.Code code) → items ≡ answered r
-spelled_code (Ok d) code items is text = absurd (cc)
-spelled_code (Err e) code items is text = text ∙ ap (λ (n : ℕ). spelling (response codes.Startup) (responses.Code n)) (cc)
-
-pub zero_told : (it : Response) (items : List ℕ) → code_of_response it ≡ 0 → ((code : CommandCode) → Answers code it → items ≡ spelling (response code) it) → code_in items ≡ 0
+zero_told : (it : Response) (items : List ℕ) → code_of_response it ≡ 0 → ((code : CommandCode) → Answers code it → items ≡ spelling (response code) it) → code_in items ≡ 0
 unfolding response response_front response_tag response_code command_size
 zero_told (responses.Done body auths) items done text = ap code_in (text (code_for_reply body) refl)
 zero_told (responses.Code n) items done text = ap code_in (text codes.Startup tt) ∙ rw done refl
+
+-- A code that is not 0 is told only where the response has one.
+pub some_told : (it : Response) (items : List ℕ) → ((code : CommandCode) → Answers code it → items ≡ spelling (response code) it) → 0 < code_in items → 0 < code_of_response it
+some_told (responses.Done body auths) items text some = absurd (omega (arith, some, zero_told (responses.Done body auths) items refl text))
+some_told (responses.Code zero) items text some = absurd (omega (arith, some, zero_told (responses.Code zero) items refl text))
+some_told (responses.Code (suc n)) items text some = omega (arith)

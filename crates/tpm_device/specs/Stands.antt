@@ -3,6 +3,7 @@ use Rattle.std.specs.Prelude.{◌≡◌, ℕ, None, Result, Ok, Err}
 use Rattle.tpm_wire.specs.Reading.{◌>>=◌}
 use Rattle.tpm_buffer.specs.declared.stages.Areas.{Areas}
 use Rattle.tpm_buffer.specs.declared.response.Response.{Response}
+use Rattle.tpm_buffer.specs.declared.response.Response.TheVariants as responses
 use Rattle.tpm_buffer.specs.Handles.{first}
 use Rattle.tpm_buffer.specs.Responses.{done_with}
 use Rattle.tpm_model.specs.Steps.{History, Origin, started}
@@ -65,3 +66,8 @@ presented_in p x = presented_with p x (by_password (entity_of p (first x.handles
 abbrev pub reply_in : Result Done ℕ → Result Response ℕ
 reply_in (Ok d) = Ok (done_with d.reply)
 reply_in (Err code) = Err code
+
+-- the response, which is the code alone where a check failed
+abbrev pub response_in : Result Done ℕ → Response
+response_in (Ok d) = done_with d.reply
+response_in (Err code) = responses.Code code

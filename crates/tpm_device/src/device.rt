@@ -20,7 +20,7 @@ ghost use Rattle.tpm_model.specs.Answers.{proof_in, presented, permitted, perfor
 ghost use Rattle.tpm_model.specs.Premises.{code_in};
 ghost use Rattle.tpm_device.specs.Commands.{has_command};
 ghost use Rattle.tpm_device.specs.Passwords.{by_password, replies_to as replies_of};
-ghost use Rattle.tpm_device.specs.Stands.{Stands, holds, IsRead, presented_in, reply_in};
+ghost use Rattle.tpm_device.specs.Stands.{Stands, holds, IsRead, presented_in, reply_in, response_in};
 
 use crate::checks::{check_first, check_handles, check_has, check_started, check_tag, first};
 use crate::codes::{BAD_AUTH, PARAMETER_1, SESSION_1};
@@ -170,8 +170,8 @@ impl Device {
     }
 
     // TPM2_Startup (Part 3, TPM2_Startup).
-    fn start(&mut self, kind: StartupType) -> Result<ReplyBody, u32>
-        ensures answer { result ≡ then_reply (check_startup kind) replies.Startup }
+    fn start(&mut self, kind: StartupType) -> Result<(), u32>
+        ensures answer { result ≡ check_startup kind }
         ensures stands { OnOk result ((o : Origin) (h : History) (auths : List AuthOf) (r : Reply) (n : List ℕ) → Stands o h self.old →
             Stands o (Accepted (with_auths (bodies.Startup kind) auths) r n ∷ h) self.new) }
         ensures refused { OnErr result (self.new ≡ self.old) }
@@ -181,15 +181,15 @@ impl Device {
             StartupType::Clear => {
                 self.started = true;
                 self.registers = Registers::new();
-                Ok(ReplyBody::Startup)
+                Ok(())
             }
             StartupType::State => Err(VALUE + PARAMETER_1),
         }
     }
 
     // TPM2_PCR_Extend (Part 3, TPM2_PCR_Extend).
-    fn extend(&mut self, register: PcrOrNull, digests: &DigestValues) -> Result<ReplyBody, u32>
-        ensures answer { result ≡ then_reply (check_extend register) replies.PcrExtend }
+    fn extend(&mut self, register: PcrOrNull, digests: &DigestValues) -> Result<(), u32>
+        ensures answer { result ≡ check_extend register }
         ensures stands { OnOk result ((o : Origin) (h : History) (auths : List AuthOf) (r : Reply) (n : List ℕ) → Stands o h self.old →
             Stands o (Accepted (with_auths (bodies.PcrExtend register digests.now) auths) r n ∷ h) self.new) }
         ensures refused { OnErr result (self.new ≡ self.old) }
@@ -198,22 +198,22 @@ impl Device {
         match register {
             PcrOrNull::Pcr(register) => {
                 self.registers.extend(register, digests)?;
-                Ok(ReplyBody::PcrExtend)
+                Ok(())
             }
-            PcrOrNull::Null => Ok(ReplyBody::PcrExtend),
+            PcrOrNull::Null => Ok(()),
         }
     }
 
     // TPM2_PCR_Reset (Part 3, TPM2_PCR_Reset).
-    fn reset(&mut self, register: PcrIndex) -> Result<ReplyBody, u32>
-        ensures answer { result ≡ then_reply (check_reset register) replies.PcrReset }
+    fn reset(&mut self, register: PcrIndex) -> Result<(), u32>
+        ensures answer { result ≡ check_reset register }
         ensures stands { OnOk result ((o : Origin) (h : History) (auths : List AuthOf) (r : Reply) (n : List ℕ) → Stands o h self.old →
             Stands o (Accepted (with_auths (bodies.PcrReset register) auths) r n ∷ h) self.new) }
         ensures refused { OnErr result (self.new ≡ self.old) }
         ensures some { IfErr result (λ code. 0 < code) }
     {
         self.registers.reset(register)?;
-        Ok(ReplyBody::PcrReset)
+        Ok(())
     }
 
     // TPM2_PCR_Read (Part 3, TPM2_PCR_Read).
@@ -238,9 +238,18 @@ impl Device {
         ensures some { IfErr result (λ code. 0 < code) }
     {
         match body {
-            CommandBody::Startup(kind) => self.start(*kind),
-            CommandBody::PcrExtend { register, digests } => self.extend(*register, digests),
-            CommandBody::PcrReset { register } => self.reset(*register),
+            CommandBody::Startup(kind) => {
+                self.start(*kind)?;
+                Ok(ReplyBody::Startup)
+            }
+            CommandBody::PcrExtend { register, digests } => {
+                self.extend(*register, digests)?;
+                Ok(ReplyBody::PcrExtend)
+            }
+            CommandBody::PcrReset { register } => {
+                self.reset(*register)?;
+                Ok(ReplyBody::PcrReset)
+            }
             CommandBody::PcrRead(selections) => Ok(self.read(selections)),
             _ => unreachable!(),
         }
@@ -269,7 +278,7 @@ impl Device {
         })
     }
 
-    // The response before it is spelled, or the code of the first check that fails.
+    // What the response is made of, or the code of the first check that fails.
     fn respond(&mut self, bytes: &[u8]) -> Result<Response, u32>
         ensures answer { (o : Origin) (h : History) (n : List ℕ) → Stands o h self.old → result ≡ reply_in (outcome has_command (present o h) bytes.now n) }
         ensures stands { (o : Origin) (h : History) (n : List ℕ) → Stands o h self.old → Stands o (next has_command o h bytes.now n) self.new }
@@ -280,6 +289,18 @@ impl Device {
         match self.permit(bytes) {
             Ok(areas) => self.perform(&areas),
             Err(code) => Err(code),
+        }
+    }
+
+    // The response before it is spelled.
+    fn response(&mut self, bytes: &[u8]) -> Response
+        ensures answer { (o : Origin) (h : History) (n : List ℕ) → Stands o h self.old → result ≡ response_in (outcome has_command (present o h) bytes.now n) }
+        ensures stands { (o : Origin) (h : History) (n : List ℕ) → Stands o h self.old → Stands o (next has_command o h bytes.now n) self.new }
+        ensures refused { 0 < code_of_response result → self.new ≡ self.old }
+    {
+        match self.respond(bytes) {
+            Ok(response) => response,
+            Err(code) => refused(code),
         }
     }
 
@@ -296,9 +317,6 @@ impl Device {
         ensures stands { (o : Origin) (h : History) → Stands o h self.old → Stands o (next has_command o h bytes.now nonce.now) self.new }
         ensures refused { 0 < code_in result.items → self.new ≡ self.old }
     {
-        match self.respond(bytes) {
-            Ok(response) => encode_response(&response),
-            Err(code) => encode_response(&refused(code)),
-        }
+        encode_response(&self.response(bytes))
     }
 }
