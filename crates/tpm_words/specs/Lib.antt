@@ -1,2 +1,4 @@
 pub mod Stop
 pub mod Names
+pub mod Program
+pub mod Task

@@ -1,5 +1,14 @@
 //! The words that a run was given.
 
+ghost use Rattle.std.specs.Prelude.{◌≡◌, ℕ, List, IfOk, IfSome, codes, map, string_bytes};
+ghost use Rattle.std.specs.Borrow.{Bor};
+ghost use Rattle.clap.specs.Words.{first_value, found_of, kind_of, subcommand_of, subcommand_rows_of};
+ghost use Rattle.clap.specs.declared.error.kind.ErrorKind.TheVariants.{InvalidValue};
+ghost use Rattle.clap.specs.declared.builder.value_parser.ValueParser.TheVariants.{Names};
+ghost use Rattle.tpm_words.specs.Program.{program_app};
+ghost use Rattle.tpm_words.specs.Stop.{StopsFor};
+ghost use Rattle.tpm_words.specs.Task.{Asks, AsksWith};
+
 use crate::names::{command_named, command_names};
 use crate::program::program;
 use crate::run::run_task;
@@ -18,7 +27,9 @@ pub struct Words {
 
 impl Words {
     /// These words, of which the first is the program's name.
-    pub fn new(alloc: Global, given: Vec<String>) -> Result<Self, AllocError> {
+    pub fn new(alloc: Global, given: Vec<String>) -> Result<Self, AllocError>
+        ensures { IfOk result (λ w. w.given ≡ given) }
+    {
         Ok(Words {
             given,
             names: command_names(alloc)?,
@@ -26,7 +37,10 @@ impl Words {
     }
 
     /// What they ask for.
-    pub fn task(&self, alloc: Global) -> Result<Task<'_>, Stop> {
+    pub fn task(&self, alloc: Global) -> Result<Task<'_>, Stop>
+        ensures { IfOk result (λ t. (names : Bor (List (Bor (List ℕ)))) × (names.now ≡ self.now.names.items)
+            × Asks (subcommand_of (program_app (Names names)) (map string_bytes self.now.given.items)) t) }
+    {
         let mut program = program(alloc, self.names.as_slice())?;
         match program.try_get_matches_from_mut(self.given.as_slice()) {
             Ok(matches) => match asked(alloc, &matches)? {
@@ -38,7 +52,9 @@ impl Words {
     }
 }
 
-fn show_task<'a>(words: &ArgMatches<'a>) -> Option<Task<'a>> {
+fn show_task<'a>(words: &ArgMatches<'a>) -> Option<Task<'a>>
+    ensures { IfSome result (λ t. AsksWith (codes "show") (first_value (found_of words.now)) t) }
+{
     let reply = match words.get_str("reply") {
         Some(name) => Some(command_named(name)?),
         None => None,
@@ -49,7 +65,9 @@ fn show_task<'a>(words: &ArgMatches<'a>) -> Option<Task<'a>> {
     })
 }
 
-fn build_task<'a>(words: &ArgMatches<'a>) -> Option<Task<'a>> {
+fn build_task<'a>(words: &ArgMatches<'a>) -> Option<Task<'a>>
+    ensures { IfSome result (λ t. AsksWith (codes "build") (first_value (found_of words.now)) t) }
+{
     Some(Task::Build {
         name: command_named(words.get_str("NAME")?)?,
         handles: words.get_str("HANDLES")?,
@@ -58,7 +76,9 @@ fn build_task<'a>(words: &ArgMatches<'a>) -> Option<Task<'a>> {
     })
 }
 
-fn asked<'a>(alloc: Global, matches: &ArgMatches<'a>) -> Result<Option<Task<'a>>, Stop> {
+fn asked<'a>(alloc: Global, matches: &ArgMatches<'a>) -> Result<Option<Task<'a>>, Stop>
+    ensures { IfOk result (λ asked. IfSome asked (λ t. Asks (subcommand_rows_of matches.now) t)) }
+{
     let Some((name, words)) = matches.subcommand() else {
         return Ok(None);
     };
@@ -70,13 +90,17 @@ fn asked<'a>(alloc: Global, matches: &ArgMatches<'a>) -> Result<Option<Task<'a>>
     }
 }
 
-fn not_text(alloc: Global) -> Result<Error, AllocError> {
+fn not_text(alloc: Global) -> Result<Error, AllocError>
+    ensures { IfOk result (λ e. kind_of e ≡ InvalidValue) }
+{
     let message = "invalid UTF-8 was detected in one or more arguments";
     program(alloc, &[])?.error(ErrorKind::InvalidValue, message)
 }
 
 /// The fault of words that are not text, of which no more can be read.
-pub fn words_not_text(alloc: Global) -> Stop {
+pub fn words_not_text(alloc: Global) -> Stop
+    ensures { StopsFor InvalidValue result }
+{
     match not_text(alloc) {
         Ok(error) => Stop::of(alloc, &error),
         Err(AllocError) => Stop::Memory,

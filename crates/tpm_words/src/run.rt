@@ -1,5 +1,9 @@
 //! The words of the subcommand `run`.
 
+ghost use Rattle.std.specs.Prelude.{◌≡◌, IfOk, codes};
+ghost use Rattle.clap.specs.Words.{first_value, found_of};
+ghost use Rattle.tpm_words.specs.Task.{AsksWith, IsDecimal, bytes_in};
+
 use crate::program::run_words;
 use crate::stop::Stop;
 use crate::task::Task;
@@ -10,14 +14,18 @@ use std::alloc::{AllocError, Global};
 use tpm_types::AuthValue;
 
 /// The task of the words of `run`.
-pub(crate) fn run_task<'a>(alloc: Global, words: &ArgMatches<'a>) -> Result<Task<'a>, Stop> {
+pub(crate) fn run_task<'a>(alloc: Global, words: &ArgMatches<'a>) -> Result<Task<'a>, Stop>
+    ensures { IfOk result (λ t. AsksWith (codes "run") (first_value (found_of words.now)) t) }
+{
     let owner = owner(alloc, words.get_str("owner").unwrap_or(""))?;
     let greatest = greatest(alloc, words.get_str("greatest").unwrap_or("0"))?;
     Ok(Task::Run { owner, greatest })
 }
 
 // The value that hexadecimal digits are, or none for any other text. A usage fault where it has too many bytes.
-fn owner(alloc: Global, text: &str) -> Result<Option<AuthValue>, Stop> {
+fn owner(alloc: Global, text: &str) -> Result<Option<AuthValue>, Stop>
+    ensures { IfOk result (λ owner. owner ≡ bytes_in text.now) }
+{
     match hex::decode(alloc, text) {
         Ok(bytes) => match AuthValue::new(bytes.as_slice()) {
             Some(owner) => Ok(Some(owner)),
@@ -29,8 +37,10 @@ fn owner(alloc: Global, text: &str) -> Result<Option<AuthValue>, Stop> {
 }
 
 // A number of decimal digits alone, without a sign. A usage fault where it is none, or not below 2^64.
-fn greatest(alloc: Global, text: &str) -> Result<u64, Stop> {
-    if text.bytes().all(|byte| byte.is_ascii_digit())
+fn greatest(alloc: Global, text: &str) -> Result<u64, Stop>
+    ensures { IfOk result (λ greatest. IsDecimal text.now greatest) }
+{
+    if !text.starts_with('+')
         && let Ok(greatest) = text.parse()
     {
         return Ok(greatest);

@@ -1,0 +1,50 @@
+-- The program's subcommands and their words, as clap reads them (this profile).
+use Rattle.std.specs.Prelude.{◌≡◌, true, false, Some, codes}
+use Rattle.clap.specs.declared.builder.command.Command.TheViews.{out-Command}
+use Rattle.clap.specs.Words.{App, Rule, Text, app_of, new_app, new_rule, with_rule, with_subcommand}
+use Rattle.clap.specs.declared.builder.command.Command.{Command}
+use Rattle.clap.specs.declared.builder.value_parser.ValueParser.{ValueParser}
+
+-- a word that has to be there
+abbrev pub required_rule : Text → Rule
+required_rule name = record (new_rule name) { required = true }
+
+-- NAME, by what it may be
+abbrev pub name_rule : ValueParser → Rule
+name_rule names = record (required_rule (codes "NAME")) { parser = Some names }
+
+-- --reply NAME
+abbrev pub reply_rule : ValueParser → Rule
+reply_rule names = record (new_rule (codes "reply")) { long = Some (codes "reply"); value_names = 1; parser = Some names }
+
+-- show [--reply NAME] HEX
+abbrev pub show_app : ValueParser → App
+show_app names = with_rule (with_rule (new_app (codes "show")) (reply_rule names)) (required_rule (codes "HEX"))
+
+-- build NAME HANDLES SESSIONS PARAMETERS
+abbrev pub build_app : ValueParser → App
+build_app names = with_rule (with_rule (with_rule (with_rule (new_app (codes "build")) (name_rule names))
+    (required_rule (codes "HANDLES"))) (required_rule (codes "SESSIONS"))) (required_rule (codes "PARAMETERS"))
+
+-- --owner HEX
+abbrev pub owner_rule : Rule
+owner_rule = record (new_rule (codes "owner")) { long = Some (codes "owner"); value_names = 1 }
+
+-- --greatest N
+abbrev pub greatest_rule : Rule
+greatest_rule = record (new_rule (codes "greatest")) { long = Some (codes "greatest"); value_names = 1 }
+
+-- run [--owner HEX] [--greatest N]
+abbrev pub run_app : App
+run_app = with_rule (with_rule (new_app (codes "run")) owner_rule) greatest_rule
+
+-- one of the subcommands
+abbrev pub above_subcommands : App
+above_subcommands = record (new_app (codes "tpmtool")) { top = record (new_app (codes "tpmtool")).top { subcommand_required = true } }
+
+abbrev pub program_app : ValueParser → App
+program_app names = with_subcommand (with_subcommand (with_subcommand above_subcommands (show_app names).top) (build_app names).top) run_app.top
+
+-- A command has these words, and none that it shares with its subcommands.
+abbrev pub IsApp : App → Command → Type 0
+IsApp words c = (app_of c ≡ words) × ((out-Command c).has_globals ≡ false)
