@@ -8,8 +8,6 @@ mod constants;
 mod handle_sets;
 mod handles;
 mod limits;
-#[cfg(test)]
-mod tests;
 mod tpm2b;
 mod tpma;
 mod tpml;

@@ -1,6 +1,8 @@
-use super::{goes_both_ways, is_cut_at, refuses};
-use crate::QuoteInfo;
+//! What a quote says.
+
+use crate::checks::{goes_both_ways, is_cut_at, refuses};
 use std::test::*;
+use tpm_types::QuoteInfo;
 
 #[test]
 fn what_a_quote_says(rt: HostRuntime) {

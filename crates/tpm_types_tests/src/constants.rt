@@ -1,6 +1,8 @@
-use super::{goes_both_ways, is_cut_at, refuses};
-use crate::{SessionType, StartupType};
+//! Kinds of startups and of sessions.
+
+use crate::checks::{goes_both_ways, is_cut_at, refuses};
 use std::test::*;
+use tpm_types::{SessionType, StartupType};
 
 #[test]
 fn startups(rt: HostRuntime) {

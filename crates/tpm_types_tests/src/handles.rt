@@ -1,6 +1,8 @@
-use super::{goes_both_ways, is_cut_at, refuses};
-use crate::{AuthSession, NvIndex, PcrIndex, PolicyHandle, SessionHandle};
+//! Handles of one kind.
+
+use crate::checks::{goes_both_ways, is_cut_at, refuses};
 use std::test::*;
+use tpm_types::{AuthSession, NvIndex, PcrIndex, PolicyHandle, SessionHandle};
 
 #[test]
 fn registers(rt: HostRuntime) {

@@ -1,24 +1,12 @@
-//! Each structure's bytes both ways, and the first fault of others. Bytes, codes and places are written out by hand from
-//! the tables of Part 2.
+//! What is asked of a structure's bytes.
 
-mod alg;
-mod attest;
-mod constants;
-mod handle_sets;
-mod handles;
-mod tpm2b;
-mod tpma;
-mod tpml;
-mod tpms;
-mod tpmt;
-
-use crate::PcrIndex;
 use std::process::Abort;
 use std::test::*;
+use tpm_types::PcrIndex;
 use tpm_wire::{Buffer, Cursor, Wire, no_prefix, one_reading, one_reading_within, taken_back};
 
 /// The parts, joined.
-fn joined(parts: &[&[u8]]) -> Buffer {
+pub fn joined(parts: &[&[u8]]) -> Buffer {
     let mut all = Buffer::new();
     for &part in parts {
         let _ = all.try_extend_from_slice(part);
@@ -27,7 +15,7 @@ fn joined(parts: &[&[u8]]) -> Buffer {
 }
 
 /// The bytes are a value, all of them, whose spelling they are, and the laws hold of its type.
-fn goes_both_ways<T: Wire + Drop>(rt: &impl Abort, bytes: &[u8]) -> T {
+pub fn goes_both_ways<T: Wire + Drop>(rt: &impl Abort, bytes: &[u8]) -> T {
     assert!(rt; bytes.len() <= 4096);
     let mut cursor = Cursor::new(bytes);
     match T::take(&mut cursor) {
@@ -50,7 +38,7 @@ fn goes_both_ways<T: Wire + Drop>(rt: &impl Abort, bytes: &[u8]) -> T {
 }
 
 /// The bytes are refused with this code at this place, and as parameter 2 and session 1 with its number added.
-fn refuses<T: Wire + Drop>(rt: &impl Abort, bytes: &[u8], code: u32, at: u32) {
+pub fn refuses<T: Wire + Drop>(rt: &impl Abort, bytes: &[u8], code: u32, at: u32) {
     assert!(rt; bytes.len() <= 4096);
     for number in [0, 0x240, 0x900] {
         let mut cursor = Cursor::new(bytes);
@@ -67,7 +55,7 @@ fn refuses<T: Wire + Drop>(rt: &impl Abort, bytes: &[u8], code: u32, at: u32) {
 }
 
 /// Each beginning of the bytes is too short, at the place that stands for its length.
-fn is_cut_at<T: Wire + Drop>(rt: &impl Abort, bytes: &[u8], places: &[u32]) {
+pub fn is_cut_at<T: Wire + Drop>(rt: &impl Abort, bytes: &[u8], places: &[u32]) {
     assert_eq!(rt; bytes.len(), places.len());
     for n in 0..bytes.len() {
         refuses::<T>(rt, &bytes[..n], 0x09A, places[n]);
@@ -75,6 +63,6 @@ fn is_cut_at<T: Wire + Drop>(rt: &impl Abort, bytes: &[u8], places: &[u32]) {
 }
 
 /// The register of this number.
-fn register(rt: &impl Abort, number: u32) -> PcrIndex {
+pub fn register(rt: &impl Abort, number: u32) -> PcrIndex {
     PcrIndex::from_number(number).expect(rt, "a register")
 }

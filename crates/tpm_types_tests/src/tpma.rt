@@ -1,6 +1,8 @@
-use super::{goes_both_ways, is_cut_at, refuses};
-use crate::{NvAttrs, SessionAttrs};
+//! Attributes, and what is asked of them.
+
+use crate::checks::{goes_both_ways, is_cut_at, refuses};
 use std::test::*;
+use tpm_types::{NvAttrs, SessionAttrs};
 
 #[test]
 fn session_attributes(rt: HostRuntime) {

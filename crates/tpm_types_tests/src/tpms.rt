@@ -1,6 +1,8 @@
-use super::{goes_both_ways, is_cut_at, joined, refuses, register};
-use crate::{Alg, Auth, AuthReply, NvPublic, Selection};
+//! Structures of several fields.
+
+use crate::checks::{goes_both_ways, is_cut_at, joined, refuses, register};
 use std::test::*;
+use tpm_types::{Alg, Auth, AuthReply, NvPublic, Selection};
 use tpm_wire::Buffer;
 
 #[test]

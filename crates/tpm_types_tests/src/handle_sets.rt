@@ -1,6 +1,8 @@
-use super::{goes_both_ways, is_cut_at, refuses, register};
-use crate::{BindHandle, NullHandle, NvAuthHandle, NvIndex, OwnerHandle, PcrOrNull};
+//! Handles of one kind or another.
+
+use crate::checks::{goes_both_ways, is_cut_at, refuses, register};
 use std::test::*;
+use tpm_types::{BindHandle, NullHandle, NvAuthHandle, NvIndex, OwnerHandle, PcrOrNull};
 
 #[test]
 fn the_owner_alone(rt: HostRuntime) {

@@ -1,7 +1,9 @@
-use super::{goes_both_ways, is_cut_at, joined, refuses};
-use crate::{Alg, Digest, DigestValues, Digests, OrDigests, Selection, Selections};
+//! Counted lists.
+
+use crate::checks::{goes_both_ways, is_cut_at, joined, refuses};
 use arrayvec::ArrayVec;
 use std::test::*;
+use tpm_types::{Alg, Digest, DigestValues, Digests, OrDigests, Selection, Selections};
 
 #[test]
 fn selections_of_at_most_two_banks(rt: HostRuntime) {

@@ -1,6 +1,8 @@
-use super::{goes_both_ways, is_cut_at, refuses};
-use crate::Alg;
+//! The numbers and the sizes of hashes.
+
+use crate::checks::{goes_both_ways, is_cut_at, refuses};
 use std::test::*;
+use tpm_types::Alg;
 
 #[test]
 fn hashes_of_the_profile(rt: HostRuntime) {

@@ -1,6 +1,8 @@
-use super::{goes_both_ways, is_cut_at, joined, refuses};
-use crate::{AuthValue, Digest, EncryptedSalt, Name, Nonce};
+//! Sized buffers.
+
+use crate::checks::{goes_both_ways, is_cut_at, joined, refuses};
 use std::test::*;
+use tpm_types::{AuthValue, Digest, EncryptedSalt, Name, Nonce};
 
 #[test]
 fn digests_of_at_most_32_bytes(rt: HostRuntime) {

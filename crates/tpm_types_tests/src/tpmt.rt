@@ -1,6 +1,8 @@
-use super::{goes_both_ways, is_cut_at, refuses};
-use crate::{Alg, KeyBits, SymDef};
+//! Symmetric definitions.
+
+use crate::checks::{goes_both_ways, is_cut_at, refuses};
 use std::test::*;
+use tpm_types::{Alg, KeyBits, SymDef};
 
 #[test]
 fn symmetric_definitions(rt: HostRuntime) {
