@@ -1,6 +1,8 @@
 //! Counted lists: TPML (Part 2, 10.9).
 
-ghost use Rattle.std.specs.Prelude.{◌≡◌, ◌≢◌, ◌↔◌, ℕ, ◌+◌, ◌*◌, ◌≤◌, ◌++◌, List, length, IsTrue, All, MatchOption};
+ghost use Rattle.std.specs.Prelude.{◌≡◌, ◌↔◌, ◌+◌, ◌*◌, ◌≤◌, ◌++◌, false, length, IsTrue, All, IfOk, MatchOption};
+ghost use Rattle.tpm_wire.specs.Layout.Form.{list};
+ghost use Rattle.tpm_wire.specs.Buffers.{Takes, TakesAs};
 ghost use Rattle.tpm_wire.specs.Spelling.{spelling, IsSpelled, joined_all};
 ghost use Rattle.tpm_types.specs.Limits.{digest_bytes, banks};
 ghost use Rattle.tpm_types.specs.Alg.{digest_len, IsDigestValue};
@@ -12,7 +14,7 @@ use crate::tpm2b::Digest;
 use crate::tpms::Selection;
 use arrayvec::ArrayVec;
 use std::marker::Model;
-use tpm_wire::{Buffer, Counted, Cursor, Duplicate, Refusal, Wire, duplicates, put_bytes};
+use tpm_wire::{Buffer, Counted, Cursor, INSUFFICIENT, Refusal, SIZE, Wire, duplicates, put_bytes};
 
 /// How many digests a list has at most.
 pub const MOST_DIGESTS: usize = 8;
@@ -25,97 +27,6 @@ pub type Digests = Counted<Digest, 0, MOST_DIGESTS>;
 
 /// The digests of TPM2_PolicyOR: TPML_DIGEST, 2 to 8.
 pub type OrDigests = Counted<Digest, 2, MOST_DIGESTS>;
-
-/// A hash, and a digest as long as those of that hash: TPMT_HA (Part 2, 10.3.2).
-#[derive(Drop)]
-struct DigestValue {
-    alg: Alg,
-    digest: Digest,
-}
-
-impl Model for DigestValue {
-    ghost use Rattle.std.specs.Prelude.{◌≡◌, ℕ, List, length};
-    ghost use Rattle.tpm_types.specs.declared.alg.Alg.{Alg};
-    ghost use Rattle.tpm_types.specs.Alg.{digest_len};
-
-    ghost Value = { Alg × List ℕ };
-
-    ghost view = { λ d. (d.alg, d.digest) };
-
-    ghost invariant = { λ d. length d.digest ≡ digest_len d.alg };
-
-    ghost inverse = { λ d. record { alg = d.0; digest = d.1 } };
-}
-
-impl Default for DigestValue {
-    fn default() -> Self {
-        match DigestValue::new(Alg::Sha1, Digest::new(&[0; 20]).unwrap_or_default()) {
-            Some(value) => value,
-            None => unreachable!(),
-        }
-    }
-}
-
-impl DigestValue {
-    /// The digest under the hash, if it is as long as those of that hash.
-    fn new(alg: Alg, digest: Digest) -> Option<Self>
-        ensures { MatchOption result (length digest ≢ digest_len alg) (λ d. (d ≡ (alg, digest)) × (length digest ≡ digest_len alg)) }
-    {
-        if digest.as_slice().len() != alg.digest_len() {
-            return None;
-        }
-        Some(DigestValue { alg, digest })
-    }
-
-    /// The hash and the digest.
-    fn pair(&self) -> (Alg, Digest)
-        ensures value { result ≡ self.now }
-        ensures whole { IsDigestValue result }
-    {
-        (self.alg, self.digest.duplicate())
-    }
-}
-
-impl Duplicate for DigestValue {
-    fn duplicate(&self) -> Self {
-        DigestValue {
-            alg: self.alg,
-            digest: self.digest.duplicate(),
-        }
-    }
-}
-
-/// A hash, else HASH; the bytes of the digest.
-#[tactic(auto, unfolding(crate::specs::Tpml::digest_value))]
-impl Wire for DigestValue {
-    ghost use Rattle.tpm_types.specs.Tpml.{digest_value};
-
-    ghost layout = { digest_value };
-
-    ghost most = { 2 + digest_bytes };
-
-    fn known(&self) {
-        self.alg.known();
-    }
-
-    fn len(&self) -> usize {
-        self.alg.len() + self.digest.as_slice().len()
-    }
-
-    fn put(&self, out: &mut Buffer) {
-        self.alg.put(out);
-        put_bytes(out, self.digest.as_slice());
-    }
-
-    fn take(cursor: &mut Cursor<'_>) -> Result<Self, Refusal> {
-        let alg = Alg::take(cursor)?;
-        let bytes = cursor.bytes(alg.digest_len())?;
-        match Digest::new(bytes) {
-            Some(digest) => Ok(DigestValue { alg, digest }),
-            None => unreachable!(),
-        }
-    }
-}
 
 /// Digests of one event, at most one for each bank: TPML_DIGEST_VALUES (Part 2, 10.9.6).
 #[derive(Drop)]
@@ -228,17 +139,39 @@ fn put_values(entries: &[(Alg, Digest)], out: &mut Buffer)
     }
 }
 
-impl DigestValues {
-    /// The same digests, each apart from its hash.
-    fn of(values: &Counted<DigestValue, 0, BANKS>) -> Self
-        ensures { result ≡ values.now }
-    {
-        let mut entries: ArrayVec<(Alg, Digest), BANKS> = ArrayVec::new();
-        for value in values.as_slice() {
-            entries.push(value.pair());
-        }
-        DigestValues { entries }
+/// A digest with its hash: a hash, else HASH; the bytes of the digest.
+#[tactic(auto, unfolding(crate::specs::Tpml::digest_value))]
+fn take_value(cursor: &mut Cursor<'_>) -> Result<(Alg, Digest), Refusal>
+    ensures reads { Takes digest_value cursor.old cursor.new result }
+    ensures spelled { IfOk result (λ d. cursor.old.here.rest ≡ spelling digest_value d ++ cursor.new.here.rest) }
+    ensures whole { IfOk result (λ d. IsDigestValue d) }
+{
+    let alg = Alg::take(cursor)?;
+    let Some(bytes) = cursor.front(alg.digest_len()) else {
+        return Err(cursor.refusal(INSUFFICIENT));
+    };
+    match Digest::new(bytes) {
+        Some(digest) => Ok((alg, digest)),
+        None => unreachable!(),
     }
+}
+
+/// So many digests, each with its hash.
+fn take_values(
+    cursor: &mut Cursor<'_>,
+    count: usize,
+) -> Result<ArrayVec<(Alg, Digest), BANKS>, Refusal>
+    requires { count ≤ banks }
+    ensures reads { TakesAs (λ v. v.items) (list count false (λ _. digest_value)) cursor.old cursor.new result }
+    ensures spelled { IfOk result (λ v. cursor.old.here.rest ≡ joined_all digest_value v.items ++ cursor.new.here.rest) }
+    ensures count { IfOk result (λ v. length v.items ≡ count) }
+    ensures whole { IfOk result (λ v. All IsDigestValue v.items) }
+{
+    let mut entries = ArrayVec::new();
+    for _ in 0..count {
+        entries.push(take_value(cursor)?);
+    }
+    Ok(entries)
 }
 
 /// Their number, at most `BANKS`, else SIZE; for each a hash, else HASH, and the bytes of the digest.
@@ -264,7 +197,13 @@ impl Wire for DigestValues {
     }
 
     fn take(cursor: &mut Cursor<'_>) -> Result<Self, Refusal> {
-        let values = Counted::take(cursor)?;
-        Ok(DigestValues::of(&values))
+        let refusal = cursor.refusal(SIZE);
+        let count = u32::take(cursor)? as usize;
+        if count > BANKS {
+            return Err(refusal);
+        }
+        Ok(DigestValues {
+            entries: take_values(cursor, count)?,
+        })
     }
 }

@@ -6,7 +6,7 @@ use crate::handles::{AuthSession, NvIndex, PcrIndex};
 use crate::limits::{AuthValue, Nonce, PUBLIC_BYTES};
 use crate::tpm2b::Digest;
 use crate::tpma::{NvAttrs, SessionAttrs};
-use tpm_wire::{Buffer, Cursor, Duplicate, Refusal, SIZE, Wire, put_bytes};
+use tpm_wire::{Buffer, Cursor, Duplicate, INSUFFICIENT, Refusal, SIZE, Wire, put_bytes};
 
 /// How many bytes of bits a selection has, one bit for each register.
 pub const SELECT_BYTES: usize = 3;
@@ -69,9 +69,10 @@ impl Wire for Selection {
         if size != SELECT_BYTES {
             return Err(refusal);
         }
-        let mut select = [0; SELECT_BYTES];
-        select.copy_from_slice(cursor.bytes(SELECT_BYTES)?);
-        Ok(Selection { hash, select })
+        match cursor.array() {
+            Some(select) => Ok(Selection { hash, select }),
+            None => Err(cursor.refusal(INSUFFICIENT)),
+        }
     }
 }
 
