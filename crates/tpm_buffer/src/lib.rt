@@ -34,7 +34,7 @@ pub use laws::{
 pub use params::{Params, decode_params};
 pub use reader::{ReadFault, read_frame};
 pub use reply_decode::{RSP_COMMAND, decode_response};
-pub use reply_encode::encode_response;
+pub use reply_encode::{encode_response, put_code, put_reply};
 pub use reply_stages::ReplyAreas;
 pub use response::{ErrorCode, NvData, ReplyBody, Response, StartReply};
 pub use stages::{Areas, Handled, Headed, header};

@@ -193,7 +193,7 @@ fn reply_len(body: &ReplyBody, auths: &[AuthReply]) -> usize
 }
 
 #[tactic(auto, unfolding(crate::specs::Responses::with_sessions, crate::specs::Responses::without_sessions, crate::specs::Responses::parameter_size))]
-fn put_reply(body: &ReplyBody, auths: &[AuthReply], out: &mut Buffer)
+fn put_parts(body: &ReplyBody, auths: &[AuthReply], out: &mut Buffer)
     requires few { length auths.now ≤ 3 }
     requires room { length out.old.items + length (spelling (reply (code_for_reply body.now) (reply_tag auths.now)) (record { body = body.now; auths = auths.now })) ≤ 4096 }
     ensures { out.new.items ≡ out.old.items ++ spelling (reply (code_for_reply body.now) (reply_tag auths.now)) (record { body = body.now; auths = auths.now }) }
@@ -220,7 +220,7 @@ fn tag_of_code(error: ErrorCode) -> u16
     }
 }
 
-fn put_code(error: ErrorCode, out: &mut Buffer)
+fn put_header(error: ErrorCode, out: &mut Buffer)
     requires { length out.old.items ≡ 0 }
     ensures bytes { out.new.items ≡ bytes_high_first 2 (code_tag error) ++ (bytes_high_first 4 10 ++ bytes_high_first 4 error) }
     ensures number { (0 < error) × (error < 2 ^ 32) }
@@ -230,13 +230,14 @@ fn put_code(error: ErrorCode, out: &mut Buffer)
     error.number().put(out);
 }
 
+/// Adds to an empty buffer what `encode_response` answers for a response that is this code.
 #[inline(never)]
-fn spell_code(error: ErrorCode, out: &mut Buffer)
+pub fn put_code(error: ErrorCode, out: &mut Buffer)
     requires { length out.old.items ≡ 0 }
     ensures spells { (code : CodeOf) → Spells (response_layout code) (responses.Code error) out.new.items }
     ensures bytes { (code : CodeOf) → out.new.items ≡ spelling (response_layout code) (responses.Code error) }
 {
-    put_code(error, out);
+    put_header(error, out);
 }
 
 fn known_reply(body: &ReplyBody, auths: &[AuthReply])
@@ -261,11 +262,12 @@ fn put_done(body: &ReplyBody, auths: &[AuthReply], out: &mut Buffer)
     tag_for(auths).put(out);
     (10 + reply_len(body, auths) as u32).put(out);
     0u32.put(out);
-    put_reply(body, auths, out);
+    put_parts(body, auths, out);
 }
 
+/// Adds to an empty buffer what `encode_response` answers for a reply with these sessions, at most three.
 #[inline(never)]
-fn spell_done(body: &ReplyBody, auths: &[AuthReply], out: &mut Buffer)
+pub fn put_reply(body: &ReplyBody, auths: &[AuthReply], out: &mut Buffer)
     requires few { length auths.now ≤ 3 }
     requires empty { length out.old.items ≡ 0 }
     ensures spells { Spells (response_layout (code_for_reply body.now)) (responses.Done body.now (record { items = auths.now })) out.new.items }
@@ -283,8 +285,8 @@ fn spell(response: &Response, out: &mut Buffer)
     ensures bytes { (code : CodeOf) → Answers code response.now → out.new.items ≡ spelling (response_layout code) response.now }
 {
     match response {
-        Response::Code(error) => spell_code(*error, out),
-        Response::Done { body, auths } => spell_done(body, auths.as_slice(), out),
+        Response::Code(error) => put_code(*error, out),
+        Response::Done { body, auths } => put_reply(body, auths.as_slice(), out),
     }
 }
 

@@ -1,18 +1,22 @@
 -- A device that holds what the queries at a history give.
-use Rattle.std.specs.Prelude.{◌≡◌, ℕ, None, Result, Ok, Err}
+use Rattle.std.specs.Prelude.{◌≡◌, ℕ, List, None, Result, Ok, Err}
 use Rattle.tpm_wire.specs.Reading.{◌>>=◌}
+use Rattle.tpm_wire.specs.Spelling.{spelling}
+use Rattle.tpm_types.specs.declared.tpms.AuthReply.{AuthReply}
+use Rattle.tpm_buffer.specs.declared.stages.Handled.{Handled}
 use Rattle.tpm_buffer.specs.declared.stages.Areas.{Areas}
-use Rattle.tpm_buffer.specs.declared.response.Response.{Response}
-use Rattle.tpm_buffer.specs.declared.response.Response.TheVariants as responses
+use Rattle.tpm_buffer.specs.declared.response.ReplyBody.{ReplyBody}
 use Rattle.tpm_buffer.specs.Handles.{first}
-use Rattle.tpm_buffer.specs.Responses.{done_with}
+use Rattle.tpm_buffer.specs.Commands.{authorization}
+use Rattle.tpm_buffer.specs.Replies.{code_for_reply}
+use Rattle.tpm_buffer.specs.Responses.{Reply, done_with, response}
 use Rattle.tpm_model.specs.Steps.{History, Origin, started}
 use Rattle.tpm_model.specs.Sessions.{session_at}
 use Rattle.tpm_model.specs.Counters.{counter_at, greatest}
 use Rattle.tpm_model.specs.Present.{Present}
 use Rattle.tpm_model.specs.Entities.{entity_of}
 use Rattle.tpm_model.specs.Authorization.{Proof}
-use Rattle.tpm_model.specs.Answers.{Presented, Done, proof_in}
+use Rattle.tpm_model.specs.Answers.{Presented, Done, by_grammar, proof_in}
 use Rattle.tpm_store.specs.Stands.{StandsRegisters, held}
 use Rattle.tpm_device.specs.declared.device.Device.{Device}
 use Rattle.tpm_device.specs.Passwords.{by_password}
@@ -53,6 +57,18 @@ presented_with p x proof = record {
   proof = proof;
 }
 
+-- what is presented by a command whose handles were read, and met the checks before the authorization area
+abbrev pub behind_handles : Present → Handled → Result Presented ℕ
+behind_handles p x = do
+  auths ← by_grammar (authorization x.header.tag) x.cursor.here
+  proof ← proof_in p x.header.code x.handles.items auths.1.rest auths.0
+  Ok (record { code = x.header.code; handles = x.handles.items; auths = auths.0; params = auths.1.rest; entity = entity_of p (first x.handles.items); proof = proof })
+
+-- The authorization area and what is behind it are left, or a check before it fails.
+abbrev pub IsMet : Present → Result Presented ℕ → Result Handled ℕ → Type 0
+IsMet p r (Ok x) = r ≡ behind_handles p x
+IsMet p r (Err code) = r ≡ Err code
+
 -- Of the checks before the last, those of the sessions are left, or one before them fails.
 abbrev pub IsRead : Present → Result Presented ℕ → Result Areas ℕ → Type 0
 IsRead p r (Ok x) = r ≡ (proof_in p x.header.code x.handles.items x.params.now x.auths.items >>= λ proof. Ok (presented_with p x proof))
@@ -62,12 +78,26 @@ IsRead p r (Err code) = r ≡ Err code
 abbrev pub presented_in : Present → Areas → Presented
 presented_in p x = presented_with p x (by_password (entity_of p (first x.handles.items)) x.auths.items)
 
--- the response of what was done, or the code of the check that failed
-abbrev pub reply_in : Result Done ℕ → Result Response ℕ
-reply_in (Ok d) = Ok (done_with d.reply)
-reply_in (Err code) = Err code
+-- it, or the code of a check of the sessions
+abbrev pub presented_by : Present → Areas → Result (Unit {0}) ℕ → Result Presented ℕ
+presented_by p x (Ok u) = Ok (presented_in p x)
+presented_by p x (Err code) = Err code
 
--- the response, which is the code alone where a check failed
-abbrev pub response_in : Result Done ℕ → Response
-response_in (Ok d) = done_with d.reply
-response_in (Err code) = responses.Code code
+-- the bytes of a reply
+abbrev pub reply_bytes : Reply → List ℕ
+reply_bytes r = spelling (response (code_for_reply r.body)) (done_with r)
+
+-- what a call adds to an empty buffer where it succeeds, or its code
+abbrev pub given : List ℕ → Result (Unit {0}) ℕ → Result (List ℕ) ℕ
+given bytes (Ok u) = Ok bytes
+given bytes (Err code) = Err code
+
+-- the bytes of what an action gives with these sessions, or its code
+abbrev pub replied : List AuthReply → Result ReplyBody ℕ → Result (List ℕ) ℕ
+replied auths (Ok body) = Ok (reply_bytes (record { body = body; auths = auths }))
+replied auths (Err code) = Err code
+
+-- the bytes of what was done, or the code of the check that failed
+abbrev pub told : Result Done ℕ → Result (List ℕ) ℕ
+told (Ok d) = Ok (reply_bytes d.reply)
+told (Err code) = Err code

@@ -1,7 +1,6 @@
 //! The checks before a command's parameters, but those by the grammar.
 
 ghost use Rattle.std.specs.Prelude.{◌≡◌, ℕ, ◌≤◌, length, true, None, OnOk};
-ghost use Rattle.tpm_buffer.specs.Handles.{first as first_of};
 ghost use Rattle.tpm_model.specs.Present.{Present};
 ghost use Rattle.tpm_model.specs.Answers.{check_has as has_of, check_started as started_of, check_handle as handle_of, check_handles as handles_of, check_tag as tag_of};
 ghost use Rattle.tpm_device.specs.Commands.{has_command};
@@ -99,14 +98,4 @@ pub(crate) fn check_first(auth: &Auth, others: &[Auth]) -> Result<(), u32>
         return Err(ATTRIBUTES + SESSION_2);
     }
     Ok(())
-}
-
-/// The first of the handles, or 0 where there is none.
-pub(crate) fn first(handles: &[u32]) -> u32
-    ensures { result ≡ first_of handles.now }
-{
-    match handles {
-        [handle, ..] => *handle,
-        [] => 0,
-    }
 }

@@ -1,31 +1,31 @@
 //! A device: the order of its checks, and its actions.
 
-ghost use Rattle.std.specs.Prelude.{◌≡◌, ℕ, ◌<◌, ◌^◌, List, [], ◌∷◌, true, length, Ok, IfOk, IfErr, OnOk, OnErr};
+ghost use Rattle.std.specs.Prelude.{◌≡◌, ℕ, ◌<◌, ◌^◌, List, [], ◌∷◌, true, length, Ok, Err, IfOk, IfErr, OnOk, OnErr};
 ghost use Rattle.tpm_wire.specs.Reading.{Gives};
 ghost use Rattle.tpm_types.specs.declared.tpms.Auth.{Auth as AuthOf};
 ghost use Rattle.tpm_types.specs.declared.handle_sets.PcrOrNull.{PcrOrNull as PcrOrNullOf};
 ghost use Rattle.tpm_buffer.specs.declared.code.CommandCode.{CommandCode as CodeOf};
 ghost use Rattle.tpm_buffer.specs.declared.command.CommandBody.TheVariants as bodies;
-ghost use Rattle.tpm_buffer.specs.declared.response.Response.TheVariants as responses;
 ghost use Rattle.tpm_buffer.specs.Handles.{first as first_of};
-ghost use Rattle.tpm_buffer.specs.Commands.{with_auths, code_for};
-ghost use Rattle.tpm_buffer.specs.Responses.{Reply, code_of_response};
+ghost use Rattle.tpm_buffer.specs.Parameters.{params_code};
+ghost use Rattle.tpm_buffer.specs.Commands.{with_auths, body_from};
+ghost use Rattle.tpm_buffer.specs.Responses.{Reply};
 ghost use Rattle.tpm_model.specs.Steps.{History, Accepted, PowerCycle, Origin};
 ghost use Rattle.tpm_model.specs.Present.{present};
 ghost use Rattle.tpm_model.specs.Entities.{entity_of, auth_value as auth_value_of};
 ghost use Rattle.tpm_model.specs.Authorization.{check_proof, password_reply as password_reply_of};
 ghost use Rattle.tpm_model.specs.Actions.{action, check_startup, check_extend, check_reset};
-ghost use Rattle.tpm_model.specs.Answers.{proof_in, presented, permitted, performed, outcome, answer, next, with_outcome};
+ghost use Rattle.tpm_model.specs.Answers.{proof_in, presented, permitted, performed, outcome, answered, answer, next, with_outcome};
 ghost use Rattle.tpm_model.specs.Premises.{code_in};
 ghost use Rattle.tpm_device.specs.Commands.{has_command};
 ghost use Rattle.tpm_device.specs.Passwords.{by_password, replies_to as replies_of};
-ghost use Rattle.tpm_device.specs.Stands.{Stands, holds, IsRead, presented_in, reply_in, response_in};
+ghost use Rattle.tpm_device.specs.Stands.{Stands, holds, IsMet, IsRead, presented_in, presented_by, reply_bytes, given, replied, told};
 
-use crate::checks::{check_first, check_handles, check_has, check_started, check_tag, first};
+use crate::checks::{check_first, check_handles, check_has, check_started, check_tag};
 use crate::codes::{BAD_AUTH, PARAMETER_1, SESSION_1};
-use arrayvec::ArrayVec;
+use crate::handles::{first, register, register_or_null};
 use tpm_buffer::{
-    Areas, CommandBody, ErrorCode, ReplyBody, Response, decode_params, encode_response, header,
+    Areas, ErrorCode, Handled, Params, ReplyBody, decode_params, header, put_code, put_reply,
 };
 use tpm_hmac::{same, trim};
 use tpm_store::Registers;
@@ -58,24 +58,27 @@ fn password_reply() -> AuthReply
     }
 }
 
-// The replies to these sessions: a password's, or none.
-fn replies_to(auths: &[Auth]) -> ArrayVec<AuthReply, 3>
-    ensures { result.items ≡ replies_of auths.now }
+// Adds the reply to a command with these sessions.
+fn put_done(body: &ReplyBody, auths: &[Auth], out: &mut Buffer)
+    requires { length out.old.items ≡ 0 }
+    ensures bytes { out.new.items ≡ reply_bytes (record { body = body.now; auths = replies_of auths.now }) }
+    ensures done { code_in out.new.items ≡ 0 }
 {
-    let mut replies = ArrayVec::new();
-    if !auths.is_empty() {
-        replies.push(password_reply());
+    if auths.is_empty() {
+        put_reply(body, &[], out);
+    } else {
+        put_reply(body, &[password_reply()], out);
     }
-    replies
 }
 
-// The response that is this code.
-fn refused(code: u32) -> Response
-    requires { 0 < code }
-    ensures { result ≡ responses.Code code }
+// Adds the response that is this code.
+fn put_refusal(code: u32, out: &mut Buffer)
+    requires some { 0 < code }
+    requires empty { length out.old.items ≡ 0 }
+    ensures { out.new.items ≡ answered (Err code) }
 {
     match ErrorCode::from_number(code) {
-        Some(error) => Response::Code(error),
+        Some(error) => put_code(error, out),
         None => unreachable!(),
     }
 }
@@ -138,11 +141,10 @@ impl Device {
         }
     }
 
-    // The checks before those of the sessions, and what was read.
-    fn read_areas<'a>(&self, bytes: &'a [u8]) -> Result<Areas<'a>, u32>
-        ensures reads { IsRead (holds self.now) (presented has_command (holds self.now) bytes.now) result }
+    // The checks before the authorization area, and what was read.
+    fn read_handles<'a>(&self, bytes: &'a [u8]) -> Result<Handled<'a>, u32>
+        ensures reads { IsMet (holds self.now) (presented has_command (holds self.now) bytes.now) result }
         ensures has { IfOk result (λ x. has_command x.header.code ≡ true) }
-        ensures short { IfOk result (λ x. length x.params.now < 2 ^ 32) }
     {
         let headed = header(bytes).map_err(|refusal| refusal.code)?;
         let code = headed.code();
@@ -152,20 +154,16 @@ impl Device {
         let handled = headed.handles().map_err(|refusal| refusal.code)?;
         check_handles(handled.list())?;
         check_tag(code, tag)?;
-        let areas = handled.areas().map_err(|refusal| refusal.code)?;
-        Ok(areas)
+        Ok(handled)
     }
 
-    // All checks before the parameters.
-    fn permit<'a>(&self, bytes: &'a [u8]) -> Result<Areas<'a>, u32>
-        ensures tells { Gives (presented_in (holds self.now)) (permitted has_command (holds self.now) bytes.now) result }
-        ensures has { IfOk result (λ x. has_command x.header.code ≡ true) }
-        ensures short { IfOk result (λ x. length x.params.now < 2 ^ 32) }
+    // The checks of the sessions, which are the last before the parameters.
+    fn permit(&self, areas: &Areas<'_>) -> Result<(), u32>
+        ensures { (bytes : List ℕ) → IsRead (holds self.now) (presented has_command (holds self.now) bytes) (Ok areas.now) →
+            permitted has_command (holds self.now) bytes ≡ presented_by (holds self.now) areas.now result }
     {
-        let areas = self.read_areas(bytes)?;
         self.check_sessions(areas.auths())?;
-        self.check_password(areas.handles(), areas.auths())?;
-        Ok(areas)
+        self.check_password(areas.handles(), areas.auths())
     }
 
     // TPM2_Startup (Part 3, TPM2_Startup).
@@ -227,79 +225,94 @@ impl Device {
         }
     }
 
-    // The action of a command that the device has.
-    fn act(&mut self, body: &CommandBody) -> Result<ReplyBody, u32>
-        requires { has_command (code_for body.now) ≡ true }
-        ensures answer { (o : Origin) (h : History) (n : List ℕ) → Stands o h self.old → result ≡ action (present o h) body.now n }
-        ensures stands { OnOk result ((o : Origin) (h : History) (auths : List AuthOf) (r : Reply) (n : List ℕ) → Stands o h self.old →
-            Stands o (Accepted (with_auths body.now auths) r n ∷ h) self.new) }
+    // The action of a command that the device has, and the reply to it with these sessions.
+    fn act(
+        &mut self,
+        handles: &[u32],
+        params: &Params,
+        auths: &[Auth],
+        out: &mut Buffer,
+    ) -> Result<(), u32>
+        requires has { has_command (params_code params.now) ≡ true }
+        requires empty { length out.old.items ≡ 0 }
+        ensures answer { (o : Origin) (h : History) (n : List ℕ) → Stands o h self.old →
+            given out.new.items result ≡ replied (replies_of auths.now) (action (present o h) (body_from handles.now params.now) n) }
+        ensures stands { OnOk result ((o : Origin) (h : History) (r : Reply) (n : List ℕ) → Stands o h self.old →
+            Stands o (Accepted (with_auths (body_from handles.now params.now) auths.now) r n ∷ h) self.new) }
         ensures refused { OnErr result (self.new ≡ self.old) }
+        ensures none { OnErr result (out.new ≡ out.old) }
+        ensures done { OnOk result (code_in out.new.items ≡ 0) }
         ensures some { IfErr result (λ code. 0 < code) }
     {
-        match body {
-            CommandBody::Startup(kind) => {
+        match params {
+            Params::Startup(kind) => {
                 self.start(*kind)?;
-                Ok(ReplyBody::Startup)
+                put_done(&ReplyBody::Startup, auths, out);
             }
-            CommandBody::PcrExtend { register, digests } => {
-                self.extend(*register, digests)?;
-                Ok(ReplyBody::PcrExtend)
+            Params::PcrExtend(digests) => {
+                self.extend(register_or_null(first(handles)), digests)?;
+                put_done(&ReplyBody::PcrExtend, auths, out);
             }
-            CommandBody::PcrReset { register } => {
-                self.reset(*register)?;
-                Ok(ReplyBody::PcrReset)
+            Params::PcrReset => {
+                self.reset(register(first(handles)))?;
+                put_done(&ReplyBody::PcrReset, auths, out);
             }
-            CommandBody::PcrRead(selections) => Ok(self.read(selections)),
+            Params::PcrRead(selections) => put_done(&self.read(selections), auths, out),
             _ => unreachable!(),
         }
+        Ok(())
     }
 
-    // The parameters and the action.
-    fn perform(&mut self, areas: &Areas<'_>) -> Result<Response, u32>
+    // The parameters, the action and the reply.
+    fn perform(&mut self, areas: &Areas<'_>, out: &mut Buffer) -> Result<(), u32>
         requires has { has_command areas.now.header.code ≡ true }
         requires short { length areas.now.params.now < 2 ^ 32 }
+        requires empty { length out.old.items ≡ 0 }
         ensures answer { (o : Origin) (h : History) (n : List ℕ) → Stands o h self.old →
-            result ≡ reply_in (performed (present o h) n (presented_in (holds self.old) areas.now)) }
+            given out.new.items result ≡ told (performed (present o h) n (presented_in (holds self.old) areas.now)) }
         ensures stands { (o : Origin) (h : History) (n : List ℕ) → Stands o h self.old →
             Stands o (with_outcome h n (performed (present o h) n (presented_in (holds self.old) areas.now))) self.new }
         ensures refused { OnErr result (self.new ≡ self.old) }
-        ensures done { IfOk result (λ r. code_of_response r ≡ 0) }
+        ensures none { OnErr result (out.new ≡ out.old) }
+        ensures done { OnOk result (code_in out.new.items ≡ 0) }
         ensures some { IfErr result (λ code. 0 < code) }
     {
-        let params = match decode_params(areas.code(), areas.params()) {
-            Ok(params) => params,
-            Err(refusal) => return Err(refusal.code),
-        };
-        let body = self.act(&CommandBody::from_parts(areas.handles(), params))?;
-        Ok(Response::Done {
-            body,
-            auths: replies_to(areas.auths()),
-        })
-    }
-
-    // What the response is made of, or the code of the first check that fails.
-    fn respond(&mut self, bytes: &[u8]) -> Result<Response, u32>
-        ensures answer { (o : Origin) (h : History) (n : List ℕ) → Stands o h self.old → result ≡ reply_in (outcome has_command (present o h) bytes.now n) }
-        ensures stands { (o : Origin) (h : History) (n : List ℕ) → Stands o h self.old → Stands o (next has_command o h bytes.now n) self.new }
-        ensures refused { OnErr result (self.new ≡ self.old) }
-        ensures done { IfOk result (λ r. code_of_response r ≡ 0) }
-        ensures some { IfErr result (λ code. 0 < code) }
-    {
-        match self.permit(bytes) {
-            Ok(areas) => self.perform(&areas),
-            Err(code) => Err(code),
+        match &decode_params(areas.code(), areas.params()) {
+            Ok(params) => self.act(areas.handles(), params, areas.auths(), out),
+            Err(refusal) => Err(refusal.code),
         }
     }
 
-    // The response before it is spelled.
-    fn response(&mut self, bytes: &[u8]) -> Response
-        ensures answer { (o : Origin) (h : History) (n : List ℕ) → Stands o h self.old → result ≡ response_in (outcome has_command (present o h) bytes.now n) }
+    // The reply, or the code of the first check that fails.
+    fn respond(&mut self, bytes: &[u8], out: &mut Buffer) -> Result<(), u32>
+        requires empty { length out.old.items ≡ 0 }
+        ensures answer { (o : Origin) (h : History) (n : List ℕ) → Stands o h self.old → given out.new.items result ≡ told (outcome has_command (present o h) bytes.now n) }
         ensures stands { (o : Origin) (h : History) (n : List ℕ) → Stands o h self.old → Stands o (next has_command o h bytes.now n) self.new }
-        ensures refused { 0 < code_of_response result → self.new ≡ self.old }
+        ensures refused { OnErr result (self.new ≡ self.old) }
+        ensures none { OnErr result (out.new ≡ out.old) }
+        ensures done { OnOk result (code_in out.new.items ≡ 0) }
+        ensures some { IfErr result (λ code. 0 < code) }
     {
-        match self.respond(bytes) {
-            Ok(response) => response,
-            Err(code) => refused(code),
+        let handled = self.read_handles(bytes)?;
+        match &handled.areas() {
+            Ok(areas) => {
+                self.permit(areas)?;
+                self.perform(areas, out)
+            }
+            Err(refusal) => Err(refusal.code),
+        }
+    }
+
+    // The response: the reply, or the code alone.
+    #[inline(never)]
+    fn respond_always(&mut self, bytes: &[u8], out: &mut Buffer)
+        requires empty { length out.old.items ≡ 0 }
+        ensures answer { (o : Origin) (h : History) (n : List ℕ) → Stands o h self.old → out.new.items ≡ answer has_command o h bytes.now n }
+        ensures stands { (o : Origin) (h : History) (n : List ℕ) → Stands o h self.old → Stands o (next has_command o h bytes.now n) self.new }
+        ensures refused { 0 < code_in out.new.items → self.new ≡ self.old }
+    {
+        if let Err(code) = self.respond(bytes, out) {
+            put_refusal(code, out);
         }
     }
 
@@ -316,6 +329,8 @@ impl Device {
         ensures stands { (o : Origin) (h : History) → Stands o h self.old → Stands o (next has_command o h bytes.now nonce.now) self.new }
         ensures refused { 0 < code_in result.items → self.new ≡ self.old }
     {
-        encode_response(&self.response(bytes))
+        let mut out = Buffer::new();
+        self.respond_always(bytes, &mut out);
+        out
     }
 }

@@ -4,6 +4,7 @@
 mod checks;
 mod codes;
 mod device;
+mod handles;
 
 pub use codes::{AUTH_CONTEXT, AUTH_MISSING, INITIALIZE};
 pub use device::Device;
