@@ -3,9 +3,11 @@
 use crate::checks::{bytes, reply, reply_refused, same};
 use std::process::Abort;
 use std::test::*;
-use tpm_buffer::{CommandCode, ErrorCode, RSP_COMMAND, ReplyBody, Response, reply_areas};
-use tpm_types::Alg;
-use tpm_wire::Refusal;
+use tpm_buffer::{
+    CommandCode, ErrorCode, RSP_COMMAND, ReplyBody, Response, put_code, put_reply, reply_areas,
+};
+use tpm_types::{Alg, AuthReply};
+use tpm_wire::{Buffer, Refusal};
 
 /// What the bytes answer to this command, where they succeed with so many sessions.
 fn done(rt: &impl Abort, command: CommandCode, text: &str, sessions: usize) -> ReplyBody {
@@ -534,4 +536,26 @@ fn areas_judge_the_sessions_and_no_parameters(rt: HostRuntime) {
         .ok()
         .expect(&rt, "areas");
     same(&rt, cut.params(), "0008 0000000000000004");
+}
+
+#[test]
+fn responses_put_into_a_buffer(rt: HostRuntime) {
+    for (code, text) in [
+        (0x101, "8001 0000000a 00000101"),
+        (0x01E, "00c4 0000000a 0000001e"),
+    ] {
+        let mut out = Buffer::new();
+        match ErrorCode::from_number(code) {
+            Some(error) => put_code(error, &mut out),
+            None => panic!(&rt; "no code"),
+        }
+        same(&rt, out.as_slice(), text);
+    }
+    let mut out = Buffer::new();
+    put_reply(&ReplyBody::Startup, &[], &mut out);
+    same(&rt, out.as_slice(), "8001 0000000a 00000000");
+    out.clear();
+    put_reply(&ReplyBody::PcrReset, &[AuthReply::default()], &mut out);
+    let text = "8002 00000013 00000000 00000000 0000 00 0000";
+    same(&rt, out.as_slice(), text);
 }

@@ -6,6 +6,7 @@ ghost use Rattle.tpm_types.specs.declared.tpms.Auth.{Auth as AuthOf};
 ghost use Rattle.tpm_types.specs.declared.handle_sets.PcrOrNull.{PcrOrNull as PcrOrNullOf};
 ghost use Rattle.tpm_buffer.specs.declared.code.CommandCode.{CommandCode as CodeOf};
 ghost use Rattle.tpm_buffer.specs.declared.command.CommandBody.TheVariants as bodies;
+ghost use Rattle.tpm_buffer.specs.declared.response.ReplyBody.TheVariants as replies;
 ghost use Rattle.tpm_buffer.specs.Handles.{first as first_of};
 ghost use Rattle.tpm_buffer.specs.Parameters.{params_code};
 ghost use Rattle.tpm_buffer.specs.Commands.{with_auths, body_from};
@@ -69,6 +70,36 @@ fn put_done(body: &ReplyBody, auths: &[Auth], out: &mut Buffer)
     } else {
         put_reply(body, &[password_reply()], out);
     }
+}
+
+// Adds the reply to TPM2_Startup with these sessions.
+#[inline(never)]
+fn put_started(auths: &[Auth], out: &mut Buffer)
+    requires { length out.old.items ≡ 0 }
+    ensures bytes { out.new.items ≡ reply_bytes (record { body = replies.Startup; auths = replies_of auths.now }) }
+    ensures done { code_in out.new.items ≡ 0 }
+{
+    put_done(&ReplyBody::Startup, auths, out);
+}
+
+// Adds the reply to TPM2_PCR_Extend with these sessions.
+#[inline(never)]
+fn put_extended(auths: &[Auth], out: &mut Buffer)
+    requires { length out.old.items ≡ 0 }
+    ensures bytes { out.new.items ≡ reply_bytes (record { body = replies.PcrExtend; auths = replies_of auths.now }) }
+    ensures done { code_in out.new.items ≡ 0 }
+{
+    put_done(&ReplyBody::PcrExtend, auths, out);
+}
+
+// Adds the reply to TPM2_PCR_Reset with these sessions.
+#[inline(never)]
+fn put_reset(auths: &[Auth], out: &mut Buffer)
+    requires { length out.old.items ≡ 0 }
+    ensures bytes { out.new.items ≡ reply_bytes (record { body = replies.PcrReset; auths = replies_of auths.now }) }
+    ensures done { code_in out.new.items ≡ 0 }
+{
+    put_done(&ReplyBody::PcrReset, auths, out);
 }
 
 // Adds the response that is this code.
@@ -213,16 +244,21 @@ impl Device {
         Ok(())
     }
 
-    // TPM2_PCR_Read (Part 3, TPM2_PCR_Read).
-    fn read(&self, selections: &Selections) -> ReplyBody
-        ensures { (o : Origin) (h : History) (n : List ℕ) → Stands o h self.now → Ok result ≡ action (present o h) (bodies.PcrRead selections.now) n }
+    // TPM2_PCR_Read (Part 3, TPM2_PCR_Read), and its reply with these sessions.
+    #[inline(never)]
+    fn read(&self, selections: &Selections, auths: &[Auth], out: &mut Buffer)
+        requires { length out.old.items ≡ 0 }
+        ensures answer { (o : Origin) (h : History) (n : List ℕ) → Stands o h self.now →
+            Ok out.new.items ≡ replied (replies_of auths.now) (action (present o h) (bodies.PcrRead selections.now) n) }
+        ensures done { code_in out.new.items ≡ 0 }
     {
         let (selections, digests) = self.registers.select(selections);
-        ReplyBody::PcrRead {
+        let body = ReplyBody::PcrRead {
             update_counter: self.registers.counter(),
             selections,
             digests,
-        }
+        };
+        put_done(&body, auths, out);
     }
 
     // The action of a command that the device has, and the reply to it with these sessions.
@@ -247,17 +283,17 @@ impl Device {
         match params {
             Params::Startup(kind) => {
                 self.start(*kind)?;
-                put_done(&ReplyBody::Startup, auths, out);
+                put_started(auths, out);
             }
             Params::PcrExtend(digests) => {
                 self.extend(register_or_null(first(handles)), digests)?;
-                put_done(&ReplyBody::PcrExtend, auths, out);
+                put_extended(auths, out);
             }
             Params::PcrReset => {
                 self.reset(register(first(handles)))?;
-                put_done(&ReplyBody::PcrReset, auths, out);
+                put_reset(auths, out);
             }
-            Params::PcrRead(selections) => put_done(&self.read(selections), auths, out),
+            Params::PcrRead(selections) => self.read(selections, auths, out),
             _ => unreachable!(),
         }
         Ok(())

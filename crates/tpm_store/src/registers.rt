@@ -261,13 +261,13 @@ impl Registers {
     {
         let mut values = ArrayVec::new();
         let read = self.read_entries(selections, &mut values);
-        match (
-            Selections::new(read.as_slice()),
-            Digests::new(values.as_slice()),
-        ) {
-            (Some(read), Some(values)) => (read, values),
-            _ => unreachable!(),
-        }
+        let Some(selections) = Selections::from_entries(read) else {
+            unreachable!()
+        };
+        let Some(digests) = Digests::from_entries(values) else {
+            unreachable!()
+        };
+        (selections, digests)
     }
 
     /// The digest under this hash of the values of all selected registers, joined: the entries in list order, in each rising

@@ -50,6 +50,19 @@ impl<T: Wire + Default + Duplicate + Drop, const LEAST: usize, const MOST: usize
         })
     }
 
+    /// These entries, if they are at least `LEAST`.
+    pub fn from_entries(entries: ArrayVec<T, MOST>) -> Option<Self>
+        requires count { MOST ≤ 8 }
+        requires short { T.most ≤ 4096 }
+        ensures { MatchOption result (length entries.items < LEAST) (λ c. (c ≡ entries.items) × (LEAST ≤ length entries.items)) }
+    {
+        if entries.len() < LEAST {
+            return None;
+        }
+        let _len = capped_len(entries.as_slice());
+        Some(Counted { entries })
+    }
+
     /// The entries.
     pub fn as_slice(&self) -> &[T]
         ensures value { result.now ≡ self.now }
@@ -118,6 +131,16 @@ mod tests {
         let three = Counted::<u16, 1, 3>::new(&[1, 2, 3]).expect(&rt, "three numbers");
         assert_eq!(&rt; three.as_slice(), [1, 2, 3].as_slice());
         assert!(&rt; Counted::<u16, 1, 3>::new(&[1, 2, 3, 4]).is_none());
+    }
+
+    #[test]
+    fn at_least_one_of_these_numbers(rt: HostRuntime) {
+        let mut entries = ArrayVec::new();
+        assert!(&rt; Counted::<u16, 0, 3>::from_entries(ArrayVec::new()).is_some());
+        assert!(&rt; Counted::<u16, 1, 3>::from_entries(ArrayVec::new()).is_none());
+        entries.push(7);
+        let one = Counted::<u16, 1, 3>::from_entries(entries).expect(&rt, "one number");
+        assert_eq!(&rt; one.as_slice(), [7].as_slice());
     }
 
     #[test]

@@ -24,5 +24,4 @@ returns-in_ok-reset-in-PcrReset-clause-stands c = λ o h r n st.
     subst (λ (b : CommandBody). Stands o (Accepted (with_auths b c.args.auths.now) r n ∷ h) c.reset.new.self) is (c.in_ok-reset-in-PcrReset.ensures.stands o h c.args.auths.now r n st)
 
 pub returns-in-PcrRead-clause-answer : goal.returns-in-PcrRead-clause-answer
-returns-in-PcrRead-clause-answer c = λ o h n st.
-    rw c.in-PcrRead.is (ap (λ (bytes : List ℕ). Ok bytes) c.put_done-in-PcrRead.ensures.bytes ∙ ap (replied (replies_to c.args.auths.now)) (c.read.ensures o h n st))
+returns-in-PcrRead-clause-answer c = λ o h n st. rw c.in-PcrRead.is (c.read.ensures.answer o h n st)

@@ -7,8 +7,6 @@ use Rattle.tpm_store.proofs.registers.Registers.select.Goals as goal
 pub returns : goal.returns
 returns c = λ h st.
     let sels = c.args.selections.now in
-    let read = c.in-Some-Some.ensures in
-    let values = c.in-Some-Some.ensures' in
-    let one : c.in-Some-Some.read ≡ selections_read sels = read.0 ∙ c.as_slice.ensures.value ∙ c.read_entries-read.ensures.selections in
-    let two : c.in-Some-Some.values ≡ take 8 _ = values.0 ∙ c.as_slice-2.ensures.value ∙ c.read_entries-read.ensures.values ∙ ap (take 8) (values_same (held c.args.self.now) (register_value h) sels (held_is h c.args.self.now st)) in
+    let one : c.in-Some.selections ≡ selections_read sels = c.in-Some.ensures.0 ∙ c.read_entries-read.ensures.selections in
+    let two : c.in-Some-from_entries.digests ≡ take 8 _ = c.in-Some-from_entries.ensures.0 ∙ c.read_entries-read.ensures.values ∙ ap (take 8) (values_same (held c.args.self.now) (register_value h) sels (held_is h c.args.self.now st)) in
     rw (one, two) refl
