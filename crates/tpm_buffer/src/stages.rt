@@ -114,6 +114,7 @@ impl<'a> Handled<'a> {
 
     /// Reads the sessions, or answers the authorization area's first fault: INSUFFICIENT, AUTHSIZE, or one of a
     /// session with the session's number. The parameters are not judged.
+    #[inline(never)]
     pub fn areas(self) -> Result<Areas<'a>, Refusal>
         ensures decodes { HasAreas self.entry result }
         ensures reads { IsAreas self.entry result }
