@@ -1,5 +1,5 @@
 -- What was permitted and performed is the answer.
-use Rattle.std.proofs.Common.{◌≡◌, ℕ, zero, suc, ◌<◌, List, [], ◌∷◌, Result, Ok, Err, refl, sym, ap, subst, ◌∙◌, arith}
+use Rattle.std.proofs.Common.{◌≡◌, ℕ, ◌<◌, List, [], ◌∷◌, Result, Ok, Err, refl, sym, ap, subst, ◌∙◌}
 use Rattle.std.specs.Prelude.{IfOk, OnOk, OnErr}
 use Rattle.tpm_wire.specs.declared.refusal.Refusal.{Refusal}
 use Rattle.tpm_wire.specs.Token.{at_start}
@@ -8,7 +8,6 @@ use Rattle.tpm_wire.specs.Spelling.{spelling}
 use Rattle.tpm_types.specs.declared.tpms.Auth.{Auth}
 use Rattle.tpm_types.specs.declared.tpms.AuthReply.{AuthReply}
 use Rattle.tpm_buffer.specs.declared.code.CommandCode.{CommandCode}
-use Rattle.tpm_buffer.specs.declared.code.CommandCode.TheVariants as codes
 use Rattle.tpm_buffer.specs.declared.command.CommandBody.{CommandBody}
 use Rattle.tpm_buffer.specs.declared.params.Params.{Params}
 use Rattle.tpm_buffer.specs.declared.response.ReplyBody.{ReplyBody}

@@ -1,11 +1,10 @@
-use Rattle.std.proofs.Common.{◌≡◌, ◌∙◌, ℕ, List, ◌∷◌, Ok, sym, ap, subst}
+use Rattle.std.proofs.Common.{◌≡◌, ◌∙◌, ◌∷◌, ap, subst}
 use Rattle.tpm_types.specs.declared.handle_sets.PcrOrNull.{PcrOrNull}
 use Rattle.tpm_buffer.specs.declared.command.CommandBody.{CommandBody}
 use Rattle.tpm_buffer.specs.declared.command.CommandBody.TheVariants as bodies
 use Rattle.tpm_buffer.specs.Commands.{body_from, register_in, pcr_or_null_in, with_auths}
 use Rattle.tpm_model.specs.Steps.{Accepted}
-use Rattle.tpm_device.specs.Passwords.{replies_to}
-use Rattle.tpm_device.specs.Stands.{Stands, replied}
+use Rattle.tpm_device.specs.Stands.{Stands}
 use Rattle.tpm_device.proofs.device.Device.act.Goals as goal
 
 pub returns-in_ok-start-in-Startup-clause-stands : goal.returns-in_ok-start-in-Startup-clause-stands

@@ -1,4 +1,4 @@
-use Rattle.std.proofs.Common.{rules, ◌≡◌, ◌∙◌, ℕ, Result, Ok, Err, sym, ap}
+use Rattle.std.proofs.Common.{rules, ◌≡◌, Ok, Err, sym}
 use Rattle.tpm_buffer.specs.Handles.{first}
 use Rattle.tpm_model.specs.Authorization.{check_proof}
 use Rattle.tpm_model.specs.Entities.{entity_of}
