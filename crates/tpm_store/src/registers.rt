@@ -112,6 +112,9 @@ fn read_byte(
     ensures bits { result ≡ bits_of (chosen (length values.old.items) selection.now.select (registers_of byte)) }
     ensures values { values.new.items ≡ values.old.items ++ values_of bank.now (chosen (length values.old.items) selection.now.select (registers_of byte)) }
 {
+    if selection.select[byte as usize] == 0 {
+        return 0;
+    }
     let mut bits = 0;
     for bit in 0..8 {
         let register = 8 * byte + bit;
