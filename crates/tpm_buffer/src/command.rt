@@ -198,6 +198,83 @@ fn second(handles: &[u32]) -> u32
     }
 }
 
+// As `from_parts`, in the place of another command.
+#[inline(always)]
+pub(crate) fn set_from_parts(body: &mut CommandBody, handles: &[u32], params: Params)
+    ensures body { body.new ≡ body_from handles.now params }
+    ensures code { code_for body.new ≡ params_code params }
+{
+    match params {
+        Params::NvUndefineSpace => *body = CommandBody::NvUndefineSpace {
+            index: index_in(second(handles)),
+        },
+        Params::NvDefineSpace { auth, public } => *body = CommandBody::NvDefineSpace {
+            auth,
+            public,
+        },
+        Params::NvIncrement => *body = CommandBody::NvIncrement {
+            by: nv_auth_in(first(handles)),
+            index: index_in(second(handles)),
+        },
+        Params::PcrReset => *body = CommandBody::PcrReset {
+            register: register_in(first(handles)),
+        },
+        Params::Startup(startup_type) => *body = CommandBody::Startup(startup_type),
+        Params::NvRead { size, offset } => *body = CommandBody::NvRead {
+            by: nv_auth_in(first(handles)),
+            index: index_in(second(handles)),
+            size,
+            offset,
+        },
+        Params::FlushContext(session) => *body = CommandBody::FlushContext(session),
+        Params::NvReadPublic => *body = CommandBody::NvReadPublic {
+            index: index_in(first(handles)),
+        },
+        Params::PolicyAuthValue => *body = CommandBody::PolicyAuthValue {
+            session: policy_in(first(handles)),
+        },
+        Params::PolicyCommandCode(code) => *body = CommandBody::PolicyCommandCode {
+            session: policy_in(first(handles)),
+            code,
+        },
+        Params::PolicyOr(digests) => *body = CommandBody::PolicyOr {
+            session: policy_in(first(handles)),
+            digests,
+        },
+        Params::StartAuthSession {
+            nonce_caller,
+            session_type,
+            symmetric,
+            auth_hash,
+        } => *body = CommandBody::StartAuthSession(StartAuth {
+            bind: bind_in(second(handles)),
+            nonce_caller,
+            session_type,
+            symmetric,
+            auth_hash,
+        }),
+        Params::PcrRead(selections) => *body = CommandBody::PcrRead(selections),
+        Params::PolicyPcr {
+            pcr_digest,
+            selections,
+        } => *body = CommandBody::PolicyPcr {
+            session: policy_in(first(handles)),
+            pcr_digest,
+            selections,
+        },
+        Params::PolicyRestart => *body = CommandBody::PolicyRestart {
+            session: policy_in(first(handles)),
+        },
+        Params::PcrExtend(digests) => *body = CommandBody::PcrExtend {
+            register: pcr_or_null_in(first(handles)),
+            digests,
+        },
+        Params::PolicyGetDigest => *body = CommandBody::PolicyGetDigest {
+            session: policy_in(first(handles)),
+        },
+    }
+}
+
 impl CommandBody {
     /// The command of these parameters, with its handles by their numbers, in their order. A handle that is missing, or that
     /// the command cannot have, is never met where both were read under one code; in its place stands one of its kind: register 0,
@@ -207,71 +284,8 @@ impl CommandBody {
         ensures body { result ≡ body_from handles.now params }
         ensures code { code_for result ≡ params_code params }
     {
-        match params {
-            Params::NvUndefineSpace => CommandBody::NvUndefineSpace {
-                index: index_in(second(handles)),
-            },
-            Params::NvDefineSpace { auth, public } => CommandBody::NvDefineSpace { auth, public },
-            Params::NvIncrement => CommandBody::NvIncrement {
-                by: nv_auth_in(first(handles)),
-                index: index_in(second(handles)),
-            },
-            Params::PcrReset => CommandBody::PcrReset {
-                register: register_in(first(handles)),
-            },
-            Params::Startup(startup_type) => CommandBody::Startup(startup_type),
-            Params::NvRead { size, offset } => CommandBody::NvRead {
-                by: nv_auth_in(first(handles)),
-                index: index_in(second(handles)),
-                size,
-                offset,
-            },
-            Params::FlushContext(session) => CommandBody::FlushContext(session),
-            Params::NvReadPublic => CommandBody::NvReadPublic {
-                index: index_in(first(handles)),
-            },
-            Params::PolicyAuthValue => CommandBody::PolicyAuthValue {
-                session: policy_in(first(handles)),
-            },
-            Params::PolicyCommandCode(code) => CommandBody::PolicyCommandCode {
-                session: policy_in(first(handles)),
-                code,
-            },
-            Params::PolicyOr(digests) => CommandBody::PolicyOr {
-                session: policy_in(first(handles)),
-                digests,
-            },
-            Params::StartAuthSession {
-                nonce_caller,
-                session_type,
-                symmetric,
-                auth_hash,
-            } => CommandBody::StartAuthSession(StartAuth {
-                bind: bind_in(second(handles)),
-                nonce_caller,
-                session_type,
-                symmetric,
-                auth_hash,
-            }),
-            Params::PcrRead(selections) => CommandBody::PcrRead(selections),
-            Params::PolicyPcr {
-                pcr_digest,
-                selections,
-            } => CommandBody::PolicyPcr {
-                session: policy_in(first(handles)),
-                pcr_digest,
-                selections,
-            },
-            Params::PolicyRestart => CommandBody::PolicyRestart {
-                session: policy_in(first(handles)),
-            },
-            Params::PcrExtend(digests) => CommandBody::PcrExtend {
-                register: pcr_or_null_in(first(handles)),
-                digests,
-            },
-            Params::PolicyGetDigest => CommandBody::PolicyGetDigest {
-                session: policy_in(first(handles)),
-            },
-        }
+        let mut body = CommandBody::Startup(StartupType::Clear);
+        set_from_parts(&mut body, handles, params);
+        body
     }
 }

@@ -1,59 +1,77 @@
 //! From bytes to a command.
 
-ghost use Rattle.std.specs.Prelude.{◌≡◌, ◌≤◌, ◌<◌, ◌↔◌, IfOk, Ok, Err, length};
+ghost use Rattle.std.specs.Prelude.{◌≡◌, ◌≤◌, ◌<◌, ◌↔◌, IfOk, OnOk, Ok, Err, length};
 ghost use Rattle.tpm_wire.specs.Spelling.{spelling};
 ghost use Rattle.tpm_wire.specs.declared.refusal.Refusal.{Refusal as RefusalOf};
-ghost use Rattle.tpm_wire.specs.Reading.{read_all};
+ghost use Rattle.tpm_wire.specs.Reading.{read_all, Gives};
 ghost use Rattle.tpm_wire.specs.Buffers.{TakesNumbered};
 ghost use Rattle.tpm_wire.specs.Path.{Spells, Fault};
 ghost use Rattle.tpm_buffer.specs.declared.command.Command.{Command as CommandOf};
 ghost use Rattle.tpm_buffer.specs.Commands.{command};
 
-use crate::command::{Command, CommandBody};
-use crate::front::{long_fault, take_authorization, take_header};
+use crate::command::{Command, CommandBody, set_from_parts};
+use crate::front::{long_fault, read_authorization, take_header};
 use crate::handles::take_handles;
-use crate::params::take_params;
+use crate::params::{Params, read_params};
+use arrayvec::ArrayVec;
+use tpm_types::StartupType;
 use tpm_wire::{Cursor, Refusal, SIZE};
 
 #[tactic(auto, unfolding(crate::specs::Commands::command))]
-fn take_command(cursor: &mut Cursor<'_>) -> Result<Command, Refusal>
+fn read_command(cursor: &mut Cursor<'_>, decoded: &mut Command) -> Result<(), Refusal>
     requires { cursor.old.number ≡ 0 }
-    ensures reads { TakesNumbered (λ c. c) command cursor.old cursor.new result }
-    ensures spelled { IfOk result (λ c. length cursor.new.here.rest ≡ 0 → cursor.old.here.rest ≡ spelling command c) }
+    ensures reads { TakesNumbered (λ _. decoded.new) command cursor.old cursor.new result }
+    ensures spelled { OnOk result (length cursor.new.here.rest ≡ 0 → cursor.old.here.rest ≡ spelling command decoded.new) }
 {
     let header = take_header(cursor)?;
     let handles = take_handles(cursor, header.code)?;
-    let auths = take_authorization(cursor, header.tag)?;
-    let params = take_params(cursor, header.code)?;
-    let body = CommandBody::from_parts(handles.as_slice(), params);
-    Ok(Command { body, auths })
+    read_authorization(cursor, header.tag, &mut decoded.auths)?;
+    let mut params = Params::PolicyRestart;
+    read_params(cursor, header.code, &mut params)?;
+    set_from_parts(&mut decoded.body, handles.as_slice(), params);
+    Ok(())
 }
 
 #[tactic(auto, unfolding(crate::specs::Commands::command))]
-fn decode_long(bytes: &[u8]) -> Result<Command, Refusal>
+fn refusal_of_long(bytes: &[u8]) -> Refusal
     requires { 4096 < length bytes.now }
-    ensures reads { result ≡ read_all command bytes.now }
-    ensures spelled { IfOk result (λ c. bytes.now ≡ spelling command c) }
+    ensures { read_all command bytes.now ≡ Err result }
 {
-    Err(long_fault(bytes))
+    long_fault(bytes)
 }
 
-fn decode(bytes: &[u8]) -> Result<Command, Refusal>
-    ensures reads { result ≡ read_all command bytes.now }
-    ensures spelled { IfOk result (λ c. bytes.now ≡ spelling command c) }
+fn read_bytes(bytes: &[u8], decoded: &mut Command) -> Result<(), Refusal>
+    ensures reads { Gives (λ _. decoded.new) (read_all command bytes.now) result }
+    ensures spelled { OnOk result (bytes.now ≡ spelling command decoded.new) }
 {
     if bytes.len() > 4096 {
-        return decode_long(bytes);
+        return Err(refusal_of_long(bytes));
     }
     let mut cursor = Cursor::new(bytes);
-    let command = take_command(&mut cursor);
-    if command.is_ok() && cursor.left() > 0 {
+    read_command(&mut cursor, decoded)?;
+    if cursor.left() > 0 {
         return Err(Refusal {
             code: SIZE,
             at: cursor.at(),
         });
     }
-    command
+    Ok(())
+}
+
+// The answer is made in the caller's place, so that its many bytes are not moved from function to function.
+fn decode(bytes: &[u8], answer: &mut Result<Command, Refusal>)
+    ensures reads { answer.new ≡ read_all command bytes.now }
+    ensures spelled { IfOk answer.new (λ c. bytes.now ≡ spelling command c) }
+{
+    *answer = Ok(Command {
+        body: CommandBody::Startup(StartupType::Clear),
+        auths: ArrayVec::new(),
+    });
+    if let Ok(decoded) = answer {
+        if let Err(refusal) = read_bytes(bytes, decoded) {
+            *answer = Err(refusal);
+        }
+    }
 }
 
 /// The command that the bytes spell, all of them, or the response code and the position of their first fault.
@@ -62,13 +80,17 @@ pub fn decode_command(bytes: &[u8]) -> Result<Command, Refusal>
     ensures ok { (c : CommandOf) → (result ≡ Ok c) ↔ Spells command c bytes.now }
     ensures err { (e : RefusalOf) → (result ≡ Err e) ↔ Fault command bytes.now e }
 {
-    decode(bytes)
+    let mut answer = Err(Refusal { code: SIZE, at: 0 });
+    decode(bytes, &mut answer);
+    answer
 }
 
 /// One spelling: a command is spelled by these bytes alone.
 pub fn one_spelling(a: &[u8], b: &[u8])
     ensures { (c : CommandOf) → Spells command c a.now → Spells command c b.now → a.now ≡ b.now }
 {
-    let _one = decode(a);
-    let _other = decode(b);
+    let mut one = Err(Refusal { code: SIZE, at: 0 });
+    decode(a, &mut one);
+    let mut other = Err(Refusal { code: SIZE, at: 0 });
+    decode(b, &mut other);
 }

@@ -1,6 +1,6 @@
 //! A command's header and its authorization area (Part 1, 18.1 and 18.6).
 
-ghost use Rattle.std.specs.Prelude.{◌≡◌, ◌≢◌, ◌<◌, ◌≤◌, ◌+◌, true, ◌++◌, IfOk, length};
+ghost use Rattle.std.specs.Prelude.{◌≡◌, ◌≢◌, ◌<◌, ◌≤◌, ◌+◌, true, ◌++◌, IfOk, OnOk, length};
 ghost use Rattle.tpm_wire.specs.Spelling.{spelling};
 ghost use Rattle.tpm_wire.specs.Token.{at_start};
 ghost use Rattle.tpm_wire.specs.Reading.{read};
@@ -12,7 +12,7 @@ use crate::code::CommandCode;
 use crate::command::Header;
 use arrayvec::ArrayVec;
 use tpm_types::Auth;
-use tpm_wire::{Cursor, Refusal, Wire, take_rest};
+use tpm_wire::{Cursor, Refusal, Wire, read_rest};
 
 /// The tag of a buffer without sessions, TPM_ST_NO_SESSIONS.
 pub const NO_SESSIONS: u16 = 0x8001;
@@ -104,12 +104,12 @@ pub(crate) fn long_fault(bytes: &[u8]) -> Refusal
 }
 
 #[tactic(auto, unfolding(crate::specs::Commands::sessions))]
-fn take_sessions(cursor: &mut Cursor<'_>) -> Result<ArrayVec<Auth, 3>, Refusal>
-    ensures reads { TakesNumbered (λ v. v.items) sessions cursor.old cursor.new result }
-    ensures spelled { IfOk result (λ x. cursor.old.here.rest ≡ spelling sessions x.items ++ cursor.new.here.rest) }
-    ensures some { IfOk result (λ x. length cursor.new.here.rest < length cursor.old.here.rest → 0 < length x.items) }
+fn read_sessions(cursor: &mut Cursor<'_>, auths: &mut ArrayVec<Auth, 3>) -> Result<(), Refusal>
+    ensures reads { TakesNumbered (λ _. auths.new.items) sessions cursor.old cursor.new result }
+    ensures spelled { OnOk result (cursor.old.here.rest ≡ spelling sessions auths.new.items ++ cursor.new.here.rest) }
+    ensures some { OnOk result (length cursor.new.here.rest < length cursor.old.here.rest → 0 < length auths.new.items) }
 {
-    take_rest(cursor, 3, 0x900)
+    read_rest(cursor, 3, 0x900, auths)
 }
 
 #[tactic(auto, unfolding(crate::specs::Commands::authorization_size))]
@@ -127,29 +127,30 @@ fn take_authorization_size(cursor: &mut Cursor<'_>) -> Result<u32, Refusal>
     Ok(size)
 }
 
-/// The sessions of a command with this tag.
+/// Reads the sessions of a command with this tag.
 #[tactic(auto, unfolding(crate::specs::Commands::authorization))]
 #[inline(never)]
-pub(crate) fn take_authorization(
+pub(crate) fn read_authorization(
     cursor: &mut Cursor<'_>,
     tag: u16,
-) -> Result<ArrayVec<Auth, 3>, Refusal>
-    ensures reads { TakesNumbered (λ v. v.items) (authorization tag) cursor.old cursor.new result }
-    ensures spelled { IfOk result (λ x. cursor.old.here.rest ≡ spelling (authorization tag) x.items ++ cursor.new.here.rest) }
-    ensures none { IfOk result (λ x. tag ≢ 0x8002 → length x.items ≡ 0) }
-    ensures some { IfOk result (λ x. tag ≡ 0x8002 → 0 < length x.items) }
+    auths: &mut ArrayVec<Auth, 3>,
+) -> Result<(), Refusal>
+    ensures reads { TakesNumbered (λ _. auths.new.items) (authorization tag) cursor.old cursor.new result }
+    ensures spelled { OnOk result (cursor.old.here.rest ≡ spelling (authorization tag) auths.new.items ++ cursor.new.here.rest) }
+    ensures none { OnOk result (tag ≢ 0x8002 → length auths.new.items ≡ 0) }
+    ensures some { OnOk result (tag ≡ 0x8002 → 0 < length auths.new.items) }
 {
     if tag != SESSIONS {
-        return Ok(ArrayVec::new());
+        auths.clear();
+        return Ok(());
     }
     cursor.number(0);
     let size = take_authorization_size(cursor)? as usize;
     let outer = cursor.enter(size)?;
-    let auths = take_sessions(cursor)?;
+    read_sessions(cursor, auths)?;
     cursor.number(0);
     if cursor.left() > 0 {
         return Err(cursor.refusal(AUTHSIZE));
     }
-    cursor.leave(outer)?;
-    Ok(auths)
+    cursor.leave(outer)
 }

@@ -1,6 +1,6 @@
 //! A command's parameters alone (Part 3).
 
-ghost use Rattle.std.specs.Prelude.{◌≡◌, ◌≤◌, ◌<◌, ◌^◌, length, ◌++◌, IfOk, IsErr};
+ghost use Rattle.std.specs.Prelude.{◌≡◌, ◌≤◌, ◌<◌, ◌^◌, length, ◌++◌, IfOk, OnOk, IsErr};
 ghost use Rattle.tpm_wire.specs.Spelling.{spelling};
 ghost use Rattle.tpm_wire.specs.Path.{Decodes};
 ghost use Rattle.tpm_wire.specs.Reading.{read_all};
@@ -53,82 +53,88 @@ pub enum Params {
 
 #[tactic(auto, unfolding(crate::specs::Parameters::startup))]
 #[inline(never)]
-fn take_startup(cursor: &mut Cursor<'_>) -> Result<Params, Refusal>
-    ensures reads { TakesNumbered (λ p. p) startup cursor.old cursor.new result }
-    ensures spelled { IfOk result (λ x. cursor.old.here.rest ≡ spelling startup x ++ cursor.new.here.rest) }
-    ensures code { IfOk result (λ x. params_code x ≡ codes.Startup) }
+fn read_startup(cursor: &mut Cursor<'_>, params: &mut Params) -> Result<(), Refusal>
+    ensures reads { TakesNumbered (λ _. params.new) startup cursor.old cursor.new result }
+    ensures spelled { OnOk result (cursor.old.here.rest ≡ spelling startup params.new ++ cursor.new.here.rest) }
+    ensures code { OnOk result (params_code params.new ≡ codes.Startup) }
 {
     cursor.number(0x140);
-    Ok(Params::Startup(StartupType::take(cursor)?))
+    *params = Params::Startup(StartupType::take(cursor)?);
+    Ok(())
 }
 
 #[tactic(auto, unfolding(crate::specs::Parameters::nv_define_space))]
 #[inline(never)]
-fn take_nv_define_space(cursor: &mut Cursor<'_>) -> Result<Params, Refusal>
-    ensures reads { TakesNumbered (λ p. p) nv_define_space cursor.old cursor.new result }
-    ensures spelled { IfOk result (λ x. cursor.old.here.rest ≡ spelling nv_define_space x ++ cursor.new.here.rest) }
-    ensures code { IfOk result (λ x. params_code x ≡ codes.NvDefineSpace) }
+fn read_nv_define_space(cursor: &mut Cursor<'_>, params: &mut Params) -> Result<(), Refusal>
+    ensures reads { TakesNumbered (λ _. params.new) nv_define_space cursor.old cursor.new result }
+    ensures spelled { OnOk result (cursor.old.here.rest ≡ spelling nv_define_space params.new ++ cursor.new.here.rest) }
+    ensures code { OnOk result (params_code params.new ≡ codes.NvDefineSpace) }
 {
     cursor.number(0x140);
     let auth = AuthValue::take(cursor)?;
     cursor.number(0x240);
     let public = NvPublic::take(cursor)?;
-    Ok(Params::NvDefineSpace { auth, public })
+    *params = Params::NvDefineSpace { auth, public };
+    Ok(())
 }
 
 #[tactic(auto, unfolding(crate::specs::Parameters::nv_read))]
 #[inline(never)]
-fn take_nv_read(cursor: &mut Cursor<'_>) -> Result<Params, Refusal>
-    ensures reads { TakesNumbered (λ p. p) nv_read cursor.old cursor.new result }
-    ensures spelled { IfOk result (λ x. cursor.old.here.rest ≡ spelling nv_read x ++ cursor.new.here.rest) }
-    ensures code { IfOk result (λ x. params_code x ≡ codes.NvRead) }
+fn read_nv_read(cursor: &mut Cursor<'_>, params: &mut Params) -> Result<(), Refusal>
+    ensures reads { TakesNumbered (λ _. params.new) nv_read cursor.old cursor.new result }
+    ensures spelled { OnOk result (cursor.old.here.rest ≡ spelling nv_read params.new ++ cursor.new.here.rest) }
+    ensures code { OnOk result (params_code params.new ≡ codes.NvRead) }
 {
     cursor.number(0x140);
     let size = u16::take(cursor)?;
     cursor.number(0x240);
     let offset = u16::take(cursor)?;
-    Ok(Params::NvRead { size, offset })
+    *params = Params::NvRead { size, offset };
+    Ok(())
 }
 
 #[tactic(auto, unfolding(crate::specs::Parameters::flush_context))]
 #[inline(never)]
-fn take_flush_context(cursor: &mut Cursor<'_>) -> Result<Params, Refusal>
-    ensures reads { TakesNumbered (λ p. p) flush_context cursor.old cursor.new result }
-    ensures spelled { IfOk result (λ x. cursor.old.here.rest ≡ spelling flush_context x ++ cursor.new.here.rest) }
-    ensures code { IfOk result (λ x. params_code x ≡ codes.FlushContext) }
+fn read_flush_context(cursor: &mut Cursor<'_>, params: &mut Params) -> Result<(), Refusal>
+    ensures reads { TakesNumbered (λ _. params.new) flush_context cursor.old cursor.new result }
+    ensures spelled { OnOk result (cursor.old.here.rest ≡ spelling flush_context params.new ++ cursor.new.here.rest) }
+    ensures code { OnOk result (params_code params.new ≡ codes.FlushContext) }
 {
     cursor.number(0x140);
-    Ok(Params::FlushContext(SessionHandle::take(cursor)?))
+    *params = Params::FlushContext(SessionHandle::take(cursor)?);
+    Ok(())
 }
 
 #[tactic(auto, unfolding(crate::specs::Parameters::policy_command_code))]
 #[inline(never)]
-fn take_policy_command_code(cursor: &mut Cursor<'_>) -> Result<Params, Refusal>
-    ensures reads { TakesNumbered (λ p. p) policy_command_code cursor.old cursor.new result }
-    ensures spelled { IfOk result (λ x. cursor.old.here.rest ≡ spelling policy_command_code x ++ cursor.new.here.rest) }
-    ensures code { IfOk result (λ x. params_code x ≡ codes.PolicyCommandCode) }
+fn read_policy_command_code(cursor: &mut Cursor<'_>, params: &mut Params) -> Result<(), Refusal>
+    ensures reads { TakesNumbered (λ _. params.new) policy_command_code cursor.old cursor.new result }
+    ensures spelled { OnOk result (cursor.old.here.rest ≡ spelling policy_command_code params.new ++ cursor.new.here.rest) }
+    ensures code { OnOk result (params_code params.new ≡ codes.PolicyCommandCode) }
 {
     cursor.number(0x140);
-    Ok(Params::PolicyCommandCode(u32::take(cursor)?))
+    *params = Params::PolicyCommandCode(u32::take(cursor)?);
+    Ok(())
 }
 
 #[tactic(auto, unfolding(crate::specs::Parameters::policy_or))]
 #[inline(never)]
-fn take_policy_or(cursor: &mut Cursor<'_>) -> Result<Params, Refusal>
-    ensures reads { TakesNumbered (λ p. p) policy_or cursor.old cursor.new result }
-    ensures spelled { IfOk result (λ x. cursor.old.here.rest ≡ spelling policy_or x ++ cursor.new.here.rest) }
-    ensures code { IfOk result (λ x. params_code x ≡ codes.PolicyOr) }
+fn read_policy_or(cursor: &mut Cursor<'_>, params: &mut Params) -> Result<(), Refusal>
+    ensures reads { TakesNumbered (λ _. params.new) policy_or cursor.old cursor.new result }
+    ensures spelled { OnOk result (cursor.old.here.rest ≡ spelling policy_or params.new ++ cursor.new.here.rest) }
+    ensures code { OnOk result (params_code params.new ≡ codes.PolicyOr) }
 {
     cursor.number(0x140);
-    Ok(Params::PolicyOr(OrDigests::take(cursor)?))
+    *params = Params::PolicyOr(OrDigests::take(cursor)?);
+    Ok(())
 }
 
 #[tactic(auto, unfolding(crate::specs::Parameters::start_auth_session))]
 #[inline(never)]
-fn take_start_auth_session(cursor: &mut Cursor<'_>) -> Result<Params, Refusal>
-    ensures reads { TakesNumbered (λ p. p) start_auth_session cursor.old cursor.new result }
-    ensures spelled { IfOk result (λ x. cursor.old.here.rest ≡ spelling start_auth_session x ++ cursor.new.here.rest) }
-    ensures code { IfOk result (λ x. params_code x ≡ codes.StartAuthSession) }
+fn read_start_auth_session(cursor: &mut Cursor<'_>, params: &mut Params) -> Result<(), Refusal>
+    ensures reads { TakesNumbered (λ _. params.new) start_auth_session cursor.old cursor.new result }
+    ensures spelled { OnOk result (cursor.old.here.rest ≡ spelling start_auth_session params.new ++ cursor.new.here.rest) }
+    ensures code { OnOk result (params_code params.new ≡ codes.StartAuthSession) }
 {
     cursor.number(0x140);
     let nonce_caller = Nonce::take(cursor)?;
@@ -140,79 +146,88 @@ fn take_start_auth_session(cursor: &mut Cursor<'_>) -> Result<Params, Refusal>
     let symmetric = SymDef::take(cursor)?;
     cursor.number(0x540);
     let auth_hash = Alg::take(cursor)?;
-    Ok(Params::StartAuthSession {
+    *params = Params::StartAuthSession {
         nonce_caller,
         session_type,
         symmetric,
         auth_hash,
-    })
+    };
+    Ok(())
 }
 
 #[tactic(auto, unfolding(crate::specs::Parameters::pcr_read))]
 #[inline(never)]
-fn take_pcr_read(cursor: &mut Cursor<'_>) -> Result<Params, Refusal>
-    ensures reads { TakesNumbered (λ p. p) pcr_read cursor.old cursor.new result }
-    ensures spelled { IfOk result (λ x. cursor.old.here.rest ≡ spelling pcr_read x ++ cursor.new.here.rest) }
-    ensures code { IfOk result (λ x. params_code x ≡ codes.PcrRead) }
+fn read_pcr_read(cursor: &mut Cursor<'_>, params: &mut Params) -> Result<(), Refusal>
+    ensures reads { TakesNumbered (λ _. params.new) pcr_read cursor.old cursor.new result }
+    ensures spelled { OnOk result (cursor.old.here.rest ≡ spelling pcr_read params.new ++ cursor.new.here.rest) }
+    ensures code { OnOk result (params_code params.new ≡ codes.PcrRead) }
 {
     cursor.number(0x140);
-    Ok(Params::PcrRead(Selections::take(cursor)?))
+    *params = Params::PcrRead(Selections::take(cursor)?);
+    Ok(())
 }
 
 #[tactic(auto, unfolding(crate::specs::Parameters::policy_pcr))]
 #[inline(never)]
-fn take_policy_pcr(cursor: &mut Cursor<'_>) -> Result<Params, Refusal>
-    ensures reads { TakesNumbered (λ p. p) policy_pcr cursor.old cursor.new result }
-    ensures spelled { IfOk result (λ x. cursor.old.here.rest ≡ spelling policy_pcr x ++ cursor.new.here.rest) }
-    ensures code { IfOk result (λ x. params_code x ≡ codes.PolicyPcr) }
+fn read_policy_pcr(cursor: &mut Cursor<'_>, params: &mut Params) -> Result<(), Refusal>
+    ensures reads { TakesNumbered (λ _. params.new) policy_pcr cursor.old cursor.new result }
+    ensures spelled { OnOk result (cursor.old.here.rest ≡ spelling policy_pcr params.new ++ cursor.new.here.rest) }
+    ensures code { OnOk result (params_code params.new ≡ codes.PolicyPcr) }
 {
     cursor.number(0x140);
     let pcr_digest = Digest::take(cursor)?;
     cursor.number(0x240);
     let selections = Selections::take(cursor)?;
-    Ok(Params::PolicyPcr {
+    *params = Params::PolicyPcr {
         pcr_digest,
         selections,
-    })
+    };
+    Ok(())
 }
 
 #[tactic(auto, unfolding(crate::specs::Parameters::pcr_extend))]
 #[inline(never)]
-fn take_pcr_extend(cursor: &mut Cursor<'_>) -> Result<Params, Refusal>
-    ensures reads { TakesNumbered (λ p. p) pcr_extend cursor.old cursor.new result }
-    ensures spelled { IfOk result (λ x. cursor.old.here.rest ≡ spelling pcr_extend x ++ cursor.new.here.rest) }
-    ensures code { IfOk result (λ x. params_code x ≡ codes.PcrExtend) }
+fn read_pcr_extend(cursor: &mut Cursor<'_>, params: &mut Params) -> Result<(), Refusal>
+    ensures reads { TakesNumbered (λ _. params.new) pcr_extend cursor.old cursor.new result }
+    ensures spelled { OnOk result (cursor.old.here.rest ≡ spelling pcr_extend params.new ++ cursor.new.here.rest) }
+    ensures code { OnOk result (params_code params.new ≡ codes.PcrExtend) }
 {
     cursor.number(0x140);
-    Ok(Params::PcrExtend(DigestValues::take(cursor)?))
+    *params = Params::PcrExtend(DigestValues::take(cursor)?);
+    Ok(())
 }
 
-/// The parameters of a command with this code.
+/// Reads the parameters of a command with this code.
 #[inline(never)]
-pub(crate) fn take_params(cursor: &mut Cursor<'_>, code: CommandCode) -> Result<Params, Refusal>
-    ensures reads { TakesNumbered (λ p. p) (parameters code) cursor.old cursor.new result }
-    ensures spelled { IfOk result (λ x. cursor.old.here.rest ≡ spelling (parameters code) x ++ cursor.new.here.rest) }
-    ensures code { IfOk result (λ x. params_code x ≡ code) }
+pub(crate) fn read_params(
+    cursor: &mut Cursor<'_>,
+    code: CommandCode,
+    params: &mut Params,
+) -> Result<(), Refusal>
+    ensures reads { TakesNumbered (λ _. params.new) (parameters code) cursor.old cursor.new result }
+    ensures spelled { OnOk result (cursor.old.here.rest ≡ spelling (parameters code) params.new ++ cursor.new.here.rest) }
+    ensures code { OnOk result (params_code params.new ≡ code) }
 {
     match code {
-        CommandCode::NvUndefineSpace => Ok(Params::NvUndefineSpace),
-        CommandCode::NvDefineSpace => take_nv_define_space(cursor),
-        CommandCode::NvIncrement => Ok(Params::NvIncrement),
-        CommandCode::PcrReset => Ok(Params::PcrReset),
-        CommandCode::Startup => take_startup(cursor),
-        CommandCode::NvRead => take_nv_read(cursor),
-        CommandCode::FlushContext => take_flush_context(cursor),
-        CommandCode::NvReadPublic => Ok(Params::NvReadPublic),
-        CommandCode::PolicyAuthValue => Ok(Params::PolicyAuthValue),
-        CommandCode::PolicyCommandCode => take_policy_command_code(cursor),
-        CommandCode::PolicyOr => take_policy_or(cursor),
-        CommandCode::StartAuthSession => take_start_auth_session(cursor),
-        CommandCode::PcrRead => take_pcr_read(cursor),
-        CommandCode::PolicyPcr => take_policy_pcr(cursor),
-        CommandCode::PolicyRestart => Ok(Params::PolicyRestart),
-        CommandCode::PcrExtend => take_pcr_extend(cursor),
-        CommandCode::PolicyGetDigest => Ok(Params::PolicyGetDigest),
+        CommandCode::NvUndefineSpace => *params = Params::NvUndefineSpace,
+        CommandCode::NvDefineSpace => read_nv_define_space(cursor, params)?,
+        CommandCode::NvIncrement => *params = Params::NvIncrement,
+        CommandCode::PcrReset => *params = Params::PcrReset,
+        CommandCode::Startup => read_startup(cursor, params)?,
+        CommandCode::NvRead => read_nv_read(cursor, params)?,
+        CommandCode::FlushContext => read_flush_context(cursor, params)?,
+        CommandCode::NvReadPublic => *params = Params::NvReadPublic,
+        CommandCode::PolicyAuthValue => *params = Params::PolicyAuthValue,
+        CommandCode::PolicyCommandCode => read_policy_command_code(cursor, params)?,
+        CommandCode::PolicyOr => read_policy_or(cursor, params)?,
+        CommandCode::StartAuthSession => read_start_auth_session(cursor, params)?,
+        CommandCode::PcrRead => read_pcr_read(cursor, params)?,
+        CommandCode::PolicyPcr => read_policy_pcr(cursor, params)?,
+        CommandCode::PolicyRestart => *params = Params::PolicyRestart,
+        CommandCode::PcrExtend => read_pcr_extend(cursor, params)?,
+        CommandCode::PolicyGetDigest => *params = Params::PolicyGetDigest,
     }
+    Ok(())
 }
 
 fn decode(code: CommandCode, bytes: &[u8]) -> Result<Params, Refusal>
@@ -221,7 +236,8 @@ fn decode(code: CommandCode, bytes: &[u8]) -> Result<Params, Refusal>
     ensures code { IfOk result (λ p. params_code p ≡ code) }
 {
     let mut cursor = Cursor::new(bytes);
-    let params = take_params(&mut cursor, code)?;
+    let mut params = Params::PolicyRestart;
+    read_params(&mut cursor, code, &mut params)?;
     if cursor.left() > 0 {
         return Err(Refusal {
             code: SIZE,
@@ -236,8 +252,9 @@ fn long_fault(code: CommandCode, bytes: &[u8]) -> Refusal
     requires { 4096 ≤ length bytes.now }
 {
     let mut cursor = Cursor::new(&bytes[..4096]);
-    match take_params(&mut cursor, code) {
-        Ok(_) => Refusal {
+    let mut params = Params::PolicyRestart;
+    match read_params(&mut cursor, code, &mut params) {
+        Ok(()) => Refusal {
             code: SIZE,
             at: cursor.at(),
         },

@@ -3,16 +3,16 @@
 ghost use Rattle.std.specs.Prelude.{◌≡◌, ◌≤◌, ◌<◌, ◌↔◌, IfOk, Ok, Err, length};
 ghost use Rattle.tpm_wire.specs.declared.refusal.Refusal.{Refusal as RefusalOf};
 ghost use Rattle.tpm_wire.specs.Token.{at_start};
-ghost use Rattle.tpm_wire.specs.Reading.{read, read_all};
+ghost use Rattle.tpm_wire.specs.Reading.{read, read_all, Gives};
 ghost use Rattle.tpm_wire.specs.Buffers.{Takes, TakesNumbered};
 ghost use Rattle.tpm_wire.specs.Path.{Spells, Fault};
 ghost use Rattle.tpm_buffer.specs.declared.response.Response.{Response as ResponseOf};
 ghost use Rattle.tpm_buffer.specs.Replies.{reply_parameters};
-ghost use Rattle.tpm_buffer.specs.Responses.{response_front, response_tag, response_code, parameter_size, further_sessions, reply_sessions, with_sessions, without_sessions, reply_behind, reply, behind_code, response, Reply as ReplyOf};
+ghost use Rattle.tpm_buffer.specs.Responses.{response_front, response_tag, response_code, parameter_size, further_sessions, reply_sessions, with_sessions, without_sessions, reply_behind, reply, code_or_done, behind_code, response};
 
 use crate::code::CommandCode;
 use crate::front::{BAD_TAG, COMMAND_SIZE, NO_SESSIONS, SESSIONS, take_size};
-use crate::reply_params::{take_reply_handles, take_reply_params};
+use crate::reply_params::{read_reply_params, take_reply_handles};
 use crate::response::{ErrorCode, ReplyBody, Response};
 use arrayvec::ArrayVec;
 use tpm_types::{AuthReply, VALUE};
@@ -94,98 +94,103 @@ pub(crate) fn take_sessions(cursor: &mut Cursor<'_>) -> Result<ArrayVec<AuthRepl
     Ok(auths)
 }
 
-// What a reply is made of.
-#[derive(Drop)]
-struct Reply {
-    body: ReplyBody,
-    auths: ArrayVec<AuthReply, 3>,
-}
-
 #[tactic(auto, unfolding(crate::specs::Responses::with_sessions))]
-fn take_with_sessions(
+fn read_with_sessions(
     cursor: &mut Cursor<'_>,
     code: CommandCode,
     handles: &[u32],
-) -> Result<Reply, Refusal>
-    ensures { TakesNumbered (λ r. record { body = r.body; auths = r.auths.items }) (with_sessions (reply_parameters code handles.now)) cursor.old cursor.new result }
+    body: &mut ReplyBody,
+    auths: &mut ArrayVec<AuthReply, 3>,
+) -> Result<(), Refusal>
+    ensures { TakesNumbered (λ _. record { body = body.new; auths = auths.new.items }) (with_sessions (reply_parameters code handles.now)) cursor.old cursor.new result }
 {
     cursor.number(0);
     let size = take_parameter_size(cursor)? as usize;
     let outer = cursor.enter(size)?;
-    let body = take_reply_params(cursor, code, handles)?;
+    read_reply_params(cursor, code, handles, body)?;
     cursor.number(0);
     cursor.leave(outer)?;
-    let auths = take_sessions(cursor)?;
-    Ok(Reply { body, auths })
+    *auths = take_sessions(cursor)?;
+    Ok(())
 }
 
 #[tactic(auto, unfolding(crate::specs::Responses::without_sessions))]
-fn take_without_sessions(
+fn read_without_sessions(
     cursor: &mut Cursor<'_>,
     code: CommandCode,
     handles: &[u32],
-) -> Result<Reply, Refusal>
-    ensures { TakesNumbered (λ r. record { body = r.body; auths = r.auths.items }) (without_sessions (reply_parameters code handles.now)) cursor.old cursor.new result }
+    body: &mut ReplyBody,
+    auths: &mut ArrayVec<AuthReply, 3>,
+) -> Result<(), Refusal>
+    ensures { TakesNumbered (λ _. record { body = body.new; auths = auths.new.items }) (without_sessions (reply_parameters code handles.now)) cursor.old cursor.new result }
 {
-    let body = take_reply_params(cursor, code, handles)?;
-    Ok(Reply {
-        body,
-        auths: ArrayVec::new(),
-    })
+    auths.clear();
+    read_reply_params(cursor, code, handles, body)
 }
 
-fn take_behind(
+fn read_behind(
     cursor: &mut Cursor<'_>,
     tag: u16,
     code: CommandCode,
     handles: &[u32],
-) -> Result<Reply, Refusal>
-    ensures { TakesNumbered (λ r. record { body = r.body; auths = r.auths.items }) (reply_behind tag (reply_parameters code handles.now)) cursor.old cursor.new result }
+    body: &mut ReplyBody,
+    auths: &mut ArrayVec<AuthReply, 3>,
+) -> Result<(), Refusal>
+    ensures { TakesNumbered (λ _. record { body = body.new; auths = auths.new.items }) (reply_behind tag (reply_parameters code handles.now)) cursor.old cursor.new result }
 {
     if tag == SESSIONS {
-        take_with_sessions(cursor, code, handles)
+        read_with_sessions(cursor, code, handles, body, auths)
     } else {
-        take_without_sessions(cursor, code, handles)
+        read_without_sessions(cursor, code, handles, body, auths)
     }
 }
 
-fn take_reply(cursor: &mut Cursor<'_>, tag: u16, code: CommandCode) -> Result<Reply, Refusal>
-    ensures { TakesNumbered (λ r. record { body = r.body; auths = r.auths.items }) (reply code tag) cursor.old cursor.new result }
+fn read_reply(
+    cursor: &mut Cursor<'_>,
+    tag: u16,
+    code: CommandCode,
+    body: &mut ReplyBody,
+    auths: &mut ArrayVec<AuthReply, 3>,
+) -> Result<(), Refusal>
+    ensures { TakesNumbered (λ _. record { body = body.new; auths = auths.new.items }) (reply code tag) cursor.old cursor.new result }
 {
     let handles = take_reply_handles(cursor, code)?;
-    let reply = take_behind(cursor, tag, code, handles.as_slice())?;
-    Ok(reply)
+    read_behind(cursor, tag, code, handles.as_slice(), body, auths)
 }
 
-fn take_behind_code(
+// A nonzero code is answered, and for a code of 0 the reply is read.
+fn read_behind_code(
     cursor: &mut Cursor<'_>,
     tag: u16,
     number: u32,
     code: CommandCode,
-) -> Result<Response, Refusal>
-    ensures { TakesNumbered (λ r. r) (behind_code code tag number) cursor.old cursor.new result }
+    body: &mut ReplyBody,
+    auths: &mut ArrayVec<AuthReply, 3>,
+) -> Result<Option<ErrorCode>, Refusal>
+    ensures { TakesNumbered (λ error. code_or_done error (record { body = body.new; auths = auths.new.items })) (behind_code code tag number) cursor.old cursor.new result }
 {
     match ErrorCode::from_number(number) {
-        Some(error) => Ok(Response::Code(error)),
+        Some(error) => Ok(Some(error)),
         None => {
-            let reply = take_reply(cursor, tag, code)?;
-            Ok(Response::Done {
-                body: reply.body,
-                auths: reply.auths,
-            })
+            read_reply(cursor, tag, code, body, auths)?;
+            Ok(None)
         }
     }
 }
 
 #[tactic(auto, unfolding(crate::specs::Responses::response))]
-fn take_response(cursor: &mut Cursor<'_>, code: CommandCode) -> Result<Response, Refusal>
+fn read_response(
+    cursor: &mut Cursor<'_>,
+    code: CommandCode,
+    body: &mut ReplyBody,
+    auths: &mut ArrayVec<AuthReply, 3>,
+) -> Result<Option<ErrorCode>, Refusal>
     requires { cursor.old.number ≡ 0 }
-    ensures { TakesNumbered (λ r. r) (response code) cursor.old cursor.new result }
+    ensures { TakesNumbered (λ error. code_or_done error (record { body = body.new; auths = auths.new.items })) (response code) cursor.old cursor.new result }
 {
     let (tag, _size) = take_front(cursor)?;
     let number = take_code(cursor, tag)?;
-    let response = take_behind_code(cursor, tag, number, code)?;
-    Ok(response)
+    read_behind_code(cursor, tag, number, code, body, auths)
 }
 
 // No buffer has so many bytes, so the tag is refused or else the size.
@@ -208,35 +213,52 @@ pub(crate) fn long_fault(bytes: &[u8]) -> Refusal
 }
 
 #[tactic(auto, unfolding(crate::specs::Responses::response))]
-fn decode_long(code: CommandCode, bytes: &[u8]) -> Result<Response, Refusal>
+fn refusal_of_long(code: CommandCode, bytes: &[u8]) -> Refusal
     requires { 4096 < length bytes.now }
-    ensures { result ≡ read_all (response code) bytes.now }
+    ensures { read_all (response code) bytes.now ≡ Err result }
 {
-    Err(long_fault(bytes))
+    long_fault(bytes)
 }
 
-fn decode_short(code: CommandCode, bytes: &[u8]) -> Result<Response, Refusal>
-    requires { length bytes.now ≤ 4096 }
-    ensures { result ≡ read_all (response code) bytes.now }
+#[inline(never)]
+fn read_bytes(
+    code: CommandCode,
+    bytes: &[u8],
+    body: &mut ReplyBody,
+    auths: &mut ArrayVec<AuthReply, 3>,
+) -> Result<Option<ErrorCode>, Refusal>
+    ensures { Gives (λ error. code_or_done error (record { body = body.new; auths = auths.new.items })) (read_all (response code) bytes.now) result }
 {
+    if bytes.len() > 4096 {
+        return Err(refusal_of_long(code, bytes));
+    }
     let mut cursor = Cursor::new(bytes);
-    let response = take_response(&mut cursor, code)?;
+    let error = read_response(&mut cursor, code, body, auths)?;
     if cursor.left() > 0 {
         return Err(Refusal {
             code: SIZE,
             at: cursor.at(),
         });
     }
-    Ok(response)
+    Ok(error)
 }
 
-fn decode(code: CommandCode, bytes: &[u8]) -> Result<Response, Refusal>
-    ensures { result ≡ read_all (response code) bytes.now }
+// The answer is made in the caller's place, so that its many bytes are not moved from function to function.
+fn decode(code: CommandCode, bytes: &[u8], answer: &mut Result<Response, Refusal>)
+    ensures { answer.new ≡ read_all (response code) bytes.now }
 {
-    if bytes.len() > 4096 {
-        decode_long(code, bytes)
-    } else {
-        decode_short(code, bytes)
+    *answer = Ok(Response::Done {
+        body: ReplyBody::Startup,
+        auths: ArrayVec::new(),
+    });
+    if let Ok(response) = answer {
+        if let Response::Done { body, auths } = response {
+            match read_bytes(code, bytes, body, auths) {
+                Ok(None) => {}
+                Ok(Some(error)) => *answer = Ok(Response::Code(error)),
+                Err(refusal) => *answer = Err(refusal),
+            }
+        }
     }
 }
 
@@ -247,5 +269,7 @@ pub fn decode_response(code: CommandCode, bytes: &[u8]) -> Result<Response, Refu
     ensures ok { (r : ResponseOf) → (result ≡ Ok r) ↔ Spells (response code) r bytes.now }
     ensures err { (e : RefusalOf) → (result ≡ Err e) ↔ Fault (response code) bytes.now e }
 {
-    decode(code, bytes)
+    let mut answer = Err(Refusal { code: SIZE, at: 0 });
+    decode(code, bytes, &mut answer);
+    answer
 }

@@ -49,86 +49,96 @@ fn session_in(handles: &[u32]) -> SessionHandle
 }
 
 #[tactic(auto, unfolding(crate::specs::Replies::nv_read_reply))]
-fn take_nv_read(cursor: &mut Cursor<'_>) -> Result<ReplyBody, Refusal>
-    ensures { TakesNumbered (λ r. r) nv_read_reply cursor.old cursor.new result }
+fn read_nv_read(cursor: &mut Cursor<'_>, body: &mut ReplyBody) -> Result<(), Refusal>
+    ensures { TakesNumbered (λ _. body.new) nv_read_reply cursor.old cursor.new result }
 {
     cursor.number(0x140);
-    Ok(ReplyBody::NvRead(NvData::take(cursor)?))
+    *body = ReplyBody::NvRead(NvData::take(cursor)?);
+    Ok(())
 }
 
 #[tactic(auto, unfolding(crate::specs::Replies::nv_read_public_reply))]
-fn take_nv_read_public(cursor: &mut Cursor<'_>) -> Result<ReplyBody, Refusal>
-    ensures { TakesNumbered (λ r. r) nv_read_public_reply cursor.old cursor.new result }
+fn read_nv_read_public(cursor: &mut Cursor<'_>, body: &mut ReplyBody) -> Result<(), Refusal>
+    ensures { TakesNumbered (λ _. body.new) nv_read_public_reply cursor.old cursor.new result }
 {
     cursor.number(0x140);
     let public = NvPublic::take(cursor)?;
     cursor.number(0x240);
     let name = Name::take(cursor)?;
-    Ok(ReplyBody::NvReadPublic { public, name })
+    *body = ReplyBody::NvReadPublic { public, name };
+    Ok(())
 }
 
 #[tactic(auto, unfolding(crate::specs::Replies::start_auth_session_reply))]
-fn take_start_auth_session(cursor: &mut Cursor<'_>, handles: &[u32]) -> Result<ReplyBody, Refusal>
-    ensures { TakesNumbered (λ r. r) (start_auth_session_reply handles.now) cursor.old cursor.new result }
+fn read_start_auth_session(
+    cursor: &mut Cursor<'_>,
+    handles: &[u32],
+    body: &mut ReplyBody,
+) -> Result<(), Refusal>
+    ensures { TakesNumbered (λ _. body.new) (start_auth_session_reply handles.now) cursor.old cursor.new result }
 {
     cursor.number(0x140);
     let nonce_tpm = Nonce::take(cursor)?;
-    Ok(ReplyBody::StartAuthSession(StartReply {
+    *body = ReplyBody::StartAuthSession(StartReply {
         session: session_in(handles),
         nonce_tpm,
-    }))
+    });
+    Ok(())
 }
 
 #[tactic(auto, unfolding(crate::specs::Replies::pcr_read_reply))]
-fn take_pcr_read(cursor: &mut Cursor<'_>) -> Result<ReplyBody, Refusal>
-    ensures { TakesNumbered (λ r. r) pcr_read_reply cursor.old cursor.new result }
+fn read_pcr_read(cursor: &mut Cursor<'_>, body: &mut ReplyBody) -> Result<(), Refusal>
+    ensures { TakesNumbered (λ _. body.new) pcr_read_reply cursor.old cursor.new result }
 {
     cursor.number(0x140);
     let update_counter = u32::take(cursor)?;
     cursor.number(0x240);
     let selections = Selections::take(cursor)?;
     cursor.number(0x340);
-    let digests = Digests::take(cursor)?;
-    Ok(ReplyBody::PcrRead {
+    *body = ReplyBody::PcrRead {
         update_counter,
         selections,
-        digests,
-    })
+        digests: Digests::take(cursor)?,
+    };
+    Ok(())
 }
 
 #[tactic(auto, unfolding(crate::specs::Replies::policy_get_digest_reply))]
-fn take_policy_get_digest(cursor: &mut Cursor<'_>) -> Result<ReplyBody, Refusal>
-    ensures { TakesNumbered (λ r. r) policy_get_digest_reply cursor.old cursor.new result }
+fn read_policy_get_digest(cursor: &mut Cursor<'_>, body: &mut ReplyBody) -> Result<(), Refusal>
+    ensures { TakesNumbered (λ _. body.new) policy_get_digest_reply cursor.old cursor.new result }
 {
     cursor.number(0x140);
-    Ok(ReplyBody::PolicyGetDigest(Digest::take(cursor)?))
+    *body = ReplyBody::PolicyGetDigest(Digest::take(cursor)?);
+    Ok(())
 }
 
-/// The reply to a command with this code, of which the handle was read before.
-pub(crate) fn take_reply_params(
+/// Reads the reply to a command with this code, of which the handle was read before.
+pub(crate) fn read_reply_params(
     cursor: &mut Cursor<'_>,
     code: CommandCode,
     handles: &[u32],
-) -> Result<ReplyBody, Refusal>
-    ensures { TakesNumbered (λ r. r) (reply_parameters code handles.now) cursor.old cursor.new result }
+    body: &mut ReplyBody,
+) -> Result<(), Refusal>
+    ensures { TakesNumbered (λ _. body.new) (reply_parameters code handles.now) cursor.old cursor.new result }
 {
     match code {
-        CommandCode::NvUndefineSpace => Ok(ReplyBody::NvUndefineSpace),
-        CommandCode::NvDefineSpace => Ok(ReplyBody::NvDefineSpace),
-        CommandCode::NvIncrement => Ok(ReplyBody::NvIncrement),
-        CommandCode::PcrReset => Ok(ReplyBody::PcrReset),
-        CommandCode::Startup => Ok(ReplyBody::Startup),
-        CommandCode::NvRead => take_nv_read(cursor),
-        CommandCode::FlushContext => Ok(ReplyBody::FlushContext),
-        CommandCode::NvReadPublic => take_nv_read_public(cursor),
-        CommandCode::PolicyAuthValue => Ok(ReplyBody::PolicyAuthValue),
-        CommandCode::PolicyCommandCode => Ok(ReplyBody::PolicyCommandCode),
-        CommandCode::PolicyOr => Ok(ReplyBody::PolicyOr),
-        CommandCode::StartAuthSession => take_start_auth_session(cursor, handles),
-        CommandCode::PcrRead => take_pcr_read(cursor),
-        CommandCode::PolicyPcr => Ok(ReplyBody::PolicyPcr),
-        CommandCode::PolicyRestart => Ok(ReplyBody::PolicyRestart),
-        CommandCode::PcrExtend => Ok(ReplyBody::PcrExtend),
-        CommandCode::PolicyGetDigest => take_policy_get_digest(cursor),
+        CommandCode::NvUndefineSpace => *body = ReplyBody::NvUndefineSpace,
+        CommandCode::NvDefineSpace => *body = ReplyBody::NvDefineSpace,
+        CommandCode::NvIncrement => *body = ReplyBody::NvIncrement,
+        CommandCode::PcrReset => *body = ReplyBody::PcrReset,
+        CommandCode::Startup => *body = ReplyBody::Startup,
+        CommandCode::NvRead => read_nv_read(cursor, body)?,
+        CommandCode::FlushContext => *body = ReplyBody::FlushContext,
+        CommandCode::NvReadPublic => read_nv_read_public(cursor, body)?,
+        CommandCode::PolicyAuthValue => *body = ReplyBody::PolicyAuthValue,
+        CommandCode::PolicyCommandCode => *body = ReplyBody::PolicyCommandCode,
+        CommandCode::PolicyOr => *body = ReplyBody::PolicyOr,
+        CommandCode::StartAuthSession => read_start_auth_session(cursor, handles, body)?,
+        CommandCode::PcrRead => read_pcr_read(cursor, body)?,
+        CommandCode::PolicyPcr => *body = ReplyBody::PolicyPcr,
+        CommandCode::PolicyRestart => *body = ReplyBody::PolicyRestart,
+        CommandCode::PcrExtend => *body = ReplyBody::PcrExtend,
+        CommandCode::PolicyGetDigest => read_policy_get_digest(cursor, body)?,
     }
+    Ok(())
 }

@@ -10,7 +10,7 @@ ghost use Rattle.tpm_buffer.specs.Areas.{head_and_rest, IsHandled, HasHandles, I
 
 use crate::code::CommandCode;
 use crate::command::Header;
-use crate::front::{long_fault, take_authorization, take_header};
+use crate::front::{long_fault, read_authorization, take_header};
 use crate::handles::take_handles;
 use arrayvec::ArrayVec;
 use tpm_types::Auth;
@@ -131,7 +131,8 @@ fn behind_handles(handled: Handled<'_>) -> Result<Areas<'_>, Refusal>
     let header = handled.header;
     let handles = handled.handles;
     let mut cursor = handled.cursor;
-    let auths = take_authorization(&mut cursor, header.tag)?;
+    let mut auths = ArrayVec::new();
+    read_authorization(&mut cursor, header.tag, &mut auths)?;
     let params_at = cursor.at();
     let params = cursor.remaining();
     Ok(Areas {

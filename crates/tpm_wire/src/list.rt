@@ -1,6 +1,6 @@
 //! Entries one after the other.
 
-ghost use Rattle.std.specs.Prelude.{◌≡◌, ◌-◌, min, ℕ, ◌+◌, ◌*◌, ◌≤◌, ◌<◌, ◌^◌, ◌++◌, length, true, false, All, IfOk};
+ghost use Rattle.std.specs.Prelude.{◌≡◌, ◌-◌, min, ℕ, ◌+◌, ◌*◌, ◌≤◌, ◌<◌, ◌^◌, ◌++◌, length, true, false, All, IfOk, OnOk};
 ghost use Rattle.tpm_wire.specs.Layout.Form.{list};
 ghost use Rattle.tpm_wire.specs.Buffers.{TakesAs, TakesNumbered, numbered};
 ghost use Rattle.tpm_wire.specs.Spelling.{spelling, IsSpelled, joined_all};
@@ -41,11 +41,29 @@ pub fn take_rest<T: Wire + Default + Drop, const N: usize>(
     ensures few { IfOk result (λ v. length v.items ≤ most) }
 {
     let mut entries = ArrayVec::new();
+    read_rest(cursor, most, first, &mut entries)?;
+    Ok(entries)
+}
+
+/// As `take_rest`, in the place of the entries that were there. After a fault the entries are those before it.
+pub fn read_rest<T: Wire + Default + Drop, const N: usize>(
+    cursor: &mut Cursor<'_>,
+    most: usize,
+    first: u32,
+    entries: &mut ArrayVec<T, N>,
+) -> Result<(), Refusal>
+    requires room { most ≤ N }
+    requires numbers { first + 0x100 * most ≤ 0xF40 }
+    ensures reads { TakesNumbered (λ _. entries.new.items) (list most true (λ before. numbered (first + 0x100 * length before) T.layout)) cursor.old cursor.new result }
+    ensures spelled { OnOk result (cursor.old.here.rest ≡ joined_all T.layout entries.new.items ++ cursor.new.here.rest) }
+    ensures few { OnOk result (length entries.new.items ≤ most) }
+{
+    entries.clear();
     while cursor.left() > 0 && entries.len() < most {
         cursor.number(first + 0x100 * entries.len() as u32);
         entries.push(T::take(cursor)?);
     }
-    Ok(entries)
+    Ok(())
 }
 
 /// Each of the entries has a spelling.

@@ -5,7 +5,7 @@ use Rattle.tpm_buffer.specs.Commands.{command}
 use Rattle.tpm_buffer.proofs.decode.decode_command.Goals as goal
 
 pub returns-clause-ok : goal.returns-clause-ok
-returns-clause-ok c = answers_value buffer buffer_sound command c.args.bytes.now c.decode.result c.decode.ensures.reads
+returns-clause-ok c = answers_value buffer buffer_sound command c.args.bytes.now c.decode.new.answer c.decode.ensures.reads
 
 pub returns-clause-err : goal.returns-clause-err
-returns-clause-err c = answers_fault buffer buffer_sound command c.args.bytes.now c.decode.result c.decode.ensures.reads
+returns-clause-err c = answers_fault buffer buffer_sound command c.args.bytes.now c.decode.new.answer c.decode.ensures.reads

@@ -17,5 +17,5 @@ spelled bytes r c is text s =
 
 pub returns : goal.returns
 returns c value s t =
-    spelled c.args.a.now c.decode-one.result value c.decode-one.ensures.reads c.decode-one.ensures.spelled s
-    ∙ sym (spelled c.args.b.now c.decode-other.result value c.decode-other.ensures.reads c.decode-other.ensures.spelled t)
+    spelled c.args.a.now c.decode.new.answer value c.decode.ensures.reads c.decode.ensures.spelled s
+    ∙ sym (spelled c.args.b.now c.decode-2.new.answer value c.decode-2.ensures.reads c.decode-2.ensures.spelled t)
