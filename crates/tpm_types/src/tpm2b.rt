@@ -87,6 +87,15 @@ impl Wire for Digest {
             bytes: Bounded::take(cursor)?,
         })
     }
+
+    fn read(&mut self, cursor: &mut Cursor<'_>) -> Result<(), Refusal>
+    where
+        Self: Drop,
+    {
+        let read = self.bytes.read(cursor);
+        let _bytes = self.bytes.as_slice();
+        read
+    }
 }
 
 /// The Name of an entity, TPM2B_NAME: the number of a hash and a digest, or 4 bytes of a handle.

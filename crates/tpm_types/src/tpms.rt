@@ -63,14 +63,26 @@ impl Wire for Selection {
     }
 
     fn take(cursor: &mut Cursor<'_>) -> Result<Self, Refusal> {
-        let hash = Alg::take(cursor)?;
+        let mut found = Selection::default();
+        found.read(cursor)?;
+        Ok(found)
+    }
+
+    fn read(&mut self, cursor: &mut Cursor<'_>) -> Result<(), Refusal>
+    where
+        Self: Drop,
+    {
+        self.hash = Alg::take(cursor)?;
         let refusal = cursor.refusal(VALUE);
         let size = u8::take(cursor)? as usize;
         if size != SELECT_BYTES {
             return Err(refusal);
         }
         match cursor.array() {
-            Some(select) => Ok(Selection { hash, select }),
+            Some(select) => {
+                self.select = select;
+                Ok(())
+            }
             None => Err(cursor.refusal(INSUFFICIENT)),
         }
     }

@@ -22,7 +22,9 @@ pub fn take_list<T: Wire + Default + Drop, const N: usize>(
 {
     let mut entries = ArrayVec::new();
     for _ in 0..count {
-        entries.push(T::take(cursor)?);
+        let last = entries.len();
+        entries.push(T::default());
+        entries.as_mut_slice()[last].read(cursor)?;
     }
     Ok(entries)
 }
