@@ -10,7 +10,7 @@ use Rattle.tpm_wire.proofs.Agreement.{ends_same}
 use Rattle.tpm_wire.proofs.Whole.{reads_its_path}
 use Rattle.tpm_buffer.specs.declared.stages.Headed.{Headed}
 use Rattle.tpm_buffer.specs.declared.stages.Handled.{Handled}
-use Rattle.tpm_buffer.specs.declared.stages.Areas.{Areas}
+use Rattle.tpm_buffer.specs.declared.command_areas.Areas.{Areas}
 use Rattle.tpm_buffer.specs.Handles.{handles}
 use Rattle.tpm_buffer.specs.Commands.{authorization, before_params}
 use Rattle.tpm_buffer.specs.Areas.{IsHandled, HasHandles, params_here, IsAreas, HasAreas, areas_view}

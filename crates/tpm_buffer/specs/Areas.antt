@@ -7,7 +7,7 @@ use Rattle.tpm_wire.specs.Path.{Begins, FaultFrom}
 use Rattle.tpm_buffer.specs.declared.command.Header.{Header}
 use Rattle.tpm_buffer.specs.declared.stages.Headed.{Headed}
 use Rattle.tpm_buffer.specs.declared.stages.Handled.{Handled}
-use Rattle.tpm_buffer.specs.declared.stages.Areas.{Areas}
+use Rattle.tpm_buffer.specs.declared.command_areas.Areas.{Areas}
 use Rattle.tpm_buffer.specs.declared.reply_stages.ReplyAreas.{ReplyAreas}
 use Rattle.tpm_buffer.specs.Responses.{ReplyCut}
 use Rattle.tpm_buffer.specs.Handles.{handles}

@@ -8,8 +8,9 @@ ghost use Rattle.tpm_buffer.specs.Responses.{reply_cut};
 ghost use Rattle.tpm_buffer.specs.Areas.{areas_view, reply_view};
 
 use crate::code::CommandCode;
+use crate::command_areas::Areas;
 use crate::reply_stages::{ReplyAreas, read_areas as read_reply_areas};
-use crate::stages::{Areas, read_areas};
+use crate::stages::read_areas;
 use tpm_wire::Refusal;
 
 /// The header, the handles and the sessions, and the parameters as they came, or the first fault before the

@@ -59,6 +59,7 @@ fn read_bytes(bytes: &[u8], decoded: &mut Command) -> Result<(), Refusal>
 }
 
 // The answer is made in the caller's place, so that its many bytes are not moved from function to function.
+#[inline(never)]
 fn decode(bytes: &[u8], answer: &mut Result<Command, Refusal>)
     ensures reads { answer.new ≡ read_all command bytes.now }
     ensures spelled { IfOk answer.new (λ c. bytes.now ≡ spelling command c) }
@@ -75,7 +76,6 @@ fn decode(bytes: &[u8], answer: &mut Result<Command, Refusal>)
 }
 
 /// The command that the bytes spell, all of them, or the response code and the position of their first fault.
-#[inline(never)]
 pub fn decode_command(bytes: &[u8]) -> Result<Command, Refusal>
     ensures ok { (c : CommandOf) → (result ≡ Ok c) ↔ Spells command c bytes.now }
     ensures err { (e : RefusalOf) → (result ≡ Err e) ↔ Fault command bytes.now e }

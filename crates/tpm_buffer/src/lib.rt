@@ -3,6 +3,7 @@
 
 mod code;
 mod command;
+mod command_areas;
 mod cuts;
 mod decode;
 mod encode;
@@ -22,6 +23,7 @@ mod stream_laws;
 
 pub use code::CommandCode;
 pub use command::{Command, CommandBody, Header, StartAuth};
+pub use command_areas::Areas;
 pub use cuts::{areas, reply_areas};
 pub use decode::{decode_command, one_spelling};
 pub use encode::encode_command;
@@ -37,5 +39,5 @@ pub use reply_decode::{RSP_COMMAND, decode_response};
 pub use reply_encode::{encode_response, put_code, put_reply};
 pub use reply_stages::ReplyAreas;
 pub use response::{ErrorCode, NvData, ReplyBody, Response, StartReply};
-pub use stages::{Areas, Handled, Headed, header};
+pub use stages::{Handled, Headed, header};
 pub use stream_laws::{broken_for_ever, frames_of_a_stream, frames_of_pieces, frames_read};

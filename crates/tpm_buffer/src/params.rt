@@ -3,7 +3,7 @@
 ghost use Rattle.std.specs.Prelude.{◌≡◌, ◌≤◌, ◌<◌, ◌^◌, length, ◌++◌, IfOk, OnOk, IsErr};
 ghost use Rattle.tpm_wire.specs.Spelling.{spelling};
 ghost use Rattle.tpm_wire.specs.Path.{Decodes};
-ghost use Rattle.tpm_wire.specs.Reading.{read_all};
+ghost use Rattle.tpm_wire.specs.Reading.{read_all, Gives};
 ghost use Rattle.tpm_wire.specs.Buffers.{TakesNumbered};
 ghost use Rattle.tpm_buffer.specs.declared.code.CommandCode.TheVariants as codes;
 ghost use Rattle.tpm_buffer.specs.Parameters.{parameters, params_code, startup, nv_define_space, nv_read, flush_context, policy_command_code, policy_or, start_auth_session, pcr_read, policy_pcr, pcr_extend};
@@ -230,21 +230,20 @@ pub(crate) fn read_params(
     Ok(())
 }
 
-fn decode(code: CommandCode, bytes: &[u8]) -> Result<Params, Refusal>
+fn read_bytes(code: CommandCode, bytes: &[u8], params: &mut Params) -> Result<(), Refusal>
     requires { length bytes.now < 2 ^ 32 }
-    ensures reads { result ≡ read_all (parameters code) bytes.now }
-    ensures code { IfOk result (λ p. params_code p ≡ code) }
+    ensures reads { Gives (λ _. params.new) (read_all (parameters code) bytes.now) result }
+    ensures code { OnOk result (params_code params.new ≡ code) }
 {
     let mut cursor = Cursor::new(bytes);
-    let mut params = Params::PolicyRestart;
-    read_params(&mut cursor, code, &mut params)?;
+    read_params(&mut cursor, code, params)?;
     if cursor.left() > 0 {
         return Err(Refusal {
             code: SIZE,
             at: cursor.at(),
         });
     }
-    Ok(params)
+    Ok(())
 }
 
 // No command has so many bytes of parameters: where none of them is refused, bytes are left over.
@@ -262,6 +261,25 @@ fn long_fault(code: CommandCode, bytes: &[u8]) -> Refusal
     }
 }
 
+// The answer is made in the caller's place.
+#[inline(never)]
+fn decode(code: CommandCode, bytes: &[u8], answer: &mut Result<Params, Refusal>)
+    ensures reads { length bytes.now < 2 ^ 32 → answer.new ≡ read_all (parameters code) bytes.now }
+    ensures code { IfOk answer.new (λ p. params_code p ≡ code) }
+    ensures long { 2 ^ 32 ≤ length bytes.now → IsErr answer.new }
+{
+    if bytes.len() > u32::MAX as usize {
+        *answer = Err(long_fault(code, bytes));
+        return;
+    }
+    *answer = Ok(Params::PolicyRestart);
+    if let Ok(params) = answer {
+        if let Err(refusal) = read_bytes(code, bytes, params) {
+            *answer = Err(refusal);
+        }
+    }
+}
+
 /// The parameters that the bytes spell, all of them, or the code and the position of their first fault, counted from
 /// the first of these bytes: INSUFFICIENT, VALUE, SIZE, HASH, SYMMETRIC, MODE or RESERVED_BITS with the parameter's
 /// number, or SIZE for bytes left over. A slice of 4 GiB or more, where a position need not fit 32 bits, is refused;
@@ -272,8 +290,7 @@ pub fn decode_params(code: CommandCode, bytes: &[u8]) -> Result<Params, Refusal>
     ensures code { IfOk result (λ p. params_code p ≡ code) }
     ensures long { 2 ^ 32 ≤ length bytes.now → IsErr result }
 {
-    if bytes.len() > u32::MAX as usize {
-        return Err(long_fault(code, bytes));
-    }
-    decode(code, bytes)
+    let mut answer = Err(Refusal { code: SIZE, at: 0 });
+    decode(code, bytes, &mut answer);
+    answer
 }

@@ -244,6 +244,7 @@ fn read_bytes(
 }
 
 // The answer is made in the caller's place, so that its many bytes are not moved from function to function.
+#[inline(never)]
 fn decode(code: CommandCode, bytes: &[u8], answer: &mut Result<Response, Refusal>)
     ensures { answer.new ≡ read_all (response code) bytes.now }
 {
@@ -264,7 +265,6 @@ fn decode(code: CommandCode, bytes: &[u8], answer: &mut Result<Response, Refusal
 
 /// The response to a command with this code that the bytes spell, all of them, or the response code and the position
 /// of their first fault.
-#[inline(never)]
 pub fn decode_response(code: CommandCode, bytes: &[u8]) -> Result<Response, Refusal>
     ensures ok { (r : ResponseOf) → (result ≡ Ok r) ↔ Spells (response code) r bytes.now }
     ensures err { (e : RefusalOf) → (result ≡ Err e) ↔ Fault (response code) bytes.now e }

@@ -10,10 +10,10 @@ ghost use Rattle.tpm_buffer.specs.Areas.{head_and_rest, IsHandled, HasHandles, I
 
 use crate::code::CommandCode;
 use crate::command::Header;
+use crate::command_areas::Areas;
 use crate::front::{long_fault, read_authorization, take_header};
 use crate::handles::take_handles;
 use arrayvec::ArrayVec;
-use tpm_types::Auth;
 use tpm_wire::{Cursor, Refusal};
 
 /// A command whose header was read.
@@ -29,16 +29,6 @@ pub struct Handled<'a> {
     header: Header,
     handles: ArrayVec<u32, 2>,
     cursor: Cursor<'a>,
-}
-
-/// A command whose header, handles and sessions were read, with its parameters as they came.
-#[derive(Drop)]
-pub struct Areas<'a> {
-    header: Header,
-    handles: ArrayVec<u32, 2>,
-    auths: ArrayVec<Auth, 3>,
-    params: &'a [u8],
-    params_at: u32,
 }
 
 fn short_header(bytes: &[u8]) -> Result<Headed<'_>, Refusal>
@@ -114,70 +104,40 @@ impl<'a> Handled<'a> {
 
     /// Reads the sessions, or answers the authorization area's first fault: INSUFFICIENT, AUTHSIZE, or one of a
     /// session with the session's number. The parameters are not judged.
-    #[inline(never)]
     pub fn areas(self) -> Result<Areas<'a>, Refusal>
         ensures decodes { HasAreas self.entry result }
         ensures reads { IsAreas self.entry result }
         ensures short { IfOk result (λ a. length a.params.now < 2 ^ 32) }
     {
-        behind_handles(self)
+        let mut answer = Err(Refusal { code: 0, at: 0 });
+        read_behind(self, &mut answer);
+        answer
     }
 }
 
-fn behind_handles(handled: Handled<'_>) -> Result<Areas<'_>, Refusal>
-    ensures reads { IsAreas handled.entry result }
-    ensures short { IfOk result (λ a. length a.params.now < 2 ^ 32) }
+// The answer is made in the caller's place.
+#[inline(never)]
+fn read_behind<'a>(handled: Handled<'a>, answer: &mut Result<Areas<'a>, Refusal>)
+    ensures reads { IsAreas handled.entry answer.new }
+    ensures short { IfOk answer.new (λ a. length a.params.now < 2 ^ 32) }
 {
     let header = handled.header;
-    let handles = handled.handles;
     let mut cursor = handled.cursor;
-    let mut auths = ArrayVec::new();
-    read_authorization(&mut cursor, header.tag, &mut auths)?;
-    let params_at = cursor.at();
-    let params = cursor.remaining();
-    Ok(Areas {
+    *answer = Ok(Areas {
         header,
-        handles,
-        auths,
-        params,
-        params_at,
-    })
-}
-
-impl<'a> Areas<'a> {
-    /// The command's code.
-    pub fn code(&self) -> CommandCode
-        ensures { result ≡ self.now.header.code }
-    {
-        self.header.code
-    }
-
-    /// The numbers of the handles, 0 to 2.
-    pub fn handles(&self) -> &[u32]
-        ensures { result.now ≡ self.now.handles.items }
-    {
-        self.handles.as_slice()
-    }
-
-    /// The sessions, 0 to 3.
-    pub fn auths(&self) -> &[Auth]
-        ensures { result.now ≡ self.now.auths.items }
-    {
-        self.auths.as_slice()
-    }
-
-    /// The parameters as they came, a part of the input: they are not judged yet.
-    pub fn params(&self) -> &'a [u8]
-        ensures { result.now ≡ self.now.params.now }
-    {
-        self.params
-    }
-
-    /// How many bytes of the input are before the parameters.
-    pub fn params_at(&self) -> u32
-        ensures { result ≡ self.now.params_at }
-    {
-        self.params_at
+        handles: handled.handles,
+        auths: ArrayVec::new(),
+        params: &[],
+        params_at: 0,
+    });
+    if let Ok(areas) = answer {
+        match read_authorization(&mut cursor, header.tag, &mut areas.auths) {
+            Ok(()) => {
+                areas.params_at = cursor.at();
+                areas.params = cursor.remaining();
+            }
+            Err(refusal) => *answer = Err(refusal),
+        }
     }
 }
 

@@ -13,7 +13,7 @@ use Rattle.tpm_buffer.specs.declared.params.Params.{Params}
 use Rattle.tpm_buffer.specs.declared.response.ReplyBody.{ReplyBody}
 use Rattle.tpm_buffer.specs.declared.stages.Headed.{Headed}
 use Rattle.tpm_buffer.specs.declared.stages.Handled.{Handled}
-use Rattle.tpm_buffer.specs.declared.stages.Areas.{Areas}
+use Rattle.tpm_buffer.specs.declared.command_areas.Areas.{Areas}
 use Rattle.tpm_buffer.specs.Areas.{head_and_rest, IsHandled, IsAreas}
 use Rattle.tpm_buffer.specs.Handles.{first}
 use Rattle.tpm_buffer.specs.Parameters.{parameters}

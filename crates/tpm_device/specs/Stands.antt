@@ -4,7 +4,7 @@ use Rattle.tpm_wire.specs.Reading.{◌>>=◌}
 use Rattle.tpm_wire.specs.Spelling.{spelling}
 use Rattle.tpm_types.specs.declared.tpms.AuthReply.{AuthReply}
 use Rattle.tpm_buffer.specs.declared.stages.Handled.{Handled}
-use Rattle.tpm_buffer.specs.declared.stages.Areas.{Areas}
+use Rattle.tpm_buffer.specs.declared.command_areas.Areas.{Areas}
 use Rattle.tpm_buffer.specs.declared.response.ReplyBody.{ReplyBody}
 use Rattle.tpm_buffer.specs.Handles.{first}
 use Rattle.tpm_buffer.specs.Commands.{authorization}

@@ -4,7 +4,7 @@ use Rattle.tpm_wire.specs.declared.refusal.Refusal.{Refusal}
 use Rattle.tpm_wire.specs.Layout.{cut}
 use Rattle.tpm_wire.specs.Path.{Decodes, Fault, Spells}
 use Rattle.tpm_buffer.specs.declared.command.Command.{Command}
-use Rattle.tpm_buffer.specs.declared.stages.Areas.{Areas}
+use Rattle.tpm_buffer.specs.declared.command_areas.Areas.{Areas}
 use Rattle.tpm_buffer.specs.Areas.{areas_view}
 use Rattle.tpm_buffer.specs.Commands.{before_params, command}
 use Rattle.tpm_tool.specs.Show.{HasAreas}

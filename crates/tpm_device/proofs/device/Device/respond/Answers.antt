@@ -1,6 +1,6 @@
 use Rattle.std.proofs.Common.{rules, ◌≡◌, ◌∙◌, Result, Err, sym, ap, subst}
 use Rattle.tpm_wire.specs.declared.refusal.Refusal.{Refusal}
-use Rattle.tpm_buffer.specs.declared.stages.Areas.{Areas}
+use Rattle.tpm_buffer.specs.declared.command_areas.Areas.{Areas}
 use Rattle.tpm_buffer.specs.Areas.{IsAreas}
 use Rattle.tpm_model.specs.Steps.{History}
 use Rattle.tpm_model.specs.Answers.{presented, with_outcome}
