@@ -13,6 +13,11 @@ use Rattle.tpm_buffer.specs.Responses.{ReplyCut}
 use Rattle.tpm_buffer.specs.Handles.{handles}
 use Rattle.tpm_buffer.specs.Commands.{authorization, Checked}
 
+-- what was read into a place, or the fault
+abbrev pub placed : {A : Type 0} → A → Result (Unit {0}) Refusal → Result A Refusal
+placed x (Ok u) = Ok x
+placed x (Err e) = Err e
+
 -- the header, and the place behind it
 abbrev pub head_and_rest : Headed → Header × Here
 head_and_rest x = (x.header, x.cursor.here)

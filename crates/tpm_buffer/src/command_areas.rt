@@ -4,6 +4,7 @@ ghost use Rattle.std.specs.Prelude.{◌≡◌};
 
 use crate::code::CommandCode;
 use crate::command::Header;
+use crate::front::NO_SESSIONS;
 use arrayvec::ArrayVec;
 use tpm_types::Auth;
 
@@ -15,6 +16,23 @@ pub struct Areas<'a> {
     pub(crate) auths: ArrayVec<Auth, 3>,
     pub(crate) params: &'a [u8],
     pub(crate) params_at: u32,
+}
+
+/// TPM2_Startup without parameters: a place to read other areas into.
+impl<'a> Default for Areas<'a> {
+    fn default() -> Self {
+        Areas {
+            header: Header {
+                tag: NO_SESSIONS,
+                size: 0,
+                code: CommandCode::Startup,
+            },
+            handles: ArrayVec::new(),
+            auths: ArrayVec::new(),
+            params: &[],
+            params_at: 0,
+        }
+    }
 }
 
 impl<'a> Areas<'a> {

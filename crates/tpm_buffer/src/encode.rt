@@ -325,7 +325,7 @@ fn put_command(tag: u16, len: usize, command: &Command, out: &mut Buffer)
     put_rest(tag, command, out);
 }
 
-// The bytes that spell it, into an empty buffer. It is out of line since a function pays for each place of a buffer in it.
+// The bytes that spell it, into an empty buffer. It is out of line, so that `encode_command` is small, and its buffer the caller's.
 #[inline(never)]
 fn spell(command: &Command, out: &mut Buffer)
     requires { length out.old.items ≡ 0 }
@@ -338,7 +338,6 @@ fn spell(command: &Command, out: &mut Buffer)
 }
 
 /// The bytes that spell the command: 10 to 4,096 of them, under tag 0x8001 where it has no sessions and 0x8002 else.
-#[inline(never)]
 pub fn encode_command(command: &Command) -> Buffer
     ensures { Spells command_layout command.now result.items }
 {

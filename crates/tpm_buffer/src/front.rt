@@ -62,6 +62,7 @@ pub(crate) fn take_size(cursor: &mut Cursor<'_>) -> Result<u32, Refusal>
 }
 
 #[tactic(auto, unfolding(crate::specs::Codes::command_code))]
+#[inline(always)]
 fn take_code(cursor: &mut Cursor<'_>) -> Result<CommandCode, Refusal>
     ensures reads { Takes command_code cursor.old cursor.new result }
     ensures spelled { IfOk result (λ x. cursor.old.here.rest ≡ spelling command_code x ++ cursor.new.here.rest) }
@@ -71,6 +72,7 @@ fn take_code(cursor: &mut Cursor<'_>) -> Result<CommandCode, Refusal>
 }
 
 #[tactic(auto, unfolding(crate::specs::Commands::header))]
+#[inline(always)]
 pub(crate) fn take_header(cursor: &mut Cursor<'_>) -> Result<Header, Refusal>
     requires { cursor.old.number ≡ 0 }
     ensures reads { TakesNumbered (λ h. h) header cursor.old cursor.new result }

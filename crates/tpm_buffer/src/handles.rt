@@ -59,6 +59,7 @@ impl HandleKind {
     }
 }
 
+#[inline(always)]
 fn take_kinds(cursor: &mut Cursor<'_>, kinds: &[HandleKind]) -> Result<ArrayVec<u32, 2>, Refusal>
     requires { length kinds.now ≤ 2 }
     ensures reads { TakesNumbered (λ v. v.items) (handles_from 1 kinds.now) cursor.old cursor.new result }
@@ -81,6 +82,7 @@ fn take_kinds(cursor: &mut Cursor<'_>, kinds: &[HandleKind]) -> Result<ArrayVec<
 }
 
 /// The handles of a command with this code.
+#[inline(always)]
 pub(crate) fn take_handles(
     cursor: &mut Cursor<'_>,
     code: CommandCode,

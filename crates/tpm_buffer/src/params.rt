@@ -6,6 +6,7 @@ ghost use Rattle.tpm_wire.specs.Path.{Decodes};
 ghost use Rattle.tpm_wire.specs.Reading.{read_all, Gives};
 ghost use Rattle.tpm_wire.specs.Buffers.{TakesNumbered};
 ghost use Rattle.tpm_buffer.specs.declared.code.CommandCode.TheVariants as codes;
+ghost use Rattle.tpm_buffer.specs.Areas.{placed};
 ghost use Rattle.tpm_buffer.specs.Parameters.{parameters, params_code, startup, nv_define_space, nv_read, flush_context, policy_command_code, policy_or, start_auth_session, pcr_read, policy_pcr, pcr_extend};
 
 use crate::code::CommandCode;
@@ -156,7 +157,7 @@ fn read_start_auth_session(cursor: &mut Cursor<'_>, params: &mut Params) -> Resu
 }
 
 #[tactic(auto, unfolding(crate::specs::Parameters::pcr_read))]
-#[inline(never)]
+#[inline(always)]
 fn read_pcr_read(cursor: &mut Cursor<'_>, params: &mut Params) -> Result<(), Refusal>
     ensures reads { TakesNumbered (λ _. params.new) pcr_read cursor.old cursor.new result }
     ensures spelled { OnOk result (cursor.old.here.rest ≡ spelling pcr_read params.new ++ cursor.new.here.rest) }
@@ -186,15 +187,18 @@ fn read_policy_pcr(cursor: &mut Cursor<'_>, params: &mut Params) -> Result<(), R
 }
 
 #[tactic(auto, unfolding(crate::specs::Parameters::pcr_extend))]
-#[inline(never)]
+#[inline(always)]
 fn read_pcr_extend(cursor: &mut Cursor<'_>, params: &mut Params) -> Result<(), Refusal>
     ensures reads { TakesNumbered (λ _. params.new) pcr_extend cursor.old cursor.new result }
     ensures spelled { OnOk result (cursor.old.here.rest ≡ spelling pcr_extend params.new ++ cursor.new.here.rest) }
     ensures code { OnOk result (params_code params.new ≡ codes.PcrExtend) }
 {
     cursor.number(0x140);
-    *params = Params::PcrExtend(DigestValues::take(cursor)?);
-    Ok(())
+    *params = Params::PcrExtend(DigestValues::default());
+    match params {
+        Params::PcrExtend(digests) => digests.read(cursor),
+        _ => unreachable!(),
+    }
 }
 
 /// Reads the parameters of a command with this code.
@@ -261,25 +265,6 @@ fn long_fault(code: CommandCode, bytes: &[u8]) -> Refusal
     }
 }
 
-// The answer is made in the caller's place.
-#[inline(never)]
-fn decode(code: CommandCode, bytes: &[u8], answer: &mut Result<Params, Refusal>)
-    ensures reads { length bytes.now < 2 ^ 32 → answer.new ≡ read_all (parameters code) bytes.now }
-    ensures code { IfOk answer.new (λ p. params_code p ≡ code) }
-    ensures long { 2 ^ 32 ≤ length bytes.now → IsErr answer.new }
-{
-    if bytes.len() > u32::MAX as usize {
-        *answer = Err(long_fault(code, bytes));
-        return;
-    }
-    *answer = Ok(Params::PolicyRestart);
-    if let Ok(params) = answer {
-        if let Err(refusal) = read_bytes(code, bytes, params) {
-            *answer = Err(refusal);
-        }
-    }
-}
-
 /// The parameters that the bytes spell, all of them, or the code and the position of their first fault, counted from
 /// the first of these bytes: INSUFFICIENT, VALUE, SIZE, HASH, SYMMETRIC, MODE or RESERVED_BITS with the parameter's
 /// number, or SIZE for bytes left over. A slice of 4 GiB or more, where a position need not fit 32 bits, is refused;
@@ -290,7 +275,24 @@ pub fn decode_params(code: CommandCode, bytes: &[u8]) -> Result<Params, Refusal>
     ensures code { IfOk result (λ p. params_code p ≡ code) }
     ensures long { 2 ^ 32 ≤ length bytes.now → IsErr result }
 {
-    let mut answer = Err(Refusal { code: SIZE, at: 0 });
-    decode(code, bytes, &mut answer);
-    answer
+    let mut params = Params::PolicyRestart;
+    decode_params_into(code, bytes, &mut params)?;
+    Ok(params)
+}
+
+/// As `decode_params`, in the place of other parameters. Which are there after a fault is not said.
+pub fn decode_params_into(
+    code: CommandCode,
+    bytes: &[u8],
+    params: &mut Params,
+) -> Result<(), Refusal>
+    ensures decodes { length bytes.now < 2 ^ 32 → Decodes (parameters code) (λ p. p) bytes.now (placed params.new result) }
+    ensures reads { length bytes.now < 2 ^ 32 → placed params.new result ≡ read_all (parameters code) bytes.now }
+    ensures code { OnOk result (params_code params.new ≡ code) }
+    ensures long { 2 ^ 32 ≤ length bytes.now → IsErr result }
+{
+    if bytes.len() > u32::MAX as usize {
+        return Err(long_fault(code, bytes));
+    }
+    read_bytes(code, bytes, params)
 }

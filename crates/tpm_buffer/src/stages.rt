@@ -1,12 +1,12 @@
 //! A command cut where its checks begin: the header, the handles, the authorization area, and the parameters as they came.
 
-ghost use Rattle.std.specs.Prelude.{◌≡◌, ◌≤◌, ◌<◌, ◌^◌, IfOk, length};
+ghost use Rattle.std.specs.Prelude.{◌≡◌, ◌≤◌, ◌<◌, ◌^◌, IfOk, OnOk, length};
 ghost use Rattle.tpm_wire.specs.Token.{at_start};
 ghost use Rattle.tpm_wire.specs.Layout.{cut};
 ghost use Rattle.tpm_wire.specs.Reading.{read, Gives};
 ghost use Rattle.tpm_wire.specs.Path.{Decodes};
 ghost use Rattle.tpm_buffer.specs.Commands.{header as header_layout, before_params};
-ghost use Rattle.tpm_buffer.specs.Areas.{head_and_rest, IsHandled, HasHandles, IsAreas, HasAreas, areas_view};
+ghost use Rattle.tpm_buffer.specs.Areas.{placed, head_and_rest, IsHandled, HasHandles, IsAreas, HasAreas, areas_view};
 
 use crate::code::CommandCode;
 use crate::command::Header;
@@ -109,36 +109,32 @@ impl<'a> Handled<'a> {
         ensures reads { IsAreas self.entry result }
         ensures short { IfOk result (λ a. length a.params.now < 2 ^ 32) }
     {
-        let mut answer = Err(Refusal { code: 0, at: 0 });
-        read_behind(self, &mut answer);
-        answer
+        let mut areas = Areas::default();
+        self.areas_into(&mut areas)?;
+        Ok(areas)
+    }
+
+    /// As `areas`, in the place of other areas. Which are there after a fault is not said.
+    pub fn areas_into(self, areas: &mut Areas<'a>) -> Result<(), Refusal>
+        ensures decodes { HasAreas self.entry (placed areas.new result) }
+        ensures reads { IsAreas self.entry (placed areas.new result) }
+        ensures short { OnOk result (length areas.new.params.now < 2 ^ 32) }
+    {
+        read_behind(self, areas)
     }
 }
 
-// The answer is made in the caller's place.
-#[inline(never)]
-fn read_behind<'a>(handled: Handled<'a>, answer: &mut Result<Areas<'a>, Refusal>)
-    ensures reads { IsAreas handled.entry answer.new }
-    ensures short { IfOk answer.new (λ a. length a.params.now < 2 ^ 32) }
+fn read_behind<'a>(handled: Handled<'a>, areas: &mut Areas<'a>) -> Result<(), Refusal>
+    ensures reads { IsAreas handled.entry (placed areas.new result) }
+    ensures short { OnOk result (length areas.new.params.now < 2 ^ 32) }
 {
-    let header = handled.header;
     let mut cursor = handled.cursor;
-    *answer = Ok(Areas {
-        header,
-        handles: handled.handles,
-        auths: ArrayVec::new(),
-        params: &[],
-        params_at: 0,
-    });
-    if let Ok(areas) = answer {
-        match read_authorization(&mut cursor, header.tag, &mut areas.auths) {
-            Ok(()) => {
-                areas.params_at = cursor.at();
-                areas.params = cursor.remaining();
-            }
-            Err(refusal) => *answer = Err(refusal),
-        }
-    }
+    areas.header = handled.header;
+    areas.handles = handled.handles;
+    read_authorization(&mut cursor, areas.header.tag, &mut areas.auths)?;
+    areas.params_at = cursor.at();
+    areas.params = cursor.remaining();
+    Ok(())
 }
 
 // The three in turn.

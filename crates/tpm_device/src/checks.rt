@@ -38,6 +38,7 @@ pub(crate) fn check_started(started: bool, code: CommandCode) -> Result<(), u32>
 }
 
 // No policy session is loaded and no index is defined.
+#[inline(always)]
 fn check_handle(number: u32, handle: u32) -> Result<(), u32>
     requires { number ≤ 2 }
     ensures { (p : Present) → ((k : ℕ) → p.session k ≡ None) → ((i : ℕ) → p.counter i ≡ None) → result ≡ handle_of p number handle }
@@ -52,6 +53,7 @@ fn check_handle(number: u32, handle: u32) -> Result<(), u32>
 }
 
 /// REFERENCE_H0 for the first handle that is a policy session, or HANDLE for one that is an index.
+#[inline(always)]
 pub(crate) fn check_handles(handles: &[u32]) -> Result<(), u32>
     requires { length handles.now ≤ 2 }
     ensures { (p : Present) → ((k : ℕ) → p.session k ≡ None) → ((i : ℕ) → p.counter i ≡ None) → result ≡ handles_of p 1 handles.now }

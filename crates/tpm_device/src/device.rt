@@ -26,12 +26,12 @@ use crate::checks::{check_first, check_handles, check_has, check_started, check_
 use crate::codes::{BAD_AUTH, PARAMETER_1, SESSION_1};
 use crate::handles::{first, register, register_or_null};
 use tpm_buffer::{
-    Areas, ErrorCode, Handled, Params, ReplyBody, decode_params, header, put_code, put_reply,
+    Areas, ErrorCode, Handled, Params, ReplyBody, decode_params_into, header, put_code, put_reply,
 };
 use tpm_hmac::{same, trim};
 use tpm_store::Registers;
 use tpm_types::{
-    Auth, AuthReply, AuthValue, DigestValues, PcrIndex, PcrOrNull, RH_OWNER, Selections,
+    Auth, AuthReply, AuthValue, DigestValues, Digests, PcrIndex, PcrOrNull, RH_OWNER, Selections,
     SessionAttrs, StartupType, VALUE,
 };
 use tpm_wire::{Buffer, Duplicate};
@@ -252,12 +252,19 @@ impl Device {
             Ok out.new.items ≡ replied (replies_of auths.now) (action (present o h) (bodies.PcrRead selections.now) n) }
         ensures done { code_in out.new.items ≡ 0 }
     {
-        let (selections, digests) = self.registers.select(selections);
-        let body = ReplyBody::PcrRead {
+        let mut body = ReplyBody::PcrRead {
             update_counter: self.registers.counter(),
-            selections,
-            digests,
+            selections: Selections::default(),
+            digests: Digests::default(),
         };
+        if let ReplyBody::PcrRead {
+            selections: read,
+            digests,
+            ..
+        } = &mut body
+        {
+            self.registers.select_into(selections, read, digests);
+        }
         put_done(&body, auths, out);
     }
 
@@ -313,8 +320,9 @@ impl Device {
         ensures done { OnOk result (code_in out.new.items ≡ 0) }
         ensures some { IfErr result (λ code. 0 < code) }
     {
-        match &decode_params(areas.code(), areas.params()) {
-            Ok(params) => self.act(areas.handles(), params, areas.auths(), out),
+        let mut params = Params::PolicyRestart;
+        match decode_params_into(areas.code(), areas.params(), &mut params) {
+            Ok(()) => self.act(areas.handles(), &params, areas.auths(), out),
             Err(refusal) => Err(refusal.code),
         }
     }
@@ -330,10 +338,11 @@ impl Device {
         ensures some { IfErr result (λ code. 0 < code) }
     {
         let handled = self.read_handles(bytes)?;
-        match &handled.areas() {
-            Ok(areas) => {
-                self.permit(areas)?;
-                self.perform(areas, out)
+        let mut areas = Areas::default();
+        match handled.areas_into(&mut areas) {
+            Ok(()) => {
+                self.permit(&areas)?;
+                self.perform(&areas, out)
             }
             Err(refusal) => Err(refusal.code),
         }

@@ -20,8 +20,8 @@ use crate::value::Value;
 use arrayvec::ArrayVec;
 use tpm_hmac::hash;
 use tpm_types::{
-    Alg, BANKS, DIGEST_BYTES, Digest, DigestValues, Digests, MOST_DIGESTS, PcrIndex, REGISTERS,
-    Selection, Selections,
+    Alg, BANKS, DIGEST_BYTES, Digest, DigestValues, Digests, PcrIndex, REGISTERS, Selection,
+    Selections,
 };
 
 /// LOCALITY: the register is not for commands from locality 0 (Part 2, 6.6.3).
@@ -56,24 +56,23 @@ fn started(alg: Alg) -> [Value; REGISTERS as usize]
     bank
 }
 
-// A value extended with a digest.
-fn extended_once(alg: Alg, old: &Value, digest: &Digest) -> Value
-    ensures { result ≡ digest_of alg (old.now ++ digest.now) }
+// Extends a value with a digest.
+fn extend_once(alg: Alg, value: &mut Value, digest: &Digest)
+    ensures { value.new ≡ digest_of alg (value.old ++ digest.now) }
 {
-    Value::new(hash(alg, &[old.as_slice(), digest.as_slice()]).as_slice())
+    let extended = hash(alg, &[value.as_slice(), digest.as_slice()]);
+    value.set(extended.as_slice());
 }
 
-// A value extended with the digests of its bank's hash, in their order.
-fn extended(alg: Alg, old: &Value, digests: &DigestValues) -> Value
-    ensures { result ≡ extended_of alg old.now (digests_for alg digests.now) }
+// Extends a value with the digests of its bank's hash, in their order.
+fn extend_value(alg: Alg, value: &mut Value, digests: &DigestValues)
+    ensures { value.new ≡ extended_of alg value.old (digests_for alg digests.now) }
 {
-    let mut value = *old;
     for entry in digests.as_slice() {
         if entry.0 == alg {
-            value = extended_once(alg, &value, &entry.1);
+            extend_once(alg, value, &entry.1);
         }
     }
-    value
 }
 
 fn is_for_dynamic_launch(register: u32) -> bool
@@ -101,16 +100,11 @@ fn is_selected(selection: &Selection, register: u32) -> bool
 
 // Reads the registers of this byte of a selection as long as there is room for their values, and answers the byte with the
 // bits of those that were read.
-fn read_byte(
-    bank: &[Value],
-    selection: &Selection,
-    byte: u32,
-    values: &mut ArrayVec<Digest, MOST_DIGESTS>,
-) -> u8
+fn read_byte(bank: &[Value], selection: &Selection, byte: u32, values: &mut Digests) -> u8
     requires bank { length bank.now ≡ registers }
     requires byte { byte < 3 }
-    ensures bits { result ≡ bits_of (chosen (length values.old.items) selection.now.select (registers_of byte)) }
-    ensures values { values.new.items ≡ values.old.items ++ values_of bank.now (chosen (length values.old.items) selection.now.select (registers_of byte)) }
+    ensures bits { result ≡ bits_of (chosen (length values.old) selection.now.select (registers_of byte)) }
+    ensures values { values.new ≡ values.old ++ values_of bank.now (chosen (length values.old) selection.now.select (registers_of byte)) }
 {
     if selection.select[byte as usize] == 0 {
         return 0;
@@ -128,14 +122,10 @@ fn read_byte(
 
 // Reads the registers of a selection as long as there is room for their values, and answers the selection of those that were
 // read.
-fn read_selected(
-    bank: &[Value],
-    selection: &Selection,
-    values: &mut ArrayVec<Digest, MOST_DIGESTS>,
-) -> Selection
+fn read_selected(bank: &[Value], selection: &Selection, values: &mut Digests) -> Selection
     requires { length bank.now ≡ registers }
-    ensures selection { result ≡ record { hash = selection.now.hash; select = select_of (first_of (length values.old.items) selection.now) } }
-    ensures values { values.new.items ≡ values.old.items ++ values_of bank.now (first_of (length values.old.items) selection.now) }
+    ensures selection { result ≡ record { hash = selection.now.hash; select = select_of (first_of (length values.old) selection.now) } }
+    ensures values { values.new ≡ values.old ++ values_of bank.now (first_of (length values.old) selection.now) }
 {
     let first = read_byte(bank, selection, 0, values);
     let second = read_byte(bank, selection, 1, values);
@@ -192,8 +182,8 @@ impl Registers {
             return Err(LOCALITY);
         }
         let at = number as usize;
-        self.sha1[at] = extended(Alg::Sha1, &self.sha1[at], digests);
-        self.sha256[at] = extended(Alg::Sha256, &self.sha256[at], digests);
+        extend_value(Alg::Sha1, &mut self.sha1[at], digests);
+        extend_value(Alg::Sha256, &mut self.sha256[at], digests);
         if !digests.as_slice().is_empty() {
             self.updates = raised(self.updates);
         }
@@ -240,20 +230,15 @@ impl Registers {
         }
     }
 
-    fn read_entries(
-        &self,
-        selections: &Selections,
-        values: &mut ArrayVec<Digest, MOST_DIGESTS>,
-    ) -> ArrayVec<Selection, BANKS>
-        requires { length values.old.items ≡ 0 }
-        ensures selections { result.items ≡ selections_read selections.now }
-        ensures values { values.new.items ≡ values_read (held self.now) selections.now }
+    fn read_entries(&self, selections: &Selections, read: &mut Selections, values: &mut Digests)
+        ensures selections { read.new ≡ selections_read selections.now }
+        ensures values { values.new ≡ values_read (held self.now) selections.now }
     {
-        let mut read: ArrayVec<Selection, BANKS> = ArrayVec::new();
+        read.clear();
+        values.clear();
         for selection in selections.as_slice() {
             read.push(read_selected(self.bank(selection.hash), selection, values));
         }
-        read
     }
 
     /// The values of the first eight of the selected registers, the entries in list order, in each rising by register, and
@@ -262,15 +247,17 @@ impl Registers {
     pub fn select(&self, selections: &Selections) -> (Selections, Digests)
         ensures { (h : History) → StandsRegisters h self.now → result ≡ (selections_read selections.now, values_read (register_value h) selections.now) }
     {
-        let mut values = ArrayVec::new();
-        let read = self.read_entries(selections, &mut values);
-        let Some(selections) = Selections::from_entries(read) else {
-            unreachable!()
-        };
-        let Some(digests) = Digests::from_entries(values) else {
-            unreachable!()
-        };
-        (selections, digests)
+        let mut read = Selections::default();
+        let mut values = Digests::default();
+        self.select_into(selections, &mut read, &mut values);
+        (read, values)
+    }
+
+    /// As `select`, in the places of another selection and other values.
+    pub fn select_into(&self, selections: &Selections, read: &mut Selections, values: &mut Digests)
+        ensures { (h : History) → StandsRegisters h self.now → (read.new ≡ selections_read selections.now) × (values.new ≡ values_read (register_value h) selections.now) }
+    {
+        self.read_entries(selections, read, values);
     }
 
     /// The digest under this hash of the values of all selected registers, joined: the entries in list order, in each rising

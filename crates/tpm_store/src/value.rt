@@ -40,12 +40,22 @@ impl Value {
         requires { length bytes.now ≤ digest_bytes }
         ensures { result ≡ bytes.now }
     {
-        let mut found = [0; DIGEST_BYTES];
-        found[..bytes.len()].copy_from_slice(bytes);
-        Value {
-            bytes: found,
-            len: bytes.len(),
-        }
+        let mut value = Value {
+            bytes: [0; DIGEST_BYTES],
+            len: 0,
+        };
+        value.set(bytes);
+        value
+    }
+
+    /// Makes it a value of these bytes.
+    pub(crate) fn set(&mut self, bytes: &[u8])
+        requires { length bytes.now ≤ digest_bytes }
+        ensures { self.new ≡ bytes.now }
+    {
+        self.bytes = [0; DIGEST_BYTES];
+        self.bytes[..bytes.len()].copy_from_slice(bytes);
+        self.len = bytes.len();
     }
 
     /// Its bytes.

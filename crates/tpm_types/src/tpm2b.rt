@@ -56,6 +56,14 @@ impl Digest {
         }
     }
 
+    /// Makes it the digest of these bytes.
+    pub(crate) fn set(&mut self, bytes: &[u8])
+        requires { length bytes.now ≤ digest_bytes }
+        ensures { self.new ≡ bytes.now }
+    {
+        self.bytes.set(bytes);
+    }
+
     /// Its bytes.
     pub fn as_slice(&self) -> &[u8]
         ensures value { result.now ≡ self.now }

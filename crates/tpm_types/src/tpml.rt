@@ -1,8 +1,8 @@
 //! Counted lists: TPML (Part 2, 10.9).
 
-ghost use Rattle.std.specs.Prelude.{◌≡◌, ◌↔◌, ◌+◌, ◌*◌, ◌≤◌, ◌++◌, false, length, IsTrue, All, IfOk, MatchOption};
+ghost use Rattle.std.specs.Prelude.{◌≡◌, ◌↔◌, ◌+◌, ◌*◌, ◌≤◌, ◌++◌, [], false, length, IsTrue, All, IfOk, OnOk, MatchOption};
 ghost use Rattle.tpm_wire.specs.Layout.Form.{list};
-ghost use Rattle.tpm_wire.specs.Buffers.{Takes, TakesAs};
+ghost use Rattle.tpm_wire.specs.Buffers.{TakesAs};
 ghost use Rattle.tpm_wire.specs.Spelling.{spelling, IsSpelled, joined_all};
 ghost use Rattle.tpm_types.specs.Limits.{digest_bytes, banks};
 ghost use Rattle.tpm_types.specs.Alg.{digest_len, IsDigestValue};
@@ -67,6 +67,17 @@ impl DigestValues {
         ensures whole { All IsDigestValue result.now }
     {
         self.entries.as_slice()
+    }
+}
+
+/// No digests.
+impl Default for DigestValues {
+    fn default() -> Self
+        ensures { result ≡ [] }
+    {
+        DigestValues {
+            entries: ArrayVec::new(),
+        }
     }
 }
 
@@ -139,39 +150,43 @@ fn put_values(entries: &[(Alg, Digest)], out: &mut Buffer)
     }
 }
 
-/// A digest with its hash: a hash, else HASH; the bytes of the digest.
+/// Reads a digest with its hash: a hash, else HASH; the bytes of the digest.
 #[tactic(auto, unfolding(crate::specs::Tpml::digest_value))]
-fn take_value(cursor: &mut Cursor<'_>) -> Result<(Alg, Digest), Refusal>
-    ensures reads { Takes digest_value cursor.old cursor.new result }
-    ensures spelled { IfOk result (λ d. cursor.old.here.rest ≡ spelling digest_value d ++ cursor.new.here.rest) }
-    ensures whole { IfOk result (λ d. IsDigestValue d) }
+fn read_value(cursor: &mut Cursor<'_>, value: &mut (Alg, Digest)) -> Result<(), Refusal>
+    ensures reads { TakesAs (λ _. value.new) digest_value cursor.old cursor.new result }
+    ensures spelled { OnOk result (cursor.old.here.rest ≡ spelling digest_value value.new ++ cursor.new.here.rest) }
+    ensures whole { OnOk result (IsDigestValue value.new) }
 {
-    let alg = Alg::take(cursor)?;
-    let Some(bytes) = cursor.front(alg.digest_len()) else {
-        return Err(cursor.refusal(INSUFFICIENT));
-    };
-    match Digest::new(bytes) {
-        Some(digest) => Ok((alg, digest)),
-        None => unreachable!(),
+    value.0 = Alg::take(cursor)?;
+    match cursor.front(value.0.digest_len()) {
+        Some(bytes) => {
+            value.1.set(bytes);
+            Ok(())
+        }
+        None => Err(cursor.refusal(INSUFFICIENT)),
     }
 }
 
-/// So many digests, each with its hash.
-fn take_values(
+/// Reads so many digests, each with its hash.
+fn read_values(
     cursor: &mut Cursor<'_>,
     count: usize,
-) -> Result<ArrayVec<(Alg, Digest), BANKS>, Refusal>
+    entries: &mut ArrayVec<(Alg, Digest), BANKS>,
+) -> Result<(), Refusal>
     requires { count ≤ banks }
-    ensures reads { TakesAs (λ v. v.items) (list count false (λ _. digest_value)) cursor.old cursor.new result }
-    ensures spelled { IfOk result (λ v. cursor.old.here.rest ≡ joined_all digest_value v.items ++ cursor.new.here.rest) }
-    ensures count { IfOk result (λ v. length v.items ≡ count) }
-    ensures whole { IfOk result (λ v. All IsDigestValue v.items) }
+    ensures reads { TakesAs (λ _. entries.new.items) (list count false (λ _. digest_value)) cursor.old cursor.new result }
+    ensures spelled { OnOk result (cursor.old.here.rest ≡ joined_all digest_value entries.new.items ++ cursor.new.here.rest) }
+    ensures count { OnOk result (length entries.new.items ≡ count) }
+    ensures whole { OnOk result (All IsDigestValue entries.new.items) }
 {
-    let mut entries = ArrayVec::new();
+    entries.clear();
     for _ in 0..count {
-        entries.push(take_value(cursor)?);
+        let last = entries.len();
+        // Zeros alone, which are written at once.
+        entries.push((Alg::Sha1, Digest::default()));
+        read_value(cursor, &mut entries.as_mut_slice()[last])?;
     }
-    Ok(entries)
+    Ok(())
 }
 
 /// Their number, at most `BANKS`, else SIZE; for each a hash, else HASH, and the bytes of the digest.
@@ -197,13 +212,24 @@ impl Wire for DigestValues {
     }
 
     fn take(cursor: &mut Cursor<'_>) -> Result<Self, Refusal> {
+        let mut found = DigestValues::default();
+        found.read(cursor)?;
+        Ok(found)
+    }
+
+    fn read(&mut self, cursor: &mut Cursor<'_>) -> Result<(), Refusal>
+    where
+        Self: Drop,
+    {
         let refusal = cursor.refusal(SIZE);
         let count = u32::take(cursor)? as usize;
         if count > BANKS {
             return Err(refusal);
         }
-        Ok(DigestValues {
-            entries: take_values(cursor, count)?,
-        })
+        let read = read_values(cursor, count, &mut self.entries);
+        if read.is_err() {
+            self.entries.clear();
+        }
+        read
     }
 }

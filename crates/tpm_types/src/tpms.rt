@@ -131,12 +131,19 @@ impl Wire for Auth {
     }
 
     fn take(cursor: &mut Cursor<'_>) -> Result<Self, Refusal> {
-        Ok(Auth {
-            session: AuthSession::take(cursor)?,
-            nonce: Nonce::take(cursor)?,
-            attrs: SessionAttrs::take(cursor)?,
-            hmac: AuthValue::take(cursor)?,
-        })
+        let mut found = Auth::default();
+        found.read(cursor)?;
+        Ok(found)
+    }
+
+    fn read(&mut self, cursor: &mut Cursor<'_>) -> Result<(), Refusal>
+    where
+        Self: Drop,
+    {
+        self.session = AuthSession::take(cursor)?;
+        self.nonce.read(cursor)?;
+        self.attrs = SessionAttrs::take(cursor)?;
+        self.hmac.read(cursor)
     }
 }
 
@@ -179,11 +186,18 @@ impl Wire for AuthReply {
     }
 
     fn take(cursor: &mut Cursor<'_>) -> Result<Self, Refusal> {
-        Ok(AuthReply {
-            nonce: Nonce::take(cursor)?,
-            attrs: SessionAttrs::take(cursor)?,
-            hmac: AuthValue::take(cursor)?,
-        })
+        let mut found = AuthReply::default();
+        found.read(cursor)?;
+        Ok(found)
+    }
+
+    fn read(&mut self, cursor: &mut Cursor<'_>) -> Result<(), Refusal>
+    where
+        Self: Drop,
+    {
+        self.nonce.read(cursor)?;
+        self.attrs = SessionAttrs::take(cursor)?;
+        self.hmac.read(cursor)
     }
 }
 

@@ -4,6 +4,7 @@ use crate::checks::{goes_both_ways, is_cut_at, joined, refuses};
 use arrayvec::ArrayVec;
 use std::test::*;
 use tpm_types::{Alg, Digest, DigestValues, Digests, OrDigests, Selection, Selections};
+use tpm_wire::{Cursor, Wire};
 
 #[test]
 fn selections_of_at_most_two_banks(rt: HostRuntime) {
@@ -183,7 +184,13 @@ fn digests_under_their_hashes(rt: HostRuntime) {
         &[0x00, 0x04],
         &[0x22; 20],
     ]);
-    let _ = goes_both_ways::<DigestValues>(&rt, twice.as_slice());
+    let mut values = goes_both_ways::<DigestValues>(&rt, twice.as_slice());
+    // In the place of the two digests none, and then one of an unknown hash.
+    let mut cursor = Cursor::new(&[0x00, 0x00, 0x00, 0x00, 0x00, 0x00, 0x00, 0x01, 0x00, 0x0C]);
+    assert!(&rt; values.read(&mut cursor).is_ok());
+    assert!(&rt; values.as_slice().is_empty());
+    assert!(&rt; values.read(&mut cursor).is_err());
+    assert!(&rt; DigestValues::default().as_slice().is_empty());
     refuses::<DigestValues>(&rt, &[0x00, 0x00, 0x00], 0x09A, 0);
     refuses::<DigestValues>(&rt, &[0x00, 0x00, 0x00, 0x01], 0x09A, 4);
     refuses::<DigestValues>(&rt, &[0x00, 0x00, 0x00, 0x01, 0x00], 0x09A, 4);

@@ -1,6 +1,6 @@
 //! Counted lists: TPML structures (Part 2, 10.9).
 
-ghost use Rattle.std.specs.Prelude.{◌≡◌, ◌+◌, ◌*◌, ◌≤◌, ◌<◌, ◌^◌, ◌⊎◌, length, MatchOption};
+ghost use Rattle.std.specs.Prelude.{◌≡◌, ◌==◌, ◌+◌, ◌*◌, ◌≤◌, ◌<◌, ◌^◌, ◌⊎◌, [], ◌∷◌, ◌++◌, length, MatchOption};
 ghost use Rattle.tpm_wire.specs.Spelling.{joined_all};
 ghost use Rattle.tpm_wire.specs.Structures.{counted};
 
@@ -50,17 +50,23 @@ impl<T: Wire + Default + Duplicate + Drop, const LEAST: usize, const MOST: usize
         })
     }
 
-    /// These entries, if they are at least `LEAST`.
-    pub fn from_entries(entries: ArrayVec<T, MOST>) -> Option<Self>
+    /// Adds an entry at the end, where there is room for it.
+    pub fn push(&mut self, entry: T)
+        requires room { length self.old < MOST }
         requires count { MOST ≤ 8 }
         requires short { T.most ≤ 4096 }
-        ensures { MatchOption result (length entries.items < LEAST) (λ c. (c ≡ entries.items) × (LEAST ≤ length entries.items)) }
+        ensures { self.new ≡ self.old ++ entry ∷ [] }
     {
-        if entries.len() < LEAST {
-            return None;
-        }
-        let _len = capped_len(entries.as_slice());
-        Some(Counted { entries })
+        self.entries.push(entry);
+        let _len = capped_len(self.entries.as_slice());
+    }
+
+    /// Whether there is no room for another entry.
+    pub fn is_full(&self) -> bool
+        ensures value { result ≡ (length self.now == MOST) }
+        ensures fits { length self.now ≤ MOST }
+    {
+        self.entries.is_full()
     }
 
     /// The entries.
@@ -70,6 +76,26 @@ impl<T: Wire + Default + Duplicate + Drop, const LEAST: usize, const MOST: usize
         ensures most { length result.now ≤ MOST }
     {
         self.entries.as_slice()
+    }
+}
+
+impl<T: Wire + Default + Duplicate + Drop, const MOST: usize> Counted<T, 0, MOST> {
+    /// Removes the entries.
+    pub fn clear(&mut self)
+        ensures { self.new ≡ [] }
+    {
+        self.entries.clear();
+    }
+}
+
+/// No entries.
+impl<T: Wire + Default + Duplicate + Drop, const MOST: usize> Default for Counted<T, 0, MOST> {
+    fn default() -> Self
+        ensures { result ≡ [] }
+    {
+        Counted {
+            entries: ArrayVec::new(),
+        }
     }
 }
 
@@ -134,13 +160,16 @@ mod tests {
     }
 
     #[test]
-    fn at_least_one_of_these_numbers(rt: HostRuntime) {
-        let mut entries = ArrayVec::new();
-        assert!(&rt; Counted::<u16, 0, 3>::from_entries(ArrayVec::new()).is_some());
-        assert!(&rt; Counted::<u16, 1, 3>::from_entries(ArrayVec::new()).is_none());
-        entries.push(7);
-        let one = Counted::<u16, 1, 3>::from_entries(entries).expect(&rt, "one number");
-        assert_eq!(&rt; one.as_slice(), [7].as_slice());
+    fn entries_are_added_and_removed(rt: HostRuntime) {
+        let mut numbers = Counted::<u16, 0, 2>::default();
+        assert!(&rt; numbers.as_slice().is_empty());
+        numbers.push(7);
+        assert!(&rt; !numbers.is_full());
+        numbers.push(5);
+        assert_eq!(&rt; numbers.as_slice(), [7, 5].as_slice());
+        assert!(&rt; numbers.is_full());
+        numbers.clear();
+        assert!(&rt; numbers.as_slice().is_empty());
     }
 
     #[test]

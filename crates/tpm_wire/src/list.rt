@@ -47,7 +47,7 @@ pub fn take_rest<T: Wire + Default + Drop, const N: usize>(
     Ok(entries)
 }
 
-/// As `take_rest`, in the place of the entries that were there. After a fault the entries are those before it.
+/// As `take_rest`, in the place of the entries that were there. Which entries are there after a fault is not said.
 pub fn read_rest<T: Wire + Default + Drop, const N: usize>(
     cursor: &mut Cursor<'_>,
     most: usize,
@@ -62,8 +62,10 @@ pub fn read_rest<T: Wire + Default + Drop, const N: usize>(
 {
     entries.clear();
     while cursor.left() > 0 && entries.len() < most {
-        cursor.number(first + 0x100 * entries.len() as u32);
-        entries.push(T::take(cursor)?);
+        let last = entries.len();
+        cursor.number(first + 0x100 * last as u32);
+        entries.push(T::default());
+        entries.as_mut_slice()[last].read(cursor)?;
     }
     Ok(())
 }

@@ -189,6 +189,25 @@ fn the_rest_of_the_room_is_the_second_entrys(rt: HostRuntime) {
 }
 
 #[test]
+fn a_selection_in_the_place_of_another(rt: HostRuntime) {
+    let registers = Registers::new();
+    let all = selections(
+        &rt,
+        &[
+            entry(Alg::Sha256, [0xFF, 0xFF, 0xFF]),
+            entry(Alg::Sha1, [0xFF, 0xFF, 0xFF]),
+        ],
+    );
+    let (mut read, mut values) = registers.select(&all);
+    let one = selections(&rt, &[entry(Alg::Sha256, [0x00, 0x00, 0x02])]);
+    registers.select_into(&one, &mut read, &mut values);
+    assert_eq!(&rt; read.as_slice().len(), 1);
+    assert_eq!(&rt; read.as_slice()[0].select, [0x00, 0x00, 0x02]);
+    assert_eq!(&rt; values.as_slice().len(), 1);
+    assert_eq!(&rt; values.as_slice()[0].as_slice(), [0xFF; 32].as_slice());
+}
+
+#[test]
 fn the_composite_is_over_all_selected_values(rt: HostRuntime) {
     let mut registers = Registers::new();
     assert_eq!(&rt; registers.extend(register(&rt, 7), &separator(&rt)), Ok(()));

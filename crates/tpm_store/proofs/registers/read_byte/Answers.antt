@@ -8,20 +8,20 @@ pub loop-bit-preserved : goal.loop-bit-preserved
 loop-bit-preserved c =
     let byte = c.args.byte in
     let bit = c.loop-bit.bit in
-    let n = length c.args.values.now.items in
+    let n = length c.args.values.now in
     let select = c.args.selection.now.select in
     let done = below n select byte bit in
-    let old = c.args.values.now.items in
+    let old = c.args.values.now in
     let bank = c.args.bank.now in
     let here = c.loop-bit.invariant in
-    let count = count_is bank old c.loop-bit.values.items done here.values in
+    let count = count_is bank old c.loop-bit.values done here.values in
     elim c.if-not-is_full.branch [
       | then-not-is_full+then-is_selected w ↦
-          let more = chosen_more n select byte bit c.loop-bit-test.true (grind (arith, nat_tests, count, c.is_full.ensures.value, w.if-not-is_full.true)) (sym w.is_selected.ensures ∙ w.if-is_selected.true) in
+          let more = chosen_more n select byte bit c.loop-bit-test.true (grind (arith, nat_tests, count, c.is_full.ensures.value, c.is_full.ensures.fits, w.if-not-is_full.true)) (sym w.is_selected.ensures ∙ w.if-is_selected.true) in
           record {
             bits = rw (w.bits-is, more) (bits_more done byte bit c.loop-bit.bits c.loop-bit-test.true here.bits here.small);
             small = rw w.bits-is (small_still bit c.loop-bit.bits c.loop-bit-test.true here.small);
-            values = rw (w.values-is, w.push.ensures.items, more) (ap (λ (x : List ℕ). c.loop-bit.values.items ++ x ∷ []) w.digest.ensures ∙ values_more bank old c.loop-bit.values.items done (8 * byte + bit) w.index-bank-register.result (omega (arith, c.requires.bank, c.requires.byte, c.loop-bit-test.true)) w.index-bank-register.is here.values);
+            values = rw (w.values-is, w.push.ensures, more) (ap (λ (x : List ℕ). c.loop-bit.values ++ x ∷ []) w.digest.ensures ∙ values_more bank old c.loop-bit.values done (8 * byte + bit) w.index-bank-register.result (omega (arith, c.requires.bank, c.requires.byte, c.loop-bit-test.true)) w.index-bank-register.is here.values);
           }
       | else-not-is_full w ↦ elim w.else-not-is_full.branch [
         | else-not-is_full-via-then-not-is_full+else-is_selected w' ↦
@@ -32,7 +32,7 @@ loop-bit-preserved c =
               values = rw (w.values-is, same) here.values;
             }
         | else-not-is_full-via-else-not-is_full w' ↦
-            let same = chosen_full n select byte bit c.loop-bit-test.true (grind (arith, nat_tests, count, c.is_full.ensures.value, w'.if-not-is_full.false)) in
+            let same = chosen_full n select byte bit c.loop-bit-test.true (grind (arith, nat_tests, count, c.is_full.ensures.value, c.is_full.ensures.fits, w'.if-not-is_full.false)) in
             record {
               bits = rw (w.bits-is, same) here.bits;
               small = rw w.bits-is (smaller_still bit c.loop-bit.bits c.loop-bit-test.true here.small);

@@ -4,9 +4,9 @@ use Rattle.tpm_store.proofs.registers.read_byte.Given as goal
 
 abbrev pub invariant-loop-bit : goal.invariant-loop-bit
 invariant-loop-bit l =
-    let done = chosen (length l.fn.values.items) l.selection.select (take l.bit (registers_of l.byte)) in
+    let done = chosen (length l.fn.values) l.selection.select (take l.bit (registers_of l.byte)) in
     record {
       bits : l.bits ≡ bits_of done;
       small : l.bits < 2 ^ l.bit;
-      values : l.values.items ≡ l.fn.values.items ++ values_of l.bank done;
+      values : l.values ≡ l.fn.values ++ values_of l.bank done;
     }

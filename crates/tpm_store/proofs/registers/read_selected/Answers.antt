@@ -9,10 +9,10 @@ pub returns-clause-selection : goal.returns-clause-selection
 returns-clause-selection c =
     let s = c.args.selection.now in
     let bank = c.args.bank.now in
-    let old = c.args.values.now.items in
+    let old = c.args.values.now in
     let n = length old in
-    let one = c.read_byte-first.new.values.items in
-    let two = c.read_byte-second.new.values.items in
+    let one = c.read_byte-first.new.values in
+    let two = c.read_byte-second.new.values in
     let e1 = count_is bank old one (chosen n s.select (registers_of 0)) c.read_byte-first.ensures.values in
     let e2 = count_is bank one two (chosen (length one) s.select (registers_of 1)) c.read_byte-second.ensures.values in
     ap (λ (l : List ℕ). let r : Selection = record { hash = s.hash; select = l } in r)
@@ -25,10 +25,10 @@ pub returns-clause-values : goal.returns-clause-values
 returns-clause-values c =
     let s = c.args.selection.now in
     let bank = c.args.bank.now in
-    let old = c.args.values.now.items in
+    let old = c.args.values.now in
     let n = length old in
-    let one = c.read_byte-first.new.values.items in
-    let two = c.read_byte-second.new.values.items in
+    let one = c.read_byte-first.new.values in
+    let two = c.read_byte-second.new.values in
     let x = chosen n s.select (registers_of 0) in
     let y = chosen (length one) s.select (registers_of 1) in
     let z = chosen (length two) s.select (registers_of 2) in

@@ -1,5 +1,6 @@
 use Rattle.std.proofs.Common.{◌≡◌, ◌<◌, ◌^◌, ◌∙◌, length, Ok, sym, ap, subst}
 use Rattle.tpm_wire.specs.Reading.{read_all}
+use Rattle.tpm_buffer.specs.Areas.{placed}
 use Rattle.tpm_buffer.specs.Parameters.{parameters}
 use Rattle.tpm_buffer.specs.Commands.{body_from}
 use Rattle.tpm_model.specs.Steps.{History}
@@ -13,10 +14,10 @@ use Rattle.tpm_device.proofs.device.Device.perform.Goals as goal
 pub returns-in-Ok-clause-stands : goal.returns-in-Ok-clause-stands
 returns-in-Ok-clause-stands c = λ o h n st.
     let x = c.args.areas.now in
-    let params = c.in-Ok.params in
+    let params = c.decode_params_into.new.params in
     let body = body_from x.handles.items params in
     let short : length c.params.result.now < 2 ^ 32 = rw c.params.ensures c.requires.short in
-    let reads : read_all (parameters x.header.code) x.params.now ≡ Ok params = rw (sym c.code.ensures, sym c.params.ensures) (sym (c.decode_params.ensures.reads short) ∙ c.in-Ok.is) in
+    let reads : read_all (parameters x.header.code) x.params.now ≡ Ok params = rw (sym c.code.ensures, sym c.params.ensures) (sym (c.decode_params_into.ensures.reads short) ∙ ap (placed params) c.in-Ok.is) in
     subst (λ (g : History). Stands o g c.act.new.self) (sym (ap (with_outcome h n) (performed_as (present o h) (holds c.args.self.now) n x params reads)))
     (action_stands o h n c.args.self.now c.act.new.self body x.auths.items (action (present o h) body n) c.act.new.out.items c.act.result st
     (rw (sym c.handles.ensures, sym c.auths.ensures) (c.act.ensures.answer o h n st)) (rw (sym c.handles.ensures, sym c.auths.ensures) c.act.ensures.stands) c.act.ensures.refused)
@@ -24,4 +25,4 @@ returns-in-Ok-clause-stands c = λ o h n st.
 pub returns-in-Err-clause-some : goal.returns-in-Err-clause-some
 returns-in-Err-clause-some c =
     let short : length c.params.result.now < 2 ^ 32 = rw c.params.ensures c.requires.short in
-    read_some c.code.result c.params.result.now c.in-Err.refusal (sym c.in-Err.is ∙ c.decode_params.ensures.reads short)
+    read_some c.code.result c.params.result.now c.in-Err.refusal (sym (ap (placed c.decode_params_into.new.params) c.in-Err.is) ∙ c.decode_params_into.ensures.reads short)

@@ -5,7 +5,7 @@ use Rattle.tpm_store.proofs.registers.Registers.read_entries.Given as goal
 
 abbrev pub invariant-loop-selection : goal.invariant-loop-selection
 invariant-loop-selection l = record {
-  read : l.read.items ≡ selections_read (take l.selection-index l.selections);
-  count : length l.read.items ≡ l.selection-index;
-  values : l.values.items ≡ values_read (held l.self) (take l.selection-index l.selections);
+  read : l.read ≡ selections_read (take l.selection-index l.selections);
+  count : length l.read ≡ l.selection-index;
+  values : l.values ≡ values_read (held l.self) (take l.selection-index l.selections);
 }

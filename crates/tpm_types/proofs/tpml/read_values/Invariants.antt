@@ -3,7 +3,7 @@ use Rattle.tpm_wire.specs.Spelling.{joined_all}
 use Rattle.tpm_wire.specs.Reading.{read, entries}
 use Rattle.tpm_types.specs.Alg.{IsDigestValue}
 use Rattle.tpm_types.specs.Tpml.{digest_value}
-use Rattle.tpm_types.proofs.tpml.take_values.Given as goal
+use Rattle.tpm_types.proofs.tpml.read_values.Given as goal
 
 abbrev pub invariant-loop : goal.invariant-loop
 invariant-loop l = record {
