@@ -124,6 +124,7 @@ fn authorization_len(tag: u16, auths: &[Auth]) -> usize
 }
 
 #[tactic(auto, unfolding(crate::specs::Commands::authorization, crate::specs::Commands::authorization_size, crate::specs::Commands::sessions))]
+#[inline(never)]
 fn put_authorization(tag: u16, auths: &[Auth], out: &mut Buffer)
     requires count { length auths.now ≤ 3 }
     requires room { length out.old.items + length (spelling (authorization tag) auths.now) ≤ 4096 }
@@ -183,6 +184,7 @@ fn params_len(body: &CommandBody) -> usize
 }
 
 #[tactic(auto, unfolding(crate::specs::Parameters::startup, crate::specs::Parameters::nv_define_space, crate::specs::Parameters::nv_read, crate::specs::Parameters::flush_context, crate::specs::Parameters::policy_command_code, crate::specs::Parameters::policy_or, crate::specs::Parameters::start_auth_session, crate::specs::Parameters::pcr_read, crate::specs::Parameters::policy_pcr, crate::specs::Parameters::pcr_extend))]
+#[inline(never)]
 fn put_params(body: &CommandBody, out: &mut Buffer)
     requires { length out.old.items + length (spelling (parameters (code_for body.now)) (params_of body.now)) ≤ 4096 }
     ensures { out.new.items ≡ out.old.items ++ spelling (parameters (code_for body.now)) (params_of body.now) }

@@ -5,7 +5,7 @@ ghost use Rattle.tpm_buffer.specs.Frames.{stated, IsFrame, bad_size, Pushes, Adv
 
 use crate::front::COMMAND_SIZE;
 use std::marker::Model;
-use tpm_wire::{Buffer, Refusal, put_bytes};
+use tpm_wire::{Buffer, Refusal};
 
 /// The tag and the size of a buffer are its first six bytes.
 pub(crate) const SIZE_END: usize = 6;
@@ -124,6 +124,6 @@ fn take_up_to(held: &mut Buffer, size: usize, piece: &[u8]) -> usize
     ensures held { held.new.items ≡ held.old.items ++ take result piece.now }
 {
     let count = size.saturating_sub(held.len()).min(piece.len());
-    put_bytes(held, &piece[..count]);
+    let _ = held.try_extend_from_slice(&piece[..count]);
     count
 }

@@ -293,6 +293,7 @@ impl Wire for NvPublic {
         2 + self.area_len()
     }
 
+    #[inline(never)]
     fn put(&self, out: &mut Buffer) {
         (self.area_len() as u16).put(out);
         self.put_area(out);

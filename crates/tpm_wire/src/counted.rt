@@ -115,6 +115,7 @@ impl<T: Wire + Default + Duplicate + Drop, const LEAST: usize, const MOST: usize
         4 + capped_len(self.entries.as_slice())
     }
 
+    #[inline(never)]
     fn put(&self, out: &mut Buffer) {
         (self.entries.len() as u32).put(out);
         put_list(self.entries.as_slice(), out);
