@@ -1,28 +1,21 @@
 -- What buffers are read by.
 use Rattle.std.specs.Prelude.{◌≡◌, ℕ, ◌+◌, ◌<◌, ◌≤◌, Bool, length, take, Option, Some, None, Result, Ok, Err, nat_lt, if◌then◌else◌}
 use Rattle.tpm_wire.specs.declared.refusal.Refusal.{Refusal}
+use Rattle.tpm_wire.specs.ResponseCodes.{rc_insufficient, rc_size}
 use Rattle.tpm_wire.specs.Rules.{Rules}
 use Rattle.tpm_wire.specs.Token.{Here, past}
 use Rattle.tpm_wire.specs.Layout.{Form}
 use Rattle.tpm_wire.specs.Reading.{read}
 
--- the code of too few bytes
-abbrev pub insufficient : ℕ
-insufficient = 0x09A
-
--- the code of bytes left over in a sized area
-abbrev pub size_code : ℕ
-size_code = 0x095
-
 abbrev pub too_few : ℕ → ℕ → ℕ → ℕ → Option ℕ
-too_few added at n left = if nat_lt left n then Some insufficient else None
+too_few added at n left = if nat_lt left n then Some rc_insufficient else None
 
 abbrev pub with_number : ℕ → ℕ → ℕ → Refusal
 with_number added code at = record { code = code + added; at = at }
 
 -- A fault is a code, a mark is the number that is added to it. Too few bytes in its area is the first fault of a token.
 abbrev pub buffer : Rules
-buffer = record { Fault = ℕ; Mark = ℕ; Answer = Refusal; whole = 0; over = size_code; lacks = too_few; answer = with_number }
+buffer = record { Fault = ℕ; Mark = ℕ; Answer = Refusal; whole = 0; over = rc_size; lacks = too_few; answer = with_number }
 
 abbrev pub Layout : Type 0 → Type 1
 Layout = Form buffer
@@ -68,9 +61,16 @@ later_refusal k e = record { code = e.code; at = e.at + k }
 -- An area of n bytes begins at the old place, and what comes after it is kept.
 abbrev pub Enters : ℕ → Place → Place → Result Here Refusal → Type 0
 Enters n old new (Ok outer) = (n ≤ length old.here.rest) × (outer ≡ past n old.here) × (new ≡ record { here = record { rest = take n old.here.rest; at = old.here.at }; number = old.number })
-Enters n old new (Err e) = (length old.here.rest < n) × (e ≡ record { code = insufficient + old.number; at = old.here.at })
+Enters n old new (Err e) = (length old.here.rest < n) × (e ≡ record { code = rc_insufficient + old.number; at = old.here.at })
 
 -- The area ends at the old place, and what comes after it is next.
 abbrev pub Leaves : Here → Place → Place → Result (Unit {0}) Refusal → Type 0
 Leaves outer old new (Ok x) = (length old.here.rest ≡ 0) × (new ≡ record { here = outer; number = old.number })
-Leaves outer old new (Err e) = (0 < length old.here.rest) × (e ≡ record { code = size_code + old.number; at = old.here.at })
+Leaves outer old new (Err e) = (0 < length old.here.rest) × (e ≡ record { code = rc_size + old.number; at = old.here.at })
+
+-- The codes under their former names.
+abbrev pub insufficient : ℕ
+insufficient = rc_insufficient
+
+abbrev pub size_code : ℕ
+size_code = rc_size

@@ -4,10 +4,11 @@ ghost use Rattle.std.specs.Prelude.{◌≡◌, ◌==◌, ◌+◌, ◌*◌, ◌�
 ghost use Rattle.tpm_wire.specs.Spelling.{joined_all};
 ghost use Rattle.tpm_wire.specs.Structures.{counted};
 
-use crate::cursor::{Cursor, SIZE};
+use crate::cursor::Cursor;
 use crate::duplicate::Duplicate;
 use crate::list::{capped_len, known_list, put_list, take_list};
 use crate::refusal::Refusal;
+use crate::response_code::SIZE;
 use crate::wire::{Buffer, Wire};
 use arrayvec::ArrayVec;
 use std::marker::Model;

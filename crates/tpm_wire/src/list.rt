@@ -3,6 +3,7 @@
 ghost use Rattle.std.specs.Prelude.{◌≡◌, ◌-◌, min, ℕ, ◌+◌, ◌*◌, ◌≤◌, ◌<◌, ◌^◌, ◌++◌, length, true, false, All, IfOk, OnOk};
 ghost use Rattle.tpm_wire.specs.Layout.Form.{list};
 ghost use Rattle.tpm_wire.specs.Buffers.{TakesAs, TakesNumbered, numbered};
+ghost use Rattle.tpm_wire.specs.ResponseCodes.{greatest_number};
 ghost use Rattle.tpm_wire.specs.Spelling.{spelling, IsSpelled, joined_all};
 
 use crate::cursor::Cursor;
@@ -37,7 +38,7 @@ pub fn take_rest<T: Wire + Default + Drop, const N: usize>(
     first: u32,
 ) -> Result<ArrayVec<T, N>, Refusal>
     requires room { most ≤ N }
-    requires numbers { first + 0x100 * most ≤ 0xF40 }
+    requires numbers { first + 0x100 * most ≤ greatest_number }
     ensures reads { TakesNumbered (λ v. v.items) (list most true (λ before. numbered (first + 0x100 * length before) T.layout)) cursor.old cursor.new result }
     ensures spelled { IfOk result (λ v. cursor.old.here.rest ≡ joined_all T.layout v.items ++ cursor.new.here.rest) }
     ensures few { IfOk result (λ v. length v.items ≤ most) }
@@ -55,7 +56,7 @@ pub fn read_rest<T: Wire + Default + Drop, const N: usize>(
     entries: &mut ArrayVec<T, N>,
 ) -> Result<(), Refusal>
     requires room { most ≤ N }
-    requires numbers { first + 0x100 * most ≤ 0xF40 }
+    requires numbers { first + 0x100 * most ≤ greatest_number }
     ensures reads { TakesNumbered (λ _. entries.new.items) (list most true (λ before. numbered (first + 0x100 * length before) T.layout)) cursor.old cursor.new result }
     ensures spelled { OnOk result (cursor.old.here.rest ≡ joined_all T.layout entries.new.items ++ cursor.new.here.rest) }
     ensures few { OnOk result (length entries.new.items ≤ most) }
