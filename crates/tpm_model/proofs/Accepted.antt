@@ -7,9 +7,9 @@ use Rattle.tpm_buffer.specs.Parameters.{parameters}
 use Rattle.tpm_buffer.specs.Commands.{body_from}
 use Rattle.tpm_model.specs.Steps.{History, Accepted, PowerCycle, Origin}
 use Rattle.tpm_model.specs.Present.{Present, present}
-use Rattle.tpm_model.specs.Authorization.{check_proof}
+use Rattle.tpm_model.specs.Authorization.{check_proof, reply_auths}
 use Rattle.tpm_model.specs.Actions.{action}
-use Rattle.tpm_model.specs.Answers.{Commands, Presented, presented, permitted, Done, performed, outcome, code_only, with_outcome, next}
+use Rattle.tpm_model.specs.Answers.{Commands, Presented, presented, permitted, Done, reply_params, performed, outcome, code_only, with_outcome, next}
 use Rattle.tpm_model.specs.Runs.{Event, after}
 use Rattle.tpm_model.specs.Runs.Event.{Given, Cycled}
 
@@ -29,6 +29,7 @@ pub record Passed (has : Commands) (p : Present) (bytes n : List ℕ) (d : Done)
   pub body : d.command.body ≡ body_from x.handles params
   pub auths : d.command.auths.items ≡ x.auths
   pub act : action p d.command.body n ≡ Ok d.reply.body
+  pub replied : d.reply.auths ≡ reply_auths x.proof x.code (reply_params d.reply.body) n
 
 permitted_passed : (has : Commands) (p : Present) (bytes : List ℕ) (x : Presented) → permitted has p bytes ≡ Ok x → (presented has p bytes ≡ Ok x) × (check_proof x.entity x.proof ≡ Ok tt)
 permitted_passed has p bytes x e =
@@ -44,7 +45,7 @@ passed has p bytes n d e =
     let before = permitted_passed has p bytes x a.1 in
     let b = bind_ok (code_only (read_all (parameters x.code) x.params)) _ d a.2 in
     let c = bind_ok (action p (body_from x.handles b.0) n) _ d b.2 in
-    subst (Passed has p bytes n) (ok_is _ d c.2) (record { x = x; asked = before.0; proof = before.1; params = b.0; read = b.1; body = refl; auths = refl; act = c.1 })
+    subst (Passed has p bytes n) (ok_is _ d c.2) (record { x = x; asked = before.0; proof = before.1; params = b.0; read = b.1; body = refl; auths = refl; act = c.1; replied = refl })
 
 -- what holds of a history, and of each step that may come next, holds after a buffer
 pub after_next : (P : History → Type 0) (has : Commands) (o : Origin) (h : History) (bytes n : List ℕ) → P h

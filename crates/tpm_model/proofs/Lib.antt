@@ -9,4 +9,13 @@ pub mod Nonzero
 pub mod Coded
 pub mod Refused
 pub mod Told
+pub mod Sealing
+pub mod Replies
+pub mod StillInStep
+pub mod RoundTrip
+pub mod ReplySessions
+pub mod OwnCode
+pub mod ReplyBytes
+pub mod Mixed
+pub mod Starting
 pub mod Worked

@@ -4,6 +4,8 @@ use Rattle.std.specs.Prelude.{if◌then◌else◌, ◌⊎◌, nat_lt, option_map
 use Rattle.std.proofs.lemmas.Bool.Decides.{nat_tests}
 use Rattle.tpm_wire.specs.Buffers.{size_code}
 use Rattle.tpm_wire.proofs.Agreement.{bind_ok}
+use Rattle.tpm_types.specs.declared.alg.Alg.{Alg}
+use Rattle.tpm_types.specs.declared.alg.Alg.TheVariants.{Sha1, Sha256}
 use Rattle.tpm_types.specs.Alg.{digest_len}
 use Rattle.tpm_buffer.specs.declared.command.Command.{Command}
 use Rattle.tpm_buffer.specs.declared.command.CommandBody.{CommandBody}
@@ -20,7 +22,7 @@ use Rattle.tpm_model.specs.Actions.{action}
 use Rattle.tpm_model.specs.Answers.{Commands, next}
 use Rattle.tpm_model.specs.Runs.{Event, after}
 use Rattle.tpm_model.specs.Runs.Event.{Given, Cycled}
-use Rattle.tpm_model.specs.Premises.{nonces, IsAmong, IsApart, AreApart, least_nonce}
+use Rattle.tpm_model.specs.Premises.{nonces, IsAmong, IsApart, AreApart, least_nonce, most_nonce}
 use Rattle.tpm_model.proofs.Accepted.{along, after_next}
 
 -- ---- lists of nonces
@@ -84,11 +86,11 @@ fresh S has o k (Given bytes n ∷ es) h f l =
     (λ d s p. elim (last_step k h d.command d.reply n p) [ inl e ↦ inr e | inr q ↦ inl (subst S (sym q.1) (f q.0)) ])) l)
 fresh S has o k (Cycled ∷ es) h f l = fresh S has o k es (PowerCycle ∷ h) (λ p. absurd (let z : ⊥ = cc in z)) l
 
--- ---- Each live session was started with a nonce of enough bytes.
+-- ---- Each live session was started with a nonce of enough bytes, and not too many.
 
-abbrev HasStart : Option Start → Type 0
+abbrev pub HasStart : Option Start → Type 0
 HasStart None = ⊥
-HasStart (Some s) = least_nonce ≤ length s.request.nonce_caller
+HasStart (Some s) = (least_nonce ≤ length s.request.nonce_caller) × (length s.request.nonce_caller ≤ most_nonce)
 
 abbrev pub IsSound : ℕ → History → Type 0
 IsSound k h = lives k h ≡ true → HasStart (start_of k h)
@@ -99,17 +101,28 @@ sound_by true live gone new old f g l = f refl
 sound_by false live true new old f g l = absurd (let k : ⊥ = cc in k)
 sound_by false live false new old f g l = g l
 
-first_passed : (a b : Bool) (code : ℕ) → refuse (a || b) code ≡ Ok tt → a ≡ false
-first_passed true b code e = absurd (let z : ⊥ = cc in z)
-first_passed false b code e = refl
+pub both_passed : (a b : Bool) (code : ℕ) → refuse (a || b) code ≡ Ok tt → (a ≡ false) × (b ≡ false)
+both_passed true b code e = absurd (let z : ⊥ = cc in z)
+both_passed false true code e = absurd (let z : ⊥ = cc in z)
+both_passed false false code e = (refl, refl)
+
+pub digest_short : (a : Alg) → digest_len a ≤ most_nonce
+digest_short Sha1 = omega arith
+digest_short Sha256 = omega arith
+
+enough_and_few : (n m : ℕ) → nat_lt n 16 ≡ false → nat_lt m n ≡ false → m ≤ most_nonce → (least_nonce ≤ n) × (n ≤ most_nonce)
+enough_and_few n m a b le =
+    let enough : 16 ≤ n = grind (arith, nat_tests) in
+    let few : n ≤ m = grind (arith, nat_tests) in
+    (enough, omega (arith, few, le))
 
 start_by : (o : Origin) (h : History) (k : ℕ) (body : CommandBody) (n : List ℕ) (reply : ReplyBody) (old : Option Start)
     → action (present o h) body n ≡ Ok reply → begins k body reply ≡ true → HasStart (started_by body n old)
 start_by o h k (bodies.StartAuthSession s) n reply old e b =
     let short = nat_lt (length s.nonce_caller) 16 in
     let f = bind_ok (refuse (short || nat_lt (digest_len s.auth_hash) (length s.nonce_caller)) (size_code + parameter 1)) _ reply e in
-    let g : nat_lt (length s.nonce_caller) 16 ≡ false = first_passed short (nat_lt (digest_len s.auth_hash) (length s.nonce_caller)) (size_code + parameter 1) f.1 in
-    grind (arith, nat_tests)
+    let g = both_passed short (nat_lt (digest_len s.auth_hash) (length s.nonce_caller)) (size_code + parameter 1) f.1 in
+    enough_and_few (length s.nonce_caller) (digest_len s.auth_hash) g.0 g.1 (digest_short s.auth_hash)
 start_by o h k _ n reply old e b = absurd (let z : ⊥ = cc in z)
 
 pub sound_along : (has : Commands) (o : Origin) (k : ℕ) (es : List Event) → IsSound k (after has o [] es)
@@ -123,11 +136,12 @@ pub record Held (k : ℕ) (h : History) (nonce : List ℕ) : Type 0 where
   pub live : lives k h ≡ true
   pub long : ℕ
   pub enough : least_nonce ≤ long
+  pub few : long ≤ most_nonce
   pub is : nonce ≡ take long (last_nonce k h)
 
 held_by : (o : Origin) (live : Bool) (start : Option Start) (n : List ℕ) (made : List Assertion) (s : Session) → (live ≡ true → HasStart start)
     → (if live then option_map (as_session o n made) start else None) ≡ Some s
-    → (live ≡ true) × (x : Start) × (least_nonce ≤ length x.request.nonce_caller) × (s.nonce ≡ take (length x.request.nonce_caller) n)
+    → (live ≡ true) × (x : Start) × ((least_nonce ≤ length x.request.nonce_caller) × (length x.request.nonce_caller ≤ most_nonce)) × (s.nonce ≡ take (length x.request.nonce_caller) n)
 held_by o true None n made s f e = absurd (f refl)
 held_by o true (Some x) n made s f e = let same : as_session o n made x ≡ s = cc in (refl, x, f refl, ap (λ (y : Session). y.nonce) (sym same))
 held_by o false start n made s f e = absurd (let z : ⊥ = cc in z)
@@ -144,4 +158,4 @@ pub held : (o : Origin) (handle : ℕ) (h : History) (s : Session) → IsSound (
 held o handle h s f e =
     let k = slot_of handle in
     let x = held_by o (lives k h) (start_of k h) (last_nonce k h) (assertions_of k h) s f (of_kind handle (session_at o h k) s e) in
-    record { live = x.0; long = length x.1.request.nonce_caller; enough = x.2; is = x.3 }
+    record { live = x.0; long = length x.1.request.nonce_caller; enough = x.2.0; few = x.2.1; is = x.3 }

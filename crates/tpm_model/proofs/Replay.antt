@@ -7,6 +7,7 @@ use Rattle.std.proofs.lemmas.List.{drop_at, append_cancel_left, append_cancel_ri
 use Rattle.std.proofs.lemmas.Bool.Decides.{nat_tests}
 use Rattle.std.proofs.lemmas.Slice.Eq.{bytes_eq-Decides}
 use Rattle.tpm_wire.specs.Buffers.{buffer}
+use Rattle.tpm_wire.specs.Path.{Spells}
 use Rattle.tpm_wire.proofs.Agreement.{bind_ok}
 use Rattle.tpm_wire.proofs.Buffers.{buffer_sound}
 use Rattle.tpm_wire.proofs.Whole.{exactly_one}
@@ -42,7 +43,7 @@ no_password n s = elim (n == rs_pw) as (λ b. (n == rs_pw) ≡ b → b ≡ false
     [ true ↦ λ e. let same : n ≡ rs_pw = grind (arith, nat_tests) in absurd (let bad : is_session rs_pw ≡ true = subst (λ m. is_session m ≡ true) same s in let z : ⊥ = cc in z) | false ↦ λ e. refl ] refl
 
 -- a session's command proves itself by the HMAC of that session
-by_its_session : (s : Option Session) (e : Entity) (code : CommandCode) (names : List (List ℕ)) (params : List ℕ) (update_counter : ℕ) (a : Auth) (others : List Auth) (proof : Proof)
+pub by_its_session : (s : Option Session) (e : Entity) (code : CommandCode) (names : List (List ℕ)) (params : List ℕ) (update_counter : ℕ) (a : Auth) (others : List Auth) (proof : Proof)
     → is_session a.session ≡ true → proof_of s e code names params update_counter (a ∷ others) ≡ Ok proof
     → (y : Session) × (s ≡ Some y) × (proof ≡ ByMac (record { session = y; key = key_for y e; p_hash = cp_hash y.hash (code_number code) names params; auth = a }))
 by_its_session None e code names params update_counter a others proof is p =
@@ -55,15 +56,15 @@ by_its_session (Some y) e code names params update_counter a others proof is p =
     let d = bind_ok (check_entity b.0 e code update_counter) _ proof c.2 in
     (y, refl, sym (ap (λ x. proof_by x e code names params a) by ∙ ok_is (proof_by b.0 e code names params a) proof d.2))
 
-some_bytes : (bytes : List ℕ) → 0 < length bytes → is_empty bytes ≡ false
+pub some_bytes : (bytes : List ℕ) → 0 < length bytes → is_empty bytes ≡ false
 some_bytes [] p = absurd (omega arith)
 some_bytes (b ∷ bytes) p = refl
 
-both_false : (a b : Bool) → b ≡ false → (a && b) ≡ false
+pub both_false : (a b : Bool) → b ≡ false → (a && b) ≡ false
 both_false true b e = e
 both_false false b e = refl
 
-refused_not : (b : Bool) (code : ℕ) → refuse (not b) code ≡ Ok tt → b ≡ true
+pub refused_not : (b : Bool) (code : ℕ) → refuse (not b) code ≡ Ok tt → b ≡ true
 refused_not true code e = refl
 refused_not false code e = absurd (let z : ⊥ = cc in z)
 
@@ -108,11 +109,11 @@ was_signed has p bytes n d a s one is some =
 
 -- ---- its text is among those that are checked
 
-among_later : {A : Type 0} (x : A) (xs ys : List A) → IsAmong x ys → IsAmong x (xs ++ ys)
+pub among_later : {A : Type 0} (x : A) (xs ys : List A) → IsAmong x ys → IsAmong x (xs ++ ys)
 among_later x [] ys i = i
 among_later x (y ∷ xs) ys i = inr (among_later x xs ys i)
 
-among_here : (has : Commands) (o : Origin) (h : History) (es fs : List Event) (bytes n : List ℕ) (x : Keyed)
+pub among_here : (has : Commands) (o : Origin) (h : History) (es fs : List Event) (bytes n : List ℕ) (x : Keyed)
     → text_checked (presented has (present o (after has o h es)) bytes) ≡ x ∷ [] → IsAmong x (texts_checked has o h (es ++ Given bytes n ∷ fs))
 among_here has o h [] fs bytes n x e = subst (λ xs. IsAmong x (xs ++ texts_checked has o (next has o h bytes n) fs)) (sym e) (inl refl)
 among_here has o h (Given b m ∷ es) fs bytes n x e =
@@ -121,7 +122,7 @@ among_here has o h (Cycled ∷ es) fs bytes n x e = among_here has o (PowerCycle
 
 -- ---- cutting texts
 
-cut_front : (a b x y : List ℕ) → length a ≡ length b → a ++ x ≡ b ++ y → x ≡ y
+pub cut_front : (a b x y : List ℕ) → length a ≡ length b → a ++ x ≡ b ++ y → x ≡ y
 cut_front a b x y l e = sym (drop_at a x (length a) refl) ∙ ap (drop (length a)) e ∙ drop_at b y (length a) (sym l)
 
 same_older : (p q newer u v : List ℕ) (f : ℕ) → length p ≡ length q → mac_text p newer u f ≡ mac_text q newer v f → u ≡ v
@@ -153,40 +154,42 @@ uses_apart has o es fs k n g before start live differ =
     apart_across (nonces es) (n ∷ nonces fs) (last_nonce k h) (last_nonce k (after has o g fs)) differ (elim old [ inl none ↦ absurd none | inr i ↦ i ]) new
 
 -- the nonces up to the second use
-first_nonces : (es fs gs : List Event) (bytes n m : List ℕ) → NoncesDiffer (es ++ Given bytes n ∷ fs ++ Given bytes m ∷ gs) → AreApart (nonces es ++ n ∷ nonces fs)
-first_nonces es fs gs bytes n m differ =
-    let listed : nonces (es ++ Given bytes n ∷ fs ++ Given bytes m ∷ gs) ≡ (nonces es ++ n ∷ nonces fs) ++ m ∷ nonces gs =
-    nonces-append (es ++ Given bytes n ∷ fs) (Given bytes m ∷ gs) ∙ ap (λ (l : List (List ℕ)). l ++ m ∷ nonces gs) (nonces-append es (Given bytes n ∷ fs)) in
+first_nonces : (es fs gs : List Event) (bytes other n m : List ℕ) → NoncesDiffer (es ++ Given bytes n ∷ fs ++ Given other m ∷ gs) → AreApart (nonces es ++ n ∷ nonces fs)
+first_nonces es fs gs bytes other n m differ =
+    let listed : nonces (es ++ Given bytes n ∷ fs ++ Given other m ∷ gs) ≡ (nonces es ++ n ∷ nonces fs) ++ m ∷ nonces gs =
+    nonces-append (es ++ Given bytes n ∷ fs) (Given other m ∷ gs) ∙ ap (λ (l : List (List ℕ)). l ++ m ∷ nonces gs) (nonces-append es (Given bytes n ∷ fs)) in
     apart_front (nonces es ++ n ∷ nonces fs) (m ∷ nonces gs) (subst AreApart listed differ)
 
-one_nonce : (p q : Present) (bytes : List ℕ) (x y : Presented) (a : Auth) (v : WasSigned p bytes x a) (w : WasSigned q bytes y a)
+one_nonce : (p q : Present) (bytes other : List ℕ) (x y : Presented) (a : Auth) (v : WasSigned p bytes x a) (w : WasSigned q other y a)
     → (keyed v.signed).text ≡ (keyed w.signed).text → v.signed.session.nonce ≡ w.signed.session.nonce
-one_nonce p q bytes x y a v w one_text =
+one_nonce p q bytes other x y a v w one_text =
     let s = v.signed.session in
     let t = w.signed.session in
     let one_length = sym (length-hmac s.hash v.signed.key (command_text v.signed)) ∙ ap length (sym v.mac ∙ w.mac) ∙ length-hmac t.hash w.signed.key (command_text w.signed) in
     let lengths = length-digest s.hash v.hashed ∙ one_length ∙ sym (length-digest t.hash w.hashed) in
     same_older (digest s.hash v.hashed) (digest t.hash w.hashed) a.nonce s.nonce t.nonce a.attrs lengths (sym v.text_is ∙ one_text ∙ w.text_is)
 
-pub twice : (has : Commands) (o : Origin) (es fs gs : List Event) (bytes n m : List ℕ)
-    → NoncesDiffer (es ++ Given bytes n ∷ fs ++ Given bytes m ∷ gs) → NoCollision has o (es ++ Given bytes n ∷ fs ++ Given bytes m ∷ gs) → IsSealed bytes
-    → IsAccepted has o (after has o [] es) bytes n → IsAccepted has o (after has o [] (es ++ Given bytes n ∷ fs)) bytes m → ⊥
-twice has o es fs gs bytes n m differ apart (c, a, spells, one, is, some) (d, first) (e, second) =
+-- One command with an HMAC is not accepted twice.
+pub twice_as : (has : Commands) (o : Origin) (es fs gs : List Event) (bytes other n m : List ℕ) (c : Command) (a : Auth)
+    → NoncesDiffer (es ++ Given bytes n ∷ fs ++ Given other m ∷ gs) → NoCollision has o (es ++ Given bytes n ∷ fs ++ Given other m ∷ gs)
+    → Spells command c bytes → Spells command c other → c.auths.items ≡ a ∷ [] → is_session a.session ≡ true → 0 < length a.hmac
+    → IsAccepted has o (after has o [] es) bytes n → IsAccepted has o (after has o [] (es ++ Given bytes n ∷ fs)) other m → ⊥
+twice_as has o es fs gs bytes other n m c a differ apart spells others one is some (d, first) (e, second) =
     let h = after has o [] es in
     let j = after has o [] (es ++ Given bytes n ∷ fs) in
     let g : History = Accepted d.command d.reply n ∷ h in
     let s = passed has (present o h) bytes n d first in
-    let t = passed has (present o j) bytes m e second in
-    let reading = exactly_one buffer buffer_sound command bytes in
-    let d_auths : d.command.auths.items ≡ a ∷ [] = ap (λ (x : Command). x.auths.items) (reading.one_value d.command c (spelled_by has (present o h) bytes n d s) spells) ∙ one in
-    let e_auths : e.command.auths.items ≡ a ∷ [] = ap (λ (x : Command). x.auths.items) (reading.one_value e.command c (spelled_by has (present o j) bytes m e t) spells) ∙ one in
+    let t = passed has (present o j) other m e second in
+    let reading = exactly_one buffer buffer_sound command in
+    let d_auths : d.command.auths.items ≡ a ∷ [] = ap (λ (x : Command). x.auths.items) ((reading bytes).one_value d.command c (spelled_by has (present o h) bytes n d s) spells) ∙ one in
+    let e_auths : e.command.auths.items ≡ a ∷ [] = ap (λ (x : Command). x.auths.items) ((reading other).one_value e.command c (spelled_by has (present o j) other m e t) others) ∙ one in
     let v = was_signed has (present o h) bytes n d a s d_auths is some in
-    let w = was_signed has (present o j) bytes m e a t e_auths is some in
-    let among_v = subst (λ (l : List Event). IsAmong (keyed v.signed) (texts_checked has o [] l)) (sym (append_assoc es (Given bytes n ∷ fs) (Given bytes m ∷ gs)))
-    (among_here has o [] es (fs ++ Given bytes m ∷ gs) bytes n (keyed v.signed) (ap text_checked s.asked ∙ v.text)) in
-    let among_w = among_here has o [] (es ++ Given bytes n ∷ fs) gs bytes m (keyed w.signed) (ap text_checked t.asked ∙ w.text) in
+    let w = was_signed has (present o j) other m e a t e_auths is some in
+    let among_v = subst (λ (l : List Event). IsAmong (keyed v.signed) (texts_checked has o [] l)) (sym (append_assoc es (Given bytes n ∷ fs) (Given other m ∷ gs)))
+    (among_here has o [] es (fs ++ Given other m ∷ gs) bytes n (keyed v.signed) (ap text_checked s.asked ∙ v.text)) in
+    let among_w = among_here has o [] (es ++ Given bytes n ∷ fs) gs other m (keyed w.signed) (ap text_checked t.asked ∙ w.text) in
     let one_text = apart (keyed v.signed) (keyed w.signed) among_v among_w (sym v.mac ∙ w.mac) in
-    let older = one_nonce (present o h) (present o j) bytes s.x t.x a v w one_text in
+    let older = one_nonce (present o h) (present o j) bytes other s.x t.x a v w one_text in
     let k = slot_of a.session in
     let x = held o a.session h v.signed.session (sound_along has o k es) v.is in
     let y = held o a.session j w.signed.session (sound_along has o k (es ++ Given bytes n ∷ fs)) w.is in
@@ -194,5 +197,10 @@ twice has o es fs gs bytes n m differ apart (c, a, spells, one, is, some) (d, fi
     let there : j ≡ after has o g fs = after-append has o [] es (Given bytes n ∷ fs) ∙ ap (λ (l : History). after has o l fs) (next_is has o h bytes n d first) in
     let by_it = ap (authorizes k) d_auths ∙ its_slot a is in
     uses_apart has o es fs k n g x.live (λ _. chosen (begins k d.command.body d.reply.body) (authorizes k d.command.auths.items) n (last_nonce k h) by_it)
-    (subst (λ (l : History). lives k l ≡ true) there y.live) (first_nonces es fs gs bytes n m differ)
+    (subst (λ (l : History). lives k l ≡ true) there y.live) (first_nonces es fs gs bytes other n m differ)
     (front ∙ ap (λ (l : History). take least_nonce (last_nonce k l)) there)
+
+pub twice : (has : Commands) (o : Origin) (es fs gs : List Event) (bytes n m : List ℕ)
+    → NoncesDiffer (es ++ Given bytes n ∷ fs ++ Given bytes m ∷ gs) → NoCollision has o (es ++ Given bytes n ∷ fs ++ Given bytes m ∷ gs) → IsSealed bytes
+    → IsAccepted has o (after has o [] es) bytes n → IsAccepted has o (after has o [] (es ++ Given bytes n ∷ fs)) bytes m → ⊥
+twice has o es fs gs bytes n m differ apart (c, a, spells, one, is, some) = twice_as has o es fs gs bytes bytes n m c a differ apart spells spells one is some

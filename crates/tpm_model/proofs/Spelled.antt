@@ -29,14 +29,17 @@ pub record Read (p : Present) (bytes : List ℕ) (x : Presented) : Type 0 where
   pub handles : x.handles ≡ before.handles
   pub auths : x.auths ≡ before.auths
   pub params : x.params ≡ place.rest
+  pub tag : check_tag before.header.code before.header.tag ≡ Ok tt
+  pub area : Here
+  pub listed : read 0 (authorization before.header.tag) area ≡ Ok (before.auths, place)
   pub proof : proof_in p x.code x.handles x.params x.auths ≡ Ok x.proof
 
-code_ok : {A : Type 0} (r : Result A Refusal) (x : A) → code_only r ≡ Ok x → r ≡ Ok x
+pub code_ok : {A : Type 0} (r : Result A Refusal) (x : A) → code_only r ≡ Ok x → r ≡ Ok x
 code_ok (Ok y) x e = let same : y ≡ x = ok_is y x e in ap (λ (z : _). let k : Result _ Refusal = Ok z in k) same
 code_ok (Err e) x c = absurd (let k : ⊥ = cc in k)
 
 -- the three cuts in turn
-read_in_turn : (bytes : List ℕ) (a : Header × Here) (b : List ℕ × Here) (c : List Auth × Here)
+pub read_in_turn : (bytes : List ℕ) (a : Header × Here) (b : List ℕ × Here) (c : List Auth × Here)
     → read 0 header (at_start bytes) ≡ Ok a → read 0 (handles a.0.code) a.1 ≡ Ok b → read 0 (authorization a.0.tag) b.1 ≡ Ok c
     → read 0 before_params (at_start bytes) ≡ Ok (record { header = a.0; handles = b.0; auths = c.0 }, c.1)
 unfolding before_params
@@ -63,6 +66,9 @@ was_read has p bytes x e =
       handles = refl;
       auths = refl;
       params = refl;
+      tag = g.1;
+      area = list.1;
+      listed = code_ok _ auths i.1;
       proof = j.1;
     })
 

@@ -1,7 +1,8 @@
 -- The checks of a command's authorization, in their order, and the session of its reply (Part 1, "Authorizations and
 -- Acknowledgments"; the order is this profile's).
-use Rattle.std.specs.Prelude.{ℕ, ◌+◌, Bool, true, false, not, ◌&&◌, ◌==◌, bytes_eq, List, [], ◌∷◌, length, take, Option, Some, None, Result, Ok, Err, if◌then◌else◌}
+use Rattle.std.specs.Prelude.{ℕ, ◌+◌, Bool, true, false, not, ◌&&◌, ◌==◌, bytes_eq, List, [], ◌∷◌, take, Option, Some, None, Result, Ok, Err, if◌then◌else◌}
 use Rattle.tpm_wire.specs.Reading.{◌>>=◌}
+use Rattle.tpm_types.specs.declared.alg.Alg.{Alg}
 use Rattle.tpm_types.specs.declared.tpms.Auth.{Auth}
 use Rattle.tpm_types.specs.declared.tpms.AuthReply.{AuthReply}
 use Rattle.tpm_types.specs.Alg.{alg_number}
@@ -115,8 +116,12 @@ check_entity (BySession s) e code update_counter = if is_hmac s.session_type the
 abbrev pub how : Session → Entity → Authorizes
 how s e = if is_hmac s.session_type then ByHmac (s.is_bound && is_owner_entity e) else ByPolicy s.policy.auth_value
 
+-- what follows the session key
+abbrev pub follows : Session → Entity → List ℕ
+follows s e = included_auth_value (how s e) (auth_value e)
+
 abbrev pub key_for : Session → Entity → List ℕ
-key_for s e = whole_key s.key (included_auth_value (how s e) (auth_value e))
+key_for s e = whole_key s.key (follows s e)
 
 -- what a session's HMAC is made of: the session, the whole key, the cpHash, and what the command has of the session
 pub record Signed : Type 0 where
@@ -183,12 +188,15 @@ authorize s e code names params update_counter auths = do
 
 -- the session's next nonce: the first bytes of the nonce that is handed in
 abbrev pub nonce_next : Session → List ℕ → List ℕ
-nonce_next s nonce = take (length s.nonce) nonce
+nonce_next s nonce = take s.nonce_length nonce
 
--- The newer nonce is the session's next, the older the caller's. The key is that of the command's check.
+-- The text of a reply's HMAC: the newer nonce is the session's next, the older the caller's.
+abbrev pub reply_text : Alg → CommandCode → (params newer older : List ℕ) → (attributes : ℕ) → List ℕ
+reply_text alg code params newer older attributes = mac_text (rp_hash alg (code_number code) params) newer older attributes
+
+-- The key is that of the command's check.
 abbrev pub reply_mac : Signed → CommandCode → (params nonce : List ℕ) → List ℕ
-reply_mac x code params nonce =
-    hmac x.session.hash x.key (mac_text (rp_hash x.session.hash (code_number code) params) (nonce_next x.session nonce) x.auth.nonce x.auth.attrs)
+reply_mac x code params nonce = hmac x.session.hash x.key (reply_text x.session.hash code params (nonce_next x.session nonce) x.auth.nonce x.auth.attrs)
 
 -- A password is answered with continueSession set and nothing else (Part 1, "Password Authorizations").
 abbrev pub password_reply : AuthReply

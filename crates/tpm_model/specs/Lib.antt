@@ -12,4 +12,5 @@ pub mod Answers
 pub mod Runs
 pub mod Premises
 pub mod InStep
+pub mod Callers
 pub mod Examples

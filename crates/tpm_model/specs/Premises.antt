@@ -1,18 +1,33 @@
 -- What the laws on runs speak of.
-use Rattle.std.specs.Prelude.{◌≡◌, ◌≢◌, ◌⊎◌, ℕ, ◌<◌, true, List, [], ◌∷◌, ◌++◌, length, take, drop, Result, Ok, Err, if◌then◌else◌}
+use Rattle.std.specs.Prelude.{◌≡◌, ◌≢◌, ◌⊎◌, ℕ, ◌<◌, true, List, [], ◌∷◌, ◌++◌, length, take, drop, Option, Some, None, Result, Ok, Err, ◌==◌, if◌then◌else◌}
 use Rattle.tpm_wire.specs.Token.{number_of}
+use Rattle.tpm_wire.specs.declared.refusal.Refusal.{Refusal}
+use Rattle.tpm_wire.specs.Reading.{read_all}
 use Rattle.tpm_wire.specs.Path.{Spells}
+use Rattle.tpm_wire.specs.Spelling.{Fits}
 use Rattle.tpm_types.specs.declared.alg.Alg.{Alg}
 use Rattle.tpm_types.specs.declared.tpms.Auth.{Auth}
+use Rattle.tpm_types.specs.declared.tpms.AuthReply.{AuthReply}
 use Rattle.tpm_types.specs.Handles.{is_session}
+use Rattle.tpm_buffer.specs.declared.code.CommandCode.{CommandCode}
 use Rattle.tpm_buffer.specs.declared.command.Command.{Command}
-use Rattle.tpm_buffer.specs.Commands.{command}
+use Rattle.tpm_buffer.specs.declared.response.ReplyBody.{ReplyBody}
+use Rattle.tpm_buffer.specs.Handles.{first}
+use Rattle.tpm_buffer.specs.Commands.{command, code_for, handles_of}
+use Rattle.tpm_buffer.specs.declared.response.Response.{Response}
+use Rattle.tpm_buffer.specs.declared.response.Response.TheVariants as responses
+use Rattle.tpm_buffer.specs.Responses.{response, done_with}
 use Rattle.tpm_hmac.specs.Hmac.{hmac}
+use Rattle.tpm_hmac.specs.Sessions.{trim}
 use Rattle.tpm_model.specs.Steps.{History, PowerCycle, Origin}
-use Rattle.tpm_model.specs.Present.{present}
-use Rattle.tpm_model.specs.Authorization.{Signed, command_text, needs_none, Proof}
+use Rattle.tpm_model.specs.Sessions.{Session, loaded}
+use Rattle.tpm_model.specs.Present.{Present, present}
+use Rattle.tpm_model.specs.Entities.{Entity, entity_of, names_of}
+use Rattle.tpm_model.specs.Authorization.{Signed, command_text, needs_none, Proof, follows, nonce_next, reply_text}
 use Rattle.tpm_model.specs.Authorization.Proof.{NotAsked, ByPassword, ByMac}
-use Rattle.tpm_model.specs.Answers.{Commands, Presented, presented, Done, outcome, next}
+use Rattle.tpm_model.specs.Answers.{Commands, Presented, presented, Done, outcome, next, reply_params}
+use Rattle.tpm_model.specs.InStep.{CallerSession, InStep}
+use Rattle.tpm_model.specs.Callers.{Seal, sealed_command, sealed, Waiting, waiting, Opened, with_nonce, awaited_text}
 use Rattle.tpm_model.specs.Runs.{Event}
 use Rattle.tpm_model.specs.Runs.Event.{Given, Cycled}
 
@@ -89,6 +104,124 @@ abbrev pub IsAmong : {A : Type 0} → A → List A → Type 0
 IsAmong x [] = ⊥
 IsAmong x (y ∷ ys) = (x ≡ y) ⊎ IsAmong x ys
 
--- No two different texts that are checked in the run of a new device have the same HMAC, each under its own key and hash.
+-- No two different texts among these have the same HMAC, each under its own key and hash.
+abbrev pub AreFree : List Keyed → Type 0
+AreFree texts = (x y : Keyed) → IsAmong x texts → IsAmong y texts → mac_of x ≡ mac_of y → x.text ≡ y.text
+
+-- those that are checked in the run of a new device
 abbrev pub NoCollision : Commands → Origin → List Event → Type 0
-NoCollision has o es = (x y : Keyed) → IsAmong x (texts_checked has o [] es) → IsAmong y (texts_checked has o [] es) → mac_of x ≡ mac_of y → x.text ≡ y.text
+NoCollision has o es = AreFree (texts_checked has o [] es)
+
+-- ---- a caller and a device
+
+-- The command that is sealed has a spelling: each value is one that its layout has room for.
+abbrev pub HasSpelling : Seal → Type 0
+HasSpelling s = Fits (length (sealed s)) command (sealed_command s)
+
+-- what the rules put behind the key of this session
+abbrev pub asked_for : Option Session → Entity → List ℕ
+asked_for None e = []
+asked_for (Some s) e = follows s e
+
+-- It is sealed with the Names as they are now, and with the authValue that the rules ask for, without trailing zeros.
+pub record IsPresent (p : Present) (s : Seal) : Type 0 where
+  pub names : s.names ≡ names_of p (handles_of s.body)
+  pub auth : trim s.auth ≡ trim (asked_for (loaded p.session s.caller.handle) (entity_of p (first (handles_of s.body))))
+
+-- how many bytes are handed in, and how many a nonce of a session has at most
+abbrev pub nonce_bytes : ℕ
+nonce_bytes = 64
+
+abbrev pub most_nonce : ℕ
+most_nonce = 32
+
+-- A caller in step seals a command, with what is there.
+pub record IsReady (o : Origin) (h : History) (s : Seal) : Type 0 where
+  pub in_step : InStep o h s.caller
+  pub present : IsPresent (present o h) s
+  pub spelled : HasSpelling s
+
+-- the caller after an accepted step with this nonce
+abbrev pub rolled : CallerSession → List ℕ → CallerSession
+rolled c nonce = with_nonce c (take (length c.nonce) nonce)
+
+-- the response that was made, and the caller where it is kept
+abbrev pub opened_as : Seal → Done → List ℕ → Opened
+opened_as s d nonce = record { caller = if s.keep then Some (rolled s.caller nonce) else None; response = done_with d.reply }
+
+-- ---- callers and a run
+
+-- The bytes are sealed by one of these.
+abbrev pub IsSealedBy : List Seal → List ℕ → Type 0
+IsSealedBy seals bytes = (s : Seal) × IsAmong s seals × Spells command (sealed_command s) bytes
+
+-- Each buffer that is accepted, and whose session is an HMAC or policy session with a nonempty HMAC, is sealed by one of these.
+abbrev pub AreSealed : Commands → Origin → List Seal → History → List Event → Type 0
+AreSealed has o seals h [] = Unit {0}
+AreSealed has o seals h (Given bytes nonce ∷ es) = (IsAccepted has o h bytes nonce → IsSealed bytes → IsSealedBy seals bytes) × AreSealed has o seals (next has o h bytes nonce) es
+AreSealed has o seals h (Cycled ∷ es) = AreSealed has o seals (PowerCycle ∷ h) es
+
+abbrev pub IsOther : List ℕ → List Seal → Type 0
+IsOther nonce [] = Unit {0}
+IsOther nonce (s ∷ seals) = (nonce ≢ s.nonce) × IsOther nonce seals
+
+-- The nonceCallers that were given are pairwise different.
+abbrev pub SealsDiffer : List Seal → Type 0
+SealsDiffer [] = Unit {0}
+SealsDiffer (s ∷ seals) = IsOther s.nonce seals × SealsDiffer seals
+
+-- the text of a reply's HMAC, under the key of the command's check
+abbrev pub keyed_reply : Signed → CommandCode → (params nonce : List ℕ) → Keyed
+keyed_reply x code params nonce = record {
+  hash = x.session.hash;
+  key = x.key;
+  text = reply_text x.session.hash code params (nonce_next x.session nonce) x.auth.nonce x.auth.attrs;
+}
+
+abbrev pub text_by : Proof → CommandCode → (params nonce : List ℕ) → List Keyed
+text_by NotAsked code params nonce = []
+text_by (ByPassword given wanted) code params nonce = []
+text_by (ByMac x) code params nonce = if needs_none x then [] else keyed_reply x code params nonce ∷ []
+
+abbrev pub text_replied : Result Presented ℕ → Result Done ℕ → (nonce : List ℕ) → List Keyed
+text_replied (Ok x) (Ok d) nonce = text_by x.proof x.code (reply_params d.reply.body) nonce
+text_replied _ _ nonce = []
+
+-- the texts of the HMACs of the replies in a run
+abbrev pub texts_replied : Commands → Origin → History → List Event → List Keyed
+texts_replied has o h [] = []
+texts_replied has o h (Given bytes nonce ∷ es) =
+    text_replied (presented has (present o h) bytes) (outcome has (present o h) bytes nonce) nonce ++ texts_replied has o (next has o h bytes nonce) es
+texts_replied has o h (Cycled ∷ es) = texts_replied has o (PowerCycle ∷ h) es
+
+-- bytes that are given to a Waiting
+pub record Opening : Type 0 where
+  pub seal : Seal
+  pub bytes : List ℕ
+
+abbrev pub keyed_awaited : Waiting → ReplyBody → AuthReply → Keyed
+keyed_awaited w body a = record { hash = w.caller.hash; key = w.key; text = awaited_text w body a }
+
+abbrev pub text_awaited : Waiting → ReplyBody → List AuthReply → List Keyed
+text_awaited w body (a ∷ []) = if length a.nonce == length w.caller.nonce then keyed_awaited w body a ∷ [] else []
+text_awaited w body _ = []
+
+abbrev pub text_opened : Waiting → Result Response Refusal → List Keyed
+text_opened w (Ok (responses.Done body auths)) = text_awaited w body auths.items
+text_opened w _ = []
+
+-- the texts whose HMACs are checked where these are opened
+abbrev pub texts_opened : List Opening → List Keyed
+texts_opened [] = []
+texts_opened (x ∷ xs) = text_opened (waiting x.seal) (read_all (response (code_for x.seal.body)) x.bytes) ++ texts_opened xs
+
+-- The same of the texts that are checked in the run of a new device, those of its replies, and those that opening checks.
+abbrev pub NoCollisionWith : Commands → Origin → List Event → List Opening → Type 0
+NoCollisionWith has o es xs = AreFree (texts_checked has o [] es ++ (texts_replied has o [] es ++ texts_opened xs))
+
+-- A run of a new device: its accepted commands with session HMACs are sealed by callers, the nonceCallers are pairwise different,
+-- and no two different texts have the same HMAC.
+pub record IsOfCallers (has : Commands) (o : Origin) (seals : List Seal) (xs : List Opening) (es : List Event) : Type 0 where
+  pub sealed : AreSealed has o seals [] es
+  pub differ : SealsDiffer seals
+  pub no_collision : NoCollisionWith has o es xs

@@ -131,6 +131,8 @@ pub record Session : Type 0 where
   pub hash : Alg
   pub key : List ℕ
   pub nonce : List ℕ
+  -- how many bytes its nonces have
+  pub nonce_length : ℕ
   pub is_bound : Bool
   pub policy : Policy
 
@@ -156,6 +158,7 @@ as_session o last made s = record {
   hash = s.request.auth_hash;
   key = key_of o s;
   nonce = nonce_from s.request last;
+  nonce_length = length s.request.nonce_caller;
   is_bound = is_owner_bind s.request.bind;
   policy = policy_of s.request.auth_hash made;
 }

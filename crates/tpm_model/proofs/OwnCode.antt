@@ -1,0 +1,103 @@
+-- A command that was done is one of the code that was read, and one with a session is one that needs authorization.
+use Rattle.std.proofs.Common.{◌≡◌, ℕ, List, [], ◌∷◌, length, Ok, Bool, true, false, refl, sym, ap, ◌∙◌, subst}
+use Rattle.std.specs.Prelude.{◌==◌, if◌then◌else◌}
+use Rattle.tpm_wire.specs.declared.refusal.Refusal.{Refusal}
+use Rattle.tpm_wire.specs.Buffers.{buffer, Layout}
+use Rattle.tpm_wire.specs.Layout.{either}
+use Rattle.tpm_wire.specs.Layout.Form.{done, number, text, field, area, list, by_left, marked}
+use Rattle.tpm_wire.specs.Token.{Here, at_start}
+use Rattle.tpm_wire.specs.Reading.{read, read_all, finish, ◌>>=◌}
+use Rattle.tpm_wire.specs.Spelling.{spelling}
+use Rattle.tpm_wire.proofs.Agreement.{bind_ok}
+use Rattle.tpm_types.specs.declared.tpms.Auth.{Auth}
+use Rattle.tpm_buffer.specs.declared.code.CommandCode.{CommandCode}
+use Rattle.tpm_buffer.specs.declared.code.CommandCode.TheVariants as codes
+use Rattle.tpm_buffer.specs.declared.params.Params.{Params}
+use Rattle.tpm_buffer.specs.declared.params.Params.TheVariants as params
+use Rattle.tpm_buffer.specs.Handles.{needs_authorization}
+use Rattle.tpm_buffer.specs.Parameters.{nv_define_space, startup, nv_read, flush_context, policy_command_code, policy_or, start_auth_session, pcr_read, policy_pcr, pcr_extend, parameters, params_code}
+use Rattle.tpm_buffer.specs.Commands.{sessions, authorization_size, authorization, body_from, code_for}
+use Rattle.tpm_model.specs.Codes.{auth_missing_code, auth_context_code}
+use Rattle.tpm_model.specs.Present.{Present}
+use Rattle.tpm_model.specs.Authorization.{refuse as test}
+use Rattle.tpm_model.specs.Answers.{Commands, Done}
+use Rattle.tpm_model.proofs.Accepted.{Passed}
+use Rattle.tpm_model.proofs.Spelled.{was_read, code_ok}
+use Rattle.tpm_model.proofs.Sealing.{okay, okay_is}
+use Rattle.tpm_model.proofs.ReplySessions.{finished}
+
+-- ---- what a layout ends with
+
+Ends : {A : Type 0} → (A → Type 0) → Layout A → Type 0
+Ends P (done x) = P x
+Ends P (field get l f) = (y : _) → Ends P (f y)
+Ends P _ = ⊥
+
+ends : {A : Type 0} (P : A → Type 0) (mark : ℕ) (l : Layout A) (h : Here) (x : A × Here) → Ends P l → read mark l h ≡ Ok x → P x.0
+unfolding Ends
+ends P mark (done y) h x p e = subst P (ap (λ (z : _ × Here). z.0) (okay_is {E = Refusal} (y, h) x e)) p
+ends P mark (field get l f) h x p e =
+    let a = bind_ok (read mark l h) _ x e in
+    ends P mark (f a.0.0) a.0.1 x (p a.0.0) a.2
+ends P mark (number width meaning number_for fault) h x p e = absurd p
+ends P mark (text n judge text_for) h x p e = absurd p
+ends P mark (area n fault l) h x p e = absurd p
+ends P mark (list most stops l) h x p e = absurd p
+ends P mark (by_left f) h x p e = absurd p
+ends P mark (marked n l) h x p e = absurd p
+
+own_params : (code : CommandCode) → Ends (λ p. params_code p ≡ code) (parameters code)
+unfolding Ends nv_define_space startup nv_read flush_context policy_command_code policy_or start_auth_session pcr_read policy_pcr pcr_extend
+own_params codes.NvDefineSpace = λ auth public. refl
+own_params codes.Startup = λ kind. refl
+own_params codes.NvRead = λ size offset. refl
+own_params codes.FlushContext = λ handle. refl
+own_params codes.PolicyCommandCode = λ code. refl
+own_params codes.PolicyOr = λ digests. refl
+own_params codes.StartAuthSession = λ nonce salt kind symmetric alg. refl
+own_params codes.PcrRead = λ selected. refl
+own_params codes.PolicyPcr = λ d selected. refl
+own_params codes.PcrExtend = λ digests. refl
+own_params _ = refl
+
+params_are : (code : CommandCode) (bytes : List ℕ) (p : Params) → read_all (parameters code) bytes ≡ Ok p → params_code p ≡ code
+params_are code bytes p e =
+    let a = bind_ok (read 0 (parameters code) (at_start bytes) >>= finish buffer) (λ x. okay {E = Refusal} x.0) p e in
+    let b = bind_ok (read 0 (parameters code) (at_start bytes)) (finish buffer) a.0 a.1 in
+    let same : a.0.0 ≡ p = okay_is {E = Refusal} a.0.0 p a.2 in
+    let first = ends (λ q. params_code q ≡ code) 0 (parameters code) (at_start bytes) b.0 (own_params code) b.1 in
+    subst (λ q. params_code q ≡ code) (ap (λ (z : Params × Here). z.0) (finished b.0 a.0 b.2) ∙ same) first
+
+again : (p : Params) (hs : List ℕ) → code_for (body_from hs p) ≡ params_code p
+again params.PolicyGetDigest hs = refl
+again _ hs = refl
+
+-- What was done is a command of the code that was read.
+pub own_code : (has : Commands) (p : Present) (bytes n : List ℕ) (d : Done) (s : Passed has p bytes n d) → code_for d.command.body ≡ s.x.code
+own_code has p bytes n d s = ap code_for s.body ∙ again s.params s.x.handles ∙ params_are s.x.code s.x.params s.params (code_ok _ s.params s.read)
+
+-- ---- a session is there
+
+without : (two : Bool) (l : Layout (List Auth)) (h : Here) (x : List Auth × Here) → two ≡ false → read 0 (either two l (done [])) h ≡ Ok x → x.0 ≡ []
+without true l h x e r = absurd (let z : ⊥ = cc in z)
+without false l h x e r = sym (ap (λ (z : List Auth × Here). z.0) (okay_is {E = Refusal} ([], h) x r))
+
+no_area : (t : ℕ) (h : Here) (x : List Auth × Here) → (t == 0x8002) ≡ false → read 0 (authorization t) h ≡ Ok x → x.0 ≡ []
+unfolding authorization
+no_area t h x e r = without (t == 0x8002) (field (λ auths. length (spelling sessions auths)) authorization_size (λ n. area n 0x144 sessions)) h x e r
+
+passed_not : (b : Bool) (code : ℕ) → test b code ≡ Ok tt → b ≡ false
+passed_not true code e = absurd (let z : ⊥ = cc in z)
+passed_not false code e = refl
+
+needed : (needs : Bool) (t : ℕ) (h : Here) (a : Auth) (x : List Auth × Here) → (if needs then test (t == 0x8001) auth_missing_code else test (t == 0x8002) auth_context_code) ≡ Ok tt
+    → read 0 (authorization t) h ≡ Ok x → x.0 ≡ a ∷ [] → needs ≡ true
+needed true t h a x c r one = refl
+needed false t h a x c r one =
+    let none : [] ≡ a ∷ [] = sym (no_area t h x (passed_not (t == 0x8002) auth_context_code c) r) ∙ one in absurd (let z : ⊥ = cc in z)
+
+pub by_session_needs : (has : Commands) (p : Present) (bytes n : List ℕ) (d : Done) (s : Passed has p bytes n d) (a : Auth) → s.x.auths ≡ a ∷ [] → needs_authorization (code_for d.command.body) ≡ true
+by_session_needs has p bytes n d s a one =
+    let r = was_read has p bytes s.x s.asked in
+    ap needs_authorization (own_code has p bytes n d s ∙ r.code)
+    ∙ needed (needs_authorization r.before.header.code) r.before.header.tag r.area a (r.before.auths, r.place) r.tag r.listed (sym r.auths ∙ one)

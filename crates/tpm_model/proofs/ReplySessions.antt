@@ -1,0 +1,160 @@
+-- The sessions of a response are read alike, whichever command it is read as the response to.
+use Rattle.std.proofs.Common.{◌≡◌, ℕ, List, [], length, take, Result, Ok, Some, None, Option, Bool, true, false, refl, sym, ap, ◌∙◌, subst}
+use Rattle.std.specs.Prelude.{◌==◌, if◌then◌else◌}
+use Rattle.tpm_wire.specs.declared.refusal.Refusal.{Refusal}
+use Rattle.tpm_wire.specs.Buffers.{buffer, Layout, size_code}
+use Rattle.tpm_wire.specs.Layout.{Form, either}
+use Rattle.tpm_wire.specs.Layout.Form.{area}
+use Rattle.tpm_wire.specs.Token.{Here, past, at_start, number_of, or_fault}
+use Rattle.tpm_wire.specs.Reading.{read, read_all, finish, refuse, unless, ◌>>=◌}
+use Rattle.tpm_wire.proofs.Agreement.{bind_ok, number_ok}
+use Rattle.tpm_wire.proofs.Buffers.{buffer_sound}
+use Rattle.tpm_types.specs.declared.tpms.AuthReply.{AuthReply}
+use Rattle.tpm_buffer.specs.declared.code.CommandCode.{CommandCode}
+use Rattle.tpm_buffer.specs.declared.code.CommandCode.TheVariants as codes
+use Rattle.tpm_buffer.specs.declared.response.ReplyBody.{ReplyBody}
+use Rattle.tpm_buffer.specs.declared.response.Response.{Response}
+use Rattle.tpm_buffer.specs.declared.response.Response.TheVariants as responses
+use Rattle.tpm_buffer.specs.Handles.{needs_authorization}
+use Rattle.tpm_buffer.specs.Commands.{command_size}
+use Rattle.tpm_buffer.specs.Replies.{reply_handles, reply_parameters}
+use Rattle.tpm_buffer.specs.Responses.{is_response_tag, response_tag, response_front, response_code, parameter_size, reply_sessions, Reply, with_sessions, without_sessions, reply_behind, reply, reply_of, done_with, behind_code, response}
+use Rattle.tpm_model.proofs.Sealing.{okay, okay_is}
+
+-- ---- the sessions alone
+
+abbrev pub auths_at : Bool → Here → Result (List AuthReply × Here) Refusal
+auths_at true h = read 0 parameter_size h >>= λ s. read 0 reply_sessions (past s.0 s.1)
+auths_at false h = Ok ([], h)
+
+abbrev pub session_list : List ℕ → Result (List AuthReply × Here) Refusal
+session_list bytes = read 0 response_front (at_start bytes) >>= λ f. read 0 (response_code f.0.0) f.1 >>= λ n. auths_at (f.0.0 == 0x8002) n.1
+
+-- The list has these sessions.
+abbrev pub Lists : Result (List AuthReply × Here) Refusal → List AuthReply → Type 0
+Lists r auths = (g : Here) × (r ≡ Ok (auths, g))
+
+pub one_list : (r : Result (List AuthReply × Here) Refusal) (xs ys : List AuthReply) → Lists r xs → Lists r ys → xs ≡ ys
+one_list r xs ys a b = ap (λ (x : List AuthReply × Here). x.0) (okay_is {E = Refusal} (xs, a.0) (ys, b.0) (sym a.1 ∙ b.1))
+
+-- what comes after a success
+goes_on : {A B : Type 0} (r : Result A Refusal) (f : A → Result B Refusal) (x : A) (y : Result B Refusal) → r ≡ Ok x → f x ≡ y → (r >>= f) ≡ y
+goes_on r f x y e g = ap (λ z. z >>= f) e ∙ g
+
+-- ---- in a response to a command
+
+behind_room : {A : Type 0} (o : Option ℕ) (h : Here) (next : Result A Refusal) (x : A) → unless buffer o 0 h next ≡ Ok x → next ≡ Ok x
+behind_room None h next x e = e
+behind_room (Some fault) h next x e = absurd (let z : ⊥ = cc in z)
+
+at_end : {A : Type 0} (b : Bool) (y x : A × Here) (n : ℕ) (h : Here) → (if b then okay {E = Refusal} (y.0, past n h) else refuse buffer 0 size_code y.1) ≡ Ok x → x.1 ≡ past n h
+at_end true y x n h e = sym (ap (λ (z : _ × Here). z.1) (okay_is {E = Refusal} (y.0, past n h) x e))
+at_end false y x n h e = absurd (let z : ⊥ = cc in z)
+
+area_past : {A : Type 0} (n : ℕ) (l : Layout A) (h : Here) (x : A × Here) → read 0 (area n size_code l) h ≡ Ok x → x.1 ≡ past n h
+area_past n l h x e =
+    let inside = behind_room (buffer.lacks 0 h.at n (length h.rest)) h _ x e in
+    let a = bind_ok (read 0 l (record { rest = take n h.rest; at = h.at })) _ x inside in
+    at_end (length a.0.1.rest == 0) a.0 x n h a.2
+
+abbrev reply_at : ReplyBody → List AuthReply → Here → Reply × Here
+reply_at body auths h = (record { body = body; auths = auths }, h)
+
+with_listed : (l : Layout ReplyBody) (h : Here) (x : Reply × Here) → read 0 (with_sessions l) h ≡ Ok x → Lists (auths_at true h) x.0.auths
+unfolding with_sessions
+with_listed l h x e =
+    let a = bind_ok (read 0 parameter_size h) _ x e in
+    let b = bind_ok (read 0 (area a.0.0 size_code l) a.0.1) _ x a.2 in
+    let c = bind_ok (read 0 reply_sessions b.0.1) _ x b.2 in
+    let same = okay_is {E = Refusal} (reply_at b.0.0 c.0.0 c.0.1) x c.2 in
+    let there = area_past a.0.0 l a.0.1 b.0 b.1 in
+    let here : read 0 reply_sessions (past a.0.0 a.0.1) ≡ Ok (x.0.auths, c.0.1) = ap (read 0 reply_sessions) (sym there) ∙ c.1 ∙ ap (λ (z : Reply × Here). okay {E = Refusal} (z.0.auths, c.0.1)) same in
+    (c.0.1, goes_on (read 0 parameter_size h) (λ s. read 0 reply_sessions (past s.0 s.1)) a.0 (Ok (x.0.auths, c.0.1)) a.1 here)
+
+without_listed : (l : Layout ReplyBody) (h : Here) (x : Reply × Here) → read 0 (without_sessions l) h ≡ Ok x → Lists (auths_at false h) x.0.auths
+unfolding without_sessions
+without_listed l h x e =
+    let a = bind_ok (read 0 l h) _ x e in
+    let same = okay_is {E = Refusal} (reply_at a.0.0 [] a.0.1) x a.2 in
+    (h, ap (λ (z : Reply × Here). okay {E = Refusal} (z.0.auths, h)) same)
+
+either_listed : (two : Bool) (l : Layout ReplyBody) (h : Here) (x : Reply × Here) → read 0 (either two (with_sessions l) (without_sessions l)) h ≡ Ok x → Lists (auths_at two h) x.0.auths
+either_listed true l h x e = with_listed l h x e
+either_listed false l h x e = without_listed l h x e
+
+abbrev none : Layout (List ℕ)
+none = Form.done []
+
+no_handles : (code : CommandCode) → needs_authorization code ≡ true → reply_handles code ≡ none
+no_handles codes.StartAuthSession e = absurd (let z : ⊥ = cc in z)
+no_handles _ e = refl
+
+reply_listed : (code : CommandCode) (t : ℕ) (h : Here) (x : Reply × Here) → needs_authorization code ≡ true → read 0 (reply code t) h ≡ Ok x → Lists (auths_at (t == 0x8002) h) x.0.auths
+reply_listed code t h x needs e =
+    let f : (read 0 none h >>= λ y. read 0 (reply_behind t (reply_parameters code y.0)) y.1) ≡ Ok x =
+    subst (λ l. (read 0 l h >>= λ y. read 0 (reply_behind t (reply_parameters code y.0)) y.1) ≡ Ok x) (no_handles code needs) e in
+    either_listed (t == 0x8002) (reply_parameters code []) h x f
+
+abbrev is_done : Response → List AuthReply → Type 0
+is_done r auths = reply_of r ≡ record { body = (reply_of r).body; auths = auths }
+
+code_listed : (code : CommandCode) (t n : ℕ) (h : Here) (body : ReplyBody) (auths : List AuthReply) (g : Here) → needs_authorization code ≡ true
+    → read 0 (behind_code code t n) h ≡ Ok (done_with (record { body = body; auths = auths }), g) → Lists (auths_at (t == 0x8002) h) auths
+code_listed code t n h body auths g needs e = go (n == 0) e
+  where
+    go : (zero : Bool) → read 0 (either zero (Form.field reply_of (reply code t) (λ r. Form.done (done_with r))) (Form.done (responses.Code n))) h ≡ Ok (done_with (record { body = body; auths = auths }), g)
+        → Lists (auths_at (t == 0x8002) h) auths
+    go true e =
+        let a = bind_ok (read 0 (reply code t) h) (λ r. okay {E = Refusal} (done_with r.0, r.1)) _ e in
+        let same = okay_is {E = Refusal} (done_with a.0.0, a.0.1) (done_with (record { body = body; auths = auths }), g) a.2 in
+        subst (Lists (auths_at (t == 0x8002) h)) (ap (λ (z : Response × Here). (reply_of z.0).auths) same) (reply_listed code t h a.0 needs a.1)
+    go false e =
+        let same = okay_is {E = Refusal} (responses.Code n, h) (done_with (record { body = body; auths = auths }), g) e in
+        absurd (let k : responses.Code n ≡ done_with (record { body = body; auths = auths }) = ap (λ (z : Response × Here). z.0) same in let z : ⊥ = cc in z)
+
+pub finished : {A : Type 0} (x y : A × Here) → finish buffer x ≡ Ok y → x ≡ y
+finished x y e = go (length x.1.rest == 0) e
+  where
+    go : (b : Bool) → (if b then okay {E = Refusal} x else refuse buffer 0 size_code x.1) ≡ Ok y → x ≡ y
+    go true e = okay_is {E = Refusal} x y e
+    go false e = absurd (let z : ⊥ = cc in z)
+
+-- Where it is read, its sessions are those of the list.
+pub listed : (code : CommandCode) (bytes : List ℕ) (body : ReplyBody) (auths : List AuthReply) → needs_authorization code ≡ true
+    → read_all (response code) bytes ≡ Ok (done_with (record { body = body; auths = auths })) → Lists (session_list bytes) auths
+unfolding response
+listed code bytes body auths needs e =
+    let r = done_with (record { body = body; auths = auths }) in
+    let done = bind_ok (read 0 (response code) (at_start bytes) >>= finish buffer) (λ x. okay {E = Refusal} x.0) r e in
+    let whole = bind_ok (read 0 (response code) (at_start bytes)) (finish buffer) done.0 done.1 in
+    let value : whole.0.0 ≡ r = ap (λ (z : Response × Here). z.0) (finished whole.0 done.0 whole.2) ∙ okay_is {E = Refusal} done.0.0 r done.2 in
+    let a = bind_ok (read 0 response_front (at_start bytes)) _ whole.0 whole.1 in
+    let b = bind_ok (read 0 (response_code a.0.0.0) a.0.1) _ whole.0 a.2 in
+    let c = code_listed code a.0.0.0 b.0.0 b.0.1 body auths whole.0.1 needs (b.2 ∙ ap (λ (z : Response). okay {E = Refusal} (z, whole.0.1)) value) in (
+      c.0,
+      goes_on (read 0 response_front (at_start bytes)) (λ f. read 0 (response_code f.0.0) f.1 >>= λ n. auths_at (f.0.0 == 0x8002) n.1) a.0 (Ok (auths, c.0)) a.1
+          (goes_on (read 0 (response_code a.0.0.0) a.0.1) (λ n. auths_at (a.0.0.0 == 0x8002) n.1) b.0 (Ok (auths, c.0)) b.1 c.1),
+    )
+
+-- ---- a response without sessions
+
+tag_is : (t : ℕ) (b : Bool) (y : ℕ) → or_fault {F = ℕ} (if b then Some t else None) 0x01E ≡ Ok y → t ≡ y
+tag_is t true y e = okay_is {E = ℕ} t y e
+tag_is t false y e = absurd (let z : ⊥ = cc in z)
+
+pub front_tag : (bytes : List ℕ) (x : (ℕ × ℕ) × Here) → read 0 response_front (at_start bytes) ≡ Ok x → number_of (take 2 bytes) ≡ x.0.0
+unfolding response_front response_tag
+front_tag bytes x e =
+    let a = bind_ok (read 0 response_tag (at_start bytes)) _ x e in
+    let t = number_of (take 2 bytes) in
+    let n = number_ok buffer buffer_sound 0 2 (λ left n. if is_response_tag n then Some n else None) (λ n. n) 0x01E (at_start bytes) a.0 a.1 in
+    let b = bind_ok (read 0 command_size a.0.1) _ x a.2 in
+    tag_is t (is_response_tag t) a.0.0 n.1 ∙ ap (λ (z : (ℕ × ℕ) × Here). z.0.0) (okay_is {E = Refusal} ((a.0.0, b.0.0), b.0.1) x b.2)
+
+pub none_listed : (bytes : List ℕ) (auths : List AuthReply) → number_of (take 2 bytes) ≡ 0x8001 → Lists (session_list bytes) auths → auths ≡ []
+none_listed bytes auths tag l =
+    let a = bind_ok (read 0 response_front (at_start bytes)) _ (auths, l.0) l.1 in
+    let b = bind_ok (read 0 (response_code a.0.0.0) a.0.1) _ (auths, l.0) a.2 in
+    let t : a.0.0.0 ≡ 0x8001 = sym (front_tag bytes a.0 a.1) ∙ tag in
+    let nothing : okay {E = Refusal} ([], b.0.1) ≡ Ok (auths, l.0) = subst (λ (t : ℕ). auths_at (t == 0x8002) b.0.1 ≡ Ok (auths, l.0)) t b.2 in
+    sym (ap (λ (z : List AuthReply × Here). z.0) (okay_is {E = Refusal} ([], b.0.1) (auths, l.0) nothing))

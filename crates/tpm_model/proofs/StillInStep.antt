@@ -1,0 +1,111 @@
+-- After an accepted step of a session that is kept, its caller is in step with the new nonce.
+use Rattle.std.proofs.Common.{◌≡◌, ℕ, ◌≤◌, List, [], ◌∷◌, length, take, Some, None, Option, Bool, true, false, not, ◌&&◌, ◌||◌, refl, sym, ap, ◌∙◌, subst, arith, length-take}
+use Rattle.std.specs.Prelude.{if◌then◌else◌, option_map}
+use Rattle.tpm_types.specs.declared.tpms.Auth.{Auth}
+use Rattle.tpm_types.specs.Handles.{is_session}
+use Rattle.tpm_types.specs.Tpma.{continues}
+use Rattle.tpm_buffer.specs.declared.command.Command.{Command}
+use Rattle.tpm_buffer.specs.declared.command.CommandBody.{CommandBody}
+use Rattle.tpm_buffer.specs.declared.command.CommandBody.TheVariants as bodies
+use Rattle.tpm_buffer.specs.declared.response.ReplyBody.{ReplyBody}
+use Rattle.tpm_buffer.specs.Handles.{needs_authorization}
+use Rattle.tpm_buffer.specs.Commands.{code_for}
+use Rattle.tpm_buffer.specs.Responses.{Reply}
+use Rattle.tpm_model.specs.Steps.{History, Accepted, Origin}
+use Rattle.tpm_model.specs.Policies.{Assertion}
+use Rattle.tpm_model.specs.Sessions.{Session, slot_of, lives, begins, clears, closes, is_of_slot, authorizes, Start, start_of, last_nonce, assertions_of, as_session, session_at, loaded, if_of_kind, is_handle_of}
+use Rattle.tpm_model.specs.InStep.{CallerSession, Agrees, InStep}
+use Rattle.tpm_model.specs.Callers.{attrs_for}
+use Rattle.tpm_model.specs.Premises.{nonce_bytes, most_nonce, rolled}
+use Rattle.tpm_model.proofs.Replay.{its_slot}
+use Rattle.tpm_model.proofs.Sealing.{some, some_is}
+
+-- ---- a session that is loaded, by its start
+
+pub record Held (o : Origin) (h : History) (handle : ℕ) (y : Session) : Type 0 where
+  pub live : lives (slot_of handle) h ≡ true
+  pub start : Start
+  pub there : start_of (slot_of handle) h ≡ Some start
+  pub is : y ≡ as_session o (last_nonce (slot_of handle) h) (assertions_of (slot_of handle) h) start
+  pub kind : is_handle_of handle y ≡ true
+
+of_kind : (handle : ℕ) (x : Option Session) (y : Session) → if_of_kind handle x ≡ Some y → (x ≡ Some y) × (is_handle_of handle y ≡ true)
+of_kind handle None y e = absurd (let z : ⊥ = cc in z)
+of_kind handle (Some x) y e = go (is_handle_of handle x) refl e
+  where
+    go : (b : Bool) → is_handle_of handle x ≡ b → (if b then Some x else None) ≡ Some y → (some x ≡ Some y) × (is_handle_of handle y ≡ true)
+    go true t e = (e, subst (λ z. is_handle_of handle z ≡ true) (some_is x y e) t)
+    go false t e = absurd (let z : ⊥ = cc in z)
+
+by_start : (o : Origin) (live : Bool) (start : Option Start) (n : List ℕ) (made : List Assertion) (y : Session) → (if live then option_map (as_session o n made) start else None) ≡ Some y
+    → (live ≡ true) × (x : Start) × (start ≡ Some x) × (y ≡ as_session o n made x)
+by_start o true None n made y e = absurd (let z : ⊥ = cc in z)
+by_start o true (Some x) n made y e = (refl, x, refl, sym (some_is (as_session o n made x) y e))
+by_start o false start n made y e = absurd (let z : ⊥ = cc in z)
+
+pub held : (o : Origin) (h : History) (handle : ℕ) (y : Session) → loaded (session_at o h) handle ≡ Some y → Held o h handle y
+held o h handle y e =
+    let k = slot_of handle in
+    let a = of_kind handle (session_at o h k) y e in
+    let b = by_start o (lives k h) (start_of k h) (last_nonce k h) (assertions_of k h) y a.0 in
+    record { live = b.0; start = b.1; there = b.2; is = b.3; kind = a.1 }
+
+-- ---- the step
+
+no_begin : (k : ℕ) (body : CommandBody) (r : ReplyBody) → needs_authorization (code_for body) ≡ true → begins k body r ≡ false
+no_begin k (bodies.StartAuthSession start) r e = absurd (let z : ⊥ = cc in z)
+no_begin k _ r e = refl
+
+no_clear : (k : ℕ) (body : CommandBody) → needs_authorization (code_for body) ≡ true → clears k body ≡ false
+no_clear k (bodies.Startup kind) e = absurd (let z : ⊥ = cc in z)
+no_clear k (bodies.FlushContext handle) e = absurd (let z : ⊥ = cc in z)
+no_clear k _ e = refl
+
+no_close : (b : Bool) → (b && not (continues (attrs_for true))) ≡ false
+no_close true = refl
+no_close false = refl
+
+-- what a step of a session leaves of its slot
+lives_on : (k : ℕ) (c : Command) (r : Reply) (n : List ℕ) (h : History) (a : Auth) → needs_authorization (code_for c.body) ≡ true → c.auths.items ≡ a ∷ [] → a.attrs ≡ attrs_for true
+    → lives k h ≡ true → lives k (Accepted c r n ∷ h) ≡ true
+lives_on k c r n h a needs one keep l =
+    let close : closes k c.auths.items ≡ false = ap (closes k) one ∙ ap (λ (f : ℕ). is_of_slot k a && not (continues f)) keep ∙ no_close (is_of_slot k a) in
+    rw (no_begin k c.body r.body needs, no_clear k c.body needs, close) l
+
+start_on : (k : ℕ) (c : Command) (r : Reply) (n : List ℕ) (h : History) → needs_authorization (code_for c.body) ≡ true → start_of k (Accepted c r n ∷ h) ≡ start_of k h
+start_on k c r n h needs = rw (no_begin k c.body r.body needs) refl
+
+nonce_on : (k : ℕ) (c : Command) (r : Reply) (n : List ℕ) (h : History) → authorizes k c.auths.items ≡ true → last_nonce k (Accepted c r n ∷ h) ≡ n
+nonce_on k c r n h by = go (begins k c.body r.body) (authorizes k c.auths.items) by
+  where
+    go : (b a : Bool) → a ≡ true → (if b || a then n else last_nonce k h) ≡ n
+    go true a e = refl
+    go false true e = refl
+    go false false e = absurd (let z : ⊥ = cc in z)
+
+-- A caller that keeps its session is in step after the step.
+pub still : (o : Origin) (h : History) (c : CallerSession) (y : Session) (d : Command) (r : Reply) (n : List ℕ) (a : Auth)
+    → loaded (session_at o h) c.handle ≡ Some y → Agrees c y → is_session c.handle ≡ true → length n ≡ nonce_bytes → length c.nonce ≤ most_nonce
+    → needs_authorization (code_for d.body) ≡ true → d.auths.items ≡ a ∷ [] → a.session ≡ c.handle → a.attrs ≡ attrs_for true → InStep o (Accepted d r n ∷ h) (rolled c n)
+still o h c y d r n a is agrees session whole short needs one handle keep =
+    let k = slot_of c.handle in
+    let g : History = Accepted d r n ∷ h in
+    let x = held o h c.handle y is in
+    let by : authorizes k d.auths.items ≡ true = ap (authorizes k) one ∙ subst (λ (i : ℕ). authorizes (slot_of i) (a ∷ []) ≡ true) handle (its_slot a (subst (λ (i : ℕ). is_session i ≡ true) (sym handle) session)) in
+    let live = lives_on k d r n h a needs one keep x.live in
+    let start : start_of k g ≡ Some x.start = start_on k d r n h needs ∙ x.there in
+    let nonce = nonce_on k d r n h by in
+    let z = as_session o n (assertions_of k g) x.start in
+    let there : session_at o g k ≡ Some z = rw (live, start, nonce) refl in
+    let kind : is_handle_of c.handle z ≡ true = subst (λ s. is_handle_of c.handle s ≡ true) x.is x.kind in
+    let load : loaded (session_at o g) c.handle ≡ Some z = rw (there, kind) refl in
+    let long : length x.start.request.nonce_caller ≡ length c.nonce = sym (ap (λ (s : Session). s.nonce_length) x.is) ∙ agrees.length in (
+      z,
+      load,
+      record {
+        hash = sym (ap (λ (s : Session). s.hash) x.is) ∙ agrees.hash;
+        key = sym (ap (λ (s : Session). s.key) x.is) ∙ agrees.key;
+        nonce = ap (λ (m : ℕ). take m n) long;
+        length = omega (arith, long, length-take (length c.nonce) n);
+      },
+    )
