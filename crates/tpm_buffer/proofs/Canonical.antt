@@ -72,6 +72,8 @@ handles_again (params.NvDefineSpace auth public) [] t = absurd t
 handles_again params.NvIncrement (n ∷ m ∷ ns) t = two (nv_auth_number (nv_auth_in n)) (index_in m) n m ns (nv_auth_again n t.0) (rw t.1.0 refl) t.1.1
 handles_again params.NvIncrement (n ∷ []) t = absurd t.1
 handles_again params.NvIncrement [] t = absurd t
+handles_again (params.PcrEvent event) (n ∷ ns) t = one (pcr_or_null_number (pcr_or_null_in n)) n ns (pcr_or_null_again n t.0) t.1
+handles_again (params.PcrEvent event) [] t = absurd t
 handles_again params.PcrReset (n ∷ ns) t = one (register_in n) n ns (rw t.0 refl) t.1
 handles_again params.PcrReset [] t = absurd t
 handles_again (params.Startup kind) hs t = sym t
@@ -104,6 +106,7 @@ code_again : (p : Params) (hs : List ℕ) → code_for (body_from hs p) ≡ para
 code_again params.NvUndefineSpace hs = refl
 code_again (params.NvDefineSpace auth public) hs = refl
 code_again params.NvIncrement hs = refl
+code_again (params.PcrEvent event) hs = refl
 code_again params.PcrReset hs = refl
 code_again (params.Startup kind) hs = refl
 code_again (params.NvRead size offset) hs = refl
@@ -123,6 +126,7 @@ params_again : (p : Params) (hs : List ℕ) → params_of (body_from hs p) ≡ p
 params_again params.NvUndefineSpace hs = refl
 params_again (params.NvDefineSpace auth public) hs = refl
 params_again params.NvIncrement hs = refl
+params_again (params.PcrEvent event) hs = refl
 params_again params.PcrReset hs = refl
 params_again (params.Startup kind) hs = refl
 params_again (params.NvRead size offset) hs = refl

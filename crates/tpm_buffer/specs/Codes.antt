@@ -3,12 +3,13 @@ use Rattle.std.specs.Prelude.{ℕ, List, [], ◌∷◌, Option, Some, None, ◌=
 use Rattle.tpm_wire.specs.Buffers.{Layout}
 use Rattle.tpm_wire.specs.Layout.Form.{number}
 use Rattle.tpm_buffer.specs.declared.code.CommandCode.{CommandCode}
-use Rattle.tpm_buffer.specs.declared.code.CommandCode.TheVariants.{NvUndefineSpace, NvDefineSpace, NvIncrement, PcrReset, Startup, NvRead, FlushContext, NvReadPublic, PolicyAuthValue, PolicyCommandCode, PolicyOr, StartAuthSession, PcrRead, PolicyPcr, PolicyRestart, PcrExtend, PolicyGetDigest}
+use Rattle.tpm_buffer.specs.declared.code.CommandCode.TheVariants.{NvUndefineSpace, NvDefineSpace, NvIncrement, PcrEvent, PcrReset, Startup, NvRead, FlushContext, NvReadPublic, PolicyAuthValue, PolicyCommandCode, PolicyOr, StartAuthSession, PcrRead, PolicyPcr, PolicyRestart, PcrExtend, PolicyGetDigest}
 
 abbrev pub code_number : CommandCode → ℕ
 code_number NvUndefineSpace = 0x122
 code_number NvDefineSpace = 0x12A
 code_number NvIncrement = 0x134
+code_number PcrEvent = 0x13C
 code_number PcrReset = 0x13D
 code_number Startup = 0x144
 code_number NvRead = 0x14E
@@ -29,6 +30,7 @@ abbrev pub code_name : CommandCode → List ℕ
 code_name NvUndefineSpace = codes "NV_UndefineSpace"
 code_name NvDefineSpace = codes "NV_DefineSpace"
 code_name NvIncrement = codes "NV_Increment"
+code_name PcrEvent = codes "PCR_Event"
 code_name PcrReset = codes "PCR_Reset"
 code_name Startup = codes "Startup"
 code_name NvRead = codes "NV_Read"
@@ -46,7 +48,7 @@ code_name PolicyGetDigest = codes "PolicyGetDigest"
 
 abbrev pub all_commands : List CommandCode
 all_commands =
-    NvUndefineSpace ∷ NvDefineSpace ∷ NvIncrement ∷ PcrReset ∷ Startup ∷ NvRead ∷ FlushContext ∷ NvReadPublic ∷ PolicyAuthValue
+    NvUndefineSpace ∷ NvDefineSpace ∷ NvIncrement ∷ PcrEvent ∷ PcrReset ∷ Startup ∷ NvRead ∷ FlushContext ∷ NvReadPublic ∷ PolicyAuthValue
     ∷ PolicyCommandCode ∷ PolicyOr ∷ StartAuthSession ∷ PcrRead ∷ PolicyPcr ∷ PolicyRestart ∷ PcrExtend ∷ PolicyGetDigest ∷ []
 
 -- the one of these that has the number

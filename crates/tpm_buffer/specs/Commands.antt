@@ -90,6 +90,7 @@ abbrev pub body_from : List ℕ → Params → CommandBody
 body_from hs params.NvUndefineSpace = bodies.NvUndefineSpace (index_in (second hs))
 body_from hs (params.NvDefineSpace auth public) = bodies.NvDefineSpace auth public
 body_from hs params.NvIncrement = bodies.NvIncrement (nv_auth_in (first hs)) (index_in (second hs))
+body_from hs (params.PcrEvent event) = bodies.PcrEvent (pcr_or_null_in (first hs)) event
 body_from hs params.PcrReset = bodies.PcrReset (register_in (first hs))
 body_from hs (params.Startup startup_type) = bodies.Startup startup_type
 body_from hs (params.NvRead size offset) = bodies.NvRead (nv_auth_in (first hs)) (index_in (second hs)) size offset
@@ -112,6 +113,7 @@ abbrev pub code_for : CommandBody → CommandCode
 code_for (bodies.NvUndefineSpace index) = codes.NvUndefineSpace
 code_for (bodies.NvDefineSpace auth public) = codes.NvDefineSpace
 code_for (bodies.NvIncrement by index) = codes.NvIncrement
+code_for (bodies.PcrEvent register event) = codes.PcrEvent
 code_for (bodies.PcrReset register) = codes.PcrReset
 code_for (bodies.Startup startup_type) = codes.Startup
 code_for (bodies.NvRead by index size offset) = codes.NvRead
@@ -131,6 +133,7 @@ abbrev pub handles_of : CommandBody → List ℕ
 handles_of (bodies.NvUndefineSpace index) = rh_owner ∷ index ∷ []
 handles_of (bodies.NvDefineSpace auth public) = rh_owner ∷ []
 handles_of (bodies.NvIncrement by index) = nv_auth_number by ∷ index ∷ []
+handles_of (bodies.PcrEvent register event) = pcr_or_null_number register ∷ []
 handles_of (bodies.PcrReset register) = register ∷ []
 handles_of (bodies.Startup startup_type) = []
 handles_of (bodies.NvRead by index size offset) = nv_auth_number by ∷ index ∷ []
@@ -150,6 +153,7 @@ abbrev pub params_of : CommandBody → Params
 params_of (bodies.NvUndefineSpace index) = params.NvUndefineSpace
 params_of (bodies.NvDefineSpace auth public) = params.NvDefineSpace auth public
 params_of (bodies.NvIncrement by index) = params.NvIncrement
+params_of (bodies.PcrEvent register event) = params.PcrEvent event
 params_of (bodies.PcrReset register) = params.PcrReset
 params_of (bodies.Startup startup_type) = params.Startup startup_type
 params_of (bodies.NvRead by index size offset) = params.NvRead size offset

@@ -25,6 +25,7 @@ abbrev pub handle_kinds : CommandCode → List HandleKind
 handle_kinds codes.NvUndefineSpace = Owner ∷ Index ∷ []
 handle_kinds codes.NvDefineSpace = Owner ∷ []
 handle_kinds codes.NvIncrement = OwnerOrIndex ∷ Index ∷ []
+handle_kinds codes.PcrEvent = PcrOrNull ∷ []
 handle_kinds codes.PcrReset = Pcr ∷ []
 handle_kinds codes.Startup = []
 handle_kinds codes.NvRead = OwnerOrIndex ∷ Index ∷ []
@@ -45,10 +46,21 @@ abbrev pub needs_authorization : CommandCode → Bool
 needs_authorization codes.NvUndefineSpace = true
 needs_authorization codes.NvDefineSpace = true
 needs_authorization codes.NvIncrement = true
+needs_authorization codes.PcrEvent = true
 needs_authorization codes.PcrReset = true
+needs_authorization codes.Startup = false
 needs_authorization codes.NvRead = true
+needs_authorization codes.FlushContext = false
+needs_authorization codes.NvReadPublic = false
+needs_authorization codes.PolicyAuthValue = false
+needs_authorization codes.PolicyCommandCode = false
+needs_authorization codes.PolicyOr = false
+needs_authorization codes.StartAuthSession = false
+needs_authorization codes.PcrRead = false
+needs_authorization codes.PolicyPcr = false
+needs_authorization codes.PolicyRestart = false
 needs_authorization codes.PcrExtend = true
-needs_authorization _ = false
+needs_authorization codes.PolicyGetDigest = false
 
 -- what is added to the codes of a handle, counted from 1
 abbrev pub handle : ℕ → ℕ

@@ -2,6 +2,7 @@
 use Rattle.std.specs.Prelude.{ℕ, ◌+◌, ◌*◌, List, [], ◌∷◌}
 use Rattle.tpm_wire.specs.Buffers.{Layout, any_number, numbered}
 use Rattle.tpm_wire.specs.Layout.Form.{done, field}
+use Rattle.tpm_wire.specs.Structures.{sized_bytes}
 use Rattle.tpm_types.specs.declared.alg.Alg.{Alg}
 use Rattle.tpm_types.specs.declared.alg.Alg.TheVariants.{Sha256}
 use Rattle.tpm_types.specs.declared.constants.SessionType.{SessionType}
@@ -41,6 +42,10 @@ no_public = record { index = 0x01000000; alg = Sha256; attrs = 0; policy = []; d
 abbrev pub public_of : Params → NvPublic
 public_of (params.NvDefineSpace auth public) = public
 public_of _ = no_public
+
+abbrev pub event_of : Params → List ℕ
+event_of (params.PcrEvent event) = event
+event_of _ = []
 
 abbrev pub startup_type_of : Params → StartupType
 startup_type_of (params.Startup kind) = kind
@@ -103,6 +108,15 @@ nv_define_space =
     field public_of (numbered (parameter 2) nv_public) (λ public.
     done (params.NvDefineSpace auth public)))
 
+-- how many bytes an event has at most
+abbrev pub event_bytes : ℕ
+event_bytes = 1024
+
+unfoldable pub pcr_event : Layout Params
+pcr_event =
+    field event_of (numbered (parameter 1) (sized_bytes event_bytes)) (λ event.
+    done (params.PcrEvent event))
+
 unfoldable pub startup : Layout Params
 startup =
     field startup_type_of (numbered (parameter 1) startup_type) (λ kind.
@@ -158,6 +172,7 @@ abbrev pub parameters : CommandCode → Layout Params
 parameters codes.NvUndefineSpace = done params.NvUndefineSpace
 parameters codes.NvDefineSpace = nv_define_space
 parameters codes.NvIncrement = done params.NvIncrement
+parameters codes.PcrEvent = pcr_event
 parameters codes.PcrReset = done params.PcrReset
 parameters codes.Startup = startup
 parameters codes.NvRead = nv_read
@@ -178,6 +193,7 @@ abbrev pub params_code : Params → CommandCode
 params_code params.NvUndefineSpace = codes.NvUndefineSpace
 params_code (params.NvDefineSpace auth public) = codes.NvDefineSpace
 params_code params.NvIncrement = codes.NvIncrement
+params_code (params.PcrEvent event) = codes.PcrEvent
 params_code params.PcrReset = codes.PcrReset
 params_code (params.Startup kind) = codes.Startup
 params_code (params.NvRead size offset) = codes.NvRead

@@ -3,11 +3,12 @@ use Rattle.std.specs.Prelude.{ℕ, List, [], ◌∷◌, if◌then◌else◌}
 use Rattle.tpm_wire.specs.Buffers.{Layout, any_number, numbered}
 use Rattle.tpm_wire.specs.Layout.Form.{done, field}
 use Rattle.tpm_wire.specs.Structures.{sized_bytes}
+use Rattle.tpm_types.specs.declared.alg.Alg.{Alg}
 use Rattle.tpm_types.specs.declared.tpms.NvPublic.{NvPublic}
 use Rattle.tpm_types.specs.declared.tpms.Selection.{Selection}
 use Rattle.tpm_types.specs.Handles.{session, is_session}
 use Rattle.tpm_types.specs.Tpm2b.{digest, nonce, name}
-use Rattle.tpm_types.specs.Tpml.{selections, digests}
+use Rattle.tpm_types.specs.Tpml.{selections, digests, digest_values}
 use Rattle.tpm_types.specs.Tpms.{nv_public}
 use Rattle.tpm_buffer.specs.declared.code.CommandCode.{CommandCode}
 use Rattle.tpm_buffer.specs.declared.code.CommandCode.TheVariants as codes
@@ -21,6 +22,7 @@ abbrev pub code_for_reply : ReplyBody → CommandCode
 code_for_reply replies.NvUndefineSpace = codes.NvUndefineSpace
 code_for_reply replies.NvDefineSpace = codes.NvDefineSpace
 code_for_reply replies.NvIncrement = codes.NvIncrement
+code_for_reply (replies.PcrEvent values) = codes.PcrEvent
 code_for_reply replies.PcrReset = codes.PcrReset
 code_for_reply replies.Startup = codes.Startup
 code_for_reply (replies.NvRead bytes) = codes.NvRead
@@ -41,6 +43,10 @@ code_for_reply (replies.PolicyGetDigest value) = codes.PolicyGetDigest
 abbrev pub data_of : ReplyBody → List ℕ
 data_of (replies.NvRead bytes) = bytes
 data_of _ = []
+
+abbrev pub event_digests_of : ReplyBody → List (Alg × List ℕ)
+event_digests_of (replies.PcrEvent values) = values
+event_digests_of _ = []
 
 abbrev pub reply_public_of : ReplyBody → NvPublic
 reply_public_of (replies.NvReadPublic public its_name) = public
@@ -89,6 +95,11 @@ session_in n = if is_session n then n else 0x02000000
 
 -- ---- the parameters of each reply
 
+unfoldable pub pcr_event_reply : Layout ReplyBody
+pcr_event_reply =
+    field event_digests_of (numbered (parameter 1) digest_values) (λ values.
+    done (replies.PcrEvent values))
+
 unfoldable pub nv_read_reply : Layout ReplyBody
 nv_read_reply =
     field data_of (numbered (parameter 1) (sized_bytes 8)) (λ bytes.
@@ -122,6 +133,7 @@ abbrev pub reply_parameters : CommandCode → List ℕ → Layout ReplyBody
 reply_parameters codes.NvUndefineSpace hs = done replies.NvUndefineSpace
 reply_parameters codes.NvDefineSpace hs = done replies.NvDefineSpace
 reply_parameters codes.NvIncrement hs = done replies.NvIncrement
+reply_parameters codes.PcrEvent hs = pcr_event_reply
 reply_parameters codes.PcrReset hs = done replies.PcrReset
 reply_parameters codes.Startup hs = done replies.Startup
 reply_parameters codes.NvRead hs = nv_read_reply

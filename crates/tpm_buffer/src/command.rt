@@ -6,7 +6,7 @@ ghost use Rattle.tpm_buffer.specs.Parameters.{params_code};
 ghost use Rattle.tpm_buffer.specs.Commands.{register_in as the_register, index_in as the_index, policy_in as the_policy, pcr_or_null_in as the_pcr_or_null, nv_auth_in as the_nv_auth, bind_in as the_bind, body_from, code_for};
 
 use crate::code::CommandCode;
-use crate::params::Params;
+use crate::params::{Event, Params};
 use arrayvec::ArrayVec;
 use tpm_types::{
     Alg, Auth, AuthValue, BindHandle, Digest, DigestValues, Nonce, NvAuthHandle, NvIndex, NvPublic,
@@ -29,6 +29,10 @@ pub enum CommandBody {
     NvIncrement {
         by: NvAuthHandle,
         index: NvIndex,
+    },
+    PcrEvent {
+        register: PcrOrNull,
+        event: Event,
     },
     PcrReset {
         register: PcrIndex,
@@ -108,6 +112,7 @@ impl CommandBody {
             CommandBody::NvUndefineSpace { .. } => CommandCode::NvUndefineSpace,
             CommandBody::NvDefineSpace { .. } => CommandCode::NvDefineSpace,
             CommandBody::NvIncrement { .. } => CommandCode::NvIncrement,
+            CommandBody::PcrEvent { .. } => CommandCode::PcrEvent,
             CommandBody::PcrReset { .. } => CommandCode::PcrReset,
             CommandBody::Startup(_) => CommandCode::Startup,
             CommandBody::NvRead { .. } => CommandCode::NvRead,
@@ -215,6 +220,10 @@ pub(crate) fn set_from_parts(body: &mut CommandBody, handles: &[u32], params: Pa
         Params::NvIncrement => *body = CommandBody::NvIncrement {
             by: nv_auth_in(first(handles)),
             index: index_in(second(handles)),
+        },
+        Params::PcrEvent(event) => *body = CommandBody::PcrEvent {
+            register: pcr_or_null_in(first(handles)),
+            event,
         },
         Params::PcrReset => *body = CommandBody::PcrReset {
             register: register_in(first(handles)),

@@ -29,6 +29,7 @@ fn handle_numbers(body: &CommandBody) -> ArrayVec<u32, 2>
             numbers.push(by.number());
             numbers.push(index.number());
         }
+        CommandBody::PcrEvent { register, .. } => numbers.push(register.number()),
         CommandBody::PcrReset { register } => numbers.push(register.number()),
         CommandBody::NvRead { by, index, .. } => {
             numbers.push(by.number());
@@ -87,7 +88,7 @@ fn known_handles(body: &CommandBody)
         CommandBody::PcrReset { register } => {
             let _number = register.number();
         }
-        CommandBody::PcrExtend { register, .. } => {
+        CommandBody::PcrEvent { register, .. } | CommandBody::PcrExtend { register, .. } => {
             let _number = register.number();
         }
         CommandBody::StartAuthSession(start) => {
@@ -147,13 +148,14 @@ fn known_authorization(tag: u16, auths: &[Auth])
 
 // ---- parameters
 
-#[tactic(auto, unfolding(crate::specs::Parameters::startup, crate::specs::Parameters::nv_define_space, crate::specs::Parameters::nv_read, crate::specs::Parameters::flush_context, crate::specs::Parameters::policy_command_code, crate::specs::Parameters::policy_or, crate::specs::Parameters::start_auth_session, crate::specs::Parameters::pcr_read, crate::specs::Parameters::policy_pcr, crate::specs::Parameters::pcr_extend))]
+#[tactic(auto, unfolding(crate::specs::Parameters::startup, crate::specs::Parameters::nv_define_space, crate::specs::Parameters::pcr_event, crate::specs::Parameters::nv_read, crate::specs::Parameters::flush_context, crate::specs::Parameters::policy_command_code, crate::specs::Parameters::policy_or, crate::specs::Parameters::start_auth_session, crate::specs::Parameters::pcr_read, crate::specs::Parameters::policy_pcr, crate::specs::Parameters::pcr_extend))]
 fn params_len(body: &CommandBody) -> usize
     ensures value { result ≡ length (spelling (parameters (code_for body.now)) (params_of body.now)) }
     ensures fits { result ≤ 3500 }
 {
     match body {
         CommandBody::NvDefineSpace { auth, public } => auth.len() + public.len(),
+        CommandBody::PcrEvent { event, .. } => event.len(),
         CommandBody::Startup(startup_type) => startup_type.len(),
         CommandBody::NvRead { size, offset, .. } => size.len() + offset.len(),
         CommandBody::FlushContext(session) => session.len(),
@@ -183,7 +185,7 @@ fn params_len(body: &CommandBody) -> usize
     }
 }
 
-#[tactic(auto, unfolding(crate::specs::Parameters::startup, crate::specs::Parameters::nv_define_space, crate::specs::Parameters::nv_read, crate::specs::Parameters::flush_context, crate::specs::Parameters::policy_command_code, crate::specs::Parameters::policy_or, crate::specs::Parameters::start_auth_session, crate::specs::Parameters::pcr_read, crate::specs::Parameters::policy_pcr, crate::specs::Parameters::pcr_extend))]
+#[tactic(auto, unfolding(crate::specs::Parameters::startup, crate::specs::Parameters::nv_define_space, crate::specs::Parameters::pcr_event, crate::specs::Parameters::nv_read, crate::specs::Parameters::flush_context, crate::specs::Parameters::policy_command_code, crate::specs::Parameters::policy_or, crate::specs::Parameters::start_auth_session, crate::specs::Parameters::pcr_read, crate::specs::Parameters::policy_pcr, crate::specs::Parameters::pcr_extend))]
 #[inline(never)]
 fn put_params(body: &CommandBody, out: &mut Buffer)
     requires { length out.old.items + length (spelling (parameters (code_for body.now)) (params_of body.now)) ≤ 4096 }
@@ -194,6 +196,7 @@ fn put_params(body: &CommandBody, out: &mut Buffer)
             auth.put(out);
             public.put(out);
         }
+        CommandBody::PcrEvent { event, .. } => event.put(out),
         CommandBody::Startup(startup_type) => startup_type.put(out),
         CommandBody::NvRead { size, offset, .. } => {
             size.put(out);
@@ -229,7 +232,7 @@ fn put_params(body: &CommandBody, out: &mut Buffer)
     }
 }
 
-#[tactic(auto, unfolding(crate::specs::Parameters::startup, crate::specs::Parameters::nv_define_space, crate::specs::Parameters::nv_read, crate::specs::Parameters::flush_context, crate::specs::Parameters::policy_command_code, crate::specs::Parameters::policy_or, crate::specs::Parameters::start_auth_session, crate::specs::Parameters::pcr_read, crate::specs::Parameters::policy_pcr, crate::specs::Parameters::pcr_extend))]
+#[tactic(auto, unfolding(crate::specs::Parameters::startup, crate::specs::Parameters::nv_define_space, crate::specs::Parameters::pcr_event, crate::specs::Parameters::nv_read, crate::specs::Parameters::flush_context, crate::specs::Parameters::policy_command_code, crate::specs::Parameters::policy_or, crate::specs::Parameters::start_auth_session, crate::specs::Parameters::pcr_read, crate::specs::Parameters::policy_pcr, crate::specs::Parameters::pcr_extend))]
 fn known_params(body: &CommandBody)
     ensures { (left : ℕ) → Fits left (parameters (code_for body.now)) (params_of body.now) }
 {
@@ -238,6 +241,7 @@ fn known_params(body: &CommandBody)
             auth.known();
             public.known();
         }
+        CommandBody::PcrEvent { event, .. } => event.known(),
         CommandBody::Startup(startup_type) => startup_type.known(),
         CommandBody::NvRead { size, offset, .. } => {
             let _values = (*size, *offset);

@@ -103,6 +103,7 @@ impl CommandCode {
             CommandCode::NvUndefineSpace => &[HandleKind::Owner, HandleKind::Index],
             CommandCode::NvDefineSpace => &[HandleKind::Owner],
             CommandCode::NvIncrement => &[HandleKind::OwnerOrIndex, HandleKind::Index],
+            CommandCode::PcrEvent => &[HandleKind::PcrOrNull],
             CommandCode::PcrReset => &[HandleKind::Pcr],
             CommandCode::Startup => &[],
             CommandCode::NvRead => &[HandleKind::OwnerOrIndex, HandleKind::Index],
@@ -136,10 +137,21 @@ impl CommandCode {
             CommandCode::NvUndefineSpace
             | CommandCode::NvDefineSpace
             | CommandCode::NvIncrement
+            | CommandCode::PcrEvent
             | CommandCode::PcrReset
             | CommandCode::NvRead
             | CommandCode::PcrExtend => true,
-            _ => false,
+            CommandCode::Startup
+            | CommandCode::FlushContext
+            | CommandCode::NvReadPublic
+            | CommandCode::PolicyAuthValue
+            | CommandCode::PolicyCommandCode
+            | CommandCode::PolicyOr
+            | CommandCode::StartAuthSession
+            | CommandCode::PcrRead
+            | CommandCode::PolicyPcr
+            | CommandCode::PolicyRestart
+            | CommandCode::PolicyGetDigest => false,
         }
     }
 }

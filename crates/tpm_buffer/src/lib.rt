@@ -33,7 +33,7 @@ pub use laws::{
     areas_of_a_response, command_or_fault, fault_before_params, no_prefix, no_response_prefix,
     parameters_in_command, response_or_fault,
 };
-pub use params::{Params, decode_params, decode_params_into};
+pub use params::{EVENT_BYTES, Event, Params, decode_params, decode_params_into};
 pub use reader::{ReadFault, read_frame};
 pub use reply_decode::{RSP_COMMAND, decode_response};
 pub use reply_encode::{encode_response, put_code, put_reply};

@@ -7,14 +7,20 @@ ghost use Rattle.tpm_wire.specs.Reading.{read_all, Gives};
 ghost use Rattle.tpm_wire.specs.Buffers.{TakesNumbered};
 ghost use Rattle.tpm_buffer.specs.declared.code.CommandCode.TheVariants as codes;
 ghost use Rattle.tpm_buffer.specs.Areas.{placed};
-ghost use Rattle.tpm_buffer.specs.Parameters.{parameters, params_code, startup, nv_define_space, nv_read, flush_context, policy_command_code, policy_or, start_auth_session, pcr_read, policy_pcr, pcr_extend};
+ghost use Rattle.tpm_buffer.specs.Parameters.{parameters, params_code, startup, nv_define_space, pcr_event, nv_read, flush_context, policy_command_code, policy_or, start_auth_session, pcr_read, policy_pcr, pcr_extend};
 
 use crate::code::CommandCode;
 use tpm_types::{
     Alg, AuthValue, Digest, DigestValues, EncryptedSalt, Nonce, NvPublic, OrDigests, Selections,
     SessionHandle, SessionType, StartupType, SymDef,
 };
-use tpm_wire::{Cursor, Refusal, SIZE, Wire};
+use tpm_wire::{Bounded, Cursor, Refusal, SIZE, Wire};
+
+/// How many bytes an event has at most.
+pub const EVENT_BYTES: usize = 1024;
+
+/// What PCR_Event measures, TPM2B_EVENT: 0 to 1,024 bytes (Part 2, 10.4.7).
+pub type Event = Bounded<EVENT_BYTES>;
 
 /// A command's parameters, without its handles and sessions.
 #[derive(Drop)]
@@ -25,6 +31,7 @@ pub enum Params {
         public: NvPublic,
     },
     NvIncrement,
+    PcrEvent(Event),
     PcrReset,
     Startup(StartupType),
     NvRead {
@@ -77,6 +84,21 @@ fn read_nv_define_space(cursor: &mut Cursor<'_>, params: &mut Params) -> Result<
     let public = NvPublic::take(cursor)?;
     *params = Params::NvDefineSpace { auth, public };
     Ok(())
+}
+
+#[tactic(auto, unfolding(crate::specs::Parameters::pcr_event))]
+#[inline(never)]
+fn read_pcr_event(cursor: &mut Cursor<'_>, params: &mut Params) -> Result<(), Refusal>
+    ensures reads { TakesNumbered (λ _. params.new) pcr_event cursor.old cursor.new result }
+    ensures spelled { OnOk result (cursor.old.here.rest ≡ spelling pcr_event params.new ++ cursor.new.here.rest) }
+    ensures code { OnOk result (params_code params.new ≡ codes.PcrEvent) }
+{
+    cursor.number(0x140);
+    *params = Params::PcrEvent(Event::default());
+    match params {
+        Params::PcrEvent(event) => event.read(cursor),
+        _ => unreachable!(),
+    }
 }
 
 #[tactic(auto, unfolding(crate::specs::Parameters::nv_read))]
@@ -216,6 +238,7 @@ pub(crate) fn read_params(
         CommandCode::NvUndefineSpace => *params = Params::NvUndefineSpace,
         CommandCode::NvDefineSpace => read_nv_define_space(cursor, params)?,
         CommandCode::NvIncrement => *params = Params::NvIncrement,
+        CommandCode::PcrEvent => read_pcr_event(cursor, params)?,
         CommandCode::PcrReset => *params = Params::PcrReset,
         CommandCode::Startup => read_startup(cursor, params)?,
         CommandCode::NvRead => read_nv_read(cursor, params)?,

@@ -50,12 +50,13 @@ fn known_handles(body: &ReplyBody)
 
 // ---- parameters
 
-#[tactic(auto, unfolding(crate::specs::Replies::nv_read_reply, crate::specs::Replies::nv_read_public_reply, crate::specs::Replies::start_auth_session_reply, crate::specs::Replies::pcr_read_reply, crate::specs::Replies::policy_get_digest_reply))]
+#[tactic(auto, unfolding(crate::specs::Replies::pcr_event_reply, crate::specs::Replies::nv_read_reply, crate::specs::Replies::nv_read_public_reply, crate::specs::Replies::start_auth_session_reply, crate::specs::Replies::pcr_read_reply, crate::specs::Replies::policy_get_digest_reply))]
 fn params_len(body: &ReplyBody) -> usize
     ensures value { result ≡ length (spelling (parameters_of_reply body.now) body.now) }
     ensures fits { result ≤ 3500 }
 {
     match body {
+        ReplyBody::PcrEvent(digests) => digests.len(),
         ReplyBody::NvRead(bytes) => bytes.len(),
         ReplyBody::NvReadPublic { public, name } => public.len() + name.len(),
         ReplyBody::StartAuthSession(reply) => reply.nonce_tpm.len(),
@@ -69,12 +70,13 @@ fn params_len(body: &ReplyBody) -> usize
     }
 }
 
-#[tactic(auto, unfolding(crate::specs::Replies::nv_read_reply, crate::specs::Replies::nv_read_public_reply, crate::specs::Replies::start_auth_session_reply, crate::specs::Replies::pcr_read_reply, crate::specs::Replies::policy_get_digest_reply))]
+#[tactic(auto, unfolding(crate::specs::Replies::pcr_event_reply, crate::specs::Replies::nv_read_reply, crate::specs::Replies::nv_read_public_reply, crate::specs::Replies::start_auth_session_reply, crate::specs::Replies::pcr_read_reply, crate::specs::Replies::policy_get_digest_reply))]
 fn put_params(body: &ReplyBody, out: &mut Buffer)
     requires { length out.old.items + length (spelling (parameters_of_reply body.now) body.now) ≤ 4096 }
     ensures { out.new.items ≡ out.old.items ++ spelling (parameters_of_reply body.now) body.now }
 {
     match body {
+        ReplyBody::PcrEvent(digests) => digests.put(out),
         ReplyBody::NvRead(bytes) => bytes.put(out),
         ReplyBody::NvReadPublic { public, name } => {
             public.put(out);
@@ -95,11 +97,12 @@ fn put_params(body: &ReplyBody, out: &mut Buffer)
     }
 }
 
-#[tactic(auto, unfolding(crate::specs::Replies::nv_read_reply, crate::specs::Replies::nv_read_public_reply, crate::specs::Replies::start_auth_session_reply, crate::specs::Replies::pcr_read_reply, crate::specs::Replies::policy_get_digest_reply))]
+#[tactic(auto, unfolding(crate::specs::Replies::pcr_event_reply, crate::specs::Replies::nv_read_reply, crate::specs::Replies::nv_read_public_reply, crate::specs::Replies::start_auth_session_reply, crate::specs::Replies::pcr_read_reply, crate::specs::Replies::policy_get_digest_reply))]
 fn known_params(body: &ReplyBody)
     ensures { (left : ℕ) → Fits left (parameters_of_reply body.now) body.now }
 {
     match body {
+        ReplyBody::PcrEvent(digests) => digests.known(),
         ReplyBody::NvRead(bytes) => bytes.known(),
         ReplyBody::NvReadPublic { public, name } => {
             public.known();

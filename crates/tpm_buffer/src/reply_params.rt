@@ -3,12 +3,12 @@
 ghost use Rattle.std.specs.Prelude.{◌≡◌};
 ghost use Rattle.tpm_wire.specs.Buffers.{TakesNumbered};
 ghost use Rattle.tpm_buffer.specs.Handles.{first as first_of};
-ghost use Rattle.tpm_buffer.specs.Replies.{session_handle, reply_handles, session_in as the_session, reply_parameters, nv_read_reply, nv_read_public_reply, start_auth_session_reply, pcr_read_reply, policy_get_digest_reply};
+ghost use Rattle.tpm_buffer.specs.Replies.{session_handle, reply_handles, session_in as the_session, reply_parameters, pcr_event_reply, nv_read_reply, nv_read_public_reply, start_auth_session_reply, pcr_read_reply, policy_get_digest_reply};
 
 use crate::code::CommandCode;
 use crate::response::{NvData, ReplyBody, StartReply};
 use arrayvec::ArrayVec;
-use tpm_types::{Digest, Digests, Name, Nonce, NvPublic, Selections, SessionHandle};
+use tpm_types::{Digest, DigestValues, Digests, Name, Nonce, NvPublic, Selections, SessionHandle};
 use tpm_wire::{Cursor, Refusal, Wire};
 
 #[tactic(auto, unfolding(crate::specs::Replies::session_handle))]
@@ -46,6 +46,15 @@ fn session_in(handles: &[u32]) -> SessionHandle
         Some(session) => session,
         None => unreachable!(),
     }
+}
+
+#[tactic(auto, unfolding(crate::specs::Replies::pcr_event_reply))]
+fn read_pcr_event(cursor: &mut Cursor<'_>, body: &mut ReplyBody) -> Result<(), Refusal>
+    ensures { TakesNumbered (λ _. body.new) pcr_event_reply cursor.old cursor.new result }
+{
+    cursor.number(0x140);
+    *body = ReplyBody::PcrEvent(DigestValues::take(cursor)?);
+    Ok(())
 }
 
 #[tactic(auto, unfolding(crate::specs::Replies::nv_read_reply))]
@@ -125,6 +134,7 @@ pub(crate) fn read_reply_params(
         CommandCode::NvUndefineSpace => *body = ReplyBody::NvUndefineSpace,
         CommandCode::NvDefineSpace => *body = ReplyBody::NvDefineSpace,
         CommandCode::NvIncrement => *body = ReplyBody::NvIncrement,
+        CommandCode::PcrEvent => read_pcr_event(cursor, body)?,
         CommandCode::PcrReset => *body = ReplyBody::PcrReset,
         CommandCode::Startup => *body = ReplyBody::Startup,
         CommandCode::NvRead => read_nv_read(cursor, body)?,

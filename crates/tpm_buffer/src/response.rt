@@ -6,7 +6,9 @@ ghost use Rattle.tpm_buffer.specs.Replies.{code_for_reply};
 use crate::code::CommandCode;
 use arrayvec::ArrayVec;
 use std::marker::Model;
-use tpm_types::{AuthReply, Digest, Digests, Name, Nonce, NvPublic, Selections, SessionHandle};
+use tpm_types::{
+    AuthReply, Digest, DigestValues, Digests, Name, Nonce, NvPublic, Selections, SessionHandle,
+};
 use tpm_wire::Bounded;
 
 /// What a counter's bytes are read into: TPM2B_MAX_NV_BUFFER of this profile, 0 to 8 bytes (Part 2, 10.4.9).
@@ -55,6 +57,7 @@ pub enum ReplyBody {
     NvUndefineSpace,
     NvDefineSpace,
     NvIncrement,
+    PcrEvent(DigestValues),
     PcrReset,
     Startup,
     NvRead(NvData),
@@ -105,6 +108,7 @@ impl ReplyBody {
             ReplyBody::NvUndefineSpace => CommandCode::NvUndefineSpace,
             ReplyBody::NvDefineSpace => CommandCode::NvDefineSpace,
             ReplyBody::NvIncrement => CommandCode::NvIncrement,
+            ReplyBody::PcrEvent(_) => CommandCode::PcrEvent,
             ReplyBody::PcrReset => CommandCode::PcrReset,
             ReplyBody::Startup => CommandCode::Startup,
             ReplyBody::NvRead(_) => CommandCode::NvRead,
