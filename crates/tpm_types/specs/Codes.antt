@@ -1,22 +1,18 @@
--- The response codes of a value outside its set: TPM_RC (Part 2, 6.6.3).
+-- The codes of Rattle.tpm_wire.specs.ResponseCodes under their former names.
 use Rattle.std.specs.Prelude.{ℕ}
+use Rattle.tpm_wire.specs.ResponseCodes.{rc_hash, rc_value, rc_mode, rc_symmetric, rc_reserved_bits}
 
--- a hash that is none of this profile
 abbrev pub hash_code : ℕ
-hash_code = 0x083
+hash_code = rc_hash
 
--- a value outside its set
 abbrev pub value_code : ℕ
-value_code = 0x084
+value_code = rc_value
 
--- a mode of a symmetric algorithm
 abbrev pub mode_code : ℕ
-mode_code = 0x089
+mode_code = rc_mode
 
--- a symmetric algorithm
 abbrev pub symmetric_code : ℕ
-symmetric_code = 0x096
+symmetric_code = rc_symmetric
 
--- a reserved bit that is set
 abbrev pub reserved_bits_code : ℕ
-reserved_bits_code = 0x0A1
+reserved_bits_code = rc_reserved_bits

@@ -2,7 +2,7 @@
 use Rattle.std.specs.Prelude.{ℕ, Option, Some, None, ◌==◌, if◌then◌else◌}
 use Rattle.tpm_wire.specs.Buffers.{Layout}
 use Rattle.tpm_wire.specs.Layout.Form.{number}
-use Rattle.tpm_types.specs.Codes.{value_code}
+use Rattle.tpm_wire.specs.ResponseCodes.{rc_value}
 use Rattle.tpm_types.specs.declared.constants.StartupType.{StartupType}
 use Rattle.tpm_types.specs.declared.constants.SessionType.{SessionType}
 use Rattle.tpm_types.specs.declared.constants.StartupType.TheVariants.{Clear, State}
@@ -18,7 +18,7 @@ startup_number Clear = 0
 startup_number State = 1
 
 unfoldable pub startup_type : Layout StartupType
-startup_type = number 2 (λ left. startup_of) startup_number value_code
+startup_type = number 2 (λ left. startup_of) startup_number rc_value
 
 -- ---- TPM_SE (6.11)
 
@@ -31,4 +31,4 @@ session_type_number Policy = 1
 session_type_number Trial = 3
 
 unfoldable pub session_type : Layout SessionType
-session_type = number 1 (λ left. session_type_of) session_type_number value_code
+session_type = number 1 (λ left. session_type_of) session_type_number rc_value

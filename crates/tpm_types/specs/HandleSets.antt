@@ -2,7 +2,7 @@
 use Rattle.std.specs.Prelude.{ℕ, Option, Some, None, if◌then◌else◌}
 use Rattle.tpm_wire.specs.Buffers.{Layout}
 use Rattle.tpm_wire.specs.Layout.Form.{number}
-use Rattle.tpm_types.specs.Codes.{value_code}
+use Rattle.tpm_wire.specs.ResponseCodes.{rc_value}
 use Rattle.tpm_types.specs.Handles.{rh_owner, rh_null, is_owner, is_null, is_pcr, is_nv_index}
 use Rattle.tpm_types.specs.declared.handle_sets.OwnerHandle.{OwnerHandle}
 use Rattle.tpm_types.specs.declared.handle_sets.NullHandle.{NullHandle}
@@ -24,7 +24,7 @@ abbrev pub owner_number : OwnerHandle → ℕ
 owner_number _ = rh_owner
 
 unfoldable pub owner : Layout OwnerHandle
-owner = number 4 (λ left. owner_of) owner_number value_code
+owner = number 4 (λ left. owner_of) owner_number rc_value
 
 -- ---- no object
 
@@ -35,7 +35,7 @@ abbrev pub null_number : NullHandle → ℕ
 null_number _ = rh_null
 
 unfoldable pub null : Layout NullHandle
-null = number 4 (λ left. null_of) null_number value_code
+null = number 4 (λ left. null_of) null_number rc_value
 
 -- ---- a register or none, TPMI_DH_PCR+ (Part 2, 9.7)
 
@@ -47,7 +47,7 @@ pcr_or_null_number registers.Null = rh_null
 pcr_or_null_number (registers.Pcr n) = n
 
 unfoldable pub pcr_or_null : Layout PcrOrNull
-pcr_or_null = number 4 (λ left. pcr_or_null_of) pcr_or_null_number value_code
+pcr_or_null = number 4 (λ left. pcr_or_null_of) pcr_or_null_number rc_value
 
 -- ---- the owner or an index, TPMI_RH_NV_AUTH without the platform (Part 2, 9.22)
 
@@ -59,7 +59,7 @@ nv_auth_number authorities.Owner = rh_owner
 nv_auth_number (authorities.Index n) = n
 
 unfoldable pub nv_auth : Layout NvAuthHandle
-nv_auth = number 4 (λ left. nv_auth_of) nv_auth_number value_code
+nv_auth = number 4 (λ left. nv_auth_of) nv_auth_number rc_value
 
 -- ---- the owner or nothing: TPMI_DH_ENTITY+ of this profile (Part 2, 9.6)
 
@@ -71,4 +71,4 @@ bind_number binds.Owner = rh_owner
 bind_number binds.Null = rh_null
 
 unfoldable pub bind : Layout BindHandle
-bind = number 4 (λ left. bind_of) bind_number value_code
+bind = number 4 (λ left. bind_of) bind_number rc_value

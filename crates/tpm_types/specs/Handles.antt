@@ -1,7 +1,7 @@
 -- Handles: TPM_HANDLE (Part 2, 7), and the sets of them that commands take.
 use Rattle.std.specs.Prelude.{ℕ, Bool, nat_lt, ◌/◌, ◌==◌, ◌||◌}
 use Rattle.tpm_wire.specs.Buffers.{Layout, number_in}
-use Rattle.tpm_types.specs.Codes.{value_code}
+use Rattle.tpm_wire.specs.ResponseCodes.{rc_value}
 
 -- ---- permanent handles, TPM_RH (7.4)
 
@@ -51,7 +51,7 @@ is_auth_session n = is_session n || n == rs_pw
 -- ---- their layouts: 4 bytes
 
 abbrev pub handle_in : (ℕ → Bool) → Layout ℕ
-handle_in set = number_in 4 set value_code
+handle_in set = number_in 4 set rc_value
 
 unfoldable pub pcr : Layout ℕ
 pcr = handle_in is_pcr

@@ -4,7 +4,7 @@ use Rattle.tpm_wire.specs.Buffers.{Layout}
 use Rattle.tpm_wire.specs.Layout.Form.{number}
 use Rattle.tpm_wire.specs.Structures.{sized_bytes}
 use Rattle.tpm_types.specs.Limits.{digest_bytes, name_bytes}
-use Rattle.tpm_types.specs.Codes.{value_code}
+use Rattle.tpm_wire.specs.ResponseCodes.{rc_value}
 use Rattle.tpm_types.specs.declared.tpm2b.EncryptedSalt.{EncryptedSalt}
 use Rattle.tpm_types.specs.declared.tpm2b.EncryptedSalt.TheVariants.{Empty}
 
@@ -32,4 +32,4 @@ abbrev pub salt_size : EncryptedSalt → ℕ
 salt_size Empty = 0
 
 unfoldable pub encrypted_salt : Layout EncryptedSalt
-encrypted_salt = number 2 (λ left. salt_of) salt_size value_code
+encrypted_salt = number 2 (λ left. salt_of) salt_size rc_value

@@ -1,7 +1,7 @@
 -- Attributes: numbers of bits (Part 2, 8.4 and 13.4).
 use Rattle.std.specs.Prelude.{ℕ, ◌+◌, ◌^◌, ◌/◌, ◌%◌, Bool, not, bit_and, bit_or, ◌==◌, List, [], ◌∷◌}
 use Rattle.tpm_wire.specs.Buffers.{Layout, number_in}
-use Rattle.tpm_types.specs.Codes.{reserved_bits_code}
+use Rattle.tpm_wire.specs.ResponseCodes.{rc_reserved_bits}
 
 -- the number in which these bits are set
 abbrev pub mask : List ℕ → ℕ
@@ -24,7 +24,7 @@ abbrev pub is_session_attrs : ℕ → Bool
 is_session_attrs n = not (any_set (3 ∷ 4 ∷ []) n)
 
 unfoldable pub session_attrs : Layout ℕ
-session_attrs = number_in 1 is_session_attrs reserved_bits_code
+session_attrs = number_in 1 is_session_attrs rc_reserved_bits
 
 -- continueSession
 abbrev pub continues : ℕ → Bool
@@ -40,7 +40,7 @@ abbrev pub is_nv_attrs : ℕ → Bool
 is_nv_attrs n = not (any_set (8 ∷ 9 ∷ 20 ∷ 21 ∷ 22 ∷ 23 ∷ 24 ∷ []) n)
 
 unfoldable pub nv_attrs : Layout ℕ
-nv_attrs = number_in 4 is_nv_attrs reserved_bits_code
+nv_attrs = number_in 4 is_nv_attrs rc_reserved_bits
 
 -- TPM_NT, bits 7 to 4: the kind of the index
 abbrev pub nv_type : ℕ → ℕ

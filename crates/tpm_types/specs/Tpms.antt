@@ -5,7 +5,7 @@ use Rattle.tpm_wire.specs.Layout.{raw}
 use Rattle.tpm_wire.specs.Layout.Form.{field, done}
 use Rattle.tpm_wire.specs.Structures.{sized}
 use Rattle.tpm_types.specs.Limits.{public_bytes}
-use Rattle.tpm_types.specs.Codes.{value_code}
+use Rattle.tpm_wire.specs.ResponseCodes.{rc_value}
 use Rattle.tpm_types.specs.Alg.{hash}
 use Rattle.tpm_types.specs.Handles.{nv_index, auth_session}
 use Rattle.tpm_types.specs.Tpma.{is_set, session_attrs, nv_attrs}
@@ -23,7 +23,7 @@ select_bytes = 3
 unfoldable pub selection : Layout Selection
 selection =
     field (λ s. s.hash) hash (λ alg.
-    field (λ _. select_bytes) (number_in 1 (λ n. n == select_bytes) value_code) (λ n.
+    field (λ _. select_bytes) (number_in 1 (λ n. n == select_bytes) rc_value) (λ n.
     field (λ s. s.select) (raw n) (λ select.
     done (record { hash = alg; select = select }))))
 

@@ -3,7 +3,7 @@ use Rattle.std.specs.Prelude.{ℕ, Option, Some, None, ◌==◌, ◌||◌, if◌
 use Rattle.tpm_wire.specs.Buffers.{Layout, number_in}
 use Rattle.tpm_wire.specs.Layout.{either}
 use Rattle.tpm_wire.specs.Layout.Form.{number, field, done}
-use Rattle.tpm_types.specs.Codes.{value_code, mode_code, symmetric_code}
+use Rattle.tpm_wire.specs.ResponseCodes.{rc_value, rc_mode, rc_symmetric}
 use Rattle.tpm_types.specs.Alg.{hash}
 use Rattle.tpm_types.specs.declared.alg.Alg.{Alg}
 use Rattle.tpm_types.specs.declared.alg.Alg.TheVariants.{Sha256}
@@ -27,7 +27,7 @@ alg_cfb = 0x0043
 
 -- TPMI_ALG_SYM+ (9.29)
 unfoldable pub algorithm : Layout ℕ
-algorithm = number_in 2 (λ n. n == alg_null || n == alg_aes || n == alg_xor) symmetric_code
+algorithm = number_in 2 (λ n. n == alg_null || n == alg_aes || n == alg_xor) rc_symmetric
 
 abbrev pub algorithm_of : SymDef → ℕ
 algorithm_of Null = alg_null
@@ -43,11 +43,11 @@ key_bits_number Bits128 = 128
 key_bits_number Bits256 = 256
 
 unfoldable pub key_bits : Layout KeyBits
-key_bits = number 2 (λ left. key_bits_of) key_bits_number value_code
+key_bits = number 2 (λ left. key_bits_of) key_bits_number rc_value
 
 -- TPMI_ALG_SYM_MODE (9.31): CFB alone
 unfoldable pub mode : Layout ℕ
-mode = number_in 2 (λ n. n == alg_cfb) mode_code
+mode = number_in 2 (λ n. n == alg_cfb) rc_mode
 
 -- the bits of an AES key, and otherwise any
 abbrev pub bits_of : SymDef → KeyBits

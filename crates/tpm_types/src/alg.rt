@@ -4,7 +4,8 @@ ghost use Rattle.std.specs.Prelude.{◌≡◌, ◌≤◌};
 ghost use Rattle.tpm_types.specs.Limits.{digest_bytes, block_bytes};
 ghost use Rattle.tpm_types.specs.Alg.{alg_of, alg_number, digest_len, block_len, hash};
 
-use crate::codes::HASH;
+use crate::limits::BANKS;
+use tpm_wire::response_code::HASH;
 use tpm_wire::{Buffer, Cursor, Duplicate, Refusal, Wire};
 
 /// A hash algorithm, which has a bank of registers.
@@ -12,10 +13,14 @@ use tpm_wire::{Buffer, Cursor, Duplicate, Refusal, Wire};
 pub enum Alg {
     Sha1,
     Sha256,
+    Sha384,
 }
 
+/// SHA-256.
 impl Default for Alg {
-    fn default() -> Self {
+    fn default() -> Self
+        ensures { result ≡ Alg.Sha256 }
+    {
         Alg::Sha256
     }
 }
@@ -27,6 +32,9 @@ impl Duplicate for Alg {
 }
 
 impl Alg {
+    /// The hash algorithms in the order of their numbers, one for each bank.
+    pub const ALL: [Alg; BANKS] = [Alg::Sha1, Alg::Sha256, Alg::Sha384];
+
     /// The hash of this number, if it is one of this profile.
     pub fn from_number(n: u16) -> Option<Self>
         ensures { result ≡ alg_of n }
@@ -34,6 +42,7 @@ impl Alg {
         match n {
             0x0004 => Some(Alg::Sha1),
             0x000B => Some(Alg::Sha256),
+            0x000C => Some(Alg::Sha384),
             _ => None,
         }
     }
@@ -45,6 +54,7 @@ impl Alg {
         match self {
             Alg::Sha1 => 0x0004,
             Alg::Sha256 => 0x000B,
+            Alg::Sha384 => 0x000C,
         }
     }
 
@@ -56,6 +66,7 @@ impl Alg {
         match self {
             Alg::Sha1 => 20,
             Alg::Sha256 => 32,
+            Alg::Sha384 => 48,
         }
     }
 
@@ -67,6 +78,7 @@ impl Alg {
         match self {
             Alg::Sha1 => 64,
             Alg::Sha256 => 64,
+            Alg::Sha384 => 128,
         }
     }
 }

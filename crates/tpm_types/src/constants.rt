@@ -2,7 +2,7 @@
 
 ghost use Rattle.std.specs.Prelude.{◌≡◌, ℕ, Some};
 
-use crate::codes::VALUE;
+use tpm_wire::response_code::VALUE;
 use tpm_wire::{Buffer, Cursor, Refusal, Wire};
 
 /// How a device starts: TPM_SU (Part 2, 6.10).

@@ -2,8 +2,8 @@
 
 ghost use Rattle.std.specs.Prelude.{◌≡◌, ℕ, Some};
 
-use crate::codes::VALUE;
 use crate::handles::{NvIndex, PcrIndex, RH_NULL, RH_OWNER};
+use tpm_wire::response_code::VALUE;
 use tpm_wire::{Buffer, Cursor, Refusal, Wire};
 
 /// The owner, TPM_RH_OWNER alone: TPMI_RH_OWNER (Part 2, 9.18) without TPM_RH_NULL.

@@ -3,7 +3,6 @@
 
 mod alg;
 mod attest;
-mod codes;
 mod constants;
 mod handle_sets;
 mod handles;
@@ -16,7 +15,6 @@ mod tpmt;
 
 pub use alg::Alg;
 pub use attest::QuoteInfo;
-pub use codes::{HASH, MODE, RESERVED_BITS, SYMMETRIC, VALUE};
 pub use constants::{SessionType, StartupType};
 pub use handle_sets::{BindHandle, NullHandle, NvAuthHandle, OwnerHandle, PcrOrNull};
 pub use handles::{
@@ -24,6 +22,7 @@ pub use handles::{
     SessionHandle,
 };
 pub use limits::{AuthValue, BANKS, BLOCK_BYTES, DIGEST_BYTES, NAME_BYTES, Nonce, PUBLIC_BYTES};
+pub use tpm_wire::response_code::{HASH, MODE, RESERVED_BITS, SYMMETRIC, VALUE};
 pub use tpm2b::{Digest, EncryptedSalt, Name};
 pub use tpma::{NvAttrs, SessionAttrs};
 pub use tpml::{DigestValues, Digests, MOST_DIGESTS, OrDigests, Selections};

@@ -1,21 +1,21 @@
-//! What a third bank of registers changes.
+//! What another bank of registers changes, with the hashes of `Alg`.
 
 use tpm_wire::Bounded;
 
+/// How many entries a list with one for each bank has at most.
+pub const BANKS: usize = 3;
+
 /// How many bytes a digest, a nonce and an authorization value have at most: the longest digest of a bank.
-pub const DIGEST_BYTES: usize = 32;
-
-/// How many bytes a Name has at most: the number of a hash, and its digest.
-pub const NAME_BYTES: usize = 34;
-
-/// How many bytes the public area of an NV index has at most.
-pub const PUBLIC_BYTES: usize = 46;
+pub const DIGEST_BYTES: usize = 48;
 
 /// How many bytes the longest block of a hash has, which the key of an HMAC fills.
-pub const BLOCK_BYTES: usize = 64;
+pub const BLOCK_BYTES: usize = 128;
 
-/// How many entries a list with one for each bank has at most.
-pub const BANKS: usize = 2;
+/// How many bytes a Name has at most: the number of a hash, and its digest.
+pub const NAME_BYTES: usize = 2 + DIGEST_BYTES;
+
+/// How many bytes the public area of an NV index has at most: nvIndex, nameAlg, attributes, a sized digest and dataSize.
+pub const PUBLIC_BYTES: usize = 4 + 2 + 4 + (2 + DIGEST_BYTES) + 2;
 
 /// A nonce: TPM2B_NONCE (Part 2, 10.4.4).
 pub type Nonce = Bounded<DIGEST_BYTES>;

@@ -5,9 +5,9 @@ ghost use Rattle.std.specs.Int.{to_be_bytes, w32};
 ghost use Rattle.tpm_types.specs.Limits.{digest_bytes, name_bytes};
 ghost use Rattle.tpm_types.specs.Tpm2b.{digest, name};
 
-use crate::codes::VALUE;
 use crate::limits::{DIGEST_BYTES, NAME_BYTES};
 use std::marker::Model;
+use tpm_wire::response_code::VALUE;
 use tpm_wire::{Bounded, Buffer, Cursor, Duplicate, Refusal, Wire};
 
 /// A digest, TPM2B_DIGEST: at most as many bytes as the longest digest of a bank.

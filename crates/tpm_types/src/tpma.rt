@@ -5,8 +5,8 @@ ghost use Rattle.tpm_types.specs.Tpma.{is_session_attrs, session_attrs, continue
 ghost use Rattle.tpm_types.specs.Tpma.{is_nv_attrs, nv_attrs, is_counter, owner_writes, auth_writes, policy_writes, owner_reads, auth_reads, policy_reads};
 ghost use Rattle.tpm_types.specs.Tpma.{no_da, is_written, with_written, is_writable, is_readable, is_undefinable};
 
-use crate::codes::RESERVED_BITS;
 use std::marker::Model;
+use tpm_wire::response_code::RESERVED_BITS;
 use tpm_wire::{Buffer, Cursor, Refusal, Wire};
 
 const CONTINUE_SESSION: u8 = 1 << 0;

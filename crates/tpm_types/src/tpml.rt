@@ -226,10 +226,12 @@ impl Wire for DigestValues {
         if count > BANKS {
             return Err(refusal);
         }
-        let read = read_values(cursor, count, &mut self.entries);
-        if read.is_err() {
-            self.entries.clear();
+        match read_values(cursor, count, &mut self.entries) {
+            Ok(()) => Ok(()),
+            Err(refusal) => {
+                self.entries.clear();
+                Err(refusal)
+            }
         }
-        read
     }
 }

@@ -1,11 +1,11 @@
 //! Structures of several fields: TPMS (Part 2, 10 to 13).
 
 use crate::alg::Alg;
-use crate::codes::VALUE;
 use crate::handles::{AuthSession, NvIndex, PcrIndex};
 use crate::limits::{AuthValue, Nonce, PUBLIC_BYTES};
 use crate::tpm2b::Digest;
 use crate::tpma::{NvAttrs, SessionAttrs};
+use tpm_wire::response_code::VALUE;
 use tpm_wire::{Buffer, Cursor, Duplicate, INSUFFICIENT, Refusal, SIZE, Wire, put_bytes};
 
 /// How many bytes of bits a selection has, one bit for each register.

@@ -3,7 +3,7 @@
 ghost use Rattle.std.specs.Prelude.{◌≡◌, Some};
 
 use crate::alg::Alg;
-use crate::codes::{MODE, SYMMETRIC, VALUE};
+use tpm_wire::response_code::{MODE, SYMMETRIC, VALUE};
 use tpm_wire::{Buffer, Cursor, Refusal, Wire};
 
 const AES: u16 = 0x0006;
