@@ -1,3 +1,5 @@
+mod vectors;
+
 use crate::{Pair, command_mac, hash, hmac, kdfa, response_mac, same, trim};
 use std::process::Abort;
 use tpm_types::{Alg, DIGEST_BYTES, SessionAttrs};
