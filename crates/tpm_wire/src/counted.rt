@@ -1,12 +1,14 @@
 //! Counted lists: TPML structures (Part 2, 10.9).
 
-ghost use Rattle.std.specs.Prelude.{◌≡◌, ◌==◌, ◌+◌, ◌*◌, ◌≤◌, ◌<◌, ◌^◌, ◌⊎◌, [], ◌∷◌, ◌++◌, length, MatchOption};
-ghost use Rattle.tpm_wire.specs.Spelling.{joined_all};
+ghost use Rattle.std.specs.Prelude.{◌≡◌, ◌==◌, ◌+◌, ◌*◌, ◌≤◌, ◌<◌, ◌^◌, ◌⊎◌, [], ◌∷◌, ◌++◌, length, nat_le, ◌&&◌, IfOk, MatchOption};
+ghost use Rattle.tpm_wire.specs.ResponseCodes.{rc_size};
+ghost use Rattle.tpm_wire.specs.Buffers.{number_in, Takes};
+ghost use Rattle.tpm_wire.specs.Spelling.{spelling, joined_all};
 ghost use Rattle.tpm_wire.specs.Structures.{counted};
 
 use crate::cursor::Cursor;
 use crate::duplicate::Duplicate;
-use crate::list::{capped_len, known_list, put_list, take_list};
+use crate::list::{capped_len, known_list, put_list, read_list};
 use crate::refusal::Refusal;
 use crate::response_code::SIZE;
 use crate::wire::{Buffer, Wire};
@@ -21,14 +23,14 @@ pub struct Counted<T: Wire + Default + Duplicate + Drop, const LEAST: usize, con
 
 impl<T: Wire + Default + Duplicate + Drop, const LEAST: usize, const MOST: usize> Model
     for Counted<T, LEAST, MOST> {
-    ghost use Rattle.std.specs.Prelude.{◌+◌, ◌≤◌, ◌<◌, ◌^◌, List, length};
+    ghost use Rattle.std.specs.Prelude.{◌+◌, ◌*◌, ◌≤◌, ◌<◌, ◌^◌, List, length};
     ghost use Rattle.tpm_wire.specs.Spelling.{joined_all};
 
     ghost Value = { List T };
 
     ghost view = { λ c. c.entries.items };
 
-    ghost invariant = { λ c. (LEAST ≤ length c.entries.items) × (length c.entries.items ≤ MOST) × (length c.entries.items < 2 ^ 32) × (4 + length (joined_all T.layout c.entries.items) < 2 ^ 64) };
+    ghost invariant = { λ c. (LEAST ≤ length c.entries.items) × (length c.entries.items ≤ MOST) × (length c.entries.items < 2 ^ 32) × (2 ^ 63 ≤ MOST * T.most → 4 + length (joined_all T.layout c.entries.items) < 2 ^ 64) };
 }
 
 impl<T: Wire + Default + Duplicate + Drop, const LEAST: usize, const MOST: usize> Counted<
@@ -45,7 +47,6 @@ impl<T: Wire + Default + Duplicate + Drop, const LEAST: usize, const MOST: usize
         if entries.len() < LEAST || entries.len() > MOST {
             return None;
         }
-        let _len = capped_len(entries);
         Some(Counted {
             entries: duplicates(entries),
         })
@@ -59,7 +60,6 @@ impl<T: Wire + Default + Duplicate + Drop, const LEAST: usize, const MOST: usize
         ensures { self.new ≡ self.old ++ entry ∷ [] }
     {
         self.entries.push(entry);
-        let _len = capped_len(self.entries.as_slice());
     }
 
     /// Whether there is no room for another entry.
@@ -100,6 +100,21 @@ impl<T: Wire + Default + Duplicate + Drop, const MOST: usize> Default for Counte
     }
 }
 
+/// The number of entries, else SIZE.
+fn take_count(cursor: &mut Cursor<'_>, least: usize, most: usize) -> Result<usize, Refusal>
+    ensures reads { Takes (number_in 4 (λ n. nat_le least n && nat_le n most) rc_size) cursor.old cursor.new result }
+    ensures spelled { IfOk result (λ n. cursor.old.here.rest ≡ spelling (number_in 4 (λ n. nat_le least n && nat_le n most) rc_size) n ++ cursor.new.here.rest) }
+    ensures bounds { IfOk result (λ n. (least ≤ n) × (n ≤ most) × (n < 2 ^ 32)) }
+    ensures short { length cursor.old.here.rest < 2 ^ 32 }
+{
+    let refusal = cursor.refusal(SIZE);
+    let count = u32::take(cursor)? as usize;
+    if count < least || count > most {
+        return Err(refusal);
+    }
+    Ok(count)
+}
+
 /// The number of the entries, from `LEAST` to `MOST`, else SIZE; the entries.
 #[tactic(auto, unfolding(crate::specs::Structures::counted))]
 impl<T: Wire + Default + Duplicate + Drop, const LEAST: usize, const MOST: usize> Wire
@@ -123,15 +138,29 @@ impl<T: Wire + Default + Duplicate + Drop, const LEAST: usize, const MOST: usize
     }
 
     fn take(cursor: &mut Cursor<'_>) -> Result<Self, Refusal> {
-        let _left = cursor.left();
-        let refusal = cursor.refusal(SIZE);
-        let count = u32::take(cursor)? as usize;
-        if count < LEAST || count > MOST {
-            return Err(refusal);
+        let count = take_count(cursor, LEAST, MOST)?;
+        let mut entries = ArrayVec::new();
+        read_list(cursor, count, &mut entries)?;
+        Ok(Counted { entries })
+    }
+
+    // What may have no entries is read where it stays.
+    fn read(&mut self, cursor: &mut Cursor<'_>) -> Result<(), Refusal>
+    where
+        Self: Drop,
+    {
+        if LEAST > 0 {
+            *self = Self::take(cursor)?;
+            return Ok(());
         }
-        Ok(Counted {
-            entries: take_list(cursor, count)?,
-        })
+        let count = take_count(cursor, LEAST, MOST)?;
+        match read_list(cursor, count, &mut self.entries) {
+            Ok(()) => Ok(()),
+            Err(refusal) => {
+                self.entries.clear();
+                Err(refusal)
+            }
+        }
     }
 }
 

@@ -11,23 +11,25 @@ use crate::refusal::Refusal;
 use crate::wire::{Buffer, Wire};
 use arrayvec::ArrayVec;
 
-/// Reads so many entries, or answers the first fault in one of them.
-pub fn take_list<T: Wire + Default + Drop, const N: usize>(
+/// Reads so many entries in the place of those that were there, or answers the first fault in one of them. Which entries are
+/// there after a fault is not said.
+pub fn read_list<T: Wire + Default + Drop, const N: usize>(
     cursor: &mut Cursor<'_>,
     count: usize,
-) -> Result<ArrayVec<T, N>, Refusal>
+    entries: &mut ArrayVec<T, N>,
+) -> Result<(), Refusal>
     requires { count ≤ N }
-    ensures reads { TakesAs (λ v. v.items) (list count false (λ _. T.layout)) cursor.old cursor.new result }
-    ensures spelled { IfOk result (λ v. cursor.old.here.rest ≡ joined_all T.layout v.items ++ cursor.new.here.rest) }
-    ensures count { IfOk result (λ v. length v.items ≡ count) }
+    ensures reads { TakesAs (λ _. entries.new.items) (list count false (λ _. T.layout)) cursor.old cursor.new result }
+    ensures spelled { OnOk result (cursor.old.here.rest ≡ joined_all T.layout entries.new.items ++ cursor.new.here.rest) }
+    ensures count { OnOk result (length entries.new.items ≡ count) }
 {
-    let mut entries = ArrayVec::new();
+    entries.clear();
     for _ in 0..count {
         let last = entries.len();
         entries.push(T::default());
         entries.as_mut_slice()[last].read(cursor)?;
     }
-    Ok(entries)
+    Ok(())
 }
 
 /// Reads entries to the end of the area, but at most so many, or answers the first fault in one of them. To the codes of
@@ -120,8 +122,9 @@ mod tests {
     #[test]
     fn so_many_entries(rt: HostRuntime) {
         let mut cursor = Cursor::new(&[0x00, 0x01, 0x00, 0x02, 0x00]);
-        match take_list::<u16, 4>(&mut cursor, 2) {
-            Ok(entries) => {
+        let mut entries: ArrayVec<u16, 4> = ArrayVec::new();
+        match read_list(&mut cursor, 2, &mut entries) {
+            Ok(()) => {
                 assert_eq!(&rt; entries.as_slice(), [1, 2].as_slice());
                 known_list(entries.as_slice());
                 assert_eq!(&rt; list_len(entries.as_slice()), 4);

@@ -1,6 +1,6 @@
 //! Where bytes come from.
 
-ghost use Rattle.std.specs.Prelude.{◌≡◌, ℕ, List, Option, Some, IsOk};
+ghost use Rattle.std.specs.Prelude.{◌≡◌, ℕ, min, length, List, Option, Some, Ok};
 ghost use Rattle.std.specs.Io.{ReadsAtMost};
 ghost use Rattle.std.specs.Io.KnownBytes.{ReadConsumes};
 ghost use Rattle.tpm_wire.specs.Sources.{CountsFailures};
@@ -33,7 +33,7 @@ pub trait Source {
         ensures { result ≡ failed self.now };
 }
 
-/// The bytes of a slice. It tells them, and no read of it fails.
+/// The bytes of a slice. It tells them, no read of it fails, and each gives as many as there are and have room.
 #[derive(Drop)]
 pub struct SliceSource<'a> {
     rest: &'a [u8],
@@ -65,7 +65,7 @@ impl Source for SliceSource<'_> {
         ensures bound { ReadsAtMost result room.new }
         ensures bytes { ReadConsumes (Some self.old) (Some self.new) result room.new }
         ensures count { CountsFailures 0 0 result }
-        ensures never_fails { IsOk result }
+        ensures all { result ≡ Ok (min (length self.old) (length room.old)) }
     {
         let n = self.rest.len().min(room.len());
         let (front, rest) = self.rest.split_at(n);
@@ -81,15 +81,24 @@ impl Source for SliceSource<'_> {
 
 /// The bytes of any reader, with its failures counted.
 #[derive(Drop)]
-pub struct Reads<R> {
+pub struct Reads<R: Read> {
     reader: R,
     failures: u64,
+}
+
+/// The bytes that its reader tells, and how many of its reads have failed.
+impl<R: Read> Model for Reads<R> {
+    ghost use Rattle.std.specs.Prelude.{ℕ, List, Option};
+
+    ghost Value = { Option (List ℕ) × ℕ };
+
+    ghost view = { λ s. (R.remaining s.reader, s.failures) };
 }
 
 impl<R: Read> Reads<R> {
     /// A source of what this reader gives, of which no read has failed yet.
     pub fn new(reader: R) -> Self
-        ensures { result ≡ record { reader = reader; failures = 0 } }
+        ensures { result ≡ (R.remaining reader, 0) }
     {
         Reads {
             reader,
@@ -100,9 +109,9 @@ impl<R: Read> Reads<R> {
 
 /// It tells the bytes that its reader tells.
 impl<R: Read> Source for Reads<R> {
-    ghost coming = { λ s. R.remaining s.reader };
+    ghost coming = { λ s. s.0 };
 
-    ghost failed = { λ s. s.failures };
+    ghost failed = { λ s. s.1 };
 
     fn read(&mut self, room: &mut [u8]) -> Result<usize, ReadFailed> {
         match self.reader.read(room) {
