@@ -1,13 +1,11 @@
 -- Counted lists: TPML (Part 2, 10.9).
 use Rattle.std.specs.Prelude.{ℕ, List}
 use Rattle.tpm_wire.specs.Buffers.{Layout}
-use Rattle.tpm_wire.specs.Layout.{raw}
-use Rattle.tpm_wire.specs.Layout.Form.{field, done}
 use Rattle.tpm_wire.specs.Structures.{counted}
 use Rattle.tpm_types.specs.Limits.{banks}
-use Rattle.tpm_types.specs.Alg.{hash, digest_len}
 use Rattle.tpm_types.specs.Tpm2b.{digest}
 use Rattle.tpm_types.specs.Tpms.{selection}
+use Rattle.tpm_types.specs.Tpmt.{digest_value}
 use Rattle.tpm_types.specs.declared.alg.Alg.{Alg}
 use Rattle.tpm_types.specs.declared.tpms.Selection.{Selection}
 
@@ -26,13 +24,6 @@ digests = counted 0 most_digests digest
 -- the same in TPM2_PolicyOR (Part 3, 23.6), which has two at least
 abbrev pub or_digests : Layout (List (List ℕ))
 or_digests = counted 2 most_digests digest
-
--- TPMT_HA (10.3.2): a hash, and a digest of as many bytes as it gives
-unfoldable pub digest_value : Layout (Alg × List ℕ)
-digest_value =
-    field (λ d. d.0) hash (λ alg.
-    field (λ d. d.1) (raw (digest_len alg)) (λ digest.
-    done (alg, digest)))
 
 -- TPML_DIGEST_VALUES (10.9.6)
 abbrev pub digest_values : Layout (List (Alg × List ℕ))

@@ -1,16 +1,23 @@
--- Structures by a choice: TPMT (Part 2, 11.1).
-use Rattle.std.specs.Prelude.{ℕ, Option, Some, None, ◌==◌, ◌||◌, if◌then◌else◌}
+-- Structures by a choice: TPMT (Part 2, 10.3 and 11.1).
+use Rattle.std.specs.Prelude.{ℕ, List, Option, Some, None, ◌==◌, ◌||◌, if◌then◌else◌}
 use Rattle.tpm_wire.specs.Buffers.{Layout, number_in}
-use Rattle.tpm_wire.specs.Layout.{either}
+use Rattle.tpm_wire.specs.Layout.{either, raw}
 use Rattle.tpm_wire.specs.Layout.Form.{number, field, done}
 use Rattle.tpm_wire.specs.ResponseCodes.{rc_value, rc_mode, rc_symmetric}
-use Rattle.tpm_types.specs.Alg.{hash}
+use Rattle.tpm_types.specs.Alg.{hash, digest_len}
 use Rattle.tpm_types.specs.declared.alg.Alg.{Alg}
 use Rattle.tpm_types.specs.declared.alg.Alg.TheVariants.{Sha256}
 use Rattle.tpm_types.specs.declared.tpmt.SymDef.{SymDef}
 use Rattle.tpm_types.specs.declared.tpmt.SymDef.TheVariants.{Null, Aes, Xor}
 use Rattle.tpm_types.specs.declared.tpmt.KeyBits.{KeyBits}
 use Rattle.tpm_types.specs.declared.tpmt.KeyBits.TheVariants.{Bits128, Bits256}
+
+-- TPMT_HA (10.3.2): a hash, and a digest of as many bytes as it gives
+unfoldable pub digest_value : Layout (Alg × List ℕ)
+digest_value =
+    field (λ d. d.0) hash (λ alg.
+    field (λ d. d.1) (raw (digest_len alg)) (λ digest.
+    done (alg, digest)))
 
 -- TPM_ALG_ID (6.3)
 abbrev pub alg_aes : ℕ

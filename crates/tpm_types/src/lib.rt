@@ -27,4 +27,4 @@ pub use tpm2b::{Digest, EncryptedSalt, Name};
 pub use tpma::{NvAttrs, SessionAttrs};
 pub use tpml::{DigestValues, Digests, MOST_DIGESTS, OrDigests, Selections};
 pub use tpms::{Auth, AuthReply, NvPublic, SELECT_BYTES, Selection};
-pub use tpmt::{KeyBits, SymDef};
+pub use tpmt::{HashedDigest, KeyBits, SymDef};

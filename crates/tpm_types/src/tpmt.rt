@@ -1,10 +1,127 @@
-//! Structures by a choice: TPMT (Part 2, 11.1).
+//! Structures by a choice: TPMT (Part 2, 10.3 and 11.1).
 
-ghost use Rattle.std.specs.Prelude.{◌≡◌, Some};
+ghost use Rattle.std.specs.Prelude.{◌≡◌, ◌≢◌, ◌≤◌, length, Some, MatchOption};
+ghost use Rattle.tpm_types.specs.Alg.{digest_len, IsDigestValue};
+ghost use Rattle.tpm_types.specs.Limits.{digest_bytes};
 
 use crate::alg::Alg;
-use tpm_wire::response_code::{MODE, SYMMETRIC, VALUE};
-use tpm_wire::{Buffer, Cursor, Refusal, Wire};
+use crate::limits::DIGEST_BYTES;
+use std::marker::Model;
+use tpm_wire::response_code::{INSUFFICIENT, MODE, SYMMETRIC, VALUE};
+use tpm_wire::{Buffer, Cursor, Duplicate, Refusal, Wire, put_bytes};
+
+/// A hash, and a digest of as many bytes as it gives: TPMT_HA (Part 2, 10.3.2).
+#[derive(Drop)]
+pub struct HashedDigest {
+    hash: Alg,
+    // The digest, and behind it bytes without a meaning.
+    bytes: [u8; DIGEST_BYTES],
+}
+
+impl Model for HashedDigest {
+    ghost use Rattle.std.specs.Prelude.{ℕ, List, take};
+    ghost use Rattle.tpm_types.specs.declared.alg.Alg.{Alg};
+    ghost use Rattle.tpm_types.specs.Alg.{digest_len};
+
+    ghost Value = { Alg × List ℕ };
+
+    ghost view = { λ d. (d.hash, take (digest_len d.hash) d.bytes) };
+}
+
+impl HashedDigest {
+    /// A copy of this digest under its hash, if it is as long as the digests of that.
+    pub fn new(hash: Alg, digest: &[u8]) -> Option<Self>
+        ensures { MatchOption result (length digest.now ≢ digest_len hash) (λ d. (d ≡ (hash, digest.now)) × (length digest.now ≡ digest_len hash)) }
+    {
+        if digest.len() != hash.digest_len() {
+            return None;
+        }
+        let mut bytes = [0; DIGEST_BYTES];
+        bytes[..digest.len()].copy_from_slice(digest);
+        Some(HashedDigest { hash, bytes })
+    }
+
+    /// The hash.
+    pub fn hash(&self) -> Alg
+        ensures { result ≡ self.now.0 }
+    {
+        self.hash
+    }
+
+    /// The digest.
+    pub fn digest(&self) -> &[u8]
+        ensures value { result.now ≡ self.now.1 }
+        ensures whole { length result.now ≡ digest_len self.now.0 }
+    {
+        &self.bytes[..self.hash.digest_len()]
+    }
+}
+
+impl Duplicate for HashedDigest {
+    fn duplicate(&self) -> Self {
+        HashedDigest {
+            hash: self.hash,
+            bytes: self.bytes,
+        }
+    }
+}
+
+/// Zeros under SHA-1.
+impl Default for HashedDigest {
+    fn default() -> Self {
+        HashedDigest {
+            hash: Alg::Sha1,
+            bytes: [0; DIGEST_BYTES],
+        }
+    }
+}
+
+/// The hash, else HASH; the bytes of the digest.
+#[tactic(auto, unfolding(crate::specs::Tpmt::digest_value))]
+impl Wire for HashedDigest {
+    ghost use Rattle.std.specs.Prelude.{◌+◌};
+    ghost use Rattle.tpm_types.specs.Limits.{digest_bytes};
+    ghost use Rattle.tpm_types.specs.Tpmt.{digest_value};
+
+    ghost layout = { digest_value };
+
+    ghost most = { 2 + digest_bytes };
+
+    fn known(&self) {
+        self.hash.known();
+        prove!(self.digest().len() == self.hash.digest_len());
+    }
+
+    fn len(&self) -> usize {
+        self.hash.len() + self.hash.digest_len()
+    }
+
+    fn put(&self, out: &mut Buffer) {
+        self.hash.put(out);
+        put_bytes(out, self.digest());
+    }
+
+    fn take(cursor: &mut Cursor<'_>) -> Result<Self, Refusal> {
+        let mut found = HashedDigest::default();
+        found.read(cursor)?;
+        Ok(found)
+    }
+
+    fn read(&mut self, cursor: &mut Cursor<'_>) -> Result<(), Refusal>
+    where
+        Self: Drop,
+    {
+        self.hash = Alg::take(cursor)?;
+        let len = self.hash.digest_len();
+        match cursor.front(len) {
+            Some(digest) => {
+                self.bytes[..len].copy_from_slice(digest);
+                Ok(())
+            }
+            None => Err(cursor.refusal(INSUFFICIENT)),
+        }
+    }
+}
 
 const AES: u16 = 0x0006;
 
