@@ -11,8 +11,8 @@ sample_provers() {
 # prover_times: a line 'crate proofs tests edits' of seconds for each crate, from the samples of what the gate started.
 prover_times() {
     awk -v gate="$(cat "$room/gate.pid")" '
-        function seconds(time, part, n, i, sum) {
-            n = split(time, part, /[-:]/)
+        function seconds(text, part, n, i, sum) {
+            n = split(text, part, /[-:]/)
             sum = part[1]
             for (i = 2; i <= n; i++) sum = sum * (n - i == 2 ? 24 : 60) + part[i]
             return sum

@@ -1,18 +1,118 @@
 # The program's statuses and what it writes where, by the script ./tpmtool: 0 done, 1 refused, 2 usage,
-# 3 a reading or writing fault.
+# 3 a reading or writing fault. What it prints stands in the files of cases beside this one:
+#
+#     NAME        begins a case, which the empty line ends
+#     $ WORDS     runs the program on these words; a case may have several lines, which all give the same
+#     < LINE      a line of standard input; behind `<.` it has no line feed
+#     > LINE      a line of standard output
+#     ! LINE      a line of standard error
+#     = N         the status, if it isn't 0
+#
+# The words are the shell's, and so is a line behind `<$`, `<.$` and `>$`.
 
 program=crates/tpmtool/out/tpmtool
 startup=80010000000c000001440000
 
-# runs NAME STATUS OUTPUT ERRORS WORD..: the output and what goes to standard error are whole texts.
-runs() {
+# zeros N: N bytes of zeros, in hexadecimal.
+zeros() {
+    printf "%0$((2 * $1))d" 0
+}
+
+# judge STATUS: what was written and the status are what was wanted.
+judge() {
+    if [ "$1" -ne "$wanted" ]; then
+        why="status $1 in place of $wanted"
+    elif ! cmp -s "$room/out" "$room/out.wanted"; then
+        why="it wrote: $(cat "$room/out")"
+    elif ! cmp -s "$room/err" "$room/err.wanted"; then
+        why="it complained: $(cat "$room/err")"
+    else
+        return 0
+    fi
+    return 1
+}
+
+# check STATUS: counts the case $name by what was written and the status.
+check() {
+    if judge "$1"; then pass "$name"; else fail "$name" "$why"; fi
+}
+
+# clear_case: nothing is wanted so far.
+clear_case() {
+    name= wanted=0
+    : >"$room/words"
+    : >"$room/in"
+    : >"$room/out.wanted"
+    : >"$room/err.wanted"
+}
+
+# end_case: runs the case that was read, if one was.
+end_case() {
+    [ -n "$name" ] || return 0
+    wrong=
+    while IFS= read -r words; do
+        eval "./tpmtool $words" >"$room/out" 2>"$room/err" <"$room/in"
+        judge $? || wrong="$wrong tpmtool $words: $why;"
+    done <"$room/words"
+    if [ -z "$wrong" ]; then pass "$name"; else fail "$name" "$wrong"; fi
+    clear_case
+}
+
+# cases FILE: runs its cases.
+cases() {
+    clear_case
+    while IFS= read -r line; do
+        case $line in
+        '#'*) ;;
+        '') end_case ;;
+        '$ '*) printf '%s\n' "${line#??}" >>"$room/words" ;;
+        '<$ '*) eval "printf '%s\n' ${line#???}" >>"$room/in" ;;
+        '<.$ '*) eval "printf '%s' ${line#????}" >>"$room/in" ;;
+        '<. '*) printf '%s' "${line#???}" >>"$room/in" ;;
+        '< '* | '<') line=${line#<} && printf '%s\n' "${line# }" >>"$room/in" ;;
+        '>$ '*) eval "printf '%s\n' ${line#???}" >>"$room/out.wanted" ;;
+        '> '* | '>') line=${line#>} && printf '%s\n' "${line# }" >>"$room/out.wanted" ;;
+        '! '* | '!') line=${line#!} && printf '%s\n' "${line# }" >>"$room/err.wanted" ;;
+        '= '*) wanted=${line#??} ;;
+        *) name=$line ;;
+        esac
+    done <"$1"
+    end_case
+}
+
+cases checks/show.txt
+cases checks/build.txt
+cases checks/run.txt
+cases checks/words.txt
+
+# feeds N: N line feeds.
+feeds() {
+    head -c "$1" /dev/zero | tr '\0' '\n'
+}
+
+# runs_long NAME STATUS OUTPUT ERRORS: of `run`, with $room/in as standard input.
+runs_long() {
     name=$1 wanted=$2
     printf '%s' "$3" >"$room/out.wanted"
     printf '%s' "$4" >"$room/err.wanted"
-    shift 4
-    ./tpmtool "$@" >"$room/out" 2>"$room/err" </dev/null
-    judge $?
+    ./tpmtool run >"$room/out" 2>"$room/err" <"$room/in"
+    check $?
 }
+
+feeds 16777216 >"$room/in"
+runs_long "a script of 16,777,216 bytes" 0 '' ''
+
+echo >>"$room/in"
+runs_long "a script of 16,777,217 bytes" 3 '' 'input too long
+'
+
+{ feeds 16777213 && echo no && echo power; } >"$room/in"
+runs_long "a line that ends with byte 16,777,216" 1 'line 16777214: not hexadecimal
+' ''
+
+{ feeds 16777214 && echo no; } >"$room/in"
+runs_long "a line that ends with byte 16,777,217" 3 '' 'input too long
+'
 
 # runs_without_output NAME TARGET WORD..: standard output is closed (-) or a file that takes nothing.
 runs_without_output() {
@@ -22,191 +122,27 @@ runs_without_output() {
     echo 'writing failed' >"$room/err.wanted"
     shift 2
     case $target in
-    -) ./tpmtool "$@" >&- 2>"$room/err" </dev/null ;;
+    -) echo power | ./tpmtool "$@" >&- 2>"$room/err" ;;
     *) ./tpmtool "$@" >"$target" 2>"$room/err" </dev/null ;;
     esac
-    judge $?
+    check $?
 }
 
-# runs_script NAME STATUS OUTPUT ERRORS SCRIPT WORD..: the same of `run`, with the script on standard input.
-runs_script() {
-    name=$1 wanted=$2
-    printf '%s' "$3" >"$room/out.wanted"
-    printf '%s' "$4" >"$room/err.wanted"
-    printf '%s' "$5" >"$room/script"
-    shift 5
-    ./tpmtool run "$@" >"$room/out" 2>"$room/err" <"$room/script"
-    judge $?
-}
+runs_without_output "a closed standard output" - show $startup
+runs_without_output "a closed standard output for a refusal" - show ''
+runs_without_output "a closed standard output for a response" - show --reply Startup 80010000000a00000100
+runs_without_output "a closed standard output for joined parts" - build Startup - - 0000
+runs_without_output "a closed standard output for a script" - run
+runs_without_output "a closed standard output for help" - --help
 
-# runs_empty_lines NAME STATUS ERRORS N: a script of N line feeds, of which nothing is printed.
-runs_empty_lines() {
-    name=$1 wanted=$2
-    : >"$room/out.wanted"
-    printf '%s' "$3" >"$room/err.wanted"
-    head -c "$4" /dev/zero | tr '\0' '\n' | ./tpmtool run >"$room/out" 2>"$room/err"
-    judge $?
-}
+if [ -c /dev/full ]; then
+    runs_without_output "a full standard output" /dev/full show $startup
+else
+    skip "a full standard output" "there is no /dev/full"
+fi
 
-judge() {
-    if [ "$1" -ne "$wanted" ]; then
-        fail "$name" "status $1 in place of $wanted"
-    elif ! cmp -s "$room/out" "$room/out.wanted"; then
-        fail "$name" "it wrote: $(cat "$room/out")"
-    elif ! cmp -s "$room/err" "$room/err.wanted"; then
-        fail "$name" "it complained: $(cat "$room/err")"
-    else
-        pass "$name"
-    fi
-}
-
-runs "a command is shown, status 0" 0 'command Startup size 12
-parameters 0000
-' '' show $startup
-
-runs "a refusal is printed, status 1" 1 'refused 01e at 0
-' '' show 80030000000c000001440000
-
-runs "the empty buffer is refused, status 1" 1 'refused 09a at 0
-' '' show ''
-
-runs "text that is not hexadecimal, status 1" 1 'not hexadecimal
-' '' show -
-
-runs "a response is shown, status 0" 0 'reply PCR_Reset size 19
-parameters -
-session 1 nonce - attributes 01 hmac -
-' '' show --reply PCR_Reset 80020000001300000000000000000000010000
-
-runs "a response code is shown, status 0" 0 'reply code 100
-' '' show --reply Startup 80010000000a00000100
-
-runs "a refusal of a response is printed, status 1" 1 'refused 084 at 6
-' '' show --reply Startup 00c40000000a00000100
-
-runs "parts are joined, status 0" 0 '80020000001b0000013d0000001000000009400000090000010000
-' '' build PCR_Reset 00000010 400000090000010000 -
-
-runs "joined parts are refused, status 1" 1 'refused 1c4 at 10
-' '' build Startup - - 0002
-
-zeros=0000000000000000000000000000000000000000000000000000000000000000
-runs_script "a script is run, status 0" 0 "80010000000a00000000
-80020000001300000000000000000000010000
-power
-80010000000a00000100
-80010000000a00000000
-80010000003e000000000000000000000001000b03010000000000010020$zeros
-" '' "$startup
-80020000004100000182000000000000000940000009000001000000000001000b$zeros
-power
-8001000000140000017e00000001000b03010000
-$startup
-8001000000140000017e00000001000b03010000"
-
-runs_script "no script, status 0" 0 '' '' ''
-
-runs_script "a line that is not hexadecimal, status 1" 1 'power
-line 3: not hexadecimal
-' '' 'power
-
-8001g
-power
-'
-
-runs_script "an owner value that is not hexadecimal, status 1" 1 'not hexadecimal
-' '' "$startup" --owner -
-
-runs_script "an owner value and a number, status 0" 0 '80010000000a00000000
-' '' "$startup" --owner "$zeros" --greatest 0041
-
-runs_script "an owner value of 33 bytes, status 2 with usage on standard error" 2 '' "error: invalid value '00$zeros' for '--owner <HEX>': it has more than 32 bytes
-
-Usage: tpmtool run [OPTIONS]
-
-For more information, try '--help'.
-" "$startup" --owner "00$zeros"
-
-runs_script "a number with a sign, status 2 with usage on standard error" 2 '' "error: invalid value '+1' for '--greatest <N>': it is no decimal number up to 18446744073709551615
-
-Usage: tpmtool run [OPTIONS]
-
-For more information, try '--help'.
-" "$startup" --owner - --greatest +1
-
-runs_empty_lines "a script of 16,777,216 bytes, status 0" 0 '' 16777216
-runs_empty_lines "a script of 16,777,217 bytes, status 3" 3 'input too long
-' 16777217
-
-runs "no words, status 2 with usage on standard error" 2 '' "error: 'tpmtool' requires a subcommand but one was not provided
-  [subcommands: show, build, run, help]
-
-Usage: tpmtool <COMMAND>
-
-For more information, try '--help'.
-"
-
-runs "a missing word, status 2 with usage on standard error" 2 '' "error: the following required arguments were not provided:
-  <HEX>
-
-Usage: tpmtool show <HEX>
-
-For more information, try '--help'.
-" show
-
-runs "an unknown name, status 2 with usage on standard error" 2 '' "error: invalid value 'startup' for '<NAME>'
-  [possible values: NV_UndefineSpace, NV_DefineSpace, NV_Increment, PCR_Reset, Startup, NV_Read, FlushContext, NV_ReadPublic, PolicyAuthValue, PolicyCommandCode, PolicyOR, StartAuthSession, PCR_Read, PolicyPCR, PolicyRestart, PCR_Extend, PolicyGetDigest]
-
-  tip: a similar value exists: 'Startup'
-
-For more information, try '--help'.
-" build startup - - 0000
-
-runs "a response to an unknown command, status 2 with usage on standard error" 2 '' "error: invalid value 'GetRandom' for '--reply <NAME>'
-  [possible values: NV_UndefineSpace, NV_DefineSpace, NV_Increment, PCR_Reset, Startup, NV_Read, FlushContext, NV_ReadPublic, PolicyAuthValue, PolicyCommandCode, PolicyOR, StartAuthSession, PCR_Read, PolicyPCR, PolicyRestart, PCR_Extend, PolicyGetDigest]
-
-For more information, try '--help'.
-" show --reply GetRandom 8001
-
-runs "a word that is not text, status 2 with usage on standard error" 2 '' "error: invalid UTF-8 was detected in one or more arguments
-
-Usage: tpmtool <COMMAND>
-
-For more information, try '--help'.
-" show "$(printf '\377')"
-
-runs "help on standard output, status 0" 0 'Prints the command or the response that a buffer spells, or where it is refused
-
-Usage: tpmtool show [OPTIONS] <HEX>
-
-Arguments:
-  <HEX>  The buffer, in hexadecimal
-
-Options:
-      --reply <NAME>  Reads the buffer as a response to this command [possible values: NV_UndefineSpace, NV_DefineSpace, NV_Increment, PCR_Reset, Startup, NV_Read, FlushContext, NV_ReadPublic, PolicyAuthValue, PolicyCommandCode, PolicyOR, StartAuthSession, PCR_Read, PolicyPCR, PolicyRestart, PCR_Extend, PolicyGetDigest]
-  -h, --help          Print help
-' '' show --help
-
-runs_without_output "a closed standard output, status 3" - show $startup
-runs_without_output "a closed standard output for a refusal, status 3" - show ''
-runs_without_output "a closed standard output for a response, status 3" - show --reply Startup 80010000000a00000100
-runs_without_output "a closed standard output for joined parts, status 3" - build Startup - - 0000
-runs_without_output "a closed standard output for help, status 3" - --help
-
-name="a directory as standard input, status 3" wanted=3
+name="a directory as standard input" wanted=3
 : >"$room/out.wanted"
 echo 'reading failed' >"$room/err.wanted"
 ./tpmtool run >"$room/out" 2>"$room/err" <.
-judge $?
-
-name="a closed standard output for a script, status 3"
-echo 'writing failed' >"$room/err.wanted"
-: >"$room/out"
-echo power | ./tpmtool run >&- 2>"$room/err"
-judge $?
-
-if [ -c /dev/full ]; then
-    runs_without_output "a full standard output, status 3" /dev/full show $startup
-else
-    skip "a full standard output, status 3" "there is no /dev/full"
-fi
+check $?

@@ -1,7 +1,8 @@
 -- What was found in the words, by the getters and by the matches.
-use Rattle.std.proofs.Common.{◌≡◌, ap, sym, subst, refl, ◌∙◌, true, codes, List, Option, Some, None, option_map, unwrap_or}
+use Rattle.std.proofs.Common.{◌≡◌, ℕ, ap, sym, subst, refl, ◌∙◌, Bool, true, false, Bor, inl, inr, codes, List, Option, Some, None, option_map, unwrap_or}
 use Rattle.std.specs.Prelude.{Box}
 use Rattle.std.specs.Box.{box_value}
+use Rattle.std.specs.Option.{MatchOption}
 use Rattle.clap.specs.Matches.{subcommand_name_of, first_value}
 use Rattle.clap.specs.Walk.{Row, Text, first_of, rows_of}
 use Rattle.clap.specs.Simple.{App, HasMatchesOf, app_of, is_simple, subcommand_of, subcommand_rows, subcommand_rows_of}
@@ -11,12 +12,20 @@ use Rattle.clap.specs.declared.parser.matches.ArgMatches.TheViews.{out-ArgMatche
 use Rattle.clap.specs.declared.parser.matches.SubCommand.{SubCommand}
 use Rattle.clap.specs.declared.builder.command.Command.{Command}
 use Rattle.clap.specs.declared.builder.value_parser.ValueParser.{ValueParser}
+use Rattle.clap.specs.declared.builder.value_parser.ValueParser.TheVariants.{Names}
+use Rattle.clap.specs.declared.error.kind.ErrorKind.{ErrorKind}
+use Rattle.clap.specs.declared.error.kind.ErrorKind.TheVariants.{OutOfMemory}
+use Rattle.clap.specs.Takes.{takes}
 use Rattle.clap.proofs.OnLiterals.{clap_on_literals}
 use Rattle.clap.proofs.WalkLemmas.{first_value-rows}
 use Rattle.tpm_words.specs.declared.task.Task.{Task}
 use Rattle.tpm_words.specs.declared.task.Task.TheVariants.{Show, Build, Run}
 use Rattle.tpm_words.specs.Program.{program_app}
-use Rattle.tpm_words.specs.Task.{Asks, AsksWith, IsDecimal, Replies, bytes_in}
+use Rattle.tpm_words.specs.Task.{Asks, AsksNothing, AsksNothingWith, AsksWith, IsDecimal, IsOwner, Replies}
+use Rattle.tpm_words.specs.declared.stop.Stop.{Stop}
+use Rattle.tpm_words.specs.declared.stop.Stop.TheVariants.{Help, Usage, Memory}
+use Rattle.tpm_words.specs.Stop.{IsHelp, IsMemoryOr, Refuses, StopsFor}
+use Rattle.tpm_words.specs.Names.{AreAllNames}
 
 some : {A : Type 0} (x y : A) → (let a : Option A = Some x in a) ≡ Some y → x ≡ y
 some x y e = cc
@@ -29,7 +38,7 @@ agrees name v w same (Build code handles sessions parameters) h =
     (h.0, rw (← same (codes "NAME")) h.1, sym (same (codes "HANDLES")) ∙ h.2, sym (same (codes "SESSIONS")) ∙ h.3, sym (same (codes "PARAMETERS")) ∙ h.4)
 agrees name v w same (Run owner greatest) h = (
   h.0,
-  subst (λ (x : Option Text). owner ≡ bytes_in (unwrap_or x (codes ""))) (same (codes "owner")) h.1,
+  subst (λ (x : Option Text). IsOwner (unwrap_or x (codes "")) owner) (same (codes "owner")) h.1,
   subst (λ (x : Option Text). IsDecimal (unwrap_or x (codes "0")) greatest) (same (codes "greatest")) h.2,
 )
 
@@ -41,6 +50,15 @@ met (Some p) name f t n r h =
     let rows : rows_of f ≡ p.1 = sym (some p.1 (rows_of f) r) in
     subst (λ (x : Text). AsksWith x (λ id. first_of id p.1) t) named
     (agrees name (first_value f) (λ id. first_of id p.1) (λ id. first_value-rows f id ∙ ap (first_of id) rows) t h)
+
+met_back : (o : Option (Text × List Row)) (name : Text) (f : Found) (t : Task) → option_map (λ (p : Text × List Row). p.0) o ≡ Some name → option_map (λ (p : Text × List Row). p.1) o ≡ Some (rows_of f)
+    → Asks o t → AsksWith name (first_value f) t
+met_back None name f t n r h = absurd h
+met_back (Some p) name f t n r h =
+    let named : p.0 ≡ name = some p.0 name n in
+    let rows : rows_of f ≡ p.1 = sym (some p.1 (rows_of f) r) in
+    subst (λ (x : Text). AsksWith x (first_value f) t) named
+    (agrees p.0 (λ id. first_of id p.1) (first_value f) (λ id. sym (first_value-rows f id ∙ ap (first_of id) rows)) t h)
 
 name_in : {Z : Type 0} (o : Option (Box SubCommand Z)) → option_map (λ (p : Text × List Row). p.0) (subcommand_rows o) ≡ option_map (λ (b : Box SubCommand Z). (out-SubCommand (box_value b)).name.now) o
 name_in None = refl
@@ -54,12 +72,47 @@ pub asks : (m : ArgMatches) (name : Text) (f : Found) (t : Task) → subcommand_
     → AsksWith name (first_value f) t → Asks (subcommand_rows_of m) t
 asks m name f t n r h = met (subcommand_rows_of m) name f t (named m ∙ n) r h
 
+pub asks_nothing : (m : ArgMatches) (name : Text) (f : Found) → subcommand_name_of m ≡ Some name → option_map (λ (p : Text × List Row). p.1) (subcommand_rows_of m) ≡ Some (rows_of f)
+    → AsksNothingWith name (first_value f) → AsksNothing (subcommand_rows_of m)
+asks_nothing m name f n r none = λ t h. none t (met_back (subcommand_rows_of m) name f t (named m ∙ n) r h)
+
+-- an answer with a reason, where the one follows from the other
+pub match_then : {A : Type 0} (o : Option A) {N M : Type 0} {P Q : A → Type 0} → MatchOption o N P → (N → M) → ((x : A) → P x → Q x) → MatchOption o M Q
+match_then None h f g = f h
+match_then (Some x) h f g = g x h
+
+pub memory_or : {N M : Type 0} (stop : Stop) → (N → M) → IsMemoryOr N stop → IsMemoryOr M stop
+memory_or (Help text) f h = h
+memory_or (Usage text) f h = f h
+memory_or Memory f h = tt
+
 -- clap says exactly what it finds in the program's words
 pub simple : (names : ValueParser) → is_simple (program_app names) ≡ true
 unfolding clap_on_literals
 simple names = refl
 
-pub asked_in : (m : ArgMatches) (program : Command) (app : App) (words : List Text) (t : Task) → app_of program ≡ app → is_simple app ≡ true → HasMatchesOf (app_of program) words m
-    → Asks (subcommand_rows_of m) t → Asks (subcommand_of app words) t
-asked_in m program app words t same simple has h =
-    subst (λ (o : Option (Text × List Row)). Asks o t) ((has (ap is_simple same ∙ simple)).1 ∙ ap (λ (a : App). subcommand_of a words) same) h
+-- what clap met in these words is what the program says
+pub met_is : (m : ArgMatches) (program : Command) (app : App) (words : List Text) → app_of program ≡ app → is_simple app ≡ true → HasMatchesOf (app_of program) words m
+    → subcommand_rows_of m ≡ subcommand_of app words
+met_is m program app words same s has = (has (ap is_simple same ∙ s)).1 ∙ ap (λ (a : App). subcommand_of a words) same
+
+-- ---- words that are refused
+
+pub refuses : (words : List Text) (names : Bor (List (Bor (List ℕ)))) (stop : Stop) → AreAllNames names.now → IsMemoryOr (AsksNothing (subcommand_of (program_app (Names names)) words)) stop → Refuses words stop
+refuses words names (Help text) all h = absurd h
+refuses words names (Usage text) all h = (names, all, λ _. h)
+refuses words names Memory all h = tt
+
+is_false : (b : Bool) → (b ≡ true → ⊥) → b ≡ false
+is_false true f = absurd (f refl)
+is_false false f = refl
+
+is_no_help : (kind : ErrorKind) → IsHelp kind → kind ≡ OutOfMemory → ⊥
+is_no_help kind (inl h) e = let z : ⊥ = cc in z
+is_no_help kind (inr h) e = let z : ⊥ = cc in z
+
+pub stops : (words : List Text) (names : Bor (List (Bor (List ℕ)))) (kind : ErrorKind) (stop : Stop) → AreAllNames names.now
+    → (takes (program_app (Names names)) words ≡ true → kind ≡ OutOfMemory) → StopsFor kind stop → Refuses words stop
+stops words names kind (Help text) all passes h = (names, all, is_false (takes (program_app (Names names)) words) (λ taken. is_no_help kind h (passes taken)))
+stops words names kind (Usage text) all passes h = (names, all, λ taken. absurd (h.2 (passes taken)))
+stops words names kind Memory all passes h = tt

@@ -1,4 +1,4 @@
-pub mod Stop
 pub mod Names
 pub mod Program
 pub mod Task
+pub mod Stop

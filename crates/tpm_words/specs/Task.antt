@@ -1,9 +1,10 @@
 -- What the words ask for, by what clap finds in them.
-use Rattle.std.specs.Prelude.{◌≡◌, ℕ, List, Option, Some, None, codes, option_and_then, is_some, true, unwrap_or}
+use Rattle.std.specs.Prelude.{◌≡◌, ◌<◌, ◌≤◌, ◌^◌, ℕ, List, Option, Some, None, IfSome, codes, length, option_and_then, is_some, true, unwrap_or}
 use Rattle.std.specs.Result.{result_ok}
 use Rattle.std.specs.Str.Parse.{IsNumeral, digits_value}
 use Rattle.hex.specs.Hex.{decode_of}
 use Rattle.clap.specs.Words.{Row, Text, first_of}
+use Rattle.tpm_types.specs.Limits.{digest_bytes}
 use Rattle.tpm_buffer.specs.declared.code.CommandCode.{CommandCode}
 use Rattle.tpm_words.specs.declared.task.Task.{Task}
 use Rattle.tpm_words.specs.declared.task.Task.TheVariants.{Show, Build, Run}
@@ -18,9 +19,13 @@ Replies (Some name) reply = (reply ≡ command_of_name name) × (is_some reply �
 abbrev pub bytes_in : Text → Option (List ℕ)
 bytes_in text = result_ok (decode_of text)
 
--- a number by its decimal digits, one or more, with no sign
+-- an owner's authorization value by its hexadecimal digits, of no more bytes than a digest has; or none for any other text
+abbrev pub IsOwner : Text → Option (List ℕ) → Type 0
+IsOwner text owner = (owner ≡ bytes_in text) × IfSome owner (λ bytes. length bytes ≤ digest_bytes)
+
+-- a number below 2^64 by its decimal digits, one or more, with no sign
 abbrev pub IsDecimal : Text → ℕ → Type 0
-IsDecimal text number = IsNumeral 10 text × (number ≡ digits_value 10 text)
+IsDecimal text number = IsNumeral 10 text × (number ≡ digits_value 10 text) × (number < 2 ^ 64)
 
 -- a subcommand of this name, with these values of its words by their names, asks for the task
 abbrev pub AsksWith : Text → (Text → Option Text) → Task → Type 0
@@ -28,10 +33,17 @@ AsksWith name value (Show reply hex) = (name ≡ codes "show") × Replies (value
 AsksWith name value (Build code handles sessions parameters) = (name ≡ codes "build")
     × (option_and_then command_of_name (value (codes "NAME")) ≡ Some code)
     × (value (codes "HANDLES") ≡ Some handles.now) × (value (codes "SESSIONS") ≡ Some sessions.now) × (value (codes "PARAMETERS") ≡ Some parameters.now)
-AsksWith name value (Run owner greatest) = (name ≡ codes "run") × (owner ≡ bytes_in (unwrap_or (value (codes "owner")) (codes "")))
+AsksWith name value (Run owner greatest) = (name ≡ codes "run") × IsOwner (unwrap_or (value (codes "owner")) (codes "")) owner
     × IsDecimal (unwrap_or (value (codes "greatest")) (codes "0")) greatest
+
+-- There is no such task.
+abbrev pub AsksNothingWith : Text → (Text → Option Text) → Type 0
+AsksNothingWith name value = (task : Task) → AsksWith name value task → ⊥
 
 -- the same, of the subcommand that was met, with its matches
 abbrev pub Asks : Option (Text × List Row) → Task → Type 0
 Asks None task = ⊥
 Asks (Some met) task = AsksWith met.0 (λ id. first_of id met.1) task
+
+abbrev pub AsksNothing : Option (Text × List Row) → Type 0
+AsksNothing met = (task : Task) → Asks met task → ⊥

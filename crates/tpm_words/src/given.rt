@@ -1,13 +1,14 @@
 //! The words that a run was given.
 
-ghost use Rattle.std.specs.Prelude.{◌≡◌, ℕ, List, IfOk, IfSome, codes, map, string_bytes};
+ghost use Rattle.std.specs.Prelude.{◌≡◌, ℕ, List, IfOk, IfErr, IfSome, MatchOption, MatchResult, codes, map, string_bytes};
 ghost use Rattle.std.specs.Borrow.{Bor};
 ghost use Rattle.clap.specs.Words.{first_value, found_of, kind_of, subcommand_of, subcommand_rows_of};
 ghost use Rattle.clap.specs.declared.error.kind.ErrorKind.TheVariants.{InvalidValue};
 ghost use Rattle.clap.specs.declared.builder.value_parser.ValueParser.TheVariants.{Names};
+ghost use Rattle.tpm_words.specs.Names.{AreAllNames};
 ghost use Rattle.tpm_words.specs.Program.{program_app};
-ghost use Rattle.tpm_words.specs.Stop.{StopsFor};
-ghost use Rattle.tpm_words.specs.Task.{Asks, AsksWith};
+ghost use Rattle.tpm_words.specs.Stop.{StopsFor, IsMemoryOr, Refuses};
+ghost use Rattle.tpm_words.specs.Task.{Asks, AsksNothing, AsksNothingWith, AsksWith};
 
 use crate::names::{command_named, command_names};
 use crate::program::program;
@@ -17,6 +18,7 @@ use crate::task::Task;
 use clap::error::ErrorKind;
 use clap::{ArgMatches, Error};
 use std::alloc::{AllocError, Global};
+use std::marker::Model;
 
 /// The words of a run, with the names that they may give.
 #[derive(Drop)]
@@ -25,10 +27,18 @@ pub struct Words {
     names: Vec<&'static str>,
 }
 
+impl Model for Words {
+    ghost Value = { List (List ℕ) };
+
+    ghost view = { λ w. map string_bytes w.given.items };
+
+    ghost invariant = { λ w. AreAllNames w.names.items };
+}
+
 impl Words {
     /// These words, of which the first is the program's name.
     pub fn new(alloc: Global, given: Vec<String>) -> Result<Self, AllocError>
-        ensures { IfOk result (λ w. w.given ≡ given) }
+        ensures { IfOk result (λ w. w ≡ map string_bytes given.items) }
     {
         Ok(Words {
             given,
@@ -37,9 +47,14 @@ impl Words {
     }
 
     /// What they ask for.
+    ///
+    /// The names that may be given are those of all commands. Where the words are those of a subcommand they are refused
+    /// only for a value of `run`: an owner value of too many bytes, or a number that is other than decimal digits or
+    /// above 2^64 - 1.
     pub fn task(&self, alloc: Global) -> Result<Task<'_>, Stop>
-        ensures { IfOk result (λ t. (names : Bor (List (Bor (List ℕ)))) × (names.now ≡ self.now.names.items)
-            × Asks (subcommand_of (program_app (Names names)) (map string_bytes self.now.given.items)) t) }
+        ensures ok { IfOk result (λ t. (names : Bor (List (Bor (List ℕ)))) × AreAllNames names.now
+            × Asks (subcommand_of (program_app (Names names)) self.now) t) }
+        ensures err { IfErr result (λ stop. Refuses self.now stop) }
     {
         let mut program = program(alloc, self.names.as_slice())?;
         match program.try_get_matches_from_mut(self.given.as_slice()) {
@@ -53,7 +68,8 @@ impl Words {
 }
 
 fn show_task<'a>(words: &ArgMatches<'a>) -> Option<Task<'a>>
-    ensures { IfSome result (λ t. AsksWith (codes "show") (first_value (found_of words.now)) t) }
+    ensures { MatchOption result (AsksNothingWith (codes "show") (first_value (found_of words.now)))
+        (λ t. AsksWith (codes "show") (first_value (found_of words.now)) t) }
 {
     let reply = match words.get_str("reply") {
         Some(name) => Some(command_named(name)?),
@@ -66,7 +82,8 @@ fn show_task<'a>(words: &ArgMatches<'a>) -> Option<Task<'a>>
 }
 
 fn build_task<'a>(words: &ArgMatches<'a>) -> Option<Task<'a>>
-    ensures { IfSome result (λ t. AsksWith (codes "build") (first_value (found_of words.now)) t) }
+    ensures { MatchOption result (AsksNothingWith (codes "build") (first_value (found_of words.now)))
+        (λ t. AsksWith (codes "build") (first_value (found_of words.now)) t) }
 {
     Some(Task::Build {
         name: command_named(words.get_str("NAME")?)?,
@@ -77,7 +94,9 @@ fn build_task<'a>(words: &ArgMatches<'a>) -> Option<Task<'a>>
 }
 
 fn asked<'a>(alloc: Global, matches: &ArgMatches<'a>) -> Result<Option<Task<'a>>, Stop>
-    ensures { IfOk result (λ asked. IfSome asked (λ t. Asks (subcommand_rows_of matches.now) t)) }
+    ensures { MatchResult result
+        (λ asked. MatchOption asked (AsksNothing (subcommand_rows_of matches.now)) (λ t. Asks (subcommand_rows_of matches.now) t))
+        (λ stop. IsMemoryOr (AsksNothing (subcommand_rows_of matches.now)) stop) }
 {
     let Some((name, words)) = matches.subcommand() else {
         return Ok(None);

@@ -11,6 +11,3 @@ mod task;
 pub use given::{Words, words_not_text};
 pub use stop::Stop;
 pub use task::Task;
-
-#[cfg(test)]
-mod tests;

@@ -1,7 +1,7 @@
 //! The commands by their names.
 
-ghost use Rattle.std.specs.Prelude.{◌≡◌};
-ghost use Rattle.tpm_words.specs.Names.{command_of_name};
+ghost use Rattle.std.specs.Prelude.{◌≡◌, IfOk};
+ghost use Rattle.tpm_words.specs.Names.{AreAllNames, command_of_name};
 
 use std::alloc::{AllocError, Global};
 use tpm_buffer::CommandCode;
@@ -34,6 +34,8 @@ pub(crate) fn command_named(name: &str) -> Option<CommandCode>
 }
 
 /// The names of all commands, in the order of their numbers.
-pub(crate) fn command_names(alloc: Global) -> Result<Vec<&'static str>, AllocError> {
+pub(crate) fn command_names(alloc: Global) -> Result<Vec<&'static str>, AllocError>
+    ensures { IfOk result (λ names. AreAllNames names.items) }
+{
     COMMANDS.iter().map(|code| code.name()).collect(alloc)
 }

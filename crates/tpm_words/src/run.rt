@@ -1,8 +1,10 @@
 //! The words of the subcommand `run`.
 
-ghost use Rattle.std.specs.Prelude.{◌≡◌, IfOk, codes};
-ghost use Rattle.clap.specs.Words.{first_value, found_of};
-ghost use Rattle.tpm_words.specs.Task.{AsksWith, IsDecimal, bytes_in};
+ghost use Rattle.std.specs.Prelude.{ℕ, List, Option, IfOk, MatchResult, ◌≡◌, codes};
+ghost use Rattle.clap.specs.Words.{first_value, found_of, kind_of};
+ghost use Rattle.clap.specs.declared.error.kind.ErrorKind.TheVariants.{ValueValidation};
+ghost use Rattle.tpm_words.specs.Stop.{IsMemoryOr};
+ghost use Rattle.tpm_words.specs.Task.{AsksNothingWith, AsksWith, IsDecimal, IsOwner};
 
 use crate::program::run_words;
 use crate::stop::Stop;
@@ -11,11 +13,12 @@ use clap::error::ErrorKind;
 use clap::{ArgMatches, Error};
 use hex::FromHexError;
 use std::alloc::{AllocError, Global};
-use tpm_types::AuthValue;
+use tpm_types::{AuthValue, DIGEST_BYTES};
 
 /// The task of the words of `run`.
 pub(crate) fn run_task<'a>(alloc: Global, words: &ArgMatches<'a>) -> Result<Task<'a>, Stop>
-    ensures { IfOk result (λ t. AsksWith (codes "run") (first_value (found_of words.now)) t) }
+    ensures { MatchResult result (λ t. AsksWith (codes "run") (first_value (found_of words.now)) t)
+        (IsMemoryOr (AsksNothingWith (codes "run") (first_value (found_of words.now)))) }
 {
     let owner = owner(alloc, words.get_str("owner").unwrap_or(""))?;
     let greatest = greatest(alloc, words.get_str("greatest").unwrap_or("0"))?;
@@ -24,12 +27,13 @@ pub(crate) fn run_task<'a>(alloc: Global, words: &ArgMatches<'a>) -> Result<Task
 
 // The value that hexadecimal digits are, or none for any other text. A usage fault where it has too many bytes.
 fn owner(alloc: Global, text: &str) -> Result<Option<AuthValue>, Stop>
-    ensures { IfOk result (λ owner. owner ≡ bytes_in text.now) }
+    ensures { MatchResult result (λ owner. IsOwner text.now owner)
+        (IsMemoryOr ((owner : Option (List ℕ)) → IsOwner text.now owner → ⊥)) }
 {
     match hex::decode(alloc, text) {
         Ok(bytes) => match AuthValue::new(bytes.as_slice()) {
             Some(owner) => Ok(Some(owner)),
-            None => Err(invalid(alloc, text, "--owner <HEX>", "it has more than 32 bytes")),
+            None => Err(too_long(alloc, text)),
         },
         Err(FromHexError::OutOfMemory) => Err(Stop::Memory),
         Err(_) => Ok(None),
@@ -38,7 +42,8 @@ fn owner(alloc: Global, text: &str) -> Result<Option<AuthValue>, Stop>
 
 // A number of decimal digits alone, without a sign. A usage fault where it is none, or not below 2^64.
 fn greatest(alloc: Global, text: &str) -> Result<u64, Stop>
-    ensures { IfOk result (λ greatest. IsDecimal text.now greatest) }
+    ensures { MatchResult result (λ greatest. IsDecimal text.now greatest)
+        (IsMemoryOr ((greatest : ℕ) → IsDecimal text.now greatest → ⊥)) }
 {
     if !text.starts_with('+')
         && let Ok(greatest) = text.parse()
@@ -49,14 +54,27 @@ fn greatest(alloc: Global, text: &str) -> Result<u64, Stop>
     Err(invalid(alloc, text, "--greatest <N>", reason))
 }
 
-fn invalid(alloc: Global, text: &str, word: &str, reason: &str) -> Stop {
+fn too_long(alloc: Global, text: &str) -> Stop
+    ensures { IsMemoryOr (Unit {0}) result }
+{
+    match format!(in alloc; "it has more than {DIGEST_BYTES} bytes") {
+        Ok(reason) => invalid(alloc, text, "--owner <HEX>", reason.as_str()),
+        Err(AllocError) => Stop::Memory,
+    }
+}
+
+fn invalid(alloc: Global, text: &str, word: &str, reason: &str) -> Stop
+    ensures { IsMemoryOr (Unit {0}) result }
+{
     match invalid_error(alloc, text, word, reason) {
         Ok(error) => Stop::of(alloc, &error),
         Err(AllocError) => Stop::Memory,
     }
 }
 
-fn invalid_error(alloc: Global, text: &str, word: &str, reason: &str) -> Result<Error, AllocError> {
+fn invalid_error(alloc: Global, text: &str, word: &str, reason: &str) -> Result<Error, AllocError>
+    ensures { IfOk result (λ e. kind_of e ≡ ValueValidation) }
+{
     let message = format!(in alloc; "invalid value '{text}' for '{word}': {reason}")?;
     run_words(alloc)?.error(ErrorKind::ValueValidation, message.as_str())
 }

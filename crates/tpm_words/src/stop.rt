@@ -1,6 +1,8 @@
 //! Why the words ask for nothing to be done.
 
+ghost use Rattle.std.specs.Prelude.{◌≡◌};
 ghost use Rattle.clap.specs.Words.{kind_of};
+ghost use Rattle.tpm_words.specs.declared.stop.Stop.TheVariants.{Memory};
 
 use clap::Error;
 use clap::error::ErrorKind;
@@ -36,6 +38,8 @@ impl Stop {
 }
 
 impl From<AllocError> for Stop {
+    ghost from_gives = { λ _ stop. stop ≡ Memory };
+
     fn from(_error: AllocError) -> Stop {
         Stop::Memory
     }
