@@ -6,10 +6,11 @@ ghost use Rattle.tpm_words.specs.Names.{AreAllNames, command_of_name};
 use std::alloc::{AllocError, Global};
 use tpm_buffer::CommandCode;
 
-const COMMANDS: [CommandCode; 17] = [
+const COMMANDS: [CommandCode; 18] = [
     CommandCode::NvUndefineSpace,
     CommandCode::NvDefineSpace,
     CommandCode::NvIncrement,
+    CommandCode::PcrEvent,
     CommandCode::PcrReset,
     CommandCode::Startup,
     CommandCode::NvRead,
