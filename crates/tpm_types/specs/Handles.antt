@@ -1,5 +1,8 @@
 -- Handles: TPM_HANDLE (Part 2, 7), and the sets of them that commands take.
-use Rattle.std.specs.Prelude.{ℕ, Bool, nat_lt, ◌/◌, ◌==◌, ◌||◌}
+use Rattle.std.specs.Prelude.{◌≡◌, refl, ℕ, Bool, nat_lt, ◌/◌, ◌==◌, ◌||◌}
+use Rattle.tpm_wire.specs.Token.{Here}
+use Rattle.tpm_wire.specs.Reading.{read}
+use Rattle.tpm_wire.specs.Spelling.{spelling, Fits}
 use Rattle.tpm_wire.specs.Buffers.{Layout, number_in}
 use Rattle.tpm_wire.specs.ResponseCodes.{rc_value}
 
@@ -52,6 +55,15 @@ is_auth_session n = is_session n || n == rs_pw
 
 abbrev pub handle_in : (ℕ → Bool) → Layout ℕ
 handle_in set = number_in 4 set rc_value
+
+-- what is said of a layout is what is said of the handles of a set
+pub record IsHandleIn (set : ℕ → Bool) (l : Layout ℕ) : Type 0 where
+  pub spelled : (n : ℕ) → spelling l n ≡ spelling (handle_in set) n
+  pub fits : (left n : ℕ) → Fits left (handle_in set) n → Fits left l n
+  pub reads : (number : ℕ) (h : Here) → read number l h ≡ read number (handle_in set) h
+
+pub handle_in_set : (set : ℕ → Bool) → IsHandleIn set (handle_in set)
+handle_in_set set = record { spelled = λ n. refl; fits = λ left n f. f; reads = λ number h. refl }
 
 unfoldable pub pcr : Layout ℕ
 pcr = handle_in is_pcr

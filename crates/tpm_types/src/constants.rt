@@ -50,7 +50,7 @@ impl Wire for StartupType {
     ghost most = { 2 };
 
     fn known(&self) {
-        let _number = self.number();
+        prove!(self.number() <= u16::MAX);
     }
 
     fn len(&self) -> usize {
@@ -116,7 +116,7 @@ impl Wire for SessionType {
     ghost most = { 1 };
 
     fn known(&self) {
-        let _number = self.number();
+        prove!(self.number() <= u8::MAX);
     }
 
     fn len(&self) -> usize {

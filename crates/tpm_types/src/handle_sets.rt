@@ -47,7 +47,7 @@ impl Wire for OwnerHandle {
     ghost most = { 4 };
 
     fn known(&self) {
-        let _number = self.number();
+        prove!(self.number() <= u32::MAX);
     }
 
     fn len(&self) -> usize {
@@ -105,7 +105,7 @@ impl Wire for NullHandle {
     ghost most = { 4 };
 
     fn known(&self) {
-        let _number = self.number();
+        prove!(self.number() <= u32::MAX);
     }
 
     fn len(&self) -> usize {
@@ -166,7 +166,7 @@ impl Wire for PcrOrNull {
     ghost most = { 4 };
 
     fn known(&self) {
-        let _number = self.number();
+        prove!(self.number() <= u32::MAX);
     }
 
     fn len(&self) -> usize {
@@ -227,7 +227,7 @@ impl Wire for NvAuthHandle {
     ghost most = { 4 };
 
     fn known(&self) {
-        let _number = self.number();
+        prove!(self.number() <= u32::MAX);
     }
 
     fn len(&self) -> usize {
@@ -289,7 +289,7 @@ impl Wire for BindHandle {
     ghost most = { 4 };
 
     fn known(&self) {
-        let _number = self.number();
+        prove!(self.number() <= u32::MAX);
     }
 
     fn len(&self) -> usize {

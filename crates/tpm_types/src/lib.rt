@@ -6,6 +6,7 @@ mod attest;
 mod constants;
 mod handle_sets;
 mod handles;
+mod laws;
 mod limits;
 mod tpm2b;
 mod tpma;
@@ -18,12 +19,13 @@ pub use attest::QuoteInfo;
 pub use constants::{SessionType, StartupType};
 pub use handle_sets::{BindHandle, NullHandle, NvAuthHandle, OwnerHandle, PcrOrNull};
 pub use handles::{
-    AuthSession, NvIndex, PcrIndex, PolicyHandle, REGISTERS, RH_NULL, RH_OWNER, RS_PW,
-    SessionHandle,
+    AuthSession, AuthSessions, Handle, HandleSet, NvIndex, NvIndices, PcrIndex, Policies,
+    PolicyHandle, REGISTERS, RH_NULL, RH_OWNER, RS_PW, Registers, SessionHandle, Sessions,
 };
-pub use limits::{AuthValue, BANKS, BLOCK_BYTES, DIGEST_BYTES, NAME_BYTES, Nonce, PUBLIC_BYTES};
+pub use laws::{same_limits, same_lists};
+pub use limits::{BANKS, BLOCK_BYTES, DIGEST_BYTES, NAME_BYTES, PUBLIC_BYTES};
 pub use tpm_wire::response_code::{HASH, MODE, RESERVED_BITS, SYMMETRIC, VALUE};
-pub use tpm2b::{Digest, EncryptedSalt, Name};
+pub use tpm2b::{AuthValue, Digest, EncryptedSalt, Name, Nonce, name_of_handle};
 pub use tpma::{NvAttrs, SessionAttrs};
 pub use tpml::{DigestValues, Digests, MOST_DIGESTS, OrDigests, Selections};
 pub use tpms::{Auth, AuthReply, NvPublic, SELECT_BYTES, Selection};

@@ -1,7 +1,5 @@
 //! What another bank of registers changes, with the hashes of `Alg`.
 
-use tpm_wire::Bounded;
-
 /// How many entries a list with one for each bank has at most.
 pub const BANKS: usize = 3;
 
@@ -16,9 +14,3 @@ pub const NAME_BYTES: usize = 2 + DIGEST_BYTES;
 
 /// How many bytes the public area of an NV index has at most: nvIndex, nameAlg, attributes, a sized digest and dataSize.
 pub const PUBLIC_BYTES: usize = 4 + 2 + 4 + (2 + DIGEST_BYTES) + 2;
-
-/// A nonce: TPM2B_NONCE (Part 2, 10.4.4).
-pub type Nonce = Bounded<DIGEST_BYTES>;
-
-/// An authorization value, or what proves it: TPM2B_AUTH (Part 2, 10.4.5).
-pub type AuthValue = Bounded<DIGEST_BYTES>;

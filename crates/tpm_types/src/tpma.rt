@@ -91,7 +91,7 @@ impl Wire for SessionAttrs {
     ghost most = { 1 };
 
     fn known(&self) {
-        let _number = self.number();
+        prove!(self.number() <= u8::MAX);
     }
 
     fn len(&self) -> usize {
@@ -291,7 +291,7 @@ impl Wire for NvAttrs {
     ghost most = { 4 };
 
     fn known(&self) {
-        let _number = self.number();
+        prove!(self.number() <= u32::MAX);
     }
 
     fn len(&self) -> usize {

@@ -2,8 +2,8 @@
 
 use crate::alg::Alg;
 use crate::handles::{AuthSession, NvIndex, PcrIndex};
-use crate::limits::{AuthValue, Nonce, PUBLIC_BYTES};
-use crate::tpm2b::Digest;
+use crate::limits::PUBLIC_BYTES;
+use crate::tpm2b::{AuthValue, Digest, Nonce};
 use crate::tpma::{NvAttrs, SessionAttrs};
 use tpm_wire::response_code::VALUE;
 use tpm_wire::{Buffer, Cursor, Duplicate, INSUFFICIENT, Refusal, SIZE, Wire, put_bytes};
@@ -285,7 +285,7 @@ impl Wire for NvPublic {
     ghost most = { 2 + public_bytes };
 
     fn known(&self) {
-        let _size = self.area_len();
+        prove!(self.area_len() <= PUBLIC_BYTES);
         self.known_area();
     }
 

@@ -176,7 +176,7 @@ impl Wire for KeyBits {
     ghost most = { 2 };
 
     fn known(&self) {
-        let _number = self.number();
+        prove!(self.number() <= u16::MAX);
     }
 
     fn len(&self) -> usize {
