@@ -1,4 +1,5 @@
 pub mod Status
+pub mod Faults
 pub mod Text
 pub mod ReplyText
 pub mod Show

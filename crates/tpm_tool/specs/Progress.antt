@@ -1,5 +1,5 @@
 -- How far a script has been run.
-use Rattle.std.specs.Prelude.{◌≡◌, ℕ, ◌+◌, ◌≤◌, ◌==◌, false, List, [], ◌∷◌, ◌++◌, length, map, Option, Some, None, Result, Ok, Err}
+use Rattle.std.specs.Prelude.{◌≡◌, ℕ, ◌+◌, ◌≤◌, ◌==◌, false, List, [], ◌∷◌, ◌++◌, length, map, Option, Some, None}
 use Rattle.std.specs.Io.KnownBytes.{Consumes}
 use Rattle.std.specs.List.{AllByRecursion}
 use Rattle.tpm_model.specs.Steps.{History, Origin}
@@ -10,8 +10,6 @@ use Rattle.tpm_device.specs.Stands.{Stands}
 use Rattle.tpm_tool.specs.declared.lines.Line.{Line as RustLine}
 use Rattle.tpm_tool.specs.declared.lines.Line.TheVariants as rust
 use Rattle.tpm_tool.specs.declared.script.Run.{Run}
-use Rattle.tpm_tool.specs.declared.fault.ToolFault.{ToolFault}
-use Rattle.tpm_tool.specs.declared.fault.ToolFault.TheVariants.{Memory, Read, Write, InputTooLong}
 use Rattle.tpm_tool.specs.declared.status.Status.{Status}
 use Rattle.tpm_tool.specs.declared.status.Status.TheVariants.{Done, Refused}
 use Rattle.tpm_tool.specs.Script.{Line, Blank, Power, Command, NotHexadecimal, Script, lines_of, line_of, most_digits, events_from, refused_from, script_from, script_text}
@@ -115,11 +113,3 @@ pub record Reaches (old new : Option (List ℕ)) (read : ℕ) (first run : Run) 
   pub consumed : Consumes old new bytes
   pub count : read ≡ length bytes
   pub takes : Takes bytes first run Added Done
-
--- No read failed, and no input was too long.
-abbrev pub IsNoInputFault : {X : Type 0} → Result X ToolFault → Type 0
-IsNoInputFault (Ok x) = Unit {0}
-IsNoInputFault (Err Memory) = Unit {0}
-IsNoInputFault (Err Write) = Unit {0}
-IsNoInputFault (Err Read) = ⊥
-IsNoInputFault (Err InputTooLong) = ⊥

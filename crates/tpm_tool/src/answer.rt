@@ -1,8 +1,9 @@
 //! What a subcommand answers: a status and a text.
 
-ghost use Rattle.std.specs.Prelude.{◌≡◌, IfOk, string_bytes};
+ghost use Rattle.std.specs.Prelude.{◌≡◌, IfOk, OnOk, string_bytes};
 ghost use Rattle.std.specs.Io.KnownBytes.{Appends};
 ghost use Rattle.tpm_tool.specs.declared.status.Status.TheVariants.{Refused};
+ghost use Rattle.tpm_tool.specs.Faults.{FailsByMemoryOrWrite};
 ghost use Rattle.tpm_tool.specs.Text.{not_hexadecimal_line};
 
 use crate::fault::ToolFault;
@@ -47,13 +48,21 @@ impl Answer {
 
     /// Writes the text, and answers the status.
     pub(crate) fn print<W: Write>(&self, out: &mut W) -> Result<Status, ToolFault>
-        ensures { IfOk result (λ status. (status ≡ self.now.status)
+        ensures ok { IfOk result (λ status. (status ≡ self.now.status)
             × Appends (W.contents out.old) (W.contents out.new) (string_bytes self.now.text)) }
+        ensures err { FailsByMemoryOrWrite result }
     {
-        out.write_all(self.text.as_bytes())
-            .map_err(|_| ToolFault::Write)?;
+        write(out, &self.text)?;
         Ok(self.status)
     }
+}
+
+/// Writes a text.
+pub(crate) fn write<W: Write>(out: &mut W, text: &String) -> Result<(), ToolFault>
+    ensures ok { OnOk result (Appends (W.contents out.old) (W.contents out.new) (string_bytes text.now)) }
+    ensures err { FailsByMemoryOrWrite result }
+{
+    out.write_all(text.as_bytes()).map_err(|_| ToolFault::Write)
 }
 
 /// Prints that a word is not hexadecimal.
@@ -61,8 +70,9 @@ impl Answer {
 /// Where a request for memory is refused the answer is `Memory`, and where the writer fails it is
 /// `Write`. What was written before is then left open.
 pub fn not_hexadecimal<W: Write>(alloc: Global, out: &mut W) -> Result<Status, ToolFault>
-    ensures { IfOk result (λ status. (status ≡ Refused)
+    ensures ok { IfOk result (λ status. (status ≡ Refused)
         × Appends (W.contents out.old) (W.contents out.new) not_hexadecimal_line) }
+    ensures err { FailsByMemoryOrWrite result }
 {
     Answer::not_hexadecimal(alloc)?.print(out)
 }

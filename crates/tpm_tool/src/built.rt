@@ -2,6 +2,7 @@
 
 ghost use Rattle.std.specs.Prelude.{◌≡◌, ◌+◌, ◌<◌, ◌≤◌, ◌++◌, ℕ, List, IfOk, MatchOption, length, option_map, string_bytes};
 ghost use Rattle.std.specs.Io.KnownBytes.{Appends};
+ghost use Rattle.tpm_tool.specs.Faults.{FailsByMemoryOrWrite};
 ghost use Rattle.tpm_tool.specs.Build.{Builds, BuildsBuffer, BuildsBytes, authorization_of, joined, part_of, tag_for};
 
 use crate::answer::Answer;
@@ -160,9 +161,10 @@ pub fn build<W: Write>(
     sessions: &str,
     parameters: &str,
 ) -> Result<Status, ToolFault>
-    ensures { IfOk result (λ status. (text : List ℕ)
+    ensures ok { IfOk result (λ status. (text : List ℕ)
         × Builds name handles.now sessions.now parameters.now status text
         × Appends (W.contents out.old) (W.contents out.new) text) }
+    ensures err { FailsByMemoryOrWrite result }
 {
     answer(alloc, name, handles, sessions, parameters)?.print(out)
 }

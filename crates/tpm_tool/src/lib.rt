@@ -19,8 +19,3 @@ pub use fault::ToolFault;
 pub use script::run_script;
 pub use shown::show;
 pub use status::Status;
-
-#[cfg(test)]
-mod tests;
-#[cfg(test)]
-mod vectors;

@@ -7,9 +7,11 @@ ghost use Rattle.tpm_model.specs.Runs.{Given, Cycled};
 ghost use Rattle.tpm_device.specs.Commands.{has_command};
 ghost use Rattle.tpm_device.specs.Stands.{Stands};
 ghost use Rattle.tpm_tool.specs.declared.fault.ToolFault.TheVariants.{InputTooLong};
+ghost use Rattle.tpm_tool.specs.Faults.{FailsByMemoryOrWrite};
 ghost use Rattle.tpm_tool.specs.Script.{nonce_of, line_of, refused_line, script, script_text, status_for, CountsRead, ReadsScript, most_bytes};
-ghost use Rattle.tpm_tool.specs.Progress.{place, start, IsOpen, EndsLine, Takes, Performs, AddedTo, IsNoInputFault};
+ghost use Rattle.tpm_tool.specs.Progress.{place, start, IsOpen, EndsLine, Takes, Performs, AddedTo};
 
+use crate::answer::write;
 use crate::fault::ToolFault;
 use crate::lines::{Line, MOST_DIGITS, nonce, read_line};
 use crate::status::Status;
@@ -152,7 +154,7 @@ impl Run {
         requires number { self.old.number + length piece.now < 2 ^ 64 }
         ensures ok { IfOk result (λ status. Takes piece.now self.old self.new
             (Appends (W.contents out.old) (W.contents out.new)) status) }
-        ensures err { IsNoInputFault result }
+        ensures err { FailsByMemoryOrWrite result }
     {
         let mut text = String::new(alloc);
         let status = self.feed(alloc, piece, &mut text)?;
@@ -166,20 +168,13 @@ impl Run {
         requires number { self.old.number + 1 < 2 ^ 64 }
         ensures ok { IfOk result (λ status. EndsLine (line_of self.old.line.items) self.old self.new
             (Appends (W.contents out.old) (W.contents out.new)) status) }
-        ensures err { IsNoInputFault result }
+        ensures err { FailsByMemoryOrWrite result }
     {
         let mut text = String::new(alloc);
         let status = self.end_line(alloc, &mut text)?;
         write(out, &text)?;
         Ok(status)
     }
-}
-
-fn write<W: Write>(out: &mut W, text: &String) -> Result<(), ToolFault>
-    ensures ok { OnOk result (Appends (W.contents out.old) (W.contents out.new) (string_bytes text.now)) }
-    ensures err { IsNoInputFault result }
-{
-    out.write_all(text.as_bytes()).map_err(|_| ToolFault::Write)
 }
 
 /// Runs a script on the device, and prints what it answers.
@@ -211,13 +206,15 @@ pub fn run_script<R: Source, W: Write>(
         Appends (W.contents out.old) (W.contents out.new) (script_text has_command o h (script bytes)))) }
     ensures too_long { IsErrOf result InputTooLong → (bytes : List ℕ)
         × Consumes (R.coming input.old) (R.coming input.new) bytes
-        × (most_bytes < length bytes) }
+        × (length bytes ≡ most_bytes + 1) }
 {
     let mut run = Run::new(alloc, device);
     let mut piece = [0; PIECE];
     let mut read = 0;
     loop {
-        let count = input.read(&mut piece)?;
+        // Up to the limit no byte is read together with one behind it.
+        let room = (MOST_BYTES - read).clamp(1, PIECE);
+        let count = input.read(&mut piece[..room])?;
         read += count;
         if read > MOST_BYTES {
             return Err(ToolFault::InputTooLong);
@@ -230,6 +227,3 @@ pub fn run_script<R: Source, W: Write>(
         }
     }
 }
-
-#[cfg(test)]
-mod tests;

@@ -5,6 +5,7 @@ ghost use Rattle.std.specs.Io.KnownBytes.{Appends};
 ghost use Rattle.tpm_wire.specs.Path.{Fault};
 ghost use Rattle.tpm_buffer.specs.Areas.{areas_view};
 ghost use Rattle.tpm_buffer.specs.Commands.{command};
+ghost use Rattle.tpm_tool.specs.Faults.{FailsByMemoryOrWrite};
 ghost use Rattle.tpm_tool.specs.Show.{HasAreas, Shows, ShowsBytes};
 
 use crate::answer::Answer;
@@ -23,7 +24,7 @@ fn areas_of_command(bytes: &[u8]) -> Result<Areas<'_>, Refusal>
     ensures ok { IfOk result (λ a. HasAreas bytes.now (areas_view a).0 a.params.now) }
     ensures err { IfErr result (λ e. Fault command bytes.now e) }
 {
-    let _command = decode_command(bytes)?;
+    decode_command(bytes)?;
     fault_before_params();
     areas(bytes)
 }
@@ -75,8 +76,9 @@ pub fn show<W: Write>(
     reply: Option<CommandCode>,
     hex: &str,
 ) -> Result<Status, ToolFault>
-    ensures { IfOk result (λ status. (text : List ℕ) × Shows reply hex.now status text
+    ensures ok { IfOk result (λ status. (text : List ℕ) × Shows reply hex.now status text
         × Appends (W.contents out.old) (W.contents out.new) text) }
+    ensures err { FailsByMemoryOrWrite result }
 {
     answer(alloc, reply, hex)?.print(out)
 }

@@ -18,7 +18,7 @@ fn areas_of_reply(command: CommandCode, bytes: &[u8]) -> Result<ReplyAreas<'_>, 
     ensures ok { IfOk result (λ a. HasReplyAreas command bytes.now (reply_view a)) }
     ensures err { IfErr result (λ e. Fault (response command) bytes.now e) }
 {
-    let _response = decode_response(command, bytes)?;
+    decode_response(command, bytes)?;
     areas_of_a_response();
     reply_areas(command, bytes)
 }

@@ -1,4 +1,5 @@
-use Rattle.std.proofs.Common.{◌≡◌, ◌++◌, take, refl, sym, ◌∙◌, arith, rules, length-append, length-take-le}
+use Rattle.std.proofs.Common.{◌≡◌, ◌++◌, take, refl, sym, ◌∙◌, arith, rules, drop, length, length-append, length-take-le}
+use Rattle.std.proofs.lemmas.List.{take-append-le}
 use Rattle.std.proofs.lemmas.Result.{IfOk-weaker}
 use Rattle.std.specs.Io.KnownBytes.{Appends}
 use Rattle.tpm_buffer.proofs.Filled.{consumes_both}
@@ -11,21 +12,23 @@ pub returns-then-read-gt-MOST_BYTES-clause-too_long : goal.returns-then-read-gt-
 returns-then-read-gt-MOST_BYTES-clause-too_long g c = λ _.
     let f = c.loop-run.invariant.reaches in
     let count = c.in_ok-count.count in
-    let room = c.read.new.room in (
+    let room = c.read.new.room in
+    let len : length room ≡ c.clamp-room.result = search rules in (
       f.bytes ++ take count room,
       consumes_both _ _ _ f.bytes (take count room) f.consumed c.in_ok-count.ensures.bytes.0,
-      omega (arith, f.count, length-append f.bytes (take count room), length-take-le count room c.in_ok-count.ensures.bound.0),
+      omega (arith, len, c.in_ok-count.ensures.bound.0, f.count, length-append f.bytes (take count room), length-take-le count room c.in_ok-count.ensures.bound.0),
     )
 
 pub returns-then-count-eq0-clause-ok : goal.returns-then-count-eq0-clause-ok
 unfolding StandsAt
 returns-then-count-eq0-clause-ok g c =
     let bytes = rw c.if-count-eq0.true at c.in_ok-count.ensures.bytes in
+    let len : length c.read.new.room ≡ c.clamp-room.result = search rules in
     let contents = g.W.Write.contents in
     IfOk-weaker c.print_end.result _ _ (λ status ended.
     answers_at_end _ _ _ _ _ c.new-run.result c.loop-run.run c.print_end.new.self _ _ (Appends (contents c.args.out.now) (contents c.print_end.new.out)) status
     (joins_appends (contents c.args.out.now) (contents c.loop-run.out) (contents c.print_end.new.out)) c.new-run.ensures.place c.new-run.ensures.device
-    c.loop-run.invariant.reaches c.loop-run.invariant.bound bytes.0 (bytes.1 refl (omega arith)) ended) c.print_end.ensures.ok
+    c.loop-run.invariant.reaches c.loop-run.invariant.bound bytes.0 (bytes.1 refl (omega (arith, len))) ended) c.print_end.ensures.ok
 
 pub returns-then-eq-clause-ok : goal.returns-then-eq-clause-ok
 unfolding StandsAt
@@ -36,7 +39,7 @@ returns-then-eq-clause-ok g c =
     let is : c.in_ok-print.field-0 ≡ Refused = search rules in
     answers_refused _ _ _ c.loop-run.read count (take count room) c.args.device c.new-run.result c.loop-run.run c.print.new.self _ _ (Appends (contents c.args.out.now) (contents c.print.new.out))
     (joins_appends (contents c.args.out.now) (contents c.loop-run.out) (contents c.print.new.out)) c.new-run.ensures.place c.new-run.ensures.device
-    c.loop-run.invariant.reaches (omega arith) c.in_ok-count.ensures.bytes.0 (sym (length-take-le count room c.in_ok-count.ensures.bound.0)) (rw is at c.in_ok-print.ensures.ok)
+    c.loop-run.invariant.reaches (omega arith) c.in_ok-count.ensures.bytes.0 (sym (length-take-le count room c.in_ok-count.ensures.bound.0)) (rw (is, take-append-le count room (drop c.clamp-room.result c.loop-run.piece) c.in_ok-count.ensures.bound.0) at c.in_ok-print.ensures.ok)
 
 pub loop-run-preserved : goal.loop-run-preserved
 loop-run-preserved g c =
@@ -47,7 +50,7 @@ loop-run-preserved g c =
     record {
       reaches = reaches_more _ _ _ c.loop-run.read count (take count room) c.new-run.result c.loop-run.run c.print.new.self _ _ (Appends (contents c.args.out.now) (contents c.print.new.out))
           (joins_appends (contents c.args.out.now) (contents c.loop-run.out) (contents c.print.new.out))
-          c.loop-run.invariant.reaches c.in_ok-count.ensures.bytes.0 (sym (length-take-le count room c.in_ok-count.ensures.bound.0)) (rw is at c.in_ok-print.ensures.ok);
+          c.loop-run.invariant.reaches c.in_ok-count.ensures.bytes.0 (sym (length-take-le count room c.in_ok-count.ensures.bound.0)) (rw (is, take-append-le count room (drop c.clamp-room.result c.loop-run.piece) c.in_ok-count.ensures.bound.0) at c.in_ok-print.ensures.ok);
       bound = omega arith;
       failures = c.in_ok-count.ensures.count ∙ c.loop-run.invariant.failures;
     }

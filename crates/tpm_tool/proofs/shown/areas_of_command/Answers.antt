@@ -22,13 +22,13 @@ has_fault : (bytes : List ℕ) (r : Result Areas Refusal) → ((e : Refusal) →
 has_fault bytes (Ok a) later given = tt
 has_fault bytes (Err e) later given = later e given
 
-pub returns-in_err-_command-clause-err : goal.returns-in_err-_command-clause-err
-returns-in_err-_command-clause-err c =
+pub returns-in_err-decode_command-clause-err : goal.returns-in_err-decode_command-clause-err
+returns-in_err-decode_command-clause-err c =
     let p = err_from_is_err_and c.from_residual.result c.from_residual.ensures.1 in
-    rw (p.1, p.2) ((c.in_err-_command.ensures.err _).0 refl)
+    rw (p.1, p.2) ((c.in_err-decode_command.ensures.err _).0 refl)
 
 pub returns-clause-ok : goal.returns-clause-ok
-returns-clause-ok c = has_areas _ c.in_ok-_command._command c.areas.result ((c.in_ok-_command.ensures.ok _).0 refl) c.areas.ensures.decodes
+returns-clause-ok c = has_areas _ c.in_ok-decode_command.field-0 c.areas.result ((c.in_ok-decode_command.ensures.ok _).0 refl) c.areas.ensures.decodes
 
 pub returns-clause-err : goal.returns-clause-err
 returns-clause-err c = has_fault _ c.areas.result (c.fault_before_params.ensures.sessions _) c.areas.ensures.decodes

@@ -27,13 +27,13 @@ no_fault : (code : CommandCode) (bytes : List ℕ) (r : Result ReplyAreas Refusa
 no_fault code bytes (Ok a) has given = tt
 no_fault code bytes (Err e) has given = absurd ((exactly_one buffer buffer_sound (reply_cut code) bytes).not_both has.0 e has.1 given)
 
-pub returns-in_err-_response-clause-err : goal.returns-in_err-_response-clause-err
-returns-in_err-_response-clause-err c =
+pub returns-in_err-decode_response-clause-err : goal.returns-in_err-decode_response-clause-err
+returns-in_err-decode_response-clause-err c =
     let p = err_from_is_err_and c.from_residual.result c.from_residual.ensures.1 in
-    rw (p.1, p.2) ((c.in_err-_response.ensures.err _).0 refl)
+    rw (p.1, p.2) ((c.in_err-decode_response.ensures.err _).0 refl)
 
 pub returns-clause-ok : goal.returns-clause-ok
-returns-clause-ok c = has_areas _ _ c.in_ok-_response._response c.reply_areas.result ((c.in_ok-_response.ensures.ok _).0 refl) c.reply_areas.ensures
+returns-clause-ok c = has_areas _ _ c.in_ok-decode_response.field-0 c.reply_areas.result ((c.in_ok-decode_response.ensures.ok _).0 refl) c.reply_areas.ensures
 
 pub returns-clause-err : goal.returns-clause-err
-returns-clause-err c = no_fault _ _ c.reply_areas.result (c.areas_of_a_response.ensures _ _ _ ((c.in_ok-_response.ensures.ok _).0 refl)) c.reply_areas.ensures
+returns-clause-err c = no_fault _ _ c.reply_areas.result (c.areas_of_a_response.ensures _ _ _ ((c.in_ok-decode_response.ensures.ok _).0 refl)) c.reply_areas.ensures

@@ -1,0 +1,114 @@
+//! Writes that fail, and want of memory.
+
+use std::alloc::Global;
+use std::io;
+use std::io::{ErrorKind, Write};
+use std::test::Fail;
+use tpm_buffer::CommandCode;
+use tpm_device::Device;
+use tpm_tool::{Status, ToolFault, build, not_hexadecimal, run_script, show};
+use tpm_types::AuthValue;
+use tpm_wire::SliceSource;
+
+// A call that prints.
+#[derive(Clone, Copy)]
+enum Call {
+    Show(&'static str),
+    ShowReply(&'static str),
+    Build(&'static str),
+    Run(&'static str),
+    NotHexadecimal,
+}
+
+const STARTUP: &str = "80010000000c000001440000";
+
+const RESET_REPLY: &str = "80020000001300000000000000000000010000";
+
+// Each call, and the whole text that it prints.
+const CALLS: [(Call, &str); 9] = [
+    (
+        Call::Show(STARTUP),
+        "command Startup size 12\nparameters 0000\n",
+    ),
+    (Call::Show(""), "refused 09a at 0\n"),
+    (
+        Call::ShowReply(RESET_REPLY),
+        "reply PCR_Reset size 19\nparameters -\nsession 1 nonce - attributes 01 hmac -\n",
+    ),
+    (Call::Build("0000"), "80010000000c000001440000\n"),
+    (Call::Build("0002"), "refused 1c4 at 10\n"),
+    (Call::Run("power\n"), "power\n"),
+    (Call::Run("no"), "line 1: not hexadecimal\n"),
+    (Call::Run(STARTUP), "80010000000a00000000\n"),
+    (Call::NotHexadecimal, "not hexadecimal\n"),
+];
+
+fn run<W: Write>(alloc: Global, out: &mut W, script: &str) -> Result<Status, ToolFault> {
+    let device = Device::new(&AuthValue::default(), 0);
+    run_script(alloc, &mut SliceSource::new(script.as_bytes()), out, device)
+}
+
+fn perform<W: Write>(alloc: Global, out: &mut W, call: Call) -> Result<Status, ToolFault> {
+    match call {
+        Call::Show(hex) => show(alloc, out, None, hex),
+        Call::ShowReply(hex) => show(alloc, out, Some(CommandCode::PcrReset), hex),
+        Call::Build(parameters) => build(alloc, out, CommandCode::Startup, "-", "-", parameters),
+        Call::Run(script) => run(alloc, out, script),
+        Call::NotHexadecimal => not_hexadecimal(alloc, out),
+    }
+}
+
+// A writer that takes a byte at a time, as long as it is the next of a text, and so many of them. It asks for no memory.
+#[derive(Drop)]
+struct Expecting<'a> {
+    rest: &'a [u8],
+    writes: usize,
+}
+
+impl Write for Expecting<'_> {
+    fn write(&mut self, buf: &[u8]) -> io::Result<usize> {
+        let (Some(byte), Some((next, rest))) = (buf.first(), self.rest.split_first()) else {
+            return Err(io::Error::from(ErrorKind::InvalidInput));
+        };
+        if self.writes == 0 || byte != next {
+            return Err(io::Error::from(ErrorKind::Other));
+        }
+        self.writes -= 1;
+        self.rest = rest;
+        Ok(1)
+    }
+
+    fn flush(&mut self) -> io::Result<()> {
+        Ok(())
+    }
+}
+
+#[test]
+fn each_write_that_fails_is_answered(rt: HostRuntime) {
+    for (call, text) in CALLS {
+        let rest = text.as_bytes();
+        for writes in 0..rest.len() {
+            let mut out = Expecting { rest, writes };
+            assert_eq!(rt;
+                perform(rt.alloc(), &mut out, call),
+                Err(ToolFault::Write),
+                "{text}"
+            );
+        }
+    }
+}
+
+// Run with a request for memory that is refused, this shows that such a one is answered, and never another text.
+#[test]
+fn all_is_printed_or_memory_is_wanting(rt: HostRuntime) {
+    for (call, text) in CALLS {
+        let mut out = Expecting {
+            rest: text.as_bytes(),
+            writes: text.len(),
+        };
+        match perform(rt.alloc(), &mut out, call) {
+            Ok(_) => assert!(rt; out.rest.is_empty(), "{text}"),
+            Err(fault) => assert_eq!(rt; fault, ToolFault::Memory, "{text}"),
+        }
+    }
+}
