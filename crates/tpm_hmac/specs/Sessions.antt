@@ -31,11 +31,11 @@ session_key alg (Some auth_value) nonce_tpm nonce_caller =
 
 -- What makes the authValue of an entity part of the key: an HMAC session has it unless it is bound to that very entity, a
 -- policy session has it after TPM2_PolicyAuthValue alone (Part 1, "HMAC Computation").
-pub data Authorizes : Type 0 where
-  ByHmac : (is_bound_to_it : Bool) → Authorizes
-  ByPolicy : (after_policy_auth_value : Bool) → Authorizes
+pub data AuthValueRule : Type 0 where
+  ByHmac : (is_bound_to_it : Bool) → AuthValueRule
+  ByPolicy : (after_policy_auth_value : Bool) → AuthValueRule
 
-abbrev pub included_auth_value : Authorizes → List ℕ → List ℕ
+abbrev pub included_auth_value : AuthValueRule → List ℕ → List ℕ
 included_auth_value (ByHmac true) auth_value = []
 included_auth_value (ByHmac false) auth_value = auth_value
 included_auth_value (ByPolicy true) auth_value = auth_value

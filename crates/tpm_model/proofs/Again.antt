@@ -7,7 +7,7 @@ use Rattle.tpm_model.specs.Steps.{History, Accepted, Origin}
 use Rattle.tpm_model.specs.Policies.{Assertion, policy_of}
 use Rattle.tpm_model.specs.Sessions.{Session, slot_of, lives, begins, authorizes, Start, start_of, last_nonce, asserted_by, assertions_of, as_session, session_at}
 use Rattle.tpm_model.specs.Present.{present}
-use Rattle.tpm_model.specs.Answers.{Commands, Done, outcome, next}
+use Rattle.tpm_model.specs.Answers.{CommandSet, Done, outcome, next}
 use Rattle.tpm_model.proofs.Accepted.{next_is}
 use Rattle.tpm_model.proofs.Replay.{its_slot}
 
@@ -22,7 +22,7 @@ with_none o true last None s e = absurd (let z : ⊥ = cc in z)
 with_none o true last (Some x) s e = let same : as_session o last [] x ≡ s = cc in subst (λ (y : Session). y.policy ≡ policy_of y.hash []) same refl
 with_none o false last start s e = absurd (let z : ⊥ = cc in z)
 
-pub starts_again : (has : Commands) (o : Origin) (h : History) (bytes n : List ℕ) (d : Done) (a : Auth) (s : Session)
+pub starts_again : (has : CommandSet) (o : Origin) (h : History) (bytes n : List ℕ) (d : Done) (a : Auth) (s : Session)
     → outcome has (present o h) bytes n ≡ Ok d → d.command.auths.items ≡ a ∷ [] → is_session a.session ≡ true
     → session_at o (next has o h bytes n) (slot_of a.session) ≡ Some s → s.policy ≡ policy_of s.hash []
 starts_again has o h bytes n d a s e one is there =

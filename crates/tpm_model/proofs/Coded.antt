@@ -3,22 +3,22 @@ use Rattle.std.proofs.Common.{ℕ, ◌+◌, ◌<◌, Bool, true, false, List, []
 use Rattle.std.specs.Prelude.{◌==◌}
 use Rattle.tpm_wire.specs.Buffers.{Layout}
 use Rattle.tpm_wire.specs.Layout.{either}
+use Rattle.tpm_wire.specs.ResponseCodes.{rc_reserved_bits, rc_value}
 use Rattle.tpm_types.specs.Alg.{hash}
-use Rattle.tpm_types.specs.Codes.{value_code, reserved_bits_code}
 use Rattle.tpm_types.specs.Constants.{startup_type, session_type}
 use Rattle.tpm_types.specs.Handles.{session, auth_session, nv_index, is_session, is_auth_session, is_nv_index}
 use Rattle.tpm_types.specs.Limits.{digest_bytes, banks, public_bytes}
 use Rattle.tpm_types.specs.Tpma.{session_attrs, nv_attrs, is_session_attrs, is_nv_attrs}
 use Rattle.tpm_types.specs.Tpm2b.{digest, encrypted_salt}
-use Rattle.tpm_types.specs.Tpml.{digest_value, selections, most_digests}
+use Rattle.tpm_types.specs.Tpml.{selections, most_digests}
 use Rattle.tpm_types.specs.Tpms.{selection, auth_command, nv_public_area, nv_public}
-use Rattle.tpm_types.specs.Tpmt.{algorithm, key_bits, mode, sym_def}
+use Rattle.tpm_types.specs.Tpmt.{digest_value, algorithm, key_bits, mode, sym_def}
 use Rattle.tpm_buffer.specs.declared.handles.HandleKind.{HandleKind}
 use Rattle.tpm_buffer.specs.declared.code.CommandCode.{CommandCode}
 use Rattle.tpm_buffer.specs.declared.code.CommandCode.TheVariants as codes
 use Rattle.tpm_buffer.specs.Codes.{command_code}
 use Rattle.tpm_buffer.specs.Handles.{admits, handles_from, handles, handle_kinds}
-use Rattle.tpm_buffer.specs.Parameters.{parameters, nv_define_space, startup, nv_read, flush_context, policy_command_code, policy_or, start_auth_session, pcr_read, policy_pcr, pcr_extend}
+use Rattle.tpm_buffer.specs.Parameters.{parameters, nv_define_space, startup, nv_read, flush_context, policy_command_code, policy_or, start_auth_session, pcr_read, policy_pcr, pcr_extend, pcr_event, event_bytes}
 use Rattle.tpm_buffer.specs.Commands.{tag, command_size, header, sessions, authorization_size, authorization}
 use Rattle.tpm_model.proofs.Nonzero.{IsCoded, coded_in, coded_number, coded_sized_bytes, coded_sized, coded_counted}
 
@@ -35,7 +35,7 @@ coded_header = (coded_in 2 _ 0x01E (omega arith, omega arith), λ t. (coded_numb
 coded_handles_from : (i : ℕ) (kinds : List HandleKind) → i + length kinds < 256 → IsCoded (handles_from i kinds)
 coded_handles_from i [] small = tt
 coded_handles_from i (kind ∷ kinds) small =
-    ((omega (arith, small), coded_in 4 (admits kind) value_code (omega arith, omega arith)), λ n. (coded_handles_from (i + 1) kinds (omega (arith, small)), λ ns. tt))
+    ((omega (arith, small), coded_in 4 (admits kind) rc_value (omega arith, omega arith)), λ n. (coded_handles_from (i + 1) kinds (omega (arith, small)), λ ns. tt))
 
 few_kinds : (code : CommandCode) → 1 + length (handle_kinds code) < 256
 few_kinds codes.NvUndefineSpace = omega arith
@@ -48,7 +48,7 @@ coded_handles code = coded_handles_from 1 (handle_kinds code) (few_kinds code)
 coded_auth_command : IsCoded auth_command
 unfolding auth_command auth_session session_attrs
 coded_auth_command =
-    (coded_in 4 is_auth_session value_code (omega arith, omega arith), λ s. (coded_sized_bytes digest_bytes, λ n. (coded_in 1 is_session_attrs reserved_bits_code (omega arith, omega arith), λ a. (coded_sized_bytes digest_bytes, λ hmac. tt))))
+    (coded_in 4 is_auth_session rc_value (omega arith, omega arith), λ s. (coded_sized_bytes digest_bytes, λ n. (coded_in 1 is_session_attrs rc_reserved_bits (omega arith, omega arith), λ a. (coded_sized_bytes digest_bytes, λ hmac. tt))))
 
 coded_sessions : IsCoded sessions
 unfolding sessions
@@ -66,7 +66,7 @@ coded_hash = coded_number _ 0x083 (omega arith, omega arith)
 
 coded_selection : IsCoded selection
 unfolding selection
-coded_selection = (coded_hash, λ alg. (coded_in 1 _ value_code (omega arith, omega arith), λ n. (λ bytes. tt, λ select. tt)))
+coded_selection = (coded_hash, λ alg. (coded_in 1 _ rc_value (omega arith, omega arith), λ n. (λ bytes. tt, λ select. tt)))
 
 coded_digest_value : IsCoded digest_value
 unfolding digest_value
@@ -77,13 +77,13 @@ unfolding sym_def algorithm key_bits mode
 coded_sym_def = (
   coded_in 2 _ 0x096 (omega arith, omega arith),
   λ n. coded_either (n == 0x0010) _ _ tt (coded_either (n == 0x0006) _ _
-      (coded_number _ value_code (omega arith, omega arith), λ bits. (coded_in 2 _ 0x089 (omega arith, omega arith), λ m. tt)) (coded_hash, λ alg. tt)),
+      (coded_number _ rc_value (omega arith, omega arith), λ bits. (coded_in 2 _ 0x089 (omega arith, omega arith), λ m. tt)) (coded_hash, λ alg. tt)),
 )
 
 coded_public : IsCoded nv_public
 unfolding nv_public nv_public_area nv_index nv_attrs
 coded_public = coded_sized public_bytes nv_public_area
-    (coded_in 4 is_nv_index value_code (omega arith, omega arith), λ index. (coded_hash, λ alg. (coded_in 4 is_nv_attrs reserved_bits_code (omega arith, omega arith), λ attrs. (coded_sized_bytes digest_bytes, λ policy. (λ left n. tt, λ data_size. tt)))))
+    (coded_in 4 is_nv_index rc_value (omega arith, omega arith), λ index. (coded_hash, λ alg. (coded_in 4 is_nv_attrs rc_reserved_bits (omega arith, omega arith), λ attrs. (coded_sized_bytes digest_bytes, λ policy. (λ left n. tt, λ data_size. tt)))))
 
 coded_selections : IsCoded selections
 coded_selections = coded_counted 0 banks selection coded_selection
@@ -93,9 +93,9 @@ unfolding start_auth_session encrypted_salt session_type
 coded_start = (
   (omega arith, coded_sized_bytes digest_bytes),
   λ n. (
-    (omega arith, coded_number _ value_code (omega arith, omega arith)),
+    (omega arith, coded_number _ rc_value (omega arith, omega arith)),
     λ salt. (
-      (omega arith, coded_number _ value_code (omega arith, omega arith)),
+      (omega arith, coded_number _ rc_value (omega arith, omega arith)),
       λ kind.
           ((omega arith, coded_sym_def), λ symmetric. ((omega arith, coded_hash), λ alg. tt)),
     ),
@@ -103,16 +103,17 @@ coded_start = (
 )
 
 pub coded_parameters : (code : CommandCode) → IsCoded (parameters code)
-unfolding nv_define_space startup startup_type nv_read flush_context session policy_command_code policy_or pcr_read policy_pcr pcr_extend
+unfolding nv_define_space startup startup_type nv_read flush_context session policy_command_code policy_or pcr_read policy_pcr pcr_extend pcr_event
 coded_parameters codes.NvDefineSpace = ((omega arith, coded_sized_bytes digest_bytes), λ auth. ((omega arith, coded_public), λ public. tt))
-coded_parameters codes.Startup = ((omega arith, coded_number _ value_code (omega arith, omega arith)), λ kind. tt)
+coded_parameters codes.Startup = ((omega arith, coded_number _ rc_value (omega arith, omega arith)), λ kind. tt)
 coded_parameters codes.NvRead = ((omega arith, λ left n. tt), λ size. ((omega arith, λ left n. tt), λ offset. tt))
-coded_parameters codes.FlushContext = ((omega arith, coded_in 4 is_session value_code (omega arith, omega arith)), λ handle. tt)
+coded_parameters codes.FlushContext = ((omega arith, coded_in 4 is_session rc_value (omega arith, omega arith)), λ handle. tt)
 coded_parameters codes.PolicyCommandCode = ((omega arith, λ left n. tt), λ code. tt)
 coded_parameters codes.PolicyOr = ((omega arith, coded_counted 2 most_digests digest (coded_sized_bytes digest_bytes)), λ digests. tt)
 coded_parameters codes.StartAuthSession = coded_start
 coded_parameters codes.PcrRead = ((omega arith, coded_selections), λ selected. tt)
 coded_parameters codes.PolicyPcr = ((omega arith, coded_sized_bytes digest_bytes), λ d. ((omega arith, coded_selections), λ selected. tt))
 coded_parameters codes.PcrExtend = ((omega arith, coded_counted 0 banks digest_value coded_digest_value), λ digests. tt)
+coded_parameters codes.PcrEvent = ((omega arith, coded_sized_bytes event_bytes), λ event. tt)
 coded_parameters codes.NvUndefineSpace = tt
 coded_parameters _ = tt

@@ -1,7 +1,9 @@
 pub mod Accepted
+pub mod Cuts
 pub mod Runs
 pub mod Rising
 pub mod Spelled
+pub mod Slots
 pub mod Nonces
 pub mod Replay
 pub mod Again

@@ -10,6 +10,7 @@ use Rattle.tpm_wire.specs.Token.{number_of}
 use Rattle.tpm_wire.specs.Path.{Spells}
 use Rattle.tpm_wire.specs.Reading.{read_all}
 use Rattle.tpm_wire.specs.Spelling.{spelling}
+use Rattle.tpm_wire.specs.ResponseCodes.{rc_attributes, of_session}
 use Rattle.tpm_wire.proofs.Agreement.{bind_ok}
 use Rattle.tpm_wire.proofs.Buffers.{buffer_sound}
 use Rattle.tpm_wire.proofs.Whole.{exactly_one}
@@ -33,17 +34,16 @@ use Rattle.tpm_hmac.specs.Hashes.{digest}
 use Rattle.tpm_hmac.specs.Hmac.{hmac}
 use Rattle.tpm_hmac.specs.Sessions.{trim, cp_hash}
 use Rattle.tpm_hmac.proofs.DigestLengths.{length-digest, length-hmac}
-use Rattle.tpm_model.specs.Codes.{attributes_code, session_number}
 use Rattle.tpm_model.specs.Steps.{History, PowerCycle, Origin}
-use Rattle.tpm_model.specs.Sessions.{Session, loaded, session_at, slot_of}
+use Rattle.tpm_model.specs.Sessions.{Session, loaded, sessions_at, slot_of}
 use Rattle.tpm_model.specs.Present.{Present, present}
 use Rattle.tpm_model.specs.Entities.{Entity, entity_of, names_of, auth_value}
-use Rattle.tpm_model.specs.Authorization.{refuse, is_empty, Authorizer, Password, BySession, by_session, check_loaded, check_session, check_no_trial, check_no_nonce, check_entity, proof_by, proof_of, check_proof, first_loaded, failure, Signed, command_text, needs_none, is_signed, key_for, Proof, NotAsked, ByPassword, ByMac, nonce_next, reply_mac, reply_auths, password_reply}
-use Rattle.tpm_model.specs.Answers.{Commands, Presented, presented, Done, outcome, answered, answer, next, reply_params}
+use Rattle.tpm_model.specs.Authorization.{refuse, is_empty, Authorizer, Password, BySession, by_session, check_loaded, check_session, check_no_trial, check_no_nonce, check_entity, evidence_by, evidence_of, check_evidence, first_loaded, failure, Signed, command_text, needs_none, is_signed, key_for, Evidence, NotAsked, ByPassword, ByMac, nonce_next, reply_mac, reply_auths, password_reply}
+use Rattle.tpm_model.specs.Answers.{CommandSet, Presented, presented, Done, outcome, answered, answer, next, reply_params}
 use Rattle.tpm_model.specs.Callers.{Seal, seal_key, seal_text, seal_auth, sealed_command, Waiting, waiting, CallerFault, NotExpected, WrongMac, Opened, awaited_text, has_mac, unless, opened_session, opened_response, opened}
 use Rattle.tpm_model.specs.Runs.{Event, after}
 use Rattle.tpm_model.specs.Runs.Event.{Given, Cycled}
-use Rattle.tpm_model.specs.Premises.{IsAccepted, IsSealed, NoncesDiffer, Keyed, mac_of, IsAmong, texts_checked, NoCollision, IsSealedBy, AreSealed, IsOther, SealsDiffer, keyed_reply, text_by, text_replied, texts_replied, Opening, keyed_awaited, text_awaited, text_opened, texts_opened, NoCollisionWith, IsOfCallers}
+use Rattle.tpm_model.specs.Premises.{IsAccepted, HasSessionMac, NoncesDiffer, most_nonce, Keyed, mac_of, IsAmong, texts_checked, NoCollision, IsSealedBy, AreSealed, IsOther, SealsDiffer, keyed_reply, text_by, text_replied, texts_replied, Opening, keyed_awaited, text_awaited, text_opened, texts_opened, NoCollisionWith, IsOfCallers}
 use Rattle.tpm_model.proofs.Accepted.{Passed, passed, ok_is}
 use Rattle.tpm_model.proofs.Spelled.{was_read, spelled_by}
 use Rattle.tpm_model.proofs.Nonces.{HasStart, sound_along, digest_short}
@@ -103,14 +103,14 @@ was_opened w (Ok (responses.Done body auths)) x is =
 -- by an HMAC or policy session
 pub record BySigned (p : Present) (x : Presented) : Type 0 where
   pub signed : Signed
-  pub proof : x.proof ≡ ByMac signed
-  pub is : loaded p.session signed.auth.session ≡ Some signed.session
+  pub evidence : x.evidence ≡ ByMac signed
+  pub is : loaded p.sessions signed.auth.session ≡ Some signed.session
   pub one : x.auths ≡ signed.auth ∷ []
 
 pub record ByWord (x : Presented) : Type 0 where
   pub auth : Auth
   pub wanted : List ℕ
-  pub proof : x.proof ≡ ByPassword (trim auth.hmac) wanted
+  pub evidence : x.evidence ≡ ByPassword (trim auth.hmac) wanted
   pub one : x.auths ≡ auth ∷ []
 
 loaded_by : (is_word : Bool) (s : Option Session) (by : Authorizer) → (if is_word then Ok Password else by_session s) ≡ Ok by → (by ≡ Password) ⊎ ((y : Session) × (s ≡ Some y) × (by ≡ BySession y))
@@ -124,29 +124,29 @@ no_others (a ∷ others) e = absurd (let z : ⊥ = cc in z)
 
 one_auth : (by : Authorizer) (a : Auth) (others : List Auth) (u : Unit {0}) → check_session by a others ≡ Ok u → others ≡ []
 one_auth by a others u e =
-    let b = bind_ok (refuse (audits_or_encrypts a.attrs) (attributes_code + session_number 1)) _ u e in
+    let b = bind_ok (refuse (audits_or_encrypts a.attrs) (rc_attributes + of_session 1)) _ u e in
     let c = bind_ok (check_no_trial by) _ u b.2 in
     let d = bind_ok (check_no_nonce by a.nonce) _ u c.2 in
-    no_others others (refused_not (is_empty others) (attributes_code + session_number 2) d.2)
+    no_others others (refused_not (is_empty others) (rc_attributes + of_session 2) d.2)
 
 -- none, a password, or a session
-abbrev Shape : Option Session → List Auth → Proof → Type 0
-Shape s auths proof = (proof ≡ NotAsked)
-    ⊎ (((a : Auth) × (wanted : List ℕ) × (auths ≡ a ∷ []) × (proof ≡ ByPassword (trim a.hmac) wanted))
-    ⊎ ((x : Signed) × (auths ≡ x.auth ∷ []) × (s ≡ Some x.session) × (proof ≡ ByMac x)))
+abbrev Shape : Option Session → List Auth → Evidence → Type 0
+Shape s auths evidence = (evidence ≡ NotAsked)
+    ⊎ (((a : Auth) × (wanted : List ℕ) × (auths ≡ a ∷ []) × (evidence ≡ ByPassword (trim a.hmac) wanted))
+    ⊎ ((x : Signed) × (auths ≡ x.auth ∷ []) × (s ≡ Some x.session) × (evidence ≡ ByMac x)))
 
-shape : (s : Option Session) (e : Entity) (code : CommandCode) (names : List (List ℕ)) (params : List ℕ) (update_counter : ℕ) (auths : List Auth) (proof : Proof)
-    → proof_of s e code names params update_counter auths ≡ Ok proof → Shape s auths proof
-shape s e code names params update_counter [] proof is = inl (sym (ok_is NotAsked proof is))
-shape s e code names params update_counter (a ∷ others) proof is =
-    let b = bind_ok (check_loaded a.session s) _ proof is in
-    let c = bind_ok (check_session b.0 a others) _ proof b.2 in
-    let d = bind_ok (check_entity b.0 e code update_counter) _ proof c.2 in
+shape : (s : Option Session) (e : Entity) (code : CommandCode) (names : List (List ℕ)) (params : List ℕ) (update_counter : ℕ) (auths : List Auth) (evidence : Evidence)
+    → evidence_of s e code names params update_counter auths ≡ Ok evidence → Shape s auths evidence
+shape s e code names params update_counter [] evidence is = inl (sym (ok_is NotAsked evidence is))
+shape s e code names params update_counter (a ∷ others) evidence is =
+    let b = bind_ok (check_loaded a.session s) _ evidence is in
+    let c = bind_ok (check_session b.0 a others) _ evidence b.2 in
+    let d = bind_ok (check_entity b.0 e code update_counter) _ evidence c.2 in
     let one : a ∷ others ≡ a ∷ [] = ap (λ (l : List Auth). a ∷ l) (one_auth b.0 a others c.0 c.1) in
-    let made : proof ≡ proof_by b.0 e code names params a = sym (ok_is (proof_by b.0 e code names params a) proof d.2) in
+    let made : evidence ≡ evidence_by b.0 e code names params a = sym (ok_is (evidence_by b.0 e code names params a) evidence d.2) in
     elim (loaded_by (a.session == rs_pw) s b.0 b.1) [
-      | inl word ↦ inr (inl (a, auth_value e, one, made ∙ ap (λ z. proof_by z e code names params a) word))
-      | inr q ↦ inr (inr (record { session = q.0; key = key_for q.0 e; p_hash = cp_hash q.0.hash (code_number code) names params; auth = a }, one, q.1, made ∙ ap (λ z. proof_by z e code names params a) q.2))
+      | inl word ↦ inr (inl (a, auth_value e, one, made ∙ ap (λ z. evidence_by z e code names params a) word))
+      | inr q ↦ inr (inr (record { session = q.0; key = key_for q.0 e; p_hash = cp_hash q.0.hash (code_number code) names params; auth = a }, one, q.1, made ∙ ap (λ z. evidence_by z e code names params a) q.2))
     ]
 
 -- ---- the bytes of a reply with one session
@@ -179,7 +179,7 @@ among_left x [] ys i = absurd i
 among_left x (y ∷ xs) ys (inl e) = inl e
 among_left x (y ∷ xs) ys (inr i) = inr (among_left x xs ys i)
 
-among_reply : (has : Commands) (o : Origin) (h : History) (es fs : List Event) (bytes n : List ℕ) (x : Keyed)
+among_reply : (has : CommandSet) (o : Origin) (h : History) (es fs : List Event) (bytes n : List ℕ) (x : Keyed)
     → text_replied (presented has (present o (after has o h es)) bytes) (outcome has (present o (after has o h es)) bytes n) n ≡ x ∷ [] → IsAmong x (texts_replied has o h (es ++ Given bytes n ∷ fs))
 among_reply has o h [] fs bytes n x e = subst (λ xs. IsAmong x (xs ++ texts_replied has o (next has o h bytes n) fs)) (sym e) (inl refl)
 among_reply has o h (Given b m ∷ es) fs bytes n x e =
@@ -194,8 +194,8 @@ among_opened x [] k i e = absurd i
 among_opened x (y ∷ xs) k (inl same) e = subst (λ t. IsAmong k (t ++ texts_opened xs)) (sym (sym (ap text_at same) ∙ e)) (inl refl)
 among_opened x (y ∷ xs) k (inr i) e = among_later k (text_at y) (texts_opened xs) (among_opened x xs k i e)
 
-sealed_here : (has : Commands) (o : Origin) (seals : List Seal) (h : History) (es fs : List Event) (bytes n : List ℕ) → AreSealed has o seals h (es ++ Given bytes n ∷ fs)
-    → IsAccepted has o (after has o h es) bytes n → IsSealed bytes → IsSealedBy seals bytes
+sealed_here : (has : CommandSet) (o : Origin) (seals : List Seal) (h : History) (es fs : List Event) (bytes n : List ℕ) → AreSealed has o seals h (es ++ Given bytes n ∷ fs)
+    → IsAccepted has o (after has o h es) bytes n → HasSessionMac bytes → IsSealedBy seals bytes
 sealed_here has o seals h [] fs bytes n all = all.0
 sealed_here has o seals h (Given b m ∷ es) fs bytes n all = sealed_here has o seals (next has o h b m) es fs bytes n all.1
 sealed_here has o seals h (Cycled ∷ es) fs bytes n all = sealed_here has o seals (PowerCycle ∷ h) es fs bytes n all
@@ -231,7 +231,7 @@ one_caller a b p q newer other u v f g mac text left right same =
 -- ---- the whole
 
 -- a Waiting that opened the reply of an accepted step
-record Step (has : Commands) (o : Origin) (h : History) (bytes n : List ℕ) (s : Seal) (d : Done) : Type 0 where
+record Step (has : CommandSet) (o : Origin) (h : History) (bytes n : List ℕ) (s : Seal) (d : Done) : Type 0 where
   is : outcome has (present o h) bytes n ≡ Ok d
   needs : needs_authorization (code_for s.body) ≡ true
   opening : WasOpened (waiting s) (read_all (response (code_for s.body)) (answer has o h bytes n))
@@ -240,7 +240,7 @@ abbrev made_of : ReplyBody → List AuthReply → Reply
 made_of body auths = record { body = body; auths = auths }
 
 -- its session as it was read, from bytes with these sessions
-step_lists : (has : Commands) (o : Origin) (h : History) (bytes n : List ℕ) (s : Seal) (d : Done) (t : Step has o h bytes n s d) (auths : List AuthReply) → d.reply.auths ≡ auths
+step_lists : (has : CommandSet) (o : Origin) (h : History) (bytes n : List ℕ) (s : Seal) (d : Done) (t : Step has o h bytes n s d) (auths : List AuthReply) → d.reply.auths ≡ auths
     → Lists (session_list (spelling (response (code_for d.command.body)) (done_body d.reply.body auths))) (t.opening.auth ∷ [])
 step_lists has o h bytes n s d t auths is =
     let code = code_for s.body in
@@ -251,15 +251,15 @@ step_lists has o h bytes n s d t auths is =
 open_some : (w : Waiting) (r : Result Response Refusal) (t : WasOpened w r) → 0 < length t.auth.hmac
 open_some w r t = subst (λ (m : List ℕ). 0 < length m) (sym t.mac) (hmac_some w.caller.hash w.key (awaited_text w t.body t.auth))
 
-never_none : (has : Commands) (o : Origin) (h : History) (bytes n : List ℕ) (s : Seal) (d : Done) → Step has o h bytes n s d → d.reply.auths ≡ [] → ⊥
+never_none : (has : CommandSet) (o : Origin) (h : History) (bytes n : List ℕ) (s : Seal) (d : Done) → Step has o h bytes n s d → d.reply.auths ≡ [] → ⊥
 never_none has o h bytes n s d t none =
     let b = spelling (response (code_for d.command.body)) (done_body d.reply.body []) in
     let nil = none_listed b (t.opening.auth ∷ []) (no_reply_tag (code_for d.command.body) d.reply.body) (step_lists has o h bytes n s d t [] none) in
     let z : ⊥ = cc in z
 
 -- The nonce and the HMAC that were read are those of the reply.
-step_read : (has : Commands) (o : Origin) (h : History) (bytes n : List ℕ) (s : Seal) (d : Done) (t : Step has o h bytes n s d) (done : Passed has (present o h) bytes n d) (auth : Auth) (a : AuthReply)
-    → done.x.auths ≡ auth ∷ [] → d.reply.auths ≡ a ∷ [] → length a.nonce ≤ 32 → length a.hmac ≤ 32 → (t.opening.auth.nonce ≡ a.nonce) × (t.opening.auth.hmac ≡ a.hmac)
+step_read : (has : CommandSet) (o : Origin) (h : History) (bytes n : List ℕ) (s : Seal) (d : Done) (t : Step has o h bytes n s d) (done : Passed has (present o h) bytes n d) (auth : Auth) (a : AuthReply)
+    → done.x.auths ≡ auth ∷ [] → d.reply.auths ≡ a ∷ [] → length a.nonce ≤ most_nonce → length a.hmac ≤ most_nonce → (t.opening.auth.nonce ≡ a.nonce) × (t.opening.auth.hmac ≡ a.hmac)
 step_read has o h bytes n s d t done auth a one is few_nonce few_hmac =
     let needs = by_session_needs has (present o h) bytes n d done auth one in
     let own = own_reply (present o h) d.command.body n d.reply.body needs done.act in
@@ -269,8 +269,8 @@ step_read has o h bytes n s d t done auth a one is few_nonce few_hmac =
     one_session (size_of_response (code_for_reply r) (done_body r (a ∷ []))) (reply_params r) a.nonce a.attrs a.hmac [] t.opening.auth own.short few_nonce few_hmac
     (subst (λ (b : List ℕ). Lists (session_list b) (t.opening.auth ∷ [])) same (step_lists has o h bytes n s d t (a ∷ []) is))
 
-never_word : (has : Commands) (o : Origin) (h : History) (bytes n : List ℕ) (s : Seal) (d : Done) (t : Step has o h bytes n s d) (done : Passed has (present o h) bytes n d) (auth : Auth) (a : AuthReply)
-    → done.x.auths ≡ auth ∷ [] → d.reply.auths ≡ a ∷ [] → length a.nonce ≤ 32 → a.hmac ≡ [] → ⊥
+never_word : (has : CommandSet) (o : Origin) (h : History) (bytes n : List ℕ) (s : Seal) (d : Done) (t : Step has o h bytes n s d) (done : Passed has (present o h) bytes n d) (auth : Auth) (a : AuthReply)
+    → done.x.auths ≡ auth ∷ [] → d.reply.auths ≡ a ∷ [] → length a.nonce ≤ most_nonce → a.hmac ≡ [] → ⊥
 never_word has o h bytes n s d t done auth a one is few none =
     let r = step_read has o h bytes n s d t done auth a one is few (omega (arith, ap length none)) in
     let z : ⊥ = absurd (omega (arith, open_some (waiting s) (read_all (response (code_for s.body)) (answer has o h bytes n)) t.opening, ap length r.1, ap length none)) in z
@@ -279,13 +279,13 @@ head_auth : (a b : Auth) → a ∷ [] ≡ b ∷ [] → a ≡ b
 head_auth a b e = cc
 
 -- The HMAC of a command that passed is there.
-mac_there : (e : Entity) (y : Signed) → check_proof e (ByMac y) ≡ Ok tt → needs_none y ≡ false → 0 < length y.auth.hmac
+mac_there : (e : Entity) (y : Signed) → check_evidence e (ByMac y) ≡ Ok tt → needs_none y ≡ false → 0 < length y.auth.hmac
 mac_there e y c signs =
     let mac = hmac y.session.hash y.key (command_text y) in
     let same : bytes_eq y.auth.hmac mac ≡ true = ap (λ b. if b then true else bytes_eq y.auth.hmac mac) (sym signs) ∙ refused_not (is_signed y) (failure e) c in
     subst (λ (m : List ℕ). 0 < length m) (sym ((bytes_eq-Decides y.auth.hmac mac).0 same)) (hmac_some y.session.hash y.key (command_text y))
 
-module _ (has : Commands) (o : Origin) (seals : List Seal) (xs : List Opening) (es fs : List Event) (bytes n : List ℕ) (s : Seal) where
+module _ (has : CommandSet) (o : Origin) (seals : List Seal) (xs : List Opening) (es fs : List Event) (bytes n : List ℕ) (s : Seal) where
   abbrev pub before : History
   before = after has o [] es
 
@@ -299,22 +299,22 @@ module _ (has : Commands) (o : Origin) (seals : List Seal) (xs : List Opening) (
     pub given : IsAmong s seals
     pub tried : IsAmong (record { seal = s; bytes = answer has o before bytes n }) xs
 
-  by_mac : (d : Done) (g : OfRun) (t : Step has o before bytes n s d) (done : Passed has (present o before) bytes n d) (y : Signed) → done.x.auths ≡ y.auth ∷ [] → done.x.proof ≡ ByMac y
-      → loaded (session_at o before) y.auth.session ≡ Some y.session → length (nonce_next y.session n) ≤ 32 → needs_none y ≡ false → Own
-  by_mac d g t done y one proof is few signs =
+  by_mac : (d : Done) (g : OfRun) (t : Step has o before bytes n s d) (done : Passed has (present o before) bytes n d) (y : Signed) → done.x.auths ≡ y.auth ∷ [] → done.x.evidence ≡ ByMac y
+      → loaded (sessions_at o before) y.auth.session ≡ Some y.session → length (nonce_next y.session n) ≤ most_nonce → needs_none y ≡ false → Own
+  by_mac d g t done y one evidence is few signs =
       let p = present o before in
       let x = done.x in
       let w = waiting s in
       let params = reply_params d.reply.body in
       let a : AuthReply = record { nonce = nonce_next y.session n; attrs = y.auth.attrs; hmac = reply_mac y x.code params n } in
-      let reply : d.reply.auths ≡ a ∷ [] = done.replied ∙ ap (λ z. reply_auths z x.code params n) proof
+      let reply : d.reply.auths ≡ a ∷ [] = done.replied ∙ ap (λ z. reply_auths z x.code params n) evidence
       ∙ ap (λ b. let c : AuthReply = record { nonce = nonce_next y.session n; attrs = y.auth.attrs; hmac = if b then [] else reply_mac y x.code params n } in c ∷ []) signs in
       let k = keyed_reply y x.code params n in
       let q = keyed_awaited w t.opening.body t.opening.auth in
-      let short : length a.hmac ≤ 32 = omega (arith, length-hmac y.session.hash y.key k.text, digest_short y.session.hash) in
+      let short : length a.hmac ≤ most_nonce = omega (arith, length-hmac y.session.hash y.key k.text, digest_short y.session.hash) in
       let read_it = step_read has o before bytes n s d t done y.auth a one reply few short in
       let text : text_replied (presented has p bytes) (outcome has p bytes n) n ≡ k ∷ [] =
-      ap (λ z. text_replied z (outcome has p bytes n) n) done.asked ∙ ap (λ z. text_replied (Ok x) z n) t.is ∙ ap (λ z. text_by z x.code params n) proof ∙ ap (λ b. if b then [] else k ∷ []) signs in
+      ap (λ z. text_replied z (outcome has p bytes n) n) done.asked ∙ ap (λ z. text_replied (Ok x) z n) t.is ∙ ap (λ z. text_by z x.code params n) evidence ∙ ap (λ b. if b then [] else k ∷ []) signs in
       let checked = texts_checked has o [] (es ++ Given bytes n ∷ fs) in
       let replied = texts_replied has o [] (es ++ Given bytes n ∷ fs) in
       let among_k = among_later k checked (replied ++ texts_opened xs) (among_left k replied (texts_opened xs) (among_reply has o [] es fs bytes n k text)) in
@@ -323,29 +323,29 @@ module _ (has : Commands) (o : Origin) (seals : List Seal) (xs : List Opening) (
       let texts = g.run.no_collision q k among_q among_k macs in
       let nonce : s.nonce ≡ y.auth.nonce = one_caller q k (to_be_bytes w32 0 ++ (to_be_bytes w32 (code_number w.code) ++ reply_params t.opening.body)) (to_be_bytes w32 0 ++ (to_be_bytes w32 (code_number x.code) ++ params))
       t.opening.auth.nonce (nonce_next y.session n) s.nonce y.auth.nonce t.opening.auth.attrs y.auth.attrs macs texts refl refl read_it.0 in
-      let there = mac_there x.entity y (ap (check_proof x.entity) (sym proof) ∙ done.proof) signs in
+      let there = mac_there x.entity y (ap (check_evidence x.entity) (sym evidence) ∙ done.evidence) signs in
       let spelled = spelled_by has p bytes n d done in
-      let seal = sealed_here has o seals [] es fs bytes n g.run.sealed (d, t.is) (d.command, y.auth, spelled, done.auths ∙ one, loaded_handle p.session y.auth.session y.session is, there) in
+      let seal = sealed_here has o seals [] es fs bytes n g.run.sealed (d, t.is) (d.command, y.auth, spelled, done.auths ∙ one, loaded_handle p.sessions y.auth.session y.session is, there) in
       let same : d.command ≡ sealed_command seal.0 = (exactly_one buffer buffer_sound command bytes).one_value d.command (sealed_command seal.0) spelled seal.2 in
       let auth : y.auth ≡ seal_auth seal.0 = head_auth y.auth (seal_auth seal.0) (sym (done.auths ∙ one) ∙ ap (λ (c : Command). c.auths.items) same) in
       let its = same_seal seals s seal.0 g.run.differ g.given seal.1 (nonce ∙ ap (λ (b : Auth). b.nonce) auth) in
-      let session = loaded_handle p.session y.auth.session y.session is in
+      let session = loaded_handle p.sessions y.auth.session y.session is in
       (subst (λ (z : Seal). Spells command (sealed_command z) bytes) (sym its) seal.2, subst (λ (z : Seal). is_session z.caller.handle ≡ true) (sym its) (ap (λ (b : Auth). is_session b.session) (sym auth) ∙ session))
 
-  by_signed : (d : Done) (g : OfRun) (t : Step has o before bytes n s d) (done : Passed has (present o before) bytes n d) (y : Signed) → done.x.auths ≡ y.auth ∷ [] → done.x.proof ≡ ByMac y
-      → loaded (session_at o before) y.auth.session ≡ Some y.session → Own
-  by_signed d g t done y one proof is =
+  by_signed : (d : Done) (g : OfRun) (t : Step has o before bytes n s d) (done : Passed has (present o before) bytes n d) (y : Signed) → done.x.auths ≡ y.auth ∷ [] → done.x.evidence ≡ ByMac y
+      → loaded (sessions_at o before) y.auth.session ≡ Some y.session → Own
+  by_signed d g t done y one evidence is =
       let x = done.x in
       let params = reply_params d.reply.body in
       let k = slot_of y.auth.session in
       let session = still_held o before y.auth.session y.session is in
       let sound = subst HasStart session.there (sound_along has o k es session.live) in
-      let few : length (nonce_next y.session n) ≤ 32 = omega (arith, length-take y.session.nonce_length n, ap (λ (z : Session). z.nonce_length) session.is, sound.1) in
+      let few : length (nonce_next y.session n) ≤ most_nonce = omega (arith, length-take y.session.nonce_length n, ap (λ (z : Session). z.nonce_length) session.is, sound.1) in
       elim (needs_none y) as (λ b. needs_none y ≡ b → Own) [
         | true ↦ λ none. absurd (never_word has o before bytes n s d t done y.auth (record { nonce = nonce_next y.session n; attrs = y.auth.attrs; hmac = [] }) one
-            (done.replied ∙ ap (λ z. reply_auths z x.code params n) proof
+            (done.replied ∙ ap (λ z. reply_auths z x.code params n) evidence
             ∙ ap (λ b. let c : AuthReply = record { nonce = nonce_next y.session n; attrs = y.auth.attrs; hmac = if b then [] else reply_mac y x.code params n } in c ∷ []) none) few refl)
-        | false ↦ λ signs. by_mac d g t done y one proof is few signs
+        | false ↦ λ signs. by_mac d g t done y one evidence is few signs
       ] refl
 
   own_step : (d : Done) → OfRun → Step has o before bytes n s d → Own
@@ -355,10 +355,10 @@ module _ (has : Commands) (o : Origin) (seals : List Seal) (xs : List Opening) (
       let x = done.x in
       let params = reply_params d.reply.body in
       let r = was_read has p bytes x done.asked in
-      elim (shape (first_loaded (loaded p.session) x.auths) (entity_of p (first x.handles)) x.code (names_of p x.handles) x.params p.update_counter x.auths x.proof r.proof) [
+      elim (shape (first_loaded (loaded p.sessions) x.auths) (entity_of p (first x.handles)) x.code (names_of p x.handles) x.params p.registers.update_counter x.auths x.evidence r.evidence) [
         | inl none ↦ absurd (never_none has o before bytes n s d t (done.replied ∙ ap (λ z. reply_auths z x.code params n) none))
-        | inr (inl (auth, wanted, one, proof)) ↦ absurd (never_word has o before bytes n s d t done auth password_reply one (done.replied ∙ ap (λ z. reply_auths z x.code params n) proof) (omega arith) refl)
-        | inr (inr (y, one, is, proof)) ↦ by_signed d g t done y one proof (ap (first_loaded (loaded p.session)) (sym one) ∙ is)
+        | inr (inl (auth, wanted, one, evidence)) ↦ absurd (never_word has o before bytes n s d t done auth password_reply one (done.replied ∙ ap (λ z. reply_auths z x.code params n) evidence) (omega arith) refl)
+        | inr (inr (y, one, is, evidence)) ↦ by_signed d g t done y one evidence (ap (first_loaded (loaded p.sessions)) (sym one) ∙ is)
       ]
 
   -- A reply that is opened was that of an accepted buffer, its own.
@@ -373,19 +373,19 @@ module _ (has : Commands) (o : Origin) (seals : List Seal) (xs : List Opening) (
 
 -- ---- the laws
 
-pub own_reply_alone : (has : Commands) (o : Origin) (seals : List Seal) (xs : List Opening) (es fs : List Event) (bytes n : List ℕ) (s : Seal) (w : Opened)
+pub own_reply_alone : (has : CommandSet) (o : Origin) (seals : List Seal) (xs : List Opening) (es fs : List Event) (bytes n : List ℕ) (s : Seal) (w : Opened)
     → IsOfCallers has o seals xs (es ++ Given bytes n ∷ fs) → IsAmong s seals → needs_authorization (code_for s.body) ≡ true
     → IsAmong (record { seal = s; bytes = answer has o (after has o [] es) bytes n }) xs → opened (waiting s) (answer has o (after has o [] es) bytes n) ≡ Ok w
     → IsAccepted has o (after has o [] es) bytes n × Spells command (sealed_command s) bytes
 own_reply_alone has o seals xs es fs bytes n s w run given needs tried is =
     let r = own has o seals xs es fs bytes n s (record { run = run; given = given; tried = tried }) needs w is in (r.0, r.1.0)
 
-fewer : (has : Commands) (o : Origin) (es : List Event) (xs : List Opening) → NoCollisionWith has o es xs → NoCollision has o es
+fewer : (has : CommandSet) (o : Origin) (es : List Event) (xs : List Opening) → NoCollisionWith has o es xs → NoCollision has o es
 fewer has o es xs free x y i j =
     let others = texts_replied has o [] es ++ texts_opened xs in
     free x y (among_left x (texts_checked has o [] es) others i) (among_left y (texts_checked has o [] es) others j)
 
-pub one_reply_alone : (has : Commands) (o : Origin) (seals : List Seal) (xs : List Opening) (es fs gs : List Event) (bytes other n m : List ℕ) (s : Seal) (w v : Opened)
+pub one_reply_alone : (has : CommandSet) (o : Origin) (seals : List Seal) (xs : List Opening) (es fs gs : List Event) (bytes other n m : List ℕ) (s : Seal) (w v : Opened)
     → NoncesDiffer (es ++ Given bytes n ∷ fs ++ Given other m ∷ gs) → IsOfCallers has o seals xs (es ++ Given bytes n ∷ fs ++ Given other m ∷ gs) → IsAmong s seals → needs_authorization (code_for s.body) ≡ true
     → IsAmong (record { seal = s; bytes = answer has o (after has o [] es) bytes n }) xs → IsAmong (record { seal = s; bytes = answer has o (after has o [] (es ++ Given bytes n ∷ fs)) other m }) xs
     → opened (waiting s) (answer has o (after has o [] es) bytes n) ≡ Ok w → opened (waiting s) (answer has o (after has o [] (es ++ Given bytes n ∷ fs)) other m) ≡ Ok v → ⊥

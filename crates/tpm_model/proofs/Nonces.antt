@@ -1,29 +1,31 @@
 -- The nonces of sessions along runs.
 use Rattle.std.proofs.Common.{◌≡◌, ◌≢◌, ℕ, ◌+◌, ◌≤◌, List, [], ◌∷◌, ◌++◌, length, take, Ok, Some, None, Option, Bool, true, false, ◌||◌, refl, sym, ap, ◌∙◌, subst, arith, inl, inr}
-use Rattle.std.specs.Prelude.{if◌then◌else◌, ◌⊎◌, nat_lt, option_map}
+use Rattle.std.specs.Prelude.{if◌then◌else◌, ◌==◌, ◌⊎◌, nat_lt, is_some, option_map}
 use Rattle.std.proofs.lemmas.Bool.Decides.{nat_tests}
-use Rattle.tpm_wire.specs.Buffers.{size_code}
+use Rattle.tpm_wire.specs.ResponseCodes.{rc_size, of_parameter}
 use Rattle.tpm_wire.proofs.Agreement.{bind_ok}
 use Rattle.tpm_types.specs.declared.alg.Alg.{Alg}
-use Rattle.tpm_types.specs.declared.alg.Alg.TheVariants.{Sha1, Sha256}
+use Rattle.tpm_types.specs.declared.alg.Alg.TheVariants.{Sha1, Sha256, Sha384}
 use Rattle.tpm_types.specs.Alg.{digest_len}
 use Rattle.tpm_buffer.specs.declared.command.Command.{Command}
 use Rattle.tpm_buffer.specs.declared.command.CommandBody.{CommandBody}
 use Rattle.tpm_buffer.specs.declared.command.CommandBody.TheVariants as bodies
+use Rattle.tpm_buffer.specs.declared.command.StartAuth.{StartAuth}
 use Rattle.tpm_buffer.specs.declared.response.ReplyBody.{ReplyBody}
-use Rattle.tpm_buffer.specs.Parameters.{parameter}
+use Rattle.tpm_buffer.specs.declared.response.ReplyBody.TheVariants as replies
 use Rattle.tpm_buffer.specs.Responses.{Reply}
 use Rattle.tpm_model.specs.Steps.{History, Accepted, PowerCycle, Origin}
 use Rattle.tpm_model.specs.Policies.{Assertion}
-use Rattle.tpm_model.specs.Sessions.{Session, slot_of, lives, begins, clears, closes, authorizes, Start, start_of, started_by, last_nonce, assertions_of, as_session, session_at, loaded, if_of_kind, is_handle_of}
+use Rattle.tpm_model.specs.Sessions.{Session, slot_of, lives, begins, clears, closes, authorizes, Start, start_of, begun, begun_with, started_by, last_nonce, assertions_of, as_session, session_in, sessions_at, loaded, if_of_kind, is_handle_of}
 use Rattle.tpm_model.specs.Present.{present}
 use Rattle.tpm_model.specs.Authorization.{refuse}
 use Rattle.tpm_model.specs.Actions.{action}
-use Rattle.tpm_model.specs.Answers.{Commands, next}
+use Rattle.tpm_model.specs.Answers.{CommandSet, next}
 use Rattle.tpm_model.specs.Runs.{Event, after}
 use Rattle.tpm_model.specs.Runs.Event.{Given, Cycled}
 use Rattle.tpm_model.specs.Premises.{nonces, IsAmong, IsApart, AreApart, least_nonce, most_nonce}
 use Rattle.tpm_model.proofs.Accepted.{along, after_next}
+use Rattle.tpm_model.proofs.Slots.{slot_of_session}
 
 -- ---- lists of nonces
 
@@ -77,7 +79,7 @@ moved S x n ns (inl (inr e)) = inr (inl e)
 moved S x n ns (inr i) = inr (inr i)
 
 -- While a session lives, the nonce of its last step is what it was, or was handed in since.
-pub fresh : (S : List ℕ → Type 0) (has : Commands) (o : Origin) (k : ℕ) (es : List Event) (h : History) → (lives k h ≡ true → S (last_nonce k h)) →
+pub fresh : (S : List ℕ → Type 0) (has : CommandSet) (o : Origin) (k : ℕ) (es : List Event) (h : History) → (lives k h ≡ true → S (last_nonce k h)) →
     lives k (after has o h es) ≡ true → S (last_nonce k (after has o h es)) ⊎ IsAmong (last_nonce k (after has o h es)) (nonces es)
 fresh S has o k [] h f l = inl (f l)
 fresh S has o k (Given bytes n ∷ es) h f l =
@@ -95,11 +97,14 @@ HasStart (Some s) = (least_nonce ≤ length s.request.nonce_caller) × (length s
 abbrev pub IsSound : ℕ → History → Type 0
 IsSound k h = lives k h ≡ true → HasStart (start_of k h)
 
-sound_by : (begin live gone : Bool) (new old : Option Start) → (begin ≡ true → HasStart new) → (live ≡ true → HasStart old)
-    → (begin || (if gone then false else live)) ≡ true → HasStart (if begin then new else old)
-sound_by true live gone new old f g l = f refl
-sound_by false live true new old f g l = absurd (let k : ⊥ = cc in k)
-sound_by false live false new old f g l = g l
+abbrev HasLength : StartAuth → Type 0
+HasLength q = (least_nonce ≤ length q.nonce_caller) × (length q.nonce_caller ≤ most_nonce)
+
+sound_by : (begin : Option StartAuth) (live gone : Bool) (n : List ℕ) (old : Option Start) → ((q : StartAuth) → begin ≡ Some q → HasLength q) → (live ≡ true → HasStart old)
+    → (is_some begin || (if gone then false else live)) ≡ true → HasStart (started_by begin n old)
+sound_by (Some q) live gone n old f g l = f q refl
+sound_by None live true n old f g l = absurd (let k : ⊥ = cc in k)
+sound_by None live false n old f g l = g l
 
 pub both_passed : (a b : Bool) (code : ℕ) → refuse (a || b) code ≡ Ok tt → (a ≡ false) × (b ≡ false)
 both_passed true b code e = absurd (let z : ⊥ = cc in z)
@@ -109,6 +114,7 @@ both_passed false false code e = (refl, refl)
 pub digest_short : (a : Alg) → digest_len a ≤ most_nonce
 digest_short Sha1 = omega arith
 digest_short Sha256 = omega arith
+digest_short Sha384 = omega arith
 
 enough_and_few : (n m : ℕ) → nat_lt n 16 ≡ false → nat_lt m n ≡ false → m ≤ most_nonce → (least_nonce ≤ n) × (n ≤ most_nonce)
 enough_and_few n m a b le =
@@ -116,19 +122,27 @@ enough_and_few n m a b le =
     let few : n ≤ m = grind (arith, nat_tests) in
     (enough, omega (arith, few, le))
 
-start_by : (o : Origin) (h : History) (k : ℕ) (body : CommandBody) (n : List ℕ) (reply : ReplyBody) (old : Option Start)
-    → action (present o h) body n ≡ Ok reply → begins k body reply ≡ true → HasStart (started_by body n old)
-start_by o h k (bodies.StartAuthSession s) n reply old e b =
-    let short = nat_lt (length s.nonce_caller) 16 in
-    let f = bind_ok (refuse (short || nat_lt (digest_len s.auth_hash) (length s.nonce_caller)) (size_code + parameter 1)) _ reply e in
-    let g = both_passed short (nat_lt (digest_len s.auth_hash) (length s.nonce_caller)) (size_code + parameter 1) f.1 in
-    enough_and_few (length s.nonce_caller) (digest_len s.auth_hash) g.0 g.1 (digest_short s.auth_hash)
-start_by o h k _ n reply old e b = absurd (let z : ⊥ = cc in z)
+begun_same : (k : ℕ) (s q : StartAuth) (reply : ReplyBody) → begun_with k s reply ≡ Some q → s ≡ q
+begun_same k s q (replies.StartAuthSession r) e = go (slot_of r.session == k) e
+  where
+    go : (b : Bool) → (if b then Some s else None) ≡ Some q → s ≡ q
+    go true e = cc
+    go false e = absurd (let z : ⊥ = cc in z)
+begun_same k s q _ e = absurd (let z : ⊥ = cc in z)
 
-pub sound_along : (has : Commands) (o : Origin) (k : ℕ) (es : List Event) → IsSound k (after has o [] es)
+start_by : (o : Origin) (h : History) (k : ℕ) (body : CommandBody) (n : List ℕ) (reply : ReplyBody) (q : StartAuth)
+    → action (present o h) body n ≡ Ok reply → begun k body reply ≡ Some q → HasLength q
+start_by o h k (bodies.StartAuthSession s) n reply q e b =
+    let short = nat_lt (length s.nonce_caller) 16 in
+    let f = bind_ok (refuse (short || nat_lt (digest_len s.auth_hash) (length s.nonce_caller)) (rc_size + of_parameter 1)) _ reply e in
+    let g = both_passed short (nat_lt (digest_len s.auth_hash) (length s.nonce_caller)) (rc_size + of_parameter 1) f.1 in
+    subst HasLength (begun_same k s q reply b) (enough_and_few (length s.nonce_caller) (digest_len s.auth_hash) g.0 g.1 (digest_short s.auth_hash))
+start_by o h k _ n reply q e b = absurd (let z : ⊥ = cc in z)
+
+pub sound_along : (has : CommandSet) (o : Origin) (k : ℕ) (es : List Event) → IsSound k (after has o [] es)
 sound_along has o k es = along (IsSound k) has o
-    (λ h bytes n d s f. sound_by (begins k d.command.body d.reply.body) (lives k h) (clears k d.command.body || closes k d.command.auths.items)
-    (started_by d.command.body n (start_of k h)) (start_of k h) (λ b. start_by o h k d.command.body n d.reply.body (start_of k h) s.act b) f)
+    (λ h bytes n d s f. sound_by (begun k d.command.body d.reply.body) (lives k h) (clears k d.command.body || closes k d.command.auths.items)
+    n (start_of k h) (λ q b. start_by o h k d.command.body n d.reply.body q s.act b) f)
     (λ h f l. absurd (let z : ⊥ = cc in z)) es [] (λ l. absurd (let z : ⊥ = cc in z))
 
 -- what a session that is loaded tells
@@ -154,8 +168,8 @@ of_kind handle (Some y) s e = go (is_handle_of handle y) e
     go true e = e
     go false e = absurd (let z : ⊥ = cc in z)
 
-pub held : (o : Origin) (handle : ℕ) (h : History) (s : Session) → IsSound (slot_of handle) h → loaded (session_at o h) handle ≡ Some s → Held (slot_of handle) h s.nonce
+pub held : (o : Origin) (handle : ℕ) (h : History) (s : Session) → IsSound (slot_of handle) h → loaded (sessions_at o h) handle ≡ Some s → Held (slot_of handle) h s.nonce
 held o handle h s f e =
     let k = slot_of handle in
-    let x = held_by o (lives k h) (start_of k h) (last_nonce k h) (assertions_of k h) s f (of_kind handle (session_at o h k) s e) in
+    let x = held_by o (lives k h) (start_of k h) (last_nonce k h) (assertions_of k h) s f (slot_of_session o h k s (of_kind handle (session_in (sessions_at o h) k) s e)).0 in
     record { live = x.0; long = length x.1.request.nonce_caller; enough = x.2.0; few = x.2.1; is = x.3 }

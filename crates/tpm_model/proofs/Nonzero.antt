@@ -5,7 +5,8 @@ use Rattle.tpm_wire.specs.declared.refusal.Refusal.{Refusal}
 use Rattle.tpm_wire.specs.Token.{Here, past, at_start, number_of, or_fault}
 use Rattle.tpm_wire.specs.Layout.Form.{done, number, text, field, area, list, by_left, marked}
 use Rattle.tpm_wire.specs.Reading.{read, read_all, finish, refuse, unless, found, entries, ◌>>=◌}
-use Rattle.tpm_wire.specs.Buffers.{buffer, Layout, number_in, too_few, insufficient, size_code}
+use Rattle.tpm_wire.specs.Buffers.{buffer, Layout, number_in, too_few}
+use Rattle.tpm_wire.specs.ResponseCodes.{rc_insufficient, rc_size}
 use Rattle.tpm_wire.specs.Structures.{sized_bytes, sized, counted}
 
 -- a fault, before a number is added
@@ -45,8 +46,8 @@ goes_on (Err e) f c d = c
 not_lacking : {A : Type 0} (mark at n left : ℕ) (h : Here) (next : Result A Refusal) → mark < 2 ^ 16 → IfRefused next → IfRefused (unless buffer (too_few mark at n left) mark h next)
 not_lacking mark at n left h next m c = go (nat_lt left n)
   where
-    go : (b : Bool) → IfRefused (unless buffer (if b then Some insufficient else None) mark h next)
-    go true = with_added insufficient mark (omega arith, omega arith) m
+    go : (b : Bool) → IfRefused (unless buffer (if b then Some rc_insufficient else None) mark h next)
+    go true = with_added rc_insufficient mark (omega arith, omega arith) m
     go false = c
 
 judged : {A : Type 0} (r : Result A ℕ) (n mark : ℕ) (h : Here) → mark < 2 ^ 16 → IfFault r → IfRefused (found buffer r n mark h)
@@ -90,7 +91,7 @@ pub read_all_coded : {A : Type 0} (l : Layout A) (bytes : List ℕ) → IsCoded 
 read_all_coded l bytes c =
     goes_on (read 0 l (at_start bytes) >>= finish buffer) (λ x. Ok x.0)
     (goes_on (read 0 l (at_start bytes)) (finish buffer) (read_coded 0 l (at_start bytes) (omega arith) c)
-    (λ x. at_end (length x.1.rest == 0) x size_code 0 x.1 (omega arith) (omega arith, omega arith)))
+    (λ x. at_end (length x.1.rest == 0) x rc_size 0 x.1 (omega arith) (omega arith, omega arith)))
     (λ x. tt)
 
 -- ---- kinds of layouts
@@ -111,12 +112,12 @@ coded_number meaning code c left n = of_meaning (meaning left n) code c
 
 pub coded_sized_bytes : (most : ℕ) → IsCoded (sized_bytes most)
 unfolding sized_bytes
-coded_sized_bytes most = (coded_in 2 (λ n. nat_le n most) size_code (omega arith, omega arith), λ n bytes. tt)
+coded_sized_bytes most = (coded_in 2 (λ n. nat_le n most) rc_size (omega arith, omega arith), λ n bytes. tt)
 
 pub coded_sized : {A : Type 0} (most : ℕ) (l : Layout A) → IsCoded l → IsCoded (sized most l)
 unfolding sized
-coded_sized most l c = (coded_in 2 (λ n. nat_le n most) size_code (omega arith, omega arith), λ n. ((omega arith, omega arith), c))
+coded_sized most l c = (coded_in 2 (λ n. nat_le n most) rc_size (omega arith, omega arith), λ n. ((omega arith, omega arith), c))
 
 pub coded_counted : {A : Type 0} (least most : ℕ) (l : Layout A) → IsCoded l → IsCoded (counted least most l)
 unfolding counted
-coded_counted least most l c = (coded_in 4 (λ n. nat_le least n && nat_le n most) size_code (omega arith, omega arith), λ n before room. c)
+coded_counted least most l c = (coded_in 4 (λ n. nat_le least n && nat_le n most) rc_size (omega arith, omega arith), λ n before room. c)

@@ -8,6 +8,7 @@ use Rattle.tpm_wire.specs.Layout.Form.{done, number, text, field, area, list, by
 use Rattle.tpm_wire.specs.Token.{Here, at_start}
 use Rattle.tpm_wire.specs.Reading.{read, read_all, finish, ◌>>=◌}
 use Rattle.tpm_wire.specs.Spelling.{spelling}
+use Rattle.tpm_wire.specs.ResponseCodes.{rc_auth_context, rc_auth_missing}
 use Rattle.tpm_wire.proofs.Agreement.{bind_ok}
 use Rattle.tpm_types.specs.declared.tpms.Auth.{Auth}
 use Rattle.tpm_buffer.specs.declared.code.CommandCode.{CommandCode}
@@ -15,12 +16,11 @@ use Rattle.tpm_buffer.specs.declared.code.CommandCode.TheVariants as codes
 use Rattle.tpm_buffer.specs.declared.params.Params.{Params}
 use Rattle.tpm_buffer.specs.declared.params.Params.TheVariants as params
 use Rattle.tpm_buffer.specs.Handles.{needs_authorization}
-use Rattle.tpm_buffer.specs.Parameters.{nv_define_space, startup, nv_read, flush_context, policy_command_code, policy_or, start_auth_session, pcr_read, policy_pcr, pcr_extend, parameters, params_code}
+use Rattle.tpm_buffer.specs.Parameters.{nv_define_space, startup, nv_read, flush_context, policy_command_code, policy_or, start_auth_session, pcr_read, policy_pcr, pcr_extend, parameters, params_code, pcr_event}
 use Rattle.tpm_buffer.specs.Commands.{sessions, authorization_size, authorization, body_from, code_for}
-use Rattle.tpm_model.specs.Codes.{auth_missing_code, auth_context_code}
 use Rattle.tpm_model.specs.Present.{Present}
 use Rattle.tpm_model.specs.Authorization.{refuse as test}
-use Rattle.tpm_model.specs.Answers.{Commands, Done}
+use Rattle.tpm_model.specs.Answers.{CommandSet, Done}
 use Rattle.tpm_model.proofs.Accepted.{Passed}
 use Rattle.tpm_model.proofs.Spelled.{was_read, code_ok}
 use Rattle.tpm_model.proofs.Sealing.{okay, okay_is}
@@ -47,7 +47,7 @@ ends P mark (by_left f) h x p e = absurd p
 ends P mark (marked n l) h x p e = absurd p
 
 own_params : (code : CommandCode) → Ends (λ p. params_code p ≡ code) (parameters code)
-unfolding Ends nv_define_space startup nv_read flush_context policy_command_code policy_or start_auth_session pcr_read policy_pcr pcr_extend
+unfolding Ends nv_define_space startup nv_read flush_context policy_command_code policy_or start_auth_session pcr_read policy_pcr pcr_extend pcr_event
 own_params codes.NvDefineSpace = λ auth public. refl
 own_params codes.Startup = λ kind. refl
 own_params codes.NvRead = λ size offset. refl
@@ -58,6 +58,7 @@ own_params codes.StartAuthSession = λ nonce salt kind symmetric alg. refl
 own_params codes.PcrRead = λ selected. refl
 own_params codes.PolicyPcr = λ d selected. refl
 own_params codes.PcrExtend = λ digests. refl
+own_params codes.PcrEvent = λ event. refl
 own_params _ = refl
 
 params_are : (code : CommandCode) (bytes : List ℕ) (p : Params) → read_all (parameters code) bytes ≡ Ok p → params_code p ≡ code
@@ -73,7 +74,7 @@ again params.PolicyGetDigest hs = refl
 again _ hs = refl
 
 -- What was done is a command of the code that was read.
-pub own_code : (has : Commands) (p : Present) (bytes n : List ℕ) (d : Done) (s : Passed has p bytes n d) → code_for d.command.body ≡ s.x.code
+pub own_code : (has : CommandSet) (p : Present) (bytes n : List ℕ) (d : Done) (s : Passed has p bytes n d) → code_for d.command.body ≡ s.x.code
 own_code has p bytes n d s = ap code_for s.body ∙ again s.params s.x.handles ∙ params_are s.x.code s.x.params s.params (code_ok _ s.params s.read)
 
 -- ---- a session is there
@@ -90,13 +91,13 @@ passed_not : (b : Bool) (code : ℕ) → test b code ≡ Ok tt → b ≡ false
 passed_not true code e = absurd (let z : ⊥ = cc in z)
 passed_not false code e = refl
 
-needed : (needs : Bool) (t : ℕ) (h : Here) (a : Auth) (x : List Auth × Here) → (if needs then test (t == 0x8001) auth_missing_code else test (t == 0x8002) auth_context_code) ≡ Ok tt
+needed : (needs : Bool) (t : ℕ) (h : Here) (a : Auth) (x : List Auth × Here) → (if needs then test (t == 0x8001) rc_auth_missing else test (t == 0x8002) rc_auth_context) ≡ Ok tt
     → read 0 (authorization t) h ≡ Ok x → x.0 ≡ a ∷ [] → needs ≡ true
 needed true t h a x c r one = refl
 needed false t h a x c r one =
-    let none : [] ≡ a ∷ [] = sym (no_area t h x (passed_not (t == 0x8002) auth_context_code c) r) ∙ one in absurd (let z : ⊥ = cc in z)
+    let none : [] ≡ a ∷ [] = sym (no_area t h x (passed_not (t == 0x8002) rc_auth_context c) r) ∙ one in absurd (let z : ⊥ = cc in z)
 
-pub by_session_needs : (has : Commands) (p : Present) (bytes n : List ℕ) (d : Done) (s : Passed has p bytes n d) (a : Auth) → s.x.auths ≡ a ∷ [] → needs_authorization (code_for d.command.body) ≡ true
+pub by_session_needs : (has : CommandSet) (p : Present) (bytes n : List ℕ) (d : Done) (s : Passed has p bytes n d) (a : Auth) → s.x.auths ≡ a ∷ [] → needs_authorization (code_for d.command.body) ≡ true
 by_session_needs has p bytes n d s a one =
     let r = was_read has p bytes s.x s.asked in
     ap needs_authorization (own_code has p bytes n d s ∙ r.code)

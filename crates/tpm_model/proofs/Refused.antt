@@ -6,6 +6,7 @@ use Rattle.tpm_wire.specs.declared.refusal.Refusal.{Refusal}
 use Rattle.tpm_wire.specs.Buffers.{Layout, number_in, numbered}
 use Rattle.tpm_wire.specs.Token.{Here, at_start}
 use Rattle.tpm_wire.specs.Reading.{read, read_all, ◌>>=◌}
+use Rattle.tpm_wire.specs.ResponseCodes.{rc_value, of_handle}
 use Rattle.tpm_wire.proofs.Agreement.{bind_ok}
 use Rattle.tpm_types.specs.declared.constants.StartupType.TheVariants.{Clear, State}
 use Rattle.tpm_types.specs.declared.handle_sets.PcrOrNull.TheVariants as registers
@@ -15,7 +16,6 @@ use Rattle.tpm_types.specs.declared.handle_sets.NvAuthHandle.{NvAuthHandle}
 use Rattle.tpm_types.specs.declared.tpms.Auth.{Auth}
 use Rattle.tpm_types.specs.declared.tpms.NvPublic.{NvPublic}
 use Rattle.tpm_types.specs.Alg.{digest_len}
-use Rattle.tpm_types.specs.Codes.{value_code}
 use Rattle.tpm_types.specs.Handles.{rs_pw, is_policy, is_nv_index}
 use Rattle.tpm_types.specs.Tpma.{no_da, audits_or_encrypts, owner_writes, owner_reads}
 use Rattle.tpm_buffer.specs.declared.handles.HandleKind.{HandleKind}
@@ -26,17 +26,17 @@ use Rattle.tpm_buffer.specs.declared.command.CommandBody.TheVariants as bodies
 use Rattle.tpm_buffer.specs.declared.command.StartAuth.{StartAuth}
 use Rattle.tpm_buffer.specs.declared.response.ReplyBody.{ReplyBody}
 use Rattle.tpm_buffer.specs.Codes.{code_number}
-use Rattle.tpm_buffer.specs.Handles.{admits, handle, first, handle_kinds, handles_from, handles, needs_authorization}
+use Rattle.tpm_buffer.specs.Handles.{admits, first, handle_kinds, handles_from, handles, needs_authorization}
 use Rattle.tpm_buffer.specs.Parameters.{parameters}
 use Rattle.tpm_buffer.specs.Commands.{header, authorization, body_from}
 use Rattle.tpm_hmac.specs.Sessions.{trim}
 use Rattle.tpm_model.specs.Sessions.{Session, is_hmac, is_trial, loaded, free_slot}
-use Rattle.tpm_model.specs.Counters.{Counter, next_value}
+use Rattle.tpm_model.specs.Counters.{Counter, counter_in, next_value}
 use Rattle.tpm_model.specs.Present.{Present}
 use Rattle.tpm_model.specs.Entities.{Entity, Register, Index, entity_of, names_of}
-use Rattle.tpm_model.specs.Authorization.{refuse, is_empty, differs, has_policy, Authorizer, Password, BySession, by_session, check_loaded, check_no_trial, check_no_nonce, check_session, check_auth, check_policy_allowed, check_policy, check_entity, proof_of, Proof, NotAsked, ByPassword, ByMac, failure, check_proof, first_loaded}
+use Rattle.tpm_model.specs.Authorization.{refuse, is_empty, differs, has_policy, Authorizer, Password, BySession, by_session, check_loaded, check_no_trial, check_no_nonce, check_session, check_auth, check_policy_allowed, check_policy, check_entity, evidence_of, Evidence, NotAsked, ByPassword, ByMac, failure, check_evidence, first_loaded}
 use Rattle.tpm_model.specs.Actions.{check_startup, check_extend, start_session, check_policy_pcr, is_definable, most_counters, counter_size, check_define, defined_counter, may, increment, read_counter, then_reply, action, policy_session}
-use Rattle.tpm_model.specs.Answers.{Commands, code_only, by_grammar, check_has, check_started, check_handle, check_handles, check_tag, Presented, proof_in, presented, permitted, performed, outcome}
+use Rattle.tpm_model.specs.Answers.{CommandSet, code_only, by_grammar, check_has, check_started, check_handle, check_handles, check_tag, Presented, evidence_in, presented, permitted, performed, outcome}
 use Rattle.tpm_model.proofs.Accepted.{ok_is}
 use Rattle.tpm_model.proofs.Nonzero.{IsAnswered, IfRefused, IsCoded, read_coded, read_all_coded}
 use Rattle.tpm_model.proofs.Coded.{coded_header, coded_handles, coded_authorization, coded_parameters}
@@ -105,7 +105,7 @@ same_list ns ms g h e = let both : (ns, g) ≡ (ms, h) = cc in ap (λ (x : List 
 as_many_kinds : (i : ℕ) (kinds : List HandleKind) (h : Here) (x : List ℕ × Here) → read 0 (handles_from i kinds) h ≡ Ok x → length x.0 ≡ length kinds
 as_many_kinds i [] h x e = ap length (sym (same_list [] x.0 h x.1 e))
 as_many_kinds i (kind ∷ kinds) h x e =
-    let a = bind_ok (read 0 (numbered (handle i) (number_in 4 (admits kind) value_code)) h) (λ y. read 0 (handles_from (i + 1) kinds) y.1 >>= λ z. handles_read (y.0 ∷ z.0) z.1) x e in
+    let a = bind_ok (read 0 (numbered (of_handle i) (number_in 4 (admits kind) rc_value)) h) (λ y. read 0 (handles_from (i + 1) kinds) y.1 >>= λ z. handles_read (y.0 ∷ z.0) z.1) x e in
     let b = bind_ok (read 0 (handles_from (i + 1) kinds) a.0.1) (λ z. handles_read (a.0.0 ∷ z.0) z.1) x a.2 in
     let rest = as_many_kinds (i + 1) kinds a.0.1 b.0 b.1 in
     ap length (sym (same_list (a.0.0 ∷ b.0.0) x.0 b.0.1 x.1 b.2)) ∙ ap suc rest
@@ -163,7 +163,7 @@ session_loaded handle s = one_of (handle == rs_pw) _ _ not_refused (found s)
     found None = with_code (omega arith, omega arith)
     found (Some s) = not_refused
 
-proof_found : (s : Option Session) (e : Entity) (code : CommandCode) (names : List (List ℕ)) (params : List ℕ) (n : ℕ) (auths : List Auth) → IfErr (proof_of s e code names params n auths)
+proof_found : (s : Option Session) (e : Entity) (code : CommandCode) (names : List (List ℕ)) (params : List ℕ) (n : ℕ) (auths : List Auth) → IfErr (evidence_of s e code names params n auths)
 proof_found s e code names params n [] = not_refused
 proof_found s e code names params n (a ∷ others) =
     next_too (check_loaded a.session s) _ (session_loaded a.session s) (λ by. next_too (check_session by a others) _ (session_checked by a others) (λ _. next_too (check_entity by e code n) _ (entity_checked by e code n) (λ _. not_refused)))
@@ -177,7 +177,7 @@ failure_is (Index public auth) = go (no_da public.attrs)
 failure_is Register = (omega arith, omega arith)
 failure_is _ = (omega arith, omega arith)
 
-proof_checked : (e : Entity) (x : Proof) → IfErr (check_proof e x)
+proof_checked : (e : Entity) (x : Evidence) → IfErr (check_evidence e x)
 proof_checked e NotAsked = not_refused
 proof_checked e (ByPassword given wanted) = tested _ _ (failure_is e)
 proof_checked e (ByMac x) = tested _ _ (failure_is e)
@@ -211,35 +211,36 @@ read_checked : (there : Option Counter) (by : NvAuthHandle) (i size offset : ℕ
 read_checked there by i size offset = next_too (defined_counter there) _ (looked_up there _ (omega arith, omega arith)) (λ c.
     test_first (not (may by (owner_reads c.public.attrs) i)) 0x149 _ (omega arith, omega arith) (λ _. next_too (ok_or c.value 0x14A) _ (looked_up c.value 0x14A (omega arith, omega arith)) (λ v. test_first (nat_lt counter_size (offset + size)) 0x146 _ (omega arith, omega arith) (λ _. not_refused {x = take size (drop offset (to_be_bytes w64 v))}))))
 
-start_session_checked : (session : ℕ → Option Session) (s : StartAuth) (n : List ℕ) → IfErr (start_session session s n)
-start_session_checked session s n =
-    test_first (nat_lt (length s.nonce_caller) 16 || nat_lt (digest_len s.auth_hash) (length s.nonce_caller)) 0x1D5 _ (omega arith, omega arith) (λ _. next_too (ok_or (free_slot session) 0x903) _ (looked_up (free_slot session) 0x903 (omega arith, omega arith)) (λ k. not_refused))
+start_session_checked : (sessions : List (Option Session)) (s : StartAuth) (n : List ℕ) → IfErr (start_session sessions s n)
+start_session_checked sessions s n =
+    test_first (nat_lt (length s.nonce_caller) 16 || nat_lt (digest_len s.auth_hash) (length s.nonce_caller)) 0x1D5 _ (omega arith, omega arith) (λ _. next_too (ok_or (free_slot sessions) 0x903) _ (looked_up (free_slot sessions) 0x903 (omega arith, omega arith)) (λ k. not_refused))
 
-in_policy : (p : Present) (handle : ℕ) (f : Session → Result ReplyBody ℕ) → ((s : Session) → IfErr (f s)) → IfErr (policy_session (loaded p.session handle) >>= f)
-in_policy p handle f c = next_too (policy_session (loaded p.session handle)) f (looked_up (loaded p.session handle) _ (omega arith, omega arith)) c
+in_policy : (p : Present) (handle : ℕ) (f : Session → Result ReplyBody ℕ) → ((s : Session) → IfErr (f s)) → IfErr (policy_session (loaded p.sessions handle) >>= f)
+in_policy p handle f c = next_too (policy_session (loaded p.sessions handle)) f (looked_up (loaded p.sessions handle) _ (omega arith, omega arith)) c
 
 acted : (p : Present) (body : CommandBody) (n : List ℕ) → IfErr (action p body n)
 acted p (bodies.Startup kind) n = replied _ _ (startup_checked kind)
 acted p (bodies.PcrExtend q digests) n = replied _ _ (extend_checked q)
+acted p (bodies.PcrEvent q event) n = replied _ _ (extend_checked q)
 acted p (bodies.PcrReset q) n = replied _ _ (tested _ _ (omega arith, omega arith))
 acted p (bodies.PcrRead sels) n = not_refused
-acted p (bodies.StartAuthSession start) n = start_session_checked p.session start n
+acted p (bodies.StartAuthSession start) n = start_session_checked p.sessions start n
 acted p (bodies.FlushContext handle) n = replied _ _ (tested _ _ (omega arith, omega arith))
 acted p (bodies.PolicyPcr handle d sels) n = in_policy p handle _ (λ s. replied _ _ (policy_pcr_checked s _ _ d))
 acted p (bodies.PolicyOr handle digests) n = in_policy p handle _ (λ s. replied _ _ (tested _ _ (omega arith, omega arith)))
 acted p (bodies.PolicyCommandCode handle code) n = in_policy p handle _ (λ s. replied _ _ (tested _ _ (omega arith, omega arith)))
-acted p (bodies.PolicyAuthValue handle) n = replied _ _ (looked_up (loaded p.session handle) _ (omega arith, omega arith))
-acted p (bodies.PolicyRestart handle) n = replied _ _ (looked_up (loaded p.session handle) _ (omega arith, omega arith))
+acted p (bodies.PolicyAuthValue handle) n = replied _ _ (looked_up (loaded p.sessions handle) _ (omega arith, omega arith))
+acted p (bodies.PolicyRestart handle) n = replied _ _ (looked_up (loaded p.sessions handle) _ (omega arith, omega arith))
 acted p (bodies.PolicyGetDigest handle) n = in_policy p handle _ (λ s. not_refused)
-acted p (bodies.NvDefineSpace auth public) n = replied _ _ (define_checked (p.counter public.index) p.counters auth public)
-acted p (bodies.NvUndefineSpace index) n = replied _ _ (looked_up (p.counter index) _ (omega arith, omega arith))
-acted p (bodies.NvIncrement by index) n = replied _ _ (increment_checked p.greatest (p.counter index) by index)
-acted p (bodies.NvRead by index size offset) n = next_too (read_counter (p.counter index) by index size offset) _ (read_checked (p.counter index) by index size offset) (λ _. not_refused)
-acted p (bodies.NvReadPublic index) n = next_too (defined_counter (p.counter index)) _ (looked_up (p.counter index) _ (omega arith, omega arith)) (λ _. not_refused)
+acted p (bodies.NvDefineSpace auth public) n = replied _ _ (define_checked (counter_in p.nv.counters public.index) (length p.nv.counters) auth public)
+acted p (bodies.NvUndefineSpace index) n = replied _ _ (looked_up (counter_in p.nv.counters index) _ (omega arith, omega arith))
+acted p (bodies.NvIncrement by index) n = replied _ _ (increment_checked p.nv.greatest (counter_in p.nv.counters index) by index)
+acted p (bodies.NvRead by index size offset) n = next_too (read_counter (counter_in p.nv.counters index) by index size offset) _ (read_checked (counter_in p.nv.counters index) by index size offset) (λ _. not_refused)
+acted p (bodies.NvReadPublic index) n = next_too (defined_counter (counter_in p.nv.counters index)) _ (looked_up (counter_in p.nv.counters index) _ (omega arith, omega arith)) (λ _. not_refused)
 
 -- ---- the whole
 
-was_presented : (has : Commands) (p : Present) (bytes : List ℕ) → IfErr (presented has p bytes)
+was_presented : (has : CommandSet) (p : Present) (bytes : List ℕ) → IfErr (presented has p bytes)
 was_presented has p bytes =
     next_too (by_grammar header (at_start bytes)) _ (grammar header (at_start bytes) coded_header) (λ head.
     next_too (check_has (has head.0.code)) _ (tested _ _ (omega arith, omega arith)) (λ _.
@@ -248,16 +249,16 @@ was_presented has p bytes =
     next_too (check_handles p 1 list.0) _ (handles_checked p 1 list.0 (omega arith) (few_handles head.0.code head.1 list is)) (λ _.
     next_too (check_tag head.0.code head.0.tag) _ (tag_checked head.0.code head.0.tag) (λ _.
     next_too (by_grammar (authorization head.0.tag) list.1) _ (grammar (authorization head.0.tag) list.1 (coded_authorization head.0.tag)) (λ auths.
-    next_too (proof_in p head.0.code list.0 auths.1.rest auths.0) _
-    (proof_found (first_loaded (loaded p.session) auths.0) (entity_of p (first list.0)) head.0.code (names_of p list.0) auths.1.rest p.update_counter auths.0) (λ _. not_refused))))))))
+    next_too (evidence_in p head.0.code list.0 auths.1.rest auths.0) _
+    (proof_found (first_loaded (loaded p.sessions) auths.0) (entity_of p (first list.0)) head.0.code (names_of p list.0) auths.1.rest p.registers.update_counter auths.0) (λ _. not_refused))))))))
 
-was_permitted : (has : Commands) (p : Present) (bytes : List ℕ) → IfErr (permitted has p bytes)
-was_permitted has p bytes = next_too (presented has p bytes) _ (was_presented has p bytes) (λ x. next_too (check_proof x.entity x.proof) _ (proof_checked x.entity x.proof) (λ _. not_refused))
+was_permitted : (has : CommandSet) (p : Present) (bytes : List ℕ) → IfErr (permitted has p bytes)
+was_permitted has p bytes = next_too (presented has p bytes) _ (was_presented has p bytes) (λ x. next_too (check_evidence x.entity x.evidence) _ (proof_checked x.entity x.evidence) (λ _. not_refused))
 
 was_performed : (p : Present) (n : List ℕ) (x : Presented) → IfErr (performed p n x)
 was_performed p n x =
     next_too (code_only (read_all (parameters x.code) x.params)) _ (of_code (read_all (parameters x.code) x.params) (read_all_coded (parameters x.code) x.params (coded_parameters x.code)))
     (λ params. next_too (action p (body_from x.handles params) n) _ (acted p (body_from x.handles params) n) (λ _. not_refused))
 
-pub refused_with : (has : Commands) (p : Present) (bytes n : List ℕ) (code : ℕ) → outcome has p bytes n ≡ Err code → IsAnswered code
+pub refused_with : (has : CommandSet) (p : Present) (bytes n : List ℕ) (code : ℕ) → outcome has p bytes n ≡ Err code → IsAnswered code
 refused_with has p bytes n code e = its_code (subst IfErr e (next_too (permitted has p bytes) (performed p n) (was_permitted has p bytes) (λ x. was_performed p n x)))

@@ -26,11 +26,11 @@ use Rattle.tpm_model.specs.Steps.{History, Accepted, PowerCycle, Origin}
 use Rattle.tpm_model.specs.Sessions.{Session, slot_of, loaded, lives, last_nonce, begins, authorizes}
 use Rattle.tpm_model.specs.Present.{Present, present}
 use Rattle.tpm_model.specs.Entities.{Entity, entity_of, names_of}
-use Rattle.tpm_model.specs.Authorization.{refuse, is_empty, Password, BySession, by_session, check_loaded, check_session, check_entity, proof_by, proof_of, check_proof, first_loaded, failure, Signed, command_text, needs_none, is_signed, key_for, Proof, ByMac}
-use Rattle.tpm_model.specs.Answers.{Commands, Presented, presented, Done, next}
+use Rattle.tpm_model.specs.Authorization.{refuse, is_empty, Password, BySession, by_session, check_loaded, check_session, check_entity, evidence_by, evidence_of, check_evidence, first_loaded, failure, Signed, command_text, needs_none, is_signed, key_for, Evidence, ByMac}
+use Rattle.tpm_model.specs.Answers.{CommandSet, Presented, presented, Done, next}
 use Rattle.tpm_model.specs.Runs.{Event, after}
 use Rattle.tpm_model.specs.Runs.Event.{Given, Cycled}
-use Rattle.tpm_model.specs.Premises.{IsAccepted, IsSealed, nonces, IsAmong, AreApart, NoncesDiffer, least_nonce, Keyed, keyed, mac_of, text_in, text_checked, texts_checked, NoCollision}
+use Rattle.tpm_model.specs.Premises.{IsAccepted, HasSessionMac, nonces, IsAmong, AreApart, NoncesDiffer, least_nonce, Keyed, keyed, mac_of, text_in, text_checked, texts_checked, NoCollision}
 use Rattle.tpm_model.proofs.Accepted.{Passed, passed, ok_is, next_is}
 use Rattle.tpm_model.proofs.Runs.{after-append}
 use Rattle.tpm_model.proofs.Spelled.{was_read, spelled_by}
@@ -43,18 +43,18 @@ no_password n s = elim (n == rs_pw) as (λ b. (n == rs_pw) ≡ b → b ≡ false
     [ true ↦ λ e. let same : n ≡ rs_pw = grind (arith, nat_tests) in absurd (let bad : is_session rs_pw ≡ true = subst (λ m. is_session m ≡ true) same s in let z : ⊥ = cc in z) | false ↦ λ e. refl ] refl
 
 -- a session's command proves itself by the HMAC of that session
-pub by_its_session : (s : Option Session) (e : Entity) (code : CommandCode) (names : List (List ℕ)) (params : List ℕ) (update_counter : ℕ) (a : Auth) (others : List Auth) (proof : Proof)
-    → is_session a.session ≡ true → proof_of s e code names params update_counter (a ∷ others) ≡ Ok proof
-    → (y : Session) × (s ≡ Some y) × (proof ≡ ByMac (record { session = y; key = key_for y e; p_hash = cp_hash y.hash (code_number code) names params; auth = a }))
-by_its_session None e code names params update_counter a others proof is p =
-    let b = bind_ok (check_loaded a.session None) _ proof p in
+pub by_its_session : (s : Option Session) (e : Entity) (code : CommandCode) (names : List (List ℕ)) (params : List ℕ) (update_counter : ℕ) (a : Auth) (others : List Auth) (evidence : Evidence)
+    → is_session a.session ≡ true → evidence_of s e code names params update_counter (a ∷ others) ≡ Ok evidence
+    → (y : Session) × (s ≡ Some y) × (evidence ≡ ByMac (record { session = y; key = key_for y e; p_hash = cp_hash y.hash (code_number code) names params; auth = a }))
+by_its_session None e code names params update_counter a others evidence is p =
+    let b = bind_ok (check_loaded a.session None) _ evidence p in
     absurd (let c : by_session None ≡ Ok b.0 = subst (λ t. (if t then Ok Password else by_session None) ≡ Ok b.0) (no_password a.session is) b.1 in let z : ⊥ = cc in z)
-by_its_session (Some y) e code names params update_counter a others proof is p =
-    let b = bind_ok (check_loaded a.session (Some y)) _ proof p in
+by_its_session (Some y) e code names params update_counter a others evidence is p =
+    let b = bind_ok (check_loaded a.session (Some y)) _ evidence p in
     let by : BySession y ≡ b.0 = ok_is (BySession y) b.0 (subst (λ t. (if t then Ok Password else by_session (Some y)) ≡ Ok b.0) (no_password a.session is) b.1) in
-    let c = bind_ok (check_session b.0 a others) _ proof b.2 in
-    let d = bind_ok (check_entity b.0 e code update_counter) _ proof c.2 in
-    (y, refl, sym (ap (λ x. proof_by x e code names params a) by ∙ ok_is (proof_by b.0 e code names params a) proof d.2))
+    let c = bind_ok (check_session b.0 a others) _ evidence b.2 in
+    let d = bind_ok (check_entity b.0 e code update_counter) _ evidence c.2 in
+    (y, refl, sym (ap (λ x. evidence_by x e code names params a) by ∙ ok_is (evidence_by b.0 e code names params a) evidence d.2))
 
 pub some_bytes : (bytes : List ℕ) → 0 < length bytes → is_empty bytes ≡ false
 some_bytes [] p = absurd (omega arith)
@@ -71,20 +71,20 @@ refused_not false code e = absurd (let z : ⊥ = cc in z)
 -- a sealed command that was accepted
 pub record WasSigned (p : Present) (bytes : List ℕ) (x : Presented) (a : Auth) : Type 0 where
   pub signed : Signed
-  pub is : loaded p.session a.session ≡ Some signed.session
+  pub is : loaded p.sessions a.session ≡ Some signed.session
   pub hashed : List ℕ
   pub text_is : command_text signed ≡ mac_text (digest signed.session.hash hashed) a.nonce signed.session.nonce a.attrs
   pub mac : a.hmac ≡ mac_of (keyed signed)
-  pub text : text_in x.proof ≡ keyed signed ∷ []
+  pub text : text_in x.evidence ≡ keyed signed ∷ []
 
-by_mac : (e : Entity) (x : Signed) → 0 < length x.auth.hmac → check_proof e (ByMac x) ≡ Ok tt → x.auth.hmac ≡ mac_of (keyed x)
+by_mac : (e : Entity) (x : Signed) → 0 < length x.auth.hmac → check_evidence e (ByMac x) ≡ Ok tt → x.auth.hmac ≡ mac_of (keyed x)
 by_mac e x some c =
     let none : needs_none x ≡ false = both_false (is_empty x.key) (is_empty x.auth.hmac) (some_bytes x.auth.hmac some) in
     let mac = hmac x.session.hash x.key (command_text x) in
     let same : bytes_eq x.auth.hmac mac ≡ true = subst (λ t. (if t then true else bytes_eq x.auth.hmac mac) ≡ true) none (refused_not (is_signed x) (failure e) c) in
     (bytes_eq-Decides x.auth.hmac mac).0 same
 
-was_signed : (has : Commands) (p : Present) (bytes n : List ℕ) (d : Done) (a : Auth) (s : Passed has p bytes n d)
+was_signed : (has : CommandSet) (p : Present) (bytes n : List ℕ) (d : Done) (a : Auth) (s : Passed has p bytes n d)
     → d.command.auths.items ≡ a ∷ [] → is_session a.session ≡ true → 0 < length a.hmac → WasSigned p bytes s.x a
 was_signed has p bytes n d a s one is some =
     let x = s.x in
@@ -92,11 +92,11 @@ was_signed has p bytes n d a s one is some =
     let auths : x.auths ≡ a ∷ [] = sym s.auths ∙ one in
     let e = entity_of p (first x.handles) in
     let names = names_of p x.handles in
-    let proof : proof_of (loaded p.session a.session) e x.code names x.params p.update_counter (a ∷ []) ≡ Ok x.proof =
-    subst (λ l. proof_of (first_loaded (loaded p.session) l) e x.code names x.params p.update_counter l ≡ Ok x.proof) auths r.proof in
-    let y = by_its_session (loaded p.session a.session) e x.code names x.params p.update_counter a [] x.proof is proof in
+    let evidence : evidence_of (loaded p.sessions a.session) e x.code names x.params p.registers.update_counter (a ∷ []) ≡ Ok x.evidence =
+    subst (λ l. evidence_of (first_loaded (loaded p.sessions) l) e x.code names x.params p.registers.update_counter l ≡ Ok x.evidence) auths r.evidence in
+    let y = by_its_session (loaded p.sessions a.session) e x.code names x.params p.registers.update_counter a [] x.evidence is evidence in
     let signed : Signed = record { session = y.0; key = key_for y.0 e; p_hash = cp_hash y.0.hash (code_number x.code) names x.params; auth = a } in
-    let checked : check_proof x.entity (ByMac signed) ≡ Ok tt = subst (λ q. check_proof x.entity q ≡ Ok tt) y.2 s.proof in
+    let checked : check_evidence x.entity (ByMac signed) ≡ Ok tt = subst (λ q. check_evidence x.entity q ≡ Ok tt) y.2 s.evidence in
     let none : needs_none signed ≡ false = both_false (is_empty signed.key) (is_empty a.hmac) (some_bytes a.hmac some) in
     record {
       signed = signed;
@@ -113,7 +113,7 @@ pub among_later : {A : Type 0} (x : A) (xs ys : List A) → IsAmong x ys → IsA
 among_later x [] ys i = i
 among_later x (y ∷ xs) ys i = inr (among_later x xs ys i)
 
-pub among_here : (has : Commands) (o : Origin) (h : History) (es fs : List Event) (bytes n : List ℕ) (x : Keyed)
+pub among_here : (has : CommandSet) (o : Origin) (h : History) (es fs : List Event) (bytes n : List ℕ) (x : Keyed)
     → text_checked (presented has (present o (after has o h es)) bytes) ≡ x ∷ [] → IsAmong x (texts_checked has o h (es ++ Given bytes n ∷ fs))
 among_here has o h [] fs bytes n x e = subst (λ xs. IsAmong x (xs ++ texts_checked has o (next has o h bytes n) fs)) (sym e) (inl refl)
 among_here has o h (Given b m ∷ es) fs bytes n x e =
@@ -144,7 +144,7 @@ pub its_slot : (a : Auth) → is_session a.session ≡ true → authorizes (slot
 its_slot a is = rw is (let same : (slot_of a.session == slot_of a.session) ≡ true = grind (arith, nat_tests) in same)
 
 -- The nonce of the session's last step before the first use differs from that before the second.
-uses_apart : (has : Commands) (o : Origin) (es fs : List Event) (k : ℕ) (n : List ℕ) (g : History) → lives k (after has o [] es) ≡ true
+uses_apart : (has : CommandSet) (o : Origin) (es fs : List Event) (k : ℕ) (n : List ℕ) (g : History) → lives k (after has o [] es) ≡ true
     → (lives k g ≡ true → last_nonce k g ≡ n) → lives k (after has o g fs) ≡ true → AreApart (nonces es ++ n ∷ nonces fs)
     → take least_nonce (last_nonce k (after has o [] es)) ≢ take least_nonce (last_nonce k (after has o g fs))
 uses_apart has o es fs k n g before start live differ =
@@ -170,7 +170,7 @@ one_nonce p q bytes other x y a v w one_text =
     same_older (digest s.hash v.hashed) (digest t.hash w.hashed) a.nonce s.nonce t.nonce a.attrs lengths (sym v.text_is ∙ one_text ∙ w.text_is)
 
 -- One command with an HMAC is not accepted twice.
-pub twice_as : (has : Commands) (o : Origin) (es fs gs : List Event) (bytes other n m : List ℕ) (c : Command) (a : Auth)
+pub twice_as : (has : CommandSet) (o : Origin) (es fs gs : List Event) (bytes other n m : List ℕ) (c : Command) (a : Auth)
     → NoncesDiffer (es ++ Given bytes n ∷ fs ++ Given other m ∷ gs) → NoCollision has o (es ++ Given bytes n ∷ fs ++ Given other m ∷ gs)
     → Spells command c bytes → Spells command c other → c.auths.items ≡ a ∷ [] → is_session a.session ≡ true → 0 < length a.hmac
     → IsAccepted has o (after has o [] es) bytes n → IsAccepted has o (after has o [] (es ++ Given bytes n ∷ fs)) other m → ⊥
@@ -200,7 +200,7 @@ twice_as has o es fs gs bytes other n m c a differ apart spells others one is so
     (subst (λ (l : History). lives k l ≡ true) there y.live) (first_nonces es fs gs bytes other n m differ)
     (front ∙ ap (λ (l : History). take least_nonce (last_nonce k l)) there)
 
-pub twice : (has : Commands) (o : Origin) (es fs gs : List Event) (bytes n m : List ℕ)
-    → NoncesDiffer (es ++ Given bytes n ∷ fs ++ Given bytes m ∷ gs) → NoCollision has o (es ++ Given bytes n ∷ fs ++ Given bytes m ∷ gs) → IsSealed bytes
+pub twice : (has : CommandSet) (o : Origin) (es fs gs : List Event) (bytes n m : List ℕ)
+    → NoncesDiffer (es ++ Given bytes n ∷ fs ++ Given bytes m ∷ gs) → NoCollision has o (es ++ Given bytes n ∷ fs ++ Given bytes m ∷ gs) → HasSessionMac bytes
     → IsAccepted has o (after has o [] es) bytes n → IsAccepted has o (after has o [] (es ++ Given bytes n ∷ fs)) bytes m → ⊥
 twice has o es fs gs bytes n m differ apart (c, a, spells, one, is, some) = twice_as has o es fs gs bytes bytes n m c a differ apart spells spells one is some

@@ -2,11 +2,12 @@
 use Rattle.std.proofs.Common.{◌≡◌, ℕ, List, [], length, take, Result, Ok, Some, None, Option, Bool, true, false, refl, sym, ap, ◌∙◌, subst}
 use Rattle.std.specs.Prelude.{◌==◌, if◌then◌else◌}
 use Rattle.tpm_wire.specs.declared.refusal.Refusal.{Refusal}
-use Rattle.tpm_wire.specs.Buffers.{buffer, Layout, size_code}
+use Rattle.tpm_wire.specs.Buffers.{buffer, Layout}
 use Rattle.tpm_wire.specs.Layout.{Form, either}
 use Rattle.tpm_wire.specs.Layout.Form.{area}
 use Rattle.tpm_wire.specs.Token.{Here, past, at_start, number_of, or_fault}
 use Rattle.tpm_wire.specs.Reading.{read, read_all, finish, refuse, unless, ◌>>=◌}
+use Rattle.tpm_wire.specs.ResponseCodes.{rc_size}
 use Rattle.tpm_wire.proofs.Agreement.{bind_ok, number_ok}
 use Rattle.tpm_wire.proofs.Buffers.{buffer_sound}
 use Rattle.tpm_types.specs.declared.tpms.AuthReply.{AuthReply}
@@ -47,11 +48,11 @@ behind_room : {A : Type 0} (o : Option ℕ) (h : Here) (next : Result A Refusal)
 behind_room None h next x e = e
 behind_room (Some fault) h next x e = absurd (let z : ⊥ = cc in z)
 
-at_end : {A : Type 0} (b : Bool) (y x : A × Here) (n : ℕ) (h : Here) → (if b then okay {E = Refusal} (y.0, past n h) else refuse buffer 0 size_code y.1) ≡ Ok x → x.1 ≡ past n h
+at_end : {A : Type 0} (b : Bool) (y x : A × Here) (n : ℕ) (h : Here) → (if b then okay {E = Refusal} (y.0, past n h) else refuse buffer 0 rc_size y.1) ≡ Ok x → x.1 ≡ past n h
 at_end true y x n h e = sym (ap (λ (z : _ × Here). z.1) (okay_is {E = Refusal} (y.0, past n h) x e))
 at_end false y x n h e = absurd (let z : ⊥ = cc in z)
 
-area_past : {A : Type 0} (n : ℕ) (l : Layout A) (h : Here) (x : A × Here) → read 0 (area n size_code l) h ≡ Ok x → x.1 ≡ past n h
+area_past : {A : Type 0} (n : ℕ) (l : Layout A) (h : Here) (x : A × Here) → read 0 (area n rc_size l) h ≡ Ok x → x.1 ≡ past n h
 area_past n l h x e =
     let inside = behind_room (buffer.lacks 0 h.at n (length h.rest)) h _ x e in
     let a = bind_ok (read 0 l (record { rest = take n h.rest; at = h.at })) _ x inside in
@@ -64,7 +65,7 @@ with_listed : (l : Layout ReplyBody) (h : Here) (x : Reply × Here) → read 0 (
 unfolding with_sessions
 with_listed l h x e =
     let a = bind_ok (read 0 parameter_size h) _ x e in
-    let b = bind_ok (read 0 (area a.0.0 size_code l) a.0.1) _ x a.2 in
+    let b = bind_ok (read 0 (area a.0.0 rc_size l) a.0.1) _ x a.2 in
     let c = bind_ok (read 0 reply_sessions b.0.1) _ x b.2 in
     let same = okay_is {E = Refusal} (reply_at b.0.0 c.0.0 c.0.1) x c.2 in
     let there = area_past a.0.0 l a.0.1 b.0 b.1 in
@@ -115,7 +116,7 @@ code_listed code t n h body auths g needs e = go (n == 0) e
 pub finished : {A : Type 0} (x y : A × Here) → finish buffer x ≡ Ok y → x ≡ y
 finished x y e = go (length x.1.rest == 0) e
   where
-    go : (b : Bool) → (if b then okay {E = Refusal} x else refuse buffer 0 size_code x.1) ≡ Ok y → x ≡ y
+    go : (b : Bool) → (if b then okay {E = Refusal} x else refuse buffer 0 rc_size x.1) ≡ Ok y → x ≡ y
     go true e = okay_is {E = Refusal} x y e
     go false e = absurd (let z : ⊥ = cc in z)
 

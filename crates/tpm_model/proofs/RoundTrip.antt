@@ -10,7 +10,7 @@ use Rattle.tpm_wire.proofs.Buffers.{buffer_sound}
 use Rattle.tpm_wire.proofs.Whole.{exactly_one, spells_read}
 use Rattle.tpm_types.specs.declared.tpms.AuthReply.{AuthReply}
 use Rattle.tpm_types.specs.declared.alg.Alg.{Alg}
-use Rattle.tpm_types.specs.declared.alg.Alg.TheVariants.{Sha1, Sha256}
+use Rattle.tpm_types.specs.declared.alg.Alg.TheVariants.{Sha1, Sha256, Sha384}
 use Rattle.tpm_types.specs.Alg.{digest_len}
 use Rattle.tpm_types.specs.Tpma.{is_session_attrs}
 use Rattle.tpm_buffer.specs.declared.code.CommandCode.{CommandCode}
@@ -25,11 +25,11 @@ use Rattle.tpm_buffer.proofs.Answered.{code_text, code_spelled}
 use Rattle.tpm_hmac.specs.Hmac.{hmac}
 use Rattle.tpm_hmac.proofs.DigestLengths.{length-hmac}
 use Rattle.tpm_model.specs.Steps.{History, Origin}
-use Rattle.tpm_model.specs.Sessions.{Session, loaded, session_at}
+use Rattle.tpm_model.specs.Sessions.{Session, loaded, sessions_at}
 use Rattle.tpm_model.specs.Present.{Present, present}
-use Rattle.tpm_model.specs.Authorization.{check_proof, reply_text, reply_auths}
+use Rattle.tpm_model.specs.Authorization.{check_evidence, reply_text, reply_auths}
 use Rattle.tpm_model.specs.Actions.{action}
-use Rattle.tpm_model.specs.Answers.{Commands, Presented, presented, Done, outcome, answered, answer, next, with_outcome, reply_params}
+use Rattle.tpm_model.specs.Answers.{CommandSet, Presented, presented, Done, outcome, answered, answer, next, with_outcome, reply_params}
 use Rattle.tpm_model.specs.InStep.{Agrees, InStep}
 use Rattle.tpm_model.specs.Callers.{Seal, attrs_for, seal_key, seal_auth, sealed_command, sealed, Waiting, waiting, CallerFault, Code, Opened, awaited_text, caller_after, opened_session, opened_response, opened, caller_of_refusal, given_up}
 use Rattle.tpm_model.specs.Premises.{HasSpelling, IsPresent, nonce_bytes, most_nonce, IsReady, rolled, opened_as}
@@ -50,10 +50,10 @@ replied s body n = record {
   hmac = hmac s.caller.hash (seal_key s) (reply_text s.caller.hash (code_for s.body) (reply_params body) (take (length s.caller.nonce) n) s.nonce (attrs_for s.keep));
 }
 
-reply_is : (p : Present) (s : Seal) (x : Presented) (m : Met p s x) (body : ReplyBody) (n : List ℕ) → reply_auths x.proof x.code (reply_params body) n ≡ replied s body n ∷ []
-reply_is p s x m body n = rw (m.proof, met_needs p s x m, m.agrees.hash, m.key, m.auth, m.code, m.agrees.length) refl
+reply_is : (p : Present) (s : Seal) (x : Presented) (m : Met p s x) (body : ReplyBody) (n : List ℕ) → reply_auths x.evidence x.code (reply_params body) n ≡ replied s body n ∷ []
+reply_is p s x m body n = rw (m.evidence, met_needs p s x m, m.agrees.hash, m.key, m.auth, m.code, m.agrees.length) refl
 
-pub record Trip (has : Commands) (p : Present) (s : Seal) (n : List ℕ) (d : Done) : Type 0 where
+pub record Trip (has : CommandSet) (p : Present) (s : Seal) (n : List ℕ) (d : Done) : Type 0 where
   pub done : Passed has p (sealed s) n d
   pub met : Met p s done.x
   pub command : d.command ≡ sealed_command s
@@ -63,7 +63,7 @@ pub record Trip (has : Commands) (p : Present) (s : Seal) (n : List ℕ) (d : Do
 abbrev with_replies : ReplyBody → List AuthReply → Reply
 with_replies body auths = record { body = body; auths = auths }
 
-trip : (has : Commands) (p : Present) (s : Seal) (n : List ℕ) (d : Done) (y : Session) → HasSpelling s → loaded p.session s.caller.handle ≡ Some y → Agrees s.caller y → IsPresent p s
+trip : (has : CommandSet) (p : Present) (s : Seal) (n : List ℕ) (d : Done) (y : Session) → HasSpelling s → loaded p.sessions s.caller.handle ≡ Some y → Agrees s.caller y → IsPresent p s
     → outcome has p (sealed s) n ≡ Ok d → Trip has p s n d
 trip has p s n d y fits is agrees here e =
     let done = passed has p (sealed s) n d e in
@@ -89,9 +89,10 @@ keep_attrs : (keep : Bool) → is_session_attrs (attrs_for keep) ≡ true
 keep_attrs true = refl
 keep_attrs false = refl
 
-digest_short : (a : Alg) → digest_len a ≤ 32
+digest_short : (a : Alg) → digest_len a ≤ most_nonce
 digest_short Sha1 = omega arith
 digest_short Sha256 = omega arith
+digest_short Sha384 = omega arith
 
 open_is : (w : Waiting) (body : ReplyBody) (a : AuthReply) → length a.nonce ≡ length w.caller.nonce → a.hmac ≡ hmac w.caller.hash w.key (awaited_text w body a)
     → opened_session w body (a ∷ []) ≡ Ok (record { caller = caller_after w a; response = done_with (record { body = body; auths = a ∷ [] }) })
@@ -100,7 +101,7 @@ open_is w body a l m =
     let mac = (bytes_eq-Decides a.hmac (hmac w.caller.hash w.key (awaited_text w body a))).1 m in
     rw (long, mac) refl
 
-open_trip : (has : Commands) (o : Origin) (h : History) (s : Seal) (n : List ℕ) (d : Done) → length s.caller.nonce ≤ most_nonce → length n ≡ nonce_bytes
+open_trip : (has : CommandSet) (o : Origin) (h : History) (s : Seal) (n : List ℕ) (d : Done) → length s.caller.nonce ≤ most_nonce → length n ≡ nonce_bytes
     → outcome has (present o h) (sealed s) n ≡ Ok d → Trip has (present o h) s n d
     → opened (waiting s) (answer has o h (sealed s) n) ≡ Ok (opened_as s d n)
 open_trip has o h s n d short whole e t =
@@ -108,7 +109,7 @@ open_trip has o h s n d short whole e t =
     let a = replied s d.reply.body n in
     let r : Reply = record { body = d.reply.body; auths = a ∷ [] } in
     let long : length a.nonce ≡ length s.caller.nonce = omega (arith, length-take (length s.caller.nonce) n) in
-    let mac_short : length a.hmac ≤ 32 = omega (arith, digest_short s.caller.hash, length-hmac s.caller.hash (seal_key s) (reply_text s.caller.hash (code_for s.body) (reply_params d.reply.body) (take (length s.caller.nonce) n) s.nonce (attrs_for s.keep))) in
+    let mac_short : length a.hmac ≤ most_nonce = omega (arith, digest_short s.caller.hash, length-hmac s.caller.hash (seal_key s) (reply_text s.caller.hash (code_for s.body) (reply_params d.reply.body) (take (length s.caller.nonce) n) s.nonce (attrs_for s.keep))) in
     let bytes_are : answer has o h (sealed s) n ≡ spelling (response (code_for s.body)) (done_with r) =
     ap answered e ∙ ap (λ (c : Command). spelling (response (code_for c.body)) (done_with d.reply)) t.command ∙ ap (λ (q : Reply). spelling (response (code_for s.body)) (done_with q)) t.reply in
     let read_it = ap (read_all (response (code_for s.body))) bytes_are ∙ read_again_as s.body d.reply.body a t.own (omega arith) mac_short (keep_small s.keep) (keep_attrs s.keep) in
@@ -123,31 +124,31 @@ code_read code n some small =
 
 -- ---- the laws
 
-pub last_check : (has : Commands) (o : Origin) (h : History) (s : Seal) (x : Presented) → IsReady o h s → presented has (present o h) (sealed s) ≡ Ok x → check_proof x.entity x.proof ≡ Ok tt
+pub last_check : (has : CommandSet) (o : Origin) (h : History) (s : Seal) (x : Presented) → IsReady o h s → presented has (present o h) (sealed s) ≡ Ok x → check_evidence x.entity x.evidence ≡ Ok tt
 last_check has o h s x r asked =
     let i = r.in_step in passes (present o h) s x (met has (present o h) s x i.0 r.spelled i.1 i.2 r.present asked)
 
-pub opens : (has : Commands) (o : Origin) (h : History) (s : Seal) (n : List ℕ) (d : Done) → IsReady o h s → length s.caller.nonce ≤ most_nonce → length n ≡ nonce_bytes
+pub opens : (has : CommandSet) (o : Origin) (h : History) (s : Seal) (n : List ℕ) (d : Done) → IsReady o h s → length s.caller.nonce ≤ most_nonce → length n ≡ nonce_bytes
     → outcome has (present o h) (sealed s) n ≡ Ok d → opened (waiting s) (answer has o h (sealed s) n) ≡ Ok (opened_as s d n)
 opens has o h s n d r short whole e =
     let i = r.in_step in open_trip has o h s n d short whole e (trip has (present o h) s n d i.0 r.spelled i.1 i.2 r.present e)
 
-pub keeps : (has : Commands) (o : Origin) (h : History) (s : Seal) (n : List ℕ) (d : Done) → IsReady o h s → length s.caller.nonce ≤ most_nonce → length n ≡ nonce_bytes → s.keep ≡ true
+pub keeps : (has : CommandSet) (o : Origin) (h : History) (s : Seal) (n : List ℕ) (d : Done) → IsReady o h s → length s.caller.nonce ≤ most_nonce → length n ≡ nonce_bytes → s.keep ≡ true
     → outcome has (present o h) (sealed s) n ≡ Ok d → InStep o (next has o h (sealed s) n) (rolled s.caller n)
 keeps has o h s n d r short whole keep e =
     let i = r.in_step in
     let t = trip has (present o h) s n d i.0 r.spelled i.1 i.2 r.present e in
     let needs : needs_authorization (code_for d.command.body) ≡ true = ap (λ (c : Command). needs_authorization (code_for c.body)) t.command ∙ t.met.needs in
     subst (λ g. InStep o g (rolled s.caller n)) (sym (next_is has o h (sealed s) n d e))
-    (still o h s.caller i.0 d.command d.reply n (seal_auth s) i.1 i.2 (loaded_handle (session_at o h) s.caller.handle i.0 i.1) whole short needs (ap (λ (c : Command). c.auths.items) t.command) refl (ap attrs_for keep))
+    (still o h s.caller i.0 d.command d.reply n (seal_auth s) i.1 i.2 (loaded_handle (sessions_at o h) s.caller.handle i.0 i.1) whole short needs (ap (λ (c : Command). c.auths.items) t.command) refl (ap attrs_for keep))
 
 -- A refusal is read as its code, whatever it answers.
-pub refused_read : (has : Commands) (o : Origin) (h : History) (c : CommandCode) (bytes n : List ℕ) (code : ℕ) → outcome has (present o h) bytes n ≡ Err code → read_all (response c) (answer has o h bytes n) ≡ Ok (responses.Code code)
+pub refused_read : (has : CommandSet) (o : Origin) (h : History) (c : CommandCode) (bytes n : List ℕ) (code : ℕ) → outcome has (present o h) bytes n ≡ Err code → read_all (response c) (answer has o h bytes n) ≡ Ok (responses.Code code)
 refused_read has o h c bytes n code e =
     let k = refused_with has (present o h) bytes n code e in
     ap (λ (r : Result Done ℕ). read_all (response c) (answered r)) e ∙ code_read c code k.0 k.1
 
-pub stays : (has : Commands) (o : Origin) (h : History) (s : Seal) (n : List ℕ) (code : ℕ) → InStep o h s.caller → outcome has (present o h) (sealed s) n ≡ Err code
+pub stays : (has : CommandSet) (o : Origin) (h : History) (s : Seal) (n : List ℕ) (code : ℕ) → InStep o h s.caller → outcome has (present o h) (sealed s) n ≡ Err code
     → (opened (waiting s) (answer has o h (sealed s) n) ≡ Err (Code code)) × (given_up (waiting s) (answer has o h (sealed s) n) ≡ Some s.caller) × InStep o (next has o h (sealed s) n) s.caller
 stays has o h s n code i e =
     let read_it = refused_read has o h (code_for s.body) (sealed s) n code e in

@@ -9,6 +9,7 @@ use Rattle.tpm_wire.specs.Token.{Here, at_start}
 use Rattle.tpm_wire.specs.Reading.{read}
 use Rattle.tpm_wire.specs.Spelling.{spelling, Fits}
 use Rattle.tpm_wire.specs.Path.{Spells}
+use Rattle.tpm_wire.specs.ResponseCodes.{rc_auth_context, rc_auth_missing}
 use Rattle.tpm_wire.proofs.Buffers.{buffer_sound, buffer_roomy}
 use Rattle.tpm_wire.proofs.Again.{again, read_again}
 use Rattle.tpm_wire.proofs.Whole.{read_spells}
@@ -21,17 +22,16 @@ use Rattle.tpm_buffer.specs.Codes.{code_number}
 use Rattle.tpm_types.specs.declared.tpms.Auth.{Auth}
 use Rattle.tpm_types.specs.Handles.{is_session, is_hmac_session, is_policy}
 use Rattle.tpm_types.specs.declared.alg.Alg.{Alg}
-use Rattle.tpm_types.specs.declared.alg.Alg.TheVariants.{Sha1, Sha256}
+use Rattle.tpm_types.specs.declared.alg.Alg.TheVariants.{Sha1, Sha256, Sha384}
 use Rattle.tpm_types.specs.Alg.{digest_len}
 use Rattle.tpm_hmac.specs.Hmac.{hmac}
 use Rattle.tpm_hmac.specs.Sessions.{trim, whole_key, cp_hash, mac_text}
 use Rattle.tpm_hmac.proofs.DigestLengths.{length-hmac}
-use Rattle.tpm_model.specs.Sessions.{Session, loaded, slot_of, if_of_kind, is_handle_of, is_hmac}
+use Rattle.tpm_model.specs.Sessions.{Session, session_in, loaded, slot_of, if_of_kind, is_handle_of, is_hmac}
 use Rattle.tpm_model.specs.Present.{Present}
 use Rattle.tpm_model.specs.Entities.{Entity, entity_of, names_of}
-use Rattle.tpm_model.specs.Authorization.{refuse, is_empty, proof_of, check_proof, first_loaded, failure, Signed, command_text, needs_none, is_signed, follows, key_for, ByMac}
-use Rattle.tpm_model.specs.Codes.{auth_missing_code, auth_context_code}
-use Rattle.tpm_model.specs.Answers.{Commands, Presented, presented, check_tag}
+use Rattle.tpm_model.specs.Authorization.{refuse, is_empty, evidence_of, check_evidence, first_loaded, failure, Signed, command_text, needs_none, is_signed, follows, key_for, ByMac}
+use Rattle.tpm_model.specs.Answers.{CommandSet, Presented, presented, check_tag}
 use Rattle.tpm_model.specs.InStep.{CallerSession, Agrees}
 use Rattle.tpm_model.specs.Callers.{Seal, attrs_for, command_params, seal_key, seal_text, seal_auth, sealed_command, sealed}
 use Rattle.tpm_model.specs.Premises.{HasSpelling, asked_for, IsPresent}
@@ -100,8 +100,8 @@ of_handle handle (Some y) s e = go (is_handle_of handle y) refl e
     go false t e = absurd (let z : ⊥ = cc in z)
 
 -- The handle of a session that is loaded is a session's.
-pub loaded_handle : (session : ℕ → Option Session) (handle : ℕ) (s : Session) → loaded session handle ≡ Some s → is_session handle ≡ true
-loaded_handle session handle s e = of_handle handle (session (slot_of handle)) s e
+pub loaded_handle : (sessions : List (Option Session)) (handle : ℕ) (s : Session) → loaded sessions handle ≡ Some s → is_session handle ≡ true
+loaded_handle sessions handle s e = of_handle handle (session_in sessions (slot_of handle)) s e
 
 abbrev pub some : Session → Option Session
 some s = Some s
@@ -114,6 +114,7 @@ some_is s t e = cc
 pub digest_some : (a : Alg) → 0 < digest_len a
 digest_some Sha1 = omega arith
 digest_some Sha256 = omega arith
+digest_some Sha384 = omega arith
 
 pub hmac_some : (a : Alg) (key text : List ℕ) → 0 < length (hmac a key text)
 hmac_some a key text = omega (arith, length-hmac a key text, digest_some a)
@@ -121,8 +122,8 @@ hmac_some a key text = omega (arith, length-hmac a key text, digest_some a)
 -- what the device finds of a sealed command, before it compares the HMAC
 pub record Met (p : Present) (s : Seal) (x : Presented) : Type 0 where
   pub signed : Signed
-  pub proof : x.proof ≡ ByMac signed
-  pub is : loaded p.session s.caller.handle ≡ Some signed.session
+  pub evidence : x.evidence ≡ ByMac signed
+  pub is : loaded p.sessions s.caller.handle ≡ Some signed.session
   pub agrees : Agrees s.caller signed.session
   pub auth : signed.auth ≡ seal_auth s
   pub key : signed.key ≡ seal_key s
@@ -131,7 +132,7 @@ pub record Met (p : Present) (s : Seal) (x : Presented) : Type 0 where
   pub auths : x.auths ≡ seal_auth s ∷ []
   pub needs : needs_authorization (code_for s.body) ≡ true
 
-tagged : (needs : Bool) → (if needs then refuse false auth_missing_code else refuse true auth_context_code) ≡ Ok tt → needs ≡ true
+tagged : (needs : Bool) → (if needs then refuse false rc_auth_missing else refuse true rc_auth_context) ≡ Ok tt → needs ≡ true
 tagged true e = refl
 tagged false e = absurd (let z : ⊥ = cc in z)
 
@@ -142,7 +143,7 @@ one_text : (c : CallerSession) (y : Session) (code code' : CommandCode) (names n
     → mac_text (cp_hash y.hash (code_number code) names params) nonce y.nonce attrs ≡ mac_text (cp_hash c.hash (code_number code') names' params') nonce c.nonce attrs
 one_text c y code code' names names' params params' nonce attrs a k n q = rw (a.hash, k, n, q, a.nonce) refl
 
-pub met : (has : Commands) (p : Present) (s : Seal) (x : Presented) (y : Session) → HasSpelling s → loaded p.session s.caller.handle ≡ Some y → Agrees s.caller y → IsPresent p s
+pub met : (has : CommandSet) (p : Present) (s : Seal) (x : Presented) (y : Session) → HasSpelling s → loaded p.sessions s.caller.handle ≡ Some y → Agrees s.caller y → IsPresent p s
     → presented has p (sealed s) ≡ Ok x → Met p s x
 met has p s x y fits is agrees present asked =
     let c = sealed_command s in
@@ -160,16 +161,16 @@ met has p s x y fits is agrees present asked =
     let a = seal_auth s in
     let e = entity_of p (first x.handles) in
     let names = names_of p x.handles in
-    let proof : proof_of (loaded p.session a.session) e x.code names x.params p.update_counter (a ∷ []) ≡ Ok x.proof =
-    subst (λ l. proof_of (first_loaded (loaded p.session) l) e x.code names x.params p.update_counter l ≡ Ok x.proof) auths r.proof in
-    let found = by_its_session (loaded p.session a.session) e x.code names x.params p.update_counter a [] x.proof (loaded_handle p.session s.caller.handle y is) proof in
+    let evidence : evidence_of (loaded p.sessions a.session) e x.code names x.params p.registers.update_counter (a ∷ []) ≡ Ok x.evidence =
+    subst (λ l. evidence_of (first_loaded (loaded p.sessions) l) e x.code names x.params p.registers.update_counter l ≡ Ok x.evidence) auths r.evidence in
+    let found = by_its_session (loaded p.sessions a.session) e x.code names x.params p.registers.update_counter a [] x.evidence (loaded_handle p.sessions s.caller.handle y is) evidence in
     let one : found.0 ≡ y = some_is found.0 y (sym found.1 ∙ is) in
     let agree : Agrees s.caller found.0 = subst (Agrees s.caller) (sym one) agrees in
     let follow : trim s.auth ≡ trim (follows found.0 e) =
     present.auth ∙ ap (λ z. trim (asked_for z (entity_of p (first (handles_of s.body))))) found.1 ∙ ap (λ (l : List ℕ). trim (follows found.0 (entity_of p (first l)))) (sym list) in
     record {
       signed = record { session = found.0; key = key_for found.0 e; p_hash = cp_hash found.0.hash (code_number x.code) names x.params; auth = a };
-      proof = found.2;
+      evidence = found.2;
       is = found.1;
       agrees = agree;
       auth = refl;
@@ -194,8 +195,8 @@ signed_by : (b : Bool) (given wanted : List ℕ) → given ≡ wanted → (if b 
 signed_by true given wanted e = refl
 signed_by false given wanted e = (bytes_eq-Decides given wanted).1 e
 
-pub passes : (p : Present) (s : Seal) (x : Presented) → Met p s x → check_proof x.entity x.proof ≡ Ok tt
+pub passes : (p : Present) (s : Seal) (x : Presented) → Met p s x → check_evidence x.entity x.evidence ≡ Ok tt
 passes p s x m =
     let same : m.signed.auth.hmac ≡ hmac m.signed.session.hash m.signed.key (command_text m.signed) = ap (λ (a : Auth). a.hmac) m.auth ∙ sym (met_mac p s x m) in
     let signs : is_signed m.signed ≡ true = signed_by (needs_none m.signed) m.signed.auth.hmac (hmac m.signed.session.hash m.signed.key (command_text m.signed)) same in
-    ap (check_proof x.entity) m.proof ∙ ap (λ b. refuse (not b) (failure x.entity)) signs
+    ap (check_evidence x.entity) m.evidence ∙ ap (λ b. refuse (not b) (failure x.entity)) signs

@@ -17,10 +17,10 @@ use Rattle.tpm_buffer.specs.Parameters.{parameters}
 use Rattle.tpm_buffer.specs.Commands.{header, authorization, body_from, with_auths, Checked, before_params, command}
 use Rattle.tpm_buffer.proofs.Staged.{of_parts}
 use Rattle.tpm_model.specs.Present.{Present}
-use Rattle.tpm_model.specs.Answers.{Commands, Presented, proof_in, presented, Done, code_only, by_grammar, check_has, check_started, check_handles, check_tag}
+use Rattle.tpm_model.specs.Answers.{CommandSet, Presented, evidence_in, presented, Done, code_only, by_grammar, check_has, check_started, check_handles, check_tag}
 use Rattle.tpm_model.proofs.Accepted.{Passed, ok_is}
 
--- how the areas before the parameters were read, and the proof of authorization found
+-- how the areas before the parameters were read, and the evidence of authorization found
 pub record Read (p : Present) (bytes : List ℕ) (x : Presented) : Type 0 where
   pub before : Checked
   pub place : Here
@@ -32,7 +32,7 @@ pub record Read (p : Present) (bytes : List ℕ) (x : Presented) : Type 0 where
   pub tag : check_tag before.header.code before.header.tag ≡ Ok tt
   pub area : Here
   pub listed : read 0 (authorization before.header.tag) area ≡ Ok (before.auths, place)
-  pub proof : proof_in p x.code x.handles x.params x.auths ≡ Ok x.proof
+  pub evidence : evidence_in p x.code x.handles x.params x.auths ≡ Ok x.evidence
 
 pub code_ok : {A : Type 0} (r : Result A Refusal) (x : A) → code_only r ≡ Ok x → r ≡ Ok x
 code_ok (Ok y) x e = let same : y ≡ x = ok_is y x e in ap (λ (z : _). let k : Result _ Refusal = Ok z in k) same
@@ -45,7 +45,7 @@ pub read_in_turn : (bytes : List ℕ) (a : Header × Here) (b : List ℕ × Here
 unfolding before_params
 read_in_turn bytes a b c e f g = rw (e, f, g) refl
 
-pub was_read : (has : Commands) (p : Present) (bytes : List ℕ) (x : Presented) → presented has p bytes ≡ Ok x → Read p bytes x
+pub was_read : (has : CommandSet) (p : Present) (bytes : List ℕ) (x : Presented) → presented has p bytes ≡ Ok x → Read p bytes x
 was_read has p bytes x e =
     let a = bind_ok (by_grammar header (at_start bytes)) _ x e in
     let head = a.0 in
@@ -57,7 +57,7 @@ was_read has p bytes x e =
     let g = bind_ok (check_tag head.0.code head.0.tag) _ x f.2 in
     let i = bind_ok (by_grammar (authorization head.0.tag) list.1) _ x g.2 in
     let auths = i.0 in
-    let j = bind_ok (proof_in p head.0.code list.0 auths.1.rest auths.0) _ x i.2 in
+    let j = bind_ok (evidence_in p head.0.code list.0 auths.1.rest auths.0) _ x i.2 in
     subst (Read p bytes) (ok_is _ x j.2) (record {
       before = record { header = head.0; handles = list.0; auths = auths.0 };
       place = auths.1;
@@ -69,11 +69,11 @@ was_read has p bytes x e =
       tag = g.1;
       area = list.1;
       listed = code_ok _ auths i.1;
-      proof = j.1;
+      evidence = j.1;
     })
 
 -- An accepted buffer spells the command that is done.
-pub spelled_by : (has : Commands) (p : Present) (bytes n : List ℕ) (d : Done) → Passed has p bytes n d → Spells command d.command bytes
+pub spelled_by : (has : CommandSet) (p : Present) (bytes n : List ℕ) (d : Done) → Passed has p bytes n d → Spells command d.command bytes
 spelled_by has p bytes n d s =
     let r = was_read has p bytes s.x s.asked in
     let before = read_spells buffer buffer_sound (cut before_params) bytes (r.before, r.place.rest) (cut_read before_params bytes ∙ ap (λ o. o >>= parted) r.is) in

@@ -1,9 +1,9 @@
 -- A caller that is made from an accepted start is in step.
 use Rattle.std.proofs.Common.{◌≡◌, ℕ, ◌+◌, ◌≤◌, List, ◌∷◌, length, Ok, Some, None, Option, Bool, true, false, ◌||◌, refl, sym, ap, ◌∙◌, subst, arith, inl, inr, length-take}
-use Rattle.std.specs.Prelude.{◌==◌, ◌⊎◌, nat_lt, if◌then◌else◌, is_none, ok_or, Result}
+use Rattle.std.specs.Prelude.{◌==◌, nat_lt, if◌then◌else◌, is_none, ok_or, Result}
 use Rattle.std.proofs.lemmas.Bool.{le-leb, eq-eqb}
 use Rattle.std.proofs.lemmas.Bool.Decides.{nat_tests}
-use Rattle.tpm_wire.specs.Buffers.{size_code}
+use Rattle.tpm_wire.specs.ResponseCodes.{rc_session_memory, rc_size, of_parameter}
 use Rattle.tpm_wire.proofs.Agreement.{bind_ok}
 use Rattle.tpm_types.specs.declared.handle_sets.BindHandle.{BindHandle}
 use Rattle.tpm_types.specs.declared.handle_sets.BindHandle.TheVariants as binds
@@ -15,20 +15,20 @@ use Rattle.tpm_buffer.specs.declared.command.StartAuth.{StartAuth}
 use Rattle.tpm_buffer.specs.declared.response.ReplyBody.{ReplyBody}
 use Rattle.tpm_buffer.specs.declared.response.ReplyBody.TheVariants as replies
 use Rattle.tpm_buffer.specs.declared.response.StartReply.{StartReply}
-use Rattle.tpm_buffer.specs.Parameters.{parameter}
 use Rattle.tpm_hmac.specs.Sessions.{trim, session_key}
-use Rattle.tpm_model.specs.Codes.{session_memory_code}
 use Rattle.tpm_model.specs.Steps.{History, Accepted, Origin}
-use Rattle.tpm_model.specs.Sessions.{Session, slot_of, is_hmac, handle_for, begins, Start, assertions_of, as_session, session_at, loaded, is_handle_of, bound_value, nonce_from, free_slot}
+use Rattle.tpm_model.specs.Sessions.{Session, slot_of, is_hmac, handle_for, begun, Start, assertions_of, as_session, session_at, session_in, sessions_at, loaded, if_of_kind, is_handle_of, bound_value, nonce_from, free_slot}
 use Rattle.tpm_model.specs.Present.{present}
 use Rattle.tpm_model.specs.Authorization.{refuse}
 use Rattle.tpm_model.specs.Actions.{action, start_session}
-use Rattle.tpm_model.specs.Answers.{Commands, Done, outcome, next}
+use Rattle.tpm_model.specs.Answers.{CommandSet, Done, outcome, next}
 use Rattle.tpm_model.specs.InStep.{CallerSession, InStep}
 use Rattle.tpm_model.specs.Callers.{nonces_fit, bound_to, started_with}
 use Rattle.tpm_model.specs.Premises.{nonce_bytes}
 use Rattle.tpm_model.proofs.Accepted.{passed, next_is, ok_is}
+use Rattle.tpm_model.proofs.Slots.{IsSlot, in_slot}
 use Rattle.tpm_model.proofs.Nonces.{both_passed, digest_short}
+use Rattle.tpm_model.proofs.Sealing.{some}
 
 -- ---- what was answered
 
@@ -42,14 +42,11 @@ was_some : (x : Option ℕ) (code k : ℕ) → ok_or x code ≡ Ok k → x ≡ S
 was_some None code k e = absurd (let z : ⊥ = cc in z)
 was_some (Some j) code k e = ap (λ (i : ℕ). let y : Option ℕ = Some i in y) (ok_is j k e)
 
-abbrev IsSlot : ℕ → Type 0
-IsSlot k = (0 ≡ k) ⊎ ((1 ≡ k) ⊎ (2 ≡ k))
-
 one_slot : (j k : ℕ) → (let x : Option ℕ = Some j in x) ≡ Some k → j ≡ k
 one_slot j k e = cc
 
-slot_is : (session : ℕ → Option Session) (k : ℕ) → free_slot session ≡ Some k → IsSlot k
-slot_is session k e = go (is_none (session 0)) (is_none (session 1)) (is_none (session 2)) e
+slot_is : (sessions : List (Option Session)) (k : ℕ) → free_slot sessions ≡ Some k → IsSlot k
+slot_is sessions k e = go (is_none (session_in sessions 0)) (is_none (session_in sessions 1)) (is_none (session_in sessions 2)) e
   where
     go : (a b c : Bool) → (if a then Some 0 else if b then Some 1 else if c then Some 2 else None) ≡ Some k → IsSlot k
     go true b c e = inl (one_slot 0 k e)
@@ -65,6 +62,15 @@ kind_by false k (inl e) = subst (λ (i : ℕ). is_policy (0x03000000 + i) ≡ tr
 kind_by false k (inr (inl e)) = subst (λ (i : ℕ). is_policy (0x03000000 + i) ≡ true) e refl
 kind_by false k (inr (inr e)) = subst (λ (i : ℕ). is_policy (0x03000000 + i) ≡ true) e refl
 
+-- the handle is of its slot
+slot_by : (by_hmac : Bool) (k : ℕ) → IsSlot k → IsSlot (slot_of ((if by_hmac then 0x02000000 else 0x03000000) + k))
+slot_by true k (inl e) = subst (λ (i : ℕ). IsSlot (slot_of (0x02000000 + i))) e (inl refl)
+slot_by true k (inr (inl e)) = subst (λ (i : ℕ). IsSlot (slot_of (0x02000000 + i))) e (inr (inl refl))
+slot_by true k (inr (inr e)) = subst (λ (i : ℕ). IsSlot (slot_of (0x02000000 + i))) e (inr (inr refl))
+slot_by false k (inl e) = subst (λ (i : ℕ). IsSlot (slot_of (0x03000000 + i))) e (inl refl)
+slot_by false k (inr (inl e)) = subst (λ (i : ℕ). IsSlot (slot_of (0x03000000 + i))) e (inr (inl refl))
+slot_by false k (inr (inr e)) = subst (λ (i : ℕ). IsSlot (slot_of (0x03000000 + i))) e (inr (inr refl))
+
 -- what an accepted start has passed
 record Answered (q : StartAuth) (n : List ℕ) (r : StartReply) : Type 0 where
   least : 16 ≤ length q.nonce_caller
@@ -79,14 +85,17 @@ bounds n m a b =
     let few : n ≤ m = grind (arith, nat_tests) in
     (enough, few)
 
-answered_start : (session : ℕ → Option Session) (q : StartAuth) (n : List ℕ) (r : StartReply) → start_session session q n ≡ Ok (replies.StartAuthSession r) → Answered q n r
-answered_start session q n r e =
-    let a = bind_ok (refuse (nat_lt (length q.nonce_caller) 16 || nat_lt (digest_len q.auth_hash) (length q.nonce_caller)) (size_code + parameter 1)) _ (start_reply r) e in
-    let b = bind_ok (ok_or (free_slot session) session_memory_code) _ (start_reply r) a.2 in
-    let g = both_passed (nat_lt (length q.nonce_caller) 16) (nat_lt (digest_len q.auth_hash) (length q.nonce_caller)) (size_code + parameter 1) a.1 in
+answered_start : (sessions : List (Option Session)) (q : StartAuth) (n : List ℕ) (r : StartReply) → start_session sessions q n ≡ Ok (replies.StartAuthSession r) → Answered q n r
+answered_start sessions q n r e =
+    let a = bind_ok (refuse (nat_lt (length q.nonce_caller) 16 || nat_lt (digest_len q.auth_hash) (length q.nonce_caller)) (rc_size + of_parameter 1)) _ (start_reply r) e in
+    let b = bind_ok (ok_or (free_slot sessions) rc_session_memory) _ (start_reply r) a.2 in
+    let g = both_passed (nat_lt (length q.nonce_caller) 16) (nat_lt (digest_len q.auth_hash) (length q.nonce_caller)) (rc_size + of_parameter 1) a.1 in
     let both = bounds (length q.nonce_caller) (digest_len q.auth_hash) g.0 g.1 in
     let made : StartReply = record { session = handle_for q.session_type b.0; nonce_tpm = nonce_from q n } in
-    record { least = both.0; most = both.1; slot = b.0; free = slot_is session b.0 (was_some (free_slot session) session_memory_code b.0 b.1); is = sym (reply_is made r (ok_is (start_reply made) (start_reply r) b.2)) }
+    record { least = both.0; most = both.1; slot = b.0; free = slot_is sessions b.0 (was_some (free_slot sessions) rc_session_memory b.0 b.1); is = sym (reply_is made r (ok_is (start_reply made) (start_reply r) b.2)) }
+
+abbrev some_start : StartAuth → Option StartAuth
+some_start q = Some q
 
 abbrev some_caller : CallerSession → Option CallerSession
 some_caller c = Some c
@@ -97,26 +106,28 @@ one_key : (o : Origin) (alg : Alg) (bind : BindHandle) (auth n c : List ℕ) →
 one_key o alg binds.Owner auth n c same = rw (same refl) refl
 one_key o alg binds.Null auth n c same = refl
 
-pub starts : (has : Commands) (o : Origin) (h : History) (bytes n : List ℕ) (d : Done) (q : StartAuth) (r : StartReply) (auth : List ℕ)
+pub starts : (has : CommandSet) (o : Origin) (h : History) (bytes n : List ℕ) (d : Done) (q : StartAuth) (r : StartReply) (auth : List ℕ)
     → outcome has (present o h) bytes n ≡ Ok d → d.command.body ≡ bodies.StartAuthSession q → d.reply.body ≡ replies.StartAuthSession r → length n ≡ nonce_bytes → (q.bind ≡ binds.Owner → trim auth ≡ trim o.owner)
     → (c : CallerSession) × (started_with q r auth ≡ Some c) × InStep o (next has o h bytes n) c
 starts has o h bytes n d q r auth e body reply whole same =
     let p = present o h in
     let s = passed has p bytes n d e in
-    let x = answered_start p.session q n r (ap (λ b. action p b n) (sym body) ∙ s.act ∙ ap (λ (b : ReplyBody). let z : Result ReplyBody ℕ = Ok b in z) reply) in
+    let x = answered_start p.sessions q n r (ap (λ b. action p b n) (sym body) ∙ s.act ∙ ap (λ (b : ReplyBody). let z : Result ReplyBody ℕ = Ok b in z) reply) in
     let g : History = Accepted d.command d.reply n ∷ h in
     let k = slot_of r.session in
     let tpm : r.nonce_tpm ≡ nonce_from q n = ap (λ (z : StartReply). z.nonce_tpm) x.is in
     let long : length r.nonce_tpm ≡ length q.nonce_caller = omega (arith, ap length tpm, length-take (length q.nonce_caller) n, whole, x.most, digest_short q.auth_hash) in
     let fit : nonces_fit q r ≡ true = rw (eq-eqb (length r.nonce_tpm) (length q.nonce_caller) long, le-leb 16 (length q.nonce_caller) x.least, le-leb (length q.nonce_caller) (digest_len q.auth_hash) x.most) refl in
     let c : CallerSession = record { handle = r.session; hash = q.auth_hash; key = session_key q.auth_hash (bound_to q.bind auth) r.nonce_tpm q.nonce_caller; nonce = r.nonce_tpm } in
-    let begun : begins k d.command.body d.reply.body ≡ true =
-    ap (λ b. begins k b d.reply.body) body ∙ ap (begins k (bodies.StartAuthSession q)) reply ∙ (let it : (slot_of r.session == slot_of r.session) ≡ true = grind (arith, nat_tests) in it) in
+    let by : begun k d.command.body d.reply.body ≡ Some q =
+    ap (λ b. begun k b d.reply.body) body ∙ ap (begun k (bodies.StartAuthSession q)) reply
+    ∙ ap (λ (b : Bool). if b then some_start q else None) (let it : (slot_of r.session == slot_of r.session) ≡ true = grind (arith, nat_tests) in it) in
     let start : Start = record { request = q; nonce = n } in
     let z = as_session o n (assertions_of k g) start in
-    let there : session_at o g k ≡ Some z = rw (begun, body) refl in
+    let there : session_at o g k ≡ Some z = rw by refl in
     let kind : is_handle_of r.session z ≡ true = subst (λ (t : StartReply). is_handle_of t.session z ≡ true) (sym x.is) (kind_by (is_hmac q.session_type) x.slot x.free) in
-    let load : loaded (session_at o g) r.session ≡ Some z = rw (there, kind) refl in
+    let slot : IsSlot k = subst (λ (t : StartReply). IsSlot (slot_of t.session)) (sym x.is) (slot_by (is_hmac q.session_type) x.slot x.free) in
+    let load : loaded (sessions_at o g) r.session ≡ Some z = ap (if_of_kind r.session) (in_slot o g k slot ∙ there) ∙ ap (λ b. if b then some z else None) kind in
     let step : InStep o g c = (
       z,
       load,

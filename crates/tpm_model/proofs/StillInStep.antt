@@ -13,11 +13,12 @@ use Rattle.tpm_buffer.specs.Commands.{code_for}
 use Rattle.tpm_buffer.specs.Responses.{Reply}
 use Rattle.tpm_model.specs.Steps.{History, Accepted, Origin}
 use Rattle.tpm_model.specs.Policies.{Assertion}
-use Rattle.tpm_model.specs.Sessions.{Session, slot_of, lives, begins, clears, closes, is_of_slot, authorizes, Start, start_of, last_nonce, assertions_of, as_session, session_at, loaded, if_of_kind, is_handle_of}
+use Rattle.tpm_model.specs.Sessions.{Session, slot_of, lives, begins, begun, clears, closes, is_of_slot, authorizes, Start, start_of, last_nonce, assertions_of, as_session, session_at, session_in, sessions_at, loaded, if_of_kind, is_handle_of}
 use Rattle.tpm_model.specs.InStep.{CallerSession, Agrees, InStep}
 use Rattle.tpm_model.specs.Callers.{attrs_for}
 use Rattle.tpm_model.specs.Premises.{nonce_bytes, most_nonce, rolled}
 use Rattle.tpm_model.proofs.Replay.{its_slot}
+use Rattle.tpm_model.proofs.Slots.{IsSlot, in_slot, slot_of_session}
 use Rattle.tpm_model.proofs.Sealing.{some, some_is}
 
 -- ---- a session that is loaded, by its start
@@ -28,6 +29,7 @@ pub record Held (o : Origin) (h : History) (handle : ℕ) (y : Session) : Type 0
   pub there : start_of (slot_of handle) h ≡ Some start
   pub is : y ≡ as_session o (last_nonce (slot_of handle) h) (assertions_of (slot_of handle) h) start
   pub kind : is_handle_of handle y ≡ true
+  pub slot : IsSlot (slot_of handle)
 
 of_kind : (handle : ℕ) (x : Option Session) (y : Session) → if_of_kind handle x ≡ Some y → (x ≡ Some y) × (is_handle_of handle y ≡ true)
 of_kind handle None y e = absurd (let z : ⊥ = cc in z)
@@ -43,16 +45,17 @@ by_start o true None n made y e = absurd (let z : ⊥ = cc in z)
 by_start o true (Some x) n made y e = (refl, x, refl, sym (some_is (as_session o n made x) y e))
 by_start o false start n made y e = absurd (let z : ⊥ = cc in z)
 
-pub held : (o : Origin) (h : History) (handle : ℕ) (y : Session) → loaded (session_at o h) handle ≡ Some y → Held o h handle y
+pub held : (o : Origin) (h : History) (handle : ℕ) (y : Session) → loaded (sessions_at o h) handle ≡ Some y → Held o h handle y
 held o h handle y e =
     let k = slot_of handle in
-    let a = of_kind handle (session_at o h k) y e in
-    let b = by_start o (lives k h) (start_of k h) (last_nonce k h) (assertions_of k h) y a.0 in
-    record { live = b.0; start = b.1; there = b.2; is = b.3; kind = a.1 }
+    let a = of_kind handle (session_in (sessions_at o h) k) y e in
+    let at = slot_of_session o h k y a.0 in
+    let b = by_start o (lives k h) (start_of k h) (last_nonce k h) (assertions_of k h) y at.0 in
+    record { live = b.0; start = b.1; there = b.2; is = b.3; kind = a.1; slot = at.1 }
 
 -- ---- the step
 
-no_begin : (k : ℕ) (body : CommandBody) (r : ReplyBody) → needs_authorization (code_for body) ≡ true → begins k body r ≡ false
+no_begin : (k : ℕ) (body : CommandBody) (r : ReplyBody) → needs_authorization (code_for body) ≡ true → begun k body r ≡ None
 no_begin k (bodies.StartAuthSession start) r e = absurd (let z : ⊥ = cc in z)
 no_begin k _ r e = refl
 
@@ -85,7 +88,7 @@ nonce_on k c r n h by = go (begins k c.body r.body) (authorizes k c.auths.items)
 
 -- A caller that keeps its session is in step after the step.
 pub still : (o : Origin) (h : History) (c : CallerSession) (y : Session) (d : Command) (r : Reply) (n : List ℕ) (a : Auth)
-    → loaded (session_at o h) c.handle ≡ Some y → Agrees c y → is_session c.handle ≡ true → length n ≡ nonce_bytes → length c.nonce ≤ most_nonce
+    → loaded (sessions_at o h) c.handle ≡ Some y → Agrees c y → is_session c.handle ≡ true → length n ≡ nonce_bytes → length c.nonce ≤ most_nonce
     → needs_authorization (code_for d.body) ≡ true → d.auths.items ≡ a ∷ [] → a.session ≡ c.handle → a.attrs ≡ attrs_for true → InStep o (Accepted d r n ∷ h) (rolled c n)
 still o h c y d r n a is agrees session whole short needs one handle keep =
     let k = slot_of c.handle in
@@ -98,7 +101,7 @@ still o h c y d r n a is agrees session whole short needs one handle keep =
     let z = as_session o n (assertions_of k g) x.start in
     let there : session_at o g k ≡ Some z = rw (live, start, nonce) refl in
     let kind : is_handle_of c.handle z ≡ true = subst (λ s. is_handle_of c.handle s ≡ true) x.is x.kind in
-    let load : loaded (session_at o g) c.handle ≡ Some z = rw (there, kind) refl in
+    let load : loaded (sessions_at o g) c.handle ≡ Some z = ap (if_of_kind c.handle) (in_slot o g k x.slot ∙ there) ∙ ap (λ b. if b then some z else None) kind in
     let long : length x.start.request.nonce_caller ≡ length c.nonce = sym (ap (λ (s : Session). s.nonce_length) x.is) ∙ agrees.length in (
       z,
       load,

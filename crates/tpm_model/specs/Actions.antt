@@ -1,8 +1,8 @@
 -- What each command does, or refuses (Part 3, the detailed actions of each; the order of refusals is this profile's).
 use Rattle.std.specs.Prelude.{ℕ, ◌+◌, ◌^◌, Bool, false, not, ◌&&◌, ◌||◌, ◌==◌, nat_lt, nat_le, bytes_eq, List, [], ◌∷◌, length, take, drop, Option, is_some, is_none, Result, Ok, Err, ok_or, if◌then◌else◌}
 use Rattle.std.specs.Int.{w64, to_be_bytes}
-use Rattle.tpm_wire.specs.Buffers.{size_code}
 use Rattle.tpm_wire.specs.Reading.{◌>>=◌}
+use Rattle.tpm_wire.specs.ResponseCodes.{rc_attributes, rc_handle, rc_locality, rc_nv_authorization, rc_nv_defined, rc_nv_range, rc_nv_space, rc_nv_uninitialized, rc_pcr_changed, rc_reference_h0, rc_session_memory, rc_size, rc_value, of_parameter}
 use Rattle.tpm_types.specs.declared.constants.StartupType.{StartupType}
 use Rattle.tpm_types.specs.declared.constants.StartupType.TheVariants.{Clear, State}
 use Rattle.tpm_types.specs.declared.handle_sets.PcrOrNull.{PcrOrNull}
@@ -11,19 +11,16 @@ use Rattle.tpm_types.specs.declared.handle_sets.NvAuthHandle.{NvAuthHandle}
 use Rattle.tpm_types.specs.declared.handle_sets.NvAuthHandle.TheVariants as nv
 use Rattle.tpm_types.specs.declared.tpms.NvPublic.{NvPublic}
 use Rattle.tpm_types.specs.Alg.{digest_len}
-use Rattle.tpm_types.specs.Codes.{value_code}
 use Rattle.tpm_types.specs.Tpma.{is_counter, is_undefinable, is_writable, is_readable, owner_writes, owner_reads}
 use Rattle.tpm_buffer.specs.declared.command.CommandBody.{CommandBody}
 use Rattle.tpm_buffer.specs.declared.command.CommandBody.TheVariants as bodies
 use Rattle.tpm_buffer.specs.declared.command.StartAuth.{StartAuth}
 use Rattle.tpm_buffer.specs.declared.response.ReplyBody.{ReplyBody}
 use Rattle.tpm_buffer.specs.declared.response.ReplyBody.TheVariants as replies
-use Rattle.tpm_buffer.specs.Parameters.{parameter}
 use Rattle.tpm_hmac.specs.Sessions.{trim}
-use Rattle.tpm_model.specs.Codes.{pcr_changed_code, nv_range_code, nv_authorization_code, nv_uninitialized_code, nv_space_code, nv_defined_code, session_memory_code, locality_code, reference_h0_code, attributes_code, handle_code}
-use Rattle.tpm_model.specs.Registers.{is_dynamic, composite, values_read, selections_read}
+use Rattle.tpm_model.specs.Registers.{event_digests, is_dynamic, value_in, composite, values_read, selections_read}
 use Rattle.tpm_model.specs.Sessions.{Session, is_trial, handle_for, nonce_from, loaded, free_slot}
-use Rattle.tpm_model.specs.Counters.{Counter, next_value}
+use Rattle.tpm_model.specs.Counters.{Counter, counter_in, next_value}
 use Rattle.tpm_model.specs.Entities.{nv_name}
 use Rattle.tpm_model.specs.Authorization.{refuse, is_empty, differs}
 use Rattle.tpm_model.specs.Present.{Present}
@@ -33,40 +30,40 @@ use Rattle.tpm_model.specs.Present.{Present}
 -- There is no saved state (this profile).
 abbrev pub check_startup : StartupType → Result (Unit {0}) ℕ
 check_startup Clear = Ok tt
-check_startup State = Err (value_code + parameter 1)
+check_startup State = Err (rc_value + of_parameter 1)
 
 -- The registers of dynamic launch are extended from another locality alone.
 abbrev pub check_extend : PcrOrNull → Result (Unit {0}) ℕ
-check_extend (registers.Pcr q) = refuse (is_dynamic q) locality_code
+check_extend (registers.Pcr q) = refuse (is_dynamic q) rc_locality
 check_extend registers.Null = Ok tt
 
 -- The debug and the application register are reset from any locality.
 abbrev pub check_reset : ℕ → Result (Unit {0}) ℕ
-check_reset q = refuse (not (q == 16 || q == 23)) locality_code
+check_reset q = refuse (not (q == 16 || q == 23)) rc_locality
 
 -- ---- sessions
 
 -- A nonce has 16 bytes at least, and no more than a digest (Part 3, TPM2_StartAuthSession).
-abbrev pub start_session : (ℕ → Option Session) → StartAuth → List ℕ → Result ReplyBody ℕ
-start_session session s nonce = do
-  _ ← refuse (nat_lt (length s.nonce_caller) 16 || nat_lt (digest_len s.auth_hash) (length s.nonce_caller)) (size_code + parameter 1)
-  k ← ok_or (free_slot session) session_memory_code
+abbrev pub start_session : List (Option Session) → StartAuth → List ℕ → Result ReplyBody ℕ
+start_session sessions s nonce = do
+  _ ← refuse (nat_lt (length s.nonce_caller) 16 || nat_lt (digest_len s.auth_hash) (length s.nonce_caller)) (rc_size + of_parameter 1)
+  k ← ok_or (free_slot sessions) rc_session_memory
   Ok (replies.StartAuthSession (record { session = handle_for s.session_type k; nonce_tpm = nonce_from s nonce }))
 
 abbrev pub check_flush : Option Session → Result (Unit {0}) ℕ
-check_flush s = refuse (is_none s) (handle_code + parameter 1)
+check_flush s = refuse (is_none s) (rc_handle + of_parameter 1)
 
 -- ---- policies
 
 -- the policy session of the command's handle
 abbrev pub policy_session : Option Session → Result Session ℕ
-policy_session s = ok_or s reference_h0_code
+policy_session s = ok_or s rc_reference_h0
 
 -- The registers are as they were at an earlier TPM2_PolicyPCR, and have the digest that is given, if one is.
 abbrev pub check_policy_pcr : Session → (composite : List ℕ) → (update_counter : ℕ) → (pcr_digest : List ℕ) → Result (Unit {0}) ℕ
 check_policy_pcr s composite update_counter pcr_digest = if is_trial s.session_type then Ok tt else do
-  _ ← refuse (differs s.policy.update_counter update_counter) pcr_changed_code
-  refuse (not (is_empty pcr_digest) && not (bytes_eq pcr_digest composite)) (value_code + parameter 1)
+  _ ← refuse (differs s.policy.update_counter update_counter) rc_pcr_changed
+  refuse (not (is_empty pcr_digest) && not (bytes_eq pcr_digest composite)) (rc_value + of_parameter 1)
 
 abbrev pub is_listed : List ℕ → List (List ℕ) → Bool
 is_listed d [] = false
@@ -74,11 +71,11 @@ is_listed d (e ∷ es) = bytes_eq d e || is_listed d es
 
 -- One of the digests is that of the policy so far.
 abbrev pub check_policy_or : Session → List (List ℕ) → Result (Unit {0}) ℕ
-check_policy_or s digests = refuse (not (is_trial s.session_type) && not (is_listed s.policy.digest digests)) (value_code + parameter 1)
+check_policy_or s digests = refuse (not (is_trial s.session_type) && not (is_listed s.policy.digest digests)) (rc_value + of_parameter 1)
 
 -- No other code was set, in a trial either.
 abbrev pub check_policy_code : Session → ℕ → Result (Unit {0}) ℕ
-check_policy_code s code = refuse (differs s.policy.code code) (value_code + parameter 1)
+check_policy_code s code = refuse (differs s.policy.code code) (rc_value + of_parameter 1)
 
 -- ---- counters
 
@@ -96,16 +93,16 @@ counter_size = 8
 
 abbrev pub check_define : Option Counter → (counters : ℕ) → (auth : List ℕ) → NvPublic → Result (Unit {0}) ℕ
 check_define there counters auth public = do
-  _ ← refuse (not (is_definable public.attrs)) (attributes_code + parameter 2)
-  _ ← refuse (nat_lt (digest_len public.alg) (length (trim auth))) (size_code + parameter 1)
-  _ ← refuse (not (is_empty public.policy) && not (length public.policy == digest_len public.alg)) (size_code + parameter 2)
-  _ ← refuse (not (public.data_size == counter_size)) (size_code + parameter 2)
-  _ ← refuse (is_some there) nv_defined_code
-  refuse (nat_le most_counters counters) nv_space_code
+  _ ← refuse (not (is_definable public.attrs)) (rc_attributes + of_parameter 2)
+  _ ← refuse (nat_lt (digest_len public.alg) (length (trim auth))) (rc_size + of_parameter 1)
+  _ ← refuse (not (is_empty public.policy) && not (length public.policy == digest_len public.alg)) (rc_size + of_parameter 2)
+  _ ← refuse (not (public.data_size == counter_size)) (rc_size + of_parameter 2)
+  _ ← refuse (is_some there) rc_nv_defined
+  refuse (nat_le most_counters counters) rc_nv_space
 
 -- an index that is not defined has no handle
 abbrev pub defined_counter : Option Counter → Result Counter ℕ
-defined_counter c = ok_or c handle_code
+defined_counter c = ok_or c rc_handle
 
 -- The owner authorizes where the index lets it, and an index for itself alone.
 abbrev pub may : (by : NvAuthHandle) → (owner_may : Bool) → (index : ℕ) → Bool
@@ -116,17 +113,17 @@ may (nv.Index other) owner_may index = other == index
 abbrev pub increment : (greatest : ℕ) → Option Counter → NvAuthHandle → ℕ → Result ℕ ℕ
 increment greatest there by index = do
   c ← defined_counter there
-  _ ← refuse (not (may by (owner_writes c.public.attrs) index)) nv_authorization_code
-  _ ← refuse (nat_le (2 ^ 64) (next_value greatest c.value)) nv_range_code
+  _ ← refuse (not (may by (owner_writes c.public.attrs) index)) rc_nv_authorization
+  _ ← refuse (nat_le (2 ^ 64) (next_value greatest c.value)) rc_nv_range
   Ok (next_value greatest c.value)
 
 -- so many bytes of the value, which is spelled with the most significant byte first, from an offset on
 abbrev pub read_counter : Option Counter → NvAuthHandle → (index size offset : ℕ) → Result (List ℕ) ℕ
 read_counter there by index size offset = do
   c ← defined_counter there
-  _ ← refuse (not (may by (owner_reads c.public.attrs) index)) nv_authorization_code
-  v ← ok_or c.value nv_uninitialized_code
-  _ ← refuse (nat_lt counter_size (offset + size)) nv_range_code
+  _ ← refuse (not (may by (owner_reads c.public.attrs) index)) rc_nv_authorization
+  v ← ok_or c.value rc_nv_uninitialized
+  _ ← refuse (nat_lt counter_size (offset + size)) rc_nv_range
   Ok (take size (drop offset (to_be_bytes w64 v)))
 
 -- ---- the table
@@ -139,30 +136,31 @@ then_reply check reply = check >>= λ _. Ok reply
 abbrev pub action : Present → CommandBody → List ℕ → Result ReplyBody ℕ
 action p (bodies.Startup kind) nonce = then_reply (check_startup kind) replies.Startup
 action p (bodies.PcrExtend q digests) nonce = then_reply (check_extend q) replies.PcrExtend
+action p (bodies.PcrEvent q event) nonce = then_reply (check_extend q) (replies.PcrEvent (event_digests event))
 action p (bodies.PcrReset q) nonce = then_reply (check_reset q) replies.PcrReset
-action p (bodies.PcrRead sels) nonce = Ok (replies.PcrRead p.update_counter (selections_read sels) (values_read p.register sels))
-action p (bodies.StartAuthSession start) nonce = start_session p.session start nonce
-action p (bodies.FlushContext handle) nonce = then_reply (check_flush (loaded p.session handle)) replies.FlushContext
+action p (bodies.PcrRead sels) nonce = Ok (replies.PcrRead p.registers.update_counter (selections_read sels) (values_read (value_in p.registers.banks) sels))
+action p (bodies.StartAuthSession start) nonce = start_session p.sessions start nonce
+action p (bodies.FlushContext handle) nonce = then_reply (check_flush (loaded p.sessions handle)) replies.FlushContext
 action p (bodies.PolicyPcr handle pcr_digest sels) nonce = do
-  s ← policy_session (loaded p.session handle)
-  then_reply (check_policy_pcr s (composite s.hash p.register sels) p.update_counter pcr_digest) replies.PolicyPcr
+  s ← policy_session (loaded p.sessions handle)
+  then_reply (check_policy_pcr s (composite s.hash (value_in p.registers.banks) sels) p.registers.update_counter pcr_digest) replies.PolicyPcr
 action p (bodies.PolicyOr handle digests) nonce = do
-  s ← policy_session (loaded p.session handle)
+  s ← policy_session (loaded p.sessions handle)
   then_reply (check_policy_or s digests) replies.PolicyOr
 action p (bodies.PolicyCommandCode handle code) nonce = do
-  s ← policy_session (loaded p.session handle)
+  s ← policy_session (loaded p.sessions handle)
   then_reply (check_policy_code s code) replies.PolicyCommandCode
-action p (bodies.PolicyAuthValue handle) nonce = then_reply (policy_session (loaded p.session handle)) replies.PolicyAuthValue
-action p (bodies.PolicyRestart handle) nonce = then_reply (policy_session (loaded p.session handle)) replies.PolicyRestart
+action p (bodies.PolicyAuthValue handle) nonce = then_reply (policy_session (loaded p.sessions handle)) replies.PolicyAuthValue
+action p (bodies.PolicyRestart handle) nonce = then_reply (policy_session (loaded p.sessions handle)) replies.PolicyRestart
 action p (bodies.PolicyGetDigest handle) nonce = do
-  s ← policy_session (loaded p.session handle)
+  s ← policy_session (loaded p.sessions handle)
   Ok (replies.PolicyGetDigest s.policy.digest)
-action p (bodies.NvDefineSpace auth public) nonce = then_reply (check_define (p.counter public.index) p.counters auth public) replies.NvDefineSpace
-action p (bodies.NvUndefineSpace index) nonce = then_reply (defined_counter (p.counter index)) replies.NvUndefineSpace
-action p (bodies.NvIncrement by index) nonce = then_reply (increment p.greatest (p.counter index) by index) replies.NvIncrement
+action p (bodies.NvDefineSpace auth public) nonce = then_reply (check_define (counter_in p.nv.counters public.index) (length p.nv.counters) auth public) replies.NvDefineSpace
+action p (bodies.NvUndefineSpace index) nonce = then_reply (defined_counter (counter_in p.nv.counters index)) replies.NvUndefineSpace
+action p (bodies.NvIncrement by index) nonce = then_reply (increment p.nv.greatest (counter_in p.nv.counters index) by index) replies.NvIncrement
 action p (bodies.NvRead by index size offset) nonce = do
-  bytes ← read_counter (p.counter index) by index size offset
+  bytes ← read_counter (counter_in p.nv.counters index) by index size offset
   Ok (replies.NvRead bytes)
 action p (bodies.NvReadPublic index) nonce = do
-  c ← defined_counter (p.counter index)
+  c ← defined_counter (counter_in p.nv.counters index)
   Ok (replies.NvReadPublic c.public (nv_name c.public))

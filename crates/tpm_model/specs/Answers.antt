@@ -5,6 +5,7 @@ use Rattle.tpm_wire.specs.Buffers.{Layout}
 use Rattle.tpm_wire.specs.Token.{Here, at_start}
 use Rattle.tpm_wire.specs.Reading.{read, read_all, ◌>>=◌}
 use Rattle.tpm_wire.specs.Spelling.{spelling}
+use Rattle.tpm_wire.specs.ResponseCodes.{rc_auth_context, rc_auth_missing, rc_command_code, rc_handle, rc_initialize, rc_reference_h0, of_handle}
 use Rattle.tpm_types.specs.declared.tpms.Auth.{Auth}
 use Rattle.tpm_types.specs.Handles.{is_nv_index, is_policy}
 use Rattle.tpm_buffer.specs.declared.code.CommandCode.{CommandCode}
@@ -12,17 +13,17 @@ use Rattle.tpm_buffer.specs.declared.code.CommandCode.TheVariants as codes
 use Rattle.tpm_buffer.specs.declared.command.Command.{Command}
 use Rattle.tpm_buffer.specs.declared.response.ReplyBody.{ReplyBody}
 use Rattle.tpm_buffer.specs.declared.response.Response.TheVariants as responses
-use Rattle.tpm_buffer.specs.Handles.{handle, first, handles, needs_authorization}
+use Rattle.tpm_buffer.specs.Handles.{first, handles, needs_authorization}
 use Rattle.tpm_buffer.specs.Parameters.{parameters}
 use Rattle.tpm_buffer.specs.Commands.{header, authorization, body_from, with_auths, code_for}
 use Rattle.tpm_buffer.specs.Replies.{parameters_of_reply}
 use Rattle.tpm_buffer.specs.Responses.{Reply, response, done_with}
-use Rattle.tpm_model.specs.Codes.{initialize_code, auth_missing_code, auth_context_code, command_code_code, reference_h0_code, handle_code}
 use Rattle.tpm_model.specs.Steps.{History, Accepted, Origin}
 use Rattle.tpm_model.specs.Sessions.{loaded}
+use Rattle.tpm_model.specs.Counters.{counter_in}
 use Rattle.tpm_model.specs.Present.{Present, present}
 use Rattle.tpm_model.specs.Entities.{Entity, entity_of, names_of}
-use Rattle.tpm_model.specs.Authorization.{refuse, Proof, proof_of, check_proof, first_loaded, reply_auths}
+use Rattle.tpm_model.specs.Authorization.{refuse, Evidence, evidence_of, check_evidence, first_loaded, reply_auths}
 use Rattle.tpm_model.specs.Actions.{action}
 
 -- ---- checks by the grammar
@@ -40,23 +41,23 @@ by_grammar l h = code_only (read 0 l h)
 -- ---- the other checks before the authorization
 
 -- which commands a device has
-abbrev pub Commands : Type 0
-Commands = CommandCode → Bool
+abbrev pub CommandSet : Type 0
+CommandSet = CommandCode → Bool
 
 -- A command that the device does not have is as one that the profile does not have.
 abbrev pub check_has : Bool → Result (Unit {0}) ℕ
-check_has has = refuse (not has) command_code_code
+check_has has = refuse (not has) rc_command_code
 
 -- TPM2_Startup comes first, and once (Part 3, TPM2_Startup).
 abbrev pub check_started : Bool → CommandCode → Result (Unit {0}) ℕ
-check_started started codes.Startup = refuse started initialize_code
-check_started started _ = refuse (not started) initialize_code
+check_started started codes.Startup = refuse started rc_initialize
+check_started started _ = refuse (not started) rc_initialize
 
 -- The i-th handle, from 1: a policy session is loaded, an index is defined.
 abbrev pub check_handle : Present → ℕ → ℕ → Result (Unit {0}) ℕ
 check_handle p i n =
-    if is_policy n then refuse (is_none (loaded p.session n)) (reference_h0_code + i - 1)
-    else if is_nv_index n then refuse (is_none (p.counter n)) (handle_code + handle i)
+    if is_policy n then refuse (is_none (loaded p.sessions n)) (rc_reference_h0 + i - 1)
+    else if is_nv_index n then refuse (is_none (counter_in p.nv.counters n)) (rc_handle + of_handle i)
     else Ok tt
 
 abbrev pub check_handles : Present → ℕ → List ℕ → Result (Unit {0}) ℕ
@@ -67,7 +68,7 @@ check_handles p i (n ∷ ns) = do
 
 -- Sessions are there where a handle needs authorization, and nowhere else.
 abbrev pub check_tag : CommandCode → ℕ → Result (Unit {0}) ℕ
-check_tag code tag = if needs_authorization code then refuse (tag == 0x8001) auth_missing_code else refuse (tag == 0x8002) auth_context_code
+check_tag code tag = if needs_authorization code then refuse (tag == 0x8001) rc_auth_missing else refuse (tag == 0x8002) rc_auth_context
 
 -- ---- the chain of checks
 
@@ -78,15 +79,15 @@ pub record Presented : Type 0 where
   pub auths : List Auth
   pub params : List ℕ
   pub entity : Entity
-  pub proof : Proof
+  pub evidence : Evidence
 
 -- the checks of the sessions, with what is present, and the parameters as they came
-abbrev pub proof_in : Present → CommandCode → (handles : List ℕ) → (params : List ℕ) → List Auth → Result Proof ℕ
-proof_in p code handles params auths =
-    proof_of (first_loaded (loaded p.session) auths) (entity_of p (first handles)) code (names_of p handles) params p.update_counter auths
+abbrev pub evidence_in : Present → CommandCode → (handles : List ℕ) → (params : List ℕ) → List Auth → Result Evidence ℕ
+evidence_in p code handles params auths =
+    evidence_of (first_loaded (loaded p.sessions) auths) (entity_of p (first handles)) code (names_of p handles) params p.registers.update_counter auths
 
 -- all checks before the password or the HMAC is compared
-abbrev pub presented : Commands → Present → List ℕ → Result Presented ℕ
+abbrev pub presented : CommandSet → Present → List ℕ → Result Presented ℕ
 presented has p bytes = do
   head ← by_grammar header (at_start bytes)
   _ ← check_has (has head.0.code)
@@ -95,14 +96,14 @@ presented has p bytes = do
   _ ← check_handles p 1 list.0
   _ ← check_tag head.0.code head.0.tag
   auths ← by_grammar (authorization head.0.tag) list.1
-  proof ← proof_in p head.0.code list.0 auths.1.rest auths.0
-  Ok (record { code = head.0.code; handles = list.0; auths = auths.0; params = auths.1.rest; entity = entity_of p (first list.0); proof = proof })
+  evidence ← evidence_in p head.0.code list.0 auths.1.rest auths.0
+  Ok (record { code = head.0.code; handles = list.0; auths = auths.0; params = auths.1.rest; entity = entity_of p (first list.0); evidence = evidence })
 
 -- all checks before the parameters
-abbrev pub permitted : Commands → Present → List ℕ → Result Presented ℕ
+abbrev pub permitted : CommandSet → Present → List ℕ → Result Presented ℕ
 permitted has p bytes = do
   x ← presented has p bytes
-  _ ← check_proof x.entity x.proof
+  _ ← check_evidence x.entity x.evidence
   Ok x
 
 -- a command that was done, and its reply
@@ -121,11 +122,11 @@ performed p nonce x = do
   body ← action p (body_from x.handles params) nonce
   Ok (record {
     command = with_auths (body_from x.handles params) x.auths;
-    reply = record { body = body; auths = reply_auths x.proof x.code (reply_params body) nonce };
+    reply = record { body = body; auths = reply_auths x.evidence x.code (reply_params body) nonce };
   })
 
 -- what is done, or the code of the first check that fails
-abbrev pub outcome : Commands → Present → List ℕ → List ℕ → Result Done ℕ
+abbrev pub outcome : CommandSet → Present → List ℕ → List ℕ → Result Done ℕ
 outcome has p bytes nonce = do
   x ← permitted has p bytes
   performed p nonce x
@@ -137,7 +138,7 @@ abbrev pub answered : Result Done ℕ → List ℕ
 answered (Ok d) = spelling (response (code_for d.command.body)) (done_with d.reply)
 answered (Err code) = spelling (response codes.Startup) (responses.Code code)
 
-abbrev pub answer : Commands → Origin → History → (bytes nonce : List ℕ) → List ℕ
+abbrev pub answer : CommandSet → Origin → History → (bytes nonce : List ℕ) → List ℕ
 answer has o h bytes nonce = answered (outcome has (present o h) bytes nonce)
 
 abbrev pub with_outcome : History → (nonce : List ℕ) → Result Done ℕ → History
@@ -145,5 +146,5 @@ with_outcome h nonce (Ok d) = Accepted d.command d.reply nonce ∷ h
 with_outcome h nonce (Err code) = h
 
 -- the history after a buffer: a step more where it was accepted, and otherwise the same
-abbrev pub next : Commands → Origin → History → (bytes nonce : List ℕ) → History
+abbrev pub next : CommandSet → Origin → History → (bytes nonce : List ℕ) → History
 next has o h bytes nonce = with_outcome h nonce (outcome has (present o h) bytes nonce)

@@ -2,6 +2,7 @@
 -- Acknowledgments"; the order is this profile's).
 use Rattle.std.specs.Prelude.{ℕ, ◌+◌, Bool, true, false, not, ◌&&◌, ◌==◌, bytes_eq, List, [], ◌∷◌, take, Option, Some, None, Result, Ok, Err, if◌then◌else◌}
 use Rattle.tpm_wire.specs.Reading.{◌>>=◌}
+use Rattle.tpm_wire.specs.ResponseCodes.{rc_attributes, rc_auth_fail, rc_auth_unavailable, rc_bad_auth, rc_nonce, rc_pcr_changed, rc_policy_cc, rc_policy_fail, rc_reference_s0, of_session}
 use Rattle.tpm_types.specs.declared.alg.Alg.{Alg}
 use Rattle.tpm_types.specs.declared.tpms.Auth.{Auth}
 use Rattle.tpm_types.specs.declared.tpms.AuthReply.{AuthReply}
@@ -12,9 +13,8 @@ use Rattle.tpm_buffer.specs.declared.code.CommandCode.{CommandCode}
 use Rattle.tpm_buffer.specs.declared.code.CommandCode.TheVariants as codes
 use Rattle.tpm_buffer.specs.Codes.{code_number}
 use Rattle.tpm_hmac.specs.Hmac.{hmac}
-use Rattle.tpm_hmac.specs.Sessions.{trim, Authorizes, included_auth_value, whole_key, cp_hash, rp_hash, mac_text}
-use Rattle.tpm_hmac.specs.Sessions.Authorizes.{ByHmac, ByPolicy}
-use Rattle.tpm_model.specs.Codes.{pcr_changed_code, auth_unavailable_code, reference_s0_code, attributes_code, auth_fail_code, nonce_code, policy_fail_code, bad_auth_code, policy_cc_code, session_number}
+use Rattle.tpm_hmac.specs.Sessions.{trim, AuthValueRule, included_auth_value, whole_key, cp_hash, rp_hash, mac_text}
+use Rattle.tpm_hmac.specs.Sessions.AuthValueRule.{ByHmac, ByPolicy}
 use Rattle.tpm_model.specs.Sessions.{Session, is_hmac, is_trial}
 use Rattle.tpm_model.specs.Entities.{Entity, auth_value, is_owner_entity}
 use Rattle.tpm_model.specs.Entities.Entity.{Index}
@@ -36,8 +36,9 @@ pub data Authorizer : Type 0 where
   Password : Authorizer
   BySession : (session : Session) → Authorizer
 
+-- a session, where it is loaded
 abbrev pub by_session : Option Session → Result Authorizer ℕ
-by_session None = Err reference_s0_code
+by_session None = Err rc_reference_s0
 by_session (Some s) = Ok (BySession s)
 
 -- Any but a password is loaded.
@@ -47,20 +48,20 @@ check_loaded handle s = if handle == rs_pw then Ok Password else by_session s
 -- A trial session authorizes nothing (Part 1, "Trial Policy").
 abbrev pub check_no_trial : Authorizer → Result (Unit {0}) ℕ
 check_no_trial Password = Ok tt
-check_no_trial (BySession s) = refuse (is_trial s.session_type) (attributes_code + session_number 1)
+check_no_trial (BySession s) = refuse (is_trial s.session_type) (rc_attributes + of_session 1)
 
 -- A password has no nonce (Part 1, "Password Authorizations").
 abbrev pub check_no_nonce : Authorizer → List ℕ → Result (Unit {0}) ℕ
-check_no_nonce Password nonce = refuse (not (is_empty nonce)) (nonce_code + session_number 1)
+check_no_nonce Password nonce = refuse (not (is_empty nonce)) (rc_nonce + of_session 1)
 check_no_nonce (BySession s) nonce = Ok tt
 
 -- Not audited and not encrypted, no trial, no password with a nonce, and no second session (this profile).
 abbrev pub check_session : Authorizer → Auth → List Auth → Result (Unit {0}) ℕ
 check_session by a others = do
-  _ ← refuse (audits_or_encrypts a.attrs) (attributes_code + session_number 1)
+  _ ← refuse (audits_or_encrypts a.attrs) (rc_attributes + of_session 1)
   _ ← check_no_trial by
   _ ← check_no_nonce by a.nonce
-  refuse (not (is_empty others)) (attributes_code + session_number 2)
+  refuse (not (is_empty others)) (rc_attributes + of_session 2)
 
 -- ---- the entity
 
@@ -78,13 +79,13 @@ allows_policy _ attrs = true
 
 -- Anything else has an authValue.
 abbrev pub check_auth : Entity → CommandCode → Result (Unit {0}) ℕ
-check_auth (Index public auth) code = refuse (not (allows_auth code public.attrs)) auth_unavailable_code
+check_auth (Index public auth) code = refuse (not (allows_auth code public.attrs)) rc_auth_unavailable
 check_auth _ code = Ok tt
 
 -- Nothing else has a policy.
 abbrev pub check_policy_allowed : Entity → CommandCode → Result (Unit {0}) ℕ
-check_policy_allowed (Index public auth) code = refuse (not (allows_policy code public.attrs)) auth_unavailable_code
-check_policy_allowed _ code = Err auth_unavailable_code
+check_policy_allowed (Index public auth) code = refuse (not (allows_policy code public.attrs)) rc_auth_unavailable
+check_policy_allowed _ code = Err rc_auth_unavailable
 
 -- ---- the policy (Part 1, "Policy Session Authorization")
 
@@ -101,19 +102,19 @@ has_policy _ s = false
 abbrev pub check_policy : Entity → CommandCode → (update_counter : ℕ) → Session → Result (Unit {0}) ℕ
 check_policy e code update_counter s = do
   _ ← check_policy_allowed e code
-  _ ← refuse (differs s.policy.update_counter update_counter) pcr_changed_code
-  _ ← refuse (not (has_policy e s)) (policy_fail_code + session_number 1)
-  refuse (differs s.policy.code (code_number code)) (policy_cc_code + session_number 1)
+  _ ← refuse (differs s.policy.update_counter update_counter) rc_pcr_changed
+  _ ← refuse (not (has_policy e s)) (rc_policy_fail + of_session 1)
+  refuse (differs s.policy.code (code_number code)) (rc_policy_cc + of_session 1)
 
 -- The entity lets itself be used so, and a policy is met.
 abbrev pub check_entity : Authorizer → Entity → CommandCode → (update_counter : ℕ) → Result (Unit {0}) ℕ
 check_entity Password e code update_counter = check_auth e code
 check_entity (BySession s) e code update_counter = if is_hmac s.session_type then check_auth e code else check_policy e code update_counter s
 
--- ---- the proof of authorization
+-- ---- the evidence
 
 -- how a session makes the authValue part of the key
-abbrev pub how : Session → Entity → Authorizes
+abbrev pub how : Session → Entity → AuthValueRule
 how s e = if is_hmac s.session_type then ByHmac (s.is_bound && is_owner_entity e) else ByPolicy s.policy.auth_value
 
 -- what follows the session key
@@ -142,15 +143,16 @@ abbrev pub is_signed : Signed → Bool
 is_signed x = if needs_none x then true else bytes_eq x.auth.hmac (hmac x.session.hash x.key (command_text x))
 
 -- what is left to be compared
-pub data Proof : Type 0 where
+pub data Evidence : Type 0 where
   -- no handle needs authorization
-  NotAsked : Proof
-  ByPassword : (given wanted : List ℕ) → Proof
-  ByMac : (signed : Signed) → Proof
+  NotAsked : Evidence
+  ByPassword : (given wanted : List ℕ) → Evidence
+  ByMac : (signed : Signed) → Evidence
 
-abbrev pub proof_by : Authorizer → Entity → CommandCode → (names : List (List ℕ)) → (params : List ℕ) → Auth → Proof
-proof_by Password e code names params a = ByPassword (trim a.hmac) (auth_value e)
-proof_by (BySession s) e code names params a =
+-- what a password or a session gives as evidence for a command with these Names and parameters
+abbrev pub evidence_by : Authorizer → Entity → CommandCode → (names : List (List ℕ)) → (params : List ℕ) → Auth → Evidence
+evidence_by Password e code names params a = ByPassword (trim a.hmac) (auth_value e)
+evidence_by (BySession s) e code names params a =
     ByMac (record { session = s; key = key_for s e; p_hash = cp_hash s.hash (code_number code) names params; auth = a })
 
 -- the session that is named, among those that are loaded
@@ -159,30 +161,30 @@ first_loaded loaded [] = None
 first_loaded loaded (a ∷ others) = loaded a.session
 
 -- All checks of the sessions but the last. The parameters are as they came.
-abbrev pub proof_of : Option Session → Entity → CommandCode → (names : List (List ℕ)) → (params : List ℕ) → (update_counter : ℕ) → List Auth → Result Proof ℕ
-proof_of s e code names params update_counter [] = Ok NotAsked
-proof_of s e code names params update_counter (a ∷ others) = do
+abbrev pub evidence_of : Option Session → Entity → CommandCode → (names : List (List ℕ)) → (params : List ℕ) → (update_counter : ℕ) → List Auth → Result Evidence ℕ
+evidence_of s e code names params update_counter [] = Ok NotAsked
+evidence_of s e code names params update_counter (a ∷ others) = do
   by ← check_loaded a.session s
   _ ← check_session by a others
   _ ← check_entity by e code update_counter
-  Ok (proof_by by e code names params a)
+  Ok (evidence_by by e code names params a)
 
 -- A failure counts against an index that does not have TPMA_NV_NO_DA (Part 1, "Dictionary Attack Protection").
 abbrev pub failure : Entity → ℕ
-failure (Index public auth) = (if no_da public.attrs then bad_auth_code else auth_fail_code) + session_number 1
-failure _ = bad_auth_code + session_number 1
+failure (Index public auth) = (if no_da public.attrs then rc_bad_auth else rc_auth_fail) + of_session 1
+failure _ = rc_bad_auth + of_session 1
 
 -- The last check: the password or the HMAC.
-abbrev pub check_proof : Entity → Proof → Result (Unit {0}) ℕ
-check_proof e NotAsked = Ok tt
-check_proof e (ByPassword given wanted) = refuse (not (bytes_eq given wanted)) (failure e)
-check_proof e (ByMac x) = refuse (not (is_signed x)) (failure e)
+abbrev pub check_evidence : Entity → Evidence → Result (Unit {0}) ℕ
+check_evidence e NotAsked = Ok tt
+check_evidence e (ByPassword given wanted) = refuse (not (bytes_eq given wanted)) (failure e)
+check_evidence e (ByMac x) = refuse (not (is_signed x)) (failure e)
 
 -- all checks of the sessions
 abbrev pub authorize : Option Session → Entity → CommandCode → (names : List (List ℕ)) → (params : List ℕ) → (update_counter : ℕ) → List Auth → Result (Unit {0}) ℕ
 authorize s e code names params update_counter auths = do
-  proof ← proof_of s e code names params update_counter auths
-  check_proof e proof
+  evidence ← evidence_of s e code names params update_counter auths
+  check_evidence e evidence
 
 -- ---- the session of the reply
 
@@ -203,7 +205,7 @@ abbrev pub password_reply : AuthReply
 password_reply = record { nonce = []; attrs = 0x01; hmac = [] }
 
 -- the sessions of a reply with these parameters
-abbrev pub reply_auths : Proof → CommandCode → (params nonce : List ℕ) → List AuthReply
+abbrev pub reply_auths : Evidence → CommandCode → (params nonce : List ℕ) → List AuthReply
 reply_auths NotAsked code params nonce = []
 reply_auths (ByPassword given wanted) code params nonce = password_reply ∷ []
 reply_auths (ByMac x) code params nonce = record {

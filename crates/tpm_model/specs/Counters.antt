@@ -1,39 +1,34 @@
 -- NV counters at a history (Part 1, "NV Memory"; Part 3, TPM2_NV_DefineSpace, TPM2_NV_Increment).
-use Rattle.std.specs.Prelude.{ℕ, suc, ◌+◌, ◌-◌, max, ◌==◌, List, [], ◌∷◌, Option, Some, None, if◌then◌else◌}
+use Rattle.std.specs.Prelude.{ℕ, ◌+◌, max, Bool, not, ◌==◌, List, [], ◌∷◌, ◌++◌, filter, Option, Some, None, if◌then◌else◌}
 use Rattle.tpm_types.specs.declared.tpms.NvPublic.{NvPublic}
 use Rattle.tpm_types.specs.Tpma.{with_written}
 use Rattle.tpm_buffer.specs.declared.command.CommandBody.{CommandBody}
 use Rattle.tpm_buffer.specs.declared.command.CommandBody.TheVariants as bodies
+use Rattle.tpm_hmac.specs.Sessions.{trim}
 use Rattle.tpm_model.specs.Steps.{History, PowerCycle, Accepted, Origin}
 
--- ---- definitions
+-- ---- counters
 
--- what an index is defined with
-pub record Definition : Type 0 where
+-- an index that is defined
+pub record Counter : Type 0 where
+  -- its public area, with the attributes as they are now
   pub public : NvPublic
+  -- without trailing zeros
   pub auth : List ℕ
+  -- its value, where it was incremented since its definition
+  pub value : Option ℕ
 
-abbrev pub defined_by : ℕ → CommandBody → Option Definition → Option Definition
-defined_by i (bodies.NvDefineSpace auth public) old = if public.index == i then Some (record { public = public; auth = auth }) else old
-defined_by i (bodies.NvUndefineSpace index) old = if index == i then None else old
-defined_by i _ old = old
+abbrev pub has_index : ℕ → Counter → Bool
+has_index i c = c.public.index == i
 
--- the last definition of an index, where no undefinition is later
-abbrev pub definition : ℕ → History → Option Definition
-definition i [] = None
-definition i (PowerCycle ∷ h) = definition i h
-definition i (Accepted c r n ∷ h) = defined_by i c.body (definition i h)
+-- the counter of an index
+abbrev pub counter_in : List Counter → ℕ → Option Counter
+counter_in [] i = None
+counter_in (c ∷ counters) i = if has_index i c then Some c else counter_in counters i
 
-abbrev pub counted_by : CommandBody → ℕ → ℕ
-counted_by (bodies.NvDefineSpace auth public) old = suc old
-counted_by (bodies.NvUndefineSpace index) old = old - 1
-counted_by _ old = old
-
--- how many indices are defined
-abbrev pub counters : History → ℕ
-counters [] = 0
-counters (PowerCycle ∷ h) = counters h
-counters (Accepted c r n ∷ h) = counted_by c.body (counters h)
+-- the counters without that of an index
+abbrev pub without : ℕ → List Counter → List Counter
+without i counters = filter (λ c. not (has_index i c)) counters
 
 -- ---- values
 
@@ -43,46 +38,64 @@ abbrev pub next_value : (greatest : ℕ) → Option ℕ → ℕ
 next_value greatest None = greatest + 1
 next_value greatest (Some v) = v + 1
 
-abbrev pub value_by : ℕ → CommandBody → (greatest : ℕ) → Option ℕ → Option ℕ
-value_by i (bodies.NvDefineSpace auth public) greatest old = if public.index == i then None else old
-value_by i (bodies.NvUndefineSpace index) greatest old = if index == i then None else old
-value_by i (bodies.NvIncrement by index) greatest old = if index == i then Some (next_value greatest old) else old
-value_by i _ greatest old = old
+-- An increment sets TPMA_NV_WRITTEN (Part 2, 13.4).
+abbrev pub written : NvPublic → NvPublic
+written p = record p { attrs = with_written p.attrs }
 
-abbrev pub greatest_by : CommandBody → (value : ℕ → Option ℕ) → ℕ → ℕ
-greatest_by (bodies.NvIncrement by index) value old = max old (next_value old (value index))
-greatest_by _ value old = old
+abbrev pub incremented : (greatest : ℕ) → Counter → Counter
+incremented greatest c = record { public = written c.public; auth = c.auth; value = Some (next_value greatest c.value) }
 
-abbrev mutual
-  -- the value of an index, where it was incremented since its definition
-  pub value_at : Origin → History → ℕ → Option ℕ
-  value_at o [] i = None
-  value_at o (PowerCycle ∷ h) i = value_at o h i
-  value_at o (Accepted c r n ∷ h) i = value_by i c.body (greatest o h) (value_at o h i)
+-- the counters with that of an index incremented
+abbrev pub with_increment : ℕ → (greatest : ℕ) → List Counter → List Counter
+with_increment i greatest [] = []
+with_increment i greatest (c ∷ counters) = if has_index i c then incremented greatest c ∷ counters else c ∷ with_increment i greatest counters
 
+abbrev pub value_of : Option Counter → Option ℕ
+value_of None = None
+value_of (Some c) = c.value
+
+-- ---- NV memory
+
+pub record NvMemory : Type 0 where
+  -- those that are defined, in the order of their definitions
+  pub counters : List Counter
   -- the greatest of the number that made the device and of all values that increments gave
-  pub greatest : Origin → History → ℕ
-  greatest o [] = o.greatest
-  greatest o (PowerCycle ∷ h) = greatest o h
-  greatest o (Accepted c r n ∷ h) = greatest_by c.body (value_at o h) (greatest o h)
+  pub greatest : ℕ
 
--- ---- a counter as it is held
+-- a counter with this definition, not incremented yet
+abbrev pub defined : (auth : List ℕ) → NvPublic → Counter
+defined auth public = record { public = public; auth = trim auth; value = None }
 
-pub record Counter : Type 0 where
-  -- its public area, with the attributes as they are now
-  pub public : NvPublic
-  pub auth : List ℕ
-  pub value : Option ℕ
+-- what an accepted command makes of it
+abbrev pub nv_by : CommandBody → NvMemory → NvMemory
+nv_by (bodies.NvDefineSpace auth public) nv = record nv { counters = nv.counters ++ defined auth public ∷ [] }
+nv_by (bodies.NvUndefineSpace index) nv = record nv { counters = without index nv.counters }
+nv_by (bodies.NvIncrement by index) nv = record {
+  counters = with_increment index nv.greatest nv.counters;
+  greatest = max nv.greatest (next_value nv.greatest (value_of (counter_in nv.counters index)));
+}
+nv_by (bodies.Startup kind) nv = nv
+nv_by (bodies.PcrExtend q digests) nv = nv
+nv_by (bodies.PcrEvent q event) nv = nv
+nv_by (bodies.PcrReset q) nv = nv
+nv_by (bodies.PcrRead sels) nv = nv
+nv_by (bodies.StartAuthSession start) nv = nv
+nv_by (bodies.FlushContext handle) nv = nv
+nv_by (bodies.PolicyPcr handle pcr_digest sels) nv = nv
+nv_by (bodies.PolicyOr handle digests) nv = nv
+nv_by (bodies.PolicyCommandCode handle code) nv = nv
+nv_by (bodies.PolicyAuthValue handle) nv = nv
+nv_by (bodies.PolicyRestart handle) nv = nv
+nv_by (bodies.PolicyGetDigest handle) nv = nv
+nv_by (bodies.NvRead by index size offset) nv = nv
+nv_by (bodies.NvReadPublic index) nv = nv
 
--- the public area of a counter with this value, if it has one: the first increment sets TPMA_NV_WRITTEN (Part 2, 13.4)
-abbrev pub public_with : NvPublic → Option ℕ → NvPublic
-public_with p None = p
-public_with p (Some v) = record { index = p.index; alg = p.alg; attrs = with_written p.attrs; policy = p.policy; data_size = p.data_size }
+-- the NV memory after the commands of a history: power cycles leave it
+abbrev pub nv_memory : Origin → History → NvMemory
+nv_memory o [] = record { counters = []; greatest = o.greatest }
+nv_memory o (PowerCycle ∷ h) = nv_memory o h
+nv_memory o (Accepted c r n ∷ h) = nv_by c.body (nv_memory o h)
 
-abbrev pub as_counter : Option ℕ → Option Definition → Option Counter
-as_counter value None = None
-as_counter value (Some d) = Some (record { public = public_with d.public value; auth = d.auth; value = value })
-
--- the counter of an index, where it is defined
-abbrev pub counter_at : Origin → History → ℕ → Option Counter
-counter_at o h i = as_counter (value_at o h i) (definition i h)
+-- the value of an index, where it was incremented since its definition
+abbrev pub value_at : Origin → History → ℕ → Option ℕ
+value_at o h i = value_of (counter_in (nv_memory o h).counters i)

@@ -8,7 +8,7 @@ use Rattle.tpm_types.specs.Handles.{is_owner, is_pcr, is_nv_index}
 use Rattle.tpm_types.specs.Tpms.{nv_public_area}
 use Rattle.tpm_hmac.specs.Hashes.{digest}
 use Rattle.tpm_hmac.specs.Sessions.{trim}
-use Rattle.tpm_model.specs.Counters.{Counter}
+use Rattle.tpm_model.specs.Counters.{Counter, counter_in}
 use Rattle.tpm_model.specs.Present.{Present}
 
 -- ---- entities
@@ -41,7 +41,7 @@ abbrev pub entity_of : Present → ℕ → Entity
 entity_of p handle =
     if is_pcr handle then Register
     else if is_owner handle then Owner p.owner
-    else if is_nv_index handle then index_entity (p.counter handle)
+    else if is_nv_index handle then index_entity (counter_in p.nv.counters handle)
     else Null
 
 -- ---- Names (Part 1, "Names")
@@ -59,7 +59,7 @@ index_name None handle = handle_name handle
 index_name (Some c) handle = nv_name c.public
 
 abbrev pub name_of : Present → ℕ → List ℕ
-name_of p handle = if is_nv_index handle then index_name (p.counter handle) handle else handle_name handle
+name_of p handle = if is_nv_index handle then index_name (counter_in p.nv.counters handle) handle else handle_name handle
 
 abbrev pub names_of : Present → List ℕ → List (List ℕ)
 names_of p handles = map (name_of p) handles

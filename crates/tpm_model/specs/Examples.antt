@@ -3,9 +3,9 @@ use Prim.Native.String.{String}
 use Rattle.std.specs.Prelude.{◌≡◌, ℕ, ◌+◌, ◌-◌, ◌*◌, ◌^◌, true, false, not, nat_le, ◌==◌, List, [], ◌∷◌, ◌++◌, length, replicate, filter, flat_map, codes, Some, if◌then◌else◌}
 use Rattle.tpm_buffer.specs.declared.code.CommandCode.TheVariants as commands
 use Rattle.tpm_model.specs.Steps.{History, Origin}
-use Rattle.tpm_model.specs.Registers.{update_counter}
+use Rattle.tpm_model.specs.Registers.{changes, update_counter}
 use Rattle.tpm_model.specs.Counters.{value_at}
-use Rattle.tpm_model.specs.Answers.{Commands, answer}
+use Rattle.tpm_model.specs.Answers.{CommandSet, answer}
 use Rattle.tpm_model.specs.Runs.{Event, after}
 use Rattle.tpm_model.specs.Runs.Event.{Given, Cycled}
 
@@ -23,11 +23,11 @@ hex text = bytes_of (filter (λ c. not (c == 32)) (codes text))
 
 -- ---- devices
 
-abbrev pub every : Commands
+abbrev pub every : CommandSet
 every code = true
 
 -- a device in the making, which can be started and no more
-abbrev pub startup_alone : Commands
+abbrev pub startup_alone : CommandSet
 startup_alone commands.Startup = true
 startup_alone _ = false
 
@@ -73,6 +73,10 @@ zero_digest = replicate 32 0
 -- by the empty password, with one digest of SHA-256
 abbrev pub pcr_extend : String → List ℕ
 pcr_extend handle = hex "8002 00000041 00000182" ++ hex handle ++ hex "00000009 40000009 0000 01 0000 00000001 000b" ++ zero_digest
+
+-- by the empty password, with this event
+abbrev pub pcr_event : (size : String) → String → (event : List ℕ) → List ℕ
+pcr_event size handle event = hex "8002" ++ hex size ++ hex "0000013c" ++ hex handle ++ hex "00000009 40000009 0000 01 0000" ++ event
 
 -- by these sessions, whose area has this size
 abbrev pub pcr_reset : (size area : String) → String → String → List ℕ
@@ -160,10 +164,16 @@ pub record Examples : Type 0 where
 
   pub dynamic_register : reply_to new (startup ∷ []) (pcr_extend "00000011") ≡ code "00000907"
   pub no_register : reply_to new (startup ∷ []) (pcr_extend "40000007") ≡ success_by_password
+  pub event_in_dynamic_register : reply_to new (startup ∷ []) (pcr_event "00000021" "00000011" (hex "0004 00000000")) ≡ code "00000907"
+  pub event_in_no_register_there_is : reply_to new (startup ∷ []) (pcr_event "00000021" "00000018" (hex "0004 00000000")) ≡ code "00000184"
+  pub event_too_long : reply_to new (startup ∷ []) (pcr_event "0000041e" "00000000" (hex "0401" ++ replicate 1025 0)) ≡ code "000001d5"
+  -- an event of four bytes, an empty one, and one into no register
+  pub event_updates : update_counter (changes (accepted new (startup ∷ pcr_event "00000021" "00000000" (hex "0004 00000000") ∷ pcr_event "0000001d" "00000000" (hex "0000")
+      ∷ pcr_event "00000021" "40000007" (hex "0004 00000000") ∷ []))) ≡ 2
   -- one digest into a register, one into none, no digest, and a reset
-  pub two_updates : update_counter (accepted new (startup ∷ pcr_extend "00000000" ∷ pcr_extend "40000007"
-      ∷ hex "8002 0000001f 00000182 00000000 00000009 40000009 0000 01 0000 00000000" ∷ reset_by "40000009 0000 01 0000" ∷ [])) ≡ 2
-  pub updates_forgotten : update_counter (after every new [] (given 1 (startup ∷ pcr_extend "00000000" ∷ []) ++ Cycled ∷ [])) ≡ 0
+  pub two_updates : update_counter (changes (accepted new (startup ∷ pcr_extend "00000000" ∷ pcr_extend "40000007"
+      ∷ hex "8002 0000001f 00000182 00000000 00000009 40000009 0000 01 0000 00000000" ∷ reset_by "40000009 0000 01 0000" ∷ []))) ≡ 2
+  pub updates_forgotten : update_counter (changes (after every new [] (given 1 (startup ∷ pcr_extend "00000000" ∷ []) ++ Cycled ∷ []))) ≡ 0
   -- ---- registers that are read
 
   pub one_value : reply_to new (startup ∷ []) pcr_read ≡ hex "8001 0000003e 00000000 00000000 00000001 000b 03 010000 00000001 0020" ++ zero_digest

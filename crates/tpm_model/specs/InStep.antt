@@ -2,7 +2,7 @@
 use Rattle.std.specs.Prelude.{◌≡◌, ℕ, List, length, Some}
 use Rattle.tpm_types.specs.declared.alg.Alg.{Alg}
 use Rattle.tpm_model.specs.Steps.{History, Origin}
-use Rattle.tpm_model.specs.Sessions.{Session, session_at, loaded}
+use Rattle.tpm_model.specs.Sessions.{Session, sessions_at, loaded}
 
 -- what a caller holds of its session
 pub record CallerSession : Type 0 where
@@ -21,4 +21,4 @@ pub record Agrees (c : CallerSession) (s : Session) : Type 0 where
 
 -- The caller's session lives at the history, with its handle, hash, key and nonceTPM.
 abbrev pub InStep : Origin → History → CallerSession → Type 0
-InStep o h c = (s : Session) × (loaded (session_at o h) c.handle ≡ Some s) × Agrees c s
+InStep o h c = (s : Session) × (loaded (sessions_at o h) c.handle ≡ Some s) × Agrees c s

@@ -1,4 +1,3 @@
-pub mod Codes
 pub mod Steps
 pub mod Registers
 pub mod Policies

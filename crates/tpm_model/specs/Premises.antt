@@ -1,14 +1,16 @@
 -- What the laws on runs speak of.
-use Rattle.std.specs.Prelude.{◌≡◌, ◌≢◌, ◌⊎◌, ℕ, ◌<◌, true, List, [], ◌∷◌, ◌++◌, length, take, drop, Option, Some, None, Result, Ok, Err, ◌==◌, if◌then◌else◌}
-use Rattle.tpm_wire.specs.Token.{number_of}
+use Rattle.std.specs.Prelude.{◌≡◌, ◌≢◌, ◌⊎◌, ◌↔◌, ℕ, ◌<◌, true, List, [], ◌∷◌, ◌++◌, length, take, drop, Option, Some, None, Result, Ok, Err, ◌==◌, if◌then◌else◌}
+use Rattle.tpm_wire.specs.Buffers.{Layout}
+use Rattle.tpm_wire.specs.Token.{number_of, Here}
 use Rattle.tpm_wire.specs.declared.refusal.Refusal.{Refusal}
 use Rattle.tpm_wire.specs.Reading.{read_all}
-use Rattle.tpm_wire.specs.Path.{Spells}
+use Rattle.tpm_wire.specs.Path.{Spells, Fault, Begins, FaultFrom}
 use Rattle.tpm_wire.specs.Spelling.{Fits}
 use Rattle.tpm_types.specs.declared.alg.Alg.{Alg}
 use Rattle.tpm_types.specs.declared.tpms.Auth.{Auth}
 use Rattle.tpm_types.specs.declared.tpms.AuthReply.{AuthReply}
 use Rattle.tpm_types.specs.Handles.{is_session}
+use Rattle.tpm_types.specs.Limits.{digest_bytes}
 use Rattle.tpm_buffer.specs.declared.code.CommandCode.{CommandCode}
 use Rattle.tpm_buffer.specs.declared.command.Command.{Command}
 use Rattle.tpm_buffer.specs.declared.response.ReplyBody.{ReplyBody}
@@ -23,13 +25,25 @@ use Rattle.tpm_model.specs.Steps.{History, PowerCycle, Origin}
 use Rattle.tpm_model.specs.Sessions.{Session, loaded}
 use Rattle.tpm_model.specs.Present.{Present, present}
 use Rattle.tpm_model.specs.Entities.{Entity, entity_of, names_of}
-use Rattle.tpm_model.specs.Authorization.{Signed, command_text, needs_none, Proof, follows, nonce_next, reply_text}
-use Rattle.tpm_model.specs.Authorization.Proof.{NotAsked, ByPassword, ByMac}
-use Rattle.tpm_model.specs.Answers.{Commands, Presented, presented, Done, outcome, next, reply_params}
+use Rattle.tpm_model.specs.Authorization.{Signed, command_text, needs_none, Evidence, follows, nonce_next, reply_text}
+use Rattle.tpm_model.specs.Authorization.Evidence.{NotAsked, ByPassword, ByMac}
+use Rattle.tpm_model.specs.Answers.{code_only, by_grammar, CommandSet, Presented, presented, Done, outcome, next, reply_params}
 use Rattle.tpm_model.specs.InStep.{CallerSession, InStep}
 use Rattle.tpm_model.specs.Callers.{Seal, sealed_command, sealed, Waiting, waiting, Opened, with_nonce, awaited_text}
 use Rattle.tpm_model.specs.Runs.{Event}
 use Rattle.tpm_model.specs.Runs.Event.{Given, Cycled}
+
+-- ---- cuts
+
+-- A cut of the command is Ok exactly where the bytes from the place on begin so, and Err exactly where they have that fault.
+pub record IsByGrammar {A : Type 0} (l : Layout A) (h : Here) : Type 0 where
+  pub value : (x : A) (behind : Here) → (by_grammar l h ≡ Ok (x, behind)) ↔ Begins 0 l x h behind
+  pub fault : (code : ℕ) → (by_grammar l h ≡ Err code) ↔ ((e : Refusal) × FaultFrom 0 l h e × (e.code ≡ code))
+
+-- The same of what is left, which the layout has to fill.
+pub record IsWholeByGrammar {A : Type 0} (l : Layout A) (bytes : List ℕ) : Type 0 where
+  pub value : (x : A) → (code_only (read_all l bytes) ≡ Ok x) ↔ Spells l x bytes
+  pub fault : (code : ℕ) → (code_only (read_all l bytes) ≡ Err code) ↔ ((e : Refusal) × Fault l bytes e × (e.code ≡ code))
 
 -- ---- accepted buffers
 
@@ -38,12 +52,12 @@ abbrev pub code_in : List ℕ → ℕ
 code_in bytes = number_of (take 4 (drop 6 bytes))
 
 -- The buffer is done, and answered with code 0.
-abbrev pub IsAccepted : Commands → Origin → History → (bytes nonce : List ℕ) → Type 0
+abbrev pub IsAccepted : CommandSet → Origin → History → (bytes nonce : List ℕ) → Type 0
 IsAccepted has o h bytes nonce = (d : Done) × (outcome has (present o h) bytes nonce ≡ Ok d)
 
 -- The bytes spell a command whose session is an HMAC or policy session, with a nonempty HMAC.
-abbrev pub IsSealed : List ℕ → Type 0
-IsSealed bytes = (c : Command) × (a : Auth) × Spells command c bytes × (c.auths.items ≡ a ∷ []) × (is_session a.session ≡ true) × (0 < length a.hmac)
+abbrev pub HasSessionMac : List ℕ → Type 0
+HasSessionMac bytes = (c : Command) × (a : Auth) × Spells command c bytes × (c.auths.items ≡ a ∷ []) × (is_session a.session ≡ true) × (0 < length a.hmac)
 
 -- ---- nonces
 
@@ -85,17 +99,17 @@ abbrev pub keyed : Signed → Keyed
 keyed x = record { hash = x.session.hash; key = x.key; text = command_text x }
 
 -- The text that the last check of the sessions looks at. Where no HMAC is needed and none is there, there is none.
-abbrev pub text_in : Proof → List Keyed
+abbrev pub text_in : Evidence → List Keyed
 text_in NotAsked = []
 text_in (ByPassword given wanted) = []
 text_in (ByMac x) = if needs_none x then [] else keyed x ∷ []
 
 abbrev pub text_checked : Result Presented ℕ → List Keyed
-text_checked (Ok x) = text_in x.proof
+text_checked (Ok x) = text_in x.evidence
 text_checked (Err code) = []
 
 -- the texts whose HMACs are checked in a run
-abbrev pub texts_checked : Commands → Origin → History → List Event → List Keyed
+abbrev pub texts_checked : CommandSet → Origin → History → List Event → List Keyed
 texts_checked has o h [] = []
 texts_checked has o h (Given bytes nonce ∷ es) = text_checked (presented has (present o h) bytes) ++ (texts_checked has o (next has o h bytes nonce) es)
 texts_checked has o h (Cycled ∷ es) = texts_checked has o (PowerCycle ∷ h) es
@@ -109,7 +123,7 @@ abbrev pub AreFree : List Keyed → Type 0
 AreFree texts = (x y : Keyed) → IsAmong x texts → IsAmong y texts → mac_of x ≡ mac_of y → x.text ≡ y.text
 
 -- those that are checked in the run of a new device
-abbrev pub NoCollision : Commands → Origin → List Event → Type 0
+abbrev pub NoCollision : CommandSet → Origin → List Event → Type 0
 NoCollision has o es = AreFree (texts_checked has o [] es)
 
 -- ---- a caller and a device
@@ -126,14 +140,14 @@ asked_for (Some s) e = follows s e
 -- It is sealed with the Names as they are now, and with the authValue that the rules ask for, without trailing zeros.
 pub record IsPresent (p : Present) (s : Seal) : Type 0 where
   pub names : s.names ≡ names_of p (handles_of s.body)
-  pub auth : trim s.auth ≡ trim (asked_for (loaded p.session s.caller.handle) (entity_of p (first (handles_of s.body))))
+  pub auth : trim s.auth ≡ trim (asked_for (loaded p.sessions s.caller.handle) (entity_of p (first (handles_of s.body))))
 
 -- how many bytes are handed in, and how many a nonce of a session has at most
 abbrev pub nonce_bytes : ℕ
 nonce_bytes = 64
 
 abbrev pub most_nonce : ℕ
-most_nonce = 32
+most_nonce = digest_bytes
 
 -- A caller in step seals a command, with what is there.
 pub record IsReady (o : Origin) (h : History) (s : Seal) : Type 0 where
@@ -156,9 +170,9 @@ abbrev pub IsSealedBy : List Seal → List ℕ → Type 0
 IsSealedBy seals bytes = (s : Seal) × IsAmong s seals × Spells command (sealed_command s) bytes
 
 -- Each buffer that is accepted, and whose session is an HMAC or policy session with a nonempty HMAC, is sealed by one of these.
-abbrev pub AreSealed : Commands → Origin → List Seal → History → List Event → Type 0
+abbrev pub AreSealed : CommandSet → Origin → List Seal → History → List Event → Type 0
 AreSealed has o seals h [] = Unit {0}
-AreSealed has o seals h (Given bytes nonce ∷ es) = (IsAccepted has o h bytes nonce → IsSealed bytes → IsSealedBy seals bytes) × AreSealed has o seals (next has o h bytes nonce) es
+AreSealed has o seals h (Given bytes nonce ∷ es) = (IsAccepted has o h bytes nonce → HasSessionMac bytes → IsSealedBy seals bytes) × AreSealed has o seals (next has o h bytes nonce) es
 AreSealed has o seals h (Cycled ∷ es) = AreSealed has o seals (PowerCycle ∷ h) es
 
 abbrev pub IsOther : List ℕ → List Seal → Type 0
@@ -178,17 +192,18 @@ keyed_reply x code params nonce = record {
   text = reply_text x.session.hash code params (nonce_next x.session nonce) x.auth.nonce x.auth.attrs;
 }
 
-abbrev pub text_by : Proof → CommandCode → (params nonce : List ℕ) → List Keyed
+-- the text of the reply to a command with this evidence, where it has an HMAC
+abbrev pub text_by : Evidence → CommandCode → (params nonce : List ℕ) → List Keyed
 text_by NotAsked code params nonce = []
 text_by (ByPassword given wanted) code params nonce = []
 text_by (ByMac x) code params nonce = if needs_none x then [] else keyed_reply x code params nonce ∷ []
 
 abbrev pub text_replied : Result Presented ℕ → Result Done ℕ → (nonce : List ℕ) → List Keyed
-text_replied (Ok x) (Ok d) nonce = text_by x.proof x.code (reply_params d.reply.body) nonce
+text_replied (Ok x) (Ok d) nonce = text_by x.evidence x.code (reply_params d.reply.body) nonce
 text_replied _ _ nonce = []
 
 -- the texts of the HMACs of the replies in a run
-abbrev pub texts_replied : Commands → Origin → History → List Event → List Keyed
+abbrev pub texts_replied : CommandSet → Origin → History → List Event → List Keyed
 texts_replied has o h [] = []
 texts_replied has o h (Given bytes nonce ∷ es) =
     text_replied (presented has (present o h) bytes) (outcome has (present o h) bytes nonce) nonce ++ texts_replied has o (next has o h bytes nonce) es
@@ -216,12 +231,12 @@ texts_opened [] = []
 texts_opened (x ∷ xs) = text_opened (waiting x.seal) (read_all (response (code_for x.seal.body)) x.bytes) ++ texts_opened xs
 
 -- The same of the texts that are checked in the run of a new device, those of its replies, and those that opening checks.
-abbrev pub NoCollisionWith : Commands → Origin → List Event → List Opening → Type 0
+abbrev pub NoCollisionWith : CommandSet → Origin → List Event → List Opening → Type 0
 NoCollisionWith has o es xs = AreFree (texts_checked has o [] es ++ (texts_replied has o [] es ++ texts_opened xs))
 
 -- A run of a new device: its accepted commands with session HMACs are sealed by callers, the nonceCallers are pairwise different,
 -- and no two different texts have the same HMAC.
-pub record IsOfCallers (has : Commands) (o : Origin) (seals : List Seal) (xs : List Opening) (es : List Event) : Type 0 where
+pub record IsOfCallers (has : CommandSet) (o : Origin) (seals : List Seal) (xs : List Opening) (es : List Event) : Type 0 where
   pub sealed : AreSealed has o seals [] es
   pub differ : SealsDiffer seals
   pub no_collision : NoCollisionWith has o es xs

@@ -1,16 +1,65 @@
--- Platform configuration registers at a history (Part 1, "Platform Configuration Registers (PCR)").
-use Rattle.std.specs.Prelude.{ℕ, suc, ◌-◌, ◌/◌, ◌%◌, ◌^◌, Bool, true, false, ◌&&◌, nat_le, ◌==◌, List, [], ◌∷◌, ◌++◌, length, map, take, replicate, filter, flat_map, if◌then◌else◌}
+-- Platform configuration registers (Part 1, "Platform Configuration Registers (PCR)").
+use Rattle.std.specs.Prelude.{ℕ, suc, ◌-◌, ◌/◌, ◌%◌, ◌^◌, Bool, ◌&&◌, nat_le, ◌==◌, List, [], ◌∷◌, ◌++◌, length, map, take, replicate, filter, flat_map, slice_index_or, if◌then◌else◌}
 use Rattle.tpm_types.specs.declared.alg.Alg.{Alg}
 use Rattle.tpm_types.specs.declared.tpms.Selection.{Selection}
 use Rattle.tpm_types.specs.declared.handle_sets.PcrOrNull.{PcrOrNull}
 use Rattle.tpm_types.specs.declared.handle_sets.PcrOrNull.TheVariants.{Pcr, Null}
-use Rattle.tpm_types.specs.Alg.{alg_number, digest_len}
+use Rattle.tpm_types.specs.Alg.{all_algs, bank_place, alg_number, digest_len}
 use Rattle.tpm_types.specs.Tpma.{mask}
 use Rattle.tpm_types.specs.Tpms.{is_selected}
 use Rattle.tpm_buffer.specs.declared.command.CommandBody.{CommandBody}
 use Rattle.tpm_buffer.specs.declared.command.CommandBody.TheVariants as bodies
 use Rattle.tpm_hmac.specs.Hashes.{digest}
 use Rattle.tpm_model.specs.Steps.{History, PowerCycle, Accepted}
+
+-- ---- changes
+
+-- what changes registers
+pub data Change : Type 0 where
+  -- All have their start values, and the update counter is 0.
+  Restart : Change
+  -- Register 0 shows the locality from which the platform was started, which a log tells.
+  StartAt : (locality : ℕ) → Change
+  -- A register becomes zeros.
+  Reset : (register : ℕ) → Change
+  -- A register is extended with digests, in each bank with those of the bank's hash.
+  Extend : (register : ℕ) → (digests : List (Alg × List ℕ)) → Change
+
+-- the digests of an event: each bank's hash of it, SHA-1 first, and then by rising number (Part 3, TPM2_PCR_Event)
+abbrev pub event_digests : List ℕ → List (Alg × List ℕ)
+event_digests event = map (λ alg. (alg, digest alg event)) all_algs
+
+-- TPM_RH_NULL is no register.
+abbrev pub extends : PcrOrNull → List (Alg × List ℕ) → List Change
+extends (Pcr q) ds = Extend q ds ∷ []
+extends Null ds = []
+
+-- what an accepted command changes, the newest first
+abbrev pub changes_by : CommandBody → List Change
+changes_by (bodies.Startup kind) = Restart ∷ []
+changes_by (bodies.PcrExtend q ds) = extends q ds
+changes_by (bodies.PcrEvent q event) = extends q (event_digests event)
+changes_by (bodies.PcrReset q) = Reset q ∷ []
+changes_by (bodies.PcrRead sels) = []
+changes_by (bodies.StartAuthSession start) = []
+changes_by (bodies.FlushContext handle) = []
+changes_by (bodies.PolicyPcr handle pcr_digest sels) = []
+changes_by (bodies.PolicyOr handle digests) = []
+changes_by (bodies.PolicyCommandCode handle code) = []
+changes_by (bodies.PolicyAuthValue handle) = []
+changes_by (bodies.PolicyRestart handle) = []
+changes_by (bodies.PolicyGetDigest handle) = []
+changes_by (bodies.NvDefineSpace auth public) = []
+changes_by (bodies.NvUndefineSpace index) = []
+changes_by (bodies.NvIncrement by index) = []
+changes_by (bodies.NvRead by index size offset) = []
+changes_by (bodies.NvReadPublic index) = []
+
+-- the changes of a history, the newest first
+abbrev pub changes : History → List Change
+changes [] = []
+changes (PowerCycle ∷ h) = Restart ∷ changes h
+changes (Accepted c r n ∷ h) = changes_by c.body ++ changes h
 
 -- ---- values
 
@@ -29,6 +78,10 @@ zeros = filled_with 0
 abbrev pub start_value : Alg → ℕ → List ℕ
 start_value alg q = if is_dynamic q then filled_with 0xFF alg else zeros alg
 
+-- register 0 after a start from a locality: zeros, and the locality as the last byte
+abbrev pub locality_value : ℕ → Alg → List ℕ
+locality_value locality alg = replicate (digest_len alg - 1) 0 ++ locality ∷ []
+
 -- new = H(old || digest), for each digest in turn (Part 1, "Extend of a PCR")
 abbrev pub extended : Alg → List ℕ → List (List ℕ) → List ℕ
 extended alg old [] = old
@@ -41,49 +94,58 @@ is_of alg d = alg_number d.0 == alg_number alg
 abbrev pub digests_for : Alg → List (Alg × List ℕ) → List (List ℕ)
 digests_for alg ds = map (λ d. d.1) (filter (is_of alg) ds)
 
--- TPM_RH_NULL is no register.
-abbrev pub is_register : ℕ → PcrOrNull → Bool
-is_register q (Pcr p) = p == q
-is_register q Null = false
-
-abbrev pub value_by : Alg → ℕ → CommandBody → List ℕ → List ℕ
-value_by alg q (bodies.Startup kind) old = start_value alg q
-value_by alg q (bodies.PcrReset p) old = if p == q then zeros alg else old
-value_by alg q (bodies.PcrExtend p ds) old = if is_register q p then extended alg old (digests_for alg ds) else old
-value_by alg q _ old = old
+-- what a change makes of a register's value in a bank
+abbrev pub value_by : Alg → ℕ → Change → List ℕ → List ℕ
+value_by alg q Restart old = start_value alg q
+value_by alg q (StartAt locality) old = if q == 0 then locality_value locality alg else old
+value_by alg q (Reset p) old = if p == q then zeros alg else old
+value_by alg q (Extend p ds) old = if p == q then extended alg old (digests_for alg ds) else old
 
 -- The value of a register in a bank: from its start value or zeros, extended with all digests since its last start or reset.
-abbrev pub register_value : History → Alg → ℕ → List ℕ
+abbrev pub register_value : List Change → Alg → ℕ → List ℕ
 register_value [] alg q = start_value alg q
-register_value (PowerCycle ∷ h) alg q = start_value alg q
-register_value (Accepted c r n ∷ h) alg q = value_by alg q c.body (register_value h alg q)
+register_value (c ∷ cs) alg q = value_by alg q c (register_value cs alg q)
 
 -- ---- the update counter (Part 1, "PCR Update Counter"; once a command, and for each register, in this profile)
 
--- a register is extended with one digest at least
-abbrev pub extends : PcrOrNull → List (Alg × List ℕ) → Bool
-extends (Pcr p) (d ∷ ds) = true
-extends _ _ = false
+-- what a change makes of their number: a reset counts, and an extend with one digest at least
+abbrev pub updates_by : Change → ℕ → ℕ
+updates_by Restart old = 0
+updates_by (StartAt locality) old = old
+updates_by (Reset q) old = suc old
+updates_by (Extend q []) old = old
+updates_by (Extend q (d ∷ ds)) old = suc old
 
-abbrev pub updates_by : CommandBody → ℕ → ℕ
-updates_by (bodies.Startup kind) old = 0
-updates_by (bodies.PcrReset p) old = suc old
-updates_by (bodies.PcrExtend p ds) old = if extends p ds then suc old else old
-updates_by _ old = old
-
--- how many commands have changed registers since the last start
-abbrev pub updates : History → ℕ
+-- how many changes that count there were since the last start
+abbrev pub updates : List Change → ℕ
 updates [] = 0
-updates (PowerCycle ∷ h) = 0
-updates (Accepted c r n ∷ h) = updates_by c.body (updates h)
+updates (c ∷ cs) = updates_by c (updates cs)
 
-abbrev pub update_counter : History → ℕ
-update_counter h = updates h % 2 ^ 32
+abbrev pub update_counter : List Change → ℕ
+update_counter cs = updates cs % 2 ^ 32
 
--- ---- selections (Part 2, 10.6.2; Part 3, TPM2_PCR_Read)
+-- ---- registers as they are held
 
 abbrev pub all_registers : List ℕ
 all_registers = 0 ∷ 1 ∷ 2 ∷ 3 ∷ 4 ∷ 5 ∷ 6 ∷ 7 ∷ 8 ∷ 9 ∷ 10 ∷ 11 ∷ 12 ∷ 13 ∷ 14 ∷ 15 ∷ 16 ∷ 17 ∷ 18 ∷ 19 ∷ 20 ∷ 21 ∷ 22 ∷ 23 ∷ []
+
+-- the values of all registers, by bank and register
+unfoldable pub banks_of : (Alg → ℕ → List ℕ) → List (List (List ℕ))
+banks_of value = map (λ alg. map (value alg) all_registers) all_algs
+
+pub record Registers : Type 0 where
+  pub banks : List (List (List ℕ))
+  pub update_counter : ℕ
+
+-- the registers after these changes, of which the newest is the first
+abbrev pub registers_after : List Change → Registers
+registers_after cs = record { banks = banks_of (register_value cs); update_counter = update_counter cs }
+
+-- the value of a register in a bank
+abbrev pub value_in : List (List (List ℕ)) → Alg → ℕ → List ℕ
+value_in banks alg q = slice_index_or (slice_index_or banks (bank_place alg) []) q []
+
+-- ---- selections (Part 2, 10.6.2; Part 3, TPM2_PCR_Read)
 
 -- the registers that an entry selects, rising
 abbrev pub selected_by : Selection → List ℕ

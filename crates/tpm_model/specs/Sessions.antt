@@ -1,5 +1,5 @@
 -- Sessions at a history (Part 1, "Session-Based Authorizations"; Part 3, TPM2_StartAuthSession).
-use Rattle.std.specs.Prelude.{ℕ, ◌+◌, ◌%◌, Bool, true, false, not, ◌&&◌, ◌||◌, ◌==◌, is_none, find, List, [], ◌∷◌, length, take, Option, Some, None, option_map, if◌then◌else◌}
+use Rattle.std.specs.Prelude.{ℕ, ◌+◌, ◌%◌, Bool, true, false, not, ◌&&◌, ◌||◌, ◌==◌, is_some, is_none, find, slice_index_or, List, [], ◌∷◌, length, map, take, Option, Some, None, option_map, if◌then◌else◌}
 use Rattle.tpm_types.specs.declared.alg.Alg.{Alg}
 use Rattle.tpm_types.specs.declared.constants.SessionType.{SessionType}
 use Rattle.tpm_types.specs.declared.constants.SessionType.TheVariants.{Hmac, Trial}
@@ -16,7 +16,7 @@ use Rattle.tpm_buffer.specs.declared.response.ReplyBody.{ReplyBody}
 use Rattle.tpm_buffer.specs.declared.response.ReplyBody.TheVariants as replies
 use Rattle.tpm_hmac.specs.Sessions.{session_key}
 use Rattle.tpm_model.specs.Steps.{History, PowerCycle, Accepted, Origin}
-use Rattle.tpm_model.specs.Registers.{register_value, update_counter, composite}
+use Rattle.tpm_model.specs.Registers.{changes, registers_after, value_in, composite}
 use Rattle.tpm_model.specs.Policies.{Assertion, Policy, policy_of}
 use Rattle.tpm_model.specs.Policies.Assertion.{PcrAsserted, OrAsserted, CodeAsserted, AuthValueAsserted}
 
@@ -41,10 +41,34 @@ handle_for kind slot = (if is_hmac kind then 0x02000000 else 0x03000000) + slot
 
 -- ---- a session's life
 
--- The command started the session of this slot.
+-- a TPM2_StartAuthSession that answered the slot
+abbrev pub begun_with : ℕ → StartAuth → ReplyBody → Option StartAuth
+begun_with k start (replies.StartAuthSession reply) = if slot_of reply.session == k then Some start else None
+begun_with k start _ = None
+
+-- what the command started the session of this slot with, if it started one
+abbrev pub begun : ℕ → CommandBody → ReplyBody → Option StartAuth
+begun k (bodies.StartAuthSession start) reply = begun_with k start reply
+begun k (bodies.Startup kind) reply = None
+begun k (bodies.PcrExtend q digests) reply = None
+begun k (bodies.PcrEvent q event) reply = None
+begun k (bodies.PcrReset q) reply = None
+begun k (bodies.PcrRead sels) reply = None
+begun k (bodies.FlushContext handle) reply = None
+begun k (bodies.PolicyPcr handle pcr_digest sels) reply = None
+begun k (bodies.PolicyOr handle digests) reply = None
+begun k (bodies.PolicyCommandCode handle code) reply = None
+begun k (bodies.PolicyAuthValue handle) reply = None
+begun k (bodies.PolicyRestart handle) reply = None
+begun k (bodies.PolicyGetDigest handle) reply = None
+begun k (bodies.NvDefineSpace auth public) reply = None
+begun k (bodies.NvUndefineSpace index) reply = None
+begun k (bodies.NvIncrement by index) reply = None
+begun k (bodies.NvRead by index size offset) reply = None
+begun k (bodies.NvReadPublic index) reply = None
+
 abbrev pub begins : ℕ → CommandBody → ReplyBody → Bool
-begins k (bodies.StartAuthSession start) (replies.StartAuthSession reply) = slot_of reply.session == k
-begins k _ _ = false
+begins k body reply = is_some (begun k body reply)
 
 -- the session of this slot, and no password
 abbrev pub is_of_slot : ℕ → Auth → Bool
@@ -64,7 +88,22 @@ closes k (a ∷ others) = is_of_slot k a && not (continues a.attrs)
 abbrev pub clears : ℕ → CommandBody → Bool
 clears k (bodies.Startup kind) = true
 clears k (bodies.FlushContext handle) = slot_of handle == k
-clears k _ = false
+clears k (bodies.PcrExtend q digests) = false
+clears k (bodies.PcrEvent q event) = false
+clears k (bodies.PcrReset q) = false
+clears k (bodies.PcrRead sels) = false
+clears k (bodies.StartAuthSession start) = false
+clears k (bodies.PolicyPcr handle pcr_digest sels) = false
+clears k (bodies.PolicyOr handle digests) = false
+clears k (bodies.PolicyCommandCode handle code) = false
+clears k (bodies.PolicyAuthValue handle) = false
+clears k (bodies.PolicyRestart handle) = false
+clears k (bodies.PolicyGetDigest handle) = false
+clears k (bodies.NvDefineSpace auth public) = false
+clears k (bodies.NvUndefineSpace index) = false
+clears k (bodies.NvIncrement by index) = false
+clears k (bodies.NvRead by index size offset) = false
+clears k (bodies.NvReadPublic index) = false
 
 -- The last TPM2_StartAuthSession that answered the slot stands after the last power cycle, and no later step was a
 -- TPM2_Startup, flushed it, or was authorized by it with continueSession clear.
@@ -73,20 +112,21 @@ lives k [] = false
 lives k (PowerCycle ∷ h) = false
 lives k (Accepted c r n ∷ h) = begins k c.body r.body || (if clears k c.body || closes k c.auths.items then false else lives k h)
 
--- how a session was started
+-- how a session was started, and the nonce that was handed in
 pub record Start : Type 0 where
   pub request : StartAuth
   pub nonce : List ℕ
 
-abbrev pub started_by : CommandBody → List ℕ → Option Start → Option Start
-started_by (bodies.StartAuthSession start) nonce old = Some (record { request = start; nonce = nonce })
-started_by _ nonce old = old
+-- a step that started the session, or else what was
+abbrev pub started_by : Option StartAuth → (nonce : List ℕ) → Option Start → Option Start
+started_by None nonce old = old
+started_by (Some request) nonce old = Some (record { request = request; nonce = nonce })
 
 -- the last start that answered the slot
 abbrev pub start_of : ℕ → History → Option Start
 start_of k [] = None
 start_of k (PowerCycle ∷ h) = None
-start_of k (Accepted c r n ∷ h) = if begins k c.body r.body then started_by c.body n (start_of k h) else start_of k h
+start_of k (Accepted c r n ∷ h) = started_by (begun k c.body r.body) n (start_of k h)
 
 -- the nonce handed in at the last step that started the slot's session or was authorized by it
 abbrev pub last_nonce : ℕ → History → List ℕ
@@ -96,25 +136,42 @@ last_nonce k (Accepted c r n ∷ h) = if begins k c.body r.body || authorizes k 
 
 -- ---- a policy session's assertions
 
+-- the values of the registers
+abbrev pub values_at : History → Alg → ℕ → List ℕ
+values_at h = value_in (registers_after (changes h)).banks
+
 -- What TPM2_PolicyPCR asserts in a session of this type and hash: the composite of the registers as they are, with the
 -- update counter. A trial takes any digest that it is given for the composite, and keeps no update counter.
 abbrev pub pcr_assertion : History → SessionType → Alg → List ℕ → List Selection → Assertion
-pcr_assertion h Trial alg [] sels = PcrAsserted sels (composite alg (register_value h) sels) None
+pcr_assertion h Trial alg [] sels = PcrAsserted sels (composite alg (values_at h) sels) None
 pcr_assertion h Trial alg pcr_digest sels = PcrAsserted sels pcr_digest None
-pcr_assertion h _ alg pcr_digest sels = PcrAsserted sels (composite alg (register_value h) sels) (Some (update_counter h))
+pcr_assertion h _ alg pcr_digest sels = PcrAsserted sels (composite alg (values_at h) sels) (Some (registers_after (changes h)).update_counter)
 
 -- in the session of this start
 abbrev pub pcr_asserted : History → Option Start → List ℕ → List Selection → List Assertion → List Assertion
 pcr_asserted h None pcr_digest sels old = old
 pcr_asserted h (Some start) pcr_digest sels old = pcr_assertion h start.request.session_type start.request.auth_hash pcr_digest sels ∷ old
 
+-- what the slot's session asserts after a policy command on it, or another command
 abbrev pub asserted_by : ℕ → CommandBody → History → List Assertion → List Assertion
 asserted_by k (bodies.PolicyPcr handle pcr_digest sels) h old = if slot_of handle == k then pcr_asserted h (start_of k h) pcr_digest sels old else old
 asserted_by k (bodies.PolicyOr handle digests) h old = if slot_of handle == k then OrAsserted digests ∷ old else old
 asserted_by k (bodies.PolicyCommandCode handle code) h old = if slot_of handle == k then CodeAsserted code ∷ old else old
 asserted_by k (bodies.PolicyAuthValue handle) h old = if slot_of handle == k then AuthValueAsserted ∷ old else old
 asserted_by k (bodies.PolicyRestart handle) h old = if slot_of handle == k then [] else old
-asserted_by k _ h old = old
+asserted_by k (bodies.Startup kind) h old = old
+asserted_by k (bodies.PcrExtend q digests) h old = old
+asserted_by k (bodies.PcrEvent q event) h old = old
+asserted_by k (bodies.PcrReset q) h old = old
+asserted_by k (bodies.PcrRead sels) h old = old
+asserted_by k (bodies.StartAuthSession start) h old = old
+asserted_by k (bodies.FlushContext handle) h old = old
+asserted_by k (bodies.PolicyGetDigest handle) h old = old
+asserted_by k (bodies.NvDefineSpace auth public) h old = old
+asserted_by k (bodies.NvUndefineSpace index) h old = old
+asserted_by k (bodies.NvIncrement by index) h old = old
+asserted_by k (bodies.NvRead by index size offset) h old = old
+asserted_by k (bodies.NvReadPublic index) h old = old
 
 -- what the slot's session asserts: the policy commands on it, the newest first, since the latest of its start, its last
 -- TPM2_PolicyRestart and the last step that it authorized
@@ -167,7 +224,13 @@ as_session o last made s = record {
 abbrev pub session_at : Origin → History → ℕ → Option Session
 session_at o h k = if lives k h then option_map (as_session o (last_nonce k h) (assertions_of k h)) (start_of k h) else None
 
+abbrev pub sessions_at : Origin → History → List (Option Session)
+sessions_at o h = map (session_at o h) slots
+
 -- ---- looking up a session
+
+abbrev pub session_in : List (Option Session) → ℕ → Option Session
+session_in sessions slot = slice_index_or sessions slot None
 
 -- The handle is of the session's kind.
 abbrev pub is_handle_of : ℕ → Session → Bool
@@ -178,9 +241,9 @@ if_of_kind handle None = None
 if_of_kind handle (Some s) = if is_handle_of handle s then Some s else None
 
 -- the session of this handle, among those of the slots: one of the handle's kind is in use there
-abbrev pub loaded : (ℕ → Option Session) → ℕ → Option Session
-loaded session handle = if_of_kind handle (session (slot_of handle))
+abbrev pub loaded : List (Option Session) → ℕ → Option Session
+loaded sessions handle = if_of_kind handle (session_in sessions (slot_of handle))
 
 -- the lowest free slot
-abbrev pub free_slot : (ℕ → Option Session) → Option ℕ
-free_slot session = find (λ k. is_none (session k)) slots
+abbrev pub free_slot : List (Option Session) → Option ℕ
+free_slot sessions = find (λ k. is_none (session_in sessions k)) slots

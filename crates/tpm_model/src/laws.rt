@@ -1,6 +1,7 @@
 //! What holds of every run, whatever commands a device has. Each law stands over the definitions alone.
 
 ghost use Rattle.std.specs.Prelude.{◌≡◌, true, ℕ, ◌<◌, ◌^◌, List, [], ◌∷◌, ◌++◌, Some, Ok, Err, ◌≤◌, length};
+ghost use Rattle.tpm_wire.specs.Token.{Here};
 ghost use Rattle.tpm_wire.specs.Path.{Spells};
 ghost use Rattle.tpm_types.specs.declared.handle_sets.NvAuthHandle.{NvAuthHandle};
 ghost use Rattle.tpm_types.specs.declared.tpms.Auth.{Auth};
@@ -11,51 +12,62 @@ ghost use Rattle.tpm_buffer.specs.declared.command.CommandBody.TheVariants as bo
 ghost use Rattle.tpm_buffer.specs.declared.command.StartAuth.{StartAuth};
 ghost use Rattle.tpm_buffer.specs.declared.response.ReplyBody.TheVariants as replies;
 ghost use Rattle.tpm_buffer.specs.declared.response.StartReply.{StartReply};
-ghost use Rattle.tpm_buffer.specs.Handles.{needs_authorization};
-ghost use Rattle.tpm_buffer.specs.Commands.{command, code_for};
+ghost use Rattle.tpm_buffer.specs.declared.code.CommandCode.{CommandCode};
+ghost use Rattle.tpm_buffer.specs.Handles.{handles, needs_authorization};
+ghost use Rattle.tpm_buffer.specs.Parameters.{parameters};
+ghost use Rattle.tpm_buffer.specs.Commands.{header, authorization, command, code_for};
 ghost use Rattle.tpm_hmac.specs.Sessions.{trim};
 ghost use Rattle.tpm_model.specs.Steps.{History, Origin};
 ghost use Rattle.tpm_model.specs.Policies.{policy_of};
 ghost use Rattle.tpm_model.specs.Sessions.{Session, slot_of, session_at};
 ghost use Rattle.tpm_model.specs.Counters.{value_at};
 ghost use Rattle.tpm_model.specs.Present.{Present, present};
-ghost use Rattle.tpm_model.specs.Authorization.{check_proof};
-ghost use Rattle.tpm_model.specs.Answers.{Commands, Presented, presented, Done, outcome, answer, next};
+ghost use Rattle.tpm_model.specs.Authorization.{check_evidence};
+ghost use Rattle.tpm_model.specs.Answers.{CommandSet, Presented, presented, Done, outcome, answer, next};
 ghost use Rattle.tpm_model.specs.InStep.{CallerSession, InStep};
 ghost use Rattle.tpm_model.specs.Callers.{started_with, Seal, sealed_command, sealed, waiting, Code, Opened, opened, given_up};
 ghost use Rattle.tpm_model.specs.Runs.{Event, after};
 ghost use Rattle.tpm_model.specs.Runs.Event.{Given};
 ghost use Rattle.tpm_model.specs.Examples.{Examples};
-ghost use Rattle.tpm_model.specs.Premises.{code_in, IsAccepted, IsSealed, NoncesDiffer, NoCollision, nonce_bytes, most_nonce, IsReady, rolled, opened_as, IsAmong, Opening, IsOfCallers};
+ghost use Rattle.tpm_model.specs.Premises.{IsByGrammar, IsWholeByGrammar, code_in, IsAccepted, HasSessionMac, NoncesDiffer, NoCollision, nonce_bytes, most_nonce, IsReady, rolled, opened_as, IsAmong, Opening, IsOfCallers};
+
+/// A command is cut where its layout says: what the checks by the grammar let through is what the bytes spell, and what they
+/// refuse is refused with the code of the first fault.
+pub fn cut_by_the_grammar()
+    ensures header { (h : Here) → IsByGrammar header h }
+    ensures handles { (code : CommandCode) (h : Here) → IsByGrammar (handles code) h }
+    ensures authorization { (tag : ℕ) (h : Here) → IsByGrammar (authorization tag) h }
+    ensures parameters { (code : CommandCode) (bytes : List ℕ) → IsWholeByGrammar (parameters code) bytes }
+{}
 
 /// What is done is what was asked: an accepted buffer spells the command that stands in the step.
 pub fn accepted_is_spelled()
-    ensures { (has : Commands) (p : Present) (bytes n : List ℕ) (d : Done) → outcome has p bytes n ≡ Ok d → Spells command d.command bytes }
+    ensures { (has : CommandSet) (p : Present) (bytes n : List ℕ) (d : Done) → outcome has p bytes n ≡ Ok d → Spells command d.command bytes }
 {}
 
 /// No replay: in the run of a new device, where the nonces handed in differ pairwise in their first 16 bytes and no two
 /// different texts that are checked have the same HMAC, no buffer with an HMAC is accepted twice.
 pub fn no_replay()
-    ensures { (has : Commands) (o : Origin) (es fs gs : List Event) (bytes n m : List ℕ) →
+    ensures { (has : CommandSet) (o : Origin) (es fs gs : List Event) (bytes n m : List ℕ) →
         NoncesDiffer (es ++ Given bytes n ∷ fs ++ Given bytes m ∷ gs) → NoCollision has o (es ++ Given bytes n ∷ fs ++ Given bytes m ∷ gs) →
-        IsSealed bytes → IsAccepted has o (after has o [] es) bytes n → IsAccepted has o (after has o [] (es ++ Given bytes n ∷ fs)) bytes m → ⊥ }
+        HasSessionMac bytes → IsAccepted has o (after has o [] es) bytes n → IsAccepted has o (after has o [] (es ++ Given bytes n ∷ fs)) bytes m → ⊥ }
 {}
 
 /// No counter goes back: an increment that is accepted leaves a value greater than each that the index had before, and
 /// greater than the number that made the device, whatever was undefined, defined again or cycled in between.
 pub fn no_counter_goes_back()
-    ensures had { (has : Commands) (o : Origin) (es fs : List Event) (bytes n : List ℕ) (d : Done) (by : NvAuthHandle) (i w : ℕ) →
+    ensures had { (has : CommandSet) (o : Origin) (es fs : List Event) (bytes n : List ℕ) (d : Done) (by : NvAuthHandle) (i w : ℕ) →
         value_at o (after has o [] es) i ≡ Some w →
         outcome has (present o (after has o [] (es ++ fs))) bytes n ≡ Ok d → d.command.body ≡ NvIncrement by i →
         (v : ℕ) × (value_at o (after has o [] (es ++ fs ++ Given bytes n ∷ [])) i ≡ Some v) × (w < v) }
-    ensures made { (has : Commands) (o : Origin) (es : List Event) (bytes n : List ℕ) (d : Done) (by : NvAuthHandle) (i : ℕ) →
+    ensures made { (has : CommandSet) (o : Origin) (es : List Event) (bytes n : List ℕ) (d : Done) (by : NvAuthHandle) (i : ℕ) →
         outcome has (present o (after has o [] es)) bytes n ≡ Ok d → d.command.body ≡ NvIncrement by i →
         (v : ℕ) × (value_at o (after has o [] (es ++ Given bytes n ∷ [])) i ≡ Some v) × (o.greatest < v) }
 {}
 
 /// A policy serves once: a session that has authorized a command, and is still there, asserts nothing.
 pub fn policy_starts_again()
-    ensures { (has : Commands) (o : Origin) (h : History) (bytes n : List ℕ) (d : Done) (a : Auth) (s : Session) →
+    ensures { (has : CommandSet) (o : Origin) (h : History) (bytes n : List ℕ) (d : Done) (a : Auth) (s : Session) →
         outcome has (present o h) bytes n ≡ Ok d → d.command.auths.items ≡ a ∷ [] → is_session a.session ≡ true →
         session_at o (next has o h bytes n) (slot_of a.session) ≡ Some s → s.policy ≡ policy_of s.hash [] }
 {}
@@ -67,28 +79,29 @@ pub fn worked_examples()
 
 /// What is done is answered with code 0.
 pub fn done_with_code_zero()
-    ensures { (has : Commands) (o : Origin) (h : History) (bytes n : List ℕ) (d : Done) → outcome has (present o h) bytes n ≡ Ok d → code_in (answer has o h bytes n) ≡ 0 }
+    ensures { (has : CommandSet) (o : Origin) (h : History) (bytes n : List ℕ) (d : Done) → outcome has (present o h) bytes n ≡ Ok d → code_in (answer has o h bytes n) ≡ 0 }
 {}
 
 /// What is not done is answered with its code, which is not 0 and has four bytes.
 pub fn refused_with_a_code()
-    ensures some { (has : Commands) (p : Present) (bytes n : List ℕ) (code : ℕ) → outcome has p bytes n ≡ Err code → (0 < code) × (code < 2 ^ 32) }
-    ensures answered { (has : Commands) (o : Origin) (h : History) (bytes n : List ℕ) (code : ℕ) → outcome has (present o h) bytes n ≡ Err code → code_in (answer has o h bytes n) ≡ code }
+    ensures some { (has : CommandSet) (p : Present) (bytes n : List ℕ) (code : ℕ) → outcome has p bytes n ≡ Err code → (0 < code) × (code < 2 ^ 32) }
+    ensures answered { (has : CommandSet) (o : Origin) (h : History) (bytes n : List ℕ) (code : ℕ) → outcome has (present o h) bytes n ≡ Err code → code_in (answer has o h bytes n) ≡ code }
 {}
 
-/// In step: a caller that is made from an accepted start and the owner's value is in step after it. Where a caller in step seals a command with the present Names and the authValue that the rules ask for, the last
-/// check does not fail; a reply of code 0 is opened as that very response, and a caller that is kept is in step afterwards; a
-/// reply of another code is opened as that code, and gives the caller back, in step.
+/// In step: a caller that is made from an accepted start and the owner's value is in step after it. Where a caller in step
+/// seals a command with the present Names and the authValue that the rules ask for, the last check does not fail; a reply of
+/// code 0 is opened as that very response, and a caller that is kept is in step afterwards; a reply of another code is opened
+/// as that code, and gives the caller back, in step.
 pub fn in_step()
-    ensures starts { (has : Commands) (o : Origin) (h : History) (bytes n : List ℕ) (d : Done) (q : StartAuth) (r : StartReply) (auth : List ℕ) →
+    ensures starts { (has : CommandSet) (o : Origin) (h : History) (bytes n : List ℕ) (d : Done) (q : StartAuth) (r : StartReply) (auth : List ℕ) →
         outcome has (present o h) bytes n ≡ Ok d → d.command.body ≡ bodies.StartAuthSession q → d.reply.body ≡ replies.StartAuthSession r → length n ≡ nonce_bytes → (q.bind ≡ Owner → trim auth ≡ trim o.owner) →
         (c : CallerSession) × (started_with q r auth ≡ Some c) × InStep o (next has o h bytes n) c }
-    ensures passes { (has : Commands) (o : Origin) (h : History) (s : Seal) (x : Presented) → IsReady o h s → presented has (present o h) (sealed s) ≡ Ok x → check_proof x.entity x.proof ≡ Ok tt }
-    ensures opens { (has : Commands) (o : Origin) (h : History) (s : Seal) (n : List ℕ) (d : Done) → IsReady o h s → length s.caller.nonce ≤ most_nonce → length n ≡ nonce_bytes →
+    ensures passes { (has : CommandSet) (o : Origin) (h : History) (s : Seal) (x : Presented) → IsReady o h s → presented has (present o h) (sealed s) ≡ Ok x → check_evidence x.entity x.evidence ≡ Ok tt }
+    ensures opens { (has : CommandSet) (o : Origin) (h : History) (s : Seal) (n : List ℕ) (d : Done) → IsReady o h s → length s.caller.nonce ≤ most_nonce → length n ≡ nonce_bytes →
         outcome has (present o h) (sealed s) n ≡ Ok d → opened (waiting s) (answer has o h (sealed s) n) ≡ Ok (opened_as s d n) }
-    ensures keeps { (has : Commands) (o : Origin) (h : History) (s : Seal) (n : List ℕ) (d : Done) → IsReady o h s → length s.caller.nonce ≤ most_nonce → length n ≡ nonce_bytes → s.keep ≡ true →
+    ensures keeps { (has : CommandSet) (o : Origin) (h : History) (s : Seal) (n : List ℕ) (d : Done) → IsReady o h s → length s.caller.nonce ≤ most_nonce → length n ≡ nonce_bytes → s.keep ≡ true →
         outcome has (present o h) (sealed s) n ≡ Ok d → InStep o (next has o h (sealed s) n) (rolled s.caller n) }
-    ensures stays { (has : Commands) (o : Origin) (h : History) (s : Seal) (n : List ℕ) (code : ℕ) → InStep o h s.caller → outcome has (present o h) (sealed s) n ≡ Err code →
+    ensures stays { (has : CommandSet) (o : Origin) (h : History) (s : Seal) (n : List ℕ) (code : ℕ) → InStep o h s.caller → outcome has (present o h) (sealed s) n ≡ Err code →
         (opened (waiting s) (answer has o h (sealed s) n) ≡ Err (Code code)) × (given_up (waiting s) (answer has o h (sealed s) n) ≡ Some s.caller) × InStep o (next has o h (sealed s) n) s.caller }
 {}
 
@@ -96,11 +109,11 @@ pub fn in_step()
 /// nonceCallers that differ pairwise, and where no two different texts have the same HMAC, a reply that a Waiting opens is
 /// the reply to its own buffer, and there is one such reply.
 pub fn no_mixed_replies()
-    ensures own { (has : Commands) (o : Origin) (seals : List Seal) (openings : List Opening) (es fs : List Event) (bytes n : List ℕ) (s : Seal) (w : Opened) →
+    ensures own { (has : CommandSet) (o : Origin) (seals : List Seal) (openings : List Opening) (es fs : List Event) (bytes n : List ℕ) (s : Seal) (w : Opened) →
         IsOfCallers has o seals openings (es ++ Given bytes n ∷ fs) → IsAmong s seals → needs_authorization (code_for s.body) ≡ true →
         IsAmong (record { seal = s; bytes = answer has o (after has o [] es) bytes n }) openings → opened (waiting s) (answer has o (after has o [] es) bytes n) ≡ Ok w →
         IsAccepted has o (after has o [] es) bytes n × Spells command (sealed_command s) bytes }
-    ensures once { (has : Commands) (o : Origin) (seals : List Seal) (openings : List Opening) (es fs gs : List Event) (bytes other n m : List ℕ) (s : Seal) (w v : Opened) →
+    ensures once { (has : CommandSet) (o : Origin) (seals : List Seal) (openings : List Opening) (es fs gs : List Event) (bytes other n m : List ℕ) (s : Seal) (w v : Opened) →
         NoncesDiffer (es ++ Given bytes n ∷ fs ++ Given other m ∷ gs) → IsOfCallers has o seals openings (es ++ Given bytes n ∷ fs ++ Given other m ∷ gs) →
         IsAmong s seals → needs_authorization (code_for s.body) ≡ true →
         IsAmong (record { seal = s; bytes = answer has o (after has o [] es) bytes n }) openings →
