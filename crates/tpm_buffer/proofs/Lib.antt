@@ -2,8 +2,9 @@ pub mod Spelled
 pub mod Prefix
 pub mod Staged
 pub mod Within
+pub mod Places
+pub mod ReadSessions
 pub mod Answered
-pub mod Replied
 pub mod Parted
 pub mod Canonical
 pub mod Framed

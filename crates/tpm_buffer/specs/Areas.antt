@@ -1,5 +1,5 @@
 -- What contracts see of a command that is read in steps.
-use Rattle.std.specs.Prelude.{◌≡◌, ℕ, ◌+◌, ◌*◌, length, Option, slice_get, ◌==◌, if◌then◌else◌, Result, Ok, Err}
+use Rattle.std.specs.Prelude.{◌≡◌, Result, Ok, Err}
 use Rattle.tpm_wire.specs.declared.refusal.Refusal.{Refusal}
 use Rattle.tpm_wire.specs.Token.{Here}
 use Rattle.tpm_wire.specs.Reading.{read}
@@ -8,8 +8,6 @@ use Rattle.tpm_buffer.specs.declared.command.Header.{Header}
 use Rattle.tpm_buffer.specs.declared.stages.Headed.{Headed}
 use Rattle.tpm_buffer.specs.declared.stages.Handled.{Handled}
 use Rattle.tpm_buffer.specs.declared.command_areas.Areas.{Areas}
-use Rattle.tpm_buffer.specs.declared.reply_stages.ReplyAreas.{ReplyAreas}
-use Rattle.tpm_buffer.specs.Responses.{ReplyCut}
 use Rattle.tpm_buffer.specs.Handles.{handles}
 use Rattle.tpm_buffer.specs.Commands.{authorization, Checked}
 
@@ -49,16 +47,3 @@ HasAreas x (Err e) = FaultFrom 0 (authorization x.header.tag) x.cursor.here e
 -- all that stands before the parameters, and the place behind it
 abbrev pub areas_view : Areas → Checked × Here
 areas_view x = (record { header = x.header; handles = x.handles.items; auths = x.auths.items }, params_here x)
-
--- ---- a response whose parameters are not judged
-
-abbrev pub reply_view : ReplyAreas → ReplyCut
-reply_view x = record { code = x.code; handles = x.handles.items; params = x.params.now; auths = x.auths.items }
-
--- the handle, where there is one
-abbrev pub handle_of : ReplyCut → Option ℕ
-handle_of c = slice_get c.handles 0
-
--- how many bytes are before the parameters: the header, the handle, and parameterSize where there are sessions
-abbrev pub place_of_params : ReplyCut → ℕ
-place_of_params c = 10 + 4 * length c.handles + (if length c.auths == 0 then 0 else 4)

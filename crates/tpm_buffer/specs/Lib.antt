@@ -4,6 +4,7 @@ pub mod Parameters
 pub mod Commands
 pub mod Replies
 pub mod Responses
+pub mod ResponseAreas
 pub mod Areas
 pub mod Frames
 pub mod Reads

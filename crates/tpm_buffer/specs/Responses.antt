@@ -1,8 +1,9 @@
 -- A response to a given command: a header, and where its code is 0 a handle, parameters and sessions (Part 1, 18.2; Part 2, 6.9).
-use Rattle.std.specs.Prelude.{◌≡◌, ℕ, ◌+◌, ◌*◌, Bool, true, not, List, [], ◌∷◌, length, Option, Some, None, nat_le, ◌==◌, ◌||◌, if◌then◌else◌}
+use Rattle.std.specs.Prelude.{◌≡◌, ℕ, ◌+◌, Bool, true, not, List, [], ◌∷◌, length, Option, Some, None, nat_le, ◌==◌, ◌||◌, if◌then◌else◌}
 use Rattle.tpm_wire.specs.Buffers.{Layout, number_in, numbered, size_code}
 use Rattle.tpm_wire.specs.Layout.{raw, remaining, either}
 use Rattle.tpm_wire.specs.Layout.Form.{done, number, field, area, list}
+use Rattle.tpm_wire.specs.ResponseCodes.{of_session}
 use Rattle.tpm_wire.specs.Spelling.{spelling}
 use Rattle.tpm_types.specs.declared.tpms.AuthReply.{AuthReply}
 use Rattle.tpm_types.specs.Codes.{value_code}
@@ -37,9 +38,9 @@ response_front = field (λ f. f.0) response_tag (λ t. field (λ f. f.1) command
 
 -- ---- the sessions
 
--- 0x900 is added to the codes of the first, and 0x100 more for each further one; the first is always there
+-- the first is always there
 unfoldable pub further_sessions : Layout (List AuthReply)
-further_sessions = list 2 true (λ before. numbered (0xA00 + 0x100 * length before) auth_response)
+further_sessions = list 2 true (λ before. numbered (of_session (2 + length before)) auth_response)
 
 abbrev pub first_session : List AuthReply → AuthReply
 first_session [] = record { nonce = []; attrs = 0; hmac = [] }
@@ -51,7 +52,7 @@ other_sessions (a ∷ others) = others
 
 unfoldable pub reply_sessions : Layout (List AuthReply)
 reply_sessions =
-    field first_session (numbered 0x900 auth_response) (λ a.
+    field first_session (numbered (of_session 1) auth_response) (λ a.
     field other_sessions further_sessions (λ others.
     done (a ∷ others)))
 

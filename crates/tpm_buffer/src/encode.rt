@@ -115,7 +115,7 @@ fn known_handles(body: &CommandBody)
 fn authorization_len(tag: u16, auths: &[Auth]) -> usize
     requires { length auths.now ≤ 3 }
     ensures value { result ≡ length (spelling (authorization tag) auths.now) }
-    ensures fits { result ≤ 223 }
+    ensures fits { result ≤ 319 }
 {
     if tag == SESSIONS {
         4 + list_len(auths)

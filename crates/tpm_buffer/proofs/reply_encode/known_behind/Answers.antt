@@ -1,5 +1,0 @@
-use Rattle.tpm_buffer.proofs.Answered.{fits_sessions}
-use Rattle.tpm_buffer.proofs.reply_encode.known_behind.Goals as goal
-
-pub returns : goal.returns
-returns c = fits_sessions c.args.first.now c.args.others.now c.requires (record { fits = c.known.ensures.fits; some = c.known.ensures.some }) c.known_list.ensures

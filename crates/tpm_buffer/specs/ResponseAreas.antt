@@ -1,0 +1,60 @@
+-- What contracts see of a response whose parameters are not judged.
+use Rattle.std.specs.Prelude.{◌≡◌, ℕ, ◌+◌, ◌*◌, ◌≤◌, List, [], ◌∷◌, length, take, drop, map, Option, Some, None, slice_get, ◌==◌, if◌then◌else◌, Result, Ok, Err}
+use Rattle.tpm_wire.specs.declared.refusal.Refusal.{Refusal}
+use Rattle.tpm_wire.specs.Token.{Here, at_start}
+use Rattle.tpm_wire.specs.Reading.{read}
+use Rattle.tpm_types.specs.declared.tpms.AuthReply.{AuthReply}
+use Rattle.tpm_types.specs.Tpms.{auth_response}
+use Rattle.tpm_buffer.specs.declared.code.CommandCode.{CommandCode}
+use Rattle.tpm_buffer.specs.declared.code.CommandCode.TheVariants as codes
+use Rattle.tpm_buffer.specs.Responses.{ReplyCut}
+
+-- the handle, where there is one
+abbrev pub handle_of : ReplyCut → Option ℕ
+handle_of c = slice_get c.handles 0
+
+-- how many bytes are before the parameters: the header, the handle, and parameterSize where there are sessions
+abbrev pub place_behind : List ℕ → List AuthReply → ℕ
+place_behind hs auths = 10 + 4 * length hs + (if length auths == 0 then 0 else 4)
+
+abbrev pub place_of_params : ReplyCut → ℕ
+place_of_params c = place_behind c.handles c.auths
+
+-- The parameters are those bytes of the response that begin at their place.
+abbrev pub HasItsParams : List ℕ → ReplyCut → Type 0
+HasItsParams bytes c = c.params ≡ take (length c.params) (drop (place_of_params c) bytes)
+
+-- ---- sessions by their positions
+
+-- a place in these bytes, on the way through them
+pub record Stands (bytes : List ℕ) (h : Here) : Type 0 where
+  pub rest : h.rest ≡ drop h.at bytes
+  pub whole : h.at + length h.rest ≡ length bytes
+
+abbrev pub session_of : Result (AuthReply × Here) Refusal → AuthReply
+session_of (Ok x) = x.0
+session_of (Err e) = record { nonce = []; attrs = 0; hmac = [] }
+
+-- the session that begins at this position, where one does
+unfoldable pub session_at : List ℕ → ℕ → AuthReply
+session_at bytes n = session_of (read 0 auth_response (at_start (drop n bytes)))
+
+-- A session begins there.
+pub record IsSession (bytes : List ℕ) (n : ℕ) : Type 0 where
+  pub within : n ≤ length bytes
+  pub behind : Here
+  pub reads : read 0 auth_response (at_start (drop n bytes)) ≡ Ok (session_at bytes n, behind)
+
+abbrev pub sessions_at : List ℕ → List ℕ → List AuthReply
+sessions_at bytes ns = map (session_at bytes) ns
+
+-- ---- the handle
+
+abbrev pub handle_list : Option ℕ → List ℕ
+handle_list None = []
+handle_list (Some n) = n ∷ []
+
+-- There is a handle for a command whose response has one.
+abbrev pub HasHandle : CommandCode → Option ℕ → Type 0
+HasHandle codes.StartAuthSession None = ⊥
+HasHandle code handle = Unit {0}

@@ -1,0 +1,243 @@
+//! A response cut at its parameters, which are not judged.
+
+ghost use Rattle.std.specs.Prelude.{◌≡◌, ◌≤◌, ◌<◌, ◌↔◌, ◌+◌, ◌*◌, Ok, Err, IfOk, length, slice_get};
+ghost use Rattle.tpm_wire.specs.declared.refusal.Refusal.{Refusal as RefusalOf};
+ghost use Rattle.tpm_wire.specs.Token.{at_start};
+ghost use Rattle.tpm_wire.specs.Reading.{read_all};
+ghost use Rattle.tpm_wire.specs.Buffers.{TakesNumbered};
+ghost use Rattle.tpm_wire.specs.Path.{Spells, Fault};
+ghost use Rattle.tpm_buffer.specs.Responses.{ReplyCut, raw_with_sessions, raw_without_sessions, cut_behind_code, reply_cut};
+ghost use Rattle.tpm_buffer.specs.ResponseAreas.{Stands, handle_list, handle_of, place_of_params, HasItsParams};
+
+use crate::code::CommandCode;
+use crate::front::SESSIONS;
+use crate::response_header::{long_fault, take_code, take_front};
+use crate::response_parameters::{take_parameter_size, take_reply_handle};
+use crate::response_sessions::{ReplyRef, session_at, take_sessions};
+use arrayvec::ArrayVec;
+use std::marker::Model;
+use tpm_types::SessionHandle;
+use tpm_wire::response_code::SIZE;
+use tpm_wire::{Cursor, Refusal};
+
+/// A response whose header, handle and sessions were read, with its parameters as they came. Where the code is not 0
+/// there is nothing behind it.
+#[derive(Drop)]
+pub struct ReplyAreas<'a> {
+    bytes: &'a [u8],
+    code: u32,
+    handle: Option<SessionHandle>,
+    params_at: u32,
+    params_size: usize,
+    sessions: ArrayVec<u32, 3>,
+}
+
+impl<'a> Model for ReplyAreas<'a> {
+    ghost use Rattle.std.specs.Prelude.{◌≡◌, ◌≤◌, ◌+◌, length, take, drop};
+    ghost use Rattle.std.specs.List.{All};
+    ghost use Rattle.tpm_buffer.specs.Responses.{ReplyCut};
+    ghost use Rattle.tpm_buffer.specs.ResponseAreas.{IsSession, sessions_at, handle_list, place_behind};
+
+    ghost Value = { ReplyCut };
+
+    ghost view = { λ a. record {
+      code = a.code;
+      handles = handle_list a.handle;
+      params = take a.params_size (drop a.params_at a.bytes.now);
+      auths = sessions_at a.bytes.now a.sessions.items;
+    } };
+
+    ghost invariant = { λ a. (length a.bytes.now ≤ 4096)
+        × (a.params_at + a.params_size ≤ length a.bytes.now)
+        × (a.params_at ≡ place_behind (handle_list a.handle) (sessions_at a.bytes.now a.sessions.items))
+        × All (IsSession a.bytes.now) a.sessions.items };
+}
+
+impl<'a> ReplyAreas<'a> {
+    /// The response code.
+    pub fn code(&self) -> u32
+        ensures { result ≡ self.now.code }
+    {
+        self.code
+    }
+
+    /// The number of the handle, where the response has one.
+    pub fn handle(&self) -> Option<u32>
+        ensures { result ≡ handle_of self.now }
+    {
+        match self.handle {
+            Some(handle) => Some(handle.number()),
+            None => None,
+        }
+    }
+
+    /// How many sessions there are: 0 to 3.
+    pub fn auth_count(&self) -> usize
+        ensures { result ≡ length self.now.auths }
+    {
+        self.sessions.len()
+    }
+
+    /// The session of this index, counted from 0, where there is one. It lends its nonce and its HMAC from the input.
+    pub fn auth(&self, index: usize) -> Option<ReplyRef<'a>>
+        ensures { result ≡ slice_get self.now.auths index }
+    {
+        if index >= self.sessions.len() {
+            return None;
+        }
+        Some(session_at(self.bytes, self.sessions.as_slice()[index]))
+    }
+
+    /// The parameters as they came, a part of the input: they are not judged yet.
+    pub fn params(&self) -> &'a [u8]
+        ensures { result.now ≡ self.now.params }
+    {
+        let begin = self.params_at as usize;
+        &self.bytes[begin..begin + self.params_size]
+    }
+
+    /// How many bytes of the input are before the parameters.
+    pub fn params_at(&self) -> u32
+        ensures { result ≡ place_of_params self.now }
+    {
+        self.params_at
+    }
+}
+
+#[tactic(auto, unfolding(crate::specs::Responses::raw_with_sessions))]
+fn take_with_sessions<'a>(
+    cursor: &mut Cursor<'a>,
+    bytes: &'a [u8],
+    code: u32,
+    handle: Option<SessionHandle>,
+) -> Result<ReplyAreas<'a>, Refusal>
+    requires short { length bytes.now ≤ 4096 }
+    requires stands { Stands bytes.now cursor.old.here }
+    requires place { cursor.old.here.at ≡ 10 + 4 * length (handle_list handle) }
+    ensures reads { TakesNumbered (λ c. c) (raw_with_sessions code (handle_list handle)) cursor.old cursor.new result }
+    ensures place { IfOk result (HasItsParams bytes.now) }
+{
+    cursor.number(0);
+    let params_size = take_parameter_size(cursor)? as usize;
+    let params_at = cursor.at();
+    cursor.bytes(params_size)?;
+    let sessions = take_sessions(cursor, bytes)?;
+    Ok(ReplyAreas {
+        bytes,
+        code,
+        handle,
+        params_at,
+        params_size,
+        sessions,
+    })
+}
+
+#[tactic(auto, unfolding(crate::specs::Responses::raw_without_sessions))]
+fn take_without_sessions<'a>(
+    cursor: &mut Cursor<'a>,
+    bytes: &'a [u8],
+    code: u32,
+    handle: Option<SessionHandle>,
+) -> Result<ReplyAreas<'a>, Refusal>
+    requires short { length bytes.now ≤ 4096 }
+    requires stands { Stands bytes.now cursor.old.here }
+    requires place { cursor.old.here.at ≡ 10 + 4 * length (handle_list handle) }
+    ensures reads { TakesNumbered (λ c. c) (raw_without_sessions code (handle_list handle)) cursor.old cursor.new result }
+    ensures place { IfOk result (HasItsParams bytes.now) }
+{
+    cursor.number(0);
+    let params_at = cursor.at();
+    let params_size = cursor.remaining().len();
+    Ok(ReplyAreas {
+        bytes,
+        code,
+        handle,
+        params_at,
+        params_size,
+        sessions: ArrayVec::new(),
+    })
+}
+
+fn take_behind_code<'a>(
+    cursor: &mut Cursor<'a>,
+    bytes: &'a [u8],
+    tag: u16,
+    number: u32,
+    code: CommandCode,
+) -> Result<ReplyAreas<'a>, Refusal>
+    requires short { length bytes.now ≤ 4096 }
+    requires stands { Stands bytes.now cursor.old.here }
+    requires place { cursor.old.here.at ≡ 10 }
+    ensures reads { TakesNumbered (λ c. c) (cut_behind_code code tag number) cursor.old cursor.new result }
+    ensures place { IfOk result (HasItsParams bytes.now) }
+{
+    if number != 0 {
+        return Ok(ReplyAreas {
+            bytes,
+            code: number,
+            handle: None,
+            params_at: cursor.at(),
+            params_size: 0,
+            sessions: ArrayVec::new(),
+        });
+    }
+    let handle = take_reply_handle(cursor, code)?;
+    if tag == SESSIONS {
+        take_with_sessions(cursor, bytes, number, handle)
+    } else {
+        take_without_sessions(cursor, bytes, number, handle)
+    }
+}
+
+#[tactic(auto, unfolding(crate::specs::Responses::reply_cut))]
+fn take_areas<'a>(
+    cursor: &mut Cursor<'a>,
+    bytes: &'a [u8],
+    code: CommandCode,
+) -> Result<ReplyAreas<'a>, Refusal>
+    requires short { length bytes.now ≤ 4096 }
+    requires number { cursor.old.number ≡ 0 }
+    requires place { cursor.old.here ≡ at_start bytes.now }
+    ensures reads { TakesNumbered (λ c. c) (reply_cut code) cursor.old cursor.new result }
+    ensures place { IfOk result (HasItsParams bytes.now) }
+{
+    let (tag, _size) = take_front(cursor)?;
+    let number = take_code(cursor, tag)?;
+    take_behind_code(cursor, bytes, tag, number, code)
+}
+
+#[tactic(auto, unfolding(crate::specs::Responses::reply_cut))]
+fn refusal_of_long(code: CommandCode, bytes: &[u8]) -> Refusal
+    requires { 4096 < length bytes.now }
+    ensures { read_all (reply_cut code) bytes.now ≡ Err result }
+{
+    long_fault(bytes)
+}
+
+fn read_areas(code: CommandCode, bytes: &[u8]) -> Result<ReplyAreas<'_>, Refusal>
+    ensures reads { result ≡ read_all (reply_cut code) bytes.now }
+    ensures place { IfOk result (HasItsParams bytes.now) }
+{
+    if bytes.len() > 4096 {
+        return Err(refusal_of_long(code, bytes));
+    }
+    let mut cursor = Cursor::new(bytes);
+    let areas = take_areas(&mut cursor, bytes, code)?;
+    if cursor.left() > 0 {
+        return Err(Refusal {
+            code: SIZE,
+            at: cursor.at(),
+        });
+    }
+    Ok(areas)
+}
+
+/// The code, the handle and the sessions of the response to a command with this code, and the parameters as they
+/// came, or the first fault beside the parameters.
+pub fn reply_areas(code: CommandCode, bytes: &[u8]) -> Result<ReplyAreas<'_>, Refusal>
+    ensures ok { (c : ReplyCut) → (result ≡ Ok c) ↔ Spells (reply_cut code) c bytes.now }
+    ensures err { (e : RefusalOf) → (result ≡ Err e) ↔ Fault (reply_cut code) bytes.now e }
+    ensures place { IfOk result (HasItsParams bytes.now) }
+{
+    read_areas(code, bytes)
+}

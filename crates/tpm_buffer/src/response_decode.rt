@@ -1,0 +1,186 @@
+//! From bytes to a response.
+
+ghost use Rattle.std.specs.Prelude.{◌≡◌, ◌≤◌, ◌<◌, ◌↔◌, Ok, Err, length};
+ghost use Rattle.tpm_wire.specs.declared.refusal.Refusal.{Refusal as RefusalOf};
+ghost use Rattle.tpm_wire.specs.Token.{at_start};
+ghost use Rattle.tpm_wire.specs.Reading.{read_all, Gives};
+ghost use Rattle.tpm_wire.specs.Buffers.{TakesNumbered};
+ghost use Rattle.tpm_wire.specs.Path.{Spells, Fault};
+ghost use Rattle.tpm_buffer.specs.declared.response.Response.{Response as ResponseOf};
+ghost use Rattle.tpm_buffer.specs.Replies.{reply_parameters};
+ghost use Rattle.tpm_buffer.specs.Responses.{with_sessions, without_sessions, reply, code_or_done, behind_code, response};
+ghost use Rattle.tpm_buffer.specs.ResponseAreas.{Stands, handle_list, HasHandle};
+
+use crate::code::CommandCode;
+use crate::front::SESSIONS;
+use crate::response::{ErrorCode, ReplyBody, Response};
+use crate::response_header::{long_fault, take_code, take_front};
+use crate::response_parameters::{read_reply_params, take_parameter_size, take_reply_handle};
+use crate::response_sessions::{copy_sessions, take_sessions};
+use arrayvec::ArrayVec;
+use tpm_types::{AuthReply, SessionHandle};
+use tpm_wire::response_code::SIZE;
+use tpm_wire::{Cursor, Refusal};
+
+#[tactic(auto, unfolding(crate::specs::Responses::with_sessions))]
+fn read_with_sessions(
+    cursor: &mut Cursor<'_>,
+    bytes: &[u8],
+    code: CommandCode,
+    handle: Option<SessionHandle>,
+    body: &mut ReplyBody,
+    auths: &mut ArrayVec<AuthReply, 3>,
+) -> Result<(), Refusal>
+    requires short { length bytes.now ≤ 4096 }
+    requires stands { Stands bytes.now cursor.old.here }
+    requires handle { HasHandle code handle }
+    ensures { TakesNumbered (λ _. record { body = body.new; auths = auths.new.items }) (with_sessions (reply_parameters code (handle_list handle))) cursor.old cursor.new result }
+{
+    cursor.number(0);
+    let size = take_parameter_size(cursor)? as usize;
+    let outer = cursor.enter(size)?;
+    read_reply_params(cursor, code, handle, body)?;
+    cursor.number(0);
+    cursor.leave(outer)?;
+    let positions = take_sessions(cursor, bytes)?;
+    copy_sessions(bytes, positions.as_slice(), auths);
+    Ok(())
+}
+
+#[tactic(auto, unfolding(crate::specs::Responses::without_sessions))]
+fn read_without_sessions(
+    cursor: &mut Cursor<'_>,
+    code: CommandCode,
+    handle: Option<SessionHandle>,
+    body: &mut ReplyBody,
+    auths: &mut ArrayVec<AuthReply, 3>,
+) -> Result<(), Refusal>
+    requires { HasHandle code handle }
+    ensures { TakesNumbered (λ _. record { body = body.new; auths = auths.new.items }) (without_sessions (reply_parameters code (handle_list handle))) cursor.old cursor.new result }
+{
+    auths.clear();
+    read_reply_params(cursor, code, handle, body)
+}
+
+fn read_reply(
+    cursor: &mut Cursor<'_>,
+    bytes: &[u8],
+    tag: u16,
+    code: CommandCode,
+    body: &mut ReplyBody,
+    auths: &mut ArrayVec<AuthReply, 3>,
+) -> Result<(), Refusal>
+    requires short { length bytes.now ≤ 4096 }
+    requires stands { Stands bytes.now cursor.old.here }
+    ensures { TakesNumbered (λ _. record { body = body.new; auths = auths.new.items }) (reply code tag) cursor.old cursor.new result }
+{
+    let handle = take_reply_handle(cursor, code)?;
+    if tag == SESSIONS {
+        read_with_sessions(cursor, bytes, code, handle, body, auths)
+    } else {
+        read_without_sessions(cursor, code, handle, body, auths)
+    }
+}
+
+// A nonzero code is answered, and for a code of 0 the reply is read.
+fn read_behind_code(
+    cursor: &mut Cursor<'_>,
+    bytes: &[u8],
+    tag: u16,
+    number: u32,
+    code: CommandCode,
+    body: &mut ReplyBody,
+    auths: &mut ArrayVec<AuthReply, 3>,
+) -> Result<Option<ErrorCode>, Refusal>
+    requires short { length bytes.now ≤ 4096 }
+    requires stands { Stands bytes.now cursor.old.here }
+    ensures { TakesNumbered (λ error. code_or_done error (record { body = body.new; auths = auths.new.items })) (behind_code code tag number) cursor.old cursor.new result }
+{
+    match ErrorCode::from_number(number) {
+        Some(error) => Ok(Some(error)),
+        None => {
+            read_reply(cursor, bytes, tag, code, body, auths)?;
+            Ok(None)
+        }
+    }
+}
+
+#[tactic(auto, unfolding(crate::specs::Responses::response))]
+fn read_response(
+    cursor: &mut Cursor<'_>,
+    bytes: &[u8],
+    code: CommandCode,
+    body: &mut ReplyBody,
+    auths: &mut ArrayVec<AuthReply, 3>,
+) -> Result<Option<ErrorCode>, Refusal>
+    requires short { length bytes.now ≤ 4096 }
+    requires number { cursor.old.number ≡ 0 }
+    requires place { cursor.old.here ≡ at_start bytes.now }
+    ensures { TakesNumbered (λ error. code_or_done error (record { body = body.new; auths = auths.new.items })) (response code) cursor.old cursor.new result }
+{
+    let (tag, _size) = take_front(cursor)?;
+    let number = take_code(cursor, tag)?;
+    read_behind_code(cursor, bytes, tag, number, code, body, auths)
+}
+
+#[tactic(auto, unfolding(crate::specs::Responses::response))]
+fn refusal_of_long(code: CommandCode, bytes: &[u8]) -> Refusal
+    requires { 4096 < length bytes.now }
+    ensures { read_all (response code) bytes.now ≡ Err result }
+{
+    long_fault(bytes)
+}
+
+#[inline(never)]
+fn read_bytes(
+    code: CommandCode,
+    bytes: &[u8],
+    body: &mut ReplyBody,
+    auths: &mut ArrayVec<AuthReply, 3>,
+) -> Result<Option<ErrorCode>, Refusal>
+    ensures { Gives (λ error. code_or_done error (record { body = body.new; auths = auths.new.items })) (read_all (response code) bytes.now) result }
+{
+    if bytes.len() > 4096 {
+        return Err(refusal_of_long(code, bytes));
+    }
+    let mut cursor = Cursor::new(bytes);
+    let error = read_response(&mut cursor, bytes, code, body, auths)?;
+    if cursor.left() > 0 {
+        return Err(Refusal {
+            code: SIZE,
+            at: cursor.at(),
+        });
+    }
+    Ok(error)
+}
+
+// The answer is made in the caller's place, so that its many bytes are not moved from function to function.
+#[inline(never)]
+fn decode(code: CommandCode, bytes: &[u8], answer: &mut Result<Response, Refusal>)
+    ensures { answer.new ≡ read_all (response code) bytes.now }
+{
+    *answer = Ok(Response::Done {
+        body: ReplyBody::Startup,
+        auths: ArrayVec::new(),
+    });
+    if let Ok(response) = answer {
+        if let Response::Done { body, auths } = response {
+            match read_bytes(code, bytes, body, auths) {
+                Ok(None) => {}
+                Ok(Some(error)) => *answer = Ok(Response::Code(error)),
+                Err(refusal) => *answer = Err(refusal),
+            }
+        }
+    }
+}
+
+/// The response to a command with this code that the bytes spell, all of them, or the response code and the position
+/// of their first fault.
+pub fn decode_response(code: CommandCode, bytes: &[u8]) -> Result<Response, Refusal>
+    ensures ok { (r : ResponseOf) → (result ≡ Ok r) ↔ Spells (response code) r bytes.now }
+    ensures err { (e : RefusalOf) → (result ≡ Err e) ↔ Fault (response code) bytes.now e }
+{
+    let mut answer = Err(Refusal { code: SIZE, at: 0 });
+    decode(code, bytes, &mut answer);
+    answer
+}

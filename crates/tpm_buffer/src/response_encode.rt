@@ -1,0 +1,358 @@
+//! From a response to its bytes.
+
+ghost use Rattle.std.specs.Prelude.{◌≡◌, ◌≤◌, ◌<◌, ◌^◌, ◌+◌, ◌++◌, ◌∷◌, length, ℕ};
+ghost use Rattle.std.specs.Int.{bytes_high_first};
+ghost use Rattle.tpm_wire.specs.Spelling.{spelling, Fits};
+ghost use Rattle.tpm_wire.specs.Path.{Spells};
+ghost use Rattle.tpm_buffer.specs.declared.code.CommandCode.{CommandCode as CodeOf};
+ghost use Rattle.tpm_buffer.specs.declared.response.Response.TheVariants as responses;
+ghost use Rattle.tpm_buffer.specs.Replies.{code_for_reply, reply_handles, reply_handles_of, parameters_of_reply};
+ghost use Rattle.tpm_buffer.specs.Responses.{code_tag, reply_sessions, reply_tag, reply_behind, reply, response as response_layout, Answers};
+
+use crate::front::{BAD_TAG, NO_SESSIONS, SESSIONS};
+use crate::response::{ErrorCode, ReplyBody, Response};
+use crate::response_header::RSP_COMMAND;
+use arrayvec::ArrayVec;
+use tpm_types::AuthReply;
+use tpm_wire::{Buffer, Wire, known_list, list_len, put_list};
+
+// ---- handles
+
+#[tactic(auto, unfolding(crate::specs::Replies::session_handle))]
+fn handles_len(body: &ReplyBody) -> usize
+    ensures value { result ≡ length (spelling (reply_handles (code_for_reply body.now)) (reply_handles_of body.now)) }
+    ensures fits { result ≤ 4 }
+{
+    match body {
+        ReplyBody::StartAuthSession(reply) => reply.session.len(),
+        ReplyBody::NvUndefineSpace
+        | ReplyBody::NvDefineSpace
+        | ReplyBody::NvIncrement
+        | ReplyBody::PcrEvent(_)
+        | ReplyBody::PcrReset
+        | ReplyBody::Startup
+        | ReplyBody::NvRead(_)
+        | ReplyBody::FlushContext
+        | ReplyBody::NvReadPublic { .. }
+        | ReplyBody::PolicyAuthValue
+        | ReplyBody::PolicyCommandCode
+        | ReplyBody::PolicyOr
+        | ReplyBody::PcrRead { .. }
+        | ReplyBody::PolicyPcr
+        | ReplyBody::PolicyRestart
+        | ReplyBody::PcrExtend
+        | ReplyBody::PolicyGetDigest(_) => 0,
+    }
+}
+
+#[tactic(auto, unfolding(crate::specs::Replies::session_handle, tpm_types::specs::Handles::session))]
+fn put_handles(body: &ReplyBody, out: &mut Buffer)
+    requires { length out.old.items + length (spelling (reply_handles (code_for_reply body.now)) (reply_handles_of body.now)) ≤ 4096 }
+    ensures { out.new.items ≡ out.old.items ++ spelling (reply_handles (code_for_reply body.now)) (reply_handles_of body.now) }
+{
+    if let ReplyBody::StartAuthSession(reply) = body {
+        reply.session.put(out);
+    }
+}
+
+#[tactic(auto, unfolding(crate::specs::Replies::session_handle))]
+fn known_handles(body: &ReplyBody)
+    ensures { (left : ℕ) → Fits left (reply_handles (code_for_reply body.now)) (reply_handles_of body.now) }
+{
+    if let ReplyBody::StartAuthSession(reply) = body {
+        reply.session.known();
+    }
+}
+
+// ---- parameters
+
+#[tactic(auto, unfolding(crate::specs::Replies::pcr_event_reply, crate::specs::Replies::nv_read_reply, crate::specs::Replies::nv_read_public_reply, crate::specs::Replies::start_auth_session_reply, crate::specs::Replies::pcr_read_reply, crate::specs::Replies::policy_get_digest_reply))]
+fn params_len(body: &ReplyBody) -> usize
+    ensures value { result ≡ length (spelling (parameters_of_reply body.now) body.now) }
+    ensures fits { result ≤ 3500 }
+{
+    match body {
+        ReplyBody::PcrEvent(digests) => digests.len(),
+        ReplyBody::NvRead(bytes) => bytes.len(),
+        ReplyBody::NvReadPublic { public, name } => public.len() + name.len(),
+        ReplyBody::StartAuthSession(reply) => reply.nonce_tpm.len(),
+        ReplyBody::PcrRead {
+            update_counter,
+            selections,
+            digests,
+        } => update_counter.len() + selections.len() + digests.len(),
+        ReplyBody::PolicyGetDigest(digest) => digest.len(),
+        ReplyBody::NvUndefineSpace
+        | ReplyBody::NvDefineSpace
+        | ReplyBody::NvIncrement
+        | ReplyBody::PcrReset
+        | ReplyBody::Startup
+        | ReplyBody::FlushContext
+        | ReplyBody::PolicyAuthValue
+        | ReplyBody::PolicyCommandCode
+        | ReplyBody::PolicyOr
+        | ReplyBody::PolicyPcr
+        | ReplyBody::PolicyRestart
+        | ReplyBody::PcrExtend => 0,
+    }
+}
+
+#[tactic(auto, unfolding(crate::specs::Replies::pcr_event_reply, crate::specs::Replies::nv_read_reply, crate::specs::Replies::nv_read_public_reply, crate::specs::Replies::start_auth_session_reply, crate::specs::Replies::pcr_read_reply, crate::specs::Replies::policy_get_digest_reply))]
+fn put_params(body: &ReplyBody, out: &mut Buffer)
+    requires { length out.old.items + length (spelling (parameters_of_reply body.now) body.now) ≤ 4096 }
+    ensures { out.new.items ≡ out.old.items ++ spelling (parameters_of_reply body.now) body.now }
+{
+    match body {
+        ReplyBody::PcrEvent(digests) => digests.put(out),
+        ReplyBody::NvRead(bytes) => bytes.put(out),
+        ReplyBody::NvReadPublic { public, name } => {
+            public.put(out);
+            name.put(out);
+        }
+        ReplyBody::StartAuthSession(reply) => reply.nonce_tpm.put(out),
+        ReplyBody::PcrRead {
+            update_counter,
+            selections,
+            digests,
+        } => {
+            update_counter.put(out);
+            selections.put(out);
+            digests.put(out);
+        }
+        ReplyBody::PolicyGetDigest(digest) => digest.put(out),
+        ReplyBody::NvUndefineSpace
+        | ReplyBody::NvDefineSpace
+        | ReplyBody::NvIncrement
+        | ReplyBody::PcrReset
+        | ReplyBody::Startup
+        | ReplyBody::FlushContext
+        | ReplyBody::PolicyAuthValue
+        | ReplyBody::PolicyCommandCode
+        | ReplyBody::PolicyOr
+        | ReplyBody::PolicyPcr
+        | ReplyBody::PolicyRestart
+        | ReplyBody::PcrExtend => {}
+    }
+}
+
+#[tactic(auto, unfolding(crate::specs::Replies::pcr_event_reply, crate::specs::Replies::nv_read_reply, crate::specs::Replies::nv_read_public_reply, crate::specs::Replies::start_auth_session_reply, crate::specs::Replies::pcr_read_reply, crate::specs::Replies::policy_get_digest_reply))]
+fn known_params(body: &ReplyBody)
+    ensures { (left : ℕ) → Fits left (parameters_of_reply body.now) body.now }
+{
+    match body {
+        ReplyBody::PcrEvent(digests) => digests.known(),
+        ReplyBody::NvRead(bytes) => bytes.known(),
+        ReplyBody::NvReadPublic { public, name } => {
+            public.known();
+            name.known();
+        }
+        ReplyBody::StartAuthSession(reply) => {
+            // The number of a session's handle is one of them.
+            let _number = reply.session.number();
+            reply.nonce_tpm.known();
+        }
+        ReplyBody::PcrRead {
+            update_counter,
+            selections,
+            digests,
+        } => {
+            // A counter fits its 4 bytes.
+            let _counter = *update_counter;
+            selections.known();
+            digests.known();
+        }
+        ReplyBody::PolicyGetDigest(digest) => digest.known(),
+        ReplyBody::NvUndefineSpace
+        | ReplyBody::NvDefineSpace
+        | ReplyBody::NvIncrement
+        | ReplyBody::PcrReset
+        | ReplyBody::Startup
+        | ReplyBody::FlushContext
+        | ReplyBody::PolicyAuthValue
+        | ReplyBody::PolicyCommandCode
+        | ReplyBody::PolicyOr
+        | ReplyBody::PolicyPcr
+        | ReplyBody::PolicyRestart
+        | ReplyBody::PcrExtend => {}
+    }
+}
+
+// ---- sessions
+
+#[tactic(auto, unfolding(crate::specs::Responses::reply_sessions, crate::specs::Responses::further_sessions))]
+fn sessions_len(auths: &[AuthReply]) -> usize
+    requires { (0 < length auths.now) × (length auths.now ≤ 3) }
+    ensures value { result ≡ length (spelling reply_sessions auths.now) }
+    ensures fits { result ≤ 303 }
+{
+    match auths.split_first() {
+        Some((first, others)) => first.len() + list_len(others),
+        None => unreachable!(),
+    }
+}
+
+#[tactic(auto, unfolding(crate::specs::Responses::reply_sessions, crate::specs::Responses::further_sessions))]
+fn put_sessions(auths: &[AuthReply], out: &mut Buffer)
+    requires some { 0 < length auths.now }
+    requires room { length out.old.items + length (spelling reply_sessions auths.now) ≤ 4096 }
+    ensures { out.new.items ≡ out.old.items ++ spelling reply_sessions auths.now }
+{
+    if let Some((first, others)) = auths.split_first() {
+        first.put(out);
+        put_list(others, out);
+    }
+}
+
+fn known_behind(first: &AuthReply, others: &[AuthReply])
+    requires { length others.now ≤ 2 }
+    ensures { Fits (length (spelling reply_sessions (first.now ∷ others.now))) reply_sessions (first.now ∷ others.now) }
+{
+    first.known();
+    known_list(others);
+}
+
+fn known_sessions(auths: &[AuthReply])
+    requires { (0 < length auths.now) × (length auths.now ≤ 3) }
+    ensures { Fits (length (spelling reply_sessions auths.now)) reply_sessions auths.now }
+{
+    if let Some((first, others)) = auths.split_first() {
+        known_behind(first, others);
+    }
+}
+
+// ---- the reply
+
+fn tag_for(auths: &[AuthReply]) -> u16
+    ensures { result ≡ reply_tag auths.now }
+{
+    if auths.is_empty() {
+        NO_SESSIONS
+    } else {
+        SESSIONS
+    }
+}
+
+#[tactic(auto, unfolding(crate::specs::Responses::with_sessions, crate::specs::Responses::without_sessions, crate::specs::Responses::parameter_size))]
+fn reply_len(body: &ReplyBody, auths: &[AuthReply]) -> usize
+    requires { length auths.now ≤ 3 }
+    ensures value { result ≡ length (spelling (reply (code_for_reply body.now) (reply_tag auths.now)) (record { body = body.now; auths = auths.now })) }
+    ensures fits { result ≤ 4000 }
+    ensures params { length (spelling (parameters_of_reply body.now) body.now) ≤ 3500 }
+{
+    let sessions = if auths.is_empty() {
+        0
+    } else {
+        4 + sessions_len(auths)
+    };
+    handles_len(body) + params_len(body) + sessions
+}
+
+#[tactic(auto, unfolding(crate::specs::Responses::with_sessions, crate::specs::Responses::without_sessions, crate::specs::Responses::parameter_size))]
+fn put_parts(body: &ReplyBody, auths: &[AuthReply], out: &mut Buffer)
+    requires few { length auths.now ≤ 3 }
+    requires room { length out.old.items + length (spelling (reply (code_for_reply body.now) (reply_tag auths.now)) (record { body = body.now; auths = auths.now })) ≤ 4096 }
+    ensures { out.new.items ≡ out.old.items ++ spelling (reply (code_for_reply body.now) (reply_tag auths.now)) (record { body = body.now; auths = auths.now }) }
+{
+    put_handles(body, out);
+    if auths.is_empty() {
+        put_params(body, out);
+    } else {
+        (params_len(body) as u32).put(out);
+        put_params(body, out);
+        put_sessions(auths, out);
+    }
+}
+
+// ---- the response
+
+fn tag_of_code(error: ErrorCode) -> u16
+    ensures { result ≡ code_tag error }
+{
+    if error.number() == BAD_TAG {
+        RSP_COMMAND
+    } else {
+        NO_SESSIONS
+    }
+}
+
+fn put_header(error: ErrorCode, out: &mut Buffer)
+    requires { length out.old.items ≡ 0 }
+    ensures bytes { out.new.items ≡ bytes_high_first 2 (code_tag error) ++ (bytes_high_first 4 10 ++ bytes_high_first 4 error) }
+    ensures number { (0 < error) × (error < 2 ^ 32) }
+{
+    tag_of_code(error).put(out);
+    10u32.put(out);
+    error.number().put(out);
+}
+
+/// Adds to an empty buffer what `encode_response` answers for a response that is this code.
+#[inline(never)]
+pub fn put_code(error: ErrorCode, out: &mut Buffer)
+    requires { length out.old.items ≡ 0 }
+    ensures spells { (code : CodeOf) → Spells (response_layout code) (responses.Code error) out.new.items }
+    ensures bytes { (code : CodeOf) → out.new.items ≡ spelling (response_layout code) (responses.Code error) }
+{
+    put_header(error, out);
+}
+
+fn known_reply(body: &ReplyBody, auths: &[AuthReply])
+    requires few { length auths.now ≤ 3 }
+    requires params { length (spelling (parameters_of_reply body.now) body.now) ≤ 3500 }
+    ensures { Fits (length (spelling (reply_behind (reply_tag auths.now) (parameters_of_reply body.now)) (record { body = body.now; auths = auths.now })))
+        (reply_behind (reply_tag auths.now) (parameters_of_reply body.now)) (record { body = body.now; auths = auths.now }) }
+{
+    known_params(body);
+    if !auths.is_empty() {
+        known_sessions(auths);
+    }
+}
+
+#[tactic(auto, unfolding(crate::specs::Responses::response, crate::specs::Responses::response_front, crate::specs::Responses::response_tag, crate::specs::Responses::response_code, crate::specs::Commands::command_size))]
+#[inline(never)]
+fn put_done(body: &ReplyBody, auths: &[AuthReply], out: &mut Buffer)
+    requires few { length auths.now ≤ 3 }
+    requires empty { length out.old.items ≡ 0 }
+    ensures bytes { out.new.items ≡ spelling (response_layout (code_for_reply body.now)) (responses.Done body.now (record { items = auths.now })) }
+    ensures short { length (spelling (reply (code_for_reply body.now) (reply_tag auths.now)) (record { body = body.now; auths = auths.now })) ≤ 4000 }
+    ensures params { length (spelling (parameters_of_reply body.now) body.now) ≤ 3500 }
+{
+    tag_for(auths).put(out);
+    (10 + reply_len(body, auths) as u32).put(out);
+    0u32.put(out);
+    put_parts(body, auths, out);
+}
+
+/// Adds to an empty buffer what `encode_response` answers for a reply with these sessions, at most three.
+#[inline(never)]
+pub fn put_reply(body: &ReplyBody, auths: &[AuthReply], out: &mut Buffer)
+    requires few { length auths.now ≤ 3 }
+    requires empty { length out.old.items ≡ 0 }
+    ensures spells { Spells (response_layout (code_for_reply body.now)) (responses.Done body.now (record { items = auths.now })) out.new.items }
+    ensures bytes { out.new.items ≡ spelling (response_layout (code_for_reply body.now)) (responses.Done body.now (record { items = auths.now })) }
+{
+    put_done(body, auths, out);
+    known_handles(body);
+    known_reply(body, auths);
+}
+
+fn spell(response: &Response, out: &mut Buffer)
+    requires { length out.old.items ≡ 0 }
+    ensures spells { (code : CodeOf) → Answers code response.now → Spells (response_layout code) response.now out.new.items }
+    ensures bytes { (code : CodeOf) → Answers code response.now → out.new.items ≡ spelling (response_layout code) response.now }
+{
+    match response {
+        Response::Code(error) => put_code(*error, out),
+        Response::Done { body, auths } => put_reply(body, auths.as_slice(), out),
+    }
+}
+
+/// The bytes that spell the response: a code in 10 bytes, under tag 0x00C4 where it is TPM_RC_BAD_TAG and 0x8001 else;
+/// a reply under tag 0x8001 where it has no sessions and 0x8002 else.
+pub fn encode_response(response: &Response) -> Buffer
+    ensures spells { (code : CodeOf) → Answers code response.now → Spells (response_layout code) response.now result.items }
+    ensures bytes { (code : CodeOf) → Answers code response.now → result.items ≡ spelling (response_layout code) response.now }
+{
+    let mut out = ArrayVec::new();
+    spell(response, &mut out);
+    out
+}

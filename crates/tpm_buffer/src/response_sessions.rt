@@ -1,0 +1,143 @@
+//! The sessions of a response, by their positions in its bytes.
+
+ghost use Rattle.std.specs.Prelude.{◌≡◌, ◌≤◌, ◌<◌, ◌+◌, ◌^◌, ◌++◌, IfOk, length};
+ghost use Rattle.std.specs.List.{All};
+ghost use Rattle.tpm_wire.specs.Spelling.{spelling};
+ghost use Rattle.tpm_wire.specs.Buffers.{Takes, TakesNumbered};
+ghost use Rattle.tpm_types.specs.Tpms.{auth_response};
+ghost use Rattle.tpm_buffer.specs.Responses.{further_sessions, reply_sessions};
+ghost use Rattle.tpm_buffer.specs.ResponseAreas.{Stands, IsSession, session_at as the_session_at, sessions_at};
+
+use crate::lent::take_sized;
+use arrayvec::ArrayVec;
+use std::marker::Model;
+use tpm_types::{AuthReply, DIGEST_BYTES, SessionAttrs};
+use tpm_wire::response_code::of_session;
+use tpm_wire::{Cursor, Refusal, Wire};
+
+/// A session of a response, lent from its bytes: TPMS_AUTH_RESPONSE (Part 2, 10.13.3).
+#[derive(Drop)]
+pub struct ReplyRef<'a> {
+    nonce: &'a [u8],
+    attrs: SessionAttrs,
+    hmac: &'a [u8],
+}
+
+impl<'a> Model for ReplyRef<'a> {
+    ghost use Rattle.std.specs.Prelude.{◌≤◌, length};
+    ghost use Rattle.tpm_types.specs.Limits.{digest_bytes};
+    ghost use Rattle.tpm_types.specs.declared.tpms.AuthReply.{AuthReply};
+
+    ghost Value = { AuthReply };
+
+    ghost view = { λ r. record { nonce = r.nonce.now; attrs = r.attrs; hmac = r.hmac.now } };
+
+    ghost invariant = { λ r. (length r.nonce.now ≤ digest_bytes) × (length r.hmac.now ≤ digest_bytes) };
+}
+
+impl<'a> ReplyRef<'a> {
+    /// The device's nonce, nonceTPM: at most `DIGEST_BYTES`.
+    pub fn nonce(&self) -> &'a [u8]
+        ensures { result.now ≡ self.now.nonce }
+    {
+        self.nonce
+    }
+
+    /// sessionAttributes.
+    pub fn attrs(&self) -> SessionAttrs
+        ensures { result ≡ self.now.attrs }
+    {
+        self.attrs
+    }
+
+    /// The HMAC: at most `DIGEST_BYTES`.
+    pub fn hmac(&self) -> &'a [u8]
+        ensures { result.now ≡ self.now.hmac }
+    {
+        self.hmac
+    }
+
+    /// Makes the other session this one.
+    pub(crate) fn copy_to(&self, auth: &mut AuthReply)
+        ensures { auth.new ≡ self.now }
+    {
+        auth.nonce.set(self.nonce);
+        auth.attrs = self.attrs;
+        auth.hmac.set(self.hmac);
+    }
+}
+
+/// The session that begins here.
+#[tactic(auto, unfolding(tpm_types::specs::Tpms::auth_response))]
+pub(crate) fn take_session<'a>(cursor: &mut Cursor<'a>) -> Result<ReplyRef<'a>, Refusal>
+    ensures reads { Takes auth_response cursor.old cursor.new result }
+    ensures spelled { IfOk result (λ a. cursor.old.here.rest ≡ spelling auth_response a ++ cursor.new.here.rest) }
+{
+    let nonce = take_sized(cursor, DIGEST_BYTES)?;
+    let attrs = SessionAttrs::take(cursor)?;
+    let hmac = take_sized(cursor, DIGEST_BYTES)?;
+    Ok(ReplyRef { nonce, attrs, hmac })
+}
+
+/// The session at this position of the response, where one was read.
+pub(crate) fn session_at<'a>(bytes: &'a [u8], at: u32) -> ReplyRef<'a>
+    requires short { length bytes.now < 2 ^ 32 }
+    requires session { IsSession bytes.now at }
+    ensures { result ≡ the_session_at bytes.now at }
+{
+    match take_session(&mut Cursor::new(&bytes[at as usize..])) {
+        Ok(session) => session,
+        Err(_) => unreachable!(),
+    }
+}
+
+/// The positions of the sessions after the first, to the end of the response: at most two.
+#[tactic(auto, unfolding(crate::specs::Responses::further_sessions))]
+fn take_further_sessions(cursor: &mut Cursor<'_>, bytes: &[u8]) -> Result<ArrayVec<u32, 3>, Refusal>
+    requires { Stands bytes.now cursor.old.here }
+    ensures reads { TakesNumbered (λ v. sessions_at bytes.now v.items) further_sessions cursor.old cursor.new result }
+    ensures sessions { IfOk result (λ v. All (IsSession bytes.now) v.items) }
+    ensures few { IfOk result (λ v. length v.items ≤ 2) }
+{
+    let mut positions = ArrayVec::new();
+    while cursor.left() > 0 && positions.len() < 2 {
+        cursor.number(of_session(2 + positions.len() as u32));
+        positions.push(cursor.at());
+        take_session(cursor)?;
+    }
+    Ok(positions)
+}
+
+/// The positions of the sessions of a response, of which there is one at least.
+#[tactic(auto, unfolding(crate::specs::Responses::reply_sessions))]
+pub(crate) fn take_sessions(
+    cursor: &mut Cursor<'_>,
+    bytes: &[u8],
+) -> Result<ArrayVec<u32, 3>, Refusal>
+    requires { Stands bytes.now cursor.old.here }
+    ensures reads { TakesNumbered (λ v. sessions_at bytes.now v.items) reply_sessions cursor.old cursor.new result }
+    ensures sessions { IfOk result (λ v. All (IsSession bytes.now) v.items) }
+    ensures some { IfOk result (λ v. 0 < length v.items) }
+{
+    cursor.number(of_session(1));
+    let first = cursor.at();
+    take_session(cursor)?;
+    let mut positions = take_further_sessions(cursor, bytes)?;
+    positions.insert(0, first);
+    Ok(positions)
+}
+
+/// Makes the sessions those at these positions of the response, of which there are at most three.
+pub(crate) fn copy_sessions(bytes: &[u8], positions: &[u32], auths: &mut ArrayVec<AuthReply, 3>)
+    requires short { length bytes.now < 2 ^ 32 }
+    requires few { length positions.now ≤ 3 }
+    requires sessions { All (IsSession bytes.now) positions.now }
+    ensures { auths.new.items ≡ sessions_at bytes.now positions.now }
+{
+    auths.clear();
+    for at in positions {
+        let mut auth = AuthReply::default();
+        session_at(bytes, *at).copy_to(&mut auth);
+        auths.push(auth);
+    }
+}
