@@ -21,8 +21,7 @@ pub fn same_limits()
     ensures block { BLOCK_BYTES ≡ block_bytes }
     ensures select { SELECT_BYTES ≡ select_bytes }
     ensures digests { MOST_DIGESTS ≡ most_digests }
-{
-}
+{}
 
 /// Each counted list is read as its layout says, with the least and the greatest count of that.
 pub fn same_lists()
@@ -30,5 +29,4 @@ pub fn same_lists()
     ensures digests { (number : ℕ) (h : Here) → read number ⟦<Digests as Wire>⟧.layout h ≡ read number digests h }
     ensures or_digests { (number : ℕ) (h : Here) → read number ⟦<OrDigests as Wire>⟧.layout h ≡ read number or_digests h }
     ensures digest_values { (number : ℕ) (h : Here) → read number ⟦<DigestValues as Wire>⟧.layout h ≡ read number digest_values h }
-{
-}
+{}

@@ -5,8 +5,8 @@ use crate::handles::{AuthSession, NvIndex, PcrIndex};
 use crate::limits::PUBLIC_BYTES;
 use crate::tpm2b::{AuthValue, Digest, Nonce};
 use crate::tpma::{NvAttrs, SessionAttrs};
-use tpm_wire::response_code::VALUE;
-use tpm_wire::{Buffer, Cursor, Duplicate, INSUFFICIENT, Refusal, SIZE, Wire, put_bytes};
+use tpm_wire::response_code::{INSUFFICIENT, SIZE, VALUE};
+use tpm_wire::{Buffer, Cursor, Duplicate, Refusal, Wire, put_bytes};
 
 /// How many bytes of bits a selection has, one bit for each register.
 pub const SELECT_BYTES: usize = 3;

@@ -165,7 +165,7 @@ impl<T: Wire + Default + Duplicate + Drop, const LEAST: usize, const MOST: usize
 }
 
 /// The same entries again.
-pub fn duplicates<T: Default + Duplicate + Drop, const N: usize>(entries: &[T]) -> ArrayVec<T, N>
+fn duplicates<T: Default + Duplicate + Drop, const N: usize>(entries: &[T]) -> ArrayVec<T, N>
     requires { length entries.now ≤ N }
     ensures { result.items ≡ entries.now }
 {
@@ -174,71 +174,4 @@ pub fn duplicates<T: Default + Duplicate + Drop, const N: usize>(entries: &[T]) 
         found.push(entry.duplicate());
     }
     found
-}
-
-#[cfg(test)]
-mod tests {
-    use super::*;
-    use std::test::*;
-
-    #[test]
-    fn one_to_three_numbers(rt: HostRuntime) {
-        assert!(&rt; Counted::<u16, 1, 3>::new(&[]).is_none());
-        assert!(&rt; Counted::<u16, 1, 3>::new(&[1]).is_some());
-        let three = Counted::<u16, 1, 3>::new(&[1, 2, 3]).expect(&rt, "three numbers");
-        assert_eq!(&rt; three.as_slice(), [1, 2, 3].as_slice());
-        assert!(&rt; Counted::<u16, 1, 3>::new(&[1, 2, 3, 4]).is_none());
-    }
-
-    #[test]
-    fn entries_are_added_and_removed(rt: HostRuntime) {
-        let mut numbers = Counted::<u16, 0, 2>::default();
-        assert!(&rt; numbers.as_slice().is_empty());
-        numbers.push(7);
-        assert!(&rt; !numbers.is_full());
-        numbers.push(5);
-        assert_eq!(&rt; numbers.as_slice(), [7, 5].as_slice());
-        assert!(&rt; numbers.is_full());
-        numbers.clear();
-        assert!(&rt; numbers.as_slice().is_empty());
-    }
-
-    #[test]
-    fn a_count_lies_before_the_entries(rt: HostRuntime) {
-        let mut cursor = Cursor::new(&[0x00, 0x00, 0x00, 0x02, 0x01, 0x02, 0x03, 0x04, 0x05]);
-        match Counted::<u16, 1, 3>::take(&mut cursor) {
-            Ok(two) => {
-                assert_eq!(&rt; two.as_slice(), [0x0102, 0x0304].as_slice());
-                assert_eq!(&rt; two.len(), 8);
-                let mut out = Buffer::new();
-                two.put(&mut out);
-                let bytes = [0x00, 0x00, 0x00, 0x02, 0x01, 0x02, 0x03, 0x04];
-                assert_eq!(&rt; out.as_slice(), bytes.as_slice());
-            }
-            Err(_) => panic!(&rt; "refused"),
-        }
-        assert_eq!(&rt; cursor.at(), 8);
-    }
-
-    #[test]
-    fn first_faults(rt: HostRuntime) {
-        for (bytes, code, at) in [
-            ([0x00, 0x00, 0x00].as_slice(), 0x09A, 0),
-            ([0x00, 0x00, 0x00, 0x00].as_slice(), 0x095, 0),
-            ([0x00, 0x00, 0x00, 0x04].as_slice(), 0x095, 0),
-            ([0x00, 0x02, 0x00, 0x01].as_slice(), 0x095, 0),
-            ([0x00, 0x00, 0x00, 0x01].as_slice(), 0x09A, 4),
-            (
-                [0x00, 0x00, 0x00, 0x02, 0x01, 0x02, 0x03].as_slice(),
-                0x09A,
-                6,
-            ),
-        ] {
-            assert!(&rt; bytes.len() < 8);
-            match Counted::<u16, 1, 3>::take(&mut Cursor::new(bytes)) {
-                Ok(_) => panic!(&rt; "taken"),
-                Err(refusal) => assert_eq!(&rt; refusal, Refusal { code, at }),
-            }
-        }
-    }
 }

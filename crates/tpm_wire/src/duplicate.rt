@@ -9,31 +9,7 @@ pub trait Duplicate {
         ensures { result ≡ self.now };
 }
 
-impl<A: Duplicate, B: Duplicate> Duplicate for (A, B) {
-    fn duplicate(&self) -> Self {
-        (self.0.duplicate(), self.1.duplicate())
-    }
-}
-
-impl Duplicate for u8 {
-    fn duplicate(&self) -> Self {
-        *self
-    }
-}
-
 impl Duplicate for u16 {
-    fn duplicate(&self) -> Self {
-        *self
-    }
-}
-
-impl Duplicate for u32 {
-    fn duplicate(&self) -> Self {
-        *self
-    }
-}
-
-impl Duplicate for u64 {
     fn duplicate(&self) -> Self {
         *self
     }

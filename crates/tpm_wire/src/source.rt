@@ -127,6 +127,3 @@ impl<R: Read> Source for Reads<R> {
         self.failures
     }
 }
-
-#[cfg(test)]
-mod tests;
