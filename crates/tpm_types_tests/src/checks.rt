@@ -2,7 +2,6 @@
 
 use std::process::Abort;
 use std::test::*;
-use tpm_types::PcrIndex;
 use tpm_wire::{Buffer, Cursor, Wire, no_prefix, one_reading, one_reading_within, taken_back};
 
 /// The parts, joined.
@@ -12,6 +11,28 @@ pub fn joined(parts: &[&[u8]]) -> Buffer {
         let _ = all.try_extend_from_slice(part);
     }
     all
+}
+
+/// The bytes of hexadecimal text, in which spaces say nothing.
+fn bytes_of(text: &str) -> Buffer {
+    let mut bytes = Buffer::new();
+    let mut high = None;
+    for letter in text.bytes() {
+        let digit = match letter {
+            b'0'..=b'9' => letter - b'0',
+            b'a'..=b'f' => letter - b'a' + 10,
+            _ => continue,
+        };
+        high = match high {
+            None => Some(digit),
+            Some(high) => {
+                let high: u8 = high;
+                let _ = bytes.try_push(high.wrapping_mul(16).wrapping_add(digit));
+                None
+            }
+        };
+    }
+    bytes
 }
 
 /// The bytes are a value, all of them, whose spelling they are, and the laws hold of its type.
@@ -54,15 +75,23 @@ pub fn refuses<T: Wire + Drop>(rt: &impl Abort, bytes: &[u8], code: u32, at: u32
     }
 }
 
-/// Each beginning of the bytes is too short, at the place that stands for its length.
-pub fn is_cut_at<T: Wire + Drop>(rt: &impl Abort, bytes: &[u8], places: &[u32]) {
-    assert_eq!(rt; bytes.len(), places.len());
-    for n in 0..bytes.len() {
-        refuses::<T>(rt, &bytes[..n], 0x09A, places[n]);
+/// Of each row in `taken` the bytes are a value, and each beginning of them is too short, at the place that stands for its
+/// length: one byte a place, or none where the beginnings are not tried. Of each row in `refused` the bytes are refused with
+/// this code at this place.
+pub fn rows<T: Wire + Drop>(rt: &impl Abort, taken: &[(&str, &str)], refused: &[(&str, u32, u32)]) {
+    for &(text, cuts) in taken {
+        let bytes = bytes_of(text);
+        let _ = goes_both_ways::<T>(rt, bytes.as_slice());
+        let places = bytes_of(cuts);
+        if !places.is_empty() {
+            assert_eq!(rt; places.len(), bytes.len(), "{text}");
+            for n in 0..bytes.len() {
+                let begin = &bytes.as_slice()[..n];
+                refuses::<T>(rt, begin, 0x09A, places.as_slice()[n] as u32);
+            }
+        }
     }
-}
-
-/// The register of this number.
-pub fn register(rt: &impl Abort, number: u32) -> PcrIndex {
-    PcrIndex::from_number(number).expect(rt, "a register")
+    for &(text, code, at) in refused {
+        refuses::<T>(rt, bytes_of(text).as_slice(), code, at);
+    }
 }

@@ -3,24 +3,14 @@
 #![tactic(auto)]
 
 #[cfg(test)]
-mod alg;
-#[cfg(test)]
-mod attest;
-#[cfg(test)]
 mod checks;
 #[cfg(test)]
-mod constants;
+mod rows;
 #[cfg(test)]
-mod handle_sets;
-#[cfg(test)]
-mod handles;
-#[cfg(test)]
-mod tpm2b;
+mod sources;
 #[cfg(test)]
 mod tpma;
 #[cfg(test)]
-mod tpml;
+mod values;
 #[cfg(test)]
-mod tpms;
-#[cfg(test)]
-mod tpmt;
+mod wire;

@@ -1,19 +1,7 @@
-//! Attributes, and what is asked of them.
+//! What is asked of attributes.
 
-use crate::checks::{goes_both_ways, is_cut_at, refuses};
 use std::test::*;
 use tpm_types::{NvAttrs, SessionAttrs};
-
-#[test]
-fn session_attributes(rt: HostRuntime) {
-    assert_eq!(&rt; goes_both_ways::<SessionAttrs>(&rt, &[0x01]).number(), 0x01);
-    assert_eq!(&rt; goes_both_ways::<SessionAttrs>(&rt, &[0xE7]).number(), 0xE7);
-    is_cut_at::<SessionAttrs>(&rt, &[0x00], &[0]);
-    // Bits 3 and 4 are reserved.
-    for reserved in [0x08, 0x09, 0x10, 0x18, 0xFF] {
-        refuses::<SessionAttrs>(&rt, &[reserved], 0x0A1, 0);
-    }
-}
 
 #[test]
 fn queries_of_session_attributes(rt: HostRuntime) {
@@ -31,24 +19,6 @@ fn queries_of_session_attributes(rt: HostRuntime) {
         assert_eq!(&rt; attrs.continues(), continues);
         assert_eq!(&rt; attrs.audits_or_encrypts(), more);
     }
-}
-
-#[test]
-fn nv_attributes(rt: HostRuntime) {
-    assert_eq!(&rt;
-        goes_both_ways::<NvAttrs>(&rt, &[0x02, 0x06, 0x00, 0x16]).number(),
-        0x0206_0016
-    );
-    let _ = goes_both_ways::<NvAttrs>(&rt, &[0xFE, 0x0F, 0xFC, 0xFF]);
-    is_cut_at::<NvAttrs>(&rt, &[0x02, 0x06, 0x00, 0x16], &[0, 0, 0, 0]);
-    // Bits 8, 9 and 20 to 24 are reserved.
-    refuses::<NvAttrs>(&rt, &[0x00, 0x00, 0x01, 0x00], 0x0A1, 0);
-    refuses::<NvAttrs>(&rt, &[0x00, 0x00, 0x02, 0x00], 0x0A1, 0);
-    refuses::<NvAttrs>(&rt, &[0x00, 0x10, 0x00, 0x00], 0x0A1, 0);
-    refuses::<NvAttrs>(&rt, &[0x00, 0x20, 0x00, 0x00], 0x0A1, 0);
-    refuses::<NvAttrs>(&rt, &[0x00, 0x40, 0x00, 0x00], 0x0A1, 0);
-    refuses::<NvAttrs>(&rt, &[0x00, 0x80, 0x00, 0x00], 0x0A1, 0);
-    refuses::<NvAttrs>(&rt, &[0x01, 0x00, 0x00, 0x00], 0x0A1, 0);
 }
 
 const T: bool = true;
