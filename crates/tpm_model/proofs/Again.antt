@@ -4,6 +4,7 @@ use Rattle.std.specs.Prelude.{if◌then◌else◌, option_map}
 use Rattle.tpm_types.specs.declared.tpms.Auth.{Auth}
 use Rattle.tpm_types.specs.Handles.{is_session}
 use Rattle.tpm_model.specs.Steps.{History, Accepted, Origin}
+use Rattle.tpm_model.specs.Registers.{changes, registers_after}
 use Rattle.tpm_model.specs.Policies.{Assertion, policy_of}
 use Rattle.tpm_model.specs.Sessions.{Session, slot_of, lives, begins, authorizes, Start, start_of, last_nonce, asserted_by, assertions_of, as_session, session_at}
 use Rattle.tpm_model.specs.Present.{present}
@@ -29,7 +30,7 @@ starts_again has o h bytes n d a s e one is there =
     let k = slot_of a.session in
     let g : History = Accepted d.command d.reply n ∷ h in
     let by_it = ap (authorizes k) one ∙ its_slot a is in
-    let none : assertions_of k g ≡ [] = none_left (begins k d.command.body d.reply.body) (authorizes k d.command.auths.items) (asserted_by k d.command.body h (assertions_of k h)) by_it in
+    let none : assertions_of k g ≡ [] = none_left (begins k d.command.body d.reply.body) (authorizes k d.command.auths.items) (asserted_by k d.command.body (registers_after (changes h)) (start_of k h) (assertions_of k h)) by_it in
     let here : session_at o g k ≡ Some s = sym (ap (λ (l : History). session_at o l k) (next_is has o h bytes n d e)) ∙ there in
     with_none o (lives k g) (last_nonce k g) (start_of k g) s
     (subst (λ made. (if lives k g then option_map (as_session o (last_nonce k g) made) (start_of k g) else None) ≡ Some s) none here)

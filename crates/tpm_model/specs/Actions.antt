@@ -1,4 +1,5 @@
--- What each command does, or refuses (Part 3, the detailed actions of each; the order of refusals is this profile's).
+-- What each command does, or refuses (Part 3, the detailed actions in the section of each; the order of refusals is this
+-- profile's).
 use Rattle.std.specs.Prelude.{ℕ, ◌+◌, ◌^◌, Bool, false, not, ◌&&◌, ◌||◌, ◌==◌, nat_lt, nat_le, bytes_eq, List, [], ◌∷◌, length, take, drop, Option, is_some, is_none, Result, Ok, Err, ok_or, if◌then◌else◌}
 use Rattle.std.specs.Int.{w64, to_be_bytes}
 use Rattle.tpm_wire.specs.Reading.{◌>>=◌}
@@ -43,7 +44,7 @@ check_reset q = refuse (not (q == 16 || q == 23)) rc_locality
 
 -- ---- sessions
 
--- A nonce has 16 bytes at least, and no more than a digest (Part 3, TPM2_StartAuthSession).
+-- A nonce has 16 bytes at least, and no more than a digest (Part 3, 11.1).
 abbrev pub start_session : List (Option Session) → StartAuth → List ℕ → Result ReplyBody ℕ
 start_session sessions s nonce = do
   _ ← refuse (nat_lt (length s.nonce_caller) 16 || nat_lt (digest_len s.auth_hash) (length s.nonce_caller)) (rc_size + of_parameter 1)
@@ -132,35 +133,53 @@ read_counter there by index size offset = do
 abbrev pub then_reply : {A : Type 0} → Result A ℕ → ReplyBody → Result ReplyBody ℕ
 then_reply check reply = check >>= λ _. Ok reply
 
--- what a command answers, or the code of its refusal
+-- what a command answers, or the code of its refusal, by the sections of Part 3
 abbrev pub action : Present → CommandBody → List ℕ → Result ReplyBody ℕ
+-- 9.3, TPM2_Startup
 action p (bodies.Startup kind) nonce = then_reply (check_startup kind) replies.Startup
+-- 22.2, TPM2_PCR_Extend
 action p (bodies.PcrExtend q digests) nonce = then_reply (check_extend q) replies.PcrExtend
+-- 22.3, TPM2_PCR_Event
 action p (bodies.PcrEvent q event) nonce = then_reply (check_extend q) (replies.PcrEvent (event_digests event))
+-- 22.8, TPM2_PCR_Reset
 action p (bodies.PcrReset q) nonce = then_reply (check_reset q) replies.PcrReset
+-- 22.4, TPM2_PCR_Read
 action p (bodies.PcrRead sels) nonce = Ok (replies.PcrRead p.registers.update_counter (selections_read sels) (values_read (value_in p.registers.banks) sels))
+-- 11.1, TPM2_StartAuthSession
 action p (bodies.StartAuthSession start) nonce = start_session p.sessions start nonce
+-- 28.4, TPM2_FlushContext
 action p (bodies.FlushContext handle) nonce = then_reply (check_flush (loaded p.sessions handle)) replies.FlushContext
+-- 23.7, TPM2_PolicyPCR
 action p (bodies.PolicyPcr handle pcr_digest sels) nonce = do
   s ← policy_session (loaded p.sessions handle)
   then_reply (check_policy_pcr s (composite s.hash (value_in p.registers.banks) sels) p.registers.update_counter pcr_digest) replies.PolicyPcr
+-- 23.6, TPM2_PolicyOR
 action p (bodies.PolicyOr handle digests) nonce = do
   s ← policy_session (loaded p.sessions handle)
   then_reply (check_policy_or s digests) replies.PolicyOr
+-- 23.11, TPM2_PolicyCommandCode
 action p (bodies.PolicyCommandCode handle code) nonce = do
   s ← policy_session (loaded p.sessions handle)
   then_reply (check_policy_code s code) replies.PolicyCommandCode
+-- 23.17, TPM2_PolicyAuthValue
 action p (bodies.PolicyAuthValue handle) nonce = then_reply (policy_session (loaded p.sessions handle)) replies.PolicyAuthValue
+-- 11.2, TPM2_PolicyRestart
 action p (bodies.PolicyRestart handle) nonce = then_reply (policy_session (loaded p.sessions handle)) replies.PolicyRestart
+-- 23.19, TPM2_PolicyGetDigest
 action p (bodies.PolicyGetDigest handle) nonce = do
   s ← policy_session (loaded p.sessions handle)
   Ok (replies.PolicyGetDigest s.policy.digest)
+-- 31.3, TPM2_NV_DefineSpace
 action p (bodies.NvDefineSpace auth public) nonce = then_reply (check_define (counter_in p.nv.counters public.index) (length p.nv.counters) auth public) replies.NvDefineSpace
+-- 31.4, TPM2_NV_UndefineSpace
 action p (bodies.NvUndefineSpace index) nonce = then_reply (defined_counter (counter_in p.nv.counters index)) replies.NvUndefineSpace
+-- 31.8, TPM2_NV_Increment
 action p (bodies.NvIncrement by index) nonce = then_reply (increment p.nv.greatest (counter_in p.nv.counters index) by index) replies.NvIncrement
+-- 31.13, TPM2_NV_Read
 action p (bodies.NvRead by index size offset) nonce = do
   bytes ← read_counter (counter_in p.nv.counters index) by index size offset
   Ok (replies.NvRead bytes)
+-- 31.6, TPM2_NV_ReadPublic
 action p (bodies.NvReadPublic index) nonce = do
   c ← defined_counter (counter_in p.nv.counters index)
   Ok (replies.NvReadPublic c.public (nv_name c.public))

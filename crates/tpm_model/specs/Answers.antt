@@ -48,7 +48,7 @@ CommandSet = CommandCode → Bool
 abbrev pub check_has : Bool → Result (Unit {0}) ℕ
 check_has has = refuse (not has) rc_command_code
 
--- TPM2_Startup comes first, and once (Part 3, TPM2_Startup).
+-- TPM2_Startup comes first, and once (Part 3, 9.3).
 abbrev pub check_started : Bool → CommandCode → Result (Unit {0}) ℕ
 check_started started codes.Startup = refuse started rc_initialize
 check_started started _ = refuse (not started) rc_initialize

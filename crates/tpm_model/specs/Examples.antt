@@ -101,6 +101,10 @@ nv_read offset = hex "8002 00000023 0000014e 40000001 01800001 00000009 40000009
 abbrev pub start_session : String → List ℕ
 start_session kind = hex "8001 0000002b 00000176 40000007 40000007 0010" ++ replicate 16 0 ++ hex "0000" ++ hex kind ++ hex "0010 000b"
 
+-- with this hash, and a nonce of 48 zero bytes
+abbrev pub start_with_long_nonce : String → List ℕ
+start_with_long_nonce alg = hex "8001 0000004b 00000176 40000007 40000007 0030" ++ replicate 48 0 ++ hex "0000 00 0010" ++ hex alg
+
 abbrev pub flush : String → List ℕ
 flush handle = hex "8001 0000000e 00000165" ++ hex handle
 
@@ -177,7 +181,8 @@ pub record Examples : Type 0 where
   -- ---- registers that are read
 
   pub one_value : reply_to new (startup ∷ []) pcr_read ≡ hex "8001 0000003e 00000000 00000000 00000001 000b 03 010000 00000001 0020" ++ zero_digest
-  -- all registers of both banks: the first eight values, and a selection that says so
+  pub value_of_sha384 : reply_to new (startup ∷ []) (hex "8001 00000014 0000017e 00000001 000c 03 010000") ≡ hex "8001 0000004e 00000000 00000000 00000001 000c 03 010000 00000001 0030" ++ replicate 48 0
+  -- all registers of two banks: the first eight values, and a selection that says so
   pub eight_values : reply_to new (startup ∷ []) (hex "8001 0000001a 0000017e 00000002 0004 03 ffffff 000b 03 ffffff")
       ≡ hex "8001 000000d2 00000000 00000000 00000002 0004 03 ff0000 000b 03 000000 00000008" ++ flat_map (λ value. hex "0014" ++ value) (replicate 8 (replicate 20 0))
   -- the last of the debug registers and the first of dynamic launch, once more in a second entry
@@ -202,6 +207,9 @@ pub record Examples : Type 0 where
   pub first_slot : reply_to new (startup ∷ []) (start_session "00") ≡ session_started 2 "02000000"
   pub second_slot : reply_to new (startup ∷ start_session "00" ∷ []) (start_session "01") ≡ session_started 3 "03000001"
   pub no_slot : reply_to new (startup ∷ start_session "00" ∷ start_session "00" ∷ start_session "00" ∷ []) (start_session "00") ≡ code "00000903"
+  -- a nonce as long as a digest, and one that is longer
+  pub nonce_of_sha384 : reply_to new (startup ∷ []) (start_with_long_nonce "000c") ≡ hex "8001 00000040 00000000 02000000 0030" ++ nonce_front 2 ++ nonce_front 2 ++ nonce_front 2
+  pub long_nonce : reply_to new (startup ∷ []) (start_with_long_nonce "000b") ≡ code "000001d5"
   pub short_nonce : reply_to new (startup ∷ []) (hex "8001 0000002a 00000176 40000007 40000007 000f" ++ replicate 15 0 ++ hex "0000 00 0010 000b") ≡ code "000001d5"
   pub flushed : reply_to new (startup ∷ start_session "00" ∷ []) (flush "02000000") ≡ success
   pub flushed_twice : reply_to new (startup ∷ start_session "00" ∷ flush "02000000" ∷ []) (flush "02000000") ≡ code "000001cb"

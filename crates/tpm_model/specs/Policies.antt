@@ -25,7 +25,7 @@ pub data Assertion : Type 0 where
 abbrev pub code_bytes : CommandCode → List ℕ
 code_bytes code = to_be_bytes w32 (code_number code)
 
--- The digest after an assertion (Part 3, TPM2_PolicyPCR, TPM2_PolicyOR, TPM2_PolicyCommandCode, TPM2_PolicyAuthValue).
+-- The digest after an assertion (Part 3, 23.7, 23.6, 23.11 and 23.17).
 abbrev pub asserted : Alg → Assertion → List ℕ → List ℕ
 asserted alg (PcrAsserted selected pcr_digest update_counter) old = digest alg (old ++ code_bytes codes.PolicyPcr ++ spelling selections selected ++ pcr_digest)
 asserted alg (OrAsserted digests) old = digest alg (zeros alg ++ code_bytes codes.PolicyOr ++ flat_map (λ d. d) digests)

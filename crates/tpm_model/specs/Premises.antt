@@ -47,7 +47,7 @@ pub record IsWholeByGrammar {A : Type 0} (l : Layout A) (bytes : List ℕ) : Typ
 
 -- ---- accepted buffers
 
--- the response code of a response (Part 1, 18.2): behind the tag and the size, in four bytes
+-- the response code of a response (Part 1, "Command/Response Structure"): behind the tag and the size, in four bytes
 abbrev pub code_in : List ℕ → ℕ
 code_in bytes = number_of (take 4 (drop 6 bytes))
 

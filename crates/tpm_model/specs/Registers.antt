@@ -25,7 +25,7 @@ pub data Change : Type 0 where
   -- A register is extended with digests, in each bank with those of the bank's hash.
   Extend : (register : ℕ) → (digests : List (Alg × List ℕ)) → Change
 
--- the digests of an event: each bank's hash of it, SHA-1 first, and then by rising number (Part 3, TPM2_PCR_Event)
+-- the digests of an event: each bank's hash of it, SHA-1 first, and then by rising number (Part 3, 22.3)
 abbrev pub event_digests : List ℕ → List (Alg × List ℕ)
 event_digests event = map (λ alg. (alg, digest alg event)) all_algs
 
@@ -145,7 +145,7 @@ registers_after cs = record { banks = banks_of (register_value cs); update_count
 abbrev pub value_in : List (List (List ℕ)) → Alg → ℕ → List ℕ
 value_in banks alg q = slice_index_or (slice_index_or banks (bank_place alg) []) q []
 
--- ---- selections (Part 2, 10.6.2; Part 3, TPM2_PCR_Read)
+-- ---- selections (Part 2, 10.6.2; Part 3, 22.4)
 
 -- the registers that an entry selects, rising
 abbrev pub selected_by : Selection → List ℕ

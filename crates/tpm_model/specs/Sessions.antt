@@ -1,4 +1,4 @@
--- Sessions at a history (Part 1, "Session-Based Authorizations"; Part 3, TPM2_StartAuthSession).
+-- Sessions at a history (Part 1, "Session-Based Authorizations"; Part 3, 11.1).
 use Rattle.std.specs.Prelude.{ℕ, ◌+◌, ◌%◌, Bool, true, false, not, ◌&&◌, ◌||◌, ◌==◌, is_some, is_none, find, slice_index_or, List, [], ◌∷◌, length, map, take, Option, Some, None, option_map, if◌then◌else◌}
 use Rattle.tpm_types.specs.declared.alg.Alg.{Alg}
 use Rattle.tpm_types.specs.declared.constants.SessionType.{SessionType}
@@ -16,7 +16,7 @@ use Rattle.tpm_buffer.specs.declared.response.ReplyBody.{ReplyBody}
 use Rattle.tpm_buffer.specs.declared.response.ReplyBody.TheVariants as replies
 use Rattle.tpm_hmac.specs.Sessions.{session_key}
 use Rattle.tpm_model.specs.Steps.{History, PowerCycle, Accepted, Origin}
-use Rattle.tpm_model.specs.Registers.{changes, registers_after, value_in, composite}
+use Rattle.tpm_model.specs.Registers.{changes, Registers, registers_after, value_in, composite}
 use Rattle.tpm_model.specs.Policies.{Assertion, Policy, policy_of}
 use Rattle.tpm_model.specs.Policies.Assertion.{PcrAsserted, OrAsserted, CodeAsserted, AuthValueAsserted}
 
@@ -136,42 +136,38 @@ last_nonce k (Accepted c r n ∷ h) = if begins k c.body r.body || authorizes k 
 
 -- ---- a policy session's assertions
 
--- the values of the registers
-abbrev pub values_at : History → Alg → ℕ → List ℕ
-values_at h = value_in (registers_after (changes h)).banks
-
 -- What TPM2_PolicyPCR asserts in a session of this type and hash: the composite of the registers as they are, with the
 -- update counter. A trial takes any digest that it is given for the composite, and keeps no update counter.
-abbrev pub pcr_assertion : History → SessionType → Alg → List ℕ → List Selection → Assertion
-pcr_assertion h Trial alg [] sels = PcrAsserted sels (composite alg (values_at h) sels) None
-pcr_assertion h Trial alg pcr_digest sels = PcrAsserted sels pcr_digest None
-pcr_assertion h _ alg pcr_digest sels = PcrAsserted sels (composite alg (values_at h) sels) (Some (registers_after (changes h)).update_counter)
+abbrev pub pcr_assertion : Registers → SessionType → Alg → List ℕ → List Selection → Assertion
+pcr_assertion now Trial alg [] sels = PcrAsserted sels (composite alg (value_in now.banks) sels) None
+pcr_assertion now Trial alg pcr_digest sels = PcrAsserted sels pcr_digest None
+pcr_assertion now _ alg pcr_digest sels = PcrAsserted sels (composite alg (value_in now.banks) sels) (Some now.update_counter)
 
 -- in the session of this start
-abbrev pub pcr_asserted : History → Option Start → List ℕ → List Selection → List Assertion → List Assertion
-pcr_asserted h None pcr_digest sels old = old
-pcr_asserted h (Some start) pcr_digest sels old = pcr_assertion h start.request.session_type start.request.auth_hash pcr_digest sels ∷ old
+abbrev pub pcr_asserted : Registers → Option Start → List ℕ → List Selection → List Assertion → List Assertion
+pcr_asserted now None pcr_digest sels old = old
+pcr_asserted now (Some start) pcr_digest sels old = pcr_assertion now start.request.session_type start.request.auth_hash pcr_digest sels ∷ old
 
 -- what the slot's session asserts after a policy command on it, or another command
-abbrev pub asserted_by : ℕ → CommandBody → History → List Assertion → List Assertion
-asserted_by k (bodies.PolicyPcr handle pcr_digest sels) h old = if slot_of handle == k then pcr_asserted h (start_of k h) pcr_digest sels old else old
-asserted_by k (bodies.PolicyOr handle digests) h old = if slot_of handle == k then OrAsserted digests ∷ old else old
-asserted_by k (bodies.PolicyCommandCode handle code) h old = if slot_of handle == k then CodeAsserted code ∷ old else old
-asserted_by k (bodies.PolicyAuthValue handle) h old = if slot_of handle == k then AuthValueAsserted ∷ old else old
-asserted_by k (bodies.PolicyRestart handle) h old = if slot_of handle == k then [] else old
-asserted_by k (bodies.Startup kind) h old = old
-asserted_by k (bodies.PcrExtend q digests) h old = old
-asserted_by k (bodies.PcrEvent q event) h old = old
-asserted_by k (bodies.PcrReset q) h old = old
-asserted_by k (bodies.PcrRead sels) h old = old
-asserted_by k (bodies.StartAuthSession start) h old = old
-asserted_by k (bodies.FlushContext handle) h old = old
-asserted_by k (bodies.PolicyGetDigest handle) h old = old
-asserted_by k (bodies.NvDefineSpace auth public) h old = old
-asserted_by k (bodies.NvUndefineSpace index) h old = old
-asserted_by k (bodies.NvIncrement by index) h old = old
-asserted_by k (bodies.NvRead by index size offset) h old = old
-asserted_by k (bodies.NvReadPublic index) h old = old
+abbrev pub asserted_by : ℕ → CommandBody → Registers → Option Start → List Assertion → List Assertion
+asserted_by k (bodies.PolicyPcr handle pcr_digest sels) now start old = if slot_of handle == k then pcr_asserted now start pcr_digest sels old else old
+asserted_by k (bodies.PolicyOr handle digests) now start old = if slot_of handle == k then OrAsserted digests ∷ old else old
+asserted_by k (bodies.PolicyCommandCode handle code) now start old = if slot_of handle == k then CodeAsserted code ∷ old else old
+asserted_by k (bodies.PolicyAuthValue handle) now start old = if slot_of handle == k then AuthValueAsserted ∷ old else old
+asserted_by k (bodies.PolicyRestart handle) now start old = if slot_of handle == k then [] else old
+asserted_by k (bodies.Startup kind) now start old = old
+asserted_by k (bodies.PcrExtend q digests) now start old = old
+asserted_by k (bodies.PcrEvent q event) now start old = old
+asserted_by k (bodies.PcrReset q) now start old = old
+asserted_by k (bodies.PcrRead sels) now start old = old
+asserted_by k (bodies.StartAuthSession request) now start old = old
+asserted_by k (bodies.FlushContext handle) now start old = old
+asserted_by k (bodies.PolicyGetDigest handle) now start old = old
+asserted_by k (bodies.NvDefineSpace auth public) now start old = old
+asserted_by k (bodies.NvUndefineSpace index) now start old = old
+asserted_by k (bodies.NvIncrement by index) now start old = old
+asserted_by k (bodies.NvRead by index size offset) now start old = old
+asserted_by k (bodies.NvReadPublic index) now start old = old
 
 -- what the slot's session asserts: the policy commands on it, the newest first, since the latest of its start, its last
 -- TPM2_PolicyRestart and the last step that it authorized
@@ -179,7 +175,7 @@ abbrev pub assertions_of : ℕ → History → List Assertion
 assertions_of k [] = []
 assertions_of k (PowerCycle ∷ h) = []
 assertions_of k (Accepted c r n ∷ h) =
-    if begins k c.body r.body || authorizes k c.auths.items then [] else asserted_by k c.body h (assertions_of k h)
+    if begins k c.body r.body || authorizes k c.auths.items then [] else asserted_by k c.body (registers_after (changes h)) (start_of k h) (assertions_of k h)
 
 -- ---- a session as it is held
 

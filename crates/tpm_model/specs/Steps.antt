@@ -40,7 +40,7 @@ starts (bodies.NvIncrement by index) = false
 starts (bodies.NvRead by index size offset) = false
 starts (bodies.NvReadPublic index) = false
 
--- A TPM2_Startup stands after the last power cycle (Part 3, TPM2_Startup).
+-- A TPM2_Startup stands after the last power cycle (Part 3, 9.3).
 abbrev pub started : History → Bool
 started [] = false
 started (PowerCycle ∷ h) = false
