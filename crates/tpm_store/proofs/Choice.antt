@@ -1,14 +1,14 @@
 -- One register more of a selection.
 use Rattle.std.proofs.Common.{◌≡◌, ℕ, zero, suc, List, [], ◌∷◌, ◌++◌, ◌<◌, ◌≤◌, ◌+◌, ◌-◌, ◌*◌, ◌%◌, ◌^◌, Bool, true, false, bit_or, length, take, map, get_or, refl, sym, ap, ◌∙◌, arith, length-append, append_assoc}
-use Rattle.std.specs.Prelude.{slice_index_or, filter}
-use Rattle.std.proofs.lemmas.List.{take_more, map-append, length-map, append-nil, get_or_default}
+use Rattle.std.specs.Prelude.{filter}
+use Rattle.std.proofs.lemmas.List.{take_more, map-append, length-map, append-nil}
 use Rattle.std.proofs.lemmas.List.Elements.{filter-append}
 use Rattle.std.proofs.lemmas.Grind.{or_before_shift}
 use Rattle.std.proofs.lemmas.List.FromFn.{get_or-range_with_len}
 use Rattle.tpm_types.specs.Tpma.{mask}
 use Rattle.tpm_types.specs.Tpms.{is_selected}
 use Rattle.tpm_model.specs.Registers.{all_registers}
-use Rattle.tpm_store.specs.Select.{registers_of, chosen, bits_of, values_of}
+use Rattle.tpm_store.specs.Select.{registers_of, chosen, bits_of}
 
 -- ---- lists
 
@@ -115,15 +115,14 @@ small_still bit bits h small = omega (arith, or_bit bit bits h small, small_more
 pub smaller_still : (bit bits : ℕ) → bit < 8 → bits < 2 ^ bit → bits < 2 ^ (bit + 1)
 smaller_still bit bits h small = omega (arith, small_more bit bits h small)
 
-pub values_more : (bank old values : List (List ℕ)) (qs : List ℕ) (q : ℕ) (d : List ℕ) → q < length bank → d ≡ slice_index_or bank q d → values ≡ old ++ values_of bank qs →
-    values ++ d ∷ [] ≡ old ++ values_of bank (qs ++ q ∷ [])
-values_more bank old values qs q d h is held =
-    ap (λ (l : List (List ℕ)). l ++ d ∷ []) held ∙ append_assoc old (values_of bank qs) (d ∷ [])
-    ∙ ap (λ (l : List (List ℕ)). old ++ l) (ap (λ (x : List ℕ). values_of bank qs ++ x ∷ []) (is ∙ get_or_default bank q d [] h) ∙ sym (map-append (λ (q : ℕ). slice_index_or bank q []) qs (q ∷ [])))
+pub values_more : (value : ℕ → List ℕ) (old values : List (List ℕ)) (qs : List ℕ) (q : ℕ) (d : List ℕ) → d ≡ value q → values ≡ old ++ map value qs → values ++ d ∷ [] ≡ old ++ map value (qs ++ q ∷ [])
+values_more value old values qs q d is held =
+    ap (λ (l : List (List ℕ)). l ++ d ∷ []) held ∙ append_assoc old (map value qs) (d ∷ [])
+    ∙ ap (λ (l : List (List ℕ)). old ++ l) (ap (λ (x : List ℕ). map value qs ++ x ∷ []) is ∙ sym (map-append value qs (q ∷ [])))
 
 -- how many values there are
-pub count_is : (bank old values : List (List ℕ)) (qs : List ℕ) → values ≡ old ++ values_of bank qs → length values ≡ length old + length qs
-count_is bank old values qs held = ap length held ∙ length-append old (values_of bank qs) ∙ ap (λ (k : ℕ). length old + k) (length-map qs (λ (q : ℕ). slice_index_or bank q []))
+pub count_is : (value : ℕ → List ℕ) (old values : List (List ℕ)) (qs : List ℕ) → values ≡ old ++ map value qs → length values ≡ length old + length qs
+count_is value old values qs held = ap length held ∙ length-append old (map value qs) ∙ ap (λ (k : ℕ). length old + k) (length-map qs value)
 
 -- one of all registers more
 pub register_more : (q : ℕ) → q < 24 → take (q + 1) all_registers ≡ take q all_registers ++ q ∷ []

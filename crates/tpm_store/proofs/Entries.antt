@@ -1,19 +1,15 @@
 -- One entry more of a selection.
 use Rattle.std.proofs.Common.{◌≡◌, ◌≢◌, ℕ, zero, suc, List, [], ◌∷◌, ◌++◌, ◌<◌, ◌+◌, ◌-◌, ◌/◌, Bool, true, false, length, take, map, get_or, refl, sym, ap, ◌∙◌, arith, length-append}
-use Rattle.std.specs.Prelude.{slice_index_or, filter, ◌==◌}
+use Rattle.std.specs.Prelude.{filter, ◌==◌}
 use Rattle.std.proofs.lemmas.Bool.Decides.{nat_tests}
 use Rattle.std.proofs.lemmas.List.{take_more, map-append, length-map, append-nil, take-map, flat_map_more}
 use Rattle.std.proofs.lemmas.List.Elements.{filter-append}
 use Rattle.tpm_types.specs.declared.alg.Alg.{Alg}
-use Rattle.tpm_types.specs.declared.alg.Alg.TheVariants.{Sha1, Sha256}
 use Rattle.tpm_types.specs.declared.tpms.Selection.{Selection}
 use Rattle.tpm_types.specs.Tpms.{is_selected}
 use Rattle.tpm_model.specs.Registers.{all_registers, selected_by, selected_values, select_of, first_selected}
-use Rattle.tpm_model.specs.Steps.{History}
-use Rattle.tpm_model.specs.Registers.{register_value}
-use Rattle.tpm_store.specs.declared.registers.Registers.{Registers}
-use Rattle.tpm_store.specs.Stands.{StandsRegisters, bank, held}
-use Rattle.tpm_store.specs.Select.{registers_of, chosen, bits_of, values_of, first_of}
+use Rattle.tpm_store.specs.Select.{registers_of, chosen, bits_of, first_of}
+use Rattle.tpm_store.proofs.Stands.{AreRegisters, are_registers}
 
 -- ---- lists
 
@@ -102,8 +98,8 @@ select_of_first n s n1 n2 e1 e2 =
     ap select_of (chosen_is n s n1 n2 e1 e2)
     ∙ select_is (chosen n s.select (registers_of 0)) (chosen n1 s.select (registers_of 1)) (chosen n2 s.select (registers_of 2)) (in_chosen n 0 s.select) (in_chosen n1 1 s.select) (in_chosen n2 2 s.select)
 
-pub values_of_three : (bank : List (List ℕ)) (x y z : List ℕ) → values_of bank (x ++ (y ++ z)) ≡ values_of bank x ++ (values_of bank y ++ values_of bank z)
-values_of_three bank x y z = map-append (λ (q : ℕ). slice_index_or bank q []) x (y ++ z) ∙ ap (λ (l : List (List ℕ)). values_of bank x ++ l) (map-append (λ (q : ℕ). slice_index_or bank q []) y z)
+pub map_three : (value : ℕ → List ℕ) (x y z : List ℕ) → map value (x ++ (y ++ z)) ≡ map value x ++ (map value y ++ map value z)
+map_three value x y z = map-append value x (y ++ z) ∙ ap (λ (l : List (List ℕ)). map value x ++ l) (map-append value y z)
 
 -- ---- the entries of a list
 
@@ -139,34 +135,25 @@ entries_more value xs s n e =
 next_is : (xs sels : List Selection) (i : ℕ) (d : Selection) → xs ≡ sels → i < length xs → take (i + 1) sels ≡ take i sels ++ get_or xs i d ∷ []
 next_is xs sels i d same lt = ap (take (i + 1)) (sym same) ∙ take_more xs i d lt ∙ ap (λ (l : List Selection). take i l ++ get_or xs i d ∷ []) same
 
-pub parts_next : (r : Registers) (xs sels : List Selection) (i : ℕ) (d : Selection) (parts more its : List (List ℕ)) → xs ≡ sels → i < length xs →
-    parts ≡ selected_values (held r) (take i sels) → its ≡ bank r (get_or xs i d).hash → more ≡ parts ++ values_of its (selected_by (get_or xs i d)) → more ≡ selected_values (held r) (take (i + 1) sels)
-parts_next r xs sels i d parts more its same lt here banked is =
-    let value = held r in
-    is ∙ ap (λ (b : List (List ℕ)). parts ++ values_of b (selected_by (get_or xs i d))) banked ∙ ap (λ (l : List (List ℕ)). l ++ map (value (get_or xs i d).hash) (selected_by (get_or xs i d))) here
+pub parts_next : (value : Alg → ℕ → List ℕ) (xs sels : List Selection) (i : ℕ) (d : Selection) (parts more : List (List ℕ)) → xs ≡ sels → i < length xs →
+    parts ≡ selected_values value (take i sels) → more ≡ parts ++ map (value (get_or xs i d).hash) (selected_by (get_or xs i d)) → more ≡ selected_values value (take (i + 1) sels)
+parts_next value xs sels i d parts more same lt here is =
+    is ∙ ap (λ (l : List (List ℕ)). l ++ map (value (get_or xs i d).hash) (selected_by (get_or xs i d))) here
     ∙ sym (ap (selected_values value) (next_is xs sels i d same lt) ∙ values_next value (take i sels) (get_or xs i d))
 
-pub entries_next : (rs : Registers) (xs sels : List Selection) (i : ℕ) (d : Selection) (read : List Selection) (values more its : List (List ℕ)) (r : Selection) → xs ≡ sels → i < length xs →
-    read ≡ first_selected 8 (take i sels) → values ≡ take 8 (selected_values (held rs) (take i sels)) → its ≡ bank rs (get_or xs i d).hash → r ≡ read_entry (length values) (get_or xs i d) →
-    more ≡ values ++ values_of its (first_of (length values) (get_or xs i d)) →
-    (read ++ r ∷ [] ≡ first_selected 8 (take (i + 1) sels)) × (more ≡ take 8 (selected_values (held rs) (take (i + 1) sels)))
-entries_next rs xs sels i d read values more its r same lt here so_far banked is and =
-    let value = held rs in
+pub entries_next : (value : Alg → ℕ → List ℕ) (xs sels : List Selection) (i : ℕ) (d : Selection) (read : List Selection) (values more : List (List ℕ)) (r : Selection) → xs ≡ sels → i < length xs →
+    read ≡ first_selected 8 (take i sels) → values ≡ take 8 (selected_values value (take i sels)) → r ≡ read_entry (length values) (get_or xs i d) →
+    more ≡ values ++ map (value (get_or xs i d).hash) (first_of (length values) (get_or xs i d)) →
+    (read ++ r ∷ [] ≡ first_selected 8 (take (i + 1) sels)) × (more ≡ take 8 (selected_values value (take (i + 1) sels)))
+entries_next value xs sels i d read values more r same lt here so_far is and =
     let s = get_or xs i d in
     let step = entries_more value (take i sels) s (length values) (ap length so_far) in
     let next = next_is xs sels i d same lt in (
       ap (λ (l : List Selection). l ++ r ∷ []) here ∙ ap (λ (x : Selection). first_selected 8 (take i sels) ++ x ∷ []) is ∙ sym step.0 ∙ sym (ap (first_selected 8) next),
-      and ∙ ap (λ (b : List (List ℕ)). values ++ values_of b (first_of (length values) s)) banked ∙ ap (λ (l : List (List ℕ)). l ++ map (value s.hash) (first_of (length values) s)) so_far ∙ sym step.1 ∙ sym (ap (λ (l : List Selection). take 8 (selected_values value l)) next),
+      and ∙ ap (λ (l : List (List ℕ)). l ++ map (value s.hash) (first_of (length values) s)) so_far ∙ sym step.1 ∙ sym (ap (λ (l : List Selection). take 8 (selected_values value l)) next),
     )
 
 -- ---- the same values
-
-abbrev AreRegisters : List ℕ → Type 0
-AreRegisters [] = Unit {0}
-AreRegisters (q ∷ qs) = (q < 24) × AreRegisters qs
-
-are_registers : AreRegisters all_registers
-are_registers = (omega arith, (omega arith, (omega arith, (omega arith, (omega arith, (omega arith, (omega arith, (omega arith, (omega arith, (omega arith, (omega arith, (omega arith, (omega arith, (omega arith, (omega arith, (omega arith, (omega arith, (omega arith, (omega arith, (omega arith, (omega arith, (omega arith, (omega arith, (omega arith, tt))))))))))))))))))))))))
 
 same_on : (v w : ℕ → List ℕ) (p : ℕ → Bool) (qs : List ℕ) → ((q : ℕ) → q < 24 → v q ≡ w q) → AreRegisters qs → map v (filter p qs) ≡ map w (filter p qs)
 same_on v w p [] same below = refl
@@ -180,7 +167,3 @@ values_same v w [] same = refl
 values_same v w (s ∷ sels) same =
     ap (λ (l : List (List ℕ)). l ++ selected_values v sels) (same_on (v s.hash) (w s.hash) (is_selected s.select) all_registers (same s.hash) are_registers)
     ∙ ap (λ (l : List (List ℕ)). map (w s.hash) (selected_by s) ++ l) (values_same v w sels same)
-
-pub held_is : (h : History) (r : Registers) → StandsRegisters h r → (alg : Alg) (q : ℕ) → q < 24 → held r alg q ≡ register_value h alg q
-held_is h r st Sha1 q lt = st.sha1 q lt
-held_is h r st Sha256 q lt = st.sha256 q lt

@@ -1,4 +1,6 @@
+pub mod Places
+pub mod Values
+pub mod Stands
 pub mod Choice
 pub mod Entries
-pub mod Slots
-pub mod Steps
+pub mod Found

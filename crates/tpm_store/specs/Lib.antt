@@ -1,4 +1,4 @@
-pub mod Value
+pub mod Banks
 pub mod Select
-pub mod Slots
-pub mod Stands
+pub mod Answers
+pub mod Places

@@ -1,5 +1,5 @@
 -- What is read of a selection, register by register (Part 3, TPM2_PCR_Read).
-use Rattle.std.specs.Prelude.{ℕ, ◌+◌, ◌-◌, ◌*◌, ◌%◌, List, [], ◌∷◌, map, take, filter, slice_index_or}
+use Rattle.std.specs.Prelude.{ℕ, ◌+◌, ◌-◌, ◌*◌, ◌%◌, List, [], ◌∷◌, map, take, filter}
 use Rattle.tpm_types.specs.Tpma.{mask}
 use Rattle.tpm_types.specs.Tpms.{is_selected}
 use Rattle.tpm_types.specs.declared.tpms.Selection.{Selection}
@@ -16,9 +16,6 @@ chosen values select qs = take (most_read - values) (filter (is_selected select)
 -- the byte in which the bits of these registers are set
 abbrev pub bits_of : List ℕ → ℕ
 bits_of qs = mask (map (λ q. q % 8) qs)
-
-abbrev pub values_of : List (List ℕ) → List ℕ → List (List ℕ)
-values_of bank qs = map (λ q. slice_index_or bank q []) qs
 
 -- the first registers of an entry, as many as there is still room for
 abbrev pub first_of : (values : ℕ) → Selection → List ℕ

@@ -1,5 +1,6 @@
 use Rattle.std.proofs.Common.{ℕ, ◌∙◌, ap, sym, length, arith, List, [], ◌∷◌, ◌++◌, ◌*◌, ◌+◌}
 use Rattle.std.proofs.lemmas.Bool.Decides.{nat_tests}
+use Rattle.tpm_store.specs.Banks.{value_at}
 use Rattle.tpm_store.proofs.Choice.{below, chosen_more, chosen_same, chosen_full, bits_more, small_still, smaller_still, values_more, count_is}
 use Rattle.tpm_store.proofs.registers.read_byte.Goals.{then-not-is_full+then-is_selected, else-not-is_full, else-not-is_full-via-then-not-is_full+else-is_selected, else-not-is_full-via-else-not-is_full}
 use Rattle.tpm_store.proofs.registers.read_byte.Goals as goal
@@ -12,16 +13,16 @@ loop-bit-preserved c =
     let select = c.args.selection.now.select in
     let done = below n select byte bit in
     let old = c.args.values.now in
-    let bank = c.args.bank.now in
+    let value = value_at c.args.bytes.now c.args.selection.now.hash in
     let here = c.loop-bit.invariant in
-    let count = count_is bank old c.loop-bit.values done here.values in
+    let count = count_is value old c.loop-bit.values done here.values in
     elim c.if-not-is_full.branch [
       | then-not-is_full+then-is_selected w ↦
           let more = chosen_more n select byte bit c.loop-bit-test.true (grind (arith, nat_tests, count, c.is_full.ensures.value, c.is_full.ensures.fits, w.if-not-is_full.true)) (sym w.is_selected.ensures ∙ w.if-is_selected.true) in
           record {
             bits = rw (w.bits-is, more) (bits_more done byte bit c.loop-bit.bits c.loop-bit-test.true here.bits here.small);
             small = rw w.bits-is (small_still bit c.loop-bit.bits c.loop-bit-test.true here.small);
-            values = rw (w.values-is, w.push.ensures, more) (ap (λ (x : List ℕ). c.loop-bit.values ++ x ∷ []) w.digest.ensures ∙ values_more bank old c.loop-bit.values done (8 * byte + bit) w.index-bank-register.result (omega (arith, c.requires.bank, c.requires.byte, c.loop-bit-test.true)) w.index-bank-register.is here.values);
+            values = rw (w.values-is, w.push.ensures, more) (values_more value old c.loop-bit.values done (8 * byte + bit) w.digest.result w.digest.ensures here.values);
           }
       | else-not-is_full w ↦ elim w.else-not-is_full.branch [
         | else-not-is_full-via-then-not-is_full+else-is_selected w' ↦

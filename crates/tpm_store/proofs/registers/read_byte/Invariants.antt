@@ -1,5 +1,6 @@
-use Rattle.std.specs.Prelude.{◌≡◌, ◌<◌, ◌^◌, ◌++◌, length, take}
-use Rattle.tpm_store.specs.Select.{registers_of, chosen, bits_of, values_of}
+use Rattle.std.specs.Prelude.{◌≡◌, ◌<◌, ◌^◌, ◌++◌, length, map, take}
+use Rattle.tpm_store.specs.Select.{registers_of, chosen, bits_of}
+use Rattle.tpm_store.specs.Banks.{value_at}
 use Rattle.tpm_store.proofs.registers.read_byte.Given as goal
 
 abbrev pub invariant-loop-bit : goal.invariant-loop-bit
@@ -8,5 +9,5 @@ invariant-loop-bit l =
     record {
       bits : l.bits ≡ bits_of done;
       small : l.bits < 2 ^ l.bit;
-      values : l.values ≡ l.fn.values ++ values_of l.bank done;
+      values : l.values ≡ l.fn.values ++ map (value_at l.bytes l.selection.hash) done;
     }

@@ -1,15 +1,9 @@
-use Rattle.std.proofs.Common.{◌≡◌, refl, sym, ◌∙◌}
-use Rattle.std.specs.Prelude.{is_none, false}
-use Rattle.tpm_model.specs.Counters.{value_at, definition, counter_at}
-use Rattle.tpm_store.proofs.Slots.{found_at}
-use Rattle.tpm_store.proofs.Steps.{undefine_stands, is_held}
+use Rattle.std.proofs.Common.{◌≡◌, List, ap, ◌∙◌, rules, filter, not}
+use Rattle.arrayvec.proofs.ArrayVecLemmas.{filter-from_retain}
+use Rattle.tpm_model.specs.Counters.{Counter, NvMemory, has_index, without}
 use Rattle.tpm_store.proofs.counters.Counters.undefine.Goals as goal
 
-pub returns-in-Some-clause-answer : goal.returns-in-Some-clause-answer
-returns-in-Some-clause-answer c = λ o h s.
-    let i = c.args.index in
-    let there : is_none (counter_at o h i) ≡ false = is_held (value_at o h i) (definition i h) _ (sym (s.each i) ∙ found_at i c.in-Some.k c.args.self.now.slots c.in-Some.ensures.some) in
-    rw there refl
-
-pub returns-in-Some-clause-stands : goal.returns-in-Some-clause-stands
-returns-in-Some-clause-stands c = λ o h auths r n s. undefine_stands o h auths r n c.args.index c.args.self.now c.in-Some.k c.in-Some.ensures.some s
+pub returns-clause-undefined : goal.returns-clause-undefined
+returns-clause-undefined c =
+    let kept = filter-from_retain _ (λ (x : Counter). not (has_index c.args.index x)) _ (λ x b f' y called. search rules) _ _ c.retain.ensures.filtered in
+    rw (← c.self.view_is) (ap (λ (l : List Counter). let r : NvMemory = record { counters = l; greatest = c.self.inside.greatest } in r) kept)

@@ -1,0 +1,107 @@
+-- The values of registers after changes.
+use Rattle.std.proofs.Common.{◌≡◌, ℕ, ◌+◌, ◌-◌, ◌<◌, ◌≤◌, List, [], ◌∷◌, ◌++◌, length, map, take, drop, replicate, true, false, refl, sym, ap, ◌∙◌, arith, subst}
+use Rattle.std.specs.Prelude.{◌==◌, nat_le, nat_lt, ◌&&◌, filter, if◌then◌else◌}
+use Rattle.std.proofs.lemmas.Bool.Decides.{nat_tests}
+use Rattle.std.proofs.lemmas.List.{append-nil, map-append, take-replicate, drop-replicate}
+use Rattle.std.proofs.lemmas.List.Elements.{filter-append}
+use Rattle.tpm_types.specs.declared.alg.Alg.{Alg}
+use Rattle.tpm_types.specs.declared.alg.Alg.TheVariants.{Sha1, Sha256, Sha384}
+use Rattle.tpm_types.specs.Alg.{alg_number, bank_place, digest_len}
+use Rattle.tpm_hmac.specs.Hashes.{digest}
+use Rattle.tpm_model.specs.Registers.{filled_with, zeros, start_value, extended, is_of, digests_for}
+use Rattle.tpm_model.specs.Registers.Change.{StartAt, Reset, Extend}
+use Rattle.tpm_store.specs.Banks.{place_of, value_at, with_value, with_values, filled_but_last, Holds, changed}
+use Rattle.tpm_store.proofs.Places.{fits, same_bank}
+
+-- ---- the start
+
+pub filled_all : (byte : ℕ) (a : Alg) → filled_but_last byte byte a ≡ filled_with byte a
+filled_all byte Sha1 = refl
+filled_all byte Sha256 = refl
+filled_all byte Sha384 = refl
+
+pub zeros_at : (a : Alg) (q : ℕ) → q < 24 → value_at (replicate 2400 0) a q ≡ zeros a
+unfolding value_at
+zeros_at a q lt =
+    ap (take (digest_len a)) (drop-replicate (place_of a q) 2400 0) ∙ take-replicate (digest_len a) (2400 - place_of a q) 0 (omega (arith, fits a q lt))
+
+-- the value of a register while those of dynamic launch are filled, of which so many are done
+abbrev pub starting : ℕ → Alg → ℕ → List ℕ
+starting done a q = if nat_le 17 q && nat_lt q done then filled_with 0xFF a else zeros a
+
+pub starting_start : (a : Alg) (q : ℕ) → zeros a ≡ starting 17 a q
+starting_start a q = elim (nat_le 17 q) as (λ t. nat_le 17 q ≡ t → zeros a ≡ (if t && nat_lt q 17 then filled_with 0xFF a else zeros a)) [
+  | true ↦ λ t. let f : nat_lt q 17 ≡ false = grind (arith, nat_tests) in rw f refl
+  | false ↦ λ t. refl
+] refl
+
+pub starting_more : (done : ℕ) (old new : List ℕ) → 17 ≤ done → Holds old (starting done) → Holds new (with_values done (filled_but_last 0xFF 0xFF) (value_at old)) → Holds new (starting (done + 1))
+starting_more done old new from before more a q lt =
+    more a q lt ∙ elim (done == q) as (λ t. (done == q) ≡ t → (if t then filled_but_last 0xFF 0xFF a else value_at old a q) ≡ starting (done + 1) a q) [
+      | true ↦ λ t.
+          let low : nat_le 17 q ≡ true = grind (arith, nat_tests) in
+          let high : nat_lt q (done + 1) ≡ true = grind (arith, nat_tests) in
+          filled_all 0xFF a ∙ rw (low, high) refl
+      | false ↦ λ t.
+          let same : nat_lt q (done + 1) ≡ nat_lt q done = grind (arith, nat_tests) in
+          before a q lt ∙ rw same refl
+    ] refl
+
+-- ---- extending
+
+extended_more : (a : Alg) (old : List ℕ) (ds : List (List ℕ)) (d : List ℕ) → extended a old (ds ++ d ∷ []) ≡ digest a (extended a old ds ++ d)
+extended_more a old [] d = refl
+extended_more a old (x ∷ ds) d = extended_more a (digest a (old ++ x)) ds d
+
+digests_more : (a : Alg) (ds : List (Alg × List ℕ)) (e : Alg × List ℕ) → is_of a e ≡ true → digests_for a (ds ++ e ∷ []) ≡ digests_for a ds ++ e.1 ∷ []
+digests_more a ds e is =
+    ap (map (λ (d : Alg × List ℕ). d.1)) (filter-append (is_of a) ds (e ∷ []) ∙ rw is refl) ∙ map-append (λ (d : Alg × List ℕ). d.1) (filter (is_of a) ds) (e ∷ [])
+
+digests_same : (a : Alg) (ds : List (Alg × List ℕ)) (e : Alg × List ℕ) → is_of a e ≡ false → digests_for a (ds ++ e ∷ []) ≡ digests_for a ds
+digests_same a ds e is = ap (map (λ (d : Alg × List ℕ). d.1)) (filter-append (is_of a) ds (e ∷ []) ∙ rw is (append-nil (filter (is_of a) ds)))
+
+-- a bank is known by its number as by its place
+same_test : (a b : Alg) → (alg_number b == alg_number a) ≡ (bank_place b == bank_place a)
+same_test Sha1 Sha1 = refl
+same_test Sha1 Sha256 = refl
+same_test Sha1 Sha384 = refl
+same_test Sha256 Sha1 = refl
+same_test Sha256 Sha256 = refl
+same_test Sha256 Sha384 = refl
+same_test Sha384 Sha1 = refl
+same_test Sha384 Sha256 = refl
+same_test Sha384 Sha384 = refl
+
+pub extend_more : (p : ℕ) (old mid new : List ℕ) (ds : List (Alg × List ℕ)) (e : Alg × List ℕ) → Holds mid (changed (Extend p ds) old) →
+    Holds new (with_value e.0 p (digest e.0 (value_at mid e.0 p ++ e.1)) (value_at mid)) → Holds new (changed (Extend p (ds ++ e ∷ [])) old)
+extend_more p old mid new ds e before more a q lt =
+    let written = digest e.0 (value_at mid e.0 p ++ e.1) in
+    more a q lt ∙ elim (bank_place e.0 == bank_place a) as
+    (λ t. (bank_place e.0 == bank_place a) ≡ t → (if t then (if p == q then written else value_at mid a q) else value_at mid a q) ≡ changed (Extend p (ds ++ e ∷ [])) old a q) [
+      | true ↦ λ t.
+          let bank : bank_place e.0 ≡ bank_place a = grind (arith, nat_tests) in
+          let is : is_of a e ≡ true = same_test a e.0 ∙ t in
+          elim (p == q) as (λ u. (p == q) ≡ u → value_at mid a q ≡ (if u then extended a (value_at old a q) (digests_for a ds) else value_at old a q) →
+          (if u then written else value_at mid a q) ≡ (if u then extended a (value_at old a q) (digests_for a (ds ++ e ∷ [])) else value_at old a q)) [
+            | true ↦ λ u was.
+                let register : p ≡ q = grind (arith, nat_tests) in
+                ap (λ (r : ℕ). digest e.0 (value_at mid e.0 r ++ e.1)) register ∙ ap (λ (b : Alg). digest b (value_at mid b q ++ e.1)) (same_bank e.0 a bank)
+                ∙ ap (λ (x : List ℕ). digest a (x ++ e.1)) was ∙ sym (extended_more a (value_at old a q) (digests_for a ds) e.1)
+                ∙ ap (extended a (value_at old a q)) (sym (digests_more a ds e is))
+            | false ↦ λ u was. was
+          ] refl (before a q lt)
+      | false ↦ λ t.
+          let is : is_of a e ≡ false = same_test a e.0 ∙ t in
+          before a q lt ∙ ap (λ (xs : List (List ℕ)). if p == q then extended a (value_at old a q) xs else value_at old a q) (sym (digests_same a ds e is))
+    ] refl
+
+-- ---- resetting
+
+pub reset_is : (p : ℕ) (old new : List ℕ) → Holds new (with_values p (filled_but_last 0 0) (value_at old)) → Holds new (changed (Reset p) old)
+reset_is p old new written a q lt = written a q lt ∙ ap (λ (x : List ℕ). if p == q then x else value_at old a q) (filled_all 0 a)
+
+zero_first : (q : ℕ) → (0 == q) ≡ (q == 0)
+zero_first q = elim (q == 0) as (λ t. (q == 0) ≡ t → (0 == q) ≡ t) [ true ↦ λ t. grind (arith, nat_tests) | false ↦ λ t. grind (arith, nat_tests) ] refl
+
+pub start_is : (locality : ℕ) (old new : List ℕ) → Holds new (with_values 0 (filled_but_last 0 locality) (value_at old)) → Holds new (changed (StartAt locality) old)
+start_is locality old new written a q lt = written a q lt ∙ rw (zero_first q) refl

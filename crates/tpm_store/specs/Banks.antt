@@ -1,0 +1,48 @@
+-- The banks of registers in one array.
+use Rattle.std.specs.Prelude.{◌≡◌, ℕ, ◌+◌, ◌*◌, ◌<◌, ◌-◌, ◌==◌, List, [], ◌∷◌, ◌++◌, take, drop, replicate, if◌then◌else◌}
+use Rattle.tpm_types.specs.declared.alg.Alg.{Alg}
+use Rattle.tpm_types.specs.declared.alg.Alg.TheVariants.{Sha1, Sha256, Sha384}
+use Rattle.tpm_types.specs.Alg.{bank_place, digest_len}
+use Rattle.tpm_model.specs.Registers.{Change, value_by}
+
+-- how many registers a bank has
+abbrev pub registers : ℕ
+registers = 24
+
+-- how many bytes all banks have
+abbrev pub all_bytes : ℕ
+all_bytes = 2400
+
+-- where a bank begins
+abbrev pub bank_start : Alg → ℕ
+bank_start Sha1 = 0
+bank_start Sha256 = 480
+bank_start Sha384 = 1248
+
+-- where a register of a bank begins
+abbrev pub place_of : Alg → ℕ → ℕ
+place_of alg q = bank_start alg + digest_len alg * q
+
+-- the value of a register in a bank
+unfoldable pub value_at : List ℕ → Alg → ℕ → List ℕ
+value_at bytes alg q = take (digest_len alg) (drop (place_of alg q) bytes)
+
+-- these values, but for one
+abbrev pub with_value : Alg → ℕ → List ℕ → (Alg → ℕ → List ℕ) → Alg → ℕ → List ℕ
+with_value alg p value old a q = if bank_place alg == bank_place a then (if p == q then value else old a q) else old a q
+
+-- these values, but for one register in each bank
+abbrev pub with_values : ℕ → (Alg → List ℕ) → (Alg → ℕ → List ℕ) → Alg → ℕ → List ℕ
+with_values p value old a q = if p == q then value a else old a q
+
+-- as many bytes as a digest has, all the same but for the last
+abbrev pub filled_but_last : (byte last : ℕ) → Alg → List ℕ
+filled_but_last byte last alg = replicate (digest_len alg - 1) byte ++ last ∷ []
+
+-- The bytes hold these values.
+abbrev pub Holds : List ℕ → (Alg → ℕ → List ℕ) → Type 0
+Holds bytes value = (alg : Alg) (q : ℕ) → q < registers → value_at bytes alg q ≡ value alg q
+
+-- what each register of these bytes becomes by a change
+abbrev pub changed : Change → List ℕ → Alg → ℕ → List ℕ
+changed c bytes alg q = value_by alg q c (value_at bytes alg q)
