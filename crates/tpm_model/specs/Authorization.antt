@@ -65,26 +65,52 @@ check_session by a others = do
 
 -- ---- the entity
 
+-- what a command does to the index that authorizes it
+pub data Access : Type 0 where
+  Writes : Access
+  Reads : Access
+  Neither : Access
+
+abbrev pub access_of : CommandCode → Access
+access_of codes.NvIncrement = Writes
+access_of codes.NvRead = Reads
+access_of codes.Startup = Neither
+access_of codes.PcrExtend = Neither
+access_of codes.PcrEvent = Neither
+access_of codes.PcrReset = Neither
+access_of codes.PcrRead = Neither
+access_of codes.StartAuthSession = Neither
+access_of codes.FlushContext = Neither
+access_of codes.PolicyPcr = Neither
+access_of codes.PolicyOr = Neither
+access_of codes.PolicyCommandCode = Neither
+access_of codes.PolicyAuthValue = Neither
+access_of codes.PolicyRestart = Neither
+access_of codes.PolicyGetDigest = Neither
+access_of codes.NvDefineSpace = Neither
+access_of codes.NvUndefineSpace = Neither
+access_of codes.NvReadPublic = Neither
+
 -- An index lets its authValue be used: TPMA_NV_AUTHWRITE and TPMA_NV_AUTHREAD (Part 2, 13.4).
-abbrev pub allows_auth : CommandCode → ℕ → Bool
-allows_auth codes.NvIncrement attrs = auth_writes attrs
-allows_auth codes.NvRead attrs = auth_reads attrs
-allows_auth _ attrs = true
+abbrev pub allows_auth : Access → (attrs : ℕ) → Bool
+allows_auth Writes attrs = auth_writes attrs
+allows_auth Reads attrs = auth_reads attrs
+allows_auth Neither attrs = true
 
 -- It lets its policy be used: TPMA_NV_POLICYWRITE and TPMA_NV_POLICYREAD (Part 2, 13.4).
-abbrev pub allows_policy : CommandCode → ℕ → Bool
-allows_policy codes.NvIncrement attrs = policy_writes attrs
-allows_policy codes.NvRead attrs = policy_reads attrs
-allows_policy _ attrs = true
+abbrev pub allows_policy : Access → (attrs : ℕ) → Bool
+allows_policy Writes attrs = policy_writes attrs
+allows_policy Reads attrs = policy_reads attrs
+allows_policy Neither attrs = true
 
 -- Anything else has an authValue.
 abbrev pub check_auth : Entity → CommandCode → Result (Unit {0}) ℕ
-check_auth (Index public auth) code = refuse (not (allows_auth code public.attrs)) rc_auth_unavailable
+check_auth (Index public auth) code = refuse (not (allows_auth (access_of code) public.attrs)) rc_auth_unavailable
 check_auth _ code = Ok tt
 
 -- Nothing else has a policy.
 abbrev pub check_policy_allowed : Entity → CommandCode → Result (Unit {0}) ℕ
-check_policy_allowed (Index public auth) code = refuse (not (allows_policy code public.attrs)) rc_auth_unavailable
+check_policy_allowed (Index public auth) code = refuse (not (allows_policy (access_of code) public.attrs)) rc_auth_unavailable
 check_policy_allowed _ code = Err rc_auth_unavailable
 
 -- ---- the policy (Part 1, "Policy Session Authorization")

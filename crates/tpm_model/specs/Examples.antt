@@ -169,7 +169,7 @@ pub record Examples : Type 0 where
   pub dynamic_register : reply_to new (startup ∷ []) (pcr_extend "00000011") ≡ code "00000907"
   pub no_register : reply_to new (startup ∷ []) (pcr_extend "40000007") ≡ success_by_password
   pub event_in_dynamic_register : reply_to new (startup ∷ []) (pcr_event "00000021" "00000011" (hex "0004 00000000")) ≡ code "00000907"
-  pub event_in_no_register_there_is : reply_to new (startup ∷ []) (pcr_event "00000021" "00000018" (hex "0004 00000000")) ≡ code "00000184"
+  pub event_in_register_24 : reply_to new (startup ∷ []) (pcr_event "00000021" "00000018" (hex "0004 00000000")) ≡ code "00000184"
   pub event_too_long : reply_to new (startup ∷ []) (pcr_event "0000041e" "00000000" (hex "0401" ++ replicate 1025 0)) ≡ code "000001d5"
   -- an event of four bytes, an empty one, and one into no register
   pub event_updates : update_counter (changes (accepted new (startup ∷ pcr_event "00000021" "00000000" (hex "0004 00000000") ∷ pcr_event "0000001d" "00000000" (hex "0000")
