@@ -3,6 +3,7 @@
 ghost use Rattle.std.specs.Prelude.{None};
 
 use std::alloc::Global;
+use std::process::Abort;
 use std::test::Fail;
 use tpm_device::Device;
 use tpm_tool::{Status, ToolFault, run_script};
@@ -77,27 +78,50 @@ fn ran(
     Ok((run_script(alloc, input, &mut out, device), out))
 }
 
-// The last line that counts ends with byte 16,777,216, and with the one behind it.
+fn check(
+    rt: &(impl AllocGlobal + Abort),
+    feeds: usize,
+    script: &str,
+    most: usize,
+    answer: Result<Status, ToolFault>,
+    text: &str,
+) -> Result<(), Fail> {
+    let (status, out) = ran(rt.alloc(), &mut Pieces::new(feeds, script, most, 0))?;
+    assert_eq!(rt; status, answer, "{script} by {most}");
+    assert_eq!(rt; out.as_slice(), text.as_bytes(), "{script} by {most}");
+    Ok(())
+}
+
 #[test]
 fn a_script_is_the_same_in_any_pieces(rt: HostRuntime) -> Result<(), Fail> {
-    for (feeds, script, answer, text) in [
-        (0, SCRIPT, Ok(Status::Refused), TEXT),
-        (0, "power", Ok(Status::Done), "power\n"),
-        (
+    for most in [1, 2, 3, 5, 25, 4096] {
+        check(&rt, 0, SCRIPT, most, Ok(Status::Refused), TEXT)?;
+        check(&rt, 0, "power", most, Ok(Status::Done), "power\n")?;
+    }
+    Ok(())
+}
+
+// A line that ends with byte 16,777,216 counts, whatever was read together with it, and one that ends behind it does not.
+#[test]
+fn the_limit_is_the_same_in_any_pieces(rt: HostRuntime) -> Result<(), Fail> {
+    let refused = "line 16777214: not hexadecimal\n";
+    for most in [1, 4096] {
+        check(
+            &rt,
             16_777_213,
             "no\npower\n",
+            most,
             Ok(Status::Refused),
-            "line 16777214: not hexadecimal\n",
-        ),
-        (16_777_214, "no\n", Err(ToolFault::InputTooLong), ""),
-        (16_777_211, "power", Ok(Status::Done), "power\n"),
-        (16_777_211, "power\n", Err(ToolFault::InputTooLong), ""),
-    ] {
-        for most in [1, 2, 3, 5, 25, 4096] {
-            let (status, out) = ran(rt.alloc(), &mut Pieces::new(feeds, script, most, 0))?;
-            assert_eq!(rt; status, answer, "{script} by {most}");
-            assert_eq!(rt; out.as_slice(), text.as_bytes(), "{script} by {most}");
-        }
+            refused,
+        )?;
+        check(
+            &rt,
+            16_777_214,
+            "no\n",
+            most,
+            Err(ToolFault::InputTooLong),
+            "",
+        )?;
     }
     Ok(())
 }
