@@ -1,21 +1,27 @@
 -- A response that is read, is read with its parameters as they came too.
-use Rattle.std.proofs.Common.{◌≡◌, ℕ, Bool, true, false, cond, eqb, List, [], length, take, drop, Option, Some, None, Result, Ok, Err, refl, ap, ◌∙◌, arith}
+use Rattle.std.proofs.Common.{◌≡◌, ℕ, Bool, true, false, cond, eqb, List, [], ◌∷◌, length, take, drop, Option, Some, None, Result, Ok, Err, refl, sym, subst, ap, ◌∙◌, arith}
 use Rattle.std.proofs.lemmas.Bool.{eqb-true}
-use Rattle.std.proofs.lemmas.List.{length-drop}
+use Rattle.std.proofs.lemmas.List.{length-drop, take_all}
 use Rattle.tpm_wire.specs.declared.refusal.Refusal.{Refusal}
-use Rattle.tpm_wire.specs.Token.{Here, past, at_start}
+use Rattle.tpm_wire.specs.Token.{number_of, Here, past, at_start, or_fault}
 use Rattle.tpm_wire.specs.Layout.{Form, raw, either}
-use Rattle.tpm_wire.specs.Reading.{read, finish, unless, refuse, ◌>>=◌}
+use Rattle.tpm_wire.specs.Reading.{read, read_all, finish, unless, refuse, ◌>>=◌}
 use Rattle.tpm_wire.specs.Buffers.{buffer, Layout, size_code, too_few}
 use Rattle.tpm_wire.specs.Path.{Spells}
-use Rattle.tpm_wire.proofs.Agreement.{bind_ok}
+use Rattle.tpm_wire.proofs.Agreement.{bind_ok, number_ok}
 use Rattle.tpm_wire.proofs.Buffers.{buffer_sound, buffer_roomy}
 use Rattle.tpm_wire.proofs.Whole.{spells_read, read_spells}
+use Rattle.tpm_types.specs.Handles.{session, is_session}
+use Rattle.tpm_wire.specs.ResponseCodes.{rc_value}
 use Rattle.tpm_buffer.specs.declared.code.CommandCode.{CommandCode}
+use Rattle.tpm_buffer.specs.declared.code.CommandCode.TheVariants as codes
+use Rattle.tpm_buffer.specs.declared.response.ReplyBody.{ReplyBody}
 use Rattle.tpm_buffer.specs.declared.response.Response.{Response}
 use Rattle.tpm_buffer.specs.declared.response.Response.TheVariants as responses
-use Rattle.tpm_buffer.specs.Replies.{reply_handles, reply_parameters}
-use Rattle.tpm_buffer.specs.Responses.{response_front, response_code, parameter_size, reply_sessions, with_sessions, without_sessions, reply, reply_of, done_with, behind_code, response, ReplyCut, raw_with_sessions, raw_without_sessions, cut_behind_code, reply_cut}
+use Rattle.tpm_buffer.specs.Replies.{code_for_reply, session_handle, session_in, reply_handles, reply_handles_of, reply_parameters, parameters_of_reply, pcr_event_reply, nv_read_reply, nv_read_public_reply, start_auth_session_reply, pcr_read_reply, policy_get_digest_reply}
+use Rattle.tpm_buffer.specs.Responses.{response_front, response_code, parameter_size, reply_sessions, with_sessions, without_sessions, Reply, reply, reply_of, done_with, behind_code, response, ReplyCut, raw_with_sessions, raw_without_sessions, cut_behind_code, reply_cut}
+use Rattle.tpm_buffer.specs.ResponseAreas.{IsCutOf}
+use Rattle.tpm_buffer.proofs.Places.{alone}
 
 abbrev ok : {A : Type 0} → A → Result A Refusal
 ok x = Ok x
@@ -26,81 +32,6 @@ err e = Err e
 ok_is : {A : Type 0} (x y : A) → ok x ≡ ok y → x ≡ y
 ok_is x y e = cc
 
--- where one reading leaves nothing, the other does
-abbrev Follows : {A B : Type 0} → Result (A × Here) Refusal → Result (B × Here) Refusal → Type 0
-Follows {A = A} {B = B} o p = (x : A × Here) → o ≡ Ok x → length x.1.rest ≡ 0 → (y : B × Here) × (p ≡ Ok y) × (length y.1.rest ≡ 0)
-
-never : {A B : Type 0} (e : Refusal) (p : Result (B × Here) Refusal) → Follows (err {A = A × Here} e) p
-never e p x is none = absurd (let z : ⊥ = cc in z)
-
-ends : {A B : Type 0} (a : A) (b : B) (h : Here) → Follows (ok (a, h)) (ok (b, h))
-ends a b h x is none =
-    let there : h ≡ x.1 = ap (λ z. z.1) (ok_is (a, h) x is) in
-    ((b, h), refl, ap (λ (g : Here). length g.rest) there ∙ none)
-
--- readings that begin alike
-alike : {A B C : Type 0} (r : Result (C × Here) Refusal) (f : C × Here → Result (A × Here) Refusal) (g : C × Here → Result (B × Here) Refusal)
-    → ((c : C × Here) → Follows (f c) (g c)) → Follows (r >>= f) (r >>= g)
-alike (Ok c) f g next = next c
-alike (Err e) f g next = never e (err e)
-
--- An area's bytes, whatever is in it, are so many bytes.
-area_or_raw : {A B C : Type 0} (n : ℕ) (l : Layout C) (h : Here) (f : C × Here → Result (A × Here) Refusal) (g : List ℕ × Here → Result (B × Here) Refusal)
-    → ((c : C) → Follows (f (c, past n h)) (g (take n h.rest, past n h))) → Follows (read 0 (Form.area n size_code l) h >>= f) (read {r = buffer} 0 (raw n) h >>= g)
-area_or_raw {A = A} {B = B} {C = C} n l h f g next = room (too_few 0 h.at n (length h.rest))
-  where
-    end : (c : C × Here) (t : Bool) → Follows (cond t (ok (c.0, past n h)) (refuse buffer 0 size_code c.1) >>= f) (g (take n h.rest, past n h))
-    end c true = next c.0
-    end c false = never _ (g (take n h.rest, past n h))
-
-    inside : (o : Result (C × Here) Refusal) → Follows ((o >>= λ x. cond (eqb (length x.1.rest) 0) (ok (x.0, past n h)) (refuse buffer 0 size_code x.1)) >>= f) (g (take n h.rest, past n h))
-    inside (Ok c) = end c (eqb (length c.1.rest) 0)
-    inside (Err e) = never e (g (take n h.rest, past n h))
-
-    room : (t : Option ℕ) → Follows
-        (unless buffer t 0 h (read 0 l (record { rest = take n h.rest; at = h.at }) >>= λ x. cond (eqb (length x.1.rest) 0) (ok (x.0, past n h)) (refuse buffer 0 size_code x.1)) >>= f)
-        (unless buffer t 0 h (ok (take n h.rest, past n h)) >>= g)
-    room (Some fault) = never _ _
-    room None = inside (read 0 l (record { rest = take n h.rest; at = h.at }))
-
-with_same : (code : CommandCode) (hs : List ℕ) (n : ℕ) (h : Here) → Follows (read 0 (with_sessions (reply_parameters code hs)) h) (read 0 (raw_with_sessions n hs) h)
-unfolding with_sessions raw_with_sessions
-with_same code hs n h = alike (read 0 parameter_size h) _ _ (λ s.
-    area_or_raw s.0 (reply_parameters code hs) s.1 _ _ (λ b.
-    alike (read 0 reply_sessions (past s.0 s.1)) _ _ (λ a.
-    ends _ _ a.1)))
-
--- What is left is taken.
-all_left : (n : ℕ) (hs : List ℕ) (h : Here) → (y : ReplyCut × Here) × (read 0 (raw_without_sessions n hs) h ≡ Ok y) × (length y.1.rest ≡ 0)
-unfolding raw_without_sessions
-all_left n hs h =
-    let k = length h.rest in
-    let none : length (drop k h.rest) ≡ 0 = omega (arith, length-drop k h.rest) in
-    ((record { code = n; handles = hs; params = take k h.rest; auths = [] }, past k h), rw (buffer_roomy 0 h.at k k (omega arith)) refl, none)
-
-behind_same : (code : CommandCode) (n : ℕ) (hs : List ℕ) (h : Here) (two : Bool)
-    → Follows (read 0 (either two (with_sessions (reply_parameters code hs)) (without_sessions (reply_parameters code hs))) h) (read 0 (either two (raw_with_sessions n hs) (raw_without_sessions n hs)) h)
-behind_same code n hs h true = with_same code hs n h
-behind_same code n hs h false = λ x is none. all_left n hs h
-
-code_same : (code : CommandCode) (t n : ℕ) (h : Here) → Follows (read 0 (behind_code code t n) h) (read 0 (cut_behind_code code t n) h)
-code_same code t n h = go (eqb n 0)
-  where
-    go : (zero : Bool) → Follows (read 0 (either zero (Form.field reply_of (reply code t) (λ r. Form.done (done_with r))) (Form.done (responses.Code n))) h)
-        (read 0 (either zero (Form.field (λ c. c.handles) (reply_handles code) (λ hs. either (eqb t 0x8002) (raw_with_sessions n hs) (raw_without_sessions n hs)))
-        (Form.done (record { code = n; handles = []; params = []; auths = [] }))) h)
-    go true = λ x is none.
-        let done = bind_ok (read 0 (reply code t) h) (λ r. ok (done_with r.0, r.1)) x is in
-        let there : done.0.1 ≡ x.1 = ap (λ (z : Response × Here). z.1) (ok_is _ x done.2) in
-        alike (read 0 (reply_handles code) h) _ _ (λ hs. behind_same code n hs.0 hs.1 (eqb t 0x8002)) done.0 done.1 (ap (λ (g : Here). length g.rest) there ∙ none)
-    go false = ends _ _ h
-
-has_read : (code : CommandCode) (h : Here) → Follows (read 0 (response code) h) (read 0 (reply_cut code) h)
-unfolding response reply_cut
-has_read code h = alike (read 0 response_front h) _ _ (λ f.
-    alike (read 0 (response_code f.0.0) f.1) _ _ (λ n.
-    code_same code f.0.0 n.0 n.1))
-
 nothing_left : {A : Type 0} (x y : A × Here) → finish buffer x ≡ Ok y → length x.1.rest ≡ 0
 nothing_left {A = A} x y e = go (eqb (length x.1.rest) 0) refl e
   where
@@ -108,9 +39,254 @@ nothing_left {A = A} x y e = go (eqb (length x.1.rest) 0) refl e
     go true t e = eqb-true _ _ t
     go false t e = absurd cc
 
-pub has_areas : (code : CommandCode) (bytes : List ℕ) (r : Response) → Spells (response code) r bytes → (c : ReplyCut) × Spells (reply_cut code) c bytes
+finish_is : {A : Type 0} (x y : A × Here) → finish buffer x ≡ Ok y → x ≡ y
+finish_is {A = A} x y e = go (eqb (length x.1.rest) 0) e
+  where
+    go : (b : Bool) → cond b (ok x) (refuse buffer 0 size_code x.1) ≡ ok y → x ≡ y
+    go true e = ok_is x y e
+    go false e = absurd (let z : ⊥ = cc in z)
+
+-- what is read at a place with nothing left behind it, is all that its bytes spell
+read_whole : {A : Type 0} (l : Layout A) (h : Here) (x : A × Here) → read 0 l h ≡ Ok x → length x.1.rest ≡ 0 → read_all l h.rest ≡ Ok x.0
+read_whole l h x e none =
+    let there = alone 0 0 l h x.1 x.0 e in
+    let empty : length there.0.rest ≡ 0 = ap length there.2 ∙ none in
+    rw (there.1, empty) refl
+
+-- ---- where one reading leaves nothing, the other does, and both values belong together
+
+abbrev Follows : {A B : Type 0} → (A → B → Type 0) → Result (A × Here) Refusal → Result (B × Here) Refusal → Type 0
+Follows {A = A} {B = B} R o p = (x : A × Here) → o ≡ Ok x → length x.1.rest ≡ 0 → (y : B × Here) × (p ≡ Ok y) × (length y.1.rest ≡ 0) × R x.0 y.0
+
+never : {A B : Type 0} (R : A → B → Type 0) (e : Refusal) (p : Result (B × Here) Refusal) → Follows R (err {A = A × Here} e) p
+never R e p x is none = absurd (let z : ⊥ = cc in z)
+
+ends : {A B : Type 0} (R : A → B → Type 0) (a : A) (b : B) (h : Here) → R a b → Follows R (ok (a, h)) (ok (b, h))
+ends R a b h both x is none =
+    let pairs = ok_is (a, h) x is in
+    ((b, h), refl, ap (λ z. length z.1.rest) pairs ∙ none, subst (λ z. R z b) (ap (λ z. z.0) pairs) both)
+
+looser : {A B : Type 0} (R S : A → B → Type 0) (o : Result (A × Here) Refusal) (p : Result (B × Here) Refusal) → ((a : A) (b : B) → R a b → S a b) → Follows R o p → Follows S o p
+looser R S o p more f x is none =
+    let y = f x is none in
+    (y.0, y.1, y.2, more x.0 y.0.0 y.3)
+
+-- readings that begin alike
+alike : {A B C : Type 0} (R : A → B → Type 0) (r : Result (C × Here) Refusal) (f : C × Here → Result (A × Here) Refusal) (g : C × Here → Result (B × Here) Refusal)
+    → ((c : C × Here) → r ≡ Ok c → Follows R (f c) (g c)) → Follows R (r >>= f) (r >>= g)
+alike R (Ok c) f g next = next c refl
+alike R (Err e) f g next = never R e (err e)
+
+-- An area's bytes, whatever is in it, are so many bytes.
+area_or_raw : {A B C : Type 0} (R : A → B → Type 0) (n : ℕ) (l : Layout C) (h : Here) (f : C × Here → Result (A × Here) Refusal) (g : List ℕ × Here → Result (B × Here) Refusal)
+    → ((c : C) → read_all l (take n h.rest) ≡ Ok c → Follows R (f (c, past n h)) (g (take n h.rest, past n h)))
+    → Follows R (read 0 (Form.area n size_code l) h >>= f) (read {r = buffer} 0 (raw n) h >>= g)
+area_or_raw {A = A} {B = B} {C = C} R n l h f g next = room (too_few 0 h.at n (length h.rest))
+  where
+    within : Here
+    within = record { rest = take n h.rest; at = h.at }
+
+    end : (c : C × Here) (t : Bool) → read 0 l within ≡ Ok c → eqb (length c.1.rest) 0 ≡ t → Follows R (cond t (ok (c.0, past n h)) (refuse buffer 0 size_code c.1) >>= f) (g (take n h.rest, past n h))
+    end c true is none = next c.0 (read_whole l within c is (eqb-true _ _ none))
+    end c false is some = never R _ (g (take n h.rest, past n h))
+
+    inside : (o : Result (C × Here) Refusal) → read 0 l within ≡ o → Follows R ((o >>= λ x. cond (eqb (length x.1.rest) 0) (ok (x.0, past n h)) (refuse buffer 0 size_code x.1)) >>= f) (g (take n h.rest, past n h))
+    inside (Ok c) is = end c (eqb (length c.1.rest) 0) is refl
+    inside (Err e) is = never R e (g (take n h.rest, past n h))
+
+    room : (t : Option ℕ) → Follows R
+        (unless buffer t 0 h (read 0 l within >>= λ x. cond (eqb (length x.1.rest) 0) (ok (x.0, past n h)) (refuse buffer 0 size_code x.1)) >>= f)
+        (unless buffer t 0 h (ok (take n h.rest, past n h)) >>= g)
+    room (Some fault) = never R _ _
+    room None = inside (read 0 l within) refl
+
+-- ---- the handle of a reply is that which was read
+
+-- each value that is read of the layout has the property
+abbrev Ends : {A : Type 0} → (A → Type 0) → Layout A → Type 0
+Ends P (Form.done x) = P x
+Ends P (Form.field {B = B} get l f) = (b : B) → Ends P (f b)
+Ends P _ = ⊥
+
+ends_read : {A : Type 0} (P : A → Type 0) (l : Layout A) (m : ℕ) (h : Here) (x : A × Here) → Ends P l → read m l h ≡ Ok x → P x.0
+ends_read P (Form.done a) m h x p e = subst P (ap (λ z. z.0) (ok_is (a, h) x e)) p
+ends_read P (Form.field get l f) m h x p e =
+    let b = bind_ok (read m l h) (λ y. read m (f y.0) y.1) x e in
+    ends_read P (f b.0.0) m b.0.1 x (p b.0.0) b.2
+ends_read P (Form.number width meaning number_for fault) m h x p e = absurd p
+ends_read P (Form.text n judge text_for) m h x p e = absurd p
+ends_read P (Form.area n fault l) m h x p e = absurd p
+ends_read P (Form.list most stops l) m h x p e = absurd p
+ends_read P (Form.by_left f) m h x p e = absurd p
+ends_read P (Form.marked n l) m h x p e = absurd p
+
+abbrev AreRead : CommandCode → List ℕ → Type 0
+AreRead codes.StartAuthSession hs = (n : ℕ) × (hs ≡ n ∷ []) × (session_in n ≡ n)
+AreRead _ hs = hs ≡ []
+
+none_read : (h g : Here) (hs : List ℕ) → (let o : Result (List ℕ × Here) Refusal = Ok ([], h) in o) ≡ Ok (hs, g) → hs ≡ []
+none_read h g hs e = sym (ap (λ (p : List ℕ × Here). p.0) (ok_is ([], h) (hs, g) e))
+
+was_session : (m n code : ℕ) (b : Bool) → is_session m ≡ b → or_fault {F = ℕ} (cond b (Some m) None) code ≡ Ok n → is_session n ≡ true
+was_session m n code true is e = let same : m ≡ n = cc in rw (← same) is
+was_session m n code false is e = absurd (let z : ⊥ = cc in z)
+
+session_read : (h g : Here) (hs : List ℕ) → read 0 session_handle h ≡ Ok (hs, g) → (n : ℕ) × (hs ≡ n ∷ []) × (session_in n ≡ n)
+unfolding session_handle session
+session_read h g hs e =
+    let b = bind_ok (read 0x100 session h) (λ n. ok (n.0 ∷ [], n.1)) (hs, g) e in
+    let n = number_ok buffer buffer_sound 0x100 4 (λ left n. cond (is_session n) (Some n) None) (λ n. n) rc_value h b.0 b.1 in
+    let good : is_session b.0.0 ≡ true = was_session (number_of (take 4 h.rest)) b.0.0 rc_value (is_session (number_of (take 4 h.rest))) refl n.1 in
+    (b.0.0, sym (ap (λ z. z.0) (ok_is (b.0.0 ∷ [], b.0.1) (hs, g) b.2)), rw good refl)
+
+are_read : (code : CommandCode) (h g : Here) (hs : List ℕ) → read 0 (reply_handles code) h ≡ Ok (hs, g) → AreRead code hs
+are_read codes.NvUndefineSpace h g hs e = none_read h g hs e
+are_read codes.NvDefineSpace h g hs e = none_read h g hs e
+are_read codes.NvIncrement h g hs e = none_read h g hs e
+are_read codes.PcrEvent h g hs e = none_read h g hs e
+are_read codes.PcrReset h g hs e = none_read h g hs e
+are_read codes.Startup h g hs e = none_read h g hs e
+are_read codes.NvRead h g hs e = none_read h g hs e
+are_read codes.FlushContext h g hs e = none_read h g hs e
+are_read codes.NvReadPublic h g hs e = none_read h g hs e
+are_read codes.PolicyAuthValue h g hs e = none_read h g hs e
+are_read codes.PolicyCommandCode h g hs e = none_read h g hs e
+are_read codes.PolicyOr h g hs e = none_read h g hs e
+are_read codes.StartAuthSession h g hs e = session_read h g hs e
+are_read codes.PcrRead h g hs e = none_read h g hs e
+are_read codes.PolicyPcr h g hs e = none_read h g hs e
+are_read codes.PolicyRestart h g hs e = none_read h g hs e
+are_read codes.PcrExtend h g hs e = none_read h g hs e
+are_read codes.PolicyGetDigest h g hs e = none_read h g hs e
+
+-- the body is that of the command, with this handle
+abbrev IsBodyOf : CommandCode → List ℕ → ReplyBody → Type 0
+IsBodyOf code hs body = (code_for_reply body ≡ code) × (reply_handles_of body ≡ hs)
+
+bodies : (code : CommandCode) (hs : List ℕ) → AreRead code hs → Ends (IsBodyOf code hs) (reply_parameters code hs)
+unfolding pcr_event_reply nv_read_reply nv_read_public_reply start_auth_session_reply pcr_read_reply policy_get_digest_reply
+bodies codes.NvUndefineSpace hs are = (refl, sym are)
+bodies codes.NvDefineSpace hs are = (refl, sym are)
+bodies codes.NvIncrement hs are = (refl, sym are)
+bodies codes.PcrEvent hs are = λ a. (refl, sym are)
+bodies codes.PcrReset hs are = (refl, sym are)
+bodies codes.Startup hs are = (refl, sym are)
+bodies codes.NvRead hs are = λ a. (refl, sym are)
+bodies codes.FlushContext hs are = (refl, sym are)
+bodies codes.NvReadPublic hs are = λ a b. (refl, sym are)
+bodies codes.PolicyAuthValue hs are = (refl, sym are)
+bodies codes.PolicyCommandCode hs are = (refl, sym are)
+bodies codes.PolicyOr hs are = (refl, sym are)
+bodies codes.StartAuthSession hs are = λ nonce. (refl, rw (are.1, are.2) refl)
+bodies codes.PcrRead hs are = λ a b c. (refl, sym are)
+bodies codes.PolicyPcr hs are = (refl, sym are)
+bodies codes.PolicyRestart hs are = (refl, sym are)
+bodies codes.PcrExtend hs are = (refl, sym are)
+bodies codes.PolicyGetDigest hs are = λ a. (refl, sym are)
+
+all_read : {A : Type 0} (l : Layout A) (bytes : List ℕ) (x : A) → read_all l bytes ≡ Ok x → (h : Here) × (read 0 l (at_start bytes) ≡ Ok (x, h))
+all_read l bytes x e =
+    let done = bind_ok (read 0 l (at_start bytes) >>= finish buffer) (λ y. ok y.0) x e in
+    let whole = bind_ok (read 0 l (at_start bytes)) (finish buffer) done.0 done.1 in
+    let same = finish_is whole.0 done.0 whole.2 in
+    (whole.0.1, whole.1 ∙ ap (λ z. ok (z, whole.0.1)) (ap (λ z. z.0) same ∙ ok_is done.0.0 x done.2))
+
+-- ---- a reply and its cut
+
+record SameParts (code : CommandCode) (hs : List ℕ) (n : ℕ) (r : Reply) (c : ReplyCut) : Type 0 where
+  code_is : c.code ≡ n
+  handles : c.handles ≡ hs
+  auths : c.auths ≡ r.auths
+  params : read_all (reply_parameters code hs) c.params ≡ Ok r.body
+
+with_same : (code : CommandCode) (hs : List ℕ) (n : ℕ) (h : Here) → Follows (SameParts code hs n) (read 0 (with_sessions (reply_parameters code hs)) h) (read 0 (raw_with_sessions n hs) h)
+unfolding with_sessions raw_with_sessions
+with_same code hs n h = alike (SameParts code hs n) (read 0 parameter_size h) _ _ (λ s _.
+    area_or_raw (SameParts code hs n) s.0 (reply_parameters code hs) s.1 _ _ (λ b is.
+    alike (SameParts code hs n) (read 0 reply_sessions (past s.0 s.1)) _ _ (λ a _.
+    ends (SameParts code hs n) _ _ a.1 (record { code_is = refl; handles = refl; auths = refl; params = is }))))
+
+abbrev only : ReplyBody → Reply
+only body = record { body = body; auths = [] }
+
+-- What is left is taken.
+without_same : (code : CommandCode) (hs : List ℕ) (n : ℕ) (h : Here) → Follows (SameParts code hs n) (read 0 (without_sessions (reply_parameters code hs)) h) (read 0 (raw_without_sessions n hs) h)
+unfolding without_sessions raw_without_sessions
+without_same code hs n h x is none =
+    let k = length h.rest in
+    let empty : length (drop k h.rest) ≡ 0 = omega (arith, length-drop k h.rest) in
+    let all : take k h.rest ≡ h.rest = take_all k h.rest (omega arith) in
+    let b = bind_ok (read 0 (reply_parameters code hs) h) (λ b. ok (only b.0, b.1)) x is in
+    let same = ok_is (only b.0.0, b.0.1) x b.2 in
+    let whole = read_whole (reply_parameters code hs) h b.0 b.1 (ap (λ z. length z.1.rest) same ∙ none) in (
+      (record { code = n; handles = hs; params = take k h.rest; auths = [] }, past k h),
+      rw (buffer_roomy 0 h.at k k (omega arith)) refl,
+      empty,
+      record {
+        code_is = refl;
+        handles = refl;
+        auths = ap (λ z. z.0.auths) same;
+        params = ap (read_all (reply_parameters code hs)) all ∙ whole ∙ ap (λ z. ok z.0.body) same;
+      },
+    )
+
+behind_same : (code : CommandCode) (n : ℕ) (hs : List ℕ) (h : Here) (two : Bool)
+    → Follows (SameParts code hs n) (read 0 (either two (with_sessions (reply_parameters code hs)) (without_sessions (reply_parameters code hs))) h) (read 0 (either two (raw_with_sessions n hs) (raw_without_sessions n hs)) h)
+behind_same code n hs h true = with_same code hs n h
+behind_same code n hs h false = without_same code hs n h
+
+-- ---- a response and its cut
+
+-- The same of a reply to the command with its handle.
+record Belongs (code : CommandCode) (n : ℕ) (r : Reply) (c : ReplyCut) : Type 0 where
+  hs : List ℕ
+  is_body : IsBodyOf code hs r.body
+  parts : SameParts code hs n r c
+
+belongs : (code : CommandCode) (n : ℕ) (hs : List ℕ) → AreRead code hs → (r : Reply) (c : ReplyCut) → SameParts code hs n r c → Belongs code n r c
+belongs code n hs are r c parts =
+    let read = all_read (reply_parameters code hs) c.params r.body parts.params in
+    record { hs = hs; is_body = ends_read (IsBodyOf code hs) (reply_parameters code hs) 0 (at_start c.params) (r.body, read.0) (bodies code hs are) read.1; parts = parts }
+
+reply_same : (code : CommandCode) (t n : ℕ) (h : Here)
+    → Follows (Belongs code n) (read 0 (reply code t) h) (read 0 (Form.field (λ c. c.handles) (reply_handles code) (λ hs. either (eqb t 0x8002) (raw_with_sessions n hs) (raw_without_sessions n hs))) h)
+reply_same code t n h = alike (Belongs code n) (read 0 (reply_handles code) h) _ _ (λ hs is.
+    looser (SameParts code hs.0 n) (Belongs code n) _ _ (belongs code n hs.0 (are_read code h hs.1 hs.0 is)) (behind_same code n hs.0 hs.1 (eqb t 0x8002)))
+
+-- the two by their parts
+its_cut : (code : CommandCode) (n : ℕ) (r : Reply) (c : ReplyCut) → n ≡ 0 → Belongs code n r c → IsCutOf (done_with r) c
+its_cut code n r c zero b =
+    let same : parameters_of_reply r.body ≡ reply_parameters code b.hs = rw (b.is_body.0, b.is_body.1) refl in
+    record {
+      code_is = b.parts.code_is ∙ zero;
+      handles_are = b.parts.handles ∙ sym b.is_body.1;
+      spells_params = read_spells buffer buffer_sound (parameters_of_reply r.body) c.params r.body (ap (λ (l : Layout ReplyBody). read_all l c.params) same ∙ b.parts.params);
+      auths_are = b.parts.auths;
+    }
+
+code_same : (code : CommandCode) (t n : ℕ) (h : Here) → Follows IsCutOf (read 0 (behind_code code t n) h) (read 0 (cut_behind_code code t n) h)
+code_same code t n h = go (eqb n 0) refl
+  where
+    go : (zero : Bool) → eqb n 0 ≡ zero → Follows IsCutOf (read 0 (either zero (Form.field reply_of (reply code t) (λ r. Form.done (done_with r))) (Form.done (responses.Code n))) h)
+        (read 0 (either zero (Form.field (λ c. c.handles) (reply_handles code) (λ hs. either (eqb t 0x8002) (raw_with_sessions n hs) (raw_without_sessions n hs)))
+        (Form.done (record { code = n; handles = []; params = []; auths = [] }))) h)
+    go true zero = λ x is none.
+        let done = bind_ok (read 0 (reply code t) h) (λ r. ok (done_with r.0, r.1)) x is in
+        let same = ok_is (done_with done.0.0, done.0.1) x done.2 in
+        let y = reply_same code t n h done.0 done.1 (ap (λ z. length z.1.rest) same ∙ none) in
+        (y.0, y.1, y.2, subst (λ z. IsCutOf z y.0.0) (ap (λ z. z.0) same) (its_cut code n done.0.0 y.0.0 (eqb-true n 0 zero) y.3))
+    go false some = ends IsCutOf (responses.Code n) (record { code = n; handles = []; params = []; auths = [] }) h refl
+
+has_read : (code : CommandCode) (h : Here) → Follows IsCutOf (read 0 (response code) h) (read 0 (reply_cut code) h)
+unfolding response reply_cut
+has_read code h = alike IsCutOf (read 0 response_front h) _ _ (λ f _.
+    alike IsCutOf (read 0 (response_code f.0.0) f.1) _ _ (λ n _.
+    code_same code f.0.0 n.0 n.1))
+
+pub has_areas : (code : CommandCode) (bytes : List ℕ) (r : Response) → Spells (response code) r bytes → (c : ReplyCut) × Spells (reply_cut code) c bytes × IsCutOf r c
 has_areas code bytes r s =
     let done = bind_ok (read 0 (response code) (at_start bytes) >>= finish buffer) (λ x. ok x.0) r (spells_read buffer buffer_sound (response code) bytes r s) in
     let whole = bind_ok (read 0 (response code) (at_start bytes)) (finish buffer) done.0 done.1 in
+    let same = finish_is whole.0 done.0 whole.2 in
     let c = has_read code (at_start bytes) whole.0 whole.1 (nothing_left whole.0 done.0 whole.2) in
-    (c.0.0, read_spells buffer buffer_sound (reply_cut code) bytes c.0.0 (rw (c.1, c.2) refl))
+    (c.0.0, read_spells buffer buffer_sound (reply_cut code) bytes c.0.0 (rw (c.1, c.2) refl), subst (λ q. IsCutOf q c.0.0) (ap (λ z. z.0) same ∙ ok_is done.0.0 r done.2) c.3)

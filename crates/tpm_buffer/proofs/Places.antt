@@ -63,12 +63,14 @@ any_mark m k (Form.marked n l) h x e = e
 abbrev pair : {A : Type 0} → A → Here → A × Here
 pair x h = (x, h)
 
-later_ok : {A : Type 0} (k : ℕ) (o : Result (A × Here) Refusal) (x : A) (g : Here) → later k o ≡ Ok (x, g) → (f : Here) × (o ≡ Ok (x, f))
-later_ok {A = A} k (Ok y) x g e = (y.1, ap (λ (z : A). ok (z, y.1)) (ap (λ (p : A × Here). p.0) (let z : pair (y.0) (later_place k y.1) ≡ pair x g = cc in z)))
+later_ok : {A : Type 0} (k : ℕ) (o : Result (A × Here) Refusal) (x : A) (g : Here) → later k o ≡ Ok (x, g) → (f : Here) × (o ≡ Ok (x, f)) × (f.rest ≡ g.rest)
+later_ok {A = A} k (Ok y) x g e =
+    let same : pair (y.0) (later_place k y.1) ≡ pair x g = cc in
+    (y.1, ap (λ (z : A). ok (z, y.1)) (ap (λ (p : A × Here). p.0) same), ap (λ (p : A × Here). p.1.rest) same)
 later_ok k (Err d) x g e = absurd (let z : ⊥ = cc in z)
 
 -- what is read at a place is read of its bytes alone
-pub alone : {A : Type 0} (m k : ℕ) (l : Layout A) (h g : Here) (x : A) → read m l h ≡ Ok (x, g) → (f : Here) × (read k l (at_start h.rest) ≡ Ok (x, f))
+pub alone : {A : Type 0} (m k : ℕ) (l : Layout A) (h g : Here) (x : A) → read m l h ≡ Ok (x, g) → (f : Here) × (read k l (at_start h.rest) ≡ Ok (x, f)) × (f.rest ≡ g.rest)
 alone m k l h g x e =
     let marked : read k l h ≡ Ok (x, g) = any_mark m k l h (x, g) e in
     let same : read k l (later_place h.at (at_start h.rest)) ≡ read k l h =

@@ -3,10 +3,15 @@ use Rattle.std.specs.Prelude.{◌≡◌, ℕ, ◌+◌, ◌*◌, ◌≤◌, List,
 use Rattle.tpm_wire.specs.declared.refusal.Refusal.{Refusal}
 use Rattle.tpm_wire.specs.Token.{Here, at_start}
 use Rattle.tpm_wire.specs.Reading.{read}
+use Rattle.tpm_wire.specs.Path.{Spells}
 use Rattle.tpm_types.specs.declared.tpms.AuthReply.{AuthReply}
 use Rattle.tpm_types.specs.Tpms.{auth_response}
 use Rattle.tpm_buffer.specs.declared.code.CommandCode.{CommandCode}
 use Rattle.tpm_buffer.specs.declared.code.CommandCode.TheVariants as codes
+use Rattle.tpm_buffer.specs.declared.response.ReplyBody.{ReplyBody}
+use Rattle.tpm_buffer.specs.declared.response.Response.{Response}
+use Rattle.tpm_buffer.specs.declared.response.Response.TheVariants as responses
+use Rattle.tpm_buffer.specs.Replies.{reply_handles_of, parameters_of_reply}
 use Rattle.tpm_buffer.specs.Responses.{ReplyCut}
 
 -- the handle, where there is one
@@ -58,3 +63,17 @@ handle_list (Some n) = n ∷ []
 abbrev pub HasHandle : CommandCode → Option ℕ → Type 0
 HasHandle codes.StartAuthSession None = ⊥
 HasHandle code handle = Unit {0}
+
+-- ---- a response and its cut
+
+-- The cut of a reply has its handle, its sessions, and bytes that spell its parameters.
+pub record IsReplyCut (body : ReplyBody) (auths : List AuthReply) (c : ReplyCut) : Type 0 where
+  pub code_is : c.code ≡ 0
+  pub handles_are : c.handles ≡ reply_handles_of body
+  pub spells_params : Spells (parameters_of_reply body) body c.params
+  pub auths_are : c.auths ≡ auths
+
+-- The cut is that of this response: of a nonzero code it has the code alone.
+abbrev pub IsCutOf : Response → ReplyCut → Type 0
+IsCutOf (responses.Code n) c = c ≡ record { code = n; handles = []; params = []; auths = [] }
+IsCutOf (responses.Done body auths) c = IsReplyCut body auths.items c

@@ -12,6 +12,7 @@ ghost use Rattle.tpm_buffer.specs.declared.params.Params.{Params};
 ghost use Rattle.tpm_buffer.specs.Parameters.{parameters};
 ghost use Rattle.tpm_buffer.specs.Commands.{body_from, with_auths, header, front, Checked, before_params, command};
 ghost use Rattle.tpm_buffer.specs.Responses.{response, ReplyCut, reply_cut};
+ghost use Rattle.tpm_buffer.specs.ResponseAreas.{IsCutOf};
 
 /// One reading: bytes spell one command, all of them, or have one fault.
 pub fn command_or_fault()
@@ -49,7 +50,8 @@ pub fn no_response_prefix()
     ensures { (code : CommandCode) (bytes more : List ℕ) (r q : Response) → Spells (response code) r bytes → Spells (response code) q (bytes ++ more) → more ≡ [] }
 {}
 
-/// Bytes that spell a response have its areas, with its parameters as they came.
+/// Bytes that spell a response have its areas: its code, its handle, its sessions, and bytes that spell its parameters.
 pub fn areas_of_a_response()
-    ensures { (code : CommandCode) (bytes : List ℕ) (r : Response) → Spells (response code) r bytes → (c : ReplyCut) × Spells (reply_cut code) c bytes }
+    ensures { (code : CommandCode) (bytes : List ℕ) (r : Response) → Spells (response code) r bytes
+        → (c : ReplyCut) × Spells (reply_cut code) c bytes × IsCutOf r c }
 {}

@@ -43,13 +43,25 @@ pub fn read_frame<R: Source>(source: &mut R) -> Result<Option<Buffer>, ReadFault
     ensures failures { CountsDevice (R.failed source.old) (R.failed source.new) result }
     ensures frame { ReadsFrame (R.coming source.old) (R.coming source.new) result }
 {
-    let mut frame = Buffer::from_array_in((), [0; 4096]);
-    let size = read_into(source, frame.as_mut_slice())?;
-    if size == 0 {
-        return Ok(None);
+    let mut answer = Ok(None);
+    read_answer(source, &mut answer);
+    answer
+}
+
+// The answer is made in the caller's place, so that a frame is not copied as it is returned.
+#[inline(never)]
+fn read_answer<R: Source>(source: &mut R, answer: &mut Result<Option<Buffer>, ReadFault>)
+    ensures failures { CountsDevice (R.failed source.old) (R.failed source.new) answer.new }
+    ensures frame { ReadsFrame (R.coming source.old) (R.coming source.new) answer.new }
+{
+    *answer = Ok(Some(Buffer::from_array_in((), [0; 4096])));
+    if let Ok(Some(frame)) = answer {
+        match read_into(source, frame.as_mut_slice()) {
+            Ok(0) => *answer = Ok(None),
+            Ok(size) => frame.truncate(size),
+            Err(fault) => *answer = Err(fault),
+        }
     }
-    frame.truncate(size);
-    Ok(Some(frame))
 }
 
 /// Reads the next frame to the front of the room, and says how many bytes it has: none at the end of the input.
