@@ -12,8 +12,8 @@ use Rattle.tpm_types.specs.Handles.{rh_owner, rh_null, is_owner, is_null, is_pcr
 use Rattle.tpm_types.specs.HandleSets.{pcr_or_null_of, pcr_or_null_number, nv_auth_of, nv_auth_number, bind_of, bind_number}
 use Rattle.tpm_buffer.specs.declared.code.CommandCode.{CommandCode}
 use Rattle.tpm_buffer.specs.declared.command.Header.{Header}
-use Rattle.tpm_buffer.specs.declared.params.Params.{Params}
-use Rattle.tpm_buffer.specs.declared.params.Params.TheVariants as params
+use Rattle.tpm_buffer.specs.declared.command_parameters.Params.{Params}
+use Rattle.tpm_buffer.specs.declared.command_parameters.Params.TheVariants as params
 use Rattle.tpm_buffer.specs.Codes.{command_code}
 use Rattle.tpm_buffer.specs.Handles.{AreAdmitted, handle_kinds, handles}
 use Rattle.tpm_buffer.specs.Parameters.{params_code, parameters}

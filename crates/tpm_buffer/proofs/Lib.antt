@@ -1,8 +1,11 @@
 pub mod Spelled
 pub mod Prefix
 pub mod Staged
-pub mod Within
 pub mod Places
+pub mod Longer
+pub mod Short
+pub mod Sessions
+pub mod Within
 pub mod ReadSessions
 pub mod Answered
 pub mod Parted

@@ -12,7 +12,7 @@ use Rattle.tpm_wire.proofs.Agreement.{ends_same}
 use Rattle.tpm_wire.proofs.Cuts.{cut_read, parted}
 use Rattle.tpm_wire.proofs.Elsewhere.{read_later, later}
 use Rattle.tpm_buffer.specs.declared.command.Command.{Command}
-use Rattle.tpm_buffer.specs.declared.params.Params.{Params}
+use Rattle.tpm_buffer.specs.declared.command_parameters.Params.{Params}
 use Rattle.tpm_buffer.specs.Handles.{handles}
 use Rattle.tpm_buffer.specs.Parameters.{parameters}
 use Rattle.tpm_buffer.specs.Commands.{header, authorization, body_from, with_auths, front, Checked, before_params, command}
@@ -31,19 +31,19 @@ fails {B = B} {C = C} (Err c) f g d same e = ap (err {A = C}) (err_is {A = B} c 
 never : {A B : Type 0} (x : A) (d : Refusal) (r : Result B Refusal) → (let y : Result A Refusal = Ok x in y) ≡ Err d → r ≡ Err d
 never x d r e = absurd (let z : ⊥ = cc in z)
 
-header_fails : (h : Here) (d : Refusal) → read 0 header h ≡ Err d → read 0 command h ≡ Err d
+pub header_fails : (h : Here) (d : Refusal) → read 0 header h ≡ Err d → read 0 command h ≡ Err d
 unfolding command
 header_fails h d e = rw e refl
 
-front_fails : (h : Here) (d : Refusal) → read 0 front h ≡ Err d → read 0 command h ≡ Err d
+pub front_fails : (h : Here) (d : Refusal) → read 0 front h ≡ Err d → read 0 command h ≡ Err d
 unfolding front command
 front_fails h d = fails (read 0 header h) _ _ d (λ a. fails (read 0 (handles a.0.code) a.1) _ _ d (λ b. never _ d _))
 
-before_fails : (h : Here) (d : Refusal) → read 0 before_params h ≡ Err d → read 0 command h ≡ Err d
+pub before_fails : (h : Here) (d : Refusal) → read 0 before_params h ≡ Err d → read 0 command h ≡ Err d
 unfolding before_params command
 before_fails h d = fails (read 0 header h) _ _ d (λ a. fails (read 0 (handles a.0.code) a.1) _ _ d (λ b. fails (read 0 (authorization a.0.tag) b.1) _ _ d (λ x. never _ d _)))
 
-cut_fails : {A : Type 0} (r : Result (A × Here) Refusal) (d : Refusal) → (r >>= parted) ≡ Err d → r ≡ Err d
+pub cut_fails : {A : Type 0} (r : Result (A × Here) Refusal) (d : Refusal) → (r >>= parted) ≡ Err d → r ≡ Err d
 cut_fails (Ok x) d e = absurd (let z : ⊥ = cc in z)
 cut_fails {A = A} (Err c) d e = ap (err {A = A × Here}) (err_is {A = A × List ℕ} c d e)
 
@@ -81,10 +81,10 @@ goes_on (Ok x) f g y o same e = same x e
 goes_on (Err c) f g y o same e = absurd (let z : ⊥ = cc in z)
 
 -- what is read behind all that stands before the parameters
-abbrev behind : Checked × Here → Result (Command × Here) Refusal
+abbrev pub behind : Checked × Here → Result (Command × Here) Refusal
 behind y = read 0 (parameters y.0.header.code) y.1 >>= λ p. at_command (with_auths (body_from y.0.handles p.0) y.0.auths) p.1
 
-command_goes_on : (h : Here) (y : Checked × Here) → read 0 before_params h ≡ Ok y → read 0 command h ≡ behind y
+pub command_goes_on : (h : Here) (y : Checked × Here) → read 0 before_params h ≡ Ok y → read 0 command h ≡ behind y
 unfolding before_params command
 command_goes_on h y = goes_on (read 0 header h) _ _ y (behind y) (λ a. goes_on (read 0 (handles a.0.code) a.1) _ _ y (behind y) (λ b. goes_on (read 0 (authorization a.0.tag) b.1) _ _ y (behind y) (λ c e. ap behind (ok_is _ y e))))
 
@@ -93,7 +93,7 @@ record Before (bytes rest : List ℕ) (x : Checked) : Type 0 where
   is : read 0 before_params (at_start bytes) ≡ Ok (x, place)
   at : place ≡ later_place (length bytes - length rest) (at_start rest)
 
-cut_is : (r : Result (Checked × Here) Refusal) (x : Checked) (rest : List ℕ) → (r >>= parted) ≡ Ok (x, rest) → (g : Here) × (r ≡ Ok (x, g)) × (g.rest ≡ rest)
+pub cut_is : (r : Result (Checked × Here) Refusal) (x : Checked) (rest : List ℕ) → (r >>= parted) ≡ Ok (x, rest) → (g : Here) × (r ≡ Ok (x, g)) × (g.rest ≡ rest)
 cut_is (Ok y) x rest e =
     let pairs : (y.0, y.1.rest) ≡ (x, rest) = ok_is _ _ e in
     (y.1, ap (λ (z : Checked). ok (z, y.1)) (ap (λ (p : Checked × List ℕ). p.0) pairs), ap (λ (p : Checked × List ℕ). p.1) pairs)
@@ -125,6 +125,25 @@ value_later k (Ok x) wrap p is = go (eqb (length x.1.rest) 0) is
         → (cond b (at_command (wrap x.0) (later_place k x.1)) (err {A = Command × Here} (record { code = 0x095; at = x.1.at + k })) >>= λ x. ok x.0) ≡ Ok (wrap p)
     go true is = ap (λ (q : Params). ok (wrap q)) (ok_is _ p is)
     go false is = absurd (let z : ⊥ = cc in z)
+
+-- ---- a command by what stands before its parameters, and them
+
+abbrev whole : Result (Command × Here) Refusal → Result Command Refusal
+whole o = (o >>= finish buffer) >>= λ x. ok x.0
+
+pub areas_fault : (bytes : List ℕ) (e : Refusal) → read 0 before_params (at_start bytes) ≡ Err e → read_all command bytes ≡ Err e
+areas_fault bytes e is = ap whole (before_fails (at_start bytes) e is)
+
+pub params_fault : (bytes : List ℕ) (x : Checked) (h : Here) (e : Refusal) → read 0 before_params (at_start bytes) ≡ Ok (x, h) → read 0 (parameters x.header.code) h ≡ Err e → read_all command bytes ≡ Err e
+params_fault bytes x h e is bad = ap whole (command_goes_on (at_start bytes) (x, h) is) ∙ rw bad refl
+
+pub left_over : (bytes : List ℕ) (x : Checked) (h g : Here) (p : Params) → read 0 before_params (at_start bytes) ≡ Ok (x, h) → read 0 (parameters x.header.code) h ≡ Ok (p, g) → eqb (length g.rest) 0 ≡ false
+    → read_all command bytes ≡ Err (record { code = 0x095; at = g.at })
+left_over bytes x h g p is good more = ap whole (command_goes_on (at_start bytes) (x, h) is) ∙ rw (good, more) refl
+
+pub command_is : (bytes : List ℕ) (x : Checked) (h g : Here) (p : Params) → read 0 before_params (at_start bytes) ≡ Ok (x, h) → read 0 (parameters x.header.code) h ≡ Ok (p, g) → eqb (length g.rest) 0 ≡ true
+    → read_all command bytes ≡ Ok (with_auths (body_from x.handles p) x.auths)
+command_is bytes x h g p is good none = ap whole (command_goes_on (at_start bytes) (x, h) is) ∙ rw (good, none) refl
 
 -- the command is read as its parameters are, further on
 all_later : (bytes rest : List ℕ) (x : Checked) → Before bytes rest x

@@ -1,29 +1,82 @@
 -- What is read from a stage on is what the bytes begin with there.
-use Rattle.std.proofs.Common.{arith, ◌≡◌, ◌+◌, List, ℕ, length, Result, Ok, Err}
-use Rattle.std.specs.Prelude.{IfOk}
+use Rattle.std.proofs.Common.{arith, ◌≡◌, ◌+◌, ◌-◌, ◌≤◌, List, ℕ, [], ◌++◌, length, take, drop, Result, Ok, Err, sym, ap, subst, ◌∙◌, refl}
+use Rattle.std.specs.Prelude.{◌↔◌}
+use Rattle.std.proofs.lemmas.List.{length-drop, length-take, length-append, append_assoc, append-nil, drop-append-le, take-append-drop}
 use Rattle.tpm_wire.specs.declared.refusal.Refusal.{Refusal}
-use Rattle.tpm_wire.specs.Token.{at_start}
-use Rattle.tpm_wire.specs.Reading.{read, Gives}
-use Rattle.tpm_wire.specs.Buffers.{buffer}
+use Rattle.tpm_wire.specs.Token.{Here, at_start, past, spelled_all}
+use Rattle.tpm_wire.specs.Layout.{cut}
+use Rattle.tpm_wire.specs.Reading.{read, read_all, Gives, ◌>>=◌}
+use Rattle.tpm_wire.specs.Path.{Spells, Fault}
+use Rattle.tpm_wire.specs.Buffers.{buffer, Layout}
 use Rattle.tpm_wire.proofs.Buffers.{buffer_sound}
 use Rattle.tpm_wire.proofs.Agreement.{ends_same}
-use Rattle.tpm_wire.proofs.Whole.{reads_its_path}
-use Rattle.tpm_buffer.specs.declared.stages.Headed.{Headed}
-use Rattle.tpm_buffer.specs.declared.stages.Handled.{Handled}
-use Rattle.tpm_buffer.specs.declared.command_areas.Areas.{Areas}
+use Rattle.tpm_wire.proofs.Whole.{reads_its_path, spells_read, fault_read}
+use Rattle.tpm_wire.proofs.Cuts.{cut_read, cut_decodes}
+use Rattle.tpm_types.specs.declared.tpms.Auth.{Auth}
 use Rattle.tpm_buffer.specs.Handles.{handles}
-use Rattle.tpm_buffer.specs.Commands.{authorization, before_params}
-use Rattle.tpm_buffer.specs.Areas.{IsHandled, HasHandles, params_here, IsAreas, HasAreas, areas_view}
+use Rattle.tpm_buffer.specs.Commands.{authorization, Checked, before_params}
+use Rattle.tpm_buffer.specs.CommandAreas.{HeaderCut, HandlesCut, Cut, IsHandled, HasHandles, checked, params_here, areas_view, HasCut, IsAreas, HasAreas}
+use Rattle.tpm_buffer.proofs.Staged.{cut_fails, cut_is}
 
-pub has_handles : (x : Headed) (r : Result Handled Refusal) → IsHandled x r → HasHandles x r
-has_handles x (Ok y) is = ((reads_its_path buffer buffer_sound 0 (handles x.header.code) x.cursor.here).value y.handles.items y.cursor.here).0 is.0
-has_handles x (Err e) is = ((reads_its_path buffer buffer_sound 0 (handles x.header.code) x.cursor.here).fault e).0 is
+pub has_handles : (x : HeaderCut) (r : Result HandlesCut Refusal) → IsHandled x r → HasHandles x r
+has_handles x (Ok y) is = ((reads_its_path buffer buffer_sound 0 (handles x.header.code) x.here).value y.handles y.here).0 is.0
+has_handles x (Err e) is = ((reads_its_path buffer buffer_sound 0 (handles x.header.code) x.here).fault e).0 is
 
-pub has_areas : (x : Handled) (r : Result Areas Refusal) → IsAreas x r → HasAreas x r
-has_areas x (Ok y) is = ((reads_its_path buffer buffer_sound 0 (authorization x.header.tag) x.cursor.here).value y.auths.items (params_here y)).0 is.0
-has_areas x (Err e) is = ((reads_its_path buffer buffer_sound 0 (authorization x.header.tag) x.cursor.here).fault e).0 is
+pub has_areas : (x : HandlesCut) (r : Result Cut Refusal) → IsAreas x r → HasAreas x r
+has_areas x (Ok y) is = ((reads_its_path buffer buffer_sound 0 (authorization x.header.tag) x.here).value y.auths (params_here y)).0 is.0
+has_areas x (Err e) is = ((reads_its_path buffer buffer_sound 0 (authorization x.header.tag) x.here).fault e).0 is
 
--- the parameters are all that is left behind the sessions
-pub params_last : (bytes : List ℕ) (r : Result Areas Refusal) → Gives areas_view (read 0 before_params (at_start bytes)) r → IfOk r (λ a. a.params_at + length a.params.now ≡ length bytes)
-params_last bytes (Ok a) is = omega (arith, ends_same buffer buffer_sound 0 before_params (at_start bytes) (areas_view a) is)
-params_last bytes (Err e) is = tt
+-- ---- a cut is the only one
+
+abbrev ok : {A : Type 0} → A → Result A Refusal
+ok x = Ok x
+
+abbrev err : {A : Type 0} → Refusal → Result A Refusal
+err e = Err e
+
+ok_is : {A : Type 0} (x y : A) → ok x ≡ ok y → x ≡ y
+ok_is x y e = cc
+
+err_is : {A : Type 0} (d e : Refusal) → err {A = A} d ≡ err e → d ≡ e
+err_is d e is = cc
+
+abbrev of_parts : Checked → Here → Cut
+of_parts x g = record { header = x.header; handles = x.handles; auths = x.auths; params = g.rest; params_at = g.at }
+
+here_is : (g : Here) (rest : List ℕ) (at : ℕ) → g.rest ≡ rest → g.at ≡ at → g ≡ record { rest = rest; at = at }
+here_is g rest at e f = rw (← e, ← f) refl
+
+pub cut_ok : (bytes : List ℕ) (r : Result Cut Refusal) → Gives areas_view (read 0 before_params (at_start bytes)) r → (c : Cut) → (r ≡ Ok c) ↔ HasCut bytes c
+cut_ok bytes r is c = (to r is, from r is)
+  where
+    to : (r : Result Cut Refusal) → Gives areas_view (read 0 before_params (at_start bytes)) r → r ≡ Ok c → HasCut bytes c
+    to r is e =
+        let there : Gives areas_view (read 0 before_params (at_start bytes)) (ok c) = subst (λ (o : Result Cut Refusal). Gives areas_view (read 0 before_params (at_start bytes)) o) e is in
+        (cut_decodes before_params areas_view bytes (ok c) there, omega (arith, ends_same buffer buffer_sound 0 before_params (at_start bytes) (areas_view c) there))
+
+    from : (r : Result Cut Refusal) → Gives areas_view (read 0 before_params (at_start bytes)) r → HasCut bytes c → r ≡ Ok c
+    from (Ok d) is has =
+        let g = cut_is (read 0 before_params (at_start bytes)) (checked c) c.params (sym (cut_read before_params bytes) ∙ spells_read buffer buffer_sound (cut before_params) bytes (checked c, c.params) has.0) in
+        let ends = ends_same buffer buffer_sound 0 before_params (at_start bytes) (checked c, g.0) g.1 in
+        let place : g.0.at ≡ c.params_at = omega (arith, ends, has.1, ap length g.2) in
+        let pairs : areas_view d ≡ (checked c, g.0) = ok_is _ _ (sym is ∙ g.1) in
+        let there : params_here d ≡ params_here c = ap (λ (z : Checked × Here). z.1) pairs ∙ here_is g.0 c.params c.params_at g.2 place in
+        ap (λ (x : Checked). ok (of_parts x (params_here d))) (ap (λ (z : Checked × Here). z.0) pairs) ∙ ap (λ (h : Here). ok (of_parts (checked c) h)) there
+    from (Err e) is has =
+        let g = cut_is (read 0 before_params (at_start bytes)) (checked c) c.params (sym (cut_read before_params bytes) ∙ spells_read buffer buffer_sound (cut before_params) bytes (checked c, c.params) has.0) in
+        absurd (let w : ok (checked c, g.0) ≡ err e = sym g.1 ∙ is in let z : ⊥ = cc in z)
+
+pub cut_err : (bytes : List ℕ) (r : Result Cut Refusal) → Gives areas_view (read 0 before_params (at_start bytes)) r → (e : Refusal) → (r ≡ Err e) ↔ Fault (cut before_params) bytes e
+cut_err bytes r is e = (to r is, from r is)
+  where
+    to : (r : Result Cut Refusal) → Gives areas_view (read 0 before_params (at_start bytes)) r → r ≡ Err e → Fault (cut before_params) bytes e
+    to r is d =
+        let there : Gives areas_view (read 0 before_params (at_start bytes)) (err {A = Cut} e) = subst (λ (o : Result Cut Refusal). Gives areas_view (read 0 before_params (at_start bytes)) o) d is in
+        cut_decodes before_params areas_view bytes (err {A = Cut} e) there
+
+    before : Fault (cut before_params) bytes e → read 0 before_params (at_start bytes) ≡ Err e
+    before f = cut_fails (read 0 before_params (at_start bytes)) e (sym (cut_read before_params bytes) ∙ fault_read buffer buffer_sound (cut before_params) bytes e f)
+
+    from : (r : Result Cut Refusal) → Gives areas_view (read 0 before_params (at_start bytes)) r → Fault (cut before_params) bytes e → r ≡ Err e
+    from (Ok d) is f = absurd (let w : ok (areas_view d) ≡ err e = sym is ∙ before f in let z : ⊥ = cc in z)
+    from (Err d) is f = ap (err {A = Cut}) (err_is {A = Checked × Here} d e (sym is ∙ before f))

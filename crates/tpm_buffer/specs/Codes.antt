@@ -2,6 +2,7 @@
 use Rattle.std.specs.Prelude.{ℕ, List, [], ◌∷◌, Option, Some, None, ◌==◌, if◌then◌else◌, codes}
 use Rattle.tpm_wire.specs.Buffers.{Layout}
 use Rattle.tpm_wire.specs.Layout.Form.{number}
+use Rattle.tpm_wire.specs.ResponseCodes.{rc_command_code}
 use Rattle.tpm_buffer.specs.declared.code.CommandCode.{CommandCode}
 use Rattle.tpm_buffer.specs.declared.code.CommandCode.TheVariants.{NvUndefineSpace, NvDefineSpace, NvIncrement, PcrEvent, PcrReset, Startup, NvRead, FlushContext, NvReadPublic, PolicyAuthValue, PolicyCommandCode, PolicyOr, StartAuthSession, PcrRead, PolicyPcr, PolicyRestart, PcrExtend, PolicyGetDigest}
 
@@ -60,4 +61,4 @@ abbrev pub code_of : ℕ → Option CommandCode
 code_of = code_among all_commands
 
 unfoldable pub command_code : Layout CommandCode
-command_code = number 4 (λ left. code_of) code_number 0x143
+command_code = number 4 (λ left. code_of) code_number rc_command_code

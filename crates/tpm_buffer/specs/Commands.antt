@@ -3,6 +3,7 @@ use Rattle.std.specs.Prelude.{ℕ, ◌+◌, ◌*◌, Bool, true, List, [], ◌�
 use Rattle.tpm_wire.specs.Buffers.{Layout, number_in, numbered}
 use Rattle.tpm_wire.specs.Layout.{either}
 use Rattle.tpm_wire.specs.Layout.Form.{done, number, field, area, list}
+use Rattle.tpm_wire.specs.ResponseCodes.{rc_bad_tag, rc_command_size, rc_authsize, of_session}
 use Rattle.tpm_wire.specs.Spelling.{spelling}
 use Rattle.tpm_types.specs.declared.tpms.Auth.{Auth}
 use Rattle.tpm_types.specs.declared.handle_sets.PcrOrNull.{PcrOrNull}
@@ -20,8 +21,8 @@ use Rattle.tpm_buffer.specs.declared.command.Command.{Command}
 use Rattle.tpm_buffer.specs.declared.command.CommandBody.{CommandBody}
 use Rattle.tpm_buffer.specs.declared.command.CommandBody.TheVariants as bodies
 use Rattle.tpm_buffer.specs.declared.command.Header.{Header}
-use Rattle.tpm_buffer.specs.declared.params.Params.{Params}
-use Rattle.tpm_buffer.specs.declared.params.Params.TheVariants as params
+use Rattle.tpm_buffer.specs.declared.command_parameters.Params.{Params}
+use Rattle.tpm_buffer.specs.declared.command_parameters.Params.TheVariants as params
 use Rattle.tpm_buffer.specs.Codes.{command_code}
 use Rattle.tpm_buffer.specs.Handles.{first, second, handles}
 use Rattle.tpm_buffer.specs.Parameters.{parameters}
@@ -33,11 +34,11 @@ abbrev pub is_tag : ℕ → Bool
 is_tag n = n == 0x8001 || n == 0x8002
 
 unfoldable pub tag : Layout ℕ
-tag = number_in 2 is_tag 0x01E
+tag = number_in 2 is_tag rc_bad_tag
 
 -- the number of bytes of the buffer, of which six are read with it
 unfoldable pub command_size : Layout ℕ
-command_size = number 4 (λ left n. if (n == left + 6) && nat_le 10 n && nat_le n 4096 then Some n else None) (λ n. n) 0x142
+command_size = number 4 (λ left n. if (n == left + 6) && nat_le 10 n && nat_le n 4096 then Some n else None) (λ n. n) rc_command_size
 
 unfoldable pub header : Layout Header
 header =
@@ -48,17 +49,17 @@ header =
 
 -- ---- the authorization area, where the tag says so
 
--- sessions to the end of the area, at most three; 0x900 is added to the codes of the first, and 0x100 more for each further one
+-- sessions to the end of the area, at most three, each with its number
 unfoldable pub sessions : Layout (List Auth)
-sessions = list 3 true (λ before. numbered (0x900 + 0x100 * length before) auth_command)
+sessions = list 3 true (λ before. numbered (of_session (1 + length before)) auth_command)
 
 -- the size of one session at least, and of what is left of the buffer at most
 unfoldable pub authorization_size : Layout ℕ
-authorization_size = number 4 (λ left n. if nat_le 9 n && nat_le n left then Some n else None) (λ n. n) 0x144
+authorization_size = number 4 (λ left n. if nat_le 9 n && nat_le n left then Some n else None) (λ n. n) rc_authsize
 
 unfoldable pub authorization : ℕ → Layout (List Auth)
 authorization t = either (t == 0x8002)
-    (field (λ auths. length (spelling sessions auths)) authorization_size (λ n. area n 0x144 sessions))
+    (field (λ auths. length (spelling sessions auths)) authorization_size (λ n. area n rc_authsize sessions))
     (done [])
 
 -- ---- a command by its handles and its parameters

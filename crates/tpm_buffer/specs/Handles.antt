@@ -2,11 +2,11 @@
 use Rattle.std.specs.Prelude.{◌≡◌, ℕ, ◌+◌, ◌*◌, Bool, true, false, is_some, List, [], ◌∷◌}
 use Rattle.tpm_wire.specs.Buffers.{Layout, number_in, numbered}
 use Rattle.tpm_wire.specs.Layout.Form.{done, field}
-use Rattle.tpm_types.specs.Codes.{value_code}
+use Rattle.tpm_wire.specs.ResponseCodes.{rc_value, of_handle}
 use Rattle.tpm_types.specs.Handles.{is_pcr, is_owner, is_null, is_nv_index, is_policy}
 use Rattle.tpm_types.specs.HandleSets.{pcr_or_null_of, nv_auth_of, bind_of}
-use Rattle.tpm_buffer.specs.declared.handles.HandleKind.{HandleKind}
-use Rattle.tpm_buffer.specs.declared.handles.HandleKind.TheVariants.{Pcr, PcrOrNull, Owner, Null, OwnerOrNull, Index, OwnerOrIndex, Policy}
+use Rattle.tpm_buffer.specs.declared.command_handles.HandleKind.{HandleKind}
+use Rattle.tpm_buffer.specs.declared.command_handles.HandleKind.TheVariants.{Pcr, PcrOrNull, Owner, Null, OwnerOrNull, Index, OwnerOrIndex, Policy}
 use Rattle.tpm_buffer.specs.declared.code.CommandCode.{CommandCode}
 use Rattle.tpm_buffer.specs.declared.code.CommandCode.TheVariants as codes
 
@@ -62,9 +62,9 @@ needs_authorization codes.PolicyRestart = false
 needs_authorization codes.PcrExtend = true
 needs_authorization codes.PolicyGetDigest = false
 
--- what is added to the codes of a handle, counted from 1
+-- the former name of of_handle
 abbrev pub handle : ℕ → ℕ
-handle n = 0x100 * n
+handle = of_handle
 
 abbrev pub first : List ℕ → ℕ
 first [] = 0
@@ -81,7 +81,7 @@ second ns = first (others ns)
 abbrev pub handles_from : ℕ → List HandleKind → Layout (List ℕ)
 handles_from i [] = done []
 handles_from i (kind ∷ kinds) =
-    field first (numbered (handle i) (number_in 4 (admits kind) value_code)) (λ n.
+    field first (numbered (of_handle i) (number_in 4 (admits kind) rc_value)) (λ n.
     field others (handles_from (i + 1) kinds) (λ ns.
     done (n ∷ ns)))
 

@@ -2,10 +2,10 @@ pub mod Codes
 pub mod Handles
 pub mod Parameters
 pub mod Commands
+pub mod CommandAreas
 pub mod Replies
 pub mod Responses
 pub mod ResponseAreas
-pub mod Areas
 pub mod Frames
 pub mod Reads
 pub mod Streams

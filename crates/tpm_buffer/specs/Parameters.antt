@@ -1,6 +1,7 @@
 -- The parameters of the commands (Part 3, the command table of each).
 use Rattle.std.specs.Prelude.{ℕ, ◌+◌, ◌*◌, List, [], ◌∷◌}
 use Rattle.tpm_wire.specs.Buffers.{Layout, any_number, numbered}
+use Rattle.tpm_wire.specs.ResponseCodes.{of_parameter}
 use Rattle.tpm_wire.specs.Layout.Form.{done, field}
 use Rattle.tpm_wire.specs.Structures.{sized_bytes}
 use Rattle.tpm_types.specs.declared.alg.Alg.{Alg}
@@ -23,12 +24,12 @@ use Rattle.tpm_types.specs.Tpms.{nv_public}
 use Rattle.tpm_types.specs.Tpmt.{sym_def}
 use Rattle.tpm_buffer.specs.declared.code.CommandCode.{CommandCode}
 use Rattle.tpm_buffer.specs.declared.code.CommandCode.TheVariants as codes
-use Rattle.tpm_buffer.specs.declared.params.Params.{Params}
-use Rattle.tpm_buffer.specs.declared.params.Params.TheVariants as params
+use Rattle.tpm_buffer.specs.declared.command_parameters.Params.{Params}
+use Rattle.tpm_buffer.specs.declared.command_parameters.Params.TheVariants as params
 
--- what is added to the codes of a parameter, counted from 1
+-- the former name of of_parameter
 abbrev pub parameter : ℕ → ℕ
-parameter n = 0x040 + 0x100 * n
+parameter = of_parameter
 
 -- ---- a parameter of the command that has it; for any other command a value that is never used
 
@@ -104,8 +105,8 @@ digests_of _ = []
 
 unfoldable pub nv_define_space : Layout Params
 nv_define_space =
-    field auth_of (numbered (parameter 1) auth_value) (λ auth.
-    field public_of (numbered (parameter 2) nv_public) (λ public.
+    field auth_of (numbered (of_parameter 1) auth_value) (λ auth.
+    field public_of (numbered (of_parameter 2) nv_public) (λ public.
     done (params.NvDefineSpace auth public)))
 
 -- how many bytes an event has at most
@@ -114,58 +115,58 @@ event_bytes = 1024
 
 unfoldable pub pcr_event : Layout Params
 pcr_event =
-    field event_of (numbered (parameter 1) (sized_bytes event_bytes)) (λ event.
+    field event_of (numbered (of_parameter 1) (sized_bytes event_bytes)) (λ event.
     done (params.PcrEvent event))
 
 unfoldable pub startup : Layout Params
 startup =
-    field startup_type_of (numbered (parameter 1) startup_type) (λ kind.
+    field startup_type_of (numbered (of_parameter 1) startup_type) (λ kind.
     done (params.Startup kind))
 
 unfoldable pub nv_read : Layout Params
 nv_read =
-    field size_of (numbered (parameter 1) (any_number 2)) (λ size.
-    field offset_of (numbered (parameter 2) (any_number 2)) (λ offset.
+    field size_of (numbered (of_parameter 1) (any_number 2)) (λ size.
+    field offset_of (numbered (of_parameter 2) (any_number 2)) (λ offset.
     done (params.NvRead size offset)))
 
 unfoldable pub flush_context : Layout Params
 flush_context =
-    field session_of (numbered (parameter 1) session) (λ handle.
+    field session_of (numbered (of_parameter 1) session) (λ handle.
     done (params.FlushContext handle))
 
 unfoldable pub policy_command_code : Layout Params
 policy_command_code =
-    field code_of (numbered (parameter 1) (any_number 4)) (λ code.
+    field code_of (numbered (of_parameter 1) (any_number 4)) (λ code.
     done (params.PolicyCommandCode code))
 
 unfoldable pub policy_or : Layout Params
 policy_or =
-    field or_digests_of (numbered (parameter 1) or_digests) (λ digests.
+    field or_digests_of (numbered (of_parameter 1) or_digests) (λ digests.
     done (params.PolicyOr digests))
 
 unfoldable pub start_auth_session : Layout Params
 start_auth_session =
-    field nonce_of (numbered (parameter 1) nonce) (λ nonce_caller.
-    field (λ _. Empty) (numbered (parameter 2) encrypted_salt) (λ salt.
-    field session_type_of (numbered (parameter 3) session_type) (λ kind.
-    field symmetric_of (numbered (parameter 4) sym_def) (λ symmetric.
-    field hash_of (numbered (parameter 5) hash) (λ alg.
+    field nonce_of (numbered (of_parameter 1) nonce) (λ nonce_caller.
+    field (λ _. Empty) (numbered (of_parameter 2) encrypted_salt) (λ salt.
+    field session_type_of (numbered (of_parameter 3) session_type) (λ kind.
+    field symmetric_of (numbered (of_parameter 4) sym_def) (λ symmetric.
+    field hash_of (numbered (of_parameter 5) hash) (λ alg.
     done (params.StartAuthSession nonce_caller kind symmetric alg))))))
 
 unfoldable pub pcr_read : Layout Params
 pcr_read =
-    field selections_of (numbered (parameter 1) selections) (λ selected.
+    field selections_of (numbered (of_parameter 1) selections) (λ selected.
     done (params.PcrRead selected))
 
 unfoldable pub policy_pcr : Layout Params
 policy_pcr =
-    field digest_of (numbered (parameter 1) digest) (λ pcr_digest.
-    field selections_of (numbered (parameter 2) selections) (λ selected.
+    field digest_of (numbered (of_parameter 1) digest) (λ pcr_digest.
+    field selections_of (numbered (of_parameter 2) selections) (λ selected.
     done (params.PolicyPcr pcr_digest selected)))
 
 unfoldable pub pcr_extend : Layout Params
 pcr_extend =
-    field digests_of (numbered (parameter 1) digest_values) (λ digests.
+    field digests_of (numbered (of_parameter 1) digest_values) (λ digests.
     done (params.PcrExtend digests))
 
 abbrev pub parameters : CommandCode → Layout Params

@@ -6,7 +6,7 @@ ghost use Rattle.tpm_buffer.specs.Parameters.{params_code};
 ghost use Rattle.tpm_buffer.specs.Commands.{register_in as the_register, index_in as the_index, policy_in as the_policy, pcr_or_null_in as the_pcr_or_null, nv_auth_in as the_nv_auth, bind_in as the_bind, body_from, code_for};
 
 use crate::code::CommandCode;
-use crate::params::{Event, Params};
+use crate::command_parameters::{Event, Params};
 use arrayvec::ArrayVec;
 use tpm_types::{
     Alg, Auth, AuthValue, BindHandle, Digest, DigestValues, Nonce, NvAuthHandle, NvIndex, NvPublic,
@@ -203,7 +203,8 @@ fn second(handles: &[u32]) -> u32
     }
 }
 
-// As `from_parts`, in the place of another command.
+// The command of these parameters, with its handles by their numbers, in the place of another command. A handle that is missing,
+// or that the command cannot have, is never met where both were read under one code; in its place stands one of its kind.
 #[inline(always)]
 pub(crate) fn set_from_parts(body: &mut CommandBody, handles: &[u32], params: Params)
     ensures body { body.new ≡ body_from handles.now params }
@@ -281,20 +282,5 @@ pub(crate) fn set_from_parts(body: &mut CommandBody, handles: &[u32], params: Pa
         Params::PolicyGetDigest => *body = CommandBody::PolicyGetDigest {
             session: policy_in(first(handles)),
         },
-    }
-}
-
-impl CommandBody {
-    /// The command of these parameters, with its handles by their numbers, in their order. A handle that is missing, or that
-    /// the command cannot have, is never met where both were read under one code; in its place stands one of its kind: register 0,
-    /// index 0x01000000, session 0x03000000, TPM_RH_NULL or TPM_RH_OWNER.
-    #[inline(never)]
-    pub fn from_parts(handles: &[u32], params: Params) -> Self
-        ensures body { result ≡ body_from handles.now params }
-        ensures code { code_for result ≡ params_code params }
-    {
-        let mut body = CommandBody::Startup(StartupType::Clear);
-        set_from_parts(&mut body, handles, params);
-        body
     }
 }

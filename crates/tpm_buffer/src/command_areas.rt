@@ -1,38 +1,165 @@
-//! What was read of a command before its parameters.
+//! A command cut where its checks begin: the header, the handles, the sessions, and the parameters as they came.
 
-ghost use Rattle.std.specs.Prelude.{◌≡◌};
+ghost use Rattle.std.specs.Prelude.{◌≡◌, ◌≤◌, ◌<◌, IfOk, length, slice_get};
+ghost use Rattle.tpm_wire.specs.Token.{at_start};
+ghost use Rattle.tpm_wire.specs.Layout.{cut};
+ghost use Rattle.tpm_wire.specs.Reading.{read, Gives};
+ghost use Rattle.tpm_wire.specs.Buffers.{TakesNumbered};
+ghost use Rattle.tpm_wire.specs.Path.{Decodes};
+ghost use Rattle.tpm_buffer.specs.Commands.{header as header_layout, before_params};
+ghost use Rattle.tpm_buffer.specs.CommandAreas.{head_and_rest, IsHandled, HasHandles, checked, params_here, areas_view, IsAreas, HasAreas, IsSpelledBy};
 
 use crate::code::CommandCode;
 use crate::command::Header;
-use crate::front::NO_SESSIONS;
+use crate::command_handles::take_handles;
+use crate::command_header::{long_fault, take_header};
+use crate::command_sessions::{AuthRef, copy_sessions, session_at, take_authorization};
 use arrayvec::ArrayVec;
+use std::marker::Model;
 use tpm_types::Auth;
+use tpm_wire::{Cursor, Refusal};
+
+/// A command whose header was read.
+#[derive(Drop)]
+pub struct Headed<'a> {
+    bytes: &'a [u8],
+    header: Header,
+    cursor: Cursor<'a>,
+}
+
+impl<'a> Model for Headed<'a> {
+    ghost use Rattle.std.specs.Prelude.{◌≤◌, length};
+    ghost use Rattle.tpm_buffer.specs.ResponseAreas.{Stands};
+    ghost use Rattle.tpm_buffer.specs.CommandAreas.{HeaderCut};
+
+    ghost Value = { HeaderCut };
+
+    ghost view = { λ h. record { header = h.header; here = h.cursor.here } };
+
+    ghost invariant = { λ h. (length h.bytes.now ≤ 4096) × Stands h.bytes.now h.cursor.here };
+}
+
+/// A command whose header and handles were read.
+#[derive(Drop)]
+pub struct Handled<'a> {
+    bytes: &'a [u8],
+    header: Header,
+    handles: ArrayVec<u32, 2>,
+    cursor: Cursor<'a>,
+}
+
+impl<'a> Model for Handled<'a> {
+    ghost use Rattle.std.specs.Prelude.{◌≤◌, length};
+    ghost use Rattle.tpm_buffer.specs.ResponseAreas.{Stands};
+    ghost use Rattle.tpm_buffer.specs.CommandAreas.{HandlesCut};
+
+    ghost Value = { HandlesCut };
+
+    ghost view = { λ h. record { header = h.header; handles = h.handles.items; here = h.cursor.here } };
+
+    ghost invariant = { λ h. (length h.bytes.now ≤ 4096) × Stands h.bytes.now h.cursor.here };
+}
 
 /// A command whose header, handles and sessions were read, with its parameters as they came.
 #[derive(Drop)]
 pub struct Areas<'a> {
-    pub(crate) header: Header,
-    pub(crate) handles: ArrayVec<u32, 2>,
-    pub(crate) auths: ArrayVec<Auth, 3>,
-    pub(crate) params: &'a [u8],
-    pub(crate) params_at: u32,
+    bytes: &'a [u8],
+    header: Header,
+    handles: ArrayVec<u32, 2>,
+    sessions: ArrayVec<u32, 3>,
+    params_at: u32,
 }
 
-/// TPM2_Startup without parameters: a place to read other areas into.
-impl<'a> Default for Areas<'a> {
-    fn default() -> Self {
-        Areas {
-            header: Header {
-                tag: NO_SESSIONS,
-                size: 0,
-                code: CommandCode::Startup,
-            },
-            handles: ArrayVec::new(),
-            auths: ArrayVec::new(),
-            params: &[],
-            params_at: 0,
-        }
+impl<'a> Model for Areas<'a> {
+    ghost use Rattle.std.specs.Prelude.{◌≤◌, length, drop};
+    ghost use Rattle.std.specs.List.{All};
+    ghost use Rattle.tpm_buffer.specs.CommandAreas.{Cut, IsSession, sessions_at};
+
+    ghost Value = { Cut };
+
+    ghost view = { λ a. record {
+      header = a.header;
+      handles = a.handles.items;
+      auths = sessions_at a.bytes.now a.sessions.items;
+      params = drop a.params_at a.bytes.now;
+      params_at = a.params_at;
+    } };
+
+    ghost invariant = { λ a. (length a.bytes.now ≤ 4096) × (a.params_at ≤ length a.bytes.now) × All (IsSession a.bytes.now) a.sessions.items };
+}
+
+impl<'a> Headed<'a> {
+    /// The command's code.
+    pub fn code(&self) -> CommandCode
+        ensures { result ≡ self.now.header.code }
+    {
+        self.header.code
     }
+
+    /// The command's tag: 0x8001 without sessions, 0x8002 with them (Part 2, 6.9).
+    pub fn tag(&self) -> u16
+        ensures { result ≡ self.now.header.tag }
+    {
+        self.header.tag
+    }
+
+    /// Reads the handles, or answers their first fault: INSUFFICIENT or VALUE with the handle's number.
+    pub fn handles(self) -> Result<Handled<'a>, Refusal>
+        ensures decodes { HasHandles self.entry result }
+        ensures reads { IsHandled self.entry result }
+    {
+        read_handles(self)
+    }
+}
+
+fn read_handles(headed: Headed<'_>) -> Result<Handled<'_>, Refusal>
+    ensures { IsHandled headed.entry result }
+{
+    let bytes = headed.bytes;
+    let header = headed.header;
+    let mut cursor = headed.cursor;
+    let handles = take_handles(&mut cursor, header.code)?;
+    Ok(Handled {
+        bytes,
+        header,
+        handles,
+        cursor,
+    })
+}
+
+impl<'a> Handled<'a> {
+    /// The numbers of the handles, 0 to 2.
+    pub fn list(&self) -> &[u32]
+        ensures { result.now ≡ self.now.handles }
+    {
+        self.handles.as_slice()
+    }
+
+    /// Reads the sessions, or answers the authorization area's first fault: INSUFFICIENT, AUTHSIZE, or one of a
+    /// session with the session's number. The parameters are not judged.
+    pub fn areas(self) -> Result<Areas<'a>, Refusal>
+        ensures decodes { HasAreas self.entry result }
+        ensures reads { IsAreas self.entry result }
+    {
+        read_sessions(self)
+    }
+}
+
+fn read_sessions(handled: Handled<'_>) -> Result<Areas<'_>, Refusal>
+    ensures { IsAreas handled.entry result }
+{
+    let bytes = handled.bytes;
+    let header = handled.header;
+    let handles = handled.handles;
+    let mut cursor = handled.cursor;
+    let sessions = take_authorization(&mut cursor, bytes, header.tag)?;
+    Ok(Areas {
+        bytes,
+        header,
+        handles,
+        sessions,
+        params_at: cursor.at(),
+    })
 }
 
 impl<'a> Areas<'a> {
@@ -45,23 +172,34 @@ impl<'a> Areas<'a> {
 
     /// The numbers of the handles, 0 to 2.
     pub fn handles(&self) -> &[u32]
-        ensures { result.now ≡ self.now.handles.items }
+        ensures { result.now ≡ self.now.handles }
     {
         self.handles.as_slice()
     }
 
-    /// The sessions, 0 to 3.
-    pub fn auths(&self) -> &[Auth]
-        ensures { result.now ≡ self.now.auths.items }
+    /// How many sessions there are: 0 to 3.
+    pub fn auth_count(&self) -> usize
+        ensures { result ≡ length self.now.auths }
     {
-        self.auths.as_slice()
+        self.sessions.len()
+    }
+
+    /// The session of this index, counted from 0, where there is one. It lends its nonce and its HMAC from the input.
+    pub fn auth(&self, index: usize) -> Option<AuthRef<'a>>
+        ensures { result ≡ slice_get self.now.auths index }
+    {
+        if index >= self.sessions.len() {
+            return None;
+        }
+        Some(session_at(self.bytes, self.sessions.as_slice()[index]))
     }
 
     /// The parameters as they came, a part of the input: they are not judged yet.
     pub fn params(&self) -> &'a [u8]
-        ensures { result.now ≡ self.now.params.now }
+        ensures value { result.now ≡ self.now.params }
+        ensures short { length result.now ≤ 4096 }
     {
-        self.params
+        &self.bytes[self.params_at as usize..]
     }
 
     /// How many bytes of the input are before the parameters.
@@ -70,4 +208,81 @@ impl<'a> Areas<'a> {
     {
         self.params_at
     }
+
+    /// Makes the list that of the sessions.
+    pub(crate) fn copy_auths(&self, auths: &mut ArrayVec<Auth, 3>)
+        ensures { auths.new.items ≡ self.now.auths }
+    {
+        copy_sessions(self.bytes, self.sessions.as_slice(), auths);
+    }
+}
+
+fn short_header(bytes: &[u8]) -> Result<Headed<'_>, Refusal>
+    requires { length bytes.now ≤ 4096 }
+    ensures { Gives head_and_rest (read 0 header_layout (at_start bytes.now)) result }
+{
+    let mut cursor = Cursor::new(bytes);
+    let header = take_header(&mut cursor)?;
+    Ok(Headed {
+        bytes,
+        header,
+        cursor,
+    })
+}
+
+fn any_header(bytes: &[u8]) -> Result<Headed<'_>, Refusal>
+    ensures { Gives head_and_rest (read 0 header_layout (at_start bytes.now)) result }
+{
+    if bytes.len() > 4096 {
+        return Err(long_fault(bytes));
+    }
+    short_header(bytes)
+}
+
+/// The header that the bytes begin with, or its fault: INSUFFICIENT, BAD_TAG, COMMAND_SIZE or COMMAND_CODE.
+pub fn header(bytes: &[u8]) -> Result<Headed<'_>, Refusal>
+    ensures decodes { Decodes (cut header_layout) (λ x. (x.header, x.here.rest)) bytes.now result }
+    ensures reads { Gives head_and_rest (read 0 header_layout (at_start bytes.now)) result }
+{
+    any_header(bytes)
+}
+
+/// All that stands before the parameters of the command, which begin where the cursor is then.
+#[tactic(auto, unfolding(crate::specs::Commands::before_params))]
+#[inline(always)]
+pub(crate) fn take_areas<'a>(cursor: &mut Cursor<'a>, bytes: &'a [u8]) -> Result<Areas<'a>, Refusal>
+    requires start { cursor.old ≡ record { here = at_start bytes.now; number = 0 } }
+    requires short { length bytes.now ≤ 4096 }
+    ensures reads { TakesNumbered checked before_params cursor.old cursor.new result }
+    ensures place { IfOk result (λ c. cursor.new.here ≡ params_here c) }
+    ensures spelled { IfOk result (IsSpelledBy bytes.now) }
+{
+    let header = take_header(cursor)?;
+    let handles = take_handles(cursor, header.code)?;
+    let sessions = take_authorization(cursor, bytes, header.tag)?;
+    Ok(Areas {
+        bytes,
+        header,
+        handles,
+        sessions,
+        params_at: cursor.at(),
+    })
+}
+
+fn short_areas(bytes: &[u8]) -> Result<Areas<'_>, Refusal>
+    requires { length bytes.now ≤ 4096 }
+    ensures { Gives areas_view (read 0 before_params (at_start bytes.now)) result }
+{
+    take_areas(&mut Cursor::new(bytes), bytes)
+}
+
+/// All that stands before the parameters of the command in the bytes, however many they are.
+#[tactic(auto, unfolding(crate::specs::Commands::before_params))]
+pub(crate) fn any_areas(bytes: &[u8]) -> Result<Areas<'_>, Refusal>
+    ensures { Gives areas_view (read 0 before_params (at_start bytes.now)) result }
+{
+    if bytes.len() > 4096 {
+        return Err(long_fault(bytes));
+    }
+    short_areas(bytes)
 }

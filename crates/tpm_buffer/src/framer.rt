@@ -3,8 +3,8 @@
 ghost use Rattle.std.specs.Prelude.{◌≡◌, ◌+◌, ◌≤◌, ◌<◌, ◌++◌, [], length, min, take, ◌-◌, ◌⊎◌, MatchBool, MatchOption, MatchResult};
 ghost use Rattle.tpm_buffer.specs.Frames.{stated, IsFrame, bad_size, Pushes, Advances};
 
-use crate::front::COMMAND_SIZE;
 use std::marker::Model;
+use tpm_wire::response_code::COMMAND_SIZE;
 use tpm_wire::{Buffer, Refusal};
 
 /// The tag and the size of a buffer are its first six bytes.

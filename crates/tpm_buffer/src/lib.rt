@@ -4,15 +4,15 @@
 mod code;
 mod command;
 mod command_areas;
-mod cuts;
-mod decode;
-mod encode;
+mod command_decode;
+mod command_encode;
+mod command_handles;
+mod command_header;
+mod command_parameters;
+mod command_sessions;
 mod framer;
-mod front;
-mod handles;
 mod laws;
 mod lent;
-mod params;
 mod reader;
 mod response;
 mod response_areas;
@@ -21,22 +21,21 @@ mod response_encode;
 mod response_header;
 mod response_parameters;
 mod response_sessions;
-mod stages;
 mod stream_laws;
 
 pub use code::CommandCode;
 pub use command::{Command, CommandBody, Header, StartAuth};
-pub use command_areas::Areas;
-pub use cuts::areas;
-pub use decode::{decode_command, one_spelling};
-pub use encode::encode_command;
+pub use command_areas::{Areas, Handled, Headed, header};
+pub use command_decode::{areas, decode_command, one_spelling};
+pub use command_encode::encode_command;
+pub use command_header::{NO_SESSIONS, SESSIONS};
+pub use command_parameters::{EVENT_BYTES, Event, Params, decode_params, decode_params_into};
+pub use command_sessions::AuthRef;
 pub use framer::{Framer, Status};
-pub use front::{AUTHSIZE, BAD_TAG, COMMAND_CODE, COMMAND_SIZE, NO_SESSIONS, SESSIONS};
 pub use laws::{
     areas_of_a_response, command_or_fault, fault_before_params, no_prefix, no_response_prefix,
     parameters_in_command, response_or_fault,
 };
-pub use params::{EVENT_BYTES, Event, Params, decode_params, decode_params_into};
 pub use reader::{ReadFault, read_frame};
 pub use response::{ErrorCode, NvData, ReplyBody, Response, StartReply};
 pub use response_areas::{ReplyAreas, reply_areas};
@@ -44,5 +43,4 @@ pub use response_decode::decode_response;
 pub use response_encode::{encode_response, put_code, put_reply};
 pub use response_header::RSP_COMMAND;
 pub use response_sessions::ReplyRef;
-pub use stages::{Handled, Headed, header};
 pub use stream_laws::{broken_for_ever, frames_of_a_stream, frames_of_pieces, frames_read};

@@ -10,7 +10,7 @@ ghost use Rattle.tpm_buffer.specs.Responses.{ReplyCut, raw_with_sessions, raw_wi
 ghost use Rattle.tpm_buffer.specs.ResponseAreas.{Stands, handle_list, handle_of, place_of_params, HasItsParams};
 
 use crate::code::CommandCode;
-use crate::front::SESSIONS;
+use crate::command_header::SESSIONS;
 use crate::response_header::{long_fault, take_code, take_front};
 use crate::response_parameters::{take_parameter_size, take_reply_handle};
 use crate::response_sessions::{ReplyRef, session_at, take_sessions};

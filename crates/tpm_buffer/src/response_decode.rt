@@ -12,7 +12,7 @@ ghost use Rattle.tpm_buffer.specs.Responses.{with_sessions, without_sessions, re
 ghost use Rattle.tpm_buffer.specs.ResponseAreas.{Stands, handle_list, HasHandle};
 
 use crate::code::CommandCode;
-use crate::front::SESSIONS;
+use crate::command_header::SESSIONS;
 use crate::response::{ErrorCode, ReplyBody, Response};
 use crate::response_header::{long_fault, take_code, take_front};
 use crate::response_parameters::{read_reply_params, take_parameter_size, take_reply_handle};

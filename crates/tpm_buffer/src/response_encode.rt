@@ -9,7 +9,8 @@ ghost use Rattle.tpm_buffer.specs.declared.response.Response.TheVariants as resp
 ghost use Rattle.tpm_buffer.specs.Replies.{code_for_reply, reply_handles, reply_handles_of, parameters_of_reply};
 ghost use Rattle.tpm_buffer.specs.Responses.{code_tag, reply_sessions, reply_tag, reply_behind, reply, response as response_layout, Answers};
 
-use crate::front::{BAD_TAG, NO_SESSIONS, SESSIONS};
+use crate::command_header::{NO_SESSIONS, SESSIONS};
+use tpm_wire::response_code::BAD_TAG;
 use crate::response::{ErrorCode, ReplyBody, Response};
 use crate::response_header::RSP_COMMAND;
 use arrayvec::ArrayVec;

@@ -6,7 +6,7 @@ ghost use Rattle.tpm_wire.specs.Reading.{read};
 ghost use Rattle.tpm_wire.specs.Buffers.{Takes, TakesNumbered};
 ghost use Rattle.tpm_buffer.specs.Responses.{response_front, response_tag, response_code};
 
-use crate::front::{NO_SESSIONS, SESSIONS, take_size};
+use crate::command_header::{NO_SESSIONS, SESSIONS, take_size};
 use tpm_wire::response_code::{BAD_TAG, COMMAND_SIZE, VALUE};
 use tpm_wire::{Cursor, Refusal, Wire};
 

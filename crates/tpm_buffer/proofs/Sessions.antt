@@ -1,0 +1,87 @@
+-- Sessions by their positions, and the places on the way through an area.
+use Rattle.std.proofs.Common.{◌≡◌, ℕ, ◌+◌, ◌-◌, ◌≤◌, List, [], ◌∷◌, ◌++◌, length, take, drop, map, Result, Ok, Err, refl, sym, ap, ◌∙◌, append_assoc, arith}
+use Rattle.std.proofs.lemmas.List.{length-append, length-drop, length-take, drop-append-le, drop-drop, take-append-drop}
+use Rattle.tpm_wire.specs.declared.refusal.Refusal.{Refusal}
+use Rattle.tpm_wire.specs.Token.{Here, past, at_start, spelled_all}
+use Rattle.tpm_wire.specs.Reading.{read}
+use Rattle.tpm_wire.specs.Buffers.{buffer, Layout}
+use Rattle.tpm_wire.proofs.Agreement.{ends_same}
+use Rattle.tpm_wire.proofs.Buffers.{buffer_sound}
+use Rattle.tpm_wire.proofs.Whole.{reads_its_path}
+use Rattle.tpm_types.specs.declared.tpms.Auth.{Auth}
+use Rattle.tpm_types.specs.Tpms.{auth_command}
+use Rattle.tpm_buffer.specs.ResponseAreas.{Stands}
+use Rattle.tpm_buffer.specs.CommandAreas.{LiesIn, session_of, session_at, IsSession, sessions_at}
+use Rattle.tpm_buffer.proofs.Longer.{with_more}
+use Rattle.tpm_buffer.proofs.Places.{alone}
+use Rattle.tpm_buffer.proofs.Short.{of_session}
+
+-- ---- places in an area
+
+abbrev place : List ℕ → ℕ → Here
+place rest at = record { rest = rest; at = at }
+
+lies_past : (bytes : List ℕ) (h : Here) (n : ℕ) → LiesIn bytes h → n ≤ length h.rest → LiesIn bytes (past n h)
+lies_past bytes h n s le =
+    let end : h.at + length h.rest ≡ (h.at + n) + length (drop n h.rest) = omega (arith, le, length-drop n h.rest) in
+    record {
+      rest = sym (drop-drop n h.at bytes) ∙ ap (drop n) s.rest ∙ drop-append-le n h.rest (drop (h.at + length h.rest) bytes) le
+          ∙ ap (λ (k : ℕ). drop n h.rest ++ drop k bytes) end;
+      within = omega (arith, s.within, end);
+    }
+
+lies_behind : {A : Type 0} (bytes : List ℕ) (m : ℕ) (l : Layout A) (h g : Here) (x : A) → LiesIn bytes h → read m l h ≡ Ok (x, g) → LiesIn bytes g
+lies_behind bytes m l h g x s e =
+    let b = ((reads_its_path buffer buffer_sound m l h).value x g).0 e in
+    let n = length (spelled_all b.0) in
+    let there : g ≡ past n h = b.2 in
+    let ends = ends_same buffer buffer_sound m l h (x, g) e in
+    let le : n ≤ length h.rest = omega (arith, ends, ap (λ (p : Here). p.at) there, ap (λ (p : Here). length p.rest) there, length-drop n h.rest) in
+    rw there (lies_past bytes h n s le)
+
+-- the area of n bytes that begins at a place
+pub lies_inside : (bytes : List ℕ) (h : Here) (n : ℕ) → Stands bytes h → n ≤ length h.rest → LiesIn bytes (record { rest = take n h.rest; at = h.at })
+lies_inside bytes h n s le =
+    let len : length (take n h.rest) ≡ n = omega (arith, le, length-take n h.rest) in
+    record {
+      rest = sym s.rest ∙ sym (take-append-drop n h.rest) ∙ ap (λ (r : List ℕ). take n h.rest ++ r) (ap (drop n) s.rest ∙ drop-drop n h.at bytes ∙ ap (λ (k : ℕ). drop (h.at + k) bytes) (sym len));
+      within = omega (arith, s.whole, le, len);
+    }
+
+-- a place on the way through bytes, by how many of them are before it
+pub place_is : (bytes : List ℕ) (h : Here) (n : ℕ) → Stands bytes h → n ≡ h.at → h ≡ record { rest = drop n bytes; at = n }
+place_is bytes h n s e =
+    let there : h.rest ≡ drop n bytes = s.rest ∙ ap (λ (k : ℕ). drop k bytes) (sym e) in
+    ap (λ (r : List ℕ). place r h.at) there ∙ ap (λ (k : ℕ). place (drop n bytes) k) (sym e)
+
+-- ---- a session that is read is there by its position
+
+abbrev ok_at : Auth → Here → Result (Auth × Here) Refusal
+ok_at y g = Ok (y, g)
+
+session_is : (bytes : List ℕ) (n : ℕ) (x : Auth) (f : Here) → read 0 auth_command (at_start (drop n bytes)) ≡ Ok (x, f) → session_at bytes n ≡ x
+unfolding session_at
+session_is bytes n x f e = ap session_of e
+
+pub record IsStep (bytes : List ℕ) (h g : Here) (x : Auth) : Type 0 where
+  pub there : IsSession bytes h.at
+  pub is : session_at bytes h.at ≡ x
+  pub lies : LiesIn bytes g
+
+pub step : (bytes : List ℕ) (m : ℕ) (h g : Here) (x : Auth) → LiesIn bytes h → read m auth_command h ≡ Ok (x, g) → IsStep bytes h g x
+step bytes m h g x s e =
+    let more = drop (h.at + length h.rest) bytes in
+    let one = alone m 0 auth_command h g x e in
+    let all : read 0 auth_command (at_start (h.rest ++ more)) ≡ Ok (x, with_more more one.0) = of_session.same 0 (at_start h.rest) more (x, one.0) one.1 in
+    let here : read 0 auth_command (at_start (drop h.at bytes)) ≡ Ok (x, with_more more one.0) = ap (λ (b : List ℕ). read 0 auth_command (at_start b)) s.rest ∙ all in
+    let is = session_is bytes h.at x (with_more more one.0) here in
+    record {
+      there = record { within = omega (arith, s.within); behind = with_more more one.0; reads = here ∙ ap (λ (y : Auth). ok_at y (with_more more one.0)) (sym is) };
+      is = is;
+      lies = lies_behind bytes m auth_command h g x s e;
+    }
+
+-- one session more
+pub one_more : (bytes ns : List ℕ) (n : ℕ) (x : Auth) → session_at bytes n ≡ x → sessions_at bytes (ns ++ n ∷ []) ≡ sessions_at bytes ns ++ x ∷ []
+one_more bytes [] n x is = ap (λ (y : Auth). y ∷ []) is
+one_more bytes (k ∷ ns) n x is = ap (λ (ys : List Auth). session_at bytes k ∷ ys) (one_more bytes ns n x is)

@@ -1,0 +1,11 @@
+use Rattle.tpm_wire.specs.Buffers.{buffer}
+use Rattle.tpm_wire.proofs.Buffers.{buffer_sound}
+use Rattle.tpm_wire.proofs.Whole.{answers_value, answers_fault}
+use Rattle.tpm_buffer.specs.Commands.{command}
+use Rattle.tpm_buffer.proofs.command_decode.decode_command.Goals as goal
+
+pub returns-clause-ok : goal.returns-clause-ok
+returns-clause-ok c = answers_value buffer buffer_sound command c.args.bytes.now c.decode.new.answer c.decode.ensures.reads
+
+pub returns-clause-err : goal.returns-clause-err
+returns-clause-err c = answers_fault buffer buffer_sound command c.args.bytes.now c.decode.new.answer c.decode.ensures.reads

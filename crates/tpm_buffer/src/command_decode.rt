@@ -1,0 +1,104 @@
+//! From bytes to a command, or to its areas.
+
+ghost use Rattle.std.specs.Prelude.{◌≡◌, ◌≤◌, ◌<◌, ◌↔◌, IfOk, OnOk, Ok, Err, length};
+ghost use Rattle.tpm_wire.specs.Spelling.{spelling};
+ghost use Rattle.tpm_wire.specs.declared.refusal.Refusal.{Refusal as RefusalOf};
+ghost use Rattle.tpm_wire.specs.Reading.{read_all, Gives};
+ghost use Rattle.tpm_wire.specs.Layout.{cut};
+ghost use Rattle.tpm_wire.specs.Path.{Spells, Fault};
+ghost use Rattle.tpm_buffer.specs.declared.command.Command.{Command as CommandOf};
+ghost use Rattle.tpm_buffer.specs.Commands.{before_params, command};
+ghost use Rattle.tpm_buffer.specs.CommandAreas.{Cut, HasCut};
+
+use crate::command::{Command, CommandBody, set_from_parts};
+use crate::command_areas::{Areas, any_areas, take_areas};
+use crate::command_header::long_fault;
+use crate::command_parameters::{Params, read_params};
+use arrayvec::ArrayVec;
+use tpm_types::StartupType;
+use tpm_wire::response_code::SIZE;
+use tpm_wire::{Cursor, Refusal};
+
+fn read_command(bytes: &[u8], decoded: &mut Command) -> Result<(), Refusal>
+    requires { length bytes.now ≤ 4096 }
+    ensures reads { Gives (λ _. decoded.new) (read_all command bytes.now) result }
+    ensures spelled { OnOk result (bytes.now ≡ spelling command decoded.new) }
+{
+    let mut cursor = Cursor::new(bytes);
+    let areas = take_areas(&mut cursor, bytes)?;
+    let mut params = Params::PolicyRestart;
+    read_params(&mut cursor, areas.code(), &mut params)?;
+    if cursor.left() > 0 {
+        return Err(Refusal {
+            code: SIZE,
+            at: cursor.at(),
+        });
+    }
+    set_from_parts(&mut decoded.body, areas.handles(), params);
+    areas.copy_auths(&mut decoded.auths);
+    Ok(())
+}
+
+#[tactic(auto, unfolding(crate::specs::Commands::command))]
+fn refusal_of_long(bytes: &[u8]) -> Refusal
+    requires { 4096 < length bytes.now }
+    ensures { read_all command bytes.now ≡ Err result }
+{
+    long_fault(bytes)
+}
+
+fn read_bytes(bytes: &[u8], decoded: &mut Command) -> Result<(), Refusal>
+    ensures reads { Gives (λ _. decoded.new) (read_all command bytes.now) result }
+    ensures spelled { OnOk result (bytes.now ≡ spelling command decoded.new) }
+{
+    if bytes.len() > 4096 {
+        return Err(refusal_of_long(bytes));
+    }
+    read_command(bytes, decoded)
+}
+
+// The answer is made in the caller's place, so that its many bytes are not moved from function to function.
+#[inline(never)]
+fn decode(bytes: &[u8], answer: &mut Result<Command, Refusal>)
+    ensures reads { answer.new ≡ read_all command bytes.now }
+    ensures spelled { IfOk answer.new (λ c. bytes.now ≡ spelling command c) }
+{
+    *answer = Ok(Command {
+        body: CommandBody::Startup(StartupType::Clear),
+        auths: ArrayVec::new(),
+    });
+    if let Ok(decoded) = answer {
+        if let Err(refusal) = read_bytes(bytes, decoded) {
+            *answer = Err(refusal);
+        }
+    }
+}
+
+/// The header, the handles and the sessions, and the parameters as they came, or the first fault before the
+/// parameters: what `header`, `handles` and `areas` read in turn.
+pub fn areas(bytes: &[u8]) -> Result<Areas<'_>, Refusal>
+    ensures ok { (c : Cut) → (result ≡ Ok c) ↔ HasCut bytes.now c }
+    ensures err { (e : RefusalOf) → (result ≡ Err e) ↔ Fault (cut before_params) bytes.now e }
+{
+    any_areas(bytes)
+}
+
+/// The command that the bytes spell, all of them, or the response code and the position of their first fault.
+pub fn decode_command(bytes: &[u8]) -> Result<Command, Refusal>
+    ensures ok { (c : CommandOf) → (result ≡ Ok c) ↔ Spells command c bytes.now }
+    ensures err { (e : RefusalOf) → (result ≡ Err e) ↔ Fault command bytes.now e }
+{
+    let mut answer = Err(Refusal { code: SIZE, at: 0 });
+    decode(bytes, &mut answer);
+    answer
+}
+
+/// One spelling: a command is spelled by these bytes alone.
+pub fn one_spelling(a: &[u8], b: &[u8])
+    ensures { (c : CommandOf) → Spells command c a.now → Spells command c b.now → a.now ≡ b.now }
+{
+    let mut one = Err(Refusal { code: SIZE, at: 0 });
+    decode(a, &mut one);
+    let mut other = Err(Refusal { code: SIZE, at: 0 });
+    decode(b, &mut other);
+}

@@ -1,0 +1,353 @@
+//! From a command to its bytes.
+
+ghost use Rattle.std.specs.Prelude.{◌≡◌, ◌⊎◌, ◌≤◌, ◌<◌, ◌^◌, ◌+◌, ◌++◌, length, ℕ};
+ghost use Rattle.tpm_wire.specs.Spelling.{spelling, Fits};
+ghost use Rattle.tpm_wire.specs.Path.{Spells};
+ghost use Rattle.tpm_buffer.specs.Handles.{handles as handles_layout};
+ghost use Rattle.tpm_buffer.specs.Parameters.{parameters};
+ghost use Rattle.tpm_buffer.specs.Commands.{authorization, tag_of, code_for, handles_of, params_of, body_from, rest_of, command as command_layout};
+
+use crate::command::{Command, CommandBody};
+use crate::command_header::{NO_SESSIONS, SESSIONS};
+use arrayvec::ArrayVec;
+use tpm_types::{Auth, EncryptedSalt, RH_NULL, RH_OWNER};
+use tpm_wire::{Buffer, Wire, known_list, list_len, put_list};
+
+// ---- handles
+
+fn handle_numbers(body: &CommandBody) -> ArrayVec<u32, 2>
+    ensures { result.items ≡ handles_of body.now }
+{
+    let mut numbers = ArrayVec::new();
+    match body {
+        CommandBody::NvUndefineSpace { index } => {
+            numbers.push(RH_OWNER);
+            numbers.push(index.number());
+        }
+        CommandBody::NvDefineSpace { .. } => numbers.push(RH_OWNER),
+        CommandBody::NvIncrement { by, index } => {
+            numbers.push(by.number());
+            numbers.push(index.number());
+        }
+        CommandBody::PcrEvent { register, .. } => numbers.push(register.number()),
+        CommandBody::PcrReset { register } => numbers.push(register.number()),
+        CommandBody::NvRead { by, index, .. } => {
+            numbers.push(by.number());
+            numbers.push(index.number());
+        }
+        CommandBody::NvReadPublic { index } => numbers.push(index.number()),
+        CommandBody::PolicyAuthValue { session } => numbers.push(session.number()),
+        CommandBody::PolicyCommandCode { session, .. } => numbers.push(session.number()),
+        CommandBody::PolicyOr { session, .. } => numbers.push(session.number()),
+        CommandBody::StartAuthSession(start) => {
+            numbers.push(RH_NULL);
+            numbers.push(start.bind.number());
+        }
+        CommandBody::PolicyPcr { session, .. } => numbers.push(session.number()),
+        CommandBody::PolicyRestart { session } => numbers.push(session.number()),
+        CommandBody::PcrExtend { register, .. } => numbers.push(register.number()),
+        CommandBody::PolicyGetDigest { session } => numbers.push(session.number()),
+        CommandBody::Startup(_) | CommandBody::FlushContext(_) | CommandBody::PcrRead(_) => {}
+    }
+    numbers
+}
+
+fn handles_len(body: &CommandBody) -> usize
+    ensures value { result ≡ length (spelling (handles_layout (code_for body.now)) (handles_of body.now)) }
+    ensures fits { result ≤ 8 }
+{
+    4 * handle_numbers(body).len()
+}
+
+fn put_handles(body: &CommandBody, out: &mut Buffer)
+    requires { length out.old.items + length (spelling (handles_layout (code_for body.now)) (handles_of body.now)) ≤ 4096 }
+    ensures { out.new.items ≡ out.old.items ++ spelling (handles_layout (code_for body.now)) (handles_of body.now) }
+{
+    match handle_numbers(body).as_slice() {
+        [] => {}
+        [only] => only.put(out),
+        [one, two, ..] => {
+            one.put(out);
+            two.put(out);
+        }
+    }
+}
+
+// The handles of a command are of its kinds, and with its parameters they make it again.
+fn known_handles(body: &CommandBody)
+    ensures fits { (left : ℕ) → Fits left (handles_layout (code_for body.now)) (handles_of body.now) }
+    ensures whole { body_from (handles_of body.now) (params_of body.now) ≡ body.now }
+{
+    match body {
+        CommandBody::NvUndefineSpace { index } | CommandBody::NvReadPublic { index } => {
+            let _number = index.number();
+        }
+        CommandBody::NvIncrement { by, index } | CommandBody::NvRead { by, index, .. } => {
+            let _numbers = (by.number(), index.number());
+        }
+        CommandBody::PcrReset { register } => {
+            let _number = register.number();
+        }
+        CommandBody::PcrEvent { register, .. } | CommandBody::PcrExtend { register, .. } => {
+            let _number = register.number();
+        }
+        CommandBody::StartAuthSession(start) => {
+            let _number = start.bind.number();
+        }
+        CommandBody::PolicyAuthValue { session }
+        | CommandBody::PolicyCommandCode { session, .. }
+        | CommandBody::PolicyOr { session, .. }
+        | CommandBody::PolicyPcr { session, .. }
+        | CommandBody::PolicyRestart { session }
+        | CommandBody::PolicyGetDigest { session } => {
+            let _number = session.number();
+        }
+        CommandBody::NvDefineSpace { .. }
+        | CommandBody::Startup(_)
+        | CommandBody::FlushContext(_)
+        | CommandBody::PcrRead(_) => {}
+    }
+}
+
+// ---- the authorization area
+
+#[tactic(auto, unfolding(crate::specs::Commands::authorization, crate::specs::Commands::authorization_size, crate::specs::Commands::sessions))]
+fn authorization_len(tag: u16, auths: &[Auth]) -> usize
+    requires { length auths.now ≤ 3 }
+    ensures value { result ≡ length (spelling (authorization tag) auths.now) }
+    ensures fits { result ≤ 319 }
+{
+    if tag == SESSIONS {
+        4 + list_len(auths)
+    } else {
+        0
+    }
+}
+
+#[tactic(auto, unfolding(crate::specs::Commands::authorization, crate::specs::Commands::authorization_size, crate::specs::Commands::sessions))]
+#[inline(never)]
+fn put_authorization(tag: u16, auths: &[Auth], out: &mut Buffer)
+    requires count { length auths.now ≤ 3 }
+    requires room { length out.old.items + length (spelling (authorization tag) auths.now) ≤ 4096 }
+    ensures { out.new.items ≡ out.old.items ++ spelling (authorization tag) auths.now }
+{
+    if tag == SESSIONS {
+        (list_len(auths) as u32).put(out);
+        put_list(auths, out);
+    }
+}
+
+fn known_authorization(tag: u16, auths: &[Auth])
+    requires count { length auths.now ≤ 3 }
+    requires tag { ((tag ≡ 0x8001) × (length auths.now ≡ 0)) ⊎ ((tag ≡ 0x8002) × (0 < length auths.now)) }
+    ensures { (left : ℕ) → length (spelling (authorization tag) auths.now) ≤ left → Fits left (authorization tag) auths.now }
+{
+    let _len = authorization_len(tag, auths);
+    known_list(auths);
+}
+
+// ---- parameters
+
+#[tactic(auto, unfolding(crate::specs::Parameters::startup, crate::specs::Parameters::nv_define_space, crate::specs::Parameters::pcr_event, crate::specs::Parameters::nv_read, crate::specs::Parameters::flush_context, crate::specs::Parameters::policy_command_code, crate::specs::Parameters::policy_or, crate::specs::Parameters::start_auth_session, crate::specs::Parameters::pcr_read, crate::specs::Parameters::policy_pcr, crate::specs::Parameters::pcr_extend))]
+fn params_len(body: &CommandBody) -> usize
+    ensures value { result ≡ length (spelling (parameters (code_for body.now)) (params_of body.now)) }
+    ensures fits { result ≤ 3500 }
+{
+    match body {
+        CommandBody::NvDefineSpace { auth, public } => auth.len() + public.len(),
+        CommandBody::PcrEvent { event, .. } => event.len(),
+        CommandBody::Startup(startup_type) => startup_type.len(),
+        CommandBody::NvRead { size, offset, .. } => size.len() + offset.len(),
+        CommandBody::FlushContext(session) => session.len(),
+        CommandBody::PolicyCommandCode { code, .. } => code.len(),
+        CommandBody::PolicyOr { digests, .. } => digests.len(),
+        CommandBody::StartAuthSession(start) => {
+            start.nonce_caller.len()
+                + EncryptedSalt::Empty.len()
+                + start.session_type.len()
+                + start.symmetric.len()
+                + start.auth_hash.len()
+        }
+        CommandBody::PcrRead(selections) => selections.len(),
+        CommandBody::PolicyPcr {
+            pcr_digest,
+            selections,
+            ..
+        } => pcr_digest.len() + selections.len(),
+        CommandBody::PcrExtend { digests, .. } => digests.len(),
+        CommandBody::NvUndefineSpace { .. }
+        | CommandBody::NvIncrement { .. }
+        | CommandBody::PcrReset { .. }
+        | CommandBody::NvReadPublic { .. }
+        | CommandBody::PolicyAuthValue { .. }
+        | CommandBody::PolicyRestart { .. }
+        | CommandBody::PolicyGetDigest { .. } => 0,
+    }
+}
+
+#[tactic(auto, unfolding(crate::specs::Parameters::startup, crate::specs::Parameters::nv_define_space, crate::specs::Parameters::pcr_event, crate::specs::Parameters::nv_read, crate::specs::Parameters::flush_context, crate::specs::Parameters::policy_command_code, crate::specs::Parameters::policy_or, crate::specs::Parameters::start_auth_session, crate::specs::Parameters::pcr_read, crate::specs::Parameters::policy_pcr, crate::specs::Parameters::pcr_extend))]
+#[inline(never)]
+fn put_params(body: &CommandBody, out: &mut Buffer)
+    requires { length out.old.items + length (spelling (parameters (code_for body.now)) (params_of body.now)) ≤ 4096 }
+    ensures { out.new.items ≡ out.old.items ++ spelling (parameters (code_for body.now)) (params_of body.now) }
+{
+    match body {
+        CommandBody::NvDefineSpace { auth, public } => {
+            auth.put(out);
+            public.put(out);
+        }
+        CommandBody::PcrEvent { event, .. } => event.put(out),
+        CommandBody::Startup(startup_type) => startup_type.put(out),
+        CommandBody::NvRead { size, offset, .. } => {
+            size.put(out);
+            offset.put(out);
+        }
+        CommandBody::FlushContext(session) => session.put(out),
+        CommandBody::PolicyCommandCode { code, .. } => code.put(out),
+        CommandBody::PolicyOr { digests, .. } => digests.put(out),
+        CommandBody::StartAuthSession(start) => {
+            start.nonce_caller.put(out);
+            EncryptedSalt::Empty.put(out);
+            start.session_type.put(out);
+            start.symmetric.put(out);
+            start.auth_hash.put(out);
+        }
+        CommandBody::PcrRead(selections) => selections.put(out),
+        CommandBody::PolicyPcr {
+            pcr_digest,
+            selections,
+            ..
+        } => {
+            pcr_digest.put(out);
+            selections.put(out);
+        }
+        CommandBody::PcrExtend { digests, .. } => digests.put(out),
+        CommandBody::NvUndefineSpace { .. }
+        | CommandBody::NvIncrement { .. }
+        | CommandBody::PcrReset { .. }
+        | CommandBody::NvReadPublic { .. }
+        | CommandBody::PolicyAuthValue { .. }
+        | CommandBody::PolicyRestart { .. }
+        | CommandBody::PolicyGetDigest { .. } => {}
+    }
+}
+
+#[tactic(auto, unfolding(crate::specs::Parameters::startup, crate::specs::Parameters::nv_define_space, crate::specs::Parameters::pcr_event, crate::specs::Parameters::nv_read, crate::specs::Parameters::flush_context, crate::specs::Parameters::policy_command_code, crate::specs::Parameters::policy_or, crate::specs::Parameters::start_auth_session, crate::specs::Parameters::pcr_read, crate::specs::Parameters::policy_pcr, crate::specs::Parameters::pcr_extend))]
+fn known_params(body: &CommandBody)
+    ensures { (left : ℕ) → Fits left (parameters (code_for body.now)) (params_of body.now) }
+{
+    match body {
+        CommandBody::NvDefineSpace { auth, public } => {
+            auth.known();
+            public.known();
+        }
+        CommandBody::PcrEvent { event, .. } => event.known(),
+        CommandBody::Startup(startup_type) => startup_type.known(),
+        CommandBody::NvRead { size, offset, .. } => {
+            let _values = (*size, *offset);
+        }
+        CommandBody::FlushContext(session) => session.known(),
+        CommandBody::PolicyCommandCode { code, .. } => {
+            let _value = *code;
+        }
+        CommandBody::PolicyOr { digests, .. } => digests.known(),
+        CommandBody::StartAuthSession(start) => {
+            start.nonce_caller.known();
+            EncryptedSalt::Empty.known();
+            start.session_type.known();
+            start.symmetric.known();
+            start.auth_hash.known();
+        }
+        CommandBody::PcrRead(selections) => selections.known(),
+        CommandBody::PolicyPcr {
+            pcr_digest,
+            selections,
+            ..
+        } => {
+            pcr_digest.known();
+            selections.known();
+        }
+        CommandBody::PcrExtend { digests, .. } => digests.known(),
+        CommandBody::NvUndefineSpace { .. }
+        | CommandBody::NvIncrement { .. }
+        | CommandBody::PcrReset { .. }
+        | CommandBody::NvReadPublic { .. }
+        | CommandBody::PolicyAuthValue { .. }
+        | CommandBody::PolicyRestart { .. }
+        | CommandBody::PolicyGetDigest { .. } => {}
+    }
+}
+
+// ---- the command
+
+fn tag_for(command: &Command) -> u16
+    ensures { result ≡ tag_of command.now }
+{
+    if command.auths.is_empty() {
+        NO_SESSIONS
+    } else {
+        SESSIONS
+    }
+}
+
+fn rest_len(tag: u16, command: &Command) -> usize
+    ensures value { result ≡ length (spelling (rest_of (code_for command.now.body) tag) command.now) }
+    ensures fits { result ≤ 4000 }
+{
+    handles_len(&command.body)
+        + authorization_len(tag, command.auths.as_slice())
+        + params_len(&command.body)
+}
+
+fn put_rest(tag: u16, command: &Command, out: &mut Buffer)
+    requires { length out.old.items + length (spelling (rest_of (code_for command.now.body) tag) command.now) ≤ 4096 }
+    ensures { out.new.items ≡ out.old.items ++ spelling (rest_of (code_for command.now.body) tag) command.now }
+{
+    put_handles(&command.body, out);
+    put_authorization(tag, command.auths.as_slice(), out);
+    put_params(&command.body, out);
+}
+
+fn known_rest(tag: u16, command: &Command)
+    requires { tag ≡ tag_of command.now }
+    ensures { (left : ℕ) → length (spelling (rest_of (code_for command.now.body) tag) command.now) ≤ left → Fits left (rest_of (code_for command.now.body) tag) command.now }
+{
+    known_handles(&command.body);
+    known_authorization(tag, command.auths.as_slice());
+    known_params(&command.body);
+}
+
+#[tactic(auto, unfolding(crate::specs::Commands::command, crate::specs::Commands::header, crate::specs::Commands::tag, crate::specs::Commands::command_size, crate::specs::Codes::command_code))]
+fn put_command(tag: u16, len: usize, command: &Command, out: &mut Buffer)
+    requires empty { length out.old.items ≡ 0 }
+    requires tag { tag ≡ tag_of command.now }
+    requires len { len ≡ length (spelling (rest_of (code_for command.now.body) tag) command.now) }
+    requires fits { len ≤ 4000 }
+    ensures { out.new.items ≡ spelling command_layout command.now }
+{
+    tag.put(out);
+    (10 + len as u32).put(out);
+    command.body.code().number().put(out);
+    put_rest(tag, command, out);
+}
+
+// The bytes that spell it, into an empty buffer. It is out of line, so that `encode_command` is small, and its buffer the caller's.
+#[inline(never)]
+fn spell(command: &Command, out: &mut Buffer)
+    requires { length out.old.items ≡ 0 }
+    ensures { Spells command_layout command.now out.new.items }
+{
+    let tag = tag_for(command);
+    let len = rest_len(tag, command);
+    known_rest(tag, command);
+    put_command(tag, len, command, out);
+}
+
+/// The bytes that spell the command: 10 to 4,096 of them, under tag 0x8001 where it has no sessions and 0x8002 else.
+pub fn encode_command(command: &Command) -> Buffer
+    ensures { Spells command_layout command.now result.items }
+{
+    let mut out = ArrayVec::new();
+    spell(command, &mut out);
+    out
+}

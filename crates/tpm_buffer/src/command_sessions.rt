@@ -1,0 +1,187 @@
+//! A command's authorization area (Part 1, "Command/Response Structure"): its sessions, by their positions in the command.
+
+ghost use Rattle.std.specs.Prelude.{◌≡◌, ◌≢◌, ◌<◌, ◌≤◌, ◌^◌, ◌++◌, IfOk, length};
+ghost use Rattle.std.specs.List.{All};
+ghost use Rattle.tpm_wire.specs.Spelling.{spelling};
+ghost use Rattle.tpm_wire.specs.Buffers.{Takes, TakesNumbered};
+ghost use Rattle.tpm_types.specs.Tpms.{auth_command};
+ghost use Rattle.tpm_buffer.specs.Commands.{sessions, authorization_size, authorization};
+ghost use Rattle.tpm_buffer.specs.ResponseAreas.{Stands};
+ghost use Rattle.tpm_buffer.specs.CommandAreas.{LiesIn, IsSession, session_at as the_session_at, sessions_at};
+
+use crate::command_header::SESSIONS;
+use crate::lent::take_sized;
+use arrayvec::ArrayVec;
+use std::marker::Model;
+use tpm_types::{Auth, AuthSession, DIGEST_BYTES, SessionAttrs};
+use tpm_wire::response_code::{AUTHSIZE, of_session};
+use tpm_wire::{Cursor, Refusal, Wire};
+
+/// A session of a command, lent from its bytes: TPMS_AUTH_COMMAND (Part 2, 10.13.2).
+#[derive(Drop)]
+pub struct AuthRef<'a> {
+    session: AuthSession,
+    nonce: &'a [u8],
+    attrs: SessionAttrs,
+    hmac: &'a [u8],
+}
+
+impl<'a> Model for AuthRef<'a> {
+    ghost use Rattle.std.specs.Prelude.{◌≤◌, length};
+    ghost use Rattle.tpm_types.specs.Limits.{digest_bytes};
+    ghost use Rattle.tpm_types.specs.declared.tpms.Auth.{Auth};
+
+    ghost Value = { Auth };
+
+    ghost view = { λ a. record { session = a.session; nonce = a.nonce.now; attrs = a.attrs; hmac = a.hmac.now } };
+
+    ghost invariant = { λ a. (length a.nonce.now ≤ digest_bytes) × (length a.hmac.now ≤ digest_bytes) };
+}
+
+impl<'a> AuthRef<'a> {
+    /// The session, or the password.
+    pub fn session(&self) -> AuthSession
+        ensures { result ≡ self.now.session }
+    {
+        self.session
+    }
+
+    /// The caller's nonce, nonceCaller: at most `DIGEST_BYTES`.
+    pub fn nonce(&self) -> &'a [u8]
+        ensures { result.now ≡ self.now.nonce }
+    {
+        self.nonce
+    }
+
+    /// sessionAttributes.
+    pub fn attrs(&self) -> SessionAttrs
+        ensures { result ≡ self.now.attrs }
+    {
+        self.attrs
+    }
+
+    /// The HMAC, or the password: at most `DIGEST_BYTES`.
+    pub fn hmac(&self) -> &'a [u8]
+        ensures { result.now ≡ self.now.hmac }
+    {
+        self.hmac
+    }
+
+    // Makes the other session this one.
+    fn copy_to(&self, auth: &mut Auth)
+        ensures { auth.new ≡ self.now }
+    {
+        auth.session = self.session;
+        auth.nonce.set(self.nonce);
+        auth.attrs = self.attrs;
+        auth.hmac.set(self.hmac);
+    }
+}
+
+// The session that begins here.
+#[tactic(auto, unfolding(tpm_types::specs::Tpms::auth_command))]
+fn take_session<'a>(cursor: &mut Cursor<'a>) -> Result<AuthRef<'a>, Refusal>
+    ensures reads { Takes auth_command cursor.old cursor.new result }
+    ensures spelled { IfOk result (λ a. cursor.old.here.rest ≡ spelling auth_command a ++ cursor.new.here.rest) }
+{
+    let session = AuthSession::take(cursor)?;
+    let nonce = take_sized(cursor, DIGEST_BYTES)?;
+    let attrs = SessionAttrs::take(cursor)?;
+    let hmac = take_sized(cursor, DIGEST_BYTES)?;
+    Ok(AuthRef {
+        session,
+        nonce,
+        attrs,
+        hmac,
+    })
+}
+
+/// The session at this position of the command, where one was read.
+pub(crate) fn session_at<'a>(bytes: &'a [u8], at: u32) -> AuthRef<'a>
+    requires short { length bytes.now < 2 ^ 32 }
+    requires session { IsSession bytes.now at }
+    ensures { result ≡ the_session_at bytes.now at }
+{
+    match take_session(&mut Cursor::new(&bytes[at as usize..])) {
+        Ok(session) => session,
+        Err(_) => unreachable!(),
+    }
+}
+
+// The positions of the sessions to the end of the area: at most three.
+#[tactic(auto, unfolding(crate::specs::Commands::sessions))]
+fn take_sessions(cursor: &mut Cursor<'_>, bytes: &[u8]) -> Result<ArrayVec<u32, 3>, Refusal>
+    requires { LiesIn bytes.now cursor.old.here }
+    ensures reads { TakesNumbered (λ v. sessions_at bytes.now v.items) sessions cursor.old cursor.new result }
+    ensures spelled { IfOk result (λ v. cursor.old.here.rest ≡ spelling sessions (sessions_at bytes.now v.items) ++ cursor.new.here.rest) }
+    ensures sessions { IfOk result (λ v. All (IsSession bytes.now) v.items) }
+    ensures some { IfOk result (λ v. length cursor.new.here.rest < length cursor.old.here.rest → 0 < length v.items) }
+{
+    let mut positions = ArrayVec::new();
+    while cursor.left() > 0 && positions.len() < 3 {
+        cursor.number(of_session(1 + positions.len() as u32));
+        positions.push(cursor.at());
+        take_session(cursor)?;
+    }
+    Ok(positions)
+}
+
+#[tactic(auto, unfolding(crate::specs::Commands::authorization_size))]
+fn take_authorization_size(cursor: &mut Cursor<'_>) -> Result<u32, Refusal>
+    requires { cursor.old.number ≡ 0 }
+    ensures reads { Takes authorization_size cursor.old cursor.new result }
+    ensures spelled { IfOk result (λ x. cursor.old.here.rest ≡ spelling authorization_size x ++ cursor.new.here.rest) }
+    ensures least { IfOk result (λ x. 9 ≤ x) }
+{
+    let refusal = cursor.refusal(AUTHSIZE);
+    let size = u32::take(cursor)?;
+    if size < 9 || size as usize > cursor.left() {
+        return Err(refusal);
+    }
+    Ok(size)
+}
+
+/// The positions of the sessions of a command with this tag.
+#[tactic(auto, unfolding(crate::specs::Commands::authorization))]
+#[inline(never)]
+pub(crate) fn take_authorization(
+    cursor: &mut Cursor<'_>,
+    bytes: &[u8],
+    tag: u16,
+) -> Result<ArrayVec<u32, 3>, Refusal>
+    requires { Stands bytes.now cursor.old.here }
+    ensures reads { TakesNumbered (λ v. sessions_at bytes.now v.items) (authorization tag) cursor.old cursor.new result }
+    ensures spelled { IfOk result (λ v. cursor.old.here.rest ≡ spelling (authorization tag) (sessions_at bytes.now v.items) ++ cursor.new.here.rest) }
+    ensures sessions { IfOk result (λ v. All (IsSession bytes.now) v.items) }
+    ensures none { IfOk result (λ v. tag ≢ 0x8002 → length v.items ≡ 0) }
+    ensures some { IfOk result (λ v. tag ≡ 0x8002 → 0 < length v.items) }
+{
+    if tag != SESSIONS {
+        return Ok(ArrayVec::new());
+    }
+    cursor.number(0);
+    let size = take_authorization_size(cursor)? as usize;
+    let outer = cursor.enter(size)?;
+    let positions = take_sessions(cursor, bytes)?;
+    cursor.number(0);
+    if cursor.left() > 0 {
+        return Err(cursor.refusal(AUTHSIZE));
+    }
+    cursor.leave(outer)?;
+    Ok(positions)
+}
+
+/// Makes the list that of the sessions at these positions of the command.
+pub(crate) fn copy_sessions(bytes: &[u8], positions: &[u32], auths: &mut ArrayVec<Auth, 3>)
+    requires short { length bytes.now < 2 ^ 32 }
+    requires few { length positions.now ≤ 3 }
+    requires sessions { All (IsSession bytes.now) positions.now }
+    ensures { auths.new.items ≡ sessions_at bytes.now positions.now }
+{
+    auths.clear();
+    for at in positions {
+        let last = auths.len();
+        auths.push(Auth::default());
+        session_at(bytes, *at).copy_to(&mut auths.as_mut_slice()[last]);
+    }
+}
