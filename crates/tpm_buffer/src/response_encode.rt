@@ -10,11 +10,11 @@ ghost use Rattle.tpm_buffer.specs.Replies.{code_for_reply, reply_handles, reply_
 ghost use Rattle.tpm_buffer.specs.Responses.{code_tag, reply_sessions, reply_tag, reply_behind, reply, response as response_layout, Answers};
 
 use crate::command_header::{NO_SESSIONS, SESSIONS};
-use tpm_wire::response_code::BAD_TAG;
 use crate::response::{ErrorCode, ReplyBody, Response};
 use crate::response_header::RSP_COMMAND;
 use arrayvec::ArrayVec;
 use tpm_types::AuthReply;
+use tpm_wire::response_code::BAD_TAG;
 use tpm_wire::{Buffer, Wire, known_list, list_len, put_list};
 
 // ---- handles

@@ -9,7 +9,7 @@ use Rattle.tpm_types.specs.declared.tpms.Auth.{Auth}
 use Rattle.tpm_types.specs.declared.tpms.AuthReply.{AuthReply}
 use Rattle.tpm_buffer.specs.declared.code.CommandCode.{CommandCode}
 use Rattle.tpm_buffer.specs.declared.command.CommandBody.{CommandBody}
-use Rattle.tpm_buffer.specs.declared.params.Params.{Params}
+use Rattle.tpm_buffer.specs.declared.command_parameters.Params.{Params}
 use Rattle.tpm_buffer.specs.declared.response.ReplyBody.{ReplyBody}
 use Rattle.tpm_buffer.specs.declared.stages.Headed.{Headed}
 use Rattle.tpm_buffer.specs.declared.stages.Handled.{Handled}

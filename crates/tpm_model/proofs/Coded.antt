@@ -13,7 +13,7 @@ use Rattle.tpm_types.specs.Tpm2b.{digest, encrypted_salt}
 use Rattle.tpm_types.specs.Tpml.{selections, most_digests}
 use Rattle.tpm_types.specs.Tpms.{selection, auth_command, nv_public_area, nv_public}
 use Rattle.tpm_types.specs.Tpmt.{digest_value, algorithm, key_bits, mode, sym_def}
-use Rattle.tpm_buffer.specs.declared.handles.HandleKind.{HandleKind}
+use Rattle.tpm_buffer.specs.declared.command_handles.HandleKind.{HandleKind}
 use Rattle.tpm_buffer.specs.declared.code.CommandCode.{CommandCode}
 use Rattle.tpm_buffer.specs.declared.code.CommandCode.TheVariants as codes
 use Rattle.tpm_buffer.specs.Codes.{command_code}

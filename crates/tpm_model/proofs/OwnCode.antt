@@ -13,8 +13,8 @@ use Rattle.tpm_wire.proofs.Agreement.{bind_ok}
 use Rattle.tpm_types.specs.declared.tpms.Auth.{Auth}
 use Rattle.tpm_buffer.specs.declared.code.CommandCode.{CommandCode}
 use Rattle.tpm_buffer.specs.declared.code.CommandCode.TheVariants as codes
-use Rattle.tpm_buffer.specs.declared.params.Params.{Params}
-use Rattle.tpm_buffer.specs.declared.params.Params.TheVariants as params
+use Rattle.tpm_buffer.specs.declared.command_parameters.Params.{Params}
+use Rattle.tpm_buffer.specs.declared.command_parameters.Params.TheVariants as params
 use Rattle.tpm_buffer.specs.Handles.{needs_authorization}
 use Rattle.tpm_buffer.specs.Parameters.{nv_define_space, startup, nv_read, flush_context, policy_command_code, policy_or, start_auth_session, pcr_read, policy_pcr, pcr_extend, parameters, params_code, pcr_event}
 use Rattle.tpm_buffer.specs.Commands.{sessions, authorization_size, authorization, body_from, code_for}

@@ -18,7 +18,7 @@ use Rattle.tpm_types.specs.declared.tpms.NvPublic.{NvPublic}
 use Rattle.tpm_types.specs.Alg.{digest_len}
 use Rattle.tpm_types.specs.Handles.{rs_pw, is_policy, is_nv_index}
 use Rattle.tpm_types.specs.Tpma.{no_da, audits_or_encrypts, owner_writes, owner_reads}
-use Rattle.tpm_buffer.specs.declared.handles.HandleKind.{HandleKind}
+use Rattle.tpm_buffer.specs.declared.command_handles.HandleKind.{HandleKind}
 use Rattle.tpm_buffer.specs.declared.code.CommandCode.{CommandCode}
 use Rattle.tpm_buffer.specs.declared.code.CommandCode.TheVariants as codes
 use Rattle.tpm_buffer.specs.declared.command.CommandBody.{CommandBody}
