@@ -1,28 +1,16 @@
-//! Commands, responses and frames in bytes, beside what is proved of them. Bytes, codes and places are written out by
-//! hand from the tables of Parts 2 and 3.
+//! Commands, responses and frames in bytes, beside what is proved of them. Bytes are written out by hand from the tables of
+//! Parts 2 and 3. What is taken and what is refused, and where, stands in the files of the folder checks.
 #![tactic(auto)]
 
 #[cfg(test)]
-mod beginnings;
+mod areas;
 #[cfg(test)]
 mod checks;
 #[cfg(test)]
-mod codes;
-#[cfg(test)]
 mod commands;
 #[cfg(test)]
-mod cuts;
-#[cfg(test)]
-mod framer;
-#[cfg(test)]
-mod handles;
-#[cfg(test)]
-mod headers;
-#[cfg(test)]
-mod parameters;
-#[cfg(test)]
-mod reader;
+mod frames;
 #[cfg(test)]
 mod responses;
 #[cfg(test)]
-mod sessions;
+mod sources;

@@ -1,0 +1,90 @@
+//! Commands and responses in their areas, and parameters alone.
+
+use crate::checks::bytes;
+use std::process::Abort;
+use std::test::*;
+use tpm_buffer::{CommandCode, Params, ReplyRef, decode_params, header, reply_areas};
+use tpm_wire::Refusal;
+
+// NV_Read of the index 01800001 by the owner, with a password of one byte.
+const READ: &str =
+    "8002 00000024 0000014e 40000001 01800001 0000000a 40000009 0000 01 0001 61 0008 0000";
+
+// A session 03000001, the parameters 000161, and two sessions.
+const REPLY: &str =
+    "8002 00000022 00000000 03000001 00000003 000161 0002 a1a2 20 0001 b1 0000 01 0000";
+
+#[test]
+fn a_command_in_steps(rt: HostRuntime) {
+    let bytes = bytes(&rt, READ);
+    let headed = header(bytes.as_slice()).ok().expect(&rt, "a header");
+    assert!(&rt; headed.code() == CommandCode::NvRead);
+    let handled = headed.handles().ok().expect(&rt, "handles");
+    assert!(&rt; handled.list() == [0x4000_0001, 0x0180_0001].as_slice());
+    let cut = handled.areas().ok().expect(&rt, "areas");
+    assert!(&rt; cut.handles() == [0x4000_0001, 0x0180_0001].as_slice());
+    assert!(&rt; cut.params() == [0, 8, 0, 0].as_slice());
+    assert!(&rt; cut.params_at() == 32);
+}
+
+// The session of this number of a response to StartAuthSession, whose areas are dropped here.
+fn reply_session(bytes: &[u8], i: usize) -> Option<ReplyRef<'_>> {
+    reply_areas(CommandCode::StartAuthSession, bytes)
+        .ok()?
+        .auth(i)
+}
+
+#[test]
+fn sessions_outlive_their_areas(rt: HostRuntime) {
+    let reply = bytes(&rt, REPLY);
+    let first = reply_session(reply.as_slice(), 0).expect(&rt, "a session");
+    assert!(&rt; reply_session(reply.as_slice(), 2).is_none());
+    assert!(&rt; first.nonce() == [0xA1, 0xA2].as_slice());
+    assert!(&rt; first.attrs().number() == 0x20);
+    assert!(&rt; first.hmac() == [0xB1].as_slice());
+}
+
+#[test]
+fn the_areas_of_a_reply(rt: HostRuntime) {
+    let bytes = bytes(&rt, REPLY);
+    let cut = reply_areas(CommandCode::StartAuthSession, bytes.as_slice())
+        .ok()
+        .expect(&rt, "areas");
+    assert!(&rt; cut.code() == 0);
+    assert!(&rt; cut.handle() == Some(0x0300_0001));
+    assert!(&rt; cut.params() == [0, 1, 0x61].as_slice());
+    assert!(&rt; cut.params_at() == 18);
+    assert!(&rt; cut.auth_count() == 2);
+}
+
+// The first fault of the areas of a response to NV_Read: they judge the sessions, and no parameters.
+fn fault(rt: &impl Abort, text: &str) -> Option<Refusal> {
+    reply_areas(CommandCode::NvRead, bytes(rt, text).as_slice()).err()
+}
+
+#[test]
+fn areas_judge_the_sessions_and_no_parameters(rt: HostRuntime) {
+    // One byte of the parameters less, so that the session begins with 04: a nonce of 1,024 bytes.
+    let early = "8002 0000001d 00000000 00000009 0008 0000000000000004 0000 01 0000";
+    assert!(&rt;
+        fault(&rt, early)
+            == Some(Refusal {
+                code: 0x995,
+                at: 23
+            })
+    );
+    // Parameters of another command.
+    let other = "8002 00000016 00000000 00000003 000161 0000 01 0000";
+    assert!(&rt; fault(&rt, other).is_none());
+}
+
+#[test]
+fn parameters_alone(rt: HostRuntime) {
+    match decode_params(CommandCode::NvRead, &[0, 8, 1, 2]) {
+        Ok(Params::NvRead { size, offset }) => assert!(&rt; size == 8 && offset == 0x0102),
+        _ => panic!(&rt; "no parameters of NV_Read"),
+    }
+    // Places are counted from the first byte of the parameters.
+    let fault = decode_params(CommandCode::NvRead, &[0, 8]).err();
+    assert!(&rt; fault == Some(Refusal { code: 0x2DA, at: 2 }));
+}
