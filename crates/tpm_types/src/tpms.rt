@@ -236,7 +236,7 @@ impl NvPublic {
             + self.data_size.len()
     }
 
-    /// Adds the area at the end, TPMS_NV_PUBLIC: the bytes that the Name of the index is made of (Part 1, 16).
+    /// Adds the area at the end, TPMS_NV_PUBLIC: the bytes that the Name of the index is made of (Part 1, Names).
     pub fn put_area(&self, out: &mut Buffer)
         requires { length out.old.items + length (spelling nv_public_area self.now) ≤ 4096 }
         ensures { out.new.items ≡ out.old.items ++ spelling nv_public_area self.now }
