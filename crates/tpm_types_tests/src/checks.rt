@@ -75,23 +75,31 @@ pub fn refuses<T: Wire + Drop>(rt: &impl Abort, bytes: &[u8], code: u32, at: u32
     }
 }
 
-/// Of each row in `taken` the bytes are a value, and each beginning of them is too short, at the place that stands for its
-/// length: one byte a place, or none where the beginnings are not tried. Of each row in `refused` the bytes are refused with
-/// this code at this place.
-pub fn rows<T: Wire + Drop>(rt: &impl Abort, taken: &[(&str, &str)], refused: &[(&str, u32, u32)]) {
-    for &(text, cuts) in taken {
-        let bytes = bytes_of(text);
-        let _ = goes_both_ways::<T>(rt, bytes.as_slice());
-        let places = bytes_of(cuts);
-        if !places.is_empty() {
-            assert_eq!(rt; places.len(), bytes.len(), "{text}");
-            for n in 0..bytes.len() {
+/// Each line is a row. In `BYTES = PLACES` the bytes are a value, and each beginning of them is too short, at the place that
+/// stands for its length: one byte a place, or none where the beginnings are not tried. In `BYTES ! CODE PLACE` the bytes are
+/// refused with this code of two bytes at this place of one byte. A line that begins with `#` says what the next is about.
+pub fn rows<T: Wire + Drop>(rt: &impl Abort, lines: &str) {
+    for line in lines.lines() {
+        if let Some((bytes, refusal)) = line.split_once('!') {
+            match bytes_of(refusal).as_slice() {
+                [high, low, at] => {
+                    let code = u16::from_be_bytes([*high, *low]) as u32;
+                    refuses::<T>(rt, bytes_of(bytes).as_slice(), code, *at as u32);
+                }
+                _ => panic!(rt; "{line}"),
+            }
+        } else if let Some((bytes, places)) = line.split_once('=') {
+            let bytes = bytes_of(bytes);
+            let places = bytes_of(places);
+            let _ = goes_both_ways::<T>(rt, bytes.as_slice());
+            assert!(rt; places.is_empty() || places.len() == bytes.len(), "{line}");
+            for n in 0..places.len() {
                 let begin = &bytes.as_slice()[..n];
                 refuses::<T>(rt, begin, 0x09A, places.as_slice()[n] as u32);
             }
+        } else {
+            let is_said = line.trim().is_empty() || line.trim().starts_with('#');
+            assert!(rt; is_said, "{line}");
         }
-    }
-    for &(text, code, at) in refused {
-        refuses::<T>(rt, bytes_of(text).as_slice(), code, at);
     }
 }
