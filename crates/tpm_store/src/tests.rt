@@ -6,13 +6,22 @@ use tpm_types::{
     Selections,
 };
 
+// The hexadecimal digit of a number below 16.
+fn digit(n: u8) -> u8 {
+    if n < 10 {
+        b'0' + n
+    } else if n < 16 {
+        b'a' + (n - 10)
+    } else {
+        b'?'
+    }
+}
+
 // Whether a text is the bytes' digits.
 fn is_digits_of(text: &str, bytes: &[u8]) -> bool {
-    let digits = b"0123456789abcdef";
     text.len() / 2 == bytes.len()
-        && bytes.iter().zip(text.as_bytes().chunks_exact(2)).all(|(byte, pair)| {
-            pair[0] == digits[usize::from(*byte >> 4)] && pair[1] == digits[usize::from(*byte & 15)]
-        })
+        && bytes.iter().zip(text.as_bytes().chunks_exact(2)).all(|(byte, pair)| pair
+            == [digit(*byte >> 4), digit(*byte & 15)].as_slice())
 }
 
 fn register(rt: &impl Abort, number: u32) -> PcrIndex {
