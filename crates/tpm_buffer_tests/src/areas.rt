@@ -3,31 +3,50 @@
 use crate::checks::bytes;
 use std::process::Abort;
 use std::test::*;
-use tpm_buffer::{CommandCode, Params, ReplyRef, decode_params, header, reply_areas};
+use tpm_buffer::{
+    AuthRef, CommandCode, Params, ReplyRef, areas, decode_params, decode_params_into, header,
+    reply_areas,
+};
 use tpm_wire::Refusal;
 
 // NV_Read of the index 01800001 by the owner, with a password of one byte.
 const READ: &str =
     "8002 00000024 0000014e 40000001 01800001 0000000a 40000009 0000 01 0001 61 0008 0000";
 
-// A session 03000001, the parameters 000161, and two sessions.
-const REPLY: &str =
+// Of a StartAuthSession: the session 03000001, the parameters 000161, and two sessions.
+const STARTED: &str =
     "8002 00000022 00000000 03000001 00000003 000161 0002 a1a2 20 0001 b1 0000 01 0000";
 
 #[test]
 fn a_command_in_steps(rt: HostRuntime) {
     let bytes = bytes(&rt, READ);
     let headed = header(bytes.as_slice()).ok().expect(&rt, "a header");
-    assert!(&rt; headed.code() == CommandCode::NvRead);
+    assert!(&rt; headed.code() == CommandCode::NvRead && headed.tag() == 0x8002);
     let handled = headed.handles().ok().expect(&rt, "handles");
     assert!(&rt; handled.list() == [0x4000_0001, 0x0180_0001].as_slice());
     let cut = handled.areas().ok().expect(&rt, "areas");
     assert!(&rt; cut.handles() == [0x4000_0001, 0x0180_0001].as_slice());
+    assert!(&rt; (cut.code(), cut.auth_count(), cut.params_at()) == (CommandCode::NvRead, 1, 32));
     assert!(&rt; cut.params() == [0, 8, 0, 0].as_slice());
-    assert!(&rt; cut.params_at() == 32);
 }
 
-// The session of this number of a response to StartAuthSession, whose areas are dropped here.
+#[test]
+fn the_areas_of_a_reply(rt: HostRuntime) {
+    let bytes = bytes(&rt, STARTED);
+    let cut = reply_areas(CommandCode::StartAuthSession, bytes.as_slice())
+        .ok()
+        .expect(&rt, "areas");
+    assert!(&rt; (cut.code(), cut.handle()) == (0, Some(0x0300_0001)));
+    assert!(&rt; (cut.auth_count(), cut.params_at()) == (2, 18));
+    assert!(&rt; cut.params() == [0, 1, 0x61].as_slice());
+}
+
+// The session of this number of a command. Its areas are dropped here.
+fn session(bytes: &[u8], i: usize) -> Option<AuthRef<'_>> {
+    areas(bytes).ok()?.auth(i)
+}
+
+// The same of a response to StartAuthSession.
 fn reply_session(bytes: &[u8], i: usize) -> Option<ReplyRef<'_>> {
     reply_areas(CommandCode::StartAuthSession, bytes)
         .ok()?
@@ -36,25 +55,25 @@ fn reply_session(bytes: &[u8], i: usize) -> Option<ReplyRef<'_>> {
 
 #[test]
 fn sessions_outlive_their_areas(rt: HostRuntime) {
-    let reply = bytes(&rt, REPLY);
-    let first = reply_session(reply.as_slice(), 0).expect(&rt, "a session");
-    assert!(&rt; reply_session(reply.as_slice(), 2).is_none());
+    // an HMAC session, and a policy session with each attribute there is
+    let command = bytes(
+        &rt,
+        "8002 0000002a 0000013d 00000010 00000018 02000001 0002 a1a2 20 0003 b1b2b3 03000002 0001 c1 e7 0000",
+    );
+    let command = command.as_slice();
+    assert!(&rt; session(command, 2).is_none());
+    let first = session(command, 0).expect(&rt, "a session");
     assert!(&rt; first.nonce() == [0xA1, 0xA2].as_slice());
-    assert!(&rt; first.attrs().number() == 0x20);
-    assert!(&rt; first.hmac() == [0xB1].as_slice());
-}
-
-#[test]
-fn the_areas_of_a_reply(rt: HostRuntime) {
-    let bytes = bytes(&rt, REPLY);
-    let cut = reply_areas(CommandCode::StartAuthSession, bytes.as_slice())
-        .ok()
-        .expect(&rt, "areas");
-    assert!(&rt; cut.code() == 0);
-    assert!(&rt; cut.handle() == Some(0x0300_0001));
-    assert!(&rt; cut.params() == [0, 1, 0x61].as_slice());
-    assert!(&rt; cut.params_at() == 18);
-    assert!(&rt; cut.auth_count() == 2);
+    assert!(&rt; first.hmac() == [0xB1, 0xB2, 0xB3].as_slice());
+    let second = session(command, 1).expect(&rt, "a session");
+    assert!(&rt; (second.session().number(), second.attrs().number()) == (0x0300_0002, 0xE7));
+    assert!(&rt; second.hmac().is_empty());
+    let started = bytes(&rt, STARTED);
+    let started = started.as_slice();
+    assert!(&rt; reply_session(started, 2).is_none());
+    let first = reply_session(started, 0).expect(&rt, "a session");
+    assert!(&rt; first.attrs().number() == 0x20 && first.hmac() == [0xB1].as_slice());
+    assert!(&rt; first.nonce() == [0xA1, 0xA2].as_slice());
 }
 
 // The first fault of the areas of a response to NV_Read: they judge the sessions, and no parameters.
@@ -80,8 +99,10 @@ fn areas_judge_the_sessions_and_no_parameters(rt: HostRuntime) {
 
 #[test]
 fn parameters_alone(rt: HostRuntime) {
-    match decode_params(CommandCode::NvRead, &[0, 8, 1, 2]) {
-        Ok(Params::NvRead { size, offset }) => assert!(&rt; size == 8 && offset == 0x0102),
+    let mut params = Params::PcrReset;
+    let _ = decode_params_into(CommandCode::NvRead, &[0, 8, 1, 2], &mut params);
+    match params {
+        Params::NvRead { size, offset } => assert!(&rt; size == 8 && offset == 0x0102),
         _ => panic!(&rt; "no parameters of NV_Read"),
     }
     // Places are counted from the first byte of the parameters.

@@ -130,12 +130,10 @@ fn commands_have_their_values_and_spell_their_bytes_again(rt: HostRuntime) {
         let command = decode_command(spelled.as_slice()).ok().expect(&rt, line);
         let mut values = Buffer::new();
         put_values(&rt, &mut values, &command.body);
+        let again = encode_command(&command);
+        let wanted = bytes(&rt, wanted);
         assert!(&rt;
-            values.as_slice() == bytes(&rt, wanted).as_slice(),
-            "{line}"
-        );
-        assert!(&rt;
-            encode_command(&command).as_slice() == spelled.as_slice(),
+            values.as_slice() == wanted.as_slice() && again.as_slice() == spelled.as_slice(),
             "{line}"
         );
     }
