@@ -1,2 +1,3 @@
 mod Padded
+mod Lines
 mod Scripts

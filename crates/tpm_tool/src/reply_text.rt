@@ -1,15 +1,13 @@
 //! The program's lines of a response.
 
 ghost use Rattle.std.specs.Prelude.{◌≡◌, ◌++◌, OnOk, string_bytes};
-ghost use Rattle.tpm_buffer.specs.Areas.{reply_view};
 ghost use Rattle.tpm_tool.specs.Text.{lines_from};
 ghost use Rattle.tpm_tool.specs.ReplyText.{reply_code_line, reply_line, reply_handle_line, reply_session_line, reply_text, response_text};
 
 use crate::hexadecimal::shown_bytes;
 use crate::text::{push_handle, push_parameters};
 use std::alloc::{AllocError, Global};
-use tpm_buffer::{CommandCode, ReplyAreas};
-use tpm_types::AuthReply;
+use tpm_buffer::{CommandCode, ReplyAreas, ReplyRef};
 
 #[tactic(auto, unfolding(crate::specs::ReplyText::reply_code_line))]
 fn push_code(text: &mut String, code: u32) -> Result<(), AllocError>
@@ -40,24 +38,30 @@ fn push_session(
     alloc: Global,
     text: &mut String,
     i: usize,
-    auth: &AuthReply,
+    auth: &ReplyRef<'_>,
 ) -> Result<(), AllocError>
     ensures { OnOk result (string_bytes text.new ≡ string_bytes text.old ++ reply_session_line i auth.now) }
 {
-    let nonce = shown_bytes(alloc, auth.nonce.as_slice())?;
-    let attributes = auth.attrs.number();
-    let hmac = shown_bytes(alloc, auth.hmac.as_slice())?;
+    let nonce = shown_bytes(alloc, auth.nonce())?;
+    let attributes = auth.attrs().number();
+    let hmac = shown_bytes(alloc, auth.hmac())?;
     writeln!(
         text,
         "session {i} nonce {nonce} attributes {attributes:02x} hmac {hmac}"
     )
 }
 
-fn push_sessions(alloc: Global, text: &mut String, auths: &[AuthReply]) -> Result<(), AllocError>
-    ensures { OnOk result (string_bytes text.new ≡ string_bytes text.old ++ lines_from reply_session_line 1 auths.now) }
+fn push_sessions(
+    alloc: Global,
+    text: &mut String,
+    areas: &ReplyAreas<'_>,
+) -> Result<(), AllocError>
+    ensures { OnOk result (string_bytes text.new ≡ string_bytes text.old ++ lines_from reply_session_line 1 areas.now.auths) }
 {
-    for (before, auth) in auths.iter().enumerate() {
-        push_session(alloc, text, before + 1, auth)?;
+    for before in 0..areas.auth_count() {
+        if let Some(auth) = areas.auth(before) {
+            push_session(alloc, text, before + 1, &auth)?;
+        }
     }
     Ok(())
 }
@@ -70,12 +74,12 @@ fn push_reply(
     size: usize,
     areas: &ReplyAreas<'_>,
 ) -> Result<(), AllocError>
-    ensures { OnOk result (string_bytes text.new ≡ string_bytes text.old ++ reply_text command size (reply_view areas.now)) }
+    ensures { OnOk result (string_bytes text.new ≡ string_bytes text.old ++ reply_text command size areas.now) }
 {
     push_name(text, command, size)?;
     push_first_handle(text, areas.handle())?;
     push_parameters(alloc, text, areas.params())?;
-    push_sessions(alloc, text, areas.auths())?;
+    push_sessions(alloc, text, areas)?;
     Ok(())
 }
 
@@ -87,7 +91,7 @@ pub(crate) fn push_response(
     size: usize,
     areas: &ReplyAreas<'_>,
 ) -> Result<(), AllocError>
-    ensures { OnOk result (string_bytes text.new ≡ string_bytes text.old ++ response_text command size (reply_view areas.now)) }
+    ensures { OnOk result (string_bytes text.new ≡ string_bytes text.old ++ response_text command size areas.now) }
 {
     let code = areas.code();
     if code == 0 {

@@ -2,7 +2,6 @@
 
 ghost use Rattle.std.specs.Prelude.{IfOk, IfErr, string_bytes};
 ghost use Rattle.tpm_wire.specs.Path.{Fault};
-ghost use Rattle.tpm_buffer.specs.Areas.{reply_view};
 ghost use Rattle.tpm_buffer.specs.Responses.{response};
 ghost use Rattle.tpm_tool.specs.Show.{HasReplyAreas, ShowsReplyBytes};
 
@@ -15,7 +14,7 @@ use tpm_wire::Refusal;
 
 // The areas of a response to this command that the bytes spell.
 fn areas_of_reply(command: CommandCode, bytes: &[u8]) -> Result<ReplyAreas<'_>, Refusal>
-    ensures ok { IfOk result (λ a. HasReplyAreas command bytes.now (reply_view a)) }
+    ensures ok { IfOk result (HasReplyAreas command bytes.now) }
     ensures err { IfErr result (λ e. Fault (response command) bytes.now e) }
 {
     decode_response(command, bytes)?;
