@@ -1,5 +1,5 @@
 -- Scripts that are run one part after the other.
-use Rattle.std.proofs.Common.{◌≡◌, ℕ, ◌+◌, ◌<◌, ◌≤◌, false, List, [], ◌∷◌, ◌++◌, length, map, Option, Some, None, refl, sym, ap, ◌∙◌, subst, inl, inr, arith, append_assoc, length-append}
+use Rattle.std.proofs.Common.{◌≡◌, ◌≢◌, ℕ, Bool, true, cond, ◌+◌, ◌<◌, ◌≤◌, false, List, [], ◌∷◌, ◌++◌, length, map, Option, Some, None, refl, sym, ap, ◌∙◌, subst, inl, inr, arith, append_assoc, length-append}
 use Rattle.std.specs.Prelude.{codes, nat_eq}
 use Rattle.std.specs.List.{AllByRecursion}
 use Rattle.std.specs.Io.KnownBytes.{Consumes, IsAtEnd, Appends}
@@ -17,13 +17,10 @@ use Rattle.tpm_tool.specs.declared.script.Run.{Run}
 use Rattle.tpm_tool.specs.declared.status.Status.{Status}
 use Rattle.tpm_tool.specs.declared.status.Status.TheVariants.{Done, Refused}
 use Rattle.tpm_tool.specs.Text.{bytes_line, line}
-use Rattle.tpm_tool.specs.Script.{Line, Blank, Power, Command, NotHexadecimal, Script, onto_first, lines_of, line_of, most_digits, events_from, refused_from, script_from, script, events_text, refused_text, script_text, status_for, ReadsScript, most_bytes}
-use Rattle.tpm_tool.specs.Progress.{Place, start, script_at, IsOpen, behind, Leads, refused_at, StandsAt, Performs, AddedTo, place, next_command, EndsLine, Takes, Reaches}
+use Rattle.tpm_tool.specs.Script.{Line, Blank, Power, Command, NotHexadecimal, Script, onto_first, lines_of, line_of, most_digits, HasNoFeed, AreEnded, AreAccepted, IsRefusedLine, IsRefusedIn, IsUnrefused, events_from, refused_from, script_from, script, events_text, refused_text, script_text, status_for, ReadsScript, most_bytes}
+use Rattle.tpm_tool.specs.Progress.{Place, start, script_at, IsOpen, behind, Leads, Ends, refused_at, StandsAt, Performs, AddedTo, place, next_command, EndsLine, Takes, Reaches}
 
 -- ---- lines
-
-abbrev pub HasNoFeed : List ℕ → Type 0
-HasNoFeed line = AllByRecursion (λ byte. nat_eq byte 10 ≡ false) line
 
 pub no_feed-more : (line : List ℕ) (byte : ℕ) → HasNoFeed line → nat_eq byte 10 ≡ false → HasNoFeed (line ++ byte ∷ [])
 no_feed-more [] byte f g = (g, tt)
@@ -123,6 +120,65 @@ leads_both p q r xs ys es fs Done f g = λ more.
 leads_both p q r xs ys es fs Refused f g = λ more.
     ap (λ (bytes : List ℕ). script_at p bytes) (append_assoc xs ys more) ∙ f (ys ++ more) ∙ ap (behind es) (g more)
 
+-- ---- lines that have ended
+
+onto_first-append : (x : ℕ) (ls ms : List (List ℕ)) → 0 < length ls → onto_first x (ls ++ ms) ≡ onto_first x ls ++ ms
+onto_first-append x [] ms some = absurd (omega arith)
+onto_first-append x (l ∷ ls) ms some = refl
+
+onto_first-some : (x : ℕ) (ls : List (List ℕ)) → 0 < length (onto_first x ls)
+onto_first-some x [] = omega arith
+onto_first-some x (l ∷ ls) = omega arith
+
+-- the lines of a byte and more, by whether the byte is a line feed
+lines_by : Bool → ℕ → List (List ℕ) → List (List ℕ)
+lines_by true x ls = [] ∷ ls
+lines_by false x ls = onto_first x ls
+
+lines_by-some : (b : Bool) (x : ℕ) (ls : List (List ℕ)) → 0 < length (lines_by b x ls)
+unfolding lines_by
+lines_by-some true x ls = omega arith
+lines_by-some false x ls = onto_first-some x ls
+
+lines_by-append : (b : Bool) (x : ℕ) (ls ms : List (List ℕ)) → 0 < length ls → lines_by b x (ls ++ ms) ≡ lines_by b x ls ++ ms
+unfolding lines_by
+lines_by-append true x ls ms some = refl
+lines_by-append false x ls ms some = onto_first-append x ls ms some
+
+lines_by-is : (b : Bool) (x : ℕ) (ls : List (List ℕ)) → cond b ([] ∷ ls) (onto_first x ls) ≡ lines_by b x ls
+unfolding lines_by
+lines_by-is true x ls = refl
+lines_by-is false x ls = refl
+
+lines_of-some : (before : List ℕ) → 0 < length (lines_of (before ++ 10 ∷ []))
+lines_of-some [] = omega arith
+lines_of-some (x ∷ before) = rw (lines_by-is (nat_eq x 10) x (lines_of (before ++ 10 ∷ []))) (lines_by-some (nat_eq x 10) x (lines_of (before ++ 10 ∷ [])))
+
+append_ended : (before more : List ℕ) → lines_of ((before ++ 10 ∷ []) ++ more) ≡ lines_of (before ++ 10 ∷ []) ++ lines_of more
+append_ended [] more = refl
+append_ended (x ∷ before) more =
+    let ls = lines_of (before ++ 10 ∷ []) in
+    lines_by-is (nat_eq x 10) x (lines_of ((before ++ 10 ∷ []) ++ more))
+    ∙ ap (lines_by (nat_eq x 10) x) (append_ended before more)
+    ∙ lines_by-append (nat_eq x 10) x ls (lines_of more) (lines_of-some before)
+    ∙ ap (λ (ls : List (List ℕ)). ls ++ lines_of more) (sym (lines_by-is (nat_eq x 10) x ls))
+
+lines_of-append : (lines more : List ℕ) → AreEnded lines → lines_of (lines ++ more) ≡ lines_of lines ++ lines_of more
+lines_of-append lines more (inl none) = rw none refl
+lines_of-append lines more (inr some) = rw some.1 (append_ended some.0 more)
+
+all_accepted : (xs ys : List (List ℕ)) → AllByRecursion (λ (line : List ℕ). line_of line ≢ NotHexadecimal) xs → AllByRecursion (λ (line : List ℕ). line_of line ≢ NotHexadecimal) ys
+    → AllByRecursion (λ (line : List ℕ). line_of line ≢ NotHexadecimal) (xs ++ ys)
+all_accepted [] ys f g = g
+all_accepted (x ∷ xs) ys f g = (f.0, all_accepted xs ys f.1 g)
+
+accepted_both : (a b : List ℕ) → AreEnded a → AreAccepted a → AreAccepted b → AreAccepted (a ++ b)
+accepted_both a b ended f g = rw (lines_of-append a b ended) (all_accepted (lines_of a) (lines_of b) f g)
+
+ended_both : (a b : List ℕ) → AreEnded a → AreEnded b → AreEnded (a ++ b)
+ended_both a b f (inl none) = rw (none, append-nil a) f
+ended_both a b f (inr some) = inr (a ++ some.0, rw some.1 (sym (append_assoc a some.0 (10 ∷ []))))
+
 -- ---- texts
 
 events_text-append : (o : Origin) (h : History) (es fs : List Event)
@@ -165,11 +221,102 @@ performs_both es s d e f A B C joins first second = λ o h stands.
       text = rw (← script_text-append o h es s) (joins _ _ one.text two.text);
     }
 
+-- what comes of a line by some bytes, and then by others
+ends_both : (l xs ys m n : List ℕ) (status : Status) → Ends l xs Done m → Ends m ys status n → Ends l (xs ++ ys) status n
+ends_both l xs ys m n Done f g = (
+  f.0 ++ g.0,
+  sym (append_assoc l xs ys) ∙ ap (λ (bytes : List ℕ). bytes ++ ys) f.1 ∙ append_assoc f.0 m ys ∙ ap (λ (bytes : List ℕ). f.0 ++ bytes) g.1 ∙ sym (append_assoc f.0 g.0 n),
+  ended_both f.0 g.0 f.2 g.2,
+  accepted_both f.0 g.0 f.2 f.3 g.3,
+)
+ends_both l xs ys m n Refused f g = record {
+  lines = f.0 ++ g.lines;
+  line = g.line;
+  rest = g.rest;
+  are =
+      sym (append_assoc l xs ys)
+      ∙ ap (λ (bytes : List ℕ). bytes ++ ys) f.1
+      ∙ append_assoc f.0 m ys
+      ∙ ap (λ (bytes : List ℕ). f.0 ++ bytes) g.are
+      ∙ sym (append_assoc f.0 g.lines (g.line ++ g.rest));
+  ended = ended_both f.0 g.lines f.2 g.ended;
+  accepted = accepted_both f.0 g.lines f.2 f.3 g.accepted;
+  one = g.one;
+  refused = g.refused;
+}
+
+refused_further : (line rest more : List ℕ) → IsRefusedLine line rest → IsRefusedLine line (rest ++ more)
+refused_further line rest more (inl ended) = inl (ended.0, ended.1 ++ more, rw ended.2 refl)
+refused_further line rest more (inr long) = inr long
+
+-- A line that is refused is so whatever follows.
+ends_further : (l xs ys m : List ℕ) → Ends l xs Refused m → Ends l (xs ++ ys) Refused m
+ends_further l xs ys m f = record {
+  lines = f.lines;
+  line = f.line;
+  rest = f.rest ++ ys;
+  are =
+      sym (append_assoc l xs ys)
+      ∙ ap (λ (bytes : List ℕ). bytes ++ ys) f.are
+      ∙ append_assoc f.lines (f.line ++ f.rest) ys
+      ∙ ap (λ (bytes : List ℕ). f.lines ++ bytes) (append_assoc f.line f.rest ys);
+  ended = f.ended;
+  accepted = f.accepted;
+  one = f.one;
+  refused = refused_further f.line f.rest ys f.refused;
+}
+
+-- the line feed of a line that is accepted
+accepts_feed : (n : ℕ) (l : Line) → refused_from n (l ∷ []) ≡ None → l ≢ NotHexadecimal
+accepts_feed n Blank f = λ is. let z : ⊥ = cc in z
+accepts_feed n Power f = λ is. let z : ⊥ = cc in z
+accepts_feed n (Command bytes) f = λ is. let z : ⊥ = cc in z
+accepts_feed n NotHexadecimal f = absurd (none-some n (sym f))
+
+ends_feed : (l m : List ℕ) (n : ℕ) → HasNoFeed l → refused_from n (line_of l ∷ []) ≡ None → m ≡ [] → Ends l (10 ∷ []) Done m
+ends_feed l m n f accepted none = (
+  l ++ 10 ∷ [],
+  rw none (sym (append-nil (l ++ 10 ∷ []))),
+  inr (l, refl),
+  rw (ended_line l [] f) (accepts_feed n (line_of l) accepted, tt),
+)
+
+ends_feed_refused : (l m : List ℕ) → HasNoFeed l → line_of l ≡ NotHexadecimal → Ends l (10 ∷ []) Refused m
+ends_feed_refused l m f refused = record {
+  lines = [];
+  line = l;
+  rest = 10 ∷ [];
+  are = refl;
+  ended = inl refl;
+  accepted = tt;
+  one = f;
+  refused = inl (refused, [], refl);
+}
+
+pub ends_too_long : (l m : List ℕ) (byte : ℕ) → HasNoFeed l → nat_eq byte 10 ≡ false → most_digits ≤ length l → Ends l (byte ∷ []) Refused m
+ends_too_long l m byte f g le = record {
+  lines = [];
+  line = l ++ byte ∷ [];
+  rest = [];
+  are = sym (append-nil (l ++ byte ∷ []));
+  ended = inl refl;
+  accepted = tt;
+  one = no_feed-more l byte f g;
+  refused = inr (omega (arith, le, length-append l (byte ∷ [])));
+}
+
+pub ends_longer : (l : List ℕ) (byte : ℕ) → Ends l (byte ∷ []) Done (l ++ byte ∷ [])
+ends_longer l byte = ([], refl, inl refl, tt)
+
+pub ends_none : (l : List ℕ) → Ends l [] Done l
+ends_none l = ([], append-nil l, inl refl, tt)
+
 pub takes_both : (xs ys : List ℕ) (r s t : Run) (A B C : List ℕ → Type 0) (status : Status) → Joins A B C
     → Takes xs r s A Done → Takes ys s t B status → Takes (xs ++ ys) r t C status
 takes_both xs ys r s t A B C status joins f g = record {
   events = f.events ++ g.events;
   leads = leads_both (place r) (place s) (place t) xs ys f.events g.events status f.leads g.leads;
+  ends = ends_both r.line.items xs ys s.line.items t.line.items status f.ends g.ends;
   performs = performs_both f.events (record { events = g.events; refused = refused_at status t.number }) r.device s.device t.device A B C joins f.performs g.performs;
   number = omega (arith, f.number, g.number, length-append xs ys);
   open_again = g.open_again;
@@ -180,6 +327,7 @@ pub takes_further : (xs ys : List ℕ) (r s : Run) (A : List ℕ → Type 0) →
 takes_further xs ys r s A f = record {
   events = f.events;
   leads = λ more. ap (λ (bytes : List ℕ). script_at (place r) bytes) (append_assoc xs ys more) ∙ f.leads (ys ++ more);
+  ends = ends_further r.line.items xs ys s.line.items f.ends;
   performs = f.performs;
   number = omega (arith, f.number, length-append xs ys);
   open_again = tt;
@@ -198,6 +346,7 @@ takes_feed r s A Done present ended =
     record {
       events = events_from r.command (line_of r.line.items ∷ []);
       leads = leads_next (place r) (place s) present.line ended.accepted ended.place;
+      ends = ends_feed r.line.items s.line.items r.number present.line ended.accepted (ap (λ (p : Place). p.line) ended.place);
       performs = ended.performs;
       number = omega (arith, number);
       open_again = rw ended.place (record {
@@ -209,6 +358,7 @@ takes_feed r s A Done present ended =
 takes_feed r s A Refused present ended = record {
   events = [];
   leads = leads_refused (place r) (place s) present.line ended.refused ended.number;
+  ends = ends_feed_refused r.line.items s.line.items present.line ended.refused;
   performs = rw ended.number ended.performs;
   number = omega (arith, ended.number);
   open_again = tt;
@@ -263,9 +413,26 @@ pub takes_none : (r : Run) (A : List ℕ → Type 0) → A [] → IsOpen (place 
 takes_none r A none present = record {
   events = [];
   leads = leads_none (place r);
+  ends = ends_none r.line.items;
   performs = λ o h stands. record { stands = stands; text = none };
   number = omega arith;
   open_again = present;
+}
+
+-- a line that is refused, of a script from its start
+from_start : (p : Place) (bytes : List ℕ) → p ≡ start → IsRefusedIn (p.line ++ bytes) → IsRefusedIn bytes
+from_start p bytes is f = subst (λ (q : Place). IsRefusedIn (q.line ++ bytes)) is f
+
+-- no line is refused of what was taken
+pub unrefused : (bytes : List ℕ) (first r : Run) (A : List ℕ → Type 0) → place first ≡ start → Takes bytes first r A Done → IsUnrefused bytes
+unrefused bytes first r A is f = record {
+  lines = f.ends.0;
+  line = r.line.items;
+  are = subst (λ (p : Place). p.line ++ bytes ≡ f.ends.0 ++ r.line.items) is f.ends.1;
+  ended = f.ends.2;
+  accepted = f.ends.3;
+  one = f.open_again.line;
+  most = f.open_again.most;
 }
 
 pub reaches_more : (old mid new : Option (List ℕ)) (read count : ℕ) (bytes : List ℕ) (first r s : Run) (A B C : List ℕ → Type 0) → Joins A B C
@@ -308,7 +475,7 @@ answers_refused old mid new read count bytes device first r s A B C joins is sam
       record {
         read = consumes_both old mid new f.bytes bytes f.consumed consumed;
         most = omega (arith, f.count, counted, le, length-append f.bytes bytes);
-        whole = inr (over (f.bytes ++ bytes) first s C is all);
+        whole = inr (from_start (place first) (f.bytes ++ bytes) is all.ends, over (f.bytes ++ bytes) first s C is all);
       },
       answer.0,
       rw same at answer.1,

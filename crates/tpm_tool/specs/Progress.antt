@@ -1,7 +1,6 @@
 -- How far a script has been run.
-use Rattle.std.specs.Prelude.{◌≡◌, ℕ, ◌+◌, ◌≤◌, ◌==◌, false, List, [], ◌∷◌, ◌++◌, length, map, Option, Some, None}
+use Rattle.std.specs.Prelude.{◌≡◌, ℕ, ◌+◌, ◌≤◌, List, [], ◌∷◌, ◌++◌, length, map, Option, Some, None}
 use Rattle.std.specs.Io.KnownBytes.{Consumes}
-use Rattle.std.specs.List.{AllByRecursion}
 use Rattle.tpm_model.specs.Steps.{History, Origin}
 use Rattle.tpm_model.specs.Runs.{Event, after}
 use Rattle.tpm_device.specs.declared.device.Device.{Device}
@@ -12,7 +11,7 @@ use Rattle.tpm_tool.specs.declared.lines.Line.TheVariants as rust
 use Rattle.tpm_tool.specs.declared.script.Run.{Run}
 use Rattle.tpm_tool.specs.declared.status.Status.{Status}
 use Rattle.tpm_tool.specs.declared.status.Status.TheVariants.{Done, Refused}
-use Rattle.tpm_tool.specs.Script.{Line, Blank, Power, Command, NotHexadecimal, Script, lines_of, line_of, most_digits, events_from, refused_from, script_from, script_text}
+use Rattle.tpm_tool.specs.Script.{Line, Blank, Power, Command, NotHexadecimal, Script, lines_of, line_of, most_digits, HasNoFeed, AreEnded, AreAccepted, IsRefusedIn, events_from, refused_from, script_from, script_text}
 
 -- what was read of a line
 abbrev pub read_as : RustLine → Line
@@ -38,7 +37,7 @@ script_at p bytes = script_from p.number p.command (map line_of (lines_of (p.lin
 
 -- The line has not ended, and it may still be hexadecimal; a command has a line.
 pub record IsOpen (p : Place) : Type 0 where
-  pub line : AllByRecursion (λ byte. (byte == 10) ≡ false) p.line
+  pub line : HasNoFeed p.line
   pub most : length p.line ≤ most_digits
   pub command : p.command ≤ p.number
 
@@ -99,10 +98,16 @@ abbrev pub OnDone : Status → Type 0 → Type 0
 OnDone Done P = P
 OnDone Refused P = Unit {0}
 
+-- What has come of a line, and these bytes, are lines that are accepted and then what has come of the other; or a line of them is refused.
+abbrev pub Ends : (line bytes : List ℕ) → Status → List ℕ → Type 0
+Ends line bytes Done other = (lines : List ℕ) × (line ++ bytes ≡ lines ++ other) × AreEnded lines × AreAccepted lines
+Ends line bytes Refused other = IsRefusedIn (line ++ bytes)
+
 -- These bytes were taken.
 pub record Takes (bytes : List ℕ) (old new : Run) (Added : List ℕ → Type 0) (status : Status) : Type 0 where
   pub events : List Event
   pub leads : Leads (place old) bytes events status (place new)
+  pub ends : Ends old.line.items bytes status new.line.items
   pub performs : Performs (record { events = events; refused = refused_at status new.number }) old.device new.device Added
   pub number : new.number ≤ old.number + length bytes
   pub open_again : OnDone status (IsOpen (place new))

@@ -1,8 +1,9 @@
 -- What `run` prints (this profile).
-use Rattle.std.specs.Prelude.{◌≡◌, ◌⊎◌, ℕ, ◌+◌, ◌≤◌, ◌==◌, nat_lt, List, [], ◌∷◌, ◌++◌, length, map, codes, Option, Some, None, Result, Ok, Err, if◌then◌else◌}
+use Rattle.std.specs.Prelude.{◌≡◌, ◌≢◌, ◌⊎◌, ℕ, ◌+◌, ◌<◌, ◌≤◌, ◌==◌, nat_lt, false, List, [], ◌∷◌, ◌++◌, length, map, codes, Option, Some, None, Result, Ok, Err, if◌then◌else◌}
 use Rattle.std.specs.Int.{to_be_bytes, w128}
 use Rattle.std.specs.Str.{bytes_eq}
 use Rattle.std.specs.Fmt.{decimal}
+use Rattle.std.specs.List.{AllByRecursion}
 use Rattle.std.specs.Io.KnownBytes.{Consumes, IsAtEnd}
 use Rattle.tpm_wire.specs.Sources.{one_more}
 use Rattle.tpm_model.specs.Steps.{History, Origin}
@@ -48,6 +49,44 @@ line_of text =
     else if length text == 0 then Blank
     else if bytes_eq text (codes "power") then Power
     else command_in (bytes_in text)
+
+-- ---- lines that have ended
+
+-- No line feed is among these bytes.
+abbrev pub HasNoFeed : List ℕ → Type 0
+HasNoFeed line = AllByRecursion (λ byte. (byte == 10) ≡ false) line
+
+-- These bytes are lines, each with its line feed.
+abbrev pub AreEnded : List ℕ → Type 0
+AreEnded lines = (lines ≡ []) ⊎ (before : List ℕ) × (lines ≡ before ++ 10 ∷ [])
+
+abbrev pub AreAccepted : List ℕ → Type 0
+AreAccepted lines = AllByRecursion (λ line. line_of line ≢ NotHexadecimal) (lines_of lines)
+
+-- A line is refused where it ends, and at the first byte that it has too many.
+abbrev pub IsRefusedLine : (line rest : List ℕ) → Type 0
+IsRefusedLine line rest = ((line_of line ≡ NotHexadecimal) × (more : List ℕ) × (rest ≡ 10 ∷ more)) ⊎ (most_digits < length line)
+
+-- A line is refused that comes behind lines that are accepted.
+pub record IsRefusedIn (bytes : List ℕ) : Type 0 where
+  pub lines : List ℕ
+  pub line : List ℕ
+  pub rest : List ℕ
+  pub are : bytes ≡ lines ++ (line ++ rest)
+  pub ended : AreEnded lines
+  pub accepted : AreAccepted lines
+  pub one : HasNoFeed line
+  pub refused : IsRefusedLine line rest
+
+-- All lines that have ended are accepted, and the one behind them has not too many digits.
+pub record IsUnrefused (bytes : List ℕ) : Type 0 where
+  pub lines : List ℕ
+  pub line : List ℕ
+  pub are : bytes ≡ lines ++ line
+  pub ended : AreEnded lines
+  pub accepted : AreAccepted lines
+  pub one : HasNoFeed line
+  pub most : length line ≤ most_digits
 
 -- ---- what lines ask of a device, up to one that is not hexadecimal, and the number of that line, where there is one
 
@@ -116,8 +155,17 @@ CountsRead old new (Err Memory) = new ≡ old
 CountsRead old new (Err Write) = new ≡ old
 CountsRead old new (Err InputTooLong) = new ≡ old
 
--- These bytes of the input were read, not too many; and it has ended, or whatever comes makes no difference.
+-- These bytes of the input were read, not too many; and it has ended, or a line of them is refused, and whatever comes makes no difference.
 pub record ReadsScript (old new : Option (List ℕ)) (bytes : List ℕ) : Type 0 where
   pub read : Consumes old new bytes
   pub most : length bytes ≤ most_bytes
-  pub whole : IsAtEnd new ⊎ ((more : List ℕ) → script (bytes ++ more) ≡ script bytes)
+  pub whole : IsAtEnd new ⊎ IsRefusedIn bytes × ((more : List ℕ) → script (bytes ++ more) ≡ script bytes)
+
+-- One byte more was read than a script may have, and up to it no line was refused.
+pub record ReadsTooMuch (old new : Option (List ℕ)) : Type 0 where
+  pub bytes : List ℕ
+  pub more : List ℕ
+  pub read : Consumes old new (bytes ++ more)
+  pub most : length bytes ≡ most_bytes
+  pub one : length more ≡ 1
+  pub unrefused : IsUnrefused bytes

@@ -1,14 +1,14 @@
 //! The subcommand `run`.
 
 ghost use Rattle.std.specs.Prelude.{◌≡◌, ◌+◌, ◌^◌, ◌<◌, ◌++◌, ℕ, List, [], ◌∷◌, None, IfOk, OnOk, IsErrOf, length, string_bytes};
-ghost use Rattle.std.specs.Io.KnownBytes.{Appends, Consumes};
+ghost use Rattle.std.specs.Io.KnownBytes.{Appends};
 ghost use Rattle.tpm_model.specs.Steps.{History, Origin};
 ghost use Rattle.tpm_model.specs.Runs.{Given, Cycled};
 ghost use Rattle.tpm_device.specs.Commands.{has_command};
 ghost use Rattle.tpm_device.specs.Stands.{Stands};
 ghost use Rattle.tpm_tool.specs.declared.fault.ToolFault.TheVariants.{InputTooLong};
 ghost use Rattle.tpm_tool.specs.Faults.{FailsByMemoryOrWrite};
-ghost use Rattle.tpm_tool.specs.Script.{nonce_of, line_of, refused_line, script, script_text, status_for, CountsRead, ReadsScript, most_bytes};
+ghost use Rattle.tpm_tool.specs.Script.{nonce_of, line_of, refused_line, script, script_text, status_for, CountsRead, ReadsScript, ReadsTooMuch};
 ghost use Rattle.tpm_tool.specs.Progress.{place, start, IsOpen, EndsLine, Takes, Performs, AddedTo};
 
 use crate::answer::write;
@@ -129,6 +129,7 @@ impl Run {
     }
 
     // Takes the next bytes, up to a line that is refused.
+    #[tactic(auto, using(crate::proofs::Scripts::ends_none))]
     fn feed(&mut self, alloc: Global, piece: &[u8], text: &mut String) -> Result<Status, AllocError>
         requires open { IsOpen (place self.old) }
         requires number { self.old.number + length piece.now < 2 ^ 64 }
@@ -204,9 +205,7 @@ pub fn run_script<R: Source, W: Write>(
         × (status ≡ status_for (script bytes).refused)
         × ((o : Origin) (h : History) → Stands o h device →
         Appends (W.contents out.old) (W.contents out.new) (script_text has_command o h (script bytes)))) }
-    ensures too_long { IsErrOf result InputTooLong → (bytes : List ℕ)
-        × Consumes (R.coming input.old) (R.coming input.new) bytes
-        × (length bytes ≡ most_bytes + 1) }
+    ensures too_long { IsErrOf result InputTooLong → ReadsTooMuch (R.coming input.old) (R.coming input.new) }
 {
     let mut run = Run::new(alloc, device);
     let mut piece = [0; PIECE];

@@ -1,11 +1,11 @@
-use Rattle.std.proofs.Common.{◌≡◌, ◌++◌, take, refl, sym, ◌∙◌, arith, rules, drop, length, length-append, length-take-le}
+use Rattle.std.proofs.Common.{◌≡◌, [], take, refl, sym, ◌∙◌, arith, rules, drop, length, length-take-le}
 use Rattle.std.proofs.lemmas.List.{take-append-le}
 use Rattle.std.proofs.lemmas.Result.{IfOk-weaker}
-use Rattle.std.specs.Io.KnownBytes.{Appends}
+use Rattle.std.specs.Io.KnownBytes.{Appends, Consumes}
 use Rattle.tpm_buffer.proofs.Filled.{consumes_both}
 use Rattle.tpm_tool.specs.declared.status.Status.TheVariants.{Done, Refused}
-use Rattle.tpm_tool.specs.Progress.{StandsAt}
-use Rattle.tpm_tool.proofs.Scripts.{joins_appends, reaches_more, answers_at_end, answers_refused}
+use Rattle.tpm_tool.specs.Progress.{StandsAt, IsOpen, place}
+use Rattle.tpm_tool.proofs.Scripts.{joins_appends, reaches_more, takes_none, unrefused, answers_at_end, answers_refused}
 use Rattle.tpm_tool.proofs.script.run_script.Goals as goal
 
 pub returns-then-read-gt-MOST_BYTES-clause-too_long : goal.returns-then-read-gt-MOST_BYTES-clause-too_long
@@ -13,11 +13,16 @@ returns-then-read-gt-MOST_BYTES-clause-too_long g c = λ _.
     let f = c.loop-run.invariant.reaches in
     let count = c.in_ok-count.count in
     let room = c.read.new.room in
-    let len : length room ≡ c.clamp-room.result = search rules in (
-      f.bytes ++ take count room,
-      consumes_both _ _ _ f.bytes (take count room) f.consumed c.in_ok-count.ensures.bytes.0,
-      omega (arith, len, c.in_ok-count.ensures.bound.0, f.count, length-append f.bytes (take count room), length-take-le count room c.in_ok-count.ensures.bound.0),
-    )
+    let len : length room ≡ c.clamp-room.result = search rules in
+    let counted : length (take count room) ≡ count = length-take-le count room c.in_ok-count.ensures.bound.0 in
+    record {
+      bytes = f.bytes;
+      more = take count room;
+      read = consumes_both _ _ _ f.bytes (take count room) f.consumed c.in_ok-count.ensures.bytes.0;
+      most = omega (arith, len, f.count, c.in_ok-count.ensures.bound.0);
+      one = omega (arith, len, f.count, counted, c.in_ok-count.ensures.bound.0);
+      unrefused = unrefused f.bytes c.new-run.result c.loop-run.run _ c.new-run.ensures.place f.takes;
+    }
 
 pub returns-then-count-eq0-clause-ok : goal.returns-then-count-eq0-clause-ok
 unfolding StandsAt
@@ -53,4 +58,15 @@ loop-run-preserved g c =
           c.loop-run.invariant.reaches c.in_ok-count.ensures.bytes.0 (sym (length-take-le count room c.in_ok-count.ensures.bound.0)) (rw (is, take-append-le count room (drop c.clamp-room.result c.loop-run.piece) c.in_ok-count.ensures.bound.0) at c.in_ok-print.ensures.ok);
       bound = omega arith;
       failures = c.in_ok-count.ensures.count ∙ c.loop-run.invariant.failures;
+    }
+
+pub loop-run-init : goal.loop-run-init
+loop-run-init g c =
+    let consumed : Consumes (g.R.Source.coming c.args.input.now) (g.R.Source.coming c.args.input.now) [] = search rules in
+    let added : Appends (g.W.Write.contents c.args.out.now) (g.W.Write.contents c.args.out.now) [] = search rules in
+    let present : IsOpen (place c.new-run.result) = rw c.new-run.ensures.place (record { line = tt; most = omega arith; command = omega arith }) in
+    record {
+      reaches = record { bytes = []; consumed = consumed; count = refl; takes = takes_none c.new-run.result _ added present };
+      bound = omega arith;
+      failures = refl;
     }
