@@ -11,7 +11,7 @@ use Rattle.tpm_buffer.specs.declared.code.CommandCode.TheVariants as codes
 use Rattle.tpm_buffer.specs.declared.response.ReplyBody.{ReplyBody}
 use Rattle.tpm_buffer.specs.declared.response.Response.{Response}
 use Rattle.tpm_buffer.specs.declared.response.Response.TheVariants as responses
-use Rattle.tpm_buffer.specs.Replies.{reply_handles_of, parameters_of_reply}
+use Rattle.tpm_buffer.specs.Replies.{code_for_reply, reply_handles_of, parameters_of_reply}
 use Rattle.tpm_buffer.specs.Responses.{ReplyCut}
 
 -- the handle, where there is one
@@ -59,10 +59,16 @@ abbrev pub handle_list : Option ℕ → List ℕ
 handle_list None = []
 handle_list (Some n) = n ∷ []
 
--- There is a handle for a command whose response has one.
+-- There is a handle for a command whose response has one, and for no other.
 abbrev pub HasHandle : CommandCode → Option ℕ → Type 0
 HasHandle codes.StartAuthSession None = ⊥
-HasHandle code handle = Unit {0}
+HasHandle codes.StartAuthSession (Some n) = Unit {0}
+HasHandle code None = Unit {0}
+HasHandle code (Some n) = ⊥
+
+-- The reply is to this command, and has this handle.
+abbrev pub IsReplyTo : CommandCode → Option ℕ → ReplyBody → Type 0
+IsReplyTo code handle body = (code_for_reply body ≡ code) × (reply_handles_of body ≡ handle_list handle)
 
 -- ---- a response and its cut
 

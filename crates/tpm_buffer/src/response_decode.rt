@@ -1,15 +1,16 @@
 //! From bytes to a response.
 
-ghost use Rattle.std.specs.Prelude.{◌≡◌, ◌≤◌, ◌<◌, ◌↔◌, Ok, Err, length};
+ghost use Rattle.std.specs.Prelude.{◌≡◌, ◌≤◌, ◌<◌, ◌↔◌, ◌≢◌, ◌++◌, true, Ok, Err, IfOk, OnOk, length};
 ghost use Rattle.tpm_wire.specs.declared.refusal.Refusal.{Refusal as RefusalOf};
+ghost use Rattle.tpm_wire.specs.Spelling.{spelling};
 ghost use Rattle.tpm_wire.specs.Token.{at_start};
 ghost use Rattle.tpm_wire.specs.Reading.{read_all, Gives};
 ghost use Rattle.tpm_wire.specs.Buffers.{TakesNumbered};
 ghost use Rattle.tpm_wire.specs.Path.{Spells, Fault};
 ghost use Rattle.tpm_buffer.specs.declared.response.Response.{Response as ResponseOf};
 ghost use Rattle.tpm_buffer.specs.Replies.{reply_parameters};
-ghost use Rattle.tpm_buffer.specs.Responses.{with_sessions, without_sessions, reply, code_or_done, behind_code, response};
-ghost use Rattle.tpm_buffer.specs.ResponseAreas.{Stands, handle_list, HasHandle};
+ghost use Rattle.tpm_buffer.specs.Responses.{is_response_tag, goes_with, with_sessions, without_sessions, reply, code_or_done, tag_of_response, code_of_response, behind_code, response};
+ghost use Rattle.tpm_buffer.specs.ResponseAreas.{Stands, handle_list, HasHandle, IsReplyTo};
 
 use crate::code::CommandCode;
 use crate::command_header::SESSIONS;
@@ -34,7 +35,10 @@ fn read_with_sessions(
     requires short { length bytes.now ≤ 4096 }
     requires stands { Stands bytes.now cursor.old.here }
     requires handle { HasHandle code handle }
-    ensures { TakesNumbered (λ _. record { body = body.new; auths = auths.new.items }) (with_sessions (reply_parameters code (handle_list handle))) cursor.old cursor.new result }
+    ensures reads { TakesNumbered (λ _. record { body = body.new; auths = auths.new.items }) (with_sessions (reply_parameters code (handle_list handle))) cursor.old cursor.new result }
+    ensures spelled { OnOk result (cursor.old.here.rest ≡ spelling (with_sessions (reply_parameters code (handle_list handle))) (record { body = body.new; auths = auths.new.items }) ++ cursor.new.here.rest) }
+    ensures own { OnOk result (IsReplyTo code handle body.new) }
+    ensures some { OnOk result (0 < length auths.new.items) }
 {
     cursor.number(0);
     let size = take_parameter_size(cursor)? as usize;
@@ -56,7 +60,10 @@ fn read_without_sessions(
     auths: &mut ArrayVec<AuthReply, 3>,
 ) -> Result<(), Refusal>
     requires { HasHandle code handle }
-    ensures { TakesNumbered (λ _. record { body = body.new; auths = auths.new.items }) (without_sessions (reply_parameters code (handle_list handle))) cursor.old cursor.new result }
+    ensures reads { TakesNumbered (λ _. record { body = body.new; auths = auths.new.items }) (without_sessions (reply_parameters code (handle_list handle))) cursor.old cursor.new result }
+    ensures spelled { OnOk result (cursor.old.here.rest ≡ spelling (without_sessions (reply_parameters code (handle_list handle))) (record { body = body.new; auths = auths.new.items }) ++ cursor.new.here.rest) }
+    ensures own { OnOk result (IsReplyTo code handle body.new) }
+    ensures none { OnOk result (length auths.new.items ≡ 0) }
 {
     auths.clear();
     read_reply_params(cursor, code, handle, body)
@@ -72,7 +79,10 @@ fn read_reply(
 ) -> Result<(), Refusal>
     requires short { length bytes.now ≤ 4096 }
     requires stands { Stands bytes.now cursor.old.here }
-    ensures { TakesNumbered (λ _. record { body = body.new; auths = auths.new.items }) (reply code tag) cursor.old cursor.new result }
+    ensures reads { TakesNumbered (λ _. record { body = body.new; auths = auths.new.items }) (reply code tag) cursor.old cursor.new result }
+    ensures spelled { OnOk result (cursor.old.here.rest ≡ spelling (reply code tag) (record { body = body.new; auths = auths.new.items }) ++ cursor.new.here.rest) }
+    ensures some { OnOk result (tag ≡ 0x8002 → 0 < length auths.new.items) }
+    ensures none { OnOk result (tag ≢ 0x8002 → length auths.new.items ≡ 0) }
 {
     let handle = take_reply_handle(cursor, code)?;
     if tag == SESSIONS {
@@ -94,7 +104,10 @@ fn read_behind_code(
 ) -> Result<Option<ErrorCode>, Refusal>
     requires short { length bytes.now ≤ 4096 }
     requires stands { Stands bytes.now cursor.old.here }
-    ensures { TakesNumbered (λ error. code_or_done error (record { body = body.new; auths = auths.new.items })) (behind_code code tag number) cursor.old cursor.new result }
+    ensures reads { TakesNumbered (λ error. code_or_done error (record { body = body.new; auths = auths.new.items })) (behind_code code tag number) cursor.old cursor.new result }
+    ensures spelled { IfOk result (λ error. cursor.old.here.rest ≡ spelling (behind_code code tag number) (code_or_done error (record { body = body.new; auths = auths.new.items })) ++ cursor.new.here.rest) }
+    ensures number { IfOk result (λ error. code_of_response (code_or_done error (record { body = body.new; auths = auths.new.items })) ≡ number) }
+    ensures tag { IfOk result (λ error. is_response_tag tag ≡ true → goes_with tag number ≡ true → tag_of_response (code_or_done error (record { body = body.new; auths = auths.new.items })) ≡ tag) }
 {
     match ErrorCode::from_number(number) {
         Some(error) => Ok(Some(error)),
@@ -116,11 +129,13 @@ fn read_response(
     requires short { length bytes.now ≤ 4096 }
     requires number { cursor.old.number ≡ 0 }
     requires place { cursor.old.here ≡ at_start bytes.now }
-    ensures { TakesNumbered (λ error. code_or_done error (record { body = body.new; auths = auths.new.items })) (response code) cursor.old cursor.new result }
+    ensures reads { TakesNumbered (λ error. code_or_done error (record { body = body.new; auths = auths.new.items })) (response code) cursor.old cursor.new result }
+    ensures spelled { IfOk result (λ error. length cursor.new.here.rest ≡ 0 → cursor.old.here.rest ≡ spelling (response code) (code_or_done error (record { body = body.new; auths = auths.new.items }))) }
 {
     let (tag, _size) = take_front(cursor)?;
     let number = take_code(cursor, tag)?;
-    read_behind_code(cursor, bytes, tag, number, code, body, auths)
+    let error = read_behind_code(cursor, bytes, tag, number, code, body, auths)?;
+    Ok(error)
 }
 
 #[tactic(auto, unfolding(crate::specs::Responses::response))]
@@ -138,7 +153,8 @@ fn read_bytes(
     body: &mut ReplyBody,
     auths: &mut ArrayVec<AuthReply, 3>,
 ) -> Result<Option<ErrorCode>, Refusal>
-    ensures { Gives (λ error. code_or_done error (record { body = body.new; auths = auths.new.items })) (read_all (response code) bytes.now) result }
+    ensures reads { Gives (λ error. code_or_done error (record { body = body.new; auths = auths.new.items })) (read_all (response code) bytes.now) result }
+    ensures spelled { IfOk result (λ error. bytes.now ≡ spelling (response code) (code_or_done error (record { body = body.new; auths = auths.new.items }))) }
 {
     if bytes.len() > 4096 {
         return Err(refusal_of_long(code, bytes));
@@ -157,7 +173,8 @@ fn read_bytes(
 // The answer is made in the caller's place, so that its many bytes are not moved from function to function.
 #[inline(never)]
 fn decode(code: CommandCode, bytes: &[u8], answer: &mut Result<Response, Refusal>)
-    ensures { answer.new ≡ read_all (response code) bytes.now }
+    ensures reads { answer.new ≡ read_all (response code) bytes.now }
+    ensures spelled { IfOk answer.new (λ r. bytes.now ≡ spelling (response code) r) }
 {
     *answer = Ok(Response::Done {
         body: ReplyBody::Startup,
@@ -179,6 +196,7 @@ fn decode(code: CommandCode, bytes: &[u8], answer: &mut Result<Response, Refusal
 pub fn decode_response(code: CommandCode, bytes: &[u8]) -> Result<Response, Refusal>
     ensures ok { (r : ResponseOf) → (result ≡ Ok r) ↔ Spells (response code) r bytes.now }
     ensures err { (e : RefusalOf) → (result ≡ Err e) ↔ Fault (response code) bytes.now e }
+    ensures spelled { IfOk result (λ r. bytes.now ≡ spelling (response code) r) }
 {
     let mut answer = Err(Refusal { code: SIZE, at: 0 });
     decode(code, bytes, &mut answer);

@@ -1,11 +1,12 @@
 //! A response's handle and parameters (Part 3).
 
-ghost use Rattle.std.specs.Prelude.{◌≡◌, ◌+◌, ◌*◌, ◌≤◌, ◌∷◌, ◌++◌, [], IfOk, OnOk, length};
+ghost use Rattle.std.specs.Prelude.{◌≡◌, ◌+◌, ◌*◌, ◌≤◌, ◌∷◌, ◌++◌, [], Some, None, IfOk, OnOk, length};
 ghost use Rattle.tpm_wire.specs.Spelling.{spelling};
 ghost use Rattle.tpm_wire.specs.Buffers.{Takes, TakesNumbered};
+ghost use Rattle.tpm_buffer.specs.declared.code.CommandCode.TheVariants as codes;
 ghost use Rattle.tpm_buffer.specs.Replies.{session_handle, reply_handles, reply_parameters, pcr_event_reply, nv_read_reply, nv_read_public_reply, start_auth_session_reply, pcr_read_reply, policy_get_digest_reply};
 ghost use Rattle.tpm_buffer.specs.Responses.{parameter_size};
-ghost use Rattle.tpm_buffer.specs.ResponseAreas.{handle_list, HasHandle};
+ghost use Rattle.tpm_buffer.specs.ResponseAreas.{handle_list, HasHandle, IsReplyTo};
 
 use crate::code::CommandCode;
 use crate::response::{NvData, ReplyBody, StartReply};
@@ -60,6 +61,7 @@ pub(crate) fn take_reply_handle(
 #[tactic(auto, unfolding(crate::specs::Responses::parameter_size))]
 pub(crate) fn take_parameter_size(cursor: &mut Cursor<'_>) -> Result<u32, Refusal>
     ensures reads { Takes parameter_size cursor.old cursor.new result }
+    ensures spelled { IfOk result (λ n. cursor.old.here.rest ≡ spelling parameter_size n ++ cursor.new.here.rest) }
     ensures fits { IfOk result (λ n. n ≤ length cursor.new.here.rest) }
     ensures length { IfOk result (λ n. length cursor.old.here.rest ≡ 4 + length cursor.new.here.rest) }
 {
@@ -75,6 +77,7 @@ pub(crate) fn take_parameter_size(cursor: &mut Cursor<'_>) -> Result<u32, Refusa
 fn read_pcr_event(cursor: &mut Cursor<'_>, body: &mut ReplyBody) -> Result<(), Refusal>
     ensures reads { TakesNumbered (λ _. body.new) pcr_event_reply cursor.old cursor.new result }
     ensures spelled { OnOk result (cursor.old.here.rest ≡ spelling pcr_event_reply body.new ++ cursor.new.here.rest) }
+    ensures own { OnOk result (IsReplyTo codes.PcrEvent None body.new) }
 {
     cursor.number(of_parameter(1));
     *body = ReplyBody::PcrEvent(DigestValues::take(cursor)?);
@@ -85,6 +88,7 @@ fn read_pcr_event(cursor: &mut Cursor<'_>, body: &mut ReplyBody) -> Result<(), R
 fn read_nv_read(cursor: &mut Cursor<'_>, body: &mut ReplyBody) -> Result<(), Refusal>
     ensures reads { TakesNumbered (λ _. body.new) nv_read_reply cursor.old cursor.new result }
     ensures spelled { OnOk result (cursor.old.here.rest ≡ spelling nv_read_reply body.new ++ cursor.new.here.rest) }
+    ensures own { OnOk result (IsReplyTo codes.NvRead None body.new) }
 {
     cursor.number(of_parameter(1));
     *body = ReplyBody::NvRead(NvData::take(cursor)?);
@@ -95,6 +99,7 @@ fn read_nv_read(cursor: &mut Cursor<'_>, body: &mut ReplyBody) -> Result<(), Ref
 fn read_nv_read_public(cursor: &mut Cursor<'_>, body: &mut ReplyBody) -> Result<(), Refusal>
     ensures reads { TakesNumbered (λ _. body.new) nv_read_public_reply cursor.old cursor.new result }
     ensures spelled { OnOk result (cursor.old.here.rest ≡ spelling nv_read_public_reply body.new ++ cursor.new.here.rest) }
+    ensures own { OnOk result (IsReplyTo codes.NvReadPublic None body.new) }
 {
     cursor.number(of_parameter(1));
     let public = NvPublic::take(cursor)?;
@@ -112,6 +117,7 @@ fn read_start_auth_session(
 ) -> Result<(), Refusal>
     ensures reads { TakesNumbered (λ _. body.new) (start_auth_session_reply (session ∷ [])) cursor.old cursor.new result }
     ensures spelled { OnOk result (cursor.old.here.rest ≡ spelling (start_auth_session_reply (session ∷ [])) body.new ++ cursor.new.here.rest) }
+    ensures own { OnOk result (IsReplyTo codes.StartAuthSession (Some session) body.new) }
 {
     cursor.number(of_parameter(1));
     let nonce_tpm = Nonce::take(cursor)?;
@@ -123,6 +129,7 @@ fn read_start_auth_session(
 fn read_pcr_read(cursor: &mut Cursor<'_>, body: &mut ReplyBody) -> Result<(), Refusal>
     ensures reads { TakesNumbered (λ _. body.new) pcr_read_reply cursor.old cursor.new result }
     ensures spelled { OnOk result (cursor.old.here.rest ≡ spelling pcr_read_reply body.new ++ cursor.new.here.rest) }
+    ensures own { OnOk result (IsReplyTo codes.PcrRead None body.new) }
 {
     cursor.number(of_parameter(1));
     let update_counter = u32::take(cursor)?;
@@ -141,6 +148,7 @@ fn read_pcr_read(cursor: &mut Cursor<'_>, body: &mut ReplyBody) -> Result<(), Re
 fn read_policy_get_digest(cursor: &mut Cursor<'_>, body: &mut ReplyBody) -> Result<(), Refusal>
     ensures reads { TakesNumbered (λ _. body.new) policy_get_digest_reply cursor.old cursor.new result }
     ensures spelled { OnOk result (cursor.old.here.rest ≡ spelling policy_get_digest_reply body.new ++ cursor.new.here.rest) }
+    ensures own { OnOk result (IsReplyTo codes.PolicyGetDigest None body.new) }
 {
     cursor.number(of_parameter(1));
     *body = ReplyBody::PolicyGetDigest(Digest::take(cursor)?);
@@ -157,6 +165,7 @@ pub(crate) fn read_reply_params(
     requires { HasHandle code handle }
     ensures reads { TakesNumbered (λ _. body.new) (reply_parameters code (handle_list handle)) cursor.old cursor.new result }
     ensures spelled { OnOk result (cursor.old.here.rest ≡ spelling (reply_parameters code (handle_list handle)) body.new ++ cursor.new.here.rest) }
+    ensures own { OnOk result (IsReplyTo code handle body.new) }
 {
     match code {
         CommandCode::NvUndefineSpace => *body = ReplyBody::NvUndefineSpace,

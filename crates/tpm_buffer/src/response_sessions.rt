@@ -2,7 +2,7 @@
 
 ghost use Rattle.std.specs.Prelude.{◌≡◌, ◌≤◌, ◌<◌, ◌+◌, ◌^◌, ◌++◌, IfOk, length};
 ghost use Rattle.std.specs.List.{All};
-ghost use Rattle.tpm_wire.specs.Spelling.{spelling};
+ghost use Rattle.tpm_wire.specs.Spelling.{spelling, joined_all};
 ghost use Rattle.tpm_wire.specs.Buffers.{Takes, TakesNumbered};
 ghost use Rattle.tpm_types.specs.Tpms.{auth_response};
 ghost use Rattle.tpm_buffer.specs.Responses.{further_sessions, reply_sessions};
@@ -96,6 +96,7 @@ pub(crate) fn session_at<'a>(bytes: &'a [u8], at: u32) -> ReplyRef<'a>
 fn take_further_sessions(cursor: &mut Cursor<'_>, bytes: &[u8]) -> Result<ArrayVec<u32, 3>, Refusal>
     requires { Stands bytes.now cursor.old.here }
     ensures reads { TakesNumbered (λ v. sessions_at bytes.now v.items) further_sessions cursor.old cursor.new result }
+    ensures spelled { IfOk result (λ v. cursor.old.here.rest ≡ joined_all auth_response (sessions_at bytes.now v.items) ++ cursor.new.here.rest) }
     ensures sessions { IfOk result (λ v. All (IsSession bytes.now) v.items) }
     ensures few { IfOk result (λ v. length v.items ≤ 2) }
 {
@@ -116,6 +117,7 @@ pub(crate) fn take_sessions(
 ) -> Result<ArrayVec<u32, 3>, Refusal>
     requires { Stands bytes.now cursor.old.here }
     ensures reads { TakesNumbered (λ v. sessions_at bytes.now v.items) reply_sessions cursor.old cursor.new result }
+    ensures spelled { IfOk result (λ v. cursor.old.here.rest ≡ spelling reply_sessions (sessions_at bytes.now v.items) ++ cursor.new.here.rest) }
     ensures sessions { IfOk result (λ v. All (IsSession bytes.now) v.items) }
     ensures some { IfOk result (λ v. 0 < length v.items) }
 {

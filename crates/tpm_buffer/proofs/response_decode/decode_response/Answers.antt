@@ -5,7 +5,7 @@ use Rattle.tpm_buffer.specs.Responses.{response}
 use Rattle.tpm_buffer.proofs.response_decode.decode_response.Goals as goal
 
 pub returns-clause-ok : goal.returns-clause-ok
-returns-clause-ok c = answers_value buffer buffer_sound (response c.args.code) c.args.bytes.now c.decode.new.answer c.decode.ensures
+returns-clause-ok c = answers_value buffer buffer_sound (response c.args.code) c.args.bytes.now c.decode.new.answer c.decode.ensures.reads
 
 pub returns-clause-err : goal.returns-clause-err
-returns-clause-err c = answers_fault buffer buffer_sound (response c.args.code) c.args.bytes.now c.decode.new.answer c.decode.ensures
+returns-clause-err c = answers_fault buffer buffer_sound (response c.args.code) c.args.bytes.now c.decode.new.answer c.decode.ensures.reads

@@ -1,4 +1,4 @@
-use Rattle.std.proofs.Common.{◌≡◌, ◌+◌, ◌∷◌, ◌++◌, [], length, true, false, arith, inl, inr, eqb, ap, ◌∙◌}
+use Rattle.std.proofs.Common.{◌≡◌, ◌+◌, ◌∷◌, ◌++◌, [], length, true, false, arith, inl, inr, eqb, ap, sym, ◌∙◌}
 use Rattle.std.proofs.lemmas.Bool.{ne_eqb, eq-eqb}
 use Rattle.std.proofs.lemmas.List.{length-append, length-map}
 use Rattle.std.proofs.lemmas.List.Elements.{All-push}
@@ -7,7 +7,7 @@ use Rattle.tpm_wire.specs.Reading.{read, entries}
 use Rattle.tpm_wire.specs.ResponseCodes.{of_session}
 use Rattle.tpm_wire.specs.Buffers.{Place}
 use Rattle.tpm_buffer.specs.Responses.{further_sessions}
-use Rattle.tpm_wire.proofs.Loop.{at_place, goes_on, ends, is_done}
+use Rattle.tpm_wire.proofs.Loop.{at_place, goes_on, ends, is_done, joined_push}
 use Rattle.tpm_types.specs.Tpms.{auth_response}
 use Rattle.tpm_buffer.specs.ResponseAreas.{Stands, IsSession, session_at, sessions_at}
 use Rattle.tpm_buffer.proofs.Places.{stands_behind}
@@ -37,6 +37,8 @@ loop-positions-preserved c =
           (omega arith) more is c.loop-positions.invariant.so_far);
       stands = stands_behind bytes _ auth_response here after a stands is;
       sessions = rw all (All-push (IsSession bytes) positions here.at c.loop-positions.invariant.sessions begins);
+      spelled = rw (all, one_more bytes positions here.at a there) (joined_push auth_response c.args.cursor.now.here.rest here.rest after.rest (sessions_at bytes positions) a c.loop-positions.invariant.spelled
+          (sym (ap (λ (p : Place). p.here.rest) c.number.ensures) ∙ c.in_ok-take_session.ensures.spelled));
       few = rw all (omega (arith, len));
     }
 

@@ -1,5 +1,6 @@
-use Rattle.std.proofs.Common.{◌≡◌, ◌≤◌, ◌+◌, ◌-◌, [], true, length}
+use Rattle.std.proofs.Common.{◌≡◌, ◌++◌, ◌≤◌, ◌+◌, ◌-◌, [], true, length}
 use Rattle.std.specs.List.{All}
+use Rattle.tpm_wire.specs.Spelling.{joined_all}
 use Rattle.tpm_wire.specs.Reading.{read, entries}
 use Rattle.tpm_wire.specs.ResponseCodes.{of_session}
 use Rattle.tpm_types.specs.Tpms.{auth_response}
@@ -12,6 +13,7 @@ invariant-loop-positions l = record {
       ≡ entries 2 [] true (λ before. read (of_session (2 + length before)) auth_response) l.fn.cursor.here;
   stands : Stands l.bytes l.cursor.here;
   sessions : All (IsSession l.bytes) l.positions.items;
+  spelled : l.fn.cursor.here.rest ≡ joined_all auth_response (sessions_at l.bytes l.positions.items) ++ l.cursor.here.rest;
   few : length l.positions.items ≤ 2;
 }
 
