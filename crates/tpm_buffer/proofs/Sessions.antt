@@ -1,6 +1,6 @@
 -- Sessions by their positions, and the places on the way through an area.
-use Rattle.std.proofs.Common.{◌≡◌, ℕ, ◌+◌, ◌-◌, ◌≤◌, List, [], ◌∷◌, ◌++◌, length, take, drop, map, Result, Ok, Err, refl, sym, ap, ◌∙◌, append_assoc, arith}
-use Rattle.std.proofs.lemmas.List.{length-append, length-drop, length-take, drop-append-le, drop-drop, take-append-drop}
+use Rattle.std.proofs.Common.{◌≡◌, ℕ, ◌+◌, ◌≤◌, List, [], ◌∷◌, ◌++◌, length, take, drop, Result, Ok, sym, ap, ◌∙◌, arith}
+use Rattle.std.proofs.lemmas.List.{length-drop, length-take, drop-append-le, drop-drop, take-append-drop}
 use Rattle.tpm_wire.specs.declared.refusal.Refusal.{Refusal}
 use Rattle.tpm_wire.specs.Token.{Here, past, at_start, spelled_all}
 use Rattle.tpm_wire.specs.Reading.{read}

@@ -1,5 +1,5 @@
 -- Sessions and parameters take few bytes, and are read alike whatever is behind them.
-use Rattle.std.proofs.Common.{◌≡◌, ℕ, ◌+◌, ◌*◌, ◌≤◌, ◌<◌, Bool, true, false, cond, eqb, List, [], ◌++◌, length, take, drop, Result, Ok, Err, refl, sym, ap, ◌∙◌, arith}
+use Rattle.std.proofs.Common.{◌≡◌, ℕ, ◌+◌, ◌≤◌, ◌<◌, Bool, true, false, eqb, List, ◌++◌, length, take, drop, Result, Ok, Err, refl, sym, ap, ◌∙◌, arith}
 use Rattle.std.proofs.lemmas.Bool.{ne_eqb, eqb-true}
 use Rattle.std.proofs.lemmas.List.{take-append-drop, length-take, length-drop, length-append}
 use Rattle.tpm_wire.specs.declared.refusal.Refusal.{Refusal}
@@ -17,7 +17,7 @@ use Rattle.tpm_types.specs.Constants.{startup_of, startup_number, startup_type, 
 use Rattle.tpm_types.specs.Handles.{is_session, session, is_auth_session, auth_session}
 use Rattle.tpm_types.specs.Tpma.{is_session_attrs, session_attrs}
 use Rattle.tpm_types.specs.Tpm2b.{digest, salt_of, salt_size, encrypted_salt}
-use Rattle.tpm_types.specs.Tpml.{most_digests, selections, or_digests, digest_values}
+use Rattle.tpm_types.specs.Tpml.{most_digests}
 use Rattle.tpm_types.specs.Tpms.{select_bytes, selection, auth_command, nv_public_area, nv_public}
 use Rattle.tpm_types.specs.declared.tpmt.SymDef.TheVariants.{Null, Aes, Xor}
 use Rattle.tpm_types.specs.Tpmt.{digest_value, bits_of, hash_of, alg_cfb, alg_null, alg_aes, key_bits_of, key_bits_number, key_bits, algorithm, mode, sym_def}

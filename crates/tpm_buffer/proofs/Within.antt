@@ -1,18 +1,16 @@
 -- What is read from a stage on is what the bytes begin with there.
-use Rattle.std.proofs.Common.{arith, ◌≡◌, ◌+◌, ◌-◌, ◌≤◌, List, ℕ, [], ◌++◌, length, take, drop, Result, Ok, Err, sym, ap, subst, ◌∙◌, refl}
+use Rattle.std.proofs.Common.{arith, ◌≡◌, List, ℕ, length, Result, Ok, Err, sym, ap, subst, ◌∙◌, refl}
 use Rattle.std.specs.Prelude.{◌↔◌}
-use Rattle.std.proofs.lemmas.List.{length-drop, length-take, length-append, append_assoc, append-nil, drop-append-le, take-append-drop}
 use Rattle.tpm_wire.specs.declared.refusal.Refusal.{Refusal}
-use Rattle.tpm_wire.specs.Token.{Here, at_start, past, spelled_all}
+use Rattle.tpm_wire.specs.Token.{Here, at_start}
 use Rattle.tpm_wire.specs.Layout.{cut}
-use Rattle.tpm_wire.specs.Reading.{read, read_all, Gives, ◌>>=◌}
-use Rattle.tpm_wire.specs.Path.{Spells, Fault}
-use Rattle.tpm_wire.specs.Buffers.{buffer, Layout}
+use Rattle.tpm_wire.specs.Reading.{read, Gives}
+use Rattle.tpm_wire.specs.Path.{Fault}
+use Rattle.tpm_wire.specs.Buffers.{buffer}
 use Rattle.tpm_wire.proofs.Buffers.{buffer_sound}
 use Rattle.tpm_wire.proofs.Agreement.{ends_same}
 use Rattle.tpm_wire.proofs.Whole.{reads_its_path, spells_read, fault_read}
 use Rattle.tpm_wire.proofs.Cuts.{cut_read, cut_decodes}
-use Rattle.tpm_types.specs.declared.tpms.Auth.{Auth}
 use Rattle.tpm_buffer.specs.Handles.{handles}
 use Rattle.tpm_buffer.specs.Commands.{authorization, Checked, before_params}
 use Rattle.tpm_buffer.specs.CommandAreas.{HeaderCut, HandlesCut, Cut, IsHandled, HasHandles, checked, params_here, areas_view, HasCut, IsAreas, HasAreas}

@@ -1,5 +1,5 @@
 -- The handles of the commands (Part 3, the command table of each).
-use Rattle.std.specs.Prelude.{◌≡◌, ℕ, ◌+◌, ◌*◌, Bool, true, false, is_some, List, [], ◌∷◌}
+use Rattle.std.specs.Prelude.{◌≡◌, ℕ, ◌+◌, Bool, true, false, is_some, List, [], ◌∷◌}
 use Rattle.tpm_wire.specs.Buffers.{Layout, number_in, numbered}
 use Rattle.tpm_wire.specs.Layout.Form.{done, field}
 use Rattle.tpm_wire.specs.ResponseCodes.{rc_value, of_handle}

@@ -1,5 +1,5 @@
 -- The parameters of the commands (Part 3, the command table of each).
-use Rattle.std.specs.Prelude.{ℕ, ◌+◌, ◌*◌, List, [], ◌∷◌}
+use Rattle.std.specs.Prelude.{ℕ, List, [], ◌∷◌}
 use Rattle.tpm_wire.specs.Buffers.{Layout, any_number, numbered}
 use Rattle.tpm_wire.specs.ResponseCodes.{of_parameter}
 use Rattle.tpm_wire.specs.Layout.Form.{done, field}

@@ -1,4 +1,4 @@
-use Rattle.std.proofs.Common.{◌≡◌, List, Result, Ok, refl, ap, ◌∙◌, arith}
+use Rattle.std.proofs.Common.{List, Result, Ok, refl, ap, ◌∙◌, arith}
 use Rattle.tpm_wire.specs.declared.refusal.Refusal.{Refusal}
 use Rattle.tpm_wire.specs.Token.{Here}
 use Rattle.tpm_types.specs.declared.tpms.Auth.{Auth}

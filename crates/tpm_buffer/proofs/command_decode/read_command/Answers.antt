@@ -1,4 +1,4 @@
-use Rattle.std.proofs.Common.{◌≡◌, ◌++◌, [], List, ℕ, Ok, Err, Result, length, true, false, eqb, sym, ap, ◌∙◌, refl, arith}
+use Rattle.std.proofs.Common.{◌≡◌, ◌++◌, [], List, ℕ, Ok, Err, length, true, false, eqb, sym, ap, ◌∙◌, arith}
 use Rattle.std.proofs.lemmas.Bool.{ne_eqb, eq-eqb}
 use Rattle.std.proofs.lemmas.List.{append-nil, nil_from_length}
 use Rattle.std.proofs.lemmas.Result.{err_from_is_err_and}
@@ -6,13 +6,10 @@ use Rattle.tpm_wire.specs.Token.{Here, at_start}
 use Rattle.tpm_wire.specs.Reading.{read}
 use Rattle.tpm_wire.specs.Spelling.{spelling}
 use Rattle.tpm_wire.specs.Buffers.{Place}
-use Rattle.tpm_types.specs.declared.tpms.Auth.{Auth}
-use Rattle.tpm_buffer.specs.declared.command.Command.{Command}
-use Rattle.tpm_buffer.specs.declared.command.CommandBody.{CommandBody}
 use Rattle.tpm_buffer.specs.Handles.{handles}
 use Rattle.tpm_buffer.specs.Parameters.{parameters}
-use Rattle.tpm_buffer.specs.Commands.{header, authorization, body_from, with_auths, before_params, command}
-use Rattle.tpm_buffer.specs.CommandAreas.{checked, params_here}
+use Rattle.tpm_buffer.specs.Commands.{header, authorization, body_from, before_params}
+use Rattle.tpm_buffer.specs.CommandAreas.{checked}
 use Rattle.tpm_buffer.proofs.Canonical.{canonical}
 use Rattle.tpm_buffer.proofs.Staged.{areas_fault, params_fault, left_over, command_is}
 use Rattle.tpm_buffer.proofs.command_decode.read_command.Goals as goal

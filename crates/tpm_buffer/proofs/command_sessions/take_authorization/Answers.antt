@@ -1,4 +1,4 @@
-use Rattle.std.proofs.Common.{sym, subst, ap, ◌∙◌}
+use Rattle.std.proofs.Common.{sym, subst}
 use Rattle.tpm_wire.specs.Buffers.{Place}
 use Rattle.tpm_buffer.specs.Commands.{authorization_size}
 use Rattle.tpm_buffer.specs.ResponseAreas.{Stands}
