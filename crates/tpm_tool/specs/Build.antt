@@ -3,6 +3,7 @@ use Rattle.std.specs.Prelude.{◌≡◌, ◌⊎◌, ℕ, ◌+◌, ◌<◌, ◌�
 use Rattle.std.specs.Int.{to_be_bytes, w16, w32}
 use Rattle.std.specs.Str.{bytes_eq}
 use Rattle.tpm_wire.specs.declared.refusal.Refusal.{Refusal}
+use Rattle.tpm_wire.specs.ResponseCodes.{rc_command_size}
 use Rattle.tpm_wire.specs.Path.{Spells, Fault}
 use Rattle.tpm_buffer.specs.declared.code.CommandCode.{CommandCode}
 use Rattle.tpm_buffer.specs.declared.command.Command.{Command}
@@ -39,7 +40,7 @@ part_of text = if bytes_eq text (codes "-") then Some [] else bytes_in text
 
 -- COMMAND_SIZE at the size
 abbrev pub too_long : Refusal
-too_long = record { code = 0x142; at = 2 }
+too_long = record { code = rc_command_size; at = 2 }
 
 -- a command that the bytes spell is printed, and else their fault
 abbrev pub BuildsBytes : List ℕ → Status → List ℕ → Type 0

@@ -1,25 +1,25 @@
 -- What `show` prints (this profile).
 use Rattle.std.specs.Prelude.{◌≡◌, ℕ, List, length, Option, Some, None}
 use Rattle.tpm_wire.specs.declared.refusal.Refusal.{Refusal}
-use Rattle.tpm_wire.specs.Layout.{cut}
 use Rattle.tpm_wire.specs.Path.{Spells, Fault}
 use Rattle.tpm_buffer.specs.declared.code.CommandCode.{CommandCode}
 use Rattle.tpm_buffer.specs.declared.command.Command.{Command}
 use Rattle.tpm_buffer.specs.declared.response.Response.{Response}
-use Rattle.tpm_buffer.specs.Commands.{Checked, before_params, command}
+use Rattle.tpm_buffer.specs.Commands.{command}
+use Rattle.tpm_buffer.specs.CommandAreas.{Cut, HasCut}
 use Rattle.tpm_buffer.specs.Responses.{ReplyCut, reply_cut, response}
 use Rattle.tpm_tool.specs.declared.status.Status.{Status}
 use Rattle.tpm_tool.specs.declared.status.Status.TheVariants.{Done, Refused}
 use Rattle.tpm_tool.specs.Text.{bytes_in, command_text, refusal_line, not_hexadecimal_line}
 use Rattle.tpm_tool.specs.ReplyText.{response_text}
 
--- The bytes spell a command, and these are what stands before its parameters, and the parameters as they came.
-abbrev pub HasAreas : List ℕ → Checked → List ℕ → Type 0
-HasAreas bytes areas parameters = ((c : Command) × Spells command c bytes) × Spells (cut before_params) (areas, parameters) bytes
+-- The bytes spell a command, and this is it, with its parameters as they came.
+abbrev pub HasAreas : List ℕ → Cut → Type 0
+HasAreas bytes areas = ((c : Command) × Spells command c bytes) × HasCut bytes areas
 
 -- a command that the bytes spell is shown, and else their fault
 abbrev pub ShowsBytes : List ℕ → Status → List ℕ → Type 0
-ShowsBytes bytes Done text = (areas : Checked) × (parameters : List ℕ) × HasAreas bytes areas parameters × (text ≡ command_text (length bytes) areas parameters)
+ShowsBytes bytes Done text = (areas : Cut) × HasAreas bytes areas × (text ≡ command_text (length bytes) areas)
 ShowsBytes bytes Refused text = (refusal : Refusal) × Fault command bytes refusal × (text ≡ refusal_line refusal)
 
 -- The bytes spell a response to this command, and this is it, with its parameters as they came.

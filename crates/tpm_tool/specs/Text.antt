@@ -7,7 +7,7 @@ use Rattle.tpm_wire.specs.declared.refusal.Refusal.{Refusal}
 use Rattle.tpm_types.specs.declared.tpms.Auth.{Auth}
 use Rattle.tpm_buffer.specs.declared.code.CommandCode.{CommandCode}
 use Rattle.tpm_buffer.specs.Codes.{code_name}
-use Rattle.tpm_buffer.specs.Commands.{Checked}
+use Rattle.tpm_buffer.specs.CommandAreas.{Cut}
 
 -- words with a space between them, and a line feed
 abbrev pub line : List (List ℕ) → List ℕ
@@ -64,6 +64,6 @@ unfoldable pub parameters_line : List ℕ → List ℕ
 parameters_line bytes = line (codes "parameters" ∷ bytes_text bytes ∷ [])
 
 -- a command of so many bytes: what stands before its parameters, and these as they came
-unfoldable pub command_text : ℕ → Checked → List ℕ → List ℕ
-command_text size c parameters =
-    command_line c.header.code size ++ (lines_from handle_line 1 c.handles ++ (lines_from session_line 1 c.auths ++ parameters_line parameters))
+unfoldable pub command_text : ℕ → Cut → List ℕ
+command_text size c =
+    command_line c.header.code size ++ (lines_from handle_line 1 c.handles ++ (lines_from session_line 1 c.auths ++ parameters_line c.params))

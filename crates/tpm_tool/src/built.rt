@@ -12,7 +12,8 @@ use crate::status::Status;
 use crate::text::push_bytes;
 use std::alloc::{AllocError, Global};
 use std::io::Write;
-use tpm_buffer::{COMMAND_SIZE, CommandCode, NO_SESSIONS, SESSIONS, decode_command};
+use tpm_buffer::{CommandCode, NO_SESSIONS, SESSIONS, decode_command};
+use tpm_wire::response_code::COMMAND_SIZE;
 use tpm_wire::{Buffer, Refusal, put_bytes};
 
 // The bytes of a part, none for `-`, or None where it is not hexadecimal.

@@ -51,11 +51,7 @@ fn push_session(
     )
 }
 
-fn push_sessions(
-    alloc: Global,
-    text: &mut String,
-    areas: &ReplyAreas<'_>,
-) -> Result<(), AllocError>
+fn push_sessions(alloc: Global, text: &mut String, areas: &ReplyAreas<'_>) -> Result<(), AllocError>
     ensures { OnOk result (string_bytes text.new ≡ string_bytes text.old ++ lines_from reply_session_line 1 areas.now.auths) }
 {
     for before in 0..areas.auth_count() {

@@ -3,7 +3,6 @@
 ghost use Rattle.std.specs.Prelude.{◌≡◌, ℕ, List, IfOk, IfErr, string_bytes};
 ghost use Rattle.std.specs.Io.KnownBytes.{Appends};
 ghost use Rattle.tpm_wire.specs.Path.{Fault};
-ghost use Rattle.tpm_buffer.specs.Areas.{areas_view};
 ghost use Rattle.tpm_buffer.specs.Commands.{command};
 ghost use Rattle.tpm_tool.specs.Faults.{FailsByMemoryOrWrite};
 ghost use Rattle.tpm_tool.specs.Show.{HasAreas, Shows, ShowsBytes};
@@ -21,7 +20,7 @@ use tpm_wire::Refusal;
 
 // The areas of a command that the bytes spell.
 fn areas_of_command(bytes: &[u8]) -> Result<Areas<'_>, Refusal>
-    ensures ok { IfOk result (λ a. HasAreas bytes.now (areas_view a).0 a.params.now) }
+    ensures ok { IfOk result (HasAreas bytes.now) }
     ensures err { IfErr result (λ e. Fault command bytes.now e) }
 {
     decode_command(bytes)?;

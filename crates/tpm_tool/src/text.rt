@@ -1,13 +1,11 @@
 //! The program's lines.
 
 ghost use Rattle.std.specs.Prelude.{◌≡◌, ◌++◌, OnOk, string_bytes};
-ghost use Rattle.tpm_buffer.specs.Areas.{areas_view};
 ghost use Rattle.tpm_tool.specs.Text.{lines_from, refusal_line, bytes_line, command_line, handle_line, session_line, parameters_line, command_text};
 
 use crate::hexadecimal::shown_bytes;
 use std::alloc::{AllocError, Global};
-use tpm_buffer::{Areas, CommandCode};
-use tpm_types::Auth;
+use tpm_buffer::{Areas, AuthRef, CommandCode};
 use tpm_wire::Refusal;
 
 /// Adds the line of a refusal.
@@ -54,24 +52,31 @@ fn push_handles(text: &mut String, handles: &[u32]) -> Result<(), AllocError>
 }
 
 #[tactic(auto, unfolding(crate::specs::Text::session_line))]
-fn push_session(alloc: Global, text: &mut String, i: usize, auth: &Auth) -> Result<(), AllocError>
+fn push_session(
+    alloc: Global,
+    text: &mut String,
+    i: usize,
+    auth: &AuthRef<'_>,
+) -> Result<(), AllocError>
     ensures { OnOk result (string_bytes text.new ≡ string_bytes text.old ++ session_line i auth.now) }
 {
-    let session = auth.session.number();
-    let nonce = shown_bytes(alloc, auth.nonce.as_slice())?;
-    let attributes = auth.attrs.number();
-    let hmac = shown_bytes(alloc, auth.hmac.as_slice())?;
+    let session = auth.session().number();
+    let nonce = shown_bytes(alloc, auth.nonce())?;
+    let attributes = auth.attrs().number();
+    let hmac = shown_bytes(alloc, auth.hmac())?;
     writeln!(
         text,
         "session {i} {session:08x} nonce {nonce} attributes {attributes:02x} hmac {hmac}"
     )
 }
 
-fn push_sessions(alloc: Global, text: &mut String, auths: &[Auth]) -> Result<(), AllocError>
-    ensures { OnOk result (string_bytes text.new ≡ string_bytes text.old ++ lines_from session_line 1 auths.now) }
+fn push_sessions(alloc: Global, text: &mut String, areas: &Areas<'_>) -> Result<(), AllocError>
+    ensures { OnOk result (string_bytes text.new ≡ string_bytes text.old ++ lines_from session_line 1 areas.now.auths) }
 {
-    for (before, auth) in auths.iter().enumerate() {
-        push_session(alloc, text, before + 1, auth)?;
+    for before in 0..areas.auth_count() {
+        if let Some(auth) = areas.auth(before) {
+            push_session(alloc, text, before + 1, &auth)?;
+        }
     }
     Ok(())
 }
@@ -97,12 +102,11 @@ pub(crate) fn push_command(
     size: usize,
     areas: &Areas<'_>,
 ) -> Result<(), AllocError>
-    ensures { OnOk result (string_bytes text.new
-        ≡ string_bytes text.old ++ command_text size (areas_view areas.now).0 areas.now.params.now) }
+    ensures { OnOk result (string_bytes text.new ≡ string_bytes text.old ++ command_text size areas.now) }
 {
     push_name(text, areas.code(), size)?;
     push_handles(text, areas.handles())?;
-    push_sessions(alloc, text, areas.auths())?;
+    push_sessions(alloc, text, areas)?;
     push_parameters(alloc, text, areas.params())?;
     Ok(())
 }

@@ -16,8 +16,10 @@ returns c =
       c.number-attributes.ensures.value,
       c.in_ok-nonce.ensures,
       c.in_ok-hmac.ensures,
-      c.as_slice.ensures.value,
-      c.as_slice-2.ensures.value,
+      c.session.ensures,
+      c.nonce.ensures,
+      c.attrs.ensures,
+      c.hmac.ensures,
       append_assoc,
     ) at c.writeln.ensures.bytes in
     simp append_assoc written
