@@ -1,13 +1,13 @@
 //! Commands and responses in their areas, and parameters alone.
 
-use crate::checks::bytes;
+use crate::checks::{bytes, put, put_number};
 use std::process::Abort;
 use std::test::*;
 use tpm_buffer::{
     AuthRef, CommandCode, Params, ReplyRef, areas, decode_params, decode_params_into, header,
     reply_areas,
 };
-use tpm_wire::Refusal;
+use tpm_wire::{Buffer, Refusal};
 
 // NV_Read of the index 01800001 by the owner, with a password of one byte.
 const READ: &str =
@@ -60,20 +60,23 @@ fn sessions_outlive_their_areas(rt: HostRuntime) {
         &rt,
         "8002 0000002a 0000013d 00000010 00000018 02000001 0002 a1a2 20 0003 b1b2b3 03000002 0001 c1 e7 0000",
     );
-    let command = command.as_slice();
-    assert!(&rt; session(command, 2).is_none());
-    let first = session(command, 0).expect(&rt, "a session");
-    assert!(&rt; first.nonce() == [0xA1, 0xA2].as_slice());
-    assert!(&rt; first.hmac() == [0xB1, 0xB2, 0xB3].as_slice());
-    let second = session(command, 1).expect(&rt, "a session");
-    assert!(&rt; (second.session().number(), second.attrs().number()) == (0x0300_0002, 0xE7));
-    assert!(&rt; second.hmac().is_empty());
     let started = bytes(&rt, STARTED);
-    let started = started.as_slice();
-    assert!(&rt; reply_session(started, 2).is_none());
-    let first = reply_session(started, 0).expect(&rt, "a session");
-    assert!(&rt; first.attrs().number() == 0x20 && first.hmac() == [0xB1].as_slice());
-    assert!(&rt; first.nonce() == [0xA1, 0xA2].as_slice());
+    let mut all = Buffer::new();
+    for i in 0..2 {
+        let auth = session(command.as_slice(), i).expect(&rt, "a session");
+        put_number(&rt, &mut all, auth.session().number());
+        put(&rt, &mut all, auth.nonce());
+        put(&rt, &mut all, &[auth.attrs().number()]);
+        put(&rt, &mut all, auth.hmac());
+        let auth = reply_session(started.as_slice(), i).expect(&rt, "a session");
+        put(&rt, &mut all, auth.nonce());
+        put(&rt, &mut all, &[auth.attrs().number()]);
+        put(&rt, &mut all, auth.hmac());
+    }
+    let wanted = "02000001 a1a2 20 b1b2b3 a1a2 20 b1 03000002 c1 e7 01";
+    assert!(&rt; all.as_slice() == bytes(&rt, wanted).as_slice());
+    assert!(&rt; session(command.as_slice(), 2).is_none());
+    assert!(&rt; reply_session(started.as_slice(), 2).is_none());
 }
 
 // The first fault of the areas of a response to NV_Read: they judge the sessions, and no parameters.

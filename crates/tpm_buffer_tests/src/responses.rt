@@ -3,9 +3,7 @@
 use crate::checks::{bytes, put, put_number};
 use std::process::Abort;
 use std::test::*;
-use tpm_buffer::{
-    CommandCode, ErrorCode, ReplyBody, Response, decode_response, encode_response, put_code,
-};
+use tpm_buffer::{CommandCode, ReplyBody, Response, decode_response, encode_response};
 use tpm_wire::Buffer;
 
 // Values of a reply, one after the other and without their sizes, of those replies that have several of one kind.
@@ -76,15 +74,4 @@ fn replies_have_their_values_and_spell_their_bytes_again(rt: HostRuntime) {
             "{text}"
         );
     }
-}
-
-#[test]
-fn a_code_is_put_into_a_buffer(rt: HostRuntime) {
-    assert!(&rt; ErrorCode::from_number(0).is_none());
-    let mut out = Buffer::new();
-    put_code(
-        ErrorCode::from_number(0x01E).expect(&rt, "a code"),
-        &mut out,
-    );
-    assert!(&rt; out.as_slice() == bytes(&rt, "00c4 0000000a 0000001e").as_slice());
 }
