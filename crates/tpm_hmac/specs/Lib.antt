@@ -2,4 +2,3 @@ pub mod Hashes
 pub mod Hmac
 pub mod Sessions
 pub mod Hashers
-pub mod Pair

@@ -6,7 +6,6 @@ mod hashing;
 mod kdf;
 mod laws;
 mod mac;
-mod pair;
 mod session;
 #[cfg(test)]
 mod tests;
@@ -16,5 +15,4 @@ pub use hashing::hash;
 pub use kdf::kdfa;
 pub use laws::{lengths, trimmed};
 pub use mac::hmac;
-pub use pair::Pair;
-pub use session::{command_mac, response_mac};
+pub use session::{command_mac, cp_hash, response_mac, rp_hash};

@@ -1,13 +1,45 @@
-//! The MACs of sessions (Part 1, "HMAC Computation").
+//! What the HMACs of sessions are made of (Part 1, "Session-Based Authorizations").
 
 ghost use Rattle.std.specs.Prelude.{◌≡◌, ℕ, List, length};
 ghost use Rattle.tpm_types.specs.Alg.{digest_len};
+ghost use Rattle.tpm_buffer.specs.Codes.{code_number};
 ghost use Rattle.tpm_hmac.specs.Hmac.{hmac as hmac_of};
-ghost use Rattle.tpm_hmac.specs.Sessions.{whole_key, mac_text};
+ghost use Rattle.tpm_hmac.specs.Sessions.{whole_key, mac_text, cp_hash as cp_hash_of, rp_hash as rp_hash_of};
 
 use crate::bytes::trim;
+use crate::hashing::Hasher;
 use crate::mac::Mac;
-use tpm_types::{Alg, Digest, SessionAttrs};
+use tpm_buffer::CommandCode;
+use tpm_types::{Alg, Digest, Name, SessionAttrs};
+
+/// cpHash of a command: the hash of its code, the Name of each of its handles, in their order, and its parameters as they are
+/// sent (Part 1, "Command Parameter Hash (cpHash)").
+#[tactic(auto, using(crate::proofs::DigestLengths::lengths))]
+pub fn cp_hash(alg: Alg, code: CommandCode, names: &[Name], params: &[u8]) -> Digest
+    ensures value { result ≡ cp_hash_of alg (code_number code) names.now params.now }
+    ensures len { length result ≡ digest_len alg }
+{
+    let mut hasher = Hasher::new(alg);
+    hasher.update(&code.number().to_be_bytes());
+    hasher.update_names(names);
+    hasher.update(params);
+    hasher.finish()
+}
+
+/// rpHash of the response to a command with this code: the hash of the response code, which is 0, the command code, and the
+/// parameters as they are sent (Part 1, "Response Parameter Hash (rpHash)").
+#[tactic(auto, using(crate::proofs::DigestLengths::lengths))]
+pub fn rp_hash(alg: Alg, code: CommandCode, params: &[u8]) -> Digest
+    ensures value { result ≡ rp_hash_of alg (code_number code) params.now }
+    ensures len { length result ≡ digest_len alg }
+{
+    let success: u32 = 0;
+    let mut hasher = Hasher::new(alg);
+    hasher.update(&success.to_be_bytes());
+    hasher.update(&code.number().to_be_bytes());
+    hasher.update(params);
+    hasher.finish()
+}
 
 /// The MAC of a command, under the session key followed by the trimmed authorization value. `p_hash` is its cpHash, `newer`
 /// its nonceCaller, and `older` the session's nonceTPM (Part 1, "HMAC Computation").

@@ -1,48 +1,18 @@
+mod macs;
 mod vectors;
 
-use crate::{Pair, command_mac, hash, hmac, kdfa, response_mac, same, trim};
+use crate::{command_mac, hash, hmac, kdfa, response_mac, same, trim};
 use std::process::Abort;
-use tpm_types::{Alg, DIGEST_BYTES, SessionAttrs};
-use tpm_wire::Bounded;
+use tpm_types::{Alg, SessionAttrs};
 
-// The HMACs of "Hi There" under twenty bytes 0b (RFC 2202 and RFC 4231, the first test cases).
+// The HMAC of "Hi There" under twenty bytes 0b (RFC 2202, the first test case).
 const HI_THERE_SHA1: [u8; 20] = [
     0xB6, 0x17, 0x31, 0x86, 0x55, 0x05, 0x72, 0x64, 0xE2, 0x8B, 0xC0, 0xB6, 0xFB, 0x37, 0x8C, 0x8E,
     0xF1, 0x46, 0xBE, 0x00,
 ];
 
-const HI_THERE_SHA256: [u8; 32] = [
-    0xB0, 0x34, 0x4C, 0x61, 0xD8, 0xDB, 0x38, 0x53, 0x5C, 0xA8, 0xAF, 0xCE, 0xAF, 0x0B, 0xF1, 0x2B,
-    0x88, 0x1D, 0xC2, 0x00, 0xC9, 0x83, 0x3D, 0xA7, 0x26, 0xE9, 0x37, 0x6C, 0x2E, 0x32, 0xCF, 0xF7,
-];
-
-fn bounded(rt: &impl Abort, bytes: &[u8]) -> Bounded<DIGEST_BYTES> {
-    Bounded::new(bytes).expect(rt, "at most as many bytes as a digest")
-}
-
 fn attrs(rt: &impl Abort, number: u8) -> SessionAttrs {
     SessionAttrs::from_number(number).expect(rt, "no reserved bit")
-}
-
-// Whether a pair with the nonce "r" accepts this MAC over "Hi T", "he" and "e", which with its nonce make "Hi There".
-fn accepts(rt: &impl Abort, alg: Alg, mac: &[u8]) -> bool {
-    let mut pair = Pair::new(alg, bounded(rt, &[0x0B; 20]), bounded(rt, b"r"));
-    assert_eq!(rt; pair.nonce(), b"r".as_slice());
-    pair.accept(b"Hi T", b"he", attrs(rt, b'e'), mac, &bounded(rt, b"next"))
-}
-
-#[test]
-fn pair_accepts_the_whole_mac_alone(rt: HostRuntime) {
-    let mut wrong_sha1 = HI_THERE_SHA1;
-    wrong_sha1[19] = 0x01;
-    let mut wrong_sha256 = HI_THERE_SHA256;
-    wrong_sha256[31] = 0xF6;
-    assert!(rt; accepts(&rt, Alg::Sha1, &HI_THERE_SHA1));
-    assert!(rt; !accepts(&rt, Alg::Sha1, &wrong_sha1));
-    assert!(rt; !accepts(&rt, Alg::Sha1, &HI_THERE_SHA1[..19]));
-    assert!(rt; accepts(&rt, Alg::Sha256, &HI_THERE_SHA256));
-    assert!(rt; !accepts(&rt, Alg::Sha256, &wrong_sha256));
-    assert!(rt; !accepts(&rt, Alg::Sha256, &HI_THERE_SHA256[..19]));
 }
 
 #[test]
