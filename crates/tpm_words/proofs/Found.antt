@@ -92,9 +92,10 @@ unfolding clap_on_literals
 simple names = refl
 
 -- what clap met in these words is what the program says
-pub met_is : (m : ArgMatches) (program : Command) (app : App) (words : List Text) → app_of program ≡ app → is_simple app ≡ true → HasMatchesOf (app_of program) words m
-    → subcommand_rows_of m ≡ subcommand_of app words
-met_is m program app words same s has = (has (ap is_simple same ∙ s)).1 ∙ ap (λ (a : App). subcommand_of a words) same
+pub met_is : (m : ArgMatches) (program : Command) (names : Bor (List (Bor (List ℕ)))) (given words : List Text) → app_of program ≡ program_app (Names names) → HasMatchesOf (app_of program) given m → given ≡ words
+    → subcommand_rows_of m ≡ subcommand_of (program_app (Names names)) words
+met_is m program names given words same has is =
+    (has (ap is_simple same ∙ simple (Names names))).1 ∙ ap (λ (a : App). subcommand_of a given) same ∙ ap (subcommand_of (program_app (Names names))) is
 
 -- ---- words that are refused
 

@@ -1,23 +1,21 @@
-use Rattle.std.proofs.Common.{◌≡◌, ap, sym, ◌∙◌, subst, map, string_bytes, List, Option, Bool, true}
+use Rattle.std.proofs.Common.{◌≡◌, ap, sym, ◌∙◌, subst, map, string_bytes, Option}
 use Rattle.std.specs.Option.{MatchOption}
 use Rattle.std.proofs.lemmas.Result.{err_from_is_err_and}
-use Rattle.clap.specs.Walk.{Text}
 use Rattle.clap.specs.Takes.{takes}
-use Rattle.clap.specs.Simple.{App, subcommand_of, subcommand_rows_of}
+use Rattle.clap.specs.Simple.{App, subcommand_rows_of}
 use Rattle.clap.specs.declared.builder.value_parser.ValueParser.TheVariants.{Names}
 use Rattle.tpm_words.specs.declared.task.Task.{Task}
 use Rattle.tpm_words.specs.Names.{AreAllNames}
 use Rattle.tpm_words.specs.Program.{program_app}
 use Rattle.tpm_words.specs.Task.{Asks, AsksNothing}
-use Rattle.tpm_words.proofs.Found.{simple, met_is, memory_or, refuses, stops}
+use Rattle.tpm_words.proofs.Found.{met_is, memory_or, refuses, stops}
 use Rattle.tpm_words.proofs.given.Words.task.Goals as goal
 
 pub returns-in-Some-clause-ok : goal.returns-in-Some-clause-ok
 returns-in-Some-clause-ok c =
     let names = c.as_slice.result in
     let words : map string_bytes c.as_slice-2.result.now ≡ c.args.self.now = ap (map string_bytes) c.as_slice-2.ensures.value ∙ c.self.view_is in
-    let met = met_is c.in-Ok.matches c.in_ok-program.program (program_app (Names names)) (map string_bytes c.as_slice-2.result.now)
-    c.in_ok-program.ensures.0 (simple (Names names)) c.in-Ok.ensures.ok.2 ∙ ap (subcommand_of (program_app (Names names))) words in
+    let met = met_is c.in-Ok.matches c.in_ok-program.program names _ _ c.in_ok-program.ensures.0 c.in-Ok.ensures.ok.2 words in
     let asks = subst (λ (o : Option Task). MatchOption o (AsksNothing (subcommand_rows_of c.in-Ok.matches)) (λ t. Asks (subcommand_rows_of c.in-Ok.matches) t)) c.in-Some.is c.in_ok-task-in-Ok.ensures in
     (names, subst AreAllNames (sym c.as_slice.ensures.value) c.self.invariant, rw met at asks)
 
@@ -25,8 +23,7 @@ pub returns-in_err-task-in-Ok-clause-err : goal.returns-in_err-task-in-Ok-clause
 returns-in_err-task-in-Ok-clause-err c =
     let names = c.as_slice.result in
     let words : map string_bytes c.as_slice-2.result.now ≡ c.args.self.now = ap (map string_bytes) c.as_slice-2.ensures.value ∙ c.self.view_is in
-    let met = met_is c.in-Ok.matches c.in_ok-program.program (program_app (Names names)) (map string_bytes c.as_slice-2.result.now)
-    c.in_ok-program.ensures.0 (simple (Names names)) c.in-Ok.ensures.ok.2 ∙ ap (subcommand_of (program_app (Names names))) words in
+    let met = met_is c.in-Ok.matches c.in_ok-program.program names _ _ c.in_ok-program.ensures.0 c.in-Ok.ensures.ok.2 words in
     let p = err_from_is_err_and c.from_residual-in_err-task-in-Ok.result c.from_residual-in_err-task-in-Ok.ensures.1 in
     rw (p.1, p.2) (refuses c.args.self.now names c.in_err-task-in-Ok.field-0.0 (subst AreAllNames (sym c.as_slice.ensures.value) c.self.invariant)
     (memory_or c.in_err-task-in-Ok.field-0.0 (subst AsksNothing met) c.in_err-task-in-Ok.ensures))
@@ -35,8 +32,7 @@ pub returns-in-Ok-clause-err : goal.returns-in-Ok-clause-err
 returns-in-Ok-clause-err c =
     let names = c.as_slice.result in
     let words : map string_bytes c.as_slice-2.result.now ≡ c.args.self.now = ap (map string_bytes) c.as_slice-2.ensures.value ∙ c.self.view_is in
-    let met = met_is c.in-Ok.matches c.in_ok-program.program (program_app (Names names)) (map string_bytes c.as_slice-2.result.now)
-    c.in_ok-program.ensures.0 (simple (Names names)) c.in-Ok.ensures.ok.2 ∙ ap (subcommand_of (program_app (Names names))) words in
+    let met = met_is c.in-Ok.matches c.in_ok-program.program names _ _ c.in_ok-program.ensures.0 c.in-Ok.ensures.ok.2 words in
     let none = subst (λ (o : Option Task). MatchOption o (AsksNothing (subcommand_rows_of c.in-Ok.matches)) (λ t. Asks (subcommand_rows_of c.in-Ok.matches) t)) c.in-None.is c.in_ok-task-in-Ok.ensures in
     (names, subst AreAllNames (sym c.as_slice.ensures.value) c.self.invariant, λ _. subst AsksNothing met none)
 
