@@ -1,7 +1,7 @@
 -- Every command has a spelling.
-use Rattle.std.proofs.Common.{◌≡◌, ℕ, ◌+◌, ◌-◌, ◌^◌, ◌<◌, ◌≤◌, ◌⊎◌, Bool, true, false, eqb, leb, List, [], ◌∷◌, length, All, Some, refl, ap, ◌∙◌, arith, inl, inr, subst, cond, None}
+use Rattle.std.proofs.Common.{◌≡◌, ℕ, ◌+◌, ◌-◌, ◌^◌, ◌<◌, ◌≤◌, ◌⊎◌, Bool, true, false, eqb, leb, List, [], ◌∷◌, ◌++◌, length, All, Some, refl, sym, ap, ◌∙◌, arith, inl, inr, subst, cond, None}
 use Rattle.std.specs.Prelude.{◌||◌, ◌&&◌}
-use Rattle.std.proofs.lemmas.Bool.{le-leb, eq-eqb}
+use Rattle.std.proofs.lemmas.Bool.{le-leb, eq-eqb, ne_eqb}
 use Rattle.std.proofs.lemmas.List.{length-append, nil_from_length}
 use Rattle.tpm_wire.specs.Structures.{sized_bytes}
 use Rattle.tpm_wire.specs.Spelling.{spelling, Fits, IsSpelled, joined, joined_all}
@@ -18,7 +18,10 @@ use Rattle.tpm_types.specs.Tpms.{auth_command}
 use Rattle.tpm_buffer.specs.declared.code.CommandCode.{CommandCode}
 use Rattle.tpm_buffer.specs.declared.command.Command.{Command}
 use Rattle.tpm_buffer.specs.Codes.{code_of, code_number, command_code}
-use Rattle.tpm_buffer.specs.Commands.{sessions, authorization_size, authorization, tag, tag_of, command_size, code_for, rest_of, header, command}
+use Rattle.tpm_buffer.specs.declared.command.CommandBody.{CommandBody}
+use Rattle.tpm_buffer.specs.Handles.{handles}
+use Rattle.tpm_buffer.specs.Parameters.{parameters}
+use Rattle.tpm_buffer.specs.Commands.{sessions, authorization_size, authorization, tag, tag_of, command_size, code_for, handles_of, params_of, body_from, with_auths, rest_of, header, command}
 
 -- a session has at least nine bytes
 auth_long : (a : Auth) → 9 ≤ length (spelling auth_command a)
@@ -60,7 +63,7 @@ size_meant n left e least most = rw (eq-eqb n (left + 6) e, le-leb 10 n least, l
 abbrev pub IsCode : CommandCode → Type 0
 IsCode code = (code_number code < 2 ^ 32) × (code_of (code_number code) ≡ Some code)
 
-fits_command : (c : Command) → IsCode (code_for c.body) → length (spelling (rest_of (code_for c.body) (tag_of c)) c) ≤ 4000
+pub fits_command : (c : Command) → IsCode (code_for c.body) → length (spelling (rest_of (code_for c.body) (tag_of c)) c) ≤ 4000
     → ((left : ℕ) → length (spelling (rest_of (code_for c.body) (tag_of c)) c) ≤ left → Fits left (rest_of (code_for c.body) (tag_of c)) c)
     → Fits (length (spelling command c)) command c
 unfolding command header tag command_size command_code
@@ -74,3 +77,26 @@ fits_command c code short rest =
 pub encoded : (c : Command) (bytes : List ℕ) → bytes ≡ spelling command c → IsCode (code_for c.body) → length (spelling (rest_of (code_for c.body) (tag_of c)) c) ≤ 4000
     → ((left : ℕ) → length (spelling (rest_of (code_for c.body) (tag_of c)) c) ≤ left → Fits left (rest_of (code_for c.body) (tag_of c)) c) → Spells command c bytes
 encoded c bytes is code short rest = read_spells buffer buffer_sound command bytes c (ap (read_all command) is ∙ read_again buffer buffer_roomy command c (fits_command c code short rest))
+
+tag_cases : (auths : List Auth) → ((tag_by (eqb (length auths) 0) ≡ 0x8001) × (length auths ≡ 0)) ⊎ ((tag_by (eqb (length auths) 0) ≡ 0x8002) × (0 < length auths))
+tag_cases [] = inl (refl, refl)
+tag_cases (a ∷ auths) = inr (rw (ne_eqb (length (a ∷ auths)) 0 (λ e. omega (arith, e))) refl, omega arith)
+
+-- what follows the header fits, as each of its parts does
+pub fits_rest : (c : Command) → length c.auths.items ≤ 3 → All (IsSpelled auth_command) c.auths.items
+    → ((left : ℕ) → Fits left (handles (code_for c.body)) (handles_of c.body)) → ((left : ℕ) → Fits left (parameters (code_for c.body)) (params_of c.body))
+    → body_from (handles_of c.body) (params_of c.body) ≡ c.body → length (spelling (rest_of (code_for c.body) (tag_of c)) c) ≤ 4000
+    → (left : ℕ) → length (spelling (rest_of (code_for c.body) (tag_of c)) c) ≤ left → Fits left (rest_of (code_for c.body) (tag_of c)) c
+fits_rest c three each one last whole short left room =
+    let auths = c.auths.items in
+    let front = spelling (handles (code_for c.body)) (handles_of c.body) in
+    let middle = spelling (authorization (tag_of c)) auths in
+    let back = spelling (parameters (code_for c.body)) (params_of c.body) ++ [] in
+    let lengths : length (front ++ (middle ++ back)) ≡ length front + (length middle + length back) = omega (arith, length-append front (middle ++ back), length-append middle back) in
+    (
+      one left,
+      (
+        fits_authorization (tag_of c) auths (left - length front) (tag_cases auths) three each (omega (arith, short, lengths)) (omega (arith, room, lengths)),
+        (last _, ap (λ (b : CommandBody). with_auths b auths) (sym whole)),
+      ),
+    )

@@ -1,6 +1,6 @@
 //! From bytes to a command, or to its areas.
 
-ghost use Rattle.std.specs.Prelude.{◌≡◌, ◌≤◌, ◌<◌, ◌↔◌, IfOk, OnOk, Ok, Err, length};
+ghost use Rattle.std.specs.Prelude.{◌≡◌, ◌≤◌, ◌<◌, ◌↔◌, IsOk, IfOk, OnOk, Ok, Err, length};
 ghost use Rattle.tpm_wire.specs.Spelling.{spelling};
 ghost use Rattle.tpm_wire.specs.declared.refusal.Refusal.{Refusal as RefusalOf};
 ghost use Rattle.tpm_wire.specs.Reading.{read_all, Gives};
@@ -57,20 +57,29 @@ fn read_bytes(bytes: &[u8], decoded: &mut Command) -> Result<(), Refusal>
     read_command(bytes, decoded)
 }
 
-// The answer is made in the caller's place, so that its many bytes are not moved from function to function.
+// A command to read another into.
+#[inline(always)]
+fn any_command() -> Command {
+    Command {
+        body: CommandBody::Startup(StartupType::Clear),
+        auths: ArrayVec::new(),
+    }
+}
+
+// The answer is made in the place of a command that was there, so that its many bytes are not moved from function to function.
 #[inline(never)]
 fn decode(bytes: &[u8], answer: &mut Result<Command, Refusal>)
+    requires { IsOk answer.old }
     ensures reads { answer.new ≡ read_all command bytes.now }
     ensures spelled { IfOk answer.new (λ c. bytes.now ≡ spelling command c) }
 {
-    *answer = Ok(Command {
-        body: CommandBody::Startup(StartupType::Clear),
-        auths: ArrayVec::new(),
-    });
-    if let Ok(decoded) = answer {
-        if let Err(refusal) = read_bytes(bytes, decoded) {
-            *answer = Err(refusal);
+    match answer {
+        Ok(decoded) => {
+            if let Err(refusal) = read_bytes(bytes, decoded) {
+                *answer = Err(refusal);
+            }
         }
+        Err(_) => unreachable!(),
     }
 }
 
@@ -88,7 +97,7 @@ pub fn decode_command(bytes: &[u8]) -> Result<Command, Refusal>
     ensures ok { (c : CommandOf) → (result ≡ Ok c) ↔ Spells command c bytes.now }
     ensures err { (e : RefusalOf) → (result ≡ Err e) ↔ Fault command bytes.now e }
 {
-    let mut answer = Err(Refusal { code: SIZE, at: 0 });
+    let mut answer = Ok(any_command());
     decode(bytes, &mut answer);
     answer
 }
@@ -97,8 +106,8 @@ pub fn decode_command(bytes: &[u8]) -> Result<Command, Refusal>
 pub fn one_spelling(a: &[u8], b: &[u8])
     ensures { (c : CommandOf) → Spells command c a.now → Spells command c b.now → a.now ≡ b.now }
 {
-    let mut one = Err(Refusal { code: SIZE, at: 0 });
+    let mut one = Ok(any_command());
     decode(a, &mut one);
-    let mut other = Err(Refusal { code: SIZE, at: 0 });
+    let mut other = Ok(any_command());
     decode(b, &mut other);
 }

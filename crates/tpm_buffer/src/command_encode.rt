@@ -1,6 +1,6 @@
 //! From a command to its bytes.
 
-ghost use Rattle.std.specs.Prelude.{◌≡◌, ◌⊎◌, ◌≤◌, ◌<◌, ◌^◌, ◌+◌, ◌++◌, length, ℕ};
+ghost use Rattle.std.specs.Prelude.{◌≡◌, ◌≤◌, ◌+◌, ◌++◌, length, ℕ};
 ghost use Rattle.tpm_wire.specs.Spelling.{spelling, Fits};
 ghost use Rattle.tpm_wire.specs.Path.{Spells};
 ghost use Rattle.tpm_buffer.specs.Handles.{handles as handles_layout};
@@ -15,8 +15,11 @@ use tpm_wire::{Buffer, Wire, known_list, list_len, put_list};
 
 // ---- handles
 
+// They are of the command's kinds, and with its parameters they make it again.
 fn handle_numbers(body: &CommandBody) -> ArrayVec<u32, 2>
-    ensures { result.items ≡ handles_of body.now }
+    ensures value { result.items ≡ handles_of body.now }
+    ensures spelled { (left : ℕ) → Fits left (handles_layout (code_for body.now)) (handles_of body.now) }
+    ensures whole { body_from (handles_of body.now) (params_of body.now) ≡ body.now }
 {
     let mut numbers = ArrayVec::new();
     match body {
@@ -55,6 +58,8 @@ fn handle_numbers(body: &CommandBody) -> ArrayVec<u32, 2>
 fn handles_len(body: &CommandBody) -> usize
     ensures value { result ≡ length (spelling (handles_layout (code_for body.now)) (handles_of body.now)) }
     ensures fits { result ≤ 8 }
+    ensures spelled { (left : ℕ) → Fits left (handles_layout (code_for body.now)) (handles_of body.now) }
+    ensures whole { body_from (handles_of body.now) (params_of body.now) ≡ body.now }
 {
     4 * handle_numbers(body).len()
 }
@@ -70,42 +75,6 @@ fn put_handles(body: &CommandBody, out: &mut Buffer)
             one.put(out);
             two.put(out);
         }
-    }
-}
-
-// The handles of a command are of its kinds, and with its parameters they make it again.
-fn known_handles(body: &CommandBody)
-    ensures fits { (left : ℕ) → Fits left (handles_layout (code_for body.now)) (handles_of body.now) }
-    ensures whole { body_from (handles_of body.now) (params_of body.now) ≡ body.now }
-{
-    match body {
-        CommandBody::NvUndefineSpace { index } | CommandBody::NvReadPublic { index } => {
-            let _number = index.number();
-        }
-        CommandBody::NvIncrement { by, index } | CommandBody::NvRead { by, index, .. } => {
-            let _numbers = (by.number(), index.number());
-        }
-        CommandBody::PcrReset { register } => {
-            let _number = register.number();
-        }
-        CommandBody::PcrEvent { register, .. } | CommandBody::PcrExtend { register, .. } => {
-            let _number = register.number();
-        }
-        CommandBody::StartAuthSession(start) => {
-            let _number = start.bind.number();
-        }
-        CommandBody::PolicyAuthValue { session }
-        | CommandBody::PolicyCommandCode { session, .. }
-        | CommandBody::PolicyOr { session, .. }
-        | CommandBody::PolicyPcr { session, .. }
-        | CommandBody::PolicyRestart { session }
-        | CommandBody::PolicyGetDigest { session } => {
-            let _number = session.number();
-        }
-        CommandBody::NvDefineSpace { .. }
-        | CommandBody::Startup(_)
-        | CommandBody::FlushContext(_)
-        | CommandBody::PcrRead(_) => {}
     }
 }
 
@@ -135,15 +104,6 @@ fn put_authorization(tag: u16, auths: &[Auth], out: &mut Buffer)
         (list_len(auths) as u32).put(out);
         put_list(auths, out);
     }
-}
-
-fn known_authorization(tag: u16, auths: &[Auth])
-    requires count { length auths.now ≤ 3 }
-    requires tag { ((tag ≡ 0x8001) × (length auths.now ≡ 0)) ⊎ ((tag ≡ 0x8002) × (0 < length auths.now)) }
-    ensures { (left : ℕ) → length (spelling (authorization tag) auths.now) ≤ left → Fits left (authorization tag) auths.now }
-{
-    let _len = authorization_len(tag, auths);
-    known_list(auths);
 }
 
 // ---- parameters
@@ -244,12 +204,11 @@ fn known_params(body: &CommandBody)
         CommandBody::PcrEvent { event, .. } => event.known(),
         CommandBody::Startup(startup_type) => startup_type.known(),
         CommandBody::NvRead { size, offset, .. } => {
-            let _values = (*size, *offset);
+            prove!(*size <= u16::MAX);
+            prove!(*offset <= u16::MAX);
         }
         CommandBody::FlushContext(session) => session.known(),
-        CommandBody::PolicyCommandCode { code, .. } => {
-            let _value = *code;
-        }
+        CommandBody::PolicyCommandCode { code, .. } => prove!(*code <= u32::MAX),
         CommandBody::PolicyOr { digests, .. } => digests.known(),
         CommandBody::StartAuthSession(start) => {
             start.nonce_caller.known();
@@ -293,6 +252,9 @@ fn tag_for(command: &Command) -> u16
 fn rest_len(tag: u16, command: &Command) -> usize
     ensures value { result ≡ length (spelling (rest_of (code_for command.now.body) tag) command.now) }
     ensures fits { result ≤ 4000 }
+    ensures few { length command.now.auths.items ≤ 3 }
+    ensures handles { (left : ℕ) → Fits left (handles_layout (code_for command.now.body)) (handles_of command.now.body) }
+    ensures whole { body_from (handles_of command.now.body) (params_of command.now.body) ≡ command.now.body }
 {
     handles_len(&command.body)
         + authorization_len(tag, command.auths.as_slice())
@@ -306,15 +268,6 @@ fn put_rest(tag: u16, command: &Command, out: &mut Buffer)
     put_handles(&command.body, out);
     put_authorization(tag, command.auths.as_slice(), out);
     put_params(&command.body, out);
-}
-
-fn known_rest(tag: u16, command: &Command)
-    requires { tag ≡ tag_of command.now }
-    ensures { (left : ℕ) → length (spelling (rest_of (code_for command.now.body) tag) command.now) ≤ left → Fits left (rest_of (code_for command.now.body) tag) command.now }
-{
-    known_handles(&command.body);
-    known_authorization(tag, command.auths.as_slice());
-    known_params(&command.body);
 }
 
 #[tactic(auto, unfolding(crate::specs::Commands::command, crate::specs::Commands::header, crate::specs::Commands::tag, crate::specs::Commands::command_size, crate::specs::Codes::command_code))]
@@ -335,17 +288,22 @@ fn put_command(tag: u16, len: usize, command: &Command, out: &mut Buffer)
 #[inline(never)]
 fn spell(command: &Command, out: &mut Buffer)
     requires { length out.old.items ≡ 0 }
-    ensures { Spells command_layout command.now out.new.items }
+    ensures spells { Spells command_layout command.now out.new.items }
+    ensures bytes { out.new.items ≡ spelling command_layout command.now }
+    ensures fits { Fits (length out.new.items) command_layout command.now }
 {
     let tag = tag_for(command);
     let len = rest_len(tag, command);
-    known_rest(tag, command);
+    known_list(command.auths.as_slice());
+    known_params(&command.body);
     put_command(tag, len, command, out);
 }
 
 /// The bytes that spell the command: 10 to 4,096 of them, under tag 0x8001 where it has no sessions and 0x8002 else.
 pub fn encode_command(command: &Command) -> Buffer
-    ensures { Spells command_layout command.now result.items }
+    ensures spells { Spells command_layout command.now result.items }
+    ensures bytes { result.items ≡ spelling command_layout command.now }
+    ensures fits { Fits (length result.items) command_layout command.now }
 {
     let mut out = ArrayVec::new();
     spell(command, &mut out);

@@ -163,7 +163,7 @@ fn read_start_auth_session(cursor: &mut Cursor<'_>, params: &mut Params) -> Resu
     cursor.number(of_parameter(1));
     let nonce_caller = Nonce::take(cursor)?;
     cursor.number(of_parameter(2));
-    let _salt = EncryptedSalt::take(cursor)?;
+    EncryptedSalt::take(cursor)?;
     cursor.number(of_parameter(3));
     let session_type = SessionType::take(cursor)?;
     cursor.number(of_parameter(4));

@@ -1,13 +1,26 @@
-use Rattle.std.proofs.Common.{arith, ◌≤◌, ℕ, subst, length, rules}
-use Rattle.tpm_wire.specs.Spelling.{spelling, Fits}
-use Rattle.tpm_buffer.specs.Commands.{rest_of, code_for}
-use Rattle.tpm_buffer.proofs.Spelled.{encoded}
+use Rattle.std.proofs.Common.{arith, ◌≡◌, ◌≤◌, ℕ, List, All, subst, sym, ap, length, rules}
+use Rattle.tpm_wire.specs.Spelling.{spelling, Fits, IsSpelled}
+use Rattle.tpm_types.specs.declared.tpms.Auth.{Auth}
+use Rattle.tpm_types.specs.Tpms.{auth_command}
+use Rattle.tpm_buffer.specs.Commands.{rest_of, code_for, tag_of, command}
+use Rattle.tpm_buffer.proofs.Spelled.{encoded, fits_command, fits_rest}
 use Rattle.tpm_buffer.proofs.command_encode.spell.Goals as goal
 
-pub returns : goal.returns
-returns c =
+pub returns-clause-spells : goal.returns-clause-spells
+returns-clause-spells c =
     let value = c.args.command.now in
-    let is-tag = c.tag_for-tag.ensures in
-    encoded value c.put_command.new.out.items c.put_command.ensures (search rules)
-    (subst (λ (t : ℕ). length (spelling (rest_of (code_for value.body) t) value) ≤ 4000) is-tag (omega (arith, c.rest_len-len.ensures.value, c.rest_len-len.ensures.fits)))
-    (subst (λ (t : ℕ). (left : ℕ) → length (spelling (rest_of (code_for value.body) t) value) ≤ left → Fits left (rest_of (code_for value.body) t) value) is-tag c.known_rest.ensures)
+    let each : All (IsSpelled auth_command) value.auths.items = subst (λ (auths : List Auth). All (IsSpelled auth_command) auths) c.as_slice.ensures.value c.known_list.ensures in
+    let short : length (spelling (rest_of (code_for value.body) (tag_of value)) value) ≤ 4000 =
+    subst (λ (t : ℕ). length (spelling (rest_of (code_for value.body) t) value) ≤ 4000) c.tag_for-tag.ensures (omega (arith, c.rest_len-len.ensures.value, c.rest_len-len.ensures.fits)) in
+    encoded value c.put_command.new.out.items c.put_command.ensures (search rules) short
+    (fits_rest value c.rest_len-len.ensures.few each c.rest_len-len.ensures.handles c.known_params.ensures c.rest_len-len.ensures.whole short)
+
+pub returns-clause-fits : goal.returns-clause-fits
+returns-clause-fits c =
+    let value = c.args.command.now in
+    let each : All (IsSpelled auth_command) value.auths.items = subst (λ (auths : List Auth). All (IsSpelled auth_command) auths) c.as_slice.ensures.value c.known_list.ensures in
+    let short : length (spelling (rest_of (code_for value.body) (tag_of value)) value) ≤ 4000 =
+    subst (λ (t : ℕ). length (spelling (rest_of (code_for value.body) t) value) ≤ 4000) c.tag_for-tag.ensures (omega (arith, c.rest_len-len.ensures.value, c.rest_len-len.ensures.fits)) in
+    let fits : Fits (length (spelling command value)) command value =
+    fits_command value (search rules) short (fits_rest value c.rest_len-len.ensures.few each c.rest_len-len.ensures.handles c.known_params.ensures c.rest_len-len.ensures.whole short) in
+    subst (λ (n : ℕ). Fits n command value) (sym (ap length c.put_command.ensures)) fits
