@@ -92,8 +92,7 @@ fits_rest c three each one last whole short left room =
     let front = spelling (handles (code_for c.body)) (handles_of c.body) in
     let middle = spelling (authorization (tag_of c)) auths in
     let back = spelling (parameters (code_for c.body)) (params_of c.body) ++ [] in
-    let lengths : length (front ++ (middle ++ back)) ≡ length front + (length middle + length back) = omega (arith, length-append front (middle ++ back), length-append middle back) in
-    (
+    let lengths : length (front ++ (middle ++ back)) ≡ length front + (length middle + length back) = omega (arith, length-append front (middle ++ back), length-append middle back) in (
       one left,
       (
         fits_authorization (tag_of c) auths (left - length front) (tag_cases auths) three each (omega (arith, short, lengths)) (omega (arith, room, lengths)),
