@@ -32,8 +32,8 @@ static void want(int ok, const char *what) {
 
 // ---- what is worked on: a message
 
-enum { SHORT = 64, LONG = 1 << 20, KEY = 32 };
-enum { SHA1_ALG = 0x0004, SHA256_ALG = 0x000B }; // TPM_ALG_ID
+enum { SHORT = 64, LONG = 1 << 20, KEY = 32, EVENT = 4 };
+enum { SHA1_ALG = 0x0004, SHA256_ALG = 0x000B, SHA384_ALG = 0x000C }; // TPM_ALG_ID
 
 static uint8_t message[LONG];
 static uint8_t key[KEY];
@@ -46,7 +46,7 @@ struct buffer {
     uint8_t bytes[4096];
 };
 
-enum { PCR_EXTEND, PCR_READ, NV_READ, START_AUTH_SESSION, PCR_READ_REPLY, BUFFERS };
+enum { PCR_EXTEND, PCR_EXTEND_ALL, PCR_EVENT, PCR_READ, NV_READ, START_AUTH_SESSION, PCR_READ_REPLY, BUFFERS };
 static struct buffer buffers[BUFFERS];
 
 static void add(struct buffer *buffer, const char *hex) {
@@ -73,6 +73,22 @@ static void make_buffers(void) {
     add(b, "000B");
     fill(b, 32);
     want(b->len == 0x57, "the length of PCR_Extend");
+
+    b = begin(PCR_EXTEND_ALL, "8002 00000089 00000182");
+    add(b, "00000010  00000009 40000009 0000 01 0000"); // the same
+    add(b, "00000003 0004");                            // a digest for each bank
+    fill(b, 20);
+    add(b, "000B");
+    fill(b, 32);
+    add(b, "000C");
+    fill(b, 48);
+    want(b->len == 0x89, "the length of PCR_Extend in all banks");
+
+    b = begin(PCR_EVENT, "8002 00000021 0000013C");
+    add(b, "00000010  00000009 40000009 0000 01 0000"); // the same
+    add(b, "0004");
+    fill(b, EVENT);
+    want(b->len == 0x21, "the length of PCR_Event");
 
     b = begin(PCR_READ, "8001 00000014 0000017E");
     add(b, "00000001 000B 03 010000"); // register 0 of SHA-256
@@ -138,6 +154,7 @@ static void make_ready(void) {
 
 static size_t hash_sha1(size_t len, uint8_t *out) { return tpm_bench_hash(SHA1_ALG, message, len, out, OUT); }
 static size_t hash_sha256(size_t len, uint8_t *out) { return tpm_bench_hash(SHA256_ALG, message, len, out, OUT); }
+static size_t hash_sha384(size_t len, uint8_t *out) { return tpm_bench_hash(SHA384_ALG, message, len, out, OUT); }
 static size_t hmac_sha1(size_t len, uint8_t *out) { return tpm_bench_hmac(SHA1_ALG, key, KEY, message, len, out, OUT); }
 static size_t hmac_sha256(size_t len, uint8_t *out) { return tpm_bench_hmac(SHA256_ALG, key, KEY, message, len, out, OUT); }
 
@@ -149,6 +166,11 @@ static size_t libcrypto_sha1(size_t len, uint8_t *out) {
 static size_t libcrypto_sha256(size_t len, uint8_t *out) {
     SHA256_CTX hash;
     return SHA256_Init(&hash) && SHA256_Update(&hash, message, len) && SHA256_Final(out, &hash) ? SHA256_DIGEST_LENGTH : 0;
+}
+
+static size_t libcrypto_sha384(size_t len, uint8_t *out) {
+    SHA512_CTX hash;
+    return SHA384_Init(&hash) && SHA384_Update(&hash, message, len) && SHA384_Final(out, &hash) ? SHA384_DIGEST_LENGTH : 0;
 }
 
 static size_t libcrypto_hmac(const EVP_MD *md, size_t len, uint8_t *out) {
@@ -184,10 +206,20 @@ static size_t execute(size_t which, uint8_t *out) {
     return len >= 10 && memcmp(out + 6, "\0\0\0\0", 4) == 0 ? len : 0;
 }
 
-// What PCR_Extend in both banks hashes, by the library: each register's value and the digest behind it.
+// What PCR_Extend with two digests hashes, by the library: each register's value and the digest behind it.
 static size_t hashes_of_extend(size_t argument, uint8_t *out) {
     (void)argument;
     return hash_sha1(2 * SHA_DIGEST_LENGTH, out) + hash_sha256(2 * SHA256_DIGEST_LENGTH, out);
+}
+
+// The same with a digest for each bank.
+static size_t hashes_of_extend_all(size_t argument, uint8_t *out) {
+    return hashes_of_extend(argument, out) + hash_sha384(2 * SHA384_DIGEST_LENGTH, out);
+}
+
+// What PCR_Event hashes, by the library: the event for each bank, and then as PCR_Extend.
+static size_t hashes_of_event(size_t argument, uint8_t *out) {
+    return hash_sha1(EVENT, out) + hash_sha256(EVENT, out) + hash_sha384(EVENT, out) + hashes_of_extend_all(argument, out);
 }
 
 static size_t copy_buffer(size_t which, uint8_t *out) {
@@ -224,6 +256,8 @@ static struct row rows[] = {
     {"hash SHA-1, 1 MiB", LONG, {hash_sha1}, {libcrypto_sha1}},
     {"hash SHA-256, 64 bytes", SHORT, {hash_sha256}, {libcrypto_sha256}},
     {"hash SHA-256, 1 MiB", LONG, {hash_sha256}, {libcrypto_sha256}},
+    {"hash SHA-384, 64 bytes", SHORT, {hash_sha384}, {libcrypto_sha384}},
+    {"hash SHA-384, 1 MiB", LONG, {hash_sha384}, {libcrypto_sha384}},
     {"hmac SHA-1, 64 bytes", SHORT, {hmac_sha1}, {libcrypto_hmac_sha1}},
     {"hmac SHA-1, 1 MiB", LONG, {hmac_sha1}, {libcrypto_hmac_sha1}},
     {"hmac SHA-256, 64 bytes", SHORT, {hmac_sha256}, {libcrypto_hmac_sha256}},
@@ -237,6 +271,8 @@ static struct row rows[] = {
     {"encode StartAuthSession", START_AUTH_SESSION, {encode_command, TIMES}, {copy_buffer}},
     {"execute PCR_Read", PCR_READ, {execute, TIMES}, {NULL}},
     {"execute PCR_Extend", PCR_EXTEND, {execute, TIMES}, {hashes_of_extend}, 1},
+    {"execute PCR_Extend, all banks", PCR_EXTEND_ALL, {execute, TIMES}, {hashes_of_extend_all}, 1},
+    {"execute PCR_Event, 4 bytes", PCR_EVENT, {execute, TIMES}, {hashes_of_event}, 1},
     {"Framer, pieces of 1", 1, {push_frames}, {copy_stream}},
     {"Framer, pieces of 64", 64, {push_frames}, {copy_stream}},
     {"Framer, pieces of 4,096", 4096, {push_frames}, {copy_stream}},

@@ -1,4 +1,3 @@
 pub mod Kept
-pub mod Alike
 pub mod Own
 pub mod Passing

@@ -1,42 +1,39 @@
 //! A device: the order of its checks, and its actions.
 
-ghost use Rattle.std.specs.Prelude.{◌≡◌, ℕ, ◌<◌, ◌^◌, List, [], ◌∷◌, true, length, Ok, Err, IfOk, IfErr, OnOk, OnErr};
-ghost use Rattle.tpm_wire.specs.Reading.{Gives};
-ghost use Rattle.tpm_types.specs.declared.tpms.Auth.{Auth as AuthOf};
+ghost use Rattle.std.specs.Prelude.{◌≡◌, ℕ, ◌<◌, List, [], ◌∷◌, true, length, Ok, Err, IfOk, IfErr, OnOk, OnErr};
+ghost use Rattle.tpm_types.specs.declared.tpms.Auth.{Auth};
 ghost use Rattle.tpm_types.specs.declared.handle_sets.PcrOrNull.{PcrOrNull as PcrOrNullOf};
-ghost use Rattle.tpm_buffer.specs.declared.code.CommandCode.{CommandCode as CodeOf};
 ghost use Rattle.tpm_buffer.specs.declared.command.CommandBody.TheVariants as bodies;
-ghost use Rattle.tpm_buffer.specs.declared.response.ReplyBody.TheVariants as replies;
 ghost use Rattle.tpm_buffer.specs.Handles.{first as first_of};
 ghost use Rattle.tpm_buffer.specs.Parameters.{params_code};
 ghost use Rattle.tpm_buffer.specs.Commands.{with_auths, body_from};
 ghost use Rattle.tpm_buffer.specs.Responses.{Reply};
 ghost use Rattle.tpm_model.specs.Steps.{History, Accepted, PowerCycle, Origin};
-ghost use Rattle.tpm_model.specs.Present.{present};
 ghost use Rattle.tpm_model.specs.Entities.{entity_of, auth_value as auth_value_of};
-ghost use Rattle.tpm_model.specs.Authorization.{check_proof, password_reply as password_reply_of};
+ghost use Rattle.tpm_model.specs.Authorization.{password_reply as password_reply_of};
 ghost use Rattle.tpm_model.specs.Actions.{action, check_startup, check_extend, check_reset};
-ghost use Rattle.tpm_model.specs.Answers.{proof_in, presented, permitted, performed, outcome, answered, answer, next, with_outcome};
+ghost use Rattle.tpm_model.specs.Answers.{presented as presented_of, permitted as permitted_of, performed as performed_of, outcome as outcome_of, answered, answer, next, with_outcome};
 ghost use Rattle.tpm_model.specs.Premises.{code_in};
 ghost use Rattle.tpm_device.specs.Commands.{has_command};
-ghost use Rattle.tpm_device.specs.Passwords.{by_password, replies_to as replies_of};
-ghost use Rattle.tpm_device.specs.Stands.{Stands, holds, IsMet, IsRead, presented_in, presented_by, reply_bytes, given, replied, told};
+ghost use Rattle.tpm_device.specs.Passwords.{check_password as password_checked, check_sessions as sessions_checked, replies_to as replies_of};
+ghost use Rattle.tpm_device.specs.Stands.{Stands, holds, IsRead, IsPermitted, event_answer, presented_in, reply_bytes, given, replied, told};
 
 use crate::checks::{check_first, check_handles, check_has, check_started, check_tag};
-use crate::codes::{BAD_AUTH, PARAMETER_1, SESSION_1};
 use crate::handles::{first, register, register_or_null};
 use tpm_buffer::{
-    Areas, ErrorCode, Handled, Params, ReplyBody, decode_params_into, header, put_code, put_reply,
+    Areas, AuthRef, ErrorCode, Event, Params, ReplyBody, decode_params_into, header, put_code,
+    put_reply,
 };
 use tpm_hmac::{same, trim};
-use tpm_store::Registers;
+use tpm_store::{Registers, event_digests};
 use tpm_types::{
-    Auth, AuthReply, AuthValue, DigestValues, Digests, PcrIndex, PcrOrNull, RH_OWNER, Selections,
-    SessionAttrs, StartupType, VALUE,
+    AuthReply, AuthValue, DigestValues, Digests, PcrIndex, PcrOrNull, RH_OWNER, Selections,
+    SessionAttrs, StartupType,
 };
+use tpm_wire::response_code::{BAD_AUTH, VALUE, of_parameter, of_session};
 use tpm_wire::{Buffer, Duplicate};
 
-/// A device of this profile, with the commands TPM2_Startup, TPM2_PCR_Read, TPM2_PCR_Extend and TPM2_PCR_Reset.
+/// A device of this profile, with the commands TPM2_Startup, TPM2_PCR_Read, TPM2_PCR_Extend, TPM2_PCR_Event and TPM2_PCR_Reset.
 #[derive(Drop)]
 pub struct Device {
     owner: AuthValue,
@@ -59,47 +56,18 @@ fn password_reply() -> AuthReply
     }
 }
 
-// Adds the reply to a command with these sessions.
-fn put_done(body: &ReplyBody, auths: &[Auth], out: &mut Buffer)
+// Adds the reply to a command with these areas.
+#[inline(never)]
+fn put_done(body: &ReplyBody, areas: &Areas<'_>, out: &mut Buffer)
     requires { length out.old.items ≡ 0 }
-    ensures bytes { out.new.items ≡ reply_bytes (record { body = body.now; auths = replies_of auths.now }) }
+    ensures bytes { out.new.items ≡ reply_bytes (record { body = body.now; auths = replies_of areas.now.auths }) }
     ensures done { code_in out.new.items ≡ 0 }
 {
-    if auths.is_empty() {
+    if areas.auth_count() == 0 {
         put_reply(body, &[], out);
     } else {
         put_reply(body, &[password_reply()], out);
     }
-}
-
-// Adds the reply to TPM2_Startup with these sessions.
-#[inline(never)]
-fn put_started(auths: &[Auth], out: &mut Buffer)
-    requires { length out.old.items ≡ 0 }
-    ensures bytes { out.new.items ≡ reply_bytes (record { body = replies.Startup; auths = replies_of auths.now }) }
-    ensures done { code_in out.new.items ≡ 0 }
-{
-    put_done(&ReplyBody::Startup, auths, out);
-}
-
-// Adds the reply to TPM2_PCR_Extend with these sessions.
-#[inline(never)]
-fn put_extended(auths: &[Auth], out: &mut Buffer)
-    requires { length out.old.items ≡ 0 }
-    ensures bytes { out.new.items ≡ reply_bytes (record { body = replies.PcrExtend; auths = replies_of auths.now }) }
-    ensures done { code_in out.new.items ≡ 0 }
-{
-    put_done(&ReplyBody::PcrExtend, auths, out);
-}
-
-// Adds the reply to TPM2_PCR_Reset with these sessions.
-#[inline(never)]
-fn put_reset(auths: &[Auth], out: &mut Buffer)
-    requires { length out.old.items ≡ 0 }
-    ensures bytes { out.new.items ≡ reply_bytes (record { body = replies.PcrReset; auths = replies_of auths.now }) }
-    ensures done { code_in out.new.items ≡ 0 }
-{
-    put_done(&ReplyBody::PcrReset, auths, out);
 }
 
 // Adds the response that is this code.
@@ -115,8 +83,8 @@ fn put_refusal(code: u32, out: &mut Buffer)
 }
 
 impl Device {
-    /// A device that is not started. The owner has this authorization value, and no counter of the device has had a greater value
-    /// than this.
+    /// A device that is not started. The owner has this authorization value, of at most 48 bytes, and no counter of the device has
+    /// had a greater value than this.
     pub fn new(owner: &AuthValue, greatest: u64) -> Self
         ensures { Stands (record { owner = owner.now; greatest = greatest }) [] result }
     {
@@ -146,35 +114,32 @@ impl Device {
         &[]
     }
 
-    // The checks of the sessions before the password.
-    fn check_sessions(&self, auths: &[Auth]) -> Result<(), u32>
-        ensures { (code : CodeOf) (handles params : List ℕ) →
-            Gives (λ x. by_password (entity_of (holds self.now) (first_of handles)) auths.now) (proof_in (holds self.now) code handles params auths.now) result }
+    // BAD_AUTH unless the password is that of what the first handle names.
+    fn check_password(&self, handle: u32, auth: &AuthRef<'_>) -> Result<(), u32>
+        ensures { result ≡ password_checked (entity_of (holds self.now) handle) auth.now }
     {
-        match auths {
-            [] => Ok(()),
-            [auth, others @ ..] => check_first(auth, others),
+        if !same(trim(auth.hmac()), self.auth_value(handle)) {
+            return Err(BAD_AUTH + of_session(1));
         }
+        Ok(())
     }
 
-    // The password, if there is one, is that of what the first handle names.
-    fn check_password(&self, handles: &[u32], auths: &[Auth]) -> Result<(), u32>
-        ensures { result ≡ check_proof (entity_of (holds self.now) (first_of handles.now)) (by_password (entity_of (holds self.now) (first_of handles.now)) auths.now) }
+    // The checks of the sessions, which are the last before the parameters.
+    fn check_sessions(&self, areas: &Areas<'_>) -> Result<(), u32>
+        ensures { result ≡ sessions_checked (entity_of (holds self.now) (first_of areas.now.handles)) areas.now.auths }
     {
-        match auths {
-            [] => Ok(()),
-            [auth, ..] => {
-                if !same(trim(auth.hmac.as_slice()), self.auth_value(first(handles))) {
-                    return Err(BAD_AUTH + SESSION_1);
-                }
-                Ok(())
+        match areas.auth(0) {
+            None => Ok(()),
+            Some(auth) => {
+                check_first(&auth, areas.auth_count())?;
+                self.check_password(first(areas.handles()), &auth)
             }
         }
     }
 
-    // The checks before the authorization area, and what was read.
-    fn read_handles<'a>(&self, bytes: &'a [u8]) -> Result<Handled<'a>, u32>
-        ensures reads { IsMet (holds self.now) (presented has_command (holds self.now) bytes.now) result }
+    // The checks by the grammar, and those before the authorization area.
+    fn presented<'a>(&self, bytes: &'a [u8]) -> Result<Areas<'a>, u32>
+        ensures reads { IsRead (holds self.now) (presented_of has_command (holds self.now) bytes.now) result }
         ensures has { IfOk result (λ x. has_command x.header.code ≡ true) }
     {
         let headed = header(bytes).map_err(|refusal| refusal.code)?;
@@ -185,22 +150,24 @@ impl Device {
         let handled = headed.handles().map_err(|refusal| refusal.code)?;
         check_handles(handled.list())?;
         check_tag(code, tag)?;
-        Ok(handled)
+        let areas = handled.areas().map_err(|refusal| refusal.code)?;
+        Ok(areas)
     }
 
-    // The checks of the sessions, which are the last before the parameters.
-    fn permit(&self, areas: &Areas<'_>) -> Result<(), u32>
-        ensures { (bytes : List ℕ) → IsRead (holds self.now) (presented has_command (holds self.now) bytes) (Ok areas.now) →
-            permitted has_command (holds self.now) bytes ≡ presented_by (holds self.now) areas.now result }
+    // All checks before the parameters.
+    fn permitted<'a>(&self, bytes: &'a [u8]) -> Result<Areas<'a>, u32>
+        ensures reads { IsPermitted (holds self.now) (permitted_of has_command (holds self.now) bytes.now) result }
+        ensures has { IfOk result (λ x. has_command x.header.code ≡ true) }
     {
-        self.check_sessions(areas.auths())?;
-        self.check_password(areas.handles(), areas.auths())
+        let areas = self.presented(bytes)?;
+        self.check_sessions(&areas)?;
+        Ok(areas)
     }
 
-    // TPM2_Startup (Part 3, TPM2_Startup).
+    // TPM2_Startup (Part 3, 9.3).
     fn start(&mut self, kind: StartupType) -> Result<(), u32>
         ensures answer { result ≡ check_startup kind }
-        ensures stands { OnOk result ((o : Origin) (h : History) (auths : List AuthOf) (r : Reply) (n : List ℕ) → Stands o h self.old →
+        ensures stands { OnOk result ((o : Origin) (h : History) (auths : List Auth) (r : Reply) (n : List ℕ) → Stands o h self.old →
             Stands o (Accepted (with_auths (bodies.Startup kind) auths) r n ∷ h) self.new) }
         ensures refused { OnErr result (self.new ≡ self.old) }
         ensures some { IfErr result (λ code. 0 < code) }
@@ -211,14 +178,14 @@ impl Device {
                 self.registers = Registers::new();
                 Ok(())
             }
-            StartupType::State => Err(VALUE + PARAMETER_1),
+            StartupType::State => Err(VALUE + of_parameter(1)),
         }
     }
 
-    // TPM2_PCR_Extend (Part 3, TPM2_PCR_Extend).
+    // TPM2_PCR_Extend (Part 3, 22.2).
     fn extend(&mut self, register: PcrOrNull, digests: &DigestValues) -> Result<(), u32>
         ensures answer { result ≡ check_extend register }
-        ensures stands { OnOk result ((o : Origin) (h : History) (auths : List AuthOf) (r : Reply) (n : List ℕ) → Stands o h self.old →
+        ensures stands { OnOk result ((o : Origin) (h : History) (auths : List Auth) (r : Reply) (n : List ℕ) → Stands o h self.old →
             Stands o (Accepted (with_auths (bodies.PcrExtend register digests.now) auths) r n ∷ h) self.new) }
         ensures refused { OnErr result (self.new ≡ self.old) }
         ensures some { IfErr result (λ code. 0 < code) }
@@ -232,10 +199,27 @@ impl Device {
         }
     }
 
-    // TPM2_PCR_Reset (Part 3, TPM2_PCR_Reset).
+    // TPM2_PCR_Event (Part 3, 22.3).
+    fn event(&mut self, register: PcrOrNull, event: &Event) -> Result<DigestValues, u32>
+        ensures answer { result ≡ event_answer register event.now }
+        ensures stands { OnOk result ((o : Origin) (h : History) (auths : List Auth) (r : Reply) (n : List ℕ) → Stands o h self.old →
+            Stands o (Accepted (with_auths (bodies.PcrEvent register event.now) auths) r n ∷ h) self.new) }
+        ensures refused { OnErr result (self.new ≡ self.old) }
+        ensures some { IfErr result (λ code. 0 < code) }
+    {
+        match register {
+            PcrOrNull::Pcr(register) => {
+                let digests = self.registers.event(register, event.as_slice())?;
+                Ok(digests)
+            }
+            PcrOrNull::Null => Ok(event_digests(event.as_slice())),
+        }
+    }
+
+    // TPM2_PCR_Reset (Part 3, 22.8).
     fn reset(&mut self, register: PcrIndex) -> Result<(), u32>
         ensures answer { result ≡ check_reset register }
-        ensures stands { OnOk result ((o : Origin) (h : History) (auths : List AuthOf) (r : Reply) (n : List ℕ) → Stands o h self.old →
+        ensures stands { OnOk result ((o : Origin) (h : History) (auths : List Auth) (r : Reply) (n : List ℕ) → Stands o h self.old →
             Stands o (Accepted (with_auths (bodies.PcrReset register) auths) r n ∷ h) self.new) }
         ensures refused { OnErr result (self.new ≡ self.old) }
         ensures some { IfErr result (λ code. 0 < code) }
@@ -244,12 +228,11 @@ impl Device {
         Ok(())
     }
 
-    // TPM2_PCR_Read (Part 3, TPM2_PCR_Read), and its reply with these sessions.
+    // TPM2_PCR_Read (Part 3, 22.4), and its reply.
     #[inline(never)]
-    fn read(&self, selections: &Selections, auths: &[Auth], out: &mut Buffer)
+    fn read(&self, selections: &Selections, areas: &Areas<'_>, out: &mut Buffer)
         requires { length out.old.items ≡ 0 }
-        ensures answer { (o : Origin) (h : History) (n : List ℕ) → Stands o h self.now →
-            Ok out.new.items ≡ replied (replies_of auths.now) (action (present o h) (bodies.PcrRead selections.now) n) }
+        ensures answer { (n : List ℕ) → Ok out.new.items ≡ replied (replies_of areas.now.auths) (action (holds self.now) (bodies.PcrRead selections.now) n) }
         ensures done { code_in out.new.items ≡ 0 }
     {
         let mut body = ReplyBody::PcrRead {
@@ -265,23 +248,16 @@ impl Device {
         {
             self.registers.select_into(selections, read, digests);
         }
-        put_done(&body, auths, out);
+        put_done(&body, areas, out);
     }
 
-    // The action of a command that the device has, and the reply to it with these sessions.
-    fn act(
-        &mut self,
-        handles: &[u32],
-        params: &Params,
-        auths: &[Auth],
-        out: &mut Buffer,
-    ) -> Result<(), u32>
+    // The action of a command that the device has, and the reply to it.
+    fn act(&mut self, areas: &Areas<'_>, params: &Params, out: &mut Buffer) -> Result<(), u32>
         requires has { has_command (params_code params.now) ≡ true }
         requires empty { length out.old.items ≡ 0 }
-        ensures answer { (o : Origin) (h : History) (n : List ℕ) → Stands o h self.old →
-            given out.new.items result ≡ replied (replies_of auths.now) (action (present o h) (body_from handles.now params.now) n) }
+        ensures answer { (n : List ℕ) → given out.new.items result ≡ replied (replies_of areas.now.auths) (action (holds self.old) (body_from areas.now.handles params.now) n) }
         ensures stands { OnOk result ((o : Origin) (h : History) (r : Reply) (n : List ℕ) → Stands o h self.old →
-            Stands o (Accepted (with_auths (body_from handles.now params.now) auths.now) r n ∷ h) self.new) }
+            Stands o (Accepted (with_auths (body_from areas.now.handles params.now) areas.now.auths) r n ∷ h) self.new) }
         ensures refused { OnErr result (self.new ≡ self.old) }
         ensures none { OnErr result (out.new ≡ out.old) }
         ensures done { OnOk result (code_in out.new.items ≡ 0) }
@@ -290,31 +266,33 @@ impl Device {
         match params {
             Params::Startup(kind) => {
                 self.start(*kind)?;
-                put_started(auths, out);
+                put_done(&ReplyBody::Startup, areas, out);
             }
             Params::PcrExtend(digests) => {
-                self.extend(register_or_null(first(handles)), digests)?;
-                put_extended(auths, out);
+                self.extend(register_or_null(first(areas.handles())), digests)?;
+                put_done(&ReplyBody::PcrExtend, areas, out);
+            }
+            Params::PcrEvent(event) => {
+                let digests = self.event(register_or_null(first(areas.handles())), event)?;
+                put_done(&ReplyBody::PcrEvent(digests), areas, out);
             }
             Params::PcrReset => {
-                self.reset(register(first(handles)))?;
-                put_reset(auths, out);
+                self.reset(register(first(areas.handles())))?;
+                put_done(&ReplyBody::PcrReset, areas, out);
             }
-            Params::PcrRead(selections) => self.read(selections, auths, out),
+            Params::PcrRead(selections) => self.read(selections, areas, out),
             _ => unreachable!(),
         }
         Ok(())
     }
 
     // The parameters, the action and the reply.
-    fn perform(&mut self, areas: &Areas<'_>, out: &mut Buffer) -> Result<(), u32>
+    fn performed(&mut self, areas: &Areas<'_>, out: &mut Buffer) -> Result<(), u32>
         requires has { has_command areas.now.header.code ≡ true }
-        requires short { length areas.now.params.now < 2 ^ 32 }
         requires empty { length out.old.items ≡ 0 }
-        ensures answer { (o : Origin) (h : History) (n : List ℕ) → Stands o h self.old →
-            given out.new.items result ≡ told (performed (present o h) n (presented_in (holds self.old) areas.now)) }
+        ensures answer { (n : List ℕ) → given out.new.items result ≡ told (performed_of (holds self.old) n (presented_in (holds self.old) areas.now)) }
         ensures stands { (o : Origin) (h : History) (n : List ℕ) → Stands o h self.old →
-            Stands o (with_outcome h n (performed (present o h) n (presented_in (holds self.old) areas.now))) self.new }
+            Stands o (with_outcome h n (performed_of (holds self.old) n (presented_in (holds self.old) areas.now))) self.new }
         ensures refused { OnErr result (self.new ≡ self.old) }
         ensures none { OnErr result (out.new ≡ out.old) }
         ensures done { OnOk result (code_in out.new.items ≡ 0) }
@@ -322,41 +300,34 @@ impl Device {
     {
         let mut params = Params::PolicyRestart;
         match decode_params_into(areas.code(), areas.params(), &mut params) {
-            Ok(()) => self.act(areas.handles(), &params, areas.auths(), out),
+            Ok(()) => self.act(areas, &params, out),
             Err(refusal) => Err(refusal.code),
         }
     }
 
     // The reply, or the code of the first check that fails.
-    fn respond(&mut self, bytes: &[u8], out: &mut Buffer) -> Result<(), u32>
+    fn outcome(&mut self, bytes: &[u8], out: &mut Buffer) -> Result<(), u32>
         requires empty { length out.old.items ≡ 0 }
-        ensures answer { (o : Origin) (h : History) (n : List ℕ) → Stands o h self.old → given out.new.items result ≡ told (outcome has_command (present o h) bytes.now n) }
-        ensures stands { (o : Origin) (h : History) (n : List ℕ) → Stands o h self.old → Stands o (next has_command o h bytes.now n) self.new }
+        ensures answer { (n : List ℕ) → given out.new.items result ≡ told (outcome_of has_command (holds self.old) bytes.now n) }
+        ensures stands { (o : Origin) (h : History) (n : List ℕ) → Stands o h self.old → Stands o (with_outcome h n (outcome_of has_command (holds self.old) bytes.now n)) self.new }
         ensures refused { OnErr result (self.new ≡ self.old) }
         ensures none { OnErr result (out.new ≡ out.old) }
         ensures done { OnOk result (code_in out.new.items ≡ 0) }
         ensures some { IfErr result (λ code. 0 < code) }
     {
-        let handled = self.read_handles(bytes)?;
-        let mut areas = Areas::default();
-        match handled.areas_into(&mut areas) {
-            Ok(()) => {
-                self.permit(&areas)?;
-                self.perform(&areas, out)
-            }
-            Err(refusal) => Err(refusal.code),
-        }
+        let areas = self.permitted(bytes)?;
+        self.performed(&areas, out)
     }
 
     // The response: the reply, or the code alone.
     #[inline(never)]
-    fn respond_always(&mut self, bytes: &[u8], out: &mut Buffer)
+    fn answer(&mut self, bytes: &[u8], out: &mut Buffer)
         requires empty { length out.old.items ≡ 0 }
-        ensures answer { (o : Origin) (h : History) (n : List ℕ) → Stands o h self.old → out.new.items ≡ answer has_command o h bytes.now n }
-        ensures stands { (o : Origin) (h : History) (n : List ℕ) → Stands o h self.old → Stands o (next has_command o h bytes.now n) self.new }
+        ensures answer { (n : List ℕ) → out.new.items ≡ answered (outcome_of has_command (holds self.old) bytes.now n) }
+        ensures stands { (o : Origin) (h : History) (n : List ℕ) → Stands o h self.old → Stands o (with_outcome h n (outcome_of has_command (holds self.old) bytes.now n)) self.new }
         ensures refused { 0 < code_in out.new.items → self.new ≡ self.old }
     {
-        if let Err(code) = self.respond(bytes, out) {
+        if let Err(code) = self.outcome(bytes, out) {
             put_refusal(code, out);
         }
     }
@@ -375,7 +346,7 @@ impl Device {
         ensures refused { 0 < code_in result.items → self.new ≡ self.old }
     {
         let mut out = Buffer::new();
-        self.respond_always(bytes, &mut out);
+        self.answer(bytes, &mut out);
         out
     }
 }

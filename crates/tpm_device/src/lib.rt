@@ -2,9 +2,7 @@
 #![tactic(auto)]
 
 mod checks;
-mod codes;
 mod device;
 mod handles;
 
-pub use codes::{AUTH_CONTEXT, AUTH_MISSING, INITIALIZE};
 pub use device::Device;
