@@ -1,4 +1,4 @@
-//! Sources that give little, fail, end early, or do not end.
+//! Sources that give little, fail, or end early.
 
 ghost use Rattle.std.specs.Prelude.{None};
 
@@ -61,31 +61,5 @@ impl Source for OneByOne<'_> {
 
     fn failures(&self) -> u64 {
         self.failures
-    }
-}
-
-/// The same byte without end.
-#[derive(Drop)]
-pub struct Endless {
-    pub byte: u8,
-    pub reads: usize,
-}
-
-impl Source for Endless {
-    ghost coming = { λ _. None };
-
-    ghost failed = { λ _. 0 };
-
-    fn read(&mut self, room: &mut [u8]) -> Result<usize, ReadFailed> {
-        self.reads = self.reads.saturating_add(1);
-        if room.is_empty() {
-            return Ok(0);
-        }
-        room[0] = self.byte;
-        Ok(1)
-    }
-
-    fn failures(&self) -> u64 {
-        0
     }
 }
