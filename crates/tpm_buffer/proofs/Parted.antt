@@ -6,13 +6,13 @@ use Rattle.tpm_wire.specs.declared.refusal.Refusal.{Refusal}
 use Rattle.tpm_wire.specs.Token.{number_of, Here, past, at_start, or_fault}
 use Rattle.tpm_wire.specs.Layout.{Form, raw, either}
 use Rattle.tpm_wire.specs.Reading.{read, read_all, finish, unless, refuse, ◌>>=◌}
-use Rattle.tpm_wire.specs.Buffers.{buffer, Layout, size_code, too_few}
+use Rattle.tpm_wire.specs.Buffers.{buffer, Layout, too_few}
 use Rattle.tpm_wire.specs.Path.{Spells}
 use Rattle.tpm_wire.proofs.Agreement.{bind_ok, number_ok}
 use Rattle.tpm_wire.proofs.Buffers.{buffer_sound, buffer_roomy}
 use Rattle.tpm_wire.proofs.Whole.{spells_read, read_spells}
 use Rattle.tpm_types.specs.Handles.{session, is_session}
-use Rattle.tpm_wire.specs.ResponseCodes.{rc_value}
+use Rattle.tpm_wire.specs.ResponseCodes.{rc_size, rc_value}
 use Rattle.tpm_buffer.specs.declared.code.CommandCode.{CommandCode}
 use Rattle.tpm_buffer.specs.declared.code.CommandCode.TheVariants as codes
 use Rattle.tpm_buffer.specs.declared.response.ReplyBody.{ReplyBody}
@@ -35,14 +35,14 @@ ok_is x y e = cc
 nothing_left : {A : Type 0} (x y : A × Here) → finish buffer x ≡ Ok y → length x.1.rest ≡ 0
 nothing_left {A = A} x y e = go (eqb (length x.1.rest) 0) refl e
   where
-    go : (b : Bool) → eqb (length x.1.rest) 0 ≡ b → cond b (ok x) (refuse buffer 0 size_code x.1) ≡ ok y → length x.1.rest ≡ 0
+    go : (b : Bool) → eqb (length x.1.rest) 0 ≡ b → cond b (ok x) (refuse buffer 0 rc_size x.1) ≡ ok y → length x.1.rest ≡ 0
     go true t e = eqb-true _ _ t
     go false t e = absurd cc
 
 finish_is : {A : Type 0} (x y : A × Here) → finish buffer x ≡ Ok y → x ≡ y
 finish_is {A = A} x y e = go (eqb (length x.1.rest) 0) e
   where
-    go : (b : Bool) → cond b (ok x) (refuse buffer 0 size_code x.1) ≡ ok y → x ≡ y
+    go : (b : Bool) → cond b (ok x) (refuse buffer 0 rc_size x.1) ≡ ok y → x ≡ y
     go true e = ok_is x y e
     go false e = absurd (let z : ⊥ = cc in z)
 
@@ -80,22 +80,22 @@ alike R (Err e) f g next = never R e (err e)
 -- An area's bytes, whatever is in it, are so many bytes.
 area_or_raw : {A B C : Type 0} (R : A → B → Type 0) (n : ℕ) (l : Layout C) (h : Here) (f : C × Here → Result (A × Here) Refusal) (g : List ℕ × Here → Result (B × Here) Refusal)
     → ((c : C) → read_all l (take n h.rest) ≡ Ok c → Follows R (f (c, past n h)) (g (take n h.rest, past n h)))
-    → Follows R (read 0 (Form.area n size_code l) h >>= f) (read {r = buffer} 0 (raw n) h >>= g)
+    → Follows R (read 0 (Form.area n rc_size l) h >>= f) (read {r = buffer} 0 (raw n) h >>= g)
 area_or_raw {A = A} {B = B} {C = C} R n l h f g next = room (too_few 0 h.at n (length h.rest))
   where
     within : Here
     within = record { rest = take n h.rest; at = h.at }
 
-    end : (c : C × Here) (t : Bool) → read 0 l within ≡ Ok c → eqb (length c.1.rest) 0 ≡ t → Follows R (cond t (ok (c.0, past n h)) (refuse buffer 0 size_code c.1) >>= f) (g (take n h.rest, past n h))
+    end : (c : C × Here) (t : Bool) → read 0 l within ≡ Ok c → eqb (length c.1.rest) 0 ≡ t → Follows R (cond t (ok (c.0, past n h)) (refuse buffer 0 rc_size c.1) >>= f) (g (take n h.rest, past n h))
     end c true is none = next c.0 (read_whole l within c is (eqb-true _ _ none))
     end c false is some = never R _ (g (take n h.rest, past n h))
 
-    inside : (o : Result (C × Here) Refusal) → read 0 l within ≡ o → Follows R ((o >>= λ x. cond (eqb (length x.1.rest) 0) (ok (x.0, past n h)) (refuse buffer 0 size_code x.1)) >>= f) (g (take n h.rest, past n h))
+    inside : (o : Result (C × Here) Refusal) → read 0 l within ≡ o → Follows R ((o >>= λ x. cond (eqb (length x.1.rest) 0) (ok (x.0, past n h)) (refuse buffer 0 rc_size x.1)) >>= f) (g (take n h.rest, past n h))
     inside (Ok c) is = end c (eqb (length c.1.rest) 0) is refl
     inside (Err e) is = never R e (g (take n h.rest, past n h))
 
     room : (t : Option ℕ) → Follows R
-        (unless buffer t 0 h (read 0 l within >>= λ x. cond (eqb (length x.1.rest) 0) (ok (x.0, past n h)) (refuse buffer 0 size_code x.1)) >>= f)
+        (unless buffer t 0 h (read 0 l within >>= λ x. cond (eqb (length x.1.rest) 0) (ok (x.0, past n h)) (refuse buffer 0 rc_size x.1)) >>= f)
         (unless buffer t 0 h (ok (take n h.rest, past n h)) >>= g)
     room (Some fault) = never R _ _
     room None = inside (read 0 l within) refl

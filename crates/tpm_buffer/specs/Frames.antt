@@ -2,6 +2,7 @@
 use Rattle.std.specs.Prelude.{◌≡◌, ℕ, ◌<◌, ◌≤◌, ◌⊎◌, List, [], ◌++◌, length, take, drop, All}
 use Rattle.std.specs.List.{concat}
 use Rattle.tpm_wire.specs.declared.refusal.Refusal.{Refusal}
+use Rattle.tpm_wire.specs.ResponseCodes.{rc_command_size}
 use Rattle.tpm_wire.specs.Token.{number_of}
 use Rattle.tpm_buffer.specs.declared.framer.Status.{Status}
 use Rattle.tpm_buffer.specs.declared.framer.Status.TheVariants.{More, Ready, Broken}
@@ -27,7 +28,7 @@ pub record IsBroken (bytes : List ℕ) : Type 0 where
 
 -- the refusal of such a size (TPM_RC_COMMAND_SIZE; this profile)
 abbrev pub bad_size : Refusal
-bad_size = record { code = 0x142; at = 2 }
+bad_size = record { code = rc_command_size; at = 2 }
 
 -- More has to come before there is a frame.
 pub record IsPart (bytes : List ℕ) : Type 0 where

@@ -1,12 +1,11 @@
 -- A response to a given command: a header, and where its code is 0 a handle, parameters and sessions (Part 1, 18.2; Part 2, 6.9).
 use Rattle.std.specs.Prelude.{◌≡◌, ℕ, ◌+◌, Bool, true, not, List, [], ◌∷◌, length, Option, Some, None, nat_le, ◌==◌, ◌||◌, if◌then◌else◌}
-use Rattle.tpm_wire.specs.Buffers.{Layout, number_in, numbered, size_code}
+use Rattle.tpm_wire.specs.Buffers.{Layout, number_in, numbered}
 use Rattle.tpm_wire.specs.Layout.{raw, remaining, either}
 use Rattle.tpm_wire.specs.Layout.Form.{done, number, field, area, list}
-use Rattle.tpm_wire.specs.ResponseCodes.{of_session}
+use Rattle.tpm_wire.specs.ResponseCodes.{rc_bad_tag, rc_size, rc_value, of_session}
 use Rattle.tpm_wire.specs.Spelling.{spelling}
 use Rattle.tpm_types.specs.declared.tpms.AuthReply.{AuthReply}
-use Rattle.tpm_types.specs.Codes.{value_code}
 use Rattle.tpm_types.specs.Tpms.{auth_response}
 use Rattle.tpm_buffer.specs.declared.code.CommandCode.{CommandCode}
 use Rattle.tpm_buffer.specs.declared.response.ReplyBody.{ReplyBody}
@@ -23,14 +22,14 @@ abbrev pub is_response_tag : ℕ → Bool
 is_response_tag n = n == 0x8001 || n == 0x8002 || n == 0x00C4
 
 unfoldable pub response_tag : Layout ℕ
-response_tag = number_in 2 is_response_tag 0x01E
+response_tag = number_in 2 is_response_tag rc_bad_tag
 
 -- With sessions the code is 0; under TPM_ST_RSP_COMMAND it is TPM_RC_BAD_TAG, which has no other tag.
 abbrev pub goes_with : ℕ → ℕ → Bool
-goes_with t n = if t == 0x8002 then n == 0 else if t == 0x00C4 then n == 0x01E else not (n == 0x01E)
+goes_with t n = if t == 0x8002 then n == 0 else if t == 0x00C4 then n == rc_bad_tag else not (n == rc_bad_tag)
 
 unfoldable pub response_code : ℕ → Layout ℕ
-response_code t = number_in 4 (goes_with t) value_code
+response_code t = number_in 4 (goes_with t) rc_value
 
 -- the tag, and the number of bytes of the buffer
 unfoldable pub response_front : Layout (ℕ × ℕ)
@@ -60,7 +59,7 @@ reply_sessions =
 
 -- how many bytes the parameters have, of those that are left
 unfoldable pub parameter_size : Layout ℕ
-parameter_size = number 4 (λ left n. if nat_le n left then Some n else None) (λ n. n) size_code
+parameter_size = number 4 (λ left n. if nat_le n left then Some n else None) (λ n. n) rc_size
 
 -- the reply, and the sessions where the tag has them
 pub record Reply : Type 0 where
@@ -70,7 +69,7 @@ pub record Reply : Type 0 where
 unfoldable pub with_sessions : Layout ReplyBody → Layout Reply
 with_sessions parameters =
     field (λ r. length (spelling parameters r.body)) parameter_size (λ n.
-    field (λ r. r.body) (area n size_code parameters) (λ body.
+    field (λ r. r.body) (area n rc_size parameters) (λ body.
     field (λ r. r.auths) reply_sessions (λ auths.
     done (record { body = body; auths = auths }))))
 
@@ -97,7 +96,7 @@ reply_tag [] = 0x8001
 reply_tag (a ∷ others) = 0x8002
 
 abbrev pub code_tag : ℕ → ℕ
-code_tag n = if n == 0x01E then 0x00C4 else 0x8001
+code_tag n = if n == rc_bad_tag then 0x00C4 else 0x8001
 
 abbrev pub tag_of_response : Response → ℕ
 tag_of_response (responses.Code n) = code_tag n

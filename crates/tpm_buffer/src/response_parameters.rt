@@ -131,16 +131,24 @@ fn read_pcr_read(cursor: &mut Cursor<'_>, body: &mut ReplyBody) -> Result<(), Re
     ensures spelled { OnOk result (cursor.old.here.rest ≡ spelling pcr_read_reply body.new ++ cursor.new.here.rest) }
     ensures own { OnOk result (IsReplyTo codes.PcrRead None body.new) }
 {
-    cursor.number(of_parameter(1));
-    let update_counter = u32::take(cursor)?;
-    cursor.number(of_parameter(2));
-    let selections = Selections::take(cursor)?;
-    cursor.number(of_parameter(3));
     *body = ReplyBody::PcrRead {
+        update_counter: 0,
+        selections: Selections::default(),
+        digests: Digests::default(),
+    };
+    if let ReplyBody::PcrRead {
         update_counter,
         selections,
-        digests: Digests::take(cursor)?,
-    };
+        digests,
+    } = body
+    {
+        cursor.number(of_parameter(1));
+        *update_counter = u32::take(cursor)?;
+        cursor.number(of_parameter(2));
+        selections.read(cursor)?;
+        cursor.number(of_parameter(3));
+        digests.read(cursor)?;
+    }
     Ok(())
 }
 
