@@ -19,60 +19,78 @@ use tpm_types::{
 /// A handle that can have one value alone, as TPM_RH_OWNER of NV_DefineSpace, has no field.
 #[derive(Drop)]
 pub enum CommandBody {
+    /// TPM2_NV_UndefineSpace (Part 3, 31.4).
     NvUndefineSpace {
         index: NvIndex,
     },
+    /// TPM2_NV_DefineSpace (Part 3, 31.3).
     NvDefineSpace {
         auth: AuthValue,
         public: NvPublic,
     },
+    /// TPM2_NV_Increment (Part 3, 31.8).
     NvIncrement {
         by: NvAuthHandle,
         index: NvIndex,
     },
+    /// TPM2_PCR_Event (Part 3, 22.3).
     PcrEvent {
         register: PcrOrNull,
         event: Event,
     },
+    /// TPM2_PCR_Reset (Part 3, 22.8).
     PcrReset {
         register: PcrIndex,
     },
+    /// TPM2_Startup (Part 3, 9.3).
     Startup(StartupType),
+    /// TPM2_NV_Read (Part 3, 31.13).
     NvRead {
         by: NvAuthHandle,
         index: NvIndex,
         size: u16,
         offset: u16,
     },
+    /// TPM2_FlushContext (Part 3, 28.4).
     FlushContext(SessionHandle),
+    /// TPM2_NV_ReadPublic (Part 3, 31.6).
     NvReadPublic {
         index: NvIndex,
     },
+    /// TPM2_PolicyAuthValue (Part 3, 23.17).
     PolicyAuthValue {
         session: PolicyHandle,
     },
+    /// TPM2_PolicyCommandCode (Part 3, 23.11).
     PolicyCommandCode {
         session: PolicyHandle,
         code: u32,
     },
+    /// TPM2_PolicyOR (Part 3, 23.6).
     PolicyOr {
         session: PolicyHandle,
         digests: OrDigests,
     },
+    /// TPM2_StartAuthSession (Part 3, 11.1).
     StartAuthSession(StartAuth),
+    /// TPM2_PCR_Read (Part 3, 22.4).
     PcrRead(Selections),
+    /// TPM2_PolicyPCR (Part 3, 23.7).
     PolicyPcr {
         session: PolicyHandle,
         pcr_digest: Digest,
         selections: Selections,
     },
+    /// TPM2_PolicyRestart (Part 3, 11.2).
     PolicyRestart {
         session: PolicyHandle,
     },
+    /// TPM2_PCR_Extend (Part 3, 22.2).
     PcrExtend {
         register: PcrOrNull,
         digests: DigestValues,
     },
+    /// TPM2_PolicyGetDigest (Part 3, 23.19).
     PolicyGetDigest {
         session: PolicyHandle,
     },
@@ -95,7 +113,7 @@ pub struct Command {
     pub auths: ArrayVec<Auth, 3>,
 }
 
-/// What a command begins with (Part 1, 18.1): the tag, the number of bytes of the buffer, and the code.
+/// What a command begins with (Part 1, "Command/Response Structure"): the tag, the number of bytes of the buffer, and the code.
 #[derive(Clone, Copy, Debug, Drop, PartialEq, Eq)]
 pub struct Header {
     pub tag: u16,
