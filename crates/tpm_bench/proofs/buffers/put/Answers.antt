@@ -7,4 +7,4 @@ pub returns-clause-spelled : goal.returns-clause-spelled
 returns-clause-spelled c =
     let all : take c.append.result c.append.new.out ≡ c.encode_command-encoded.result.items =
     ap (λ n. take n c.append.new.out) c.append.ensures.count ∙ c.append.ensures.bytes ∙ c.as_slice.ensures.value in
-    subst (Spells command c.args.command.now) (sym all) c.encode_command-encoded.ensures
+    subst (Spells command c.args.command.now) (sym all) c.encode_command-encoded.ensures.spells
