@@ -21,6 +21,7 @@ uint32_t tpm_bench_decode_pcr_read_reply(const uint8_t *bytes, size_t len);
 size_t tpm_bench_encode_command(const uint8_t *bytes, size_t len, uint32_t times, uint8_t *out, size_t out_len);
 size_t tpm_bench_push_frames(const uint8_t *stream, size_t len, size_t most, uint8_t *out, size_t out_len);
 size_t tpm_bench_execute(const uint8_t *bytes, size_t len, uint32_t times, uint8_t *out, size_t out_len);
+size_t tpm_bench_size(uint32_t which);
 size_t tpm_bench_read_frames(const uint8_t *stream, size_t len, size_t most, uint8_t *out, size_t out_len);
 
 static void want(int ok, const char *what) {
@@ -271,7 +272,7 @@ static struct row rows[] = {
     {"encode StartAuthSession", START_AUTH_SESSION, {encode_command, TIMES}, {copy_buffer}},
     {"execute PCR_Read", PCR_READ, {execute, TIMES}, {NULL}},
     {"execute PCR_Extend", PCR_EXTEND, {execute, TIMES}, {hashes_of_extend}, 1},
-    {"execute PCR_Extend, all banks", PCR_EXTEND_ALL, {execute, TIMES}, {hashes_of_extend_all}, 1},
+    {"execute PCR_Extend, 3 banks", PCR_EXTEND_ALL, {execute, TIMES}, {hashes_of_extend_all}, 1},
     {"execute PCR_Event, 4 bytes", PCR_EVENT, {execute, TIMES}, {hashes_of_event}, 1},
     {"Framer, pieces of 1", 1, {push_frames}, {copy_stream}},
     {"Framer, pieces of 64", 64, {push_frames}, {copy_stream}},
@@ -376,5 +377,9 @@ int main(int argc, char **argv) {
         print(&rows[i].there);
         printf("\n");
     }
+    static const char *const sizes[] = {"Device", "Command", "Areas"};
+    printf("\n");
+    for (uint32_t i = 0; i < sizeof sizes / sizeof sizes[0]; i++)
+        printf("%-28s %14zu bytes\n", sizes[i], tpm_bench_size(i));
     return 0;
 }

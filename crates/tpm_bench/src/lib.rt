@@ -5,6 +5,7 @@ mod buffers;
 mod device;
 mod hashes;
 mod out;
+mod sizes;
 mod streams;
 
 pub use buffers::{
@@ -12,4 +13,5 @@ pub use buffers::{
 };
 pub use device::tpm_bench_execute;
 pub use hashes::{tpm_bench_hash, tpm_bench_hmac};
+pub use sizes::tpm_bench_size;
 pub use streams::{tpm_bench_push_frames, tpm_bench_read_frames};
