@@ -1,0 +1,147 @@
+//! The sessions of a device, by slot.
+
+ghost use Rattle.std.specs.Prelude.{◌≡◌, ◌<◌, ℕ, List, [], ◌∷◌, option_map, IfOk, OnOk, OnErr};
+ghost use Rattle.tpm_buffer.specs.declared.command.Command.{Command};
+ghost use Rattle.tpm_buffer.specs.declared.command.CommandBody.TheVariants as bodies;
+ghost use Rattle.tpm_buffer.specs.declared.response.ReplyBody.TheVariants as replies;
+ghost use Rattle.tpm_buffer.specs.Responses.{Reply};
+ghost use Rattle.tpm_hmac.specs.Sessions.{trim as trim_of};
+ghost use Rattle.tpm_model.specs.Steps.{Origin, History, PowerCycle, Accepted};
+ghost use Rattle.tpm_model.specs.Sessions.{slot_of as slot_number, handle_for as handle_of, loaded, free_slot, sessions_at};
+ghost use Rattle.tpm_model.specs.Actions.{check_flush, start_session};
+ghost use Rattle.tpm_session.specs.Answers.{started_reply};
+
+use crate::session::{NONCE_BYTES, Session, first_of};
+use std::marker::Model;
+use tpm_buffer::{StartAuth, StartReply};
+use tpm_types::{SessionHandle, SessionType};
+use tpm_wire::response_code::{HANDLE, SESSION_MEMORY, SIZE, of_parameter};
+
+/// How many sessions there is room for.
+const SLOTS: usize = 3;
+
+// How many handles of sessions there are of one kind.
+const HANDLES_OF_A_KIND: u32 = 0x0100_0000;
+
+const FIRST_HMAC_SESSION: u32 = 0x0200_0000;
+
+const FIRST_POLICY_SESSION: u32 = 0x0300_0000;
+
+// How many bytes the nonce of a caller that starts a session has at least.
+const LEAST_NONCE: usize = 16;
+
+/// The sessions that are loaded, three at most, each in its slot (Part 1, "Session-Based Authorizations"). All of them are in
+/// place: nothing is allocated.
+#[derive(Drop)]
+pub struct Sessions {
+    slots: [Option<Session>; SLOTS],
+}
+
+impl Model for Sessions {
+    ghost use Rattle.std.specs.Prelude.{List, Option};
+    ghost use Rattle.tpm_model.specs.Sessions as model;
+
+    ghost Value = { List (Option model.Session) };
+
+    ghost view = { λ s. s.slots };
+}
+
+// The slot of a handle, which is none where it is past the last.
+fn slot_of(session: SessionHandle) -> usize
+    ensures { result ≡ slot_number session }
+{
+    (session.number() % HANDLES_OF_A_KIND) as usize
+}
+
+// The handle of a session of this type in this slot.
+fn handle_for(session_type: SessionType, slot: usize) -> SessionHandle
+    requires { slot < 3 }
+    ensures value { result ≡ handle_of session_type slot }
+    ensures in_slot { slot_number result ≡ slot }
+{
+    let first = match session_type {
+        SessionType::Hmac => FIRST_HMAC_SESSION,
+        SessionType::Policy | SessionType::Trial => FIRST_POLICY_SESSION,
+    };
+    match SessionHandle::from_number(first + slot as u32) {
+        Some(session) => session,
+        None => unreachable!(),
+    }
+}
+
+// The lowest slot that is free.
+fn lowest_free(slots: &[Option<Session>; SLOTS]) -> Option<usize>
+    ensures { result ≡ free_slot slots.now }
+{
+    match slots {
+        [None, _, _] => Some(0),
+        [_, None, _] => Some(1),
+        [_, _, None] => Some(2),
+        _ => None,
+    }
+}
+
+impl Sessions {
+    /// No sessions, as after a power cycle.
+    pub fn new() -> Self
+        ensures at_first { (o : Origin) → result ≡ sessions_at o [] }
+        ensures cycled { (o : Origin) (h : History) → result ≡ sessions_at o (PowerCycle ∷ h) }
+    {
+        Sessions {
+            slots: [None, None, None],
+        }
+    }
+
+    /// The session of this handle, where it is loaded: a session of the handle's kind is in its slot.
+    pub fn get(&self, session: SessionHandle) -> Option<&Session>
+        ensures { option_map (λ s. s.now) result ≡ loaded self.now session }
+    {
+        match self.slots.get(slot_of(session)) {
+            Some(Some(found)) if found.has_handle(session) => Some(found),
+            _ => None,
+        }
+    }
+
+    /// TPM2_StartAuthSession: starts a session in the lowest free slot, with the first of these bytes for its nonce; `bind_auth`
+    /// is the authorization value of what it is bound to, if it is bound (Part 3, 11.1). Refused in this order: SIZE of parameter
+    /// 1 for a nonce of fewer than 16 bytes or more than a digest has; SESSION_MEMORY where no slot is free.
+    pub fn start(
+        &mut self,
+        start: &StartAuth,
+        bind_auth: &[u8],
+        nonce: &[u8; NONCE_BYTES],
+    ) -> Result<StartReply, u32>
+        ensures answer { started_reply result ≡ start_session self.old start.now nonce.now }
+        ensures started { IfOk result (λ reply. (o : Origin) (h : History) (c : Command) (r : Reply) → trim_of bind_auth.now ≡ trim_of o.owner →
+            c.body ≡ bodies.StartAuthSession start.now → c.auths.items ≡ [] → r.body ≡ replies.StartAuthSession reply →
+            self.old ≡ sessions_at o h → self.new ≡ sessions_at o (Accepted c r nonce.now ∷ h)) }
+        ensures refused { OnErr result (self.new ≡ self.old) }
+    {
+        let len = start.nonce_caller.as_slice().len();
+        if len < LEAST_NONCE || len > start.auth_hash.digest_len() {
+            return Err(SIZE + of_parameter(1));
+        }
+        let Some(slot) = lowest_free(&self.slots) else {
+            return Err(SESSION_MEMORY);
+        };
+        self.slots[slot] = Some(Session::started(start, bind_auth, nonce));
+        Ok(StartReply {
+            session: handle_for(start.session_type, slot),
+            nonce_tpm: first_of(start, nonce),
+        })
+    }
+
+    /// TPM2_FlushContext: frees the session's slot (Part 3, 28.4). HANDLE of parameter 1 where it is not loaded.
+    pub fn flush(&mut self, session: SessionHandle) -> Result<(), u32>
+        ensures answer { result ≡ check_flush (loaded self.old session) }
+        ensures flushed { OnOk result ((o : Origin) (h : History) (c : Command) (r : Reply) (nonce : List ℕ) → c.body ≡ bodies.FlushContext session → c.auths.items ≡ [] →
+            self.old ≡ sessions_at o h → self.new ≡ sessions_at o (Accepted c r nonce ∷ h)) }
+        ensures refused { OnErr result (self.new ≡ self.old) }
+    {
+        if self.get(session).is_none() {
+            return Err(HANDLE + of_parameter(1));
+        }
+        self.slots[slot_of(session)] = None;
+        Ok(())
+    }
+}
