@@ -1,3 +1,3 @@
 mod Padded
-mod Lines
+mod Listed
 mod Scripts
