@@ -1,18 +1,25 @@
 //! A command as a value.
 
-ghost use Rattle.std.specs.Prelude.{◌≡◌};
+ghost use Rattle.std.specs.Prelude.{◌≡◌, ◌++◌, OnOk};
+ghost use Rattle.tpm_wire.specs.Spelling.{spelling};
+ghost use Rattle.tpm_wire.specs.Buffers.{TakesNumbered};
 ghost use Rattle.tpm_buffer.specs.Handles.{first as first_of, second as second_of};
-ghost use Rattle.tpm_buffer.specs.Parameters.{params_code};
-ghost use Rattle.tpm_buffer.specs.Commands.{register_in as the_register, index_in as the_index, policy_in as the_policy, pcr_or_null_in as the_pcr_or_null, nv_auth_in as the_nv_auth, bind_in as the_bind, body_from, code_for};
+ghost use Rattle.tpm_buffer.specs.Parameters.{params_code, parameters};
+ghost use Rattle.tpm_buffer.specs.Commands.{register_in as the_register, index_in as the_index, policy_in as the_policy, pcr_or_null_in as the_pcr_or_null, nv_auth_in as the_nv_auth, bind_in as the_bind, body_from, params_of, code_for};
 
 use crate::code::CommandCode;
-use crate::command_parameters::{Event, Params};
+use crate::command_parameters::{
+    Event, any_digests, any_public, any_session, read_flush_context, read_nv_define_space,
+    read_nv_read, read_pcr_event, read_pcr_extend, read_pcr_read, read_policy_command_code,
+    read_policy_or, read_policy_pcr, read_start_auth_session, read_startup,
+};
 use arrayvec::ArrayVec;
 use tpm_types::{
     Alg, Auth, AuthValue, BindHandle, Digest, DigestValues, Nonce, NvAuthHandle, NvIndex, NvPublic,
     OrDigests, PcrIndex, PcrOrNull, PolicyHandle, Selections, SessionHandle, SessionType,
     StartupType, SymDef,
 };
+use tpm_wire::{Cursor, Refusal};
 
 /// What a command does, with its handles and parameters: the command of that name in Part 3.
 ///
@@ -221,84 +228,146 @@ fn second(handles: &[u32]) -> u32
     }
 }
 
-// The command of these parameters, with its handles by their numbers, in the place of another command. A handle that is missing,
-// or that the command cannot have, is never met where both were read under one code; in its place stands one of its kind.
-#[inline(always)]
-pub(crate) fn set_from_parts(body: &mut CommandBody, handles: &[u32], params: Params)
-    ensures body { body.new ≡ body_from handles.now params }
-    ensures code { code_for body.new ≡ params_code params }
-{
-    match params {
-        Params::NvUndefineSpace => *body = CommandBody::NvUndefineSpace {
-            index: index_in(second(handles)),
-        },
-        Params::NvDefineSpace { auth, public } => *body = CommandBody::NvDefineSpace {
-            auth,
-            public,
-        },
-        Params::NvIncrement => *body = CommandBody::NvIncrement {
-            by: nv_auth_in(first(handles)),
-            index: index_in(second(handles)),
-        },
-        Params::PcrEvent(event) => *body = CommandBody::PcrEvent {
-            register: pcr_or_null_in(first(handles)),
-            event,
-        },
-        Params::PcrReset => *body = CommandBody::PcrReset {
-            register: register_in(first(handles)),
-        },
-        Params::Startup(startup_type) => *body = CommandBody::Startup(startup_type),
-        Params::NvRead { size, offset } => *body = CommandBody::NvRead {
-            by: nv_auth_in(first(handles)),
-            index: index_in(second(handles)),
-            size,
-            offset,
-        },
-        Params::FlushContext(session) => *body = CommandBody::FlushContext(session),
-        Params::NvReadPublic => *body = CommandBody::NvReadPublic {
-            index: index_in(first(handles)),
-        },
-        Params::PolicyAuthValue => *body = CommandBody::PolicyAuthValue {
-            session: policy_in(first(handles)),
-        },
-        Params::PolicyCommandCode(code) => *body = CommandBody::PolicyCommandCode {
-            session: policy_in(first(handles)),
-            code,
-        },
-        Params::PolicyOr(digests) => *body = CommandBody::PolicyOr {
-            session: policy_in(first(handles)),
-            digests,
-        },
-        Params::StartAuthSession {
-            nonce_caller,
-            session_type,
-            symmetric,
-            auth_hash,
-        } => *body = CommandBody::StartAuthSession(StartAuth {
-            bind: bind_in(second(handles)),
-            nonce_caller,
-            session_type,
-            symmetric,
-            auth_hash,
-        }),
-        Params::PcrRead(selections) => *body = CommandBody::PcrRead(selections),
-        Params::PolicyPcr {
-            pcr_digest,
-            selections,
-        } => *body = CommandBody::PolicyPcr {
-            session: policy_in(first(handles)),
-            pcr_digest,
-            selections,
-        },
-        Params::PolicyRestart => *body = CommandBody::PolicyRestart {
-            session: policy_in(first(handles)),
-        },
-        Params::PcrExtend(digests) => *body = CommandBody::PcrExtend {
-            register: pcr_or_null_in(first(handles)),
-            digests,
-        },
-        Params::PolicyGetDigest => *body = CommandBody::PolicyGetDigest {
-            session: policy_in(first(handles)),
-        },
+impl CommandBody {
+    /// A command with this code, which another one is read in the place of.
+    #[inline(always)]
+    pub(crate) fn unread(code: CommandCode) -> CommandBody
+        ensures { code_for result ≡ code }
+    {
+        match code {
+            CommandCode::NvUndefineSpace => CommandBody::NvUndefineSpace { index: index_in(0) },
+            CommandCode::NvDefineSpace => CommandBody::NvDefineSpace {
+                auth: AuthValue::default(),
+                public: any_public(),
+            },
+            CommandCode::NvIncrement => CommandBody::NvIncrement {
+                by: NvAuthHandle::Owner,
+                index: index_in(0),
+            },
+            CommandCode::PcrEvent => CommandBody::PcrEvent {
+                register: PcrOrNull::Null,
+                event: Event::default(),
+            },
+            CommandCode::PcrReset => CommandBody::PcrReset {
+                register: PcrIndex::default(),
+            },
+            CommandCode::Startup => CommandBody::Startup(StartupType::Clear),
+            CommandCode::NvRead => CommandBody::NvRead {
+                by: NvAuthHandle::Owner,
+                index: index_in(0),
+                size: 0,
+                offset: 0,
+            },
+            CommandCode::FlushContext => CommandBody::FlushContext(any_session()),
+            CommandCode::NvReadPublic => CommandBody::NvReadPublic { index: index_in(0) },
+            CommandCode::PolicyAuthValue => CommandBody::PolicyAuthValue {
+                session: policy_in(0),
+            },
+            CommandCode::PolicyCommandCode => CommandBody::PolicyCommandCode {
+                session: policy_in(0),
+                code: 0,
+            },
+            CommandCode::PolicyOr => CommandBody::PolicyOr {
+                session: policy_in(0),
+                digests: any_digests(),
+            },
+            CommandCode::StartAuthSession => CommandBody::StartAuthSession(StartAuth {
+                bind: BindHandle::Null,
+                nonce_caller: Nonce::default(),
+                session_type: SessionType::Hmac,
+                symmetric: SymDef::Null,
+                auth_hash: Alg::default(),
+            }),
+            CommandCode::PcrRead => CommandBody::PcrRead(Selections::default()),
+            CommandCode::PolicyPcr => CommandBody::PolicyPcr {
+                session: policy_in(0),
+                pcr_digest: Digest::default(),
+                selections: Selections::default(),
+            },
+            CommandCode::PolicyRestart => CommandBody::PolicyRestart {
+                session: policy_in(0),
+            },
+            CommandCode::PcrExtend => CommandBody::PcrExtend {
+                register: PcrOrNull::Null,
+                digests: DigestValues::default(),
+            },
+            CommandCode::PolicyGetDigest => CommandBody::PolicyGetDigest {
+                session: policy_in(0),
+            },
+        }
+    }
+
+    // Reads the parameters of a command with the same code in their place, and gives it the handles with these numbers. A
+    // handle that is missing, or that the command cannot have, is never met where both were read under one code; in its
+    // place stands one of its kind.
+    pub(crate) fn read(&mut self, cursor: &mut Cursor<'_>, handles: &[u32]) -> Result<(), Refusal>
+        ensures reads { TakesNumbered (λ _. params_of self.new) (parameters (code_for self.old)) cursor.old cursor.new result }
+        ensures spelled { OnOk result (cursor.old.here.rest ≡ spelling (parameters (code_for self.old)) (params_of self.new) ++ cursor.new.here.rest) }
+        ensures code { OnOk result (params_code (params_of self.new) ≡ code_for self.old) }
+        ensures body { OnOk result (self.new ≡ body_from handles.now (params_of self.new)) }
+    {
+        match self {
+            CommandBody::NvUndefineSpace { index } => *index = index_in(second(handles)),
+            CommandBody::NvDefineSpace { auth, public } => {
+                read_nv_define_space(cursor, auth, public)?
+            }
+            CommandBody::NvIncrement { by, index } => {
+                *by = nv_auth_in(first(handles));
+                *index = index_in(second(handles));
+            }
+            CommandBody::PcrEvent { register, event } => {
+                *register = pcr_or_null_in(first(handles));
+                read_pcr_event(cursor, event)?
+            }
+            CommandBody::PcrReset { register } => *register = register_in(first(handles)),
+            CommandBody::Startup(startup_type) => read_startup(cursor, startup_type)?,
+            CommandBody::NvRead {
+                by,
+                index,
+                size,
+                offset,
+            } => {
+                *by = nv_auth_in(first(handles));
+                *index = index_in(second(handles));
+                read_nv_read(cursor, size, offset)?
+            }
+            CommandBody::FlushContext(session) => read_flush_context(cursor, session)?,
+            CommandBody::NvReadPublic { index } => *index = index_in(first(handles)),
+            CommandBody::PolicyAuthValue { session } => *session = policy_in(first(handles)),
+            CommandBody::PolicyCommandCode { session, code } => {
+                *session = policy_in(first(handles));
+                read_policy_command_code(cursor, code)?
+            }
+            CommandBody::PolicyOr { session, digests } => {
+                *session = policy_in(first(handles));
+                read_policy_or(cursor, digests)?
+            }
+            CommandBody::StartAuthSession(start) => {
+                start.bind = bind_in(second(handles));
+                read_start_auth_session(
+                    cursor,
+                    &mut start.nonce_caller,
+                    &mut start.session_type,
+                    &mut start.symmetric,
+                    &mut start.auth_hash,
+                )?
+            }
+            CommandBody::PcrRead(selections) => read_pcr_read(cursor, selections)?,
+            CommandBody::PolicyPcr {
+                session,
+                pcr_digest,
+                selections,
+            } => {
+                *session = policy_in(first(handles));
+                read_policy_pcr(cursor, pcr_digest, selections)?
+            }
+            CommandBody::PolicyRestart { session } => *session = policy_in(first(handles)),
+            CommandBody::PcrExtend { register, digests } => {
+                *register = pcr_or_null_in(first(handles));
+                read_pcr_extend(cursor, digests)?
+            }
+            CommandBody::PolicyGetDigest { session } => *session = policy_in(first(handles)),
+        }
+        Ok(())
     }
 }

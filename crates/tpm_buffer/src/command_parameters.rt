@@ -5,14 +5,14 @@ ghost use Rattle.tpm_wire.specs.Spelling.{spelling};
 ghost use Rattle.tpm_wire.specs.Path.{Decodes};
 ghost use Rattle.tpm_wire.specs.Reading.{read_all, Gives};
 ghost use Rattle.tpm_wire.specs.Buffers.{TakesNumbered};
-ghost use Rattle.tpm_buffer.specs.declared.code.CommandCode.TheVariants as codes;
+ghost use Rattle.tpm_buffer.specs.declared.command_parameters.Params.TheVariants as of_command;
 ghost use Rattle.tpm_buffer.specs.CommandAreas.{placed};
 ghost use Rattle.tpm_buffer.specs.Parameters.{parameters, params_code, startup, nv_define_space, pcr_event, nv_read, flush_context, policy_command_code, policy_or, start_auth_session, pcr_read, policy_pcr, pcr_extend};
 
 use crate::code::CommandCode;
 use tpm_types::{
-    Alg, AuthValue, Digest, DigestValues, EncryptedSalt, Nonce, NvPublic, OrDigests, Selections,
-    SessionHandle, SessionType, StartupType, SymDef,
+    Alg, AuthValue, Digest, DigestValues, EncryptedSalt, Nonce, NvAttrs, NvIndex, NvPublic,
+    OrDigests, Selections, SessionHandle, SessionType, StartupType, SymDef,
 };
 use tpm_wire::response_code::{SIZE, of_parameter};
 use tpm_wire::{Bounded, Cursor, Refusal, Wire};
@@ -61,172 +61,263 @@ pub enum Params {
 }
 
 #[tactic(auto, unfolding(crate::specs::Parameters::startup))]
-#[inline(never)]
-fn read_startup(cursor: &mut Cursor<'_>, params: &mut Params) -> Result<(), Refusal>
-    ensures reads { TakesNumbered (λ _. params.new) startup cursor.old cursor.new result }
-    ensures spelled { OnOk result (cursor.old.here.rest ≡ spelling startup params.new ++ cursor.new.here.rest) }
-    ensures code { OnOk result (params_code params.new ≡ codes.Startup) }
+pub(crate) fn read_startup(
+    cursor: &mut Cursor<'_>,
+    startup_type: &mut StartupType,
+) -> Result<(), Refusal>
+    ensures reads { TakesNumbered (λ _. of_command.Startup startup_type.new) startup cursor.old cursor.new result }
+    ensures spelled { OnOk result (cursor.old.here.rest ≡ spelling startup (of_command.Startup startup_type.new) ++ cursor.new.here.rest) }
 {
     cursor.number(of_parameter(1));
-    *params = Params::Startup(StartupType::take(cursor)?);
-    Ok(())
+    startup_type.read(cursor)
 }
 
 #[tactic(auto, unfolding(crate::specs::Parameters::nv_define_space))]
-#[inline(never)]
-fn read_nv_define_space(cursor: &mut Cursor<'_>, params: &mut Params) -> Result<(), Refusal>
-    ensures reads { TakesNumbered (λ _. params.new) nv_define_space cursor.old cursor.new result }
-    ensures spelled { OnOk result (cursor.old.here.rest ≡ spelling nv_define_space params.new ++ cursor.new.here.rest) }
-    ensures code { OnOk result (params_code params.new ≡ codes.NvDefineSpace) }
+pub(crate) fn read_nv_define_space(
+    cursor: &mut Cursor<'_>,
+    auth: &mut AuthValue,
+    public: &mut NvPublic,
+) -> Result<(), Refusal>
+    ensures reads { TakesNumbered (λ _. of_command.NvDefineSpace auth.new public.new) nv_define_space cursor.old cursor.new result }
+    ensures spelled { OnOk result (cursor.old.here.rest ≡ spelling nv_define_space (of_command.NvDefineSpace auth.new public.new) ++ cursor.new.here.rest) }
 {
     cursor.number(of_parameter(1));
-    let auth = AuthValue::take(cursor)?;
+    auth.read(cursor)?;
     cursor.number(of_parameter(2));
-    let public = NvPublic::take(cursor)?;
-    *params = Params::NvDefineSpace { auth, public };
-    Ok(())
+    public.read(cursor)
 }
 
 #[tactic(auto, unfolding(crate::specs::Parameters::pcr_event))]
-#[inline(never)]
-fn read_pcr_event(cursor: &mut Cursor<'_>, params: &mut Params) -> Result<(), Refusal>
-    ensures reads { TakesNumbered (λ _. params.new) pcr_event cursor.old cursor.new result }
-    ensures spelled { OnOk result (cursor.old.here.rest ≡ spelling pcr_event params.new ++ cursor.new.here.rest) }
-    ensures code { OnOk result (params_code params.new ≡ codes.PcrEvent) }
+pub(crate) fn read_pcr_event(cursor: &mut Cursor<'_>, event: &mut Event) -> Result<(), Refusal>
+    ensures reads { TakesNumbered (λ _. of_command.PcrEvent event.new) pcr_event cursor.old cursor.new result }
+    ensures spelled { OnOk result (cursor.old.here.rest ≡ spelling pcr_event (of_command.PcrEvent event.new) ++ cursor.new.here.rest) }
 {
     cursor.number(of_parameter(1));
-    *params = Params::PcrEvent(Event::default());
-    match params {
-        Params::PcrEvent(event) => event.read(cursor),
+    event.read(cursor)
+}
+
+#[tactic(auto, unfolding(crate::specs::Parameters::nv_read))]
+pub(crate) fn read_nv_read(
+    cursor: &mut Cursor<'_>,
+    size: &mut u16,
+    offset: &mut u16,
+) -> Result<(), Refusal>
+    ensures reads { TakesNumbered (λ _. of_command.NvRead size.new offset.new) nv_read cursor.old cursor.new result }
+    ensures spelled { OnOk result (cursor.old.here.rest ≡ spelling nv_read (of_command.NvRead size.new offset.new) ++ cursor.new.here.rest) }
+{
+    cursor.number(of_parameter(1));
+    size.read(cursor)?;
+    cursor.number(of_parameter(2));
+    offset.read(cursor)
+}
+
+#[tactic(auto, unfolding(crate::specs::Parameters::flush_context))]
+pub(crate) fn read_flush_context(
+    cursor: &mut Cursor<'_>,
+    session: &mut SessionHandle,
+) -> Result<(), Refusal>
+    ensures reads { TakesNumbered (λ _. of_command.FlushContext session.new) flush_context cursor.old cursor.new result }
+    ensures spelled { OnOk result (cursor.old.here.rest ≡ spelling flush_context (of_command.FlushContext session.new) ++ cursor.new.here.rest) }
+{
+    cursor.number(of_parameter(1));
+    session.read(cursor)
+}
+
+#[tactic(auto, unfolding(crate::specs::Parameters::policy_command_code))]
+pub(crate) fn read_policy_command_code(
+    cursor: &mut Cursor<'_>,
+    code: &mut u32,
+) -> Result<(), Refusal>
+    ensures reads { TakesNumbered (λ _. of_command.PolicyCommandCode code.new) policy_command_code cursor.old cursor.new result }
+    ensures spelled { OnOk result (cursor.old.here.rest ≡ spelling policy_command_code (of_command.PolicyCommandCode code.new) ++ cursor.new.here.rest) }
+{
+    cursor.number(of_parameter(1));
+    code.read(cursor)
+}
+
+#[tactic(auto, unfolding(crate::specs::Parameters::policy_or))]
+pub(crate) fn read_policy_or(
+    cursor: &mut Cursor<'_>,
+    digests: &mut OrDigests,
+) -> Result<(), Refusal>
+    ensures reads { TakesNumbered (λ _. of_command.PolicyOr digests.new) policy_or cursor.old cursor.new result }
+    ensures spelled { OnOk result (cursor.old.here.rest ≡ spelling policy_or (of_command.PolicyOr digests.new) ++ cursor.new.here.rest) }
+{
+    cursor.number(of_parameter(1));
+    digests.read(cursor)
+}
+
+#[tactic(auto, unfolding(crate::specs::Parameters::start_auth_session))]
+pub(crate) fn read_start_auth_session(
+    cursor: &mut Cursor<'_>,
+    nonce_caller: &mut Nonce,
+    session_type: &mut SessionType,
+    symmetric: &mut SymDef,
+    auth_hash: &mut Alg,
+) -> Result<(), Refusal>
+    ensures reads { TakesNumbered (λ _. of_command.StartAuthSession nonce_caller.new session_type.new symmetric.new auth_hash.new) start_auth_session cursor.old cursor.new result }
+    ensures spelled { OnOk result (cursor.old.here.rest ≡ spelling start_auth_session (of_command.StartAuthSession nonce_caller.new session_type.new symmetric.new auth_hash.new) ++ cursor.new.here.rest) }
+{
+    cursor.number(of_parameter(1));
+    nonce_caller.read(cursor)?;
+    cursor.number(of_parameter(2));
+    EncryptedSalt::take(cursor)?;
+    cursor.number(of_parameter(3));
+    session_type.read(cursor)?;
+    cursor.number(of_parameter(4));
+    symmetric.read(cursor)?;
+    cursor.number(of_parameter(5));
+    auth_hash.read(cursor)
+}
+
+#[tactic(auto, unfolding(crate::specs::Parameters::pcr_read))]
+pub(crate) fn read_pcr_read(
+    cursor: &mut Cursor<'_>,
+    selections: &mut Selections,
+) -> Result<(), Refusal>
+    ensures reads { TakesNumbered (λ _. of_command.PcrRead selections.new) pcr_read cursor.old cursor.new result }
+    ensures spelled { OnOk result (cursor.old.here.rest ≡ spelling pcr_read (of_command.PcrRead selections.new) ++ cursor.new.here.rest) }
+{
+    cursor.number(of_parameter(1));
+    selections.read(cursor)
+}
+
+#[tactic(auto, unfolding(crate::specs::Parameters::policy_pcr))]
+pub(crate) fn read_policy_pcr(
+    cursor: &mut Cursor<'_>,
+    pcr_digest: &mut Digest,
+    selections: &mut Selections,
+) -> Result<(), Refusal>
+    ensures reads { TakesNumbered (λ _. of_command.PolicyPcr pcr_digest.new selections.new) policy_pcr cursor.old cursor.new result }
+    ensures spelled { OnOk result (cursor.old.here.rest ≡ spelling policy_pcr (of_command.PolicyPcr pcr_digest.new selections.new) ++ cursor.new.here.rest) }
+{
+    cursor.number(of_parameter(1));
+    pcr_digest.read(cursor)?;
+    cursor.number(of_parameter(2));
+    selections.read(cursor)
+}
+
+#[tactic(auto, unfolding(crate::specs::Parameters::pcr_extend))]
+pub(crate) fn read_pcr_extend(
+    cursor: &mut Cursor<'_>,
+    digests: &mut DigestValues,
+) -> Result<(), Refusal>
+    ensures reads { TakesNumbered (λ _. of_command.PcrExtend digests.new) pcr_extend cursor.old cursor.new result }
+    ensures spelled { OnOk result (cursor.old.here.rest ≡ spelling pcr_extend (of_command.PcrExtend digests.new) ++ cursor.new.here.rest) }
+{
+    cursor.number(of_parameter(1));
+    digests.read(cursor)
+}
+
+/// An area that another one is read in the place of.
+pub(crate) fn any_public() -> NvPublic {
+    match (NvIndex::from_number(0x01000000), NvAttrs::from_number(0)) {
+        (Some(index), Some(attrs)) => NvPublic {
+            index,
+            alg: Alg::default(),
+            attrs,
+            policy: Digest::default(),
+            data_size: 0,
+        },
         _ => unreachable!(),
     }
 }
 
-#[tactic(auto, unfolding(crate::specs::Parameters::nv_read))]
-#[inline(never)]
-fn read_nv_read(cursor: &mut Cursor<'_>, params: &mut Params) -> Result<(), Refusal>
-    ensures reads { TakesNumbered (λ _. params.new) nv_read cursor.old cursor.new result }
-    ensures spelled { OnOk result (cursor.old.here.rest ≡ spelling nv_read params.new ++ cursor.new.here.rest) }
-    ensures code { OnOk result (params_code params.new ≡ codes.NvRead) }
-{
-    cursor.number(of_parameter(1));
-    let size = u16::take(cursor)?;
-    cursor.number(of_parameter(2));
-    let offset = u16::take(cursor)?;
-    *params = Params::NvRead { size, offset };
-    Ok(())
+/// A session that another one is read in the place of.
+pub(crate) fn any_session() -> SessionHandle {
+    match SessionHandle::from_number(0x02000000) {
+        Some(session) => session,
+        None => unreachable!(),
+    }
 }
 
-#[tactic(auto, unfolding(crate::specs::Parameters::flush_context))]
-#[inline(never)]
-fn read_flush_context(cursor: &mut Cursor<'_>, params: &mut Params) -> Result<(), Refusal>
-    ensures reads { TakesNumbered (λ _. params.new) flush_context cursor.old cursor.new result }
-    ensures spelled { OnOk result (cursor.old.here.rest ≡ spelling flush_context params.new ++ cursor.new.here.rest) }
-    ensures code { OnOk result (params_code params.new ≡ codes.FlushContext) }
-{
-    cursor.number(of_parameter(1));
-    *params = Params::FlushContext(SessionHandle::take(cursor)?);
-    Ok(())
+/// Digests that others are read in the place of.
+pub(crate) fn any_digests() -> OrDigests {
+    match OrDigests::new(&[Digest::default(), Digest::default()]) {
+        Some(digests) => digests,
+        None => unreachable!(),
+    }
 }
 
-#[tactic(auto, unfolding(crate::specs::Parameters::policy_command_code))]
-#[inline(never)]
-fn read_policy_command_code(cursor: &mut Cursor<'_>, params: &mut Params) -> Result<(), Refusal>
-    ensures reads { TakesNumbered (λ _. params.new) policy_command_code cursor.old cursor.new result }
-    ensures spelled { OnOk result (cursor.old.here.rest ≡ spelling policy_command_code params.new ++ cursor.new.here.rest) }
-    ensures code { OnOk result (params_code params.new ≡ codes.PolicyCommandCode) }
-{
-    cursor.number(of_parameter(1));
-    *params = Params::PolicyCommandCode(u32::take(cursor)?);
-    Ok(())
-}
+impl Params {
+    /// The parameters of a command with this code, which others are read in the place of.
+    #[inline(always)]
+    fn unread(code: CommandCode) -> Params
+        ensures { params_code result ≡ code }
+    {
+        match code {
+            CommandCode::NvUndefineSpace => Params::NvUndefineSpace,
+            CommandCode::NvDefineSpace => Params::NvDefineSpace {
+                auth: AuthValue::default(),
+                public: any_public(),
+            },
+            CommandCode::NvIncrement => Params::NvIncrement,
+            CommandCode::PcrEvent => Params::PcrEvent(Event::default()),
+            CommandCode::PcrReset => Params::PcrReset,
+            CommandCode::Startup => Params::Startup(StartupType::Clear),
+            CommandCode::NvRead => Params::NvRead { size: 0, offset: 0 },
+            CommandCode::FlushContext => Params::FlushContext(any_session()),
+            CommandCode::NvReadPublic => Params::NvReadPublic,
+            CommandCode::PolicyAuthValue => Params::PolicyAuthValue,
+            CommandCode::PolicyCommandCode => Params::PolicyCommandCode(0),
+            CommandCode::PolicyOr => Params::PolicyOr(any_digests()),
+            CommandCode::StartAuthSession => Params::StartAuthSession {
+                nonce_caller: Nonce::default(),
+                session_type: SessionType::Hmac,
+                symmetric: SymDef::Null,
+                auth_hash: Alg::default(),
+            },
+            CommandCode::PcrRead => Params::PcrRead(Selections::default()),
+            CommandCode::PolicyPcr => Params::PolicyPcr {
+                pcr_digest: Digest::default(),
+                selections: Selections::default(),
+            },
+            CommandCode::PolicyRestart => Params::PolicyRestart,
+            CommandCode::PcrExtend => Params::PcrExtend(DigestValues::default()),
+            CommandCode::PolicyGetDigest => Params::PolicyGetDigest,
+        }
+    }
 
-#[tactic(auto, unfolding(crate::specs::Parameters::policy_or))]
-#[inline(never)]
-fn read_policy_or(cursor: &mut Cursor<'_>, params: &mut Params) -> Result<(), Refusal>
-    ensures reads { TakesNumbered (λ _. params.new) policy_or cursor.old cursor.new result }
-    ensures spelled { OnOk result (cursor.old.here.rest ≡ spelling policy_or params.new ++ cursor.new.here.rest) }
-    ensures code { OnOk result (params_code params.new ≡ codes.PolicyOr) }
-{
-    cursor.number(of_parameter(1));
-    *params = Params::PolicyOr(OrDigests::take(cursor)?);
-    Ok(())
-}
-
-#[tactic(auto, unfolding(crate::specs::Parameters::start_auth_session))]
-#[inline(never)]
-fn read_start_auth_session(cursor: &mut Cursor<'_>, params: &mut Params) -> Result<(), Refusal>
-    ensures reads { TakesNumbered (λ _. params.new) start_auth_session cursor.old cursor.new result }
-    ensures spelled { OnOk result (cursor.old.here.rest ≡ spelling start_auth_session params.new ++ cursor.new.here.rest) }
-    ensures code { OnOk result (params_code params.new ≡ codes.StartAuthSession) }
-{
-    cursor.number(of_parameter(1));
-    let nonce_caller = Nonce::take(cursor)?;
-    cursor.number(of_parameter(2));
-    EncryptedSalt::take(cursor)?;
-    cursor.number(of_parameter(3));
-    let session_type = SessionType::take(cursor)?;
-    cursor.number(of_parameter(4));
-    let symmetric = SymDef::take(cursor)?;
-    cursor.number(of_parameter(5));
-    let auth_hash = Alg::take(cursor)?;
-    *params = Params::StartAuthSession {
-        nonce_caller,
-        session_type,
-        symmetric,
-        auth_hash,
-    };
-    Ok(())
-}
-
-#[tactic(auto, unfolding(crate::specs::Parameters::pcr_read))]
-#[inline(always)]
-fn read_pcr_read(cursor: &mut Cursor<'_>, params: &mut Params) -> Result<(), Refusal>
-    ensures reads { TakesNumbered (λ _. params.new) pcr_read cursor.old cursor.new result }
-    ensures spelled { OnOk result (cursor.old.here.rest ≡ spelling pcr_read params.new ++ cursor.new.here.rest) }
-    ensures code { OnOk result (params_code params.new ≡ codes.PcrRead) }
-{
-    cursor.number(of_parameter(1));
-    *params = Params::PcrRead(Selections::take(cursor)?);
-    Ok(())
-}
-
-#[tactic(auto, unfolding(crate::specs::Parameters::policy_pcr))]
-#[inline(never)]
-fn read_policy_pcr(cursor: &mut Cursor<'_>, params: &mut Params) -> Result<(), Refusal>
-    ensures reads { TakesNumbered (λ _. params.new) policy_pcr cursor.old cursor.new result }
-    ensures spelled { OnOk result (cursor.old.here.rest ≡ spelling policy_pcr params.new ++ cursor.new.here.rest) }
-    ensures code { OnOk result (params_code params.new ≡ codes.PolicyPcr) }
-{
-    cursor.number(of_parameter(1));
-    let pcr_digest = Digest::take(cursor)?;
-    cursor.number(of_parameter(2));
-    let selections = Selections::take(cursor)?;
-    *params = Params::PolicyPcr {
-        pcr_digest,
-        selections,
-    };
-    Ok(())
-}
-
-#[tactic(auto, unfolding(crate::specs::Parameters::pcr_extend))]
-#[inline(always)]
-fn read_pcr_extend(cursor: &mut Cursor<'_>, params: &mut Params) -> Result<(), Refusal>
-    ensures reads { TakesNumbered (λ _. params.new) pcr_extend cursor.old cursor.new result }
-    ensures spelled { OnOk result (cursor.old.here.rest ≡ spelling pcr_extend params.new ++ cursor.new.here.rest) }
-    ensures code { OnOk result (params_code params.new ≡ codes.PcrExtend) }
-{
-    cursor.number(of_parameter(1));
-    *params = Params::PcrExtend(DigestValues::default());
-    match params {
-        Params::PcrExtend(digests) => digests.read(cursor),
-        _ => unreachable!(),
+    // Reads parameters of the same command in their place.
+    fn read(&mut self, cursor: &mut Cursor<'_>) -> Result<(), Refusal>
+        ensures reads { TakesNumbered (λ _. self.new) (parameters (params_code self.old)) cursor.old cursor.new result }
+        ensures spelled { OnOk result (cursor.old.here.rest ≡ spelling (parameters (params_code self.old)) self.new ++ cursor.new.here.rest) }
+        ensures code { OnOk result (params_code self.new ≡ params_code self.old) }
+    {
+        match self {
+            Params::NvDefineSpace { auth, public } => read_nv_define_space(cursor, auth, public),
+            Params::PcrEvent(event) => read_pcr_event(cursor, event),
+            Params::Startup(startup_type) => read_startup(cursor, startup_type),
+            Params::NvRead { size, offset } => read_nv_read(cursor, size, offset),
+            Params::FlushContext(session) => read_flush_context(cursor, session),
+            Params::PolicyCommandCode(code) => read_policy_command_code(cursor, code),
+            Params::PolicyOr(digests) => read_policy_or(cursor, digests),
+            Params::StartAuthSession {
+                nonce_caller,
+                session_type,
+                symmetric,
+                auth_hash,
+            } => read_start_auth_session(cursor, nonce_caller, session_type, symmetric, auth_hash),
+            Params::PcrRead(selections) => read_pcr_read(cursor, selections),
+            Params::PolicyPcr {
+                pcr_digest,
+                selections,
+            } => read_policy_pcr(cursor, pcr_digest, selections),
+            Params::PcrExtend(digests) => read_pcr_extend(cursor, digests),
+            Params::NvUndefineSpace
+            | Params::NvIncrement
+            | Params::PcrReset
+            | Params::NvReadPublic
+            | Params::PolicyAuthValue
+            | Params::PolicyRestart
+            | Params::PolicyGetDigest => Ok(()),
+        }
     }
 }
 
 /// Reads the parameters of a command with this code.
 #[inline(never)]
-pub(crate) fn read_params(
+fn read_params(
     cursor: &mut Cursor<'_>,
     code: CommandCode,
     params: &mut Params,
@@ -235,27 +326,8 @@ pub(crate) fn read_params(
     ensures spelled { OnOk result (cursor.old.here.rest ≡ spelling (parameters code) params.new ++ cursor.new.here.rest) }
     ensures code { OnOk result (params_code params.new ≡ code) }
 {
-    match code {
-        CommandCode::NvUndefineSpace => *params = Params::NvUndefineSpace,
-        CommandCode::NvDefineSpace => read_nv_define_space(cursor, params)?,
-        CommandCode::NvIncrement => *params = Params::NvIncrement,
-        CommandCode::PcrEvent => read_pcr_event(cursor, params)?,
-        CommandCode::PcrReset => *params = Params::PcrReset,
-        CommandCode::Startup => read_startup(cursor, params)?,
-        CommandCode::NvRead => read_nv_read(cursor, params)?,
-        CommandCode::FlushContext => read_flush_context(cursor, params)?,
-        CommandCode::NvReadPublic => *params = Params::NvReadPublic,
-        CommandCode::PolicyAuthValue => *params = Params::PolicyAuthValue,
-        CommandCode::PolicyCommandCode => read_policy_command_code(cursor, params)?,
-        CommandCode::PolicyOr => read_policy_or(cursor, params)?,
-        CommandCode::StartAuthSession => read_start_auth_session(cursor, params)?,
-        CommandCode::PcrRead => read_pcr_read(cursor, params)?,
-        CommandCode::PolicyPcr => read_policy_pcr(cursor, params)?,
-        CommandCode::PolicyRestart => *params = Params::PolicyRestart,
-        CommandCode::PcrExtend => read_pcr_extend(cursor, params)?,
-        CommandCode::PolicyGetDigest => *params = Params::PolicyGetDigest,
-    }
-    Ok(())
+    *params = Params::unread(code);
+    params.read(cursor)
 }
 
 fn read_bytes(code: CommandCode, bytes: &[u8], params: &mut Params) -> Result<(), Refusal>
