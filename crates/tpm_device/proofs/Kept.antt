@@ -7,9 +7,9 @@ use Rattle.tpm_model.specs.Steps.{History, Accepted, Origin, starts, started as 
 use Rattle.tpm_model.specs.Registers.{Registers, changes, changes_by, registers_after}
 use Rattle.tpm_model.specs.Sessions.{Session, Start, begun, clears, closes, lives, start_of, session_at, sessions_at, slot_of, if_of_kind, loaded}
 use Rattle.tpm_model.specs.Counters.{NvMemory, nv_by, nv_memory}
-use Rattle.tpm_model.specs.Present.{Present, present}
+use Rattle.tpm_model.specs.Present.{Present}
 use Rattle.tpm_device.specs.declared.device.Device.{Device}
-use Rattle.tpm_device.specs.Stands.{no_sessions, holds, Stands}
+use Rattle.tpm_device.specs.Stands.{no_sessions, Stands}
 
 none_left : (live gone : Bool) (start : Option Start) (f g : Start → Session) → (if live then option_map f start else None) ≡ None
     → (if (if gone then false else live) then option_map g start else None) ≡ None

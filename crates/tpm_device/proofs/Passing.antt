@@ -24,7 +24,7 @@ use Rattle.tpm_model.specs.Sessions.{Session}
 use Rattle.tpm_model.specs.Present.{Present}
 use Rattle.tpm_model.specs.Entities.{Entity, entity_of}
 use Rattle.tpm_model.specs.Entities.Entity.{Register, Null, Owner}
-use Rattle.tpm_model.specs.Authorization.{Evidence, Authorizer, check_loaded, check_session, check_auth, check_entity, check_evidence, evidence_of, evidence_by, by_session, reply_auths}
+use Rattle.tpm_model.specs.Authorization.{check_session, check_auth, check_entity, check_evidence, evidence_by, by_session, reply_auths}
 use Rattle.tpm_model.specs.Authorization.Authorizer.{Password}
 use Rattle.tpm_model.specs.Actions.{action}
 use Rattle.tpm_model.specs.Answers.{CommandSet, Presented, Done, check_has, check_started, check_handles, check_tag, evidence_in, presented, permitted, performed, outcome, answered, with_outcome, reply_params}
@@ -35,7 +35,7 @@ use Rattle.tpm_model.proofs.Coded.{coded_parameters}
 use Rattle.tpm_model.proofs.Refused.{refused_with}
 use Rattle.tpm_device.specs.declared.device.Device.{Device}
 use Rattle.tpm_device.specs.Passwords.{check_first, check_password, check_sessions, by_password, replies_to}
-use Rattle.tpm_device.specs.Stands.{Stands, holds, no_sessions, IsRead, IsPermitted, presented_with, presented_in, reply_bytes, given, replied, told}
+use Rattle.tpm_device.specs.Stands.{Stands, holds, IsRead, IsPermitted, presented_with, presented_in, reply_bytes, given, replied, told}
 use Rattle.tpm_device.proofs.Kept.{none_loaded}
 
 -- ---- before the parameters

@@ -1,6 +1,6 @@
 use Rattle.std.proofs.Common.{rules, ◌≡◌, Err, sym}
 use Rattle.tpm_device.specs.Commands.{has_command}
-use Rattle.tpm_device.proofs.Passing.{permitted_ok, permitted_refused}
+use Rattle.tpm_device.proofs.Passing.{permitted_refused}
 use Rattle.tpm_device.proofs.device.Device.permitted.Goals as goal
 
 pub returns-in_err-check_sessions-clause-reads : goal.returns-in_err-check_sessions-clause-reads
