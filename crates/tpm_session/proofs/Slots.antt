@@ -1,6 +1,7 @@
 -- The sessions after one more step.
-use Rattle.std.proofs.Common.{◌≡◌, ℕ, zero, suc, Bool, true, false, List, [], ◌∷◌, refl, sym, ap, ◌∙◌, arith}
+use Rattle.std.proofs.Common.{get_or, ◌≡◌, ℕ, zero, suc, Bool, true, false, List, [], ◌∷◌, ◌||◌, None, Some, Option, option_map, IsSome, refl, sym, ap, ◌∙◌, arith}
 use Rattle.std.specs.Prelude.{◌==◌, Option, Some, slice_set, if◌then◌else◌}
+use Rattle.std.proofs.lemmas.Bool.{both_ways}
 use Rattle.std.proofs.lemmas.Bool.Decides.{nat_tests}
 use Rattle.tpm_buffer.specs.declared.command.Command.{Command}
 use Rattle.tpm_buffer.specs.declared.command.CommandBody.TheVariants as bodies
@@ -9,7 +10,17 @@ use Rattle.tpm_buffer.specs.declared.response.StartReply.{StartReply}
 use Rattle.tpm_buffer.specs.declared.response.ReplyBody.TheVariants as replies
 use Rattle.tpm_buffer.specs.Responses.{Reply}
 use Rattle.tpm_model.specs.Steps.{Origin, History, Accepted}
-use Rattle.tpm_model.specs.Sessions.{Session, slot_of, session_at, sessions_at, as_session}
+use Rattle.tpm_buffer.specs.declared.command.CommandBody.{CommandBody}
+use Rattle.tpm_buffer.specs.declared.response.ReplyBody.{ReplyBody}
+use Rattle.tpm_buffer.specs.Commands.{code_for}
+use Rattle.tpm_buffer.specs.Handles.{needs_authorization}
+use Rattle.tpm_types.specs.declared.tpms.Auth.{Auth}
+use Rattle.tpm_types.specs.Handles.{is_session, is_hmac_session, is_policy}
+use Rattle.tpm_types.specs.Tpma.{continues}
+use Rattle.tpm_model.specs.Registers.{Registers, registers_after, changes}
+use Rattle.tpm_model.specs.Policies.{Assertion}
+use Rattle.tpm_model.specs.Sessions.{Session, Start, slot_of, begun, clears, asserted_by, is_hmac, if_of_kind, loaded, session_at, sessions_at, as_session, last_nonce, assertions_of, lives, start_of}
+use Rattle.tpm_session.specs.Answers.{rolled, after_command}
 
 -- ---- slots
 
@@ -53,3 +64,81 @@ started o h c r nonce start reply slot made old new is in_slot made_is body auth
     ∙ rw (made_is, ← in_slot)
     (set_three (session_at o h 0) (session_at o h 1) (session_at o h 2) x (slot_of reply.session)
     ∙ sym (three (started_at o h c r nonce start reply 0 body auths answer) (started_at o h c r nonce start reply 1 body auths answer) (started_at o h c r nonce start reply 2 body auths answer)))
+
+-- ---- a session that authorized
+
+-- A command that needs authorization starts, flushes and asserts nothing.
+record StaysOut (k : ℕ) (body : CommandBody) (reply : ReplyBody) : Type 0 where
+  no_start : begun k body reply ≡ None
+  no_flush : clears k body ≡ false
+  no_assertion : (now : Registers) (start : Option Start) (old : List Assertion) → asserted_by k body now start old ≡ old
+
+stays_out : (k : ℕ) (body : CommandBody) (reply : ReplyBody) → needs_authorization (code_for body) ≡ true → StaysOut k body reply
+stays_out k (bodies.NvUndefineSpace index) reply e = record { no_start = refl; no_flush = refl; no_assertion = λ now start old. refl }
+stays_out k (bodies.NvDefineSpace auth public) reply e = record { no_start = refl; no_flush = refl; no_assertion = λ now start old. refl }
+stays_out k (bodies.NvIncrement by index) reply e = record { no_start = refl; no_flush = refl; no_assertion = λ now start old. refl }
+stays_out k (bodies.NvRead by index size offset) reply e = record { no_start = refl; no_flush = refl; no_assertion = λ now start old. refl }
+stays_out k (bodies.PcrExtend q digests) reply e = record { no_start = refl; no_flush = refl; no_assertion = λ now start old. refl }
+stays_out k (bodies.PcrEvent q event) reply e = record { no_start = refl; no_flush = refl; no_assertion = λ now start old. refl }
+stays_out k (bodies.PcrReset q) reply e = record { no_start = refl; no_flush = refl; no_assertion = λ now start old. refl }
+stays_out k (bodies.NvReadPublic index) reply e = absurd (both_ways false refl e)
+stays_out k (bodies.Startup kind) reply e = absurd (both_ways false refl e)
+stays_out k (bodies.PcrRead sels) reply e = absurd (both_ways false refl e)
+stays_out k (bodies.StartAuthSession start) reply e = absurd (both_ways false refl e)
+stays_out k (bodies.FlushContext handle) reply e = absurd (both_ways false refl e)
+stays_out k (bodies.PolicyPcr handle pcr_digest sels) reply e = absurd (both_ways false refl e)
+stays_out k (bodies.PolicyOr handle digests) reply e = absurd (both_ways false refl e)
+stays_out k (bodies.PolicyCommandCode handle code) reply e = absurd (both_ways false refl e)
+stays_out k (bodies.PolicyAuthValue handle) reply e = absurd (both_ways false refl e)
+stays_out k (bodies.PolicyRestart handle) reply e = absurd (both_ways false refl e)
+stays_out k (bodies.PolicyGetDigest handle) reply e = absurd (both_ways false refl e)
+
+as_rolled : (o : Origin) (nonce last : List ℕ) (made : List Assertion) (lives : Bool) (start : Option Start) →
+    (if lives then option_map (as_session o nonce []) start else None) ≡ option_map (rolled nonce) (if lives then option_map (as_session o last made) start else None)
+as_rolled o nonce last made false start = refl
+as_rolled o nonce last made true None = refl
+as_rolled o nonce last made true (Some s) = refl
+
+rolled_at : (o : Origin) (h : History) (c : Command) (r : Reply) (nonce : List ℕ) (a : Auth) (others : List Auth) (keep : Bool) (k : ℕ) → c.auths.items ≡ a ∷ others → is_session a.session ≡ true →
+    continues a.attrs ≡ keep → needs_authorization (code_for c.body) ≡ true →
+    session_at o (Accepted c r nonce ∷ h) k ≡ (if slot_of a.session == k then after_command nonce keep (session_at o h k) else session_at o h k)
+rolled_at o h c r nonce a others keep k auths of_session kept needs =
+    let out = stays_out k c.body r.body needs in
+    elim (slot_of a.session == k) as (λ t. (slot_of a.session == k) ≡ t →
+    session_at o (Accepted c r nonce ∷ h) k ≡ (if slot_of a.session == k then after_command nonce keep (session_at o h k) else session_at o h k)) [
+      | true ↦ λ t. elim keep as (λ b. continues a.attrs ≡ b → session_at o (Accepted c r nonce ∷ h) k ≡ (if slot_of a.session == k then after_command nonce b (session_at o h k) else session_at o h k)) [
+        | true ↦ λ b. rw (out.no_start, out.no_flush, auths, of_session, t, b) (as_rolled o nonce (last_nonce k h) (assertions_of k h) (lives k h) (start_of k h))
+        | false ↦ λ b. rw (out.no_start, out.no_flush, auths, of_session, t, b) refl
+      ] kept
+      | false ↦ λ t. rw (out.no_start, out.no_flush, auths, of_session, t, out.no_assertion (registers_after (changes h)) (start_of k h) (assertions_of k h)) refl
+    ] refl
+
+set_after : (a b d x : Option Session) (f : Option Session → Option Session) (s : ℕ) → get_or (a ∷ b ∷ d ∷ []) s x ≡ x →
+    slice_set (a ∷ b ∷ d ∷ []) s (f x) ≡ put_at s (f a) 0 a ∷ put_at s (f b) 1 b ∷ put_at s (f d) 2 d ∷ []
+set_after a b d x f zero e = rw e refl
+set_after a b d x f (suc zero) e = rw e refl
+set_after a b d x f (suc (suc zero)) e = rw e refl
+set_after a b d x f (suc (suc (suc n))) e = set_three a b d (f x) (suc (suc (suc n))) ∙ three
+    (same_test (suc (suc (suc n))) 0 false (grind (arith, nat_tests)) (f x) a ∙ sym (same_test (suc (suc (suc n))) 0 false (grind (arith, nat_tests)) (f a) a))
+    (same_test (suc (suc (suc n))) 1 false (grind (arith, nat_tests)) (f x) b ∙ sym (same_test (suc (suc (suc n))) 1 false (grind (arith, nat_tests)) (f b) b))
+    (same_test (suc (suc (suc n))) 2 false (grind (arith, nat_tests)) (f x) d ∙ sym (same_test (suc (suc (suc n))) 2 false (grind (arith, nat_tests)) (f d) d))
+
+of_a_kind : (by_hmac by_policy kind : Bool) (s : Session) → IsSome (if (if kind then by_hmac else by_policy) then Some s else None) → (by_hmac || by_policy) ≡ true
+of_a_kind true by_policy kind s h = refl
+of_a_kind false true kind s h = refl
+of_a_kind false false true s h = absurd (both_ways false refl h)
+of_a_kind false false false s h = absurd (both_ways false refl h)
+
+of_session : (handle : ℕ) (s : Option Session) → IsSome (if_of_kind handle s) → is_session handle ≡ true
+of_session handle None h = absurd (both_ways false refl h)
+of_session handle (Some s) h = of_a_kind (is_hmac_session handle) (is_policy handle) (is_hmac s.session_type) s h
+
+pub went_on : (o : Origin) (h : History) (c : Command) (r : Reply) (nonce : List ℕ) (a : Auth) (others : List Auth) (keep : Bool) (x y : Option Session) (slot : ℕ) (old new : List (Option Session)) →
+    new ≡ slice_set old slot y → y ≡ after_command nonce keep x → x ≡ get_or old slot x → slot ≡ slot_of a.session → IsSome (loaded old a.session) →
+    c.auths.items ≡ a ∷ others → continues a.attrs ≡ keep → needs_authorization (code_for c.body) ≡ true → old ≡ sessions_at o h → new ≡ sessions_at o (Accepted c r nonce ∷ h)
+went_on o h c r nonce a others keep x y slot old new is becomes found in_slot is_loaded auths kept needs at =
+    let handle = of_session a.session (get_or old (slot_of a.session) None) is_loaded in
+    let here : get_or (sessions_at o h) (slot_of a.session) x ≡ x = sym (found ∙ ap (λ (l : List (Option Session)). get_or l slot x) at ∙ ap (λ (k : ℕ). get_or (sessions_at o h) k x) in_slot) in
+    is ∙ ap (λ (l : List (Option Session)). slice_set l slot y) at ∙ rw (becomes, in_slot)
+    (set_after (session_at o h 0) (session_at o h 1) (session_at o h 2) x (after_command nonce keep) (slot_of a.session) here
+    ∙ sym (three (rolled_at o h c r nonce a others keep 0 auths handle kept needs) (rolled_at o h c r nonce a others keep 1 auths handle kept needs) (rolled_at o h c r nonce a others keep 2 auths handle kept needs)))

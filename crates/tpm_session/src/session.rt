@@ -7,6 +7,7 @@ ghost use Rattle.tpm_model.specs.Registers.{zeros as zeros_of};
 ghost use Rattle.tpm_model.specs.Steps.{Origin};
 ghost use Rattle.tpm_model.specs.Sessions.{is_handle_of, nonce_from, as_session};
 ghost use Rattle.tpm_model.specs.Policies.{policy_of};
+ghost use Rattle.tpm_session.specs.Answers.{rolled};
 
 use std::marker::Model;
 use tpm_buffer::StartAuth;
@@ -130,6 +131,15 @@ impl Session {
             is_bound: start.bind == BindHandle::Owner,
             policy: Policy::new(start.auth_hash),
         }
+    }
+
+    // The next nonce, and nothing asserted any more.
+    pub(crate) fn roll(&mut self, nonce: &[u8; NONCE_BYTES])
+        ensures { self.new ≡ rolled nonce.now self.old }
+    {
+        let len = self.nonce.as_slice().len();
+        self.nonce.set(&nonce[..len]);
+        self.policy = Policy::new(self.hash);
     }
 }
 

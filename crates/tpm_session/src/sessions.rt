@@ -1,6 +1,6 @@
 //! The sessions of a device, by slot.
 
-ghost use Rattle.std.specs.Prelude.{◌≡◌, ◌<◌, ℕ, List, [], ◌∷◌, option_map, IfOk, OnOk, OnErr};
+ghost use Rattle.std.specs.Prelude.{◌≡◌, ◌<◌, ℕ, true, List, [], ◌∷◌, option_map, IfOk, IsSome, OnOk, OnErr};
 ghost use Rattle.tpm_buffer.specs.declared.command.Command.{Command};
 ghost use Rattle.tpm_buffer.specs.declared.command.CommandBody.TheVariants as bodies;
 ghost use Rattle.tpm_buffer.specs.declared.response.ReplyBody.TheVariants as replies;
@@ -9,7 +9,11 @@ ghost use Rattle.tpm_hmac.specs.Sessions.{trim as trim_of};
 ghost use Rattle.tpm_model.specs.Steps.{Origin, History, PowerCycle, Accepted};
 ghost use Rattle.tpm_model.specs.Sessions.{slot_of as slot_number, handle_for as handle_of, loaded, free_slot, sessions_at};
 ghost use Rattle.tpm_model.specs.Actions.{check_flush, start_session};
-ghost use Rattle.tpm_session.specs.Answers.{started_reply};
+ghost use Rattle.tpm_types.specs.declared.tpms.Auth.{Auth};
+ghost use Rattle.tpm_types.specs.Tpma.{continues};
+ghost use Rattle.tpm_buffer.specs.Handles.{needs_authorization};
+ghost use Rattle.tpm_buffer.specs.Commands.{code_for};
+ghost use Rattle.tpm_session.specs.Answers.{started_reply, after_command};
 
 use crate::session::{NONCE_BYTES, Session, first_of};
 use std::marker::Model;
@@ -143,5 +147,28 @@ impl Sessions {
         }
         self.slots[slot_of(session)] = None;
         Ok(())
+    }
+
+    /// After a command that the session authorized: its nonce is the first of these bytes, and its policy begins again; where
+    /// continueSession is clear, its slot is freed (Part 1, "Session-Based Authorizations").
+    pub fn roll(&mut self, session: SessionHandle, nonce: &[u8; NONCE_BYTES], keep: bool)
+        requires { IsSome (loaded self.old session) }
+        ensures { (o : Origin) (h : History) (c : Command) (r : Reply) (a : Auth) (others : List Auth) → c.auths.items ≡ a ∷ others → a.session ≡ session → continues a.attrs ≡ keep →
+            needs_authorization (code_for c.body) ≡ true → self.old ≡ sessions_at o h → self.new ≡ sessions_at o (Accepted c r nonce.now ∷ h) }
+    {
+        roll(&mut self.slots[slot_of(session)], nonce, keep);
+    }
+}
+
+// After a command of the slot's session: the session goes on, or the slot is free.
+fn roll(slot: &mut Option<Session>, nonce: &[u8; NONCE_BYTES], keep: bool)
+    ensures { slot.new ≡ after_command nonce.now keep slot.old }
+{
+    if keep {
+        if let Some(session) = slot {
+            session.roll(nonce);
+        }
+    } else {
+        *slot = None;
     }
 }
