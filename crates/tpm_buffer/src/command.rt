@@ -229,69 +229,71 @@ fn second(handles: &[u32]) -> u32
 }
 
 impl CommandBody {
-    /// A command with this code, which another one is read in the place of.
-    #[inline(always)]
-    pub(crate) fn unread(code: CommandCode) -> CommandBody
-        ensures { code_for result ≡ code }
+    /// Makes it a command with this code, which another one is read in the place of. Each is made where it stays.
+    #[inline(never)]
+    pub(crate) fn begin(&mut self, code: CommandCode)
+        ensures { code_for self.new ≡ code }
     {
         match code {
-            CommandCode::NvUndefineSpace => CommandBody::NvUndefineSpace { index: index_in(0) },
-            CommandCode::NvDefineSpace => CommandBody::NvDefineSpace {
+            CommandCode::NvUndefineSpace => *self = CommandBody::NvUndefineSpace {
+                index: index_in(0),
+            },
+            CommandCode::NvDefineSpace => *self = CommandBody::NvDefineSpace {
                 auth: AuthValue::default(),
                 public: any_public(),
             },
-            CommandCode::NvIncrement => CommandBody::NvIncrement {
+            CommandCode::NvIncrement => *self = CommandBody::NvIncrement {
                 by: NvAuthHandle::Owner,
                 index: index_in(0),
             },
-            CommandCode::PcrEvent => CommandBody::PcrEvent {
+            CommandCode::PcrEvent => *self = CommandBody::PcrEvent {
                 register: PcrOrNull::Null,
                 event: Event::default(),
             },
-            CommandCode::PcrReset => CommandBody::PcrReset {
+            CommandCode::PcrReset => *self = CommandBody::PcrReset {
                 register: PcrIndex::default(),
             },
-            CommandCode::Startup => CommandBody::Startup(StartupType::Clear),
-            CommandCode::NvRead => CommandBody::NvRead {
+            CommandCode::Startup => *self = CommandBody::Startup(StartupType::Clear),
+            CommandCode::NvRead => *self = CommandBody::NvRead {
                 by: NvAuthHandle::Owner,
                 index: index_in(0),
                 size: 0,
                 offset: 0,
             },
-            CommandCode::FlushContext => CommandBody::FlushContext(any_session()),
-            CommandCode::NvReadPublic => CommandBody::NvReadPublic { index: index_in(0) },
-            CommandCode::PolicyAuthValue => CommandBody::PolicyAuthValue {
+            CommandCode::FlushContext => *self = CommandBody::FlushContext(any_session()),
+            CommandCode::NvReadPublic => *self = CommandBody::NvReadPublic { index: index_in(0) },
+            CommandCode::PolicyAuthValue => *self = CommandBody::PolicyAuthValue {
                 session: policy_in(0),
             },
-            CommandCode::PolicyCommandCode => CommandBody::PolicyCommandCode {
+            CommandCode::PolicyCommandCode => *self = CommandBody::PolicyCommandCode {
                 session: policy_in(0),
                 code: 0,
             },
-            CommandCode::PolicyOr => CommandBody::PolicyOr {
+            CommandCode::PolicyOr => *self = CommandBody::PolicyOr {
                 session: policy_in(0),
                 digests: any_digests(),
             },
-            CommandCode::StartAuthSession => CommandBody::StartAuthSession(StartAuth {
+            CommandCode::StartAuthSession => *self = CommandBody::StartAuthSession(StartAuth {
                 bind: BindHandle::Null,
                 nonce_caller: Nonce::default(),
                 session_type: SessionType::Hmac,
                 symmetric: SymDef::Null,
                 auth_hash: Alg::default(),
             }),
-            CommandCode::PcrRead => CommandBody::PcrRead(Selections::default()),
-            CommandCode::PolicyPcr => CommandBody::PolicyPcr {
+            CommandCode::PcrRead => *self = CommandBody::PcrRead(Selections::default()),
+            CommandCode::PolicyPcr => *self = CommandBody::PolicyPcr {
                 session: policy_in(0),
                 pcr_digest: Digest::default(),
                 selections: Selections::default(),
             },
-            CommandCode::PolicyRestart => CommandBody::PolicyRestart {
+            CommandCode::PolicyRestart => *self = CommandBody::PolicyRestart {
                 session: policy_in(0),
             },
-            CommandCode::PcrExtend => CommandBody::PcrExtend {
+            CommandCode::PcrExtend => *self = CommandBody::PcrExtend {
                 register: PcrOrNull::Null,
                 digests: DigestValues::default(),
             },
-            CommandCode::PolicyGetDigest => CommandBody::PolicyGetDigest {
+            CommandCode::PolicyGetDigest => *self = CommandBody::PolicyGetDigest {
                 session: policy_in(0),
             },
         }

@@ -7,26 +7,16 @@ ghost use Rattle.tpm_wire.specs.Reading.{read_all, Gives};
 ghost use Rattle.tpm_wire.specs.Layout.{cut};
 ghost use Rattle.tpm_wire.specs.Path.{Spells, Fault};
 ghost use Rattle.tpm_buffer.specs.declared.command.Command.{Command as CommandOf};
-ghost use Rattle.tpm_buffer.specs.Commands.{before_params, code_for, command};
+ghost use Rattle.tpm_buffer.specs.Commands.{before_params, command};
 ghost use Rattle.tpm_buffer.specs.CommandAreas.{Cut, HasCut};
 
-use crate::code::CommandCode;
 use crate::command::{Command, CommandBody};
 use crate::command_areas::{Areas, any_areas, take_areas};
 use crate::command_header::long_fault;
 use arrayvec::ArrayVec;
+use tpm_types::StartupType;
 use tpm_wire::response_code::SIZE;
 use tpm_wire::{Cursor, Refusal};
-
-// Makes it a command with this code, which it is already where `any_command` saw the code.
-#[inline(always)]
-fn begin(body: &mut CommandBody, code: CommandCode)
-    ensures { code_for body.new ≡ code }
-{
-    if body.code() != code {
-        *body = CommandBody::unread(code);
-    }
-}
 
 fn read_command(bytes: &[u8], decoded: &mut Command) -> Result<(), Refusal>
     requires { length bytes.now ≤ 4096 }
@@ -35,7 +25,7 @@ fn read_command(bytes: &[u8], decoded: &mut Command) -> Result<(), Refusal>
 {
     let mut cursor = Cursor::new(bytes);
     let areas = take_areas(&mut cursor, bytes)?;
-    begin(&mut decoded.body, areas.code());
+    decoded.body.begin(areas.code());
     decoded.body.read(&mut cursor, areas.handles())?;
     if cursor.left() > 0 {
         return Err(Refusal {
@@ -90,22 +80,12 @@ fn decode(bytes: &[u8], answer: &mut Result<Command, Refusal>)
     }
 }
 
-// A command that the one in the bytes is decoded in the place of. Where it has the code of that, its place is cleared once.
+// A command that another one is decoded in the place of.
 #[inline(always)]
-fn any_command(bytes: &[u8]) -> Command {
+fn any_command() -> Command {
     Command {
-        body: CommandBody::unread(code_in(bytes).unwrap_or(CommandCode::PolicyRestart)),
+        body: CommandBody::Startup(StartupType::Clear),
         auths: ArrayVec::new(),
-    }
-}
-
-// The code in its place in the header, if there is one. The header is judged later.
-fn code_in(bytes: &[u8]) -> Option<CommandCode> {
-    match bytes {
-        [_, _, _, _, _, _, a, b, c, d, ..] => CommandCode::from_number(u32::from_be_bytes([
-            *a, *b, *c, *d,
-        ])),
-        _ => None,
     }
 }
 
@@ -123,7 +103,7 @@ pub fn decode_command(bytes: &[u8]) -> Result<Command, Refusal>
     ensures ok { (c : CommandOf) → (result ≡ Ok c) ↔ Spells command c bytes.now }
     ensures err { (e : RefusalOf) → (result ≡ Err e) ↔ Fault command bytes.now e }
 {
-    let mut answer = Ok(any_command(bytes));
+    let mut answer = Ok(any_command());
     decode(bytes, &mut answer);
     answer
 }
@@ -132,8 +112,8 @@ pub fn decode_command(bytes: &[u8]) -> Result<Command, Refusal>
 pub fn one_spelling(a: &[u8], b: &[u8])
     ensures { (c : CommandOf) → Spells command c a.now → Spells command c b.now → a.now ≡ b.now }
 {
-    let mut one = Ok(any_command(a));
+    let mut one = Ok(any_command());
     decode(a, &mut one);
-    let mut other = Ok(any_command(b));
+    let mut other = Ok(any_command());
     decode(b, &mut other);
 }

@@ -240,41 +240,41 @@ pub(crate) fn any_digests() -> OrDigests {
 }
 
 impl Params {
-    /// The parameters of a command with this code, which others are read in the place of.
-    #[inline(always)]
-    fn unread(code: CommandCode) -> Params
-        ensures { params_code result ≡ code }
+    // Makes them those of a command with this code, which others are read in the place of. Each are made where they stay.
+    #[inline(never)]
+    fn begin(&mut self, code: CommandCode)
+        ensures { params_code self.new ≡ code }
     {
         match code {
-            CommandCode::NvUndefineSpace => Params::NvUndefineSpace,
-            CommandCode::NvDefineSpace => Params::NvDefineSpace {
+            CommandCode::NvUndefineSpace => *self = Params::NvUndefineSpace,
+            CommandCode::NvDefineSpace => *self = Params::NvDefineSpace {
                 auth: AuthValue::default(),
                 public: any_public(),
             },
-            CommandCode::NvIncrement => Params::NvIncrement,
-            CommandCode::PcrEvent => Params::PcrEvent(Event::default()),
-            CommandCode::PcrReset => Params::PcrReset,
-            CommandCode::Startup => Params::Startup(StartupType::Clear),
-            CommandCode::NvRead => Params::NvRead { size: 0, offset: 0 },
-            CommandCode::FlushContext => Params::FlushContext(any_session()),
-            CommandCode::NvReadPublic => Params::NvReadPublic,
-            CommandCode::PolicyAuthValue => Params::PolicyAuthValue,
-            CommandCode::PolicyCommandCode => Params::PolicyCommandCode(0),
-            CommandCode::PolicyOr => Params::PolicyOr(any_digests()),
-            CommandCode::StartAuthSession => Params::StartAuthSession {
+            CommandCode::NvIncrement => *self = Params::NvIncrement,
+            CommandCode::PcrEvent => *self = Params::PcrEvent(Event::default()),
+            CommandCode::PcrReset => *self = Params::PcrReset,
+            CommandCode::Startup => *self = Params::Startup(StartupType::Clear),
+            CommandCode::NvRead => *self = Params::NvRead { size: 0, offset: 0 },
+            CommandCode::FlushContext => *self = Params::FlushContext(any_session()),
+            CommandCode::NvReadPublic => *self = Params::NvReadPublic,
+            CommandCode::PolicyAuthValue => *self = Params::PolicyAuthValue,
+            CommandCode::PolicyCommandCode => *self = Params::PolicyCommandCode(0),
+            CommandCode::PolicyOr => *self = Params::PolicyOr(any_digests()),
+            CommandCode::StartAuthSession => *self = Params::StartAuthSession {
                 nonce_caller: Nonce::default(),
                 session_type: SessionType::Hmac,
                 symmetric: SymDef::Null,
                 auth_hash: Alg::default(),
             },
-            CommandCode::PcrRead => Params::PcrRead(Selections::default()),
-            CommandCode::PolicyPcr => Params::PolicyPcr {
+            CommandCode::PcrRead => *self = Params::PcrRead(Selections::default()),
+            CommandCode::PolicyPcr => *self = Params::PolicyPcr {
                 pcr_digest: Digest::default(),
                 selections: Selections::default(),
             },
-            CommandCode::PolicyRestart => Params::PolicyRestart,
-            CommandCode::PcrExtend => Params::PcrExtend(DigestValues::default()),
-            CommandCode::PolicyGetDigest => Params::PolicyGetDigest,
+            CommandCode::PolicyRestart => *self = Params::PolicyRestart,
+            CommandCode::PcrExtend => *self = Params::PcrExtend(DigestValues::default()),
+            CommandCode::PolicyGetDigest => *self = Params::PolicyGetDigest,
         }
     }
 
@@ -326,7 +326,7 @@ fn read_params(
     ensures spelled { OnOk result (cursor.old.here.rest ≡ spelling (parameters code) params.new ++ cursor.new.here.rest) }
     ensures code { OnOk result (params_code params.new ≡ code) }
 {
-    *params = Params::unread(code);
+    params.begin(code);
     params.read(cursor)
 }
 
