@@ -95,22 +95,12 @@ permitted_by : (has : CommandSet) (d : Device) (bytes : List ℕ) (x : Cut) → 
     → permitted has (holds d) bytes ≡ (check_sessions (entity_of (holds d) (first x.handles)) x.auths >>= λ _. Ok (presented_in (holds d) x))
 permitted_by has d bytes x read = rw (read, evidence_known d x.header.code x.handles x.params x.auths) (left (holds d) x x.auths)
 
-pub permitted_ok : (has : CommandSet) (d : Device) (bytes : List ℕ) (x : Cut) → IsRead (holds d) (presented has (holds d) bytes) (Ok x)
-    → check_sessions (entity_of (holds d) (first x.handles)) x.auths ≡ Ok tt → IsPermitted (holds d) (permitted has (holds d) bytes) (Ok x)
-permitted_ok has d bytes x read checked = permitted_by has d bytes x read ∙ ap (λ (r : Result (Unit {0}) ℕ). r >>= λ _. Ok (presented_in (holds d) x)) checked
-
 pub permitted_refused : (has : CommandSet) (d : Device) (bytes : List ℕ) (x : Cut) (code : ℕ) → IsRead (holds d) (presented has (holds d) bytes) (Ok x)
     → check_sessions (entity_of (holds d) (first x.handles)) x.auths ≡ Err code → permitted has (holds d) bytes ≡ Err code
 permitted_refused has d bytes x code read checked = permitted_by has d bytes x read ∙ ap (λ (r : Result (Unit {0}) ℕ). r >>= λ _. Ok (presented_in (holds d) x)) checked
 
-pub presented_refused : (has : CommandSet) (p : Present) (bytes : List ℕ) (code : ℕ) → presented has p bytes ≡ Err code → permitted has p bytes ≡ Err code
-presented_refused has p bytes code is = rw is refl
-
 pub permitted_some : (has : CommandSet) (p : Present) (bytes : List ℕ) (code : ℕ) → permitted has p bytes ≡ Err code → 0 < code
 permitted_some has p bytes code is = (refused_with has p bytes [] code (rw is refl)).0
-
-pub outcome_as : (has : CommandSet) (p : Present) (bytes n : List ℕ) (r : Result Presented ℕ) → permitted has p bytes ≡ r → outcome has p bytes n ≡ (r >>= performed p n)
-outcome_as has p bytes n r is = ap (λ (x : Result Presented ℕ). x >>= performed p n) is
 
 -- ---- the parameters and the action
 
@@ -140,10 +130,6 @@ performed_as p n x params reads =
     ap (λ (auths : List AuthReply). Ok (record { command = with_auths (body_from x.handles params) x.auths; reply = record { body = body; auths = auths } }))
     (password_replied e x.auths x.header.code (reply_params body) n)))
 
-pub action_told : (body : CommandBody) (auths : List Auth) (r : Result ReplyBody ℕ) → replied (replies_to auths) r ≡ told (r >>= λ reply. Ok (done_by body reply auths))
-action_told body auths (Ok reply) = refl
-action_told body auths (Err code) = refl
-
 -- A step more where the action succeeds, and none where it is refused.
 pub action_stands : (o : Origin) (h : History) (n : List ℕ) (old new : Device) (body : CommandBody) (auths : List Auth) (a : Result ReplyBody ℕ) (items : List ℕ) (r : Result (Unit {0}) ℕ)
     → Stands o h old → given items r ≡ replied (replies_to auths) a
@@ -164,7 +150,3 @@ reply_is_done body auths = refl
 pub reply_told : (r : Result Done ℕ) (items : List ℕ) → IfOk r (λ d. code_for d.command.body ≡ code_for_reply d.reply.body) → Ok items ≡ told r → items ≡ answered r
 reply_told (Ok d) items own is = ok_is items _ is ∙ ap (λ (code : CommandCode). spelling (response code) (done_with d.reply)) (sym own)
 reply_told (Err e) items own is = absurd (cc)
-
-pub code_told : (r : Result Done ℕ) (code : ℕ) → Err code ≡ told r → answered (Err code) ≡ answered r
-code_told (Ok d) code is = absurd (cc)
-code_told (Err e) code is = ap (λ (n : ℕ). answered (Err n)) (cc)
