@@ -3,6 +3,7 @@
 ghost use Rattle.std.specs.Prelude.{◌≡◌, ◌++◌, OnOk};
 ghost use Rattle.tpm_wire.specs.Spelling.{spelling};
 ghost use Rattle.tpm_wire.specs.Buffers.{TakesNumbered};
+ghost use Rattle.tpm_buffer.specs.declared.code.CommandCode.TheVariants as codes;
 ghost use Rattle.tpm_buffer.specs.Handles.{first as first_of, second as second_of};
 ghost use Rattle.tpm_buffer.specs.Parameters.{params_code, parameters};
 ghost use Rattle.tpm_buffer.specs.Commands.{register_in as the_register, index_in as the_index, policy_in as the_policy, pcr_or_null_in as the_pcr_or_null, nv_auth_in as the_nv_auth, bind_in as the_bind, body_from, params_of, code_for};
@@ -246,10 +247,7 @@ impl CommandBody {
                 by: NvAuthHandle::Owner,
                 index: index_in(0),
             },
-            CommandCode::PcrEvent => *self = CommandBody::PcrEvent {
-                register: PcrOrNull::Null,
-                event: Event::default(),
-            },
+            CommandCode::PcrEvent => self.begin_event(),
             CommandCode::PcrReset => *self = CommandBody::PcrReset {
                 register: PcrIndex::default(),
             },
@@ -297,6 +295,17 @@ impl CommandBody {
                 session: policy_in(0),
             },
         }
+    }
+
+    // Its many bytes would else be cleared for each of the other commands too.
+    #[inline(never)]
+    fn begin_event(&mut self)
+        ensures { code_for self.new ≡ codes.PcrEvent }
+    {
+        *self = CommandBody::PcrEvent {
+            register: PcrOrNull::Null,
+            event: Event::default(),
+        };
     }
 
     // Reads the parameters of a command with the same code in their place, and gives it the handles with these numbers. A
