@@ -1,5 +1,4 @@
 pub mod Limits
-pub mod Codes
 pub mod Alg
 pub mod Tpma
 pub mod Handles

@@ -24,7 +24,6 @@ pub use handles::{
 };
 pub use laws::{same_limits, same_lists};
 pub use limits::{BANKS, BLOCK_BYTES, DIGEST_BYTES, NAME_BYTES, PUBLIC_BYTES};
-pub use tpm_wire::response_code::{HASH, MODE, RESERVED_BITS, SYMMETRIC, VALUE};
 pub use tpm2b::{AuthValue, Digest, EncryptedSalt, Name, Nonce, name_of_handle};
 pub use tpma::{NvAttrs, SessionAttrs};
 pub use tpml::{DigestValues, Digests, MOST_DIGESTS, OrDigests, Selections};

@@ -67,10 +67,3 @@ Enters n old new (Err e) = (length old.here.rest < n) × (e ≡ record { code = 
 abbrev pub Leaves : Here → Place → Place → Result (Unit {0}) Refusal → Type 0
 Leaves outer old new (Ok x) = (length old.here.rest ≡ 0) × (new ≡ record { here = outer; number = old.number })
 Leaves outer old new (Err e) = (0 < length old.here.rest) × (e ≡ record { code = rc_size + old.number; at = old.here.at })
-
--- The codes under their former names.
-abbrev pub insufficient : ℕ
-insufficient = rc_insufficient
-
-abbrev pub size_code : ℕ
-size_code = rc_size

@@ -1,0 +1,5 @@
+//! The worked log and its faults, from a slice and in pieces, beside what is proved of logs.
+#![tactic(auto)]
+
+#[cfg(test)]
+mod logs;
