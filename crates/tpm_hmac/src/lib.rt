@@ -15,4 +15,4 @@ pub use hashing::hash;
 pub use kdf::kdfa;
 pub use laws::{lengths, trimmed};
 pub use mac::hmac;
-pub use session::{command_mac, cp_hash, response_mac, rp_hash};
+pub use session::{command_mac, cp_hash, response_mac, rp_hash, session_key};

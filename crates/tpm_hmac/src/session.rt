@@ -1,16 +1,34 @@
 //! What the HMACs of sessions are made of (Part 1, "Session-Based Authorizations").
 
-ghost use Rattle.std.specs.Prelude.{◌≡◌, ℕ, List, length};
+ghost use Rattle.std.specs.Prelude.{◌≡◌, ℕ, List, Some, length};
 ghost use Rattle.tpm_types.specs.Alg.{digest_len};
 ghost use Rattle.tpm_buffer.specs.Codes.{code_number};
 ghost use Rattle.tpm_hmac.specs.Hmac.{hmac as hmac_of};
-ghost use Rattle.tpm_hmac.specs.Sessions.{whole_key, mac_text, cp_hash as cp_hash_of, rp_hash as rp_hash_of};
+ghost use Rattle.tpm_hmac.specs.Sessions.{session_key as session_key_of, whole_key, mac_text, cp_hash as cp_hash_of, rp_hash as rp_hash_of};
 
 use crate::bytes::trim;
 use crate::hashing::Hasher;
+use crate::kdf::kdfa;
 use crate::mac::Mac;
 use tpm_buffer::CommandCode;
-use tpm_types::{Alg, Digest, Name, SessionAttrs};
+use tpm_types::{Alg, DIGEST_BYTES, Digest, Name, SessionAttrs};
+
+// The label of the key of a session that is bound.
+const BOUND: &[u8; 3] = b"ATH";
+
+/// sessionKey of a session that is bound to an entity with this authorization value: KDFa of the trimmed value, as long as a
+/// digest (Part 1, "sessionKey Creation"). A session that is bound to none has the empty key.
+pub fn session_key(alg: Alg, auth_value: &[u8], nonce_tpm: &[u8], nonce_caller: &[u8]) -> Digest
+    ensures { result ≡ session_key_of alg (Some auth_value.now) nonce_tpm.now nonce_caller.now }
+{
+    let mut bytes = [0; DIGEST_BYTES];
+    let key = &mut bytes[..alg.digest_len()];
+    kdfa(alg, trim(auth_value), BOUND, nonce_tpm, nonce_caller, key);
+    match Digest::new(key) {
+        Some(key) => key,
+        None => unreachable!(),
+    }
+}
 
 /// cpHash of a command: the hash of its code, the Name of each of its handles, in their order, and its parameters as they are
 /// sent (Part 1, "Command Parameter Hash (cpHash)").
