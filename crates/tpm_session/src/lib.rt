@@ -1,8 +1,13 @@
 //! The sessions that a device holds (Part 1, "Session-Based Authorizations").
 #![tactic(auto)]
 
+mod access;
+mod authorize;
+mod entity;
+mod evidence;
 mod session;
 mod sessions;
 
+pub use entity::Entity;
 pub use session::{NONCE_BYTES, Session};
 pub use sessions::Sessions;

@@ -22,11 +22,11 @@ const BOUND: &[u8; 3] = b"ATH";
 
 // What a policy session holds of its assertions.
 #[derive(Drop)]
-struct Policy {
-    digest: Digest,
-    code: Option<u32>,
-    update_counter: Option<u32>,
-    auth_value: bool,
+pub(crate) struct Policy {
+    pub(crate) digest: Digest,
+    pub(crate) code: Option<u32>,
+    pub(crate) update_counter: Option<u32>,
+    pub(crate) auth_value: bool,
 }
 
 impl Model for Policy {
@@ -64,12 +64,12 @@ fn zeros(alg: Alg) -> Digest
 /// A session that is loaded.
 #[derive(Drop)]
 pub struct Session {
-    session_type: SessionType,
-    hash: Alg,
-    key: Digest,
-    nonce: Nonce,
-    is_bound: bool,
-    policy: Policy,
+    pub(crate) session_type: SessionType,
+    pub(crate) hash: Alg,
+    pub(crate) key: Digest,
+    pub(crate) nonce: Nonce,
+    pub(crate) is_bound: bool,
+    pub(crate) policy: Policy,
 }
 
 impl Model for Session {

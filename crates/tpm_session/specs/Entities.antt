@@ -1,0 +1,48 @@
+-- What authorizes a command, as it is handed in and as the code has it.
+use Rattle.std.specs.Prelude.{ℕ, List, [], Result, Ok, Err, if◌then◌else◌}
+use Rattle.tpm_types.specs.declared.tpms.Auth.{Auth}
+use Rattle.tpm_buffer.specs.declared.code.CommandCode.{CommandCode}
+use Rattle.tpm_hmac.specs.Hmac.{hmac}
+use Rattle.tpm_model.specs.Sessions.{Session}
+use Rattle.tpm_model.specs.Entities as model
+use Rattle.tpm_model.specs.Authorization as authorization
+use Rattle.tpm_session.specs.declared.entity.Entity.{Entity}
+use Rattle.tpm_session.specs.declared.entity.Entity.TheVariants as entities
+use Rattle.tpm_session.specs.declared.access.Access.{Access}
+use Rattle.tpm_session.specs.declared.access.Access.TheVariants as accesses
+use Rattle.tpm_session.specs.declared.authorize.Authorizer.{Authorizer}
+use Rattle.tpm_session.specs.declared.authorize.Authorizer.TheVariants as authorizers
+
+abbrev pub entity_in : Entity → model.Entity
+entity_in entities.Register = model.Entity.Register
+entity_in entities.Null = model.Entity.Null
+entity_in (entities.Owner auth) = model.Entity.Owner auth.now
+entity_in (entities.Index public auth) = model.Entity.Index public.now auth.now
+
+abbrev pub access_in : Access → authorization.Access
+access_in accesses.Writes = authorization.Access.Writes
+access_in accesses.Reads = authorization.Access.Reads
+access_in accesses.Neither = authorization.Access.Neither
+
+abbrev pub authorizer_in : Authorizer → authorization.Authorizer
+authorizer_in authorizers.Password = authorization.Authorizer.Password
+authorizer_in (authorizers.Loaded session) = authorization.Authorizer.BySession session.now
+
+-- who authorizes, or a code
+abbrev pub found : Result Authorizer ℕ → Result authorization.Authorizer ℕ
+found (Ok by) = Ok (authorizer_in by)
+found (Err code) = Err code
+
+-- what it gives as evidence for a command, or a code
+abbrev pub given : model.Entity → CommandCode → (names : List (List ℕ)) → (params : List ℕ) → Auth → Result Authorizer ℕ → Result authorization.Evidence ℕ
+given e code names params a (Ok by) = Ok (authorization.evidence_by (authorizer_in by) e code names params a)
+given e code names params a (Err code_of_failure) = Err code_of_failure
+
+-- what the HMAC of a session is made of, for a command of this entity
+abbrev pub signed_by : Session → model.Entity → (p_hash : List ℕ) → Auth → authorization.Signed
+signed_by s e p_hash a = record { session = s; key = authorization.key_for s e; p_hash = p_hash; auth = a }
+
+-- The HMAC of the reply with this nonce, or none.
+abbrev pub reply_hmac : Session → model.Entity → Auth → CommandCode → (params newer : List ℕ) → List ℕ
+reply_hmac s e a code params newer =
+    if authorization.needs_none (signed_by s e [] a) then [] else hmac s.hash (authorization.key_for s e) (authorization.reply_text s.hash code params newer a.nonce a.attrs)
