@@ -19,7 +19,7 @@ use Rattle.tpm_buffer.specs.declared.response.ReplyBody.{ReplyBody}
 use Rattle.tpm_buffer.specs.declared.response.Response.{Response}
 use Rattle.tpm_buffer.specs.declared.response.Response.TheVariants as responses
 use Rattle.tpm_buffer.specs.Replies.{code_for_reply, session_handle, session_in, reply_handles, reply_handles_of, reply_parameters, parameters_of_reply, pcr_event_reply, nv_read_reply, nv_read_public_reply, start_auth_session_reply, pcr_read_reply, policy_get_digest_reply}
-use Rattle.tpm_buffer.specs.Responses.{response_front, response_code, parameter_size, reply_sessions, with_sessions, without_sessions, Reply, reply, reply_of, done_with, behind_code, response, ReplyCut, raw_with_sessions, raw_without_sessions, cut_behind_code, reply_cut}
+use Rattle.tpm_buffer.specs.Responses.{response_front, response_code, parameter_size, reply_sessions, with_sessions, without_sessions, Reply, reply, reply_of, done_with, behind_code, response, ReplyCut, raw_with_sessions, raw_without_sessions, cut_behind_code, reply_cut, Answers}
 use Rattle.tpm_buffer.specs.ResponseAreas.{IsCutOf}
 use Rattle.tpm_buffer.proofs.Places.{alone}
 
@@ -264,29 +264,40 @@ its_cut code n r c zero b =
       auths_are = b.parts.auths;
     }
 
-code_same : (code : CommandCode) (t n : ℕ) (h : Here) → Follows IsCutOf (read 0 (behind_code code t n) h) (read 0 (cut_behind_code code t n) h)
+-- The same of a response to this command.
+abbrev IsOwnCut : CommandCode → Response → ReplyCut → Type 0
+IsOwnCut code r c = IsCutOf r c × Answers code r
+
+code_same : (code : CommandCode) (t n : ℕ) (h : Here) → Follows (IsOwnCut code) (read 0 (behind_code code t n) h) (read 0 (cut_behind_code code t n) h)
 code_same code t n h = go (eqb n 0) refl
   where
-    go : (zero : Bool) → eqb n 0 ≡ zero → Follows IsCutOf (read 0 (either zero (Form.field reply_of (reply code t) (λ r. Form.done (done_with r))) (Form.done (responses.Code n))) h)
+    go : (zero : Bool) → eqb n 0 ≡ zero → Follows (IsOwnCut code) (read 0 (either zero (Form.field reply_of (reply code t) (λ r. Form.done (done_with r))) (Form.done (responses.Code n))) h)
         (read 0 (either zero (Form.field (λ c. c.handles) (reply_handles code) (λ hs. either (eqb t 0x8002) (raw_with_sessions n hs) (raw_without_sessions n hs)))
         (Form.done (record { code = n; handles = []; params = []; auths = [] }))) h)
     go true zero = λ x is none.
         let done = bind_ok (read 0 (reply code t) h) (λ r. ok (done_with r.0, r.1)) x is in
         let same = ok_is (done_with done.0.0, done.0.1) x done.2 in
         let y = reply_same code t n h done.0 done.1 (ap (λ z. length z.1.rest) same ∙ none) in
-        (y.0, y.1, y.2, subst (λ z. IsCutOf z y.0.0) (ap (λ z. z.0) same) (its_cut code n done.0.0 y.0.0 (eqb-true n 0 zero) y.3))
-    go false some = ends IsCutOf (responses.Code n) (record { code = n; handles = []; params = []; auths = [] }) h refl
+        (y.0, y.1, y.2, subst (λ z. IsOwnCut code z y.0.0) (ap (λ z. z.0) same) (its_cut code n done.0.0 y.0.0 (eqb-true n 0 zero) y.3, sym y.3.is_body.0))
+    go false some = ends (IsOwnCut code) (responses.Code n) (record { code = n; handles = []; params = []; auths = [] }) h (refl, tt)
 
-has_read : (code : CommandCode) (h : Here) → Follows IsCutOf (read 0 (response code) h) (read 0 (reply_cut code) h)
+has_read : (code : CommandCode) (h : Here) → Follows (IsOwnCut code) (read 0 (response code) h) (read 0 (reply_cut code) h)
 unfolding response reply_cut
-has_read code h = alike IsCutOf (read 0 response_front h) _ _ (λ f _.
-    alike IsCutOf (read 0 (response_code f.0.0) f.1) _ _ (λ n _.
+has_read code h = alike (IsOwnCut code) (read 0 response_front h) _ _ (λ f _.
+    alike (IsOwnCut code) (read 0 (response_code f.0.0) f.1) _ _ (λ n _.
     code_same code f.0.0 n.0 n.1))
 
-pub has_areas : (code : CommandCode) (bytes : List ℕ) (r : Response) → Spells (response code) r bytes → (c : ReplyCut) × Spells (reply_cut code) c bytes × IsCutOf r c
-has_areas code bytes r s =
+has_own_areas : (code : CommandCode) (bytes : List ℕ) (r : Response) → Spells (response code) r bytes → (c : ReplyCut) × Spells (reply_cut code) c bytes × IsOwnCut code r c
+has_own_areas code bytes r s =
     let done = bind_ok (read 0 (response code) (at_start bytes) >>= finish buffer) (λ x. ok x.0) r (spells_read buffer buffer_sound (response code) bytes r s) in
     let whole = bind_ok (read 0 (response code) (at_start bytes)) (finish buffer) done.0 done.1 in
     let same = finish_is whole.0 done.0 whole.2 in
     let c = has_read code (at_start bytes) whole.0 whole.1 (nothing_left whole.0 done.0 whole.2) in
-    (c.0.0, read_spells buffer buffer_sound (reply_cut code) bytes c.0.0 (rw (c.1, c.2) refl), subst (λ q. IsCutOf q c.0.0) (ap (λ z. z.0) same ∙ ok_is done.0.0 r done.2) c.3)
+    (c.0.0, read_spells buffer buffer_sound (reply_cut code) bytes c.0.0 (rw (c.1, c.2) refl), subst (λ q. IsOwnCut code q c.0.0) (ap (λ z. z.0) same ∙ ok_is done.0.0 r done.2) c.3)
+
+pub has_areas : (code : CommandCode) (bytes : List ℕ) (r : Response) → Spells (response code) r bytes → (c : ReplyCut) × Spells (reply_cut code) c bytes × IsCutOf r c
+has_areas code bytes r s = let x = has_own_areas code bytes r s in (x.0, x.1, x.2.0)
+
+-- The response that bytes spell is one to the command.
+pub answers : (code : CommandCode) (bytes : List ℕ) (r : Response) → Spells (response code) r bytes → Answers code r
+answers code bytes r s = (has_own_areas code bytes r s).2.1

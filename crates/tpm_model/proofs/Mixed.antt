@@ -58,7 +58,7 @@ use Rattle.tpm_model.proofs.ReplyBytes.{session_text, reply_bytes, one_session}
 
 -- ---- what was opened
 
-abbrev done_body : ReplyBody → List AuthReply → Response
+abbrev pub done_body : ReplyBody → List AuthReply → Response
 done_body body auths = done_with (record { body = body; auths = auths })
 
 abbrev read_ok : Response → Result Response Refusal
@@ -158,7 +158,7 @@ session_is a = simp (append_assoc, append-nil)
 tail_is : (handles size params s : List ℕ) → handles ≡ [] → (handles ++ (size ++ (params ++ ((s ++ []) ++ [])))) ++ [] ≡ size ++ (params ++ s)
 tail_is handles size params s none = rw none (simp append-nil)
 
-one_reply : (r : ReplyBody) (a : AuthReply) → spelling (reply_handles (code_for_reply r)) (reply_handles_of r) ≡ []
+pub one_reply : (r : ReplyBody) (a : AuthReply) → spelling (reply_handles (code_for_reply r)) (reply_handles_of r) ≡ []
     → spelling (response (code_for_reply r)) (done_body r (a ∷ [])) ≡ reply_bytes (size_of_response (code_for_reply r) (done_body r (a ∷ []))) (reply_params r) a.nonce a.attrs a.hmac []
 unfolding response response_front response_tag command_size response_code with_sessions parameter_size reply_sessions further_sessions
 one_reply r a none =
