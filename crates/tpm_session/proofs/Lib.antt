@@ -1,3 +1,4 @@
 pub mod Authorized
 pub mod Keys
 pub mod Slots
+pub mod Asserted

@@ -24,16 +24,16 @@ use Rattle.tpm_session.specs.Answers.{rolled, after_command}
 
 -- ---- slots
 
-abbrev put_at : ℕ → Option Session → ℕ → Option Session → Option Session
+abbrev pub put_at : ℕ → Option Session → ℕ → Option Session → Option Session
 put_at s x k old = if s == k then x else old
 
-three : {A : Type 0} {a b d x y z : A} → a ≡ x → b ≡ y → d ≡ z → ◌≡◌ {A = List A} (a ∷ b ∷ d ∷ []) (x ∷ y ∷ z ∷ [])
+pub three : {A : Type 0} {a b d x y z : A} → a ≡ x → b ≡ y → d ≡ z → ◌≡◌ {A = List A} (a ∷ b ∷ d ∷ []) (x ∷ y ∷ z ∷ [])
 three e f g = rw (e, f, g) refl
 
-same_test : (m n : ℕ) (b : Bool) → (m == n) ≡ b → (x y : Option Session) → put_at m x n y ≡ (if b then x else y)
+pub same_test : (m n : ℕ) (b : Bool) → (m == n) ≡ b → (x y : Option Session) → put_at m x n y ≡ (if b then x else y)
 same_test m n b e x y = rw e refl
 
-set_three : (a b d x : Option Session) (s : ℕ) → slice_set (a ∷ b ∷ d ∷ []) s x ≡ put_at s x 0 a ∷ put_at s x 1 b ∷ put_at s x 2 d ∷ []
+pub set_three : (a b d x : Option Session) (s : ℕ) → slice_set (a ∷ b ∷ d ∷ []) s x ≡ put_at s x 0 a ∷ put_at s x 1 b ∷ put_at s x 2 d ∷ []
 set_three a b d x zero = refl
 set_three a b d x (suc zero) = refl
 set_three a b d x (suc (suc zero)) = refl

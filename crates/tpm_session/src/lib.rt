@@ -5,6 +5,7 @@ mod access;
 mod authorize;
 mod entity;
 mod evidence;
+mod policy;
 mod session;
 mod sessions;
 

@@ -1,65 +1,27 @@
 //! One session, as it is held.
 
-ghost use Rattle.std.specs.Prelude.{◌≡◌, ◌≤◌, [], length, Some};
+ghost use Rattle.std.specs.Prelude.{◌≡◌, ◌≤◌, [], length};
 ghost use Rattle.tpm_types.specs.Handles.{kind_of};
-ghost use Rattle.tpm_hmac.specs.Sessions.{session_key, trim as trim_of};
-ghost use Rattle.tpm_model.specs.Registers.{zeros as zeros_of};
+ghost use Rattle.tpm_hmac.specs.Sessions.{trim as trim_of};
 ghost use Rattle.tpm_model.specs.Steps.{Origin};
-ghost use Rattle.tpm_model.specs.Sessions.{is_handle_of, nonce_from, as_session};
-ghost use Rattle.tpm_model.specs.Policies.{policy_of};
+ghost use Rattle.tpm_model.specs.Registers.{Registers, value_in, composite as composite_of};
+ghost use Rattle.tpm_model.specs.Sessions.{is_handle_of, is_trial as is_trial_type, pcr_assertion, nonce_from, as_session};
+ghost use Rattle.tpm_model.specs.Actions.{check_policy_pcr, check_policy_or, check_policy_code};
 ghost use Rattle.tpm_session.specs.Answers.{rolled};
+ghost use Rattle.tpm_session.specs.Policies.{as_assertion, asserting, restarted};
 
+use crate::policy::{Assertion, Policy, differs, is_listed};
 use std::marker::Model;
 use tpm_buffer::StartAuth;
-use tpm_hmac::{kdfa, trim};
-use tpm_types::{Alg, BindHandle, DIGEST_BYTES, Digest, Nonce, SessionHandle, SessionType};
+use tpm_hmac::session_key;
+use tpm_types::{
+    Alg, BindHandle, Digest, Nonce, OrDigests, Selections, SessionHandle, SessionType,
+};
+use tpm_wire::Duplicate;
+use tpm_wire::response_code::{PCR_CHANGED, VALUE, of_parameter};
 
 /// How many bytes are handed in for a nonce.
 pub const NONCE_BYTES: usize = 64;
-
-// The label of the key of a session that is bound.
-const BOUND: &[u8; 3] = b"ATH";
-
-// What a policy session holds of its assertions.
-#[derive(Drop)]
-pub(crate) struct Policy {
-    pub(crate) digest: Digest,
-    pub(crate) code: Option<u32>,
-    pub(crate) update_counter: Option<u32>,
-    pub(crate) auth_value: bool,
-}
-
-impl Model for Policy {
-    ghost use Rattle.tpm_model.specs.Policies as model;
-
-    ghost Value = { model.Policy };
-
-    ghost view = { λ p. record { digest = p.digest; code = p.code; update_counter = p.update_counter; auth_value = p.auth_value } };
-}
-
-impl Policy {
-    // Nothing is asserted.
-    fn new(alg: Alg) -> Self
-        ensures { result ≡ policy_of alg [] }
-    {
-        Policy {
-            digest: zeros(alg),
-            code: None,
-            update_counter: None,
-            auth_value: false,
-        }
-    }
-}
-
-// As many zeros as a digest has.
-fn zeros(alg: Alg) -> Digest
-    ensures { result ≡ zeros_of alg }
-{
-    match Digest::new(&[0; DIGEST_BYTES][..alg.digest_len()]) {
-        Some(digest) => digest,
-        None => unreachable!(),
-    }
-}
 
 /// A session that is loaded.
 #[derive(Drop)]
@@ -120,7 +82,12 @@ impl Session {
     {
         let nonce = first_of(start, nonce);
         let key = match start.bind {
-            BindHandle::Owner => bound_key(start, bind_auth, nonce.as_slice()),
+            BindHandle::Owner => session_key(
+                start.auth_hash,
+                bind_auth,
+                nonce.as_slice(),
+                start.nonce_caller.as_slice(),
+            ),
             BindHandle::Null => Digest::default(),
         };
         Session {
@@ -133,13 +100,112 @@ impl Session {
         }
     }
 
+    /// Whether it is a trial, in which a policy digest is computed and nothing is checked.
+    pub(crate) fn is_trial(&self) -> bool
+        ensures { result ≡ is_trial_type self.now.session_type }
+    {
+        match self.session_type {
+            SessionType::Trial => true,
+            SessionType::Hmac | SessionType::Policy => false,
+        }
+    }
+
+    // TPM2_PolicyPCR is refused where the registers changed since an earlier one, or don't have the digest that is given.
+    pub(crate) fn check_registers(
+        &self,
+        composite: &Digest,
+        update_counter: u32,
+        pcr_digest: &Digest,
+    ) -> Result<(), u32>
+        ensures { result ≡ check_policy_pcr self.now composite.now update_counter pcr_digest.now }
+    {
+        let pcr_digest = pcr_digest.as_slice();
+        if self.is_trial() {
+            return Ok(());
+        }
+        if differs(self.policy.update_counter, update_counter) {
+            return Err(PCR_CHANGED);
+        }
+        if !pcr_digest.is_empty() && pcr_digest != composite.as_slice() {
+            return Err(VALUE + of_parameter(1));
+        }
+        Ok(())
+    }
+
+    // TPM2_PolicyOR is refused where the policy digest is none of those that are given.
+    pub(crate) fn check_choice(&self, digests: &OrDigests) -> Result<(), u32>
+        ensures { result ≡ check_policy_or self.now digests.now }
+    {
+        if !self.is_trial() && !is_listed(self.policy.digest.as_slice(), digests.as_slice()) {
+            return Err(VALUE + of_parameter(1));
+        }
+        Ok(())
+    }
+
+    // TPM2_PolicyCommandCode is refused where another code was set.
+    pub(crate) fn check_code(&self, code: u32) -> Result<(), u32>
+        ensures { result ≡ check_policy_code self.now code }
+    {
+        if differs(self.policy.code, code) {
+            return Err(VALUE + of_parameter(1));
+        }
+        Ok(())
+    }
+
+    // What TPM2_PolicyPCR asserts. A trial takes any digest that it is given for that of the registers.
+    pub(crate) fn registers_asserted<'a>(
+        &self,
+        selections: &'a Selections,
+        composite: &'a Digest,
+        update_counter: u32,
+        pcr_digest: &'a Digest,
+    ) -> Assertion<'a>
+        ensures { (now : Registers) → composite.now ≡ composite_of self.now.hash (value_in now.banks) selections.now → update_counter ≡ now.update_counter →
+            as_assertion result ≡ pcr_assertion now self.now.session_type self.now.hash pcr_digest.now selections.now }
+    {
+        if !self.is_trial() {
+            return Assertion::Pcr {
+                selections,
+                pcr_digest: composite,
+                update_counter: Some(update_counter),
+            };
+        }
+        let is_given = !pcr_digest.as_slice().is_empty();
+        Assertion::Pcr {
+            selections,
+            pcr_digest: if is_given { pcr_digest } else { composite },
+            update_counter: None,
+        }
+    }
+
+    // The policy digest.
+    pub(crate) fn policy_digest(&self) -> Digest
+        ensures { result ≡ self.now.policy.digest }
+    {
+        self.policy.digest.duplicate()
+    }
+
+    // This is asserted too.
+    pub(crate) fn assert(&mut self, assertion: &Assertion<'_>)
+        ensures { self.new ≡ asserting (as_assertion assertion.now) self.old }
+    {
+        self.policy.assert(self.hash, assertion);
+    }
+
+    // Nothing is asserted any more.
+    pub(crate) fn restart(&mut self)
+        ensures { self.new ≡ restarted self.old }
+    {
+        self.policy = Policy::new(self.hash);
+    }
+
     // The next nonce, and nothing asserted any more.
     pub(crate) fn roll(&mut self, nonce: &[u8; NONCE_BYTES])
         ensures { self.new ≡ rolled nonce.now self.old }
     {
         let len = self.nonce.as_slice().len();
         self.nonce.set(&nonce[..len]);
-        self.policy = Policy::new(self.hash);
+        self.restart();
     }
 }
 
@@ -161,26 +227,6 @@ pub(crate) fn first_of(start: &StartAuth, nonce: &[u8; NONCE_BYTES]) -> Nonce
     let len = start.nonce_caller.as_slice().len();
     match Nonce::new(&nonce[..len]) {
         Some(nonce) => nonce,
-        None => unreachable!(),
-    }
-}
-
-// The key of a session that is bound to an entity with this authorization value.
-fn bound_key(start: &StartAuth, bind_auth: &[u8], nonce_tpm: &[u8]) -> Digest
-    ensures { result ≡ session_key start.now.auth_hash (Some bind_auth.now) nonce_tpm.now start.now.nonce_caller }
-{
-    let mut bytes = [0; DIGEST_BYTES];
-    let key = &mut bytes[..start.auth_hash.digest_len()];
-    kdfa(
-        start.auth_hash,
-        trim(bind_auth),
-        BOUND,
-        nonce_tpm,
-        start.nonce_caller.as_slice(),
-        key,
-    );
-    match Digest::new(key) {
-        Some(key) => key,
         None => unreachable!(),
     }
 }

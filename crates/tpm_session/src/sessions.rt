@@ -7,19 +7,26 @@ ghost use Rattle.tpm_buffer.specs.declared.response.ReplyBody.TheVariants as rep
 ghost use Rattle.tpm_buffer.specs.Responses.{Reply};
 ghost use Rattle.tpm_hmac.specs.Sessions.{trim as trim_of};
 ghost use Rattle.tpm_model.specs.Steps.{Origin, History, PowerCycle, Accepted};
-ghost use Rattle.tpm_model.specs.Sessions.{slot_of as slot_number, handle_for as handle_of, loaded, free_slot, sessions_at};
-ghost use Rattle.tpm_model.specs.Actions.{check_flush, start_session};
+ghost use Rattle.tpm_model.specs.Sessions.{slot_of as slot_number, handle_for as handle_of, loaded, free_slot, sessions_at, assertions_of};
+ghost use Rattle.tpm_model.specs.Actions.{check_flush, start_session, check_policy_pcr, check_policy_or, check_policy_code};
+ghost use Rattle.tpm_model.specs.Policies.{policy_digest as digest_of};
+ghost use Rattle.tpm_model.specs.Registers.{value_in, composite as composite_of, registers_after, changes};
+ghost use Rattle.tpm_model.specs.Sessions as model;
 ghost use Rattle.tpm_types.specs.declared.tpms.Auth.{Auth};
 ghost use Rattle.tpm_types.specs.Tpma.{continues};
 ghost use Rattle.tpm_buffer.specs.Handles.{needs_authorization};
 ghost use Rattle.tpm_buffer.specs.Commands.{code_for};
 ghost use Rattle.tpm_session.specs.Answers.{started_reply, after_command};
+ghost use Rattle.tpm_session.specs.Policies.{for_policy, as_assertion, asserting, restarted, with_slot};
 
+use crate::policy::Assertion;
 use crate::session::{NONCE_BYTES, Session, first_of};
 use std::marker::Model;
 use tpm_buffer::{StartAuth, StartReply};
-use tpm_types::{SessionHandle, SessionType};
-use tpm_wire::response_code::{HANDLE, SESSION_MEMORY, SIZE, of_parameter};
+use tpm_store::Registers;
+use tpm_types::{Digest, OrDigests, PolicyHandle, Selections, SessionHandle, SessionType};
+use tpm_wire::Duplicate;
+use tpm_wire::response_code::{HANDLE, REFERENCE_H0, SESSION_MEMORY, SIZE, of_parameter};
 
 /// How many sessions there is room for.
 const SLOTS: usize = 3;
@@ -157,6 +164,158 @@ impl Sessions {
             needs_authorization (code_for c.body) ≡ true → self.old ≡ sessions_at o h → self.new ≡ sessions_at o (Accepted c r nonce.now ∷ h) }
     {
         roll(&mut self.slots[slot_of(session)], nonce, keep);
+    }
+
+    // The policy or trial session of this handle, where it is loaded.
+    fn policy(&self, session: PolicyHandle) -> Option<&Session>
+        ensures { option_map (λ s. s.now) result ≡ loaded self.now session }
+    {
+        self.get(any_session(session))
+    }
+
+    /// TPM2_PolicyRestart: the session asserts nothing any more (Part 3, 11.2). REFERENCE_H0 where it is not loaded, as for each
+    /// policy command.
+    pub fn restart(&mut self, session: PolicyHandle) -> Result<(), u32>
+        ensures answer { result ≡ for_policy (loaded self.old session) (λ _. Ok tt) }
+        ensures restarted { OnOk result ((o : Origin) (h : History) (c : Command) (r : Reply) (nonce : List ℕ) → c.body ≡ bodies.PolicyRestart session → c.auths.items ≡ [] →
+            self.old ≡ sessions_at o h → self.new ≡ sessions_at o (Accepted c r nonce ∷ h)) }
+        ensures refused { OnErr result (self.new ≡ self.old) }
+    {
+        if self.policy(session).is_none() {
+            return Err(REFERENCE_H0);
+        }
+        self.begin_again(session);
+        Ok(())
+    }
+
+    /// TPM2_PolicyAuthValue: the entity's authorization value is part of the key (Part 3, 23.17). REFERENCE_H0.
+    pub fn policy_auth_value(&mut self, session: PolicyHandle) -> Result<(), u32>
+        ensures answer { result ≡ for_policy (loaded self.old session) (λ _. Ok tt) }
+        ensures asserted { OnOk result ((o : Origin) (h : History) (c : Command) (r : Reply) (nonce : List ℕ) → c.body ≡ bodies.PolicyAuthValue session → c.auths.items ≡ [] →
+            self.old ≡ sessions_at o h → self.new ≡ sessions_at o (Accepted c r nonce ∷ h)) }
+        ensures refused { OnErr result (self.new ≡ self.old) }
+    {
+        if self.policy(session).is_none() {
+            return Err(REFERENCE_H0);
+        }
+        self.assert(session, &Assertion::AuthValue);
+        Ok(())
+    }
+
+    /// TPM2_PolicyCommandCode: the command has this code, which may be any (Part 3, 23.11). Refused in this order: REFERENCE_H0;
+    /// VALUE of parameter 1 where another code was set, in a trial too.
+    pub fn policy_command_code(&mut self, session: PolicyHandle, code: u32) -> Result<(), u32>
+        ensures answer { result ≡ for_policy (loaded self.old session) (λ s. check_policy_code s code) }
+        ensures asserted { OnOk result ((o : Origin) (h : History) (c : Command) (r : Reply) (nonce : List ℕ) → c.body ≡ bodies.PolicyCommandCode session code → c.auths.items ≡ [] →
+            self.old ≡ sessions_at o h → self.new ≡ sessions_at o (Accepted c r nonce ∷ h)) }
+        ensures refused { OnErr result (self.new ≡ self.old) }
+    {
+        let Some(held) = self.policy(session) else {
+            return Err(REFERENCE_H0);
+        };
+        held.check_code(code)?;
+        self.assert(session, &Assertion::Code(code));
+        Ok(())
+    }
+
+    /// TPM2_PolicyOR: the policy is one of those with these digests (Part 3, 23.6). Refused in this order: REFERENCE_H0; VALUE of
+    /// parameter 1 where the policy digest is none of them, unless it is a trial.
+    pub fn policy_or(&mut self, session: PolicyHandle, digests: &OrDigests) -> Result<(), u32>
+        ensures answer { result ≡ for_policy (loaded self.old session) (λ s. check_policy_or s digests.now) }
+        ensures asserted { OnOk result ((o : Origin) (h : History) (c : Command) (r : Reply) (nonce : List ℕ) → c.body ≡ bodies.PolicyOr session digests.now → c.auths.items ≡ [] →
+            self.old ≡ sessions_at o h → self.new ≡ sessions_at o (Accepted c r nonce ∷ h)) }
+        ensures refused { OnErr result (self.new ≡ self.old) }
+    {
+        let Some(held) = self.policy(session) else {
+            return Err(REFERENCE_H0);
+        };
+        held.check_choice(digests)?;
+        self.assert(session, &Assertion::Or(digests));
+        Ok(())
+    }
+
+    /// TPM2_PolicyPCR: the selected registers have these values, and keep them until the policy is used (Part 3, 23.7). `pcr_digest`
+    /// is the digest of the values that is wanted, or empty for that of the present ones. Refused in this order: REFERENCE_H0;
+    /// PCR_CHANGED where registers changed since an earlier TPM2_PolicyPCR; VALUE of parameter 1 where the digest is another one. A
+    /// trial refuses neither, takes the digest that is given as it is, and keeps no update counter.
+    pub fn policy_pcr(
+        &mut self,
+        session: PolicyHandle,
+        pcr_digest: &Digest,
+        selections: &Selections,
+        registers: &Registers,
+    ) -> Result<(), u32>
+        ensures answer { result ≡ for_policy (loaded self.old session) (λ s.
+            check_policy_pcr s (composite_of s.hash (value_in registers.now.banks) selections.now) registers.now.update_counter pcr_digest.now) }
+        ensures asserted { OnOk result ((o : Origin) (h : History) (c : Command) (r : Reply) (nonce : List ℕ) → c.body ≡ bodies.PolicyPcr session pcr_digest.now selections.now → c.auths.items ≡ [] →
+            registers.now ≡ registers_after (changes h) → self.old ≡ sessions_at o h → self.new ≡ sessions_at o (Accepted c r nonce ∷ h)) }
+        ensures refused { OnErr result (self.new ≡ self.old) }
+    {
+        let Some(held) = self.policy(session) else {
+            return Err(REFERENCE_H0);
+        };
+        let composite = registers.composite(held.hash(), selections);
+        let update_counter = registers.counter();
+        held.check_registers(&composite, update_counter, pcr_digest)?;
+        let asserted = held.registers_asserted(selections, &composite, update_counter, pcr_digest);
+        self.assert(session, &asserted);
+        Ok(())
+    }
+
+    /// TPM2_PolicyGetDigest: the policy digest of what the session asserts (Part 3, 23.19). REFERENCE_H0.
+    pub fn policy_digest(&self, session: PolicyHandle) -> Result<Digest, u32>
+        ensures answer { result ≡ for_policy (loaded self.now session) (λ s. Ok s.policy.digest) }
+        ensures digest { IfOk result (λ digest. (o : Origin) (h : History) → self.now ≡ sessions_at o h →
+            (s : model.Session) → loaded self.now session ≡ Some s → digest ≡ digest_of s.hash (assertions_of (slot_number session) h)) }
+    {
+        match self.policy(session) {
+            Some(held) => Ok(held.policy_digest()),
+            None => Err(REFERENCE_H0),
+        }
+    }
+
+    // The session asserts nothing any more.
+    fn begin_again(&mut self, session: PolicyHandle)
+        requires { IsSome (loaded self.old session) }
+        ensures { self.new ≡ with_slot (slot_number session) (option_map restarted) self.old }
+    {
+        restart(&mut self.slots[slot_of(any_session(session))]);
+    }
+
+    // The session asserts this too.
+    fn assert(&mut self, session: PolicyHandle, assertion: &Assertion<'_>)
+        requires { IsSome (loaded self.old session) }
+        ensures { self.new ≡ with_slot (slot_number session) (option_map (asserting (as_assertion assertion.now))) self.old }
+    {
+        assert(&mut self.slots[slot_of(any_session(session))], assertion);
+    }
+}
+
+// A policy session is a session.
+fn any_session(session: PolicyHandle) -> SessionHandle
+    ensures { result ≡ session }
+{
+    match SessionHandle::from_number(session.number()) {
+        Some(session) => session,
+        None => unreachable!(),
+    }
+}
+
+// What becomes of a policy session's slot.
+fn assert(slot: &mut Option<Session>, assertion: &Assertion<'_>)
+    ensures { slot.new ≡ option_map (asserting (as_assertion assertion.now)) slot.old }
+{
+    if let Some(session) = slot {
+        session.assert(assertion);
+    }
+}
+
+// What becomes of it by TPM2_PolicyRestart.
+fn restart(slot: &mut Option<Session>)
+    ensures { slot.new ≡ option_map restarted slot.old }
+{
+    if let Some(session) = slot {
+        session.restart();
     }
 }
 

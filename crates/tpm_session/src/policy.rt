@@ -1,0 +1,166 @@
+//! What a policy session asserts (Part 1, "Enhanced Authorization"; Part 3, 23).
+
+ghost use Rattle.std.specs.Prelude.{◌≡◌, []};
+ghost use Rattle.tpm_model.specs.Registers.{zeros as zeros_of};
+ghost use Rattle.tpm_model.specs.Policies.{asserted, policy_of};
+ghost use Rattle.tpm_model.specs.Policies.Assertion.{PcrAsserted, OrAsserted};
+ghost use Rattle.tpm_model.specs.Actions.{is_listed as listed};
+ghost use Rattle.tpm_model.specs.Authorization.{differs as is_another};
+ghost use Rattle.tpm_session.specs.Policies.{as_assertion, policy_after};
+
+use arrayvec::ArrayVec;
+use std::marker::Model;
+use tpm_buffer::CommandCode;
+use tpm_hmac::hash;
+use tpm_types::{Alg, DIGEST_BYTES, Digest, MOST_DIGESTS, OrDigests, Selections};
+use tpm_wire::{Buffer, Wire};
+
+// How many parts the text of TPM2_PolicyOR has at most: zeros, the command's code, and the digests.
+const OR_PARTS: usize = MOST_DIGESTS + 2;
+
+/// What a policy session holds of its assertions.
+#[derive(Drop)]
+pub(crate) struct Policy {
+    pub(crate) digest: Digest,
+    pub(crate) code: Option<u32>,
+    pub(crate) update_counter: Option<u32>,
+    pub(crate) auth_value: bool,
+}
+
+impl Model for Policy {
+    ghost use Rattle.tpm_model.specs.Policies as model;
+
+    ghost Value = { model.Policy };
+
+    ghost view = { λ p. record { digest = p.digest; code = p.code; update_counter = p.update_counter; auth_value = p.auth_value } };
+}
+
+/// What a policy command asserts.
+#[derive(Drop)]
+pub(crate) enum Assertion<'a> {
+    /// The digest of the values of these registers, and the update counter, where it is kept.
+    Pcr {
+        selections: &'a Selections,
+        pcr_digest: &'a Digest,
+        update_counter: Option<u32>,
+    },
+    /// One of these digests.
+    Or(&'a OrDigests),
+    /// The code of the command.
+    Code(u32),
+    /// The authorization value of the entity.
+    AuthValue,
+}
+
+impl Policy {
+    /// Nothing is asserted.
+    pub(crate) fn new(alg: Alg) -> Self
+        ensures { result ≡ policy_of alg [] }
+    {
+        Policy {
+            digest: zeros(alg),
+            code: None,
+            update_counter: None,
+            auth_value: false,
+        }
+    }
+
+    /// This is asserted too, in a session of this hash.
+    pub(crate) fn assert(&mut self, alg: Alg, assertion: &Assertion<'_>)
+        ensures { self.new ≡ policy_after alg (as_assertion assertion.now) self.old }
+    {
+        self.digest = extended(alg, assertion, self.digest.as_slice());
+        match assertion {
+            Assertion::Pcr { update_counter, .. } => {
+                self.update_counter = update_counter.or(self.update_counter)
+            }
+            Assertion::Or(_) => {}
+            Assertion::Code(code) => self.code = Some(*code),
+            Assertion::AuthValue => self.auth_value = true,
+        }
+    }
+}
+
+/// As many zeros as a digest has.
+fn zeros(alg: Alg) -> Digest
+    ensures { result ≡ zeros_of alg }
+{
+    match Digest::new(&[0; DIGEST_BYTES][..alg.digest_len()]) {
+        Some(digest) => digest,
+        None => unreachable!(),
+    }
+}
+
+// The policy digest after an assertion.
+fn extended(alg: Alg, assertion: &Assertion<'_>, old: &[u8]) -> Digest
+    ensures { result ≡ asserted alg (as_assertion assertion.now) old.now }
+{
+    match assertion {
+        Assertion::Pcr {
+            selections,
+            pcr_digest,
+            ..
+        } => after_registers(alg, selections, pcr_digest.as_slice(), old),
+        Assertion::Or(digests) => after_choice(alg, digests),
+        Assertion::Code(code) => hash(
+            alg,
+            &[
+                old,
+                &CommandCode::PolicyCommandCode.number().to_be_bytes(),
+                &code.to_be_bytes(),
+            ],
+        ),
+        Assertion::AuthValue => hash(
+            alg,
+            &[old, &CommandCode::PolicyAuthValue.number().to_be_bytes()],
+        ),
+    }
+}
+
+// That after TPM2_PolicyPCR (Part 3, 23.7).
+fn after_registers(alg: Alg, selections: &Selections, pcr_digest: &[u8], old: &[u8]) -> Digest
+    ensures { result ≡ asserted alg (PcrAsserted selections.now pcr_digest.now None) old.now }
+{
+    let code = CommandCode::PolicyPcr.number().to_be_bytes();
+    let mut spelled = Buffer::new();
+    prove!(selections.len() <= 64);
+    selections.put(&mut spelled);
+    hash(alg, &[old, &code, spelled.as_slice(), pcr_digest])
+}
+
+// That after TPM2_PolicyOR, in which the digest before has no part (Part 3, 23.6).
+fn after_choice(alg: Alg, digests: &OrDigests) -> Digest
+    ensures { result ≡ asserted alg (OrAsserted digests.now) [] }
+{
+    let zeros = zeros(alg);
+    let code = CommandCode::PolicyOr.number().to_be_bytes();
+    let mut parts: ArrayVec<&[u8], OR_PARTS> = ArrayVec::new();
+    parts.push(zeros.as_slice());
+    parts.push(&code);
+    for digest in digests.as_slice() {
+        parts.push(digest.as_slice());
+    }
+    hash(alg, parts.as_slice())
+}
+
+/// Whether the digest is one of these.
+pub(crate) fn is_listed(digest: &[u8], digests: &[Digest]) -> bool
+    ensures { result ≡ listed digest.now digests.now }
+{
+    for listed in digests {
+        if digest == listed.as_slice() {
+            return true;
+        }
+    }
+    false
+}
+
+/// Whether one number is kept, and it is another.
+pub(crate) fn differs(kept: Option<u32>, number: u32) -> bool
+    ensures { result ≡ is_another kept number }
+{
+    match kept {
+        Some(kept) => kept != number,
+        None => false,
+    }
+}
