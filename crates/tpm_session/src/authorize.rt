@@ -5,12 +5,13 @@ ghost use Rattle.std.specs.Prelude.{◌≡◌, ℕ, ◌<◌, suc, List, ◌∷�
 ghost use Rattle.tpm_types.specs.declared.tpms.Auth.{Auth};
 ghost use Rattle.tpm_model.specs.Entities.{Entity as EntityOf, auth_value, is_owner_entity};
 ghost use Rattle.tpm_model.specs.Sessions.{loaded};
-ghost use Rattle.tpm_model.specs.Authorization.{Evidence, differs as differs_from, check_loaded as loaded_checked, check_session as session_checked, check_auth as auth_checked, check_policy_allowed as allowed_checked, has_policy, check_policy as policy_checked, check_entity as entity_checked, evidence_of as evidence_by_all, first_loaded, authorize as authorized, reply_auths};
+ghost use Rattle.tpm_model.specs.Authorization.{Evidence, check_loaded as loaded_checked, check_session as session_checked, check_auth as auth_checked, check_policy_allowed as allowed_checked, has_policy, check_policy as policy_checked, check_entity as entity_checked, evidence_of as evidence_by_all, first_loaded, authorize as authorized, reply_auths};
 ghost use Rattle.tpm_session.specs.Entities.{entity_in, authorizer_in, found, given};
 
 use crate::access::Access;
 use crate::entity::Entity;
 use crate::evidence::{check_evidence, password_reply};
+use crate::policy::differs;
 use crate::session::{NONCE_BYTES, Session};
 use crate::sessions::Sessions;
 use tpm_buffer::{AuthRef, CommandCode};
@@ -63,16 +64,6 @@ fn check_auth(entity: &Entity<'_>, command: CommandCode) -> Result<(), u32>
             AUTH_UNAVAILABLE,
         ),
         Entity::Register | Entity::Null | Entity::Owner(_) | Entity::Index(_, _) => Ok(()),
-    }
-}
-
-// Whether one number is kept, and it is another.
-fn differs(kept: Option<u32>, number: u32) -> bool
-    ensures { result ≡ differs_from kept number }
-{
-    match kept {
-        Some(kept) => kept != number,
-        None => false,
     }
 }
 
