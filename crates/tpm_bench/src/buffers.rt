@@ -48,7 +48,7 @@ pub extern "C" fn tpm_bench_encode_command(bytes: &[u8], times: u32, out: &mut [
 }
 
 // Encodes the command so many times.
-fn encode(command: &Command, times: u32, out: &mut [u8]) -> usize
+fn encode(command: &Command<'_>, times: u32, out: &mut [u8]) -> usize
     requires { 4096 ≤ length out.old }
     ensures { Spells command_layout command.now (take result out.new) }
 {
@@ -60,7 +60,7 @@ fn encode(command: &Command, times: u32, out: &mut [u8]) -> usize
 
 // Encodes it once.
 #[inline(never)]
-fn put(command: &Command, out: &mut [u8]) -> usize
+fn put(command: &Command<'_>, out: &mut [u8]) -> usize
     requires { 4096 ≤ length out.old }
     ensures spelled { Spells command_layout command.now (take result out.new) }
     ensures room { length out.new ≡ length out.old }

@@ -8,7 +8,7 @@ use tpm_device::Device;
 pub extern "C" fn tpm_bench_size(which: u32) -> usize {
     match which {
         0 => size_of::<Device>(),
-        1 => size_of::<Command>(),
+        1 => size_of::<Command<'_>>(),
         _ => size_of::<Areas<'_>>(),
     }
 }

@@ -24,7 +24,8 @@ use Rattle.tpm_types.specs.Tpmt.{digest_value, bits_of, hash_of, alg_cfb, alg_nu
 use Rattle.tpm_buffer.specs.declared.code.CommandCode.{CommandCode}
 use Rattle.tpm_buffer.specs.declared.code.CommandCode.TheVariants as codes
 use Rattle.tpm_buffer.specs.declared.command_parameters.Params.{Params}
-use Rattle.tpm_buffer.specs.Parameters.{event_bytes, nv_define_space, pcr_event, startup, nv_read, flush_context, policy_command_code, policy_or, start_auth_session, pcr_read, policy_pcr, pcr_extend, parameters}
+use Rattle.tpm_buffer.specs.Events.{event_bytes}
+use Rattle.tpm_buffer.specs.Parameters.{nv_define_space, pcr_event, startup, nv_read, flush_context, policy_command_code, policy_or, start_auth_session, pcr_read, policy_pcr, pcr_extend, parameters}
 use Rattle.tpm_buffer.proofs.Longer.{TakesAtMost, with_more, in_set, at_most_more, at_most_done, at_most_number, at_most_number_in, at_most_text, at_most_field, at_most_marked, at_most_sized_bytes, at_most_sized, at_most_counted}
 
 -- a part, and what follows it

@@ -6,6 +6,7 @@ pub mod CommandAreas
 pub mod Replies
 pub mod Responses
 pub mod ResponseAreas
+pub mod Events
 pub mod Frames
 pub mod Reads
 pub mod Streams

@@ -22,6 +22,7 @@ use Rattle.tpm_types.specs.Tpm2b.{digest, nonce, auth_value, encrypted_salt}
 use Rattle.tpm_types.specs.Tpml.{selections, or_digests, digest_values}
 use Rattle.tpm_types.specs.Tpms.{nv_public}
 use Rattle.tpm_types.specs.Tpmt.{sym_def}
+use Rattle.tpm_buffer.specs.Events.{event_bytes}
 use Rattle.tpm_buffer.specs.declared.code.CommandCode.{CommandCode}
 use Rattle.tpm_buffer.specs.declared.code.CommandCode.TheVariants as codes
 use Rattle.tpm_buffer.specs.declared.command_parameters.Params.{Params}
@@ -108,10 +109,6 @@ nv_define_space =
     field auth_of (numbered (of_parameter 1) auth_value) (λ auth.
     field public_of (numbered (of_parameter 2) nv_public) (λ public.
     done (params.NvDefineSpace auth public)))
-
--- how many bytes an event has at most
-abbrev pub event_bytes : ℕ
-event_bytes = 1024
 
 unfoldable pub pcr_event : Layout Params
 pcr_event =

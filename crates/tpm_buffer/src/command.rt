@@ -3,17 +3,17 @@
 ghost use Rattle.std.specs.Prelude.{◌≡◌, ◌++◌, OnOk};
 ghost use Rattle.tpm_wire.specs.Spelling.{spelling};
 ghost use Rattle.tpm_wire.specs.Buffers.{TakesNumbered};
-ghost use Rattle.tpm_buffer.specs.declared.code.CommandCode.TheVariants as codes;
 ghost use Rattle.tpm_buffer.specs.Handles.{first as first_of, second as second_of};
 ghost use Rattle.tpm_buffer.specs.Parameters.{params_code, parameters};
 ghost use Rattle.tpm_buffer.specs.Commands.{register_in as the_register, index_in as the_index, policy_in as the_policy, pcr_or_null_in as the_pcr_or_null, nv_auth_in as the_nv_auth, bind_in as the_bind, body_from, params_of, code_for};
 
 use crate::code::CommandCode;
 use crate::command_parameters::{
-    Event, any_digests, any_public, any_session, read_flush_context, read_nv_define_space,
-    read_nv_read, read_pcr_event, read_pcr_extend, read_pcr_read, read_policy_command_code,
-    read_policy_or, read_policy_pcr, read_start_auth_session, read_startup,
+    any_digests, any_event, any_public, any_session, read_flush_context, read_nv_define_space,
+    read_nv_read, read_pcr_extend, read_pcr_read, read_policy_command_code, read_policy_or,
+    read_policy_pcr, read_start_auth_session, read_startup, take_pcr_event,
 };
+use crate::lent::Event;
 use arrayvec::ArrayVec;
 use tpm_types::{
     Alg, Auth, AuthValue, BindHandle, Digest, DigestValues, Nonce, NvAuthHandle, NvIndex, NvPublic,
@@ -22,11 +22,12 @@ use tpm_types::{
 };
 use tpm_wire::{Cursor, Refusal};
 
-/// What a command does, with its handles and parameters: the command of that name in Part 3.
+/// What a command does, with its handles and parameters: the command of that name in Part 3. An event is lent, as from the bytes
+/// that the command was decoded from.
 ///
 /// A handle that can have one value alone, as TPM_RH_OWNER of NV_DefineSpace, has no field.
 #[derive(Drop)]
-pub enum CommandBody {
+pub enum CommandBody<'a> {
     /// TPM2_NV_UndefineSpace (Part 3, 31.4).
     NvUndefineSpace {
         index: NvIndex,
@@ -44,7 +45,7 @@ pub enum CommandBody {
     /// TPM2_PCR_Event (Part 3, 22.3).
     PcrEvent {
         register: PcrOrNull,
-        event: Event,
+        event: Event<'a>,
     },
     /// TPM2_PCR_Reset (Part 3, 22.8).
     PcrReset {
@@ -116,8 +117,8 @@ pub struct StartAuth {
 
 /// A command, and the sessions that authorize it: none under tag 0x8001, one to three under 0x8002.
 #[derive(Drop)]
-pub struct Command {
-    pub body: CommandBody,
+pub struct Command<'a> {
+    pub body: CommandBody<'a>,
     pub auths: ArrayVec<Auth, 3>,
 }
 
@@ -129,7 +130,7 @@ pub struct Header {
     pub code: CommandCode,
 }
 
-impl CommandBody {
+impl CommandBody<'_> {
     /// The command's code.
     pub fn code(&self) -> CommandCode
         ensures { result ≡ code_for self.now }
@@ -229,7 +230,7 @@ fn second(handles: &[u32]) -> u32
     }
 }
 
-impl CommandBody {
+impl<'a> CommandBody<'a> {
     /// Makes it a command with this code, which another one is read in the place of. Each is made where it stays.
     #[inline(never)]
     pub(crate) fn begin(&mut self, code: CommandCode)
@@ -247,7 +248,10 @@ impl CommandBody {
                 by: NvAuthHandle::Owner,
                 index: index_in(0),
             },
-            CommandCode::PcrEvent => self.begin_event(),
+            CommandCode::PcrEvent => *self = CommandBody::PcrEvent {
+                register: PcrOrNull::Null,
+                event: any_event(),
+            },
             CommandCode::PcrReset => *self = CommandBody::PcrReset {
                 register: PcrIndex::default(),
             },
@@ -297,21 +301,10 @@ impl CommandBody {
         }
     }
 
-    // Its many bytes would else be cleared for each of the other commands too.
-    #[inline(never)]
-    fn begin_event(&mut self)
-        ensures { code_for self.new ≡ codes.PcrEvent }
-    {
-        *self = CommandBody::PcrEvent {
-            register: PcrOrNull::Null,
-            event: Event::default(),
-        };
-    }
-
     // Reads the parameters of a command with the same code in their place, and gives it the handles with these numbers. A
     // handle that is missing, or that the command cannot have, is never met where both were read under one code; in its
     // place stands one of its kind.
-    pub(crate) fn read(&mut self, cursor: &mut Cursor<'_>, handles: &[u32]) -> Result<(), Refusal>
+    pub(crate) fn read(&mut self, cursor: &mut Cursor<'a>, handles: &[u32]) -> Result<(), Refusal>
         ensures reads { TakesNumbered (λ _. params_of self.new) (parameters (code_for self.old)) cursor.old cursor.new result }
         ensures spelled { OnOk result (cursor.old.here.rest ≡ spelling (parameters (code_for self.old)) (params_of self.new) ++ cursor.new.here.rest) }
         ensures code { OnOk result (params_code (params_of self.new) ≡ code_for self.old) }
@@ -326,9 +319,11 @@ impl CommandBody {
                 *by = nv_auth_in(first(handles));
                 *index = index_in(second(handles));
             }
-            CommandBody::PcrEvent { register, event } => {
-                *register = pcr_or_null_in(first(handles));
-                read_pcr_event(cursor, event)?
+            CommandBody::PcrEvent { .. } => {
+                *self = CommandBody::PcrEvent {
+                    register: pcr_or_null_in(first(handles)),
+                    event: take_pcr_event(cursor)?,
+                }
             }
             CommandBody::PcrReset { register } => *register = register_in(first(handles)),
             CommandBody::Startup(startup_type) => read_startup(cursor, startup_type)?,

@@ -18,7 +18,7 @@ use tpm_types::StartupType;
 use tpm_wire::response_code::SIZE;
 use tpm_wire::{Cursor, Refusal};
 
-fn read_command(bytes: &[u8], decoded: &mut Command) -> Result<(), Refusal>
+fn read_command<'a>(bytes: &'a [u8], decoded: &mut Command<'a>) -> Result<(), Refusal>
     requires { length bytes.now ≤ 4096 }
     ensures reads { Gives (λ _. decoded.new) (read_all command bytes.now) result }
     ensures spelled { OnOk result (bytes.now ≡ spelling command decoded.new) }
@@ -45,7 +45,7 @@ fn refusal_of_long(bytes: &[u8]) -> Refusal
     long_fault(bytes)
 }
 
-fn read_bytes(bytes: &[u8], decoded: &mut Command) -> Result<(), Refusal>
+fn read_bytes<'a>(bytes: &'a [u8], decoded: &mut Command<'a>) -> Result<(), Refusal>
     ensures reads { Gives (λ _. decoded.new) (read_all command bytes.now) result }
     ensures spelled { OnOk result (bytes.now ≡ spelling command decoded.new) }
 {
@@ -57,7 +57,7 @@ fn read_bytes(bytes: &[u8], decoded: &mut Command) -> Result<(), Refusal>
 
 // The answer to bytes with a fault. It stands alone, since a fault in the place of a command clears all that place.
 #[inline(never)]
-fn refuse(answer: &mut Result<Command, Refusal>, refusal: Refusal)
+fn refuse(answer: &mut Result<Command<'_>, Refusal>, refusal: Refusal)
     ensures { answer.new ≡ Err refusal }
 {
     *answer = Err(refusal);
@@ -65,7 +65,7 @@ fn refuse(answer: &mut Result<Command, Refusal>, refusal: Refusal)
 
 // The answer is made in the caller's place, so that its many bytes are not moved from function to function.
 #[inline(never)]
-fn decode(bytes: &[u8], answer: &mut Result<Command, Refusal>)
+fn decode<'a>(bytes: &'a [u8], answer: &mut Result<Command<'a>, Refusal>)
     requires { IsOk answer.old }
     ensures reads { answer.new ≡ read_all command bytes.now }
     ensures spelled { IfOk answer.new (λ c. bytes.now ≡ spelling command c) }
@@ -82,7 +82,7 @@ fn decode(bytes: &[u8], answer: &mut Result<Command, Refusal>)
 
 // A command that another one is decoded in the place of.
 #[inline(always)]
-fn any_command() -> Command {
+fn any_command<'a>() -> Command<'a> {
     Command {
         body: CommandBody::Startup(StartupType::Clear),
         auths: ArrayVec::new(),
@@ -99,7 +99,7 @@ pub fn areas(bytes: &[u8]) -> Result<Areas<'_>, Refusal>
 }
 
 /// The command that the bytes spell, all of them, or the response code and the position of their first fault.
-pub fn decode_command(bytes: &[u8]) -> Result<Command, Refusal>
+pub fn decode_command(bytes: &[u8]) -> Result<Command<'_>, Refusal>
     ensures ok { (c : CommandOf) → (result ≡ Ok c) ↔ Spells command c bytes.now }
     ensures err { (e : RefusalOf) → (result ≡ Err e) ↔ Fault command bytes.now e }
 {

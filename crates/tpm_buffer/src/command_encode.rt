@@ -16,7 +16,7 @@ use tpm_wire::{Buffer, Wire, known_list, list_len, put_list};
 // ---- handles
 
 // They are of the command's kinds, and with its parameters they make it again.
-fn handle_numbers(body: &CommandBody) -> ArrayVec<u32, 2>
+fn handle_numbers(body: &CommandBody<'_>) -> ArrayVec<u32, 2>
     ensures value { result.items ≡ handles_of body.now }
     ensures spelled { (left : ℕ) → Fits left (handles_layout (code_for body.now)) (handles_of body.now) }
     ensures whole { body_from (handles_of body.now) (params_of body.now) ≡ body.now }
@@ -55,7 +55,7 @@ fn handle_numbers(body: &CommandBody) -> ArrayVec<u32, 2>
     numbers
 }
 
-fn handles_len(body: &CommandBody) -> usize
+fn handles_len(body: &CommandBody<'_>) -> usize
     ensures value { result ≡ length (spelling (handles_layout (code_for body.now)) (handles_of body.now)) }
     ensures fits { result ≤ 8 }
     ensures spelled { (left : ℕ) → Fits left (handles_layout (code_for body.now)) (handles_of body.now) }
@@ -64,7 +64,7 @@ fn handles_len(body: &CommandBody) -> usize
     4 * handle_numbers(body).len()
 }
 
-fn put_handles(body: &CommandBody, out: &mut Buffer)
+fn put_handles(body: &CommandBody<'_>, out: &mut Buffer)
     requires { length out.old.items + length (spelling (handles_layout (code_for body.now)) (handles_of body.now)) ≤ 4096 }
     ensures { out.new.items ≡ out.old.items ++ spelling (handles_layout (code_for body.now)) (handles_of body.now) }
 {
@@ -109,7 +109,7 @@ fn put_authorization(tag: u16, auths: &[Auth], out: &mut Buffer)
 // ---- parameters
 
 #[tactic(auto, unfolding(crate::specs::Parameters::startup, crate::specs::Parameters::nv_define_space, crate::specs::Parameters::pcr_event, crate::specs::Parameters::nv_read, crate::specs::Parameters::flush_context, crate::specs::Parameters::policy_command_code, crate::specs::Parameters::policy_or, crate::specs::Parameters::start_auth_session, crate::specs::Parameters::pcr_read, crate::specs::Parameters::policy_pcr, crate::specs::Parameters::pcr_extend))]
-fn params_len(body: &CommandBody) -> usize
+fn params_len(body: &CommandBody<'_>) -> usize
     ensures value { result ≡ length (spelling (parameters (code_for body.now)) (params_of body.now)) }
     ensures fits { result ≤ 3500 }
 {
@@ -147,7 +147,7 @@ fn params_len(body: &CommandBody) -> usize
 
 #[tactic(auto, unfolding(crate::specs::Parameters::startup, crate::specs::Parameters::nv_define_space, crate::specs::Parameters::pcr_event, crate::specs::Parameters::nv_read, crate::specs::Parameters::flush_context, crate::specs::Parameters::policy_command_code, crate::specs::Parameters::policy_or, crate::specs::Parameters::start_auth_session, crate::specs::Parameters::pcr_read, crate::specs::Parameters::policy_pcr, crate::specs::Parameters::pcr_extend))]
 #[inline(never)]
-fn put_params(body: &CommandBody, out: &mut Buffer)
+fn put_params(body: &CommandBody<'_>, out: &mut Buffer)
     requires { length out.old.items + length (spelling (parameters (code_for body.now)) (params_of body.now)) ≤ 4096 }
     ensures { out.new.items ≡ out.old.items ++ spelling (parameters (code_for body.now)) (params_of body.now) }
 {
@@ -193,7 +193,7 @@ fn put_params(body: &CommandBody, out: &mut Buffer)
 }
 
 #[tactic(auto, unfolding(crate::specs::Parameters::startup, crate::specs::Parameters::nv_define_space, crate::specs::Parameters::pcr_event, crate::specs::Parameters::nv_read, crate::specs::Parameters::flush_context, crate::specs::Parameters::policy_command_code, crate::specs::Parameters::policy_or, crate::specs::Parameters::start_auth_session, crate::specs::Parameters::pcr_read, crate::specs::Parameters::policy_pcr, crate::specs::Parameters::pcr_extend))]
-fn known_params(body: &CommandBody)
+fn known_params(body: &CommandBody<'_>)
     ensures { (left : ℕ) → Fits left (parameters (code_for body.now)) (params_of body.now) }
 {
     match body {
@@ -239,7 +239,7 @@ fn known_params(body: &CommandBody)
 
 // ---- the command
 
-fn tag_for(command: &Command) -> u16
+fn tag_for(command: &Command<'_>) -> u16
     ensures { result ≡ tag_of command.now }
 {
     if command.auths.is_empty() {
@@ -249,7 +249,7 @@ fn tag_for(command: &Command) -> u16
     }
 }
 
-fn rest_len(tag: u16, command: &Command) -> usize
+fn rest_len(tag: u16, command: &Command<'_>) -> usize
     ensures value { result ≡ length (spelling (rest_of (code_for command.now.body) tag) command.now) }
     ensures fits { result ≤ 4000 }
     ensures few { length command.now.auths.items ≤ 3 }
@@ -261,7 +261,7 @@ fn rest_len(tag: u16, command: &Command) -> usize
         + params_len(&command.body)
 }
 
-fn put_rest(tag: u16, command: &Command, out: &mut Buffer)
+fn put_rest(tag: u16, command: &Command<'_>, out: &mut Buffer)
     requires { length out.old.items + length (spelling (rest_of (code_for command.now.body) tag) command.now) ≤ 4096 }
     ensures { out.new.items ≡ out.old.items ++ spelling (rest_of (code_for command.now.body) tag) command.now }
 {
@@ -271,7 +271,7 @@ fn put_rest(tag: u16, command: &Command, out: &mut Buffer)
 }
 
 #[tactic(auto, unfolding(crate::specs::Commands::command, crate::specs::Commands::header, crate::specs::Commands::tag, crate::specs::Commands::command_size, crate::specs::Codes::command_code))]
-fn put_command(tag: u16, len: usize, command: &Command, out: &mut Buffer)
+fn put_command(tag: u16, len: usize, command: &Command<'_>, out: &mut Buffer)
     requires empty { length out.old.items ≡ 0 }
     requires tag { tag ≡ tag_of command.now }
     requires len { len ≡ length (spelling (rest_of (code_for command.now.body) tag) command.now) }
@@ -286,7 +286,7 @@ fn put_command(tag: u16, len: usize, command: &Command, out: &mut Buffer)
 
 // The bytes that spell it, into an empty buffer. It is out of line, so that `encode_command` is small, and its buffer the caller's.
 #[inline(never)]
-fn spell(command: &Command, out: &mut Buffer)
+fn spell(command: &Command<'_>, out: &mut Buffer)
     requires { length out.old.items ≡ 0 }
     ensures spells { Spells command_layout command.now out.new.items }
     ensures bytes { out.new.items ≡ spelling command_layout command.now }
@@ -300,7 +300,7 @@ fn spell(command: &Command, out: &mut Buffer)
 }
 
 /// The bytes that spell the command: 10 to 4,096 of them, under tag 0x8001 where it has no sessions and 0x8002 else.
-pub fn encode_command(command: &Command) -> Buffer
+pub fn encode_command(command: &Command<'_>) -> Buffer
     ensures spells { Spells command_layout command.now result.items }
     ensures bytes { result.items ≡ spelling command_layout command.now }
     ensures fits { Fits (length result.items) command_layout command.now }

@@ -10,29 +10,24 @@ ghost use Rattle.tpm_buffer.specs.CommandAreas.{placed};
 ghost use Rattle.tpm_buffer.specs.Parameters.{parameters, params_code, startup, nv_define_space, pcr_event, nv_read, flush_context, policy_command_code, policy_or, start_auth_session, pcr_read, policy_pcr, pcr_extend};
 
 use crate::code::CommandCode;
+use crate::lent::Event;
 use tpm_types::{
     Alg, AuthValue, Digest, DigestValues, EncryptedSalt, Nonce, NvAttrs, NvIndex, NvPublic,
     OrDigests, Selections, SessionHandle, SessionType, StartupType, SymDef,
 };
 use tpm_wire::response_code::{SIZE, of_parameter};
-use tpm_wire::{Bounded, Cursor, Refusal, Wire};
+use tpm_wire::{Cursor, Refusal, Wire};
 
-/// How many bytes an event has at most.
-pub const EVENT_BYTES: usize = 1024;
-
-/// What PCR_Event measures, TPM2B_EVENT: 0 to 1,024 bytes (Part 2, 10.4.7).
-pub type Event = Bounded<EVENT_BYTES>;
-
-/// A command's parameters, without its handles and sessions.
+/// A command's parameters, without its handles and sessions. An event is lent from the bytes that they were read from.
 #[derive(Drop)]
-pub enum Params {
+pub enum Params<'a> {
     NvUndefineSpace,
     NvDefineSpace {
         auth: AuthValue,
         public: NvPublic,
     },
     NvIncrement,
-    PcrEvent(Event),
+    PcrEvent(Event<'a>),
     PcrReset,
     Startup(StartupType),
     NvRead {
@@ -88,12 +83,12 @@ pub(crate) fn read_nv_define_space(
 }
 
 #[tactic(auto, unfolding(crate::specs::Parameters::pcr_event))]
-pub(crate) fn read_pcr_event(cursor: &mut Cursor<'_>, event: &mut Event) -> Result<(), Refusal>
-    ensures reads { TakesNumbered (λ _. of_command.PcrEvent event.new) pcr_event cursor.old cursor.new result }
-    ensures spelled { OnOk result (cursor.old.here.rest ≡ spelling pcr_event (of_command.PcrEvent event.new) ++ cursor.new.here.rest) }
+pub(crate) fn take_pcr_event<'a>(cursor: &mut Cursor<'a>) -> Result<Event<'a>, Refusal>
+    ensures reads { TakesNumbered (λ e. of_command.PcrEvent e) pcr_event cursor.old cursor.new result }
+    ensures spelled { IfOk result (λ e. cursor.old.here.rest ≡ spelling pcr_event (of_command.PcrEvent e) ++ cursor.new.here.rest) }
 {
     cursor.number(of_parameter(1));
-    event.read(cursor)
+    Event::take(cursor)
 }
 
 #[tactic(auto, unfolding(crate::specs::Parameters::nv_read))]
@@ -231,6 +226,14 @@ pub(crate) fn any_session() -> SessionHandle {
     }
 }
 
+/// An event that another one is read in the place of.
+pub(crate) fn any_event<'a>() -> Event<'a> {
+    match Event::new(&[]) {
+        Some(event) => event,
+        None => unreachable!(),
+    }
+}
+
 /// Digests that others are read in the place of.
 pub(crate) fn any_digests() -> OrDigests {
     match OrDigests::new(&[Digest::default(), Digest::default()]) {
@@ -239,7 +242,7 @@ pub(crate) fn any_digests() -> OrDigests {
     }
 }
 
-impl Params {
+impl<'a> Params<'a> {
     // Makes them those of a command with this code, which others are read in the place of. Each are made where they stay.
     #[inline(never)]
     fn begin(&mut self, code: CommandCode)
@@ -252,7 +255,7 @@ impl Params {
                 public: any_public(),
             },
             CommandCode::NvIncrement => *self = Params::NvIncrement,
-            CommandCode::PcrEvent => *self = Params::PcrEvent(Event::default()),
+            CommandCode::PcrEvent => *self = Params::PcrEvent(any_event()),
             CommandCode::PcrReset => *self = Params::PcrReset,
             CommandCode::Startup => *self = Params::Startup(StartupType::Clear),
             CommandCode::NvRead => *self = Params::NvRead { size: 0, offset: 0 },
@@ -279,14 +282,17 @@ impl Params {
     }
 
     // Reads parameters of the same command in their place.
-    fn read(&mut self, cursor: &mut Cursor<'_>) -> Result<(), Refusal>
+    fn read(&mut self, cursor: &mut Cursor<'a>) -> Result<(), Refusal>
         ensures reads { TakesNumbered (λ _. self.new) (parameters (params_code self.old)) cursor.old cursor.new result }
         ensures spelled { OnOk result (cursor.old.here.rest ≡ spelling (parameters (params_code self.old)) self.new ++ cursor.new.here.rest) }
         ensures code { OnOk result (params_code self.new ≡ params_code self.old) }
     {
         match self {
             Params::NvDefineSpace { auth, public } => read_nv_define_space(cursor, auth, public),
-            Params::PcrEvent(event) => read_pcr_event(cursor, event),
+            Params::PcrEvent(event) => {
+                *event = take_pcr_event(cursor)?;
+                Ok(())
+            }
             Params::Startup(startup_type) => read_startup(cursor, startup_type),
             Params::NvRead { size, offset } => read_nv_read(cursor, size, offset),
             Params::FlushContext(session) => read_flush_context(cursor, session),
@@ -317,10 +323,10 @@ impl Params {
 
 /// Reads the parameters of a command with this code.
 #[inline(never)]
-fn read_params(
-    cursor: &mut Cursor<'_>,
+fn read_params<'a>(
+    cursor: &mut Cursor<'a>,
     code: CommandCode,
-    params: &mut Params,
+    params: &mut Params<'a>,
 ) -> Result<(), Refusal>
     ensures reads { TakesNumbered (λ _. params.new) (parameters code) cursor.old cursor.new result }
     ensures spelled { OnOk result (cursor.old.here.rest ≡ spelling (parameters code) params.new ++ cursor.new.here.rest) }
@@ -330,7 +336,11 @@ fn read_params(
     params.read(cursor)
 }
 
-fn read_bytes(code: CommandCode, bytes: &[u8], params: &mut Params) -> Result<(), Refusal>
+fn read_bytes<'a>(
+    code: CommandCode,
+    bytes: &'a [u8],
+    params: &mut Params<'a>,
+) -> Result<(), Refusal>
     requires { length bytes.now ≤ 4096 }
     ensures reads { Gives (λ _. params.new) (read_all (parameters code) bytes.now) result }
     ensures code { OnOk result (params_code params.new ≡ code) }
@@ -365,7 +375,7 @@ fn long_fault(code: CommandCode, bytes: &[u8]) -> Refusal
 /// The parameters that the bytes spell, all of them, or the code and the position of their first fault, counted from
 /// the first of these bytes: INSUFFICIENT, VALUE, SIZE, HASH, SYMMETRIC, MODE or RESERVED_BITS with the parameter's
 /// number, or SIZE for bytes left over.
-pub fn decode_params(code: CommandCode, bytes: &[u8]) -> Result<Params, Refusal>
+pub fn decode_params(code: CommandCode, bytes: &[u8]) -> Result<Params<'_>, Refusal>
     ensures decodes { Decodes (parameters code) (λ p. p) bytes.now result }
     ensures reads { result ≡ read_all (parameters code) bytes.now }
     ensures code { IfOk result (λ p. params_code p ≡ code) }
@@ -376,10 +386,10 @@ pub fn decode_params(code: CommandCode, bytes: &[u8]) -> Result<Params, Refusal>
 }
 
 /// As `decode_params`, in the place of other parameters. Which are there after a fault is not said.
-pub fn decode_params_into(
+pub fn decode_params_into<'a>(
     code: CommandCode,
-    bytes: &[u8],
-    params: &mut Params,
+    bytes: &'a [u8],
+    params: &mut Params<'a>,
 ) -> Result<(), Refusal>
     ensures decodes { Decodes (parameters code) (λ p. p) bytes.now (placed params.new result) }
     ensures reads { placed params.new result ≡ read_all (parameters code) bytes.now }

@@ -29,13 +29,14 @@ pub use command_areas::{Areas, Handled, Headed, header};
 pub use command_decode::{areas, decode_command, one_spelling};
 pub use command_encode::encode_command;
 pub use command_header::{NO_SESSIONS, SESSIONS};
-pub use command_parameters::{EVENT_BYTES, Event, Params, decode_params, decode_params_into};
+pub use command_parameters::{Params, decode_params, decode_params_into};
 pub use command_sessions::AuthRef;
 pub use framer::{Framer, Status};
 pub use laws::{
     areas_of_a_response, command_or_fault, fault_before_params, no_prefix, no_response_prefix,
     parameters_in_command, response_or_fault,
 };
+pub use lent::{EVENT_BYTES, Event};
 pub use reader::{ReadFault, read_frame};
 pub use response::{ErrorCode, NvData, ReplyBody, Response, StartReply};
 pub use response_areas::{ReplyAreas, reply_areas};

@@ -48,7 +48,7 @@ fn each_command_has_its_handles_and_authorization(rt: HostRuntime) {
 }
 
 // Values of a command, one after the other and without their sizes, of those commands that have several of one kind.
-fn put_values(rt: &impl Abort, all: &mut Buffer, body: &CommandBody) {
+fn put_values(rt: &impl Abort, all: &mut Buffer, body: &CommandBody<'_>) {
     match body {
         CommandBody::NvDefineSpace { auth, public } => {
             put(rt, all, auth.as_slice());

@@ -200,7 +200,7 @@ impl Device {
     }
 
     // TPM2_PCR_Event (Part 3, 22.3).
-    fn event(&mut self, register: PcrOrNull, event: &Event) -> Result<DigestValues, u32>
+    fn event(&mut self, register: PcrOrNull, event: &Event<'_>) -> Result<DigestValues, u32>
         ensures answer { result ≡ event_answer register event.now }
         ensures stands { OnOk result ((o : Origin) (h : History) (auths : List Auth) (r : Reply) (n : List ℕ) → Stands o h self.old →
             Stands o (Accepted (with_auths (bodies.PcrEvent register event.now) auths) r n ∷ h) self.new) }
@@ -252,7 +252,7 @@ impl Device {
     }
 
     // The action of a command that the device has, and the reply to it.
-    fn act(&mut self, areas: &Areas<'_>, params: &Params, out: &mut Buffer) -> Result<(), u32>
+    fn act(&mut self, areas: &Areas<'_>, params: &Params<'_>, out: &mut Buffer) -> Result<(), u32>
         requires has { has_command (params_code params.now) ≡ true }
         requires empty { length out.old.items ≡ 0 }
         ensures answer { (n : List ℕ) → given out.new.items result ≡ replied (replies_of areas.now.auths) (action (holds self.old) (body_from areas.now.handles params.now) n) }

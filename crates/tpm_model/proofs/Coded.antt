@@ -18,7 +18,8 @@ use Rattle.tpm_buffer.specs.declared.code.CommandCode.{CommandCode}
 use Rattle.tpm_buffer.specs.declared.code.CommandCode.TheVariants as codes
 use Rattle.tpm_buffer.specs.Codes.{command_code}
 use Rattle.tpm_buffer.specs.Handles.{admits, handles_from, handles, handle_kinds}
-use Rattle.tpm_buffer.specs.Parameters.{parameters, nv_define_space, startup, nv_read, flush_context, policy_command_code, policy_or, start_auth_session, pcr_read, policy_pcr, pcr_extend, pcr_event, event_bytes}
+use Rattle.tpm_buffer.specs.Parameters.{parameters, nv_define_space, startup, nv_read, flush_context, policy_command_code, policy_or, start_auth_session, pcr_read, policy_pcr, pcr_extend, pcr_event}
+use Rattle.tpm_buffer.specs.Events.{event_bytes}
 use Rattle.tpm_buffer.specs.Commands.{tag, command_size, header, sessions, authorization_size, authorization}
 use Rattle.tpm_model.proofs.Nonzero.{IsCoded, coded_in, coded_number, coded_sized_bytes, coded_sized, coded_counted}
 
