@@ -179,7 +179,8 @@ impl<'a> Areas<'a> {
 
     /// How many sessions there are: 0 to 3.
     pub fn auth_count(&self) -> usize
-        ensures { result ≡ length self.now.auths }
+        ensures value { result ≡ length self.now.auths }
+        ensures few { result ≤ 3 }
     {
         self.sessions.len()
     }

@@ -41,7 +41,7 @@ pub use reader::{ReadFault, read_frame};
 pub use response::{ErrorCode, NvData, ReplyBody, Response, StartReply};
 pub use response_areas::{ReplyAreas, reply_areas};
 pub use response_decode::decode_response;
-pub use response_encode::{encode_response, put_code, put_reply};
+pub use response_encode::{encode_response, put_code, put_reply, put_reply_params};
 pub use response_header::RSP_COMMAND;
 pub use response_sessions::ReplyRef;
 pub use stream_laws::{broken_for_ever, frames_of_a_stream, frames_of_pieces, frames_read};

@@ -136,6 +136,16 @@ fn put_params(body: &ReplyBody, out: &mut Buffer)
     }
 }
 
+/// Adds to an empty buffer the parameters of a reply alone, as they are hashed for its HMAC (Part 1, "rpHash").
+pub fn put_reply_params(body: &ReplyBody, out: &mut Buffer)
+    requires { length out.old.items ≡ 0 }
+    ensures { out.new.items ≡ spelling (parameters_of_reply body.now) body.now }
+{
+    // What says that there is room for them.
+    params_len(body);
+    put_params(body, out);
+}
+
 #[tactic(auto, unfolding(crate::specs::Replies::pcr_event_reply, crate::specs::Replies::nv_read_reply, crate::specs::Replies::nv_read_public_reply, crate::specs::Replies::start_auth_session_reply, crate::specs::Replies::pcr_read_reply, crate::specs::Replies::policy_get_digest_reply))]
 fn known_params(body: &ReplyBody)
     ensures { (left : ℕ) → Fits left (parameters_of_reply body.now) body.now }

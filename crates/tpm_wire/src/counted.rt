@@ -101,15 +101,15 @@ impl<T: Wire + Default + Duplicate + Drop, const MOST: usize> Default for Counte
 }
 
 /// The number of entries, else SIZE.
-fn take_count(cursor: &mut Cursor<'_>, least: usize, most: usize) -> Result<usize, Refusal>
+fn take_count(cursor: &mut Cursor<'_>, least: usize, most: usize) -> Result<u32, Refusal>
     ensures reads { Takes (number_in 4 (λ n. nat_le least n && nat_le n most) rc_size) cursor.old cursor.new result }
     ensures spelled { IfOk result (λ n. cursor.old.here.rest ≡ spelling (number_in 4 (λ n. nat_le least n && nat_le n most) rc_size) n ++ cursor.new.here.rest) }
     ensures bounds { IfOk result (λ n. (least ≤ n) × (n ≤ most) × (n < 2 ^ 32)) }
     ensures short { length cursor.old.here.rest < 2 ^ 32 }
 {
     let refusal = cursor.refusal(SIZE);
-    let count = u32::take(cursor)? as usize;
-    if count < least || count > most {
+    let count = u32::take(cursor)?;
+    if (count as usize) < least || count as usize > most {
         return Err(refusal);
     }
     Ok(count)
@@ -138,7 +138,7 @@ impl<T: Wire + Default + Duplicate + Drop, const LEAST: usize, const MOST: usize
     }
 
     fn take(cursor: &mut Cursor<'_>) -> Result<Self, Refusal> {
-        let count = take_count(cursor, LEAST, MOST)?;
+        let count = take_count(cursor, LEAST, MOST)? as usize;
         let mut entries = ArrayVec::new();
         read_list(cursor, count, &mut entries)?;
         Ok(Counted { entries })
@@ -153,7 +153,7 @@ impl<T: Wire + Default + Duplicate + Drop, const LEAST: usize, const MOST: usize
             *self = Self::take(cursor)?;
             return Ok(());
         }
-        let count = take_count(cursor, LEAST, MOST)?;
+        let count = take_count(cursor, LEAST, MOST)? as usize;
         match read_list(cursor, count, &mut self.entries) {
             Ok(()) => Ok(()),
             Err(refusal) => {
