@@ -1,0 +1,78 @@
+# The conditions of calls: README's paragraph on them names each public function of the library that has a `requires`, and no
+# other, as `function`, as `Type::function`, or by the beginning of its name and an underscore.
+
+# conditions FILE..: a line 'NAME' or 'TYPE::NAME' for each public function with a condition, whatever is public of the crate.
+conditions() {
+    awk '
+        FNR == 1 { type = ""; is_trait = 0; is_head = 0 }
+        /^impl/ {
+            type = $0
+            sub(/ *\{.*/, "", type)
+            sub(/^impl(<[^>]*>)? */, "", type)
+            is_trait = type ~ / for /
+            sub(/.* for /, "", type)
+            sub(/<.*/, "", type)
+        }
+        /^pub trait/ { type = $3; sub(/[<:{].*/, "", type); is_trait = 1 }
+        /^}/ { type = ""; is_trait = 0 }
+        /(^| )fn / && !/^ *\/\// {
+            is_public = /^ *pub [a-z "C]*fn / || (is_trait && /^ *fn /)
+            name = $0
+            sub(/.*fn /, "", name)
+            sub(/[<(].*/, "", name)
+            is_head = 1
+        }
+        is_head && is_public && /^ *requires/ { print (type == "" ? name : type "::" name) }
+        is_head && /[{;] *$/ && !/^ *(requires|ensures)/ { is_head = 0 }
+    ' "$@" | sort -u
+}
+
+# exported CRATE: a line for each name that the root file hands out.
+exported() {
+    awk '/^pub use/ { is_open = 1 } /^pub mod/ { print $3 } is_open { print } /;/ { is_open = 0 }' "$1/src/lib.rt" |
+        tr -cs 'A-Za-z0-9_\n' '\n' | grep . | sort -u
+}
+
+# asked_of CRATE: the conditions of what it hands out; the functions of its public modules too.
+asked_of() {
+    exported "$1" >"$room/exported"
+    conditions "$1"/src/*.rt | while IFS= read -r function; do
+        grep -qx -e "${function%%::*}" "$room/exported" && echo "$function"
+    done
+    while IFS= read -r module; do
+        [ -f "$1/src/$module.rt" ] && conditions "$1/src/$module.rt"
+    done <"$room/exported"
+}
+
+for crate in crates/tpm_*; do
+    case $crate in
+    *_tests | *_bench | *_trials) ;;
+    *) [ -f "$crate/src/lib.rt" ] && asked_of "$crate" ;;
+    esac
+done | sort -u >"$room/asked"
+
+grep -e '^Every function that is called with its `requires` met' README.md | tr -cs 'A-Za-z0-9_:`\n' '\n' |
+    awk -F '`' '/^`/ && NF == 3 && $2 != "requires" { print $2 }' | sort -u >"$room/named"
+
+# is_named FUNCTION: README names it.
+is_named() {
+    while IFS= read -r name; do
+        case $1 in
+        "$name" | *::"$name") return 0 ;;
+        esac
+        case $name:$1 in
+        *_:"$name"*) return 0 ;;
+        esac
+    done <"$room/named"
+    return 1
+}
+
+wrong=
+while IFS= read -r function; do
+    is_named "$function" || wrong="$wrong $function is not named;"
+done <"$room/asked"
+while IFS= read -r name; do
+    grep -q -e "^\(.*::\)\{0,1\}$name" "$room/asked" || wrong="$wrong $name has no condition;"
+done <"$room/named"
+name="README names the $(wc -l <"$room/asked" | tr -d ' ') public functions that have a condition"
+if [ -n "$wrong" ]; then fail "$name" "$wrong"; else pass "$name"; fi
