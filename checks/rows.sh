@@ -155,4 +155,5 @@ rows checks/cut.txt
 rows checks/sizes.txt
 rows checks/device.txt
 rows checks/banks.txt
+rows checks/registers.txt
 set +f
