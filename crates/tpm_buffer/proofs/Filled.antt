@@ -1,12 +1,12 @@
 -- What several reads of a source give.
-use Rattle.std.proofs.Common.{◌≡◌, ℕ, ◌+◌, ◌-◌, ◌≤◌, ◌<◌, List, [], ◌++◌, length, take, drop, Option, Some, None, refl, sym, ap, ◌∙◌, append_assoc, arith, length-take, length-take-le, length-drop, length-append, Ok}
+use Rattle.std.proofs.Common.{◌≡◌, ℕ, ◌+◌, ◌-◌, ◌≤◌, ◌<◌, List, [], ◌++◌, length, take, drop, Option, Some, None, refl, sym, subst, ap, ◌∙◌, append_assoc, arith, length-take, length-take-le, length-drop, length-append}
 use Rattle.std.proofs.lemmas.List.{take-append-le, take_at, take_all}
 use Rattle.std.proofs.lemmas.Slice.{take-put_mid}
 use Rattle.std.proofs.Math.Seq.{take-append-add}
+use Rattle.std.specs.List.{refill}
 use Rattle.std.specs.Io.KnownBytes.{Consumes, IsAtEnd}
 use Rattle.tpm_buffer.specs.Frames.{stated, IsFrame, IsPart}
-use Rattle.tpm_buffer.specs.Reads.{ReadsInto}
-use Rattle.tpm_buffer.proofs.Framed.{stated_more, sized_part}
+use Rattle.tpm_buffer.proofs.Framed.{stated_more, short_part, sized_part}
 use borrow.Rule.Slice.PartMut.{put_mid, post_of}
 
 -- the bytes of one read and then of others
@@ -53,47 +53,48 @@ module _ (front part : List ℕ) (size : ℕ) (six : length front ≡ 6) (states
     states_it = omega (arith, both n le, says n, is);
   }
 
--- where the two stand in the room
-pub in_room : (front part behind : List ℕ) (size : ℕ) → length front ≡ 6 → 6 + length part ≡ size → take size (put_mid 6 (size - 6) (front ++ behind) part) ≡ front ++ part
-in_room front part behind size six is =
-    take-put_mid 6 (size - 6) (front ++ behind) part size (sym is) (omega (arith, six, length-append front behind))
-    ∙ ap (λ (r : List ℕ). r ++ part) (take_at front behind 6 six)
-
--- a first read that filled its part of the room, and the next one
-module _ (old mid new : Option (List ℕ)) (room front part : List ℕ) (count size : ℕ) (full : length room ≡ 4096) (front_part : length front ≡ length (take 6 room))
-    (count_fits : count ≤ length front) (first : Consumes old mid (take count front)) (filled : 6 ≤ count)
-    (states : size ≡ stated (take 6 (front ++ drop 6 room))) (least : 10 ≤ size) (most : size ≤ 4096)
-    (next_part : length part ≡ length (take (size - 6) (drop 6 (front ++ drop 6 room)))) where
-  six : length front ≡ 6
-  six = front_part ∙ length-take-le 6 room (omega (arith, full))
-
-  rest : 6 + length part ≡ size
-  rest = omega (arith, next_part, length-take (size - 6) (drop 6 (front ++ drop 6 room)), length-drop 6 (front ++ drop 6 room), length-append front (drop 6 room), length-drop 6 room, six, full, least, most)
-
+-- a first read of six bytes, and the next one of the rest
+module _ (old mid new : Option (List ℕ)) (front part : List ℕ) (count size : ℕ) (six : length front ≡ 6)
+    (first : Consumes old mid (take count front)) (filled : 6 ≤ count)
+    (says : size ≡ stated front) (least : 10 ≤ size) (most : size ≤ 4096) (rest : 6 + length part ≡ size) where
   all_first : Consumes old mid front
   all_first = rw (← take_all count front (omega (arith, six, filled))) first
 
-  says_front : size ≡ stated front
-  says_front = states ∙ ap stated (take_at front (drop 6 room) 6 six)
-
   pub failed_inside : (n : ℕ) → n < length part → Consumes mid new (take n part) → (bytes : List ℕ) × Consumes old new bytes × IsPart bytes
   failed_inside n lt more =
-      (front ++ take n part, consumes_both old mid new front (take n part) all_first more, read_part front part size six says_front least most n (omega (arith, lt)) (omega (arith, lt, rest)))
+      (front ++ take n part, consumes_both old mid new front (take n part) all_first more, read_part front part size six says least most n (omega (arith, lt)) (omega (arith, lt, rest)))
 
   pub ended_inside : (n : ℕ) → n ≤ length part → Consumes mid new (take n part) → (n < length part → IsAtEnd new) → 6 + n < size
       → (bytes : List ℕ) × Consumes old new bytes × (IsPart bytes × (0 < length bytes) × IsAtEnd new)
   ended_inside n le more end lt = (
     front ++ take n part,
     consumes_both old mid new front (take n part) all_first more,
-    (read_part front part size six says_front least most n le lt, omega (arith, length-append front (take n part), six), end (omega (arith, lt, rest))),
+    (read_part front part size six says least most n le lt, omega (arith, length-append front (take n part), six), end (omega (arith, lt, rest))),
   )
 
-  pub whole_frame : (n : ℕ) → n ≤ length part → Consumes mid new (take n part) → size ≤ 6 + n → ReadsInto old new (put_mid 6 (size - 6) (front ++ drop 6 room) part) (Ok size)
+  pub whole_frame : (n : ℕ) → n ≤ length part → Consumes mid new (take n part) → size ≤ 6 + n → Consumes old new (front ++ part) × IsFrame (front ++ part)
   whole_frame n le more all =
-      let there : take size (put_mid 6 (size - 6) (front ++ drop 6 room) part) ≡ front ++ take n part =
-      in_room front part (drop 6 room) size six rest ∙ ap (λ (r : List ℕ). front ++ r) (sym (take_all n part (omega (arith, rest, all)))) in (
-        omega (arith, least, rest, room_read 6 (size - 6) (size - 6) (front ++ drop 6 room) part (omega (arith, six, length-append front (drop 6 room))) (omega (arith, rest))),
-        rw there (consumes_both old mid new front (take n part) all_first more),
-        (λ none. absurd (omega (arith, none, least))),
-        (λ some. rw there (read_whole front part size six says_front least most n le (omega (arith, rest, le, all)))),
-      )
+      let whole : front ++ take n part ≡ front ++ part = ap (λ (r : List ℕ). front ++ r) (take_all n part (omega (arith, rest, all))) in
+      subst (λ (bs : List ℕ). Consumes old new bs × IsFrame bs) whole
+      (consumes_both old mid new front (take n part) all_first more, read_whole front part size six says least most n le (omega (arith, rest, le, all)))
+
+-- where the two stand in the buffer, which was made as long as the frame
+pub part_length : (held part : List ℕ) (size : ℕ) → length part ≡ length (take (size - 6) (drop 6 held)) → length held ≡ size → 10 ≤ size → 6 + length part ≡ size
+part_length held part size is whole least = omega (arith, is, length-take (size - 6) (drop 6 held), length-drop 6 held, whole, least)
+
+pub whole_buffer : (xs held part front more : List ℕ) (n size : ℕ) → n ≡ size → held ≡ front ++ more → length held ≡ size → length front ≡ 6 → 6 + length part ≡ size
+    → refill n xs (put_mid 6 (size - 6) held part) ≡ front ++ part
+whole_buffer xs held part front more n size is begins whole six rest =
+    let written = put_mid 6 (size - 6) held part in
+    let long = room_read 6 (size - 6) (length part) held part (omega (arith, whole, rest)) (omega arith) in
+    take-append-le n written (drop (length written) xs) (omega (arith, long, is, rest))
+    ∙ take-put_mid 6 (size - 6) held part n (omega (arith, is, rest)) (omega (arith, whole, rest))
+    ∙ ap (λ (r : List ℕ). take 6 r ++ part) begins
+    ∙ ap (λ (r : List ℕ). r ++ part) (take_at front more 6 six)
+
+-- a first read that was the last
+pub short_read : (old new : Option (List ℕ)) (front : List ℕ) (count : ℕ) → length front ≡ 6 → count ≤ length front → 0 < count → count < 6 → Consumes old new (take count front) → (count < length front → IsAtEnd new)
+    → (bytes : List ℕ) × Consumes old new bytes × (IsPart bytes × (0 < length bytes) × IsAtEnd new)
+short_read old new front count six fits some few read end =
+    let len = length-take-le count front fits in
+    (take count front, read, (short_part (take count front) (omega (arith, len, few)), omega (arith, len, some), end (omega (arith, six, few))))

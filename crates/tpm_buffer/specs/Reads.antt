@@ -1,5 +1,5 @@
 -- What reading a frame does to the bytes that a source has left, where it tells them, and to its count of failures.
-use Rattle.std.specs.Prelude.{◌≡◌, ℕ, ◌<◌, ◌≤◌, List, [], length, take, Option, Some, None, Result, Ok, Err}
+use Rattle.std.specs.Prelude.{◌≡◌, ℕ, ◌<◌, ◌≤◌, Bool, true, false, List, [], length, take, Option, Some, None, Result, Ok, Err}
 use Rattle.std.specs.Io.KnownBytes.{Consumes, IsAtEnd}
 use Rattle.arrayvec.specs.ArrayVec.{ArrayVec}
 use Rattle.tpm_wire.specs.Sources.{one_more}
@@ -32,7 +32,14 @@ abbrev pub Fills : {E : Type 0} → Option (List ℕ) → Option (List ℕ) → 
 Fills old new room (Ok n) = (n ≤ length room) × Consumes old new (take n room) × (n < length room → IsAtEnd new)
 Fills old new room (Err e) = (n : ℕ) × (n < length room) × Consumes old new (take n room)
 
--- Some bytes were read to the front of the room, none or a frame, or else this was answered.
-abbrev pub ReadsInto : Option (List ℕ) → Option (List ℕ) → List ℕ → Result ℕ ReadFault → Type 0
-ReadsInto old new room (Ok n) = (n ≤ length room) × Consumes old new (take n room) × (n ≡ 0 → IsAtEnd new) × (0 < n → IsFrame (take n room))
-ReadsInto old new room (Err fault) = (bytes : List ℕ) × Consumes old new bytes × IsAnswer bytes new (Err fault)
+-- A frame was read, or none at the end, or else this was answered.
+abbrev pub ReadsInto : Option (List ℕ) → Option (List ℕ) → List ℕ → Result Bool ReadFault → Type 0
+ReadsInto old new frame (Ok true) = Consumes old new frame × IsFrame frame
+ReadsInto old new frame (Ok false) = Consumes old new [] × IsAtEnd new
+ReadsInto old new frame (Err fault) = (bytes : List ℕ) × Consumes old new bytes × IsAnswer bytes new (Err fault)
+
+-- a buffer without bytes, in whose place a frame is read
+abbrev pub IsEmptyBuffer : Result (Option (ArrayVec ℕ)) ReadFault → Type 0
+IsEmptyBuffer (Ok (Some frame)) = length frame.items ≡ 0
+IsEmptyBuffer (Ok None) = ⊥
+IsEmptyBuffer (Err fault) = ⊥

@@ -1,12 +1,15 @@
 //! Frames from a source of bytes.
 
-ghost use Rattle.std.specs.Prelude.{◌≡◌, length};
+ghost use Rattle.std.specs.Prelude.{◌≡◌, ◌≤◌, ◌++◌, ℕ, List, length};
 ghost use Rattle.tpm_buffer.specs.declared.reader.ReadFault.TheVariants.{Device, Broken};
-ghost use Rattle.tpm_buffer.specs.Reads.{Fills, CountsDevice, ReadsFrame, ReadsInto};
+ghost use Rattle.tpm_buffer.specs.Reads.{Fills, CountsDevice, ReadsFrame, ReadsInto, IsEmptyBuffer};
 ghost use Rattle.tpm_wire.specs.Sources.{CountsFailures};
 
 use crate::framer::{SIZE_END, stated_size};
-use tpm_wire::{Buffer, ReadFailed, Refusal, Source};
+use tpm_wire::{Buffer, ReadFailed, Refusal, Source, put_bytes};
+
+// By how many bytes a buffer is lengthened at once.
+const PIECE: usize = 128;
 
 /// Why there is no frame.
 #[derive(Clone, Copy, Debug, PartialEq, Eq)]
@@ -43,47 +46,62 @@ pub fn read_frame<R: Source>(source: &mut R) -> Result<Option<Buffer>, ReadFault
     ensures failures { CountsDevice (R.failed source.old) (R.failed source.new) result }
     ensures frame { ReadsFrame (R.coming source.old) (R.coming source.new) result }
 {
-    let mut answer = Ok(None);
+    let mut answer = Ok(Some(Buffer::new()));
     read_answer(source, &mut answer);
     answer
 }
 
-// The answer is made in the caller's place, so that a frame is not copied as it is returned.
+// The answer is made in the caller's place, which an empty buffer is in, so that a frame is not copied as it is returned.
 #[inline(never)]
 fn read_answer<R: Source>(source: &mut R, answer: &mut Result<Option<Buffer>, ReadFault>)
+    requires { IsEmptyBuffer answer.old }
     ensures failures { CountsDevice (R.failed source.old) (R.failed source.new) answer.new }
     ensures frame { ReadsFrame (R.coming source.old) (R.coming source.new) answer.new }
 {
-    *answer = Ok(Some(Buffer::from_array_in((), [0; 4096])));
     if let Ok(Some(frame)) = answer {
-        match read_into(source, frame.as_mut_slice()) {
-            Ok(0) => *answer = Ok(None),
-            Ok(size) => frame.truncate(size),
+        match read_into(source, frame) {
+            Ok(true) => {}
+            Ok(false) => *answer = Ok(None),
             Err(fault) => *answer = Err(fault),
         }
     }
 }
 
-/// Reads the next frame to the front of the room, and says how many bytes it has: none at the end of the input.
+/// Reads the next frame into an empty buffer, and says whether there is one: none at the end of the input.
 #[inline(never)]
-fn read_into<R: Source>(source: &mut R, room: &mut [u8]) -> Result<usize, ReadFault>
-    requires { length room.old ≡ 4096 }
+fn read_into<R: Source>(source: &mut R, frame: &mut Buffer) -> Result<bool, ReadFault>
+    requires { length frame.old.items ≡ 0 }
     ensures failures { CountsDevice (R.failed source.old) (R.failed source.new) result }
-    ensures frame { ReadsInto (R.coming source.old) (R.coming source.new) room.new result }
+    ensures frame { ReadsInto (R.coming source.old) (R.coming source.new) frame.new.items result }
 {
-    let count = fill(source, &mut room[..SIZE_END])?;
+    let mut head = [0; SIZE_END];
+    let count = fill(source, &mut head)?;
     if count == 0 {
-        return Ok(0);
+        return Ok(false);
     }
     if count < SIZE_END {
         return Err(ReadFault::EndInside);
     }
-    let size = stated_size(&room[..SIZE_END])?;
-    let count = fill(source, &mut room[SIZE_END..size])?;
+    let size = stated_size(&head)?;
+    put_bytes(frame, &head);
+    lengthen(frame, size);
+    let count = fill(source, &mut frame.as_mut_slice()[SIZE_END..size])?;
     if SIZE_END + count < size {
         return Err(ReadFault::EndInside);
     }
-    Ok(size)
+    Ok(true)
+}
+
+// Adds bytes at the end, which are written over, until there are so many.
+fn lengthen(frame: &mut Buffer, size: usize)
+    requires { (length frame.old.items ≤ size) × (size ≤ 4096) }
+    ensures { (more : List ℕ) × (frame.new.items ≡ frame.old.items ++ more) × (length frame.new.items ≡ size) }
+{
+    let zeros = [0; PIECE];
+    while frame.len() < size {
+        let count = (size - frame.len()).min(PIECE);
+        let _ = frame.try_extend_from_slice(&zeros[..count]);
+    }
 }
 
 /// Reads until there is no room left or the input ends, and says how many bytes came.

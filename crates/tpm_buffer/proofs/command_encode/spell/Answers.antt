@@ -1,4 +1,4 @@
-use Rattle.std.proofs.Common.{arith, ◌≡◌, ◌≤◌, ℕ, List, All, subst, sym, ap, length, rules}
+use Rattle.std.proofs.Common.{arith, ◌≤◌, ℕ, List, All, subst, sym, ap, length, rules}
 use Rattle.tpm_wire.specs.Spelling.{spelling, Fits, IsSpelled}
 use Rattle.tpm_types.specs.declared.tpms.Auth.{Auth}
 use Rattle.tpm_types.specs.Tpms.{auth_command}
