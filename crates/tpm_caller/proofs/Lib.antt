@@ -1,0 +1,4 @@
+pub mod HmacPlace
+pub mod Keys
+pub mod ReplyParams
+pub mod Opening

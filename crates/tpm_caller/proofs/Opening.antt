@@ -1,0 +1,169 @@
+-- What a caller finds in the bytes of a reply.
+use Rattle.std.proofs.Common.{◌≡◌, ◌≢◌, ◌↔◌, ℕ, Bool, List, [], ◌∷◌, length, Result, Ok, Err, Some, None, Option, true, false, refl, sym, ap, ◌∙◌, subst, arith}
+use Rattle.std.specs.Prelude.{slice_get, bytes_eq}
+use Rattle.std.proofs.lemmas.Bool.{eq-eqb, ne_eqb, both_ways}
+use Rattle.std.proofs.lemmas.List.{append-nil}
+use Rattle.std.proofs.lemmas.Slice.Eq.{bytes_eq-Decides}
+use Rattle.arrayvec.specs.declared.ArrayVec.{ArrayVec}
+use Rattle.tpm_wire.specs.declared.refusal.Refusal.{Refusal}
+use Rattle.tpm_wire.specs.Buffers.{buffer}
+use Rattle.tpm_wire.specs.Path.{Spells, Fault}
+use Rattle.tpm_wire.specs.Spelling.{spelling}
+use Rattle.tpm_wire.proofs.Buffers.{buffer_sound}
+use Rattle.tpm_wire.proofs.Whole.{exactly_one, spells_read, fault_read}
+use Rattle.tpm_types.specs.declared.alg.Alg.{Alg}
+use Rattle.tpm_types.specs.declared.tpms.AuthReply.{AuthReply}
+use Rattle.tpm_buffer.specs.declared.code.CommandCode.{CommandCode}
+use Rattle.tpm_buffer.specs.declared.response.ReplyBody.{ReplyBody}
+use Rattle.tpm_buffer.specs.declared.response.Response.{Response}
+use Rattle.tpm_buffer.specs.declared.response.Response.TheVariants as responses
+use Rattle.tpm_buffer.specs.Codes.{code_number}
+use Rattle.tpm_buffer.specs.Handles.{needs_authorization}
+use Rattle.tpm_buffer.specs.Responses.{response, done_with, ReplyCut, reply_cut}
+use Rattle.tpm_buffer.proofs.Parted.{has_areas}
+use Rattle.tpm_hmac.specs.Hmac.{hmac}
+use Rattle.tpm_hmac.specs.Sessions.{whole_key, rp_hash, mac_text}
+use Rattle.tpm_model.specs.Answers.{reply_params}
+use Rattle.tpm_model.specs.InStep.{CallerSession}
+use Rattle.tpm_model.specs.Callers as model
+use Rattle.tpm_model.specs.Callers.{Refused, Code, NotExpected, WrongMac, Waiting, Opened, awaited_text, caller_after, opened_session, opened_response, opened, caller_of_refusal, given_up}
+use Rattle.tpm_caller.specs.declared.waiting.CallerFault.{CallerFault}
+use Rattle.tpm_caller.specs.declared.waiting.CallerFault.TheVariants as faults
+use Rattle.tpm_caller.specs.Sent.{Sent, caller_with, IsSpelledBy}
+use Rattle.tpm_caller.specs.Faults.{fault_of, opening_of, giving_up_of}
+use Rattle.tpm_caller.proofs.ReplyParams.{params_are}
+
+-- ---- the cut of a reply
+
+pub some_cut : (code : CommandCode) (bytes : List ℕ) (body : ReplyBody) (auths : List AuthReply) → IsSpelledBy bytes code body auths → (c : ReplyCut) × Spells (reply_cut code) c bytes
+some_cut code bytes body auths s = let x = has_areas code bytes (done_with (record { body = body; auths = auths })) s.spells in (x.0, x.1)
+
+-- It has the sessions of the response.
+same_auths : (code : CommandCode) (bytes : List ℕ) (body : ReplyBody) (auths : List AuthReply) (c : ReplyCut) → IsSpelledBy bytes code body auths → Spells (reply_cut code) c bytes → c.auths ≡ auths
+same_auths code bytes body auths c s cut =
+    let x = has_areas code bytes (done_with (record { body = body; auths = auths })) s.spells in
+    ap (λ (z : ReplyCut). z.auths) ((exactly_one buffer buffer_sound (reply_cut code) bytes).one_value c x.0 cut x.1) ∙ x.2.auths_are
+
+only : (auths : List AuthReply) (a : AuthReply) → length auths ≡ 1 → Some a ≡ slice_get auths 0 → auths ≡ a ∷ []
+only [] a one is = absurd (omega (arith, one))
+only (b ∷ []) a one is = let same : a ≡ b = cc in ap (λ (x : AuthReply). x ∷ []) (sym same)
+only (b ∷ d ∷ others) a one is = absurd (omega (arith, one))
+
+-- a cut with one session
+pub record HasOne (w : Waiting) (bytes : List ℕ) (cut : ReplyCut) (a : AuthReply) : Type 0 where
+  pub spells : Spells (reply_cut w.code) cut bytes
+  pub count : length cut.auths ≡ 1
+  pub first : Some a ≡ slice_get cut.auths 0
+
+pub one_auth : (w : Waiting) (bytes : List ℕ) (cut : ReplyCut) (a : AuthReply) (body : ReplyBody) (auths : List AuthReply) → HasOne w bytes cut a → IsSpelledBy bytes w.code body auths → auths ≡ a ∷ []
+one_auth w bytes cut a body auths h s =
+    let same = same_auths w.code bytes body auths cut s h.spells in
+    only auths a (ap length (sym same) ∙ h.count) (h.first ∙ ap (λ (l : List AuthReply). slice_get l 0) same)
+
+pub params_of_one : (w : Waiting) (bytes : List ℕ) (cut : ReplyCut) (a : AuthReply) (body : ReplyBody) (auths : List AuthReply) → needs_authorization w.code ≡ true → HasOne w bytes cut a → IsSpelledBy bytes w.code body auths → cut.params ≡ reply_params body
+params_of_one w bytes cut a body auths needs h s =
+    let one = one_auth w bytes cut a body auths h s in
+    params_are w.code bytes cut body a needs (subst (IsSpelledBy bytes w.code body) one s) h.spells (same_auths w.code bytes body auths cut s h.spells ∙ one)
+
+-- ---- the checks
+
+pub not_one : (w : Waiting) (body : ReplyBody) (auths : List AuthReply) → length auths ≢ 1 → opened_session w body auths ≡ Err NotExpected
+not_one w body [] more = refl
+not_one w body (a ∷ []) more = absurd (more refl)
+not_one w body (a ∷ b ∷ others) more = refl
+
+pub other_length : (w : Waiting) (body : ReplyBody) (a : AuthReply) → length a.nonce ≢ length w.caller.nonce → opened_session w body (a ∷ []) ≡ Err NotExpected
+other_length w body a differ = rw (ne_eqb (length a.nonce) (length w.caller.nonce) differ) refl
+
+pub other_mac : (w : Waiting) (body : ReplyBody) (a : AuthReply) → length a.nonce ≡ length w.caller.nonce → a.hmac ≢ hmac w.caller.hash w.key (awaited_text w body a) → opened_session w body (a ∷ []) ≡ Err WrongMac
+other_mac w body a long differ = go (bytes_eq a.hmac mac) refl
+  where
+    mac : List ℕ
+    mac = hmac w.caller.hash w.key (awaited_text w body a)
+
+    go : (b : Bool) → bytes_eq a.hmac (hmac w.caller.hash w.key (awaited_text w body a)) ≡ b → opened_session w body (a ∷ []) ≡ Err WrongMac
+    go true t = absurd (differ ((bytes_eq-Decides a.hmac (hmac w.caller.hash w.key (awaited_text w body a))).0 t))
+    go false t = rw (eq-eqb (length a.nonce) (length w.caller.nonce) long, t) refl
+
+pub is_open : (w : Waiting) (body : ReplyBody) (a : AuthReply) → length a.nonce ≡ length w.caller.nonce → a.hmac ≡ hmac w.caller.hash w.key (awaited_text w body a)
+    → opened_session w body (a ∷ []) ≡ Ok (record { caller = caller_after w a; response = done_with (record { body = body; auths = a ∷ [] }) })
+is_open w body a long mac = rw (eq-eqb (length a.nonce) (length w.caller.nonce) long, (bytes_eq-Decides a.hmac (hmac w.caller.hash w.key (awaited_text w body a))).1 mac) refl
+
+pub mac_is : (w : Waiting) (body : ReplyBody) (a : AuthReply) (alg : Alg) (key p rp params nonce own mac : List ℕ) (attrs : ℕ) → alg ≡ w.caller.hash → key ≡ w.key → p ≡ rp → rp ≡ rp_hash alg (code_number w.code) params
+    → params ≡ reply_params body → nonce ≡ a.nonce → own ≡ w.nonce → attrs ≡ a.attrs → mac ≡ hmac alg (whole_key key []) (mac_text p nonce own attrs) → mac ≡ hmac w.caller.hash w.key (awaited_text w body a)
+mac_is w body a alg key p rp params nonce own mac attrs same_alg same_key same_p rp_is same_params same_nonce same_own same_attrs is =
+    is ∙ ap (λ (l : List ℕ). hmac alg l (mac_text p nonce own attrs)) (append-nil key ∙ same_key) ∙ rw (same_p, rp_is, same_alg, same_params, same_nonce, same_own, same_attrs) refl
+
+-- ---- what checking answers
+
+abbrev pub FaultFor : List ℕ → CallerFault → Sent → Type 0
+FaultFor bytes fault z = (body : ReplyBody) (auths : List AuthReply) → IsSpelledBy bytes z.waiting.code body auths → (f : model.CallerFault) × (opened_session z.waiting body auths ≡ Err f) × (fault ≡ fault_of f)
+
+abbrev pub OpenFor : List ℕ → List ℕ → Sent → Type 0
+OpenFor bytes nonce z = (body : ReplyBody) (auths : List AuthReply) → IsSpelledBy bytes z.waiting.code body auths
+    → opened_session z.waiting body auths ≡ Ok (record { caller = caller_with z.waiting nonce; response = done_with (record { body = body; auths = auths }) })
+
+pub no_cut : (bytes : List ℕ) (fault : CallerFault) (z : Sent) → ((c : ReplyCut) → Spells (reply_cut z.waiting.code) c bytes → ⊥) → FaultFor bytes fault z
+no_cut bytes fault z none body auths s = let x = some_cut z.waiting.code bytes body auths s in absurd (none x.0 x.1)
+
+pub not_one_for : (bytes : List ℕ) (z : Sent) (cut : ReplyCut) → Spells (reply_cut z.waiting.code) cut bytes → length cut.auths ≢ 1 → FaultFor bytes faults.NotExpected z
+not_one_for bytes z cut spells more body auths s = (NotExpected, not_one z.waiting body auths (λ e. more (ap length (same_auths z.waiting.code bytes body auths cut s spells) ∙ e)), refl)
+
+pub other_length_for : (bytes : List ℕ) (z : Sent) (cut : ReplyCut) (a : AuthReply) → HasOne z.waiting bytes cut a → length a.nonce ≢ length z.waiting.caller.nonce → FaultFor bytes faults.NotExpected z
+other_length_for bytes z cut a h differ body auths s = (NotExpected, ap (opened_session z.waiting body) (one_auth z.waiting bytes cut a body auths h s) ∙ other_length z.waiting body a differ, refl)
+
+pub other_mac_for : (bytes : List ℕ) (z : Sent) (cut : ReplyCut) (a : AuthReply) → HasOne z.waiting bytes cut a → length a.nonce ≡ length z.waiting.caller.nonce
+    → ((body : ReplyBody) → cut.params ≡ reply_params body → a.hmac ≢ hmac z.waiting.caller.hash z.waiting.key (awaited_text z.waiting body a)) → needs_authorization z.waiting.code ≡ true → FaultFor bytes faults.WrongMac z
+other_mac_for bytes z cut a h long differ needs body auths s =
+    (WrongMac, ap (opened_session z.waiting body) (one_auth z.waiting bytes cut a body auths h s) ∙ other_mac z.waiting body a long (differ body (params_of_one z.waiting bytes cut a body auths needs h s)), refl)
+
+pub open_for : (bytes nonce : List ℕ) (z : Sent) (cut : ReplyCut) (a : AuthReply) → HasOne z.waiting bytes cut a → length a.nonce ≡ length z.waiting.caller.nonce
+    → ((body : ReplyBody) → cut.params ≡ reply_params body → a.hmac ≡ hmac z.waiting.caller.hash z.waiting.key (awaited_text z.waiting body a)) → needs_authorization z.waiting.code ≡ true → nonce ≡ a.nonce → OpenFor bytes nonce z
+open_for bytes nonce z cut a h long same needs is body auths s =
+    let one = one_auth z.waiting bytes cut a body auths h s in
+    let made : List ℕ → List AuthReply → Result Opened model.CallerFault = λ n l. Ok (record { caller = caller_with z.waiting n; response = done_with (record { body = body; auths = l }) }) in
+    ap (opened_session z.waiting body) one ∙ is_open z.waiting body a long (same body (params_of_one z.waiting bytes cut a body auths needs h s))
+    ∙ ap (λ (n : List ℕ). made n (a ∷ [])) (sym is) ∙ ap (made nonce) (sym one)
+
+-- ---- what opening answers
+
+abbrev okay : Option CallerSession × Response → Result (Option CallerSession × Response) (Sent × CallerFault)
+okay x = Ok x
+
+abbrev wrong : Sent × CallerFault → Result (Option CallerSession × Response) (Sent × CallerFault)
+wrong x = Err x
+
+pub refused_is : (z : Sent) (code : CommandCode) (bytes : List ℕ) (e : Refusal) → code ≡ z.waiting.code → Fault (response code) bytes e → opened z.waiting bytes ≡ Err (Refused e)
+refused_is z code bytes e same f = ap (opened_response z.waiting) (fault_read buffer buffer_sound (response z.waiting.code) bytes e (subst (λ (k : CommandCode). Fault (response k) bytes e) same f))
+
+pub opened_is : (z : Sent) (code : CommandCode) (bytes : List ℕ) (r : Response) → code ≡ z.waiting.code → Spells (response code) r bytes → opened z.waiting bytes ≡ opened_response z.waiting (Ok r)
+opened_is z code bytes r same s = ap (opened_response z.waiting) (spells_read buffer buffer_sound (response z.waiting.code) bytes r (subst (λ (k : CommandCode). Spells (response k) r bytes) same s))
+
+pub spelled_by : (z : Sent) (code : CommandCode) (bytes : List ℕ) (r : Response) (body : ReplyBody) (auths : List AuthReply) → code ≡ z.waiting.code → Spells (response code) r bytes → bytes ≡ spelling (response code) r
+    → r ≡ done_with (record { body = body; auths = auths }) → IsSpelledBy bytes z.waiting.code body auths
+spelled_by z code bytes r body auths same s is made = record {
+  spells = subst (λ (q : Response). Spells (response z.waiting.code) q bytes) made (subst (λ (k : CommandCode). Spells (response k) r bytes) same s);
+  is = is ∙ ap (λ (k : CommandCode). spelling (response k) r) same ∙ ap (spelling (response z.waiting.code)) made;
+}
+
+pub open_done : (z : Sent) (code : CommandCode) (bytes nonce : List ℕ) (r : Response) (body : ReplyBody) (auths : List AuthReply) (caller : Option CallerSession) → code ≡ z.waiting.code → Spells (response code) r bytes
+    → bytes ≡ spelling (response code) r → r ≡ done_with (record { body = body; auths = auths }) → OpenFor bytes nonce z → caller ≡ caller_with z.waiting nonce → okay (caller, r) ≡ opening_of z (opened z.waiting bytes)
+open_done z code bytes nonce r body auths caller same s is made opens kept =
+    let x = spelled_by z code bytes r body auths same s is made in
+    ap (λ (o : Option CallerSession). okay (o, r)) kept ∙ ap (λ (q : Response). okay (caller_with z.waiting nonce, q)) made
+    ∙ sym (ap (opening_of z) (opened_is z code bytes r same s ∙ ap (λ (q : Response). opened_response z.waiting (Ok q)) made ∙ opens body auths x))
+
+pub fault_done : (z : Sent) (code : CommandCode) (bytes : List ℕ) (r : Response) (body : ReplyBody) (auths : List AuthReply) (fault : CallerFault) → code ≡ z.waiting.code → Spells (response code) r bytes
+    → bytes ≡ spelling (response code) r → r ≡ done_with (record { body = body; auths = auths }) → FaultFor bytes fault z → wrong (z, fault) ≡ opening_of z (opened z.waiting bytes)
+fault_done z code bytes r body auths fault same s is made faulty =
+    let f = faulty body auths (spelled_by z code bytes r body auths same s is made) in
+    ap (λ (x : CallerFault). wrong (z, x)) f.2
+    ∙ sym (ap (opening_of z) (opened_is z code bytes r same s ∙ ap (λ (q : Response). opened_response z.waiting (Ok q)) made ∙ f.1))
+
+-- ---- what giving up answers
+
+pub given_up_is : (z : Sent) (code : CommandCode) (bytes : List ℕ) (r : Response) → code ≡ z.waiting.code → Spells (response code) r bytes → given_up z.waiting bytes ≡ caller_of_refusal z.waiting (Ok r)
+given_up_is z code bytes r same s = ap (caller_of_refusal z.waiting) (spells_read buffer buffer_sound (response z.waiting.code) bytes r (subst (λ (k : CommandCode). Spells (response k) r bytes) same s))
+
+pub not_given_up : (z : Sent) (code : CommandCode) (bytes : List ℕ) (e : Refusal) → code ≡ z.waiting.code → Fault (response code) bytes e → given_up z.waiting bytes ≡ None
+not_given_up z code bytes e same f = ap (caller_of_refusal z.waiting) (fault_read buffer buffer_sound (response z.waiting.code) bytes e (subst (λ (k : CommandCode). Fault (response k) bytes e) same f))

@@ -1,0 +1,238 @@
+//! A session, as its caller holds it.
+
+ghost use Rattle.std.specs.Prelude.{◌≡◌, ◌∷◌, [], ◌+◌, ◌*◌, ◌≤◌, ◌++◌, true, length, take, drop};
+ghost use Rattle.tpm_types.specs.declared.tpms.Auth.{Auth as AuthOf};
+ghost use Rattle.tpm_types.specs.Alg.{digest_len};
+ghost use Rattle.tpm_types.specs.Limits.{digest_bytes};
+ghost use Rattle.tpm_buffer.specs.Codes.{code_number};
+ghost use Rattle.tpm_buffer.specs.Handles.{needs_authorization};
+ghost use Rattle.tpm_buffer.specs.Commands.{code_for, handles_of};
+ghost use Rattle.tpm_hmac.specs.Hmac.{hmac};
+ghost use Rattle.tpm_hmac.specs.Sessions.{session_key as session_key_of, whole_key, cp_hash as cp_hash_of, mac_text};
+ghost use Rattle.tpm_model.specs.Callers.{started_with, bound_to, attrs_for as attrs_of, with_nonce};
+ghost use Rattle.tpm_model.specs.Premises.{HasSpelling};
+ghost use Rattle.tpm_caller.specs.Sent.{sent, hmac_key, hmac_at, with_hmac};
+
+use crate::waiting::Waiting;
+use arrayvec::ArrayVec;
+use std::marker::Model;
+use tpm_buffer::{Command, CommandBody, CommandCode, StartAuth, StartReply, encode_command};
+use tpm_hmac::{command_mac, cp_hash, hash, session_key, trim};
+use tpm_types::{
+    Alg, Auth, AuthSession, AuthValue, BLOCK_BYTES, BindHandle, DIGEST_BYTES, Digest, Name, Nonce,
+    SessionAttrs, SessionHandle,
+};
+use tpm_wire::{Bounded, Buffer, Duplicate};
+
+// How many bytes are before the HMAC of a session, beside the handles and the nonce: the header, authorizationSize, the session's handle,
+// the nonce's size, the attributes and the HMAC's size.
+const BEFORE_HMAC: usize = 10 + 4 + 4 + 2 + 1 + 2;
+
+// How many bytes a nonce of a session has at least.
+const LEAST_NONCE: usize = 16;
+
+/// A session that is free for its next command. It is spent by that command, and comes back with the reply.
+#[derive(Drop)]
+pub struct Caller {
+    handle: SessionHandle,
+    hash: Alg,
+    key: Digest,
+    nonce: Nonce,
+}
+
+impl Model for Caller {
+    ghost use Rattle.tpm_model.specs.InStep as model;
+
+    ghost Value = { model.CallerSession };
+
+    ghost view = { λ c. record { handle = c.handle; hash = c.hash; key = c.key; nonce = c.nonce } };
+}
+
+// The key of a session that is started so.
+fn key_of_start(request: &StartAuth, reply: &StartReply, bind_auth: &[u8]) -> Digest
+    ensures { result ≡ session_key_of request.now.auth_hash (bound_to request.now.bind bind_auth.now) reply.now.nonce_tpm request.now.nonce_caller }
+{
+    match request.bind {
+        BindHandle::Owner => session_key(
+            request.auth_hash,
+            bind_auth,
+            reply.nonce_tpm.as_slice(),
+            request.nonce_caller.as_slice(),
+        ),
+        BindHandle::Null => Digest::default(),
+    }
+}
+
+// continueSession or nothing.
+fn attrs_for(keep: bool) -> SessionAttrs
+    ensures { result ≡ attrs_of keep }
+{
+    match SessionAttrs::from_number(keep as u8) {
+        Some(attrs) => attrs,
+        None => unreachable!(),
+    }
+}
+
+// What stands for an HMAC that is not made yet.
+fn no_mac(alg: Alg) -> AuthValue
+    ensures { length result ≡ digest_len alg }
+{
+    match AuthValue::new(&[0; DIGEST_BYTES][..alg.digest_len()]) {
+        Some(mac) => mac,
+        None => unreachable!(),
+    }
+}
+
+impl Caller {
+    /// The session that this TPM2_StartAuthSession and its reply make, bound to an entity with this authorization value, which is not
+    /// looked at where bind is TPM_RH_NULL (Part 1, "sessionKey Creation"). None where the two nonces differ in length, or have fewer
+    /// than 16 bytes or more than a digest.
+    pub fn start(request: &StartAuth, reply: &StartReply, bind_auth: &[u8]) -> Option<Caller>
+        ensures { result ≡ started_with request.now reply.now bind_auth.now }
+    {
+        let len = request.nonce_caller.as_slice().len();
+        if reply.nonce_tpm.as_slice().len() != len
+            || len < LEAST_NONCE
+            || len > request.auth_hash.digest_len()
+        {
+            return None;
+        }
+        Some(Caller {
+            handle: reply.session,
+            hash: request.auth_hash,
+            key: key_of_start(request, reply, bind_auth),
+            nonce: reply.nonce_tpm.duplicate(),
+        })
+    }
+
+    pub(crate) fn hash(&self) -> Alg
+        ensures { result ≡ self.now.hash }
+    {
+        self.hash
+    }
+
+    pub(crate) fn nonce(&self) -> &[u8]
+        ensures value { result.now ≡ self.now.nonce }
+        ensures fits { length result.now ≤ digest_bytes }
+    {
+        self.nonce.as_slice()
+    }
+
+    // The caller after a reply with this nonceTPM.
+    pub(crate) fn after(self, nonce: &[u8]) -> Caller
+        requires { length nonce.now ≤ digest_bytes }
+        ensures { result ≡ with_nonce self nonce.now }
+    {
+        let mut caller = self;
+        caller.nonce.set(nonce);
+        caller
+    }
+
+    // sessionKey || authValue. One that is longer than a block is hashed, as HMAC would hash it each time.
+    fn key_with(&self, auth: &[u8]) -> Bounded<BLOCK_BYTES>
+        ensures { result ≡ hmac_key self.now.hash (whole_key self.now.key auth.now) }
+    {
+        let session_key = self.key.as_slice();
+        let auth = trim(auth);
+        let mut key = ArrayVec::<u8, BLOCK_BYTES>::new();
+        if session_key.len() + auth.len() > self.hash.block_len() {
+            let _ = key.try_extend_from_slice(hash(self.hash, &[session_key, auth]).as_slice());
+        } else {
+            let _ = key.try_extend_from_slice(session_key);
+            let _ = key.try_extend_from_slice(auth);
+        }
+        match Bounded::new(key.as_slice()) {
+            Some(key) => key,
+            None => unreachable!(),
+        }
+    }
+
+    // The command with the session, whose HMAC is not made yet.
+    fn unsigned(&self, body: CommandBody, nonce: &Nonce, attrs: SessionAttrs) -> Command
+        ensures body { result.body ≡ body }
+        ensures session { (auth : AuthOf) × (result.auths.items ≡ auth ∷ []) × (auth.session ≡ self.now.handle) × (auth.nonce ≡ nonce.now) × (auth.attrs ≡ attrs) × (length auth.hmac ≡ digest_len self.now.hash) }
+    {
+        let session = match AuthSession::from_number(self.handle.number()) {
+            Some(session) => session,
+            None => unreachable!(),
+        };
+        let mut auths = ArrayVec::new();
+        auths.push(Auth {
+            session,
+            nonce: nonce.duplicate(),
+            attrs,
+            hmac: no_mac(self.hash),
+        });
+        Command { body, auths }
+    }
+
+    // Puts the HMAC in its place: behind the header, the handles and what is before it of the session, and right before the parameters.
+    fn sign(
+        &self,
+        code: CommandCode,
+        names: &[Name],
+        key: &[u8],
+        nonce: &[u8],
+        attrs: SessionAttrs,
+        bytes: &mut Buffer,
+    )
+        requires few { length names.now ≤ 2 }
+        requires short { length nonce.now ≤ digest_bytes }
+        requires room { hmac_at names.now nonce.now + digest_len self.now.hash ≤ length bytes.old.items }
+        ensures { bytes.new.items ≡ with_hmac (hmac_at names.now nonce.now) (hmac self.now.hash (whole_key key.now []) (mac_text (cp_hash_of self.now.hash (code_number code) names.now (drop (hmac_at names.now nonce.now + digest_len self.now.hash) bytes.old.items)) nonce.now self.now.nonce attrs)) bytes.old.items }
+    {
+        let begin = BEFORE_HMAC + 4 * names.len() + nonce.len();
+        let end = begin + self.hash.digest_len();
+        let p_hash = cp_hash(self.hash, code, names, &bytes.as_slice()[end..]);
+        let mac = command_mac(
+            self.hash,
+            key,
+            &[],
+            p_hash.as_slice(),
+            nonce,
+            self.nonce.as_slice(),
+            attrs,
+        );
+        bytes.as_mut_slice()[begin..end].copy_from_slice(mac.as_slice());
+    }
+
+    /// The command with this session as its authorization, which is spent by it: the bytes to be sent, and what opens their reply. `names`
+    /// are the Names of the command's handles, in their order, and `auth` is what follows the session key in that of the HMAC:
+    /// the authorization value of what the first handle names, whose trailing zeros do not count, or nothing where the rules
+    /// leave it out. `nonce` is nonceCaller, a fresh random one; with `keep` the session goes on after the command
+    /// (continueSession). The HMAC is always there (Part 1, "Session-Based Authorizations").
+    pub fn seal(
+        self,
+        body: CommandBody,
+        names: ArrayVec<Name, 2>,
+        auth: &[u8],
+        nonce: Nonce,
+        keep: bool,
+    ) -> Waiting
+        requires authorized { needs_authorization (code_for body) ≡ true }
+        requires named { length names.items ≡ length (handles_of body) }
+        ensures sealed { result ≡ sent (record { caller = self; body = body; names = names.items; auth = auth.now; nonce = nonce; keep = keep }) }
+        ensures spelled { HasSpelling (record { caller = self; body = body; names = names.items; auth = auth.now; nonce = nonce; keep = keep }) }
+    {
+        let code = body.code();
+        let key = self.key_with(auth);
+        let attrs = attrs_for(keep);
+        let mut bytes = encode_command(&self.unsigned(body, &nonce, attrs));
+        self.sign(
+            code,
+            names.as_slice(),
+            key.as_slice(),
+            nonce.as_slice(),
+            attrs,
+            &mut bytes,
+        );
+        Waiting {
+            caller: self,
+            code,
+            key,
+            nonce,
+            keep,
+            bytes,
+        }
+    }
+}
