@@ -148,8 +148,8 @@ impl Caller {
     }
 
     // The command with the session, whose HMAC is not made yet.
-    fn unsigned(&self, body: CommandBody, nonce: &Nonce, attrs: SessionAttrs) -> Command
-        ensures body { result.body ≡ body }
+    fn unsigned<'a>(&self, body: CommandBody<'a>, nonce: &Nonce, attrs: SessionAttrs) -> Command<'a>
+        ensures body { result.body ≡ body.entry }
         ensures session { (auth : AuthOf) × (result.auths.items ≡ auth ∷ []) × (auth.session ≡ self.now.handle) × (auth.nonce ≡ nonce.now) × (auth.attrs ≡ attrs) × (length auth.hmac ≡ digest_len self.now.hash) }
     {
         let session = match AuthSession::from_number(self.handle.number()) {
@@ -203,7 +203,7 @@ impl Caller {
     /// (continueSession). The HMAC is always there (Part 1, "Session-Based Authorizations").
     pub fn seal(
         self,
-        body: CommandBody,
+        body: CommandBody<'_>,
         names: ArrayVec<Name, 2>,
         auth: &[u8],
         nonce: Nonce,
@@ -211,8 +211,8 @@ impl Caller {
     ) -> Waiting
         requires authorized { needs_authorization (code_for body) ≡ true }
         requires named { length names.items ≡ length (handles_of body) }
-        ensures sealed { result ≡ sent (record { caller = self; body = body; names = names.items; auth = auth.now; nonce = nonce; keep = keep }) }
-        ensures spelled { HasSpelling (record { caller = self; body = body; names = names.items; auth = auth.now; nonce = nonce; keep = keep }) }
+        ensures sealed { result ≡ sent (record { caller = self; body = body.entry; names = names.items; auth = auth.now; nonce = nonce; keep = keep }) }
+        ensures spelled { HasSpelling (record { caller = self; body = body.entry; names = names.items; auth = auth.now; nonce = nonce; keep = keep }) }
     {
         let code = body.code();
         let key = self.key_with(auth);
