@@ -19,7 +19,7 @@ paths() {
 missing_paths() {
     { find . -name .git -prune -o -name out -prune -o -type f -print && find . -name .git -prune -o -name out -prune -o -type d -print; } |
         sed 's|^\.|/|' | awk '
-            FILENAME == "-" { path = $0; do { there[path]; sub(/^\/+[^\/]*/, "", path) } while (path != ""); next }
+            NR == FNR { path = $0; do { there[path]; sub(/^\/+[^\/]*/, "", path) } while (path != ""); next }
             !(("/" $0) in there) && !(("//" $0) in there) { print }
         ' - "$room/paths"
 }
