@@ -21,6 +21,7 @@ uint32_t tpm_bench_decode_pcr_read_reply(const uint8_t *bytes, size_t len);
 size_t tpm_bench_encode_command(const uint8_t *bytes, size_t len, uint32_t times, uint8_t *out, size_t out_len);
 size_t tpm_bench_push_frames(const uint8_t *stream, size_t len, size_t most, uint8_t *out, size_t out_len);
 size_t tpm_bench_execute(const uint8_t *bytes, size_t len, uint32_t times, uint8_t *out, size_t out_len);
+uint32_t tpm_bench_authorize(const uint8_t *bytes, size_t len, uint32_t times);
 size_t tpm_bench_size(uint32_t which);
 size_t tpm_bench_read_frames(const uint8_t *stream, size_t len, size_t most, uint8_t *out, size_t out_len);
 
@@ -47,7 +48,7 @@ struct buffer {
     uint8_t bytes[4096];
 };
 
-enum { PCR_EXTEND, PCR_EXTEND_ALL, PCR_EVENT, PCR_READ, NV_READ, START_AUTH_SESSION, PCR_READ_REPLY, BUFFERS };
+enum { PCR_EXTEND, PCR_EXTEND_SIGNED, PCR_EXTEND_ALL, PCR_EVENT, PCR_READ, NV_READ, START_AUTH_SESSION, PCR_READ_REPLY, BUFFERS };
 static struct buffer buffers[BUFFERS];
 
 static void add(struct buffer *buffer, const char *hex) {
@@ -66,14 +67,47 @@ static struct buffer *begin(int which, const char *header) {
     return &buffers[which];
 }
 
-static void make_buffers(void) {
-    struct buffer *b = begin(PCR_EXTEND, "8002 00000057 00000182");
-    add(b, "00000010  00000009 40000009 0000 01 0000"); // register 16; a password, which is empty
-    add(b, "00000002 0004");                            // two digests
+// The parameters of PCR_Extend: two digests.
+static void add_two_digests(struct buffer *b) {
+    add(b, "00000002 0004");
     fill(b, 20);
     add(b, "000B");
     fill(b, 32);
+}
+
+// What an HMAC session of SHA-256 makes of them without a key: cpHash, nonceCaller, nonceTPM, sessionAttributes, and the HMAC.
+enum { EXTEND_PARAMETERS = 4 + 2 + 20 + 2 + 32, CP_HASHED = 4 + 4 + EXTEND_PARAMETERS, NONCE = 32, MAC_TEXT = 32 + NONCE + NONCE + 1 };
+static uint8_t cp_hashed[CP_HASHED], mac_text[MAC_TEXT];
+
+static void add_session(struct buffer *b) {
+    struct buffer hashed = {0};
+    unsigned written = 0;
+    add(&hashed, "00000182 00000010");
+    add_two_digests(&hashed);
+    want(hashed.len == CP_HASHED, "what cpHash is of");
+    memcpy(cp_hashed, hashed.bytes, CP_HASHED);
+    want(SHA256(cp_hashed, CP_HASHED, mac_text) != NULL, "cpHash");
+    memset(mac_text + 32, 0xC1, NONCE); // nonceCaller; nonceTPM is zeros
+    mac_text[MAC_TEXT - 1] = 0x01;
+    add(b, "02000000 0020");
+    memcpy(b->bytes + b->len, mac_text + 32, NONCE);
+    b->len += NONCE;
+    add(b, "01 0020");
+    want(HMAC(EVP_sha256(), "", 0, mac_text, MAC_TEXT, b->bytes + b->len, &written) != NULL && written == 32, "the HMAC");
+    b->len += written;
+}
+
+static void make_buffers(void) {
+    struct buffer *b = begin(PCR_EXTEND, "8002 00000057 00000182");
+    add(b, "00000010  00000009 40000009 0000 01 0000"); // register 16; a password, which is empty
+    add_two_digests(b);
     want(b->len == 0x57, "the length of PCR_Extend");
+
+    b = begin(PCR_EXTEND_SIGNED, "8002 00000097 00000182");
+    add(b, "00000010  00000049"); // the same, in an HMAC session
+    add_session(b);
+    add_two_digests(b);
+    want(b->len == 0x97, "the length of PCR_Extend in a session");
 
     b = begin(PCR_EXTEND_ALL, "8002 00000089 00000182");
     add(b, "00000010  00000009 40000009 0000 01 0000"); // the same
@@ -223,6 +257,18 @@ static size_t hashes_of_event(size_t argument, uint8_t *out) {
     return hash_sha1(EVENT, out) + hash_sha256(EVENT, out) + hash_sha384(EVENT, out) + hashes_of_extend_all(argument, out);
 }
 
+// It answers that it was authorized each time.
+static size_t authorize(size_t which, uint8_t *out) {
+    (void)out;
+    return tpm_bench_authorize(buffers[which].bytes, buffers[which].len, TIMES) == TIMES;
+}
+
+// What the check of that session hashes, by the library: cpHash, and the HMAC without a key.
+static size_t hashes_of_authorize(size_t argument, uint8_t *out) {
+    (void)argument;
+    return tpm_bench_hash(SHA256_ALG, cp_hashed, CP_HASHED, out, OUT) + tpm_bench_hmac(SHA256_ALG, key, 0, mac_text, MAC_TEXT, out, OUT);
+}
+
 static size_t copy_buffer(size_t which, uint8_t *out) {
     memcpy(out, buffers[which].bytes, buffers[which].len);
     return buffers[which].len;
@@ -274,6 +320,7 @@ static struct row rows[] = {
     {"execute PCR_Extend", PCR_EXTEND, {execute, TIMES}, {hashes_of_extend}, 1},
     {"execute PCR_Extend, 3 banks", PCR_EXTEND_ALL, {execute, TIMES}, {hashes_of_extend_all}, 1},
     {"execute PCR_Event, 4 bytes", PCR_EVENT, {execute, TIMES}, {hashes_of_event}, 1},
+    {"authorize PCR_Extend", PCR_EXTEND_SIGNED, {authorize, TIMES}, {hashes_of_authorize}, 1},
     {"Framer, pieces of 1", 1, {push_frames}, {copy_stream}},
     {"Framer, pieces of 64", 64, {push_frames}, {copy_stream}},
     {"Framer, pieces of 4,096", 4096, {push_frames}, {copy_stream}},

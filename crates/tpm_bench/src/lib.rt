@@ -5,6 +5,7 @@ mod buffers;
 mod device;
 mod hashes;
 mod out;
+mod sessions;
 mod sizes;
 mod streams;
 
@@ -13,5 +14,6 @@ pub use buffers::{
 };
 pub use device::tpm_bench_execute;
 pub use hashes::{tpm_bench_hash, tpm_bench_hmac};
+pub use sessions::tpm_bench_authorize;
 pub use sizes::tpm_bench_size;
 pub use streams::{tpm_bench_push_frames, tpm_bench_read_frames};
