@@ -1,0 +1,185 @@
+#!/usr/bin/env python3
+"""Writes the event logs beside this file, in the shapes that firmware writes, and the registers that they give.
+
+    NAME.log        the log, after the PC Client Platform Firmware Profile, "Event Logging"
+    NAME.registers  all registers after it, by hashlib, a line each as `tpmtool check` prints them
+    faults.txt      for each log that is none: its name, the kind of its first fault, and how many bytes precede it
+
+No value is read from the program. Run it in this folder; it writes the same bytes each time.
+"""
+import hashlib
+import struct
+
+SIZES = {0x0004: 20, 0x000B: 32, 0x000C: 48, 0x000D: 64, 0x0012: 32, 0x0027: 32, 0x0028: 48, 0x0029: 64}
+BANKS = {0x0004: ("sha1", hashlib.sha1), 0x000B: ("sha256", hashlib.sha256), 0x000C: ("sha384", hashlib.sha384)}
+THREE = [0x0004, 0x000B, 0x000C]
+FOUR = THREE + [0x000D]
+EIGHT = [0x0012, 0x000D, 0x000C, 0x0027, 0x000B, 0x0028, 0x0004, 0x0029]
+
+NO_ACTION, SEPARATOR, POST_CODE, CRTM_VERSION, CRTM_CONTENTS, IPL = 3, 4, 1, 8, 7, 13
+VARIABLE, BLOB, SERVICES, HCRTM = 0x80000001, 0x80000008, 0x80000003, 0x80000010
+
+
+def header(algorithms, vendor=b"", class_=0, version=(0, 2, 0, 2)):
+    event = b"Spec ID Event03\0" + struct.pack("<I4BI", class_, *version, len(algorithms))
+    event += b"".join(struct.pack("<HH", a, SIZES[a]) for a in algorithms)
+    event += bytes([len(vendor)]) + vendor
+    return struct.pack("<II", 0, NO_ACTION) + bytes(20) + struct.pack("<I", len(event)) + event
+
+
+def digest(algorithm, data):
+    if algorithm in BANKS:
+        return BANKS[algorithm][1](data).digest()
+    # A hash that is stepped over: any bytes do.
+    return hashlib.shake_128(struct.pack("<H", algorithm) + data).digest(SIZES[algorithm])
+
+
+class Log:
+    """A log, and the registers that it gives."""
+
+    def __init__(self, algorithms, **of_header):
+        self.algorithms = algorithms
+        self.bytes = header(algorithms, **of_header)
+        self.registers = {
+            (a, i): (b"\xff" if 17 <= i <= 22 else b"\0") * SIZES[a] for a in BANKS for i in range(24)
+        }
+
+    def record(self, register, kind, event, data=None, algorithms=None):
+        """A record with the digests of the data, which is the event where no other is given."""
+        algorithms = self.algorithms if algorithms is None else algorithms
+        digests = [(a, digest(a, event if data is None else data)) for a in algorithms]
+        self.bytes += struct.pack("<III", register, kind, len(digests))
+        self.bytes += b"".join(struct.pack("<H", a) + d for a, d in digests)
+        self.bytes += struct.pack("<I", len(event)) + event
+        if kind != NO_ACTION:
+            for a, d in digests:
+                if a in BANKS:
+                    self.registers[a, register] = BANKS[a][1](self.registers[a, register] + d).digest()
+        return self
+
+    def zeros(self, register, event=b""):
+        """A record of EV_NO_ACTION, whose digests are zeros."""
+        self.bytes += struct.pack("<III", register, NO_ACTION, len(self.algorithms))
+        self.bytes += b"".join(struct.pack("<H", a) + bytes(SIZES[a]) for a in self.algorithms)
+        self.bytes += struct.pack("<I", len(event)) + event
+        return self
+
+    def locality(self, locality):
+        """The start-up locality, which register 0 then shows in its last byte, in each bank."""
+        self.zeros(0, b"StartupLocality\0" + bytes([locality]))
+        for a in BANKS:
+            self.registers[a, 0] = bytes(SIZES[a] - 1) + bytes([locality])
+        return self
+
+    def write(self, name):
+        with open(name + ".log", "wb") as file:
+            file.write(self.bytes)
+        with open(name + ".registers", "w") as file:
+            for a in BANKS:
+                for i in range(24):
+                    file.write(f"{BANKS[a][0]} {i} {self.registers[a, i].hex()}\n")
+
+
+def firmware(log):
+    """What a platform measures up to its boot loader."""
+    log.record(0, CRTM_VERSION, "1.0.0-f12\0".encode("utf-16-le"))
+    log.record(0, BLOB, struct.pack("<QQ", 0xFFE00000, 0x40000), b"firmware volume")
+    log.record(0, POST_CODE, b"ACPI DATA", b"tables")
+    for name in ("SecureBoot", "PK", "KEK", "db", "dbx"):
+        data = bytes(16) + struct.pack("<QQ", len(name), 1) + name.encode("utf-16-le") + b"\x01"
+        log.record(7, VARIABLE, data)
+    log.record(1, VARIABLE, b"BootOrder" + bytes(4))
+    log.zeros(0xFFFFFFFF, b"SP800-155 Event\0" + bytes(20))
+    for register in range(8):
+        log.record(register, SEPARATOR, bytes(4))
+    log.record(4, SERVICES, bytes(32) + b"\\EFI\\BOOT\\BOOTX64.EFI\0", b"boot loader")
+    log.record(8, IPL, b"linux /vmlinuz root=/dev/vda1\0", b"linux /vmlinuz root=/dev/vda1")
+    log.record(9, IPL, b"/vmlinuz\0", b"kernel")
+    log.record(14, IPL, b"MokList\0", b"keys")
+    return log
+
+
+def worked():
+    log = Log(THREE)
+    log.bytes += struct.pack("<IIII", 0, NO_ACTION, 0, 0)
+    return log.record(7, SEPARATOR, bytes(4))
+
+
+def accepted():
+    worked().write("worked")
+    Log(THREE).write("header_alone")
+    firmware(Log(FOUR, class_=1)).write("four_algorithms")
+    firmware(Log(FOUR, vendor=bytes(range(255))).locality(3)).write("locality_three")
+    Log(THREE).locality(4).record(0, HCRTM, b"HCRTM", b"measured by hardware").record(0, SEPARATOR, bytes(4)).write("locality_four")
+    # an event of 17 bytes with another name is none of locality
+    Log(THREE).zeros(0, b"StartupLocalitz\0\x03").zeros(1, b"StartupLocality\0\x03").locality(0).write("locality_zero")
+
+    log = Log(THREE)
+    for i in range(100):
+        log.record(i % 17, SEPARATOR, bytes(4))
+        if i % 10 == 0:
+            log.zeros(i % 24, bytes(i))
+    log.write("hundred_separators")
+
+    log = Log(THREE)
+    log.record(23, IPL, b"turned", algorithms=THREE[::-1]).record(23, IPL, b"two", algorithms=[0x000C, 0x0004])
+    log.record(23, IPL, b"one", algorithms=[0x000B]).record(23, IPL, b"none", algorithms=[])
+    log.write("fewer_and_in_other_order")
+
+    log = firmware(Log(EIGHT))
+    log.record(16, IPL, b"unknown hashes alone", algorithms=[0x0029, 0x0027, 0x0012])
+    log.write("eight_algorithms")
+
+    # SHA-512 alone: no bank is extended
+    Log([0x000D]).record(0, SEPARATOR, bytes(4)).write("no_bank")
+
+
+def faults():
+    rows = []
+
+    def fault(name, log, kind, at):
+        with open(name + ".log", "wb") as file:
+            file.write(log)
+        rows.append(f"{name} {kind} {at}\n")
+
+    k = worked().bytes
+    assert len(k) == 215
+
+    def with_(log, at, text):
+        return log[:at] + bytes.fromhex(text) + log[at + len(text) // 2 :]
+
+    fault("empty", b"", "Truncated", 0)
+    fault("cut_by_a_byte", k[:-1], "Truncated", 211)
+    fault("cut_in_the_header", k[:50], "Truncated", 32)
+    fault("greatest_event_size", with_(k, 207, "ffffffff"), "TooLong", 211)
+    fault("older_form", struct.pack("<II", 0, CRTM_VERSION) + bytes(24), "NotCryptoAgile", 4)
+    fault("header_at_register_1", with_(k, 0, "01"), "NotCryptoAgile", 0)
+    fault("header_with_a_digest", with_(k, 27, "01"), "NotCryptoAgile", 8)
+    fault("older_signature", with_(k, 46, "32"), "NotCryptoAgile", 32)
+    fault("no_algorithm", with_(k, 56, "00"), "BadHeader", 56)
+    fault("nine_algorithms", with_(k, 56, "09"), "BadHeader", 56)
+    fault("header_too_short", with_(k, 28, "28"), "BadHeader", 72)
+    fault("header_too_long", with_(k, 28, "2a"), "BadHeader", 73)
+    fault("vendor_past_the_header", with_(k, 72, "01"), "BadHeader", 73)
+    fault("listed_twice", with_(k, 64, "0400"), "DuplicateAlgorithm", 64)
+    fault("digest_size_of_a_bank", with_(k, 70, "2f00"), "WrongDigestSize", 70)
+    fault("digest_size_0", with_(k, 68, "0d000000"), "WrongDigestSize", 70)
+    fault("digest_size_65", with_(k, 68, "0d004100"), "WrongDigestSize", 70)
+    fault("unlisted_digest", with_(k, 101, "0d00"), "UnknownAlgorithm", 101)
+    fault("repeated_digest", with_(k, 123, "0400"), "RepeatedDigest", 123)
+    fault("fourth_digest", with_(k, 97, "04"), "RepeatedDigest", 207)
+    fault("register_17", with_(k, 89, "11"), "BadRegister", 89)
+    fault("register_24", with_(k, 89, "18"), "BadRegister", 89)
+    start = struct.pack("<IIII", 0, NO_ACTION, 0, 17) + b"StartupLocality\0"
+    fault("locality_two", k[:73] + start + b"\x02" + k[89:], "BadLocality", 89)
+    fault("locality_twice", k[:73] + (start + b"\x03") * 2 + k[89:], "LateLocality", 122)
+    late = Log(THREE).record(0, SEPARATOR, bytes(4)).bytes
+    fault("locality_behind_an_extend", late + start + b"\x03", "LateLocality", len(late) + 16)
+
+    with open("faults.txt", "w") as file:
+        file.writelines(rows)
+
+
+if __name__ == "__main__":
+    accepted()
+    faults()
