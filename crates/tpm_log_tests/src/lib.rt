@@ -3,3 +3,5 @@
 
 #[cfg(test)]
 mod logs;
+#[cfg(test)]
+mod sources;
