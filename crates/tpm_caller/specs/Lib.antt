@@ -1,2 +1,3 @@
 pub mod Sent
 pub mod Faults
+pub mod Opens

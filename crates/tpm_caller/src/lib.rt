@@ -2,7 +2,9 @@
 #![tactic(auto)]
 
 mod caller;
+mod laws;
 mod waiting;
 
 pub use caller::Caller;
+pub use laws::{no_mixed_replies, one_key, two_ends_in_step, what_is_opened};
 pub use waiting::{CallerFault, Waiting};
