@@ -26,7 +26,7 @@ missing_paths() {
 
 # words: a line for each word of the sources.
 words_of_sources() {
-    cat crates.txt HANDLES test tpmtool checks/* bench/* crates/*/src/*.rt $(find crates -name '*.antt' -not -path '*/out/*') |
+    find checks bench crates test tpmtool crates.txt HANDLES -name out -prune -o -type f -not -name "*.edit" -exec cat {} + |
         tr -cs 'A-Za-z0-9_' '\n' | sort -u
 }
 
