@@ -1,3 +1,5 @@
-pub mod Kept
+pub mod Further
+pub mod Alike
+pub mod Checked
 pub mod Own
 pub mod Passing

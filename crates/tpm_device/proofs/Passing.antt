@@ -1,42 +1,38 @@
 -- What was permitted and performed is the answer.
-use Rattle.std.proofs.Common.{◌≡◌, ℕ, suc, ◌<◌, Bool, true, false, List, [], ◌∷◌, Option, None, Result, Ok, Err, refl, sym, ap, subst, ◌∙◌, arith}
-use Rattle.std.specs.Prelude.{◌==◌, if◌then◌else◌, length, IfOk, OnOk, OnErr}
-use Rattle.std.proofs.lemmas.Bool.Decides.{nat_tests}
+use Rattle.std.proofs.Common.{◌≡◌, ℕ, ◌<◌, List, ◌∷◌, Result, Ok, Err, refl, sym, ap, subst, ◌∙◌}
+use Rattle.std.specs.Prelude.{IfOk, IfErr}
 use Rattle.tpm_wire.specs.declared.refusal.Refusal.{Refusal}
 use Rattle.tpm_wire.specs.Token.{at_start}
 use Rattle.tpm_wire.specs.Reading.{read, read_all, ◌>>=◌}
 use Rattle.tpm_wire.specs.Spelling.{spelling}
-use Rattle.tpm_types.specs.declared.tpms.Auth.{Auth}
 use Rattle.tpm_types.specs.declared.tpms.AuthReply.{AuthReply}
-use Rattle.tpm_types.specs.Handles.{rs_pw, is_pcr, is_owner, is_nv_index}
+use Rattle.tpm_types.specs.Handles.{is_owner}
 use Rattle.tpm_buffer.specs.declared.code.CommandCode.{CommandCode}
 use Rattle.tpm_buffer.specs.declared.command.CommandBody.{CommandBody}
+use Rattle.tpm_buffer.specs.declared.command.Header.{Header}
 use Rattle.tpm_buffer.specs.declared.command_parameters.Params.{Params}
+use Rattle.tpm_buffer.specs.declared.command_parameters.Params.TheVariants as params
 use Rattle.tpm_buffer.specs.declared.response.ReplyBody.{ReplyBody}
-use Rattle.tpm_buffer.specs.CommandAreas.{HeaderCut, HandlesCut, Cut, head_and_rest, IsHandled, IsAreas}
-use Rattle.tpm_buffer.specs.Handles.{first}
-use Rattle.tpm_buffer.specs.Parameters.{parameters}
-use Rattle.tpm_buffer.specs.Commands.{command_size, header, body_from, with_auths, code_for}
+use Rattle.tpm_buffer.specs.CommandAreas.{HeaderCut, HandlesCut, Cut, head_and_rest, params_here, IsHandled, IsAreas}
+use Rattle.tpm_buffer.specs.Handles.{first, needs_authorization}
+use Rattle.tpm_buffer.specs.Parameters.{parameters, params_code}
+use Rattle.tpm_buffer.specs.Commands.{authorization, command_size, header, body_from, with_auths, code_for}
 use Rattle.tpm_buffer.specs.Replies.{code_for_reply}
-use Rattle.tpm_buffer.specs.Responses.{Reply, response_tag, response_front, response_code, response, done_with}
+use Rattle.tpm_buffer.specs.Responses.{response_tag, response_front, response_code, response, done_with}
 use Rattle.tpm_model.specs.Steps.{History, Accepted, Origin}
-use Rattle.tpm_model.specs.Sessions.{Session}
 use Rattle.tpm_model.specs.Present.{Present}
-use Rattle.tpm_model.specs.Entities.{Entity, entity_of}
-use Rattle.tpm_model.specs.Entities.Entity.{Register, Null, Owner}
-use Rattle.tpm_model.specs.Authorization.{check_session, check_auth, check_entity, check_evidence, evidence_by, by_session, reply_auths}
-use Rattle.tpm_model.specs.Authorization.Authorizer.{Password}
+use Rattle.tpm_model.specs.Sessions.{loaded}
+use Rattle.tpm_model.specs.Entities.{entity_of, names_of}
+use Rattle.tpm_model.specs.Authorization.{Evidence, first_loaded, reply_auths, check_evidence}
 use Rattle.tpm_model.specs.Actions.{action}
-use Rattle.tpm_model.specs.Answers.{CommandSet, Presented, Done, check_has, check_started, check_handles, check_tag, evidence_in, presented, permitted, performed, outcome, answered, with_outcome, reply_params}
+use Rattle.tpm_model.specs.Answers.{CommandSet, Presented, Done, check_has, check_started, check_handles, check_tag, presented, permitted, performed, outcome, answered, with_outcome, reply_params}
 use Rattle.tpm_model.specs.Premises.{code_in}
 use Rattle.tpm_model.proofs.Accepted.{ok_is}
-use Rattle.tpm_model.proofs.Nonzero.{IfRefused, read_all_coded}
-use Rattle.tpm_model.proofs.Coded.{coded_parameters}
 use Rattle.tpm_model.proofs.Refused.{refused_with}
 use Rattle.tpm_device.specs.declared.device.Device.{Device}
-use Rattle.tpm_device.specs.Passwords.{check_first, check_password, check_sessions, by_password, replies_to}
-use Rattle.tpm_device.specs.Stands.{Stands, holds, IsRead, IsPermitted, presented_with, presented_in, reply_bytes, given, replied, told}
-use Rattle.tpm_device.proofs.Kept.{none_loaded}
+use Rattle.tpm_device.specs.Stands.{Stands, evidence_for, sessions_checked, owner_authorizes, IsAdmitted, IsRead, IsPermittedBy, presented_with, done_by, done_of, reply_bytes, told}
+use Rattle.tpm_device.proofs.Checked.{owner_read, no_session_read}
+use Rattle.tpm_session.proofs.Authorized.{authorized}
 
 -- ---- before the parameters
 
@@ -48,97 +44,107 @@ is_read has p bytes x y z head has_it started handled handles tag areas =
     let read_areas = areas.0 in
     rw (head, has_it, started, handled.0, handles, tag, ← same, read_areas, areas.1, areas.2) refl
 
-pub handles_refused : (has : CommandSet) (p : Present) (bytes : List ℕ) (x : HeaderCut) (y : HandlesCut) (code : ℕ) → read 0 header (at_start bytes) ≡ Ok (head_and_rest x) → check_has (has x.header.code) ≡ Ok tt
-    → check_started p.started x.header.code ≡ Ok tt → IsHandled x (Ok y) → check_handles p 1 y.handles ≡ Err code → presented has p bytes ≡ Err code
-handles_refused has p bytes x y code head has_it started handled refused = rw (head, has_it, started, handled.0, refused) refl
+pub tag_refused : (has : CommandSet) (p : Present) (bytes : List ℕ) (x : HeaderCut) (y : HandlesCut) (code : ℕ) → read 0 header (at_start bytes) ≡ Ok (head_and_rest x) → check_has (has x.header.code) ≡ Ok tt
+    → check_started p.started x.header.code ≡ Ok tt → IsHandled x (Ok y) → check_handles p 1 y.handles ≡ Ok tt → check_tag x.header.code x.header.tag ≡ Err code
+    → presented has p bytes ≡ Err code
+tag_refused has p bytes x y code head has_it started handled handles tag = rw (head, has_it, started, handled.0, handles, tag) refl
 
--- what a device holds lets its authValue be used
-no_index : (pcr owner index : Bool) (auth : List ℕ) (code : CommandCode) → check_auth (if pcr then Register else if owner then Owner auth else if index then Null else Null) code ≡ Ok tt
-no_index true owner index auth code = refl
-no_index false true index auth code = refl
-no_index false false true auth code = refl
-no_index false false false auth code = refl
+pub areas_refused : (has : CommandSet) (p : Present) (bytes : List ℕ) (x : HeaderCut) (y : HandlesCut) (e : Refusal) → read 0 header (at_start bytes) ≡ Ok (head_and_rest x) → check_has (has x.header.code) ≡ Ok tt
+    → check_started p.started x.header.code ≡ Ok tt → IsHandled x (Ok y) → check_handles p 1 y.handles ≡ Ok tt → check_tag x.header.code x.header.tag ≡ Ok tt → IsAreas y (Err e)
+    → presented has p bytes ≡ Err e.code
+areas_refused has p bytes x y e head has_it started handled handles tag areas =
+    let same : y.header ≡ x.header = handled.1 in
+    rw (head, has_it, started, handled.0, handles, tag, ← same, areas) refl
 
-first_only : (is_password : Bool) (s : Option Session) (e : Entity) (code : CommandCode) (names : List (List ℕ)) (params : List ℕ) (counter : ℕ) (a : Auth) (others : List Auth) → s ≡ None → check_auth e code ≡ Ok tt
-    → ((if is_password then Ok Password else by_session s) >>= λ by. (check_session by a others >>= λ _. (check_entity by e code counter >>= λ _. Ok (evidence_by by e code names params a))))
-    ≡ (((if is_password then Ok Password else by_session None) >>= λ by. check_session by a others) >>= λ _. Ok (by_password e (a ∷ others)))
-first_only true s e code names params counter a others none allowed = rw allowed refl
-first_only false s e code names params counter a others none allowed = rw none refl
+pub admitted : (x : HeaderCut) (y : HandlesCut) (z : Cut) → IsHandled x (Ok y) → check_tag x.header.code x.header.tag ≡ Ok tt → IsAreas y (Ok z) → IsAdmitted z
+admitted x y z handled tag areas =
+    let same : z.header ≡ x.header = areas.1 ∙ handled.1 in
+    record {
+      owner = λ is. ap (λ (ns : List ℕ). is_owner (first ns)) areas.2
+          ∙ owner_read x.header.code x.here y.handles y.here handled.0 (ap (λ (k : Header). owner_authorizes k.code) (sym same) ∙ is);
+      sessions = λ not. no_session_read x.header.code x.header.tag y.here z.auths (params_here z) tag
+          (ap (λ (k : Header). read 0 (authorization k.tag) y.here) (sym handled.1) ∙ areas.0) (ap (λ (k : Header). needs_authorization k.code) (sym same) ∙ not);
+    }
 
--- the first session's checks
-abbrev pub check_front : List Auth → Result (Unit {0}) ℕ
-check_front [] = Ok tt
-check_front (a ∷ others) = check_first a others
+-- ---- the checks of the sessions
 
--- On a device, what is left of the checks of the sessions is the password.
-evidence_known : (d : Device) (code : CommandCode) (ns params : List ℕ) (auths : List Auth)
-    → evidence_in (holds d) code ns params auths ≡ (check_front auths >>= λ _. Ok (by_password (entity_of (holds d) (first ns)) auths))
-evidence_known d code ns params [] = refl
-evidence_known d code ns params (a ∷ others) =
-    first_only (a.session == rs_pw) _ (entity_of (holds d) (first ns)) code _ params _ a others (none_loaded a.session)
-    (no_index (is_pcr (first ns)) (is_owner (first ns)) (is_nv_index (first ns)) d.owner code)
+then_same : {A B : Type 0} (r : Result A ℕ) (f g : A → Result B ℕ) → ((x : A) → f x ≡ g x) → (r >>= f) ≡ (r >>= g)
+then_same (Ok x) f g same = same x
+then_same (Err code) f g same = refl
 
-left_first : (p : Present) (x : Cut) (a : Auth) (others : List Auth) (front : Result (Unit {0}) ℕ)
-    → (((front >>= λ _. Ok (by_password (entity_of p (first x.handles)) (a ∷ others))) >>= λ evidence. Ok (presented_with p x evidence)) >>= λ y. (check_evidence y.entity y.evidence >>= λ _. Ok y))
-    ≡ ((front >>= λ _. check_password (entity_of p (first x.handles)) a) >>= λ _. Ok (presented_with p x (by_password (entity_of p (first x.handles)) (a ∷ others))))
-left_first p x a others (Ok u) = refl
-left_first p x a others (Err code) = refl
+kept : (p : Present) (x : Cut) (r : Result (Unit {0}) ℕ) (e : Evidence) (code : ℕ) → r ≡ Err code → (r >>= λ _. Ok (presented_with p x e)) ≡ Err code
+kept p x r e code is = rw is refl
 
-left : (p : Present) (x : Cut) (auths : List Auth)
-    → (((check_front auths >>= λ _. Ok (by_password (entity_of p (first x.handles)) auths)) >>= λ evidence. Ok (presented_with p x evidence)) >>= λ y. (check_evidence y.entity y.evidence >>= λ _. Ok y))
-    ≡ (check_sessions (entity_of p (first x.handles)) auths >>= λ _. Ok (presented_with p x (by_password (entity_of p (first x.handles)) auths)))
-left p x [] = refl
-left p x (a ∷ others) = left_first p x a others (check_first a others)
+refused_by : (p : Present) (x : Cut) (r : Result Evidence ℕ) (code : ℕ) → (r >>= check_evidence (entity_of p (first x.handles))) ≡ Err code
+    → ((r >>= λ e. Ok (presented_with p x e)) >>= λ y. (check_evidence y.entity y.evidence >>= λ _. Ok y)) ≡ Err code
+refused_by p x (Ok e) code is = kept p x (check_evidence (entity_of p (first x.handles)) e) e code is
+refused_by p x (Err other) code is = cc
 
--- What was read is permitted by the checks of the sessions.
-permitted_by : (has : CommandSet) (d : Device) (bytes : List ℕ) (x : Cut) → IsRead (holds d) (presented has (holds d) bytes) (Ok x)
-    → permitted has (holds d) bytes ≡ (check_sessions (entity_of (holds d) (first x.handles)) x.auths >>= λ _. Ok (presented_in (holds d) x))
-permitted_by has d bytes x read = rw (read, evidence_known d x.header.code x.handles x.params x.auths) (left (holds d) x x.auths)
+-- What was read is refused by the checks of its sessions, or has evidence that is right.
+pub sessions_refuse : (has : CommandSet) (p : Present) (bytes : List ℕ) (x : Cut) (code : ℕ) → IsRead p (presented has p bytes) (Ok x)
+    → sessions_checked p x x.auths ≡ Err code → permitted has p bytes ≡ Err code
+sessions_refuse has p bytes x code read refused = rw read (refused_by p x (evidence_for p x) code refused)
 
-pub permitted_refused : (has : CommandSet) (d : Device) (bytes : List ℕ) (x : Cut) (code : ℕ) → IsRead (holds d) (presented has (holds d) bytes) (Ok x)
-    → check_sessions (entity_of (holds d) (first x.handles)) x.auths ≡ Err code → permitted has (holds d) bytes ≡ Err code
-permitted_refused has d bytes x code read checked = permitted_by has d bytes x read ∙ ap (λ (r : Result (Unit {0}) ℕ). r >>= λ _. Ok (presented_in (holds d) x)) checked
+pub sessions_permit : (has : CommandSet) (p : Present) (bytes : List ℕ) (x : Cut) → IsRead p (presented has p bytes) (Ok x)
+    → sessions_checked p x x.auths ≡ Ok tt → IsPermittedBy p (permitted has p bytes) x
+sessions_permit has p bytes x read met =
+    let right = authorized (first_loaded (loaded p.sessions) x.auths) (entity_of p (first x.handles)) x.header.code (names_of p x.handles) x.params p.registers.update_counter x.auths met in
+    record { evidence = right.0; gives = right.1; is = rw (read, right.1, right.2) refl }
 
-pub permitted_some : (has : CommandSet) (p : Present) (bytes : List ℕ) (code : ℕ) → permitted has p bytes ≡ Err code → 0 < code
-permitted_some has p bytes code is = (refused_with has p bytes [] code (rw is refl)).0
+-- ---- the parameters
 
--- ---- the parameters and the action
+pub performed_is : (p : Present) (n : List ℕ) (x : Presented) (params : Params) → read_all (parameters x.code) x.params ≡ Ok params → performed p n x ≡ done_of p n x (body_from x.handles params)
+performed_is p n x params reads = rw reads refl
 
-pub read_some : (code : CommandCode) (bytes : List ℕ) (e : Refusal) → Err e ≡ read_all (parameters code) bytes → 0 < e.code
-read_some code bytes e is = (subst IfRefused (sym is) (read_all_coded (parameters code) bytes (coded_parameters code))).0
+pub performed_refused : (p : Present) (n : List ℕ) (x : Presented) (e : Refusal) → read_all (parameters x.code) x.params ≡ Err e → performed p n x ≡ Err e.code
+performed_refused p n x e reads = rw reads refl
 
-not_none : (n : ℕ) → (suc n == 0) ≡ false
-not_none n = grind (arith, nat_tests)
+-- ---- the action
 
-password_replied : (e : Entity) (auths : List Auth) (code : CommandCode) (params n : List ℕ) → reply_auths (by_password e auths) code params n ≡ replies_to auths
-password_replied e [] code params n = refl
-password_replied e (a ∷ others) code params n = rw (not_none (length others)) refl
+pub done_told : (p : Present) (n : List ℕ) (x : Presented) (body : CommandBody) (reply : ReplyBody) (items : List ℕ) → Ok reply ≡ action p body n
+    → items ≡ reply_bytes (record { body = reply; auths = reply_auths x.evidence x.code (reply_params reply) n }) → Ok items ≡ told (done_of p n x body)
+done_told p n x body reply items is bytes = ap (λ (b : List ℕ). let r : Result (List ℕ) ℕ = Ok b in r) bytes ∙ ap (λ (r : Result ReplyBody ℕ). told (r >>= λ y. Ok (done_by x body n y))) is
 
-abbrev pub done_by : CommandBody → ReplyBody → List Auth → Done
-done_by body reply auths = record { command = with_auths body auths; reply = record { body = reply; auths = replies_to auths } }
+pub refused_told : (p : Present) (n : List ℕ) (x : Presented) (body : CommandBody) (code : ℕ) → Err code ≡ action p body n → Err code ≡ told (done_of p n x body)
+refused_told p n x body code is = ap (λ (r : Result ReplyBody ℕ). told (r >>= λ y. Ok (done_by x body n y))) is
 
-next_same : (r : Result ReplyBody ℕ) (f g : ReplyBody → Result Done ℕ) → ((body : ReplyBody) → f body ≡ g body) → (r >>= f) ≡ (r >>= g)
-next_same (Ok body) f g same = same body
-next_same (Err code) f g same = refl
+pub done_stands : (o : Origin) (h : History) (p : Present) (n : List ℕ) (x : Presented) (body : CommandBody) (reply : ReplyBody) (d : Device) → Ok reply ≡ action p body n
+    → Stands o (Accepted (with_auths body x.auths) (record { body = reply; auths = reply_auths x.evidence x.code (reply_params reply) n }) n ∷ h) d → Stands o (with_outcome h n (done_of p n x body)) d
+done_stands o h p n x body reply d is st = subst (λ (r : Result ReplyBody ℕ). Stands o (with_outcome h n (r >>= λ y. Ok (done_by x body n y))) d) is st
 
--- what is done by the action of these parameters
-pub performed_as : (p : Present) (n : List ℕ) (x : Cut) (params : Params) → read_all (parameters x.header.code) x.params ≡ Ok params
-    → performed p n (presented_in p x) ≡ (action p (body_from x.handles params) n >>= λ body. Ok (done_by (body_from x.handles params) body x.auths))
-performed_as p n x params reads =
-    let e = entity_of p (first x.handles) in
-    rw reads (next_same (action p (body_from x.handles params) n) _ _ (λ body.
-    ap (λ (auths : List AuthReply). Ok (record { command = with_auths (body_from x.handles params) x.auths; reply = record { body = body; auths = auths } }))
-    (password_replied e x.auths x.header.code (reply_params body) n)))
+pub refused_stands : (o : Origin) (h : History) (p : Present) (n : List ℕ) (x : Presented) (body : CommandBody) (code : ℕ) (d : Device) → Err code ≡ action p body n
+    → Stands o h d → Stands o (with_outcome h n (done_of p n x body)) d
+refused_stands o h p n x body code d is st = subst (λ (r : Result ReplyBody ℕ). Stands o (with_outcome h n (r >>= λ y. Ok (done_by x body n y))) d) is st
 
--- A step more where the action succeeds, and none where it is refused.
-pub action_stands : (o : Origin) (h : History) (n : List ℕ) (old new : Device) (body : CommandBody) (auths : List Auth) (a : Result ReplyBody ℕ) (items : List ℕ) (r : Result (Unit {0}) ℕ)
-    → Stands o h old → given items r ≡ replied (replies_to auths) a
-    → OnOk r ((o : Origin) (h : History) (reply : Reply) (n : List ℕ) → Stands o h old → Stands o (Accepted (with_auths body auths) reply n ∷ h) new)
-    → OnErr r (new ≡ old) → Stands o (with_outcome h n (a >>= λ reply. Ok (done_by body reply auths))) new
-action_stands o h n old new body auths (Ok reply) items (Ok u) st is step stay = step o h (record { body = reply; auths = replies_to auths }) n st
-action_stands o h n old new body auths (Err e) items (Err code) st is step stay = subst (λ (d : Device). Stands o h d) (sym stay) st
-action_stands o h n old new body auths (Ok reply) items (Err code) st is step stay = absurd (cc)
-action_stands o h n old new body auths (Err e) items (Ok u) st is step stay = absurd (cc)
+-- ---- the outcome
+
+pub outcome_is : (has : CommandSet) (p : Present) (bytes n : List ℕ) (x : Presented) → permitted has p bytes ≡ Ok x → outcome has p bytes n ≡ performed p n x
+outcome_is has p bytes n x is = rw is refl
+
+pub outcome_refused : (has : CommandSet) (p : Present) (bytes n : List ℕ) (code : ℕ) → permitted has p bytes ≡ Err code → outcome has p bytes n ≡ Err code
+outcome_refused has p bytes n code is = rw is refl
+
+pub some_code : (has : CommandSet) (p : Present) (bytes n : List ℕ) (code : ℕ) → outcome has p bytes n ≡ Err code → 0 < code
+some_code has p bytes n code is = (refused_with has p bytes n code is).0
+
+-- what refuses the parameters or the action refuses the command
+pub outcome_refuses : (has : CommandSet) (p : Present) (bytes n : List ℕ) (x : Presented) (r : Result (Unit {0}) ℕ) → permitted has p bytes ≡ Ok x → IfErr r (λ code. performed p n x ≡ Err code) → IfErr r (λ code. outcome has p bytes n ≡ Err code)
+outcome_refuses has p bytes n x (Ok u) is refuses = tt
+outcome_refuses has p bytes n x (Err code) is refuses = outcome_is has p bytes n x is ∙ refuses
+
+pub at_presented : (p : Present) (n : List ℕ) (y : Cut) (x : Presented) (r : Result (Unit {0}) ℕ) → x.code ≡ y.header.code → x.handles ≡ y.handles → x.params ≡ y.params
+    → IfErr r (λ code. (z : Presented) → z.code ≡ y.header.code → z.handles ≡ y.handles → z.params ≡ y.params → performed p n z ≡ Err code) → IfErr r (λ code. performed p n x ≡ Err code)
+at_presented p n y x (Ok u) code handles params refuses = tt
+at_presented p n y x (Err e) code handles params refuses = refuses x code handles params
+
+pub some_codes : (has : CommandSet) (p : Present) (bytes n : List ℕ) (r : Result (Unit {0}) ℕ) → IfErr r (λ code. outcome has p bytes n ≡ Err code) → IfErr r (λ code. 0 < code)
+some_codes has p bytes n (Ok u) is = tt
+some_codes has p bytes n (Err code) is = some_code has p bytes n code is
+
+-- the code of a command by its handles and parameters
+pub code_again : (p : Params) (hs : List ℕ) → code_for (body_from hs p) ≡ params_code p
+code_again params.PolicyGetDigest hs = refl
+code_again _ hs = refl
 
 -- ---- the bytes
 

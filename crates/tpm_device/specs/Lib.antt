@@ -1,3 +1,2 @@
 pub mod Commands
-pub mod Passwords
 pub mod Stands

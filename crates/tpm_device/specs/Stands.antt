@@ -1,38 +1,39 @@
 -- A device that holds what is present at a history.
-use Rattle.std.specs.Prelude.{◌≡◌, ℕ, List, [], ◌∷◌, None, Option, Result, Ok, Err}
+use Rattle.std.specs.Prelude.{◌≡◌, ℕ, Bool, true, false, List, [], ◌∷◌, Option, None, Result, Ok, Err}
 use Rattle.tpm_wire.specs.Reading.{◌>>=◌}
 use Rattle.tpm_wire.specs.Spelling.{spelling}
-use Rattle.tpm_types.specs.declared.alg.Alg.{Alg}
-use Rattle.tpm_types.specs.declared.handle_sets.PcrOrNull.{PcrOrNull}
-use Rattle.tpm_types.specs.declared.tpms.AuthReply.{AuthReply}
+use Rattle.tpm_types.specs.declared.tpms.Auth.{Auth}
+use Rattle.tpm_types.specs.Handles.{is_owner}
+use Rattle.tpm_buffer.specs.declared.code.CommandCode.{CommandCode}
+use Rattle.tpm_buffer.specs.declared.code.CommandCode.TheVariants as codes
+use Rattle.tpm_buffer.specs.declared.command.CommandBody.{CommandBody}
 use Rattle.tpm_buffer.specs.declared.response.ReplyBody.{ReplyBody}
 use Rattle.tpm_buffer.specs.CommandAreas.{Cut}
-use Rattle.tpm_buffer.specs.Handles.{first}
+use Rattle.tpm_buffer.specs.Commands.{with_auths}
+use Rattle.tpm_buffer.specs.Handles.{first, needs_authorization}
 use Rattle.tpm_buffer.specs.Replies.{code_for_reply}
-use Rattle.tpm_buffer.specs.Responses.{Reply, done_with, response}
-use Rattle.tpm_model.specs.Steps.{History, Origin}
-use Rattle.tpm_model.specs.Registers.{event_digests}
-use Rattle.tpm_model.specs.Sessions.{Session}
+use Rattle.tpm_buffer.specs.Responses.{Reply, response, done_with}
+use Rattle.tpm_model.specs.Steps.{History, Origin, Step, Accepted}
 use Rattle.tpm_model.specs.Present.{Present, present}
-use Rattle.tpm_model.specs.Entities.{entity_of}
-use Rattle.tpm_model.specs.Authorization.{Evidence}
-use Rattle.tpm_model.specs.Actions.{check_extend}
-use Rattle.tpm_model.specs.Answers.{Presented, Done, evidence_in}
+use Rattle.tpm_model.specs.Entities.{entity_of, names_of, auth_value, is_owner_entity}
+use Rattle.tpm_model.specs.Sessions.{Session, loaded}
+use Rattle.tpm_model.specs.Authorization.{Evidence, first_loaded, authorize, reply_auths}
+use Rattle.tpm_model.specs.Actions.{action}
+use Rattle.tpm_model.specs.Answers.{Presented, Done, evidence_in, reply_params}
 use Rattle.tpm_device.specs.declared.device.Device.{Device}
-use Rattle.tpm_device.specs.Passwords.{by_password}
 
--- the slots of a device without sessions
-abbrev pub no_sessions : List (Option Session)
-no_sessions = None ∷ None ∷ None ∷ []
+-- the slots where no session is loaded
+abbrev pub none_loaded : List (Option Session)
+none_loaded = None ∷ None ∷ None ∷ []
 
--- what is present on the device: it holds no session and no counter
+-- what is present on the device
 abbrev pub holds : Device → Present
 holds d = record {
   started = d.started;
   owner = d.owner;
   registers = d.registers;
-  sessions = no_sessions;
-  nv = record { counters = []; greatest = d.greatest };
+  sessions = d.sessions;
+  nv = d.counters;
 }
 
 -- What is present on the device is what is present at the history.
@@ -52,23 +53,79 @@ presented_with p x evidence = record {
   evidence = evidence;
 }
 
+-- the evidence of a command that was read
+abbrev pub evidence_for : Present → Cut → Result Evidence ℕ
+evidence_for p x = evidence_in p x.header.code x.handles x.params x.auths
+
+-- The checks of its sessions that come before the last are met.
+abbrev pub HasEvidence : Present → Cut → Type 0
+HasEvidence p x = (evidence : Evidence) × (evidence_for p x ≡ Ok evidence)
+
+-- the commands on NV memory that the owner authorizes
+abbrev pub owner_authorizes : CommandCode → Bool
+owner_authorizes codes.NvDefineSpace = true
+owner_authorizes codes.NvUndefineSpace = true
+owner_authorizes _ = false
+
+-- What a command that was read is beside that: its handles are of their kinds, and it has sessions only where one authorizes it.
+pub record IsAdmitted (x : Cut) : Type 0 where
+  pub owner : owner_authorizes x.header.code ≡ true → is_owner (first x.handles) ≡ true
+  pub sessions : needs_authorization x.header.code ≡ false → x.auths ≡ []
+
 -- Of the checks before the last, those of the sessions are left, or one before them fails.
 abbrev pub IsRead : Present → Result Presented ℕ → Result Cut ℕ → Type 0
-IsRead p r (Ok x) = r ≡ (evidence_in p x.header.code x.handles x.params x.auths >>= λ evidence. Ok (presented_with p x evidence))
+IsRead p r (Ok x) = r ≡ (evidence_for p x >>= λ evidence. Ok (presented_with p x evidence))
 IsRead p r (Err code) = r ≡ Err code
 
--- what was read before the parameters, where a password authorizes
-abbrev pub presented_in : Present → Cut → Presented
-presented_in p x = presented_with p x (by_password (entity_of p (first x.handles)) x.auths)
+-- all checks of these sessions of a command
+abbrev pub sessions_checked : Present → Cut → List Auth → Result (Unit {0}) ℕ
+sessions_checked p x auths =
+    authorize (first_loaded (loaded p.sessions) auths) (entity_of p (first x.handles)) x.header.code (names_of p x.handles) x.params p.registers.update_counter auths
+
+-- A command has evidence, with which all checks before the parameters are met.
+pub record IsPermittedBy (p : Present) (r : Result Presented ℕ) (x : Cut) : Type 0 where
+  pub evidence : Evidence
+  pub gives : evidence_for p x ≡ Ok evidence
+  pub is : r ≡ Ok (presented_with p x evidence)
 
 -- All checks before the parameters are met, or one fails.
 abbrev pub IsPermitted : Present → Result Presented ℕ → Result Cut ℕ → Type 0
-IsPermitted p r (Ok x) = r ≡ Ok (presented_in p x)
+IsPermitted p r (Ok x) = IsPermittedBy p r x
 IsPermitted p r (Err code) = r ≡ Err code
 
--- the digests of an event, where its register may be extended
-abbrev pub event_answer : PcrOrNull → List ℕ → Result (List (Alg × List ℕ)) ℕ
-event_answer q event = check_extend q >>= λ _. Ok (event_digests event)
+-- ---- actions
+
+-- what a command is that was done, with its reply
+abbrev pub done_by : Presented → CommandBody → List ℕ → ReplyBody → Done
+done_by x body nonce reply = record {
+  command = with_auths body x.auths;
+  reply = record { body = reply; auths = reply_auths x.evidence x.code (reply_params reply) nonce };
+}
+
+-- what is done by the action of a command, or the code of its refusal
+abbrev pub done_of : Present → List ℕ → Presented → CommandBody → Result Done ℕ
+done_of p nonce x body = action p body nonce >>= λ reply. Ok (done_by x body nonce reply)
+
+-- A device authorizes as what was present: it has the same sessions, and the handle names what has the same authorization value.
+pub record IsAlike (p : Present) (d : Device) (handle : ℕ) : Type 0 where
+  pub sessions : p.sessions ≡ d.sessions
+  pub value : auth_value (entity_of p handle) ≡ auth_value (entity_of (holds d) handle)
+  pub owner : is_owner_entity (entity_of p handle) ≡ is_owner_entity (entity_of (holds d) handle)
+
+-- what an action answers that leaves its reply in a place
+abbrev pub acted : ReplyBody → Result (Unit {0}) ℕ → Result ReplyBody ℕ
+acted reply (Ok u) = Ok reply
+acted reply (Err code) = Err code
+
+-- the step of a command as it is before the nonce of its session rolls
+abbrev pub step_of : CommandBody → ReplyBody → List ℕ → Step
+step_of body reply nonce = Accepted (with_auths body []) (record { body = reply; auths = [] }) nonce
+
+-- Where one device stands at a history, the other stands at the history with the command.
+abbrev pub Steps : Device → Device → CommandBody → ReplyBody → List ℕ → Type 0
+Steps old new body reply nonce = (o : Origin) (h : History) → Stands o h old → Stands o (step_of body reply nonce ∷ h) new
+
+-- ---- answers
 
 -- the bytes of a reply
 abbrev pub reply_bytes : Reply → List ℕ
@@ -78,11 +135,6 @@ reply_bytes r = spelling (response (code_for_reply r.body)) (done_with r)
 abbrev pub given : List ℕ → Result (Unit {0}) ℕ → Result (List ℕ) ℕ
 given bytes (Ok u) = Ok bytes
 given bytes (Err code) = Err code
-
--- the bytes of what an action gives with these sessions, or its code
-abbrev pub replied : List AuthReply → Result ReplyBody ℕ → Result (List ℕ) ℕ
-replied auths (Ok body) = Ok (reply_bytes (record { body = body; auths = auths }))
-replied auths (Err code) = Err code
 
 -- the bytes of what was done, or the code of the check that failed
 abbrev pub told : Result Done ℕ → Result (List ℕ) ℕ

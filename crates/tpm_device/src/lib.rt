@@ -1,8 +1,15 @@
 //! The device end: it answers the bytes of a command with the bytes of a response.
 #![tactic(auto)]
 
+mod actions;
+mod authorization;
 mod checks;
 mod device;
 mod handles;
+mod nv;
+mod policies;
+mod registers;
+mod reply;
+mod sessions;
 
 pub use device::Device;

@@ -2,6 +2,7 @@
 
 ghost use Rattle.std.specs.Prelude.{◌≡◌, ℕ, ◌^◌, ◌<◌, ◌≤◌, nat_le, set, List, [], ◌++◌, length, slice_index_or, Some, None, option_map, IfSome, IfNone, OnOk, OnErr, if◌then◌else◌};
 ghost use Rattle.tpm_types.specs.Limits.{digest_bytes};
+ghost use Rattle.tpm_types.specs.declared.tpms.NvPublic.{NvPublic as Public};
 ghost use Rattle.tpm_buffer.specs.declared.command.CommandBody.TheVariants as bodies;
 ghost use Rattle.tpm_hmac.specs.Sessions.{trim as trim_of};
 ghost use Rattle.tpm_model.specs.Counters.{has_index, counter_in, next_value, written, nv_by};
@@ -304,6 +305,16 @@ impl Counters {
         match entry(self.counters.as_slice(), index) {
             None => None,
             Some(counter) => Some(counter.auth.as_slice()),
+        }
+    }
+
+    /// The public area and the authorization value of an index, where it is defined: both lent, the value without trailing zeros.
+    pub fn definition(&self, index: NvIndex) -> Option<(&NvPublic, &[u8])>
+        ensures { option_map {U = Public × List ℕ} (λ d. (d.0.now, d.1.now)) result ≡ option_map {U = Public × List ℕ} (λ c. (c.public, c.auth)) (counter_in self.now.counters index) }
+    {
+        match entry(self.counters.as_slice(), index) {
+            None => None,
+            Some(counter) => Some((&counter.public, counter.auth.as_slice())),
         }
     }
 

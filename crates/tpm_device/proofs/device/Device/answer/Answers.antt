@@ -6,6 +6,6 @@ use Rattle.tpm_device.proofs.Passing.{reply_told}
 use Rattle.tpm_device.proofs.device.Device.answer.Goals as goal
 
 pub returns-in_default-clause-answer : goal.returns-in_default-clause-answer
-returns-in_default-clause-answer c = λ n.
+returns-in_default-clause-answer c = λ o h st.
     let p = holds c.args.self.now in
-    reply_told (outcome has_command p c.args.bytes.now n) c.outcome.new.out.items (own_done has_command p c.args.bytes.now n) (c.in_default.ensures.answer n)
+    reply_told (outcome has_command p c.args.bytes.now c.args.nonce.now) c.outcome.new.out.items (own_done has_command p c.args.bytes.now c.args.nonce.now) (c.in_default.ensures.answer o h st)

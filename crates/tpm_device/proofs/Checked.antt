@@ -1,0 +1,169 @@
+-- What is known of a command that was read, and of the checks of its sessions.
+use Rattle.std.proofs.Common.{◌≡◌, ℕ, Bool, true, false, List, [], ◌∷◌, length, get_or, ◌<◌, Option, Some, None, Result, Ok, refl, sym, ap, subst, ◌∙◌, arith}
+use Rattle.std.specs.Prelude.{◌==◌, if◌then◌else◌, slice_get, IsSome}
+use Rattle.std.proofs.lemmas.Bool.Decides.{nat_tests}
+use Rattle.tpm_wire.specs.declared.refusal.Refusal.{Refusal}
+use Rattle.tpm_wire.specs.Buffers.{Layout, number_in, numbered}
+use Rattle.tpm_wire.specs.Layout.{either}
+use Rattle.tpm_wire.specs.Layout.Form.{done, field, area}
+use Rattle.tpm_wire.specs.Token.{Here}
+use Rattle.tpm_wire.specs.Reading.{read, ◌>>=◌}
+use Rattle.tpm_wire.specs.ResponseCodes.{rc_auth_context, rc_auth_missing, rc_value, of_handle}
+use Rattle.tpm_wire.specs.Spelling.{spelling}
+use Rattle.tpm_wire.proofs.Agreement.{bind_ok}
+use Rattle.tpm_types.specs.declared.tpms.Auth.{Auth}
+use Rattle.tpm_types.specs.Handles.{is_owner, is_session, rs_pw}
+use Rattle.tpm_buffer.specs.declared.code.CommandCode.{CommandCode}
+use Rattle.tpm_buffer.specs.declared.code.CommandCode.TheVariants as codes
+use Rattle.tpm_buffer.specs.declared.command_handles.HandleKind.{HandleKind}
+use Rattle.tpm_buffer.specs.declared.command_handles.HandleKind.TheVariants.{Owner, Index}
+use Rattle.tpm_buffer.specs.CommandAreas.{Cut}
+use Rattle.tpm_buffer.specs.Handles.{admits, first, handles, handles_from, needs_authorization}
+use Rattle.tpm_buffer.specs.Commands.{sessions, authorization_size, authorization}
+use Rattle.tpm_buffer.proofs.Longer.{in_set}
+use Rattle.tpm_model.specs.Sessions.{Session, loaded}
+use Rattle.tpm_model.specs.Present.{Present}
+use Rattle.tpm_model.specs.Entities.{Entity, entity_of, names_of}
+use Rattle.tpm_model.specs.Authorization.{refuse as test, Evidence, Authorizer, Password, by_session, check_session, check_entity, evidence_by, check_evidence, first_loaded, authorize}
+use Rattle.tpm_model.specs.Answers.{check_tag, evidence_in}
+use Rattle.tpm_model.proofs.Sealing.{okay_is}
+use Rattle.tpm_device.specs.Stands.{evidence_for, sessions_checked, owner_authorizes}
+
+-- ---- the handles
+
+abbrev handles_read : List ℕ → Here → Result (List ℕ × Here) Refusal
+handles_read ns h = Ok (ns, h)
+
+same_list : (ns ms : List ℕ) (g h : Here) → handles_read ns g ≡ handles_read ms h → ns ≡ ms
+same_list ns ms g h e = let both : (ns, g) ≡ (ms, h) = cc in ap (λ (x : List ℕ × Here). x.0) both
+
+owner_first : (kinds : List HandleKind) (h : Here) (x : List ℕ × Here) → read 0 (handles_from 1 (Owner ∷ kinds)) h ≡ Ok x → is_owner (first x.0) ≡ true
+owner_first kinds h x e =
+    let a = bind_ok (read 0 (numbered (of_handle 1) (number_in 4 (admits Owner) rc_value)) h) (λ y. read 0 (handles_from 2 kinds) y.1 >>= λ z. handles_read (y.0 ∷ z.0) z.1) x e in
+    let b = bind_ok (read 0 (handles_from 2 kinds) a.0.1) (λ z. handles_read (a.0.0 ∷ z.0) z.1) x a.2 in
+    let list : a.0.0 ∷ b.0.0 ≡ x.0 = same_list (a.0.0 ∷ b.0.0) x.0 b.0.1 x.1 b.2 in
+    ap (λ (ns : List ℕ). is_owner (first ns)) (sym list) ∙ in_set 4 (admits Owner) rc_value (of_handle 1) h a.0 a.1
+
+-- The owner authorizes these commands alone.
+pub owner_read : (code : CommandCode) (h : Here) (ns : List ℕ) (g : Here) → read 0 (handles code) h ≡ Ok (ns, g) → owner_authorizes code ≡ true → is_owner (first ns) ≡ true
+owner_read codes.NvDefineSpace h ns g e is = owner_first [] h (ns, g) e
+owner_read codes.NvUndefineSpace h ns g e is = owner_first (Index ∷ []) h (ns, g) e
+owner_read codes.NvIncrement h ns g e is = absurd (cc)
+owner_read codes.PcrEvent h ns g e is = absurd (cc)
+owner_read codes.PcrReset h ns g e is = absurd (cc)
+owner_read codes.Startup h ns g e is = absurd (cc)
+owner_read codes.NvRead h ns g e is = absurd (cc)
+owner_read codes.FlushContext h ns g e is = absurd (cc)
+owner_read codes.NvReadPublic h ns g e is = absurd (cc)
+owner_read codes.PolicyAuthValue h ns g e is = absurd (cc)
+owner_read codes.PolicyCommandCode h ns g e is = absurd (cc)
+owner_read codes.PolicyOr h ns g e is = absurd (cc)
+owner_read codes.StartAuthSession h ns g e is = absurd (cc)
+owner_read codes.PcrRead h ns g e is = absurd (cc)
+owner_read codes.PolicyPcr h ns g e is = absurd (cc)
+owner_read codes.PolicyRestart h ns g e is = absurd (cc)
+owner_read codes.PcrExtend h ns g e is = absurd (cc)
+owner_read codes.PolicyGetDigest h ns g e is = absurd (cc)
+
+-- ---- the sessions
+
+without : (two : Bool) (l : Layout (List Auth)) (h : Here) (x : List Auth × Here) → two ≡ false → read 0 (either two l (done [])) h ≡ Ok x → x.0 ≡ []
+without true l h x e r = absurd (let z : ⊥ = cc in z)
+without false l h x e r = sym (ap (λ (z : List Auth × Here). z.0) (okay_is {E = Refusal} ([], h) x r))
+
+no_area : (t : ℕ) (h : Here) (x : List Auth × Here) → (t == 0x8002) ≡ false → read 0 (authorization t) h ≡ Ok x → x.0 ≡ []
+unfolding authorization
+no_area t h x e r = without (t == 0x8002) (field (λ auths. length (spelling sessions auths)) authorization_size (λ n. area n 0x144 sessions)) h x e r
+
+passed_not : (b : Bool) (code : ℕ) → test b code ≡ Ok tt → b ≡ false
+passed_not true code e = absurd (let z : ⊥ = cc in z)
+passed_not false code e = refl
+
+none_needed : (needs : Bool) (t : ℕ) → (if needs then test (t == 0x8001) rc_auth_missing else test (t == 0x8002) rc_auth_context) ≡ Ok tt → needs ≡ false → (t == 0x8002) ≡ false
+none_needed true t c not = absurd (let z : ⊥ = cc in z)
+none_needed false t c not = passed_not (t == 0x8002) rc_auth_context c
+
+-- A command that needs no authorization has no session.
+pub no_session_read : (code : CommandCode) (t : ℕ) (h : Here) (auths : List Auth) (g : Here) → check_tag code t ≡ Ok tt → read 0 (authorization t) h ≡ Ok (auths, g)
+    → needs_authorization code ≡ false → auths ≡ []
+no_session_read code t h auths g tag reads not = no_area t h (auths, g) (none_needed (needs_authorization code) t tag not) reads
+
+-- ---- the checks of the sessions
+
+names_by : (is : Bool) (s : Option Session) (e : Entity) (code : CommandCode) (names others : List (List ℕ)) (params : List ℕ) (counter : ℕ) (a : Auth) (more : List Auth) → (is ≡ false → names ≡ others)
+    → (((if is then Ok Password else by_session s) >>= λ by. (check_session by a more >>= λ _. (check_entity by e code counter >>= λ _. Ok (evidence_by by e code names params a)))) >>= check_evidence e)
+    ≡ (((if is then Ok Password else by_session s) >>= λ by. (check_session by a more >>= λ _. (check_entity by e code counter >>= λ _. Ok (evidence_by by e code others params a)))) >>= check_evidence e)
+names_by true s e code names others params counter a more same = refl
+names_by false s e code names others params counter a more same = rw (same refl) refl
+
+-- A password covers no Names.
+pub names_matter : (s : Option Session) (e : Entity) (code : CommandCode) (names others : List (List ℕ)) (params : List ℕ) (counter : ℕ) (a : Auth) (more : List Auth)
+    → ((a.session == rs_pw) ≡ false → names ≡ others) → authorize s e code names params counter (a ∷ more) ≡ authorize s e code others params counter (a ∷ more)
+names_matter s e code names others params counter a more same = names_by (a.session == rs_pw) s e code names others params counter a more same
+
+nonempty : (auths : List Auth) (a : Auth) → 0 < length auths → a ≡ get_or auths 0 a → (others : List Auth) × (auths ≡ a ∷ others)
+nonempty [] a some at = absurd (omega (arith, some))
+nonempty (b ∷ more) a some at = (more, ap (λ (x : Auth). x ∷ more) (sym at))
+
+-- The checks of what was handed in are those of what is present.
+pub checked_by : (p : Present) (x : Cut) (auths : List Auth) (a : Auth) (e : Entity) (code : CommandCode) (names : List (List ℕ)) (params : List ℕ) (counter : ℕ) → 0 < length auths → a ≡ get_or auths 0 a
+    → e ≡ entity_of p (first x.handles) → code ≡ x.header.code → params ≡ x.params → counter ≡ p.registers.update_counter → ((a.session == rs_pw) ≡ false → names ≡ names_of p x.handles)
+    → authorize (first_loaded (loaded p.sessions) auths) e code names params counter auths ≡ sessions_checked p x auths
+checked_by p x auths a e code names params counter some at entity is_code is_params is_counter are =
+    let split = nonempty auths a some at in
+    ap (λ (f : Entity). authorize (first_loaded (loaded p.sessions) auths) f code names params counter auths) entity
+    ∙ ap (λ (k : CommandCode). authorize (first_loaded (loaded p.sessions) auths) (entity_of p (first x.handles)) k names params counter auths) is_code
+    ∙ ap (λ (ps : List ℕ). authorize (first_loaded (loaded p.sessions) auths) (entity_of p (first x.handles)) x.header.code names ps counter auths) is_params
+    ∙ ap (λ (n : ℕ). authorize (first_loaded (loaded p.sessions) auths) (entity_of p (first x.handles)) x.header.code names x.params n auths) is_counter
+    ∙ subst (λ (list : List Auth). authorize (first_loaded (loaded p.sessions) list) (entity_of p (first x.handles)) x.header.code names x.params p.registers.update_counter list ≡ sessions_checked p x list) (sym split.1)
+    (names_matter (loaded p.sessions a.session) (entity_of p (first x.handles)) x.header.code names (names_of p x.handles) x.params p.registers.update_counter a split.0 are)
+
+-- the sessions of a command, by the first two of them
+pub no_auths : (auths : List Auth) → None ≡ slice_get auths 0 → auths ≡ []
+no_auths [] none = refl
+no_auths (a ∷ others) none = absurd (cc)
+
+pub one_auth : (auths : List Auth) (a : Auth) → Some a ≡ slice_get auths 0 → None ≡ slice_get auths 1 → auths ≡ a ∷ []
+one_auth [] a is none = absurd (cc)
+one_auth (b ∷ []) a is none = cc
+one_auth (b ∷ c ∷ others) a is none = absurd (cc)
+
+pub two_auths : (auths : List Auth) (a b : Auth) → Some a ≡ slice_get auths 0 → Some b ≡ slice_get auths 1 → (more : List Auth) × (auths ≡ a ∷ b ∷ more)
+two_auths [] a b one two = absurd (cc)
+two_auths (c ∷ []) a b one two = absurd (cc)
+two_auths (c ∷ d ∷ more) a b one two = (more, cc)
+
+pub first_auth : (auths : List Auth) (a : Auth) → Some a ≡ slice_get auths 0 → (others : List Auth) × (auths ≡ a ∷ others)
+first_auth [] a is = absurd (cc)
+first_auth (b ∷ others) a is = (others, cc)
+
+-- ---- what a session's handle is
+
+named_by : (is : Bool) (n m : ℕ) → Some m ≡ (if is then Some n else None) → (m ≡ n) × (is ≡ true)
+named_by true n m e = (cc, refl)
+named_by false n m e = absurd (let z : ⊥ = cc in z)
+
+none_by : (is : Bool) (n : ℕ) → None ≡ (if is then Some n else None) → is ≡ false
+none_by true n e = absurd (let z : ⊥ = cc in z)
+none_by false n e = refl
+
+pub named_session : (n m : ℕ) → Some m ≡ (if is_session n then Some n else None) → (m ≡ n) × (is_session n ≡ true)
+named_session n m is = named_by (is_session n) n m is
+
+pub named_none : (n : ℕ) → None ≡ (if is_session n then Some n else None) → is_session n ≡ false
+named_none n is = none_by (is_session n) n is
+
+-- A session that gives evidence is loaded.
+no_password : (n : ℕ) → is_session n ≡ true → (n == rs_pw) ≡ false
+no_password n s = elim (n == rs_pw) as (λ b. (n == rs_pw) ≡ b → b ≡ false)
+    [ true ↦ λ e. let same : n ≡ rs_pw = grind (arith, nat_tests) in absurd (let bad : is_session rs_pw ≡ true = subst (λ m. is_session m ≡ true) same s in let z : ⊥ = cc in z) | false ↦ λ e. refl ] refl
+
+it_is : (is : Bool) (s : Option Session) (next : Authorizer → Result Evidence ℕ) (e : Evidence) → is ≡ false → ((if is then Ok Password else by_session s) >>= next) ≡ Ok e → IsSome s
+it_is true s next e not is = absurd (let z : ⊥ = cc in z)
+it_is false None next e not is = absurd (let z : ⊥ = cc in z)
+it_is false (Some x) next e not is = refl
+
+pub is_loaded : (p : Present) (x : Cut) (a : Auth) (others : List Auth) (e : Evidence) → evidence_for p x ≡ Ok e → x.auths ≡ a ∷ others → is_session a.session ≡ true → IsSome (loaded p.sessions a.session)
+is_loaded p x a others e gives are is =
+    it_is (a.session == rs_pw) (loaded p.sessions a.session) _ e (no_password a.session is)
+    (ap (λ (auths : List Auth). evidence_in p x.header.code x.handles x.params auths) (sym are) ∙ gives)

@@ -1,0 +1,107 @@
+//! The authorization of a command.
+
+ghost use Rattle.std.specs.Prelude.{◌≡◌, ◌==◌, ◌<◌, ◌≤◌, false, length};
+ghost use Rattle.tpm_types.specs.Handles.{rs_pw};
+ghost use Rattle.tpm_buffer.specs.Handles.{first as first_of};
+ghost use Rattle.tpm_model.specs.Entities.{entity_of, name_of, names_of};
+ghost use Rattle.tpm_session.specs.Entities.{entity_in};
+ghost use Rattle.tpm_device.specs.Stands.{holds, sessions_checked};
+
+use crate::device::Device;
+use crate::handles::first;
+use arrayvec::ArrayVec;
+use tpm_buffer::{Areas, AuthRef};
+use tpm_session::Entity;
+use tpm_types::{Name, NvIndex, PcrIndex, RH_OWNER, RS_PW, name_of_handle};
+
+impl Device {
+    /// What the handle names, which authorizes a command of which it is the first.
+    pub(crate) fn entity(&self, handle: u32) -> Entity<'_>
+        ensures { entity_in result ≡ entity_of (holds self.now) handle }
+    {
+        if PcrIndex::from_number(handle).is_some() {
+            return Entity::Register;
+        }
+        if handle == RH_OWNER {
+            return Entity::Owner(self.owner.as_slice());
+        }
+        match NvIndex::from_number(handle) {
+            Some(index) => match self.counters.definition(index) {
+                Some((public, auth)) => Entity::Index(public, auth),
+                None => Entity::Null,
+            },
+            None => Entity::Null,
+        }
+    }
+
+    // The Name of a handle: that of an index, or else the handle's bytes.
+    fn name(&self, handle: u32) -> Name
+        ensures { result ≡ name_of (holds self.now) handle }
+    {
+        match NvIndex::from_number(handle) {
+            Some(index) => match self.counters.name(index) {
+                Some(name) => name,
+                None => name_of_handle(handle),
+            },
+            None => name_of_handle(handle),
+        }
+    }
+
+    // The Names of the handles.
+    fn names(&self, handles: &[u32]) -> ArrayVec<Name, 2>
+        requires { length handles.now ≤ 2 }
+        ensures { result.items ≡ names_of (holds self.now) handles.now }
+    {
+        let mut names = ArrayVec::new();
+        match handles {
+            [] => {}
+            [only] => names.push(self.name(*only)),
+            [one, two, ..] => {
+                names.push(self.name(*one));
+                names.push(self.name(*two));
+            }
+        }
+        names
+    }
+
+    // The Names that a session's HMAC covers: a password covers none.
+    fn names_for(&self, auth: &AuthRef<'_>, handles: &[u32]) -> ArrayVec<Name, 2>
+        requires { length handles.now ≤ 2 }
+        ensures { (auth.now.session == rs_pw) ≡ false → result.items ≡ names_of (holds self.now) handles.now }
+    {
+        if auth.session().number() == RS_PW {
+            return ArrayVec::new();
+        }
+        self.names(handles)
+    }
+
+    // All checks of these sessions.
+    fn check_auths(&self, auths: &[AuthRef<'_>], areas: &Areas<'_>) -> Result<(), u32>
+        requires few { length areas.now.handles ≤ 2 }
+        requires some { 0 < length auths.now }
+        ensures { result ≡ sessions_checked (holds self.now) areas.now auths.now }
+    {
+        let entity = self.entity(first(areas.handles()));
+        let names = self.names_for(&auths[0], areas.handles());
+        self.sessions.authorize(
+            auths,
+            &entity,
+            areas.code(),
+            names.as_slice(),
+            areas.params(),
+            self.registers.counter(),
+        )
+    }
+
+    /// All checks of the sessions, which are the last before the parameters. A third session is refused as a second is.
+    pub(crate) fn check_sessions(&self, areas: &Areas<'_>) -> Result<(), u32>
+        requires { length areas.now.handles ≤ 2 }
+        ensures { result ≡ sessions_checked (holds self.now) areas.now areas.now.auths }
+    {
+        match (areas.auth(0), areas.auth(1)) {
+            (None, _) => Ok(()),
+            (Some(one), None) => self.check_auths(&[one], areas),
+            (Some(one), Some(two)) => self.check_auths(&[one, two], areas),
+        }
+    }
+}

@@ -1,0 +1,86 @@
+//! What the commands on NV counters do (Part 3, 31).
+
+ghost use Rattle.std.specs.Prelude.{◌≡◌, ℕ, List, OnOk, OnErr};
+ghost use Rattle.tpm_buffer.specs.declared.command.CommandBody.TheVariants as bodies;
+ghost use Rattle.tpm_model.specs.Actions.{action};
+ghost use Rattle.tpm_device.specs.Stands.{holds, acted, Steps};
+
+use crate::device::Device;
+use tpm_buffer::ReplyBody;
+use tpm_store::By;
+use tpm_types::{AuthValue, NvIndex, NvPublic};
+use tpm_wire::response_code::HANDLE;
+
+impl Device {
+    // TPM2_NV_DefineSpace (Part 3, 31.3).
+    pub(crate) fn define(
+        &mut self,
+        auth: &AuthValue,
+        public: &NvPublic,
+        body: &mut ReplyBody,
+    ) -> Result<(), u32>
+        ensures answer { (n : List ℕ) → acted body.new result ≡ action (holds self.old) (bodies.NvDefineSpace auth.now public.now) n }
+        ensures stands { OnOk result ((n : List ℕ) → Steps self.old self.new (bodies.NvDefineSpace auth.now public.now) body.new n) }
+        ensures sessions { self.new.sessions ≡ self.old.sessions }
+        ensures refused { OnErr result (self.new ≡ self.old) }
+    {
+        *body = ReplyBody::NvDefineSpace;
+        self.counters.define(public, auth.as_slice())
+    }
+
+    // TPM2_NV_UndefineSpace (Part 3, 31.4).
+    pub(crate) fn undefine(&mut self, index: NvIndex, body: &mut ReplyBody) -> Result<(), u32>
+        ensures answer { (n : List ℕ) → acted body.new result ≡ action (holds self.old) (bodies.NvUndefineSpace index) n }
+        ensures stands { OnOk result ((n : List ℕ) → Steps self.old self.new (bodies.NvUndefineSpace index) body.new n) }
+        ensures sessions { self.new.sessions ≡ self.old.sessions }
+        ensures refused { OnErr result (self.new ≡ self.old) }
+    {
+        *body = ReplyBody::NvUndefineSpace;
+        self.counters.undefine(index)
+    }
+
+    // TPM2_NV_Increment (Part 3, 31.8).
+    pub(crate) fn increment(
+        &mut self,
+        by: By,
+        index: NvIndex,
+        body: &mut ReplyBody,
+    ) -> Result<(), u32>
+        ensures answer { (n : List ℕ) → acted body.new result ≡ action (holds self.old) (bodies.NvIncrement by index) n }
+        ensures stands { OnOk result ((n : List ℕ) → Steps self.old self.new (bodies.NvIncrement by index) body.new n) }
+        ensures sessions { self.new.sessions ≡ self.old.sessions }
+        ensures refused { OnErr result (self.new ≡ self.old) }
+    {
+        *body = ReplyBody::NvIncrement;
+        self.counters.increment(index, by)?;
+        Ok(())
+    }
+
+    // TPM2_NV_Read (Part 3, 31.13).
+    pub(crate) fn read_counter(
+        &self,
+        by: By,
+        index: NvIndex,
+        size: u16,
+        offset: u16,
+        body: &mut ReplyBody,
+    ) -> Result<(), u32>
+        ensures { (n : List ℕ) → acted body.new result ≡ action (holds self.now) (bodies.NvRead by index size offset) n }
+    {
+        *body = ReplyBody::NvRead(self.counters.read(index, by, size, offset)?);
+        Ok(())
+    }
+
+    // TPM2_NV_ReadPublic (Part 3, 31.6).
+    pub(crate) fn read_public(&self, index: NvIndex, body: &mut ReplyBody) -> Result<(), u32>
+        ensures { (n : List ℕ) → acted body.new result ≡ action (holds self.now) (bodies.NvReadPublic index) n }
+    {
+        match (self.counters.public(index), self.counters.name(index)) {
+            (Some(public), Some(name)) => {
+                *body = ReplyBody::NvReadPublic { public, name };
+                Ok(())
+            }
+            (None, _) | (_, None) => Err(HANDLE),
+        }
+    }
+}

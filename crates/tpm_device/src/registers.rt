@@ -1,0 +1,106 @@
+//! What the commands on registers do (Part 3, 9.3 and 22).
+
+ghost use Rattle.std.specs.Prelude.{◌≡◌, ℕ, List, Ok, OnOk, OnErr};
+ghost use Rattle.tpm_buffer.specs.declared.command.CommandBody.TheVariants as bodies;
+ghost use Rattle.tpm_model.specs.Actions.{action};
+ghost use Rattle.tpm_device.specs.Stands.{holds, acted, Steps};
+
+use crate::device::{Device, no_sessions};
+use tpm_buffer::{Event, ReplyBody};
+use tpm_store::{Registers, event_digests};
+use tpm_types::{DigestValues, Digests, PcrIndex, PcrOrNull, Selections, StartupType};
+use tpm_wire::response_code::{VALUE, of_parameter};
+
+impl Device {
+    // TPM2_Startup (Part 3, 9.3).
+    pub(crate) fn start(&mut self, kind: StartupType, body: &mut ReplyBody) -> Result<(), u32>
+        ensures answer { (n : List ℕ) → acted body.new result ≡ action (holds self.old) (bodies.Startup kind) n }
+        ensures stands { OnOk result ((n : List ℕ) → Steps self.old self.new (bodies.Startup kind) body.new n) }
+        ensures refused { OnErr result (self.new ≡ self.old) }
+    {
+        *body = ReplyBody::Startup;
+        match kind {
+            StartupType::Clear => {
+                self.started = true;
+                self.registers = Registers::new();
+                self.sessions = no_sessions();
+                Ok(())
+            }
+            StartupType::State => Err(VALUE + of_parameter(1)),
+        }
+    }
+
+    // TPM2_PCR_Extend (Part 3, 22.2).
+    pub(crate) fn extend(
+        &mut self,
+        register: PcrOrNull,
+        digests: &DigestValues,
+        body: &mut ReplyBody,
+    ) -> Result<(), u32>
+        ensures answer { (n : List ℕ) → acted body.new result ≡ action (holds self.old) (bodies.PcrExtend register digests.now) n }
+        ensures stands { OnOk result ((n : List ℕ) → Steps self.old self.new (bodies.PcrExtend register digests.now) body.new n) }
+        ensures sessions { self.new.sessions ≡ self.old.sessions }
+        ensures refused { OnErr result (self.new ≡ self.old) }
+    {
+        *body = ReplyBody::PcrExtend;
+        match register {
+            PcrOrNull::Pcr(register) => self.registers.extend(register, digests),
+            PcrOrNull::Null => Ok(()),
+        }
+    }
+
+    // TPM2_PCR_Event (Part 3, 22.3).
+    pub(crate) fn event(
+        &mut self,
+        register: PcrOrNull,
+        event: &Event<'_>,
+        body: &mut ReplyBody,
+    ) -> Result<(), u32>
+        ensures answer { (n : List ℕ) → acted body.new result ≡ action (holds self.old) (bodies.PcrEvent register event.now) n }
+        ensures stands { OnOk result ((n : List ℕ) → Steps self.old self.new (bodies.PcrEvent register event.now) body.new n) }
+        ensures sessions { self.new.sessions ≡ self.old.sessions }
+        ensures refused { OnErr result (self.new ≡ self.old) }
+    {
+        match register {
+            PcrOrNull::Pcr(register) => {
+                let digests = self.registers.event(register, event.as_slice())?;
+                *body = ReplyBody::PcrEvent(digests);
+                Ok(())
+            }
+            PcrOrNull::Null => {
+                *body = ReplyBody::PcrEvent(event_digests(event.as_slice()));
+                Ok(())
+            }
+        }
+    }
+
+    // TPM2_PCR_Reset (Part 3, 22.8).
+    pub(crate) fn reset(&mut self, register: PcrIndex, body: &mut ReplyBody) -> Result<(), u32>
+        ensures answer { (n : List ℕ) → acted body.new result ≡ action (holds self.old) (bodies.PcrReset register) n }
+        ensures stands { OnOk result ((n : List ℕ) → Steps self.old self.new (bodies.PcrReset register) body.new n) }
+        ensures sessions { self.new.sessions ≡ self.old.sessions }
+        ensures refused { OnErr result (self.new ≡ self.old) }
+    {
+        *body = ReplyBody::PcrReset;
+        self.registers.reset(register)
+    }
+
+    // TPM2_PCR_Read (Part 3, 22.4).
+    pub(crate) fn read_registers(&self, selections: &Selections, body: &mut ReplyBody)
+        ensures { (n : List ℕ) → Ok body.new ≡ action (holds self.now) (bodies.PcrRead selections.now) n }
+    {
+        *body = ReplyBody::PcrRead {
+            update_counter: self.registers.counter(),
+            selections: Selections::default(),
+            digests: Digests::default(),
+        };
+        if let ReplyBody::PcrRead {
+            selections: read,
+            digests,
+            ..
+        } = body
+        {
+            self.registers.select_into(selections, read, digests);
+        }
+    }
+}

@@ -1,0 +1,113 @@
+//! The response.
+
+ghost use Rattle.std.specs.Prelude.{◌≡◌, ◌<◌, true, false, List, [], ◌∷◌, length, Some, None, Ok, Err, IsSome, if◌then◌else◌};
+ghost use Rattle.tpm_types.specs.declared.tpms.Auth.{Auth};
+ghost use Rattle.tpm_types.specs.declared.tpms.AuthReply.{AuthReply as ReplyOf};
+ghost use Rattle.tpm_types.specs.Handles.{is_session};
+ghost use Rattle.tpm_buffer.specs.declared.response.ReplyBody.{ReplyBody as BodyOf};
+ghost use Rattle.tpm_buffer.specs.declared.command.CommandBody.{CommandBody};
+ghost use Rattle.tpm_buffer.specs.Handles.{first as first_of, needs_authorization};
+ghost use Rattle.tpm_buffer.specs.Commands.{code_for, with_auths};
+ghost use Rattle.tpm_model.specs.Steps.{History, Origin, Accepted};
+ghost use Rattle.tpm_model.specs.Present.{Present};
+ghost use Rattle.tpm_model.specs.Sessions.{loaded};
+ghost use Rattle.tpm_model.specs.Authorization.{Evidence, reply_auths};
+ghost use Rattle.tpm_model.specs.Answers.{answered, reply_params};
+ghost use Rattle.tpm_model.specs.Premises.{code_in};
+ghost use Rattle.tpm_device.specs.Stands.{Stands, step_of, evidence_for, IsAlike, reply_bytes};
+
+use crate::device::Device;
+use crate::handles::first;
+use tpm_buffer::{Areas, AuthRef, ErrorCode, ReplyBody, put_code, put_reply, put_reply_params};
+use tpm_types::{AuthReply, SessionHandle};
+use tpm_wire::Buffer;
+
+/// Adds the response that is this code.
+pub(crate) fn put_refusal(code: u32, out: &mut Buffer)
+    requires some { 0 < code }
+    requires empty { length out.old.items ≡ 0 }
+    ensures { out.new.items ≡ answered (Err code) }
+{
+    match ErrorCode::from_number(code) {
+        Some(error) => put_code(error, out),
+        None => unreachable!(),
+    }
+}
+
+// The handle of a session that authorizes, where it is no password.
+fn session_of(auth: &AuthRef<'_>) -> Option<SessionHandle>
+    ensures { result ≡ (if is_session auth.now.session then Some auth.now.session else None) }
+{
+    SessionHandle::from_number(auth.session().number())
+}
+
+impl Device {
+    // The session of the reply. The empty buffer serves for the parameters that its HMAC covers.
+    fn acknowledgment(
+        &self,
+        auth: &AuthRef<'_>,
+        areas: &Areas<'_>,
+        body: &ReplyBody,
+        nonce: &[u8; 64],
+        scratch: &mut Buffer,
+    ) -> AuthReply
+        requires { length scratch.old.items ≡ 0 }
+        ensures reply { (p : Present) (e : Evidence) (others : List Auth) → IsAlike p self.now (first_of areas.now.handles) → areas.now.auths ≡ auth.now ∷ others →
+            evidence_for p areas.now ≡ Ok e → reply_auths e areas.now.header.code (reply_params body.now) nonce.now ≡ result ∷ [] }
+        ensures empty { length scratch.new.items ≡ 0 }
+    {
+        put_reply_params(body, scratch);
+        let entity = self.entity(first(areas.handles()));
+        let reply = self
+            .sessions
+            .reply_auth(auth, &entity, areas.code(), scratch.as_slice(), nonce);
+        scratch.clear();
+        reply
+    }
+
+    /// Adds the reply to a command that has acted, and whose session has not rolled yet.
+    pub(crate) fn put_done(
+        &self,
+        body: &ReplyBody,
+        areas: &Areas<'_>,
+        nonce: &[u8; 64],
+        out: &mut Buffer,
+    )
+        requires { length out.old.items ≡ 0 }
+        ensures bytes { (p : Present) (e : Evidence) → ((a : Auth) (others : List Auth) → areas.now.auths ≡ a ∷ others → IsAlike p self.now (first_of areas.now.handles)) → evidence_for p areas.now ≡ Ok e →
+            out.new.items ≡ reply_bytes (record { body = body.now; auths = reply_auths e areas.now.header.code (reply_params body.now) nonce.now }) }
+        ensures done { code_in out.new.items ≡ 0 }
+    {
+        match areas.auth(0) {
+            None => put_reply(body, &[], out),
+            Some(auth) => {
+                let reply = self.acknowledgment(&auth, areas, body, nonce, out);
+                put_reply(body, &[reply], out);
+            }
+        }
+    }
+
+    // After a command that this session authorized: its nonce rolls, or its slot is free. A password leaves nothing.
+    fn roll_session(&mut self, auth: &AuthRef<'_>, nonce: &[u8; 64])
+        requires { is_session auth.now.session ≡ true → IsSome (loaded self.old.sessions auth.now.session) }
+        ensures { (o : Origin) (h : History) (body : CommandBody) (reply : BodyOf) (replied : List ReplyOf) (others : List Auth) → needs_authorization (code_for body) ≡ true →
+            Stands o (step_of body reply nonce.now ∷ h) self.old → Stands o (Accepted (with_auths body (auth.now ∷ others)) (record { body = reply; auths = replied }) nonce.now ∷ h) self.new }
+    {
+        match session_of(auth) {
+            Some(session) => self.sessions.roll(session, nonce, auth.attrs().continues()),
+            None => {}
+        }
+    }
+
+    /// After a command with these sessions that was done and answered.
+    pub(crate) fn roll(&mut self, areas: &Areas<'_>, nonce: &[u8; 64])
+        requires { (a : Auth) (others : List Auth) → areas.now.auths ≡ a ∷ others → is_session a.session ≡ true → IsSome (loaded self.old.sessions a.session) }
+        ensures { (o : Origin) (h : History) (body : CommandBody) (reply : BodyOf) (replied : List ReplyOf) → (needs_authorization (code_for body) ≡ false → areas.now.auths ≡ []) →
+            Stands o (step_of body reply nonce.now ∷ h) self.old → Stands o (Accepted (with_auths body areas.now.auths) (record { body = reply; auths = replied }) nonce.now ∷ h) self.new }
+    {
+        match areas.auth(0) {
+            Some(auth) => self.roll_session(&auth, nonce),
+            None => {}
+        }
+    }
+}

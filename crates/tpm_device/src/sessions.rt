@@ -1,0 +1,39 @@
+//! What the commands on sessions do (Part 3, 11.1 and 28.4).
+
+ghost use Rattle.std.specs.Prelude.{◌≡◌, ℕ, List, OnOk, OnErr};
+ghost use Rattle.tpm_buffer.specs.declared.command.CommandBody.TheVariants as bodies;
+ghost use Rattle.tpm_model.specs.Actions.{action};
+ghost use Rattle.tpm_device.specs.Stands.{holds, acted, Steps};
+
+use crate::device::Device;
+use tpm_buffer::{ReplyBody, StartAuth};
+use tpm_types::SessionHandle;
+
+impl Device {
+    // TPM2_StartAuthSession (Part 3, 11.1).
+    pub(crate) fn start_session(
+        &mut self,
+        start: &StartAuth,
+        nonce: &[u8; 64],
+        body: &mut ReplyBody,
+    ) -> Result<(), u32>
+        ensures answer { acted body.new result ≡ action (holds self.old) (bodies.StartAuthSession start.now) nonce.now }
+        ensures stands { OnOk result (Steps self.old self.new (bodies.StartAuthSession start.now) body.new nonce.now) }
+        ensures refused { OnErr result (self.new ≡ self.old) }
+    {
+        let reply = self.sessions.start(start, self.owner.as_slice(), nonce)?;
+        *body = ReplyBody::StartAuthSession(reply);
+        Ok(())
+    }
+
+    // TPM2_FlushContext (Part 3, 28.4).
+    pub(crate) fn flush(&mut self, session: SessionHandle, body: &mut ReplyBody) -> Result<(), u32>
+        ensures answer { (n : List ℕ) → acted body.new result ≡ action (holds self.old) (bodies.FlushContext session) n }
+        ensures stands { OnOk result ((n : List ℕ) → Steps self.old self.new (bodies.FlushContext session) body.new n) }
+        ensures refused { OnErr result (self.new ≡ self.old) }
+    {
+        *body = ReplyBody::FlushContext;
+        self.sessions.flush(session)?;
+        Ok(())
+    }
+}
