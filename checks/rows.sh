@@ -156,4 +156,9 @@ rows checks/sizes.txt
 rows checks/device.txt
 rows checks/banks.txt
 rows checks/registers.txt
+rows checks/sessions.txt
+rows checks/policies.txt
+rows checks/counters.txt
+rows checks/replay.txt
+rows checks/hundred.txt
 set +f
