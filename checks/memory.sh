@@ -57,6 +57,7 @@ else
     refuses "a script" run
     refuses "an owner value" run --owner 6f776e6572
     refuses "an owner value that is not hexadecimal" run --owner no
+    refuses "a code" explain 9a2
     refuses "help" show --help
     refuses "a usage fault" show
 fi

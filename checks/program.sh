@@ -83,6 +83,7 @@ cases() {
 cases checks/show.txt
 cases checks/build.txt
 cases checks/run.txt
+cases checks/explain.txt
 cases checks/words.txt
 
 # feeds N: N line feeds.
@@ -133,6 +134,7 @@ runs_without_output "a closed standard output for a refusal" - show ''
 runs_without_output "a closed standard output for a response" - show --reply Startup 80010000000a00000100
 runs_without_output "a closed standard output for joined parts" - build Startup - - 0000
 runs_without_output "a closed standard output for a script" - run
+runs_without_output "a closed standard output for a code" - explain 100
 runs_without_output "a closed standard output for help" - --help
 
 if [ -c /dev/full ]; then

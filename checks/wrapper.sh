@@ -3,10 +3,11 @@
 wrapper=$room/wrapper
 mkdir -p "$wrapper/crates/tpmtool/src" "$wrapper/crates/low/specs" "$wrapper/bin" "$wrapper/elsewhere"
 cp tpmtool "$wrapper/tpmtool"
-echo 'tpmtool: low' >"$wrapper/crates.txt"
+printf 'low:\ntpmtool: low\n' >"$wrapper/crates.txt"
 cat >"$wrapper/bin/rt" <<'END'
 #!/bin/sh
 echo "what a build says"
+echo "rt: chose --jobs 2 for low"
 echo "what a build complains of" >&2
 echo "$PWD $*" >>"$CALLS"
 [ -n "$BROKEN" ] && exit 1
@@ -33,19 +34,25 @@ wrapped() {
 
 printf '<show>\n<a  b>\n<>\n<*>\nin %s\ngiven\n' "$wrapper/elsewhere" >"$wrapper/wanted"
 wrapped show 'a  b' '' '*'
+{
+    echo 'tpmtool: proving and building the program, which takes some minutes the first time'
+    echo 'tpmtool: proving low (1 of 2)'
+    echo complaint
+} >"$wrapper/err.wanted"
 if [ "$status" -eq 3 ] && [ "$builds" -eq 1 ] && cmp -s "$wrapper/out" "$wrapper/wanted" &&
-    [ "$(cat "$wrapper/err")" = complaint ]; then
-    pass "the wrapper builds, and passes words, input, output and status on"
+    cmp -s "$wrapper/err" "$wrapper/err.wanted"; then
+    pass "the wrapper builds, says which crate it proves, and passes words, input, output and status on"
 else
-    fail "the wrapper builds, and passes words, input, output and status on" \
+    fail "the wrapper builds, says which crate it proves, and passes words, input, output and status on" \
         "status $status, $builds builds: $(cat "$wrapper/out" "$wrapper/err")"
 fi
 
 wrapped show 'a  b' '' '*'
-if [ "$status" -eq 3 ] && [ "$builds" -eq 1 ] && cmp -s "$wrapper/out" "$wrapper/wanted"; then
-    pass "the wrapper started again builds nothing"
+if [ "$status" -eq 3 ] && [ "$builds" -eq 1 ] && cmp -s "$wrapper/out" "$wrapper/wanted" &&
+    [ "$(cat "$wrapper/err")" = complaint ]; then
+    pass "the wrapper started again builds nothing, and says nothing"
 else
-    fail "the wrapper started again builds nothing" "status $status, $builds builds"
+    fail "the wrapper started again builds nothing, and says nothing" "status $status, $builds builds"
 fi
 
 touch -d '1 hour ago' "$wrapper/crates/tpmtool/out/tpmtool"

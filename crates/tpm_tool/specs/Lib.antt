@@ -6,3 +6,4 @@ pub mod Show
 pub mod Build
 pub mod Script
 pub mod Progress
+pub mod Explain

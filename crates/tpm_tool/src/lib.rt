@@ -3,6 +3,7 @@
 
 mod answer;
 mod built;
+mod explained;
 mod fault;
 mod hexadecimal;
 mod lines;
@@ -15,6 +16,7 @@ mod text;
 
 pub use answer::not_hexadecimal;
 pub use built::build;
+pub use explained::explain;
 pub use fault::ToolFault;
 pub use script::run_script;
 pub use shown::show;

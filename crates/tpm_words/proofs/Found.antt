@@ -3,6 +3,7 @@ use Rattle.std.proofs.Common.{◌≡◌, ℕ, ap, sym, subst, refl, ◌∙◌, B
 use Rattle.std.specs.Prelude.{Box}
 use Rattle.std.specs.Box.{box_value}
 use Rattle.std.specs.Option.{MatchOption}
+use Rattle.std.specs.Prelude.{Result, Ok, Err, MatchResult}
 use Rattle.clap.specs.Matches.{subcommand_name_of, first_value}
 use Rattle.clap.specs.Walk.{Row, Text, first_of, rows_of}
 use Rattle.clap.specs.Simple.{App, HasMatchesOf, app_of, is_simple, subcommand_of, subcommand_rows, subcommand_rows_of}
@@ -19,9 +20,9 @@ use Rattle.clap.specs.Takes.{takes}
 use Rattle.clap.proofs.OnLiterals.{clap_on_literals}
 use Rattle.clap.proofs.WalkLemmas.{first_value-rows}
 use Rattle.tpm_words.specs.declared.task.Task.{Task}
-use Rattle.tpm_words.specs.declared.task.Task.TheVariants.{Show, Build, Run}
+use Rattle.tpm_words.specs.declared.task.Task.TheVariants.{Show, Build, Run, Explain}
 use Rattle.tpm_words.specs.Program.{program_app}
-use Rattle.tpm_words.specs.Task.{Asks, AsksNothing, AsksNothingWith, AsksWith, IsDecimal, IsOwner, Replies}
+use Rattle.tpm_words.specs.Task.{Asks, AsksNothing, AsksNothingWith, AsksWith, IsCode, IsDecimal, IsOwner, Replies}
 use Rattle.tpm_words.specs.declared.stop.Stop.{Stop}
 use Rattle.tpm_words.specs.declared.stop.Stop.TheVariants.{Help, Usage, Memory}
 use Rattle.tpm_words.specs.Stop.{IsHelp, IsMemoryOr, Refuses, StopsFor}
@@ -41,6 +42,7 @@ agrees name v w same (Run owner greatest) h = (
   subst (λ (x : Option Text). IsOwner (unwrap_or x (codes "")) owner) (same (codes "owner")) h.1,
   subst (λ (x : Option Text). IsDecimal (unwrap_or x (codes "0")) greatest) (same (codes "greatest")) h.2,
 )
+agrees name v w same (Explain code) h = (h.0, subst (λ (x : Option Text). IsCode x code) (same (codes "CODE")) h.1)
 
 met : (o : Option (Text × List Row)) (name : Text) (f : Found) (t : Task) → option_map (λ (p : Text × List Row). p.0) o ≡ Some name → option_map (λ (p : Text × List Row). p.1) o ≡ Some (rows_of f)
     → AsksWith name (first_value f) t → Asks o t
@@ -85,6 +87,12 @@ pub memory_or : {N M : Type 0} (stop : Stop) → (N → M) → IsMemoryOr N stop
 memory_or (Help text) f h = h
 memory_or (Usage text) f h = f h
 memory_or Memory f h = tt
+
+-- an answer that may be a reason in two ways
+pub result_then : {A : Type 0} (o : Result (Option A) Stop) {N M : Type 0} {P Q : A → Type 0}
+    → MatchResult o (λ asked. MatchOption asked N P) (IsMemoryOr N) → (N → M) → ((x : A) → P x → Q x) → MatchResult o (λ asked. MatchOption asked M Q) (IsMemoryOr M)
+result_then (Ok asked) h f g = match_then asked h f g
+result_then (Err stop) h f g = memory_or stop f h
 
 -- clap says exactly what it finds in the program's words
 pub simple : (names : ValueParser) → is_simple (program_app names) ≡ true

@@ -26,24 +26,25 @@ abbrev pub build_app : ValueParser → App
 build_app names = with_rule (with_rule (with_rule (with_rule (new_app (codes "build")) (name_rule names))
     (required_rule (codes "HANDLES"))) (required_rule (codes "SESSIONS"))) (required_rule (codes "PARAMETERS"))
 
--- --owner HEX
-abbrev pub owner_rule : Rule
-owner_rule = record (new_rule (codes "owner")) { long = Some (codes "owner"); value_names = 1 }
-
--- --greatest N
-abbrev pub greatest_rule : Rule
-greatest_rule = record (new_rule (codes "greatest")) { long = Some (codes "greatest"); value_names = 1 }
+-- an option with a value, as --owner HEX
+abbrev pub option_rule : Text → Rule
+option_rule name = record (new_rule name) { long = Some name; value_names = 1 }
 
 -- run [--owner HEX] [--greatest N]
 abbrev pub run_app : App
-run_app = with_rule (with_rule (new_app (codes "run")) owner_rule) greatest_rule
+run_app = with_rule (with_rule (new_app (codes "run")) (option_rule (codes "owner"))) (option_rule (codes "greatest"))
 
--- one of the subcommands
+-- explain CODE
+abbrev pub explain_app : App
+explain_app = with_rule (new_app (codes "explain")) (required_rule (codes "CODE"))
+
+-- one of the subcommands, or a version
 abbrev pub above_subcommands : App
-above_subcommands = record (new_app (codes "tpmtool")) { top = record (new_app (codes "tpmtool")).top { subcommand_required = true } }
+above_subcommands = record (new_app (codes "tpmtool")) { top = record (new_app (codes "tpmtool")).top { subcommand_required = true; has_version = true; has_long_version = true } }
 
 abbrev pub program_app : ValueParser → App
-program_app names = with_subcommand (with_subcommand (with_subcommand above_subcommands (show_app names).top) (build_app names).top) run_app.top
+program_app names = with_subcommand (with_subcommand (with_subcommand (with_subcommand above_subcommands
+    (show_app names).top) (build_app names).top) run_app.top) explain_app.top
 
 -- A command has these words, and none that it shares with its subcommands.
 abbrev pub IsApp : App → Command → Type 0

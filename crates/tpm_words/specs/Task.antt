@@ -7,7 +7,7 @@ use Rattle.clap.specs.Words.{Row, Text, first_of}
 use Rattle.tpm_types.specs.Limits.{digest_bytes}
 use Rattle.tpm_buffer.specs.declared.code.CommandCode.{CommandCode}
 use Rattle.tpm_words.specs.declared.task.Task.{Task}
-use Rattle.tpm_words.specs.declared.task.Task.TheVariants.{Show, Build, Run}
+use Rattle.tpm_words.specs.declared.task.Task.TheVariants.{Show, Build, Run, Explain}
 use Rattle.tpm_words.specs.Names.{command_of_name}
 
 -- the command of the option, where the option is given
@@ -27,6 +27,15 @@ IsOwner text owner = (owner ≡ bytes_in text) × IfSome owner (λ bytes. length
 abbrev pub IsDecimal : Text → ℕ → Type 0
 IsDecimal text number = IsNumeral 10 text × (number ≡ digits_value 10 text) × (number < 2 ^ 64)
 
+-- a number below 2^32 by its hexadecimal digits, one or more, with no sign
+abbrev pub IsHexadecimal : Text → ℕ → Type 0
+IsHexadecimal text number = IsNumeral 16 text × (number ≡ digits_value 16 text) × (number < 2 ^ 32)
+
+-- the same of a word that has to be there
+abbrev pub IsCode : Option Text → ℕ → Type 0
+IsCode None code = ⊥
+IsCode (Some text) code = IsHexadecimal text code
+
 -- a subcommand of this name, with these values of its words by their names, asks for the task
 abbrev pub AsksWith : Text → (Text → Option Text) → Task → Type 0
 AsksWith name value (Show reply hex) = (name ≡ codes "show") × Replies (value (codes "reply")) reply × (value (codes "HEX") ≡ Some hex.now)
@@ -35,6 +44,7 @@ AsksWith name value (Build code handles sessions parameters) = (name ≡ codes "
     × (value (codes "HANDLES") ≡ Some handles.now) × (value (codes "SESSIONS") ≡ Some sessions.now) × (value (codes "PARAMETERS") ≡ Some parameters.now)
 AsksWith name value (Run owner greatest) = (name ≡ codes "run") × IsOwner (unwrap_or (value (codes "owner")) (codes "")) owner
     × IsDecimal (unwrap_or (value (codes "greatest")) (codes "0")) greatest
+AsksWith name value (Explain code) = (name ≡ codes "explain") × IsCode (value (codes "CODE")) code
 
 -- There is no such task.
 abbrev pub AsksNothingWith : Text → (Text → Option Text) → Type 0

@@ -10,6 +10,7 @@ ghost use Rattle.tpm_words.specs.Program.{program_app};
 ghost use Rattle.tpm_words.specs.Stop.{StopsFor, IsMemoryOr, Refuses};
 ghost use Rattle.tpm_words.specs.Task.{Asks, AsksNothing, AsksNothingWith, AsksWith};
 
+use crate::explain::explain_task;
 use crate::names::{command_named, command_names};
 use crate::program::program;
 use crate::run::run_task;
@@ -49,8 +50,8 @@ impl Words {
     /// What they ask for.
     ///
     /// The names that may be given are those of all commands. Where the words are those of a subcommand they are refused
-    /// only for a value of `run`: an owner value of too many bytes, or a number that is other than decimal digits or
-    /// above 2^64 - 1.
+    /// only for a value: of `run` an owner value of too many bytes, or a number that is other than decimal digits or
+    /// above 2^64 - 1; of `explain` other than hexadecimal digits, or a number above 2^32 - 1.
     pub fn task(&self, alloc: Global) -> Result<Task<'_>, Stop>
         ensures ok { IfOk result (λ t. (names : Bor (List (Bor (List ℕ)))) × AreAllNames names.now
             × Asks (subcommand_of (program_app (Names names)) self.now) t) }
@@ -105,6 +106,7 @@ fn asked<'a>(alloc: Global, matches: &ArgMatches<'a>) -> Result<Option<Task<'a>>
         "show" => Ok(show_task(words)),
         "build" => Ok(build_task(words)),
         "run" => Ok(Some(run_task(alloc, words)?)),
+        "explain" => explain_task(alloc, words),
         _ => Ok(None),
     }
 }

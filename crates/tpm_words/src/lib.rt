@@ -1,7 +1,9 @@
 //! The words that follow the program's name: what they ask for, or the text of usage or help.
 #![tactic(auto)]
 
+mod explain;
 mod given;
+mod invalid;
 mod names;
 mod program;
 mod run;

@@ -3,10 +3,30 @@
 ghost use Rattle.std.specs.Prelude.{◌≡◌, IfOk, false};
 ghost use Rattle.clap.specs.Words.{rule_of};
 ghost use Rattle.clap.specs.declared.builder.value_parser.ValueParser.TheVariants.{Names};
-ghost use Rattle.tpm_words.specs.Program.{required_rule, name_rule, reply_rule, owner_rule, greatest_rule, show_app, build_app, run_app, above_subcommands, program_app, IsApp};
+ghost use Rattle.tpm_words.specs.Program.{required_rule, name_rule, reply_rule, option_rule, show_app, build_app, run_app, explain_app, above_subcommands, program_app, IsApp};
 
 use clap::{Arg, Command};
 use std::alloc::{AllocError, Global};
+
+const VERSION: &str = "0.1.0";
+
+const LONG_VERSION: &str = "0.1.0
+profile: 18 commands; SHA-1, SHA-256 and SHA-384; counters
+library: TPM 2.0, revision 1.59
+toolchain: rattle-kit-13b";
+
+const AFTER_HELP: &str = "Examples:
+  tpmtool show 80010000000c000001440000
+  tpmtool show --reply Startup 80010000000a00000100
+  tpmtool build PCR_Reset 00000010 400000090000010000 -
+  tpmtool run --greatest 7 <SCRIPT
+  tpmtool explain 9a2
+
+Exit status:
+  0  done
+  1  refused, or a mismatch
+  2  the words are at fault
+  3  a reading or writing fault, want of memory, or input too long";
 
 fn required<'a>(alloc: Global, name: &'a str, help: &'a str) -> Arg<'a>
     ensures rule { rule_of result ≡ required_rule name.entry.now }
@@ -68,24 +88,14 @@ fn build_words<'a>(alloc: Global, names: &'a [&'a str]) -> Result<Command<'a>, A
         .arg(parameters)
 }
 
-fn owner_word<'a>(alloc: Global) -> Arg<'a>
-    ensures rule { rule_of result ≡ owner_rule }
+fn option<'a>(alloc: Global, name: &'a str, value: &'a str, help: &'a str) -> Arg<'a>
+    ensures rule { rule_of result ≡ option_rule name.entry.now }
     ensures local { result.global ≡ false }
 {
-    Arg::new(alloc, "owner")
-        .long("owner")
-        .value_name("HEX")
-        .help("The owner's authorization value, in hexadecimal; empty if it is not given")
-}
-
-fn greatest_word<'a>(alloc: Global) -> Arg<'a>
-    ensures rule { rule_of result ≡ greatest_rule }
-    ensures local { result.global ≡ false }
-{
-    Arg::new(alloc, "greatest")
-        .long("greatest")
-        .value_name("N")
-        .help("The greatest value that a counter has had; 0 if it is not given")
+    Arg::new(alloc, name)
+        .long(name)
+        .value_name(value)
+        .help(help)
 }
 
 /// The subcommand `run`.
@@ -95,8 +105,28 @@ pub(crate) fn run_words<'a>(alloc: Global) -> Result<Command<'a>, AllocError>
     Command::new(alloc, "run")
         .bin_name("tpmtool run")?
         .about("Runs the commands on standard input, one a line, on a new device")
-        .arg(owner_word(alloc))?
-        .arg(greatest_word(alloc))
+        .arg(option(
+            alloc,
+            "owner",
+            "HEX",
+            "The owner's authorization value, in hexadecimal; empty if it is not given",
+        ))?
+        .arg(option(
+            alloc,
+            "greatest",
+            "N",
+            "The greatest value that a counter has had; 0 if it is not given",
+        ))
+}
+
+/// The subcommand `explain`.
+pub(crate) fn explain_words<'a>(alloc: Global) -> Result<Command<'a>, AllocError>
+    ensures { IfOk result (λ c. IsApp explain_app c) }
+{
+    Command::new(alloc, "explain")
+        .bin_name("tpmtool explain")?
+        .about("Prints what a response code says")
+        .arg(required(alloc, "CODE", "The code, in hexadecimal"))
 }
 
 // The program, without its subcommands.
@@ -107,6 +137,9 @@ fn above_subcommands<'a>(alloc: Global) -> Result<Command<'a>, AllocError>
         Command::new(alloc, "tpmtool")
             .bin_name("tpmtool")?
             .about("Reads and writes TPM 2.0 commands")
+            .version(VERSION)
+            .long_version(LONG_VERSION)
+            .after_help(AFTER_HELP)
             .subcommand_required(true),
     )
 }
@@ -118,5 +151,6 @@ pub(crate) fn program<'a>(alloc: Global, names: &'a [&'a str]) -> Result<Command
     above_subcommands(alloc)?
         .subcommand(show_words(alloc, names)?)?
         .subcommand(build_words(alloc, names)?)?
-        .subcommand(run_words(alloc)?)
+        .subcommand(run_words(alloc)?)?
+        .subcommand(explain_words(alloc)?)
 }

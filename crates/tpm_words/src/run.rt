@@ -1,16 +1,15 @@
 //! The words of the subcommand `run`.
 
-ghost use Rattle.std.specs.Prelude.{ℕ, List, Option, IfOk, MatchResult, ◌≡◌, codes};
-ghost use Rattle.clap.specs.Words.{first_value, found_of, kind_of};
-ghost use Rattle.clap.specs.declared.error.kind.ErrorKind.TheVariants.{ValueValidation};
+ghost use Rattle.std.specs.Prelude.{ℕ, List, Option, MatchResult, codes};
+ghost use Rattle.clap.specs.Words.{first_value, found_of};
 ghost use Rattle.tpm_words.specs.Stop.{IsMemoryOr};
 ghost use Rattle.tpm_words.specs.Task.{AsksNothingWith, AsksWith, IsDecimal, IsOwner};
 
+use crate::invalid::invalid_value;
 use crate::program::run_words;
 use crate::stop::Stop;
 use crate::task::Task;
-use clap::error::ErrorKind;
-use clap::{ArgMatches, Error};
+use clap::ArgMatches;
 use hex::FromHexError;
 use std::alloc::{AllocError, Global};
 use tpm_types::{AuthValue, DIGEST_BYTES};
@@ -51,30 +50,20 @@ fn greatest(alloc: Global, text: &str) -> Result<u64, Stop>
         return Ok(greatest);
     }
     let reason = "it is no decimal number up to 18446744073709551615";
-    Err(invalid(alloc, text, "--greatest <N>", reason))
+    Err(invalid_value(alloc, run_words(alloc), text, "--greatest <N>", reason))
 }
 
 fn too_long(alloc: Global, text: &str) -> Stop
     ensures { IsMemoryOr (Unit {0}) result }
 {
     match format!(in alloc; "it has more than {DIGEST_BYTES} bytes") {
-        Ok(reason) => invalid(alloc, text, "--owner <HEX>", reason.as_str()),
+        Ok(reason) => invalid_value(
+            alloc,
+            run_words(alloc),
+            text,
+            "--owner <HEX>",
+            reason.as_str(),
+        ),
         Err(AllocError) => Stop::Memory,
     }
-}
-
-fn invalid(alloc: Global, text: &str, word: &str, reason: &str) -> Stop
-    ensures { IsMemoryOr (Unit {0}) result }
-{
-    match invalid_error(alloc, text, word, reason) {
-        Ok(error) => Stop::of(alloc, &error),
-        Err(AllocError) => Stop::Memory,
-    }
-}
-
-fn invalid_error(alloc: Global, text: &str, word: &str, reason: &str) -> Result<Error, AllocError>
-    ensures { IfOk result (λ e. kind_of e ≡ ValueValidation) }
-{
-    let message = format!(in alloc; "invalid value '{text}' for '{word}': {reason}")?;
-    run_words(alloc)?.error(ErrorKind::ValueValidation, message.as_str())
 }

@@ -31,4 +31,9 @@ pub enum Task<'a> {
         /// The greatest value that a counter of the device has had.
         greatest: u64,
     },
+    /// `explain CODE`: print what a response code says.
+    Explain {
+        /// The code.
+        code: u32,
+    },
 }

@@ -5,7 +5,7 @@ use std::process::ExitCode;
 use std::rt::Env;
 use std::{env, io};
 use tpm_device::Device;
-use tpm_tool::{Status, ToolFault, build, not_hexadecimal, run_script, show};
+use tpm_tool::{Status, ToolFault, build, explain, not_hexadecimal, run_script, show};
 use tpm_wire::Reads;
 use tpm_words::{Stop, Task, Words, words_not_text};
 
@@ -40,6 +40,7 @@ fn perform<R: AllocGlobal + Input + Print>(rt: &R, task: Task<'_>) -> Result<Sta
             }
             None => not_hexadecimal(rt.alloc(), out),
         },
+        Task::Explain { code } => explain(rt.alloc(), out, code),
     }
 }
 

@@ -1,0 +1,43 @@
+//! The words of the subcommand `explain`.
+
+ghost use Rattle.std.specs.Prelude.{◌≡◌, ℕ, MatchOption, MatchResult, codes};
+ghost use Rattle.clap.specs.Words.{first_value, found_of};
+ghost use Rattle.tpm_words.specs.Stop.{IsMemoryOr};
+ghost use Rattle.tpm_words.specs.Task.{AsksNothingWith, AsksWith, IsHexadecimal};
+
+use crate::invalid::invalid_value;
+use crate::program::explain_words;
+use crate::stop::Stop;
+use crate::task::Task;
+use clap::ArgMatches;
+use std::alloc::Global;
+
+/// The task of the words of `explain`.
+pub(crate) fn explain_task<'a>(
+    alloc: Global,
+    words: &ArgMatches<'a>,
+) -> Result<Option<Task<'a>>, Stop>
+    ensures { MatchResult result
+        (λ asked. MatchOption asked (AsksNothingWith (codes "explain") (first_value (found_of words.now))) (λ t. AsksWith (codes "explain") (first_value (found_of words.now)) t))
+        (IsMemoryOr (AsksNothingWith (codes "explain") (first_value (found_of words.now)))) }
+{
+    let Some(text) = words.get_str("CODE") else {
+        return Ok(None);
+    };
+    let code = code(alloc, text)?;
+    Ok(Some(Task::Explain { code }))
+}
+
+// A number of hexadecimal digits alone, without a sign. A usage fault where it is none, or not below 2^32.
+fn code(alloc: Global, text: &str) -> Result<u32, Stop>
+    ensures { MatchResult result (λ code. IsHexadecimal text.now code)
+        (IsMemoryOr ((code : ℕ) → IsHexadecimal text.now code → ⊥)) }
+{
+    if !text.starts_with('+')
+        && let Ok(code) = u32::from_str_radix(text, 16)
+    {
+        return Ok(code);
+    }
+    let reason = "it is no hexadecimal number up to ffffffff";
+    Err(invalid_value(alloc, explain_words(alloc), text, "<CODE>", reason))
+}
