@@ -7,4 +7,6 @@ mod device;
 #[cfg(test)]
 mod faults;
 #[cfg(test)]
+mod nonces;
+#[cfg(test)]
 mod pieces;
