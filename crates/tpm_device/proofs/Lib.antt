@@ -1,5 +1,6 @@
-pub mod Further
 pub mod Alike
 pub mod Checked
+pub mod Further
 pub mod Own
 pub mod Passing
+pub mod Ran

@@ -6,6 +6,7 @@ mod authorization;
 mod checks;
 mod device;
 mod handles;
+mod laws;
 mod nv;
 mod policies;
 mod registers;
@@ -13,3 +14,4 @@ mod reply;
 mod sessions;
 
 pub use device::Device;
+pub use laws::{answers_are_the_run, no_counter_goes_back, no_replay};
