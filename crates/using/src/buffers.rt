@@ -4,8 +4,8 @@ use crate::print_bytes;
 use arrayvec::ArrayVec;
 use std::io;
 use tpm_buffer::{
-    Command, CommandBody, CommandCode, Framer, ReplyBody, Response, Status, decode_command,
-    decode_response, encode_command,
+    Command, CommandBody, CommandCode, Framer, Response, Status, decode_command, decode_response,
+    encode_command,
 };
 use tpm_types::StartupType;
 
@@ -22,17 +22,14 @@ pub fn build(rt: &impl Print) -> io::Result<()> {
 /// A response is read by the command that it answers.
 pub fn read(rt: &impl Print) -> io::Result<()> {
     let bytes = [0x80, 0x01, 0x00, 0x00, 0x00, 0x0a, 0x00, 0x00, 0x01, 0x00];
-    match decode_response(CommandCode::Startup, &bytes) {
-        Ok(Response::Code(error)) => println!(rt; "the TPM answers {:#x}", error.number()),
-        Ok(
-            Response::Done {
-                body: ReplyBody::Startup,
-                ..
-            },
-        ) => println!(rt; "started"),
-        Ok(Response::Done { .. }) => println!(rt; "another command's reply"),
-        Err(refusal) => println!(rt; "{:#x} at byte {}", refusal.code, refusal.at),
+    let response = match decode_response(CommandCode::Startup, &bytes) {
+        Ok(response) => response,
+        Err(refusal) => return println!(rt; "{:#x} at byte {}", refusal.code, refusal.at),
+    };
+    if let Response::Code(error) = &response {
+        return println!(rt; "the TPM answers {:#x}", error.number());
     }
+    println!(rt; "started")
 }
 
 /// Bytes that are no command are refused with the TPM's response code, and the position of their first fault.

@@ -49,7 +49,7 @@ pub fn measured(rt: &impl Print) -> io::Result<()> {
 }
 
 /// The quote's information, whose bytes end with it.
-fn quoted(bytes: &[u8]) -> Result<QuoteInfo, Refusal> {
+fn quoted(bytes: &[u8; 44]) -> Result<QuoteInfo, Refusal> {
     let mut cursor = Cursor::new(bytes);
     QuoteInfo::take(&mut cursor)
 }
