@@ -26,7 +26,10 @@ missing_paths() {
 
 # words: a line for each word of the sources.
 words_of_sources() {
-    find checks bench crates test tpmtool crates.txt HANDLES -name out -prune -o -type f -not -name "*.edit" -exec cat {} + |
+    {
+        find checks bench crates test tpmtool crates.txt HANDLES -name out -prune -o -type f -not -name "*.edit" -exec cat {} +
+        find crates -path '*/must-fail/*.edit'
+    } |
         tr -cs 'A-Za-z0-9_' '\n' | sort -u
 }
 
