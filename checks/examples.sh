@@ -36,7 +36,7 @@ printed() {
     while IFS= read -r line; do
         case $line in
         '$ '*)
-            echo "$line" >>"$room/seen"
+            printf '%s\n' "$line" >>"$room/seen"
             sh -c "${line#??}" </dev/null >>"$room/seen" 2>&1
             ran=$((ran + 1))
             ;;
