@@ -37,7 +37,7 @@ printed() {
         case $line in
         '$ '*)
             printf '%s\n' "$line" >>"$room/seen"
-            sh -c "${line#??}" </dev/null >>"$room/seen" 2>&1
+            sh -c "${line#??}" </dev/null >>"$room/seen" 2>"$room/complaints"
             ran=$((ran + 1))
             ;;
         esac
