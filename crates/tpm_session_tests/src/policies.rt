@@ -102,8 +102,8 @@ const CODE: &str = "8001 00000012 0000016c 03000000 00000134";
 const CHOICE: &str =
     "8001 00000056 00000171 03000000 00000002 0020 8fcd2169ab92694e0c633f1ab772842b8241bbc20288981fc7ac1eddc1fddb0e 0020 e8c02d3c5e701670cbaa327db1a2e9f3f41b2c22793e5c669a6e7f44b912f6c0";
 
-// The first digest is that of Python's hashlib. The second is what the other implementation gave after these commands: between the
-// last two of them the session authorized a command.
+// The first digest is that of Python's hashlib. The second is the one that is recorded of the other implementation for these three
+// commands. They can't give it by Part 3, 23.11, but the last of them gives it on a policy that begins again.
 #[test]
 fn authorized_command_ends_the_policy(rt: HostRuntime) {
     let registers = Registers::new();
