@@ -1,62 +1,28 @@
-# A Caller and a Waiting are spent by their use: what uses one again does not compile. Each is a crate over a copy of the
-# repository's sources, of which nothing is proved here; one that uses each value once stands beside them, and compiles.
+# A Caller and a Waiting are spent by their use: what uses one again does not compile. checks/spent.rt has a function for each use;
+# it is compiled once, as a crate over a copy of the repository's sources, of which nothing is proved here.
 
 spent=$room/spent
 mkdir -p "$spent/crates/spent/src"
 tar -c --exclude=out crates HANDLES | tar -x -C "$spent"
+cp checks/spent.rt "$spent/crates/spent/src/lib.rt"
 {
     cat crates.txt
     echo 'spent: tpm_caller tpm_buffer tpm_types arrayvec'
 } >"$spent/crates.txt"
+(cd "$spent/crates/spent" && rt try --test) >"$spent/said" 2>&1
 
-# spends BODY: compiles a crate whose function has this body.
-spends() {
-    {
-        cat <<'END'
-#![tactic(auto)]
+# The functions that use again what was moved, and what else is wrong.
+awk -F : '
+    NR == FNR { if (match($0, /^pub fn [a-z_]*/)) name = substr($0, 8, RLENGTH - 7); function_at[FNR] = name; next }
+    /error\[borrow-e0382\]/ { print function_at[$2] }
+' checks/spent.rt "$spent/said" | sort -u >"$spent/refused"
+wrong=$(grep error "$spent/said" | grep -v 'error\[borrow-e0382\]')
 
-use arrayvec::ArrayVec;
-use tpm_buffer::CommandBody;
-use tpm_caller::{Caller, Waiting};
-use tpm_types::{Nonce, PcrIndex, name_of_handle};
-
-fn sealed(caller: Caller) -> Waiting {
-    let register = PcrIndex::default();
-    let mut names = ArrayVec::new();
-    names.push(name_of_handle(register.number()));
-    caller.seal(CommandBody::PcrReset { register }, names, &[], Nonce::default(), true)
-}
-
-pub fn spends(caller: Caller, reply: &[u8]) {
-END
-        echo "    $1"
-        cat <<'END'
-}
-
-#[test]
-fn compiles() {}
-END
-    } >"$spent/crates/spent/src/lib.rt"
-    (cd "$spent/crates/spent" && rt try --test) >"$spent/out" 2>&1
-}
-
-# refuses NAME BODY: the body uses again what was moved.
-refuses() {
-    if spends "$2"; then
-        fail "$1" "it compiles"
-    elif grep -q 'error\[borrow-e0382\]' "$spent/out"; then
-        pass "$1"
-    else
-        fail "$1" "$(grep -m 1 error "$spent/out")"
-    fi
-}
-
-if spends 'let _ = sealed(caller).open(reply);'; then
-    pass "each is used once"
+for use in seals_twice opens_twice opens_what_was_given_up gives_up_what_was_opened; do
+    if grep -qx "$use" "$spent/refused"; then pass "$use is refused"; else fail "$use is refused" "it compiles: $wrong"; fi
+done
+if [ -s "$spent/refused" ] && [ -z "$wrong" ] && ! grep -qx uses_each_once "$spent/refused"; then
+    pass "uses_each_once is not refused"
 else
-    fail "each is used once" "$(grep -m 1 error "$spent/out")"
+    fail "uses_each_once is not refused" "$wrong"
 fi
-refuses "a caller seals once" 'let _ = sealed(caller); let _ = sealed(caller);'
-refuses "a Waiting opens once" 'let waiting = sealed(caller); let _ = waiting.open(reply); let _ = waiting.open(reply);'
-refuses "a Waiting that was given up opens nothing" 'let waiting = sealed(caller); let _ = waiting.give_up(reply); let _ = waiting.open(reply);'
-refuses "a Waiting that was opened is not given up" 'let waiting = sealed(caller); let _ = waiting.open(reply); let _ = waiting.give_up(reply);'
