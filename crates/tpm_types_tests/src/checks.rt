@@ -2,77 +2,74 @@
 
 use std::process::Abort;
 use std::test::*;
-use tpm_wire::{Buffer, Cursor, Wire, no_prefix, one_reading, one_reading_within, taken_back};
+use tpm_wire::{
+    Buffer, Cursor, Refusal, Wire, no_prefix, one_reading, one_reading_within, taken_back,
+};
 
-/// The parts, joined.
-pub fn joined(parts: &[&[u8]]) -> Buffer {
+/// The bytes of hexadecimal words, one behind the other.
+pub fn bytes_of(rt: &impl Abort, text: &str) -> Buffer {
     let mut all = Buffer::new();
-    for &part in parts {
-        let _ = all.try_extend_from_slice(part);
+    for word in text.split_ascii_whitespace() {
+        let mut room = [0; 256];
+        assert!(rt; word.len() <= 512);
+        let bytes = &mut room[..word.len() / 2];
+        assert!(rt; hex::decode_to_slice(word, bytes).is_ok(), "{word}");
+        let _ = all.try_extend_from_slice(bytes);
     }
     all
 }
 
-/// The bytes of hexadecimal text, in which spaces say nothing.
-fn bytes_of(text: &str) -> Buffer {
-    let mut bytes = Buffer::new();
-    let mut high = None;
-    for letter in text.bytes() {
-        let digit = match letter {
-            b'0'..=b'9' => letter - b'0',
-            b'a'..=b'f' => letter - b'a' + 10,
-            _ => continue,
-        };
-        high = match high {
-            None => Some(digit),
-            Some(high) => {
-                let high: u8 = high;
-                let _ = bytes.try_push(high.wrapping_mul(16).wrapping_add(digit));
-                None
-            }
-        };
-    }
-    bytes
+/// These bytes are a value, all of them, whose spelling they are, and the laws hold of its type.
+pub fn goes_both_ways<T: Wire + Drop>(rt: &impl Abort, text: &str) -> T {
+    let bytes = bytes_of(rt, text);
+    let value = taken::<T>(rt, bytes.as_slice());
+    is_spelled(rt, &value, bytes.as_slice());
+    taken_back(&value);
+    no_prefix(&value, &value);
+    one_reading::<T>();
+    one_reading_within::<T>();
+    value
 }
 
-/// The bytes are a value, all of them, whose spelling they are, and the laws hold of its type.
-pub fn goes_both_ways<T: Wire + Drop>(rt: &impl Abort, bytes: &[u8]) -> T {
+// The value of these bytes, all of them.
+fn taken<T: Wire + Drop>(rt: &impl Abort, bytes: &[u8]) -> T {
     assert!(rt; bytes.len() <= 4096);
     let mut cursor = Cursor::new(bytes);
-    match T::take(&mut cursor) {
-        Ok(value) => {
-            assert_eq!(rt; cursor.left(), 0);
-            assert_eq!(rt; cursor.at() as usize, bytes.len());
-            assert_eq!(rt; value.len(), bytes.len());
-            assert!(rt; value.len() <= 4096);
-            let mut out = Buffer::new();
-            value.put(&mut out);
-            assert_eq!(rt; out.as_slice(), bytes);
-            taken_back(&value);
-            no_prefix(&value, &value);
-            one_reading::<T>();
-            one_reading_within::<T>();
-            value
-        }
-        Err(refusal) => panic!(rt; "refused {} at {}", refusal.code, refusal.at),
+    let value = T::take(&mut cursor);
+    let is_at_the_end = cursor.at() as usize == bytes.len() && cursor.left() == 0;
+    match value {
+        Ok(value) if is_at_the_end => value,
+        _ => panic!(rt; "{bytes:?}"),
     }
 }
 
-/// The bytes are refused with this code at this place, and as parameter 2 and session 1 with its number added.
-pub fn refuses<T: Wire + Drop>(rt: &impl Abort, bytes: &[u8], code: u32, at: u32) {
-    assert!(rt; bytes.len() <= 4096);
-    for number in [0, 0x240, 0x900] {
-        let mut cursor = Cursor::new(bytes);
-        cursor.number(number);
-        match T::take(&mut cursor) {
-            Ok(_) => panic!(rt; "taken"),
-            Err(refusal) => {
-                assert!(rt; code <= 0xFFF);
-                assert_eq!(rt; refusal.code, code + number);
-                assert_eq!(rt; refusal.at, at);
-            }
-        }
-    }
+/// The value is spelled so.
+pub fn is_spelled<T: Wire>(rt: &impl Abort, value: &T, bytes: &[u8]) {
+    let len = value.len();
+    assert!(rt; len <= 4096);
+    let mut out = Buffer::new();
+    value.put(&mut out);
+    assert!(rt; out.as_slice() == bytes && len == bytes.len(), "{bytes:?}");
+}
+
+// The first fault of the bytes, with this number added to its code.
+fn fault<T: Wire + Drop>(rt: &impl Abort, bytes: &[u8], number: u32) -> Option<Refusal> {
+    assert!(rt; bytes.len() <= 4096 && number <= 0x900);
+    let mut cursor = Cursor::new(bytes);
+    cursor.number(number);
+    T::take(&mut cursor).err()
+}
+
+// The bytes are refused with this code at this place, and as parameter 2 and session 1 with its number added.
+fn refuses<T: Wire + Drop>(rt: &impl Abort, bytes: &[u8], code: u32, at: u32) {
+    assert!(rt; code <= 0xFFF);
+    let faults = [
+        fault::<T>(rt, bytes, 0),
+        fault::<T>(rt, bytes, 0x240),
+        fault::<T>(rt, bytes, 0x900),
+    ];
+    let expected = [code, code + 0x240, code + 0x900].map(|code| Some(Refusal { code, at }));
+    assert!(rt; faults == expected, "{bytes:?}");
 }
 
 /// Each line is a row. In `BYTES = PLACES` the bytes are a value, and each beginning of them is too short, at the place that
@@ -81,25 +78,37 @@ pub fn refuses<T: Wire + Drop>(rt: &impl Abort, bytes: &[u8], code: u32, at: u32
 pub fn rows<T: Wire + Drop>(rt: &impl Abort, lines: &str) {
     for line in lines.lines() {
         if let Some((bytes, refusal)) = line.split_once('!') {
-            match bytes_of(refusal).as_slice() {
-                [high, low, at] => {
-                    let code = u16::from_be_bytes([*high, *low]) as u32;
-                    refuses::<T>(rt, bytes_of(bytes).as_slice(), code, *at as u32);
-                }
-                _ => panic!(rt; "{line}"),
-            }
+            is_refused::<T>(rt, bytes, refusal);
         } else if let Some((bytes, places)) = line.split_once('=') {
-            let bytes = bytes_of(bytes);
-            let places = bytes_of(places);
-            let _ = goes_both_ways::<T>(rt, bytes.as_slice());
-            assert!(rt; places.is_empty() || places.len() == bytes.len(), "{line}");
-            for n in 0..places.len() {
-                let begin = &bytes.as_slice()[..n];
-                refuses::<T>(rt, begin, 0x09A, places.as_slice()[n] as u32);
-            }
+            is_taken::<T>(rt, bytes, places);
         } else {
-            let is_said = line.trim().is_empty() || line.trim().starts_with('#');
-            assert!(rt; is_said, "{line}");
+            let line = line.trim();
+            assert!(rt; line.is_empty() || line.starts_with('#'), "{line}");
         }
+    }
+}
+
+fn is_refused<T: Wire + Drop>(rt: &impl Abort, bytes: &str, refusal: &str) {
+    let bytes = bytes_of(rt, bytes);
+    match bytes_of(rt, refusal).as_slice() {
+        [high, low, at] => {
+            let code = u16::from_be_bytes([*high, *low]) as u32;
+            refuses::<T>(rt, bytes.as_slice(), code, *at as u32);
+        }
+        _ => panic!(rt; "{refusal}"),
+    }
+}
+
+fn is_taken<T: Wire + Drop>(rt: &impl Abort, bytes: &str, places: &str) {
+    let _ = goes_both_ways::<T>(rt, bytes);
+    let bytes = bytes_of(rt, bytes);
+    let places = bytes_of(rt, places);
+    begins_are_short::<T>(rt, bytes.as_slice(), places.as_slice());
+}
+
+fn begins_are_short<T: Wire + Drop>(rt: &impl Abort, bytes: &[u8], places: &[u8]) {
+    assert!(rt; places.is_empty() || places.len() == bytes.len());
+    for n in 0..places.len() {
+        refuses::<T>(rt, &bytes[..n], 0x09A, places[n] as u32);
     }
 }

@@ -1,7 +1,7 @@
 //! Bytes that are taken, and bytes that are refused, in the order of Part 2. The codes are HASH 0083, VALUE 0084, MODE 0089,
 //! SIZE 0095, SYMMETRIC 0096, INSUFFICIENT 009A and RESERVED_BITS 00A1.
 
-use crate::checks::{goes_both_ways, joined, refuses, rows};
+use crate::checks::rows;
 use std::test::*;
 use tpm_types::{
     Alg, Auth, AuthReply, AuthSession, AuthValue, BindHandle, Digest, DigestValues, Digests,
@@ -190,6 +190,11 @@ fn handles(rt: HostRuntime) {
     );
 }
 
+const LONGEST: &str = "
+    0030 5a5a5a5a5a5a5a5a5a5a5a5a5a5a5a5a5a5a5a5a5a5a5a5a5a5a5a5a5a5a5a5a5a5a5a5a5a5a5a5a5a5a5a5a5a5a5a5a =
+    0031 5a5a5a5a5a5a5a5a5a5a5a5a5a5a5a5a5a5a5a5a5a5a5a5a5a5a5a5a5a5a5a5a5a5a5a5a5a5a5a5a5a5a5a5a5a5a5a5a5a ! 0095 00
+";
+
 #[test]
 fn sized_buffers(rt: HostRuntime) {
     // Above the limit a size is refused, whatever bytes are there.
@@ -210,18 +215,13 @@ fn sized_buffers(rt: HostRuntime) {
         0001 09 = 0000 02
         0032 ! 009a 02
         0033 ! 0095 00
+        0032 000c5a5a5a5a5a5a5a5a5a5a5a5a5a5a5a5a5a5a5a5a5a5a5a5a5a5a5a5a5a5a5a5a5a5a5a5a5a5a5a5a5a5a5a5a5a5a5a5a =
         ",
     );
-    let longest = joined(&[&[0x00, 0x30], &[0x5A; 48]]);
-    let _ = goes_both_ways::<Digest>(&rt, longest.as_slice());
-    let _ = goes_both_ways::<Nonce>(&rt, longest.as_slice());
-    let _ = goes_both_ways::<AuthValue>(&rt, longest.as_slice());
-    let longer = joined(&[&[0x00, 0x31], &[0x5A; 49]]);
-    refuses::<Digest>(&rt, longer.as_slice(), 0x095, 0);
-    refuses::<Nonce>(&rt, longer.as_slice(), 0x095, 0);
-    refuses::<AuthValue>(&rt, longer.as_slice(), 0x095, 0);
-    let name = joined(&[&[0x00, 0x32, 0x00, 0x0C], &[0x5A; 48]]);
-    let _ = goes_both_ways::<Name>(&rt, name.as_slice());
+    // The longest, and one byte more.
+    rows::<Digest>(&rt, LONGEST);
+    rows::<Nonce>(&rt, LONGEST);
+    rows::<AuthValue>(&rt, LONGEST);
 }
 
 #[test]
@@ -263,17 +263,9 @@ fn structures(rt: HostRuntime) {
         02000000 0031 01 0000 ! 0095 04
         02000000 0000 09 0000 ! 00a1 06
         02000000 0000 01 0031 ! 0095 07
+        02000000 0030111111111111111111111111111111111111111111111111111111111111111111111111111111111111111111111111 00 0030222222222222222222222222222222222222222222222222222222222222222222222222222222222222222222222222 =
         ",
     );
-    let longest = joined(&[
-        &[0x02, 0x00, 0x00, 0x00],
-        &[0x00, 0x30],
-        &[0x11; 48],
-        &[0x00],
-        &[0x00, 0x30],
-        &[0x22; 48],
-    ]);
-    let _ = goes_both_ways::<Auth>(&rt, longest.as_slice());
     // nonceTPM, sessionAttributes, hmac
     rows::<AuthReply>(
         &rt,
@@ -325,24 +317,10 @@ fn public_areas_of_indices(rt: HostRuntime) {
         000e 01800001 000d 02060016 0000 0008 ! 0083 06
         000e 01800001 000b 02060316 0000 0008 ! 00a1 08
         000e 01800001 000b 02060016 0031 0008 ! 0095 0c
+        # the largest, and a byte more
+        003e 01000000 000c 00000000 0030777777777777777777777777777777777777777777777777777777777777777777777777777777777777777777777777 ffff =
+        003f 000000000000000000000000000000000000000000000000000000000000000000000000000000000000000000000000000000000000000000000000000000 ! 0095 00
         ",
-    );
-    let largest = joined(&[
-        &[0x00, 0x3E],
-        &[0x01, 0x00, 0x00, 0x00],
-        &[0x00, 0x0C],
-        &[0x00, 0x00, 0x00, 0x00],
-        &[0x00, 0x30],
-        &[0x77; 48],
-        &[0xFF, 0xFF],
-    ]);
-    let public = goes_both_ways::<NvPublic>(&rt, largest.as_slice());
-    assert_eq!(&rt; public.area_len(), 62);
-    refuses::<NvPublic>(
-        &rt,
-        joined(&[&[0x00, 0x3F], &[0x00; 63]]).as_slice(),
-        0x095,
-        0,
     );
 }
 
@@ -406,32 +384,12 @@ fn counted_lists(rt: HostRuntime) {
         00000001 000c ! 009a 06
         00000001 000d ! 0083 04
         00000004 ! 0095 00
+        # one of each hash; one byte less of the third digest, of the second, of the first; a second of no hash
+        00000003 00041111111111111111111111111111111111111111 000b2222222222222222222222222222222222222222222222222222222222222222 000c333333333333333333333333333333333333333333333333333333333333333333333333333333333333333333333333 =
+        00000003 00041111111111111111111111111111111111111111 000b2222222222222222222222222222222222222222222222222222222222222222 000c3333333333333333333333333333333333333333333333333333333333333333333333333333333333333333333333 ! 009a 3e
+        00000003 00041111111111111111111111111111111111111111 000b22222222222222222222222222222222222222222222222222222222222222 ! 009a 1c
+        00000003 000411111111111111111111111111111111111111 ! 009a 06
+        00000003 00041111111111111111111111111111111111111111 0010 ! 0083 1a
         ",
     );
-    let all = joined(&[
-        &[0x00, 0x00, 0x00, 0x03, 0x00, 0x04],
-        &[0x11; 20],
-        &[0x00, 0x0B],
-        &[0x22; 32],
-        &[0x00, 0x0C],
-        &[0x33; 48],
-    ]);
-    let _ = goes_both_ways::<DigestValues>(&rt, all.as_slice());
-    // One byte less of the third digest, of the second, of the first; a second of no hash.
-    for (sha1, sha256, sha384, at) in [(20, 32, 47, 62), (20, 31, 0, 28), (19, 0, 0, 6)] {
-        let mut short = joined(&[&[0x00, 0x00, 0x00, 0x03, 0x00, 0x04], &[0x11; 20][..sha1]]);
-        if sha256 > 0 {
-            short = joined(&[short.as_slice(), &[0x00, 0x0B], &[0x22; 32][..sha256]]);
-        }
-        if sha384 > 0 {
-            short = joined(&[short.as_slice(), &[0x00, 0x0C], &[0x33; 48][..sha384]]);
-        }
-        refuses::<DigestValues>(&rt, short.as_slice(), 0x09A, at);
-    }
-    let second = joined(&[
-        &[0x00, 0x00, 0x00, 0x03, 0x00, 0x04],
-        &[0x11; 20],
-        &[0x00, 0x10],
-    ]);
-    refuses::<DigestValues>(&rt, second.as_slice(), 0x083, 26);
 }

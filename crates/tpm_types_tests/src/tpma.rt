@@ -3,22 +3,34 @@
 use std::test::*;
 use tpm_types::{NvAttrs, SessionAttrs};
 
+// Whether attributes of this number continue the session, and whether they audit or encrypt.
+fn session_queries(number: u8) -> Option<(bool, bool)> {
+    let attrs = SessionAttrs::from_number(number)?;
+    Some((attrs.continues(), attrs.audits_or_encrypts()))
+}
+
 #[test]
 fn queries_of_session_attributes(rt: HostRuntime) {
-    assert_eq!(&rt; SessionAttrs::default().number(), 0x00);
-    for (number, continues, more) in [
-        (0x00, false, false),
-        (0x01, true, false),
-        (0x02, false, true),
-        (0x04, false, true),
-        (0x20, false, true),
-        (0x41, true, true),
-        (0x80, false, true),
-    ] {
-        let attrs = SessionAttrs::from_number(number).expect(&rt, "no reserved bit");
-        assert_eq!(&rt; attrs.continues(), continues);
-        assert_eq!(&rt; attrs.audits_or_encrypts(), more);
-    }
+    assert!(rt; SessionAttrs::default().number() == 0x00);
+    let found = [
+        session_queries(0x00),
+        session_queries(0x01),
+        session_queries(0x02),
+        session_queries(0x04),
+        session_queries(0x20),
+        session_queries(0x41),
+        session_queries(0x80),
+    ];
+    let expected = [
+        Some((false, false)),
+        Some((true, false)),
+        Some((false, true)),
+        Some((false, true)),
+        Some((false, true)),
+        Some((true, true)),
+        Some((false, true)),
+    ];
+    assert!(rt; found == expected, "{found:?}");
 }
 
 const T: bool = true;
@@ -78,15 +90,19 @@ fn queries_of_nv_attributes(rt: HostRuntime) {
         (0x0206_0016, [T, T, T, F, T, T, F, T, F, T, T, F]),
         (0x2206_0016, [T, T, T, F, T, T, F, T, T, T, T, T]),
     ] {
-        let attrs = NvAttrs::from_number(number).expect(&rt, "no reserved bit");
-        assert_eq!(&rt; queries(attrs), expected);
+        let found = NvAttrs::from_number(number).map(queries);
+        assert!(rt; found == Some(expected), "{number:08x}");
     }
+}
+
+// The attributes of this number with WRITTEN.
+fn written(number: u32) -> Option<u32> {
+    Some(NvAttrs::from_number(number)?.with_written().number())
 }
 
 #[test]
 fn written_is_added(rt: HostRuntime) {
-    for (before, after) in [(0x0206_0016, 0x2206_0016), (0x2000_0010, 0x2000_0010)] {
-        let attrs = NvAttrs::from_number(before).expect(&rt, "no reserved bit");
-        assert_eq!(&rt; attrs.with_written().number(), after);
-    }
+    assert!(rt;
+        [written(0x0206_0016), written(0x2000_0010)] == [Some(0x2206_0016), Some(0x2000_0010)]
+    );
 }
