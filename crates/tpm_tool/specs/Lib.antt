@@ -3,6 +3,7 @@ pub mod Faults
 pub mod Text
 pub mod ReplyText
 pub mod Show
+pub mod Fields
 pub mod Build
 pub mod Script
 pub mod Progress

@@ -9,22 +9,29 @@ use crate::text::{push_handle, push_parameters};
 use std::alloc::{AllocError, Global};
 use tpm_buffer::{CommandCode, ReplyAreas, ReplyRef};
 
+/// Adds the line of a response code.
 #[tactic(auto, unfolding(crate::specs::ReplyText::reply_code_line))]
-fn push_code(text: &mut String, code: u32) -> Result<(), AllocError>
+pub(crate) fn push_code(text: &mut String, code: u32) -> Result<(), AllocError>
     ensures { OnOk result (string_bytes text.new ≡ string_bytes text.old ++ reply_code_line code) }
 {
     writeln!(text, "reply code {code:03x}")
 }
 
+/// Adds the first line of a reply to this command, of so many bytes.
 #[tactic(auto, unfolding(crate::specs::ReplyText::reply_line))]
-fn push_name(text: &mut String, command: CommandCode, size: usize) -> Result<(), AllocError>
+pub(crate) fn push_name(
+    text: &mut String,
+    command: CommandCode,
+    size: usize,
+) -> Result<(), AllocError>
     ensures { OnOk result (string_bytes text.new ≡ string_bytes text.old ++ reply_line command size) }
 {
     let name = command.name();
     writeln!(text, "reply {name} size {size}")
 }
 
-fn push_first_handle(text: &mut String, handle: Option<u32>) -> Result<(), AllocError>
+/// Adds the line of a reply's handle, where it has one.
+pub(crate) fn push_first_handle(text: &mut String, handle: Option<u32>) -> Result<(), AllocError>
     ensures { OnOk result (string_bytes text.new ≡ string_bytes text.old ++ reply_handle_line handle) }
 {
     match handle {
@@ -51,7 +58,12 @@ fn push_session(
     )
 }
 
-fn push_sessions(alloc: Global, text: &mut String, areas: &ReplyAreas<'_>) -> Result<(), AllocError>
+/// Adds a line for each session of a reply.
+pub(crate) fn push_sessions(
+    alloc: Global,
+    text: &mut String,
+    areas: &ReplyAreas<'_>,
+) -> Result<(), AllocError>
     ensures { OnOk result (string_bytes text.new ≡ string_bytes text.old ++ lines_from reply_session_line 1 areas.now.auths) }
 {
     for before in 0..areas.auth_count() {

@@ -1,0 +1,6 @@
+use Rattle.tpm_tool.specs.Fields.{field_line}
+use Rattle.tpm_tool.proofs.fields.push_bytes.Goals as goal
+
+pub returns : goal.returns
+unfolding field_line
+returns c = rw (← c.in_ok-bytes.ensures) c.writeln.ensures.bytes

@@ -1,0 +1,147 @@
+-- What `show --fields` prints: each parameter by its name and its type (this profile).
+use Rattle.std.specs.Prelude.{◌≡◌, ℕ, List, [], ◌∷◌, ◌++◌, length, codes as text, Option, Some, None}
+use Rattle.tpm_wire.specs.declared.refusal.Refusal.{Refusal}
+use Rattle.tpm_wire.specs.Buffers.{Layout}
+use Rattle.tpm_wire.specs.Layout.Form.{field}
+use Rattle.tpm_wire.specs.Spelling.{spelling}
+use Rattle.tpm_wire.specs.Path.{Spells, Fault}
+use Rattle.tpm_buffer.specs.declared.code.CommandCode.{CommandCode}
+use Rattle.tpm_buffer.specs.declared.code.CommandCode.TheVariants as codes
+use Rattle.tpm_buffer.specs.declared.command.Command.{Command}
+use Rattle.tpm_buffer.specs.declared.command.CommandBody.{CommandBody}
+use Rattle.tpm_buffer.specs.declared.response.ReplyBody.{ReplyBody}
+use Rattle.tpm_buffer.specs.declared.response.Response.{Response}
+use Rattle.tpm_buffer.specs.declared.response.Response.TheVariants as responses
+use Rattle.tpm_buffer.specs.Parameters.{parameters}
+use Rattle.tpm_buffer.specs.Commands.{command, code_for, params_of}
+use Rattle.tpm_buffer.specs.CommandAreas.{Cut, HasCut}
+use Rattle.tpm_buffer.specs.Replies.{code_for_reply, parameters_of_reply}
+use Rattle.tpm_buffer.specs.ResponseAreas.{handle_of}
+use Rattle.tpm_buffer.specs.Responses.{ReplyCut, reply_cut, response}
+use Rattle.tpm_tool.specs.declared.status.Status.{Status}
+use Rattle.tpm_tool.specs.declared.status.Status.TheVariants.{Done, Refused}
+use Rattle.tpm_tool.specs.Text.{line, lines_from, bytes_in, bytes_text, command_text, parameters_line, refusal_line, not_hexadecimal_line}
+use Rattle.tpm_tool.specs.ReplyText.{reply_line, reply_handle_line, reply_session_line, reply_code_line}
+
+-- ---- the parameters by their names and their types (Part 3, the command table and the response table of each command), where a
+-- plus behind a type, as of TPMT_SYM_DEF+, is no part of its name
+
+pub record Parameter : Type 0 where
+  pub name : List ℕ
+  pub type : List ℕ
+
+abbrev pub named : List ℕ → List ℕ → Parameter
+named name type = record { name = name; type = type }
+
+abbrev pub command_names : CommandCode → List Parameter
+command_names codes.NvUndefineSpace = []
+command_names codes.NvDefineSpace = named (text "auth") (text "TPM2B_AUTH") ∷ named (text "publicInfo") (text "TPM2B_NV_PUBLIC") ∷ []
+command_names codes.NvIncrement = []
+command_names codes.PcrEvent = named (text "eventData") (text "TPM2B_EVENT") ∷ []
+command_names codes.PcrReset = []
+command_names codes.Startup = named (text "startupType") (text "TPM_SU") ∷ []
+command_names codes.NvRead = named (text "size") (text "UINT16") ∷ named (text "offset") (text "UINT16") ∷ []
+command_names codes.FlushContext = named (text "flushHandle") (text "TPMI_DH_CONTEXT") ∷ []
+command_names codes.NvReadPublic = []
+command_names codes.PolicyAuthValue = []
+command_names codes.PolicyCommandCode = named (text "code") (text "TPM_CC") ∷ []
+command_names codes.PolicyOr = named (text "pHashList") (text "TPML_DIGEST") ∷ []
+command_names codes.StartAuthSession =
+    named (text "nonceCaller") (text "TPM2B_NONCE") ∷
+    named (text "encryptedSalt") (text "TPM2B_ENCRYPTED_SECRET") ∷
+    named (text "sessionType") (text "TPM_SE") ∷
+    named (text "symmetric") (text "TPMT_SYM_DEF") ∷
+    named (text "authHash") (text "TPMI_ALG_HASH") ∷
+    []
+command_names codes.PcrRead = named (text "pcrSelectionIn") (text "TPML_PCR_SELECTION") ∷ []
+command_names codes.PolicyPcr = named (text "pcrDigest") (text "TPM2B_DIGEST") ∷ named (text "pcrs") (text "TPML_PCR_SELECTION") ∷ []
+command_names codes.PolicyRestart = []
+command_names codes.PcrExtend = named (text "digests") (text "TPML_DIGEST_VALUES") ∷ []
+command_names codes.PolicyGetDigest = []
+
+abbrev pub reply_names : CommandCode → List Parameter
+reply_names codes.NvUndefineSpace = []
+reply_names codes.NvDefineSpace = []
+reply_names codes.NvIncrement = []
+reply_names codes.PcrEvent = named (text "digests") (text "TPML_DIGEST_VALUES") ∷ []
+reply_names codes.PcrReset = []
+reply_names codes.Startup = []
+reply_names codes.NvRead = named (text "data") (text "TPM2B_MAX_NV_BUFFER") ∷ []
+reply_names codes.FlushContext = []
+reply_names codes.NvReadPublic = named (text "nvPublic") (text "TPM2B_NV_PUBLIC") ∷ named (text "nvName") (text "TPM2B_NAME") ∷ []
+reply_names codes.PolicyAuthValue = []
+reply_names codes.PolicyCommandCode = []
+reply_names codes.PolicyOr = []
+reply_names codes.StartAuthSession = named (text "nonceTPM") (text "TPM2B_NONCE") ∷ []
+reply_names codes.PcrRead =
+    named (text "pcrUpdateCounter") (text "UINT32") ∷
+    named (text "pcrSelectionOut") (text "TPML_PCR_SELECTION") ∷
+    named (text "pcrValues") (text "TPML_DIGEST") ∷
+    []
+reply_names codes.PolicyPcr = []
+reply_names codes.PolicyRestart = []
+reply_names codes.PcrExtend = []
+reply_names codes.PolicyGetDigest = named (text "policyDigest") (text "TPM2B_DIGEST") ∷ []
+
+-- ---- their lines
+
+-- the spelling of each part of a value, in the order of its layout: joined they are the spelling of the value
+abbrev pub parts : {A : Type 0} → Layout A → A → List (List ℕ)
+parts (field get l f) x = spelling l (get x) ∷ parts (f (get x)) x
+parts _ x = []
+
+unfoldable pub field_line : List ℕ → List ℕ → List ℕ → List ℕ
+field_line name type bytes = text "  " ++ line (name ∷ type ∷ bytes_text bytes ∷ [])
+
+abbrev pub field_lines : List Parameter → List (List ℕ) → List ℕ
+field_lines (p ∷ ps) (bytes ∷ others) = field_line p.name p.type bytes ++ field_lines ps others
+field_lines _ _ = []
+
+-- a line for each parameter of a command
+abbrev pub command_fields : CommandBody → List ℕ
+command_fields body = field_lines (command_names (code_for body)) (parts (parameters (code_for body)) (params_of body))
+
+-- a line for each parameter of a reply
+abbrev pub reply_fields : ReplyBody → List ℕ
+reply_fields body = field_lines (reply_names (code_for_reply body)) (parts (parameters_of_reply body) body)
+
+-- ---- the text
+
+-- a command of so many bytes: as it is shown, and its parameters by their names and their types
+unfoldable pub command_fields_text : ℕ → Cut → CommandBody → List ℕ
+command_fields_text size areas body = command_text size areas ++ command_fields body
+
+-- a reply to this command, of so many bytes: as it is shown, with its parameters by their names and their types under their line
+unfoldable pub reply_fields_text : CommandCode → ℕ → ReplyCut → ReplyBody → List ℕ
+reply_fields_text code size r body =
+    reply_line code size ++ (reply_handle_line (handle_of r) ++ (parameters_line r.params ++ (reply_fields body ++ lines_from reply_session_line 1 r.auths)))
+
+abbrev pub response_fields_text : CommandCode → ℕ → ReplyCut → Response → List ℕ
+response_fields_text code size areas (responses.Code n) = reply_code_line n
+response_fields_text code size areas (responses.Done body auths) = reply_fields_text code size areas body
+
+-- ---- what is printed
+
+-- a command that the bytes spell is shown, and else their fault
+abbrev pub ShowsCommand : List ℕ → Status → List ℕ → Type 0
+ShowsCommand bytes Done text = (c : Command) × (areas : Cut) × Spells command c bytes × HasCut bytes areas × (text ≡ command_fields_text (length bytes) areas c.body)
+ShowsCommand bytes Refused text = (refusal : Refusal) × Fault command bytes refusal × (text ≡ refusal_line refusal)
+
+-- a response to this command that the bytes spell is shown, and else their fault
+abbrev pub ShowsReply : CommandCode → List ℕ → Status → List ℕ → Type 0
+ShowsReply code bytes Done text = (r : Response) × (areas : ReplyCut) × Spells (response code) r bytes × Spells (reply_cut code) areas bytes
+    × (text ≡ response_fields_text code (length bytes) areas r)
+ShowsReply code bytes Refused text = (refusal : Refusal) × Fault (response code) bytes refusal × (text ≡ refusal_line refusal)
+
+-- Where a command is named they are a response to it, and else a command.
+abbrev pub ShowsAs : Option CommandCode → List ℕ → Status → List ℕ → Type 0
+ShowsAs None bytes status text = ShowsCommand bytes status text
+ShowsAs (Some code) bytes status text = ShowsReply code bytes status text
+
+abbrev pub ShowsDecoded : Option CommandCode → Option (List ℕ) → Status → List ℕ → Type 0
+ShowsDecoded reply (Some bytes) status text = ShowsAs reply bytes status text
+ShowsDecoded reply None status text = (status ≡ Refused) × (text ≡ not_hexadecimal_line)
+
+-- For this text of digits, read as a response to this command where one is named, this is the status and what is printed.
+abbrev pub ShowsFields : Option CommandCode → List ℕ → Status → List ℕ → Type 0
+ShowsFields reply hex status text = ShowsDecoded reply (bytes_in hex) status text

@@ -1,0 +1,192 @@
+//! The parameters of commands and replies by their names and their types.
+
+ghost use Rattle.std.specs.Prelude.{◌≡◌, ◌++◌, ◌≤◌, OnOk, codes, string_bytes};
+ghost use Rattle.tpm_wire.specs.Spelling.{spelling};
+ghost use Rattle.tpm_wire.specs.Structures.{sized_bytes};
+ghost use Rattle.tpm_buffer.specs.Events.{event_bytes};
+ghost use Rattle.tpm_tool.specs.Fields.{field_line, command_fields, reply_fields};
+
+use crate::hexadecimal::shown_bytes;
+use std::alloc::{AllocError, Global};
+use tpm_buffer::{CommandBody, Event, ReplyBody, StartAuth};
+use tpm_types::EncryptedSalt;
+use tpm_wire::{Buffer, Wire, put_bytes};
+
+// Adds the line of a parameter with this name and this type, of these bytes.
+#[tactic(auto, unfolding(crate::specs::Fields::field_line))]
+fn push_bytes(
+    alloc: Global,
+    text: &mut String,
+    name: &str,
+    kind: &str,
+    bytes: &[u8],
+) -> Result<(), AllocError>
+    ensures { OnOk result (string_bytes text.new ≡ string_bytes text.old ++ field_line name.now kind.now bytes.now) }
+{
+    let bytes = shown_bytes(alloc, bytes)?;
+    writeln!(text, "  {name} {kind} {bytes}")
+}
+
+// Adds the line of a parameter with this name and this type, of this value.
+fn push_field<T: Wire>(
+    alloc: Global,
+    text: &mut String,
+    name: &str,
+    kind: &str,
+    value: &T,
+) -> Result<(), AllocError>
+    requires { T.most ≤ 4096 }
+    ensures { OnOk result (string_bytes text.new ≡ string_bytes text.old ++ field_line name.now kind.now (spelling T.layout value.now)) }
+{
+    // The length is asked for its bound alone.
+    let size = value.len();
+    prove!(size <= 4096);
+    let mut bytes = Buffer::new();
+    value.put(&mut bytes);
+    push_bytes(alloc, text, name, kind, bytes.as_slice())
+}
+
+// Adds the line of an event, which is lent.
+#[tactic(auto, unfolding(tpm_wire::specs::Structures::sized_bytes))]
+fn push_event(alloc: Global, text: &mut String, event: &Event<'_>) -> Result<(), AllocError>
+    ensures { OnOk result (string_bytes text.new ≡ string_bytes text.old ++ field_line (codes "eventData") (codes "TPM2B_EVENT") (spelling (sized_bytes event_bytes) event.now)) }
+{
+    let event = event.as_slice();
+    let mut bytes = Buffer::new();
+    (event.len() as u16).put(&mut bytes);
+    put_bytes(&mut bytes, event);
+    push_bytes(alloc, text, "eventData", "TPM2B_EVENT", bytes.as_slice())
+}
+
+/// Adds a line for each parameter of a command: its name, its type and its bytes (Part 3, the table of the command).
+#[tactic(auto, unfolding(tpm_buffer::specs::Parameters::startup, tpm_buffer::specs::Parameters::nv_define_space, tpm_buffer::specs::Parameters::pcr_event, tpm_buffer::specs::Parameters::nv_read, tpm_buffer::specs::Parameters::flush_context, tpm_buffer::specs::Parameters::policy_command_code, tpm_buffer::specs::Parameters::policy_or, tpm_buffer::specs::Parameters::start_auth_session, tpm_buffer::specs::Parameters::pcr_read, tpm_buffer::specs::Parameters::policy_pcr, tpm_buffer::specs::Parameters::pcr_extend))]
+pub(crate) fn push_command_fields(
+    alloc: Global,
+    text: &mut String,
+    body: &CommandBody<'_>,
+) -> Result<(), AllocError>
+    ensures { OnOk result (string_bytes text.new ≡ string_bytes text.old ++ command_fields body.now) }
+{
+    match body {
+        CommandBody::NvDefineSpace { auth, public } => {
+            push_field(alloc, text, "auth", "TPM2B_AUTH", auth)?;
+            push_field(alloc, text, "publicInfo", "TPM2B_NV_PUBLIC", public)
+        }
+        CommandBody::PcrEvent { event, .. } => push_event(alloc, text, event),
+        CommandBody::Startup(startup_type) => {
+            push_field(alloc, text, "startupType", "TPM_SU", startup_type)
+        }
+        CommandBody::NvRead { size, offset, .. } => {
+            push_field(alloc, text, "size", "UINT16", size)?;
+            push_field(alloc, text, "offset", "UINT16", offset)
+        }
+        CommandBody::FlushContext(session) => {
+            push_field(alloc, text, "flushHandle", "TPMI_DH_CONTEXT", session)
+        }
+        CommandBody::PolicyCommandCode { code, .. } => {
+            push_field(alloc, text, "code", "TPM_CC", code)
+        }
+        CommandBody::PolicyOr { digests, .. } => {
+            push_field(alloc, text, "pHashList", "TPML_DIGEST", digests)
+        }
+        CommandBody::StartAuthSession(start) => {
+            let StartAuth {
+                nonce_caller,
+                session_type,
+                symmetric,
+                auth_hash,
+                ..
+            } = start;
+            push_field(alloc, text, "nonceCaller", "TPM2B_NONCE", nonce_caller)?;
+            push_field(
+                alloc,
+                text,
+                "encryptedSalt",
+                "TPM2B_ENCRYPTED_SECRET",
+                &EncryptedSalt::Empty,
+            )?;
+            push_field(alloc, text, "sessionType", "TPM_SE", session_type)?;
+            push_field(alloc, text, "symmetric", "TPMT_SYM_DEF", symmetric)?;
+            push_field(alloc, text, "authHash", "TPMI_ALG_HASH", auth_hash)
+        }
+        CommandBody::PcrRead(selections) => push_field(
+            alloc,
+            text,
+            "pcrSelectionIn",
+            "TPML_PCR_SELECTION",
+            selections,
+        ),
+        CommandBody::PolicyPcr {
+            pcr_digest,
+            selections,
+            ..
+        } => {
+            push_field(alloc, text, "pcrDigest", "TPM2B_DIGEST", pcr_digest)?;
+            push_field(alloc, text, "pcrs", "TPML_PCR_SELECTION", selections)
+        }
+        CommandBody::PcrExtend { digests, .. } => {
+            push_field(alloc, text, "digests", "TPML_DIGEST_VALUES", digests)
+        }
+        CommandBody::NvUndefineSpace { .. }
+        | CommandBody::NvIncrement { .. }
+        | CommandBody::PcrReset { .. }
+        | CommandBody::NvReadPublic { .. }
+        | CommandBody::PolicyAuthValue { .. }
+        | CommandBody::PolicyRestart { .. }
+        | CommandBody::PolicyGetDigest { .. } => Ok(()),
+    }
+}
+
+/// Adds a line for each parameter of a reply: its name, its type and its bytes (Part 3, the response table of the command).
+#[tactic(auto, unfolding(tpm_buffer::specs::Replies::pcr_event_reply, tpm_buffer::specs::Replies::nv_read_reply, tpm_buffer::specs::Replies::nv_read_public_reply, tpm_buffer::specs::Replies::start_auth_session_reply, tpm_buffer::specs::Replies::pcr_read_reply, tpm_buffer::specs::Replies::policy_get_digest_reply))]
+pub(crate) fn push_reply_fields(
+    alloc: Global,
+    text: &mut String,
+    body: &ReplyBody,
+) -> Result<(), AllocError>
+    ensures { OnOk result (string_bytes text.new ≡ string_bytes text.old ++ reply_fields body.now) }
+{
+    match body {
+        ReplyBody::PcrEvent(digests) => {
+            push_field(alloc, text, "digests", "TPML_DIGEST_VALUES", digests)
+        }
+        ReplyBody::NvRead(data) => push_field(alloc, text, "data", "TPM2B_MAX_NV_BUFFER", data),
+        ReplyBody::NvReadPublic { public, name } => {
+            push_field(alloc, text, "nvPublic", "TPM2B_NV_PUBLIC", public)?;
+            push_field(alloc, text, "nvName", "TPM2B_NAME", name)
+        }
+        ReplyBody::StartAuthSession(reply) => {
+            push_field(alloc, text, "nonceTPM", "TPM2B_NONCE", &reply.nonce_tpm)
+        }
+        ReplyBody::PcrRead {
+            update_counter,
+            selections,
+            digests,
+        } => {
+            push_field(alloc, text, "pcrUpdateCounter", "UINT32", update_counter)?;
+            push_field(
+                alloc,
+                text,
+                "pcrSelectionOut",
+                "TPML_PCR_SELECTION",
+                selections,
+            )?;
+            push_field(alloc, text, "pcrValues", "TPML_DIGEST", digests)
+        }
+        ReplyBody::PolicyGetDigest(digest) => {
+            push_field(alloc, text, "policyDigest", "TPM2B_DIGEST", digest)
+        }
+        ReplyBody::NvUndefineSpace
+        | ReplyBody::NvDefineSpace
+        | ReplyBody::NvIncrement
+        | ReplyBody::PcrReset
+        | ReplyBody::Startup
+        | ReplyBody::FlushContext
+        | ReplyBody::PolicyAuthValue
+        | ReplyBody::PolicyCommandCode
+        | ReplyBody::PolicyOr
+        | ReplyBody::PolicyPcr
+        | ReplyBody::PolicyRestart
+        | ReplyBody::PcrExtend => Ok(()),
+    }
+}
