@@ -7,8 +7,6 @@ mod kdf;
 mod laws;
 mod mac;
 mod session;
-#[cfg(test)]
-mod tests;
 
 pub use bytes::{same, trim};
 pub use hashing::hash;

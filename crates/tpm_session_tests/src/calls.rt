@@ -1,6 +1,6 @@
-//! Commands on sessions, as they lie in bytes.
+//! Commands on sessions, and what sessions are asked for.
 
-use crate::texts::bytes;
+use crate::texts::{bytes, number, word};
 use std::process::Abort;
 use std::test::*;
 use tpm_buffer::{CommandBody, decode_command};
@@ -19,31 +19,36 @@ pub const FRESH: [u8; NONCE_BYTES] = [
     0x30, 0x31, 0x32, 0x33, 0x34, 0x35, 0x36, 0x37, 0x38, 0x39, 0x3A, 0x3B, 0x3C, 0x3D, 0x3E, 0x3F,
 ];
 
-/// TPM2_StartAuthSession of a policy session of SHA-256, bound to nothing.
-pub const POLICY: &str =
-    "8001 0000002b 00000176 40000007 40000007 0010 a0a1a2a3a4a5a6a7a8a9aaabacadaeaf 0000 01 0010 000b";
-
-/// The same of a trial.
-pub const TRIAL: &str =
-    "8001 0000002b 00000176 40000007 40000007 0010 a0a1a2a3a4a5a6a7a8a9aaabacadaeaf 0000 03 0010 000b";
-
 /// The session of this handle.
-pub fn session(rt: &impl Abort, number: u32) -> SessionHandle {
-    SessionHandle::from_number(number).expect(rt, "a session")
+pub fn session(rt: &impl Abort, text: &str) -> SessionHandle {
+    SessionHandle::from_number(number(rt, text)).expect(rt, text)
+}
+
+// The policy session of this handle.
+fn policy(rt: &impl Abort, text: &str) -> PolicyHandle {
+    PolicyHandle::from_number(number(rt, text)).expect(rt, text)
 }
 
 /// The code that a command on sessions is answered with, 0 where it is done.
 pub fn answer(rt: &impl Abort, sessions: &mut Sessions, registers: &Registers, text: &str) -> u32 {
     let bytes = bytes(rt, text);
-    let command = match decode_command(bytes.as_slice()) {
-        Ok(command) => command,
-        Err(refusal) => return refusal.code,
+    let done = match decode_command(bytes.as_slice()) {
+        Ok(command) => done(sessions, registers, &command.body),
+        Err(refusal) => Err(refusal.code),
     };
-    let done = match &command.body {
-        CommandBody::StartAuthSession(start) => match sessions.start(start, OWNER, &FRESH) {
-            Ok(_) => Ok(()),
-            Err(code) => Err(code),
-        },
+    match done {
+        Ok(()) => 0,
+        Err(code) => code,
+    }
+}
+
+// Has a command on sessions done, with any other answered by a code that none has.
+fn done(sessions: &mut Sessions, registers: &Registers, body: &CommandBody) -> Result<(), u32> {
+    match body {
+        CommandBody::StartAuthSession(start) => {
+            sessions.start(start, OWNER, &FRESH)?;
+            Ok(())
+        }
         CommandBody::FlushContext(session) => sessions.flush(*session),
         CommandBody::PolicyRestart { session } => sessions.restart(*session),
         CommandBody::PolicyAuthValue { session } => sessions.policy_auth_value(*session),
@@ -56,49 +61,81 @@ pub fn answer(rt: &impl Abort, sessions: &mut Sessions, registers: &Registers, t
             pcr_digest,
             selections,
         } => sessions.policy_pcr(*session, pcr_digest, selections, registers),
-        _ => panic!(rt; "no command on sessions"),
-    };
-    match done {
-        Ok(()) => 0,
-        Err(code) => code,
+        _ => Err(u32::MAX),
     }
 }
 
-/// The registers after a TPM2_PCR_Extend.
-pub fn extend(rt: &impl Abort, registers: &mut Registers, text: &str) {
+/// Whether this TPM2_StartAuthSession is answered with this handle and the first bytes of what is handed in.
+pub fn is_started(rt: &impl Abort, sessions: &mut Sessions, handle: u32, text: &str) -> bool {
     let bytes = bytes(rt, text);
-    let command = decode_command(bytes.as_slice())
-        .ok()
-        .expect(rt, "a command");
+    let command = decode_command(bytes.as_slice()).ok().expect(rt, text);
+    let CommandBody::StartAuthSession(start) = &command.body else {
+        return false;
+    };
+    match sessions.start(start, OWNER, &FRESH) {
+        Ok(reply) => {
+            reply.session.number() == handle && reply.nonce_tpm.as_slice() == &FRESH[..16]
+        }
+        Err(_) => false,
+    }
+}
+
+/// Whether this TPM2_PCR_Extend is done.
+pub fn extend(rt: &impl Abort, registers: &mut Registers, text: &str) -> bool {
+    let bytes = bytes(rt, text);
+    let command = decode_command(bytes.as_slice()).ok().expect(rt, text);
     match &command.body {
         CommandBody::PcrExtend {
             register: PcrOrNull::Pcr(register),
             digests,
-        } => assert!(rt; registers.extend(*register, digests).is_ok()),
-        _ => panic!(rt; "no TPM2_PCR_Extend"),
+        } => registers.extend(*register, digests).is_ok(),
+        _ => false,
     }
 }
 
-/// The policy digest of the session in slot 0.
-pub fn has_digest(rt: &impl Abort, sessions: &Sessions, expected: &str) {
-    let session = PolicyHandle::from_number(0x0300_0000).expect(rt, "a policy session");
-    match sessions.policy_digest(session) {
-        Ok(digest) => {
-            assert_eq!(rt;
-                digest.as_slice(),
-                bytes(rt, expected).as_slice(),
-                "{expected}"
-            )
-        }
-        Err(code) => panic!(rt; "refused {code:03x}"),
-    }
-}
-
-/// After a command that the session authorized, with continueSession: its nonce is the first of zeros.
-pub fn authorized(rt: &impl Abort, sessions: &mut Sessions, number: u32) {
-    let session = session(rt, number);
+/// After a command that the session authorized, with a nonce of zeros. Whether it was loaded.
+pub fn rolls(sessions: &mut Sessions, session: SessionHandle, keep: bool) -> bool {
     if sessions.get(session).is_none() {
-        panic!(rt; "not loaded");
+        return false;
     }
-    sessions.roll(session, &[0; NONCE_BYTES], true);
+    sessions.roll(session, &[0; NONCE_BYTES], keep);
+    true
+}
+
+/// Whether the policy session in slot 0 has this policy digest.
+pub fn has_digest(rt: &impl Abort, sessions: &Sessions, expected: &str) -> bool {
+    match sessions.policy_digest(policy(rt, "03000000")) {
+        Ok(digest) => digest.as_slice() == bytes(rt, expected).as_slice(),
+        Err(_) => false,
+    }
+}
+
+/// Whether the policy digest of this session is refused with this code.
+pub fn has_no_digest(rt: &impl Abort, sessions: &Sessions, rest: &str) -> bool {
+    let mut rest = rest;
+    let session = policy(rt, word(&mut rest));
+    sessions.policy_digest(session).err() == Some(number(rt, rest))
+}
+
+/// Whether the session of this handle has this hash and this key.
+pub fn has_key(rt: &impl Abort, sessions: &Sessions, rest: &str) -> bool {
+    let mut rest = rest;
+    let session = session(rt, word(&mut rest));
+    let hash = number(rt, word(&mut rest));
+    let key = bytes(rt, rest);
+    match sessions.get(session) {
+        Some(held) => held.hash().number() as u32 == hash && held.key() == key.as_slice(),
+        None => false,
+    }
+}
+
+/// Whether the session of this handle has this nonce.
+pub fn has_nonce(rt: &impl Abort, sessions: &Sessions, rest: &str) -> bool {
+    let mut rest = rest;
+    let session = session(rt, word(&mut rest));
+    let nonce = bytes(rt, rest);
+    match sessions.get(session) {
+        Some(held) => held.nonce() == nonce.as_slice(),
+        None => false,
+    }
 }

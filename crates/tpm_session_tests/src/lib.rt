@@ -1,5 +1,5 @@
-//! What sessions hold and assert, and which of them authorize a command, beside what is proved of them. The expected MACs are those of Python's hmac module over the
-//! texts of Part 1, "HMAC Computation".
+//! What registers, counters and sessions hold and assert, which sessions authorize a command, and the hashes and MACs under them,
+//! beside what is proved of them.
 #![tactic(auto)]
 
 #[cfg(test)]
@@ -7,8 +7,16 @@ mod authorize;
 #[cfg(test)]
 mod calls;
 #[cfg(test)]
+mod hashes;
+#[cfg(test)]
+mod macs;
+#[cfg(test)]
 mod policies;
 #[cfg(test)]
+mod scripts;
+#[cfg(test)]
 mod sessions;
+#[cfg(test)]
+mod stores;
 #[cfg(test)]
 mod texts;

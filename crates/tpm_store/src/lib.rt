@@ -4,8 +4,6 @@
 mod banks;
 mod counters;
 mod registers;
-#[cfg(test)]
-mod tests;
 
 pub use counters::{By, COUNTER_BYTES, Counters, MOST_COUNTERS};
 pub use registers::{Locality, Registers, event_digests};
