@@ -24,7 +24,7 @@ use Rattle.tpm_buffer.proofs.Longer.{in_set}
 use Rattle.tpm_model.specs.Sessions.{Session, loaded}
 use Rattle.tpm_model.specs.Present.{Present}
 use Rattle.tpm_model.specs.Entities.{Entity, entity_of, names_of}
-use Rattle.tpm_model.specs.Authorization.{refuse as test, Evidence, Authorizer, Password, by_session, check_session, check_entity, evidence_by, check_evidence, first_loaded, authorize}
+use Rattle.tpm_model.specs.Authorization.{refuse as test, Evidence, Authorizer, Password, by_session, check_session, check_entity, evidence_by, check_evidence, first_loaded, authorize, reply_auths}
 use Rattle.tpm_model.specs.Answers.{check_tag, evidence_in}
 use Rattle.tpm_model.proofs.Sealing.{okay_is}
 use Rattle.tpm_device.specs.Stands.{evidence_for, sessions_checked, owner_authorizes}
@@ -167,3 +167,22 @@ pub is_loaded : (p : Present) (x : Cut) (a : Auth) (others : List Auth) (e : Evi
 is_loaded p x a others e gives are is =
     it_is (a.session == rs_pw) (loaded p.sessions a.session) _ e (no_password a.session is)
     (ap (λ (auths : List Auth). evidence_in p x.header.code x.handles x.params auths) (sym are) ∙ gives)
+
+-- ---- the reply to a password
+
+password_gives : (is : Bool) (s : Option Session) (e : Entity) (code : CommandCode) (names : List (List ℕ)) (params : List ℕ) (counter : ℕ) (a : Auth) (more : List Auth) (x : Evidence) → is ≡ true
+    → ((if is then Ok Password else by_session s) >>= λ by. (check_session by a more >>= λ _. (check_entity by e code counter >>= λ _. Ok (evidence_by by e code names params a)))) ≡ Ok x
+    → evidence_by Password e code names params a ≡ x
+password_gives false s e code names params counter a more x is gives = absurd (let z : ⊥ = cc in z)
+password_gives true s e code names params counter a more x is gives =
+    let session = bind_ok (check_session Password a more) (λ _. (check_entity Password e code counter >>= λ _. Ok (evidence_by Password e code names params a))) x gives in
+    let entity = bind_ok (check_entity Password e code counter) (λ _. Ok (evidence_by Password e code names params a)) x session.2 in
+    okay_is {E = ℕ} (evidence_by Password e code names params a) x entity.2
+
+-- A password covers no parameters.
+pub reply_covers_none : (p : Present) (x : Cut) (a : Auth) (others : List Auth) (e : Evidence) (code : CommandCode) (params more nonce : List ℕ) → (a.session == rs_pw) ≡ true → x.auths ≡ a ∷ others → evidence_for p x ≡ Ok e
+    → reply_auths e code params nonce ≡ reply_auths e code more nonce
+reply_covers_none p x a others e code params more nonce is are gives =
+    let by = password_gives (a.session == rs_pw) (loaded p.sessions a.session) (entity_of p (first x.handles)) x.header.code (names_of p x.handles) x.params p.registers.update_counter a others e is
+    (ap (λ (auths : List Auth). evidence_in p x.header.code x.handles x.params auths) (sym are) ∙ gives) in
+    subst (λ (y : Evidence). reply_auths y code params nonce ≡ reply_auths y code more nonce) by refl

@@ -113,8 +113,9 @@ impl Device {
     {
         let mut body = ReplyBody::Startup;
         self.act(areas.handles(), params, nonce, &mut body)?;
-        self.put_done(&body, areas, nonce, out);
-        self.roll(areas, nonce);
+        let auth = areas.auth(0);
+        self.put_done(&body, areas, &auth, nonce, out);
+        self.roll(areas, &auth, nonce);
         Ok(())
     }
 

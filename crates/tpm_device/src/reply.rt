@@ -1,6 +1,6 @@
 //! The response.
 
-ghost use Rattle.std.specs.Prelude.{◌≡◌, ◌<◌, true, false, List, [], ◌∷◌, length, Some, None, Ok, Err, IsSome, if◌then◌else◌};
+ghost use Rattle.std.specs.Prelude.{◌≡◌, ◌<◌, true, false, List, [], ◌∷◌, length, Some, None, Ok, Err, IsSome, slice_get, if◌then◌else◌};
 ghost use Rattle.tpm_types.specs.declared.tpms.Auth.{Auth};
 ghost use Rattle.tpm_types.specs.declared.tpms.AuthReply.{AuthReply as ReplyOf};
 ghost use Rattle.tpm_types.specs.Handles.{is_session};
@@ -19,7 +19,7 @@ ghost use Rattle.tpm_device.specs.Stands.{Stands, step_of, evidence_for, IsAlike
 use crate::device::Device;
 use crate::handles::first;
 use tpm_buffer::{Areas, AuthRef, ErrorCode, ReplyBody, put_code, put_reply, put_reply_params};
-use tpm_types::{AuthReply, SessionHandle};
+use tpm_types::{AuthReply, RS_PW, SessionHandle};
 use tpm_wire::Buffer;
 
 /// Adds the response that is this code.
@@ -42,46 +42,77 @@ fn session_of(auth: &AuthRef<'_>) -> Option<SessionHandle>
 }
 
 impl Device {
-    // The session of the reply. The empty buffer serves for the parameters that its HMAC covers.
+    // The session of a reply with these parameters.
+    fn reply_session(
+        &self,
+        auth: &AuthRef<'_>,
+        areas: &Areas<'_>,
+        params: &[u8],
+        nonce: &[u8; 64],
+    ) -> AuthReply
+        ensures { (p : Present) (e : Evidence) (others : List Auth) → IsAlike p self.now (first_of areas.now.handles) → areas.now.auths ≡ auth.now ∷ others →
+            evidence_for p areas.now ≡ Ok e → reply_auths e areas.now.header.code params.now nonce.now ≡ result ∷ [] }
+    {
+        let entity = self.entity(first(areas.handles()));
+        self.sessions
+            .reply_auth(auth, &entity, areas.code(), params, nonce)
+    }
+
+    // That of a session, whose HMAC covers the parameters. They are written into a buffer of their own, and not into the answer's:
+    // what is hashed lends its address, and a buffer whose address was lent is copied as it is returned. It is out of line, since
+    // a password needs no such buffer.
+    #[inline(never)]
+    fn sealed(
+        &self,
+        auth: &AuthRef<'_>,
+        areas: &Areas<'_>,
+        body: &ReplyBody,
+        nonce: &[u8; 64],
+    ) -> AuthReply
+        ensures { (p : Present) (e : Evidence) (others : List Auth) → IsAlike p self.now (first_of areas.now.handles) → areas.now.auths ≡ auth.now ∷ others →
+            evidence_for p areas.now ≡ Ok e → reply_auths e areas.now.header.code (reply_params body.now) nonce.now ≡ result ∷ [] }
+    {
+        let mut params = Buffer::new();
+        put_reply_params(body, &mut params);
+        self.reply_session(auth, areas, params.as_slice(), nonce)
+    }
+
+    // The session of the reply. A password covers no parameters.
     fn acknowledgment(
         &self,
         auth: &AuthRef<'_>,
         areas: &Areas<'_>,
         body: &ReplyBody,
         nonce: &[u8; 64],
-        scratch: &mut Buffer,
     ) -> AuthReply
-        requires { length scratch.old.items ≡ 0 }
-        ensures reply { (p : Present) (e : Evidence) (others : List Auth) → IsAlike p self.now (first_of areas.now.handles) → areas.now.auths ≡ auth.now ∷ others →
+        ensures { (p : Present) (e : Evidence) (others : List Auth) → IsAlike p self.now (first_of areas.now.handles) → areas.now.auths ≡ auth.now ∷ others →
             evidence_for p areas.now ≡ Ok e → reply_auths e areas.now.header.code (reply_params body.now) nonce.now ≡ result ∷ [] }
-        ensures empty { length scratch.new.items ≡ 0 }
     {
-        put_reply_params(body, scratch);
-        let entity = self.entity(first(areas.handles()));
-        let reply = self
-            .sessions
-            .reply_auth(auth, &entity, areas.code(), scratch.as_slice(), nonce);
-        scratch.clear();
-        reply
+        if auth.session().number() == RS_PW {
+            return self.reply_session(auth, areas, &[], nonce);
+        }
+        self.sealed(auth, areas, body, nonce)
     }
 
-    /// Adds the reply to a command that has acted, and whose session has not rolled yet.
+    /// Adds the reply to a command that has acted, whose first session this is, and which has not rolled yet.
     pub(crate) fn put_done(
         &self,
         body: &ReplyBody,
         areas: &Areas<'_>,
+        auth: &Option<AuthRef<'_>>,
         nonce: &[u8; 64],
         out: &mut Buffer,
     )
-        requires { length out.old.items ≡ 0 }
+        requires own { auth.now ≡ slice_get areas.now.auths 0 }
+        requires empty { length out.old.items ≡ 0 }
         ensures bytes { (p : Present) (e : Evidence) → ((a : Auth) (others : List Auth) → areas.now.auths ≡ a ∷ others → IsAlike p self.now (first_of areas.now.handles)) → evidence_for p areas.now ≡ Ok e →
             out.new.items ≡ reply_bytes (record { body = body.now; auths = reply_auths e areas.now.header.code (reply_params body.now) nonce.now }) }
         ensures done { code_in out.new.items ≡ 0 }
     {
-        match areas.auth(0) {
+        match auth {
             None => put_reply(body, &[], out),
             Some(auth) => {
-                let reply = self.acknowledgment(&auth, areas, body, nonce, out);
+                let reply = self.acknowledgment(auth, areas, body, nonce);
                 put_reply(body, &[reply], out);
             }
         }
@@ -99,14 +130,15 @@ impl Device {
         }
     }
 
-    /// After a command with these sessions that was done and answered.
-    pub(crate) fn roll(&mut self, areas: &Areas<'_>, nonce: &[u8; 64])
-        requires { (a : Auth) (others : List Auth) → areas.now.auths ≡ a ∷ others → is_session a.session ≡ true → IsSome (loaded self.old.sessions a.session) }
+    /// After a command with these sessions, of which this is the first, that was done and answered.
+    pub(crate) fn roll(&mut self, areas: &Areas<'_>, auth: &Option<AuthRef<'_>>, nonce: &[u8; 64])
+        requires own { auth.now ≡ slice_get areas.now.auths 0 }
+        requires loaded { (a : Auth) (others : List Auth) → areas.now.auths ≡ a ∷ others → is_session a.session ≡ true → IsSome (loaded self.old.sessions a.session) }
         ensures { (o : Origin) (h : History) (body : CommandBody) (reply : BodyOf) (replied : List ReplyOf) → (needs_authorization (code_for body) ≡ false → areas.now.auths ≡ []) →
             Stands o (step_of body reply nonce.now ∷ h) self.old → Stands o (Accepted (with_auths body areas.now.auths) (record { body = reply; auths = replied }) nonce.now ∷ h) self.new }
     {
-        match areas.auth(0) {
-            Some(auth) => self.roll_session(&auth, nonce),
+        match auth {
+            Some(auth) => self.roll_session(auth, nonce),
             None => {}
         }
     }

@@ -10,8 +10,8 @@ use Rattle.tpm_device.proofs.Further.{needs_it}
 use Rattle.tpm_device.proofs.Passing.{code_again, done_told, done_stands}
 use Rattle.tpm_device.proofs.device.Device.done.Goals as goal
 
-pub roll-requires : goal.roll-requires
-roll-requires c = λ a others are is.
+pub roll-requires-clause-loaded : goal.roll-requires-clause-loaded
+roll-requires-clause-loaded c = λ a others are is.
     let x = c.args.areas.now in
     let needs = ap needs_authorization c.requires.own ∙ needs_it (needs_authorization x.header.code) x.auths a others c.requires.admitted.sessions are in
     rw (c.act.ensures.sessions needs) (is_loaded (holds c.args.self.now) x a others c.requires.evidence.0 c.requires.evidence.1 are is)

@@ -15,6 +15,6 @@ returns-in-Some-clause-done c = ap code_in c.put_reply-in-Some.ensures.bytes ∙
 pub returns-in-Some-clause-bytes : goal.returns-in-Some-clause-bytes
 returns-in-Some-clause-bytes c = λ p e alike gives.
     let a = c.in-Some.auth in
-    let split = first_auth c.args.areas.now.auths a c.in-Some.ensures in
+    let split = first_auth c.args.areas.now.auths a (sym c.in-Some.is ∙ c.requires.own) in
     c.put_reply-in-Some.ensures.bytes ∙ ap (λ (auths : List AuthReply). reply_bytes (record { body = c.args.body.now; auths = auths }))
-    (sym (c.acknowledgment-reply.ensures.reply p e split.0 (alike a split.0 split.1) split.1 gives))
+    (sym (c.acknowledgment-reply.ensures p e split.0 (alike a split.0 split.1) split.1 gives))
