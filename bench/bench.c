@@ -22,6 +22,9 @@ size_t tpm_bench_encode_command(const uint8_t *bytes, size_t len, uint32_t times
 size_t tpm_bench_push_frames(const uint8_t *stream, size_t len, size_t most, uint8_t *out, size_t out_len);
 size_t tpm_bench_execute(const uint8_t *bytes, size_t len, uint32_t times, uint8_t *out, size_t out_len);
 uint32_t tpm_bench_authorize(const uint8_t *bytes, size_t len, uint32_t times);
+uint32_t tpm_bench_seal(uint32_t times);
+uint32_t tpm_bench_open(uint32_t times);
+uint32_t tpm_bench_both_ends(uint32_t times);
 size_t tpm_bench_size(uint32_t which);
 size_t tpm_bench_read_frames(const uint8_t *stream, size_t len, size_t most, uint8_t *out, size_t out_len);
 
@@ -269,6 +272,34 @@ static size_t hashes_of_authorize(size_t argument, uint8_t *out) {
     return tpm_bench_hash(SHA256_ALG, cp_hashed, CP_HASHED, out, OUT) + tpm_bench_hmac(SHA256_ALG, key, 0, mac_text, MAC_TEXT, out, OUT);
 }
 
+// The caller's end of a session, and both ends: each answers that it was done each time.
+static size_t seal(size_t argument, uint8_t *out) {
+    (void)argument, (void)out;
+    return tpm_bench_seal(TIMES) == TIMES;
+}
+
+static size_t open_reply(size_t argument, uint8_t *out) {
+    (void)argument, (void)out;
+    return tpm_bench_open(TIMES) == TIMES;
+}
+
+static size_t both_ends(size_t argument, uint8_t *out) {
+    (void)argument, (void)out;
+    return tpm_bench_both_ends(TIMES) == TIMES;
+}
+
+// What opening the reply hashes, by the library: rpHash, of two numbers, and the HMAC.
+static size_t hashes_of_open(size_t argument, uint8_t *out) {
+    (void)argument;
+    return tpm_bench_hash(SHA256_ALG, cp_hashed, 4 + 4, out, OUT) + tpm_bench_hmac(SHA256_ALG, key, KEY, mac_text, MAC_TEXT, out, OUT);
+}
+
+// Sealing hashes what the device's check does, and opening what its reply does; the device extends besides.
+static size_t hashes_of_both_ends(size_t argument, uint8_t *out) {
+    size_t len = hashes_of_authorize(argument, out) + hashes_of_authorize(argument, out);
+    return len + hashes_of_open(argument, out) + hashes_of_open(argument, out) + hashes_of_extend(argument, out);
+}
+
 static size_t copy_buffer(size_t which, uint8_t *out) {
     memcpy(out, buffers[which].bytes, buffers[which].len);
     return buffers[which].len;
@@ -321,6 +352,9 @@ static struct row rows[] = {
     {"execute PCR_Extend, 3 banks", PCR_EXTEND_ALL, {execute, TIMES}, {hashes_of_extend_all}, 1},
     {"execute PCR_Event, 4 bytes", PCR_EVENT, {execute, TIMES}, {hashes_of_event}, 1},
     {"authorize PCR_Extend", PCR_EXTEND_SIGNED, {authorize, TIMES}, {hashes_of_authorize}, 1},
+    {"seal PCR_Extend", PCR_EXTEND_SIGNED, {seal, TIMES}, {hashes_of_authorize}, 1},
+    {"open reply of PCR_Extend", PCR_EXTEND_SIGNED, {open_reply, TIMES}, {hashes_of_open}, 1},
+    {"PCR_Extend at both ends", PCR_EXTEND_SIGNED, {both_ends, TIMES}, {hashes_of_both_ends}, 1},
     {"Framer, pieces of 1", 1, {push_frames}, {copy_stream}},
     {"Framer, pieces of 64", 64, {push_frames}, {copy_stream}},
     {"Framer, pieces of 4,096", 4096, {push_frames}, {copy_stream}},
