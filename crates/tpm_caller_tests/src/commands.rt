@@ -4,11 +4,11 @@ use crate::sessions::{bound, bound_by_sha1, bytes, nonce, unbound};
 use arrayvec::ArrayVec;
 use std::process::Abort;
 use std::test::*;
-use tpm_buffer::CommandBody;
+use tpm_buffer::{CommandBody, Event};
 use tpm_caller::{Caller, Waiting};
 use tpm_types::{
-    Alg, DigestValues, HashedDigest, Name, Nonce, NvAuthHandle, NvIndex, PcrIndex, PcrOrNull,
-    name_of_handle,
+    Alg, AuthValue, Digest, DigestValues, HashedDigest, Name, Nonce, NvAttrs, NvAuthHandle,
+    NvIndex, NvPublic, PcrIndex, PcrOrNull, RH_OWNER, name_of_handle,
 };
 
 /// The nonceCallers of two commands.
@@ -28,8 +28,21 @@ const EXTEND_17: &str =
 const INCREMENT: &str =
     "8002000000530000013401800001018000010000003d020000010014111111111111111111111111111111111111111101002022f63486c79cf74a2a26e998f668fe82519b794e2ee9c4c576f27166a46accbc";
 
-// The Name of that index.
-const INDEX_NAME: &str = "000b6cc3923be0a3f8fb590381ef572345c85bdc934addbf43f628136f1405b85fd6";
+/// The attributes of the counter 01800001: it is written and read by the owner and by its authorization value, whose failures are not
+/// counted.
+pub const COUNTER: u32 = 0x0206_0016;
+
+/// Its Name: the number of SHA-256, and the hash of its public area.
+pub const COUNTER_NAME: &str =
+    "000b6cc3923be0a3f8fb590381ef572345c85bdc934addbf43f628136f1405b85fd6";
+
+/// Its Name with TPMA_NV_WRITTEN.
+pub const WRITTEN_NAME: &str =
+    "000b07ee786a71c60bb938983992b82875024062d8448ca92c1ceac2c7956b686103";
+
+/// The Name without TPMA_NV_NO_DA, where the attributes are 00060016.
+pub const COUNTED_NAME: &str =
+    "000bac5735bbf7e6583829466f6d08c77c88080191fb8f42a6997f72e77920542de1";
 
 // TPM2_PCR_Reset of register 16 in the session of SHA-1, with the second nonce and seventy bytes 61 behind the session key: the key is
 // longer than a block.
@@ -68,20 +81,61 @@ pub fn reset(rt: &impl Abort, caller: Caller, auth: &[u8], nonce: Nonce, keep: b
     )
 }
 
-// TPM2_NV_Increment of the index by itself, whose authorization value is this.
-fn increment(rt: &impl Abort, auth: &[u8]) -> Waiting {
-    let index = NvIndex::from_number(0x0180_0001).expect(rt, "an index");
-    let name = bytes(rt, INDEX_NAME);
+fn counter(rt: &impl Abort) -> NvIndex {
+    NvIndex::from_number(0x0180_0001).expect(rt, "an index")
+}
+
+/// TPM2_NV_DefineSpace of the counter with these attributes and the authorization value 6100, by the owner.
+pub fn define(rt: &impl Abort, caller: Caller, attributes: u32, auth: &[u8]) -> Waiting {
     let mut names = ArrayVec::new();
-    names.push(Name::new(name.as_slice()).expect(rt, "a Name"));
-    names.push(Name::new(name.as_slice()).expect(rt, "a Name"));
-    unbound(rt).seal(
-        CommandBody::NvIncrement {
-            by: NvAuthHandle::Index(index),
-            index,
+    names.push(name_of_handle(RH_OWNER));
+    caller.seal(
+        CommandBody::NvDefineSpace {
+            auth: AuthValue::new(b"a\0").expect(rt, "a value"),
+            public: NvPublic {
+                index: counter(rt),
+                alg: Alg::Sha256,
+                attrs: NvAttrs::from_number(attributes).expect(rt, "attributes"),
+                policy: Digest::default(),
+                data_size: 8,
+            },
         },
         names,
         auth,
+        nonce(rt, FIRST),
+        true,
+    )
+}
+
+/// TPM2_NV_Increment of the counter by itself, under this Name and this authorization value.
+pub fn increment(rt: &impl Abort, caller: Caller, name: &str, auth: &[u8]) -> Waiting {
+    let name = bytes(rt, name);
+    let mut names = ArrayVec::new();
+    names.push(Name::new(name.as_slice()).expect(rt, "a Name"));
+    names.push(Name::new(name.as_slice()).expect(rt, "a Name"));
+    caller.seal(
+        CommandBody::NvIncrement {
+            by: NvAuthHandle::Index(counter(rt)),
+            index: counter(rt),
+        },
+        names,
+        auth,
+        nonce(rt, FIRST),
+        true,
+    )
+}
+
+/// TPM2_PCR_Event of register 0.
+pub fn event(rt: &impl Abort, caller: Caller, measured: &[u8]) -> Waiting {
+    let mut names = ArrayVec::new();
+    names.push(name_of_handle(0));
+    caller.seal(
+        CommandBody::PcrEvent {
+            register: PcrOrNull::Pcr(PcrIndex::default()),
+            event: Event::new(measured).expect(rt, "an event"),
+        },
+        names,
+        &[],
         nonce(rt, FIRST),
         true,
     )
@@ -97,9 +151,11 @@ fn commands_are_sealed_as_python_does(rt: HostRuntime) {
 
 #[test]
 fn a_trailing_zero_is_no_part_of_a_value(rt: HostRuntime) {
-    assert!(rt; increment(&rt, b"a").bytes() == bytes(&rt, INCREMENT).as_slice());
-    assert!(rt; increment(&rt, b"a\0").bytes() == bytes(&rt, INCREMENT).as_slice());
-    assert!(rt; increment(&rt, b"").bytes() != bytes(&rt, INCREMENT).as_slice());
+    let expected = bytes(&rt, INCREMENT);
+    let sealed = increment(&rt, unbound(&rt), COUNTER_NAME, b"a");
+    assert!(rt; sealed.bytes() == expected.as_slice());
+    let padded = increment(&rt, unbound(&rt), COUNTER_NAME, b"a\0");
+    assert!(rt; padded.bytes() == expected.as_slice());
 }
 
 #[test]

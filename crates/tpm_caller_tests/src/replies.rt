@@ -22,10 +22,11 @@ const RESET: &str =
 const IS_RESET: &str =
     "800200000043000000000000000000100000000000000000000000000000000400002047f6d7d5f06a4f7bc908cd6c41674dfd820cbe3a6c3e87dd3057b1bfa7c9d2b0";
 
-// Response codes: a wrong HMAC, and a register that is not for locality 0.
+// The response code of a wrong HMAC.
 const BAD_AUTH: &str = "80010000000a000009a2";
 
-const LOCALITY: &str = "80010000000a00000907";
+// The beginning of a reply, which is shorter than it says.
+const CUT: &str = "8002000000420000000000000000";
 
 // A success without a session.
 const UNSIGNED: &str = "80010000000a00000000";
@@ -34,103 +35,89 @@ fn first(rt: &impl Abort) -> Waiting {
     extend(rt, bound(rt), 0, nonce(rt, FIRST))
 }
 
-// What the bytes are opened as: a response of code 0 to TPM2_PCR_Extend, and the caller.
-fn opened(rt: &impl Abort, waiting: Waiting, text: &str) -> Option<Caller> {
-    let (caller, response) = waiting
-        .open(bytes(rt, text).as_slice())
-        .ok()
-        .expect(rt, "opened");
+/// What the bytes are opened as: the caller, and what is answered in its one session.
+pub fn opened(rt: &impl Abort, waiting: Waiting, reply: &[u8]) -> (Option<Caller>, ReplyBody) {
+    let (caller, response) = waiting.open(reply).ok().expect(rt, "opened");
     match response {
         Response::Done { body, auths } => {
             assert!(rt; auths.len() == 1);
-            match body {
-                ReplyBody::PcrExtend | ReplyBody::PcrReset => caller,
-                _ => panic!(rt; "another reply"),
-            }
+            (caller, body)
         }
         Response::Code(_) => panic!(rt; "a code"),
     }
 }
 
-// The fault of bytes that are not opened.
-fn fault(rt: &impl Abort, waiting: Waiting, text: &str) -> (Waiting, CallerFault) {
-    match waiting.open(bytes(rt, text).as_slice()) {
+/// The caller after a reply that is opened, which kept the session.
+pub fn kept(rt: &impl Abort, waiting: Waiting, reply: &[u8]) -> Caller {
+    let (caller, _body) = opened(rt, waiting, reply);
+    caller.expect(rt, "a caller that is kept")
+}
+
+/// The fault of bytes that are not opened.
+pub fn fault(rt: &impl Abort, waiting: Waiting, reply: &[u8]) -> (Waiting, CallerFault) {
+    match waiting.open(reply) {
         Ok(_) => panic!(rt; "opened"),
         Err(x) => x,
     }
 }
 
-fn given_up(rt: &impl Abort, waiting: Waiting, text: &str) -> Caller {
-    waiting
-        .give_up(bytes(rt, text).as_slice())
-        .ok()
-        .expect(rt, "given up")
-}
-
-fn is_code(fault: CallerFault, code: u32) -> bool {
+/// The caller that a refusal with this code gives back.
+pub fn given_up(rt: &impl Abort, waiting: Waiting, refusal: &[u8], code: u32) -> Caller {
+    let (waiting, fault) = fault(rt, waiting, refusal);
     match fault {
-        CallerFault::Code(error) => error.number() == code,
-        CallerFault::Refused(_) | CallerFault::NotExpected | CallerFault::WrongMac => false,
+        CallerFault::Code(error) => assert_eq!(rt; error.number(), code),
+        CallerFault::Refused(_) | CallerFault::NotExpected | CallerFault::WrongMac => {
+            panic!(rt; "no code")
+        }
     }
+    waiting.give_up(refusal).ok().expect(rt, "given up")
 }
 
 #[test]
 fn the_next_command_is_sealed_with_the_new_nonce(rt: HostRuntime) {
-    let caller = opened(&rt, first(&rt), EXTENDED).expect(&rt, "a caller that is kept");
+    let caller = kept(&rt, first(&rt), bytes(&rt, EXTENDED).as_slice());
     let waiting = reset(&rt, caller, &[], nonce(&rt, SECOND), false);
     assert!(rt; waiting.bytes() == bytes(&rt, RESET).as_slice());
-    assert!(rt; opened(&rt, waiting, IS_RESET).is_none());
+    assert!(rt;
+        opened(&rt, waiting, bytes(&rt, IS_RESET).as_slice())
+            .0
+            .is_none()
+    );
 }
 
 #[test]
 fn each_fault_leaves_the_waiting(rt: HostRuntime) {
-    let (waiting, cut) = fault(&rt, first(&rt), "8002000000420000000000000000");
+    let (waiting, cut) = fault(&rt, first(&rt), bytes(&rt, CUT).as_slice());
     assert!(rt;
         match cut {
             CallerFault::Refused(e) => (e.code, e.at) == (0x142, 2),
             _ => false
         }
     );
-    let (waiting, code) = fault(&rt, waiting, BAD_AUTH);
-    assert!(rt; is_code(code, 0x9A2));
-    let (waiting, unsigned) = fault(&rt, waiting, UNSIGNED);
+    let (waiting, unsigned) = fault(&rt, waiting, bytes(&rt, UNSIGNED).as_slice());
     assert!(rt; unsigned == CallerFault::NotExpected);
-    let (waiting, attributes) = fault(&rt, waiting, IS_RESET);
+    let (waiting, attributes) = fault(&rt, waiting, bytes(&rt, IS_RESET).as_slice());
     assert!(rt; attributes == CallerFault::WrongMac);
     assert!(rt; waiting.bytes() == bytes(&rt, EXTEND).as_slice());
-    assert!(rt; opened(&rt, waiting, EXTENDED).is_some());
+    let caller = given_up(&rt, waiting, bytes(&rt, BAD_AUTH).as_slice(), 0x9A2);
+    let again = extend(&rt, caller, 0, nonce(&rt, FIRST));
+    kept(&rt, again, bytes(&rt, EXTENDED).as_slice());
 }
 
 #[test]
 fn the_attributes_are_in_the_text(rt: HostRuntime) {
-    assert!(rt; opened(&rt, first(&rt), EXTENDED_WITHOUT_ATTRIBUTES).is_some());
-}
-
-#[test]
-fn a_reply_to_another_nonce_is_wrong(rt: HostRuntime) {
-    let later = extend(&rt, bound(&rt), 0, nonce(&rt, SECOND));
-    let (waiting, mixed) = fault(&rt, later, EXTENDED);
-    assert!(rt; mixed == CallerFault::WrongMac);
-    assert!(rt; waiting.give_up(bytes(&rt, EXTENDED).as_slice()).is_err());
-}
-
-#[test]
-fn a_refusal_gives_the_caller_back(rt: HostRuntime) {
-    let (waiting, locality) = fault(
+    kept(
         &rt,
-        extend(&rt, bound(&rt), 17, nonce(&rt, FIRST)),
-        LOCALITY,
+        first(&rt),
+        bytes(&rt, EXTENDED_WITHOUT_ATTRIBUTES).as_slice(),
     );
-    assert!(rt; is_code(locality, 0x907));
-    let again = extend(&rt, given_up(&rt, waiting, LOCALITY), 0, nonce(&rt, FIRST));
-    assert!(rt; again.bytes() == bytes(&rt, EXTEND).as_slice());
-    assert!(rt; opened(&rt, again, EXTENDED).is_some());
 }
 
 #[test]
 fn a_success_is_not_given_up(rt: HostRuntime) {
-    match first(&rt).give_up(bytes(&rt, EXTENDED).as_slice()) {
+    let reply = bytes(&rt, EXTENDED);
+    match first(&rt).give_up(reply.as_slice()) {
         Ok(_) => panic!(rt; "given up"),
-        Err(waiting) => assert!(rt; opened(&rt, waiting, EXTENDED).is_some()),
-    }
+        Err(waiting) => kept(&rt, waiting, reply.as_slice()),
+    };
 }
