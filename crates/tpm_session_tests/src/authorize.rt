@@ -100,12 +100,13 @@ pub fn replies(rt: &impl Abort, bench: &Bench, rest: &str) -> bool {
         && found.hmac.as_slice() == hmac.as_slice()
 }
 
-// A PCR_Extend of register 0 in a session that is not bound: the key is empty.
 #[test]
-fn an_empty_hmac_or_the_whole_one_serves_under_an_empty_key(rt: HostRuntime) {
+fn macs_are_over_names_and_parameters_under_the_keys_of_sessions(rt: HostRuntime) {
     run(
         &rt,
         "
+        # An empty HMAC or the whole one serves under an empty key. A PCR_Extend of register 0 in a session that is not
+        # bound: the key is empty.
         new
         command 0 8001 0000002b 00000176 40000007 40000007 0010 a0a1a2a3a4a5a6a7a8a9aaabacadaeaf 0000 00 0010 0004
         authorize register 00000000 0 8002 00000044 00000182 00000000 0000000c 02000000 0003 c1c2c3 01 0000 00000001000b0000000000000000000000000000000000000000000000000000000000000000
@@ -132,30 +133,15 @@ fn an_empty_hmac_or_the_whole_one_serves_under_an_empty_key(rt: HostRuntime) {
         authorize register 00000000 9a2 8002 00000045 00000182 00000000 0000000d 02000000 0003 c1c2c3 01 0001 08 00000001000b0000000000000000000000000000000000000000000000000000000000000000
         authorize register 00000000 9a2 8002 00000074 00000182 00000000 0000003c 02000000 0003 c1c2c3 01 0030 08c663444cf1653af4ccc78ad0635f37cfeeecf51ed2bb4c27d2aa03a481fcaf3f96238137357e22db620b36f60c1f4a 00000001000b0000000000000000000000000000000000000000000000000000000000000000
         authorize register 00000000 9a2 8002 00000074 00000182 00000000 0000003c 02000000 0003 c1c2c4 01 0030 08c663444cf1653af4ccc78ad0635f37cfeeecf51ed2bb4c27d2aa03a481fcaf3f96238137357e22db620b36f60c1f4b 00000001000b0000000000000000000000000000000000000000000000000000000000000000
-        ",
-    );
-}
-
-#[test]
-fn a_mac_is_over_the_names_and_the_parameters(rt: HostRuntime) {
-    run(
-        &rt,
-        "
+        # A MAC is over the Names and the parameters.
+        new
         command 0 8001 0000002b 00000176 40000007 40000007 0010 a0a1a2a3a4a5a6a7a8a9aaabacadaeaf 0000 00 0010 000b
         authorize register 00000000 0 8002 00000064 00000182 00000000 0000002c 02000000 0003 c1c2c3 01 0020 ecba6652af6c3072da402f3f421e98d1ca0dced9b20e484579f53f36a5907ada 00000001000b0000000000000000000000000000000000000000000000000000000000000000
         authorize register 00000001 9a2 8002 00000064 00000182 00000001 0000002c 02000000 0003 c1c2c3 01 0020 ecba6652af6c3072da402f3f421e98d1ca0dced9b20e484579f53f36a5907ada 00000001000b0000000000000000000000000000000000000000000000000000000000000000
         authorize register 00000000 9a2 8002 00000064 00000182 00000000 0000002c 02000000 0003 c1c2c3 01 0020 ecba6652af6c3072da402f3f421e98d1ca0dced9b20e484579f53f36a5907ada 00000001000b0000000000000000000000000000000000000000000000000000000000000001
         authorize register 00000000 9a2 8002 00000064 00000182 00000000 0000002c 02000000 0003 c1c2c3 00 0020 ecba6652af6c3072da402f3f421e98d1ca0dced9b20e484579f53f36a5907ada 00000001000b0000000000000000000000000000000000000000000000000000000000000000
-        ",
-    );
-}
-
-// An NV_DefineSpace by the owner, without the owner's value in the key, with it, and with no HMAC.
-#[test]
-fn the_owners_value_is_left_out_of_a_bound_key(rt: HostRuntime) {
-    run(
-        &rt,
-        "
+        # The owner's value is left out of a bound key. An NV_DefineSpace by the owner, without the owner's value in the key,
+        # with it, and with no HMAC.
         new
         command 0 8001 0000002b 00000176 40000007 40000001 0010 a0a1a2a3a4a5a6a7a8a9aaabacadaeaf 0000 00 0010 0004
         authorize owner 40000001 0 8002 00000044 0000012a 40000001 00000020 02000000 0003 c1c2c3 01 0014 978731119cd7320cdbb9257753f2b6f9201e93ab 0000000e01800001000b0206001600000008
@@ -186,17 +172,8 @@ fn the_owners_value_is_left_out_of_a_bound_key(rt: HostRuntime) {
         authorize owner 40000001 9a2 8002 00000060 0000012a 40000001 0000003c 02000000 0003 c1c2c3 01 0030 6d236fabbf5699881fb288f19a1b6afd8870060757adc47815eb3e79f925d58caccb0abd0829321dd4b0c16aea5e2228 0000000e01800001000b0206001600000008
         authorize owner 40000001 0 8002 00000060 0000012a 40000001 0000003c 02000000 0003 c1c2c3 01 0030 d272c300f6921d0921a4233c0e826ba6be4e8fba58489ceea5cac52b1aefc5336c76f50aa8bf5f310b7bdcfc89d920e3 0000000e01800001000b0206001600000008
         authorize owner 40000001 9a2 8002 00000030 0000012a 40000001 0000000c 02000000 0003 c1c2c3 01 0000 0000000e01800001000b0206001600000008
-        ",
-    );
-}
-
-// An NV_Increment by the index itself, whose value is 61, with it in the key and without. A wrong one is BAD_AUTH under NO_DA, else
-// AUTH_FAIL.
-#[test]
-fn an_index_has_its_value_in_the_key(rt: HostRuntime) {
-    run(
-        &rt,
-        "
+        # An index has its value in the key. An NV_Increment by the index itself, whose value is 61, with it in the key and
+        # without. A wrong one is BAD_AUTH under NO_DA, else AUTH_FAIL.
         new
         command 0 8001 0000002b 00000176 40000007 40000001 0010 a0a1a2a3a4a5a6a7a8a9aaabacadaeaf 0000 00 0010 000b
         index 61 000e 01800001 000b 02060016 0000 0008
@@ -225,16 +202,40 @@ fn an_index_has_its_value_in_the_key(rt: HostRuntime) {
         index 610000 000e 01800001 000b 00060016 0000 0008
         authorize index 000bac5735bbf7e6583829466f6d08c77c88080191fb8f42a6997f72e77920542de1 0 8002 00000042 00000134 01800001 01800001 0000002c 02000000 0003 c1c2c3 01 0020 6d15f7ad8c3aa040c5f3d6d513ab414d3657541a859ddbf5820df03641813347
         authorize index 000bac5735bbf7e6583829466f6d08c77c88080191fb8f42a6997f72e77920542de1 98e 8002 00000042 00000134 01800001 01800001 0000002c 02000000 0003 c1c2c3 01 0020 f52790f7cb9c16881132ab48c538c3cde4e26704ad572a640ff3302a71a14c4c
+        # A policy session leaves the value out. An NV_Increment in a policy session that is bound to the owner: before
+        # PolicyAuthValue no value follows the session key.
+        new
+        command 0 8001 0000002b 00000176 40000007 40000001 0010 a0a1a2a3a4a5a6a7a8a9aaabacadaeaf 0000 01 0010 000b
+        index 61 002e 01800001 000b 02080018 0020 0000000000000000000000000000000000000000000000000000000000000000 0008
+        authorize index 000b5a6dbfe39c93c4d20f3912e6d3966bfd512113260bd6063ae2e9e30bd1a79962 0 8002 00000042 00000134 01800001 01800001 0000002c 03000000 0003 c1c2c3 01 0020 94be391c36c14e2b12824a5dfda45028df068843be5a86cad7c5035d657e88b9
+        authorize index 000b5a6dbfe39c93c4d20f3912e6d3966bfd512113260bd6063ae2e9e30bd1a79962 9a2 8002 00000042 00000134 01800001 01800001 0000002c 03000000 0003 c1c2c3 01 0020 fb51dcf98ded176c69122e65b32eb7cd8e5c5aeb86cb15e1e432c095710c49ad
+        follows 03000000 index -
+        # What follows the session key. In a session that is bound to the owner, and in one that is not.
+        new
+        command 0 8001 0000002b 00000176 40000007 40000001 0010 a0a1a2a3a4a5a6a7a8a9aaabacadaeaf 0000 00 0010 000b
+        index 61006200 000e 01800001 000b 02060016 0000 0008
+        follows 02000000 owner -
+        follows 02000000 index 610062
+        follows 02000000 register -
+        follows 02000000 null -
+        new
+        command 0 8001 0000002b 00000176 40000007 40000007 0010 a0a1a2a3a4a5a6a7a8a9aaabacadaeaf 0000 00 0010 000b
+        index 61006200 000e 01800001 000b 02060016 0000 0008
+        follows 02000000 owner 6f776e6572
+        follows 02000000 index 610062
+        follows 02000000 register -
+        follows 02000000 null -
         ",
     );
 }
 
-// An NV_Increment by the index itself, whose value is 61, by passwords.
 #[test]
-fn passwords_are_trimmed_and_have_no_nonce(rt: HostRuntime) {
+fn passwords_are_trimmed_have_no_nonce_and_serve_where_an_index_says(rt: HostRuntime) {
     run(
         &rt,
         "
+        # Passwords are trimmed and have no nonce. An NV_Increment by the index itself, whose value is 61, by passwords.
+        new
         # with NO_DA
         index 6100 000e 01800001 000b 02060016 0000 0008
         authorize index 00000000 0 8002 00000020 00000134 01800001 01800001 0000000a 40000009 0000 01 0001 61
@@ -266,16 +267,27 @@ fn passwords_are_trimmed_and_have_no_nonce(rt: HostRuntime) {
         authorize null 00000010 0 8002 0000001b 0000013d 00000010 00000009 40000009 0000 01 0000
         authorize null 00000010 0 8002 0000001d 0000013d 00000010 0000000b 40000009 0000 01 0002 0000
         authorize null 00000010 9a2 8002 0000001c 0000013d 00000010 0000000a 40000009 0000 01 0001 78
+        # An index says for what its value serves. AUTHWRITE and AUTHREAD, and one of them alone, for a password.
+        new
+        index - 000e 01800001 000b 02040014 0000 0008
+        authorize index 00000000 0 8002 0000001f 00000134 01800001 01800001 00000009 40000009 0000 01 0000
+        authorize index 00000000 0 8002 00000023 0000014e 01800001 01800001 00000009 40000009 0000 01 0000 00080000
+        index - 000e 01800001 000b 02020014 0000 0008
+        authorize index 00000000 0 8002 0000001f 00000134 01800001 01800001 00000009 40000009 0000 01 0000
+        authorize index 00000000 12f 8002 00000023 0000014e 01800001 01800001 00000009 40000009 0000 01 0000 00080000
+        index - 000e 01800001 000b 02040012 0000 0008
+        authorize index 00000000 12f 8002 0000001f 00000134 01800001 01800001 00000009 40000009 0000 01 0000
+        authorize index 00000000 0 8002 00000023 0000014e 01800001 01800001 00000009 40000009 0000 01 0000 00080000
         ",
     );
 }
 
-// A PCR_Reset of register 16 with an empty HMAC.
 #[test]
 fn the_checks_of_a_session_come_in_order(rt: HostRuntime) {
     run(
         &rt,
         "
+        # In order: A PCR_Reset of register 16 with an empty HMAC.
         new
         command 0 8001 0000002b 00000176 40000007 40000007 0010 a0a1a2a3a4a5a6a7a8a9aaabacadaeaf 0000 00 0010 000b
         authorize register 00000010 0 8002 0000001b 0000013d 00000010 00000009 02000000 0000 01 0000
@@ -303,12 +315,13 @@ fn the_checks_of_a_session_come_in_order(rt: HostRuntime) {
     );
 }
 
-// A policy session that asserts nothing: its digest is zeros.
 #[test]
 fn a_policy_serves_the_index_that_has_it(rt: HostRuntime) {
     run(
         &rt,
         "
+        # Policies of indices: A policy session that asserts nothing: its digest is zeros.
+        new
         command 0 8001 0000002b 00000176 40000007 40000007 0010 a0a1a2a3a4a5a6a7a8a9aaabacadaeaf 0000 01 0010 000b
         # POLICYWRITE and POLICYREAD
         index 61 002e 01800001 000b 02080018 0020 0000000000000000000000000000000000000000000000000000000000000000 0008
@@ -360,70 +373,12 @@ fn a_policy_serves_the_index_that_has_it(rt: HostRuntime) {
     );
 }
 
-// AUTHWRITE and AUTHREAD, and one of them alone, for a password.
 #[test]
-fn an_index_says_for_what_its_value_serves(rt: HostRuntime) {
+fn a_reply_has_the_macs_of_the_next_nonce_where_the_command_has_one(rt: HostRuntime) {
     run(
         &rt,
         "
-        index - 000e 01800001 000b 02040014 0000 0008
-        authorize index 00000000 0 8002 0000001f 00000134 01800001 01800001 00000009 40000009 0000 01 0000
-        authorize index 00000000 0 8002 00000023 0000014e 01800001 01800001 00000009 40000009 0000 01 0000 00080000
-        index - 000e 01800001 000b 02020014 0000 0008
-        authorize index 00000000 0 8002 0000001f 00000134 01800001 01800001 00000009 40000009 0000 01 0000
-        authorize index 00000000 12f 8002 00000023 0000014e 01800001 01800001 00000009 40000009 0000 01 0000 00080000
-        index - 000e 01800001 000b 02040012 0000 0008
-        authorize index 00000000 12f 8002 0000001f 00000134 01800001 01800001 00000009 40000009 0000 01 0000
-        authorize index 00000000 0 8002 00000023 0000014e 01800001 01800001 00000009 40000009 0000 01 0000 00080000
-        ",
-    );
-}
-
-// An NV_Increment in a policy session that is bound to the owner: before PolicyAuthValue no value follows the session key.
-#[test]
-fn a_policy_session_leaves_the_value_out(rt: HostRuntime) {
-    run(
-        &rt,
-        "
-        command 0 8001 0000002b 00000176 40000007 40000001 0010 a0a1a2a3a4a5a6a7a8a9aaabacadaeaf 0000 01 0010 000b
-        index 61 002e 01800001 000b 02080018 0020 0000000000000000000000000000000000000000000000000000000000000000 0008
-        authorize index 000b5a6dbfe39c93c4d20f3912e6d3966bfd512113260bd6063ae2e9e30bd1a79962 0 8002 00000042 00000134 01800001 01800001 0000002c 03000000 0003 c1c2c3 01 0020 94be391c36c14e2b12824a5dfda45028df068843be5a86cad7c5035d657e88b9
-        authorize index 000b5a6dbfe39c93c4d20f3912e6d3966bfd512113260bd6063ae2e9e30bd1a79962 9a2 8002 00000042 00000134 01800001 01800001 0000002c 03000000 0003 c1c2c3 01 0020 fb51dcf98ded176c69122e65b32eb7cd8e5c5aeb86cb15e1e432c095710c49ad
-        follows 03000000 index -
-        ",
-    );
-}
-
-// In a session that is bound to the owner, and in one that is not.
-#[test]
-fn what_follows_the_session_key(rt: HostRuntime) {
-    run(
-        &rt,
-        "
-        new
-        command 0 8001 0000002b 00000176 40000007 40000001 0010 a0a1a2a3a4a5a6a7a8a9aaabacadaeaf 0000 00 0010 000b
-        index 61006200 000e 01800001 000b 02060016 0000 0008
-        follows 02000000 owner -
-        follows 02000000 index 610062
-        follows 02000000 register -
-        follows 02000000 null -
-        new
-        command 0 8001 0000002b 00000176 40000007 40000007 0010 a0a1a2a3a4a5a6a7a8a9aaabacadaeaf 0000 00 0010 000b
-        index 61006200 000e 01800001 000b 02060016 0000 0008
-        follows 02000000 owner 6f776e6572
-        follows 02000000 index 610062
-        follows 02000000 register -
-        follows 02000000 null -
-        ",
-    );
-}
-
-// An NV_Read by the owner in a session, and its reply with the value 4.
-#[test]
-fn a_reply_has_the_macs_of_the_next_nonce(rt: HostRuntime) {
-    run(
-        &rt,
-        "
+        # The MACs of the next nonce. An NV_Read by the owner in a session, and its reply with the value 4.
         new
         command 0 8001 0000002b 00000176 40000007 40000001 0010 a0a1a2a3a4a5a6a7a8a9aaabacadaeaf 0000 00 0010 0004
         reply owner 00080000000000000004 404142434445464748494a4b4c4d4e4f 1 17fff90125d3787ac5c1fdefb7f5a67c5dfb6389 8002 0000003a 0000014e 40000001 01800001 00000020 02000000 0003 c1c2c3 01 0014 83467d49dcfb7f08bf3cd0ef2394f04c4c306455 00080000
@@ -442,16 +397,9 @@ fn a_reply_has_the_macs_of_the_next_nonce(rt: HostRuntime) {
         new
         command 0 8001 0000002b 00000176 40000007 40000007 0010 a0a1a2a3a4a5a6a7a8a9aaabacadaeaf 0000 00 0010 000c
         reply owner 00080000000000000004 404142434445464748494a4b4c4d4e4f 1 695183efa8d8e0c1d90db03afc725f664dfd4daf8ab4d2afa683aa7388e832cdd7c03262c1dda4c896787302ec687b44 8002 00000056 0000014e 40000001 01800001 0000003c 02000000 0003 c1c2c3 01 0030 4a4019804f4c227aba64ff3e80e6ebd5efc58f5a6f81eac4945f951f588bbba34248c22ad386ab5df86d48490d96bfe8 00080000
-        ",
-    );
-}
-
-// A PCR_Reset in a session without a key, with an empty HMAC, with the HMAC under the empty key, and with a password.
-#[test]
-fn a_reply_has_an_hmac_where_the_command_has_one(rt: HostRuntime) {
-    run(
-        &rt,
-        "
+        # An HMAC where the command has one. A PCR_Reset in a session without a key, with an empty HMAC, with the HMAC under
+        # the empty key, and with a password.
+        new
         command 0 8001 0000002b 00000176 40000007 40000007 0010 a0a1a2a3a4a5a6a7a8a9aaabacadaeaf 0000 00 0010 000b
         reply register - 404142434445464748494a4b4c4d4e4f 0 - 8002 0000001e 0000013d 00000010 0000000c 02000000 0003 c1c2c3 00 0000
         reply register - 404142434445464748494a4b4c4d4e4f 0 68b0c4811ed9fb4268b20cb0bcb1783037a4e94377fa014de2bd6874192a720f 8002 0000003e 0000013d 00000010 0000002c 02000000 0003 c1c2c3 00 0020 d594c4b9bba8b49c35e036691dec162269208afdb2cc899a607ce42cdc29bc5c

@@ -131,19 +131,15 @@ fn joined_parts_are_one_text(rt: HostRuntime) {
 }
 
 #[test]
-fn trailing_zeros_alone_are_trimmed(rt: HostRuntime) {
-    let found = (trim(&[0, 1, 0, 2, 0, 0]), trim(&[0, 0]), trim(&[]));
-    assert!(rt; found == ([0, 1, 0, 2].as_slice(), [].as_slice(), [].as_slice()));
-}
-
-#[test]
-fn a_prefix_is_another_list(rt: HostRuntime) {
-    let found = [
+fn trailing_zeros_alone_are_trimmed_and_a_prefix_is_another_list(rt: HostRuntime) {
+    let trimmed = (trim(&[0, 1, 0, 2, 0, 0]), trim(&[0, 0]), trim(&[]));
+    let equal = [
         same(b"abc", b"abc"),
         same(b"", b""),
         same(b"abc", b"abd"),
         same(b"abc", b"ab"),
         same(b"", b"a"),
     ];
-    assert!(rt; found == [true, true, false, false, false], "{found:?}");
+    let expected = ([0, 1, 0, 2].as_slice(), [].as_slice(), [].as_slice());
+    assert!(rt; (trimmed, equal) == (expected, [true, true, false, false, false]));
 }

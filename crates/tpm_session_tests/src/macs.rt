@@ -60,6 +60,31 @@ fn p_hash(rt: &impl Abort, side: &str, alg: Alg, code: CommandCode, rest: &mut &
     }
 }
 
+// The keys, the hash of the parameters and the nonces under a MAC.
+#[derive(Clone, Copy)]
+struct Texts<'a> {
+    session_key: &'a [u8],
+    auth_value: &'a [u8],
+    p_hash: &'a [u8],
+    newer: &'a [u8],
+    older: &'a [u8],
+}
+
+fn mac(side: &str, alg: Alg, texts: Texts<'_>, attrs: SessionAttrs) -> Digest {
+    let (key, auth) = (texts.session_key, texts.auth_value);
+    let Texts {
+        p_hash,
+        newer,
+        older,
+        ..
+    } = texts;
+    if side == "response" {
+        response_mac(alg, key, auth, p_hash, newer, older, attrs)
+    } else {
+        command_mac(alg, key, auth, p_hash, newer, older, attrs)
+    }
+}
+
 // Whether the rest of a line, from the hash of the parameters on, ends in the MAC.
 fn ends_in_the_mac(rt: &impl Abort, side: &str, alg: Alg, keys: (&str, &str), rest: &str) -> bool {
     let mut rest = rest;
@@ -69,29 +94,15 @@ fn ends_in_the_mac(rt: &impl Abort, side: &str, alg: Alg, keys: (&str, &str), re
     let newer = bytes(rt, word(&mut rest));
     let older = bytes(rt, word(&mut rest));
     let attrs = u8::from_str_radix(word(&mut rest), 16).unwrap_or(0xFF);
-    let attrs = SessionAttrs::from_number(attrs).expect(rt, "no reserved bit");
-    let mac = if side == "response" {
-        response_mac(
-            alg,
-            session_key.as_slice(),
-            auth_value.as_slice(),
-            p_hash.as_slice(),
-            newer.as_slice(),
-            older.as_slice(),
-            attrs,
-        )
-    } else {
-        command_mac(
-            alg,
-            session_key.as_slice(),
-            auth_value.as_slice(),
-            p_hash.as_slice(),
-            newer.as_slice(),
-            older.as_slice(),
-            attrs,
-        )
+    let attrs = SessionAttrs::from_number(attrs).unwrap_or_default();
+    let texts = Texts {
+        session_key: session_key.as_slice(),
+        auth_value: auth_value.as_slice(),
+        p_hash: p_hash.as_slice(),
+        newer: newer.as_slice(),
+        older: older.as_slice(),
     };
-    mac.as_slice() == bytes(rt, rest).as_slice()
+    mac(side, alg, texts, attrs).as_slice() == bytes(rt, rest).as_slice()
 }
 
 // Whether the hash and the MAC of a line are so.

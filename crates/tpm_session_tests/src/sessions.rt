@@ -5,12 +5,14 @@ use std::mem::size_of;
 use std::test::*;
 use tpm_session::Sessions;
 
-// A slot is asked for by the kind of its session, and the lowest free slot is taken again.
 #[test]
-fn three_sessions_are_started_and_no_fourth(rt: HostRuntime) {
+fn three_sessions_are_started_flushed_once_and_go_on_or_end(rt: HostRuntime) {
     run(
         &rt,
         "
+        # Three sessions are started and no fourth. A slot is asked for by the kind of its session, and the lowest free slot
+        # is taken again.
+        new
         started 02000000 8001 0000002b 00000176 40000007 40000007 0010 a0a1a2a3a4a5a6a7a8a9aaabacadaeaf 0000 00 0010 000b
         started 03000001 8001 0000002b 00000176 40000007 40000007 0010 a0a1a2a3a4a5a6a7a8a9aaabacadaeaf 0000 01 0010 000b
         started 03000002 8001 0000002b 00000176 40000007 40000007 0010 a0a1a2a3a4a5a6a7a8a9aaabacadaeaf 0000 03 0010 000b
@@ -21,30 +23,31 @@ fn three_sessions_are_started_and_no_fourth(rt: HostRuntime) {
         absent 03000003
         command 0 8001 0000000e 00000165 03000001
         started 02000001 8001 0000002b 00000176 40000007 40000007 0010 a0a1a2a3a4a5a6a7a8a9aaabacadaeaf 0000 00 0010 000b
-        ",
-    );
-}
-
-#[test]
-fn session_is_flushed_once(rt: HostRuntime) {
-    run(
-        &rt,
-        "
+        # A session is flushed once.
+        new
         command 0 8001 0000002b 00000176 40000007 40000007 0010 00000000000000000000000000000000 0000 00 0010 000b
         command 0 8001 0000002b 00000176 40000007 40000007 0010 00000000000000000000000000000000 0000 00 0010 000b
         command 0 8001 0000002b 00000176 40000007 40000007 0010 00000000000000000000000000000000 0000 00 0010 000b
         command 903 8001 0000002b 00000176 40000007 40000007 0010 00000000000000000000000000000000 0000 00 0010 000b
         command 0 8001 0000000e 00000165 02000002
         command 1cb 8001 0000000e 00000165 02000002
+        # A session goes on with the next nonce or ends.
+        new
+        started 02000000 8001 0000002b 00000176 40000007 40000007 0010 a0a1a2a3a4a5a6a7a8a9aaabacadaeaf 0000 00 0010 000b
+        kept 02000000
+        nonce 02000000 00000000000000000000000000000000
+        ended 02000000
+        absent 02000000
         ",
     );
 }
 
 #[test]
-fn nonce_has_16_bytes_and_no_more_than_a_digest(rt: HostRuntime) {
+fn nonces_and_keys_that_sessions_are_started_with(rt: HostRuntime) {
     run(
         &rt,
         "
+        # A nonce has 16 bytes and no more than a digest.
         new
         command 1d5 8001 0000002a 00000176 40000007 40000007 000f 000000000000000000000000000000 0000 00 0010 000b
         new
@@ -53,16 +56,8 @@ fn nonce_has_16_bytes_and_no_more_than_a_digest(rt: HostRuntime) {
         command 0 8001 0000003b 00000176 40000007 40000007 0020 0000000000000000000000000000000000000000000000000000000000000000 0000 00 0010 000b
         new
         command 0 8001 0000004b 00000176 40000007 40000007 0030 000000000000000000000000000000000000000000000000000000000000000000000000000000000000000000000000 0000 00 0010 000c
-        ",
-    );
-}
-
-// The keys are those of Python's hmac module: KDFa of "owner", which the trailing zeros of the value are no part of.
-#[test]
-fn bound_session_has_a_key_of_the_trimmed_value(rt: HostRuntime) {
-    run(
-        &rt,
-        "
+        # A bound session has a key of the trimmed value. The keys are those of Python's hmac module: KDFa of the owner's value, which
+        # the trailing zeros of the value are no part of.
         new
         started 02000000 8001 0000002b 00000176 40000007 40000001 0010 a0a1a2a3a4a5a6a7a8a9aaabacadaeaf 0000 00 0010 0004
         started 02000001 8001 0000002b 00000176 40000007 40000007 0010 a0a1a2a3a4a5a6a7a8a9aaabacadaeaf 0000 00 0010 0004
@@ -84,20 +79,6 @@ fn bound_session_has_a_key_of_the_trimmed_value(rt: HostRuntime) {
         nonce 02000000 000102030405060708090a0b0c0d0e0f
         key 02000001 000c -
         nonce 02000001 000102030405060708090a0b0c0d0e0f
-        ",
-    );
-}
-
-#[test]
-fn session_goes_on_with_the_next_nonce_or_ends(rt: HostRuntime) {
-    run(
-        &rt,
-        "
-        started 02000000 8001 0000002b 00000176 40000007 40000007 0010 a0a1a2a3a4a5a6a7a8a9aaabacadaeaf 0000 00 0010 000b
-        kept 02000000
-        nonce 02000000 00000000000000000000000000000000
-        ended 02000000
-        absent 02000000
         ",
     );
 }
