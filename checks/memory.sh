@@ -51,6 +51,8 @@ else
     refuses "show of text that is not hexadecimal" show no
     refuses "show of a response" show --reply PCR_Reset 80020000001300000000000000000000010000
     refuses "show of a response code" show --reply Startup 80010000000a00000100
+    refuses "a command's parameters by their names" show --fields $startup
+    refuses "a reply's parameters by their names" show --fields --reply NV_Read 80020000001d000000000000000a000800000000000000040000010000
     refuses "joined parts" build PCR_Reset 00000010 400000090000010000 -
     refuses "joined parts that are refused" build Startup - - 0002
     printf '%s\n' $startup power no >"$room/script"

@@ -81,6 +81,7 @@ cases() {
 }
 
 cases checks/show.txt
+cases checks/fields.txt
 cases checks/build.txt
 cases checks/run.txt
 cases checks/explain.txt
@@ -132,6 +133,7 @@ runs_without_output() {
 runs_without_output "a closed standard output" - show $startup
 runs_without_output "a closed standard output for a refusal" - show ''
 runs_without_output "a closed standard output for a response" - show --reply Startup 80010000000a00000100
+runs_without_output "a closed standard output for parameters by their names" - show --fields $startup
 runs_without_output "a closed standard output for joined parts" - build Startup - - 0000
 runs_without_output "a closed standard output for a script" - run
 runs_without_output "a closed standard output for a code" - explain 100

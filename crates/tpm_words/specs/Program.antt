@@ -1,5 +1,6 @@
 -- The program's subcommands and their words, as clap reads them (this profile).
 use Rattle.std.specs.Prelude.{◌≡◌, true, false, Some, codes}
+use Rattle.clap.specs.declared.builder.action.ArgAction.TheVariants.{SetTrue}
 use Rattle.clap.specs.declared.builder.command.Command.TheViews.{out-Command}
 use Rattle.clap.specs.Words.{App, Rule, Text, app_of, new_app, new_rule, with_rule, with_subcommand}
 use Rattle.clap.specs.declared.builder.command.Command.{Command}
@@ -17,9 +18,13 @@ name_rule names = record (required_rule (codes "NAME")) { parser = Some names }
 abbrev pub reply_rule : ValueParser → Rule
 reply_rule names = record (new_rule (codes "reply")) { long = Some (codes "reply"); value_names = 1; parser = Some names }
 
--- show [--reply NAME] HEX
+-- a flag, as --fields
+abbrev pub flag_rule : Text → Rule
+flag_rule name = record (new_rule name) { long = Some name; action = Some SetTrue }
+
+-- show [--reply NAME] [--fields] HEX
 abbrev pub show_app : ValueParser → App
-show_app names = with_rule (with_rule (new_app (codes "show")) (reply_rule names)) (required_rule (codes "HEX"))
+show_app names = with_rule (with_rule (with_rule (new_app (codes "show")) (reply_rule names)) (flag_rule (codes "fields"))) (required_rule (codes "HEX"))
 
 -- build NAME HANDLES SESSIONS PARAMETERS
 abbrev pub build_app : ValueParser → App

@@ -1,6 +1,7 @@
 -- What the words ask for, by what clap finds in them.
-use Rattle.std.specs.Prelude.{◌≡◌, ◌<◌, ◌≤◌, ◌^◌, ℕ, List, Option, Some, None, IfSome, codes, length, option_and_then, is_some, true, unwrap_or}
+use Rattle.std.specs.Prelude.{◌≡◌, ◌<◌, ◌≤◌, ◌^◌, ℕ, List, Option, Some, None, IfSome, codes, length, option_and_then, is_some, Bool, true, false, unwrap_or}
 use Rattle.std.specs.Result.{result_ok}
+use Rattle.std.specs.Str.{bytes_eq}
 use Rattle.std.specs.Str.Parse.{IsNumeral, digits_value}
 use Rattle.hex.specs.Hex.{decode_of}
 use Rattle.clap.specs.Words.{Row, Text, first_of}
@@ -14,6 +15,11 @@ use Rattle.tpm_words.specs.Names.{command_of_name}
 abbrev pub Replies : Option Text → Option CommandCode → Type 0
 Replies None reply = reply ≡ None
 Replies (Some name) reply = (reply ≡ command_of_name name) × (is_some reply ≡ true)
+
+-- whether a flag is given
+abbrev pub is_given : Option Text → Bool
+is_given None = false
+is_given (Some text) = bytes_eq text (codes "true")
 
 -- the bytes of hexadecimal digits, or none for any other text
 abbrev pub bytes_in : Text → Option (List ℕ)
@@ -38,7 +44,8 @@ IsCode (Some text) code = IsHexadecimal text code
 
 -- a subcommand of this name, with these values of its words by their names, asks for the task
 abbrev pub AsksWith : Text → (Text → Option Text) → Task → Type 0
-AsksWith name value (Show reply hex) = (name ≡ codes "show") × Replies (value (codes "reply")) reply × (value (codes "HEX") ≡ Some hex.now)
+AsksWith name value (Show reply fields hex) = (name ≡ codes "show") × Replies (value (codes "reply")) reply × (fields ≡ is_given (value (codes "fields")))
+    × (value (codes "HEX") ≡ Some hex.now)
 AsksWith name value (Build code handles sessions parameters) = (name ≡ codes "build")
     × (option_and_then command_of_name (value (codes "NAME")) ≡ Some code)
     × (value (codes "HANDLES") ≡ Some handles.now) × (value (codes "SESSIONS") ≡ Some sessions.now) × (value (codes "PARAMETERS") ≡ Some parameters.now)

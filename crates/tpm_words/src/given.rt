@@ -8,7 +8,7 @@ ghost use Rattle.clap.specs.declared.builder.value_parser.ValueParser.TheVariant
 ghost use Rattle.tpm_words.specs.Names.{AreAllNames};
 ghost use Rattle.tpm_words.specs.Program.{program_app};
 ghost use Rattle.tpm_words.specs.Stop.{StopsFor, IsMemoryOr, Refuses};
-ghost use Rattle.tpm_words.specs.Task.{Asks, AsksNothing, AsksNothingWith, AsksWith};
+ghost use Rattle.tpm_words.specs.Task.{is_given as is_given_by, Asks, AsksNothing, AsksNothingWith, AsksWith};
 
 use crate::explain::explain_task;
 use crate::names::{command_named, command_names};
@@ -68,6 +68,16 @@ impl Words {
     }
 }
 
+// Whether the flag of this name is given.
+fn is_given(words: &ArgMatches<'_>, name: &str) -> bool
+    ensures { result ≡ is_given_by (first_value (found_of words.now) name.now) }
+{
+    match words.get_str(name) {
+        Some(text) => text == "true",
+        None => false,
+    }
+}
+
 fn show_task<'a>(words: &ArgMatches<'a>) -> Option<Task<'a>>
     ensures { MatchOption result (AsksNothingWith (codes "show") (first_value (found_of words.now)))
         (λ t. AsksWith (codes "show") (first_value (found_of words.now)) t) }
@@ -78,6 +88,7 @@ fn show_task<'a>(words: &ArgMatches<'a>) -> Option<Task<'a>>
     };
     Some(Task::Show {
         reply,
+        fields: is_given(words, "fields"),
         hex: words.get_str("HEX")?,
     })
 }

@@ -3,9 +3,9 @@
 ghost use Rattle.std.specs.Prelude.{◌≡◌, IfOk, false};
 ghost use Rattle.clap.specs.Words.{rule_of};
 ghost use Rattle.clap.specs.declared.builder.value_parser.ValueParser.TheVariants.{Names};
-ghost use Rattle.tpm_words.specs.Program.{required_rule, name_rule, reply_rule, option_rule, show_app, build_app, run_app, explain_app, above_subcommands, program_app, IsApp};
+ghost use Rattle.tpm_words.specs.Program.{required_rule, name_rule, reply_rule, flag_rule, option_rule, show_app, build_app, run_app, explain_app, above_subcommands, program_app, IsApp};
 
-use clap::{Arg, Command};
+use clap::{Arg, ArgAction, Command};
 use std::alloc::{AllocError, Global};
 
 const VERSION: &str = "0.1.0";
@@ -18,6 +18,7 @@ toolchain: rattle-kit-13b";
 const AFTER_HELP: &str = "Examples:
   tpmtool show 80010000000c000001440000
   tpmtool show --reply Startup 80010000000a00000100
+  tpmtool show --fields 80010000000c000001440000
   tpmtool build PCR_Reset 00000010 400000090000010000 -
   tpmtool run --greatest 7 <SCRIPT
   tpmtool explain 9a2
@@ -46,12 +47,27 @@ fn reply_word<'a>(alloc: Global, names: &'a [&'a str]) -> Arg<'a>
         .help("Reads the buffer as a response to this command")
 }
 
+fn flag<'a>(alloc: Global, name: &'a str, help: &'a str) -> Arg<'a>
+    ensures rule { rule_of result ≡ flag_rule name.entry.now }
+    ensures local { result.global ≡ false }
+{
+    Arg::new(alloc, name)
+        .long(name)
+        .action(ArgAction::SetTrue)
+        .help(help)
+}
+
 fn show_words<'a>(alloc: Global, names: &'a [&'a str]) -> Result<Command<'a>, AllocError>
     ensures { IfOk result (λ c. IsApp (show_app (Names names.entry)) c) }
 {
     Command::new(alloc, "show")
         .about("Prints the command or the response that a buffer spells, or where it is refused")
         .arg(reply_word(alloc, names))?
+        .arg(flag(
+            alloc,
+            "fields",
+            "Prints each parameter by its name and its type, too",
+        ))?
         .arg(required(alloc, "HEX", "The buffer, in hexadecimal"))
 }
 

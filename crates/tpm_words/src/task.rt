@@ -6,10 +6,12 @@ use tpm_types::AuthValue;
 /// What the words ask for.
 #[derive(Debug, PartialEq, Eq, Drop)]
 pub enum Task<'a> {
-    /// `show [--reply NAME] HEX`: print the command that the hexadecimal digits spell, or the response.
+    /// `show [--reply NAME] [--fields] HEX`: print the command that the hexadecimal digits spell, or the response.
     Show {
         /// The command that a response answers, or none for a command.
         reply: Option<CommandCode>,
+        /// Whether each parameter is printed by its name and its type, too.
+        fields: bool,
         /// The digits.
         hex: &'a str,
     },

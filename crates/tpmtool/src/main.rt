@@ -5,7 +5,7 @@ use std::process::ExitCode;
 use std::rt::Env;
 use std::{env, io};
 use tpm_device::Device;
-use tpm_tool::{Status, ToolFault, build, explain, not_hexadecimal, run_script, show};
+use tpm_tool::{Status, ToolFault, build, explain, not_hexadecimal, run_script, show, show_fields};
 use tpm_wire::Reads;
 use tpm_words::{Stop, Task, Words, words_not_text};
 
@@ -26,7 +26,16 @@ fn words<R: Env + AllocGlobal>(rt: &R) -> Result<Words, Stop> {
 fn perform<R: AllocGlobal + Input + Print>(rt: &R, task: Task<'_>) -> Result<Status, ToolFault> {
     let out = &mut io::writer(rt);
     match task {
-        Task::Show { reply, hex } => show(rt.alloc(), out, reply, hex),
+        Task::Show {
+            reply,
+            fields: true,
+            hex,
+        } => show_fields(rt.alloc(), out, reply, hex),
+        Task::Show {
+            reply,
+            fields: false,
+            hex,
+        } => show(rt.alloc(), out, reply, hex),
         Task::Build {
             name,
             handles,
