@@ -3,7 +3,6 @@
 ghost use Rattle.std.specs.Prelude.{◌≡◌, ℕ, List, ◌≤◌, length, take};
 ghost use Rattle.tpm_model.specs.Steps.{History, Origin};
 ghost use Rattle.tpm_model.specs.Answers.{answer};
-ghost use Rattle.tpm_device.specs.Commands.{has_command};
 ghost use Rattle.tpm_device.specs.Stands.{Stands};
 
 use crate::out::append;
@@ -20,7 +19,7 @@ const STARTUP: [u8; 12] = [
 #[unsafe(no_mangle)]
 pub extern "C" fn tpm_bench_execute(bytes: &[u8], times: u32, out: &mut [u8]) -> usize
     requires { 4096 ≤ length out.old }
-    ensures { (o : Origin) × (h : History) × (n : List ℕ) × (take result out.new ≡ answer has_command o h bytes.now n) }
+    ensures { (o : Origin) × (h : History) × (n : List ℕ) × (take result out.new ≡ answer o h bytes.now n) }
 {
     let nonce = [0; 64];
     let mut device = started(&AuthValue::default(), &STARTUP, &nonce);
@@ -41,7 +40,7 @@ fn started(owner: &AuthValue, startup: &[u8], nonce: &[u8; 64]) -> Device
 #[inline(never)]
 fn answer_once(device: &mut Device, bytes: &[u8], nonce: &[u8; 64], out: &mut [u8]) -> usize
     requires { 4096 ≤ length out.old }
-    ensures answer { (o : Origin) (h : History) → Stands o h device.old → (n : List ℕ) × (take result out.new ≡ answer has_command o h bytes.now n) }
+    ensures answer { (o : Origin) (h : History) → Stands o h device.old → (n : List ℕ) × (take result out.new ≡ answer o h bytes.now n) }
     ensures stands { (o : Origin) (h : History) → Stands o h device.old → (k : History) × Stands o k device.new }
     ensures room { length out.new ≡ length out.old }
 {

@@ -17,7 +17,7 @@ ghost use Rattle.tpm_hmac.specs.Sessions.{trim};
 ghost use Rattle.tpm_model.specs.Steps.{History, Origin};
 ghost use Rattle.tpm_model.specs.Present.{present};
 ghost use Rattle.tpm_model.specs.Authorization.{check_evidence};
-ghost use Rattle.tpm_model.specs.Answers.{CommandSet, Presented, presented, Done, outcome, answer, next};
+ghost use Rattle.tpm_model.specs.Answers.{Presented, presented, Done, outcome, answer, next};
 ghost use Rattle.tpm_model.specs.InStep.{CallerSession, InStep};
 ghost use Rattle.tpm_model.specs.Callers.{started_with, Seal, sealed_command, Waiting, Refused, Code, NotExpected, WrongMac, Opened, opened, given_up};
 ghost use Rattle.tpm_model.specs.Runs.{Event, after};
@@ -49,30 +49,30 @@ pub fn one_key()
 /// reply of code 0 is opened as that very response, and a caller that is kept is in step afterwards; a reply of another code
 /// is opened as that code, and gives the caller back, in step.
 pub fn two_ends_in_step()
-    ensures starts { (has : CommandSet) (o : Origin) (h : History) (bytes n : List ℕ) (d : Done) (q : StartAuth) (r : StartReply) (auth : List ℕ) →
-        outcome has (present o h) bytes n ≡ Ok d → d.command.body ≡ bodies.StartAuthSession q → d.reply.body ≡ replies.StartAuthSession r → length n ≡ nonce_bytes → (q.bind ≡ Owner → trim auth ≡ trim o.owner) →
-        (c : CallerSession) × (started_with q r auth ≡ Some c) × InStep o (next has o h bytes n) c }
-    ensures passes { (has : CommandSet) (o : Origin) (h : History) (s : Seal) (x : Presented) → IsReady o h s → presented has (present o h) (sent s).bytes ≡ Ok x → check_evidence x.entity x.evidence ≡ Ok tt }
-    ensures opens { (has : CommandSet) (o : Origin) (h : History) (s : Seal) (n : List ℕ) (d : Done) → IsReady o h s → length s.caller.nonce ≤ most_nonce → length n ≡ nonce_bytes →
-        outcome has (present o h) (sent s).bytes n ≡ Ok d → opened (sent s).waiting (answer has o h (sent s).bytes n) ≡ Ok (opened_as s d n) }
-    ensures keeps { (has : CommandSet) (o : Origin) (h : History) (s : Seal) (n : List ℕ) (d : Done) → IsReady o h s → length s.caller.nonce ≤ most_nonce → length n ≡ nonce_bytes → s.keep ≡ true →
-        outcome has (present o h) (sent s).bytes n ≡ Ok d → InStep o (next has o h (sent s).bytes n) (rolled s.caller n) }
-    ensures stays { (has : CommandSet) (o : Origin) (h : History) (s : Seal) (n : List ℕ) (code : ℕ) → InStep o h s.caller → outcome has (present o h) (sent s).bytes n ≡ Err code →
-        (opened (sent s).waiting (answer has o h (sent s).bytes n) ≡ Err (Code code)) × (given_up (sent s).waiting (answer has o h (sent s).bytes n) ≡ Some s.caller) × InStep o (next has o h (sent s).bytes n) s.caller }
+    ensures starts { (o : Origin) (h : History) (bytes n : List ℕ) (d : Done) (q : StartAuth) (r : StartReply) (auth : List ℕ) →
+        outcome (present o h) bytes n ≡ Ok d → d.command.body ≡ bodies.StartAuthSession q → d.reply.body ≡ replies.StartAuthSession r → length n ≡ nonce_bytes → (q.bind ≡ Owner → trim auth ≡ trim o.owner) →
+        (c : CallerSession) × (started_with q r auth ≡ Some c) × InStep o (next o h bytes n) c }
+    ensures passes { (o : Origin) (h : History) (s : Seal) (x : Presented) → IsReady o h s → presented (present o h) (sent s).bytes ≡ Ok x → check_evidence x.entity x.evidence ≡ Ok tt }
+    ensures opens { (o : Origin) (h : History) (s : Seal) (n : List ℕ) (d : Done) → IsReady o h s → length s.caller.nonce ≤ most_nonce → length n ≡ nonce_bytes →
+        outcome (present o h) (sent s).bytes n ≡ Ok d → opened (sent s).waiting (answer o h (sent s).bytes n) ≡ Ok (opened_as s d n) }
+    ensures keeps { (o : Origin) (h : History) (s : Seal) (n : List ℕ) (d : Done) → IsReady o h s → length s.caller.nonce ≤ most_nonce → length n ≡ nonce_bytes → s.keep ≡ true →
+        outcome (present o h) (sent s).bytes n ≡ Ok d → InStep o (next o h (sent s).bytes n) (rolled s.caller n) }
+    ensures stays { (o : Origin) (h : History) (s : Seal) (n : List ℕ) (code : ℕ) → InStep o h s.caller → outcome (present o h) (sent s).bytes n ≡ Err code →
+        (opened (sent s).waiting (answer o h (sent s).bytes n) ≡ Err (Code code)) × (given_up (sent s).waiting (answer o h (sent s).bytes n) ≡ Some s.caller) × InStep o (next o h (sent s).bytes n) s.caller }
 {}
 
 /// No mixed replies: in the run of a new device whose accepted commands with session HMACs are sealed by callers, with
 /// nonceCallers that differ pairwise, and where no two different texts have the same HMAC, a reply that a `Waiting` opens is
 /// the reply to its own buffer, and there is one such reply.
 pub fn no_mixed_replies()
-    ensures own { (has : CommandSet) (o : Origin) (seals : List Seal) (openings : List Opening) (es fs : List Event) (bytes n : List ℕ) (s : Seal) (w : Opened) →
-        IsOfCallers has o seals openings (es ++ Given bytes n ∷ fs) → IsAmong s seals → needs_authorization (code_for s.body) ≡ true →
-        IsAmong (record { seal = s; bytes = answer has o (after has o [] es) bytes n }) openings → opened (sent s).waiting (answer has o (after has o [] es) bytes n) ≡ Ok w →
-        IsAccepted has o (after has o [] es) bytes n × Spells command (sealed_command s) bytes }
-    ensures once { (has : CommandSet) (o : Origin) (seals : List Seal) (openings : List Opening) (es fs gs : List Event) (bytes other n m : List ℕ) (s : Seal) (w v : Opened) →
-        NoncesDiffer (es ++ Given bytes n ∷ fs ++ Given other m ∷ gs) → IsOfCallers has o seals openings (es ++ Given bytes n ∷ fs ++ Given other m ∷ gs) →
+    ensures own { (o : Origin) (seals : List Seal) (openings : List Opening) (es fs : List Event) (bytes n : List ℕ) (s : Seal) (w : Opened) →
+        IsOfCallers o seals openings (es ++ Given bytes n ∷ fs) → IsAmong s seals → needs_authorization (code_for s.body) ≡ true →
+        IsAmong (record { seal = s; bytes = answer o (after o [] es) bytes n }) openings → opened (sent s).waiting (answer o (after o [] es) bytes n) ≡ Ok w →
+        IsAccepted o (after o [] es) bytes n × Spells command (sealed_command s) bytes }
+    ensures once { (o : Origin) (seals : List Seal) (openings : List Opening) (es fs gs : List Event) (bytes other n m : List ℕ) (s : Seal) (w v : Opened) →
+        NoncesDiffer (es ++ Given bytes n ∷ fs ++ Given other m ∷ gs) → IsOfCallers o seals openings (es ++ Given bytes n ∷ fs ++ Given other m ∷ gs) →
         IsAmong s seals → needs_authorization (code_for s.body) ≡ true →
-        IsAmong (record { seal = s; bytes = answer has o (after has o [] es) bytes n }) openings →
-        IsAmong (record { seal = s; bytes = answer has o (after has o [] (es ++ Given bytes n ∷ fs)) other m }) openings →
-        opened (sent s).waiting (answer has o (after has o [] es) bytes n) ≡ Ok w → opened (sent s).waiting (answer has o (after has o [] (es ++ Given bytes n ∷ fs)) other m) ≡ Ok v → ⊥ }
+        IsAmong (record { seal = s; bytes = answer o (after o [] es) bytes n }) openings →
+        IsAmong (record { seal = s; bytes = answer o (after o [] (es ++ Given bytes n ∷ fs)) other m }) openings →
+        opened (sent s).waiting (answer o (after o [] es) bytes n) ≡ Ok w → opened (sent s).waiting (answer o (after o [] (es ++ Given bytes n ∷ fs)) other m) ≡ Ok v → ⊥ }
 {}

@@ -17,7 +17,7 @@ use Rattle.tpm_model.specs.Counters.{counter_in}
 use Rattle.tpm_model.specs.Present.{Present}
 use Rattle.tpm_model.specs.Authorization.{refuse}
 use Rattle.tpm_model.specs.Actions.{check_startup, check_extend, check_reset, check_flush, check_policy_pcr, check_policy_or, check_policy_code, check_define, increment, policy_session, read_counter, defined_counter, then_reply, action}
-use Rattle.tpm_model.specs.Answers.{CommandSet, Presented, Done, code_only, permitted, performed, outcome}
+use Rattle.tpm_model.specs.Answers.{Presented, Done, code_only, permitted, performed, outcome}
 
 -- where it succeeds, with the command's own reply
 abbrev IsOwn : CommandBody → ReplyBody → Type 0
@@ -68,5 +68,5 @@ own_performed p n x = behind IsOwnDone (code_only (read_all (parameters x.code) 
     made_own (body_from x.handles params) (action p (body_from x.handles params) n) _ (λ reply own. own) (own_reply p (body_from x.handles params) n))
 
 -- What was done is answered by the reply of its command.
-pub own_done : (has : CommandSet) (p : Present) (bytes n : List ℕ) → IfOk (outcome has p bytes n) (λ d. code_for d.command.body ≡ code_for_reply d.reply.body)
-own_done has p bytes n = behind IsOwnDone (permitted has p bytes) (performed p n) (λ x. own_performed p n x)
+pub own_done : (p : Present) (bytes n : List ℕ) → IfOk (outcome p bytes n) (λ d. code_for d.command.body ≡ code_for_reply d.reply.body)
+own_done p bytes n = behind IsOwnDone (permitted p bytes) (performed p n) (λ x. own_performed p n x)

@@ -25,7 +25,7 @@ use Rattle.tpm_model.specs.Sessions.{loaded}
 use Rattle.tpm_model.specs.Entities.{entity_of, names_of}
 use Rattle.tpm_model.specs.Authorization.{Evidence, first_loaded, reply_auths, check_evidence}
 use Rattle.tpm_model.specs.Actions.{action}
-use Rattle.tpm_model.specs.Answers.{CommandSet, Presented, Done, check_has, check_started, check_handles, check_tag, presented, permitted, performed, outcome, answered, with_outcome, reply_params}
+use Rattle.tpm_model.specs.Answers.{Presented, Done, check_started, check_handles, check_tag, presented, permitted, performed, outcome, answered, with_outcome, reply_params}
 use Rattle.tpm_model.specs.Premises.{code_in}
 use Rattle.tpm_model.proofs.Accepted.{ok_is}
 use Rattle.tpm_model.proofs.Refused.{refused_with}
@@ -36,25 +36,25 @@ use Rattle.tpm_session.proofs.Authorized.{authorized}
 
 -- ---- before the parameters
 
-pub is_read : (has : CommandSet) (p : Present) (bytes : List ℕ) (x : HeaderCut) (y : HandlesCut) (z : Cut) → read 0 header (at_start bytes) ≡ Ok (head_and_rest x) → check_has (has x.header.code) ≡ Ok tt
+pub is_read : (p : Present) (bytes : List ℕ) (x : HeaderCut) (y : HandlesCut) (z : Cut) → read 0 header (at_start bytes) ≡ Ok (head_and_rest x)
     → check_started p.started x.header.code ≡ Ok tt → IsHandled x (Ok y) → check_handles p 1 y.handles ≡ Ok tt → check_tag x.header.code x.header.tag ≡ Ok tt → IsAreas y (Ok z)
-    → IsRead p (presented has p bytes) (Ok z)
-is_read has p bytes x y z head has_it started handled handles tag areas =
+    → IsRead p (presented p bytes) (Ok z)
+is_read p bytes x y z head started handled handles tag areas =
     let same : y.header ≡ x.header = handled.1 in
     let read_areas = areas.0 in
-    rw (head, has_it, started, handled.0, handles, tag, ← same, read_areas, areas.1, areas.2) refl
+    rw (head, started, handled.0, handles, tag, ← same, read_areas, areas.1, areas.2) refl
 
-pub tag_refused : (has : CommandSet) (p : Present) (bytes : List ℕ) (x : HeaderCut) (y : HandlesCut) (code : ℕ) → read 0 header (at_start bytes) ≡ Ok (head_and_rest x) → check_has (has x.header.code) ≡ Ok tt
+pub tag_refused : (p : Present) (bytes : List ℕ) (x : HeaderCut) (y : HandlesCut) (code : ℕ) → read 0 header (at_start bytes) ≡ Ok (head_and_rest x)
     → check_started p.started x.header.code ≡ Ok tt → IsHandled x (Ok y) → check_handles p 1 y.handles ≡ Ok tt → check_tag x.header.code x.header.tag ≡ Err code
-    → presented has p bytes ≡ Err code
-tag_refused has p bytes x y code head has_it started handled handles tag = rw (head, has_it, started, handled.0, handles, tag) refl
+    → presented p bytes ≡ Err code
+tag_refused p bytes x y code head started handled handles tag = rw (head, started, handled.0, handles, tag) refl
 
-pub areas_refused : (has : CommandSet) (p : Present) (bytes : List ℕ) (x : HeaderCut) (y : HandlesCut) (e : Refusal) → read 0 header (at_start bytes) ≡ Ok (head_and_rest x) → check_has (has x.header.code) ≡ Ok tt
+pub areas_refused : (p : Present) (bytes : List ℕ) (x : HeaderCut) (y : HandlesCut) (e : Refusal) → read 0 header (at_start bytes) ≡ Ok (head_and_rest x)
     → check_started p.started x.header.code ≡ Ok tt → IsHandled x (Ok y) → check_handles p 1 y.handles ≡ Ok tt → check_tag x.header.code x.header.tag ≡ Ok tt → IsAreas y (Err e)
-    → presented has p bytes ≡ Err e.code
-areas_refused has p bytes x y e head has_it started handled handles tag areas =
+    → presented p bytes ≡ Err e.code
+areas_refused p bytes x y e head started handled handles tag areas =
     let same : y.header ≡ x.header = handled.1 in
-    rw (head, has_it, started, handled.0, handles, tag, ← same, areas) refl
+    rw (head, started, handled.0, handles, tag, ← same, areas) refl
 
 pub admitted : (x : HeaderCut) (y : HandlesCut) (z : Cut) → IsHandled x (Ok y) → check_tag x.header.code x.header.tag ≡ Ok tt → IsAreas y (Ok z) → IsAdmitted z
 admitted x y z handled tag areas =
@@ -81,13 +81,13 @@ refused_by p x (Ok e) code is = kept p x (check_evidence (entity_of p (first x.h
 refused_by p x (Err other) code is = cc
 
 -- What was read is refused by the checks of its sessions, or has evidence that is right.
-pub sessions_refuse : (has : CommandSet) (p : Present) (bytes : List ℕ) (x : Cut) (code : ℕ) → IsRead p (presented has p bytes) (Ok x)
-    → sessions_checked p x x.auths ≡ Err code → permitted has p bytes ≡ Err code
-sessions_refuse has p bytes x code read refused = rw read (refused_by p x (evidence_for p x) code refused)
+pub sessions_refuse : (p : Present) (bytes : List ℕ) (x : Cut) (code : ℕ) → IsRead p (presented p bytes) (Ok x)
+    → sessions_checked p x x.auths ≡ Err code → permitted p bytes ≡ Err code
+sessions_refuse p bytes x code read refused = rw read (refused_by p x (evidence_for p x) code refused)
 
-pub sessions_permit : (has : CommandSet) (p : Present) (bytes : List ℕ) (x : Cut) → IsRead p (presented has p bytes) (Ok x)
-    → sessions_checked p x x.auths ≡ Ok tt → IsPermittedBy p (permitted has p bytes) x
-sessions_permit has p bytes x read met =
+pub sessions_permit : (p : Present) (bytes : List ℕ) (x : Cut) → IsRead p (presented p bytes) (Ok x)
+    → sessions_checked p x x.auths ≡ Ok tt → IsPermittedBy p (permitted p bytes) x
+sessions_permit p bytes x read met =
     let right = authorized (first_loaded (loaded p.sessions) x.auths) (entity_of p (first x.handles)) x.header.code (names_of p x.handles) x.params p.registers.update_counter x.auths met in
     record { evidence = right.0; gives = right.1; is = rw (read, right.1, right.2) refl }
 
@@ -118,28 +118,28 @@ refused_stands o h p n x body code d is st = subst (λ (r : Result ReplyBody ℕ
 
 -- ---- the outcome
 
-pub outcome_is : (has : CommandSet) (p : Present) (bytes n : List ℕ) (x : Presented) → permitted has p bytes ≡ Ok x → outcome has p bytes n ≡ performed p n x
-outcome_is has p bytes n x is = rw is refl
+pub outcome_is : (p : Present) (bytes n : List ℕ) (x : Presented) → permitted p bytes ≡ Ok x → outcome p bytes n ≡ performed p n x
+outcome_is p bytes n x is = rw is refl
 
-pub outcome_refused : (has : CommandSet) (p : Present) (bytes n : List ℕ) (code : ℕ) → permitted has p bytes ≡ Err code → outcome has p bytes n ≡ Err code
-outcome_refused has p bytes n code is = rw is refl
+pub outcome_refused : (p : Present) (bytes n : List ℕ) (code : ℕ) → permitted p bytes ≡ Err code → outcome p bytes n ≡ Err code
+outcome_refused p bytes n code is = rw is refl
 
-pub some_code : (has : CommandSet) (p : Present) (bytes n : List ℕ) (code : ℕ) → outcome has p bytes n ≡ Err code → 0 < code
-some_code has p bytes n code is = (refused_with has p bytes n code is).0
+pub some_code : (p : Present) (bytes n : List ℕ) (code : ℕ) → outcome p bytes n ≡ Err code → 0 < code
+some_code p bytes n code is = (refused_with p bytes n code is).0
 
 -- what refuses the parameters or the action refuses the command
-pub outcome_refuses : (has : CommandSet) (p : Present) (bytes n : List ℕ) (x : Presented) (r : Result (Unit {0}) ℕ) → permitted has p bytes ≡ Ok x → IfErr r (λ code. performed p n x ≡ Err code) → IfErr r (λ code. outcome has p bytes n ≡ Err code)
-outcome_refuses has p bytes n x (Ok u) is refuses = tt
-outcome_refuses has p bytes n x (Err code) is refuses = outcome_is has p bytes n x is ∙ refuses
+pub outcome_refuses : (p : Present) (bytes n : List ℕ) (x : Presented) (r : Result (Unit {0}) ℕ) → permitted p bytes ≡ Ok x → IfErr r (λ code. performed p n x ≡ Err code) → IfErr r (λ code. outcome p bytes n ≡ Err code)
+outcome_refuses p bytes n x (Ok u) is refuses = tt
+outcome_refuses p bytes n x (Err code) is refuses = outcome_is p bytes n x is ∙ refuses
 
 pub at_presented : (p : Present) (n : List ℕ) (y : Cut) (x : Presented) (r : Result (Unit {0}) ℕ) → x.code ≡ y.header.code → x.handles ≡ y.handles → x.params ≡ y.params
     → IfErr r (λ code. (z : Presented) → z.code ≡ y.header.code → z.handles ≡ y.handles → z.params ≡ y.params → performed p n z ≡ Err code) → IfErr r (λ code. performed p n x ≡ Err code)
 at_presented p n y x (Ok u) code handles params refuses = tt
 at_presented p n y x (Err e) code handles params refuses = refuses x code handles params
 
-pub some_codes : (has : CommandSet) (p : Present) (bytes n : List ℕ) (r : Result (Unit {0}) ℕ) → IfErr r (λ code. outcome has p bytes n ≡ Err code) → IfErr r (λ code. 0 < code)
-some_codes has p bytes n (Ok u) is = tt
-some_codes has p bytes n (Err code) is = some_code has p bytes n code is
+pub some_codes : (p : Present) (bytes n : List ℕ) (r : Result (Unit {0}) ℕ) → IfErr r (λ code. outcome p bytes n ≡ Err code) → IfErr r (λ code. 0 < code)
+some_codes p bytes n (Ok u) is = tt
+some_codes p bytes n (Err code) is = some_code p bytes n code is
 
 -- the code of a command by its handles and parameters
 pub code_again : (p : Params) (hs : List ℕ) → code_for (body_from hs p) ≡ params_code p

@@ -10,61 +10,70 @@ use Rattle.tpm_model.specs.Runs.{Event, Given, Cycled, after, run}
 use Rattle.tpm_model.specs.Premises.{code_in, IsAccepted, HasSessionMac, NoncesDiffer, NoCollision}
 use Rattle.tpm_model.proofs.Refused.{refused_with}
 use Rattle.tpm_model.proofs.Replay.{twice}
-use Rattle.tpm_model.proofs.Rising.{more_than_had}
+use Rattle.tpm_model.proofs.Rising.{more_than_had, more_than_made}
 use Rattle.tpm_model.proofs.Runs.{after-append}
 use Rattle.tpm_model.proofs.Told.{told_refused}
 use Rattle.tpm_device.specs.declared.device.Device.{Device}
-use Rattle.tpm_device.specs.Commands.{has_command}
 use Rattle.tpm_device.specs.Stands.{holds, Stands}
 use Rattle.tpm_device.specs.Runs.{Executes, Answers, value_on}
 
 pub as_the_model : (o : Origin) (h : History) (old new : Device) (es : List Event) (responses : List (List ℕ)) → Stands o h old → Answers old es responses new
-    → (responses ≡ run has_command o h es) × Stands o (after has_command o h es) new
+    → (responses ≡ run o h es) × Stands o (after o h es) new
 as_the_model o h old new [] responses st ran = (ran.0, subst (λ (d : Device). Stands o h d) ran.1 st)
 as_the_model o h old new (Given bytes nonce ∷ es) [] st ran = absurd ran
 as_the_model o h old new (Given bytes nonce ∷ es) (response ∷ responses) st ran =
-    let rest = as_the_model o (next has_command o h bytes nonce) ran.0 new es responses (ran.1.stands o h st) ran.2 in
-    (ap (λ (x : List ℕ). x ∷ responses) (ran.1.answers o h st) ∙ ap (λ (xs : List (List ℕ)). answer has_command o h bytes nonce ∷ xs) rest.0, rest.1)
+    let rest = as_the_model o (next o h bytes nonce) ran.0 new es responses (ran.1.stands o h st) ran.2 in
+    (ap (λ (x : List ℕ). x ∷ responses) (ran.1.answers o h st) ∙ ap (λ (xs : List (List ℕ)). answer o h bytes nonce ∷ xs) rest.0, rest.1)
 as_the_model o h old new (Cycled ∷ es) responses st ran = as_the_model o (PowerCycle ∷ h) ran.0 new es responses (ran.1 o h st) ran.2
 
 -- ---- no replay
 
-by_outcome : (o : Origin) (h : History) (bytes n : List ℕ) (x : Result Done ℕ) → outcome has_command (present o h) bytes n ≡ x → code_in (answer has_command o h bytes n) ≡ 0 → IsAccepted has_command o h bytes n
+by_outcome : (o : Origin) (h : History) (bytes n : List ℕ) (x : Result Done ℕ) → outcome (present o h) bytes n ≡ x → code_in (answer o h bytes n) ≡ 0 → IsAccepted o h bytes n
 by_outcome o h bytes n (Ok d) is zero = (d, is)
 by_outcome o h bytes n (Err code) is zero =
-    let some : 0 < code = (refused_with has_command (present o h) bytes n code is).0 in
-    let told : code_in (answer has_command o h bytes n) ≡ code = told_refused has_command o h bytes n code is in
+    let some : 0 < code = (refused_with (present o h) bytes n code is).0 in
+    let told : code_in (answer o h bytes n) ≡ code = told_refused o h bytes n code is in
     let none : code ≡ 0 = sym told ∙ zero in
     absurd (omega (arith, some, none))
 
-accepted : (o : Origin) (h : History) (bytes n response : List ℕ) → response ≡ answer has_command o h bytes n → code_in response ≡ 0 → IsAccepted has_command o h bytes n
-accepted o h bytes n response is zero = by_outcome o h bytes n (outcome has_command (present o h) bytes n) refl (ap code_in (sym is) ∙ zero)
+pub accepted : (o : Origin) (h : History) (bytes n response : List ℕ) → response ≡ answer o h bytes n → code_in response ≡ 0 → IsAccepted o h bytes n
+accepted o h bytes n response is zero = by_outcome o h bytes n (outcome (present o h) bytes n) refl (ap code_in (sym is) ∙ zero)
 
 pub not_twice : (o : Origin) (a b c d e : Device) (es fs gs : List Event) (rs ss : List (List ℕ)) (bytes n m r s : List ℕ) → Stands o [] a → Answers a es rs b → Executes b bytes n r c → Answers c fs ss d → Executes d bytes m s e
-    → NoncesDiffer (es ++ Given bytes n ∷ fs ++ Given bytes m ∷ gs) → NoCollision has_command o (es ++ Given bytes n ∷ fs ++ Given bytes m ∷ gs) → HasSessionMac bytes
+    → NoncesDiffer (es ++ Given bytes n ∷ fs ++ Given bytes m ∷ gs) → NoCollision o (es ++ Given bytes n ∷ fs ++ Given bytes m ∷ gs) → HasSessionMac bytes
     → code_in r ≡ 0 → code_in s ≡ 0 → ⊥
 not_twice o a b c d e es fs gs rs ss bytes n m r s st first once second again nonces collisions mac zero zero_again =
-    let here = after has_command o [] es in
+    let here = after o [] es in
     let one = as_the_model o [] a b es rs st first in
-    let there = after has_command o (next has_command o here bytes n) fs in
-    let two = as_the_model o (next has_command o here bytes n) c d fs ss (once.stands o here one.1) second in
-    let place : after has_command o [] (es ++ Given bytes n ∷ fs) ≡ there = after-append has_command o [] es (Given bytes n ∷ fs) in
-    twice has_command o es fs gs bytes n m nonces collisions mac (accepted o here bytes n r (once.answers o here one.1) zero)
-    (subst (λ (h : History). IsAccepted has_command o h bytes m) (sym place) (accepted o there bytes m s (again.answers o there two.1) zero_again))
+    let there = after o (next o here bytes n) fs in
+    let two = as_the_model o (next o here bytes n) c d fs ss (once.stands o here one.1) second in
+    let place : after o [] (es ++ Given bytes n ∷ fs) ≡ there = after-append o [] es (Given bytes n ∷ fs) in
+    twice o es fs gs bytes n m nonces collisions mac (accepted o here bytes n r (once.answers o here one.1) zero)
+    (subst (λ (h : History). IsAccepted o h bytes m) (sym place) (accepted o there bytes m s (again.answers o there two.1) zero_again))
 
 -- ---- no counter goes back
 
 pub rises : (o : Origin) (a b c d : Device) (es fs : List Event) (rs ss : List (List ℕ)) (bytes n r : List ℕ) (x : Done) (by : NvAuthHandle) (i w : ℕ) → Stands o [] a → Answers a es rs b → value_on b i ≡ Some w → Answers b fs ss c
-    → Executes c bytes n r d → outcome has_command (holds c) bytes n ≡ Ok x → x.command.body ≡ NvIncrement by i → (v : ℕ) × (value_on d i ≡ Some v) × (w < v)
+    → Executes c bytes n r d → outcome (holds c) bytes n ≡ Ok x → x.command.body ≡ NvIncrement by i → (v : ℕ) × (value_on d i ≡ Some v) × (w < v)
 rises o a b c d es fs rs ss bytes n r x by i w st first had second last done body =
-    let here = after has_command o [] es in
+    let here = after o [] es in
     let one = as_the_model o [] a b es rs st first in
     let two = as_the_model o here b c fs ss one.1 second in
-    let there = after has_command o [] (es ++ fs) in
-    let place : there ≡ after has_command o here fs = after-append has_command o [] es fs in
+    let there = after o [] (es ++ fs) in
+    let place : there ≡ after o here fs = after-append o [] es fs in
     let stands : Stands o there c = subst (λ (h : History). Stands o h c) (sym place) two.1 in
     let value : value_at o here i ≡ Some w = sym (ap (λ (p : Present). value_of (counter_in p.nv.counters i)) one.1) ∙ had in
-    let more = more_than_had has_command o es fs bytes n x by i w value (ap (λ (p : Present). outcome has_command p bytes n) (sym stands) ∙ done) body in
-    let ends : Stands o (next has_command o there bytes n) d = last.stands o there stands in
-    let at_end : after has_command o [] (es ++ fs ++ Given bytes n ∷ []) ≡ next has_command o there bytes n = after-append has_command o [] (es ++ fs) (Given bytes n ∷ []) in
+    let more = more_than_had o es fs bytes n x by i w value (ap (λ (p : Present). outcome p bytes n) (sym stands) ∙ done) body in
+    let ends : Stands o (next o there bytes n) d = last.stands o there stands in
+    let at_end : after o [] (es ++ fs ++ Given bytes n ∷ []) ≡ next o there bytes n = after-append o [] (es ++ fs) (Given bytes n ∷ []) in
+    (more.0, ap (λ (p : Present). value_of (counter_in p.nv.counters i)) ends ∙ ap (λ (h : History). value_at o h i) (sym at_end) ∙ more.1, more.2)
+
+pub rises_from_the_start : (o : Origin) (a b c : Device) (es : List Event) (rs : List (List ℕ)) (bytes n r : List ℕ) (x : Done) (by : NvAuthHandle) (i : ℕ) → Stands o [] a → Answers a es rs b
+    → Executes b bytes n r c → outcome (holds b) bytes n ≡ Ok x → x.command.body ≡ NvIncrement by i → (v : ℕ) × (value_on c i ≡ Some v) × (o.greatest < v)
+rises_from_the_start o a b c es rs bytes n r x by i st first last done body =
+    let here = after o [] es in
+    let one = as_the_model o [] a b es rs st first in
+    let more = more_than_made o es bytes n x by i (ap (λ (p : Present). outcome p bytes n) (sym one.1) ∙ done) body in
+    let ends : Stands o (next o here bytes n) c = last.stands o here one.1 in
+    let at_end : after o [] (es ++ Given bytes n ∷ []) ≡ next o here bytes n = after-append o [] es (Given bytes n ∷ []) in
     (more.0, ap (λ (p : Present). value_of (counter_in p.nv.counters i)) ends ∙ ap (λ (h : History). value_at o h i) (sym at_end) ∙ more.1, more.2)

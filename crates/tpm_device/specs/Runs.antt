@@ -5,13 +5,12 @@ use Rattle.tpm_model.specs.Counters.{counter_in, value_of}
 use Rattle.tpm_model.specs.Answers.{answer, next}
 use Rattle.tpm_model.specs.Runs.{Event, Given, Cycled}
 use Rattle.tpm_device.specs.declared.device.Device.{Device}
-use Rattle.tpm_device.specs.Commands.{has_command}
 use Rattle.tpm_device.specs.Stands.{holds, Stands}
 
 -- what a call of `execute` promises: from one device to the other, with this response
 pub record Executes (old : Device) (bytes nonce response : List ℕ) (new : Device) : Type 0 where
-  pub answers : (o : Origin) (h : History) → Stands o h old → response ≡ answer has_command o h bytes nonce
-  pub stands : (o : Origin) (h : History) → Stands o h old → Stands o (next has_command o h bytes nonce) new
+  pub answers : (o : Origin) (h : History) → Stands o h old → response ≡ answer o h bytes nonce
+  pub stands : (o : Origin) (h : History) → Stands o h old → Stands o (next o h bytes nonce) new
 
 -- what a power cycle promises
 abbrev pub Cycles : Device → Device → Type 0

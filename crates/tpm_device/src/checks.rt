@@ -2,23 +2,15 @@
 
 ghost use Rattle.std.specs.Prelude.{◌≡◌, ◌≤◌, length, is_some};
 ghost use Rattle.tpm_model.specs.Sessions.{loaded};
-ghost use Rattle.tpm_model.specs.Answers.{check_has as has_of, check_started as started_of, check_handle as handle_of, check_handles as handles_of, check_tag as tag_of};
-ghost use Rattle.tpm_device.specs.Commands.{has_command};
+ghost use Rattle.tpm_model.specs.Answers.{check_started as started_of, check_handle as handle_of, check_handles as handles_of, check_tag as tag_of};
 ghost use Rattle.tpm_device.specs.Stands.{holds};
 
 use crate::device::Device;
 use tpm_buffer::{CommandCode, NO_SESSIONS, SESSIONS};
 use tpm_types::{NvIndex, PolicyHandle, SessionHandle};
 use tpm_wire::response_code::{
-    AUTH_CONTEXT, AUTH_MISSING, COMMAND_CODE, HANDLE, INITIALIZE, REFERENCE_H0, of_handle,
+    AUTH_CONTEXT, AUTH_MISSING, HANDLE, INITIALIZE, REFERENCE_H0, of_handle,
 };
-
-/// COMMAND_CODE unless the device has the command.
-pub(crate) fn check_has(code: CommandCode) -> Result<(), u32>
-    ensures { result ≡ has_of (has_command code) }
-{
-    Ok(())
-}
 
 /// INITIALIZE for TPM2_Startup on a device that is started, and for another command on one that is not.
 pub(crate) fn check_started(started: bool, code: CommandCode) -> Result<(), u32>

@@ -8,10 +8,9 @@ ghost use Rattle.tpm_model.specs.Authorization.{Evidence};
 ghost use Rattle.tpm_model.specs.Actions.{action};
 ghost use Rattle.tpm_model.specs.Answers.{Presented, presented as presented_of, permitted as permitted_of, performed as performed_of, outcome as outcome_of, answered, answer, next, with_outcome};
 ghost use Rattle.tpm_model.specs.Premises.{code_in};
-ghost use Rattle.tpm_device.specs.Commands.{has_command};
 ghost use Rattle.tpm_device.specs.Stands.{none_loaded, Stands, holds, evidence_for, HasEvidence, presented_with, IsAdmitted, IsRead, IsPermitted, done_of, given, told};
 
-use crate::checks::{check_has, check_started, check_tag};
+use crate::checks::{check_started, check_tag};
 use crate::reply::put_refusal;
 use tpm_buffer::{Areas, Params, ReplyBody, decode_params_into, header};
 use tpm_session::Sessions;
@@ -63,13 +62,12 @@ impl Device {
 
     // The checks by the grammar, and those before the authorization area.
     fn presented<'a>(&self, bytes: &'a [u8]) -> Result<Areas<'a>, u32>
-        ensures reads { IsRead (holds self.now) (presented_of has_command (holds self.now) bytes.now) result }
+        ensures reads { IsRead (holds self.now) (presented_of (holds self.now) bytes.now) result }
         ensures admitted { IfOk result IsAdmitted }
     {
         let headed = header(bytes).map_err(|refusal| refusal.code)?;
         let code = headed.code();
         let tag = headed.tag();
-        check_has(code)?;
         check_started(self.started, code)?;
         let handled = headed.handles().map_err(|refusal| refusal.code)?;
         self.check_handles(handled.list())?;
@@ -82,7 +80,7 @@ impl Device {
 
     // All checks before the parameters.
     fn permitted<'a>(&self, bytes: &'a [u8]) -> Result<Areas<'a>, u32>
-        ensures reads { IsPermitted (holds self.now) (permitted_of has_command (holds self.now) bytes.now) result }
+        ensures reads { IsPermitted (holds self.now) (permitted_of (holds self.now) bytes.now) result }
         ensures admitted { IfOk result IsAdmitted }
     {
         let areas = self.presented(bytes)?;
@@ -149,9 +147,9 @@ impl Device {
     // The reply, or the code of the first check that fails.
     fn outcome(&mut self, bytes: &[u8], nonce: &[u8; 64], out: &mut Buffer) -> Result<(), u32>
         requires empty { length out.old.items ≡ 0 }
-        ensures answer { (o : Origin) (h : History) → Stands o h self.old → given out.new.items result ≡ told (outcome_of has_command (holds self.old) bytes.now nonce.now) }
-        ensures stands { (o : Origin) (h : History) → Stands o h self.old → Stands o (with_outcome h nonce.now (outcome_of has_command (holds self.old) bytes.now nonce.now)) self.new }
-        ensures refuses { IfErr result (λ code. outcome_of has_command (holds self.old) bytes.now nonce.now ≡ Err code) }
+        ensures answer { (o : Origin) (h : History) → Stands o h self.old → given out.new.items result ≡ told (outcome_of (holds self.old) bytes.now nonce.now) }
+        ensures stands { (o : Origin) (h : History) → Stands o h self.old → Stands o (with_outcome h nonce.now (outcome_of (holds self.old) bytes.now nonce.now)) self.new }
+        ensures refuses { IfErr result (λ code. outcome_of (holds self.old) bytes.now nonce.now ≡ Err code) }
         ensures some { IfErr result (λ code. 0 < code) }
         ensures refused { OnErr result (self.new ≡ self.old) }
         ensures done { OnOk result (code_in out.new.items ≡ 0) }
@@ -165,8 +163,8 @@ impl Device {
     #[inline(never)]
     fn answer(&mut self, bytes: &[u8], nonce: &[u8; 64], out: &mut Buffer)
         requires empty { length out.old.items ≡ 0 }
-        ensures answer { (o : Origin) (h : History) → Stands o h self.old → out.new.items ≡ answered (outcome_of has_command (holds self.old) bytes.now nonce.now) }
-        ensures stands { (o : Origin) (h : History) → Stands o h self.old → Stands o (with_outcome h nonce.now (outcome_of has_command (holds self.old) bytes.now nonce.now)) self.new }
+        ensures answer { (o : Origin) (h : History) → Stands o h self.old → out.new.items ≡ answered (outcome_of (holds self.old) bytes.now nonce.now) }
+        ensures stands { (o : Origin) (h : History) → Stands o h self.old → Stands o (with_outcome h nonce.now (outcome_of (holds self.old) bytes.now nonce.now)) self.new }
         ensures refused { 0 < code_in out.new.items → self.new ≡ self.old }
     {
         if let Err(code) = self.outcome(bytes, nonce, out) {
@@ -184,8 +182,8 @@ impl Device {
     /// tpm_store and tpm_session, and VALUE for a start from a saved state (Part 1, "Command Processing"; the order is this
     /// profile's).
     pub fn execute(&mut self, bytes: &[u8], nonce: &[u8; 64]) -> Buffer
-        ensures answer { (o : Origin) (h : History) → Stands o h self.old → result.items ≡ answer has_command o h bytes.now nonce.now }
-        ensures stands { (o : Origin) (h : History) → Stands o h self.old → Stands o (next has_command o h bytes.now nonce.now) self.new }
+        ensures answer { (o : Origin) (h : History) → Stands o h self.old → result.items ≡ answer o h bytes.now nonce.now }
+        ensures stands { (o : Origin) (h : History) → Stands o h self.old → Stands o (next o h bytes.now nonce.now) self.new }
         ensures refused { 0 < code_in result.items → self.new ≡ self.old }
     {
         let mut out = Buffer::new();

@@ -9,7 +9,7 @@ use Rattle.tpm_model.specs.Steps.{History, Accepted, PowerCycle, Origin}
 use Rattle.tpm_model.specs.Present.{Present, present}
 use Rattle.tpm_model.specs.Authorization.{check_evidence, reply_auths}
 use Rattle.tpm_model.specs.Actions.{action}
-use Rattle.tpm_model.specs.Answers.{CommandSet, Presented, presented, permitted, Done, reply_params, performed, outcome, code_only, with_outcome, next}
+use Rattle.tpm_model.specs.Answers.{Presented, presented, permitted, Done, reply_params, performed, outcome, code_only, with_outcome, next}
 use Rattle.tpm_model.specs.Runs.{Event, after}
 use Rattle.tpm_model.specs.Runs.Event.{Given, Cycled}
 
@@ -20,9 +20,9 @@ pub ok_is : {A : Type 0} (x y : A) → ok x ≡ ok y → x ≡ y
 ok_is x y e = cc
 
 -- what an accepted buffer has passed
-pub record Passed (has : CommandSet) (p : Present) (bytes n : List ℕ) (d : Done) : Type 0 where
+pub record Passed (p : Present) (bytes n : List ℕ) (d : Done) : Type 0 where
   pub x : Presented
-  pub asked : presented has p bytes ≡ Ok x
+  pub asked : presented p bytes ≡ Ok x
   pub evidence : check_evidence x.entity x.evidence ≡ Ok tt
   pub params : Params
   pub read : code_only (read_all (parameters x.code) x.params) ≡ Ok params
@@ -31,38 +31,38 @@ pub record Passed (has : CommandSet) (p : Present) (bytes n : List ℕ) (d : Don
   pub act : action p d.command.body n ≡ Ok d.reply.body
   pub replied : d.reply.auths ≡ reply_auths x.evidence x.code (reply_params d.reply.body) n
 
-permitted_passed : (has : CommandSet) (p : Present) (bytes : List ℕ) (x : Presented) → permitted has p bytes ≡ Ok x → (presented has p bytes ≡ Ok x) × (check_evidence x.entity x.evidence ≡ Ok tt)
-permitted_passed has p bytes x e =
-    let a = bind_ok (presented has p bytes) _ x e in
+permitted_passed : (p : Present) (bytes : List ℕ) (x : Presented) → permitted p bytes ≡ Ok x → (presented p bytes ≡ Ok x) × (check_evidence x.entity x.evidence ≡ Ok tt)
+permitted_passed p bytes x e =
+    let a = bind_ok (presented p bytes) _ x e in
     let b = bind_ok (check_evidence a.0.entity a.0.evidence) _ x a.2 in
     let same : a.0 ≡ x = ok_is a.0 x b.2 in
-    (subst (λ y. presented has p bytes ≡ ok y) same a.1, subst (λ y. check_evidence y.entity y.evidence ≡ ok tt) same b.1)
+    (subst (λ y. presented p bytes ≡ ok y) same a.1, subst (λ y. check_evidence y.entity y.evidence ≡ ok tt) same b.1)
 
-pub passed : (has : CommandSet) (p : Present) (bytes n : List ℕ) (d : Done) → outcome has p bytes n ≡ Ok d → Passed has p bytes n d
-passed has p bytes n d e =
-    let a = bind_ok (permitted has p bytes) (performed p n) d e in
+pub passed : (p : Present) (bytes n : List ℕ) (d : Done) → outcome p bytes n ≡ Ok d → Passed p bytes n d
+passed p bytes n d e =
+    let a = bind_ok (permitted p bytes) (performed p n) d e in
     let x = a.0 in
-    let before = permitted_passed has p bytes x a.1 in
+    let before = permitted_passed p bytes x a.1 in
     let b = bind_ok (code_only (read_all (parameters x.code) x.params)) _ d a.2 in
     let c = bind_ok (action p (body_from x.handles b.0) n) _ d b.2 in
-    subst (Passed has p bytes n) (ok_is _ d c.2) (record { x = x; asked = before.0; evidence = before.1; params = b.0; read = b.1; body = refl; auths = refl; act = c.1; replied = refl })
+    subst (Passed p bytes n) (ok_is _ d c.2) (record { x = x; asked = before.0; evidence = before.1; params = b.0; read = b.1; body = refl; auths = refl; act = c.1; replied = refl })
 
 -- what holds of a history, and of each step that may come next, holds after a buffer
-pub after_next : (P : History → Type 0) (has : CommandSet) (o : Origin) (h : History) (bytes n : List ℕ) → P h
-    → ((d : Done) → Passed has (present o h) bytes n d → P (Accepted d.command d.reply n ∷ h)) → P (next has o h bytes n)
-after_next P has o h bytes n here step =
-    elim (outcome has (present o h) bytes n) as (λ x. outcome has (present o h) bytes n ≡ x → P (with_outcome h n x))
-    [ Ok d ↦ λ e. step d (passed has (present o h) bytes n d e) | Err code ↦ λ _. here ] refl
+pub after_next : (P : History → Type 0) (o : Origin) (h : History) (bytes n : List ℕ) → P h
+    → ((d : Done) → Passed (present o h) bytes n d → P (Accepted d.command d.reply n ∷ h)) → P (next o h bytes n)
+after_next P o h bytes n here step =
+    elim (outcome (present o h) bytes n) as (λ x. outcome (present o h) bytes n ≡ x → P (with_outcome h n x))
+    [ Ok d ↦ λ e. step d (passed (present o h) bytes n d e) | Err code ↦ λ _. here ] refl
 
 -- an invariant of runs
-pub along : (P : History → Type 0) (has : CommandSet) (o : Origin)
-    → ((h : History) (bytes n : List ℕ) (d : Done) → Passed has (present o h) bytes n d → P h → P (Accepted d.command d.reply n ∷ h))
-    → ((h : History) → P h → P (PowerCycle ∷ h)) → (es : List Event) (h : History) → P h → P (after has o h es)
-along P has o step power [] h here = here
-along P has o step power (Given bytes n ∷ es) h here =
-    along P has o step power es (next has o h bytes n) (after_next P has o h bytes n here (λ d s. step h bytes n d s here))
-along P has o step power (Cycled ∷ es) h here = along P has o step power es (PowerCycle ∷ h) (power h here)
+pub along : (P : History → Type 0) (o : Origin)
+    → ((h : History) (bytes n : List ℕ) (d : Done) → Passed (present o h) bytes n d → P h → P (Accepted d.command d.reply n ∷ h))
+    → ((h : History) → P h → P (PowerCycle ∷ h)) → (es : List Event) (h : History) → P h → P (after o h es)
+along P o step power [] h here = here
+along P o step power (Given bytes n ∷ es) h here =
+    along P o step power es (next o h bytes n) (after_next P o h bytes n here (λ d s. step h bytes n d s here))
+along P o step power (Cycled ∷ es) h here = along P o step power es (PowerCycle ∷ h) (power h here)
 
 -- the history after an accepted buffer
-pub next_is : (has : CommandSet) (o : Origin) (h : History) (bytes n : List ℕ) (d : Done) → outcome has (present o h) bytes n ≡ Ok d → next has o h bytes n ≡ Accepted d.command d.reply n ∷ h
-next_is has o h bytes n d e = ap (with_outcome h n) e
+pub next_is : (o : Origin) (h : History) (bytes n : List ℕ) (d : Done) → outcome (present o h) bytes n ≡ Ok d → next o h bytes n ≡ Accepted d.command d.reply n ∷ h
+next_is o h bytes n d e = ap (with_outcome h n) e

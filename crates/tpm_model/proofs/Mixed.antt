@@ -39,7 +39,7 @@ use Rattle.tpm_model.specs.Sessions.{Session, loaded, sessions_at, slot_of}
 use Rattle.tpm_model.specs.Present.{Present, present}
 use Rattle.tpm_model.specs.Entities.{Entity, entity_of, names_of, auth_value}
 use Rattle.tpm_model.specs.Authorization.{refuse, is_empty, Authorizer, Password, BySession, by_session, check_loaded, check_session, check_no_trial, check_no_nonce, check_entity, evidence_by, evidence_of, check_evidence, first_loaded, failure, Signed, command_text, needs_none, is_signed, key_for, Evidence, NotAsked, ByPassword, ByMac, nonce_next, reply_mac, reply_auths, password_reply}
-use Rattle.tpm_model.specs.Answers.{CommandSet, Presented, presented, Done, outcome, answered, answer, next, reply_params}
+use Rattle.tpm_model.specs.Answers.{Presented, presented, Done, outcome, answered, answer, next, reply_params}
 use Rattle.tpm_model.specs.Callers.{Seal, seal_key, seal_text, seal_auth, sealed_command, Waiting, waiting, CallerFault, NotExpected, WrongMac, Opened, awaited_text, has_mac, unless, opened_session, opened_response, opened}
 use Rattle.tpm_model.specs.Runs.{Event, after}
 use Rattle.tpm_model.specs.Runs.Event.{Given, Cycled}
@@ -179,12 +179,12 @@ among_left x [] ys i = absurd i
 among_left x (y ∷ xs) ys (inl e) = inl e
 among_left x (y ∷ xs) ys (inr i) = inr (among_left x xs ys i)
 
-among_reply : (has : CommandSet) (o : Origin) (h : History) (es fs : List Event) (bytes n : List ℕ) (x : Keyed)
-    → text_replied (presented has (present o (after has o h es)) bytes) (outcome has (present o (after has o h es)) bytes n) n ≡ x ∷ [] → IsAmong x (texts_replied has o h (es ++ Given bytes n ∷ fs))
-among_reply has o h [] fs bytes n x e = subst (λ xs. IsAmong x (xs ++ texts_replied has o (next has o h bytes n) fs)) (sym e) (inl refl)
-among_reply has o h (Given b m ∷ es) fs bytes n x e =
-    among_later x (text_replied (presented has (present o h) b) (outcome has (present o h) b m) m) (texts_replied has o (next has o h b m) (es ++ Given bytes n ∷ fs)) (among_reply has o (next has o h b m) es fs bytes n x e)
-among_reply has o h (Cycled ∷ es) fs bytes n x e = among_reply has o (PowerCycle ∷ h) es fs bytes n x e
+among_reply : (o : Origin) (h : History) (es fs : List Event) (bytes n : List ℕ) (x : Keyed)
+    → text_replied (presented (present o (after o h es)) bytes) (outcome (present o (after o h es)) bytes n) n ≡ x ∷ [] → IsAmong x (texts_replied o h (es ++ Given bytes n ∷ fs))
+among_reply o h [] fs bytes n x e = subst (λ xs. IsAmong x (xs ++ texts_replied o (next o h bytes n) fs)) (sym e) (inl refl)
+among_reply o h (Given b m ∷ es) fs bytes n x e =
+    among_later x (text_replied (presented (present o h) b) (outcome (present o h) b m) m) (texts_replied o (next o h b m) (es ++ Given bytes n ∷ fs)) (among_reply o (next o h b m) es fs bytes n x e)
+among_reply o h (Cycled ∷ es) fs bytes n x e = among_reply o (PowerCycle ∷ h) es fs bytes n x e
 
 abbrev text_at : Opening → List Keyed
 text_at x = text_opened (waiting x.seal) (read_all (response (code_for x.seal.body)) x.bytes)
@@ -194,11 +194,11 @@ among_opened x [] k i e = absurd i
 among_opened x (y ∷ xs) k (inl same) e = subst (λ t. IsAmong k (t ++ texts_opened xs)) (sym (sym (ap text_at same) ∙ e)) (inl refl)
 among_opened x (y ∷ xs) k (inr i) e = among_later k (text_at y) (texts_opened xs) (among_opened x xs k i e)
 
-sealed_here : (has : CommandSet) (o : Origin) (seals : List Seal) (h : History) (es fs : List Event) (bytes n : List ℕ) → AreSealed has o seals h (es ++ Given bytes n ∷ fs)
-    → IsAccepted has o (after has o h es) bytes n → HasSessionMac bytes → IsSealedBy seals bytes
-sealed_here has o seals h [] fs bytes n all = all.0
-sealed_here has o seals h (Given b m ∷ es) fs bytes n all = sealed_here has o seals (next has o h b m) es fs bytes n all.1
-sealed_here has o seals h (Cycled ∷ es) fs bytes n all = sealed_here has o seals (PowerCycle ∷ h) es fs bytes n all
+sealed_here : (o : Origin) (seals : List Seal) (h : History) (es fs : List Event) (bytes n : List ℕ) → AreSealed o seals h (es ++ Given bytes n ∷ fs)
+    → IsAccepted o (after o h es) bytes n → HasSessionMac bytes → IsSealedBy seals bytes
+sealed_here o seals h [] fs bytes n all = all.0
+sealed_here o seals h (Given b m ∷ es) fs bytes n all = sealed_here o seals (next o h b m) es fs bytes n all.1
+sealed_here o seals h (Cycled ∷ es) fs bytes n all = sealed_here o seals (PowerCycle ∷ h) es fs bytes n all
 
 other_from : (nonce : List ℕ) (seals : List Seal) (s : Seal) → IsOther nonce seals → IsAmong s seals → nonce ≢ s.nonce
 other_from nonce [] s other i = absurd i
@@ -231,49 +231,49 @@ one_caller a b p q newer other u v f g mac text left right same =
 -- ---- the whole
 
 -- a Waiting that opened the reply of an accepted step
-record Step (has : CommandSet) (o : Origin) (h : History) (bytes n : List ℕ) (s : Seal) (d : Done) : Type 0 where
-  is : outcome has (present o h) bytes n ≡ Ok d
+record Step (o : Origin) (h : History) (bytes n : List ℕ) (s : Seal) (d : Done) : Type 0 where
+  is : outcome (present o h) bytes n ≡ Ok d
   needs : needs_authorization (code_for s.body) ≡ true
-  opening : WasOpened (waiting s) (read_all (response (code_for s.body)) (answer has o h bytes n))
+  opening : WasOpened (waiting s) (read_all (response (code_for s.body)) (answer o h bytes n))
 
 abbrev made_of : ReplyBody → List AuthReply → Reply
 made_of body auths = record { body = body; auths = auths }
 
 -- its session as it was read, from bytes with these sessions
-step_lists : (has : CommandSet) (o : Origin) (h : History) (bytes n : List ℕ) (s : Seal) (d : Done) (t : Step has o h bytes n s d) (auths : List AuthReply) → d.reply.auths ≡ auths
+step_lists : (o : Origin) (h : History) (bytes n : List ℕ) (s : Seal) (d : Done) (t : Step o h bytes n s d) (auths : List AuthReply) → d.reply.auths ≡ auths
     → Lists (session_list (spelling (response (code_for d.command.body)) (done_body d.reply.body auths))) (t.opening.auth ∷ [])
-step_lists has o h bytes n s d t auths is =
+step_lists o h bytes n s d t auths is =
     let code = code_for s.body in
-    let same : answer has o h bytes n ≡ spelling (response (code_for d.command.body)) (done_body d.reply.body auths) =
+    let same : answer o h bytes n ≡ spelling (response (code_for d.command.body)) (done_body d.reply.body auths) =
     ap answered t.is ∙ ap (λ (l : List AuthReply). spelling (response (code_for d.command.body)) (done_body d.reply.body l)) is in
     listed code (spelling (response (code_for d.command.body)) (done_body d.reply.body auths)) t.opening.body (t.opening.auth ∷ []) t.needs (ap (read_all (response code)) (sym same) ∙ t.opening.is)
 
 open_some : (w : Waiting) (r : Result Response Refusal) (t : WasOpened w r) → 0 < length t.auth.hmac
 open_some w r t = subst (λ (m : List ℕ). 0 < length m) (sym t.mac) (hmac_some w.caller.hash w.key (awaited_text w t.body t.auth))
 
-never_none : (has : CommandSet) (o : Origin) (h : History) (bytes n : List ℕ) (s : Seal) (d : Done) → Step has o h bytes n s d → d.reply.auths ≡ [] → ⊥
-never_none has o h bytes n s d t none =
+never_none : (o : Origin) (h : History) (bytes n : List ℕ) (s : Seal) (d : Done) → Step o h bytes n s d → d.reply.auths ≡ [] → ⊥
+never_none o h bytes n s d t none =
     let b = spelling (response (code_for d.command.body)) (done_body d.reply.body []) in
-    let nil = none_listed b (t.opening.auth ∷ []) (no_reply_tag (code_for d.command.body) d.reply.body) (step_lists has o h bytes n s d t [] none) in
+    let nil = none_listed b (t.opening.auth ∷ []) (no_reply_tag (code_for d.command.body) d.reply.body) (step_lists o h bytes n s d t [] none) in
     let z : ⊥ = cc in z
 
 -- The nonce and the HMAC that were read are those of the reply.
-step_read : (has : CommandSet) (o : Origin) (h : History) (bytes n : List ℕ) (s : Seal) (d : Done) (t : Step has o h bytes n s d) (done : Passed has (present o h) bytes n d) (auth : Auth) (a : AuthReply)
+step_read : (o : Origin) (h : History) (bytes n : List ℕ) (s : Seal) (d : Done) (t : Step o h bytes n s d) (done : Passed (present o h) bytes n d) (auth : Auth) (a : AuthReply)
     → done.x.auths ≡ auth ∷ [] → d.reply.auths ≡ a ∷ [] → length a.nonce ≤ most_nonce → length a.hmac ≤ most_nonce → (t.opening.auth.nonce ≡ a.nonce) × (t.opening.auth.hmac ≡ a.hmac)
-step_read has o h bytes n s d t done auth a one is few_nonce few_hmac =
-    let needs = by_session_needs has (present o h) bytes n d done auth one in
+step_read o h bytes n s d t done auth a one is few_nonce few_hmac =
+    let needs = by_session_needs (present o h) bytes n d done auth one in
     let own = own_reply (present o h) d.command.body n d.reply.body needs done.act in
     let r = d.reply.body in
     let same : spelling (response (code_for d.command.body)) (done_body r (a ∷ [])) ≡ reply_bytes (size_of_response (code_for_reply r) (done_body r (a ∷ []))) (reply_params r) a.nonce a.attrs a.hmac [] =
     ap (λ c. spelling (response c) (done_body r (a ∷ []))) own.code ∙ one_reply r a own.none in
     one_session (size_of_response (code_for_reply r) (done_body r (a ∷ []))) (reply_params r) a.nonce a.attrs a.hmac [] t.opening.auth own.short few_nonce few_hmac
-    (subst (λ (b : List ℕ). Lists (session_list b) (t.opening.auth ∷ [])) same (step_lists has o h bytes n s d t (a ∷ []) is))
+    (subst (λ (b : List ℕ). Lists (session_list b) (t.opening.auth ∷ [])) same (step_lists o h bytes n s d t (a ∷ []) is))
 
-never_word : (has : CommandSet) (o : Origin) (h : History) (bytes n : List ℕ) (s : Seal) (d : Done) (t : Step has o h bytes n s d) (done : Passed has (present o h) bytes n d) (auth : Auth) (a : AuthReply)
+never_word : (o : Origin) (h : History) (bytes n : List ℕ) (s : Seal) (d : Done) (t : Step o h bytes n s d) (done : Passed (present o h) bytes n d) (auth : Auth) (a : AuthReply)
     → done.x.auths ≡ auth ∷ [] → d.reply.auths ≡ a ∷ [] → length a.nonce ≤ most_nonce → a.hmac ≡ [] → ⊥
-never_word has o h bytes n s d t done auth a one is few none =
-    let r = step_read has o h bytes n s d t done auth a one is few (omega (arith, ap length none)) in
-    let z : ⊥ = absurd (omega (arith, open_some (waiting s) (read_all (response (code_for s.body)) (answer has o h bytes n)) t.opening, ap length r.1, ap length none)) in z
+never_word o h bytes n s d t done auth a one is few none =
+    let r = step_read o h bytes n s d t done auth a one is few (omega (arith, ap length none)) in
+    let z : ⊥ = absurd (omega (arith, open_some (waiting s) (read_all (response (code_for s.body)) (answer o h bytes n)) t.opening, ap length r.1, ap length none)) in z
 
 head_auth : (a b : Auth) → a ∷ [] ≡ b ∷ [] → a ≡ b
 head_auth a b e = cc
@@ -285,9 +285,9 @@ mac_there e y c signs =
     let same : bytes_eq y.auth.hmac mac ≡ true = ap (λ b. if b then true else bytes_eq y.auth.hmac mac) (sym signs) ∙ refused_not (is_signed y) (failure e) c in
     subst (λ (m : List ℕ). 0 < length m) (sym ((bytes_eq-Decides y.auth.hmac mac).0 same)) (hmac_some y.session.hash y.key (command_text y))
 
-module _ (has : CommandSet) (o : Origin) (seals : List Seal) (xs : List Opening) (es fs : List Event) (bytes n : List ℕ) (s : Seal) where
+module _ (o : Origin) (seals : List Seal) (xs : List Opening) (es fs : List Event) (bytes n : List ℕ) (s : Seal) where
   abbrev pub before : History
-  before = after has o [] es
+  before = after o [] es
 
   -- The buffer is that of the command, which is one of a session.
   abbrev Own : Type 0
@@ -295,11 +295,11 @@ module _ (has : CommandSet) (o : Origin) (seals : List Seal) (xs : List Opening)
 
   -- the premises on the run
   pub record OfRun : Type 0 where
-    pub run : IsOfCallers has o seals xs (es ++ Given bytes n ∷ fs)
+    pub run : IsOfCallers o seals xs (es ++ Given bytes n ∷ fs)
     pub given : IsAmong s seals
-    pub tried : IsAmong (record { seal = s; bytes = answer has o before bytes n }) xs
+    pub tried : IsAmong (record { seal = s; bytes = answer o before bytes n }) xs
 
-  by_mac : (d : Done) (g : OfRun) (t : Step has o before bytes n s d) (done : Passed has (present o before) bytes n d) (y : Signed) → done.x.auths ≡ y.auth ∷ [] → done.x.evidence ≡ ByMac y
+  by_mac : (d : Done) (g : OfRun) (t : Step o before bytes n s d) (done : Passed (present o before) bytes n d) (y : Signed) → done.x.auths ≡ y.auth ∷ [] → done.x.evidence ≡ ByMac y
       → loaded (sessions_at o before) y.auth.session ≡ Some y.session → length (nonce_next y.session n) ≤ most_nonce → needs_none y ≡ false → Own
   by_mac d g t done y one evidence is few signs =
       let p = present o before in
@@ -312,86 +312,86 @@ module _ (has : CommandSet) (o : Origin) (seals : List Seal) (xs : List Opening)
       let k = keyed_reply y x.code params n in
       let q = keyed_awaited w t.opening.body t.opening.auth in
       let short : length a.hmac ≤ most_nonce = omega (arith, length-hmac y.session.hash y.key k.text, digest_short y.session.hash) in
-      let read_it = step_read has o before bytes n s d t done y.auth a one reply few short in
-      let text : text_replied (presented has p bytes) (outcome has p bytes n) n ≡ k ∷ [] =
-      ap (λ z. text_replied z (outcome has p bytes n) n) done.asked ∙ ap (λ z. text_replied (Ok x) z n) t.is ∙ ap (λ z. text_by z x.code params n) evidence ∙ ap (λ b. if b then [] else k ∷ []) signs in
-      let checked = texts_checked has o [] (es ++ Given bytes n ∷ fs) in
-      let replied = texts_replied has o [] (es ++ Given bytes n ∷ fs) in
-      let among_k = among_later k checked (replied ++ texts_opened xs) (among_left k replied (texts_opened xs) (among_reply has o [] es fs bytes n k text)) in
-      let among_q = among_later q checked (replied ++ texts_opened xs) (among_later q replied (texts_opened xs) (among_opened (record { seal = s; bytes = answer has o before bytes n }) xs q g.tried t.opening.text)) in
+      let read_it = step_read o before bytes n s d t done y.auth a one reply few short in
+      let text : text_replied (presented p bytes) (outcome p bytes n) n ≡ k ∷ [] =
+      ap (λ z. text_replied z (outcome p bytes n) n) done.asked ∙ ap (λ z. text_replied (Ok x) z n) t.is ∙ ap (λ z. text_by z x.code params n) evidence ∙ ap (λ b. if b then [] else k ∷ []) signs in
+      let checked = texts_checked o [] (es ++ Given bytes n ∷ fs) in
+      let replied = texts_replied o [] (es ++ Given bytes n ∷ fs) in
+      let among_k = among_later k checked (replied ++ texts_opened xs) (among_left k replied (texts_opened xs) (among_reply o [] es fs bytes n k text)) in
+      let among_q = among_later q checked (replied ++ texts_opened xs) (among_later q replied (texts_opened xs) (among_opened (record { seal = s; bytes = answer o before bytes n }) xs q g.tried t.opening.text)) in
       let macs : mac_of q ≡ mac_of k = sym t.opening.mac ∙ read_it.1 in
       let texts = g.run.no_collision q k among_q among_k macs in
       let nonce : s.nonce ≡ y.auth.nonce = one_caller q k (to_be_bytes w32 0 ++ (to_be_bytes w32 (code_number w.code) ++ reply_params t.opening.body)) (to_be_bytes w32 0 ++ (to_be_bytes w32 (code_number x.code) ++ params))
       t.opening.auth.nonce (nonce_next y.session n) s.nonce y.auth.nonce t.opening.auth.attrs y.auth.attrs macs texts refl refl read_it.0 in
       let there = mac_there x.entity y (ap (check_evidence x.entity) (sym evidence) ∙ done.evidence) signs in
-      let spelled = spelled_by has p bytes n d done in
-      let seal = sealed_here has o seals [] es fs bytes n g.run.sealed (d, t.is) (d.command, y.auth, spelled, done.auths ∙ one, loaded_handle p.sessions y.auth.session y.session is, there) in
+      let spelled = spelled_by p bytes n d done in
+      let seal = sealed_here o seals [] es fs bytes n g.run.sealed (d, t.is) (d.command, y.auth, spelled, done.auths ∙ one, loaded_handle p.sessions y.auth.session y.session is, there) in
       let same : d.command ≡ sealed_command seal.0 = (exactly_one buffer buffer_sound command bytes).one_value d.command (sealed_command seal.0) spelled seal.2 in
       let auth : y.auth ≡ seal_auth seal.0 = head_auth y.auth (seal_auth seal.0) (sym (done.auths ∙ one) ∙ ap (λ (c : Command). c.auths.items) same) in
       let its = same_seal seals s seal.0 g.run.differ g.given seal.1 (nonce ∙ ap (λ (b : Auth). b.nonce) auth) in
       let session = loaded_handle p.sessions y.auth.session y.session is in
       (subst (λ (z : Seal). Spells command (sealed_command z) bytes) (sym its) seal.2, subst (λ (z : Seal). is_session z.caller.handle ≡ true) (sym its) (ap (λ (b : Auth). is_session b.session) (sym auth) ∙ session))
 
-  by_signed : (d : Done) (g : OfRun) (t : Step has o before bytes n s d) (done : Passed has (present o before) bytes n d) (y : Signed) → done.x.auths ≡ y.auth ∷ [] → done.x.evidence ≡ ByMac y
+  by_signed : (d : Done) (g : OfRun) (t : Step o before bytes n s d) (done : Passed (present o before) bytes n d) (y : Signed) → done.x.auths ≡ y.auth ∷ [] → done.x.evidence ≡ ByMac y
       → loaded (sessions_at o before) y.auth.session ≡ Some y.session → Own
   by_signed d g t done y one evidence is =
       let x = done.x in
       let params = reply_params d.reply.body in
       let k = slot_of y.auth.session in
       let session = still_held o before y.auth.session y.session is in
-      let sound = subst HasStart session.there (sound_along has o k es session.live) in
+      let sound = subst HasStart session.there (sound_along o k es session.live) in
       let few : length (nonce_next y.session n) ≤ most_nonce = omega (arith, length-take y.session.nonce_length n, ap (λ (z : Session). z.nonce_length) session.is, sound.1) in
       elim (needs_none y) as (λ b. needs_none y ≡ b → Own) [
-        | true ↦ λ none. absurd (never_word has o before bytes n s d t done y.auth (record { nonce = nonce_next y.session n; attrs = y.auth.attrs; hmac = [] }) one
+        | true ↦ λ none. absurd (never_word o before bytes n s d t done y.auth (record { nonce = nonce_next y.session n; attrs = y.auth.attrs; hmac = [] }) one
             (done.replied ∙ ap (λ z. reply_auths z x.code params n) evidence
             ∙ ap (λ b. let c : AuthReply = record { nonce = nonce_next y.session n; attrs = y.auth.attrs; hmac = if b then [] else reply_mac y x.code params n } in c ∷ []) none) few refl)
         | false ↦ λ signs. by_mac d g t done y one evidence is few signs
       ] refl
 
-  own_step : (d : Done) → OfRun → Step has o before bytes n s d → Own
+  own_step : (d : Done) → OfRun → Step o before bytes n s d → Own
   own_step d g t =
       let p = present o before in
-      let done = passed has p bytes n d t.is in
+      let done = passed p bytes n d t.is in
       let x = done.x in
       let params = reply_params d.reply.body in
-      let r = was_read has p bytes x done.asked in
+      let r = was_read p bytes x done.asked in
       elim (shape (first_loaded (loaded p.sessions) x.auths) (entity_of p (first x.handles)) x.code (names_of p x.handles) x.params p.registers.update_counter x.auths x.evidence r.evidence) [
-        | inl none ↦ absurd (never_none has o before bytes n s d t (done.replied ∙ ap (λ z. reply_auths z x.code params n) none))
-        | inr (inl (auth, wanted, one, evidence)) ↦ absurd (never_word has o before bytes n s d t done auth password_reply one (done.replied ∙ ap (λ z. reply_auths z x.code params n) evidence) (omega arith) refl)
+        | inl none ↦ absurd (never_none o before bytes n s d t (done.replied ∙ ap (λ z. reply_auths z x.code params n) none))
+        | inr (inl (auth, wanted, one, evidence)) ↦ absurd (never_word o before bytes n s d t done auth password_reply one (done.replied ∙ ap (λ z. reply_auths z x.code params n) evidence) (omega arith) refl)
         | inr (inr (y, one, is, evidence)) ↦ by_signed d g t done y one evidence (ap (first_loaded (loaded p.sessions)) (sym one) ∙ is)
       ]
 
   -- A reply that is opened was that of an accepted buffer, its own.
-  pub own : OfRun → needs_authorization (code_for s.body) ≡ true → (w : Opened) → opened (waiting s) (answer has o before bytes n) ≡ Ok w → IsAccepted has o before bytes n × Own
+  pub own : OfRun → needs_authorization (code_for s.body) ≡ true → (w : Opened) → opened (waiting s) (answer o before bytes n) ≡ Ok w → IsAccepted o before bytes n × Own
   own g needs w is =
-      let r = read_all (response (code_for s.body)) (answer has o before bytes n) in
+      let r = read_all (response (code_for s.body)) (answer o before bytes n) in
       let t = was_opened (waiting s) r w is in
-      elim (outcome has (present o before) bytes n) as (λ z. outcome has (present o before) bytes n ≡ z → IsAccepted has o before bytes n × Own) [
+      elim (outcome (present o before) bytes n) as (λ z. outcome (present o before) bytes n ≡ z → IsAccepted o before bytes n × Own) [
         | Ok d ↦ λ e. ((d, e), own_step d g (record { is = e; needs = needs; opening = t }))
-        | Err code ↦ λ e. absurd (let both : read_ok (responses.Code code) ≡ Ok (done_body t.body (t.auth ∷ [])) = sym (refused_read has o before (code_for s.body) bytes n code e) ∙ t.is in let z : ⊥ = cc in z)
+        | Err code ↦ λ e. absurd (let both : read_ok (responses.Code code) ≡ Ok (done_body t.body (t.auth ∷ [])) = sym (refused_read o before (code_for s.body) bytes n code e) ∙ t.is in let z : ⊥ = cc in z)
       ] refl
 
 -- ---- the laws
 
-pub own_reply_alone : (has : CommandSet) (o : Origin) (seals : List Seal) (xs : List Opening) (es fs : List Event) (bytes n : List ℕ) (s : Seal) (w : Opened)
-    → IsOfCallers has o seals xs (es ++ Given bytes n ∷ fs) → IsAmong s seals → needs_authorization (code_for s.body) ≡ true
-    → IsAmong (record { seal = s; bytes = answer has o (after has o [] es) bytes n }) xs → opened (waiting s) (answer has o (after has o [] es) bytes n) ≡ Ok w
-    → IsAccepted has o (after has o [] es) bytes n × Spells command (sealed_command s) bytes
-own_reply_alone has o seals xs es fs bytes n s w run given needs tried is =
-    let r = own has o seals xs es fs bytes n s (record { run = run; given = given; tried = tried }) needs w is in (r.0, r.1.0)
+pub own_reply_alone : (o : Origin) (seals : List Seal) (xs : List Opening) (es fs : List Event) (bytes n : List ℕ) (s : Seal) (w : Opened)
+    → IsOfCallers o seals xs (es ++ Given bytes n ∷ fs) → IsAmong s seals → needs_authorization (code_for s.body) ≡ true
+    → IsAmong (record { seal = s; bytes = answer o (after o [] es) bytes n }) xs → opened (waiting s) (answer o (after o [] es) bytes n) ≡ Ok w
+    → IsAccepted o (after o [] es) bytes n × Spells command (sealed_command s) bytes
+own_reply_alone o seals xs es fs bytes n s w run given needs tried is =
+    let r = own o seals xs es fs bytes n s (record { run = run; given = given; tried = tried }) needs w is in (r.0, r.1.0)
 
-fewer : (has : CommandSet) (o : Origin) (es : List Event) (xs : List Opening) → NoCollisionWith has o es xs → NoCollision has o es
-fewer has o es xs free x y i j =
-    let others = texts_replied has o [] es ++ texts_opened xs in
-    free x y (among_left x (texts_checked has o [] es) others i) (among_left y (texts_checked has o [] es) others j)
+fewer : (o : Origin) (es : List Event) (xs : List Opening) → NoCollisionWith o es xs → NoCollision o es
+fewer o es xs free x y i j =
+    let others = texts_replied o [] es ++ texts_opened xs in
+    free x y (among_left x (texts_checked o [] es) others i) (among_left y (texts_checked o [] es) others j)
 
-pub one_reply_alone : (has : CommandSet) (o : Origin) (seals : List Seal) (xs : List Opening) (es fs gs : List Event) (bytes other n m : List ℕ) (s : Seal) (w v : Opened)
-    → NoncesDiffer (es ++ Given bytes n ∷ fs ++ Given other m ∷ gs) → IsOfCallers has o seals xs (es ++ Given bytes n ∷ fs ++ Given other m ∷ gs) → IsAmong s seals → needs_authorization (code_for s.body) ≡ true
-    → IsAmong (record { seal = s; bytes = answer has o (after has o [] es) bytes n }) xs → IsAmong (record { seal = s; bytes = answer has o (after has o [] (es ++ Given bytes n ∷ fs)) other m }) xs
-    → opened (waiting s) (answer has o (after has o [] es) bytes n) ≡ Ok w → opened (waiting s) (answer has o (after has o [] (es ++ Given bytes n ∷ fs)) other m) ≡ Ok v → ⊥
-one_reply_alone has o seals xs es fs gs bytes other n m s w v nonces run given needs tried also is both =
-    let first_run = subst (IsOfCallers has o seals xs) (append_assoc es (Given bytes n ∷ fs) (Given other m ∷ gs)) run in
-    let a = own has o seals xs es (fs ++ Given other m ∷ gs) bytes n s (record { run = first_run; given = given; tried = tried }) needs w is in
-    let b = own has o seals xs (es ++ Given bytes n ∷ fs) gs other m s (record { run = run; given = given; tried = also }) needs v both in
-    twice_as has o es fs gs bytes other n m (sealed_command s) (seal_auth s) nonces (fewer has o (es ++ Given bytes n ∷ fs ++ Given other m ∷ gs) xs run.no_collision) a.1.0 b.1.0 refl a.1.1
+pub one_reply_alone : (o : Origin) (seals : List Seal) (xs : List Opening) (es fs gs : List Event) (bytes other n m : List ℕ) (s : Seal) (w v : Opened)
+    → NoncesDiffer (es ++ Given bytes n ∷ fs ++ Given other m ∷ gs) → IsOfCallers o seals xs (es ++ Given bytes n ∷ fs ++ Given other m ∷ gs) → IsAmong s seals → needs_authorization (code_for s.body) ≡ true
+    → IsAmong (record { seal = s; bytes = answer o (after o [] es) bytes n }) xs → IsAmong (record { seal = s; bytes = answer o (after o [] (es ++ Given bytes n ∷ fs)) other m }) xs
+    → opened (waiting s) (answer o (after o [] es) bytes n) ≡ Ok w → opened (waiting s) (answer o (after o [] (es ++ Given bytes n ∷ fs)) other m) ≡ Ok v → ⊥
+one_reply_alone o seals xs es fs gs bytes other n m s w v nonces run given needs tried also is both =
+    let first_run = subst (IsOfCallers o seals xs) (append_assoc es (Given bytes n ∷ fs) (Given other m ∷ gs)) run in
+    let a = own o seals xs es (fs ++ Given other m ∷ gs) bytes n s (record { run = first_run; given = given; tried = tried }) needs w is in
+    let b = own o seals xs (es ++ Given bytes n ∷ fs) gs other m s (record { run = run; given = given; tried = also }) needs v both in
+    twice_as o es fs gs bytes other n m (sealed_command s) (seal_auth s) nonces (fewer o (es ++ Given bytes n ∷ fs ++ Given other m ∷ gs) xs run.no_collision) a.1.0 b.1.0 refl a.1.1
     (hmac_some s.caller.hash (seal_key s) (seal_text s)) a.0 b.0

@@ -20,7 +20,7 @@ use Rattle.tpm_model.specs.Sessions.{Session, slot_of, lives, begins, clears, cl
 use Rattle.tpm_model.specs.Present.{present}
 use Rattle.tpm_model.specs.Authorization.{refuse}
 use Rattle.tpm_model.specs.Actions.{action}
-use Rattle.tpm_model.specs.Answers.{CommandSet, next}
+use Rattle.tpm_model.specs.Answers.{next}
 use Rattle.tpm_model.specs.Runs.{Event, after}
 use Rattle.tpm_model.specs.Runs.Event.{Given, Cycled}
 use Rattle.tpm_model.specs.Premises.{nonces, IsAmong, IsApart, AreApart, least_nonce, most_nonce}
@@ -79,14 +79,14 @@ moved S x n ns (inl (inr e)) = inr (inl e)
 moved S x n ns (inr i) = inr (inr i)
 
 -- While a session lives, the nonce of its last step is what it was, or was handed in since.
-pub fresh : (S : List ℕ → Type 0) (has : CommandSet) (o : Origin) (k : ℕ) (es : List Event) (h : History) → (lives k h ≡ true → S (last_nonce k h)) →
-    lives k (after has o h es) ≡ true → S (last_nonce k (after has o h es)) ⊎ IsAmong (last_nonce k (after has o h es)) (nonces es)
-fresh S has o k [] h f l = inl (f l)
-fresh S has o k (Given bytes n ∷ es) h f l =
-    moved S (last_nonce k (after has o (next has o h bytes n) es)) n (nonces es) (fresh (Or S n) has o k es (next has o h bytes n)
-    (after_next (λ g. lives k g ≡ true → Or S n (last_nonce k g)) has o h bytes n (λ p. inl (f p))
+pub fresh : (S : List ℕ → Type 0) (o : Origin) (k : ℕ) (es : List Event) (h : History) → (lives k h ≡ true → S (last_nonce k h)) →
+    lives k (after o h es) ≡ true → S (last_nonce k (after o h es)) ⊎ IsAmong (last_nonce k (after o h es)) (nonces es)
+fresh S o k [] h f l = inl (f l)
+fresh S o k (Given bytes n ∷ es) h f l =
+    moved S (last_nonce k (after o (next o h bytes n) es)) n (nonces es) (fresh (Or S n) o k es (next o h bytes n)
+    (after_next (λ g. lives k g ≡ true → Or S n (last_nonce k g)) o h bytes n (λ p. inl (f p))
     (λ d s p. elim (last_step k h d.command d.reply n p) [ inl e ↦ inr e | inr q ↦ inl (subst S (sym q.1) (f q.0)) ])) l)
-fresh S has o k (Cycled ∷ es) h f l = fresh S has o k es (PowerCycle ∷ h) (λ p. absurd (let z : ⊥ = cc in z)) l
+fresh S o k (Cycled ∷ es) h f l = fresh S o k es (PowerCycle ∷ h) (λ p. absurd (let z : ⊥ = cc in z)) l
 
 -- ---- Each live session was started with a nonce of enough bytes, and not too many.
 
@@ -139,8 +139,8 @@ start_by o h k (bodies.StartAuthSession s) n reply q e b =
     subst HasLength (begun_same k s q reply b) (enough_and_few (length s.nonce_caller) (digest_len s.auth_hash) g.0 g.1 (digest_short s.auth_hash))
 start_by o h k _ n reply q e b = absurd (let z : ⊥ = cc in z)
 
-pub sound_along : (has : CommandSet) (o : Origin) (k : ℕ) (es : List Event) → IsSound k (after has o [] es)
-sound_along has o k es = along (IsSound k) has o
+pub sound_along : (o : Origin) (k : ℕ) (es : List Event) → IsSound k (after o [] es)
+sound_along o k es = along (IsSound k) o
     (λ h bytes n d s f. sound_by (begun k d.command.body d.reply.body) (lives k h) (clears k d.command.body || closes k d.command.auths.items)
     n (start_of k h) (λ q b. start_by o h k d.command.body n d.reply.body q s.act b) f)
     (λ h f l. absurd (let z : ⊥ = cc in z)) es [] (λ l. absurd (let z : ⊥ = cc in z))

@@ -20,7 +20,7 @@ use Rattle.tpm_buffer.specs.Parameters.{nv_define_space, startup, nv_read, flush
 use Rattle.tpm_buffer.specs.Commands.{sessions, authorization_size, authorization, body_from, code_for}
 use Rattle.tpm_model.specs.Present.{Present}
 use Rattle.tpm_model.specs.Authorization.{refuse as test}
-use Rattle.tpm_model.specs.Answers.{CommandSet, Done}
+use Rattle.tpm_model.specs.Answers.{Done}
 use Rattle.tpm_model.proofs.Accepted.{Passed}
 use Rattle.tpm_model.proofs.Spelled.{was_read, code_ok}
 use Rattle.tpm_model.proofs.Sealing.{okay, okay_is}
@@ -74,8 +74,8 @@ again params.PolicyGetDigest hs = refl
 again _ hs = refl
 
 -- What was done is a command of the code that was read.
-pub own_code : (has : CommandSet) (p : Present) (bytes n : List ℕ) (d : Done) (s : Passed has p bytes n d) → code_for d.command.body ≡ s.x.code
-own_code has p bytes n d s = ap code_for s.body ∙ again s.params s.x.handles ∙ params_are s.x.code s.x.params s.params (code_ok _ s.params s.read)
+pub own_code : (p : Present) (bytes n : List ℕ) (d : Done) (s : Passed p bytes n d) → code_for d.command.body ≡ s.x.code
+own_code p bytes n d s = ap code_for s.body ∙ again s.params s.x.handles ∙ params_are s.x.code s.x.params s.params (code_ok _ s.params s.read)
 
 -- ---- a session is there
 
@@ -97,8 +97,8 @@ needed true t h a x c r one = refl
 needed false t h a x c r one =
     let none : [] ≡ a ∷ [] = sym (no_area t h x (passed_not (t == 0x8002) rc_auth_context c) r) ∙ one in absurd (let z : ⊥ = cc in z)
 
-pub by_session_needs : (has : CommandSet) (p : Present) (bytes n : List ℕ) (d : Done) (s : Passed has p bytes n d) (a : Auth) → s.x.auths ≡ a ∷ [] → needs_authorization (code_for d.command.body) ≡ true
-by_session_needs has p bytes n d s a one =
-    let r = was_read has p bytes s.x s.asked in
-    ap needs_authorization (own_code has p bytes n d s ∙ r.code)
+pub by_session_needs : (p : Present) (bytes n : List ℕ) (d : Done) (s : Passed p bytes n d) (a : Auth) → s.x.auths ≡ a ∷ [] → needs_authorization (code_for d.command.body) ≡ true
+by_session_needs p bytes n d s a one =
+    let r = was_read p bytes s.x s.asked in
+    ap needs_authorization (own_code p bytes n d s ∙ r.code)
     ∙ needed (needs_authorization r.before.header.code) r.before.header.tag r.area a (r.before.auths, r.place) r.tag r.listed (sym r.auths ∙ one)

@@ -36,7 +36,7 @@ use Rattle.tpm_model.specs.Present.{Present}
 use Rattle.tpm_model.specs.Entities.{Entity, Register, Index, entity_of, names_of}
 use Rattle.tpm_model.specs.Authorization.{refuse, is_empty, differs, has_policy, Authorizer, Password, BySession, by_session, check_loaded, check_no_trial, check_no_nonce, check_session, check_auth, check_policy_allowed, check_policy, check_entity, evidence_of, Evidence, NotAsked, ByPassword, ByMac, failure, check_evidence, first_loaded}
 use Rattle.tpm_model.specs.Actions.{check_startup, check_extend, start_session, check_policy_pcr, is_definable, most_counters, counter_size, check_define, defined_counter, may, increment, read_counter, then_reply, action, policy_session}
-use Rattle.tpm_model.specs.Answers.{CommandSet, code_only, by_grammar, check_has, check_started, check_handle, check_handles, check_tag, Presented, evidence_in, presented, permitted, performed, outcome}
+use Rattle.tpm_model.specs.Answers.{code_only, by_grammar, check_started, check_handle, check_handles, check_tag, Presented, evidence_in, presented, permitted, performed, outcome}
 use Rattle.tpm_model.proofs.Accepted.{ok_is}
 use Rattle.tpm_model.proofs.Nonzero.{IsAnswered, IfRefused, IsCoded, read_coded, read_all_coded}
 use Rattle.tpm_model.proofs.Coded.{coded_header, coded_handles, coded_authorization, coded_parameters}
@@ -240,25 +240,24 @@ acted p (bodies.NvReadPublic index) n = next_too (defined_counter (counter_in p.
 
 -- ---- the whole
 
-was_presented : (has : CommandSet) (p : Present) (bytes : List ℕ) → IfErr (presented has p bytes)
-was_presented has p bytes =
+was_presented : (p : Present) (bytes : List ℕ) → IfErr (presented p bytes)
+was_presented p bytes =
     next_too (by_grammar header (at_start bytes)) _ (grammar header (at_start bytes) coded_header) (λ head.
-    next_too (check_has (has head.0.code)) _ (tested _ _ (omega arith, omega arith)) (λ _.
     next_too (check_started p.started head.0.code) _ (start_checked p.started head.0.code) (λ _.
     afterwards (by_grammar (handles head.0.code) head.1) _ (grammar (handles head.0.code) head.1 (coded_handles head.0.code)) (λ list is.
     next_too (check_handles p 1 list.0) _ (handles_checked p 1 list.0 (omega arith) (few_handles head.0.code head.1 list is)) (λ _.
     next_too (check_tag head.0.code head.0.tag) _ (tag_checked head.0.code head.0.tag) (λ _.
     next_too (by_grammar (authorization head.0.tag) list.1) _ (grammar (authorization head.0.tag) list.1 (coded_authorization head.0.tag)) (λ auths.
     next_too (evidence_in p head.0.code list.0 auths.1.rest auths.0) _
-    (proof_found (first_loaded (loaded p.sessions) auths.0) (entity_of p (first list.0)) head.0.code (names_of p list.0) auths.1.rest p.registers.update_counter auths.0) (λ _. not_refused))))))))
+    (proof_found (first_loaded (loaded p.sessions) auths.0) (entity_of p (first list.0)) head.0.code (names_of p list.0) auths.1.rest p.registers.update_counter auths.0) (λ _. not_refused)))))))
 
-was_permitted : (has : CommandSet) (p : Present) (bytes : List ℕ) → IfErr (permitted has p bytes)
-was_permitted has p bytes = next_too (presented has p bytes) _ (was_presented has p bytes) (λ x. next_too (check_evidence x.entity x.evidence) _ (proof_checked x.entity x.evidence) (λ _. not_refused))
+was_permitted : (p : Present) (bytes : List ℕ) → IfErr (permitted p bytes)
+was_permitted p bytes = next_too (presented p bytes) _ (was_presented p bytes) (λ x. next_too (check_evidence x.entity x.evidence) _ (proof_checked x.entity x.evidence) (λ _. not_refused))
 
 was_performed : (p : Present) (n : List ℕ) (x : Presented) → IfErr (performed p n x)
 was_performed p n x =
     next_too (code_only (read_all (parameters x.code) x.params)) _ (of_code (read_all (parameters x.code) x.params) (read_all_coded (parameters x.code) x.params (coded_parameters x.code)))
     (λ params. next_too (action p (body_from x.handles params) n) _ (acted p (body_from x.handles params) n) (λ _. not_refused))
 
-pub refused_with : (has : CommandSet) (p : Present) (bytes n : List ℕ) (code : ℕ) → outcome has p bytes n ≡ Err code → IsAnswered code
-refused_with has p bytes n code e = its_code (subst IfErr e (next_too (permitted has p bytes) (performed p n) (was_permitted has p bytes) (λ x. was_performed p n x)))
+pub refused_with : (p : Present) (bytes n : List ℕ) (code : ℕ) → outcome p bytes n ≡ Err code → IsAnswered code
+refused_with p bytes n code e = its_code (subst IfErr e (next_too (permitted p bytes) (performed p n) (was_permitted p bytes) (λ x. was_performed p n x)))

@@ -27,7 +27,7 @@ use Rattle.tpm_model.specs.Sessions.{Session, slot_of, loaded, lives, last_nonce
 use Rattle.tpm_model.specs.Present.{Present, present}
 use Rattle.tpm_model.specs.Entities.{Entity, entity_of, names_of}
 use Rattle.tpm_model.specs.Authorization.{refuse, is_empty, Password, BySession, by_session, check_loaded, check_session, check_entity, evidence_by, evidence_of, check_evidence, first_loaded, failure, Signed, command_text, needs_none, is_signed, key_for, Evidence, ByMac}
-use Rattle.tpm_model.specs.Answers.{CommandSet, Presented, presented, Done, next}
+use Rattle.tpm_model.specs.Answers.{Presented, presented, Done, next}
 use Rattle.tpm_model.specs.Runs.{Event, after}
 use Rattle.tpm_model.specs.Runs.Event.{Given, Cycled}
 use Rattle.tpm_model.specs.Premises.{IsAccepted, HasSessionMac, nonces, IsAmong, AreApart, NoncesDiffer, least_nonce, Keyed, keyed, mac_of, text_in, text_checked, texts_checked, NoCollision}
@@ -84,11 +84,11 @@ by_mac e x some c =
     let same : bytes_eq x.auth.hmac mac ≡ true = subst (λ t. (if t then true else bytes_eq x.auth.hmac mac) ≡ true) none (refused_not (is_signed x) (failure e) c) in
     (bytes_eq-Decides x.auth.hmac mac).0 same
 
-was_signed : (has : CommandSet) (p : Present) (bytes n : List ℕ) (d : Done) (a : Auth) (s : Passed has p bytes n d)
+was_signed : (p : Present) (bytes n : List ℕ) (d : Done) (a : Auth) (s : Passed p bytes n d)
     → d.command.auths.items ≡ a ∷ [] → is_session a.session ≡ true → 0 < length a.hmac → WasSigned p bytes s.x a
-was_signed has p bytes n d a s one is some =
+was_signed p bytes n d a s one is some =
     let x = s.x in
-    let r = was_read has p bytes x s.asked in
+    let r = was_read p bytes x s.asked in
     let auths : x.auths ≡ a ∷ [] = sym s.auths ∙ one in
     let e = entity_of p (first x.handles) in
     let names = names_of p x.handles in
@@ -113,12 +113,12 @@ pub among_later : {A : Type 0} (x : A) (xs ys : List A) → IsAmong x ys → IsA
 among_later x [] ys i = i
 among_later x (y ∷ xs) ys i = inr (among_later x xs ys i)
 
-pub among_here : (has : CommandSet) (o : Origin) (h : History) (es fs : List Event) (bytes n : List ℕ) (x : Keyed)
-    → text_checked (presented has (present o (after has o h es)) bytes) ≡ x ∷ [] → IsAmong x (texts_checked has o h (es ++ Given bytes n ∷ fs))
-among_here has o h [] fs bytes n x e = subst (λ xs. IsAmong x (xs ++ texts_checked has o (next has o h bytes n) fs)) (sym e) (inl refl)
-among_here has o h (Given b m ∷ es) fs bytes n x e =
-    among_later x (text_checked (presented has (present o h) b)) (texts_checked has o (next has o h b m) (es ++ Given bytes n ∷ fs)) (among_here has o (next has o h b m) es fs bytes n x e)
-among_here has o h (Cycled ∷ es) fs bytes n x e = among_here has o (PowerCycle ∷ h) es fs bytes n x e
+pub among_here : (o : Origin) (h : History) (es fs : List Event) (bytes n : List ℕ) (x : Keyed)
+    → text_checked (presented (present o (after o h es)) bytes) ≡ x ∷ [] → IsAmong x (texts_checked o h (es ++ Given bytes n ∷ fs))
+among_here o h [] fs bytes n x e = subst (λ xs. IsAmong x (xs ++ texts_checked o (next o h bytes n) fs)) (sym e) (inl refl)
+among_here o h (Given b m ∷ es) fs bytes n x e =
+    among_later x (text_checked (presented (present o h) b)) (texts_checked o (next o h b m) (es ++ Given bytes n ∷ fs)) (among_here o (next o h b m) es fs bytes n x e)
+among_here o h (Cycled ∷ es) fs bytes n x e = among_here o (PowerCycle ∷ h) es fs bytes n x e
 
 -- ---- cutting texts
 
@@ -144,14 +144,14 @@ pub its_slot : (a : Auth) → is_session a.session ≡ true → authorizes (slot
 its_slot a is = rw is (let same : (slot_of a.session == slot_of a.session) ≡ true = grind (arith, nat_tests) in same)
 
 -- The nonce of the session's last step before the first use differs from that before the second.
-uses_apart : (has : CommandSet) (o : Origin) (es fs : List Event) (k : ℕ) (n : List ℕ) (g : History) → lives k (after has o [] es) ≡ true
-    → (lives k g ≡ true → last_nonce k g ≡ n) → lives k (after has o g fs) ≡ true → AreApart (nonces es ++ n ∷ nonces fs)
-    → take least_nonce (last_nonce k (after has o [] es)) ≢ take least_nonce (last_nonce k (after has o g fs))
-uses_apart has o es fs k n g before start live differ =
-    let h = after has o [] es in
-    let old = fresh (λ _. ⊥) has o k es [] (λ p. absurd (let z : ⊥ = cc in z)) before in
-    let new = fresh (λ x. x ≡ n) has o k fs g start live in
-    apart_across (nonces es) (n ∷ nonces fs) (last_nonce k h) (last_nonce k (after has o g fs)) differ (elim old [ inl none ↦ absurd none | inr i ↦ i ]) new
+uses_apart : (o : Origin) (es fs : List Event) (k : ℕ) (n : List ℕ) (g : History) → lives k (after o [] es) ≡ true
+    → (lives k g ≡ true → last_nonce k g ≡ n) → lives k (after o g fs) ≡ true → AreApart (nonces es ++ n ∷ nonces fs)
+    → take least_nonce (last_nonce k (after o [] es)) ≢ take least_nonce (last_nonce k (after o g fs))
+uses_apart o es fs k n g before start live differ =
+    let h = after o [] es in
+    let old = fresh (λ _. ⊥) o k es [] (λ p. absurd (let z : ⊥ = cc in z)) before in
+    let new = fresh (λ x. x ≡ n) o k fs g start live in
+    apart_across (nonces es) (n ∷ nonces fs) (last_nonce k h) (last_nonce k (after o g fs)) differ (elim old [ inl none ↦ absurd none | inr i ↦ i ]) new
 
 -- the nonces up to the second use
 first_nonces : (es fs gs : List Event) (bytes other n m : List ℕ) → NoncesDiffer (es ++ Given bytes n ∷ fs ++ Given other m ∷ gs) → AreApart (nonces es ++ n ∷ nonces fs)
@@ -170,37 +170,37 @@ one_nonce p q bytes other x y a v w one_text =
     same_older (digest s.hash v.hashed) (digest t.hash w.hashed) a.nonce s.nonce t.nonce a.attrs lengths (sym v.text_is ∙ one_text ∙ w.text_is)
 
 -- One command with an HMAC is not accepted twice.
-pub twice_as : (has : CommandSet) (o : Origin) (es fs gs : List Event) (bytes other n m : List ℕ) (c : Command) (a : Auth)
-    → NoncesDiffer (es ++ Given bytes n ∷ fs ++ Given other m ∷ gs) → NoCollision has o (es ++ Given bytes n ∷ fs ++ Given other m ∷ gs)
+pub twice_as : (o : Origin) (es fs gs : List Event) (bytes other n m : List ℕ) (c : Command) (a : Auth)
+    → NoncesDiffer (es ++ Given bytes n ∷ fs ++ Given other m ∷ gs) → NoCollision o (es ++ Given bytes n ∷ fs ++ Given other m ∷ gs)
     → Spells command c bytes → Spells command c other → c.auths.items ≡ a ∷ [] → is_session a.session ≡ true → 0 < length a.hmac
-    → IsAccepted has o (after has o [] es) bytes n → IsAccepted has o (after has o [] (es ++ Given bytes n ∷ fs)) other m → ⊥
-twice_as has o es fs gs bytes other n m c a differ apart spells others one is some (d, first) (e, second) =
-    let h = after has o [] es in
-    let j = after has o [] (es ++ Given bytes n ∷ fs) in
+    → IsAccepted o (after o [] es) bytes n → IsAccepted o (after o [] (es ++ Given bytes n ∷ fs)) other m → ⊥
+twice_as o es fs gs bytes other n m c a differ apart spells others one is some (d, first) (e, second) =
+    let h = after o [] es in
+    let j = after o [] (es ++ Given bytes n ∷ fs) in
     let g : History = Accepted d.command d.reply n ∷ h in
-    let s = passed has (present o h) bytes n d first in
-    let t = passed has (present o j) other m e second in
+    let s = passed (present o h) bytes n d first in
+    let t = passed (present o j) other m e second in
     let reading = exactly_one buffer buffer_sound command in
-    let d_auths : d.command.auths.items ≡ a ∷ [] = ap (λ (x : Command). x.auths.items) ((reading bytes).one_value d.command c (spelled_by has (present o h) bytes n d s) spells) ∙ one in
-    let e_auths : e.command.auths.items ≡ a ∷ [] = ap (λ (x : Command). x.auths.items) ((reading other).one_value e.command c (spelled_by has (present o j) other m e t) others) ∙ one in
-    let v = was_signed has (present o h) bytes n d a s d_auths is some in
-    let w = was_signed has (present o j) other m e a t e_auths is some in
-    let among_v = subst (λ (l : List Event). IsAmong (keyed v.signed) (texts_checked has o [] l)) (sym (append_assoc es (Given bytes n ∷ fs) (Given other m ∷ gs)))
-    (among_here has o [] es (fs ++ Given other m ∷ gs) bytes n (keyed v.signed) (ap text_checked s.asked ∙ v.text)) in
-    let among_w = among_here has o [] (es ++ Given bytes n ∷ fs) gs other m (keyed w.signed) (ap text_checked t.asked ∙ w.text) in
+    let d_auths : d.command.auths.items ≡ a ∷ [] = ap (λ (x : Command). x.auths.items) ((reading bytes).one_value d.command c (spelled_by (present o h) bytes n d s) spells) ∙ one in
+    let e_auths : e.command.auths.items ≡ a ∷ [] = ap (λ (x : Command). x.auths.items) ((reading other).one_value e.command c (spelled_by (present o j) other m e t) others) ∙ one in
+    let v = was_signed (present o h) bytes n d a s d_auths is some in
+    let w = was_signed (present o j) other m e a t e_auths is some in
+    let among_v = subst (λ (l : List Event). IsAmong (keyed v.signed) (texts_checked o [] l)) (sym (append_assoc es (Given bytes n ∷ fs) (Given other m ∷ gs)))
+    (among_here o [] es (fs ++ Given other m ∷ gs) bytes n (keyed v.signed) (ap text_checked s.asked ∙ v.text)) in
+    let among_w = among_here o [] (es ++ Given bytes n ∷ fs) gs other m (keyed w.signed) (ap text_checked t.asked ∙ w.text) in
     let one_text = apart (keyed v.signed) (keyed w.signed) among_v among_w (sym v.mac ∙ w.mac) in
     let older = one_nonce (present o h) (present o j) bytes other s.x t.x a v w one_text in
     let k = slot_of a.session in
-    let x = held o a.session h v.signed.session (sound_along has o k es) v.is in
-    let y = held o a.session j w.signed.session (sound_along has o k (es ++ Given bytes n ∷ fs)) w.is in
+    let x = held o a.session h v.signed.session (sound_along o k es) v.is in
+    let y = held o a.session j w.signed.session (sound_along o k (es ++ Given bytes n ∷ fs)) w.is in
     let front = same_front x.long y.long (last_nonce k h) (last_nonce k j) x.enough y.enough (sym x.is ∙ older ∙ y.is) in
-    let there : j ≡ after has o g fs = after-append has o [] es (Given bytes n ∷ fs) ∙ ap (λ (l : History). after has o l fs) (next_is has o h bytes n d first) in
+    let there : j ≡ after o g fs = after-append o [] es (Given bytes n ∷ fs) ∙ ap (λ (l : History). after o l fs) (next_is o h bytes n d first) in
     let by_it = ap (authorizes k) d_auths ∙ its_slot a is in
-    uses_apart has o es fs k n g x.live (λ _. chosen (begins k d.command.body d.reply.body) (authorizes k d.command.auths.items) n (last_nonce k h) by_it)
+    uses_apart o es fs k n g x.live (λ _. chosen (begins k d.command.body d.reply.body) (authorizes k d.command.auths.items) n (last_nonce k h) by_it)
     (subst (λ (l : History). lives k l ≡ true) there y.live) (first_nonces es fs gs bytes other n m differ)
     (front ∙ ap (λ (l : History). take least_nonce (last_nonce k l)) there)
 
-pub twice : (has : CommandSet) (o : Origin) (es fs gs : List Event) (bytes n m : List ℕ)
-    → NoncesDiffer (es ++ Given bytes n ∷ fs ++ Given bytes m ∷ gs) → NoCollision has o (es ++ Given bytes n ∷ fs ++ Given bytes m ∷ gs) → HasSessionMac bytes
-    → IsAccepted has o (after has o [] es) bytes n → IsAccepted has o (after has o [] (es ++ Given bytes n ∷ fs)) bytes m → ⊥
-twice has o es fs gs bytes n m differ apart (c, a, spells, one, is, some) = twice_as has o es fs gs bytes bytes n m c a differ apart spells spells one is some
+pub twice : (o : Origin) (es fs gs : List Event) (bytes n m : List ℕ)
+    → NoncesDiffer (es ++ Given bytes n ∷ fs ++ Given bytes m ∷ gs) → NoCollision o (es ++ Given bytes n ∷ fs ++ Given bytes m ∷ gs) → HasSessionMac bytes
+    → IsAccepted o (after o [] es) bytes n → IsAccepted o (after o [] (es ++ Given bytes n ∷ fs)) bytes m → ⊥
+twice o es fs gs bytes n m differ apart (c, a, spells, one, is, some) = twice_as o es fs gs bytes bytes n m c a differ apart spells spells one is some

@@ -12,7 +12,7 @@ use Rattle.tpm_buffer.specs.declared.response.ReplyBody.TheVariants as replies
 use Rattle.tpm_model.specs.Steps.{History, Accepted, Origin}
 use Rattle.tpm_model.specs.Counters.{Counter, has_index, counter_in, without, next_value, with_increment, value_of, NvMemory, defined, nv_by, nv_memory, value_at}
 use Rattle.tpm_model.specs.Present.{present}
-use Rattle.tpm_model.specs.Answers.{CommandSet, Done, outcome}
+use Rattle.tpm_model.specs.Answers.{Done, outcome}
 use Rattle.tpm_model.specs.Runs.{Event, after}
 use Rattle.tpm_model.specs.Runs.Event.{Given}
 use Rattle.tpm_model.specs.Actions.{defined_counter, increment, then_reply, action}
@@ -125,8 +125,8 @@ floor_by i w (bodies.NvIncrement by index) nv f =
     floor_raised index i w nv.greatest (value_in (with_increment index nv.greatest nv.counters) i) (value_in nv.counters i) (value_in nv.counters index) (value_raised index nv.greatest nv.counters i) f
 floor_by i w _ nv f = f
 
-floor_along : (has : CommandSet) (o : Origin) (i w : ℕ) (es : List Event) (h : History) → Floor o i w h → Floor o i w (after has o h es)
-floor_along has o i w = along (Floor o i w) has o (λ h bytes n d s f. floor_by i w d.command.body (nv_memory o h) f) (λ h f. f)
+floor_along : (o : Origin) (i w : ℕ) (es : List Event) (h : History) → Floor o i w h → Floor o i w (after o h es)
+floor_along o i w = along (Floor o i w) o (λ h bytes n d s f. floor_by i w d.command.body (nv_memory o h) f) (λ h f. f)
 
 -- ---- no value is more than the greatest
 
@@ -163,8 +163,8 @@ below_by i (bodies.NvIncrement by index) nv f =
     below_raised index i nv.greatest nv.counters (value_in (with_increment index nv.greatest nv.counters) i) (value_raised index nv.greatest nv.counters i) f
 below_by i _ nv f = f
 
-below_along : (has : CommandSet) (o : Origin) (i : ℕ) (es : List Event) → Below o i (after has o [] es)
-below_along has o i es = along (Below o i) has o (λ h bytes n d s f. below_by i d.command.body (nv_memory o h) f) (λ h f. f) es [] tt
+below_along : (o : Origin) (i : ℕ) (es : List Event) → Below o i (after o [] es)
+below_along o i es = along (Below o i) o (λ h bytes n d s f. below_by i d.command.body (nv_memory o h) f) (λ h f. f) es [] tt
 
 floor_here : (most : ℕ) (value : Option ℕ) (w : ℕ) → IsBelow most value → value ≡ Some w → IsFloor w most value
 floor_here most None w b e = absurd (let k : ⊥ = cc in k)
@@ -193,26 +193,26 @@ gives_next o h i by n d act is =
     ap (λ body. value_in (nv_by body nv).counters i) is ∙ value_given i nv.greatest nv.counters there.0 there.1
 
 -- what the index has after the events and the buffer
-left_by : (has : CommandSet) (o : Origin) (es : List Event) (bytes n : List ℕ) (d : Done) (by : NvAuthHandle) (i : ℕ)
-    → outcome has (present o (after has o [] es)) bytes n ≡ Ok d → d.command.body ≡ bodies.NvIncrement by i
-    → value_at o (after has o [] (es ++ Given bytes n ∷ [])) i ≡ Some (next_value (greatest_at o (after has o [] es)) (value_at o (after has o [] es) i))
-left_by has o es bytes n d by i e is =
-    ap (λ (g : History). value_at o g i) (after-append has o [] es (Given bytes n ∷ []) ∙ next_is has o (after has o [] es) bytes n d e)
-    ∙ gives_next o (after has o [] es) i by n d (passed has (present o (after has o [] es)) bytes n d e).act is
+left_by : (o : Origin) (es : List Event) (bytes n : List ℕ) (d : Done) (by : NvAuthHandle) (i : ℕ)
+    → outcome (present o (after o [] es)) bytes n ≡ Ok d → d.command.body ≡ bodies.NvIncrement by i
+    → value_at o (after o [] (es ++ Given bytes n ∷ [])) i ≡ Some (next_value (greatest_at o (after o [] es)) (value_at o (after o [] es) i))
+left_by o es bytes n d by i e is =
+    ap (λ (g : History). value_at o g i) (after-append o [] es (Given bytes n ∷ []) ∙ next_is o (after o [] es) bytes n d e)
+    ∙ gives_next o (after o [] es) i by n d (passed (present o (after o [] es)) bytes n d e).act is
 
-pub more_than_had : (has : CommandSet) (o : Origin) (es fs : List Event) (bytes n : List ℕ) (d : Done) (by : NvAuthHandle) (i w : ℕ)
-    → value_at o (after has o [] es) i ≡ Some w
-    → outcome has (present o (after has o [] (es ++ fs))) bytes n ≡ Ok d → d.command.body ≡ bodies.NvIncrement by i
-    → (v : ℕ) × (value_at o (after has o [] (es ++ fs ++ Given bytes n ∷ [])) i ≡ Some v) × (w < v)
-more_than_had has o es fs bytes n d by i w had e is =
-    let h = after has o [] es in
-    let g = after has o [] (es ++ fs) in
-    let floor = floor_along has o i w fs h (floor_here (greatest_at o h) (value_at o h i) w (below_along has o i es) had) in
-    (next_value (greatest_at o g) (value_at o g i), left_by has o (es ++ fs) bytes n d by i e is, (subst (Floor o i w) (sym (after-append has o [] es fs)) floor).1)
+pub more_than_had : (o : Origin) (es fs : List Event) (bytes n : List ℕ) (d : Done) (by : NvAuthHandle) (i w : ℕ)
+    → value_at o (after o [] es) i ≡ Some w
+    → outcome (present o (after o [] (es ++ fs))) bytes n ≡ Ok d → d.command.body ≡ bodies.NvIncrement by i
+    → (v : ℕ) × (value_at o (after o [] (es ++ fs ++ Given bytes n ∷ [])) i ≡ Some v) × (w < v)
+more_than_had o es fs bytes n d by i w had e is =
+    let h = after o [] es in
+    let g = after o [] (es ++ fs) in
+    let floor = floor_along o i w fs h (floor_here (greatest_at o h) (value_at o h i) w (below_along o i es) had) in
+    (next_value (greatest_at o g) (value_at o g i), left_by o (es ++ fs) bytes n d by i e is, (subst (Floor o i w) (sym (after-append o [] es fs)) floor).1)
 
-pub more_than_made : (has : CommandSet) (o : Origin) (es : List Event) (bytes n : List ℕ) (d : Done) (by : NvAuthHandle) (i : ℕ)
-    → outcome has (present o (after has o [] es)) bytes n ≡ Ok d → d.command.body ≡ bodies.NvIncrement by i
-    → (v : ℕ) × (value_at o (after has o [] (es ++ Given bytes n ∷ [])) i ≡ Some v) × (o.greatest < v)
-more_than_made has o es bytes n d by i e is =
-    let g = after has o [] es in
-    (next_value (greatest_at o g) (value_at o g i), left_by has o es bytes n d by i e is, (floor_along has o i o.greatest es [] (omega arith, omega arith)).1)
+pub more_than_made : (o : Origin) (es : List Event) (bytes n : List ℕ) (d : Done) (by : NvAuthHandle) (i : ℕ)
+    → outcome (present o (after o [] es)) bytes n ≡ Ok d → d.command.body ≡ bodies.NvIncrement by i
+    → (v : ℕ) × (value_at o (after o [] (es ++ Given bytes n ∷ [])) i ≡ Some v) × (o.greatest < v)
+more_than_made o es bytes n d by i e is =
+    let g = after o [] es in
+    (next_value (greatest_at o g) (value_at o g i), left_by o es bytes n d by i e is, (floor_along o i o.greatest es [] (omega arith, omega arith)).1)

@@ -29,7 +29,7 @@ use Rattle.tpm_model.specs.Sessions.{Session, loaded, sessions_at}
 use Rattle.tpm_model.specs.Present.{Present, present}
 use Rattle.tpm_model.specs.Authorization.{check_evidence, reply_text, reply_auths}
 use Rattle.tpm_model.specs.Actions.{action}
-use Rattle.tpm_model.specs.Answers.{CommandSet, Presented, presented, Done, outcome, answered, answer, next, with_outcome, reply_params}
+use Rattle.tpm_model.specs.Answers.{Presented, presented, Done, outcome, answered, answer, next, with_outcome, reply_params}
 use Rattle.tpm_model.specs.InStep.{Agrees, InStep}
 use Rattle.tpm_model.specs.Callers.{Seal, attrs_for, seal_key, seal_auth, sealed_command, sealed, Waiting, waiting, CallerFault, Code, Opened, awaited_text, caller_after, opened_session, opened_response, opened, caller_of_refusal, given_up}
 use Rattle.tpm_model.specs.Premises.{HasSpelling, IsPresent, nonce_bytes, most_nonce, IsReady, rolled, opened_as}
@@ -53,8 +53,8 @@ replied s body n = record {
 reply_is : (p : Present) (s : Seal) (x : Presented) (m : Met p s x) (body : ReplyBody) (n : List ℕ) → reply_auths x.evidence x.code (reply_params body) n ≡ replied s body n ∷ []
 reply_is p s x m body n = rw (m.evidence, met_needs p s x m, m.agrees.hash, m.key, m.auth, m.code, m.agrees.length) refl
 
-pub record Trip (has : CommandSet) (p : Present) (s : Seal) (n : List ℕ) (d : Done) : Type 0 where
-  pub done : Passed has p (sealed s) n d
+pub record Trip (p : Present) (s : Seal) (n : List ℕ) (d : Done) : Type 0 where
+  pub done : Passed p (sealed s) n d
   pub met : Met p s done.x
   pub command : d.command ≡ sealed_command s
   pub own : IsReply s.body d.reply.body
@@ -63,13 +63,13 @@ pub record Trip (has : CommandSet) (p : Present) (s : Seal) (n : List ℕ) (d : 
 abbrev with_replies : ReplyBody → List AuthReply → Reply
 with_replies body auths = record { body = body; auths = auths }
 
-trip : (has : CommandSet) (p : Present) (s : Seal) (n : List ℕ) (d : Done) (y : Session) → HasSpelling s → loaded p.sessions s.caller.handle ≡ Some y → Agrees s.caller y → IsPresent p s
-    → outcome has p (sealed s) n ≡ Ok d → Trip has p s n d
-trip has p s n d y fits is agrees here e =
-    let done = passed has p (sealed s) n d e in
-    let m = met has p s done.x y fits is agrees here done.asked in
+trip : (p : Present) (s : Seal) (n : List ℕ) (d : Done) (y : Session) → HasSpelling s → loaded p.sessions s.caller.handle ≡ Some y → Agrees s.caller y → IsPresent p s
+    → outcome p (sealed s) n ≡ Ok d → Trip p s n d
+trip p s n d y fits is agrees here e =
+    let done = passed p (sealed s) n d e in
+    let m = met p s done.x y fits is agrees here done.asked in
     let reading = exactly_one buffer buffer_sound command (sealed s) in
-    let one : d.command ≡ sealed_command s = reading.one_value d.command (sealed_command s) (spelled_by has p (sealed s) n d done) (has_spelling (sealed_command s) fits) in
+    let one : d.command ≡ sealed_command s = reading.one_value d.command (sealed_command s) (spelled_by p (sealed s) n d done) (has_spelling (sealed_command s) fits) in
     let same = ap (λ (c : Command). c.body) one in
     record {
       done = done;
@@ -101,16 +101,16 @@ open_is w body a l m =
     let mac = (bytes_eq-Decides a.hmac (hmac w.caller.hash w.key (awaited_text w body a))).1 m in
     rw (long, mac) refl
 
-open_trip : (has : CommandSet) (o : Origin) (h : History) (s : Seal) (n : List ℕ) (d : Done) → length s.caller.nonce ≤ most_nonce → length n ≡ nonce_bytes
-    → outcome has (present o h) (sealed s) n ≡ Ok d → Trip has (present o h) s n d
-    → opened (waiting s) (answer has o h (sealed s) n) ≡ Ok (opened_as s d n)
-open_trip has o h s n d short whole e t =
+open_trip : (o : Origin) (h : History) (s : Seal) (n : List ℕ) (d : Done) → length s.caller.nonce ≤ most_nonce → length n ≡ nonce_bytes
+    → outcome (present o h) (sealed s) n ≡ Ok d → Trip (present o h) s n d
+    → opened (waiting s) (answer o h (sealed s) n) ≡ Ok (opened_as s d n)
+open_trip o h s n d short whole e t =
     let w = waiting s in
     let a = replied s d.reply.body n in
     let r : Reply = record { body = d.reply.body; auths = a ∷ [] } in
     let long : length a.nonce ≡ length s.caller.nonce = omega (arith, length-take (length s.caller.nonce) n) in
     let mac_short : length a.hmac ≤ most_nonce = omega (arith, digest_short s.caller.hash, length-hmac s.caller.hash (seal_key s) (reply_text s.caller.hash (code_for s.body) (reply_params d.reply.body) (take (length s.caller.nonce) n) s.nonce (attrs_for s.keep))) in
-    let bytes_are : answer has o h (sealed s) n ≡ spelling (response (code_for s.body)) (done_with r) =
+    let bytes_are : answer o h (sealed s) n ≡ spelling (response (code_for s.body)) (done_with r) =
     ap answered e ∙ ap (λ (c : Command). spelling (response (code_for c.body)) (done_with d.reply)) t.command ∙ ap (λ (q : Reply). spelling (response (code_for s.body)) (done_with q)) t.reply in
     let read_it = ap (read_all (response (code_for s.body))) bytes_are ∙ read_again_as s.body d.reply.body a t.own (omega arith) mac_short (keep_small s.keep) (keep_attrs s.keep) in
     ap (opened_response w) read_it ∙ open_is w d.reply.body a long refl
@@ -124,32 +124,32 @@ code_read code n some small =
 
 -- ---- the laws
 
-pub last_check : (has : CommandSet) (o : Origin) (h : History) (s : Seal) (x : Presented) → IsReady o h s → presented has (present o h) (sealed s) ≡ Ok x → check_evidence x.entity x.evidence ≡ Ok tt
-last_check has o h s x r asked =
-    let i = r.in_step in passes (present o h) s x (met has (present o h) s x i.0 r.spelled i.1 i.2 r.present asked)
+pub last_check : (o : Origin) (h : History) (s : Seal) (x : Presented) → IsReady o h s → presented (present o h) (sealed s) ≡ Ok x → check_evidence x.entity x.evidence ≡ Ok tt
+last_check o h s x r asked =
+    let i = r.in_step in passes (present o h) s x (met (present o h) s x i.0 r.spelled i.1 i.2 r.present asked)
 
-pub opens : (has : CommandSet) (o : Origin) (h : History) (s : Seal) (n : List ℕ) (d : Done) → IsReady o h s → length s.caller.nonce ≤ most_nonce → length n ≡ nonce_bytes
-    → outcome has (present o h) (sealed s) n ≡ Ok d → opened (waiting s) (answer has o h (sealed s) n) ≡ Ok (opened_as s d n)
-opens has o h s n d r short whole e =
-    let i = r.in_step in open_trip has o h s n d short whole e (trip has (present o h) s n d i.0 r.spelled i.1 i.2 r.present e)
+pub opens : (o : Origin) (h : History) (s : Seal) (n : List ℕ) (d : Done) → IsReady o h s → length s.caller.nonce ≤ most_nonce → length n ≡ nonce_bytes
+    → outcome (present o h) (sealed s) n ≡ Ok d → opened (waiting s) (answer o h (sealed s) n) ≡ Ok (opened_as s d n)
+opens o h s n d r short whole e =
+    let i = r.in_step in open_trip o h s n d short whole e (trip (present o h) s n d i.0 r.spelled i.1 i.2 r.present e)
 
-pub keeps : (has : CommandSet) (o : Origin) (h : History) (s : Seal) (n : List ℕ) (d : Done) → IsReady o h s → length s.caller.nonce ≤ most_nonce → length n ≡ nonce_bytes → s.keep ≡ true
-    → outcome has (present o h) (sealed s) n ≡ Ok d → InStep o (next has o h (sealed s) n) (rolled s.caller n)
-keeps has o h s n d r short whole keep e =
+pub keeps : (o : Origin) (h : History) (s : Seal) (n : List ℕ) (d : Done) → IsReady o h s → length s.caller.nonce ≤ most_nonce → length n ≡ nonce_bytes → s.keep ≡ true
+    → outcome (present o h) (sealed s) n ≡ Ok d → InStep o (next o h (sealed s) n) (rolled s.caller n)
+keeps o h s n d r short whole keep e =
     let i = r.in_step in
-    let t = trip has (present o h) s n d i.0 r.spelled i.1 i.2 r.present e in
+    let t = trip (present o h) s n d i.0 r.spelled i.1 i.2 r.present e in
     let needs : needs_authorization (code_for d.command.body) ≡ true = ap (λ (c : Command). needs_authorization (code_for c.body)) t.command ∙ t.met.needs in
-    subst (λ g. InStep o g (rolled s.caller n)) (sym (next_is has o h (sealed s) n d e))
+    subst (λ g. InStep o g (rolled s.caller n)) (sym (next_is o h (sealed s) n d e))
     (still o h s.caller i.0 d.command d.reply n (seal_auth s) i.1 i.2 (loaded_handle (sessions_at o h) s.caller.handle i.0 i.1) whole short needs (ap (λ (c : Command). c.auths.items) t.command) refl (ap attrs_for keep))
 
 -- A refusal is read as its code, whatever it answers.
-pub refused_read : (has : CommandSet) (o : Origin) (h : History) (c : CommandCode) (bytes n : List ℕ) (code : ℕ) → outcome has (present o h) bytes n ≡ Err code → read_all (response c) (answer has o h bytes n) ≡ Ok (responses.Code code)
-refused_read has o h c bytes n code e =
-    let k = refused_with has (present o h) bytes n code e in
+pub refused_read : (o : Origin) (h : History) (c : CommandCode) (bytes n : List ℕ) (code : ℕ) → outcome (present o h) bytes n ≡ Err code → read_all (response c) (answer o h bytes n) ≡ Ok (responses.Code code)
+refused_read o h c bytes n code e =
+    let k = refused_with (present o h) bytes n code e in
     ap (λ (r : Result Done ℕ). read_all (response c) (answered r)) e ∙ code_read c code k.0 k.1
 
-pub stays : (has : CommandSet) (o : Origin) (h : History) (s : Seal) (n : List ℕ) (code : ℕ) → InStep o h s.caller → outcome has (present o h) (sealed s) n ≡ Err code
-    → (opened (waiting s) (answer has o h (sealed s) n) ≡ Err (Code code)) × (given_up (waiting s) (answer has o h (sealed s) n) ≡ Some s.caller) × InStep o (next has o h (sealed s) n) s.caller
-stays has o h s n code i e =
-    let read_it = refused_read has o h (code_for s.body) (sealed s) n code e in
+pub stays : (o : Origin) (h : History) (s : Seal) (n : List ℕ) (code : ℕ) → InStep o h s.caller → outcome (present o h) (sealed s) n ≡ Err code
+    → (opened (waiting s) (answer o h (sealed s) n) ≡ Err (Code code)) × (given_up (waiting s) (answer o h (sealed s) n) ≡ Some s.caller) × InStep o (next o h (sealed s) n) s.caller
+stays o h s n code i e =
+    let read_it = refused_read o h (code_for s.body) (sealed s) n code e in
     (ap (opened_response (waiting s)) read_it, ap (caller_of_refusal (waiting s)) read_it, subst (λ g. InStep o g s.caller) (sym (ap (with_outcome h n) e)) i)

@@ -31,7 +31,7 @@ use Rattle.tpm_model.specs.Sessions.{Session, session_in, loaded, slot_of, if_of
 use Rattle.tpm_model.specs.Present.{Present}
 use Rattle.tpm_model.specs.Entities.{Entity, entity_of, names_of}
 use Rattle.tpm_model.specs.Authorization.{refuse, is_empty, evidence_of, check_evidence, first_loaded, failure, Signed, command_text, needs_none, is_signed, follows, key_for, ByMac}
-use Rattle.tpm_model.specs.Answers.{CommandSet, Presented, presented, check_tag}
+use Rattle.tpm_model.specs.Answers.{Presented, presented, check_tag}
 use Rattle.tpm_model.specs.InStep.{CallerSession, Agrees}
 use Rattle.tpm_model.specs.Callers.{Seal, attrs_for, command_params, seal_key, seal_text, seal_auth, sealed_command, sealed}
 use Rattle.tpm_model.specs.Premises.{HasSpelling, asked_for, IsPresent}
@@ -143,11 +143,11 @@ one_text : (c : CallerSession) (y : Session) (code code' : CommandCode) (names n
     → mac_text (cp_hash y.hash (code_number code) names params) nonce y.nonce attrs ≡ mac_text (cp_hash c.hash (code_number code') names' params') nonce c.nonce attrs
 one_text c y code code' names names' params params' nonce attrs a k n q = rw (a.hash, k, n, q, a.nonce) refl
 
-pub met : (has : CommandSet) (p : Present) (s : Seal) (x : Presented) (y : Session) → HasSpelling s → loaded p.sessions s.caller.handle ≡ Some y → Agrees s.caller y → IsPresent p s
-    → presented has p (sealed s) ≡ Ok x → Met p s x
-met has p s x y fits is agrees present asked =
+pub met : (p : Present) (s : Seal) (x : Presented) (y : Session) → HasSpelling s → loaded p.sessions s.caller.handle ≡ Some y → Agrees s.caller y → IsPresent p s
+    → presented p (sealed s) ≡ Ok x → Met p s x
+met p s x y fits is agrees present asked =
     let c = sealed_command s in
-    let r = was_read has p (sealed s) x asked in
+    let r = was_read p (sealed s) x asked in
     let q = read_as c fits in
     let want : Checked = record { header = header_of c; handles = handles_of s.body; auths = seal_auth s ∷ [] } in
     let there : Here = record { rest = command_params s.body; at = q.at } in

@@ -17,7 +17,7 @@ use Rattle.tpm_buffer.specs.Parameters.{parameters}
 use Rattle.tpm_buffer.specs.Commands.{header, authorization, body_from, with_auths, Checked, before_params, command}
 use Rattle.tpm_buffer.proofs.Staged.{of_parts}
 use Rattle.tpm_model.specs.Present.{Present}
-use Rattle.tpm_model.specs.Answers.{CommandSet, Presented, evidence_in, presented, Done, code_only, by_grammar, check_has, check_started, check_handles, check_tag}
+use Rattle.tpm_model.specs.Answers.{Presented, evidence_in, presented, Done, code_only, by_grammar, check_started, check_handles, check_tag}
 use Rattle.tpm_model.proofs.Accepted.{Passed, ok_is}
 
 -- how the areas before the parameters were read, and the evidence of authorization found
@@ -45,12 +45,11 @@ pub read_in_turn : (bytes : List ℕ) (a : Header × Here) (b : List ℕ × Here
 unfolding before_params
 read_in_turn bytes a b c e f g = rw (e, f, g) refl
 
-pub was_read : (has : CommandSet) (p : Present) (bytes : List ℕ) (x : Presented) → presented has p bytes ≡ Ok x → Read p bytes x
-was_read has p bytes x e =
+pub was_read : (p : Present) (bytes : List ℕ) (x : Presented) → presented p bytes ≡ Ok x → Read p bytes x
+was_read p bytes x e =
     let a = bind_ok (by_grammar header (at_start bytes)) _ x e in
     let head = a.0 in
-    let b = bind_ok (check_has (has head.0.code)) _ x a.2 in
-    let c = bind_ok (check_started p.started head.0.code) _ x b.2 in
+    let c = bind_ok (check_started p.started head.0.code) _ x a.2 in
     let d = bind_ok (by_grammar (handles head.0.code) head.1) _ x c.2 in
     let list = d.0 in
     let f = bind_ok (check_handles p 1 list.0) _ x d.2 in
@@ -73,9 +72,9 @@ was_read has p bytes x e =
     })
 
 -- An accepted buffer spells the command that is done.
-pub spelled_by : (has : CommandSet) (p : Present) (bytes n : List ℕ) (d : Done) → Passed has p bytes n d → Spells command d.command bytes
-spelled_by has p bytes n d s =
-    let r = was_read has p bytes s.x s.asked in
+pub spelled_by : (p : Present) (bytes n : List ℕ) (d : Done) → Passed p bytes n d → Spells command d.command bytes
+spelled_by p bytes n d s =
+    let r = was_read p bytes s.x s.asked in
     let before = read_spells buffer buffer_sound (cut before_params) bytes (r.before, r.place.rest) (cut_read before_params bytes ∙ ap (λ o. o >>= parted) r.is) in
     let params = read_spells buffer buffer_sound (parameters r.before.header.code) r.place.rest s.params
     (subst (λ code. read_all (parameters code) r.place.rest ≡ Ok s.params) r.code (subst (λ rest. read_all (parameters s.x.code) rest ≡ Ok s.params) r.params (code_ok _ s.params s.read))) in

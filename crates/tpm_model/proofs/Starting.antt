@@ -21,7 +21,7 @@ use Rattle.tpm_model.specs.Sessions.{Session, slot_of, is_hmac, handle_for, begu
 use Rattle.tpm_model.specs.Present.{present}
 use Rattle.tpm_model.specs.Authorization.{refuse}
 use Rattle.tpm_model.specs.Actions.{action, start_session}
-use Rattle.tpm_model.specs.Answers.{CommandSet, Done, outcome, next}
+use Rattle.tpm_model.specs.Answers.{Done, outcome, next}
 use Rattle.tpm_model.specs.InStep.{CallerSession, InStep}
 use Rattle.tpm_model.specs.Callers.{nonces_fit, bound_to, started_with}
 use Rattle.tpm_model.specs.Premises.{nonce_bytes}
@@ -106,12 +106,12 @@ one_key : (o : Origin) (alg : Alg) (bind : BindHandle) (auth n c : List ℕ) →
 one_key o alg binds.Owner auth n c same = rw (same refl) refl
 one_key o alg binds.Null auth n c same = refl
 
-pub starts : (has : CommandSet) (o : Origin) (h : History) (bytes n : List ℕ) (d : Done) (q : StartAuth) (r : StartReply) (auth : List ℕ)
-    → outcome has (present o h) bytes n ≡ Ok d → d.command.body ≡ bodies.StartAuthSession q → d.reply.body ≡ replies.StartAuthSession r → length n ≡ nonce_bytes → (q.bind ≡ binds.Owner → trim auth ≡ trim o.owner)
-    → (c : CallerSession) × (started_with q r auth ≡ Some c) × InStep o (next has o h bytes n) c
-starts has o h bytes n d q r auth e body reply whole same =
+pub starts : (o : Origin) (h : History) (bytes n : List ℕ) (d : Done) (q : StartAuth) (r : StartReply) (auth : List ℕ)
+    → outcome (present o h) bytes n ≡ Ok d → d.command.body ≡ bodies.StartAuthSession q → d.reply.body ≡ replies.StartAuthSession r → length n ≡ nonce_bytes → (q.bind ≡ binds.Owner → trim auth ≡ trim o.owner)
+    → (c : CallerSession) × (started_with q r auth ≡ Some c) × InStep o (next o h bytes n) c
+starts o h bytes n d q r auth e body reply whole same =
     let p = present o h in
-    let s = passed has p bytes n d e in
+    let s = passed p bytes n d e in
     let x = answered_start p.sessions q n r (ap (λ b. action p b n) (sym body) ∙ s.act ∙ ap (λ (b : ReplyBody). let z : Result ReplyBody ℕ = Ok b in z) reply) in
     let g : History = Accepted d.command d.reply n ∷ h in
     let k = slot_of r.session in
@@ -138,4 +138,4 @@ starts has o h bytes n d q r auth e body reply whole same =
         length = sym long;
       },
     ) in
-    (c, ap (λ b. if b then some_caller c else None) fit, subst (λ l. InStep o l c) (sym (next_is has o h bytes n d e)) step)
+    (c, ap (λ b. if b then some_caller c else None) fit, subst (λ l. InStep o l c) (sym (next_is o h bytes n d e)) step)

@@ -24,7 +24,6 @@ worked = record {
   started_again_after_power = refl;
   read_before_startup = refl;
   no_saved_state = refl;
-  not_had = refl;
   wrong_tag = refl;
   unknown_code = refl;
   state_before_handles = refl;

@@ -5,7 +5,7 @@ use Rattle.tpm_wire.specs.Buffers.{Layout}
 use Rattle.tpm_wire.specs.Token.{Here, at_start}
 use Rattle.tpm_wire.specs.Reading.{read, read_all, ◌>>=◌}
 use Rattle.tpm_wire.specs.Spelling.{spelling}
-use Rattle.tpm_wire.specs.ResponseCodes.{rc_auth_context, rc_auth_missing, rc_command_code, rc_handle, rc_initialize, rc_reference_h0, of_handle}
+use Rattle.tpm_wire.specs.ResponseCodes.{rc_auth_context, rc_auth_missing, rc_handle, rc_initialize, rc_reference_h0, of_handle}
 use Rattle.tpm_types.specs.declared.tpms.Auth.{Auth}
 use Rattle.tpm_types.specs.Handles.{is_nv_index, is_policy}
 use Rattle.tpm_buffer.specs.declared.code.CommandCode.{CommandCode}
@@ -39,14 +39,6 @@ abbrev pub by_grammar : {A : Type 0} → Layout A → Here → Result (A × Here
 by_grammar l h = code_only (read 0 l h)
 
 -- ---- the other checks before the authorization
-
--- which commands a device has
-abbrev pub CommandSet : Type 0
-CommandSet = CommandCode → Bool
-
--- A command that the device does not have is as one that the profile does not have.
-abbrev pub check_has : Bool → Result (Unit {0}) ℕ
-check_has has = refuse (not has) rc_command_code
 
 -- TPM2_Startup comes first, and once (Part 3, 9.3).
 abbrev pub check_started : Bool → CommandCode → Result (Unit {0}) ℕ
@@ -87,10 +79,9 @@ evidence_in p code handles params auths =
     evidence_of (first_loaded (loaded p.sessions) auths) (entity_of p (first handles)) code (names_of p handles) params p.registers.update_counter auths
 
 -- all checks before the password or the HMAC is compared
-abbrev pub presented : CommandSet → Present → List ℕ → Result Presented ℕ
-presented has p bytes = do
+abbrev pub presented : Present → List ℕ → Result Presented ℕ
+presented p bytes = do
   head ← by_grammar header (at_start bytes)
-  _ ← check_has (has head.0.code)
   _ ← check_started p.started head.0.code
   list ← by_grammar (handles head.0.code) head.1
   _ ← check_handles p 1 list.0
@@ -100,9 +91,9 @@ presented has p bytes = do
   Ok (record { code = head.0.code; handles = list.0; auths = auths.0; params = auths.1.rest; entity = entity_of p (first list.0); evidence = evidence })
 
 -- all checks before the parameters
-abbrev pub permitted : CommandSet → Present → List ℕ → Result Presented ℕ
-permitted has p bytes = do
-  x ← presented has p bytes
+abbrev pub permitted : Present → List ℕ → Result Presented ℕ
+permitted p bytes = do
+  x ← presented p bytes
   _ ← check_evidence x.entity x.evidence
   Ok x
 
@@ -126,9 +117,9 @@ performed p nonce x = do
   })
 
 -- what is done, or the code of the first check that fails
-abbrev pub outcome : CommandSet → Present → List ℕ → List ℕ → Result Done ℕ
-outcome has p bytes nonce = do
-  x ← permitted has p bytes
+abbrev pub outcome : Present → List ℕ → List ℕ → Result Done ℕ
+outcome p bytes nonce = do
+  x ← permitted p bytes
   performed p nonce x
 
 -- ---- the answer
@@ -138,13 +129,13 @@ abbrev pub answered : Result Done ℕ → List ℕ
 answered (Ok d) = spelling (response (code_for d.command.body)) (done_with d.reply)
 answered (Err code) = spelling (response codes.Startup) (responses.Code code)
 
-abbrev pub answer : CommandSet → Origin → History → (bytes nonce : List ℕ) → List ℕ
-answer has o h bytes nonce = answered (outcome has (present o h) bytes nonce)
+abbrev pub answer : Origin → History → (bytes nonce : List ℕ) → List ℕ
+answer o h bytes nonce = answered (outcome (present o h) bytes nonce)
 
 abbrev pub with_outcome : History → (nonce : List ℕ) → Result Done ℕ → History
 with_outcome h nonce (Ok d) = Accepted d.command d.reply nonce ∷ h
 with_outcome h nonce (Err code) = h
 
 -- the history after a buffer: a step more where it was accepted, and otherwise the same
-abbrev pub next : CommandSet → Origin → History → (bytes nonce : List ℕ) → History
-next has o h bytes nonce = with_outcome h nonce (outcome has (present o h) bytes nonce)
+abbrev pub next : Origin → History → (bytes nonce : List ℕ) → History
+next o h bytes nonce = with_outcome h nonce (outcome (present o h) bytes nonce)

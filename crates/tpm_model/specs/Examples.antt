@@ -1,11 +1,10 @@
 -- Answers worked out from the definitions alone, byte for byte.
 use Prim.Native.String.{String}
-use Rattle.std.specs.Prelude.{◌≡◌, ℕ, ◌+◌, ◌-◌, ◌*◌, ◌^◌, true, false, not, nat_le, ◌==◌, List, [], ◌∷◌, ◌++◌, length, replicate, filter, flat_map, codes, Some, if◌then◌else◌}
-use Rattle.tpm_buffer.specs.declared.code.CommandCode.TheVariants as commands
+use Rattle.std.specs.Prelude.{◌≡◌, ℕ, ◌+◌, ◌-◌, ◌*◌, ◌^◌, not, nat_le, ◌==◌, List, [], ◌∷◌, ◌++◌, length, replicate, filter, flat_map, codes, Some, if◌then◌else◌}
 use Rattle.tpm_model.specs.Steps.{History, Origin}
 use Rattle.tpm_model.specs.Registers.{changes, update_counter}
 use Rattle.tpm_model.specs.Counters.{value_at}
-use Rattle.tpm_model.specs.Answers.{CommandSet, answer}
+use Rattle.tpm_model.specs.Answers.{answer}
 use Rattle.tpm_model.specs.Runs.{Event, after}
 use Rattle.tpm_model.specs.Runs.Event.{Given, Cycled}
 
@@ -22,14 +21,6 @@ abbrev pub hex : String → List ℕ
 hex text = bytes_of (filter (λ c. not (c == 32)) (codes text))
 
 -- ---- devices
-
-abbrev pub every : CommandSet
-every code = true
-
--- a device in the making, which can be started and no more
-abbrev pub startup_alone : CommandSet
-startup_alone commands.Startup = true
-startup_alone _ = false
 
 -- an empty owner value, and no counter before
 abbrev pub new : Origin
@@ -52,11 +43,11 @@ given k (b ∷ bs) = Given b (nonce k) ∷ given (k + 1) bs
 
 -- what a device has accepted of these buffers
 abbrev pub accepted : Origin → List (List ℕ) → History
-accepted o before = after every o [] (given 1 before)
+accepted o before = after o [] (given 1 before)
 
 -- the answer to a buffer after others
 abbrev pub reply_to : Origin → List (List ℕ) → List ℕ → List ℕ
-reply_to o before bytes = answer every o (accepted o before) bytes (nonce (length before + 1))
+reply_to o before bytes = answer o (accepted o before) bytes (nonce (length before + 1))
 
 -- ---- buffers
 
@@ -138,11 +129,9 @@ pub record Examples : Type 0 where
 
   pub started_once : reply_to new [] startup ≡ success
   pub started_twice : reply_to new (startup ∷ []) startup ≡ code "00000100"
-  pub started_again_after_power : answer every new (after every new [] (Given startup (nonce 1) ∷ Cycled ∷ [])) startup (nonce 2) ≡ success
+  pub started_again_after_power : answer new (after new [] (Given startup (nonce 1) ∷ Cycled ∷ [])) startup (nonce 2) ≡ success
   pub read_before_startup : reply_to new [] pcr_read ≡ code "00000100"
   pub no_saved_state : reply_to new [] (hex "8001 0000000c 00000144 0001") ≡ code "000001c4"
-  -- a command that the device does not have, before it is started
-  pub not_had : answer startup_alone new [] pcr_read (nonce 1) ≡ code "00000143"
   -- ---- the header
 
   pub wrong_tag : reply_to new [] (hex "8003 0000000c 00000144 0000") ≡ hex "00c4 0000000a 0000001e"
@@ -177,7 +166,7 @@ pub record Examples : Type 0 where
   -- one digest into a register, one into none, no digest, and a reset
   pub two_updates : update_counter (changes (accepted new (startup ∷ pcr_extend "00000000" ∷ pcr_extend "40000007"
       ∷ hex "8002 0000001f 00000182 00000000 00000009 40000009 0000 01 0000 00000000" ∷ reset_by "40000009 0000 01 0000" ∷ []))) ≡ 2
-  pub updates_forgotten : update_counter (changes (after every new [] (given 1 (startup ∷ pcr_extend "00000000" ∷ []) ++ Cycled ∷ []))) ≡ 0
+  pub updates_forgotten : update_counter (changes (after new [] (given 1 (startup ∷ pcr_extend "00000000" ∷ []) ++ Cycled ∷ []))) ≡ 0
   -- ---- registers that are read
 
   pub one_value : reply_to new (startup ∷ []) pcr_read ≡ hex "8001 0000003e 00000000 00000000 00000001 000b 03 010000 00000001 0020" ++ zero_digest
@@ -196,7 +185,7 @@ pub record Examples : Type 0 where
   pub not_written : reply_to new (startup ∷ nv_define ∷ []) (nv_read "0000") ≡ code "0000014a"
   -- three increments, the definition undone and made again, and one increment
   pub goes_on : value_at new (accepted new (startup ∷ nv_define ∷ nv_increment ∷ nv_increment ∷ nv_increment ∷ nv_undefine ∷ nv_define ∷ nv_increment ∷ [])) 0x01800001 ≡ Some 4
-  pub goes_on_after_power : value_at new (after every new [] (given 1 (startup ∷ nv_define ∷ nv_increment ∷ nv_increment ∷ nv_increment ∷ nv_undefine ∷ [])
+  pub goes_on_after_power : value_at new (after new [] (given 1 (startup ∷ nv_define ∷ nv_increment ∷ nv_increment ∷ nv_increment ∷ nv_undefine ∷ [])
       ++ Cycled ∷ given 7 (startup ∷ nv_define ∷ nv_increment ∷ []))) 0x01800001 ≡ Some 4
   pub is_read : reply_to new (startup ∷ nv_define ∷ nv_increment ∷ nv_increment ∷ nv_increment ∷ nv_undefine ∷ nv_define ∷ nv_increment ∷ []) (nv_read "0000")
       ≡ counter_read (hex "00000000 00000004")

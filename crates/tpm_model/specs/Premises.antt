@@ -27,7 +27,7 @@ use Rattle.tpm_model.specs.Present.{Present, present}
 use Rattle.tpm_model.specs.Entities.{Entity, entity_of, names_of}
 use Rattle.tpm_model.specs.Authorization.{Signed, command_text, needs_none, Evidence, follows, nonce_next, reply_text}
 use Rattle.tpm_model.specs.Authorization.Evidence.{NotAsked, ByPassword, ByMac}
-use Rattle.tpm_model.specs.Answers.{code_only, by_grammar, CommandSet, Presented, presented, Done, outcome, next, reply_params}
+use Rattle.tpm_model.specs.Answers.{code_only, by_grammar, Presented, presented, Done, outcome, next, reply_params}
 use Rattle.tpm_model.specs.InStep.{CallerSession, InStep}
 use Rattle.tpm_model.specs.Callers.{Seal, sealed_command, sealed, Waiting, waiting, Opened, with_nonce, awaited_text}
 use Rattle.tpm_model.specs.Runs.{Event}
@@ -52,8 +52,8 @@ abbrev pub code_in : List ℕ → ℕ
 code_in bytes = number_of (take 4 (drop 6 bytes))
 
 -- The buffer is done, and answered with code 0.
-abbrev pub IsAccepted : CommandSet → Origin → History → (bytes nonce : List ℕ) → Type 0
-IsAccepted has o h bytes nonce = (d : Done) × (outcome has (present o h) bytes nonce ≡ Ok d)
+abbrev pub IsAccepted : Origin → History → (bytes nonce : List ℕ) → Type 0
+IsAccepted o h bytes nonce = (d : Done) × (outcome (present o h) bytes nonce ≡ Ok d)
 
 -- The bytes spell a command whose session is an HMAC or policy session, with a nonempty HMAC.
 abbrev pub HasSessionMac : List ℕ → Type 0
@@ -109,10 +109,10 @@ text_checked (Ok x) = text_in x.evidence
 text_checked (Err code) = []
 
 -- the texts whose HMACs are checked in a run
-abbrev pub texts_checked : CommandSet → Origin → History → List Event → List Keyed
-texts_checked has o h [] = []
-texts_checked has o h (Given bytes nonce ∷ es) = text_checked (presented has (present o h) bytes) ++ (texts_checked has o (next has o h bytes nonce) es)
-texts_checked has o h (Cycled ∷ es) = texts_checked has o (PowerCycle ∷ h) es
+abbrev pub texts_checked : Origin → History → List Event → List Keyed
+texts_checked o h [] = []
+texts_checked o h (Given bytes nonce ∷ es) = text_checked (presented (present o h) bytes) ++ (texts_checked o (next o h bytes nonce) es)
+texts_checked o h (Cycled ∷ es) = texts_checked o (PowerCycle ∷ h) es
 
 abbrev pub IsAmong : {A : Type 0} → A → List A → Type 0
 IsAmong x [] = ⊥
@@ -123,8 +123,8 @@ abbrev pub AreFree : List Keyed → Type 0
 AreFree texts = (x y : Keyed) → IsAmong x texts → IsAmong y texts → mac_of x ≡ mac_of y → x.text ≡ y.text
 
 -- those that are checked in the run of a new device
-abbrev pub NoCollision : CommandSet → Origin → List Event → Type 0
-NoCollision has o es = AreFree (texts_checked has o [] es)
+abbrev pub NoCollision : Origin → List Event → Type 0
+NoCollision o es = AreFree (texts_checked o [] es)
 
 -- ---- a caller and a device
 
@@ -170,10 +170,10 @@ abbrev pub IsSealedBy : List Seal → List ℕ → Type 0
 IsSealedBy seals bytes = (s : Seal) × IsAmong s seals × Spells command (sealed_command s) bytes
 
 -- Each buffer that is accepted, and whose session is an HMAC or policy session with a nonempty HMAC, is sealed by one of these.
-abbrev pub AreSealed : CommandSet → Origin → List Seal → History → List Event → Type 0
-AreSealed has o seals h [] = Unit {0}
-AreSealed has o seals h (Given bytes nonce ∷ es) = (IsAccepted has o h bytes nonce → HasSessionMac bytes → IsSealedBy seals bytes) × AreSealed has o seals (next has o h bytes nonce) es
-AreSealed has o seals h (Cycled ∷ es) = AreSealed has o seals (PowerCycle ∷ h) es
+abbrev pub AreSealed : Origin → List Seal → History → List Event → Type 0
+AreSealed o seals h [] = Unit {0}
+AreSealed o seals h (Given bytes nonce ∷ es) = (IsAccepted o h bytes nonce → HasSessionMac bytes → IsSealedBy seals bytes) × AreSealed o seals (next o h bytes nonce) es
+AreSealed o seals h (Cycled ∷ es) = AreSealed o seals (PowerCycle ∷ h) es
 
 abbrev pub IsOther : List ℕ → List Seal → Type 0
 IsOther nonce [] = Unit {0}
@@ -203,11 +203,11 @@ text_replied (Ok x) (Ok d) nonce = text_by x.evidence x.code (reply_params d.rep
 text_replied _ _ nonce = []
 
 -- the texts of the HMACs of the replies in a run
-abbrev pub texts_replied : CommandSet → Origin → History → List Event → List Keyed
-texts_replied has o h [] = []
-texts_replied has o h (Given bytes nonce ∷ es) =
-    text_replied (presented has (present o h) bytes) (outcome has (present o h) bytes nonce) nonce ++ texts_replied has o (next has o h bytes nonce) es
-texts_replied has o h (Cycled ∷ es) = texts_replied has o (PowerCycle ∷ h) es
+abbrev pub texts_replied : Origin → History → List Event → List Keyed
+texts_replied o h [] = []
+texts_replied o h (Given bytes nonce ∷ es) =
+    text_replied (presented (present o h) bytes) (outcome (present o h) bytes nonce) nonce ++ texts_replied o (next o h bytes nonce) es
+texts_replied o h (Cycled ∷ es) = texts_replied o (PowerCycle ∷ h) es
 
 -- bytes that are given to a Waiting
 pub record Opening : Type 0 where
@@ -231,12 +231,12 @@ texts_opened [] = []
 texts_opened (x ∷ xs) = text_opened (waiting x.seal) (read_all (response (code_for x.seal.body)) x.bytes) ++ texts_opened xs
 
 -- The same of the texts that are checked in the run of a new device, those of its replies, and those that opening checks.
-abbrev pub NoCollisionWith : CommandSet → Origin → List Event → List Opening → Type 0
-NoCollisionWith has o es xs = AreFree (texts_checked has o [] es ++ (texts_replied has o [] es ++ texts_opened xs))
+abbrev pub NoCollisionWith : Origin → List Event → List Opening → Type 0
+NoCollisionWith o es xs = AreFree (texts_checked o [] es ++ (texts_replied o [] es ++ texts_opened xs))
 
 -- A run of a new device: its accepted commands with session HMACs are sealed by callers, the nonceCallers are pairwise different,
 -- and no two different texts have the same HMAC.
-pub record IsOfCallers (has : CommandSet) (o : Origin) (seals : List Seal) (xs : List Opening) (es : List Event) : Type 0 where
-  pub sealed : AreSealed has o seals [] es
+pub record IsOfCallers (o : Origin) (seals : List Seal) (xs : List Opening) (es : List Event) : Type 0 where
+  pub sealed : AreSealed o seals [] es
   pub differ : SealsDiffer seals
-  pub no_collision : NoCollisionWith has o es xs
+  pub no_collision : NoCollisionWith o es xs

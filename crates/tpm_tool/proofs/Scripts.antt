@@ -12,7 +12,6 @@ use Rattle.tpm_model.specs.Runs.{Event, Given, Cycled, after, run}
 use Rattle.tpm_model.proofs.Runs.{after-append}
 use Rattle.tpm_buffer.proofs.Filled.{consumes_both}
 use Rattle.tpm_device.specs.declared.device.Device.{Device}
-use Rattle.tpm_device.specs.Commands.{has_command}
 use Rattle.tpm_tool.specs.declared.script.Run.{Run}
 use Rattle.tpm_tool.specs.declared.status.Status.{Status}
 use Rattle.tpm_tool.specs.declared.status.Status.TheVariants.{Done, Refused}
@@ -182,18 +181,18 @@ ended_both a b f (inr some) = inr (a ++ some.0, rw some.1 (sym (append_assoc a s
 -- ---- texts
 
 events_text-append : (o : Origin) (h : History) (es fs : List Event)
-    → events_text (es ++ fs) (run has_command o h (es ++ fs)) ≡ events_text es (run has_command o h es) ++ events_text fs (run has_command o (after has_command o h es) fs)
+    → events_text (es ++ fs) (run o h (es ++ fs)) ≡ events_text es (run o h es) ++ events_text fs (run o (after o h es) fs)
 events_text-append o h [] fs = refl
 events_text-append o h (Given bytes nonce ∷ es) fs =
-    ap (λ (text : List ℕ). bytes_line (answer has_command o h bytes nonce) ++ text) (events_text-append o (next has_command o h bytes nonce) es fs)
-    ∙ sym (append_assoc (bytes_line (answer has_command o h bytes nonce)) _ _)
+    ap (λ (text : List ℕ). bytes_line (answer o h bytes nonce) ++ text) (events_text-append o (next o h bytes nonce) es fs)
+    ∙ sym (append_assoc (bytes_line (answer o h bytes nonce)) _ _)
 events_text-append o h (Cycled ∷ es) fs = ap (λ (text : List ℕ). line (codes "power" ∷ []) ++ text) (events_text-append o (PowerCycle ∷ h) es fs)
 
 script_text-append : (o : Origin) (h : History) (es : List Event) (s : Script)
-    → script_text has_command o h (record { events = es; refused = None }) ++ script_text has_command o (after has_command o h es) s ≡ script_text has_command o h (behind es s)
+    → script_text o h (record { events = es; refused = None }) ++ script_text o (after o h es) s ≡ script_text o h (behind es s)
 script_text-append o h es s =
-    ap (λ (text : List ℕ). text ++ script_text has_command o (after has_command o h es) s) (append-nil (events_text es (run has_command o h es)))
-    ∙ sym (append_assoc (events_text es (run has_command o h es)) (events_text s.events (run has_command o (after has_command o h es) s.events)) (refused_text s.refused))
+    ap (λ (text : List ℕ). text ++ script_text o (after o h es) s) (append-nil (events_text es (run o h es)))
+    ∙ sym (append_assoc (events_text es (run o h es)) (events_text s.events (run o (after o h es) s.events)) (refused_text s.refused))
     ∙ ap (λ (text : List ℕ). text ++ refused_text s.refused) (sym (events_text-append o h es s.events))
 
 -- ---- the device
@@ -215,9 +214,9 @@ pub performs_both : (es : List Event) (s : Script) (d e f : Device) (A B C : Lis
     → Performs (record { events = es; refused = None }) d e A → Performs s e f B → Performs (behind es s) d f C
 performs_both es s d e f A B C joins first second = λ o h stands.
     let one = first o h stands in
-    let two = second o (after has_command o h es) one.stands in
+    let two = second o (after o h es) one.stands in
     record {
-      stands = rw (after-append has_command o h es s.events) two.stands;
+      stands = rw (after-append o h es s.events) two.stands;
       text = rw (← script_text-append o h es s) (joins _ _ one.text two.text);
     }
 
@@ -386,7 +385,7 @@ last_script r s A Refused ended = (
 
 -- what is answered for a script, and what is printed of it
 abbrev IsAnswer : Script → Device → (A : List ℕ → Type 0) → Status → Type 0
-IsAnswer s device A status = (status ≡ status_for s.refused) × ((o : Origin) (h : History) → StandsAt o h device → A (script_text has_command o h s))
+IsAnswer s device A status = (status ≡ status_for s.refused) × ((o : Origin) (h : History) → StandsAt o h device → A (script_text o h s))
 
 answered_at_end : (bytes : List ℕ) (first r s : Run) (A B C : List ℕ → Type 0) (status : Status) → Joins A B C → place first ≡ start
     → Takes bytes first r A Done → EndsLine (line_of r.line.items) r s B status → IsAnswer (script bytes) first.device C status
@@ -446,7 +445,7 @@ reaches_more old mid new read count bytes first r s A B C joins f consumed is ta
 
 abbrev pub Answers : (old new : Option (List ℕ)) → Device → (A : List ℕ → Type 0) → Status → Type 0
 Answers old new device A status = (bytes : List ℕ) × ReadsScript old new bytes × (status ≡ status_for (script bytes).refused)
-    × ((o : Origin) (h : History) → StandsAt o h device → A (script_text has_command o h (script bytes)))
+    × ((o : Origin) (h : History) → StandsAt o h device → A (script_text o h (script bytes)))
 
 -- at the end
 pub answers_at_end : (old mid new : Option (List ℕ)) (read : ℕ) (device : Device) (first r s : Run) (A B C : List ℕ → Type 0) (status : Status) → Joins A B C

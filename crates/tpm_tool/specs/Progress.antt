@@ -4,7 +4,6 @@ use Rattle.std.specs.Io.KnownBytes.{Consumes}
 use Rattle.tpm_model.specs.Steps.{History, Origin}
 use Rattle.tpm_model.specs.Runs.{Event, after}
 use Rattle.tpm_device.specs.declared.device.Device.{Device}
-use Rattle.tpm_device.specs.Commands.{has_command}
 use Rattle.tpm_device.specs.Stands.{Stands}
 use Rattle.tpm_tool.specs.declared.lines.Line.{Line as RustLine}
 use Rattle.tpm_tool.specs.declared.lines.Line.TheVariants as rust
@@ -63,8 +62,8 @@ StandsAt o h d = Stands o h d
 -- The device went through the script, and its text was added as Added says.
 abbrev pub Performs : Script → (old new : Device) → (Added : List ℕ → Type 0) → Type 0
 Performs s old new Added = (o : Origin) (h : History) → StandsAt o h old → record {
-  stands : StandsAt o (after has_command o h s.events) new;
-  text : Added (script_text has_command o h s);
+  stands : StandsAt o (after o h s.events) new;
+  text : Added (script_text o h s);
 }
 
 -- to a text

@@ -7,7 +7,6 @@ use Rattle.std.specs.List.{AllByRecursion}
 use Rattle.std.specs.Io.KnownBytes.{Consumes, IsAtEnd}
 use Rattle.tpm_wire.specs.Sources.{one_more}
 use Rattle.tpm_model.specs.Steps.{History, Origin}
-use Rattle.tpm_model.specs.Answers.{CommandSet}
 use Rattle.tpm_model.specs.Runs.{Event, Given, Cycled, run}
 use Rattle.tpm_tool.specs.declared.status.Status.{Status}
 use Rattle.tpm_tool.specs.declared.status.Status.TheVariants.{Done, Refused}
@@ -135,8 +134,8 @@ refused_text None = []
 refused_text (Some n) = refused_line n
 
 -- A device at this history is run: its answers, and then the line that is not hexadecimal.
-abbrev pub script_text : CommandSet → Origin → History → Script → List ℕ
-script_text has o h s = events_text s.events (run has o h s.events) ++ refused_text s.refused
+abbrev pub script_text : Origin → History → Script → List ℕ
+script_text o h s = events_text s.events (run o h s.events) ++ refused_text s.refused
 
 abbrev pub status_for : Option ℕ → Status
 status_for None = Done

@@ -4,7 +4,6 @@ ghost use Rattle.std.specs.Prelude.{◌≡◌, ◌+◌, ◌^◌, ◌<◌, ◌++�
 ghost use Rattle.std.specs.Io.KnownBytes.{Appends};
 ghost use Rattle.tpm_model.specs.Steps.{History, Origin};
 ghost use Rattle.tpm_model.specs.Runs.{Given, Cycled};
-ghost use Rattle.tpm_device.specs.Commands.{has_command};
 ghost use Rattle.tpm_device.specs.Stands.{Stands};
 ghost use Rattle.tpm_tool.specs.declared.fault.ToolFault.TheVariants.{InputTooLong};
 ghost use Rattle.tpm_tool.specs.Faults.{FailsByMemoryOrWrite};
@@ -204,7 +203,7 @@ pub fn run_script<R: Source, W: Write>(
         × ReadsScript (R.coming input.old) (R.coming input.new) bytes
         × (status ≡ status_for (script bytes).refused)
         × ((o : Origin) (h : History) → Stands o h device →
-        Appends (W.contents out.old) (W.contents out.new) (script_text has_command o h (script bytes)))) }
+        Appends (W.contents out.old) (W.contents out.new) (script_text o h (script bytes)))) }
     ensures too_long { IsErrOf result InputTooLong → ReadsTooMuch (R.coming input.old) (R.coming input.new) }
 {
     let mut run = Run::new(alloc, device);

@@ -9,10 +9,10 @@ use Rattle.tpm_caller.proofs.laws.no_mixed_replies.Goals as goal
 
 pub returns : goal.returns
 returns c = record {
-  own = λ has o seals openings es fs bytes n s w of_callers among needs given e.
-      own_reply_alone has o seals openings es fs bytes n s w of_callers among needs given (sym (one_opened (waiting s) (answer has o (after has o [] es) bytes n)) ∙ e);
-  once = λ has o seals openings es fs gs bytes other n m s w v differ of_callers among needs one two e f.
-      one_reply_alone has o seals openings es fs gs bytes other n m s w v differ of_callers among needs one two
-      (sym (one_opened (waiting s) (answer has o (after has o [] es) bytes n)) ∙ e)
-      (sym (one_opened (waiting s) (answer has o (after has o [] (es ++ Given bytes n ∷ fs)) other m)) ∙ f);
+  own = λ o seals openings es fs bytes n s w of_callers among needs given e.
+      own_reply_alone o seals openings es fs bytes n s w of_callers among needs given (sym (one_opened (waiting s) (answer o (after o [] es) bytes n)) ∙ e);
+  once = λ o seals openings es fs gs bytes other n m s w v differ of_callers among needs one two e f.
+      one_reply_alone o seals openings es fs gs bytes other n m s w v differ of_callers among needs one two
+      (sym (one_opened (waiting s) (answer o (after o [] es) bytes n)) ∙ e)
+      (sym (one_opened (waiting s) (answer o (after o [] (es ++ Given bytes n ∷ fs)) other m)) ∙ f);
 }

@@ -10,10 +10,10 @@ pub returns : goal.returns
 returns c = record {
   starts = starts;
   passes = last_check;
-  opens = λ has o h s n d ready short whole e. one_opened (waiting s) (answer has o h (sealed s) n) ∙ opens has o h s n d ready short whole e;
+  opens = λ o h s n d ready short whole e. one_opened (waiting s) (answer o h (sealed s) n) ∙ opens o h s n d ready short whole e;
   keeps = keeps;
-  stays = λ has o h s n code in_step e.
-      let x = stays has o h s n code in_step e in
-      let bytes = answer has o h (sealed s) n in
+  stays = λ o h s n code in_step e.
+      let x = stays o h s n code in_step e in
+      let bytes = answer o h (sealed s) n in
       (one_opened (waiting s) bytes ∙ x.0, one_given_up (waiting s) bytes ∙ x.1, x.2);
 }

@@ -1,6 +1,5 @@
-use Rattle.std.proofs.Common.{rules, ◌≡◌, Ok, Err, refl, sym}
+use Rattle.std.proofs.Common.{rules, ◌≡◌, Ok, Err, sym}
 use Rattle.tpm_model.specs.Answers.{check_handles}
-use Rattle.tpm_device.specs.Commands.{has_command}
 use Rattle.tpm_device.specs.Stands.{holds}
 use Rattle.tpm_device.proofs.Passing.{is_read, tag_refused, areas_refused, admitted}
 use Rattle.tpm_device.proofs.device.Device.presented.Goals as goal
@@ -11,22 +10,22 @@ returns-in_err-check_tag-clause-reads c =
     let code = c.in_err-check_tag.field-0.0 in
     let is : c.from_residual-in_err-check_tag.result ≡ Err code = search rules in
     let handles : check_handles p 1 c.in_ok-handled.handled.handles ≡ Ok tt = rw (← c.list.ensures) (sym c.in_ok-check_handles.ensures) in
-    rw is (tag_refused has_command p c.args.bytes.now c.in_ok-headed.headed c.in_ok-handled.handled code
-    (search rules) refl (search rules) (search rules) handles (search rules))
+    rw is (tag_refused p c.args.bytes.now c.in_ok-headed.headed c.in_ok-handled.handled code
+    (search rules) (search rules) (search rules) handles (search rules))
 
 pub returns-in-Err-clause-reads : goal.returns-in-Err-clause-reads
 returns-in-Err-clause-reads c =
     let p = holds c.args.self.now in
     let handles : check_handles p 1 c.in_ok-handled.handled.handles ≡ Ok tt = rw (← c.list.ensures) (sym c.in_ok-check_handles.ensures) in
-    areas_refused has_command p c.args.bytes.now c.in_ok-headed.headed c.in_ok-handled.handled c.in-Err.refusal
-    (search rules) refl (search rules) (search rules) handles (search rules) c.in-Err.ensures.reads
+    areas_refused p c.args.bytes.now c.in_ok-headed.headed c.in_ok-handled.handled c.in-Err.refusal
+    (search rules) (search rules) (search rules) handles (search rules) c.in-Err.ensures.reads
 
 pub returns-in-Ok-clause-reads : goal.returns-in-Ok-clause-reads
 returns-in-Ok-clause-reads c =
     let p = holds c.args.self.now in
     let handles : check_handles p 1 c.in_ok-handled.handled.handles ≡ Ok tt = rw (← c.list.ensures) (sym c.in_ok-check_handles.ensures) in
-    is_read has_command p c.args.bytes.now c.in_ok-headed.headed c.in_ok-handled.handled c.in-Ok.areas
-    (search rules) refl (search rules) (search rules) handles (search rules) c.in-Ok.ensures.reads
+    is_read p c.args.bytes.now c.in_ok-headed.headed c.in_ok-handled.handled c.in-Ok.areas
+    (search rules) (search rules) (search rules) handles (search rules) c.in-Ok.ensures.reads
 
 pub returns-in-Ok-clause-admitted : goal.returns-in-Ok-clause-admitted
 returns-in-Ok-clause-admitted c =
