@@ -1,3 +1,4 @@
 mod Padded
 mod Listed
 mod Scripts
+mod Nonces
