@@ -5,11 +5,11 @@
 #[cfg(test)]
 mod checks;
 #[cfg(test)]
+mod numbers;
+#[cfg(test)]
 mod rows;
 #[cfg(test)]
 mod sources;
-#[cfg(test)]
-mod tpma;
 #[cfg(test)]
 mod values;
 #[cfg(test)]
