@@ -1,0 +1,91 @@
+//! A device in the caller's memory.
+
+ghost use Rattle.std.specs.Prelude.{◌≤◌, [], ◌∷◌, length};
+ghost use Rattle.std.specs.Borrow.{sem};
+ghost use denote.RawPtr.{room_at};
+ghost use Rattle.tpm_types.specs.Limits.{digest_bytes};
+ghost use Rattle.tpm_model.specs.Steps.{History, Origin, PowerCycle};
+ghost use Rattle.tpm_device.specs.contracts.device.Device.{the_row};
+ghost use Rattle.tpm_device.specs.Stands.{Stands};
+ghost use Rattle.tpm_c.specs.Written.{IsIn};
+ghost use Rattle.tpm_c.specs.Devices.{device_at, made_at, IsWhetherFits, after, written};
+
+use crate::out::put;
+use tpm_device::Device;
+use tpm_types::{AuthValue, DIGEST_BYTES};
+
+/// The room that any answer needs.
+const BUFFER_BYTES: usize = 4096;
+
+/// How many bytes a device takes.
+#[unsafe(no_mangle)]
+pub extern "C" fn tpm_device_size() -> usize {
+    size_of::<Device>()
+}
+
+/// At a multiple of which number of bytes it lies.
+#[unsafe(no_mangle)]
+pub extern "C" fn tpm_device_align() -> usize {
+    align_of::<Device>()
+}
+
+/// Makes a device in the room, which is not started, and answers 1. The owner has this authorization value, and no counter of the
+/// device has had a greater value than this. It answers 0, and nothing is written, where the value has more than 48 bytes.
+#[unsafe(no_mangle)]
+pub unsafe extern "C" fn tpm_device_init(place: *mut u8, owner: &[u8], greatest: u64) -> u32
+    requires* { sem 𝓛 (room_at the_row place) }
+    ensures* { sem 𝓛 (made_at (record { owner = owner.now; greatest = greatest }) result place) ∗ ⌜ IsWhetherFits owner.now result ⌝ }
+{
+    if owner.len() > DIGEST_BYTES {
+        return 0;
+    }
+    std::ptr::write(place as *mut Device, made(owner, greatest));
+    1
+}
+
+fn made(owner: &[u8], greatest: u64) -> Device
+    requires { length owner.now ≤ digest_bytes }
+    ensures { Stands (record { owner = owner.now; greatest = greatest }) [] result }
+{
+    match AuthValue::new(owner) {
+        Some(owner) => Device::new(&owner, greatest),
+        None => unreachable!(),
+    }
+}
+
+/// The power is switched off and on.
+#[unsafe(no_mangle)]
+pub unsafe extern "C" fn tpm_device_power_cycle(place: *mut u8)
+    ghost at: { Origin × History }
+    requires* { sem 𝓛 (device_at at.0 at.1 place) }
+    ensures* { sem 𝓛 (device_at at.0 (PowerCycle ∷ at.1) place) }
+{
+    (*(place as *mut Device)).power_cycle();
+}
+
+/// Answers the bytes of a command, whatever they are, with those of a response at the beginning of `out`, and says how many they are.
+/// The nonce is 64 fresh random bytes. It answers 0, and nothing changes, where `out` has room for fewer than 4,096 bytes.
+#[unsafe(no_mangle)]
+pub unsafe extern "C" fn tpm_device_execute(
+    place: *mut u8,
+    command: &[u8],
+    nonce: &[u8; 64],
+    out: &mut [u8],
+) -> usize
+    ghost at: { Origin × History }
+    requires* { sem 𝓛 (device_at at.0 at.1 place) }
+    ensures* { sem 𝓛 (device_at at.0 (after (length out.old) at.0 at.1 command.now nonce.now) place) ∗ ⌜ IsIn (written (length out.old) at.0 at.1 command.now nonce.now) out.old out.new result ⌝ }
+{
+    execute(&mut *(place as *mut Device), command, nonce, out)
+}
+
+fn execute(device: &mut Device, command: &[u8], nonce: &[u8; 64], out: &mut [u8]) -> usize
+    ensures { (o : Origin) (h : History) → Stands o h device.old →
+        Stands o (after (length out.old) o h command.now nonce.now) device.new × IsIn (written (length out.old) o h command.now nonce.now) out.old out.new result }
+{
+    if out.len() < BUFFER_BYTES {
+        return 0;
+    }
+    let answer = device.execute(command, nonce);
+    put(out, answer.as_slice())
+}
