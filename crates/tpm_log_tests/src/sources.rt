@@ -22,7 +22,7 @@ const SEPARATED: &str = "b2a83b0ebf2f8374299a5b2bdfc31ea955ad7236";
 
 // Gives its bytes, at most so many a read, and where it is endless zeros behind them. Fails at the read with this number.
 #[derive(Drop)]
-struct Reader<'a> {
+pub(crate) struct Reader<'a> {
     bytes: &'a [u8],
     most: usize,
     is_endless: bool,
@@ -32,7 +32,7 @@ struct Reader<'a> {
 }
 
 impl<'a> Reader<'a> {
-    fn new(bytes: &'a [u8], most: usize) -> Self {
+    pub(crate) fn new(bytes: &'a [u8], most: usize) -> Self {
         Reader {
             bytes,
             most,
@@ -149,4 +149,81 @@ fn a_reader_that_never_ends_is_refused(rt: HostRuntime) {
         LogFaultKind::TooLong,
         16_777_209,
     );
+}
+
+// The record of an event of 4 MiB up to its event, behind a header of three algorithms; and a separator.
+const FRONT: &str =
+    "000000000300000000000000000000000000000000000000000000002900000053706563204944204576656e74303300000000000002000203000000040014000b0020000c00300000050000000d000000030000000400077c791119e055e7a0ae5e507089a3f9114836f50b00a117210941a0b00dcb2d8577e680d84b6fa0eaf760d2afc654c953b9859d54fa0c005511f2c17b5c7562000acf25d84e9b93d3477a1bb4ba74ea05287fbd775d2d79ba91f1911a279f9ead2969538627654e00004000";
+
+const SEPARATOR: &str =
+    "05000000040000000300000004009069ca78e7450a285173431b3e52c5c25299e4730b00df3f619804a92fdb4057192dc43dd748ea778adc52bc498ce80524c014b811190c00394341b7182cd227c5c6b07ef8000cdfd86136c4292b8e576573ad7ed9ae41019f5818b4b971c9effc60e1ad9f1289f00400000000000000";
+
+// Makes the bytes of an event, which count from 0 to 250 again and again, between a front and a back.
+#[derive(Drop)]
+struct Large<'a> {
+    front: &'a [u8],
+    made: u32,
+    size: u32,
+    back: &'a [u8],
+}
+
+impl Source for Large<'_> {
+    ghost coming = { λ _. None };
+
+    ghost failed = { λ _. 0 };
+
+    fn read(&mut self, room: &mut [u8]) -> Result<usize, ReadFailed> {
+        if self.front.is_empty() && self.made < self.size {
+            let count = room.len().min((self.size - self.made) as usize);
+            for byte in &mut room[..count] {
+                *byte = (self.made % 251) as u8;
+                self.made = self.made.saturating_add(1);
+            }
+            return Ok(count);
+        }
+        if self.front.is_empty() {
+            self.front = self.back;
+            self.back = &[];
+        }
+        let count = self.front.len().min(room.len());
+        let (next, rest) = self.front.split_at(count);
+        room[..count].copy_from_slice(next);
+        self.front = rest;
+        Ok(count)
+    }
+
+    fn failures(&self) -> u64 {
+        0
+    }
+}
+
+#[test]
+fn an_event_of_4_mib_is_stepped_over(rt: HostRuntime) {
+    let front = bytes_of(FRONT);
+    let back = bytes_of(SEPARATOR);
+    let mut source = Large {
+        front: front.as_slice(),
+        made: 0,
+        size: 4_194_304,
+        back: back.as_slice(),
+    };
+    let registers = match replay_from(&mut source) {
+        Ok(registers) => registers,
+        Err(fault) => panic!(rt; "{fault:?}"),
+    };
+    let register = PcrIndex::from_number(5).expect(&rt, "a register");
+    for (alg, value) in [
+        (Alg::Sha1, "9401dfc2f702ed0388fc14c68a5108d35ac7d600"),
+        (
+            Alg::Sha256,
+            "cf4bd6f9d7676c4539e7685760c67ece0ec7598e0f616e32ed1f9abdfcde7906",
+        ),
+        (
+            Alg::Sha384,
+            "1ca531a3038b1a039832a7bb93d87ef28a623b55bdaadf36facb08a3e42eb32a3504050df4bb650b2671570ae4771106",
+        ),
+    ] {
+        let value = bytes_of(value);
+        assert!(rt; registers.read(alg, register).as_slice() == value.as_slice());
+    }
 }
