@@ -20,7 +20,8 @@ uint32_t tpm_bench_decode_command(const uint8_t *bytes, size_t len);
 uint32_t tpm_bench_decode_pcr_read_reply(const uint8_t *bytes, size_t len);
 size_t tpm_bench_encode_command(const uint8_t *bytes, size_t len, uint32_t times, uint8_t *out, size_t out_len);
 size_t tpm_bench_push_frames(const uint8_t *stream, size_t len, size_t most, uint8_t *out, size_t out_len);
-size_t tpm_bench_execute(const uint8_t *bytes, size_t len, uint32_t times, uint8_t *out, size_t out_len);
+size_t tpm_bench_execute(const uint8_t *prepare, size_t prepare_len, const uint8_t *first, size_t first_len, const uint8_t *second, size_t second_len, uint32_t times, uint8_t *out, size_t out_len);
+size_t tpm_bench_start(const uint8_t *startup, size_t len, uint32_t times, uint8_t *out, size_t out_len);
 uint32_t tpm_bench_authorize(const uint8_t *bytes, size_t len, uint32_t times);
 uint32_t tpm_bench_seal(uint32_t times);
 uint32_t tpm_bench_open(uint32_t times);
@@ -176,6 +177,9 @@ static void make_stream(void) {
 }
 
 enum { OUT = sizeof stream };
+enum { TIMES = 1000 };
+
+#include "commands.h"
 
 static void make_ready(void) {
     for (size_t i = 0; i < sizeof message; i++)
@@ -184,6 +188,7 @@ static void make_ready(void) {
         key[i] = (uint8_t)(i + 1);
     want((macs = HMAC_CTX_new()) != NULL, "out of memory");
     make_buffers();
+    make_runs();
     make_stream();
 }
 
@@ -230,7 +235,6 @@ static size_t decode_response(size_t which, uint8_t *out) {
     return tpm_bench_decode_pcr_read_reply(buffers[which].bytes, buffers[which].len) == 0;
 }
 
-enum { TIMES = 1000 };
 static size_t encode_command(size_t which, uint8_t *out) {
     return tpm_bench_encode_command(buffers[which].bytes, buffers[which].len, TIMES, out, OUT);
 }
@@ -240,8 +244,7 @@ static size_t read_frames(size_t most, uint8_t *out) { return tpm_bench_read_fra
 
 // The answer has the response code in its seventh to tenth byte.
 static size_t execute(size_t which, uint8_t *out) {
-    size_t len = tpm_bench_execute(buffers[which].bytes, buffers[which].len, TIMES, out, OUT);
-    return len >= 10 && memcmp(out + 6, "\0\0\0\0", 4) == 0 ? len : 0;
+    return is_done(out, tpm_bench_execute(out, 0, buffers[which].bytes, buffers[which].len, out, 0, TIMES, out, OUT));
 }
 
 // What PCR_Extend with two digests hashes, by the library: each register's value and the digest behind it.
@@ -351,6 +354,27 @@ static struct row rows[] = {
     {"execute PCR_Extend", PCR_EXTEND, {execute, TIMES}, {hashes_of_extend}, 1},
     {"execute PCR_Extend, 3 banks", PCR_EXTEND_ALL, {execute, TIMES}, {hashes_of_extend_all}, 1},
     {"execute PCR_Event, 4 bytes", PCR_EVENT, {execute, TIMES}, {hashes_of_event}, 1},
+    {"execute Startup", 0, {start_device, TIMES}, {NULL}},
+    {"execute PCR_Reset", RESET, {execute_run, TIMES}, {NULL}},
+    {"execute PolicyPCR", POLICY_PCR, {execute_run, TIMES}, {hashes_of_run}, 1},
+    {"execute PolicyOR", POLICY_OR, {execute_run, TIMES}, {hashes_of_run}, 1},
+    {"execute PolicyCommandCode", POLICY_COMMAND_CODE, {execute_run, TIMES}, {hashes_of_run}, 1},
+    {"execute PolicyAuthValue", POLICY_AUTH_VALUE, {execute_run, TIMES}, {hashes_of_run}, 1},
+    {"execute PolicyRestart", POLICY_RESTART, {execute_run, TIMES}, {NULL}},
+    {"execute PolicyGetDigest", POLICY_GET_DIGEST, {execute_run, TIMES}, {NULL}},
+    {"execute NV_Increment", INCREMENT, {execute_run, TIMES}, {NULL}},
+    {"execute NV_Read", READ, {execute_run, TIMES}, {NULL}},
+    {"execute NV_ReadPublic", READ_PUBLIC, {execute_run, TIMES}, {hashes_of_run}, 1},
+    {"both, StartAuthSession first", START_FLUSH, {execute_run, TIMES}, {NULL}},
+    {"both, NV_DefineSpace first", DEFINE, {execute_run, TIMES}, {NULL}},
+    {"both, NV_UndefineSpace first", UNDEFINE, {execute_run, TIMES}, {NULL}},
+    {"session, PCR_Extend", EXTEND_SESSION, {execute_run, TIMES}, {hashes_of_run}, 1},
+    {"session, PCR_Event, 4 bytes", EVENT_SESSION, {execute_run, TIMES}, {hashes_of_run}, 1},
+    {"session, PCR_Reset", RESET_SESSION, {execute_run, TIMES}, {hashes_of_run}, 1},
+    {"session, NV_Increment", INCREMENT_SESSION, {execute_run, TIMES}, {hashes_of_run}, 1},
+    {"session, NV_Read", READ_SESSION, {execute_run, TIMES}, {hashes_of_run}, 1},
+    {"session, NV_DefineSpace", DEFINE_SESSION, {execute_run, TIMES}, {hashes_of_run}, 1},
+    {"session, NV_UndefineSpace", UNDEFINE_SESSION, {execute_run, TIMES}, {hashes_of_run}, 1},
     {"authorize PCR_Extend", PCR_EXTEND_SIGNED, {authorize, TIMES}, {hashes_of_authorize}, 1},
     {"seal PCR_Extend", PCR_EXTEND_SIGNED, {seal, TIMES}, {hashes_of_authorize}, 1},
     {"open reply of PCR_Extend", PCR_EXTEND_SIGNED, {open_reply, TIMES}, {hashes_of_open}, 1},

@@ -14,19 +14,69 @@ const STARTUP: [u8; 12] = [
     0x80, 0x01, 0x00, 0x00, 0x00, 0x0C, 0x00, 0x00, 0x01, 0x44, 0x00, 0x00,
 ];
 
-/// Starts a new device, and has it execute the command so many times, at least once, each time with the answer to the beginning
+// How many commands make a device ready, at most.
+const MOST_COMMANDS: usize = 8;
+
+/// Starts a new device and makes it ready by the commands of `prepare`, one behind the other and eight at most. Then it executes the
+/// first command so many times, at least once, with the answer to the beginning of `out`, and behind each but the last the second.
+/// It says how many bytes the last answer has, which is that of the model at some history.
+#[unsafe(no_mangle)]
+pub extern "C" fn tpm_bench_execute(
+    prepare: &[u8],
+    first: &[u8],
+    second: &[u8],
+    times: u32,
+    out: &mut [u8],
+) -> usize
+    requires { 4096 ≤ length out.old }
+    ensures { (o : Origin) × (h : History) × (n : List ℕ) × (take result out.new ≡ answer o h first.now n) }
+{
+    let nonce = [0; 64];
+    let mut device = prepared(prepare, &nonce);
+    for _ in 1..times {
+        answer_both(&mut device, first, second, &nonce, out);
+    }
+    answer_once(&mut device, first, &nonce, out)
+}
+
+/// Switches a device's power off and on, and has it execute this command, so many times, at least once, with the answer to the beginning
 /// of `out`. It says how many bytes the last answer has, which is that of the model at some history.
 #[unsafe(no_mangle)]
-pub extern "C" fn tpm_bench_execute(bytes: &[u8], times: u32, out: &mut [u8]) -> usize
+pub extern "C" fn tpm_bench_start(startup: &[u8], times: u32, out: &mut [u8]) -> usize
     requires { 4096 ≤ length out.old }
-    ensures { (o : Origin) × (h : History) × (n : List ℕ) × (take result out.new ≡ answer o h bytes.now n) }
+    ensures { (o : Origin) × (h : History) × (n : List ℕ) × (take result out.new ≡ answer o h startup.now n) }
 {
     let nonce = [0; 64];
     let mut device = started(&AuthValue::default(), &STARTUP, &nonce);
     for _ in 1..times {
-        answer_once(&mut device, bytes, &nonce, out);
+        device.power_cycle();
+        answer_once(&mut device, startup, &nonce, out);
     }
-    answer_once(&mut device, bytes, &nonce, out)
+    device.power_cycle();
+    answer_once(&mut device, startup, &nonce, out)
+}
+
+// The command that the bytes begin with, by its commandSize, and the bytes behind it.
+fn cut(bytes: &[u8]) -> (&[u8], &[u8]) {
+    let size = match bytes {
+        [_, _, _, _, high, low, ..] => u16::from_be_bytes([*high, *low]) as usize,
+        _ => 0,
+    };
+    bytes.split_at(size.min(bytes.len()))
+}
+
+// A started device that has executed these commands.
+fn prepared(commands: &[u8], nonce: &[u8; 64]) -> Device
+    ensures { (o : Origin) × (h : History) × Stands o h result }
+{
+    let mut device = started(&AuthValue::default(), &STARTUP, nonce);
+    let mut rest = commands;
+    for _ in 0..MOST_COMMANDS {
+        let (command, behind) = cut(rest);
+        let _answer = device.execute(command, nonce);
+        rest = behind;
+    }
+    device
 }
 
 fn started(owner: &AuthValue, startup: &[u8], nonce: &[u8; 64]) -> Device
@@ -35,6 +85,19 @@ fn started(owner: &AuthValue, startup: &[u8], nonce: &[u8; 64]) -> Device
     let mut device = Device::new(owner, 0);
     let _answer = device.execute(startup, nonce);
     device
+}
+
+// Executes the first command, and the second where there is one.
+fn answer_both(device: &mut Device, first: &[u8], second: &[u8], nonce: &[u8; 64], out: &mut [u8])
+    requires { 4096 ≤ length out.old }
+    ensures stands { (o : Origin) (h : History) → Stands o h device.old → (k : History) × Stands o k device.new }
+    ensures room { length out.new ≡ length out.old }
+{
+    answer_once(device, first, nonce, out);
+    if second.is_empty() {
+        return;
+    }
+    answer_once(device, second, nonce, out);
 }
 
 #[inline(never)]

@@ -14,7 +14,7 @@ pub use buffers::{
     tpm_bench_decode_command, tpm_bench_decode_pcr_read_reply, tpm_bench_encode_command,
 };
 pub use caller::{tpm_bench_both_ends, tpm_bench_open, tpm_bench_seal};
-pub use device::tpm_bench_execute;
+pub use device::{tpm_bench_execute, tpm_bench_start};
 pub use hashes::{tpm_bench_hash, tpm_bench_hmac};
 pub use sessions::tpm_bench_authorize;
 pub use sizes::tpm_bench_size;
