@@ -1,5 +1,5 @@
 -- `tpm_device_init` meets its contract: a walk of its MIR by hand. The room is written, and what lies there is what `made` gives.
-use Rattle.std.proofs.Common.{ℕ, ◌≤◌, ◌<◌, ◌^◌, ◌⊎◌, inl, inr, List, [], ◌∷◌, length, refl, w32, w64, lit<, ltb→lt, nltb→le, Bor}
+use Rattle.std.proofs.Common.{ℕ, ◌≤◌, ◌<◌, ◌^◌, inl, inr, List, [], ◌∷◌, length, refl, w32, w64, lit<, ltb→lt, nltb→le, Bor}
 use seplogic.Ra.Ura.{Ura}
 use base.Fraction.{full_share}
 use mir.Syntax.{named}

@@ -1,4 +1,4 @@
--- `tpm_framer_next` meets its contract: a walk of its MIR by hand. The device is lent for a lifetime that is made for the call, and comes back once it is ended.
+-- `tpm_framer_next` meets its contract: a walk of its MIR by hand. The framer is lent for a lifetime that is made for the call, and comes back once it is ended.
 use Rattle.std.proofs.Common.{ℕ, List, [], ◌∷◌, refl, ap}
 use seplogic.Ra.Ura.{Ura}
 use base.Fraction.{full_share}
@@ -13,7 +13,7 @@ use types.Logic.{Logic, sem}
 use types.SemTy.{Body}
 use contract.Monad.{Fun, fact}
 use contract.Running.{tables, tables_of}
-use types.Kit.{‵, raw, ◌⊛◌, some, later, ◌$◌, ◌∵◌, !, qed, by, move, drop, use1, use3, split, join, pick, fjoin, fpick, fpack, feq_l, feq_i, suffices, await, done}
+use types.Kit.{‵, raw, ◌⊛◌, some, later, ◌$◌, ◌∵◌, !, qed, by, move, drop, use1, use3, split, join, pick, fjoin, fpack, feq_l, feq_i, suffices, await, done}
 use types.Tokens.{lft_new, lft_end}
 use types.Run.{addr, stop, of_opd, unit_lit, and_then, no_more, returns, enter}
 use types.ByLocal.{alloc_all, pass_all, free_all, look_at, through, get, sets, lands_as}
@@ -80,7 +80,7 @@ module _ {M : Type 1} {𝓤 : Ura M} (𝓛 : Logic 𝓤) (at_mem : Memory → SP
     walk =
         qed 𝓛 (‵ (lies d) ∷ raw (Entry (block_ptr b o)) ∷ []) ∵ enter ! C Λ code.function (vptr b o ∷ []) _ $
         alloc_all ! (λ l. pass_all ! refl ((tt, tt), tt) $
-        -- place as *mut (List ℕ), and &mut of it
+        -- place as *mut Framer, and &mut of it
         sets ! (of_opd ! (get ! refl)) refl (tt, tt) $
         sets ! (addr ! (through ! refl (stop !))) refl (tt, tt) $
         lft_new ! tt (λ α. let κ : Lft = α ∷ [] in move ! (1 ∷ []) $
@@ -91,7 +91,7 @@ module _ {M : Type 1} {𝓤 : Ura M} (𝓛 : Logic 𝓤) (at_mem : Memory → SP
         let y : (Of 𝓛 at_mem run).Ghost = (((κ, tt), (full_share, tt), tt, (x, tt), (vptr b o ∷ [], tt)), tt) in
         nothing ! $ move ! (1 ∷ 0 ∷ []) $ fjoin ! $ nothing ! $ move ! (3 ∷ 0 ∷ []) $ join ! $ join ! $ nothing ! $ move ! (1 ∷ 0 ∷ []) $ join ! $
         use1 𝓛 (raw ((Of 𝓛 at_mem run).pre y)) (id⊢ 𝓤 ((Of 𝓛 at_mem run).pre y)) $
-        -- power_cycle(..)
+        -- next(..)
         calls_at ! fm (Of 𝓛 at_mem run) known y (and_then ! (get ! refl) (no_more !)) (λ v.
         use1 𝓛 (later (some (λ (r : Unit {0}). ((‵ (flft κ full_share) ⊛ ‵ ftrue) ⊛ ‵ (Nothing.own_val r (v ∷ []))) ⊛ raw (ensured 𝓛 of.ended (of.clauses 𝓛 at_mem run) (κ, tt) (x, tt) tt r)))) (id⊢ 𝓤 _) $ await ! tt $ pick ! (λ r.
         split ! $ move ! (1 ∷ []) $

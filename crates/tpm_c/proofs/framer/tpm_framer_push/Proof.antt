@@ -1,24 +1,23 @@
 -- `tpm_framer_push` meets its contract: a walk of its MIR by hand.
-use Rattle.std.proofs.Common.{◌≡◌, ℕ, ◌≤◌, List, [], ◌∷◌, length, take, refl, w64, Bor}
+use Rattle.std.proofs.Common.{◌≡◌, ℕ, List, [], ◌∷◌, length, refl, w64, Bor}
 use seplogic.Ra.Ura.{Ura}
 use base.Fraction.{full_share}
 use mir.Syntax.{named}
 use mir.Val.{Val, vptr}
-use base.Logic.{SProp, ent, sep, via, snd∗, never, never_e, id⊢, emp}
+use base.Logic.{SProp, ent, sep, via, snd∗, never, never_e, id⊢}
 use base.Fml.{Lft, GName, Fml, flft, flent}
 use prog.Memory.{Memory}
 use prog.Routine.{Routine}
 use prog.Wp.{Calls, Loops, WpFn, Tables}
 use types.Logic.{Logic, sem}
 use types.SemTy.{Body}
-use contract.Monad.{Fun, fact, fact_i}
+use contract.Monad.{Fun, fact}
 use contract.Lifetimes.{Lfts, Shares}
 use contract.Running.{tables, tables_of}
-use types.Kit.{‵, raw, ◌⊛◌, some, later, ◌$◌, ◌∵◌, !, qed, by, move, drop, use0, use1, use3, split, join, pick, fsplit, fjoin, fpick, fpack, feq_l, suffices, await, done}
+use types.Kit.{‵, raw, ◌⊛◌, some, later, ◌$◌, ◌∵◌, !, qed, by, move, drop, use1, use3, split, join, pick, fsplit, fjoin, fpack, suffices, await, done}
 use types.Tokens.{lft_new, lft_end}
-use types.Part.{whole, sub, agg}
-use types.Run.{addr, stop, of_opd, fld, hop, from, and_then, no_more, returns, enter}
-use types.ByLocal.{alloc_all, pass_all, free_all, look_at, look_in_at, through, get, get_in, sets, lands_as}
+use types.Run.{addr, stop, of_opd, and_then, no_more, returns, enter}
+use types.ByLocal.{alloc_all, pass_all, free_all, look_at, through, get, sets, lands_as}
 use sound.WpLaws.{FmC, fm_of, WpFn-mono}
 use denote.Exit.{yes}
 use denote.RattleType.{owns}
