@@ -6,7 +6,7 @@ use std::io::{ErrorKind, Write};
 use std::test::Fail;
 use tpm_buffer::CommandCode;
 use tpm_device::Device;
-use tpm_tool::{Status, ToolFault, build, not_hexadecimal, run_script, show};
+use tpm_tool::{Status, ToolFault, build, not_hexadecimal, run_script, show, show_fields};
 use tpm_types::AuthValue;
 use tpm_wire::SliceSource;
 
@@ -15,6 +15,8 @@ use tpm_wire::SliceSource;
 enum Call {
     Show(&'static str),
     ShowReply(&'static str),
+    ShowFields(&'static str),
+    ShowReplyFields(&'static str),
     Build(&'static str),
     Run(&'static str),
     NotHexadecimal,
@@ -24,8 +26,10 @@ const STARTUP: &str = "80010000000c000001440000";
 
 const RESET_REPLY: &str = "80020000001300000000000000000000010000";
 
+const READ_REPLY: &str = "80020000001d000000000000000a000800000000000000040000010000";
+
 // Each call, and the whole text that it prints.
-const CALLS: [(Call, &str); 9] = [
+const CALLS: [(Call, &str); 11] = [
     (
         Call::Show(STARTUP),
         "command Startup size 12\nparameters 0000\n",
@@ -34,6 +38,14 @@ const CALLS: [(Call, &str); 9] = [
     (
         Call::ShowReply(RESET_REPLY),
         "reply PCR_Reset size 19\nparameters -\nsession 1 nonce - attributes 01 hmac -\n",
+    ),
+    (
+        Call::ShowFields(STARTUP),
+        "command Startup size 12\nparameters 0000\n  startupType TPM_SU 0000\n",
+    ),
+    (
+        Call::ShowReplyFields(READ_REPLY),
+        "reply NV_Read size 29\nparameters 00080000000000000004\n  data TPM2B_MAX_NV_BUFFER 00080000000000000004\nsession 1 nonce - attributes 01 hmac -\n",
     ),
     (Call::Build("0000"), "80010000000c000001440000\n"),
     (Call::Build("0002"), "refused 1c4 at 10\n"),
@@ -52,6 +64,8 @@ fn perform<W: Write>(alloc: Global, out: &mut W, call: Call) -> Result<Status, T
     match call {
         Call::Show(hex) => show(alloc, out, None, hex),
         Call::ShowReply(hex) => show(alloc, out, Some(CommandCode::PcrReset), hex),
+        Call::ShowFields(hex) => show_fields(alloc, out, None, hex),
+        Call::ShowReplyFields(hex) => show_fields(alloc, out, Some(CommandCode::NvRead), hex),
         Call::Build(parameters) => build(alloc, out, CommandCode::Startup, "-", "-", parameters),
         Call::Run(script) => run(alloc, out, script),
         Call::NotHexadecimal => not_hexadecimal(alloc, out),

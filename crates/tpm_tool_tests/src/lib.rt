@@ -7,6 +7,8 @@ mod device;
 #[cfg(test)]
 mod faults;
 #[cfg(test)]
+mod laws;
+#[cfg(test)]
 mod nonces;
 #[cfg(test)]
 mod pieces;
