@@ -1,10 +1,10 @@
-# A Caller and a Waiting are spent by their use: what uses one again does not compile. checks/spent.rt has a function for each use;
+# A Caller and a Waiting are spent by their use: what uses one again does not compile. checks/spent.txt has a function for each use;
 # it is compiled once, as a crate over a copy of the repository's sources, of which nothing is proved here.
 
 spent=$room/spent
 mkdir -p "$spent/crates/spent/src"
 tar -c --exclude=out crates HANDLES | tar -x -C "$spent"
-cp checks/spent.rt "$spent/crates/spent/src/lib.rt"
+cp checks/spent.txt "$spent/crates/spent/src/lib.rt"
 {
     cat crates.txt
     echo 'spent: tpm_caller tpm_buffer tpm_types arrayvec'
@@ -15,7 +15,7 @@ cp checks/spent.rt "$spent/crates/spent/src/lib.rt"
 awk -F : '
     NR == FNR { if (match($0, /^pub fn [a-z_]*/)) name = substr($0, 8, RLENGTH - 7); function_at[FNR] = name; next }
     /error\[borrow-e0382\]/ { print function_at[$2] }
-' checks/spent.rt "$spent/said" | sort -u >"$spent/refused"
+' checks/spent.txt "$spent/said" | sort -u >"$spent/refused"
 wrong=$(grep error "$spent/said" | grep -v 'error\[borrow-e0382\]')
 
 for use in seals_twice opens_twice opens_what_was_given_up gives_up_what_was_opened; do
