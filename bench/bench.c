@@ -6,11 +6,14 @@
 #include <openssl/evp.h>
 #include <openssl/hmac.h>
 #include <openssl/sha.h>
+#include <stddef.h>
 #include <stdint.h>
 #include <stdio.h>
 #include <stdlib.h>
 #include <string.h>
 #include <time.h>
+
+#include "vinjakwe.h" // crates/tpm_c
 
 // ---- the library (crates/tpm_bench; a slice is a pointer and a length)
 
@@ -247,6 +250,20 @@ static size_t execute(size_t which, uint8_t *out) {
     return is_done(out, tpm_bench_execute(out, 0, buffers[which].bytes, buffers[which].len, out, 0, TIMES, out, OUT));
 }
 
+// The same by the device for C.
+static size_t execute_through_c(size_t which, uint8_t *out) {
+    static const uint8_t startup[] = {0x80, 0x01, 0, 0, 0, 12, 0, 0, 0x01, 0x44, 0, 0}, nonce[TPM_NONCE_BYTES];
+    static max_align_t room[1024];
+    struct tpm_device *device = (struct tpm_device *)room;
+    size_t len = 0;
+    want(tpm_device_size() <= sizeof room && tpm_device_align() <= _Alignof(max_align_t), "the room of a device");
+    want(tpm_device_init(device, nonce, 0, 0) == 1, "a device for C");
+    want(tpm_device_execute(device, startup, sizeof startup, nonce, out, OUT) == 10, "Startup through C");
+    for (int i = 0; i < TIMES; i++)
+        len = tpm_device_execute(device, buffers[which].bytes, buffers[which].len, nonce, out, OUT);
+    return is_done(out, len);
+}
+
 // What PCR_Extend with two digests hashes, by the library: each register's value and the digest behind it.
 static size_t hashes_of_extend(size_t argument, uint8_t *out) {
     (void)argument;
@@ -354,6 +371,8 @@ static struct row rows[] = {
     {"execute PCR_Extend", PCR_EXTEND, {execute, TIMES}, {hashes_of_extend}, 1},
     {"execute PCR_Extend, 3 banks", PCR_EXTEND_ALL, {execute, TIMES}, {hashes_of_extend_all}, 1},
     {"execute PCR_Event, 4 bytes", PCR_EVENT, {execute, TIMES}, {hashes_of_event}, 1},
+    {"C, PCR_Read", PCR_READ, {execute_through_c, TIMES}, {execute, TIMES}},
+    {"C, PCR_Extend", PCR_EXTEND, {execute_through_c, TIMES}, {execute, TIMES}},
     {"execute Startup", 0, {start_device, TIMES}, {NULL}},
     {"execute PCR_Reset", RESET, {execute_run, TIMES}, {NULL}},
     {"execute PolicyPCR", POLICY_PCR, {execute_run, TIMES}, {hashes_of_run}, 1},

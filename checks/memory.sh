@@ -60,6 +60,18 @@ else
     refuses "an owner value" run --owner 6f776e6572
     refuses "an owner value that is not hexadecimal" run --owner no
     refuses "a code" explain 9a2
+    quote=00000001000b038000000020da301acd1cfa3963a46b39f70c3ce51e88a5a296769f49656b6598230817df89
+    refuses "a log" check checks/logs/worked.log
+    refuses "a log that is none" check checks/logs/cut_by_a_byte.log
+    refuses "a log beside a list of registers" check checks/logs/worked.log --registers checks/logs/worked.registers
+    refuses "a log beside a list without registers" check checks/logs/worked.log --registers "$room/script"
+    refuses "a log beside a quote" check checks/logs/worked.log --quote $quote
+    refuses "a log beside a quote under another hash" check checks/logs/worked.log --quote $quote --hash sha384
+    refuses "a log beside a quote that is refused" check checks/logs/worked.log --quote 00
+    refuses "a log beside a list of registers and a quote" check checks/logs/worked.log --registers checks/logs/worked.registers --quote $quote
+    refuses "the records of a log" events checks/logs/worked.log
+    refuses "the records of a log that is none" events checks/logs/cut_by_a_byte.log
+    refuses "a hash without a name" check --hash sha512 checks/logs/worked.log
     refuses "help" show --help
     refuses "a usage fault" show
 fi

@@ -85,6 +85,7 @@ cases checks/fields.txt
 cases checks/build.txt
 cases checks/run.txt
 cases checks/explain.txt
+cases checks/check.txt
 cases checks/words.txt
 
 # feeds N: N line feeds.
@@ -137,6 +138,11 @@ runs_without_output "a closed standard output for parameters by their names" - s
 runs_without_output "a closed standard output for joined parts" - build Startup - - 0000
 runs_without_output "a closed standard output for a script" - run
 runs_without_output "a closed standard output for a code" - explain 100
+runs_without_output "a closed standard output for a log's registers" - check checks/logs/worked.log
+runs_without_output "a closed standard output for a log's fault" - check checks/logs/empty.log
+runs_without_output "a closed standard output for a list of registers" - check checks/logs/worked.log --registers checks/logs/worked.registers
+runs_without_output "a closed standard output for a quote" - check checks/logs/worked.log --quote 00
+runs_without_output "a closed standard output for a log's records" - events checks/logs/worked.log
 runs_without_output "a closed standard output for help" - --help
 
 if [ -c /dev/full ]; then

@@ -1,9 +1,9 @@
-/* The device and the framer of crate tpm_c, for C99 and later and for C++. There is nothing to initialize, nothing is allocated and
+/* The library of crate tpm_c, for C99 and later and for C++. There is nothing to initialize, nothing is allocated and
  * nothing is kept between calls but what lies in the caller's memory. docs/USING.md says how the archive is built.
  *
  * For every function: a pointer is not null, even where the length beside it is 0; bytes that are read or written are so many as
- * the length beside the pointer says, and no two of a call overlap. A device or a framer lies in room of tpm_.._size() bytes
- * at a multiple of tpm_.._align(); it is used from init on, by one call at a time, and nothing else writes to it and nothing
+ * the length beside the pointer says, and no two of a call overlap. A device, a framer or a caller lies in room of tpm_.._size()
+ * bytes at a multiple of tpm_.._align(); it is used from init on, by one call at a time, and nothing else writes to it and nothing
  * copies it while it is used. What is proved holds of calls that keep this; nothing checks it. */
 #ifndef VINJAKWE_H
 #define VINJAKWE_H
@@ -45,7 +45,7 @@ void tpm_device_power_cycle(struct tpm_device *device);
  * answers 0, and nothing changes, where out_len is less than TPM_BUFFER_BYTES. */
 size_t tpm_device_execute(struct tpm_device *device, const uint8_t *command, size_t len, const uint8_t *nonce, uint8_t *out, size_t out_len);
 
-/* ---- a framer: a stream cut into its buffers, each of which states its size (Part 1, 18.1) */
+/* ---- a framer: a stream cut into its buffers, each of which states its size (Part 1, "Command/Response Structure") */
 
 struct tpm_framer;
 
@@ -71,6 +71,198 @@ size_t tpm_framer_frame(struct tpm_framer *framer, uint8_t *out, size_t out_len)
 
 /* Drops the frame that is held, so that the next one can come. Where none is held, nothing changes. */
 void tpm_framer_next(struct tpm_framer *framer);
+
+/* ---- commands and responses, judged, cut into their areas, and joined from their parts */
+
+/* What the functions below answer. What one does not say that it writes stays as it was. */
+#define TPM_DONE ((uint32_t)0)       /* the bytes are what was asked for */
+#define TPM_REFUSED ((uint32_t)1)    /* they are not: the refusal says their fault */
+#define TPM_NO_ROOM ((uint32_t)2)    /* the room is too small */
+#define TPM_NO_COMMAND ((uint32_t)3) /* no command has this number */
+
+/* A fault of bytes: the response code, and how many bytes are before what is at fault. */
+struct tpm_refusal {
+    uint32_t code;
+    uint32_t at;
+};
+
+/* A part of the bytes that were handed in: how many bytes are before it, and how many it has. */
+struct tpm_part {
+    size_t at;
+    size_t len;
+};
+
+/* A session of a command, TPMS_AUTH_COMMAND (Part 2, 10.13.2): a session's handle or TPM_RS_PW, the caller's nonce, the attributes,
+ * and the HMAC or the password. */
+struct tpm_command_session {
+    uint32_t handle;
+    uint8_t attributes;
+    struct tpm_part nonce;
+    struct tpm_part hmac;
+};
+
+/* A command by its areas: TPM_CC, the number of its bytes, 0 to 2 handles, 0 to 3 sessions, and the parameters. Of the handles and
+ * the sessions as many are there as are counted, and what is not there is 0. */
+struct tpm_command_areas {
+    uint32_t code;
+    size_t size;
+    size_t handle_count;
+    uint32_t handles[2];
+    size_t session_count;
+    struct tpm_command_session sessions[3];
+    struct tpm_part parameters;
+};
+
+/* A session of a response, TPMS_AUTH_RESPONSE (Part 2, 10.13.3): the device's nonce, the attributes, and the HMAC. */
+struct tpm_response_session {
+    uint8_t attributes;
+    struct tpm_part nonce;
+    struct tpm_part hmac;
+};
+
+/* A response by its areas: TPM_RC, 0 or 1 handles, the parameters, and 0 to 3 sessions. What is not there is 0; of a response whose
+ * code is not 0 nothing else is there. */
+struct tpm_response_areas {
+    uint32_t code;
+    size_t handle_count;
+    uint32_t handle;
+    struct tpm_part parameters;
+    size_t session_count;
+    struct tpm_response_session sessions[3];
+};
+
+/* Cuts a command, whatever bytes are handed in. TPM_DONE: its areas are in `areas`, and the parameters are not judged; TPM_REFUSED:
+ * the first fault before the parameters is in `refusal`. */
+uint32_t tpm_command_cut(const uint8_t *bytes, size_t len, struct tpm_command_areas *areas, struct tpm_refusal *refusal);
+
+/* Judges a command as a whole, parameters and all. TPM_DONE: all the bytes spell one; TPM_REFUSED: their fault is in `refusal`. */
+uint32_t tpm_command_decode(const uint8_t *bytes, size_t len, struct tpm_refusal *refusal);
+
+/* Cuts the response to the command of this number, TPM_CC. TPM_DONE: its areas are in `areas`, and the parameters are not judged;
+ * TPM_REFUSED: the first fault beside the parameters is in `refusal`; TPM_NO_COMMAND. */
+uint32_t tpm_response_cut(uint32_t command, const uint8_t *bytes, size_t len, struct tpm_response_areas *areas,
+                            struct tpm_refusal *refusal);
+
+/* Judges the response to the command of this number as a whole. TPM_DONE: all the bytes spell one; TPM_REFUSED: their fault is in
+ * `refusal`; TPM_NO_COMMAND. */
+uint32_t tpm_response_decode(uint32_t command, const uint8_t *bytes, size_t len, struct tpm_refusal *refusal);
+
+/* Joins the command of this number from the bytes of its handles, its sessions as they are spelled in the authorization area, and its
+ * parameters: its tag is TPM_ST_SESSIONS where there are bytes of sessions, and else TPM_ST_NO_SESSIONS. TPM_DONE: the command is at
+ * the beginning of `out`, and `count` is the number of its bytes; TPM_REFUSED: the bytes spell no command, and their fault is in
+ * `refusal`, of more than TPM_BUFFER_BYTES their size; TPM_NO_ROOM: out_len is less than its bytes; TPM_NO_COMMAND. */
+uint32_t tpm_command_build(uint32_t command, const uint8_t *handles, size_t handles_len, const uint8_t *sessions, size_t sessions_len,
+                           const uint8_t *parameters, size_t parameters_len, uint8_t *out, size_t out_len, size_t *count,
+                           struct tpm_refusal *refusal);
+
+/* ---- a log of a measured boot (PC Client Platform Firmware Profile, "Event Logging") */
+
+/* How many bytes the registers of all banks have: SHA-1 of register i at 20 * i, SHA-256 at 480 + 32 * i, SHA-384 at
+ * 1248 + 48 * i, for the registers 0 to 23. */
+#define TPM_REGISTERS_BYTES 2400
+
+/* What is wrong with a log. A token that would end behind its area or behind the greatest length of a log has that fault before it
+ * has too few bytes, and only then its value is judged. */
+#define TPM_LOG_DONE ((uint32_t)0)
+/* The bytes end within a token. */
+#define TPM_LOG_TRUNCATED ((uint32_t)1)
+/* A token would end behind byte 16,777,216. */
+#define TPM_LOG_TOO_LONG ((uint32_t)2)
+/* The first record is not the header of a log with digests of several hashes (Spec ID Event03). */
+#define TPM_LOG_NOT_CRYPTO_AGILE ((uint32_t)3)
+/* The header's event has too few or too many bytes, or lists no hash or more than eight. */
+#define TPM_LOG_BAD_HEADER ((uint32_t)4)
+/* The header lists a hash twice. */
+#define TPM_LOG_DUPLICATE_ALGORITHM ((uint32_t)5)
+/* The header gives a hash another size than its digests have, or one outside 1 to 64 bytes. */
+#define TPM_LOG_WRONG_DIGEST_SIZE ((uint32_t)6)
+/* The header doesn't list the hash of a digest. */
+#define TPM_LOG_UNKNOWN_ALGORITHM ((uint32_t)7)
+/* A record has two digests of one hash. */
+#define TPM_LOG_REPEATED_DIGEST ((uint32_t)8)
+/* A record that is not EV_NO_ACTION names a register other than 0 to 16 and 23. */
+#define TPM_LOG_BAD_REGISTER ((uint32_t)9)
+/* The start-up locality is not 0, 3 or 4. */
+#define TPM_LOG_BAD_LOCALITY ((uint32_t)10)
+/* The start-up locality stands behind another, or behind a record that extends register 0. */
+#define TPM_LOG_LATE_LOCALITY ((uint32_t)11)
+
+/* Writes the registers after the log that the bytes spell, from those that have just been started, and answers TPM_LOG_DONE.
+ * `registers` has TPM_REGISTERS_BYTES. Otherwise it answers the log's first fault, writes to `at` how many bytes precede the token
+ * that has it, and leaves the registers as they were. */
+uint32_t tpm_log_replay(const uint8_t *log, size_t len, uint8_t *registers, uint32_t *at);
+
+/* What is said of a quote beside a log: its digest is that of the registers, or another; or the bytes are none; or there is no
+ * bank of that hash. */
+#define TPM_QUOTE_MATCHES ((uint32_t)0)
+#define TPM_QUOTE_DIFFERS ((uint32_t)16)
+#define TPM_QUOTE_REFUSED ((uint32_t)17)
+#define TPM_QUOTE_NO_BANK ((uint32_t)18)
+
+/* Replays a log, and compares the digest of a quote's information (TPMS_QUOTE_INFO; Part 2, 10.12.4) with that of the values of
+ * its registers under this hash (TPM_ALG_SHA1, TPM_ALG_SHA256 or TPM_ALG_SHA384; Part 1, "Selecting Multiple PCR"). The first of
+ * these is answered: TPM_QUOTE_NO_BANK; the log's first fault, with its place as above; TPM_QUOTE_REFUSED, with the position of
+ * the first fault in `at`, or 0 where there are more than TPM_BUFFER_BYTES; TPM_QUOTE_MATCHES or TPM_QUOTE_DIFFERS. The quote's
+ * signature is not looked at. */
+uint32_t tpm_log_check_quote(const uint8_t *log, size_t len, const uint8_t *quote, size_t quote_len, uint16_t hash, uint32_t *at);
+
+/* ---- a caller's end of a session (Part 1, "Session-Based Authorizations") */
+
+struct tpm_caller;
+
+/* How many bytes a caller takes, and at a multiple of which number it lies. What is said above of a device's memory holds of a caller's. */
+size_t tpm_caller_size(void);
+size_t tpm_caller_align(void);
+
+/* Makes a caller in the room, which holds no session. */
+void tpm_caller_init(struct tpm_caller *place);
+
+/* Holds the session that a TPM2_StartAuthSession and its reply make, each given by all its bytes, in the place of what was held, and
+ * answers 1. `bind_auth` is the authorization value of what the session is bound to; it is not looked at where that is TPM_RH_NULL.
+ * It answers 0, and nothing changes, where the bytes are no such command or no reply to it of code 0, or where the two nonces differ
+ * in length, or have fewer than 16 bytes or more than a digest. */
+uint32_t tpm_caller_start(struct tpm_caller *caller, const uint8_t *command, size_t len, const uint8_t *reply, size_t reply_len, const uint8_t *bind_auth, size_t bind_auth_len);
+
+/* Seals a command with the session that is free, and answers how many bytes were written to `out`: the command with this session as
+ * its authorization, whose HMAC is always there. The session then waits for the reply.
+ *
+ * The command is given by all its bytes; sessions that it has are left out, so it may have none (TPM_ST_NO_SESSIONS). `first` and
+ * `second` are the Names of its handles, in their order: the 4 bytes of the handle itself, or of an index the Name that
+ * TPM2_NV_ReadPublic answers; the second is not looked at where there is one handle. `auth` is what follows the session key in
+ * that of the HMAC: the authorization value of what the first handle names, or nothing where the rules leave it out. `nonce` is
+ * nonceCaller, a fresh random one. With a `keep` other than 0 the session goes on after the command (continueSession).
+ *
+ * It answers 0, and nothing changes, where no session is free, where out_len is less than TPM_BUFFER_BYTES, where the bytes are no
+ * command whose first handle needs authorization, or where a Name or the nonce is too long: more than 50 or 48 bytes. */
+size_t tpm_caller_seal(struct tpm_caller *caller, const uint8_t *command, size_t len, const uint8_t *first, size_t first_len, const uint8_t *second, size_t second_len, const uint8_t *auth, size_t auth_len, const uint8_t *nonce, size_t nonce_len, uint32_t keep, uint8_t *out, size_t out_len);
+
+/* What is said of the reply to a sealed command. */
+#define TPM_CALLER_OPENED ((uint32_t)0)
+/* The bytes spell no response to the command. */
+#define TPM_CALLER_REFUSED ((uint32_t)1)
+/* The command was not done: the response has another code than TPM_RC_SUCCESS. */
+#define TPM_CALLER_CODE ((uint32_t)2)
+/* There is not exactly one session, or its nonceTPM has another length than the session's. */
+#define TPM_CALLER_NOT_EXPECTED ((uint32_t)3)
+/* The HMAC is not that of the reply. */
+#define TPM_CALLER_WRONG_MAC ((uint32_t)4)
+/* No command waits for its reply. */
+#define TPM_CALLER_NOT_WAITING ((uint32_t)5)
+
+/* Opens the reply to the sealed command, and answers TPM_CALLER_OPENED: the session is free again, with its new nonceTPM, or it has
+ * ended where it was not kept. Otherwise nothing changes, and the first of the others is answered: the session still waits for the
+ * reply. Until it is opened nothing in the reply is to be believed. */
+uint32_t tpm_caller_open(struct tpm_caller *caller, const uint8_t *reply, size_t len);
+
+/* Frees the session as it was before it sealed the command, where these bytes are a response whose code is not TPM_RC_SUCCESS, and
+ * answers 1. It answers 0, and nothing changes, where they are none or no command waits. */
+uint32_t tpm_caller_give_up(struct tpm_caller *caller, const uint8_t *refusal, size_t len);
+
+/* ---- the digest of a policy
+ *
+ * A device gives it, by bytes: TPM2_StartAuthSession with TPM_SE_TRIAL, then the policy's commands in their order (TPM2_PolicyPCR,
+ * TPM2_PolicyOR, TPM2_PolicyCommandCode, TPM2_PolicyAuthValue), and TPM2_PolicyGetDigest, whose reply has it (Part 3, 23.19). A
+ * device of its own for it is started by TPM2_Startup, and nothing of it is kept. */
 
 /* ---- constants (Part 2) */
 

@@ -130,6 +130,12 @@ def accepted():
     log.record(16, IPL, b"unknown hashes alone", algorithms=[0x0029, 0x0027, 0x0012])
     log.write("eight_algorithms")
 
+    # each type of a record that has a name, and two that have none
+    log = Log([0x000B])
+    for kind in (*range(0x13), *range(0x80000000, 0x8000000E), 0x80000010, *range(0x800000E0, 0x800000E3), 0x13, 0xA0000001):
+        log.record(16, kind, struct.pack("<I", kind))
+    log.write("every_type")
+
     # SHA-512 alone: no bank is extended
     Log([0x000D]).record(0, SEPARATOR, bytes(4)).write("no_bank")
 

@@ -29,7 +29,7 @@ use Rattle.tpm_buffer.specs.Parameters.{nv_define_space, pcr_event, startup, nv_
 use Rattle.tpm_buffer.proofs.Longer.{TakesAtMost, with_more, in_set, at_most_more, at_most_done, at_most_number, at_most_number_in, at_most_text, at_most_field, at_most_marked, at_most_sized_bytes, at_most_sized, at_most_counted}
 
 -- a part, and what follows it
-and : {A B : Type 0} (j k : ℕ) (get : A → B) (l : Layout B) (f : B → Layout A) → TakesAtMost j l → ((y : B) → TakesAtMost k (f y)) → TakesAtMost (j + k) (Form.field get l f)
+pub and : {A B : Type 0} (j k : ℕ) (get : A → B) (l : Layout B) (f : B → Layout A) → TakesAtMost j l → ((y : B) → TakesAtMost k (f y)) → TakesAtMost (j + k) (Form.field get l f)
 and j k get l f one two = at_most_field j k get l f one (λ m h y is. two y.0)
 
 -- a parameter, and what follows it
@@ -37,7 +37,7 @@ next : {A B : Type 0} (j k n : ℕ) (get : A → B) (l : Layout B) (f : B → La
 next j k n get l f one two = and j k get (numbered n l) f (at_most_marked j n l one) two
 
 -- a part, and nothing behind it
-last : {A B : Type 0} (j : ℕ) (get : A → B) (l : Layout B) (x : B → A) → TakesAtMost j l → TakesAtMost (j + 0) (Form.field get l (λ y. Form.done (x y)))
+pub last : {A B : Type 0} (j : ℕ) (get : A → B) (l : Layout B) (x : B → A) → TakesAtMost j l → TakesAtMost (j + 0) (Form.field get l (λ y. Form.done (x y)))
 last j get l x one = and j 0 get l (λ y. Form.done (x y)) one (λ y. at_most_done (x y))
 
 only : {A B : Type 0} (j n : ℕ) (get : A → B) (l : Layout B) (x : B → A) → TakesAtMost j l → TakesAtMost (j + 0) (Form.field get (numbered n l) (λ y. Form.done (x y)))
@@ -63,7 +63,7 @@ of_session =
 abbrev made : Alg → List ℕ → Selection
 made alg select = record { hash = alg; select = select }
 
-of_selection : TakesAtMost 6 selection
+pub of_selection : TakesAtMost 6 selection
 unfolding selection
 of_selection =
     and 2 4 _ _ _ of_hash (λ alg.
@@ -124,14 +124,15 @@ of_parameters codes.PolicyGetDigest = none _
 
 -- ---- more bytes than any parameters
 
-abbrev ok : {A : Type 0} → A → Result A Refusal
+abbrev pub ok : {A : Type 0} → A → Result A Refusal
 ok x = Ok x
 
 abbrev err : {A : Type 0} → Refusal → Result A Refusal
 err e = Err e
 
-over : (bytes more : List ℕ) → 0 < length more → (p : Params) (g : Here) → (finish buffer (p, with_more more g) >>= λ x. ok x.0) ≡ Err (record { code = rc_size; at = g.at })
-over bytes more some p g =
+-- behind what was read there are bytes left
+pub over : {A : Type 0} (more : List ℕ) → 0 < length more → (x : A) (g : Here) → (finish buffer (x, with_more more g) >>= λ y. ok y.0) ≡ err (record { code = rc_size; at = g.at })
+over more some x g =
     let n : eqb (length (g.rest ++ more)) 0 ≡ false = ne_eqb (length (g.rest ++ more)) 0 (λ e. omega (arith, some, e, length-append g.rest more)) in
     rw n refl
 
@@ -151,4 +152,4 @@ left_of_long code bytes long p g is =
     let all : read 0 (parameters code) (at_start (take 4096 bytes ++ drop 4096 bytes)) ≡ Ok (p, with_more (drop 4096 bytes) g) =
     (of_parameters code).same 0 (at_start (take 4096 bytes)) (drop 4096 bytes) (p, g) is in
     let same : read 0 (parameters code) (at_start bytes) ≡ Ok (p, with_more (drop 4096 bytes) g) = ap (λ (b : List ℕ). read 0 (parameters code) (at_start b)) (sym whole) ∙ all in
-    ap (λ o. (o >>= finish buffer) >>= λ x. ok x.0) same ∙ over bytes (drop 4096 bytes) (omega (arith, long, length-drop 4096 bytes)) p g
+    ap (λ o. (o >>= finish buffer) >>= λ x. ok x.0) same ∙ over (drop 4096 bytes) (omega (arith, long, length-drop 4096 bytes)) p g

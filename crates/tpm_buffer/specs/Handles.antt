@@ -62,10 +62,6 @@ needs_authorization codes.PolicyRestart = false
 needs_authorization codes.PcrExtend = true
 needs_authorization codes.PolicyGetDigest = false
 
--- the former name of of_handle
-abbrev pub handle : ℕ → ℕ
-handle = of_handle
-
 abbrev pub first : List ℕ → ℕ
 first [] = 0
 first (n ∷ ns) = n

@@ -2,6 +2,7 @@ pub mod Codes
 pub mod Handles
 pub mod Parameters
 pub mod Commands
+pub mod Parts
 pub mod CommandAreas
 pub mod Replies
 pub mod Responses

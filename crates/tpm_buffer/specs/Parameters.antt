@@ -28,10 +28,6 @@ use Rattle.tpm_buffer.specs.declared.code.CommandCode.TheVariants as codes
 use Rattle.tpm_buffer.specs.declared.command_parameters.Params.{Params}
 use Rattle.tpm_buffer.specs.declared.command_parameters.Params.TheVariants as params
 
--- the former name of of_parameter
-abbrev pub parameter : ℕ → ℕ
-parameter = of_parameter
-
 -- ---- a parameter of the command that has it; for any other command a value that is never used
 
 abbrev pub auth_of : Params → List ℕ

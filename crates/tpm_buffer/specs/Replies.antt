@@ -1,6 +1,7 @@
 -- What the commands answer (Part 3, the response table of each).
 use Rattle.std.specs.Prelude.{ℕ, List, [], ◌∷◌, if◌then◌else◌}
 use Rattle.tpm_wire.specs.Buffers.{Layout, any_number, numbered}
+use Rattle.tpm_wire.specs.ResponseCodes.{of_handle, of_parameter}
 use Rattle.tpm_wire.specs.Layout.Form.{done, field}
 use Rattle.tpm_wire.specs.Structures.{sized_bytes}
 use Rattle.tpm_types.specs.declared.alg.Alg.{Alg}
@@ -14,8 +15,8 @@ use Rattle.tpm_buffer.specs.declared.code.CommandCode.{CommandCode}
 use Rattle.tpm_buffer.specs.declared.code.CommandCode.TheVariants as codes
 use Rattle.tpm_buffer.specs.declared.response.ReplyBody.{ReplyBody}
 use Rattle.tpm_buffer.specs.declared.response.ReplyBody.TheVariants as replies
-use Rattle.tpm_buffer.specs.Handles.{handle, first}
-use Rattle.tpm_buffer.specs.Parameters.{parameter, no_public}
+use Rattle.tpm_buffer.specs.Handles.{first}
+use Rattle.tpm_buffer.specs.Parameters.{no_public}
 
 -- the command that is answered so
 abbrev pub code_for_reply : ReplyBody → CommandCode
@@ -79,7 +80,7 @@ reply_digest_of _ = []
 -- ---- the handle of each reply: TPM2_StartAuthSession's alone
 
 unfoldable pub session_handle : Layout (List ℕ)
-session_handle = field first (numbered (handle 1) session) (λ n. done (n ∷ []))
+session_handle = field first (numbered (of_handle 1) session) (λ n. done (n ∷ []))
 
 abbrev pub reply_handles : CommandCode → Layout (List ℕ)
 reply_handles codes.StartAuthSession = session_handle
@@ -97,35 +98,35 @@ session_in n = if is_session n then n else 0x02000000
 
 unfoldable pub pcr_event_reply : Layout ReplyBody
 pcr_event_reply =
-    field event_digests_of (numbered (parameter 1) digest_values) (λ values.
+    field event_digests_of (numbered (of_parameter 1) digest_values) (λ values.
     done (replies.PcrEvent values))
 
 unfoldable pub nv_read_reply : Layout ReplyBody
 nv_read_reply =
-    field data_of (numbered (parameter 1) (sized_bytes 8)) (λ bytes.
+    field data_of (numbered (of_parameter 1) (sized_bytes 8)) (λ bytes.
     done (replies.NvRead bytes))
 
 unfoldable pub nv_read_public_reply : Layout ReplyBody
 nv_read_public_reply =
-    field reply_public_of (numbered (parameter 1) nv_public) (λ public.
-    field name_of (numbered (parameter 2) name) (λ its_name.
+    field reply_public_of (numbered (of_parameter 1) nv_public) (λ public.
+    field name_of (numbered (of_parameter 2) name) (λ its_name.
     done (replies.NvReadPublic public its_name)))
 
 unfoldable pub start_auth_session_reply : List ℕ → Layout ReplyBody
 start_auth_session_reply hs =
-    field nonce_tpm_of (numbered (parameter 1) nonce) (λ nonce_tpm.
+    field nonce_tpm_of (numbered (of_parameter 1) nonce) (λ nonce_tpm.
     done (replies.StartAuthSession (record { session = session_in (first hs); nonce_tpm = nonce_tpm })))
 
 unfoldable pub pcr_read_reply : Layout ReplyBody
 pcr_read_reply =
-    field counter_of (numbered (parameter 1) (any_number 4)) (λ counter.
-    field reply_selections_of (numbered (parameter 2) selections) (λ selected.
-    field values_of (numbered (parameter 3) digests) (λ values.
+    field counter_of (numbered (of_parameter 1) (any_number 4)) (λ counter.
+    field reply_selections_of (numbered (of_parameter 2) selections) (λ selected.
+    field values_of (numbered (of_parameter 3) digests) (λ values.
     done (replies.PcrRead counter selected values))))
 
 unfoldable pub policy_get_digest_reply : Layout ReplyBody
 policy_get_digest_reply =
-    field reply_digest_of (numbered (parameter 1) digest) (λ value.
+    field reply_digest_of (numbered (of_parameter 1) digest) (λ value.
     done (replies.PolicyGetDigest value))
 
 -- the reply with this handle

@@ -1,4 +1,4 @@
--- A response to a given command: a header, and where its code is 0 a handle, parameters and sessions (Part 1, 18.2; Part 2, 6.9).
+-- A response to a given command: a header, and where its code is 0 a handle, parameters and sessions (Part 1, "Command/Response Structure"; Part 2, 6.9).
 use Rattle.std.specs.Prelude.{◌≡◌, ℕ, ◌+◌, Bool, true, not, List, [], ◌∷◌, length, Option, Some, None, nat_le, ◌==◌, ◌||◌, if◌then◌else◌}
 use Rattle.tpm_wire.specs.Buffers.{Layout, number_in, numbered}
 use Rattle.tpm_wire.specs.Layout.{raw, remaining, either}

@@ -170,6 +170,13 @@ impl<'a> Areas<'a> {
         self.header.code
     }
 
+    /// commandSize: the number of bytes of the command.
+    pub fn size(&self) -> u32
+        ensures { result ≡ self.now.header.size }
+    {
+        self.header.size
+    }
+
     /// The numbers of the handles, 0 to 2.
     pub fn handles(&self) -> &[u32]
         ensures { result.now ≡ self.now.handles }
@@ -205,7 +212,8 @@ impl<'a> Areas<'a> {
 
     /// How many bytes of the input are before the parameters.
     pub fn params_at(&self) -> u32
-        ensures { result ≡ self.now.params_at }
+        ensures value { result ≡ self.now.params_at }
+        ensures fits { result ≤ 4096 }
     {
         self.params_at
     }
@@ -272,7 +280,8 @@ pub(crate) fn take_areas<'a>(cursor: &mut Cursor<'a>, bytes: &'a [u8]) -> Result
 
 fn short_areas(bytes: &[u8]) -> Result<Areas<'_>, Refusal>
     requires { length bytes.now ≤ 4096 }
-    ensures { Gives areas_view (read 0 before_params (at_start bytes.now)) result }
+    ensures reads { Gives areas_view (read 0 before_params (at_start bytes.now)) result }
+    ensures spelled { IfOk result (IsSpelledBy bytes.now) }
 {
     take_areas(&mut Cursor::new(bytes), bytes)
 }
@@ -280,7 +289,8 @@ fn short_areas(bytes: &[u8]) -> Result<Areas<'_>, Refusal>
 /// All that stands before the parameters of the command in the bytes, however many they are.
 #[tactic(auto, unfolding(crate::specs::Commands::before_params))]
 pub(crate) fn any_areas(bytes: &[u8]) -> Result<Areas<'_>, Refusal>
-    ensures { Gives areas_view (read 0 before_params (at_start bytes.now)) result }
+    ensures reads { Gives areas_view (read 0 before_params (at_start bytes.now)) result }
+    ensures spelled { IfOk result (IsSpelledBy bytes.now) }
 {
     if bytes.len() > 4096 {
         return Err(long_fault(bytes));

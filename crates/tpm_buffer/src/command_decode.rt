@@ -8,7 +8,7 @@ ghost use Rattle.tpm_wire.specs.Layout.{cut};
 ghost use Rattle.tpm_wire.specs.Path.{Spells, Fault};
 ghost use Rattle.tpm_buffer.specs.declared.command.Command.{Command as CommandOf};
 ghost use Rattle.tpm_buffer.specs.Commands.{before_params, command};
-ghost use Rattle.tpm_buffer.specs.CommandAreas.{Cut, HasCut};
+ghost use Rattle.tpm_buffer.specs.CommandAreas.{Cut, HasCut, IsSpelledBy};
 
 use crate::command::{Command, CommandBody};
 use crate::command_areas::{Areas, any_areas, take_areas};
@@ -94,6 +94,7 @@ fn any_command<'a>() -> Command<'a> {
 pub fn areas(bytes: &[u8]) -> Result<Areas<'_>, Refusal>
     ensures ok { (c : Cut) → (result ≡ Ok c) ↔ HasCut bytes.now c }
     ensures err { (e : RefusalOf) → (result ≡ Err e) ↔ Fault (cut before_params) bytes.now e }
+    ensures spelled { IfOk result (IsSpelledBy bytes.now) }
 {
     any_areas(bytes)
 }

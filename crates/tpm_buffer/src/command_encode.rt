@@ -271,7 +271,7 @@ fn put_rest(tag: u16, command: &Command<'_>, out: &mut Buffer)
 }
 
 #[tactic(auto, unfolding(crate::specs::Commands::command, crate::specs::Commands::header, crate::specs::Commands::tag, crate::specs::Commands::command_size, crate::specs::Codes::command_code))]
-fn put_command(tag: u16, len: usize, command: &Command<'_>, out: &mut Buffer)
+fn put_whole(tag: u16, len: usize, command: &Command<'_>, out: &mut Buffer)
     requires empty { length out.old.items ≡ 0 }
     requires tag { tag ≡ tag_of command.now }
     requires len { len ≡ length (spelling (rest_of (code_for command.now.body) tag) command.now) }
@@ -284,9 +284,10 @@ fn put_command(tag: u16, len: usize, command: &Command<'_>, out: &mut Buffer)
     put_rest(tag, command, out);
 }
 
-// The bytes that spell it, into an empty buffer. It is out of line, so that `encode_command` is small, and its buffer the caller's.
+/// Puts the bytes that spell the command, 10 to 4,096 of them, into an empty buffer: those that `encode_command` answers.
+// It is out of line, so that `encode_command` is small, and its buffer the caller's.
 #[inline(never)]
-fn spell(command: &Command<'_>, out: &mut Buffer)
+pub fn put_command(command: &Command<'_>, out: &mut Buffer)
     requires { length out.old.items ≡ 0 }
     ensures spells { Spells command_layout command.now out.new.items }
     ensures bytes { out.new.items ≡ spelling command_layout command.now }
@@ -296,7 +297,7 @@ fn spell(command: &Command<'_>, out: &mut Buffer)
     let len = rest_len(tag, command);
     known_list(command.auths.as_slice());
     known_params(&command.body);
-    put_command(tag, len, command, out);
+    put_whole(tag, len, command, out);
 }
 
 /// The bytes that spell the command: 10 to 4,096 of them, under tag 0x8001 where it has no sessions and 0x8002 else.
@@ -306,6 +307,6 @@ pub fn encode_command(command: &Command<'_>) -> Buffer
     ensures fits { Fits (length result.items) command_layout command.now }
 {
     let mut out = ArrayVec::new();
-    spell(command, &mut out);
+    put_command(command, &mut out);
     out
 }

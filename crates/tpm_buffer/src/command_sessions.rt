@@ -4,6 +4,7 @@ ghost use Rattle.std.specs.Prelude.{◌≡◌, ◌≢◌, ◌<◌, ◌≤◌, �
 ghost use Rattle.std.specs.List.{All};
 ghost use Rattle.tpm_wire.specs.Spelling.{spelling};
 ghost use Rattle.tpm_wire.specs.Buffers.{Takes, TakesNumbered};
+ghost use Rattle.tpm_types.specs.Limits.{digest_bytes};
 ghost use Rattle.tpm_types.specs.Tpms.{auth_command};
 ghost use Rattle.tpm_buffer.specs.Commands.{sessions, authorization_size, authorization};
 ghost use Rattle.tpm_buffer.specs.ResponseAreas.{Stands};
@@ -48,7 +49,8 @@ impl<'a> AuthRef<'a> {
 
     /// The caller's nonce, nonceCaller: at most `DIGEST_BYTES`.
     pub fn nonce(&self) -> &'a [u8]
-        ensures { result.now ≡ self.now.nonce }
+        ensures value { result.now ≡ self.now.nonce }
+        ensures fits { length result.now ≤ digest_bytes }
     {
         self.nonce
     }
@@ -62,7 +64,8 @@ impl<'a> AuthRef<'a> {
 
     /// The HMAC, or the password: at most `DIGEST_BYTES`.
     pub fn hmac(&self) -> &'a [u8]
-        ensures { result.now ≡ self.now.hmac }
+        ensures value { result.now ≡ self.now.hmac }
+        ensures fits { length result.now ≤ digest_bytes }
     {
         self.hmac
     }

@@ -90,7 +90,8 @@ impl<'a> ReplyAreas<'a> {
 
     /// The parameters as they came, a part of the input: they are not judged yet.
     pub fn params(&self) -> &'a [u8]
-        ensures { result.now ≡ self.now.params }
+        ensures value { result.now ≡ self.now.params }
+        ensures short { length result.now ≤ 4096 }
     {
         let begin = self.params_at as usize;
         &self.bytes[begin..begin + self.params_size]
@@ -98,7 +99,8 @@ impl<'a> ReplyAreas<'a> {
 
     /// How many bytes of the input are before the parameters.
     pub fn params_at(&self) -> u32
-        ensures { result ≡ place_of_params self.now }
+        ensures value { result ≡ place_of_params self.now }
+        ensures fits { result ≤ 4096 }
     {
         self.params_at
     }

@@ -1,6 +1,6 @@
 //! From bytes to a response.
 
-ghost use Rattle.std.specs.Prelude.{◌≡◌, ◌≤◌, ◌<◌, ◌↔◌, ◌≢◌, ◌++◌, true, Ok, Err, IfOk, OnOk, length};
+ghost use Rattle.std.specs.Prelude.{◌≡◌, ◌≤◌, ◌<◌, ◌↔◌, ◌≢◌, ◌++◌, true, Ok, Err, IfOk, OnOk, [], length};
 ghost use Rattle.tpm_wire.specs.declared.refusal.Refusal.{Refusal as RefusalOf};
 ghost use Rattle.tpm_wire.specs.Spelling.{spelling};
 ghost use Rattle.tpm_wire.specs.Token.{at_start};
@@ -8,6 +8,8 @@ ghost use Rattle.tpm_wire.specs.Reading.{read_all, Gives};
 ghost use Rattle.tpm_wire.specs.Buffers.{TakesNumbered};
 ghost use Rattle.tpm_wire.specs.Path.{Spells, Fault};
 ghost use Rattle.tpm_buffer.specs.declared.response.Response.{Response as ResponseOf};
+ghost use Rattle.tpm_buffer.specs.declared.response.Response.TheVariants as responses;
+ghost use Rattle.tpm_buffer.specs.declared.response.ReplyBody.TheVariants as replies;
 ghost use Rattle.tpm_buffer.specs.Replies.{reply_parameters};
 ghost use Rattle.tpm_buffer.specs.Responses.{is_response_tag, goes_with, with_sessions, without_sessions, reply, code_or_done, tag_of_response, code_of_response, behind_code, response};
 ghost use Rattle.tpm_buffer.specs.ResponseAreas.{Stands, handle_list, HasHandle, IsReplyTo};
@@ -170,16 +172,13 @@ fn read_bytes(
     Ok(error)
 }
 
-// The answer is made in the caller's place, so that its many bytes are not moved from function to function.
+// The answer is filled in the caller's place, so that its many bytes are not moved from function to function.
 #[inline(never)]
 fn decode(code: CommandCode, bytes: &[u8], answer: &mut Result<Response, Refusal>)
+    requires { answer.old ≡ Ok (responses.Done replies.Startup (record { items = [] })) }
     ensures reads { answer.new ≡ read_all (response code) bytes.now }
     ensures spelled { IfOk answer.new (λ r. bytes.now ≡ spelling (response code) r) }
 {
-    *answer = Ok(Response::Done {
-        body: ReplyBody::Startup,
-        auths: ArrayVec::new(),
-    });
     if let Ok(response) = answer {
         if let Response::Done { body, auths } = response {
             match read_bytes(code, bytes, body, auths) {
@@ -198,7 +197,10 @@ pub fn decode_response(code: CommandCode, bytes: &[u8]) -> Result<Response, Refu
     ensures err { (e : RefusalOf) → (result ≡ Err e) ↔ Fault (response code) bytes.now e }
     ensures spelled { IfOk result (λ r. bytes.now ≡ spelling (response code) r) }
 {
-    let mut answer = Err(Refusal { code: SIZE, at: 0 });
+    let mut answer = Ok(Response::Done {
+        body: ReplyBody::Startup,
+        auths: ArrayVec::new(),
+    });
     decode(code, bytes, &mut answer);
     answer
 }

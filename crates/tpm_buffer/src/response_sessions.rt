@@ -4,6 +4,7 @@ ghost use Rattle.std.specs.Prelude.{◌≡◌, ◌≤◌, ◌<◌, ◌+◌, ◌^
 ghost use Rattle.std.specs.List.{All};
 ghost use Rattle.tpm_wire.specs.Spelling.{spelling, joined_all};
 ghost use Rattle.tpm_wire.specs.Buffers.{Takes, TakesNumbered};
+ghost use Rattle.tpm_types.specs.Limits.{digest_bytes};
 ghost use Rattle.tpm_types.specs.Tpms.{auth_response};
 ghost use Rattle.tpm_buffer.specs.Responses.{further_sessions, reply_sessions};
 ghost use Rattle.tpm_buffer.specs.ResponseAreas.{Stands, IsSession, session_at as the_session_at, sessions_at};
@@ -38,7 +39,8 @@ impl<'a> Model for ReplyRef<'a> {
 impl<'a> ReplyRef<'a> {
     /// The device's nonce, nonceTPM: at most `DIGEST_BYTES`.
     pub fn nonce(&self) -> &'a [u8]
-        ensures { result.now ≡ self.now.nonce }
+        ensures value { result.now ≡ self.now.nonce }
+        ensures fits { length result.now ≤ digest_bytes }
     {
         self.nonce
     }
@@ -52,7 +54,8 @@ impl<'a> ReplyRef<'a> {
 
     /// The HMAC: at most `DIGEST_BYTES`.
     pub fn hmac(&self) -> &'a [u8]
-        ensures { result.now ≡ self.now.hmac }
+        ensures value { result.now ≡ self.now.hmac }
+        ensures fits { length result.now ≤ digest_bytes }
     {
         self.hmac
     }

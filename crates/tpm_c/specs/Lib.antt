@@ -1,3 +1,10 @@
+pub mod Builds
+pub mod Callers
+pub mod CommandViews
 pub mod Devices
 pub mod Framers
+pub mod Logs
+pub mod Parts
+pub mod Quotes
+pub mod ResponseViews
 pub mod Written

@@ -1,4 +1,4 @@
-//! A framer in the caller's memory (Part 1, 18.1: a buffer states its size).
+//! A framer in the caller's memory (Part 1, "Command/Response Structure": a buffer states its size).
 
 ghost use Rattle.std.specs.Prelude.{◌≡◌, ℕ, List, []};
 ghost use Rattle.std.specs.Borrow.{sem};

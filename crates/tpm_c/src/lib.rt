@@ -1,10 +1,23 @@
 //! The library for C: each function works in memory that the caller hands in.
 #![tactic(auto)]
 
+mod builder;
+mod caller;
+mod command;
 mod device;
 mod framer;
+mod log;
 mod out;
+mod part;
+mod quote;
+mod response;
 
+pub use builder::tpm_command_build;
+pub use caller::{
+    tpm_caller_align, tpm_caller_give_up, tpm_caller_init, tpm_caller_open, tpm_caller_seal,
+    tpm_caller_size, tpm_caller_start,
+};
+pub use command::{TpmCommandAreas, TpmCommandSession, tpm_command_cut, tpm_command_decode};
 pub use device::{
     tpm_device_align, tpm_device_execute, tpm_device_init, tpm_device_power_cycle, tpm_device_size,
 };
@@ -12,3 +25,7 @@ pub use framer::{
     tpm_framer_align, tpm_framer_frame, tpm_framer_init, tpm_framer_next, tpm_framer_push,
     tpm_framer_size,
 };
+pub use log::tpm_log_replay;
+pub use part::{TpmPart, TpmRefusal};
+pub use quote::tpm_log_check_quote;
+pub use response::{TpmResponseAreas, TpmResponseSession, tpm_response_cut, tpm_response_decode};

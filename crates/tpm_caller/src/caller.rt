@@ -16,7 +16,7 @@ ghost use Rattle.tpm_caller.specs.Sent.{sent, hmac_key, hmac_at, with_hmac};
 use crate::waiting::Waiting;
 use arrayvec::ArrayVec;
 use std::marker::Model;
-use tpm_buffer::{Command, CommandBody, CommandCode, StartAuth, StartReply, encode_command};
+use tpm_buffer::{Command, CommandBody, CommandCode, StartAuth, StartReply, put_command};
 use tpm_hmac::{command_mac, cp_hash, hash, session_key, trim};
 use tpm_types::{
     Alg, Auth, AuthSession, AuthValue, BLOCK_BYTES, BindHandle, DIGEST_BYTES, Digest, Name, Nonce,
@@ -217,22 +217,24 @@ impl Caller {
         let code = body.code();
         let key = self.key_with(auth);
         let attrs = attrs_for(keep);
-        let mut bytes = encode_command(&self.unsigned(body, &nonce, attrs));
-        self.sign(
-            code,
-            names.as_slice(),
-            key.as_slice(),
-            nonce.as_slice(),
-            attrs,
-            &mut bytes,
-        );
-        Waiting {
+        let command = self.unsigned(body, &nonce, attrs);
+        let mut waiting = Waiting {
             caller: self,
             code,
             key,
             nonce,
             keep,
-            bytes,
-        }
+            bytes: ArrayVec::new(),
+        };
+        put_command(&command, &mut waiting.bytes);
+        waiting.caller.sign(
+            code,
+            names.as_slice(),
+            waiting.key.as_slice(),
+            waiting.nonce.as_slice(),
+            attrs,
+            &mut waiting.bytes,
+        );
+        waiting
     }
 }

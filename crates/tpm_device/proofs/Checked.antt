@@ -1,5 +1,5 @@
 -- What is known of a command that was read, and of the checks of its sessions.
-use Rattle.std.proofs.Common.{◌≡◌, ℕ, Bool, true, false, List, [], ◌∷◌, length, get_or, ◌<◌, Option, Some, None, Result, Ok, refl, sym, ap, subst, ◌∙◌, arith}
+use Rattle.std.proofs.Common.{◌≡◌, ℕ, Bool, true, false, List, [], ◌∷◌, length, Option, Some, None, Result, Ok, refl, sym, ap, subst, ◌∙◌, arith}
 use Rattle.std.specs.Prelude.{◌==◌, if◌then◌else◌, slice_get, IsSome}
 use Rattle.std.proofs.lemmas.Bool.Decides.{nat_tests}
 use Rattle.tpm_wire.specs.declared.refusal.Refusal.{Refusal}
@@ -24,7 +24,7 @@ use Rattle.tpm_buffer.proofs.Longer.{in_set}
 use Rattle.tpm_model.specs.Sessions.{Session, loaded}
 use Rattle.tpm_model.specs.Present.{Present}
 use Rattle.tpm_model.specs.Entities.{Entity, entity_of, names_of}
-use Rattle.tpm_model.specs.Authorization.{refuse as test, Evidence, Authorizer, Password, by_session, check_session, check_entity, evidence_by, check_evidence, first_loaded, authorize, reply_auths}
+use Rattle.tpm_model.specs.Authorization.{refuse as test, Evidence, Authorizer, Password, by_session, check_session, check_entity, evidence_by, check_evidence, authorize, reply_auths, password_reply}
 use Rattle.tpm_model.specs.Answers.{check_tag, evidence_in}
 use Rattle.tpm_model.proofs.Sealing.{okay_is}
 use Rattle.tpm_device.specs.Stands.{evidence_for, sessions_checked, owner_authorizes}
@@ -101,37 +101,23 @@ pub names_matter : (s : Option Session) (e : Entity) (code : CommandCode) (names
     → ((a.session == rs_pw) ≡ false → names ≡ others) → authorize s e code names params counter (a ∷ more) ≡ authorize s e code others params counter (a ∷ more)
 names_matter s e code names others params counter a more same = names_by (a.session == rs_pw) s e code names others params counter a more same
 
-nonempty : (auths : List Auth) (a : Auth) → 0 < length auths → a ≡ get_or auths 0 a → (others : List Auth) × (auths ≡ a ∷ others)
-nonempty [] a some at = absurd (omega (arith, some))
-nonempty (b ∷ more) a some at = (more, ap (λ (x : Auth). x ∷ more) (sym at))
-
 -- The checks of what was handed in are those of what is present.
-pub checked_by : (p : Present) (x : Cut) (auths : List Auth) (a : Auth) (e : Entity) (code : CommandCode) (names : List (List ℕ)) (params : List ℕ) (counter : ℕ) → 0 < length auths → a ≡ get_or auths 0 a
+pub checked_by : (p : Present) (x : Cut) (a : Auth) (others : List Auth) (e : Entity) (code : CommandCode) (names : List (List ℕ)) (params : List ℕ) (counter : ℕ) → x.auths ≡ a ∷ others
     → e ≡ entity_of p (first x.handles) → code ≡ x.header.code → params ≡ x.params → counter ≡ p.registers.update_counter → ((a.session == rs_pw) ≡ false → names ≡ names_of p x.handles)
-    → authorize (first_loaded (loaded p.sessions) auths) e code names params counter auths ≡ sessions_checked p x auths
-checked_by p x auths a e code names params counter some at entity is_code is_params is_counter are =
-    let split = nonempty auths a some at in
-    ap (λ (f : Entity). authorize (first_loaded (loaded p.sessions) auths) f code names params counter auths) entity
-    ∙ ap (λ (k : CommandCode). authorize (first_loaded (loaded p.sessions) auths) (entity_of p (first x.handles)) k names params counter auths) is_code
-    ∙ ap (λ (ps : List ℕ). authorize (first_loaded (loaded p.sessions) auths) (entity_of p (first x.handles)) x.header.code names ps counter auths) is_params
-    ∙ ap (λ (n : ℕ). authorize (first_loaded (loaded p.sessions) auths) (entity_of p (first x.handles)) x.header.code names x.params n auths) is_counter
-    ∙ subst (λ (list : List Auth). authorize (first_loaded (loaded p.sessions) list) (entity_of p (first x.handles)) x.header.code names x.params p.registers.update_counter list ≡ sessions_checked p x list) (sym split.1)
-    (names_matter (loaded p.sessions a.session) (entity_of p (first x.handles)) x.header.code names (names_of p x.handles) x.params p.registers.update_counter a split.0 are)
+    → authorize (loaded p.sessions a.session) e code names params counter (a ∷ others) ≡ sessions_checked p x x.auths
+checked_by p x a others e code names params counter auths entity is_code is_params is_counter are =
+    let s = loaded p.sessions a.session in
+    ap (λ (f : Entity). authorize s f code names params counter (a ∷ others)) entity
+    ∙ ap (λ (k : CommandCode). authorize s (entity_of p (first x.handles)) k names params counter (a ∷ others)) is_code
+    ∙ ap (λ (ps : List ℕ). authorize s (entity_of p (first x.handles)) x.header.code names ps counter (a ∷ others)) is_params
+    ∙ ap (λ (n : ℕ). authorize s (entity_of p (first x.handles)) x.header.code names x.params n (a ∷ others)) is_counter
+    ∙ names_matter s (entity_of p (first x.handles)) x.header.code names (names_of p x.handles) x.params p.registers.update_counter a others are
+    ∙ ap (λ (list : List Auth). sessions_checked p x list) (sym auths)
 
--- the sessions of a command, by the first two of them
+-- the sessions of a command, by the first of them
 pub no_auths : (auths : List Auth) → None ≡ slice_get auths 0 → auths ≡ []
 no_auths [] none = refl
 no_auths (a ∷ others) none = absurd (cc)
-
-pub one_auth : (auths : List Auth) (a : Auth) → Some a ≡ slice_get auths 0 → None ≡ slice_get auths 1 → auths ≡ a ∷ []
-one_auth [] a is none = absurd (cc)
-one_auth (b ∷ []) a is none = cc
-one_auth (b ∷ c ∷ others) a is none = absurd (cc)
-
-pub two_auths : (auths : List Auth) (a b : Auth) → Some a ≡ slice_get auths 0 → Some b ≡ slice_get auths 1 → (more : List Auth) × (auths ≡ a ∷ b ∷ more)
-two_auths [] a b one two = absurd (cc)
-two_auths (c ∷ []) a b one two = absurd (cc)
-two_auths (c ∷ d ∷ more) a b one two = (more, cc)
 
 pub first_auth : (auths : List Auth) (a : Auth) → Some a ≡ slice_get auths 0 → (others : List Auth) × (auths ≡ a ∷ others)
 first_auth [] a is = absurd (cc)
@@ -179,10 +165,10 @@ password_gives true s e code names params counter a more x is gives =
     let entity = bind_ok (check_entity Password e code counter) (λ _. Ok (evidence_by Password e code names params a)) x session.2 in
     okay_is {E = ℕ} (evidence_by Password e code names params a) x entity.2
 
--- A password covers no parameters.
-pub reply_covers_none : (p : Present) (x : Cut) (a : Auth) (others : List Auth) (e : Evidence) (code : CommandCode) (params more nonce : List ℕ) → (a.session == rs_pw) ≡ true → x.auths ≡ a ∷ others → evidence_for p x ≡ Ok e
-    → reply_auths e code params nonce ≡ reply_auths e code more nonce
-reply_covers_none p x a others e code params more nonce is are gives =
+-- A password is answered with its own session, whatever the parameters are.
+pub password_replies : (p : Present) (x : Cut) (a : Auth) (others : List Auth) (e : Evidence) (code : CommandCode) (params nonce : List ℕ) → (a.session == rs_pw) ≡ true → x.auths ≡ a ∷ others → evidence_for p x ≡ Ok e
+    → reply_auths e code params nonce ≡ password_reply ∷ []
+password_replies p x a others e code params nonce is are gives =
     let by = password_gives (a.session == rs_pw) (loaded p.sessions a.session) (entity_of p (first x.handles)) x.header.code (names_of p x.handles) x.params p.registers.update_counter a others e is
     (ap (λ (auths : List Auth). evidence_in p x.header.code x.handles x.params auths) (sym are) ∙ gives) in
-    subst (λ (y : Evidence). reply_auths y code params nonce ≡ reply_auths y code more nonce) by refl
+    subst (λ (y : Evidence). reply_auths y code params nonce ≡ password_reply ∷ []) by refl

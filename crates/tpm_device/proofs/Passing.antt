@@ -80,6 +80,10 @@ refused_by : (p : Present) (x : Cut) (r : Result Evidence ℕ) (code : ℕ) → 
 refused_by p x (Ok e) code is = kept p x (check_evidence (entity_of p (first x.handles)) e) e code is
 refused_by p x (Err other) code is = cc
 
+-- What is refused before its sessions is refused.
+pub presented_refused : (p : Present) (bytes : List ℕ) (code : ℕ) → presented p bytes ≡ Err code → permitted p bytes ≡ Err code
+presented_refused p bytes code is = rw is refl
+
 -- What was read is refused by the checks of its sessions, or has evidence that is right.
 pub sessions_refuse : (p : Present) (bytes : List ℕ) (x : Cut) (code : ℕ) → IsRead p (presented p bytes) (Ok x)
     → sessions_checked p x x.auths ≡ Err code → permitted p bytes ≡ Err code

@@ -88,11 +88,6 @@ pub record IsPermittedBy (p : Present) (r : Result Presented ℕ) (x : Cut) : Ty
   pub gives : evidence_for p x ≡ Ok evidence
   pub is : r ≡ Ok (presented_with p x evidence)
 
--- All checks before the parameters are met, or one fails.
-abbrev pub IsPermitted : Present → Result Presented ℕ → Result Cut ℕ → Type 0
-IsPermitted p r (Ok x) = IsPermittedBy p r x
-IsPermitted p r (Err code) = r ≡ Err code
-
 -- ---- actions
 
 -- what a command is that was done, with its reply

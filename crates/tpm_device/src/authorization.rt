@@ -1,6 +1,6 @@
 //! The authorization of a command.
 
-ghost use Rattle.std.specs.Prelude.{◌≡◌, ◌==◌, ◌<◌, ◌≤◌, false, length};
+ghost use Rattle.std.specs.Prelude.{◌≡◌, ◌==◌, ◌≤◌, false, length, slice_get, Some};
 ghost use Rattle.tpm_types.specs.Handles.{rs_pw};
 ghost use Rattle.tpm_buffer.specs.Handles.{first as first_of};
 ghost use Rattle.tpm_model.specs.Entities.{entity_of, name_of, names_of};
@@ -75,16 +75,17 @@ impl Device {
         self.names(handles)
     }
 
-    // All checks of these sessions.
-    fn check_auths(&self, auths: &[AuthRef<'_>], areas: &Areas<'_>) -> Result<(), u32>
+    // All checks of the sessions, of which this is the first.
+    fn check_auths(&self, auth: &AuthRef<'_>, areas: &Areas<'_>) -> Result<(), u32>
         requires few { length areas.now.handles ≤ 2 }
-        requires some { 0 < length auths.now }
-        ensures { result ≡ sessions_checked (holds self.now) areas.now auths.now }
+        requires own { Some auth.now ≡ slice_get areas.now.auths 0 }
+        ensures { result ≡ sessions_checked (holds self.now) areas.now areas.now.auths }
     {
         let entity = self.entity(first(areas.handles()));
-        let names = self.names_for(&auths[0], areas.handles());
-        self.sessions.authorize(
-            auths,
+        let names = self.names_for(auth, areas.handles());
+        self.sessions.authorize_first(
+            auth,
+            areas.auth_count(),
             &entity,
             areas.code(),
             names.as_slice(),
@@ -93,15 +94,20 @@ impl Device {
         )
     }
 
-    /// All checks of the sessions, which are the last before the parameters. A third session is refused as a second is.
-    pub(crate) fn check_sessions(&self, areas: &Areas<'_>) -> Result<(), u32>
-        requires { length areas.now.handles ≤ 2 }
+    /// All checks of the sessions, of which this is the first: they are the last checks before the parameters. A third session is
+    /// refused as a second is.
+    pub(crate) fn check_sessions(
+        &self,
+        areas: &Areas<'_>,
+        auth: &Option<AuthRef<'_>>,
+    ) -> Result<(), u32>
+        requires few { length areas.now.handles ≤ 2 }
+        requires own { auth.now ≡ slice_get areas.now.auths 0 }
         ensures { result ≡ sessions_checked (holds self.now) areas.now areas.now.auths }
     {
-        match (areas.auth(0), areas.auth(1)) {
-            (None, _) => Ok(()),
-            (Some(one), None) => self.check_auths(&[one], areas),
-            (Some(one), Some(two)) => self.check_auths(&[one, two], areas),
+        match auth {
+            None => Ok(()),
+            Some(auth) => self.check_auths(auth, areas),
         }
     }
 }

@@ -1,18 +1,18 @@
 //! A device: the order of its checks.
 
-ghost use Rattle.std.specs.Prelude.{◌≡◌, ℕ, ◌<◌, List, [], ◌∷◌, length, Ok, Err, IfOk, IfErr, OnOk, OnErr};
+ghost use Rattle.std.specs.Prelude.{◌≡◌, ℕ, ◌<◌, List, [], ◌∷◌, length, slice_get, Ok, Err, IfOk, IfErr, OnOk, OnErr};
 ghost use Rattle.tpm_buffer.specs.Parameters.{params_code};
 ghost use Rattle.tpm_buffer.specs.Commands.{body_from};
 ghost use Rattle.tpm_model.specs.Steps.{History, PowerCycle, Origin};
 ghost use Rattle.tpm_model.specs.Authorization.{Evidence};
 ghost use Rattle.tpm_model.specs.Actions.{action};
-ghost use Rattle.tpm_model.specs.Answers.{Presented, presented as presented_of, permitted as permitted_of, performed as performed_of, outcome as outcome_of, answered, answer, next, with_outcome};
+ghost use Rattle.tpm_model.specs.Answers.{Presented, presented as presented_of, performed as performed_of, outcome as outcome_of, answered, answer, next, with_outcome};
 ghost use Rattle.tpm_model.specs.Premises.{code_in};
-ghost use Rattle.tpm_device.specs.Stands.{none_loaded, Stands, holds, evidence_for, HasEvidence, presented_with, IsAdmitted, IsRead, IsPermitted, done_of, given, told};
+ghost use Rattle.tpm_device.specs.Stands.{none_loaded, Stands, holds, evidence_for, HasEvidence, presented_with, IsAdmitted, IsRead, done_of, given, told};
 
 use crate::checks::{check_started, check_tag};
 use crate::reply::put_refusal;
-use tpm_buffer::{Areas, Params, ReplyBody, decode_params_into, header};
+use tpm_buffer::{Areas, AuthRef, Params, ReplyBody, decode_params_into, header};
 use tpm_session::Sessions;
 use tpm_store::{Counters, Registers};
 use tpm_types::AuthValue;
@@ -29,7 +29,7 @@ pub struct Device {
 }
 
 // No session is loaded.
-pub(crate) fn no_sessions() -> Sessions
+fn no_sessions() -> Sessions
     ensures { result ≡ none_loaded }
 {
     Sessions::new()
@@ -56,8 +56,8 @@ impl Device {
         ensures { (o : Origin) (h : History) → Stands o h self.old → Stands o (PowerCycle ∷ h) self.new }
     {
         self.started = false;
-        self.registers = Registers::new();
-        self.sessions = no_sessions();
+        self.registers.restart();
+        self.sessions.clear();
     }
 
     // The checks by the grammar, and those before the authorization area.
@@ -78,25 +78,17 @@ impl Device {
         }
     }
 
-    // All checks before the parameters.
-    fn permitted<'a>(&self, bytes: &'a [u8]) -> Result<Areas<'a>, u32>
-        ensures reads { IsPermitted (holds self.now) (permitted_of (holds self.now) bytes.now) result }
-        ensures admitted { IfOk result IsAdmitted }
-    {
-        let areas = self.presented(bytes)?;
-        self.check_sessions(&areas)?;
-        Ok(areas)
-    }
-
-    // The action of these parameters and the reply, after which the nonce of the session rolls.
+    // The action of these parameters and the reply, after which the nonce of the session, the command's first, rolls.
     fn done(
         &mut self,
         areas: &Areas<'_>,
+        auth: &Option<AuthRef<'_>>,
         params: &Params<'_>,
         nonce: &[u8; 64],
         out: &mut Buffer,
     ) -> Result<(), u32>
         requires own { params_code params.now ≡ areas.now.header.code }
+        requires first { auth.now ≡ slice_get areas.now.auths 0 }
         requires admitted { IsAdmitted areas.now }
         requires evidence { HasEvidence (holds self.old) areas.now }
         requires empty { length out.old.items ≡ 0 }
@@ -111,19 +103,20 @@ impl Device {
     {
         let mut body = ReplyBody::Startup;
         self.act(areas.handles(), params, nonce, &mut body)?;
-        let auth = areas.auth(0);
-        self.put_done(&body, areas, &auth, nonce, out);
-        self.roll(areas, &auth, nonce);
+        self.put_done(&body, areas, auth, nonce, out);
+        self.roll(areas, auth, nonce);
         Ok(())
     }
 
-    // The parameters, and then the rest.
+    // The parameters, and then the rest. The session is the command's first.
     fn performed(
         &mut self,
         areas: &Areas<'_>,
+        auth: &Option<AuthRef<'_>>,
         nonce: &[u8; 64],
         out: &mut Buffer,
     ) -> Result<(), u32>
+        requires first { auth.now ≡ slice_get areas.now.auths 0 }
         requires admitted { IsAdmitted areas.now }
         requires evidence { HasEvidence (holds self.old) areas.now }
         requires empty { length out.old.items ≡ 0 }
@@ -139,7 +132,7 @@ impl Device {
     {
         let mut params = Params::PolicyRestart;
         match decode_params_into(areas.code(), areas.params(), &mut params) {
-            Ok(()) => self.done(areas, &params, nonce, out),
+            Ok(()) => self.done(areas, auth, &params, nonce, out),
             Err(refusal) => Err(refusal.code),
         }
     }
@@ -155,8 +148,10 @@ impl Device {
         ensures done { OnOk result (code_in out.new.items ≡ 0) }
         ensures none { OnErr result (out.new ≡ out.old) }
     {
-        let areas = self.permitted(bytes)?;
-        self.performed(&areas, nonce, out)
+        let areas = self.presented(bytes)?;
+        let auth = areas.auth(0);
+        self.check_sessions(&areas, &auth)?;
+        self.performed(&areas, &auth, nonce, out)
     }
 
     // The response: the reply, or the code alone.

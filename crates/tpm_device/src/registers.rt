@@ -5,9 +5,9 @@ ghost use Rattle.tpm_buffer.specs.declared.command.CommandBody.TheVariants as bo
 ghost use Rattle.tpm_model.specs.Actions.{action};
 ghost use Rattle.tpm_device.specs.Stands.{holds, acted, Steps};
 
-use crate::device::{Device, no_sessions};
+use crate::device::Device;
 use tpm_buffer::{Event, ReplyBody};
-use tpm_store::{Registers, event_digests};
+use tpm_store::event_digests;
 use tpm_types::{DigestValues, Digests, PcrIndex, PcrOrNull, Selections, StartupType};
 use tpm_wire::response_code::{VALUE, of_parameter};
 
@@ -22,8 +22,8 @@ impl Device {
         match kind {
             StartupType::Clear => {
                 self.started = true;
-                self.registers = Registers::new();
-                self.sessions = no_sessions();
+                self.registers.restart();
+                self.sessions.clear();
                 Ok(())
             }
             StartupType::State => Err(VALUE + of_parameter(1)),

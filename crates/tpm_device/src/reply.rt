@@ -19,6 +19,7 @@ ghost use Rattle.tpm_device.specs.Stands.{Stands, step_of, evidence_for, IsAlike
 use crate::device::Device;
 use crate::handles::first;
 use tpm_buffer::{Areas, AuthRef, ErrorCode, ReplyBody, put_code, put_reply, put_reply_params};
+use tpm_session::password_reply;
 use tpm_types::{AuthReply, RS_PW, SessionHandle};
 use tpm_wire::Buffer;
 
@@ -89,7 +90,7 @@ impl Device {
             evidence_for p areas.now ≡ Ok e → reply_auths e areas.now.header.code (reply_params body.now) nonce.now ≡ result ∷ [] }
     {
         if auth.session().number() == RS_PW {
-            return self.reply_session(auth, areas, &[], nonce);
+            return password_reply();
         }
         self.sealed(auth, areas, body, nonce)
     }
@@ -112,8 +113,8 @@ impl Device {
         match auth {
             None => put_reply(body, &[], out),
             Some(auth) => {
-                let reply = self.acknowledgment(auth, areas, body, nonce);
-                put_reply(body, &[reply], out);
+                let auths = [self.acknowledgment(auth, areas, body, nonce)];
+                put_reply(body, &auths, out);
             }
         }
     }

@@ -1,4 +1,4 @@
--- HMAC (RFC 2104) and KDFa (Part 1, 11.4.10.2: SP 800-108 in counter mode, with HMAC).
+-- HMAC (RFC 2104) and KDFa (Part 1, "KDFa()": SP 800-108 in counter mode, with HMAC).
 use Rattle.std.specs.Prelude.{ℕ, zero, suc, ◌+◌, ◌-◌, ◌*◌, ◌/◌, nat_lt, List, [], ◌∷◌, ◌++◌, length, map, take, replicate, bit_xor, if◌then◌else◌}
 use Rattle.std.specs.Int.{w32, to_be_bytes}
 use Rattle.tpm_types.specs.declared.alg.Alg.{Alg}

@@ -1,4 +1,4 @@
-//! KDFa (Part 1, 11.4.10.2).
+//! KDFa (Part 1, "KDFa()").
 
 ghost use Rattle.std.specs.Prelude.{◌≡◌, ◌≤◌, length};
 ghost use Rattle.tpm_types.specs.Alg.{digest_len};
@@ -33,7 +33,7 @@ fn kdfa_block(
 }
 
 /// Fills `out`, at most 8,192 bytes, with a key that is derived from this one: KDFa in as many bits as `out` has, of whose
-/// last block as much is taken as is wanted (Part 1, 11.4.10.2).
+/// last block as much is taken as is wanted (Part 1, "KDFa()").
 pub fn kdfa(alg: Alg, key: &[u8], label: &[u8], context_u: &[u8], context_v: &[u8], out: &mut [u8])
     requires { length out.old ≤ 8192 }
     ensures { out.new ≡ kdfa_of alg key.now label.now context_u.now context_v.now (length out.old) }

@@ -1,5 +1,5 @@
 -- What an authorized command says of its evidence, and the session of its reply.
-use Rattle.std.proofs.Common.{◌≡◌, ℕ, Bool, List, [], ◌∷◌, ◌&&◌, Option, Result, Ok, Err, refl, ap, ◌∙◌}
+use Rattle.std.proofs.Common.{◌≡◌, ℕ, ◌<◌, Bool, List, [], ◌∷◌, length, get_or, ◌&&◌, Option, Result, Ok, Err, refl, sym, ap, ◌∙◌, arith}
 use Rattle.tpm_wire.specs.Reading.{◌>>=◌}
 use Rattle.tpm_types.specs.declared.tpms.Auth.{Auth}
 use Rattle.tpm_types.specs.declared.tpms.AuthReply.{AuthReply}
@@ -25,6 +25,11 @@ both_met (Err code) check met = absurd (cc)
 pub authorized : (s : Option Session) (e : Entity) (code : CommandCode) (names : List (List ℕ)) (params : List ℕ) (counter : ℕ) (auths : List Auth) → authorize s e code names params counter auths ≡ Ok tt
     → (x : Evidence) × (evidence_of s e code names params counter auths ≡ Ok x) × (check_evidence e x ≡ Ok tt)
 authorized s e code names params counter auths met = both_met (evidence_of s e code names params counter auths) (check_evidence e) met
+
+-- the first of some sessions, and the others
+pub nonempty : (auths : List Auth) (a : Auth) → 0 < length auths → a ≡ get_or auths 0 a → (others : List Auth) × (auths ≡ a ∷ others)
+nonempty [] a some at = absurd (omega (arith, some))
+nonempty (b ∷ more) a some at = (more, ap (λ (x : Auth). x ∷ more) (sym at))
 
 -- ---- the session of the reply
 

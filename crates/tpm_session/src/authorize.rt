@@ -195,8 +195,32 @@ impl Sessions {
         requires { 0 < length auths.now }
         ensures { result ≡ authorized (first_loaded (loaded self.now) auths.now) (entity_in entity.now) command names.now params.now counter auths.now }
     {
-        let auth = &auths[0];
-        let by = self.evidence_of(auth, auths.len(), entity, command, counter)?;
+        self.authorize_first(
+            &auths[0],
+            auths.len(),
+            entity,
+            command,
+            names,
+            params,
+            counter,
+        )
+    }
+
+    /// As `authorize`, by the first of so many sessions, at least one: of the others it matters only whether there are any.
+    pub fn authorize_first(
+        &self,
+        auth: &AuthRef<'_>,
+        count: usize,
+        entity: &Entity<'_>,
+        command: CommandCode,
+        names: &[Name],
+        params: &[u8],
+        counter: u32,
+    ) -> Result<(), u32>
+        ensures { (others : List Auth) → count ≡ suc (length others) →
+            result ≡ authorized (loaded self.now auth.now.session) (entity_in entity.now) command names.now params.now counter (auth.now ∷ others) }
+    {
+        let by = self.evidence_of(auth, count, entity, command, counter)?;
         check_evidence(&by, auth, entity, command, names, params)
     }
 

@@ -147,8 +147,9 @@ impl Session {
     }
 }
 
-/// What a password is answered with: continueSession is set, and nothing else.
-pub(crate) fn password_reply() -> AuthReply
+/// The session of the reply to a command that a password authorized: continueSession is set, and nothing else (Part 1, "Password
+/// Authorizations").
+pub fn password_reply() -> AuthReply
     ensures { result ≡ password_reply_of }
 {
     match SessionAttrs::from_number(0x01) {

@@ -10,5 +10,6 @@ mod session;
 mod sessions;
 
 pub use entity::Entity;
+pub use evidence::password_reply;
 pub use session::{NONCE_BYTES, Session};
 pub use sessions::Sessions;

@@ -1,6 +1,6 @@
 //! The sessions of a device, by slot.
 
-ghost use Rattle.std.specs.Prelude.{◌≡◌, ◌<◌, ℕ, true, List, [], ◌∷◌, option_map, IfOk, IsSome, OnOk, OnErr};
+ghost use Rattle.std.specs.Prelude.{◌≡◌, ◌<◌, ℕ, true, List, [], ◌∷◌, None, option_map, IfOk, IsSome, OnOk, OnErr};
 ghost use Rattle.tpm_buffer.specs.declared.command.Command.{Command};
 ghost use Rattle.tpm_buffer.specs.declared.command.CommandBody.TheVariants as bodies;
 ghost use Rattle.tpm_buffer.specs.declared.response.ReplyBody.TheVariants as replies;
@@ -101,6 +101,15 @@ impl Sessions {
         Sessions {
             slots: [None, None, None],
         }
+    }
+
+    /// Frees every slot, as after a power cycle.
+    pub fn clear(&mut self)
+        ensures { self.new ≡ None ∷ None ∷ None ∷ [] }
+    {
+        free(&mut self.slots[0]);
+        free(&mut self.slots[1]);
+        free(&mut self.slots[2]);
     }
 
     /// The session of this handle, where it is loaded: a session of the handle's kind is in its slot.
@@ -316,6 +325,15 @@ fn restart(slot: &mut Option<Session>)
 {
     if let Some(session) = slot {
         session.restart();
+    }
+}
+
+// The slot is free. One that is free already is left as it is, and not written from end to end.
+fn free(slot: &mut Option<Session>)
+    ensures { slot.new ≡ None }
+{
+    if slot.is_some() {
+        *slot = None;
     }
 }
 

@@ -75,15 +75,14 @@ pub(crate) fn fill_each(bytes: &mut [u8], register: u32, byte: u8, last: u8)
     fill(bytes, Alg::Sha384, register, byte, last);
 }
 
-/// Registers that have just been started: zeros, and bytes 0xFF in the registers of dynamic launch, 17 to 22.
-pub(crate) fn started() -> [u8; BANKS_BYTES]
-    ensures { Holds result start_value }
+/// Starts the registers: zeros, and bytes 0xFF in the registers of dynamic launch, 17 to 22.
+pub(crate) fn start(bytes: &mut [u8; BANKS_BYTES])
+    ensures { Holds bytes.new start_value }
 {
-    let mut bytes = [0; BANKS_BYTES];
+    *bytes = [0; BANKS_BYTES];
     for register in 17..23 {
-        fill_each(&mut bytes, register, 0xFF, 0xFF);
+        fill_each(bytes, register, 0xFF, 0xFF);
     }
-    bytes
 }
 
 // Extends a register of a bank with a digest.

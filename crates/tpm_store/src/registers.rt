@@ -12,7 +12,7 @@ ghost use Rattle.tpm_store.specs.Banks.{registers, all_bytes, value_at};
 ghost use Rattle.tpm_store.specs.Select.{registers_of, chosen, bits_of, first_of};
 ghost use Rattle.tpm_store.specs.Answers.{locality_number, event_answer};
 
-use crate::banks::{BANKS_BYTES, extend, fill_each, started, value};
+use crate::banks::{BANKS_BYTES, extend, fill_each, start, value};
 use arrayvec::ArrayVec;
 use std::marker::Model;
 use tpm_hmac::hash;
@@ -174,10 +174,21 @@ impl Registers {
         ensures new { result ≡ registers_after [] }
         ensures restarted { (cs : List Change) → result ≡ registers_after (Restart ∷ cs) }
     {
-        Registers {
-            bytes: started(),
+        let mut registers = Registers {
+            bytes: [0; BANKS_BYTES],
             updates: 0,
-        }
+        };
+        registers.restart();
+        registers
+    }
+
+    /// Makes them registers that have just been started, as `new` does, where they are.
+    pub fn restart(&mut self)
+        ensures new { self.new ≡ registers_after [] }
+        ensures restarted { (cs : List Change) → self.new ≡ registers_after (Restart ∷ cs) }
+    {
+        start(&mut self.bytes);
+        self.updates = 0;
     }
 
     /// Makes register 0 begin with the locality of a platform's start: zeros in each bank, and the locality's number as the last

@@ -1,4 +1,11 @@
 mod Padded
 mod Listed
+mod InputLines
 mod Scripts
 mod Nonces
+mod Comparisons
+mod Quotes
+mod Checks
+mod EventSizes
+mod EventLines
+mod Tables

@@ -1,36 +1,16 @@
 -- What `build` prints (this profile).
-use Rattle.std.specs.Prelude.{◌≡◌, ◌⊎◌, ℕ, ◌+◌, ◌<◌, ◌≤◌, List, [], ◌∷◌, ◌++◌, length, Option, Some, codes, if◌then◌else◌}
-use Rattle.std.specs.Int.{to_be_bytes, w16, w32}
+use Rattle.std.specs.Prelude.{◌≡◌, ◌⊎◌, ℕ, ◌<◌, ◌≤◌, List, [], length, Option, Some, codes, if◌then◌else◌}
 use Rattle.std.specs.Str.{bytes_eq}
 use Rattle.tpm_wire.specs.declared.refusal.Refusal.{Refusal}
 use Rattle.tpm_wire.specs.ResponseCodes.{rc_command_size}
 use Rattle.tpm_wire.specs.Path.{Spells, Fault}
 use Rattle.tpm_buffer.specs.declared.code.CommandCode.{CommandCode}
 use Rattle.tpm_buffer.specs.declared.command.Command.{Command}
-use Rattle.tpm_buffer.specs.Codes.{code_number}
 use Rattle.tpm_buffer.specs.Commands.{command}
+use Rattle.tpm_buffer.specs.Parts.{joined}
 use Rattle.tpm_tool.specs.declared.status.Status.{Status}
 use Rattle.tpm_tool.specs.declared.status.Status.TheVariants.{Done, Refused}
 use Rattle.tpm_tool.specs.Text.{bytes_in, bytes_line, refusal_line, not_hexadecimal_line}
-
--- ---- the buffer of the parts (Part 1, 18)
-
--- with sessions or without
-abbrev pub tag_for : List ℕ → ℕ
-tag_for [] = 0x8001
-tag_for (byte ∷ sessions) = 0x8002
-
--- the number of the sessions' bytes, and the bytes; nothing where there are none
-abbrev pub authorization_of : List ℕ → List ℕ
-authorization_of [] = []
-authorization_of (byte ∷ sessions) = to_be_bytes w32 (length (byte ∷ sessions)) ++ byte ∷ sessions
-
-abbrev pub behind_header : List ℕ → List ℕ → List ℕ → List ℕ
-behind_header handles sessions parameters = handles ++ (authorization_of sessions ++ parameters)
-
-abbrev pub joined : CommandCode → List ℕ → List ℕ → List ℕ → List ℕ
-joined code handles sessions parameters = let behind = behind_header handles sessions parameters in
-    to_be_bytes w16 (tag_for sessions) ++ (to_be_bytes w32 (10 + length behind) ++ (to_be_bytes w32 (code_number code) ++ behind))
 
 -- ---- what is printed
 

@@ -7,4 +7,9 @@ pub mod Fields
 pub mod Build
 pub mod Script
 pub mod Progress
+pub mod Compare
+pub mod Comparing
+pub mod Check
 pub mod Explain
+pub mod EventTypes
+pub mod ListEvents

@@ -6,3 +6,8 @@ use Rattle.tpm_tool.specs.declared.status.Status.TheVariants.{Done, Refused}
 abbrev pub status_number : Status → ℕ
 status_number Done = 0
 status_number Refused = 1
+
+-- Done where both are
+abbrev pub both : Status → Status → Status
+both Done other = other
+both Refused other = Refused

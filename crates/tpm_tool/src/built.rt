@@ -1,9 +1,10 @@
 //! The subcommand `build`.
 
-ghost use Rattle.std.specs.Prelude.{◌≡◌, ◌+◌, ◌<◌, ◌≤◌, ◌++◌, ℕ, List, IfOk, MatchOption, length, option_map, string_bytes};
+ghost use Rattle.std.specs.Prelude.{◌≡◌, ℕ, List, IfOk, option_map, string_bytes};
 ghost use Rattle.std.specs.Io.KnownBytes.{Appends};
 ghost use Rattle.tpm_tool.specs.Faults.{FailsByMemoryOrWrite};
-ghost use Rattle.tpm_tool.specs.Build.{Builds, BuildsBuffer, BuildsBytes, authorization_of, joined, part_of, tag_for};
+ghost use Rattle.tpm_buffer.specs.Parts.{joined};
+ghost use Rattle.tpm_tool.specs.Build.{Builds, BuildsBuffer, BuildsBytes, part_of};
 
 use crate::answer::Answer;
 use crate::fault::ToolFault;
@@ -12,9 +13,9 @@ use crate::status::Status;
 use crate::text::push_bytes;
 use std::alloc::{AllocError, Global};
 use std::io::Write;
-use tpm_buffer::{CommandCode, NO_SESSIONS, SESSIONS, decode_command};
+use tpm_buffer::{CommandCode, decode_command, join_command};
+use tpm_wire::Refusal;
 use tpm_wire::response_code::COMMAND_SIZE;
-use tpm_wire::{Buffer, Refusal, put_bytes};
 
 // The bytes of a part, none for `-`, or None where it is not hexadecimal.
 fn part(alloc: Global, text: &str) -> Result<Option<Vec<u8>>, AllocError>
@@ -24,61 +25,6 @@ fn part(alloc: Global, text: &str) -> Result<Option<Vec<u8>>, AllocError>
         return Ok(Some(Vec::new(alloc)));
     }
     decoded(alloc, text)
-}
-
-fn tag(sessions: &[u8]) -> u16
-    ensures { result ≡ tag_for sessions.now }
-{
-    if sessions.is_empty() {
-        NO_SESSIONS
-    } else {
-        SESSIONS
-    }
-}
-
-// How many bytes the joined parts have, or None where a number can't say it.
-fn joined_len(handles: &[u8], sessions: &[u8], parameters: &[u8]) -> Option<usize>
-    ensures { MatchOption result (4096 < 10 + length handles.now + length (authorization_of sessions.now) + length parameters.now)
-        (λ n. n ≡ 10 + length handles.now + length (authorization_of sessions.now) + length parameters.now) }
-{
-    let authorization = if sessions.is_empty() {
-        0
-    } else {
-        sessions.len().checked_add(4)?
-    };
-    authorization
-        .checked_add(handles.len())?
-        .checked_add(parameters.len())?
-        .checked_add(10)
-}
-
-fn put_authorization(out: &mut Buffer, sessions: &[u8])
-    requires { length out.old.items + length (authorization_of sessions.now) ≤ 4096 }
-    ensures { out.new.items ≡ out.old.items ++ authorization_of sessions.now }
-{
-    if !sessions.is_empty() {
-        put_bytes(out, &(sessions.len() as u32).to_be_bytes());
-        put_bytes(out, sessions);
-    }
-}
-
-// The command's header, and behind it the parts; None where they are too long for a buffer.
-fn join(code: CommandCode, handles: &[u8], sessions: &[u8], parameters: &[u8]) -> Option<Buffer>
-    ensures { MatchOption result (4096 < length (joined code handles.now sessions.now parameters.now))
-        (λ b. (length b.items ≤ 4096) × (b.items ≡ joined code handles.now sessions.now parameters.now)) }
-{
-    let size = joined_len(handles, sessions, parameters)?;
-    if size > 4096 {
-        return None;
-    }
-    let mut out = Buffer::new();
-    put_bytes(&mut out, &tag(sessions).to_be_bytes());
-    put_bytes(&mut out, &(size as u32).to_be_bytes());
-    put_bytes(&mut out, &code.number().to_be_bytes());
-    put_bytes(&mut out, handles);
-    put_authorization(&mut out, sessions);
-    put_bytes(&mut out, parameters);
-    Some(out)
 }
 
 fn answer_to_buffer(alloc: Global, bytes: &[u8]) -> Result<Answer, AllocError>
@@ -107,7 +53,7 @@ fn answer_to_parts(
     ensures { IfOk result (λ a. BuildsBuffer (joined code handles.now sessions.now parameters.now)
         a.status (string_bytes a.text)) }
 {
-    match join(code, handles, sessions, parameters) {
+    match join_command(code, handles, sessions, parameters) {
         Some(buffer) => answer_to_buffer(alloc, buffer.as_slice()),
         None => {
             let refusal = Refusal {

@@ -3,25 +3,35 @@
 
 mod answer;
 mod built;
+mod checked;
+mod compared;
+mod event_lines;
+mod event_types;
 mod explained;
 mod fault;
 mod fields;
 mod hexadecimal;
 mod laws;
 mod lines;
+mod listed_events;
+mod quoted;
+mod register_text;
 mod reply_text;
 mod script;
 mod shown;
 mod shown_fields;
 mod shown_reply;
+mod stated;
 mod status;
 mod text;
 
 pub use answer::not_hexadecimal;
 pub use built::build;
+pub use checked::check_log;
 pub use explained::explain;
 pub use fault::ToolFault;
 pub use laws::no_replay_in_a_script;
+pub use listed_events::list_events;
 pub use script::run_script;
 pub use shown::show;
 pub use shown_fields::show_fields;

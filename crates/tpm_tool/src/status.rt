@@ -1,7 +1,7 @@
 //! How a subcommand ends that gives its answer.
 
 ghost use Rattle.std.specs.Prelude.{◌≡◌};
-ghost use Rattle.tpm_tool.specs.Status.{status_number};
+ghost use Rattle.tpm_tool.specs.Status.{both, status_number};
 
 /// How a subcommand ends that gives its answer.
 #[derive(Clone, Copy, Debug, PartialEq, Eq)]
@@ -20,6 +20,16 @@ impl Status {
         match self {
             Status::Done => 0,
             Status::Refused => 1,
+        }
+    }
+
+    /// Done where both are.
+    pub(crate) fn both(self, other: Status) -> Status
+        ensures { result ≡ both self other }
+    {
+        match self {
+            Status::Done => other,
+            Status::Refused => Status::Refused,
         }
     }
 }

@@ -1,13 +1,17 @@
 //! Writes that fail, and want of memory.
 
+use crate::{events, logs};
 use std::alloc::Global;
 use std::io;
 use std::io::{ErrorKind, Write};
 use std::test::Fail;
 use tpm_buffer::CommandCode;
 use tpm_device::Device;
-use tpm_tool::{Status, ToolFault, build, not_hexadecimal, run_script, show, show_fields};
-use tpm_types::AuthValue;
+use tpm_tool::{
+    Status, ToolFault, build, check_log, list_events, not_hexadecimal, run_script, show,
+    show_fields,
+};
+use tpm_types::{Alg, AuthValue};
 use tpm_wire::SliceSource;
 
 // A call that prints.
@@ -19,6 +23,8 @@ enum Call {
     ShowReplyFields(&'static str),
     Build(&'static str),
     Run(&'static str),
+    Check(&'static str, Option<&'static str>),
+    Events(&'static str),
     NotHexadecimal,
 }
 
@@ -29,7 +35,7 @@ const RESET_REPLY: &str = "80020000001300000000000000000000010000";
 const READ_REPLY: &str = "80020000001d000000000000000a000800000000000000040000010000";
 
 // Each call, and the whole text that it prints.
-const CALLS: [(Call, &str); 11] = [
+const CALLS: [(Call, &str); 17] = [
     (
         Call::Show(STARTUP),
         "command Startup size 12\nparameters 0000\n",
@@ -53,11 +59,44 @@ const CALLS: [(Call, &str); 11] = [
     (Call::Run("no"), "line 1: not hexadecimal\n"),
     (Call::Run(STARTUP), "80010000000a00000000\n"),
     (Call::NotHexadecimal, "not hexadecimal\n"),
+    (Call::Check("", None), "log Truncated at 0\n"),
+    (Call::Check(logs::LOG, Some(logs::LIST)), logs::TEXT),
+    (
+        Call::Check(logs::LOG, Some("no")),
+        "line 1: not a register\n",
+    ),
+    (Call::Check(logs::LOG, None), "quote matches\n"),
+    (Call::Events(logs::LOG), events::TEXT),
+    (Call::Events(""), "log Truncated at 0\n"),
 ];
 
 fn run<W: Write>(alloc: Global, out: &mut W, script: &str) -> Result<Status, ToolFault> {
     let device = Device::new(&AuthValue::default(), 0);
     run_script(alloc, &mut SliceSource::new(script.as_bytes()), out, device)
+}
+
+fn check<W: Write>(
+    alloc: Global,
+    out: &mut W,
+    log: &str,
+    list: Option<&str>,
+) -> Result<Status, ToolFault> {
+    let log = match hex::decode(alloc, log) {
+        Ok(log) => log,
+        Err(_) => return Err(ToolFault::Memory),
+    };
+    let log = &mut SliceSource::new(log.as_slice());
+    let mut list = list.map(|list| SliceSource::new(list.as_bytes()));
+    let quote = Some(logs::QUOTE);
+    check_log(alloc, log, list.as_mut(), quote, Alg::Sha256, out)
+}
+
+fn list<W: Write>(alloc: Global, out: &mut W, log: &str) -> Result<Status, ToolFault> {
+    let log = match hex::decode(alloc, log) {
+        Ok(log) => log,
+        Err(_) => return Err(ToolFault::Memory),
+    };
+    list_events(alloc, &mut SliceSource::new(log.as_slice()), out)
 }
 
 fn perform<W: Write>(alloc: Global, out: &mut W, call: Call) -> Result<Status, ToolFault> {
@@ -69,6 +108,8 @@ fn perform<W: Write>(alloc: Global, out: &mut W, call: Call) -> Result<Status, T
         Call::Build(parameters) => build(alloc, out, CommandCode::Startup, "-", "-", parameters),
         Call::Run(script) => run(alloc, out, script),
         Call::NotHexadecimal => not_hexadecimal(alloc, out),
+        Call::Check(log, list) => check(alloc, out, log, list),
+        Call::Events(log) => list(alloc, out, log),
     }
 }
 

@@ -1,14 +1,20 @@
-//! Readers and writers that fail, want of memory, and scripts however they are cut, beside what is proved of the subcommands
+//! Readers and writers that fail, want of memory, and scripts and logs however they are cut, beside what is proved of the subcommands
 //! and what the built program is run on.
 #![tactic(auto)]
 
 #[cfg(test)]
 mod device;
 #[cfg(test)]
+mod events;
+#[cfg(test)]
 mod faults;
 #[cfg(test)]
 mod laws;
 #[cfg(test)]
+mod logs;
+#[cfg(test)]
 mod nonces;
 #[cfg(test)]
 mod pieces;
+#[cfg(test)]
+mod scripts;

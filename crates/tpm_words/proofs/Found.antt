@@ -20,9 +20,9 @@ use Rattle.clap.specs.Takes.{takes}
 use Rattle.clap.proofs.OnLiterals.{clap_on_literals}
 use Rattle.clap.proofs.WalkLemmas.{first_value-rows}
 use Rattle.tpm_words.specs.declared.task.Task.{Task}
-use Rattle.tpm_words.specs.declared.task.Task.TheVariants.{Show, Build, Run, Explain}
+use Rattle.tpm_words.specs.declared.task.Task.TheVariants.{Show, Build, Run, Explain, Check, Events}
 use Rattle.tpm_words.specs.Program.{program_app}
-use Rattle.tpm_words.specs.Task.{Asks, AsksNothing, AsksNothingWith, AsksWith, IsCode, IsDecimal, IsOwner, Replies, is_given}
+use Rattle.tpm_words.specs.Task.{Asks, AsksNothing, AsksNothingWith, AsksWith, IsCode, IsDecimal, IsHash, IsOwner, Replies, is_given}
 use Rattle.tpm_words.specs.declared.stop.Stop.{Stop}
 use Rattle.tpm_words.specs.declared.stop.Stop.TheVariants.{Help, Usage, Memory}
 use Rattle.tpm_words.specs.Stop.{IsHelp, IsMemoryOr, Refuses, StopsFor}
@@ -43,6 +43,14 @@ agrees name v w same (Run owner greatest) h = (
   subst (λ (x : Option Text). IsDecimal (unwrap_or x (codes "0")) greatest) (same (codes "greatest")) h.2,
 )
 agrees name v w same (Explain code) h = (h.0, subst (λ (x : Option Text). IsCode x code) (same (codes "CODE")) h.1)
+agrees name v w same (Check log registers quote hash) h = (
+  h.0,
+  sym (same (codes "LOG")) ∙ h.1,
+  sym (same (codes "registers")) ∙ h.2,
+  sym (same (codes "quote")) ∙ h.3,
+  subst (λ (x : Option Text). IsHash (unwrap_or x (codes "sha256")) hash) (same (codes "hash")) h.4,
+)
+agrees name v w same (Events log) h = (h.0, sym (same (codes "LOG")) ∙ h.1)
 
 met : (o : Option (Text × List Row)) (name : Text) (f : Found) (t : Task) → option_map (λ (p : Text × List Row). p.0) o ≡ Some name → option_map (λ (p : Text × List Row). p.1) o ≡ Some (rows_of f)
     → AsksWith name (first_value f) t → Asks o t

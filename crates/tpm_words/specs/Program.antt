@@ -43,13 +43,25 @@ run_app = with_rule (with_rule (new_app (codes "run")) (option_rule (codes "owne
 abbrev pub explain_app : App
 explain_app = with_rule (new_app (codes "explain")) (required_rule (codes "CODE"))
 
+-- check LOG, without its options
+abbrev pub log_app : App
+log_app = with_rule (new_app (codes "check")) (required_rule (codes "LOG"))
+
+-- check LOG [--registers FILE] [--quote HEX] [--hash NAME]
+abbrev pub check_app : App
+check_app = with_rule (with_rule (with_rule log_app (option_rule (codes "registers"))) (option_rule (codes "quote"))) (option_rule (codes "hash"))
+
+-- events LOG
+abbrev pub events_app : App
+events_app = with_rule (new_app (codes "events")) (required_rule (codes "LOG"))
+
 -- one of the subcommands, or a version
 abbrev pub above_subcommands : App
 above_subcommands = record (new_app (codes "tpmtool")) { top = record (new_app (codes "tpmtool")).top { subcommand_required = true; has_version = true; has_long_version = true } }
 
 abbrev pub program_app : ValueParser → App
-program_app names = with_subcommand (with_subcommand (with_subcommand (with_subcommand above_subcommands
-    (show_app names).top) (build_app names).top) run_app.top) explain_app.top
+program_app names = with_subcommand (with_subcommand (with_subcommand (with_subcommand (with_subcommand (with_subcommand above_subcommands
+    (show_app names).top) (build_app names).top) run_app.top) explain_app.top) check_app.top) events_app.top
 
 -- A command has these words, and none that it shares with its subcommands.
 abbrev pub IsApp : App → Command → Type 0

@@ -1,14 +1,16 @@
 -- What the words ask for, by what clap finds in them.
-use Rattle.std.specs.Prelude.{◌≡◌, ◌<◌, ◌≤◌, ◌^◌, ℕ, List, Option, Some, None, IfSome, codes, length, option_and_then, is_some, Bool, true, false, unwrap_or}
+use Rattle.std.specs.Prelude.{◌≡◌, ◌<◌, ◌≤◌, ◌^◌, ℕ, List, Option, Some, None, IfSome, codes, length, option_and_then, option_map, is_some, Bool, true, false, unwrap_or}
 use Rattle.std.specs.Result.{result_ok}
 use Rattle.std.specs.Str.{bytes_eq}
 use Rattle.std.specs.Str.Parse.{IsNumeral, digits_value}
 use Rattle.hex.specs.Hex.{decode_of}
 use Rattle.clap.specs.Words.{Row, Text, first_of}
 use Rattle.tpm_types.specs.Limits.{digest_bytes}
+use Rattle.tpm_types.specs.declared.alg.Alg.{Alg}
+use Rattle.tpm_types.specs.declared.alg.Alg.TheVariants.{Sha1, Sha256, Sha384}
 use Rattle.tpm_buffer.specs.declared.code.CommandCode.{CommandCode}
 use Rattle.tpm_words.specs.declared.task.Task.{Task}
-use Rattle.tpm_words.specs.declared.task.Task.TheVariants.{Show, Build, Run, Explain}
+use Rattle.tpm_words.specs.declared.task.Task.TheVariants.{Show, Build, Run, Explain, Check, Events}
 use Rattle.tpm_words.specs.Names.{command_of_name}
 
 -- the command of the option, where the option is given
@@ -42,6 +44,15 @@ abbrev pub IsCode : Option Text → ℕ → Type 0
 IsCode None code = ⊥
 IsCode (Some text) code = IsHexadecimal text code
 
+-- the name of a hash
+abbrev pub hash_word : Alg → Text
+hash_word Sha1 = codes "sha1"
+hash_word Sha256 = codes "sha256"
+hash_word Sha384 = codes "sha384"
+
+abbrev pub IsHash : Text → Alg → Type 0
+IsHash text hash = text ≡ hash_word hash
+
 -- a subcommand of this name, with these values of its words by their names, asks for the task
 abbrev pub AsksWith : Text → (Text → Option Text) → Task → Type 0
 AsksWith name value (Show reply fields hex) = (name ≡ codes "show") × Replies (value (codes "reply")) reply × (fields ≡ is_given (value (codes "fields")))
@@ -52,6 +63,10 @@ AsksWith name value (Build code handles sessions parameters) = (name ≡ codes "
 AsksWith name value (Run owner greatest) = (name ≡ codes "run") × IsOwner (unwrap_or (value (codes "owner")) (codes "")) owner
     × IsDecimal (unwrap_or (value (codes "greatest")) (codes "0")) greatest
 AsksWith name value (Explain code) = (name ≡ codes "explain") × IsCode (value (codes "CODE")) code
+AsksWith name value (Check log registers quote hash) = (name ≡ codes "check") × (value (codes "LOG") ≡ Some log.now)
+    × (value (codes "registers") ≡ option_map (λ r. r.now) registers) × (value (codes "quote") ≡ option_map (λ q. q.now) quote)
+    × IsHash (unwrap_or (value (codes "hash")) (codes "sha256")) hash
+AsksWith name value (Events log) = (name ≡ codes "events") × (value (codes "LOG") ≡ Some log.now)
 
 -- There is no such task.
 abbrev pub AsksNothingWith : Text → (Text → Option Text) → Type 0

@@ -10,6 +10,7 @@ ghost use Rattle.tpm_words.specs.Program.{program_app};
 ghost use Rattle.tpm_words.specs.Stop.{StopsFor, IsMemoryOr, Refuses};
 ghost use Rattle.tpm_words.specs.Task.{is_given as is_given_by, Asks, AsksNothing, AsksNothingWith, AsksWith};
 
+use crate::check::check_task;
 use crate::explain::explain_task;
 use crate::names::{command_named, command_names};
 use crate::program::program;
@@ -51,7 +52,8 @@ impl Words {
     ///
     /// The names that may be given are those of all commands. Where the words are those of a subcommand they are refused
     /// only for a value: of `run` an owner value of too many bytes, or a number that is other than decimal digits or
-    /// above 2^64 - 1; of `explain` other than hexadecimal digits, or a number above 2^32 - 1.
+    /// above 2^64 - 1; of `explain` other than hexadecimal digits, or a number above 2^32 - 1; of `check` a hash other than
+    /// `sha1`, `sha256` and `sha384`.
     pub fn task(&self, alloc: Global) -> Result<Task<'_>, Stop>
         ensures ok { IfOk result (λ t. (names : Bor (List (Bor (List ℕ)))) × AreAllNames names.now
             × Asks (subcommand_of (program_app (Names names)) self.now) t) }
@@ -105,6 +107,15 @@ fn build_task<'a>(words: &ArgMatches<'a>) -> Option<Task<'a>>
     })
 }
 
+fn events_task<'a>(words: &ArgMatches<'a>) -> Option<Task<'a>>
+    ensures { MatchOption result (AsksNothingWith (codes "events") (first_value (found_of words.now)))
+        (λ t. AsksWith (codes "events") (first_value (found_of words.now)) t) }
+{
+    Some(Task::Events {
+        log: words.get_str("LOG")?,
+    })
+}
+
 fn asked<'a>(alloc: Global, matches: &ArgMatches<'a>) -> Result<Option<Task<'a>>, Stop>
     ensures { MatchResult result
         (λ asked. MatchOption asked (AsksNothing (subcommand_rows_of matches.now)) (λ t. Asks (subcommand_rows_of matches.now) t))
@@ -118,6 +129,8 @@ fn asked<'a>(alloc: Global, matches: &ArgMatches<'a>) -> Result<Option<Task<'a>>
         "build" => Ok(build_task(words)),
         "run" => Ok(Some(run_task(alloc, words)?)),
         "explain" => explain_task(alloc, words),
+        "check" => check_task(alloc, words),
+        "events" => Ok(events_task(words)),
         _ => Ok(None),
     }
 }

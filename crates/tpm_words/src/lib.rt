@@ -1,6 +1,7 @@
 //! The words that follow the program's name: what they ask for, or the text of usage or help.
 #![tactic(auto)]
 
+mod check;
 mod explain;
 mod given;
 mod invalid;

@@ -3,7 +3,7 @@
 ghost use Rattle.std.specs.Prelude.{◌≡◌, IfOk, false};
 ghost use Rattle.clap.specs.Words.{rule_of};
 ghost use Rattle.clap.specs.declared.builder.value_parser.ValueParser.TheVariants.{Names};
-ghost use Rattle.tpm_words.specs.Program.{required_rule, name_rule, reply_rule, flag_rule, option_rule, show_app, build_app, run_app, explain_app, above_subcommands, program_app, IsApp};
+ghost use Rattle.tpm_words.specs.Program.{required_rule, name_rule, reply_rule, flag_rule, option_rule, show_app, build_app, run_app, explain_app, log_app, check_app, events_app, above_subcommands, program_app, IsApp};
 
 use clap::{Arg, ArgAction, Command};
 use std::alloc::{AllocError, Global};
@@ -11,7 +11,7 @@ use std::alloc::{AllocError, Global};
 const VERSION: &str = "0.1.0";
 
 const LONG_VERSION: &str = "0.1.0
-profile: 18 commands; SHA-1, SHA-256 and SHA-384; counters
+profile: 18 commands; SHA-1, SHA-256 and SHA-384; counters; event logs
 library: TPM 2.0, revision 1.59
 toolchain: rattle-kit-13b";
 
@@ -22,6 +22,8 @@ const AFTER_HELP: &str = "Examples:
   tpmtool build PCR_Reset 00000010 400000090000010000 -
   tpmtool run --greatest 7 <SCRIPT
   tpmtool explain 9a2
+  tpmtool check LOG --registers FILE
+  tpmtool events LOG
 
 Exit status:
   0  done
@@ -145,6 +147,49 @@ pub(crate) fn explain_words<'a>(alloc: Global) -> Result<Command<'a>, AllocError
         .arg(required(alloc, "CODE", "The code, in hexadecimal"))
 }
 
+// The subcommand `check`, without what it compares.
+fn log_words<'a>(alloc: Global) -> Result<Command<'a>, AllocError>
+    ensures { IfOk result (λ c. IsApp log_app c) }
+{
+    Command::new(alloc, "check")
+        .bin_name("tpmtool check")?
+        .about("Prints the registers that an event log gives, or compares them")
+        .arg(required(alloc, "LOG", "The event log, a file"))
+}
+
+/// The subcommand `check`.
+pub(crate) fn check_words<'a>(alloc: Global) -> Result<Command<'a>, AllocError>
+    ensures { IfOk result (λ c. IsApp check_app c) }
+{
+    let registers = option(
+        alloc,
+        "registers",
+        "FILE",
+        "Compares them with a list of registers, whose lines are as those that are printed",
+    );
+    let quote = option(
+        alloc,
+        "quote",
+        "HEX",
+        "Compares them with a quote, its TPMS_QUOTE_INFO in hexadecimal",
+    );
+    let hash = option(
+        alloc,
+        "hash",
+        "NAME",
+        "The hash of the quote's digest: sha1, sha256 or sha384; sha256 if it is not given",
+    );
+    log_words(alloc)?.arg(registers)?.arg(quote)?.arg(hash)
+}
+
+fn events_words<'a>(alloc: Global) -> Result<Command<'a>, AllocError>
+    ensures { IfOk result (λ c. IsApp events_app c) }
+{
+    Command::new(alloc, "events")
+        .about("Prints the records of an event log")
+        .arg(required(alloc, "LOG", "The event log, a file"))
+}
+
 // The program, without its subcommands.
 fn above_subcommands<'a>(alloc: Global) -> Result<Command<'a>, AllocError>
     ensures { IfOk result (λ c. IsApp above_subcommands c) }
@@ -152,7 +197,7 @@ fn above_subcommands<'a>(alloc: Global) -> Result<Command<'a>, AllocError>
     Ok(
         Command::new(alloc, "tpmtool")
             .bin_name("tpmtool")?
-            .about("Reads and writes TPM 2.0 commands")
+            .about("Reads and writes TPM 2.0 commands, and reads event logs")
             .version(VERSION)
             .long_version(LONG_VERSION)
             .after_help(AFTER_HELP)
@@ -168,5 +213,7 @@ pub(crate) fn program<'a>(alloc: Global, names: &'a [&'a str]) -> Result<Command
         .subcommand(show_words(alloc, names)?)?
         .subcommand(build_words(alloc, names)?)?
         .subcommand(run_words(alloc)?)?
-        .subcommand(explain_words(alloc)?)
+        .subcommand(explain_words(alloc)?)?
+        .subcommand(check_words(alloc)?)?
+        .subcommand(events_words(alloc)?)
 }

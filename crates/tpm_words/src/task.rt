@@ -1,7 +1,7 @@
 //! What the words ask for.
 
 use tpm_buffer::CommandCode;
-use tpm_types::AuthValue;
+use tpm_types::{Alg, AuthValue};
 
 /// What the words ask for.
 #[derive(Debug, PartialEq, Eq, Drop)]
@@ -37,5 +37,21 @@ pub enum Task<'a> {
     Explain {
         /// The code.
         code: u32,
+    },
+    /// `check LOG [--registers FILE] [--quote HEX] [--hash NAME]`: print the registers that a log gives, or compare them.
+    Check {
+        /// The path of the log.
+        log: &'a str,
+        /// That of a list of registers.
+        registers: Option<&'a str>,
+        /// A quote's information, in hexadecimal digits.
+        quote: Option<&'a str>,
+        /// The hash of the quote's digest.
+        hash: Alg,
+    },
+    /// `events LOG`: print the records of a log.
+    Events {
+        /// The path of the log.
+        log: &'a str,
     },
 }

@@ -1,11 +1,16 @@
 //! The program: reads its words, calls the subcommand that they name, and ends with its status.
 #![tactic(auto)]
 
+use std::io::Write;
 use std::process::ExitCode;
-use std::rt::Env;
-use std::{env, io};
+use std::rt::{Env, Files};
+use std::{env, fs, io};
 use tpm_device::Device;
-use tpm_tool::{Status, ToolFault, build, explain, not_hexadecimal, run_script, show, show_fields};
+use tpm_tool::{
+    Status, ToolFault, build, check_log, explain, list_events, not_hexadecimal, run_script, show,
+    show_fields,
+};
+use tpm_types::Alg;
 use tpm_wire::Reads;
 use tpm_words::{Stop, Task, Words, words_not_text};
 
@@ -23,7 +28,35 @@ fn words<R: Env + AllocGlobal>(rt: &R) -> Result<Words, Stop> {
     }
 }
 
-fn perform<R: AllocGlobal + Input + Print>(rt: &R, task: Task<'_>) -> Result<Status, ToolFault> {
+// The file at a path, opened for reading.
+fn opened<R: Files>(rt: &R, path: &str) -> Result<Reads<R::File>, ToolFault> {
+    match fs::open(rt, path) {
+        Ok(file) => Ok(Reads::new(file)),
+        Err(_) => Err(ToolFault::Read),
+    }
+}
+
+// Opens the log and then the list of registers, and checks the one against the other and against the quote.
+fn check<R: AllocGlobal + Files, W: Write>(
+    rt: &R,
+    out: &mut W,
+    log: &str,
+    registers: Option<&str>,
+    quote: Option<&str>,
+    hash: Alg,
+) -> Result<Status, ToolFault> {
+    let mut log = opened(rt, log)?;
+    let mut registers = match registers {
+        Some(path) => Some(opened(rt, path)?),
+        None => None,
+    };
+    check_log(rt.alloc(), &mut log, registers.as_mut(), quote, hash, out)
+}
+
+fn perform<R: AllocGlobal + Files + Input + Print>(
+    rt: &R,
+    task: Task<'_>,
+) -> Result<Status, ToolFault> {
     let out = &mut io::writer(rt);
     match task {
         Task::Show {
@@ -50,6 +83,13 @@ fn perform<R: AllocGlobal + Input + Print>(rt: &R, task: Task<'_>) -> Result<Sta
             None => not_hexadecimal(rt.alloc(), out),
         },
         Task::Explain { code } => explain(rt.alloc(), out, code),
+        Task::Check {
+            log,
+            registers,
+            quote,
+            hash,
+        } => check(rt, out, log, registers, quote, hash),
+        Task::Events { log } => list_events(rt.alloc(), &mut opened(rt, log)?, out),
     }
 }
 
@@ -67,7 +107,7 @@ fn stopped<R: Print + Eprint>(rt: &R, stop: Stop) -> Result<u8, ToolFault> {
     }
 }
 
-fn run<R: Env + AllocGlobal + Input + Print + Eprint>(rt: &R) -> Result<u8, ToolFault> {
+fn run<R: Env + AllocGlobal + Files + Input + Print + Eprint>(rt: &R) -> Result<u8, ToolFault> {
     let words = match words(rt) {
         Ok(words) => words,
         Err(stop) => return stopped(rt, stop),

@@ -13,9 +13,9 @@ returns c =
       c.number-attributes.ensures.value,
       c.in_ok-nonce.ensures,
       c.in_ok-hmac.ensures,
-      c.nonce.ensures,
+      c.nonce.ensures.value,
       c.attrs.ensures,
-      c.hmac.ensures,
+      c.hmac.ensures.value,
       append_assoc,
     ) at c.writeln.ensures.bytes in
     simp append_assoc written

@@ -39,3 +39,17 @@ returns-in-explain c =
     let rows : option_map (λ (p : Text × List Row). p.1) (subcommand_rows_of c.args.matches.now) ≡ Some (rows_of (found_of c.in-Some.words.now)) = search rules in
     result_then c.explain_task.result c.explain_task.ensures (asks_nothing c.args.matches.now (codes "explain") (found_of c.in-Some.words.now) name rows)
     (λ t h. asks c.args.matches.now (codes "explain") (found_of c.in-Some.words.now) t name rows h)
+
+pub returns-in-check : goal.returns-in-check
+returns-in-check c =
+    let name : subcommand_name_of c.args.matches.now ≡ Some (codes "check") = search rules in
+    let rows : option_map (λ (p : Text × List Row). p.1) (subcommand_rows_of c.args.matches.now) ≡ Some (rows_of (found_of c.in-Some.words.now)) = search rules in
+    result_then c.check_task.result c.check_task.ensures (asks_nothing c.args.matches.now (codes "check") (found_of c.in-Some.words.now) name rows)
+    (λ t h. asks c.args.matches.now (codes "check") (found_of c.in-Some.words.now) t name rows h)
+
+pub returns-in-events : goal.returns-in-events
+returns-in-events c =
+    let name : subcommand_name_of c.args.matches.now ≡ Some (codes "events") = search rules in
+    let rows : option_map (λ (p : Text × List Row). p.1) (subcommand_rows_of c.args.matches.now) ≡ Some (rows_of (found_of c.in-Some.words.now)) = search rules in
+    match_then c.events_task.result c.events_task.ensures (asks_nothing c.args.matches.now (codes "events") (found_of c.in-Some.words.now) name rows)
+    (λ t h. asks c.args.matches.now (codes "events") (found_of c.in-Some.words.now) t name rows h)

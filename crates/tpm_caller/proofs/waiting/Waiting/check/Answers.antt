@@ -27,7 +27,7 @@ returns-then-nonce-clause-err c =
     let cut = c.in-Ok.areas in
     let a : AuthReply = c.in-Some.session in
     let one : HasOne z.waiting bytes cut a = record { spells = (c.reply_areas.ensures.ok cut).0 c.in-Ok.is; count = sym c.auth_count.ensures ∙ c.if-auth_count-ne1.false; first = sym c.in-Some.is ∙ c.auth.ensures } in
-    subst (FaultFor bytes faults.NotExpected) c.self.view_is (other_length_for bytes z cut a one (λ e. c.if-nonce.true (ap length c.nonce-nonce.ensures ∙ e ∙ sym (ap length c.nonce.ensures.value))))
+    subst (FaultFor bytes faults.NotExpected) c.self.view_is (other_length_for bytes z cut a one (λ e. c.if-nonce.true (ap length c.nonce-nonce.ensures.value ∙ e ∙ sym (ap length c.nonce.ensures.value))))
 
 pub returns-then-not-same-clause-err : goal.returns-then-not-same-clause-err
 returns-then-not-same-clause-err c =
@@ -36,12 +36,12 @@ returns-then-not-same-clause-err c =
     let cut = c.in-Ok.areas in
     let a : AuthReply = c.in-Some.session in
     let one : HasOne z.waiting bytes cut a = record { spells = (c.reply_areas.ensures.ok cut).0 c.in-Ok.is; count = sym c.auth_count.ensures ∙ c.if-auth_count-ne1.false; first = sym c.in-Some.is ∙ c.auth.ensures } in
-    let long : length a.nonce ≡ length z.waiting.caller.nonce = ap length (sym c.nonce-nonce.ensures) ∙ c.if-nonce.false ∙ ap length c.nonce.ensures.value in
+    let long : length a.nonce ≡ length z.waiting.caller.nonce = ap length (sym c.nonce-nonce.ensures.value) ∙ c.if-nonce.false ∙ ap length c.nonce.ensures.value in
     subst (FaultFor bytes faults.WrongMac) c.self.view_is
     (other_mac_for bytes z cut a one long
     (λ body params e. both_ways c.same.result c.if-not-same.true
-    ((c.same.ensures).1 (c.hmac.ensures ∙ e ∙ sym (mac_is z.waiting body a c.hash-hash.result c.as_slice.result.now c.as_slice-2.result.now c.rp_hash.result c.params.result.now c.nonce-nonce.result.now c.as_slice-3.result.now c.response_mac-mac.result c.attrs.result
-    c.hash-hash.ensures c.as_slice.ensures.value c.as_slice-2.ensures.value c.rp_hash.ensures.value (c.params.ensures ∙ params) c.nonce-nonce.ensures c.as_slice-3.ensures.value c.attrs.ensures c.response_mac-mac.ensures.value) ∙ sym c.as_slice-4.ensures.value)))
+    ((c.same.ensures).1 (c.hmac.ensures.value ∙ e ∙ sym (mac_is z.waiting body a c.hash-hash.result c.as_slice.result.now c.as_slice-2.result.now c.rp_hash.result c.params.result.now c.nonce-nonce.result.now c.as_slice-3.result.now c.response_mac-mac.result c.attrs.result
+    c.hash-hash.ensures c.as_slice.ensures.value c.as_slice-2.ensures.value c.rp_hash.ensures.value (c.params.ensures.value ∙ params) c.nonce-nonce.ensures.value c.as_slice-3.ensures.value c.attrs.ensures c.response_mac-mac.ensures.value) ∙ sym c.as_slice-4.ensures.value)))
     c.self.invariant)
 
 pub returns-clause-ok : goal.returns-clause-ok
@@ -51,10 +51,10 @@ returns-clause-ok c =
     let cut = c.in-Ok.areas in
     let a : AuthReply = c.in-Some.session in
     let one : HasOne z.waiting bytes cut a = record { spells = (c.reply_areas.ensures.ok cut).0 c.in-Ok.is; count = sym c.auth_count.ensures ∙ c.if-auth_count-ne1.false; first = sym c.in-Some.is ∙ c.auth.ensures } in
-    let long : length a.nonce ≡ length z.waiting.caller.nonce = ap length (sym c.nonce-nonce.ensures) ∙ c.if-nonce.false ∙ ap length c.nonce.ensures.value in
+    let long : length a.nonce ≡ length z.waiting.caller.nonce = ap length (sym c.nonce-nonce.ensures.value) ∙ c.if-nonce.false ∙ ap length c.nonce.ensures.value in
     subst (OpenFor bytes c.nonce-nonce.result.now) c.self.view_is
     (open_for bytes c.nonce-nonce.result.now z cut a one long
-    (λ body params. sym c.hmac.ensures ∙ c.same.ensures.0 c.if-not-same.false ∙ c.as_slice-4.ensures.value
+    (λ body params. sym c.hmac.ensures.value ∙ c.same.ensures.0 c.if-not-same.false ∙ c.as_slice-4.ensures.value
     ∙ mac_is z.waiting body a c.hash-hash.result c.as_slice.result.now c.as_slice-2.result.now c.rp_hash.result c.params.result.now c.nonce-nonce.result.now c.as_slice-3.result.now c.response_mac-mac.result c.attrs.result
-    c.hash-hash.ensures c.as_slice.ensures.value c.as_slice-2.ensures.value c.rp_hash.ensures.value (c.params.ensures ∙ params) c.nonce-nonce.ensures c.as_slice-3.ensures.value c.attrs.ensures c.response_mac-mac.ensures.value)
-    c.self.invariant c.nonce-nonce.ensures)
+    c.hash-hash.ensures c.as_slice.ensures.value c.as_slice-2.ensures.value c.rp_hash.ensures.value (c.params.ensures.value ∙ params) c.nonce-nonce.ensures.value c.as_slice-3.ensures.value c.attrs.ensures c.response_mac-mac.ensures.value)
+    c.self.invariant c.nonce-nonce.ensures.value)

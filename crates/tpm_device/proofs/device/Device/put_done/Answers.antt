@@ -17,4 +17,4 @@ returns-in-Some-clause-bytes c = λ p e alike gives.
     let a = c.in-Some.auth in
     let split = first_auth c.args.areas.now.auths a (sym c.in-Some.is ∙ c.requires.own) in
     c.put_reply-in-Some.ensures.bytes ∙ ap (λ (auths : List AuthReply). reply_bytes (record { body = c.args.body.now; auths = auths }))
-    (sym (c.acknowledgment-reply.ensures p e split.0 (alike a split.0 split.1) split.1 gives))
+    (sym (c.acknowledgment.ensures p e split.0 (alike a split.0 split.1) split.1 gives))

@@ -1,0 +1,86 @@
+# The logs in checks/logs: the registers that each gives, the records of some, and the fault of each that is none.
+# checks/logs/make.py writes registers and faults, and checks/logs/list_events.py records.
+
+# ran NAME STATUS WORD..: the program on these words writes what $room/out.wanted holds, and nothing on standard error.
+ran() {
+    name=$1 wanted=$2
+    shift 2
+    : >"$room/err.wanted"
+    ./tpmtool "$@" >"$room/out" 2>"$room/err" </dev/null
+    check $?
+}
+
+# checked NAME STATUS WORD..: the same of `check`.
+checked() {
+    checked=$1 status=$2
+    shift 2
+    ran "$checked" "$status" check "$@"
+}
+
+logs=checks/logs
+
+for list in "$logs"/*.registers; do
+    log=${list%.registers}
+    cp "$list" "$room/out.wanted"
+    checked "the registers of ${log##*/}" 0 "$log.log"
+    awk '{ print "match", $1, $2 }' "$list" >"$room/out.wanted"
+    checked "${log##*/} beside a list of its registers" 0 "$log.log" --registers "$list"
+done
+
+for events in "$logs"/*.events; do
+    log=${events%.events}
+    cp "$events" "$room/out.wanted"
+    ran "the records of ${log##*/}" 0 events "$log.log"
+done
+
+while read -r log kind at; do
+    echo "log $kind at $at" >"$room/out.wanted"
+    checked "$log is none" 1 "$logs/$log.log"
+    ran "$log has no records" 1 events "$logs/$log.log"
+done <"$logs/faults.txt"
+
+unjudged=$(ls "$logs" | sed -n 's/\.log$//p' | while read -r log; do
+    [ -e "$logs/$log.registers" ] || grep -q -e "^$log " "$logs/faults.txt" || echo "$log"
+done)
+if [ -z "$unjudged" ]; then pass "each log is judged"; else fail "each log is judged" "$unjudged"; fi
+
+# A log of every length up to the worked one's: what is cut between two records is a log, and all else is truncated.
+wrong=
+for length in $(seq 0 215); do
+    head -c "$length" "$logs/worked.log" >"$room/log"
+    ./tpmtool check "$room/log" >"$room/out" 2>"$room/err" </dev/null
+    status=$?
+    case $length in
+    73 | 89 | 215) [ $status -eq 0 ] || wrong="$wrong $length: status $status;" ;;
+    *) [ $status -eq 1 ] && grep -q -x -e 'log Truncated at [0-9]*' "$room/out" || wrong="$wrong $length: status $status;" ;;
+    esac
+done
+if [ -z "$wrong" ]; then pass "the worked log cut to each length"; else fail "the worked log cut to each length" "$wrong"; fi
+
+# stated N REGISTER: N lines that state of this register of SHA-1 that it is zeros.
+stated() {
+    yes "sha1 $2 $(zeros 20)" | head -n "$1"
+}
+
+{ stated 349509 0 && stated 16 10; } >"$room/list"
+sed 's/ 0*$//; s/^/match /' "$room/list" >"$room/out.wanted"
+checked "a list of 16,777,216 bytes" 0 $logs/worked.log --registers "$room/list"
+
+echo >>"$room/list"
+name="a list of 16,777,217 bytes" wanted=3
+echo 'input too long' >"$room/err.wanted"
+./tpmtool check $logs/worked.log --registers "$room/list" >"$room/out" 2>"$room/err" </dev/null
+check $?
+
+# The header, and records of 16 zero bytes, as many as have room in 16,777,216 bytes; and then one more.
+{ head -c 73 $logs/worked.log && head -c 16777136 /dev/zero; } >"$room/log"
+cp $logs/header_alone.registers "$room/out.wanted"
+checked "a log of 16,777,209 bytes" 0 "$room/log"
+
+head -c 16 /dev/zero >>"$room/log"
+echo 'log TooLong at 16777209' >"$room/out.wanted"
+checked "a log of 16,777,225 bytes" 1 "$room/log"
+
+echo 'log NotCryptoAgile at 4' >"$room/out.wanted"
+checked "a log of endless zeros" 1 /dev/zero
+ran "records of endless zeros" 1 events /dev/zero

@@ -1,0 +1,3 @@
+pub mod Decoding
+pub mod Held
+pub mod Lengths

@@ -1,0 +1,147 @@
+-- A caller's session in memory of C's.
+use Rattle.std.specs.Prelude.{ℕ, ◌==◌, nat_le, Bool, not, ◌&&◌, List, [], ◌∷◌, length, take, Option, Some, None, Result, Ok, Err, if◌then◌else◌}
+use base.Fraction.{full_share}
+use base.Fml.{Fml}
+use denote.RawPtr.{Ptr, lies_at}
+use Rattle.tpm_wire.specs.declared.refusal.Refusal.{Refusal}
+use Rattle.tpm_wire.specs.Reading.{read_all}
+use Rattle.tpm_types.specs.Limits.{digest_bytes, name_bytes}
+use Rattle.tpm_buffer.specs.declared.code.CommandCode.TheVariants as codes
+use Rattle.tpm_buffer.specs.declared.command.Command.{Command}
+use Rattle.tpm_buffer.specs.declared.command.CommandBody.{CommandBody}
+use Rattle.tpm_buffer.specs.declared.command.CommandBody.TheVariants as bodies
+use Rattle.tpm_buffer.specs.declared.command.StartAuth.{StartAuth}
+use Rattle.tpm_buffer.specs.declared.response.Response.{Response}
+use Rattle.tpm_buffer.specs.declared.response.Response.TheVariants as responses
+use Rattle.tpm_buffer.specs.declared.response.ReplyBody.{ReplyBody}
+use Rattle.tpm_buffer.specs.declared.response.ReplyBody.TheVariants as replies
+use Rattle.tpm_buffer.specs.declared.response.StartReply.{StartReply}
+use Rattle.tpm_buffer.specs.Handles.{needs_authorization}
+use Rattle.tpm_buffer.specs.Commands.{command, code_for, handles_of}
+use Rattle.tpm_buffer.specs.Responses.{response}
+use Rattle.tpm_model.specs.InStep.{CallerSession}
+use Rattle.tpm_model.specs.Callers as model
+use Rattle.tpm_model.specs.Callers.{started_with, Seal, sealed, Opened, opened, given_up}
+use Rattle.tpm_caller.specs.declared.waiting.CallerFault.{CallerFault}
+use Rattle.tpm_caller.specs.declared.waiting.CallerFault.TheVariants as faults
+use Rattle.tpm_caller.specs.Faults.{fault_of}
+use Rattle.tpm_caller.specs.Sent.{Sent, sent}
+use Rattle.tpm_c.specs.declared.caller.Held.{Held}
+use Rattle.tpm_c.specs.declared.caller.Held.TheVariants.{Spent, Free, Sealed}
+use Rattle.tpm_c.specs.contracts.caller.Held.{the_row}
+
+-- This lies there.
+abbrev pub held_at : Held → Ptr → Fml
+held_at held p = lies_at the_row full_share p held
+
+-- ---- starting
+
+abbrev pub request_of : CommandBody → Option StartAuth
+request_of (bodies.StartAuthSession q) = Some q
+request_of _ = None
+
+abbrev pub request_in : Result Command Refusal → Option StartAuth
+request_in (Ok c) = request_of c.body
+request_in (Err e) = None
+
+abbrev pub reply_of : ReplyBody → Option StartReply
+reply_of (replies.StartAuthSession r) = Some r
+reply_of _ = None
+
+abbrev pub reply_in : Result Response Refusal → Option StartReply
+reply_in (Ok (responses.Done body auths)) = reply_of body
+reply_in _ = None
+
+abbrev pub start_reply_in : List ℕ → Option StartReply
+start_reply_in bytes = reply_in (read_all (response codes.StartAuthSession) bytes)
+
+abbrev pub start_of : Option StartAuth → Option StartReply → List ℕ → Option CallerSession
+start_of (Some q) (Some r) bind_auth = started_with q r bind_auth
+start_of _ _ bind_auth = None
+
+-- the caller that the bytes of a TPM2_StartAuthSession and of its reply make
+abbrev pub started_by : (command_bytes reply bind_auth : List ℕ) → Option CallerSession
+started_by bytes reply bind_auth = start_of (request_in (read_all command bytes)) (start_reply_in reply) bind_auth
+
+abbrev pub start_code : Option CallerSession → ℕ
+start_code (Some c) = 1
+start_code None = 0
+
+abbrev pub after_start : Held → Option CallerSession → Held
+after_start held (Some c) = Free c
+after_start held None = held
+
+-- ---- sealing
+
+-- Names and a nonce that are not too long
+abbrev pub do_fit : (first second nonce : List ℕ) → Bool
+do_fit first second nonce = nat_le (length first) name_bytes && nat_le (length second) name_bytes && nat_le (length nonce) digest_bytes
+
+-- a command whose first handle needs authorization
+abbrev pub body_in : Result Command Refusal → Option CommandBody
+body_in (Ok c) = if needs_authorization (code_for c.body) then Some c.body else None
+body_in (Err e) = None
+
+-- as many of the Names as there are handles
+abbrev pub names_of : CommandBody → (first second : List ℕ) → List (List ℕ)
+names_of body first second = take (length (handles_of body)) (first ∷ second ∷ [])
+
+abbrev pub seal_of : CallerSession → CommandBody → (first second auth nonce : List ℕ) → Bool → Seal
+seal_of c body first second auth nonce keep = record { caller = c; body = body; names = names_of body first second; auth = auth; nonce = nonce; keep = keep }
+
+abbrev pub seal_by : Held → Option CommandBody → (first second auth nonce : List ℕ) → Bool → Option Seal
+seal_by (Free c) (Some body) first second auth nonce keep = Some (seal_of c body first second auth nonce keep)
+seal_by _ _ first second auth nonce keep = None
+
+-- what is sealed, if anything is
+abbrev pub sealing : Held → (command_bytes first second auth nonce : List ℕ) → (keep room : ℕ) → Option Seal
+sealing held bytes first second auth nonce keep room =
+    if nat_le 4096 room && do_fit first second nonce then seal_by held (body_in (read_all command bytes)) first second auth nonce (not (keep == 0)) else None
+
+abbrev pub sealed_bytes : Option Seal → List ℕ
+sealed_bytes (Some s) = sealed s
+sealed_bytes None = []
+
+abbrev pub after_seal : Held → Option Seal → Held
+after_seal held (Some s) = Sealed (sent s)
+after_seal held None = held
+
+-- ---- opening
+
+-- the numbers of faults
+abbrev pub fault_number : CallerFault → ℕ
+fault_number (faults.Refused refusal) = 1
+fault_number (faults.Code code) = 2
+fault_number faults.NotExpected = 3
+fault_number faults.WrongMac = 4
+
+abbrev pub opened_code : Result Opened model.CallerFault → ℕ
+opened_code (Ok x) = 0
+opened_code (Err fault) = fault_number (fault_of fault)
+
+abbrev pub open_code : Held → List ℕ → ℕ
+open_code (Sealed w) bytes = opened_code (opened w.waiting bytes)
+open_code _ bytes = 5
+
+-- free with the caller, where it is kept
+abbrev pub kept : Option CallerSession → Held
+kept (Some c) = Free c
+kept None = Spent
+
+abbrev pub after_opened : Sent → Result Opened model.CallerFault → Held
+after_opened w (Ok x) = kept x.caller
+after_opened w (Err fault) = Sealed w
+
+abbrev pub after_open : Held → List ℕ → Held
+after_open (Sealed w) bytes = after_opened w (opened w.waiting bytes)
+after_open held bytes = held
+
+-- ---- giving up
+
+abbrev pub give_up_code : Held → List ℕ → ℕ
+give_up_code (Sealed w) bytes = start_code (given_up w.waiting bytes)
+give_up_code _ bytes = 0
+
+abbrev pub after_give_up : Held → List ℕ → Held
+after_give_up (Sealed w) bytes = after_start (Sealed w) (given_up w.waiting bytes)
+after_give_up held bytes = held

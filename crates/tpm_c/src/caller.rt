@@ -1,0 +1,361 @@
+//! A caller's session in the caller's memory (Part 1, "Session-Based Authorizations").
+
+ghost use Rattle.std.specs.Prelude.{◌≡◌, ◌≤◌, true, length, take, [], ◌∷◌, Option, Some, None};
+ghost use Rattle.std.specs.Borrow.{sem};
+ghost use denote.RawPtr.{room_at};
+ghost use Rattle.tpm_wire.specs.Reading.{read_all};
+ghost use Rattle.tpm_types.specs.Limits.{digest_bytes, name_bytes};
+ghost use Rattle.tpm_buffer.specs.Codes.{code_number};
+ghost use Rattle.tpm_buffer.specs.Handles.{needs_authorization};
+ghost use Rattle.tpm_buffer.specs.Commands.{command as command_layout, code_for, handles_of};
+ghost use Rattle.tpm_buffer.specs.Responses.{response};
+ghost use Rattle.tpm_caller.specs.Sent.{sent};
+ghost use Rattle.tpm_c.specs.declared.caller.Held.{Held as HeldOf};
+ghost use Rattle.tpm_c.specs.declared.caller.Held.TheVariants.{Spent};
+ghost use Rattle.tpm_c.specs.contracts.caller.Held.{the_row};
+ghost use Rattle.tpm_c.specs.Written.{IsIn};
+ghost use Rattle.tpm_c.specs.Callers.{held_at, request_in, start_reply_in, started_by, start_code, after_start, fault_number, open_code, kept, after_open, give_up_code, after_give_up, names_of, body_in, do_fit, seal_of, sealing, sealed_bytes, after_seal};
+
+use crate::out::put;
+use arrayvec::ArrayVec;
+use tpm_buffer::{
+    Command, CommandBody, CommandCode, ReplyBody, Response, StartAuth, StartReply, decode_command,
+    decode_response,
+};
+use tpm_caller::{Caller, CallerFault, Waiting};
+use tpm_types::{DIGEST_BYTES, NAME_BYTES, Name, Nonce};
+
+/// The room that any command needs.
+const BUFFER_BYTES: usize = 4096;
+
+/// Nothing is waited for.
+const NOT_WAITING: u32 = 5;
+
+/// What is held of a session.
+#[derive(Drop)]
+pub(crate) enum Held {
+    /// Nothing: none was started, or it has ended.
+    Spent,
+    /// A session that is free for its next command.
+    Free(Caller),
+    /// A sealed command, which waits for its reply.
+    Sealed(Waiting),
+}
+
+/// How many bytes a caller takes.
+#[unsafe(no_mangle)]
+pub extern "C" fn tpm_caller_size() -> usize {
+    size_of::<Held>()
+}
+
+/// At a multiple of which number of bytes it lies.
+#[unsafe(no_mangle)]
+pub extern "C" fn tpm_caller_align() -> usize {
+    align_of::<Held>()
+}
+
+fn nothing() -> Held
+    ensures { result ≡ Spent }
+{
+    Held::Spent
+}
+
+/// Makes a caller in the room, which holds no session.
+#[unsafe(no_mangle)]
+pub unsafe extern "C" fn tpm_caller_init(place: *mut u8)
+    requires* { sem 𝓛 (room_at the_row place) }
+    ensures* { sem 𝓛 (held_at Spent place) }
+{
+    std::ptr::write(place as *mut Held, nothing());
+}
+
+fn request_in(command: &[u8]) -> Option<StartAuth>
+    ensures { result ≡ request_in (read_all command_layout command.now) }
+{
+    match decode_command(command) {
+        Ok(Command { body, .. }) => match body {
+            CommandBody::StartAuthSession(request) => Some(request),
+            _ => None,
+        },
+        Err(_) => None,
+    }
+}
+
+fn start_reply_in(reply: &[u8]) -> Option<StartReply>
+    ensures { result ≡ start_reply_in reply.now }
+{
+    match decode_response(CommandCode::StartAuthSession, reply) {
+        Ok(Response::Done { body, .. }) => match body {
+            ReplyBody::StartAuthSession(reply) => Some(reply),
+            _ => None,
+        },
+        Ok(Response::Code(_)) => None,
+        Err(_) => None,
+    }
+}
+
+fn started(command: &[u8], reply: &[u8], bind_auth: &[u8]) -> Option<Caller>
+    ensures { result ≡ started_by command.now reply.now bind_auth.now }
+{
+    let request = request_in(command)?;
+    let reply = start_reply_in(reply)?;
+    Caller::start(&request, &reply, bind_auth)
+}
+
+fn start(held: &mut Held, command: &[u8], reply: &[u8], bind_auth: &[u8]) -> u32
+    ensures { (result ≡ start_code (started_by command.now reply.now bind_auth.now)) × (held.new ≡ after_start held.old (started_by command.now reply.now bind_auth.now)) }
+{
+    match started(command, reply, bind_auth) {
+        Some(caller) => {
+            *held = Held::Free(caller);
+            1
+        }
+        None => 0,
+    }
+}
+
+/// Holds the session that these bytes of TPM2_StartAuthSession and of its reply make, in the place of what was held, and answers 1.
+/// `bind_auth` is the authorization value of what it is bound to. It answers 0, and nothing changes, where the bytes are no such
+/// command or no reply to it of code 0, or where the two nonces differ in length, or have fewer than 16 bytes or more than a
+/// digest.
+#[unsafe(no_mangle)]
+pub unsafe extern "C" fn tpm_caller_start(
+    place: *mut u8,
+    command: &[u8],
+    reply: &[u8],
+    bind_auth: &[u8],
+) -> u32
+    ghost held: { HeldOf }
+    requires* { sem 𝓛 (held_at held place) }
+    ensures* { sem 𝓛 (held_at (after_start held (started_by command.now reply.now bind_auth.now)) place) ∗ ⌜ result ≡ start_code (started_by command.now reply.now bind_auth.now) ⌝ }
+{
+    start(&mut *(place as *mut Held), command, reply, bind_auth)
+}
+
+fn do_fit(first: &[u8], second: &[u8], nonce: &[u8]) -> bool
+    ensures { result ≡ do_fit first.now second.now nonce.now }
+{
+    first.len() <= NAME_BYTES && second.len() <= NAME_BYTES && nonce.len() <= DIGEST_BYTES
+}
+
+fn body_in(command: &[u8]) -> Option<CommandBody<'_>>
+    ensures { result ≡ body_in (read_all command_layout command.now) }
+{
+    match decode_command(command) {
+        Ok(Command { body, .. }) => {
+            if body.code().needs_authorization() {
+                Some(body)
+            } else {
+                None
+            }
+        }
+        Err(_) => None,
+    }
+}
+
+fn name(bytes: &[u8]) -> Name
+    requires { length bytes.now ≤ name_bytes }
+    ensures { result ≡ bytes.now }
+{
+    match Name::new(bytes) {
+        Some(name) => name,
+        None => unreachable!(),
+    }
+}
+
+fn nonce_of(bytes: &[u8]) -> Nonce
+    requires { length bytes.now ≤ digest_bytes }
+    ensures { result ≡ bytes.now }
+{
+    match Nonce::new(bytes) {
+        Some(nonce) => nonce,
+        None => unreachable!(),
+    }
+}
+
+// The first so many of the two.
+fn names(count: usize, first: &[u8], second: &[u8]) -> ArrayVec<Name, 2>
+    requires count { count ≤ 2 }
+    requires first { length first.now ≤ name_bytes }
+    requires second { length second.now ≤ name_bytes }
+    ensures { result.items ≡ take count (first.now ∷ second.now ∷ []) }
+{
+    let mut names = ArrayVec::new();
+    if count > 0 {
+        names.push(name(first));
+    }
+    if count > 1 {
+        names.push(name(second));
+    }
+    names
+}
+
+fn sealed(
+    caller: Caller,
+    body: CommandBody<'_>,
+    first: &[u8],
+    second: &[u8],
+    auth: &[u8],
+    nonce: &[u8],
+    keep: bool,
+) -> Waiting
+    requires authorized { needs_authorization (code_for body) ≡ true }
+    requires fit { do_fit first.now second.now nonce.now ≡ true }
+    ensures sealed { result ≡ sent (seal_of caller body.entry first.now second.now auth.now nonce.now keep) }
+    ensures short { length result.bytes ≤ 4096 }
+{
+    let names = names(body.code().handles(), first, second);
+    caller.seal(body, names, auth, nonce_of(nonce), keep)
+}
+
+fn seal(
+    held: &mut Held,
+    command: &[u8],
+    first: &[u8],
+    second: &[u8],
+    auth: &[u8],
+    nonce: &[u8],
+    keep: u32,
+    out: &mut [u8],
+) -> usize
+    ensures { IsIn (sealed_bytes (sealing held.old command.now first.now second.now auth.now nonce.now keep (length out.old))) out.old out.new result × (held.new ≡ after_seal held.old (sealing held.old command.now first.now second.now auth.now nonce.now keep (length out.old))) }
+{
+    if out.len() < BUFFER_BYTES || !do_fit(first, second, nonce) {
+        return 0;
+    }
+    let Some(body) = body_in(command) else {
+        return 0;
+    };
+    match std::mem::replace(held, Held::Spent) {
+        Held::Free(caller) => {
+            let waiting = sealed(caller, body, first, second, auth, nonce, keep != 0);
+            let count = put(out, waiting.bytes());
+            *held = Held::Sealed(waiting);
+            count
+        }
+        other => {
+            *held = other;
+            0
+        }
+    }
+}
+
+/// Seals a command with the session that is free, writes its bytes to the beginning of `out`, and says how many they are. The command
+/// is given in bytes, of which the sessions are left out, so it may have none; `first` and `second` are the Names of its handles,
+/// `auth` is what follows the session key in the key of the HMAC, and `nonce` is nonceCaller, a fresh random one. With a `keep`
+/// other than 0 the session goes on after the command. It answers 0, and nothing changes, where no session is free, where `out`
+/// has room for fewer than 4,096 bytes, where the bytes are no command whose first handle needs authorization, or where a Name or
+/// the nonce is too long.
+#[unsafe(no_mangle)]
+pub unsafe extern "C" fn tpm_caller_seal(
+    place: *mut u8,
+    command: &[u8],
+    first: &[u8],
+    second: &[u8],
+    auth: &[u8],
+    nonce: &[u8],
+    keep: u32,
+    out: &mut [u8],
+) -> usize
+    ghost held: { HeldOf }
+    requires* { sem 𝓛 (held_at held place) }
+    ensures* { sem 𝓛 (held_at (after_seal held (sealing held command.now first.now second.now auth.now nonce.now keep (length out.old))) place) ∗ ⌜ IsIn (sealed_bytes (sealing held command.now first.now second.now auth.now nonce.now keep (length out.old))) out.old out.new result ⌝ }
+{
+    seal(
+        &mut *(place as *mut Held),
+        command,
+        first,
+        second,
+        auth,
+        nonce,
+        keep,
+        out,
+    )
+}
+
+fn fault_number(fault: CallerFault) -> u32
+    ensures { result ≡ fault_number fault }
+{
+    match fault {
+        CallerFault::Refused(_) => 1,
+        CallerFault::Code(_) => 2,
+        CallerFault::NotExpected => 3,
+        CallerFault::WrongMac => 4,
+    }
+}
+
+// What is held after a reply.
+fn kept(caller: Option<Caller>) -> Held
+    ensures { result ≡ kept caller }
+{
+    match caller {
+        Some(caller) => Held::Free(caller),
+        None => Held::Spent,
+    }
+}
+
+fn open(held: &mut Held, reply: &[u8]) -> u32
+    ensures { (result ≡ open_code held.old reply.now) × (held.new ≡ after_open held.old reply.now) }
+{
+    match std::mem::replace(held, Held::Spent) {
+        Held::Sealed(waiting) => match waiting.open(reply) {
+            Ok((caller, _response)) => {
+                *held = kept(caller);
+                0
+            }
+            Err((waiting, fault)) => {
+                *held = Held::Sealed(waiting);
+                fault_number(fault)
+            }
+        },
+        other => {
+            *held = other;
+            NOT_WAITING
+        }
+    }
+}
+
+/// Opens the reply to the sealed command, and answers 0: the session is free again, with its new nonceTPM, or it has ended where it
+/// was not kept. Otherwise nothing changes, and the answer is the first fault: 1 where the bytes are no response to the command, 2 for
+/// a response whose code is not 0, 3 where there is not exactly one session, or its nonceTPM has another length than the session's, 4
+/// where the HMAC is not that of the reply; and 5 where no command is sealed.
+#[unsafe(no_mangle)]
+pub unsafe extern "C" fn tpm_caller_open(place: *mut u8, reply: &[u8]) -> u32
+    ghost held: { HeldOf }
+    requires* { sem 𝓛 (held_at held place) }
+    ensures* { sem 𝓛 (held_at (after_open held reply.now) place) ∗ ⌜ result ≡ open_code held reply.now ⌝ }
+{
+    open(&mut *(place as *mut Held), reply)
+}
+
+fn give_up(held: &mut Held, refusal: &[u8]) -> u32
+    ensures { (result ≡ give_up_code held.old refusal.now) × (held.new ≡ after_give_up held.old refusal.now) }
+{
+    match std::mem::replace(held, Held::Spent) {
+        Held::Sealed(waiting) => match waiting.give_up(refusal) {
+            Ok(caller) => {
+                *held = Held::Free(caller);
+                1
+            }
+            Err(waiting) => {
+                *held = Held::Sealed(waiting);
+                0
+            }
+        },
+        other => {
+            *held = other;
+            0
+        }
+    }
+}
+
+/// Frees the session as it was before it sealed the command, where these bytes are a response whose code is not 0, and answers 1. It
+/// answers 0, and nothing changes, where they are none or where no command is sealed.
+#[unsafe(no_mangle)]
+pub unsafe extern "C" fn tpm_caller_give_up(place: *mut u8, refusal: &[u8]) -> u32
+    ghost held: { HeldOf }
+    requires* { sem 𝓛 (held_at held place) }
+    ensures* { sem 𝓛 (held_at (after_give_up held refusal.now) place) ∗ ⌜ result ≡ give_up_code held refusal.now ⌝ }
+{
+    give_up(&mut *(place as *mut Held), refusal)
+}

@@ -1,0 +1,151 @@
+//! A command's verdict, and its areas by their places in its bytes.
+
+ghost use Rattle.std.specs.Prelude.{◌≡◌, ◌≤◌, ◌+◌, ◌∷◌, [], option_map};
+ghost use Rattle.tpm_buffer.specs.Handles.{first, second};
+ghost use Rattle.tpm_c.specs.CommandViews.{session_view, behind as behind_of, first_place as first_place_of, session_views, command_view, ViewsCommand, JudgesCommand};
+
+use crate::part::{DONE, NO_PART, TpmPart, TpmRefusal, refuse};
+use tpm_buffer::{Areas, AuthRef, areas, decode_command};
+
+/// A session of a command: its nonce and its HMAC, or password, lie in the command.
+#[repr(C)]
+#[derive(Clone, Copy)]
+pub struct TpmCommandSession {
+    pub handle: u32,
+    pub attributes: u8,
+    pub nonce: TpmPart,
+    pub hmac: TpmPart,
+}
+
+/// A command by its areas. Of the handles and the sessions as many are there as are counted; the others are 0.
+#[repr(C)]
+#[derive(Clone, Copy)]
+pub struct TpmCommandAreas {
+    pub code: u32,
+    pub size: usize,
+    pub handle_count: usize,
+    pub handles: [u32; 2],
+    pub session_count: usize,
+    pub sessions: [TpmCommandSession; 3],
+    pub parameters: TpmPart,
+}
+
+/// Cuts a command into its areas and answers 0; or answers 1, and `refusal` is their first fault: the parameters are not judged.
+/// What isn't written so stays as it was.
+#[unsafe(no_mangle)]
+pub extern "C" fn tpm_command_cut(
+    bytes: &[u8],
+    view: &mut TpmCommandAreas,
+    refusal: &mut TpmRefusal,
+) -> u32
+    ensures { ViewsCommand bytes.now result view.old view.new refusal.old refusal.new }
+{
+    match areas(bytes) {
+        Ok(areas) => {
+            *view = areas_view(&areas);
+            DONE
+        }
+        Err(fault) => refuse(refusal, fault),
+    }
+}
+
+/// Answers 0 where the bytes spell a command, all of them; or 1, and `refusal` is their fault.
+#[unsafe(no_mangle)]
+pub extern "C" fn tpm_command_decode(bytes: &[u8], refusal: &mut TpmRefusal) -> u32
+    ensures { JudgesCommand bytes.now result refusal.old refusal.new }
+{
+    match decode_command(bytes) {
+        Ok(_) => DONE,
+        Err(fault) => refuse(refusal, fault),
+    }
+}
+
+fn areas_view(areas: &Areas<'_>) -> TpmCommandAreas
+    ensures { result ≡ command_view areas.now }
+{
+    TpmCommandAreas {
+        code: areas.code().number(),
+        size: areas.size() as usize,
+        handle_count: areas.handles().len(),
+        handles: two(areas.handles()),
+        session_count: areas.auth_count(),
+        sessions: sessions(areas),
+        parameters: TpmPart {
+            at: areas.params_at() as usize,
+            len: areas.params().len(),
+        },
+    }
+}
+
+fn two(handles: &[u32]) -> [u32; 2]
+    ensures { result ≡ first handles.now ∷ second handles.now ∷ [] }
+{
+    match handles {
+        [] => [0, 0],
+        [one] => [*one, 0],
+        [one, two, ..] => [*one, *two],
+    }
+}
+
+fn sessions(areas: &Areas<'_>) -> [TpmCommandSession; 3]
+    ensures { result ≡ session_views areas.now }
+{
+    let first = first_place(areas);
+    let one = areas.auth(0);
+    let second = behind(&one, first);
+    let two = areas.auth(1);
+    let third = behind(&two, second);
+    let three = areas.auth(2);
+    [
+        session(&one, first),
+        session(&two, second),
+        session(&three, third),
+    ]
+}
+
+// Where the sessions begin: behind the header, the handles, and authorizationSize.
+fn first_place(areas: &Areas<'_>) -> usize
+    ensures value { result ≡ first_place_of areas.now }
+    ensures near { result ≤ 22 }
+{
+    14 + 4 * areas.code().handles()
+}
+
+// What a session says that begins at this place.
+fn session(auth: &Option<AuthRef<'_>>, at: usize) -> TpmCommandSession
+    requires { at ≤ 1000 }
+    ensures { result ≡ session_view at auth.now }
+{
+    match auth {
+        Some(auth) => TpmCommandSession {
+            handle: auth.session().number(),
+            attributes: auth.attrs().number(),
+            nonce: TpmPart {
+                at: at + 6,
+                len: auth.nonce().len(),
+            },
+            hmac: TpmPart {
+                at: at + 9 + auth.nonce().len(),
+                len: auth.hmac().len(),
+            },
+        },
+        None => TpmCommandSession {
+            handle: 0,
+            attributes: 0,
+            nonce: NO_PART,
+            hmac: NO_PART,
+        },
+    }
+}
+
+// The place behind it.
+fn behind(auth: &Option<AuthRef<'_>>, at: usize) -> usize
+    requires { at ≤ 1000 }
+    ensures value { result ≡ behind_of at auth.now }
+    ensures near { result ≤ at + 105 }
+{
+    match auth {
+        Some(auth) => at + 9 + auth.nonce().len() + auth.hmac().len(),
+        None => at,
+    }
+}

@@ -1,0 +1,162 @@
+//! A response's verdict, and its areas by their places in its bytes.
+
+ghost use Rattle.std.specs.Prelude.{◌≡◌, ◌≤◌, ◌+◌};
+ghost use Rattle.tpm_c.specs.ResponseViews.{session_view, behind as behind_of, place, session_views, count_of, number_of, response_view, ViewsResponse, JudgesResponse};
+
+use crate::part::{DONE, NO_COMMAND, NO_PART, TpmPart, TpmRefusal, refuse};
+use tpm_buffer::{CommandCode, ReplyAreas, ReplyRef, decode_response, reply_areas};
+
+/// A session of a response: its nonce and its HMAC lie in the response.
+#[repr(C)]
+#[derive(Clone, Copy)]
+pub struct TpmResponseSession {
+    pub attributes: u8,
+    pub nonce: TpmPart,
+    pub hmac: TpmPart,
+}
+
+/// A response by its areas. There is a handle where one is counted, and as many sessions as are counted; the others are 0.
+#[repr(C)]
+#[derive(Clone, Copy)]
+pub struct TpmResponseAreas {
+    pub code: u32,
+    pub handle_count: usize,
+    pub handle: u32,
+    pub parameters: TpmPart,
+    pub session_count: usize,
+    pub sessions: [TpmResponseSession; 3],
+}
+
+/// Cuts a response to the command of this number, TPM_CC, into its areas and answers 0; or answers 1, and `refusal` is their first
+/// fault: the parameters are not judged. It answers 3 where no command has the number. What isn't written so stays as it was.
+#[unsafe(no_mangle)]
+pub extern "C" fn tpm_response_cut(
+    command: u32,
+    bytes: &[u8],
+    view: &mut TpmResponseAreas,
+    refusal: &mut TpmRefusal,
+) -> u32
+    ensures { ViewsResponse command bytes.now result view.old view.new refusal.old refusal.new }
+{
+    match CommandCode::from_number(command) {
+        Some(code) => match reply_areas(code, bytes) {
+            Ok(areas) => {
+                *view = areas_view(&areas);
+                DONE
+            }
+            Err(fault) => refuse(refusal, fault),
+        },
+        None => NO_COMMAND,
+    }
+}
+
+/// Answers 0 where the bytes spell a response to the command of this number, all of them; or 1, and `refusal` is their fault; or 3
+/// where no command has the number.
+#[unsafe(no_mangle)]
+pub extern "C" fn tpm_response_decode(command: u32, bytes: &[u8], refusal: &mut TpmRefusal) -> u32
+    ensures { JudgesResponse command bytes.now result refusal.old refusal.new }
+{
+    match CommandCode::from_number(command) {
+        Some(code) => match decode_response(code, bytes) {
+            Ok(_) => DONE,
+            Err(fault) => refuse(refusal, fault),
+        },
+        None => NO_COMMAND,
+    }
+}
+
+fn areas_view(areas: &ReplyAreas<'_>) -> TpmResponseAreas
+    ensures { result ≡ response_view areas.now }
+{
+    let handle = areas.handle();
+    TpmResponseAreas {
+        code: areas.code(),
+        handle_count: count(handle),
+        handle: number(handle),
+        parameters: TpmPart {
+            at: areas.params_at() as usize,
+            len: areas.params().len(),
+        },
+        session_count: areas.auth_count(),
+        sessions: sessions(areas),
+    }
+}
+
+fn count(handle: Option<u32>) -> usize
+    ensures { result ≡ count_of handle }
+{
+    match handle {
+        Some(_) => 1,
+        None => 0,
+    }
+}
+
+fn number(handle: Option<u32>) -> u32
+    ensures { result ≡ number_of handle }
+{
+    match handle {
+        Some(number) => number,
+        None => 0,
+    }
+}
+
+fn sessions(areas: &ReplyAreas<'_>) -> [TpmResponseSession; 3]
+    ensures { result ≡ session_views areas.now }
+{
+    let first = first_place(areas);
+    let one = areas.auth(0);
+    let second = behind(&one, first);
+    let two = areas.auth(1);
+    let third = behind(&two, second);
+    let three = areas.auth(2);
+    [
+        session(&one, first),
+        session(&two, second),
+        session(&three, third),
+    ]
+}
+
+// Where the sessions begin: behind the parameters.
+fn first_place(areas: &ReplyAreas<'_>) -> usize
+    ensures value { result ≡ place areas.now 0 }
+    ensures near { result ≤ 8192 }
+{
+    areas.params_at() as usize + areas.params().len()
+}
+
+// What a session says that begins at this place.
+fn session(auth: &Option<ReplyRef<'_>>, at: usize) -> TpmResponseSession
+    requires { at ≤ 9000 }
+    ensures { result ≡ session_view at auth.now }
+{
+    match auth {
+        Some(auth) => TpmResponseSession {
+            attributes: auth.attrs().number(),
+            nonce: TpmPart {
+                at: at + 2,
+                len: auth.nonce().len(),
+            },
+            hmac: TpmPart {
+                at: at + 5 + auth.nonce().len(),
+                len: auth.hmac().len(),
+            },
+        },
+        None => TpmResponseSession {
+            attributes: 0,
+            nonce: NO_PART,
+            hmac: NO_PART,
+        },
+    }
+}
+
+// The place behind it.
+fn behind(auth: &Option<ReplyRef<'_>>, at: usize) -> usize
+    requires { at ≤ 9000 }
+    ensures value { result ≡ behind_of at auth.now }
+    ensures near { result ≤ at + 101 }
+{
+    match auth {
+        Some(auth) => at + 5 + auth.nonce().len() + auth.hmac().len(),
+        None => at,
+    }
+}

@@ -1,0 +1,145 @@
+-- What `check` prints of registers and of a list of them (this profile).
+use Rattle.std.specs.Prelude.{◌≡◌, ◌≢◌, ◌⊎◌, ℕ, zero, suc, ◌+◌, ◌≤◌, ◌==◌, nat_lt, Bool, true, false, List, [], ◌∷◌, ◌++◌, length, map, position, find, codes, Option, Some, None, option_map, if◌then◌else◌}
+use Rattle.std.specs.Str.{bytes_eq}
+use Rattle.std.specs.Fmt.{decimal}
+use Rattle.std.specs.List.{AllByRecursion, before_first, after_first}
+use Rattle.std.specs.Io.KnownBytes.{Consumes, IsAtEnd}
+use Rattle.hex.specs.Hex.{encode_lower}
+use Rattle.tpm_types.specs.declared.alg.Alg.{Alg}
+use Rattle.tpm_types.specs.declared.alg.Alg.TheVariants.{Sha1, Sha256, Sha384}
+use Rattle.tpm_types.specs.Alg.{all_algs, digest_len}
+use Rattle.tpm_tool.specs.declared.status.Status.{Status}
+use Rattle.tpm_tool.specs.declared.status.Status.TheVariants.{Done, Refused}
+use Rattle.tpm_tool.specs.declared.stated.TheConstants.{REGISTERS}
+use Rattle.tpm_tool.specs.Status.{both}
+use Rattle.tpm_tool.specs.Text.{bytes_in, line}
+use Rattle.tpm_tool.specs.Script.{lines_of, HasNoFeed, AreEnded, most_bytes}
+
+-- ---- registers
+
+-- the values of registers, by bank and number
+abbrev pub Values : Type 0
+Values = Alg → ℕ → List ℕ
+
+abbrev pub bank_name : Alg → List ℕ
+bank_name Sha1 = codes "sha1"
+bank_name Sha256 = codes "sha256"
+bank_name Sha384 = codes "sha384"
+
+unfoldable pub register_line : Alg → ℕ → List ℕ → List ℕ
+register_line bank register value = line (bank_name bank ∷ decimal register ∷ encode_lower value ∷ [])
+
+-- the lines of a bank's first registers, so many of them
+abbrev pub bank_lines : Values → Alg → ℕ → List ℕ
+bank_lines value bank zero = []
+bank_lines value bank (suc n) = bank_lines value bank n ++ register_line bank n (value bank n)
+
+-- the lines of all registers
+abbrev pub registers_text : Values → List ℕ
+registers_text value = bank_lines value Sha1 24 ++ (bank_lines value Sha256 24 ++ bank_lines value Sha384 24)
+
+-- ---- a line of a list
+
+pub record Stated : Type 0 where
+  pub bank : Alg
+  pub register : ℕ
+  pub value : List ℕ
+
+abbrev pub is_space : ℕ → Bool
+is_space byte = byte == 32
+
+-- what stands before the first space, or all where there is none
+abbrev pub first_word : List ℕ → List ℕ
+first_word text = before_first is_space text
+
+-- what stands behind the first space, or nothing where there is none
+abbrev pub behind_word : List ℕ → List ℕ
+behind_word text = after_first is_space text
+
+abbrev pub bank_named : List ℕ → Option Alg
+bank_named word = find (λ bank. bytes_eq (bank_name bank) word) all_algs
+
+-- its place in the table of the registers' numbers in decimal
+abbrev pub register_named : List ℕ → Option ℕ
+register_named word = position (λ name. bytes_eq name.now word) REGISTERS
+
+-- a value has as many bytes as a digest of the bank's hash
+abbrev pub stated_of : Option Alg → Option ℕ → Option (List ℕ) → Option Stated
+stated_of (Some bank) (Some register) (Some value) = if length value == digest_len bank then Some (record { bank = bank; register = register; value = value }) else None
+stated_of _ _ _ = None
+
+-- those of a line of SHA-384 for a register of two digits
+abbrev pub most_line : ℕ
+most_line = 106
+
+-- the bank, the register and the value that a line states: their words, with a space between them
+abbrev pub stated_in : List ℕ → Option Stated
+stated_in text =
+    if nat_lt most_line (length text) then None
+    else stated_of (bank_named (first_word text)) (register_named (first_word (behind_word text))) (bytes_in (behind_word (behind_word text)))
+
+-- ---- what is printed of a list
+
+abbrev pub compared_word : Bool → List ℕ
+compared_word true = codes "match"
+compared_word false = codes "differs"
+
+unfoldable pub compared_line : Bool → Alg → ℕ → List ℕ
+compared_line same bank register = line (compared_word same ∷ bank_name bank ∷ decimal register ∷ [])
+
+unfoldable pub not_a_register_line : ℕ → List ℕ
+not_a_register_line n = line (codes "line" ∷ (decimal n ++ codes ":") ∷ codes "not" ∷ codes "a" ∷ codes "register" ∷ [])
+
+abbrev pub status_if : Bool → Status
+status_if true = Done
+status_if false = Refused
+
+-- what is printed, and the status, or none where the output has ended
+pub record Comparison : Type 0 where
+  pub text : List ℕ
+  pub status : Option Status
+
+abbrev pub is_value : Values → Stated → Bool
+is_value value s = bytes_eq (value s.bank s.register) s.value
+
+-- a line, and what is printed of those behind it
+abbrev pub with_line : Bool → Stated → Comparison → Comparison
+with_line same s rest = record { text = compared_line same s.bank s.register ++ rest.text; status = option_map (both (status_if same)) rest.status }
+
+-- of the line of this number, and those behind it
+abbrev pub comparison_of : Values → ℕ → Option Stated → Comparison → Comparison
+comparison_of value n None rest = record { text = not_a_register_line n; status = None }
+comparison_of value n (Some s) rest = with_line (is_value value s) s rest
+
+-- Of these lines the first has number n.
+abbrev pub comparison_from : Values → ℕ → List (Option Stated) → Comparison
+comparison_from value n [] = record { text = []; status = Some Done }
+comparison_from value n (first ∷ others) = comparison_of value n first (comparison_from value (n + 1) others)
+
+abbrev pub comparison : Values → List ℕ → Comparison
+comparison value bytes = comparison_from value 1 (map stated_in (lines_of bytes))
+
+-- ---- what is read of a list
+
+-- These bytes were read, not too many; and the list has ended, or a line of them states no register, and whatever comes makes no difference.
+pub record ReadsList (value : Values) (old new : Option (List ℕ)) (bytes : List ℕ) : Type 0 where
+  pub read : Consumes old new bytes
+  pub most : length bytes ≤ most_bytes
+  pub whole : IsAtEnd new ⊎ ((comparison value bytes).status ≡ None) × ((more : List ℕ) → comparison value (bytes ++ more) ≡ comparison value bytes)
+
+abbrev pub AreRegisters : List ℕ → Type 0
+AreRegisters lines = AllByRecursion (λ line. stated_in line ≢ None) (lines_of lines)
+
+-- One byte more was read than a list may have, and up to it each line that has ended states a register.
+pub record ReadsTooMuchList (old new : Option (List ℕ)) : Type 0 where
+  pub bytes : List ℕ
+  pub more : List ℕ
+  pub read : Consumes old new (bytes ++ more)
+  pub most : length bytes ≡ most_bytes
+  pub one : length more ≡ 1
+  pub lines : List ℕ
+  pub line : List ℕ
+  pub are : bytes ≡ lines ++ line
+  pub ended : AreEnded lines
+  pub registers : AreRegisters lines
+  pub short : HasNoFeed line × (length line ≤ most_line)

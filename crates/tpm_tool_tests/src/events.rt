@@ -1,0 +1,80 @@
+//! The records of logs that come in pieces, and reads that fail.
+
+use crate::logs::LOG;
+use crate::pieces::Pieces;
+use std::alloc::Global;
+use std::process::Abort;
+use std::test::Fail;
+use tpm_tool::{Status, ToolFault, list_events};
+use tpm_wire::Source;
+
+// The records of the log, by a reading of its bytes in Python.
+pub(crate) const TEXT: &str =
+    "event 1 at 73 register 0 EV_NO_ACTION size 0\nevent 2 at 89 register 7 EV_SEPARATOR sha1 9069ca78e7450a285173431b3e52c5c25299e473 sha256 df3f619804a92fdb4057192dc43dd748ea778adc52bc498ce80524c014b81119 sha384 394341b7182cd227c5c6b07ef8000cdfd86136c4292b8e576573ad7ed9ae41019f5818b4b971c9effc60e1ad9f1289f0 size 4\n";
+
+// A separator with a digest of SHA-512 alone, which has no bank, and its line.
+const NO_BANK: &str =
+    "000000000300000000000000000000000000000000000000000000002100000053706563204944204576656e743033000000000000020002010000000d004000000000000004000000010000000d002248a8803402a2062fee5d37fede63ea8fb30fe502b9d6ba344c0c15c566d555612494e7e0bbc6fcf26e4b2325cb9310d99db8426e78f17ef3191b4d69adcf4a0400000000000000";
+
+const NO_BANK_TEXT: &str =
+    "event 1 at 65 register 0 EV_SEPARATOR 000d 2248a8803402a2062fee5d37fede63ea8fb30fe502b9d6ba344c0c15c566d555612494e7e0bbc6fcf26e4b2325cb9310d99db8426e78f17ef3191b4d69adcf4a size 4\n";
+
+fn lists(
+    rt: &(impl AllocGlobal + Abort),
+    log: &mut Pieces<'_>,
+    answer: Result<Status, ToolFault>,
+    text: &str,
+) {
+    let mut out = Vec::new(rt.alloc());
+    let status = list_events(rt.alloc(), log, &mut out);
+    assert_eq!(rt; status, answer);
+    assert_eq!(rt; out.as_slice(), text.as_bytes());
+}
+
+#[test]
+fn a_log_is_listed_alike_in_any_pieces(rt: HostRuntime) -> Result<(), Fail> {
+    for (log, text) in [(LOG, TEXT), (NO_BANK, NO_BANK_TEXT)] {
+        let log = hex::decode(rt.alloc(), log)?;
+        for most in [1, 7, 64, 215] {
+            let log = &mut Pieces::new(log.as_slice(), most);
+            lists(&rt, log, Ok(Status::Done), text);
+        }
+    }
+    Ok(())
+}
+
+#[test]
+fn a_log_with_a_fault_is_not_listed(rt: HostRuntime) -> Result<(), Fail> {
+    let log = hex::decode(rt.alloc(), LOG)?;
+    let cut = match log.as_slice().split_last() {
+        Some((_, cut)) => cut,
+        None => &[],
+    };
+    let log = &mut Pieces::new(cut, 64);
+    lists(&rt, log, Ok(Status::Refused), "log Truncated at 211\n");
+    Ok(())
+}
+
+#[test]
+fn a_read_of_events_that_fails_is_answered(rt: HostRuntime) -> Result<(), Fail> {
+    let log = hex::decode(rt.alloc(), LOG)?;
+    for fails_at in 1..log.len() + 2 {
+        let mut log = Pieces::failing(log.as_slice(), 1, fails_at);
+        lists(&rt, &mut log, Err(ToolFault::Read), "");
+        assert_eq!(rt; (log.reads, log.failures()), (fails_at, 1));
+    }
+    Ok(())
+}
+
+// 4,096 pieces of 4,096 bytes, and the byte that is one too many.
+#[test]
+fn of_an_endless_log_one_byte_too_many_is_read(rt: HostRuntime) {
+    let mut log = Pieces::endless(0);
+    lists(
+        &rt,
+        &mut log,
+        Ok(Status::Refused),
+        "log NotCryptoAgile at 4\n",
+    );
+    assert_eq!(rt; log.reads, 4097);
+}

@@ -1,0 +1,135 @@
+//! Logs and lists of registers that come in pieces, and reads that fail.
+
+use crate::pieces::Pieces;
+use std::alloc::Global;
+use std::process::Abort;
+use std::test::Fail;
+use tpm_tool::{Status, ToolFault, check_log};
+use tpm_types::Alg;
+use tpm_wire::Source;
+
+// The header, a record that extends nothing, and a separator at register 7.
+pub(crate) const LOG: &str =
+    "000000000300000000000000000000000000000000000000000000002900000053706563204944204576656e74303300000000000002000203000000040014000b0020000c003000000000000003000000000000000000000007000000040000000300000004009069ca78e7450a285173431b3e52c5c25299e4730b00df3f619804a92fdb4057192dc43dd748ea778adc52bc498ce80524c014b811190c00394341b7182cd227c5c6b07ef8000cdfd86136c4292b8e576573ad7ed9ae41019f5818b4b971c9effc60e1ad9f1289f00400000000000000";
+
+// What register 7 is then, and what register 0 isn't.
+pub(crate) const LIST: &str =
+    "sha1 7 b2a83b0ebf2f8374299a5b2bdfc31ea955ad7236\nsha1 0 b2a83b0ebf2f8374299a5b2bdfc31ea955ad7236\n";
+
+// A quote of register 7 of SHA-256: the digest is that of Python's hashlib.
+pub(crate) const QUOTE: &str =
+    "00000001000b038000000020da301acd1cfa3963a46b39f70c3ce51e88a5a296769f49656b6598230817df89";
+
+pub(crate) const TEXT: &str = "match sha1 7\ndiffers sha1 0\nquote matches\n";
+
+// What a log, a list and the quote answer, and what was written.
+fn checked(
+    alloc: Global,
+    log: &mut Pieces<'_>,
+    list: &mut Pieces<'_>,
+) -> (Result<Status, ToolFault>, Vec<u8>) {
+    let mut out = Vec::new(alloc);
+    let status = check_log(alloc, log, Some(list), Some(QUOTE), Alg::Sha256, &mut out);
+    (status, out)
+}
+
+fn answers(
+    rt: &(impl AllocGlobal + Abort),
+    log: &mut Pieces<'_>,
+    list: &mut Pieces<'_>,
+    answer: Result<Status, ToolFault>,
+    text: &str,
+) {
+    let (status, out) = checked(rt.alloc(), log, list);
+    assert_eq!(rt; status, answer);
+    assert_eq!(rt; out.as_slice(), text.as_bytes());
+}
+
+#[test]
+fn a_log_is_checked_alike_in_any_pieces(rt: HostRuntime) -> Result<(), Fail> {
+    let log = hex::decode(rt.alloc(), LOG)?;
+    for most in [1, 7, 64, 215] {
+        let log = &mut Pieces::new(log.as_slice(), most);
+        let list = &mut Pieces::new(LIST.as_bytes(), most);
+        answers(&rt, log, list, Ok(Status::Refused), TEXT);
+    }
+    Ok(())
+}
+
+#[test]
+fn a_read_of_a_log_that_fails_is_answered(rt: HostRuntime) -> Result<(), Fail> {
+    let log = hex::decode(rt.alloc(), LOG)?;
+    for fails_at in 1..log.len() + 2 {
+        let mut log = Pieces::failing(log.as_slice(), 1, fails_at);
+        let mut list = Pieces::new(LIST.as_bytes(), 1);
+        answers(&rt, &mut log, &mut list, Err(ToolFault::Read), "");
+        assert_eq!(rt; (log.reads, log.failures(), list.reads), (fails_at, 1, 0));
+    }
+    Ok(())
+}
+
+// A list of which a read fails: the answer is that, and what was written is the beginning of the text.
+fn fails(rt: &(impl AllocGlobal + Abort), log: &[u8], list: &mut Pieces<'_>) {
+    let (status, out) = checked(rt.alloc(), &mut Pieces::new(log, 64), list);
+    assert_eq!(rt; status, Err(ToolFault::Read));
+    assert!(rt; TEXT.as_bytes().starts_with(out.as_slice()));
+}
+
+#[test]
+fn a_read_of_a_list_that_fails_is_answered(rt: HostRuntime) -> Result<(), Fail> {
+    let log = hex::decode(rt.alloc(), LOG)?;
+    for fails_at in 1..LIST.len() + 2 {
+        let mut list = Pieces::failing(LIST.as_bytes(), 1, fails_at);
+        fails(&rt, log.as_slice(), &mut list);
+        assert_eq!(rt; (list.reads, list.failures()), (fails_at, 1));
+    }
+    Ok(())
+}
+
+#[test]
+fn an_endless_log_has_a_fault(rt: HostRuntime) {
+    let list = &mut Pieces::endless(b'\n');
+    for (byte, text) in [
+        (0x00, "log NotCryptoAgile at 4\n"),
+        (0xFF, "log NotCryptoAgile at 0\n"),
+    ] {
+        let log = &mut Pieces::endless(byte);
+        answers(&rt, log, list, Ok(Status::Refused), text);
+    }
+    assert_eq!(rt; list.reads, 0);
+}
+
+// An endless list ends with its first line that states no register, and an endless line when it is too long for one.
+#[test]
+fn an_endless_list_ends(rt: HostRuntime) -> Result<(), Fail> {
+    let log = hex::decode(rt.alloc(), LOG)?;
+    for byte in [b'\n', b'a'] {
+        let log = &mut Pieces::new(log.as_slice(), 215);
+        let list = &mut Pieces::endless(byte);
+        let text = "line 1: not a register\n";
+        answers(&rt, log, list, Ok(Status::Refused), text);
+        assert_eq!(rt; list.reads, 1);
+    }
+    Ok(())
+}
+
+// What the log leaves as it was, in a line of 48 bytes and in one of 49.
+const LINE: &str = "sha1 0 0000000000000000000000000000000000000000\n";
+
+const LONGER_LINE: &str = "sha1 10 0000000000000000000000000000000000000000\n";
+
+// 349,509 of the one and 16 of the other are 16,777,216 bytes, which are all answered; a line feed behind them is one too many.
+#[test]
+fn a_list_with_a_byte_too_many_is_answered_to_it(rt: HostRuntime) -> Result<(), Fail> {
+    let log = hex::decode(rt.alloc(), LOG)?;
+    let mut lines = LINE.repeat(rt.alloc(), 349_509)?;
+    lines.push_str(LONGER_LINE.repeat(rt.alloc(), 16)?.as_str())?;
+    lines.push_str("\n")?;
+    let log = &mut Pieces::new(log.as_slice(), 215);
+    let list = &mut Pieces::new(lines.as_bytes(), 4096);
+    let (status, out) = checked(rt.alloc(), log, list);
+    assert_eq!(rt; status, Err(ToolFault::InputTooLong));
+    assert_eq!(rt; lines.len(), 16_777_217);
+    assert_eq!(rt; out.len(), 4_543_841);
+    Ok(())
+}

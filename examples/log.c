@@ -1,0 +1,71 @@
+/* A log of a measured boot from standard input: the registers that it gives, as `tpmtool check` prints them, or the log's fault.
+ *
+ * With the information of a quote in hexadecimal it says what the quote says of them, by its digest under this hash.
+ *
+ *     log [QUOTE_HEX sha1|sha256|sha384]
+ */
+#include "vinjakwe.h"
+
+#include <stdio.h>
+#include <string.h>
+
+static uint8_t bytes[1 << 20], registers[TPM_REGISTERS_BYTES], quote[TPM_BUFFER_BYTES];
+
+static const char *const kinds[] = {"Done", "Truncated", "TooLong", "NotCryptoAgile", "BadHeader", "DuplicateAlgorithm", "WrongDigestSize", "UnknownAlgorithm", "RepeatedDigest", "BadRegister", "BadLocality", "LateLocality"};
+
+static const struct bank {
+    const char *name;
+    uint16_t hash;
+    size_t at, size;
+} banks[] = {{"sha1", TPM_ALG_SHA1, 0, 20}, {"sha256", TPM_ALG_SHA256, 480, 32}, {"sha384", TPM_ALG_SHA384, 1248, 48}};
+
+static void print_registers(void) {
+    for (const struct bank *bank = banks; bank != banks + 3; bank++)
+        for (size_t i = 0; i < 24; i++) {
+            printf("%s %u ", bank->name, (unsigned)i);
+            for (size_t j = 0; j < bank->size; j++)
+                printf("%02x", registers[bank->at + bank->size * i + j]);
+            printf("\n");
+        }
+}
+
+static int print_fault(uint32_t kind, uint32_t at) {
+    printf("log %s at %lu\n", kinds[kind], (unsigned long)at);
+    return 1;
+}
+
+static int check(size_t len, const char *text, const char *name) {
+    uint16_t hash = 0;
+    uint32_t at = 0;
+    size_t count = 0;
+    unsigned byte;
+    for (const struct bank *bank = banks; bank != banks + 3; bank++)
+        if (strcmp(bank->name, name) == 0)
+            hash = bank->hash;
+    while (count < sizeof quote && sscanf(text + 2 * count, "%2x", &byte) == 1)
+        quote[count++] = (uint8_t)byte;
+    uint32_t said = tpm_log_check_quote(bytes, len, quote, count, hash, &at);
+    if (said == TPM_QUOTE_MATCHES)
+        printf("quote matches\n");
+    else if (said == TPM_QUOTE_DIFFERS)
+        printf("quote differs\n");
+    else if (said == TPM_QUOTE_REFUSED)
+        printf("refused at %lu\n", (unsigned long)at);
+    else if (said == TPM_QUOTE_NO_BANK)
+        printf("no bank\n");
+    else
+        return print_fault(said, at);
+    return said != TPM_QUOTE_MATCHES;
+}
+
+int main(int argc, char **argv) {
+    uint32_t at;
+    size_t len = fread(bytes, 1, sizeof bytes, stdin);
+    if (argc > 2)
+        return check(len, argv[1], argv[2]);
+    uint32_t kind = tpm_log_replay(bytes, len, registers, &at);
+    if (kind != TPM_LOG_DONE)
+        return print_fault(kind, at);
+    print_registers();
+    return 0;
+}
