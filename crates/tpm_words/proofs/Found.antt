@@ -19,10 +19,12 @@ use Rattle.clap.specs.declared.error.kind.ErrorKind.TheVariants.{OutOfMemory}
 use Rattle.clap.specs.Takes.{takes}
 use Rattle.clap.proofs.OnLiterals.{clap_on_literals}
 use Rattle.clap.proofs.WalkLemmas.{first_value-rows}
+use Rattle.tpm_values.specs.Numbers.{IsDecimal}
+use Rattle.tpm_values.specs.Owner.{IsOwner}
 use Rattle.tpm_words.specs.declared.task.Task.{Task}
 use Rattle.tpm_words.specs.declared.task.Task.TheVariants.{Show, Build, Run, Explain, Check, Events}
 use Rattle.tpm_words.specs.Program.{program_app}
-use Rattle.tpm_words.specs.Task.{Asks, AsksNothing, AsksNothingWith, AsksWith, IsCode, IsDecimal, IsHash, IsOwner, Replies, is_given}
+use Rattle.tpm_words.specs.Task.{Asks, AsksNothing, AsksNothingWith, AsksWith, IsCode, IsHash, Replies, is_given}
 use Rattle.tpm_words.specs.declared.stop.Stop.{Stop}
 use Rattle.tpm_words.specs.declared.stop.Stop.TheVariants.{Help, Usage, Memory}
 use Rattle.tpm_words.specs.Stop.{IsHelp, IsMemoryOr, Refuses, StopsFor}

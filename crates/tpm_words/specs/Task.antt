@@ -1,14 +1,12 @@
 -- What the words ask for, by what clap finds in them.
-use Rattle.std.specs.Prelude.{◌≡◌, ◌<◌, ◌≤◌, ◌^◌, ℕ, List, Option, Some, None, IfSome, codes, length, option_and_then, option_map, is_some, Bool, true, false, unwrap_or}
-use Rattle.std.specs.Result.{result_ok}
+use Rattle.std.specs.Prelude.{◌≡◌, ℕ, List, Option, Some, None, codes, option_and_then, option_map, is_some, Bool, true, false, unwrap_or}
 use Rattle.std.specs.Str.{bytes_eq}
-use Rattle.std.specs.Str.Parse.{IsNumeral, digits_value}
-use Rattle.hex.specs.Hex.{decode_of}
 use Rattle.clap.specs.Words.{Row, Text, first_of}
-use Rattle.tpm_types.specs.Limits.{digest_bytes}
 use Rattle.tpm_types.specs.declared.alg.Alg.{Alg}
 use Rattle.tpm_types.specs.declared.alg.Alg.TheVariants.{Sha1, Sha256, Sha384}
 use Rattle.tpm_buffer.specs.declared.code.CommandCode.{CommandCode}
+use Rattle.tpm_values.specs.Numbers.{IsDecimal, IsHexadecimal}
+use Rattle.tpm_values.specs.Owner.{IsOwner}
 use Rattle.tpm_words.specs.declared.task.Task.{Task}
 use Rattle.tpm_words.specs.declared.task.Task.TheVariants.{Show, Build, Run, Explain, Check, Events}
 use Rattle.tpm_words.specs.Names.{command_of_name}
@@ -23,23 +21,7 @@ abbrev pub is_given : Option Text → Bool
 is_given None = false
 is_given (Some text) = bytes_eq text (codes "true")
 
--- the bytes of hexadecimal digits, or none for any other text
-abbrev pub bytes_in : Text → Option (List ℕ)
-bytes_in text = result_ok (decode_of text)
-
--- an owner's authorization value by its hexadecimal digits, of no more bytes than a digest has; or none for any other text
-abbrev pub IsOwner : Text → Option (List ℕ) → Type 0
-IsOwner text owner = (owner ≡ bytes_in text) × IfSome owner (λ bytes. length bytes ≤ digest_bytes)
-
--- a number below 2^64 by its decimal digits, one or more, with no sign
-abbrev pub IsDecimal : Text → ℕ → Type 0
-IsDecimal text number = IsNumeral 10 text × (number ≡ digits_value 10 text) × (number < 2 ^ 64)
-
--- a number below 2^32 by its hexadecimal digits, one or more, with no sign
-abbrev pub IsHexadecimal : Text → ℕ → Type 0
-IsHexadecimal text number = IsNumeral 16 text × (number ≡ digits_value 16 text) × (number < 2 ^ 32)
-
--- the same of a word that has to be there
+-- a response code, by a word that has to be there
 abbrev pub IsCode : Option Text → ℕ → Type 0
 IsCode None code = ⊥
 IsCode (Some text) code = IsHexadecimal text code

@@ -2,8 +2,9 @@
 
 ghost use Rattle.std.specs.Prelude.{◌≡◌, ℕ, MatchOption, MatchResult, codes};
 ghost use Rattle.clap.specs.Words.{first_value, found_of};
+ghost use Rattle.tpm_values.specs.Numbers.{IsHexadecimal};
 ghost use Rattle.tpm_words.specs.Stop.{IsMemoryOr};
-ghost use Rattle.tpm_words.specs.Task.{AsksNothingWith, AsksWith, IsHexadecimal};
+ghost use Rattle.tpm_words.specs.Task.{AsksNothingWith, AsksWith};
 
 use crate::invalid::invalid_value;
 use crate::program::explain_words;
@@ -11,6 +12,7 @@ use crate::stop::Stop;
 use crate::task::Task;
 use clap::ArgMatches;
 use std::alloc::Global;
+use tpm_values::hexadecimal;
 
 /// The task of the words of `explain`.
 pub(crate) fn explain_task<'a>(
@@ -33,9 +35,7 @@ fn code(alloc: Global, text: &str) -> Result<u32, Stop>
     ensures { MatchResult result (λ code. IsHexadecimal text.now code)
         (IsMemoryOr ((code : ℕ) → IsHexadecimal text.now code → ⊥)) }
 {
-    if !text.starts_with('+')
-        && let Ok(code) = u32::from_str_radix(text, 16)
-    {
+    if let Some(code) = hexadecimal(text) {
         return Ok(code);
     }
     let reason = "it is no hexadecimal number up to ffffffff";

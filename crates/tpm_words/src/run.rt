@@ -2,17 +2,19 @@
 
 ghost use Rattle.std.specs.Prelude.{ℕ, List, Option, MatchResult, codes};
 ghost use Rattle.clap.specs.Words.{first_value, found_of};
+ghost use Rattle.tpm_values.specs.Numbers.{IsDecimal};
+ghost use Rattle.tpm_values.specs.Owner.{IsOwner};
 ghost use Rattle.tpm_words.specs.Stop.{IsMemoryOr};
-ghost use Rattle.tpm_words.specs.Task.{AsksNothingWith, AsksWith, IsDecimal, IsOwner};
+ghost use Rattle.tpm_words.specs.Task.{AsksNothingWith, AsksWith};
 
 use crate::invalid::invalid_value;
 use crate::program::run_words;
 use crate::stop::Stop;
 use crate::task::Task;
 use clap::ArgMatches;
-use hex::FromHexError;
 use std::alloc::{AllocError, Global};
 use tpm_types::{AuthValue, DIGEST_BYTES};
+use tpm_values::{OwnerFault, decimal, owner_value};
 
 /// The task of the words of `run`.
 pub(crate) fn run_task<'a>(alloc: Global, words: &ArgMatches<'a>) -> Result<Task<'a>, Stop>
@@ -29,13 +31,11 @@ fn owner(alloc: Global, text: &str) -> Result<Option<AuthValue>, Stop>
     ensures { MatchResult result (λ owner. IsOwner text.now owner)
         (IsMemoryOr ((owner : Option (List ℕ)) → IsOwner text.now owner → ⊥)) }
 {
-    match hex::decode(alloc, text) {
-        Ok(bytes) => match AuthValue::new(bytes.as_slice()) {
-            Some(owner) => Ok(Some(owner)),
-            None => Err(too_long(alloc, text)),
-        },
-        Err(FromHexError::OutOfMemory) => Err(Stop::Memory),
-        Err(_) => Ok(None),
+    match owner_value(alloc, text) {
+        Ok(owner) => Ok(Some(owner)),
+        Err(OwnerFault::NotHexadecimal) => Ok(None),
+        Err(OwnerFault::TooLong) => Err(too_long(alloc, text)),
+        Err(OwnerFault::OutOfMemory) => Err(Stop::Memory),
     }
 }
 
@@ -44,9 +44,7 @@ fn greatest(alloc: Global, text: &str) -> Result<u64, Stop>
     ensures { MatchResult result (λ greatest. IsDecimal text.now greatest)
         (IsMemoryOr ((greatest : ℕ) → IsDecimal text.now greatest → ⊥)) }
 {
-    if !text.starts_with('+')
-        && let Ok(greatest) = text.parse()
-    {
+    if let Some(greatest) = decimal(text) {
         return Ok(greatest);
     }
     let reason = "it is no decimal number up to 18446744073709551615";
