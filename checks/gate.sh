@@ -39,15 +39,27 @@ prover_times() {
         }' "$room/provers" | sort
 }
 
+# free_megabytes FOLDER: how much may still be written there.
+free_megabytes() {
+    df -Pk "$1" | awk 'NR == 2 { print int($4 / 1024) }'
+}
+
+# The gate keeps what it has proved beside the sources, and tries edits in the folder of temporary files.
+wanted=8000
+for folder in . "$room"; do
+    free=$(free_megabytes "$folder")
+    [ "$free" -ge $wanted ] || fail "room for the gate" "it may take $wanted megabytes, and there are $free where $folder lies"
+done
+
 sample_provers &
 # The shell becomes `rt ci`, whose number it leaves.
 sh -c 'echo $$ >"$1" && exec rt ci' sh "$room/gate.pid" 2>&1 | tee "$room/gate"
 counts=$(tail -n 1 "$room/gate")
 case $counts in
 *" passed, "*" failed")
-    passed=${counts%% *}
-    failed=${counts#* passed, }
-    failed=${failed%% *}
+    passed=$((passed + ${counts%% *}))
+    counts=${counts#* passed, }
+    failed=$((failed + ${counts%% *}))
     ;;
 *) fail "the gate" "its last line has no counts" ;;
 esac
