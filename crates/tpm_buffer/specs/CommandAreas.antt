@@ -64,6 +64,10 @@ params_here c = record { rest = c.params; at = c.params_at }
 abbrev pub areas_view : Cut → Checked × Here
 areas_view c = (checked c, params_here c)
 
+-- the cut at a place, by what was read before it
+abbrev pub cut_of : Header → List ℕ → List Auth → Here → Cut
+cut_of h hs auths here = record { header = h; handles = hs; auths = auths; params = here.rest; params_at = here.at }
+
 -- The bytes have this cut: what stands before the parameters, and then the parameters to the end.
 abbrev pub HasCut : List ℕ → Cut → Type 0
 HasCut bytes c = Spells (cut before_params) (checked c, c.params) bytes × (c.params_at + length c.params ≡ length bytes)

@@ -7,13 +7,13 @@ ghost use Rattle.tpm_wire.specs.Reading.{read, Gives};
 ghost use Rattle.tpm_wire.specs.Buffers.{TakesNumbered};
 ghost use Rattle.tpm_wire.specs.Path.{Decodes};
 ghost use Rattle.tpm_buffer.specs.Commands.{header as header_layout, before_params};
-ghost use Rattle.tpm_buffer.specs.CommandAreas.{head_and_rest, IsHandled, HasHandles, checked, params_here, areas_view, IsAreas, HasAreas, IsSpelledBy};
+ghost use Rattle.tpm_buffer.specs.CommandAreas.{head_and_rest, IsHandled, HasHandles, checked, params_here, areas_view, cut_of, IsAreas, HasAreas, IsSpelledBy};
 
 use crate::code::CommandCode;
 use crate::command::Header;
 use crate::command_handles::take_handles;
 use crate::command_header::{long_fault, take_header};
-use crate::command_sessions::{AuthRef, copy_sessions, session_at, take_authorization};
+use crate::command_sessions::{AuthRef, read_authorization, session_at, take_authorization};
 use arrayvec::ArrayVec;
 use std::marker::Model;
 use tpm_types::Auth;
@@ -217,13 +217,6 @@ impl<'a> Areas<'a> {
     {
         self.params_at
     }
-
-    /// Makes the list that of the sessions.
-    pub(crate) fn copy_auths(&self, auths: &mut ArrayVec<Auth, 3>)
-        ensures { auths.new.items ≡ self.now.auths }
-    {
-        copy_sessions(self.bytes, self.sessions.as_slice(), auths);
-    }
 }
 
 fn short_header(bytes: &[u8]) -> Result<Headed<'_>, Refusal>
@@ -256,10 +249,27 @@ pub fn header(bytes: &[u8]) -> Result<Headed<'_>, Refusal>
     any_header(bytes)
 }
 
-/// All that stands before the parameters of the command, which begin where the cursor is then.
+/// Reads all that stands before the parameters of the command, which begin where the cursor is then: the sessions in the place
+/// of others.
 #[tactic(auto, unfolding(crate::specs::Commands::before_params))]
 #[inline(always)]
-pub(crate) fn take_areas<'a>(cursor: &mut Cursor<'a>, bytes: &'a [u8]) -> Result<Areas<'a>, Refusal>
+pub(crate) fn read_before_params(
+    cursor: &mut Cursor<'_>,
+    auths: &mut ArrayVec<Auth, 3>,
+) -> Result<(Header, ArrayVec<u32, 2>), Refusal>
+    requires { cursor.old.number ≡ 0 }
+    ensures reads { TakesNumbered (λ x. checked (cut_of x.0 x.1.items auths.new.items cursor.new.here)) before_params cursor.old cursor.new result }
+    ensures spelled { IfOk result (λ x. IsSpelledBy cursor.old.here.rest (cut_of x.0 x.1.items auths.new.items cursor.new.here)) }
+{
+    let header = take_header(cursor)?;
+    let handles = take_handles(cursor, header.code)?;
+    read_authorization(cursor, header.tag, auths)?;
+    Ok((header, handles))
+}
+
+/// All that stands before the parameters of the command, which begin where the cursor is then.
+#[tactic(auto, unfolding(crate::specs::Commands::before_params))]
+fn take_areas<'a>(cursor: &mut Cursor<'a>, bytes: &'a [u8]) -> Result<Areas<'a>, Refusal>
     requires start { cursor.old ≡ record { here = at_start bytes.now; number = 0 } }
     requires short { length bytes.now ≤ 4096 }
     ensures reads { TakesNumbered checked before_params cursor.old cursor.new result }

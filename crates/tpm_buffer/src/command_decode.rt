@@ -11,7 +11,7 @@ ghost use Rattle.tpm_buffer.specs.Commands.{before_params, command};
 ghost use Rattle.tpm_buffer.specs.CommandAreas.{Cut, HasCut, IsSpelledBy};
 
 use crate::command::{Command, CommandBody};
-use crate::command_areas::{Areas, any_areas, take_areas};
+use crate::command_areas::{Areas, any_areas, read_before_params};
 use crate::command_header::long_fault;
 use arrayvec::ArrayVec;
 use tpm_types::StartupType;
@@ -24,16 +24,15 @@ fn read_command<'a>(bytes: &'a [u8], decoded: &mut Command<'a>) -> Result<(), Re
     ensures spelled { OnOk result (bytes.now ≡ spelling command decoded.new) }
 {
     let mut cursor = Cursor::new(bytes);
-    let areas = take_areas(&mut cursor, bytes)?;
-    decoded.body.begin(areas.code());
-    decoded.body.read(&mut cursor, areas.handles())?;
+    let (header, handles) = read_before_params(&mut cursor, &mut decoded.auths)?;
+    decoded.body.begin(header.code);
+    decoded.body.read(&mut cursor, handles.as_slice())?;
     if cursor.left() > 0 {
         return Err(Refusal {
             code: SIZE,
             at: cursor.at(),
         });
     }
-    areas.copy_auths(&mut decoded.auths);
     Ok(())
 }
 

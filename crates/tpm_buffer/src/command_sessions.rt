@@ -1,6 +1,6 @@
 //! A command's authorization area (Part 1, "Command/Response Structure"): its sessions, by their positions in the command.
 
-ghost use Rattle.std.specs.Prelude.{◌≡◌, ◌≢◌, ◌<◌, ◌≤◌, ◌^◌, ◌++◌, IfOk, length};
+ghost use Rattle.std.specs.Prelude.{◌≡◌, ◌≢◌, ◌<◌, ◌≤◌, ◌^◌, ◌++◌, IfOk, OnOk, length};
 ghost use Rattle.std.specs.List.{All};
 ghost use Rattle.tpm_wire.specs.Spelling.{spelling};
 ghost use Rattle.tpm_wire.specs.Buffers.{Takes, TakesNumbered};
@@ -68,16 +68,6 @@ impl<'a> AuthRef<'a> {
         ensures fits { length result.now ≤ digest_bytes }
     {
         self.hmac
-    }
-
-    // Makes the other session this one.
-    fn copy_to(&self, auth: &mut Auth)
-        ensures { auth.new ≡ self.now }
-    {
-        auth.session = self.session;
-        auth.nonce.set(self.nonce);
-        auth.attrs = self.attrs;
-        auth.hmac.set(self.hmac);
     }
 }
 
@@ -174,17 +164,47 @@ pub(crate) fn take_authorization(
     Ok(positions)
 }
 
-/// Makes the list that of the sessions at these positions of the command.
-pub(crate) fn copy_sessions(bytes: &[u8], positions: &[u32], auths: &mut ArrayVec<Auth, 3>)
-    requires short { length bytes.now < 2 ^ 32 }
-    requires few { length positions.now ≤ 3 }
-    requires sessions { All (IsSession bytes.now) positions.now }
-    ensures { auths.new.items ≡ sessions_at bytes.now positions.now }
+// Reads the sessions to the end of the area in the place of others: at most three.
+#[tactic(auto, unfolding(crate::specs::Commands::sessions))]
+fn read_sessions(cursor: &mut Cursor<'_>, auths: &mut ArrayVec<Auth, 3>) -> Result<(), Refusal>
+    ensures reads { TakesNumbered (λ _. auths.new.items) sessions cursor.old cursor.new result }
+    ensures spelled { OnOk result (cursor.old.here.rest ≡ spelling sessions auths.new.items ++ cursor.new.here.rest) }
+    ensures some { OnOk result (length cursor.new.here.rest < length cursor.old.here.rest → 0 < length auths.new.items) }
 {
     auths.clear();
-    for at in positions {
+    while cursor.left() > 0 && auths.len() < 3 {
         let last = auths.len();
+        cursor.number(of_session(1 + last as u32));
         auths.push(Auth::default());
-        session_at(bytes, *at).copy_to(&mut auths.as_mut_slice()[last]);
+        auths.as_mut_slice()[last].read(cursor)?;
+    }
+    Ok(())
+}
+
+/// Reads the sessions of a command with this tag in the place of others.
+#[tactic(auto, unfolding(crate::specs::Commands::authorization))]
+#[inline(never)]
+pub(crate) fn read_authorization(
+    cursor: &mut Cursor<'_>,
+    tag: u16,
+    auths: &mut ArrayVec<Auth, 3>,
+) -> Result<(), Refusal>
+    ensures reads { TakesNumbered (λ _. auths.new.items) (authorization tag) cursor.old cursor.new result }
+    ensures spelled { OnOk result (cursor.old.here.rest ≡ spelling (authorization tag) auths.new.items ++ cursor.new.here.rest) }
+    ensures none { OnOk result (tag ≢ 0x8002 → length auths.new.items ≡ 0) }
+    ensures some { OnOk result (tag ≡ 0x8002 → 0 < length auths.new.items) }
+{
+    if tag != SESSIONS {
+        auths.clear();
+        return Ok(());
+    }
+    cursor.number(0);
+    let size = take_authorization_size(cursor)? as usize;
+    let behind = cursor.enter(size)?;
+    read_sessions(cursor, auths)?;
+    cursor.number(0);
+    match cursor.left() {
+        0 => cursor.leave(behind),
+        _ => Err(cursor.refusal(AUTHSIZE)),
     }
 }
