@@ -21,7 +21,7 @@ use crate::response_header::{long_fault, take_code, take_front};
 use crate::response_parameters::{read_reply_params, take_parameter_size, take_reply_handle};
 use crate::response_sessions::{copy_sessions, take_sessions};
 use arrayvec::ArrayVec;
-use tpm_types::{AuthReply, SessionHandle};
+use tpm_types::{AuthReply, Digests, Selections, SessionHandle};
 use tpm_wire::response_code::SIZE;
 use tpm_wire::{Cursor, Refusal};
 
@@ -175,7 +175,7 @@ fn read_bytes(
 // The answer is filled in the caller's place, so that its many bytes are not moved from function to function.
 #[inline(never)]
 fn decode(code: CommandCode, bytes: &[u8], answer: &mut Result<Response, Refusal>)
-    requires { answer.old ≡ Ok (responses.Done replies.Startup (record { items = [] })) }
+    requires { answer.old ≡ Ok (responses.Done (replies.PcrRead 0 [] []) (record { items = [] })) }
     ensures reads { answer.new ≡ read_all (response code) bytes.now }
     ensures spelled { IfOk answer.new (λ r. bytes.now ≡ spelling (response code) r) }
 {
@@ -190,6 +190,21 @@ fn decode(code: CommandCode, bytes: &[u8], answer: &mut Result<Response, Refusal
     }
 }
 
+// A response that another one is decoded in the place of: the reply that is the largest.
+#[inline(always)]
+fn any_response() -> Response
+    ensures { result ≡ responses.Done (replies.PcrRead 0 [] []) (record { items = [] }) }
+{
+    Response::Done {
+        body: ReplyBody::PcrRead {
+            update_counter: 0,
+            selections: Selections::default(),
+            digests: Digests::default(),
+        },
+        auths: ArrayVec::new(),
+    }
+}
+
 /// The response to a command with this code that the bytes spell, all of them, or the response code and the position
 /// of their first fault.
 pub fn decode_response(code: CommandCode, bytes: &[u8]) -> Result<Response, Refusal>
@@ -197,10 +212,7 @@ pub fn decode_response(code: CommandCode, bytes: &[u8]) -> Result<Response, Refu
     ensures err { (e : RefusalOf) → (result ≡ Err e) ↔ Fault (response code) bytes.now e }
     ensures spelled { IfOk result (λ r. bytes.now ≡ spelling (response code) r) }
 {
-    let mut answer = Ok(Response::Done {
-        body: ReplyBody::Startup,
-        auths: ArrayVec::new(),
-    });
+    let mut answer = Ok(any_response());
     decode(code, bytes, &mut answer);
     answer
 }

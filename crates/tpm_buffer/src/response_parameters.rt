@@ -4,7 +4,7 @@ ghost use Rattle.std.specs.Prelude.{◌≡◌, ◌+◌, ◌*◌, ◌≤◌, ◌�
 ghost use Rattle.tpm_wire.specs.Spelling.{spelling};
 ghost use Rattle.tpm_wire.specs.Buffers.{Takes, TakesNumbered};
 ghost use Rattle.tpm_buffer.specs.declared.code.CommandCode.TheVariants as codes;
-ghost use Rattle.tpm_buffer.specs.Replies.{session_handle, reply_handles, reply_parameters, pcr_event_reply, nv_read_reply, nv_read_public_reply, start_auth_session_reply, pcr_read_reply, policy_get_digest_reply};
+ghost use Rattle.tpm_buffer.specs.Replies.{code_for_reply, session_handle, reply_handles, reply_parameters, pcr_event_reply, nv_read_reply, nv_read_public_reply, start_auth_session_reply, pcr_read_reply, policy_get_digest_reply};
 ghost use Rattle.tpm_buffer.specs.Responses.{parameter_size};
 ghost use Rattle.tpm_buffer.specs.ResponseAreas.{handle_list, HasHandle, IsReplyTo};
 
@@ -125,31 +125,43 @@ fn read_start_auth_session(
     Ok(())
 }
 
+// Makes it a reply to a PCR_Read, which another one is read in the place of. One that is there stays, since it is the largest reply
+// and costs as many stores to make.
+fn begin_pcr_read(body: &mut ReplyBody)
+    ensures { code_for_reply body.new ≡ codes.PcrRead }
+{
+    match body {
+        ReplyBody::PcrRead { .. } => {}
+        _ => *body = ReplyBody::PcrRead {
+            update_counter: 0,
+            selections: Selections::default(),
+            digests: Digests::default(),
+        },
+    }
+}
+
 #[tactic(auto, unfolding(crate::specs::Replies::pcr_read_reply))]
 fn read_pcr_read(cursor: &mut Cursor<'_>, body: &mut ReplyBody) -> Result<(), Refusal>
     ensures reads { TakesNumbered (λ _. body.new) pcr_read_reply cursor.old cursor.new result }
     ensures spelled { OnOk result (cursor.old.here.rest ≡ spelling pcr_read_reply body.new ++ cursor.new.here.rest) }
     ensures own { OnOk result (IsReplyTo codes.PcrRead None body.new) }
 {
-    *body = ReplyBody::PcrRead {
-        update_counter: 0,
-        selections: Selections::default(),
-        digests: Digests::default(),
-    };
-    if let ReplyBody::PcrRead {
-        update_counter,
-        selections,
-        digests,
-    } = body
-    {
-        cursor.number(of_parameter(1));
-        *update_counter = u32::take(cursor)?;
-        cursor.number(of_parameter(2));
-        selections.read(cursor)?;
-        cursor.number(of_parameter(3));
-        digests.read(cursor)?;
+    begin_pcr_read(body);
+    match body {
+        ReplyBody::PcrRead {
+            update_counter,
+            selections,
+            digests,
+        } => {
+            cursor.number(of_parameter(1));
+            *update_counter = u32::take(cursor)?;
+            cursor.number(of_parameter(2));
+            selections.read(cursor)?;
+            cursor.number(of_parameter(3));
+            digests.read(cursor)
+        }
+        _ => unreachable!(),
     }
-    Ok(())
 }
 
 #[tactic(auto, unfolding(crate::specs::Replies::policy_get_digest_reply))]
