@@ -141,8 +141,7 @@ pub fn put_reply_params(body: &ReplyBody, out: &mut Buffer)
     requires { length out.old.items ≡ 0 }
     ensures { out.new.items ≡ spelling (parameters_of_reply body.now) body.now }
 {
-    // What says that there is room for them.
-    params_len(body);
+    prove!(params_len(body) <= 4096);
     put_params(body, out);
 }
 
@@ -158,8 +157,7 @@ fn known_params(body: &ReplyBody)
             name.known();
         }
         ReplyBody::StartAuthSession(reply) => {
-            // The number of a session's handle is one of them.
-            let _number = reply.session.number();
+            prove!(reply.session.number() <= u32::MAX);
             reply.nonce_tpm.known();
         }
         ReplyBody::PcrRead {
@@ -167,8 +165,7 @@ fn known_params(body: &ReplyBody)
             selections,
             digests,
         } => {
-            // A counter fits its 4 bytes.
-            let _counter = *update_counter;
+            prove!(*update_counter <= u32::MAX);
             selections.known();
             digests.known();
         }
