@@ -1,9 +1,8 @@
 //! From bytes to a response.
 
-ghost use Rattle.std.specs.Prelude.{◌≡◌, ◌≤◌, ◌<◌, ◌↔◌, ◌≢◌, ◌++◌, true, Ok, Err, IfOk, OnOk, [], length};
+ghost use Rattle.std.specs.Prelude.{◌≡◌, ◌<◌, ◌↔◌, ◌≢◌, ◌++◌, true, Ok, Err, IfOk, OnOk, [], length};
 ghost use Rattle.tpm_wire.specs.declared.refusal.Refusal.{Refusal as RefusalOf};
 ghost use Rattle.tpm_wire.specs.Spelling.{spelling};
-ghost use Rattle.tpm_wire.specs.Token.{at_start};
 ghost use Rattle.tpm_wire.specs.Reading.{read_all, Gives};
 ghost use Rattle.tpm_wire.specs.Buffers.{TakesNumbered};
 ghost use Rattle.tpm_wire.specs.Path.{Spells, Fault};
@@ -12,14 +11,14 @@ ghost use Rattle.tpm_buffer.specs.declared.response.Response.TheVariants as resp
 ghost use Rattle.tpm_buffer.specs.declared.response.ReplyBody.TheVariants as replies;
 ghost use Rattle.tpm_buffer.specs.Replies.{reply_parameters};
 ghost use Rattle.tpm_buffer.specs.Responses.{is_response_tag, goes_with, with_sessions, without_sessions, reply, code_or_done, tag_of_response, code_of_response, behind_code, response};
-ghost use Rattle.tpm_buffer.specs.ResponseAreas.{Stands, handle_list, HasHandle, IsReplyTo};
+ghost use Rattle.tpm_buffer.specs.ResponseAreas.{handle_list, HasHandle, IsReplyTo};
 
 use crate::code::CommandCode;
 use crate::command_header::SESSIONS;
 use crate::response::{ErrorCode, ReplyBody, Response};
 use crate::response_header::{long_fault, take_code, take_front};
 use crate::response_parameters::{read_reply_params, take_parameter_size, take_reply_handle};
-use crate::response_sessions::{copy_sessions, take_sessions};
+use crate::response_sessions::read_sessions;
 use arrayvec::ArrayVec;
 use tpm_types::{AuthReply, Digests, Selections, SessionHandle};
 use tpm_wire::response_code::SIZE;
@@ -28,15 +27,12 @@ use tpm_wire::{Cursor, Refusal};
 #[tactic(auto, unfolding(crate::specs::Responses::with_sessions))]
 fn read_with_sessions(
     cursor: &mut Cursor<'_>,
-    bytes: &[u8],
     code: CommandCode,
     handle: Option<SessionHandle>,
     body: &mut ReplyBody,
     auths: &mut ArrayVec<AuthReply, 3>,
 ) -> Result<(), Refusal>
-    requires short { length bytes.now ≤ 4096 }
-    requires stands { Stands bytes.now cursor.old.here }
-    requires handle { HasHandle code handle }
+    requires { HasHandle code handle }
     ensures reads { TakesNumbered (λ _. record { body = body.new; auths = auths.new.items }) (with_sessions (reply_parameters code (handle_list handle))) cursor.old cursor.new result }
     ensures spelled { OnOk result (cursor.old.here.rest ≡ spelling (with_sessions (reply_parameters code (handle_list handle))) (record { body = body.new; auths = auths.new.items }) ++ cursor.new.here.rest) }
     ensures own { OnOk result (IsReplyTo code handle body.new) }
@@ -48,9 +44,7 @@ fn read_with_sessions(
     read_reply_params(cursor, code, handle, body)?;
     cursor.number(0);
     cursor.leave(outer)?;
-    let positions = take_sessions(cursor, bytes)?;
-    copy_sessions(bytes, positions.as_slice(), auths);
-    Ok(())
+    read_sessions(cursor, auths)
 }
 
 #[tactic(auto, unfolding(crate::specs::Responses::without_sessions))]
@@ -73,14 +67,11 @@ fn read_without_sessions(
 
 fn read_reply(
     cursor: &mut Cursor<'_>,
-    bytes: &[u8],
     tag: u16,
     code: CommandCode,
     body: &mut ReplyBody,
     auths: &mut ArrayVec<AuthReply, 3>,
 ) -> Result<(), Refusal>
-    requires short { length bytes.now ≤ 4096 }
-    requires stands { Stands bytes.now cursor.old.here }
     ensures reads { TakesNumbered (λ _. record { body = body.new; auths = auths.new.items }) (reply code tag) cursor.old cursor.new result }
     ensures spelled { OnOk result (cursor.old.here.rest ≡ spelling (reply code tag) (record { body = body.new; auths = auths.new.items }) ++ cursor.new.here.rest) }
     ensures some { OnOk result (tag ≡ 0x8002 → 0 < length auths.new.items) }
@@ -88,7 +79,7 @@ fn read_reply(
 {
     let handle = take_reply_handle(cursor, code)?;
     if tag == SESSIONS {
-        read_with_sessions(cursor, bytes, code, handle, body, auths)
+        read_with_sessions(cursor, code, handle, body, auths)
     } else {
         read_without_sessions(cursor, code, handle, body, auths)
     }
@@ -97,15 +88,12 @@ fn read_reply(
 // A nonzero code is answered, and for a code of 0 the reply is read.
 fn read_behind_code(
     cursor: &mut Cursor<'_>,
-    bytes: &[u8],
     tag: u16,
     number: u32,
     code: CommandCode,
     body: &mut ReplyBody,
     auths: &mut ArrayVec<AuthReply, 3>,
 ) -> Result<Option<ErrorCode>, Refusal>
-    requires short { length bytes.now ≤ 4096 }
-    requires stands { Stands bytes.now cursor.old.here }
     ensures reads { TakesNumbered (λ error. code_or_done error (record { body = body.new; auths = auths.new.items })) (behind_code code tag number) cursor.old cursor.new result }
     ensures spelled { IfOk result (λ error. cursor.old.here.rest ≡ spelling (behind_code code tag number) (code_or_done error (record { body = body.new; auths = auths.new.items })) ++ cursor.new.here.rest) }
     ensures number { IfOk result (λ error. code_of_response (code_or_done error (record { body = body.new; auths = auths.new.items })) ≡ number) }
@@ -114,7 +102,7 @@ fn read_behind_code(
     match ErrorCode::from_number(number) {
         Some(error) => Ok(Some(error)),
         None => {
-            read_reply(cursor, bytes, tag, code, body, auths)?;
+            read_reply(cursor, tag, code, body, auths)?;
             Ok(None)
         }
     }
@@ -123,20 +111,17 @@ fn read_behind_code(
 #[tactic(auto, unfolding(crate::specs::Responses::response))]
 fn read_response(
     cursor: &mut Cursor<'_>,
-    bytes: &[u8],
     code: CommandCode,
     body: &mut ReplyBody,
     auths: &mut ArrayVec<AuthReply, 3>,
 ) -> Result<Option<ErrorCode>, Refusal>
-    requires short { length bytes.now ≤ 4096 }
-    requires number { cursor.old.number ≡ 0 }
-    requires place { cursor.old.here ≡ at_start bytes.now }
+    requires { cursor.old.number ≡ 0 }
     ensures reads { TakesNumbered (λ error. code_or_done error (record { body = body.new; auths = auths.new.items })) (response code) cursor.old cursor.new result }
     ensures spelled { IfOk result (λ error. length cursor.new.here.rest ≡ 0 → cursor.old.here.rest ≡ spelling (response code) (code_or_done error (record { body = body.new; auths = auths.new.items }))) }
 {
     let (tag, _size) = take_front(cursor)?;
     let number = take_code(cursor, tag)?;
-    let error = read_behind_code(cursor, bytes, tag, number, code, body, auths)?;
+    let error = read_behind_code(cursor, tag, number, code, body, auths)?;
     Ok(error)
 }
 
@@ -162,7 +147,7 @@ fn read_bytes(
         return Err(refusal_of_long(code, bytes));
     }
     let mut cursor = Cursor::new(bytes);
-    let error = read_response(&mut cursor, bytes, code, body, auths)?;
+    let error = read_response(&mut cursor, code, body, auths)?;
     if cursor.left() > 0 {
         return Err(Refusal {
             code: SIZE,

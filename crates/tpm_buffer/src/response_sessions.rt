@@ -1,6 +1,6 @@
 //! The sessions of a response, by their positions in its bytes.
 
-ghost use Rattle.std.specs.Prelude.{◌≡◌, ◌≤◌, ◌<◌, ◌+◌, ◌^◌, ◌++◌, IfOk, length};
+ghost use Rattle.std.specs.Prelude.{◌≡◌, ◌≤◌, ◌<◌, ◌+◌, ◌^◌, ◌++◌, IfOk, OnOk, drop, length};
 ghost use Rattle.std.specs.List.{All};
 ghost use Rattle.tpm_wire.specs.Spelling.{spelling, joined_all};
 ghost use Rattle.tpm_wire.specs.Buffers.{Takes, TakesNumbered};
@@ -59,20 +59,11 @@ impl<'a> ReplyRef<'a> {
     {
         self.hmac
     }
-
-    /// Makes the other session this one.
-    pub(crate) fn copy_to(&self, auth: &mut AuthReply)
-        ensures { auth.new ≡ self.now }
-    {
-        auth.nonce.set(self.nonce);
-        auth.attrs = self.attrs;
-        auth.hmac.set(self.hmac);
-    }
 }
 
-/// The session that begins here.
+// The session that begins here.
 #[tactic(auto, unfolding(tpm_types::specs::Tpms::auth_response))]
-pub(crate) fn take_session<'a>(cursor: &mut Cursor<'a>) -> Result<ReplyRef<'a>, Refusal>
+fn take_session<'a>(cursor: &mut Cursor<'a>) -> Result<ReplyRef<'a>, Refusal>
     ensures reads { Takes auth_response cursor.old cursor.new result }
     ensures spelled { IfOk result (λ a. cursor.old.here.rest ≡ spelling auth_response a ++ cursor.new.here.rest) }
 {
@@ -132,17 +123,40 @@ pub(crate) fn take_sessions(
     Ok(positions)
 }
 
-/// Makes the sessions those at these positions of the response, of which there are at most three.
-pub(crate) fn copy_sessions(bytes: &[u8], positions: &[u32], auths: &mut ArrayVec<AuthReply, 3>)
-    requires short { length bytes.now < 2 ^ 32 }
-    requires few { length positions.now ≤ 3 }
-    requires sessions { All (IsSession bytes.now) positions.now }
-    ensures { auths.new.items ≡ sessions_at bytes.now positions.now }
+// Reads the sessions behind the first, which is there, to the end of the response: at most two.
+#[tactic(auto, unfolding(crate::specs::Responses::further_sessions))]
+fn read_further_sessions(
+    cursor: &mut Cursor<'_>,
+    auths: &mut ArrayVec<AuthReply, 3>,
+) -> Result<(), Refusal>
+    requires { length auths.old.items ≡ 1 }
+    ensures reads { TakesNumbered (λ _. drop 1 auths.new.items) further_sessions cursor.old cursor.new result }
+    ensures spelled { OnOk result (cursor.old.here.rest ≡ joined_all auth_response (drop 1 auths.new.items) ++ cursor.new.here.rest) }
+    ensures first { OnOk result (auths.new.items ≡ auths.old.items ++ drop 1 auths.new.items) }
+{
+    while cursor.left() > 0 && auths.len() < 3 {
+        let last = auths.len();
+        cursor.number(of_session(1 + last as u32));
+        auths.push(AuthReply::default());
+        auths.as_mut_slice()[last].read(cursor)?;
+    }
+    Ok(())
+}
+
+/// Reads the sessions of a response in the place of others: one at least.
+#[tactic(auto, unfolding(crate::specs::Responses::reply_sessions))]
+pub(crate) fn read_sessions(
+    cursor: &mut Cursor<'_>,
+    auths: &mut ArrayVec<AuthReply, 3>,
+) -> Result<(), Refusal>
+    ensures reads { TakesNumbered (λ _. auths.new.items) reply_sessions cursor.old cursor.new result }
+    ensures spelled { OnOk result (cursor.old.here.rest ≡ spelling reply_sessions auths.new.items ++ cursor.new.here.rest) }
+    ensures some { OnOk result (0 < length auths.new.items) }
 {
     auths.clear();
-    for at in positions {
-        let mut auth = AuthReply::default();
-        session_at(bytes, *at).copy_to(&mut auth);
-        auths.push(auth);
-    }
+    cursor.number(of_session(1));
+    auths.push(AuthReply::default());
+    auths.as_mut_slice()[0].read(cursor)?;
+    read_further_sessions(cursor, auths)?;
+    Ok(())
 }
