@@ -14,6 +14,7 @@ use tpm_wire::Duplicate;
 
 impl Device {
     /// Does what the command of these handles and parameters asks for, and leaves its reply in the body.
+    #[inline(always)]
     pub(crate) fn act(
         &mut self,
         handles: &[u32],

@@ -10,9 +10,10 @@ ghost use Rattle.tpm_model.specs.Answers.{Presented, presented as presented_of, 
 ghost use Rattle.tpm_model.specs.Premises.{code_in};
 ghost use Rattle.tpm_device.specs.Stands.{none_loaded, Stands, holds, evidence_for, HasEvidence, presented_with, IsAdmitted, IsRead, done_of, given, told};
 
+use crate::brief::brief;
 use crate::checks::{check_started, check_tag};
 use crate::reply::put_refusal;
-use tpm_buffer::{Areas, AuthRef, Params, ReplyBody, decode_params_into, header};
+use tpm_buffer::{Areas, AuthRef, CommandCode, Params, ReplyBody, decode_params_into, header};
 use tpm_session::Sessions;
 use tpm_store::{Counters, Registers};
 use tpm_types::AuthValue;
@@ -33,6 +34,21 @@ fn no_sessions() -> Sessions
     ensures { result ≡ none_loaded }
 {
     Sessions::new()
+}
+
+// What a reply to a command with this code begins as: an action that answers no more leaves it so, since an enum that is assigned is
+// filled to its end.
+#[inline(always)]
+fn begun(code: CommandCode) -> ReplyBody {
+    match code {
+        CommandCode::NvUndefineSpace => ReplyBody::NvUndefineSpace,
+        CommandCode::NvDefineSpace => ReplyBody::NvDefineSpace,
+        CommandCode::NvIncrement => ReplyBody::NvIncrement,
+        CommandCode::PcrReset => ReplyBody::PcrReset,
+        CommandCode::PcrExtend => ReplyBody::PcrExtend,
+        CommandCode::FlushContext => ReplyBody::FlushContext,
+        _ => ReplyBody::Startup,
+    }
 }
 
 impl Device {
@@ -79,6 +95,7 @@ impl Device {
     }
 
     // The action of these parameters and the reply, after which the nonce of the session, the command's first, rolls.
+    #[inline(always)]
     fn done(
         &mut self,
         areas: &Areas<'_>,
@@ -101,15 +118,15 @@ impl Device {
         ensures done { OnOk result (code_in out.new.items ≡ 0) }
         ensures none { OnErr result (out.new ≡ out.old) }
     {
-        let mut body = ReplyBody::Startup;
+        let mut body = begun(areas.code());
         self.act(areas.handles(), params, nonce, &mut body)?;
         self.put_done(&body, areas, auth, nonce, out);
         self.roll(areas, auth, nonce);
         Ok(())
     }
 
-    // The parameters, and then the rest. The session is the command's first.
-    fn performed(
+    // As `performed`, whatever the parameters are.
+    fn performed_at_length(
         &mut self,
         areas: &Areas<'_>,
         auth: &Option<AuthRef<'_>>,
@@ -134,6 +151,34 @@ impl Device {
         match decode_params_into(areas.code(), areas.params(), &mut params) {
             Ok(()) => self.done(areas, auth, &params, nonce, out),
             Err(refusal) => Err(refusal.code),
+        }
+    }
+
+    // The parameters, and then the rest. The session is the command's first.
+    fn performed(
+        &mut self,
+        areas: &Areas<'_>,
+        auth: &Option<AuthRef<'_>>,
+        nonce: &[u8; 64],
+        out: &mut Buffer,
+    ) -> Result<(), u32>
+        requires first { auth.now ≡ slice_get areas.now.auths 0 }
+        requires admitted { IsAdmitted areas.now }
+        requires evidence { HasEvidence (holds self.old) areas.now }
+        requires empty { length out.old.items ≡ 0 }
+        ensures answer { (e : Evidence) (o : Origin) (h : History) → evidence_for (holds self.old) areas.now ≡ Ok e → Stands o h self.old →
+            given out.new.items result ≡ told (performed_of (holds self.old) nonce.now (presented_with (holds self.old) areas.now e)) }
+        ensures stands { (e : Evidence) (o : Origin) (h : History) → evidence_for (holds self.old) areas.now ≡ Ok e → Stands o h self.old →
+            Stands o (with_outcome h nonce.now (performed_of (holds self.old) nonce.now (presented_with (holds self.old) areas.now e))) self.new }
+        ensures refuses { IfErr result (λ code. (x : Presented) → x.code ≡ areas.now.header.code → x.handles ≡ areas.now.handles → x.params ≡ areas.now.params →
+            performed_of (holds self.old) nonce.now x ≡ Err code) }
+        ensures refused { OnErr result (self.new ≡ self.old) }
+        ensures done { OnOk result (code_in out.new.items ≡ 0) }
+        ensures none { OnErr result (out.new ≡ out.old) }
+    {
+        match brief(areas.code(), areas.params()) {
+            Some(params) => self.done(areas, auth, &params, nonce, out),
+            None => self.performed_at_length(areas, auth, nonce, out),
         }
     }
 

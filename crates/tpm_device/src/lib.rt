@@ -3,6 +3,7 @@
 
 mod actions;
 mod authorization;
+mod brief;
 mod checks;
 mod device;
 mod handles;

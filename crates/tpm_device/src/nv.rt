@@ -6,7 +6,7 @@ ghost use Rattle.tpm_model.specs.Actions.{action};
 ghost use Rattle.tpm_device.specs.Stands.{holds, acted, Steps};
 
 use crate::device::Device;
-use tpm_buffer::ReplyBody;
+use tpm_buffer::{NvData, ReplyBody};
 use tpm_store::By;
 use tpm_types::{AuthValue, NvIndex, NvPublic};
 use tpm_wire::response_code::HANDLE;
@@ -24,7 +24,9 @@ impl Device {
         ensures sessions { self.new.sessions ≡ self.old.sessions }
         ensures refused { OnErr result (self.new ≡ self.old) }
     {
-        *body = ReplyBody::NvDefineSpace;
+        if !matches!(body, ReplyBody::NvDefineSpace) {
+            *body = ReplyBody::NvDefineSpace;
+        }
         self.counters.define(public, auth.as_slice())
     }
 
@@ -35,7 +37,9 @@ impl Device {
         ensures sessions { self.new.sessions ≡ self.old.sessions }
         ensures refused { OnErr result (self.new ≡ self.old) }
     {
-        *body = ReplyBody::NvUndefineSpace;
+        if !matches!(body, ReplyBody::NvUndefineSpace) {
+            *body = ReplyBody::NvUndefineSpace;
+        }
         self.counters.undefine(index)
     }
 
@@ -51,7 +55,9 @@ impl Device {
         ensures sessions { self.new.sessions ≡ self.old.sessions }
         ensures refused { OnErr result (self.new ≡ self.old) }
     {
-        *body = ReplyBody::NvIncrement;
+        if !matches!(body, ReplyBody::NvIncrement) {
+            *body = ReplyBody::NvIncrement;
+        }
         self.counters.increment(index, by)?;
         Ok(())
     }
@@ -67,7 +73,10 @@ impl Device {
     ) -> Result<(), u32>
         ensures { (n : List ℕ) → acted body.new result ≡ action (holds self.now) (bodies.NvRead by index size offset) n }
     {
-        *body = ReplyBody::NvRead(self.counters.read(index, by, size, offset)?);
+        *body = ReplyBody::NvRead(NvData::default());
+        if let ReplyBody::NvRead(bytes) = body {
+            *bytes = self.counters.read(index, by, size, offset)?;
+        }
         Ok(())
     }
 

@@ -18,7 +18,9 @@ impl Device {
         ensures stands { OnOk result ((n : List ℕ) → Steps self.old self.new (bodies.Startup kind) body.new n) }
         ensures refused { OnErr result (self.new ≡ self.old) }
     {
-        *body = ReplyBody::Startup;
+        if !matches!(body, ReplyBody::Startup) {
+            *body = ReplyBody::Startup;
+        }
         match kind {
             StartupType::Clear => {
                 self.started = true;
@@ -42,7 +44,9 @@ impl Device {
         ensures sessions { self.new.sessions ≡ self.old.sessions }
         ensures refused { OnErr result (self.new ≡ self.old) }
     {
-        *body = ReplyBody::PcrExtend;
+        if !matches!(body, ReplyBody::PcrExtend) {
+            *body = ReplyBody::PcrExtend;
+        }
         match register {
             PcrOrNull::Pcr(register) => self.registers.extend(register, digests),
             PcrOrNull::Null => Ok(()),
@@ -81,7 +85,9 @@ impl Device {
         ensures sessions { self.new.sessions ≡ self.old.sessions }
         ensures refused { OnErr result (self.new ≡ self.old) }
     {
-        *body = ReplyBody::PcrReset;
+        if !matches!(body, ReplyBody::PcrReset) {
+            *body = ReplyBody::PcrReset;
+        }
         self.registers.reset(register)
     }
 

@@ -78,23 +78,6 @@ impl Device {
         self.reply_session(auth, areas, params.as_slice(), nonce)
     }
 
-    // The session of the reply. A password covers no parameters.
-    fn acknowledgment(
-        &self,
-        auth: &AuthRef<'_>,
-        areas: &Areas<'_>,
-        body: &ReplyBody,
-        nonce: &[u8; 64],
-    ) -> AuthReply
-        ensures { (p : Present) (e : Evidence) (others : List Auth) → IsAlike p self.now (first_of areas.now.handles) → areas.now.auths ≡ auth.now ∷ others →
-            evidence_for p areas.now ≡ Ok e → reply_auths e areas.now.header.code (reply_params body.now) nonce.now ≡ result ∷ [] }
-    {
-        if auth.session().number() == RS_PW {
-            return password_reply();
-        }
-        self.sealed(auth, areas, body, nonce)
-    }
-
     /// Adds the reply to a command that has acted, whose first session this is, and which has not rolled yet.
     pub(crate) fn put_done(
         &self,
@@ -113,8 +96,11 @@ impl Device {
         match auth {
             None => put_reply(body, &[], out),
             Some(auth) => {
-                let auths = [self.acknowledgment(auth, areas, body, nonce)];
-                put_reply(body, &auths, out);
+                if auth.session().number() == RS_PW {
+                    put_reply(body, &[password_reply()], out);
+                } else {
+                    put_reply(body, &[self.sealed(auth, areas, body, nonce)], out);
+                }
             }
         }
     }

@@ -32,7 +32,9 @@ impl Device {
         ensures stands { OnOk result ((n : List ℕ) → Steps self.old self.new (bodies.FlushContext session) body.new n) }
         ensures refused { OnErr result (self.new ≡ self.old) }
     {
-        *body = ReplyBody::FlushContext;
+        if !matches!(body, ReplyBody::FlushContext) {
+            *body = ReplyBody::FlushContext;
+        }
         self.sessions.flush(session)?;
         Ok(())
     }
