@@ -258,11 +258,44 @@ uint32_t tpm_caller_open(struct tpm_caller *caller, const uint8_t *reply, size_t
  * answers 1. It answers 0, and nothing changes, where they are none or no command waits. */
 uint32_t tpm_caller_give_up(struct tpm_caller *caller, const uint8_t *refusal, size_t len);
 
-/* ---- the digest of a policy
- *
- * A device gives it, by bytes: TPM2_StartAuthSession with TPM_SE_TRIAL, then the policy's commands in their order (TPM2_PolicyPCR,
- * TPM2_PolicyOR, TPM2_PolicyCommandCode, TPM2_PolicyAuthValue), and TPM2_PolicyGetDigest, whose reply has it (Part 3, 23.19). A
- * device of its own for it is started by TPM2_Startup, and nothing of it is kept. */
+/* ---- the digest of a policy, without a device (Part 1, "Enhanced Authorization"; Part 3, 23) */
+
+/* How many bytes the digest of a policy has at most. */
+#define TPM_POLICY_BYTES 48
+
+/* A policy by its digest: the number of its hash (TPM_ALG_SHA1, TPM_ALG_SHA256 or TPM_ALG_SHA384), and as many bytes as the digests of
+ * that hash have, 20, 32 or 48, at the beginning of `digest`. Behind them are zeros. It is plain bytes, which may be copied and kept. */
+struct tpm_policy {
+    uint16_t hash;
+    uint8_t digest[TPM_POLICY_BYTES];
+};
+
+/* What the functions below answer, besides TPM_DONE and TPM_REFUSED. What one does not say that it writes stays as it was. */
+#define TPM_POLICY_NO_HASH ((uint32_t)4)   /* no hash has the number that is given or that lies in the policy */
+#define TPM_POLICY_NO_DIGEST ((uint32_t)5) /* the bytes are not as many as the digests of the policy's hash have */
+
+/* Makes the policy one that asserts nothing, in the hash of this number. TPM_DONE: it is; TPM_POLICY_NO_HASH. */
+uint32_t tpm_policy_start(struct tpm_policy *policy, uint16_t hash);
+
+/* TPM2_PolicyRestart: the policy asserts nothing any more (11.2). TPM_DONE; TPM_POLICY_NO_HASH. */
+uint32_t tpm_policy_restart(struct tpm_policy *policy);
+
+/* TPM2_PolicyPCR: the registers that the TPML_PCR_SELECTION in `selections` selects have values with this digest, in the hash of the
+ * policy (23.7; Part 1, "Selecting Multiple PCR"). TPM_DONE, or the first of these: TPM_POLICY_NO_HASH; TPM_POLICY_NO_DIGEST;
+ * TPM_REFUSED: the bytes spell no selection, and their fault is in `refusal`. */
+uint32_t tpm_policy_pcr(struct tpm_policy *policy, const uint8_t *selections, size_t len, const uint8_t *pcr_digest,
+                        size_t pcr_digest_len, struct tpm_refusal *refusal);
+
+/* TPM2_PolicyOR: the policy is one of those with the 2 to 8 digests of this TPML_DIGEST (23.6). Whether its digest is among them is not
+ * asked, as in a trial session. TPM_DONE, or the first of these: TPM_REFUSED: the bytes spell no such list, and their fault is in
+ * `refusal`; TPM_POLICY_NO_HASH. */
+uint32_t tpm_policy_or(struct tpm_policy *policy, const uint8_t *digests, size_t len, struct tpm_refusal *refusal);
+
+/* TPM2_PolicyCommandCode: the command is the one of this number, TPM_CC (23.11). TPM_DONE; TPM_POLICY_NO_HASH. */
+uint32_t tpm_policy_command_code(struct tpm_policy *policy, uint32_t code);
+
+/* TPM2_PolicyAuthValue: the authorization value of the entity is known (23.17). TPM_DONE; TPM_POLICY_NO_HASH. */
+uint32_t tpm_policy_auth_value(struct tpm_policy *policy);
 
 /* ---- constants (Part 2) */
 

@@ -5,6 +5,7 @@ pub mod Devices
 pub mod Framers
 pub mod Logs
 pub mod Parts
+pub mod Policies
 pub mod Quotes
 pub mod ResponseViews
 pub mod Written

@@ -1,6 +1,9 @@
 -- Parts of a buffer by their places in it, and its fault.
-use Rattle.std.specs.Prelude.{ℕ, List, take, drop}
+use Rattle.std.specs.Prelude.{ℕ, nat_le, List, length, take, drop, Result, Err, if◌then◌else◌}
 use Rattle.tpm_wire.specs.declared.refusal.Refusal.{Refusal}
+use Rattle.tpm_wire.specs.Buffers.{Layout}
+use Rattle.tpm_wire.specs.Reading.{read_all}
+use Rattle.tpm_wire.specs.ResponseCodes.{rc_size}
 use Rattle.tpm_c.specs.declared.part.TpmPart.{TpmPart}
 use Rattle.tpm_c.specs.declared.part.TpmRefusal.{TpmRefusal}
 
@@ -13,3 +16,7 @@ bytes_in bytes p = take p.len (drop p.at bytes)
 
 abbrev pub refusal_of : TpmRefusal → Refusal
 refusal_of r = record { code = r.code; at = r.at }
+
+-- what all of the bytes spell, or the first fault; bytes that are more than a buffer's spell nothing
+abbrev pub whole_in : {A : Type 0} → Layout A → List ℕ → Result A Refusal
+whole_in l bytes = if nat_le (length bytes) 4096 then read_all l bytes else Err (record { code = rc_size; at = 0 })

@@ -1,18 +1,17 @@
 -- What C is told of a quote.
-use Rattle.std.specs.Prelude.{◌≡◌, ◌≢◌, ◌⊎◌, ℕ, nat_le, List, length, Option, Some, None, Result, Ok, Err, if◌then◌else◌}
+use Rattle.std.specs.Prelude.{◌≡◌, ◌≢◌, ◌⊎◌, ℕ, List, Option, Some, None, Result, Ok, Err}
 use Rattle.tpm_wire.specs.declared.refusal.Refusal.{Refusal}
-use Rattle.tpm_wire.specs.ResponseCodes.{rc_size}
-use Rattle.tpm_wire.specs.Reading.{read_all}
 use Rattle.tpm_types.specs.declared.alg.Alg.{Alg}
 use Rattle.tpm_types.specs.declared.attest.QuoteInfo.{QuoteInfo}
 use Rattle.tpm_types.specs.Attest.{quote_info}
 use Rattle.tpm_model.specs.Registers.{Registers, composite, value_in}
 use Rattle.tpm_log.specs.declared.fault.LogFault.{LogFault}
+use Rattle.tpm_c.specs.Parts.{whole_in}
 use Rattle.tpm_c.specs.Logs.{IsFault}
 
--- the information of a quote, or the first fault; bytes that are more than a buffer's are none
+-- the information of a quote, or the first fault
 abbrev pub quote_in : List ℕ → Result QuoteInfo Refusal
-quote_in bytes = if nat_le (length bytes) 4096 then read_all quote_info bytes else Err (record { code = rc_size; at = 0 })
+quote_in = whole_in quote_info
 
 -- Its digest is that of the selected values, or another.
 abbrev pub IsWhetherQuoted : (Alg → ℕ → List ℕ) → Alg → QuoteInfo → ℕ → Type 0

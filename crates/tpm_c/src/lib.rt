@@ -9,6 +9,7 @@ mod framer;
 mod log;
 mod out;
 mod part;
+mod policy;
 mod quote;
 mod response;
 
@@ -27,5 +28,9 @@ pub use framer::{
 };
 pub use log::tpm_log_replay;
 pub use part::{TpmPart, TpmRefusal};
+pub use policy::{
+    TpmPolicy, tpm_policy_auth_value, tpm_policy_command_code, tpm_policy_or, tpm_policy_pcr,
+    tpm_policy_restart, tpm_policy_start,
+};
 pub use quote::tpm_log_check_quote;
 pub use response::{TpmResponseAreas, TpmResponseSession, tpm_response_cut, tpm_response_decode};

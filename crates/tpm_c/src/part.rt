@@ -1,9 +1,11 @@
 //! Places in the bytes that C hands in.
 
-ghost use Rattle.std.specs.Prelude.{◌≡◌};
-ghost use Rattle.tpm_c.specs.Parts.{refusal_of};
+ghost use Rattle.std.specs.Prelude.{◌≡◌, ◌≤◌, length};
+ghost use Rattle.tpm_wire.specs.Reading.{read_all};
+ghost use Rattle.tpm_c.specs.Parts.{refusal_of, whole_in};
 
-use tpm_wire::Refusal;
+use tpm_wire::response_code::SIZE;
+use tpm_wire::{Cursor, Refusal, Wire};
 
 // What a function says that judges bytes.
 pub(crate) const DONE: u32 = 0;
@@ -30,6 +32,34 @@ pub(crate) const NO_PART: TpmPart = TpmPart { at: 0, len: 0 };
 pub struct TpmRefusal {
     pub code: u32,
     pub at: u32,
+}
+
+// How many bytes a buffer has at most.
+const MOST_LOOKED_AT: usize = 4096;
+
+fn read<T: Wire + Drop>(bytes: &[u8]) -> Result<T, Refusal>
+    requires { length bytes.now ≤ 4096 }
+    ensures { result ≡ read_all T.layout bytes.now }
+{
+    let mut cursor = Cursor::new(bytes);
+    let value = T::take(&mut cursor)?;
+    if cursor.left() > 0 {
+        return Err(Refusal {
+            code: SIZE,
+            at: cursor.at(),
+        });
+    }
+    Ok(value)
+}
+
+// The value that all of the bytes spell, or their first fault; SIZE of more than a buffer has.
+pub(crate) fn whole<T: Wire + Drop>(bytes: &[u8]) -> Result<T, Refusal>
+    ensures { result ≡ whole_in T.layout bytes.now }
+{
+    if bytes.len() > MOST_LOOKED_AT {
+        return Err(Refusal { code: SIZE, at: 0 });
+    }
+    read(bytes)
 }
 
 // Tells C the fault, and answers that there is one.

@@ -11,5 +11,6 @@ mod sessions;
 
 pub use entity::Entity;
 pub use evidence::password_reply;
+pub use policy::{Assertion, empty_policy, extend_policy};
 pub use session::{NONCE_BYTES, Session};
 pub use sessions::Sessions;

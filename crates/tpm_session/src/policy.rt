@@ -1,8 +1,7 @@
 //! What a policy session asserts (Part 1, "Enhanced Authorization"; Part 3, 23).
 
 ghost use Rattle.std.specs.Prelude.{◌≡◌, []};
-ghost use Rattle.tpm_model.specs.Registers.{zeros as zeros_of};
-ghost use Rattle.tpm_model.specs.Policies.{asserted, policy_of};
+ghost use Rattle.tpm_model.specs.Policies.{asserted, policy_of, policy_digest};
 ghost use Rattle.tpm_model.specs.Policies.Assertion.{PcrAsserted, OrAsserted};
 ghost use Rattle.tpm_model.specs.Actions.{is_listed as listed};
 ghost use Rattle.tpm_model.specs.Authorization.{differs as is_another};
@@ -37,18 +36,19 @@ impl Model for Policy {
 
 /// What a policy command asserts.
 #[derive(Drop)]
-pub(crate) enum Assertion<'a> {
-    /// The digest of the values of these registers, and the update counter, where it is kept.
+pub enum Assertion<'a> {
+    /// That the selected registers have values of this digest, in the hash of the policy. The update counter is what a session keeps
+    /// beside it, and is not hashed.
     Pcr {
         selections: &'a Selections,
         pcr_digest: &'a Digest,
         update_counter: Option<u32>,
     },
-    /// One of these digests.
+    /// That the policy is one of those with these digests.
     Or(&'a OrDigests),
-    /// The code of the command.
+    /// That the command has this code, TPM_CC.
     Code(u32),
-    /// The authorization value of the entity.
+    /// That the authorization value of the entity is known.
     AuthValue,
 }
 
@@ -58,7 +58,7 @@ impl Policy {
         ensures { result ≡ policy_of alg [] }
     {
         Policy {
-            digest: zeros(alg),
+            digest: empty_policy(alg),
             code: None,
             update_counter: None,
             auth_value: false,
@@ -69,7 +69,7 @@ impl Policy {
     pub(crate) fn assert(&mut self, alg: Alg, assertion: &Assertion<'_>)
         ensures { self.new ≡ policy_after alg (as_assertion assertion.now) self.old }
     {
-        self.digest = extended(alg, assertion, self.digest.as_slice());
+        self.digest = extend_policy(alg, assertion, self.digest.as_slice());
         match assertion {
             Assertion::Pcr { update_counter, .. } => {
                 self.update_counter = update_counter.or(self.update_counter)
@@ -81,9 +81,9 @@ impl Policy {
     }
 }
 
-/// As many zeros as a digest has.
-fn zeros(alg: Alg) -> Digest
-    ensures { result ≡ zeros_of alg }
+/// The digest of a policy that asserts nothing, in this hash: as many zeros as its digests have (Part 3, 23.1 and 11.2).
+pub fn empty_policy(alg: Alg) -> Digest
+    ensures { result ≡ policy_digest alg [] }
 {
     match Digest::new(&[0; DIGEST_BYTES][..alg.digest_len()]) {
         Some(digest) => digest,
@@ -91,8 +91,9 @@ fn zeros(alg: Alg) -> Digest
     }
 }
 
-// The policy digest after an assertion.
-fn extended(alg: Alg, assertion: &Assertion<'_>, old: &[u8]) -> Digest
+/// The digest of a policy in this hash that asserts this too, by the digest `old` of what it asserts before: as TPM2_PolicyPCR,
+/// TPM2_PolicyOR, TPM2_PolicyCommandCode and TPM2_PolicyAuthValue extend it (Part 3, 23.7, 23.6, 23.11 and 23.17).
+pub fn extend_policy(alg: Alg, assertion: &Assertion<'_>, old: &[u8]) -> Digest
     ensures { result ≡ asserted alg (as_assertion assertion.now) old.now }
 {
     match assertion {
@@ -132,7 +133,7 @@ fn after_registers(alg: Alg, selections: &Selections, pcr_digest: &[u8], old: &[
 fn after_choice(alg: Alg, digests: &OrDigests) -> Digest
     ensures { result ≡ asserted alg (OrAsserted digests.now) [] }
 {
-    let zeros = zeros(alg);
+    let zeros = empty_policy(alg);
     let code = CommandCode::PolicyOr.number().to_be_bytes();
     let mut parts: ArrayVec<&[u8], OR_PARTS> = ArrayVec::new();
     parts.push(zeros.as_slice());
