@@ -70,7 +70,7 @@ holds() {
 
 # hosted: the programs with the C library, over the archive.
 hosted() {
-    for example in device log session view; do
+    for example in device log policy session view; do
         "$compiler" -std=c99 -O2 -Wall -Wextra -pedantic -Werror -Iinclude -o "$room/$example" "examples/$example.c" "$archive" || return 1
     done
 }
@@ -188,6 +188,11 @@ same_quotes() {
     says cut_by_a_byte "$quoted" sha256 log Truncated at 211
 }
 
+# same_policies: the digest of a policy in each hash, as Python's hashlib gives it, and what is refused.
+same_policies() {
+    "$room/policy" >"$room/out" && cmp "$room/out" checks/policy.txt
+}
+
 # same_session: a caller and a device in one process, by C and by crate using, which writes these seven lines last.
 same_session() {
     "$room/session" >"$room/out" && tail -n 7 crates/using/stdout | cmp - "$room/out"
@@ -227,6 +232,7 @@ else
     holds "too small a room, and no command, through C" other_answers
     holds "the logs through C give their registers and faults" same_logs
     holds "quotes beside a log through C" same_quotes
+    holds "the digest of a policy through C" same_policies
     holds "a session is held through C" same_session
     name="the archive needs memcpy, memmove and memset alone"
     others=$(undefined | tr ' ' '\n' | grep -v -x -e memcpy -e memmove -e memset -e '' | tr '\n' ' ')

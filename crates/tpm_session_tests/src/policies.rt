@@ -1,7 +1,67 @@
 //! What policy sessions assert, and what they refuse. A script's line is told in `scripts`.
 
 use crate::scripts::run;
+use crate::texts::bytes;
+use std::process::Abort;
 use std::test::*;
+use tpm_session::{Assertion, empty_policy, extend_policy};
+use tpm_types::{Alg, Digest, OrDigests, Selections};
+use tpm_wire::{Cursor, Wire};
+
+// The value that these bytes spell.
+fn taken<T: Wire + Drop>(rt: &impl Abort, text: &str) -> T {
+    let bytes = bytes(rt, text);
+    let mut cursor = Cursor::new(bytes.as_slice());
+    match T::take(&mut cursor) {
+        Ok(value) => value,
+        Err(_) => panic!(rt; "{text}"),
+    }
+}
+
+// What the assertion makes of the digest of no assertion, in SHA-256.
+fn comes_to(rt: &impl Abort, assertion: &Assertion<'_>, digest: &str) {
+    let old = empty_policy(Alg::Sha256);
+    let new = extend_policy(Alg::Sha256, assertion, old.as_slice());
+    assert!(rt; new.as_slice() == bytes(rt, digest).as_slice(), "{digest}");
+}
+
+#[test]
+fn a_digest_is_extended_without_a_session(rt: HostRuntime) {
+    let selections: Selections = taken(&rt, "00000001000b03000081");
+    let pcr_digest: Digest = taken(
+        &rt,
+        "0020f5a5fd42d16a20302798ef6ed309979b43003d2320d9f0e8ea9831a92759fb4b",
+    );
+    let registers = Assertion::Pcr {
+        selections: &selections,
+        pcr_digest: &pcr_digest,
+        update_counter: None,
+    };
+    comes_to(
+        &rt,
+        &registers,
+        "599a9cca81c171e404e4afc462e7415ee799c498b00ff6edb68d07de1dc47a20",
+    );
+    comes_to(
+        &rt,
+        &Assertion::Code(0x134),
+        "e8c02d3c5e701670cbaa327db1a2e9f3f41b2c22793e5c669a6e7f44b912f6c0",
+    );
+    comes_to(
+        &rt,
+        &Assertion::AuthValue,
+        "8fcd2169ab92694e0c633f1ab772842b8241bbc20288981fc7ac1eddc1fddb0e",
+    );
+    let digests: OrDigests = taken(
+        &rt,
+        "0000000200208fcd2169ab92694e0c633f1ab772842b8241bbc20288981fc7ac1eddc1fddb0e0020e8c02d3c5e701670cbaa327db1a2e9f3f41b2c22793e5c669a6e7f44b912f6c0",
+    );
+    comes_to(
+        &rt,
+        &Assertion::Or(&digests),
+        "cfd7952867f0335963f7c257f10de088258bdf1d89410ad3e0cf03583b0d9c3d",
+    );
+}
 
 #[test]
 fn policies_come_to_the_digests_of_another_implementation(rt: HostRuntime) {
