@@ -5,7 +5,7 @@ use Rattle.tpm_types.specs.declared.alg.Alg.{Alg}
 use Rattle.tpm_types.specs.declared.tpms.Selection.{Selection}
 use Rattle.tpm_types.specs.Alg.{alg_of, digest_len}
 use Rattle.tpm_model.specs.Policies.{Assertion, asserted, policy_digest}
-use Rattle.tpm_model.specs.Policies.Assertion.{PcrAsserted, OrAsserted}
+use Rattle.tpm_model.specs.Policies.Assertion.{PcrAsserted}
 use Rattle.tpm_c.specs.declared.part.TpmRefusal.{TpmRefusal}
 use Rattle.tpm_c.specs.declared.policy.TpmPolicy.{TpmPolicy}
 use Rattle.tpm_c.specs.Parts.{refusal_of}
