@@ -4,4 +4,6 @@
 #[cfg(test)]
 mod logs;
 #[cfg(test)]
+mod pieces;
+#[cfg(test)]
 mod sources;
