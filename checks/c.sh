@@ -154,14 +154,14 @@ same_stream() {
     cmp "$room/out.stream" "$room/out.wanted.stream"
 }
 
-# same_logs: each log of checks/logs gives the registers of its list, or its fault.
+# same_logs WORD..: each log of checks/logs gives the registers of its list, or its fault, by the C program with these words.
 same_logs() {
     for list in checks/logs/*.registers; do
-        "$room/log" <"${list%.registers}.log" >"$room/out" && cmp "$room/out" "$list" || return 1
+        "$room/log" "$@" <"${list%.registers}.log" >"$room/out" && cmp "$room/out" "$list" || return 1
     done
     while read -r log kind at; do
         echo "log $kind at $at" >"$room/out.wanted"
-        "$room/log" <"checks/logs/$log.log" >"$room/out"
+        "$room/log" "$@" <"checks/logs/$log.log" >"$room/out"
         cmp "$room/out" "$room/out.wanted" || return 1
     done <checks/logs/faults.txt
 }
@@ -231,6 +231,8 @@ else
     holds "commands joined through C are those of tpmtool" same_cases checks/build.txt
     holds "too small a room, and no command, through C" other_answers
     holds "the logs through C give their registers and faults" same_logs
+    holds "the logs through C byte by byte" same_logs 1
+    holds "the logs through C in pieces of 100 bytes" same_logs 100
     holds "quotes beside a log through C" same_quotes
     holds "the digest of a policy through C" same_policies
     holds "a session is held through C" same_session

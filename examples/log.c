@@ -1,15 +1,18 @@
 /* A log of a measured boot from standard input: the registers that it gives, as `tpmtool check` prints them, or the log's fault.
  *
- * With the information of a quote in hexadecimal it says what the quote says of them, by its digest under this hash.
+ * With a number the log is replayed in pieces of so many bytes as they are read, and none of it is kept. With the information of
+ * a quote in hexadecimal it says what the quote says of the registers, by its digest under this hash.
  *
- *     log [QUOTE_HEX sha1|sha256|sha384]
+ *     log [PIECE_BYTES | QUOTE_HEX sha1|sha256|sha384]
  */
 #include "vinjakwe.h"
 
 #include <stdio.h>
+#include <stdlib.h>
 #include <string.h>
 
 static uint8_t bytes[1 << 20], registers[TPM_REGISTERS_BYTES], quote[TPM_BUFFER_BYTES];
+static uint64_t replay_room[1024];
 
 static const char *const kinds[] = {"Done", "Truncated", "TooLong", "NotCryptoAgile", "BadHeader", "DuplicateAlgorithm", "WrongDigestSize", "UnknownAlgorithm", "RepeatedDigest", "BadRegister", "BadLocality", "LateLocality"};
 
@@ -58,12 +61,39 @@ static int check(size_t len, const char *text, const char *name) {
     return said != TPM_QUOTE_MATCHES;
 }
 
+/* Replays the log in pieces of this size, as they are read. */
+static uint32_t replay_in_pieces(size_t size, uint32_t *at) {
+    struct tpm_log_replay *replay = (struct tpm_log_replay *)(void *)replay_room;
+    if (tpm_log_replay_size() > sizeof replay_room || sizeof(uint64_t) % tpm_log_replay_align() != 0) {
+        fprintf(stderr, "log: a replay needs more room\n");
+        exit(2);
+    }
+    tpm_log_replay_init(replay);
+    for (;;) {
+        size_t len = fread(bytes, 1, size, stdin);
+        if (len == 0)
+            return tpm_log_replay_end(replay, registers, at);
+        uint32_t kind = tpm_log_replay_feed(replay, bytes, len, at);
+        if (kind != TPM_LOG_DONE)
+            return kind;
+    }
+}
+
 int main(int argc, char **argv) {
-    uint32_t at;
-    size_t len = fread(bytes, 1, sizeof bytes, stdin);
-    if (argc > 2)
-        return check(len, argv[1], argv[2]);
-    uint32_t kind = tpm_log_replay(bytes, len, registers, &at);
+    uint32_t at, kind;
+    if (argc == 2) {
+        size_t size = (size_t)strtoul(argv[1], NULL, 10);
+        if (size == 0 || size > sizeof bytes) {
+            fprintf(stderr, "log: a piece has 1 to %lu bytes\n", (unsigned long)sizeof bytes);
+            return 2;
+        }
+        kind = replay_in_pieces(size, &at);
+    } else {
+        size_t len = fread(bytes, 1, sizeof bytes, stdin);
+        if (argc > 2)
+            return check(len, argv[1], argv[2]);
+        kind = tpm_log_replay(bytes, len, registers, &at);
+    }
     if (kind != TPM_LOG_DONE)
         return print_fault(kind, at);
     print_registers();

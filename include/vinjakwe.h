@@ -2,9 +2,9 @@
  * nothing is kept between calls but what lies in the caller's memory. docs/USING.md says how the archive is built.
  *
  * For every function: a pointer is not null, even where the length beside it is 0; bytes that are read or written are so many as
- * the length beside the pointer says, and no two of a call overlap. A device, a framer or a caller lies in room of tpm_.._size()
- * bytes at a multiple of tpm_.._align(); it is used from init on, by one call at a time, and nothing else writes to it and nothing
- * copies it while it is used. What is proved holds of calls that keep this; nothing checks it. */
+ * the length beside the pointer says, and no two of a call overlap. A device, a framer, a replay or a caller lies in room of
+ * tpm_.._size() bytes at a multiple of tpm_.._align(); it is used from init on, by one call at a time, and nothing else writes to
+ * it and nothing copies it while it is used. What is proved holds of calls that keep this; nothing checks it. */
 #ifndef VINJAKWE_H
 #define VINJAKWE_H
 
@@ -191,6 +191,25 @@ uint32_t tpm_command_build(uint32_t command, const uint8_t *handles, size_t hand
  * `registers` has TPM_REGISTERS_BYTES. Otherwise it answers the log's first fault, writes to `at` how many bytes precede the token
  * that has it, and leaves the registers as they were. */
 uint32_t tpm_log_replay(const uint8_t *log, size_t len, uint8_t *registers, uint32_t *at);
+
+/* A replay of a log that comes in pieces, however it is cut. */
+struct tpm_log_replay;
+
+/* How many bytes a replay takes, and at a multiple of which number it lies. */
+size_t tpm_log_replay_size(void);
+size_t tpm_log_replay_align(void);
+
+/* Makes a replay in the room, which was fed nothing. */
+void tpm_log_replay_init(struct tpm_log_replay *place);
+
+/* Takes the next bytes of the log, of which there may be none, and answers TPM_LOG_DONE. Where the log has a fault, whatever comes
+ * behind these bytes, it answers that fault, and writes to `at` how many bytes of the log precede the token that has it. So does
+ * each later call until the end: what is fed then is not looked at. */
+uint32_t tpm_log_replay_feed(struct tpm_log_replay *replay, const uint8_t *piece, size_t len, uint32_t *at);
+
+/* Ends the log behind the bytes that were fed, and answers and writes what tpm_log_replay does for them. The replay was then fed
+ * nothing, and another log can come. */
+uint32_t tpm_log_replay_end(struct tpm_log_replay *replay, uint8_t *registers, uint32_t *at);
 
 /* What is said of a quote beside a log: its digest is that of the registers, or another; or the bytes are none; or there is no
  * bank of that hash. */

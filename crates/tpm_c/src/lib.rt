@@ -7,6 +7,7 @@ mod command;
 mod device;
 mod framer;
 mod log;
+mod log_pieces;
 mod out;
 mod part;
 mod policy;
@@ -27,6 +28,10 @@ pub use framer::{
     tpm_framer_size,
 };
 pub use log::tpm_log_replay;
+pub use log_pieces::{
+    tpm_log_replay_align, tpm_log_replay_end, tpm_log_replay_feed, tpm_log_replay_init,
+    tpm_log_replay_size,
+};
 pub use part::{TpmPart, TpmRefusal};
 pub use policy::{
     TpmPolicy, tpm_policy_auth_value, tpm_policy_command_code, tpm_policy_or, tpm_policy_pcr,
