@@ -1,5 +1,5 @@
 -- What `show --fields` prints: each parameter by its name and its type (this profile).
-use Rattle.std.specs.Prelude.{◌≡◌, ℕ, List, [], ◌∷◌, ◌++◌, length, codes as text, Option, Some, None}
+use Rattle.std.specs.Prelude.{◌≡◌, ℕ, List, [], ◌∷◌, ◌++◌, length, codes as text, Option}
 use Rattle.tpm_wire.specs.declared.refusal.Refusal.{Refusal}
 use Rattle.tpm_wire.specs.Buffers.{Layout}
 use Rattle.tpm_wire.specs.Layout.Form.{field}
@@ -20,7 +20,8 @@ use Rattle.tpm_buffer.specs.ResponseAreas.{handle_of}
 use Rattle.tpm_buffer.specs.Responses.{ReplyCut, reply_cut, response}
 use Rattle.tpm_tool.specs.declared.status.Status.{Status}
 use Rattle.tpm_tool.specs.declared.status.Status.TheVariants.{Done, Refused}
-use Rattle.tpm_tool.specs.Text.{line, lines_from, bytes_in, bytes_text, command_text, parameters_line, refusal_line, not_hexadecimal_line}
+use Rattle.tpm_tool.specs.Text.{line, lines_from, bytes_in, bytes_text, command_text, parameters_line, refusal_line}
+use Rattle.tpm_tool.specs.Show.{ShowsDecoded}
 use Rattle.tpm_tool.specs.ReplyText.{reply_line, reply_handle_line, reply_session_line, reply_code_line}
 
 -- ---- the parameters by their names and their types (Part 3, the command table and the response table of each command), where a
@@ -133,15 +134,6 @@ ShowsReply code bytes Done text = (r : Response) × (areas : ReplyCut) × Spells
     × (text ≡ response_fields_text code (length bytes) areas r)
 ShowsReply code bytes Refused text = (refusal : Refusal) × Fault (response code) bytes refusal × (text ≡ refusal_line refusal)
 
--- Where a command is named they are a response to it, and else a command.
-abbrev pub ShowsAs : Option CommandCode → List ℕ → Status → List ℕ → Type 0
-ShowsAs None bytes status text = ShowsCommand bytes status text
-ShowsAs (Some code) bytes status text = ShowsReply code bytes status text
-
-abbrev pub ShowsDecoded : Option CommandCode → Option (List ℕ) → Status → List ℕ → Type 0
-ShowsDecoded reply (Some bytes) status text = ShowsAs reply bytes status text
-ShowsDecoded reply None status text = (status ≡ Refused) × (text ≡ not_hexadecimal_line)
-
 -- For this text of digits, read as a response to this command where one is named, this is the status and what is printed.
 abbrev pub ShowsFields : Option CommandCode → List ℕ → Status → List ℕ → Type 0
-ShowsFields reply hex status text = ShowsDecoded reply (bytes_in hex) status text
+ShowsFields reply hex status text = ShowsDecoded ShowsCommand ShowsReply reply (bytes_in hex) status text

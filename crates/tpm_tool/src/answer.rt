@@ -2,7 +2,7 @@
 
 ghost use Rattle.std.specs.Prelude.{◌≡◌, IfOk, OnOk, string_bytes};
 ghost use Rattle.std.specs.Io.KnownBytes.{Appends};
-ghost use Rattle.tpm_tool.specs.declared.status.Status.TheVariants.{Refused};
+ghost use Rattle.tpm_tool.specs.declared.status.Status.TheVariants.{Done, Refused};
 ghost use Rattle.tpm_tool.specs.Faults.{FailsByMemoryOrWrite};
 ghost use Rattle.tpm_tool.specs.Text.{not_hexadecimal_line};
 
@@ -23,6 +23,16 @@ pub(crate) struct Answer {
 impl Answer {
     ghost use Rattle.tpm_tool.specs.Text.{refusal_line};
 
+    /// A text of what was asked for.
+    pub(crate) fn done(text: String) -> Self
+        ensures { (result.status ≡ Done) × (result.text ≡ text) }
+    {
+        Answer {
+            status: Status::Done,
+            text,
+        }
+    }
+
     /// The line of a refusal.
     pub(crate) fn refusal(alloc: Global, refusal: &Refusal) -> Result<Self, AllocError>
         ensures { IfOk result (λ a. (a.status ≡ Refused) × (string_bytes a.text ≡ refusal_line refusal.now)) }
@@ -35,15 +45,19 @@ impl Answer {
         })
     }
 
+    /// This text, line feeds and all, with this status.
+    pub(crate) fn of(alloc: Global, status: Status, text: &str) -> Result<Self, AllocError>
+        ensures { IfOk result (λ a. (a.status ≡ status) × (string_bytes a.text ≡ text.now)) }
+    {
+        let text = String::from_str(alloc, text)?;
+        Ok(Answer { status, text })
+    }
+
     /// That a text is not hexadecimal.
     pub(crate) fn not_hexadecimal(alloc: Global) -> Result<Self, AllocError>
         ensures { IfOk result (λ a. (a.status ≡ Refused) × (string_bytes a.text ≡ not_hexadecimal_line)) }
     {
-        let text = String::from_str(alloc, "not hexadecimal\n")?;
-        Ok(Answer {
-            status: Status::Refused,
-            text,
-        })
+        Answer::of(alloc, Status::Refused, "not hexadecimal\n")
     }
 
     /// Writes the text, and answers the status.

@@ -34,10 +34,7 @@ fn answer_to_buffer(alloc: Global, bytes: &[u8]) -> Result<Answer, AllocError>
         Ok(_) => {
             let mut text = String::new(alloc);
             push_bytes(alloc, &mut text, bytes)?;
-            Ok(Answer {
-                status: Status::Done,
-                text,
-            })
+            Ok(Answer::done(text))
         }
         Err(refusal) => Answer::refusal(alloc, &refusal),
     }

@@ -600,19 +600,12 @@ fn push_meaning(text: &mut String, code: u32, meaning: &Meaning) -> Result<(), A
 fn answer(alloc: Global, code: u32) -> Result<Answer, AllocError>
     ensures { IfOk result (λ a. (a.status ≡ explain_status code) × (string_bytes a.text ≡ explanation code)) }
 {
-    let mut text = String::new(alloc);
     let Some(meaning) = code_meaning(code) else {
-        text.push_str("unknown response code\n")?;
-        return Ok(Answer {
-            status: Status::Refused,
-            text,
-        });
+        return Answer::of(alloc, Status::Refused, "unknown response code\n");
     };
+    let mut text = String::new(alloc);
     push_meaning(&mut text, code, meaning)?;
-    Ok(Answer {
-        status: Status::Done,
-        text,
-    })
+    Ok(Answer::done(text))
 }
 
 /// Prints what a response code says: `TPM_RC_NAME: WORDS`, or `TPM_RC_NAME for SUBJECT N: WORDS` where it has the number of a

@@ -1,44 +1,29 @@
 //! The subcommand `show`.
 
-ghost use Rattle.std.specs.Prelude.{◌≡◌, ℕ, List, IfOk, IfErr, string_bytes};
+ghost use Rattle.std.specs.Prelude.{ℕ, List, IfOk, string_bytes};
 ghost use Rattle.std.specs.Io.KnownBytes.{Appends};
-ghost use Rattle.tpm_wire.specs.Path.{Fault};
-ghost use Rattle.tpm_buffer.specs.Commands.{command};
 ghost use Rattle.tpm_tool.specs.Faults.{FailsByMemoryOrWrite};
-ghost use Rattle.tpm_tool.specs.Show.{HasAreas, Shows, ShowsBytes};
+ghost use Rattle.tpm_tool.specs.Show.{Shows, ShowsBytes};
 
 use crate::answer::Answer;
 use crate::fault::ToolFault;
 use crate::hexadecimal::decoded;
+use crate::shown_fields::command_and_areas;
 use crate::shown_reply::answer_to_reply;
 use crate::status::Status;
 use crate::text::push_command;
 use std::alloc::{AllocError, Global};
 use std::io::Write;
-use tpm_buffer::{Areas, CommandCode, areas, decode_command, fault_before_params};
-use tpm_wire::Refusal;
-
-// The areas of a command that the bytes spell.
-fn areas_of_command(bytes: &[u8]) -> Result<Areas<'_>, Refusal>
-    ensures ok { IfOk result (HasAreas bytes.now) }
-    ensures err { IfErr result (λ e. Fault command bytes.now e) }
-{
-    decode_command(bytes)?;
-    fault_before_params();
-    areas(bytes)
-}
+use tpm_buffer::CommandCode;
 
 fn answer_to_bytes(alloc: Global, bytes: &[u8]) -> Result<Answer, AllocError>
     ensures { IfOk result (λ a. ShowsBytes bytes.now a.status (string_bytes a.text)) }
 {
-    match areas_of_command(bytes) {
-        Ok(areas) => {
+    match command_and_areas(bytes) {
+        Ok((_, areas)) => {
             let mut text = String::new(alloc);
             push_command(alloc, &mut text, bytes.len(), &areas)?;
-            Ok(Answer {
-                status: Status::Done,
-                text,
-            })
+            Ok(Answer::done(text))
         }
         Err(refusal) => Answer::refusal(alloc, &refusal),
     }

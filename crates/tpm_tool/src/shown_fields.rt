@@ -26,8 +26,8 @@ use tpm_wire::Refusal;
 
 // ---- a command
 
-// The command that the bytes spell, and its areas.
-fn command_and_areas(bytes: &[u8]) -> Result<(Command<'_>, Areas<'_>), Refusal>
+/// The command that the bytes spell, and its areas.
+pub(crate) fn command_and_areas(bytes: &[u8]) -> Result<(Command<'_>, Areas<'_>), Refusal>
     ensures ok { IfOk result (λ x. Spells command x.0 bytes.now × HasCut bytes.now x.1) }
     ensures err { IfErr result (λ e. Fault command bytes.now e) }
 {
@@ -58,10 +58,7 @@ fn answer_to_command(alloc: Global, bytes: &[u8]) -> Result<Answer, AllocError>
         Ok((command, areas)) => {
             let mut text = String::new(alloc);
             push_command_text(alloc, &mut text, bytes.len(), &areas, &command.body)?;
-            Ok(Answer {
-                status: Status::Done,
-                text,
-            })
+            Ok(Answer::done(text))
         }
         Err(refusal) => Answer::refusal(alloc, &refusal),
     }
@@ -69,8 +66,8 @@ fn answer_to_command(alloc: Global, bytes: &[u8]) -> Result<Answer, AllocError>
 
 // ---- a response
 
-// The response to this command that the bytes spell, and its areas.
-fn response_and_areas(
+/// The response to this command that the bytes spell, and its areas.
+pub(crate) fn response_and_areas(
     command: CommandCode,
     bytes: &[u8],
 ) -> Result<(Response, ReplyAreas<'_>), Refusal>
@@ -124,10 +121,7 @@ fn answer_to_reply(alloc: Global, command: CommandCode, bytes: &[u8]) -> Result<
         Ok((response, areas)) => {
             let mut text = String::new(alloc);
             push_response_text(alloc, &mut text, command, bytes.len(), &areas, &response)?;
-            Ok(Answer {
-                status: Status::Done,
-                text,
-            })
+            Ok(Answer::done(text))
         }
         Err(refusal) => Answer::refusal(alloc, &refusal),
     }
