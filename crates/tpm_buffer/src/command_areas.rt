@@ -137,6 +137,7 @@ impl<'a> Handled<'a> {
 
     /// Reads the sessions, or answers the authorization area's first fault: INSUFFICIENT, AUTHSIZE, or one of a
     /// session with the session's number. The parameters are not judged.
+    #[inline(always)]
     pub fn areas(self) -> Result<Areas<'a>, Refusal>
         ensures decodes { HasAreas self.entry result }
         ensures reads { IsAreas self.entry result }
@@ -145,6 +146,7 @@ impl<'a> Handled<'a> {
     }
 }
 
+#[inline(always)]
 fn read_sessions(handled: Handled<'_>) -> Result<Areas<'_>, Refusal>
     ensures { IsAreas handled.entry result }
 {

@@ -332,7 +332,10 @@ fn read_params<'a>(
     ensures spelled { OnOk result (cursor.old.here.rest ≡ spelling (parameters code) params.new ++ cursor.new.here.rest) }
     ensures code { OnOk result (params_code params.new ≡ code) }
 {
-    params.begin(code);
+    // (digests that are there already are read over, and not made anew first)
+    if !matches!((code, &*params), (CommandCode::PcrExtend, Params::PcrExtend(_))) {
+        params.begin(code);
+    }
     params.read(cursor)
 }
 

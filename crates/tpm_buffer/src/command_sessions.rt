@@ -73,6 +73,7 @@ impl<'a> AuthRef<'a> {
 
 // The session that begins here.
 #[tactic(auto, unfolding(tpm_types::specs::Tpms::auth_command))]
+#[inline(always)]
 fn take_session<'a>(cursor: &mut Cursor<'a>) -> Result<AuthRef<'a>, Refusal>
     ensures reads { Takes auth_command cursor.old cursor.new result }
     ensures spelled { IfOk result (λ a. cursor.old.here.rest ≡ spelling auth_command a ++ cursor.new.here.rest) }
@@ -120,6 +121,7 @@ fn take_sessions(cursor: &mut Cursor<'_>, bytes: &[u8]) -> Result<ArrayVec<u32, 
 }
 
 #[tactic(auto, unfolding(crate::specs::Commands::authorization_size))]
+#[inline(always)]
 fn take_authorization_size(cursor: &mut Cursor<'_>) -> Result<u32, Refusal>
     requires { cursor.old.number ≡ 0 }
     ensures reads { Takes authorization_size cursor.old cursor.new result }
@@ -166,6 +168,7 @@ pub(crate) fn take_authorization(
 
 // Reads the sessions to the end of the area in the place of others: at most three.
 #[tactic(auto, unfolding(crate::specs::Commands::sessions))]
+#[inline(always)]
 fn read_sessions(cursor: &mut Cursor<'_>, auths: &mut ArrayVec<Auth, 3>) -> Result<(), Refusal>
     ensures reads { TakesNumbered (λ _. auths.new.items) sessions cursor.old cursor.new result }
     ensures spelled { OnOk result (cursor.old.here.rest ≡ spelling sessions auths.new.items ++ cursor.new.here.rest) }

@@ -16,7 +16,7 @@ use crate::reply::put_refusal;
 use tpm_buffer::{Areas, AuthRef, CommandCode, Params, ReplyBody, decode_params_into, header};
 use tpm_session::Sessions;
 use tpm_store::{Counters, Registers};
-use tpm_types::AuthValue;
+use tpm_types::{AuthValue, DigestValues};
 use tpm_wire::{Buffer, Duplicate};
 
 /// A device of this profile.
@@ -147,7 +147,7 @@ impl Device {
         ensures done { OnOk result (code_in out.new.items ≡ 0) }
         ensures none { OnErr result (out.new ≡ out.old) }
     {
-        let mut params = Params::PolicyRestart;
+        let mut params = Params::PcrExtend(DigestValues::default());
         match decode_params_into(areas.code(), areas.params(), &mut params) {
             Ok(()) => self.done(areas, auth, &params, nonce, out),
             Err(refusal) => Err(refusal.code),

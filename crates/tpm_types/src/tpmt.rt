@@ -1,6 +1,6 @@
 //! Structures by a choice: TPMT (Part 2, 10.3 and 11.1).
 
-ghost use Rattle.std.specs.Prelude.{◌≡◌, ◌≢◌, ◌≤◌, length, Some, MatchOption};
+ghost use Rattle.std.specs.Prelude.{◌≡◌, ◌≢◌, ◌≤◌, length, replicate, Some, MatchOption};
 ghost use Rattle.tpm_types.specs.Alg.{digest_len, IsDigestValue};
 ghost use Rattle.tpm_types.specs.Limits.{digest_bytes};
 
@@ -68,7 +68,9 @@ impl Duplicate for HashedDigest {
 
 /// Zeros under SHA-1.
 impl Default for HashedDigest {
-    fn default() -> Self {
+    fn default() -> Self
+        ensures { result ≡ (Alg.Sha1, replicate (digest_len Alg.Sha1) 0) }
+    {
         HashedDigest {
             hash: Alg::Sha1,
             bytes: [0; DIGEST_BYTES],
