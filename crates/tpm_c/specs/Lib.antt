@@ -9,4 +9,5 @@ pub mod Parts
 pub mod Policies
 pub mod Quotes
 pub mod ResponseViews
+pub mod Rooms
 pub mod Written

@@ -1,11 +1,12 @@
 //! A device in the caller's memory.
 
-ghost use Rattle.std.specs.Prelude.{◌≤◌, [], ◌∷◌, length};
+ghost use Rattle.std.specs.Prelude.{◌≡◌, ◌≤◌, [], ◌∷◌, length};
 ghost use Rattle.std.specs.Borrow.{sem};
 ghost use denote.RawPtr.{room_at};
 ghost use Rattle.tpm_types.specs.Limits.{digest_bytes};
 ghost use Rattle.tpm_model.specs.Steps.{History, Origin, PowerCycle};
 ghost use Rattle.tpm_device.specs.contracts.device.Device.{the_row};
+ghost use Rattle.tpm_c.specs.Rooms.{room_size, room_align};
 ghost use Rattle.tpm_device.specs.Stands.{Stands};
 ghost use Rattle.tpm_c.specs.Written.{IsIn};
 ghost use Rattle.tpm_c.specs.Devices.{device_at, made_at, IsWhetherFits, after, written};
@@ -19,13 +20,17 @@ const BUFFER_BYTES: usize = 4096;
 
 /// How many bytes a device takes.
 #[unsafe(no_mangle)]
-pub extern "C" fn tpm_device_size() -> usize {
+pub extern "C" fn tpm_device_size() -> usize
+    ensures { result ≡ room_size the_row }
+{
     size_of::<Device>()
 }
 
 /// At a multiple of which number of bytes it lies.
 #[unsafe(no_mangle)]
-pub extern "C" fn tpm_device_align() -> usize {
+pub extern "C" fn tpm_device_align() -> usize
+    ensures { result ≡ room_align the_row }
+{
     align_of::<Device>()
 }
 

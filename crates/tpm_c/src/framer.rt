@@ -6,6 +6,7 @@ ghost use denote.RawPtr.{room_at};
 ghost use Rattle.tpm_buffer.specs.Frames.{Pushes, Advances};
 ghost use Rattle.tpm_buffer.specs.declared.framer.Status.{Status as StatusOf};
 ghost use Rattle.tpm_buffer.specs.contracts.framer.Framer.{the_row};
+ghost use Rattle.tpm_c.specs.Rooms.{room_size, room_align};
 ghost use Rattle.tpm_c.specs.Framers.{framer_at, next_at, pushed_at, status_number, FrameIn};
 
 use crate::out::put;
@@ -13,13 +14,17 @@ use tpm_buffer::{Framer, Status};
 
 /// How many bytes a framer takes.
 #[unsafe(no_mangle)]
-pub extern "C" fn tpm_framer_size() -> usize {
+pub extern "C" fn tpm_framer_size() -> usize
+    ensures { result ≡ room_size the_row }
+{
     size_of::<Framer>()
 }
 
 /// At a multiple of which number of bytes it lies.
 #[unsafe(no_mangle)]
-pub extern "C" fn tpm_framer_align() -> usize {
+pub extern "C" fn tpm_framer_align() -> usize
+    ensures { result ≡ room_align the_row }
+{
     align_of::<Framer>()
 }
 
