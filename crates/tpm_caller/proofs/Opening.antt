@@ -1,10 +1,9 @@
 -- What a caller finds in the bytes of a reply.
-use Rattle.std.proofs.Common.{◌≡◌, ◌≢◌, ◌↔◌, ℕ, Bool, List, [], ◌∷◌, length, Result, Ok, Err, Some, None, Option, true, false, refl, sym, ap, ◌∙◌, subst, arith}
+use Rattle.std.proofs.Common.{◌≡◌, ◌≢◌, ℕ, Bool, List, [], ◌∷◌, length, Result, Ok, Err, Some, None, Option, true, false, refl, sym, ap, ◌∙◌, subst, arith}
 use Rattle.std.specs.Prelude.{slice_get, bytes_eq}
-use Rattle.std.proofs.lemmas.Bool.{eq-eqb, ne_eqb, both_ways}
+use Rattle.std.proofs.lemmas.Bool.{eq-eqb, ne_eqb}
 use Rattle.std.proofs.lemmas.List.{append-nil}
 use Rattle.std.proofs.lemmas.Slice.Eq.{bytes_eq-Decides}
-use Rattle.arrayvec.specs.declared.ArrayVec.{ArrayVec}
 use Rattle.tpm_wire.specs.declared.refusal.Refusal.{Refusal}
 use Rattle.tpm_wire.specs.Buffers.{buffer}
 use Rattle.tpm_wire.specs.Path.{Spells, Fault}
@@ -16,7 +15,6 @@ use Rattle.tpm_types.specs.declared.tpms.AuthReply.{AuthReply}
 use Rattle.tpm_buffer.specs.declared.code.CommandCode.{CommandCode}
 use Rattle.tpm_buffer.specs.declared.response.ReplyBody.{ReplyBody}
 use Rattle.tpm_buffer.specs.declared.response.Response.{Response}
-use Rattle.tpm_buffer.specs.declared.response.Response.TheVariants as responses
 use Rattle.tpm_buffer.specs.Codes.{code_number}
 use Rattle.tpm_buffer.specs.Handles.{needs_authorization}
 use Rattle.tpm_buffer.specs.Responses.{response, done_with, ReplyCut, reply_cut}
@@ -30,7 +28,7 @@ use Rattle.tpm_model.specs.Callers.{Refused, Code, NotExpected, WrongMac, Waitin
 use Rattle.tpm_caller.specs.declared.waiting.CallerFault.{CallerFault}
 use Rattle.tpm_caller.specs.declared.waiting.CallerFault.TheVariants as faults
 use Rattle.tpm_caller.specs.Sent.{Sent, caller_with, IsSpelledBy}
-use Rattle.tpm_caller.specs.Faults.{fault_of, opening_of, giving_up_of}
+use Rattle.tpm_caller.specs.Faults.{fault_of, opening_of}
 use Rattle.tpm_caller.proofs.ReplyParams.{params_are}
 
 -- ---- the cut of a reply

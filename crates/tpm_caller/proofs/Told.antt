@@ -1,6 +1,6 @@
 -- What is opened and what is not, by what the bytes spell.
-use Rattle.std.proofs.Common.{◌≡◌, ◌≢◌, ◌↔◌, ℕ, Bool, true, false, List, [], ◌∷◌, length, Result, Ok, Err, Some, None, Option, refl, sym, ap, ◌∙◌, subst}
-use Rattle.std.specs.Prelude.{◌==◌, bytes_eq}
+use Rattle.std.proofs.Common.{◌≡◌, ◌≢◌, ◌↔◌, ℕ, Bool, true, false, List, [], ◌∷◌, length, Result, Ok, Err, Some, Option, refl, sym, ap, ◌∙◌}
+use Rattle.std.specs.Prelude.{◌==◌}
 use Rattle.std.proofs.lemmas.Bool.{eqb-true, eq-eqb, both_ways}
 use Rattle.std.proofs.lemmas.Slice.Eq.{bytes_eq-Decides}
 use Rattle.tpm_wire.specs.declared.refusal.Refusal.{Refusal}
@@ -17,8 +17,8 @@ use Rattle.tpm_buffer.specs.Responses.{response, done_with}
 use Rattle.tpm_hmac.specs.Hmac.{hmac}
 use Rattle.tpm_model.specs.InStep.{CallerSession}
 use Rattle.tpm_model.specs.Callers.{CallerFault, Refused, Code, NotExpected, WrongMac, Waiting, Opened, awaited_text, has_mac, caller_after, unless, opened_session, opened_response, opened, caller_of_refusal, given_up}
-use Rattle.tpm_caller.specs.Opens.{HasExpected, IsOpened, IsNotExpected, HasWrongMac, IsGivenUp}
-use Rattle.tpm_caller.proofs.Opening.{not_one, other_length, other_mac, is_open}
+use Rattle.tpm_caller.specs.Opens.{IsOpened, IsNotExpected, HasWrongMac, IsGivenUp}
+use Rattle.tpm_caller.proofs.Opening.{other_length, other_mac, is_open}
 
 -- ---- two tests in turn
 

@@ -1,7 +1,7 @@
 -- A key in a block.
 use Rattle.std.proofs.Common.{◌≡◌, ℕ, ◌+◌, ◌-◌, ◌≤◌, List, ◌++◌, length, take, drop, replicate, length-append, append_assoc, refl, sym, ap, ◌∙◌, arith}
 use Rattle.std.proofs.Math.Seq.{take-append-add}
-use Rattle.std.proofs.lemmas.List.{take_at, drop_at, drop-drop, drop-replicate, take-replicate, take-map}
+use Rattle.std.proofs.lemmas.List.{take_at, drop_at, drop-drop, drop-replicate, take-replicate}
 use Rattle.tpm_types.specs.declared.alg.Alg.{Alg}
 use Rattle.tpm_types.specs.declared.alg.Alg.TheVariants.{Sha1, Sha256, Sha384}
 use Rattle.tpm_types.specs.Alg.{block_len, digest_len}

@@ -1,5 +1,5 @@
 -- The values of registers after changes.
-use Rattle.std.proofs.Common.{◌≡◌, ℕ, ◌+◌, ◌-◌, ◌<◌, ◌≤◌, List, [], ◌∷◌, ◌++◌, length, map, take, drop, replicate, true, false, refl, sym, ap, ◌∙◌, arith, subst}
+use Rattle.std.proofs.Common.{◌≡◌, ℕ, ◌+◌, ◌-◌, ◌<◌, ◌≤◌, List, [], ◌∷◌, ◌++◌, map, take, replicate, true, false, refl, sym, ap, ◌∙◌, arith}
 use Rattle.std.specs.Prelude.{◌==◌, nat_le, nat_lt, ◌&&◌, filter, if◌then◌else◌}
 use Rattle.std.proofs.lemmas.Bool.Decides.{nat_tests}
 use Rattle.std.proofs.lemmas.List.{append-nil, map-append, take-replicate, drop-replicate}
@@ -8,7 +8,7 @@ use Rattle.tpm_types.specs.declared.alg.Alg.{Alg}
 use Rattle.tpm_types.specs.declared.alg.Alg.TheVariants.{Sha1, Sha256, Sha384}
 use Rattle.tpm_types.specs.Alg.{alg_number, bank_place, digest_len}
 use Rattle.tpm_hmac.specs.Hashes.{digest}
-use Rattle.tpm_model.specs.Registers.{filled_with, zeros, start_value, extended, is_of, digests_for}
+use Rattle.tpm_model.specs.Registers.{filled_with, zeros, extended, is_of, digests_for}
 use Rattle.tpm_model.specs.Registers.Change.{StartAt, Reset, Extend}
 use Rattle.tpm_store.specs.Banks.{place_of, value_at, with_value, with_values, filled_but_last, Holds, changed}
 use Rattle.tpm_store.proofs.Places.{fits, same_bank}

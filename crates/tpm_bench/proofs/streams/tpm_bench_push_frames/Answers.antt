@@ -1,4 +1,4 @@
-use Rattle.std.proofs.Common.{◌≡◌, ◌+◌, ◌++◌, ℕ, List, [], length, take, ap, sym, subst, ◌∙◌, arith}
+use Rattle.std.proofs.Common.{◌≡◌, ◌++◌, ℕ, List, [], sym, subst, ◌∙◌, arith}
 use Rattle.tpm_buffer.specs.Frames.{IsFrame, IsStatus}
 use Rattle.tpm_buffer.proofs.Framed.{short_part}
 use Rattle.tpm_buffer.proofs.Streamed.{broken_begins}

@@ -1,4 +1,4 @@
-use Rattle.std.proofs.Common.{ℕ, ◌∙◌, ap, sym, length, arith, List, [], ◌∷◌, ◌++◌, ◌*◌, ◌+◌}
+use Rattle.std.proofs.Common.{◌∙◌, sym, length, arith, ◌*◌, ◌+◌}
 use Rattle.std.proofs.lemmas.Bool.Decides.{nat_tests}
 use Rattle.tpm_store.specs.Banks.{value_at}
 use Rattle.tpm_store.proofs.Choice.{below, chosen_more, chosen_same, chosen_full, bits_more, small_still, smaller_still, values_more, count_is}

@@ -1,5 +1,4 @@
-use Rattle.std.proofs.Common.{◌≡◌, ℕ, ◌≤◌, ◌+◌, List, ◌∷◌, [], length, refl, sym, ap, ◌∙◌, subst}
-use Rattle.tpm_types.specs.Alg.{digest_len}
+use Rattle.std.proofs.Common.{◌≡◌, ℕ, List, ◌∷◌, [], length, ap, ◌∙◌, subst}
 use Rattle.tpm_types.specs.declared.tpms.Auth.{Auth}
 use Rattle.tpm_wire.specs.Spelling.{spelling, Fits}
 use Rattle.tpm_buffer.specs.declared.code.CommandCode.{CommandCode}
@@ -7,8 +6,8 @@ use Rattle.tpm_buffer.specs.declared.command.Command.{Command}
 use Rattle.tpm_buffer.specs.declared.command.CommandBody.{CommandBody}
 use Rattle.tpm_buffer.specs.Commands.{command, code_for, with_auths}
 use Rattle.tpm_model.specs.Callers.{Seal, seal_key}
-use Rattle.tpm_caller.specs.Sent.{Sent, hmac_key, hmac_at}
-use Rattle.tpm_caller.proofs.HmacPlace.{IsUnsigned, unsigned, room, signed, has_spelling}
+use Rattle.tpm_caller.specs.Sent.{Sent, hmac_key}
+use Rattle.tpm_caller.proofs.HmacPlace.{unsigned, room, signed, has_spelling}
 use Rattle.tpm_caller.proofs.caller.Caller.seal.Goals as goal
 
 abbrev as_command : CommandBody → List Auth → Command

@@ -1,8 +1,6 @@
-use Rattle.std.proofs.Common.{◌≡◌, List, Ok, Err, refl, sym, ap, ◌∙◌}
-use Rattle.tpm_buffer.specs.declared.code.CommandCode.{CommandCode}
-use Rattle.tpm_buffer.specs.declared.response.Response.TheVariants as responses
-use Rattle.tpm_model.specs.Callers.{opened_session, opened_response}
-use Rattle.tpm_caller.specs.Sent.{Sent, IsSpelledBy}
+use Rattle.std.proofs.Common.{◌≡◌, Ok, sym, ap, ◌∙◌}
+use Rattle.tpm_model.specs.Callers.{opened_response}
+use Rattle.tpm_caller.specs.Sent.{Sent}
 use Rattle.tpm_caller.specs.Faults.{opening_of}
 use Rattle.tpm_caller.proofs.Opening.{refused_is, opened_is, open_done, fault_done}
 use Rattle.tpm_caller.proofs.waiting.Waiting.open.Goals as goal

@@ -1,4 +1,4 @@
-use Rattle.std.proofs.Common.{◌≡◌, ℕ, List, get_or, length, max, Some, Ok, true, false, refl, sym, ap, ◌∙◌, rules}
+use Rattle.std.proofs.Common.{◌≡◌, List, get_or, length, max, Ok, true, false, refl, sym, ap, ◌∙◌, rules}
 use Rattle.arrayvec.proofs.ArrayVecLemmas.{items-with_items}
 use Rattle.tpm_types.specs.Tpma.{owner_writes}
 use Rattle.tpm_model.specs.Counters.{Counter, next_value}

@@ -1,6 +1,6 @@
-use Rattle.std.proofs.Common.{◌≡◌, List, ap, ◌∙◌, rules, filter, not}
+use Rattle.std.proofs.Common.{List, ap, rules, not}
 use Rattle.arrayvec.proofs.ArrayVecLemmas.{filter-from_retain}
-use Rattle.tpm_model.specs.Counters.{Counter, NvMemory, has_index, without}
+use Rattle.tpm_model.specs.Counters.{Counter, NvMemory, has_index}
 use Rattle.tpm_store.proofs.counters.Counters.undefine.Goals as goal
 
 pub returns-clause-undefined : goal.returns-clause-undefined

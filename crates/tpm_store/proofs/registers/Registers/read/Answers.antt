@@ -1,4 +1,4 @@
-use Rattle.std.proofs.Common.{◌≡◌, ◌<◌, ℕ, ap, ◌∙◌, rules}
+use Rattle.std.proofs.Common.{◌<◌, ℕ, ap, ◌∙◌, rules}
 use Rattle.tpm_model.specs.Registers.{value_in}
 use Rattle.tpm_store.proofs.Stands.{held_at}
 use Rattle.tpm_store.proofs.registers.Registers.read.Goals as goal

@@ -1,6 +1,6 @@
 use Rattle.std.proofs.Common.{◌≡◌, ◌∙◌, ap, length, length-append, take, arith, ◌∷◌, []}
 use Rattle.std.proofs.lemmas.List.{take_all}
-use Rattle.tpm_model.specs.Registers.{selections_read, values_read, value_in}
+use Rattle.tpm_model.specs.Registers.{values_read, value_in}
 use Rattle.tpm_store.specs.Banks.{value_at}
 use Rattle.tpm_store.proofs.Entries.{entries_next, values_same}
 use Rattle.tpm_store.proofs.Stands.{held_at}
