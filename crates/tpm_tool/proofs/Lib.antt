@@ -4,7 +4,6 @@ mod InputLines
 mod Scripts
 mod Nonces
 mod Comparisons
-mod Quotes
 mod Checks
 mod EventSizes
 mod EventLines

@@ -2,9 +2,8 @@
 
 use crate::print_bytes;
 use std::io;
-use tpm_log::{check_quote, replay};
-use tpm_types::{Alg, PcrIndex, QuoteInfo};
-use tpm_wire::{Cursor, Refusal, Wire};
+use tpm_log::{check_quote, decode_quote, replay};
+use tpm_types::{Alg, PcrIndex};
 
 /// A log that lists SHA-1, SHA-256 and SHA-384, with one EV_SEPARATOR at register 7.
 const LOG: [u8; 215] = [
@@ -41,15 +40,9 @@ pub fn measured(rt: &impl Print) -> io::Result<()> {
         let value = registers.read(Alg::Sha256, register);
         print_bytes(rt, value.as_slice())?;
     }
-    match quoted(&QUOTED) {
+    match decode_quote(&QUOTED) {
         Ok(quote) if check_quote(&registers, &quote, Alg::Sha256) => println!(rt; "quote matches"),
         Ok(_) => println!(rt; "quote differs"),
         Err(refusal) => println!(rt; "{:#x} at byte {}", refusal.code, refusal.at),
     }
-}
-
-/// The quote's information, whose bytes end with it.
-fn quoted(bytes: &[u8; 44]) -> Result<QuoteInfo, Refusal> {
-    let mut cursor = Cursor::new(bytes);
-    QuoteInfo::take(&mut cursor)
 }
