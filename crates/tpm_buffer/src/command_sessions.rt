@@ -1,6 +1,7 @@
 //! A command's authorization area (Part 1, "Command/Response Structure"): its sessions, by their positions in the command.
 
-ghost use Rattle.std.specs.Prelude.{◌≡◌, ◌≢◌, ◌<◌, ◌≤◌, ◌^◌, ◌++◌, IfOk, OnOk, length};
+ghost use Rattle.std.specs.Prelude.{◌≡◌, ◌≢◌, ◌<◌, ◌≤◌, ◌^◌, [], ◌∷◌, ◌++◌, IfOk, OnOk, length};
+ghost use Rattle.tpm_types.specs.declared.tpms.Auth.{Auth as AuthOf};
 ghost use Rattle.std.specs.List.{All};
 ghost use Rattle.tpm_wire.specs.Spelling.{spelling};
 ghost use Rattle.tpm_wire.specs.Buffers.{Takes, TakesNumbered};
@@ -166,6 +167,16 @@ pub(crate) fn take_authorization(
     Ok(positions)
 }
 
+// Adds a session that another one is read in the place of. It is out of line, where it is made in its place; in line it is made elsewhere and
+// copied.
+#[inline(never)]
+fn push_any(auths: &mut ArrayVec<Auth, 3>)
+    requires { length auths.old.items < 3 }
+    ensures { (a : AuthOf) × (auths.new.items ≡ auths.old.items ++ a ∷ []) }
+{
+    auths.push(Auth::default());
+}
+
 // Reads the sessions to the end of the area in the place of others: at most three.
 #[tactic(auto, unfolding(crate::specs::Commands::sessions))]
 #[inline(always)]
@@ -178,7 +189,7 @@ fn read_sessions(cursor: &mut Cursor<'_>, auths: &mut ArrayVec<Auth, 3>) -> Resu
     while cursor.left() > 0 && auths.len() < 3 {
         let last = auths.len();
         cursor.number(of_session(1 + last as u32));
-        auths.push(Auth::default());
+        push_any(auths);
         auths.as_mut_slice()[last].read(cursor)?;
     }
     Ok(())

@@ -15,7 +15,7 @@ loop-auths-preserved c =
     let entry = c.read.new.self in
     let is = at_place auth_command c.number.new.self here _ (of_session (1 + length items)) _ c.number.ensures (omega (arith, c.len-last.ensures.value)) c.in_ok-read.ensures.reads.0 in
     let more : eqb (length here.rest) 0 ≡ false = ne_eqb (length here.rest) 0 (λ e. omega (arith, e)) in
-    let all = written_last items c.push.new.self.items c.as_mut_slice.result.now c.default.result entry c.len-last.result c.push.ensures.items c.as_mut_slice.ensures.value c.len-last.ensures.value in
+    let all = written_last items c.push_any.new.auths.items c.as_mut_slice.result.now c.push_any.ensures.0 entry c.len-last.result c.push_any.ensures.1 c.as_mut_slice.ensures.value c.len-last.ensures.value in
     let len : length (items ++ entry ∷ []) ≡ length items + 1 = length-append items (entry ∷ []) in
     let text : here.rest ≡ spelling auth_command entry ++ c.read.new.cursor.here.rest = sym (ap (λ (p : Place). p.here.rest) c.number.ensures) ∙ c.in_ok-read.ensures.spelled in
     record {
