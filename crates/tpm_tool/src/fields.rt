@@ -1,6 +1,6 @@
 //! The parameters of commands and replies by their names and their types.
 
-ghost use Rattle.std.specs.Prelude.{◌≡◌, ◌++◌, ◌≤◌, OnOk, codes, string_bytes};
+ghost use Rattle.std.specs.Prelude.{◌≡◌, ◌++◌, ◌≤◌, OnOk, codes, length, string_bytes};
 ghost use Rattle.tpm_wire.specs.Spelling.{spelling};
 ghost use Rattle.tpm_wire.specs.Structures.{sized_bytes};
 ghost use Rattle.tpm_buffer.specs.Events.{event_bytes};
@@ -35,12 +35,9 @@ fn push_field<T: Wire>(
     kind: &str,
     value: &T,
 ) -> Result<(), AllocError>
-    requires { T.most ≤ 4096 }
+    requires { length (spelling T.layout value.now) ≤ 4096 }
     ensures { OnOk result (string_bytes text.new ≡ string_bytes text.old ++ field_line name.now kind.now (spelling T.layout value.now)) }
 {
-    // The length is asked for its bound alone.
-    let size = value.len();
-    prove!(size <= 4096);
     let mut bytes = Buffer::new();
     value.put(&mut bytes);
     push_bytes(alloc, text, name, kind, bytes.as_slice())
@@ -59,7 +56,7 @@ fn push_event(alloc: Global, text: &mut String, event: &Event<'_>) -> Result<(),
 }
 
 /// Adds a line for each parameter of a command: its name, its type and its bytes (Part 3, the table of the command).
-#[tactic(auto, unfolding(tpm_buffer::specs::Parameters::startup, tpm_buffer::specs::Parameters::nv_define_space, tpm_buffer::specs::Parameters::pcr_event, tpm_buffer::specs::Parameters::nv_read, tpm_buffer::specs::Parameters::flush_context, tpm_buffer::specs::Parameters::policy_command_code, tpm_buffer::specs::Parameters::policy_or, tpm_buffer::specs::Parameters::start_auth_session, tpm_buffer::specs::Parameters::pcr_read, tpm_buffer::specs::Parameters::policy_pcr, tpm_buffer::specs::Parameters::pcr_extend))]
+#[tactic(auto, unfolding(tpm_types::specs::Constants::startup_type, tpm_types::specs::Constants::session_type, tpm_types::specs::Tpm2b::encrypted_salt, tpm_buffer::specs::Parameters::startup, tpm_buffer::specs::Parameters::nv_define_space, tpm_buffer::specs::Parameters::pcr_event, tpm_buffer::specs::Parameters::nv_read, tpm_buffer::specs::Parameters::flush_context, tpm_buffer::specs::Parameters::policy_command_code, tpm_buffer::specs::Parameters::policy_or, tpm_buffer::specs::Parameters::start_auth_session, tpm_buffer::specs::Parameters::pcr_read, tpm_buffer::specs::Parameters::policy_pcr, tpm_buffer::specs::Parameters::pcr_extend))]
 pub(crate) fn push_command_fields(
     alloc: Global,
     text: &mut String,
@@ -69,6 +66,7 @@ pub(crate) fn push_command_fields(
 {
     match body {
         CommandBody::NvDefineSpace { auth, public } => {
+            prove!(auth.len() + public.len() <= 4096);
             push_field(alloc, text, "auth", "TPM2B_AUTH", auth)?;
             push_field(alloc, text, "publicInfo", "TPM2B_NV_PUBLIC", public)
         }
@@ -81,12 +79,14 @@ pub(crate) fn push_command_fields(
             push_field(alloc, text, "offset", "UINT16", offset)
         }
         CommandBody::FlushContext(session) => {
+            prove!(session.len() <= 4096);
             push_field(alloc, text, "flushHandle", "TPMI_DH_CONTEXT", session)
         }
         CommandBody::PolicyCommandCode { code, .. } => {
             push_field(alloc, text, "code", "TPM_CC", code)
         }
         CommandBody::PolicyOr { digests, .. } => {
+            prove!(digests.len() <= 4096);
             push_field(alloc, text, "pHashList", "TPML_DIGEST", digests)
         }
         CommandBody::StartAuthSession(start) => {
@@ -97,6 +97,7 @@ pub(crate) fn push_command_fields(
                 auth_hash,
                 ..
             } = start;
+            prove!(nonce_caller.len() + symmetric.len() + auth_hash.len() <= 4096);
             push_field(alloc, text, "nonceCaller", "TPM2B_NONCE", nonce_caller)?;
             push_field(
                 alloc,
@@ -109,22 +110,27 @@ pub(crate) fn push_command_fields(
             push_field(alloc, text, "symmetric", "TPMT_SYM_DEF", symmetric)?;
             push_field(alloc, text, "authHash", "TPMI_ALG_HASH", auth_hash)
         }
-        CommandBody::PcrRead(selections) => push_field(
-            alloc,
-            text,
-            "pcrSelectionIn",
-            "TPML_PCR_SELECTION",
-            selections,
-        ),
+        CommandBody::PcrRead(selections) => {
+            prove!(selections.len() <= 4096);
+            push_field(
+                alloc,
+                text,
+                "pcrSelectionIn",
+                "TPML_PCR_SELECTION",
+                selections,
+            )
+        }
         CommandBody::PolicyPcr {
             pcr_digest,
             selections,
             ..
         } => {
+            prove!(pcr_digest.len() + selections.len() <= 4096);
             push_field(alloc, text, "pcrDigest", "TPM2B_DIGEST", pcr_digest)?;
             push_field(alloc, text, "pcrs", "TPML_PCR_SELECTION", selections)
         }
         CommandBody::PcrExtend { digests, .. } => {
+            prove!(digests.len() <= 4096);
             push_field(alloc, text, "digests", "TPML_DIGEST_VALUES", digests)
         }
         CommandBody::NvUndefineSpace { .. }
@@ -148,14 +154,20 @@ pub(crate) fn push_reply_fields(
 {
     match body {
         ReplyBody::PcrEvent(digests) => {
+            prove!(digests.len() <= 4096);
             push_field(alloc, text, "digests", "TPML_DIGEST_VALUES", digests)
         }
-        ReplyBody::NvRead(data) => push_field(alloc, text, "data", "TPM2B_MAX_NV_BUFFER", data),
+        ReplyBody::NvRead(data) => {
+            prove!(data.len() <= 4096);
+            push_field(alloc, text, "data", "TPM2B_MAX_NV_BUFFER", data)
+        }
         ReplyBody::NvReadPublic { public, name } => {
+            prove!(public.len() + name.len() <= 4096);
             push_field(alloc, text, "nvPublic", "TPM2B_NV_PUBLIC", public)?;
             push_field(alloc, text, "nvName", "TPM2B_NAME", name)
         }
         ReplyBody::StartAuthSession(reply) => {
+            prove!(reply.nonce_tpm.len() <= 4096);
             push_field(alloc, text, "nonceTPM", "TPM2B_NONCE", &reply.nonce_tpm)
         }
         ReplyBody::PcrRead {
@@ -163,6 +175,7 @@ pub(crate) fn push_reply_fields(
             selections,
             digests,
         } => {
+            prove!(selections.len() + digests.len() <= 4096);
             push_field(alloc, text, "pcrUpdateCounter", "UINT32", update_counter)?;
             push_field(
                 alloc,
@@ -174,6 +187,7 @@ pub(crate) fn push_reply_fields(
             push_field(alloc, text, "pcrValues", "TPML_DIGEST", digests)
         }
         ReplyBody::PolicyGetDigest(digest) => {
+            prove!(digest.len() <= 4096);
             push_field(alloc, text, "policyDigest", "TPM2B_DIGEST", digest)
         }
         ReplyBody::NvUndefineSpace

@@ -24,7 +24,8 @@ returns-in-PolicyOr c = rw c.in-PolicyOr.is (simp append-nil c.push_field-in-Pol
 pub returns-in_ok-push_field-in-StartAuthSession-4 : goal.returns-in_ok-push_field-in-StartAuthSession-4
 unfolding start_auth_session
 returns-in_ok-push_field-in-StartAuthSession-4 c =
-    let written = simp (c.in_ok-push_field-in-StartAuthSession-4.ensures, c.in_ok-push_field-in-StartAuthSession-3.ensures, c.in_ok-push_field-in-StartAuthSession-2.ensures, c.in_ok-push_field-in-StartAuthSession.ensures, append_assoc) at c.push_field-in-StartAuthSession-5.ensures in
+    let joined = simp (c.in_ok-push_field-in-StartAuthSession-4.ensures, c.in_ok-push_field-in-StartAuthSession-3.ensures, c.in_ok-push_field-in-StartAuthSession-2.ensures, c.in_ok-push_field-in-StartAuthSession.ensures) at c.push_field-in-StartAuthSession-5.ensures in
+    let written = simp append_assoc at joined in
     rw c.in-StartAuthSession.is (simp append-nil written)
 
 pub returns-in-PcrRead : goal.returns-in-PcrRead
