@@ -333,7 +333,10 @@ fn read_params<'a>(
     ensures code { OnOk result (params_code params.new ≡ code) }
 {
     // (digests that are there already are read over, and not made anew first)
-    if !matches!((code, &*params), (CommandCode::PcrExtend, Params::PcrExtend(_))) {
+    if !matches!(
+        (code, &*params),
+        (CommandCode::PcrExtend, Params::PcrExtend(_))
+    ) {
         params.begin(code);
     }
     params.read(cursor)
