@@ -68,6 +68,7 @@ fn known_handles(body: &ReplyBody)
 // ---- parameters
 
 #[tactic(auto, unfolding(crate::specs::Replies::pcr_event_reply, crate::specs::Replies::nv_read_reply, crate::specs::Replies::nv_read_public_reply, crate::specs::Replies::start_auth_session_reply, crate::specs::Replies::pcr_read_reply, crate::specs::Replies::policy_get_digest_reply))]
+#[inline(always)]
 fn params_len(body: &ReplyBody) -> usize
     ensures value { result ≡ length (spelling (parameters_of_reply body.now) body.now) }
     ensures fits { result ≤ 3500 }
