@@ -8,6 +8,12 @@
 #ifndef VINJAKWE_H
 #define VINJAKWE_H
 
+/* The version of this header, which `tpmtool --version`, pkg-config and the installed library give, too. */
+#define VINJAKWE_VERSION "0.1.0"
+#define VINJAKWE_VERSION_MAJOR 0
+#define VINJAKWE_VERSION_MINOR 1
+#define VINJAKWE_VERSION_PATCH 0
+
 #include <stddef.h>
 #include <stdint.h>
 
@@ -202,9 +208,9 @@ size_t tpm_log_replay_align(void);
 /* Makes a replay in the room, which was fed nothing. */
 void tpm_log_replay_init(struct tpm_log_replay *place);
 
-/* Takes the next bytes of the log, of which there may be none, and answers TPM_LOG_DONE. Where the log has a fault, whatever comes
- * behind these bytes, it answers that fault, and writes to `at` how many bytes of the log precede the token that has it. So does
- * each later call until the end: what is fed then is not looked at. */
+/* Takes the next bytes of the log, of which there may be none, and answers TPM_LOG_DONE. Exactly where every log that begins with
+ * what was fed, these bytes among it, has one fault, it answers that fault, and writes to `at` how many bytes of the log precede the
+ * token that has it. So does each later call until the end: what is fed then is not looked at. */
 uint32_t tpm_log_replay_feed(struct tpm_log_replay *replay, const uint8_t *piece, size_t len, uint32_t *at);
 
 /* Ends the log behind the bytes that were fed, and answers and writes what tpm_log_replay does for them. The replay was then fed
@@ -223,6 +229,54 @@ uint32_t tpm_log_replay_end(struct tpm_log_replay *replay, uint8_t *registers, u
  * these is answered: TPM_QUOTE_NO_BANK; the log's first fault, with its place as above; TPM_QUOTE_REFUSED, with the position of
  * the first fault in `at`; TPM_QUOTE_MATCHES or TPM_QUOTE_DIFFERS. The quote's signature is not looked at. */
 uint32_t tpm_log_check_quote(const uint8_t *log, size_t len, const uint8_t *quote, size_t quote_len, uint16_t hash, uint32_t *at);
+
+/* A quote as it was signed, TPMS_ATTEST of type TPM_ST_ATTEST_QUOTE (Part 2, 10.12), by its parts in the bytes that were handed in:
+ * qualifiedSigner and extraData, the nonce, each without its size; the clock in milliseconds, resetCount, restartCount and safe, 0 or
+ * 1; firmwareVersion; pcrSelect, a TPML_PCR_SELECTION as it is spelled; and pcrDigest without its size. */
+struct tpm_attest {
+    struct tpm_part signer;
+    struct tpm_part nonce;
+    uint64_t clock;
+    uint32_t reset_count;
+    uint32_t restart_count;
+    uint8_t safe;
+    uint64_t firmware_version;
+    struct tpm_part selections;
+    struct tpm_part digest;
+};
+
+/* Cuts a quote as it was signed, whatever bytes are handed in. TPM_DONE: its parts are in `view`; TPM_REFUSED: all the bytes spell
+ * none, and their first fault is in `refusal`. What isn't written so stays as it was. */
+uint32_t tpm_attest_decode(const uint8_t *attest, size_t len, struct tpm_attest *view, struct tpm_refusal *refusal);
+
+/* What is wrong: the response code of refused bytes; how many bytes of them, or of the log, are before what is at fault; the bank
+ * (TPM_ALG_SHA1, TPM_ALG_SHA256 or TPM_ALG_SHA384) and the register that are required and not selected. What does not apply is 0. */
+struct tpm_attest_fault {
+    uint32_t code;
+    uint32_t at;
+    uint16_t hash;
+    uint32_t pcr;
+};
+
+/* What is said of a quote as it was signed, besides the faults of its log. */
+#define TPM_ATTEST_MATCHES ((uint32_t)0)      /* it is the one that was asked for */
+#define TPM_ATTEST_DIFFERS ((uint32_t)16)     /* its digest is not that of the registers */
+#define TPM_ATTEST_REFUSED ((uint32_t)17)     /* the bytes are no quote */
+#define TPM_ATTEST_NO_BANK ((uint32_t)18)     /* no bank has this hash */
+#define TPM_ATTEST_NONCE ((uint32_t)19)       /* extraData is not the nonce */
+#define TPM_ATTEST_LACKS ((uint32_t)20)       /* a required register is not selected */
+#define TPM_ATTEST_EMPTY ((uint32_t)21)       /* all else is right, and no register is selected */
+#define TPM_ATTEST_REQUIREMENT ((uint32_t)22) /* `required` is no selection */
+
+/* Replays a log, and compares a quote as it was signed with the registers that it gives, with the nonce that was sent, and with
+ * what is required: a TPML_PCR_SELECTION as it is spelled (Part 2, 10.9.7), or no bytes where nothing is. `hash` is the hash of the
+ * signature's scheme. The first of these is answered: TPM_ATTEST_NO_BANK; TPM_ATTEST_REQUIREMENT; the log's first fault,
+ * TPM_LOG_..; TPM_ATTEST_REFUSED; TPM_ATTEST_NONCE, whatever the lengths of the two; TPM_ATTEST_LACKS; TPM_ATTEST_DIFFERS;
+ * TPM_ATTEST_EMPTY; TPM_ATTEST_MATCHES. `fault` is written for the log's fault, TPM_ATTEST_REQUIREMENT, TPM_ATTEST_REFUSED and
+ * TPM_ATTEST_LACKS; else it stays as it was. The signature is not looked at, nor whose key it is. */
+uint32_t tpm_log_check_attest(const uint8_t *log, size_t len, const uint8_t *attest, size_t attest_len, uint16_t hash,
+                              const uint8_t *nonce, size_t nonce_len, const uint8_t *required, size_t required_len,
+                              struct tpm_attest_fault *fault);
 
 /* ---- a caller's end of a session (Part 1, "Session-Based Authorizations") */
 
@@ -251,7 +305,7 @@ uint32_t tpm_caller_start(struct tpm_caller *caller, const uint8_t *command, siz
  * nonceCaller, a fresh random one. With a `keep` other than 0 the session goes on after the command (continueSession).
  *
  * It answers 0, and nothing changes, where no session is free, where out_len is less than TPM_BUFFER_BYTES, where the bytes are no
- * command whose first handle needs authorization, or where a Name or the nonce is too long: more than 50 or 48 bytes. */
+ * command whose first handle needs authorization, or where the Name of a handle or the nonce is too long: more than 50 or 48 bytes. */
 size_t tpm_caller_seal(struct tpm_caller *caller, const uint8_t *command, size_t len, const uint8_t *first, size_t first_len, const uint8_t *second, size_t second_len, const uint8_t *auth, size_t auth_len, const uint8_t *nonce, size_t nonce_len, uint32_t keep, uint8_t *out, size_t out_len);
 
 /* What is said of the reply to a sealed command. */

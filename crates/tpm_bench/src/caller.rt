@@ -7,12 +7,13 @@ use tpm_buffer::{
     Command, CommandBody, CommandCode, ReplyBody, Response, StartAuth, decode_response,
     encode_command,
 };
-use tpm_caller::{Caller, CallerFault, Waiting};
+use tpm_caller::{Caller, CallerFault, Pending};
 use tpm_device::Device;
 use tpm_types::{
     Alg, AuthValue, BindHandle, DigestValues, HashedDigest, Nonce, PcrIndex, PcrOrNull,
     SessionType, SymDef, name_of_handle,
 };
+use tpm_wire::Buffer;
 
 // TPM2_Startup with TPM_SU_CLEAR.
 const STARTUP: [u8; 12] = [
@@ -64,16 +65,16 @@ fn caller_of(reply: &ReplyBody) -> Option<Caller> {
     }
 }
 
-// TPM2_PCR_Extend of register 16 with a digest for each of two banks, sealed.
+// TPM2_PCR_Extend of register 16 with a digest for each of two banks, sealed into this buffer.
 #[inline(never)]
-fn extend(caller: Caller) -> Waiting {
+fn extend(caller: Caller, sent: &mut Buffer) -> Pending {
     let digests = [
         HashedDigest::new(Alg::Sha1, &[0; 20]).unwrap(),
         HashedDigest::new(Alg::Sha256, &[0; 32]).unwrap(),
     ];
     let mut names = ArrayVec::new();
     names.push(name_of_handle(16));
-    caller.seal(
+    caller.seal_into(
         CommandBody::PcrExtend {
             register: PcrOrNull::Pcr(PcrIndex::from_number(16).unwrap()),
             digests: DigestValues::new(&digests).unwrap(),
@@ -82,6 +83,7 @@ fn extend(caller: Caller) -> Waiting {
         &[],
         Nonce::new(&[0xC1; 32]).unwrap(),
         true,
+        sent,
     )
 }
 
@@ -93,8 +95,9 @@ pub extern "C" fn tpm_bench_seal(times: u32) -> u32
     let Some(mut caller) = bound(&mut started()) else {
         return 0;
     };
+    let mut sent = Buffer::new();
     for sealed in 0..times {
-        caller = match extend(caller).give_up(&REFUSAL) {
+        caller = match extend(caller, &mut sent).give_up(&REFUSAL) {
             Ok(caller) => caller,
             Err(_) => return sealed,
         };
@@ -112,20 +115,21 @@ pub extern "C" fn tpm_bench_open(times: u32) -> u32
     let Some(caller) = bound(&mut device) else {
         return 0;
     };
-    let mut waiting = extend(caller);
-    let mut reply = device.execute(waiting.bytes(), &NONCE);
+    let mut sent = Buffer::new();
+    let mut pending = extend(caller, &mut sent);
+    let mut reply = device.execute(sent.as_slice(), &NONCE);
     if let Some(last) = reply.as_mut_slice().last_mut() {
         *last ^= 1;
     }
     for opened in 0..times {
-        match waiting.open(reply.as_slice()) {
+        match pending.open(reply.as_slice()) {
             Ok(_) => return opened,
             Err(unopened) => {
                 let (again, fault) = unopened;
                 if fault != CallerFault::WrongMac {
                     return opened;
                 }
-                waiting = again;
+                pending = again;
             }
         }
     }
@@ -141,8 +145,10 @@ pub extern "C" fn tpm_bench_both_ends(times: u32) -> u32
     let Some(mut caller) = bound(&mut device) else {
         return 0;
     };
+    let mut sent = Buffer::new();
+    let mut reply = Buffer::new();
     for opened in 0..times {
-        match both_ends(&mut device, caller) {
+        match both_ends(&mut device, caller, &mut sent, &mut reply) {
             Some(next) => caller = next,
             None => return opened,
         }
@@ -151,10 +157,15 @@ pub extern "C" fn tpm_bench_both_ends(times: u32) -> u32
 }
 
 // The caller after the command.
-fn both_ends(device: &mut Device, caller: Caller) -> Option<Caller> {
-    let waiting = extend(caller);
-    let reply = device.execute(waiting.bytes(), &NONCE);
-    match waiting.open(reply.as_slice()) {
+fn both_ends(
+    device: &mut Device,
+    caller: Caller,
+    sent: &mut Buffer,
+    reply: &mut Buffer,
+) -> Option<Caller> {
+    let pending = extend(caller, sent);
+    device.execute_into(sent.as_slice(), &NONCE, reply);
+    match pending.open(reply.as_slice()) {
         Ok(opened) => {
             let (caller, _response) = opened;
             caller

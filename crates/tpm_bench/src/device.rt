@@ -8,6 +8,7 @@ ghost use Rattle.tpm_device.specs.Stands.{Stands};
 use crate::out::append;
 use tpm_device::Device;
 use tpm_types::AuthValue;
+use tpm_wire::Buffer;
 
 // TPM2_Startup with TPM_SU_CLEAR.
 const STARTUP: [u8; 12] = [
@@ -33,10 +34,11 @@ pub extern "C" fn tpm_bench_execute(
 {
     let nonce = [0; 64];
     let mut device = prepared(prepare, &nonce);
+    let mut reply = Buffer::new();
     for _ in 1..times {
-        answer_both(&mut device, first, second, &nonce, out);
+        answer_both(&mut device, first, second, &nonce, &mut reply, out);
     }
-    answer_once(&mut device, first, &nonce, out)
+    answer_once(&mut device, first, &nonce, &mut reply, out)
 }
 
 /// Switches a device's power off and on, and has it execute this command, so many times, at least once, with the answer to the beginning
@@ -48,12 +50,13 @@ pub extern "C" fn tpm_bench_start(startup: &[u8], times: u32, out: &mut [u8]) ->
 {
     let nonce = [0; 64];
     let mut device = started(&AuthValue::default(), &STARTUP, &nonce);
+    let mut reply = Buffer::new();
     for _ in 1..times {
         device.power_cycle();
-        answer_once(&mut device, startup, &nonce, out);
+        answer_once(&mut device, startup, &nonce, &mut reply, out);
     }
     device.power_cycle();
-    answer_once(&mut device, startup, &nonce, out)
+    answer_once(&mut device, startup, &nonce, &mut reply, out)
 }
 
 // The command that the bytes begin with, by its commandSize, and the bytes behind it.
@@ -88,25 +91,38 @@ fn started(owner: &AuthValue, startup: &[u8], nonce: &[u8; 64]) -> Device
 }
 
 // Executes the first command, and the second where there is one.
-fn answer_both(device: &mut Device, first: &[u8], second: &[u8], nonce: &[u8; 64], out: &mut [u8])
+fn answer_both(
+    device: &mut Device,
+    first: &[u8],
+    second: &[u8],
+    nonce: &[u8; 64],
+    reply: &mut Buffer,
+    out: &mut [u8],
+)
     requires { 4096 ≤ length out.old }
     ensures stands { (o : Origin) (h : History) → Stands o h device.old → (k : History) × Stands o k device.new }
     ensures room { length out.new ≡ length out.old }
 {
-    answer_once(device, first, nonce, out);
+    answer_once(device, first, nonce, reply, out);
     if second.is_empty() {
         return;
     }
-    answer_once(device, second, nonce, out);
+    answer_once(device, second, nonce, reply, out);
 }
 
 #[inline(never)]
-fn answer_once(device: &mut Device, bytes: &[u8], nonce: &[u8; 64], out: &mut [u8]) -> usize
+fn answer_once(
+    device: &mut Device,
+    bytes: &[u8],
+    nonce: &[u8; 64],
+    reply: &mut Buffer,
+    out: &mut [u8],
+) -> usize
     requires { 4096 ≤ length out.old }
     ensures answer { (o : Origin) (h : History) → Stands o h device.old → (n : List ℕ) × (take result out.new ≡ answer o h bytes.now n) }
     ensures stands { (o : Origin) (h : History) → Stands o h device.old → (k : History) × Stands o k device.new }
     ensures room { length out.new ≡ length out.old }
 {
-    let answer = device.execute(bytes, nonce);
-    append(out, 0, answer.as_slice())
+    device.execute_into(bytes, nonce, reply);
+    append(out, 0, reply.as_slice())
 }

@@ -15,7 +15,7 @@ pub use buffers::{
 };
 pub use caller::{tpm_bench_both_ends, tpm_bench_open, tpm_bench_seal};
 pub use device::{tpm_bench_execute, tpm_bench_start};
-pub use hashes::{tpm_bench_hash, tpm_bench_hmac};
+pub use hashes::{tpm_bench_hash, tpm_bench_hmac, tpm_bench_same, tpm_bench_session_hashes};
 pub use sessions::tpm_bench_authorize;
 pub use sizes::tpm_bench_size;
 pub use streams::{tpm_bench_push_frames, tpm_bench_read_frames};

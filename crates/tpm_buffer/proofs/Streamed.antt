@@ -9,11 +9,12 @@ use Rattle.std.proofs.lemmas.Bool.{cases_lt}
 use Rattle.tpm_wire.specs.declared.refusal.Refusal.{Refusal}
 use Rattle.tpm_buffer.specs.declared.framer.Status.{Status}
 use Rattle.tpm_buffer.specs.declared.framer.Status.TheVariants.{More, Ready, Broken}
-use Rattle.tpm_buffer.specs.declared.reader.ReadFault.TheVariants.{EndInside, Broken as BrokenInput}
+use Rattle.tpm_buffer.specs.declared.reader.ReadFault.TheVariants.{Device, EndInside, Broken as BrokenInput}
 use Rattle.tpm_buffer.specs.Frames.{stated, IsFrame, BeginsNoFrame, IsBroken, IsPart, IsStatus, Frames, Pushes, Advances, bad_size}
 use Rattle.arrayvec.specs.ArrayVec.{ArrayVec}
 use Rattle.tpm_buffer.specs.declared.reader.ReadFault.{ReadFault}
-use Rattle.tpm_buffer.specs.Reads.{ReadsFrame}
+use Rattle.tpm_buffer.specs.Reads.{ReadsFrame, IsAnswer}
+use Rattle.tpm_wire.specs.Sources.{OfBytes}
 use Rattle.tpm_buffer.specs.Streams.{GivenPiece, GivenPieces, ReadInTurn}
 use Rattle.tpm_buffer.proofs.Framed.{stated_more, front_frame, short_part, sized_part, pushes_short, pushes_broken, pushes_part, pushes_ready}
 
@@ -318,22 +319,23 @@ record ReadTo (bytes : List ℕ) (frames : List (List ℕ)) (last : Result (Opti
   each : All IsFrame frames
   end : ReadsFrame (Some rest) (Some more) last
 
-read_to : (frames : List (List ℕ)) (bytes : List ℕ) (last : Result (Option (ArrayVec ℕ)) ReadFault) → ReadInTurn bytes frames last → ReadTo bytes frames last
-read_to [] bytes last g = record { rest = bytes; more = g.0; whole = refl; each = All-nil IsFrame; end = g.1 }
-read_to (frame ∷ frames) bytes last g =
-    let later = read_to frames g.0 last g.2 in
-    let read = g.1 in
+read_to : (frames : List (List ℕ)) (bytes : List ℕ) (last : Result (Option (ArrayVec ℕ)) ReadFault) → ReadInTurn (Some bytes) frames last → ReadTo bytes frames last
+read_to [] bytes last (Some more, g) = record { rest = bytes; more = more; whole = refl; each = All-nil IsFrame; end = g }
+read_to [] bytes last (None, g) = absurd g.1
+read_to (frame ∷ frames) bytes last (None, read, g) = absurd read.1
+read_to (frame ∷ frames) bytes last (Some more, read, g) =
+    let later = read_to frames more last g in
     record {
       rest = later.rest;
       more = later.more;
       whole =
-          read.1 ∙ ap (λ (r : List ℕ). r ++ g.0) (sym read.2.1) ∙ ap (λ (r : List ℕ). frame ++ r) later.whole ∙ sym (append_assoc frame (concat frames) later.rest);
+          read.1 ∙ ap (λ (r : List ℕ). r ++ more) (sym read.2.1) ∙ ap (λ (r : List ℕ). frame ++ r) later.whole ∙ sym (append_assoc frame (concat frames) later.rest);
       each = All-cons IsFrame frame frames (subst IsFrame (sym read.2.1) read.2.0) later.each;
       end = later.end;
     }
 
-pub read_to_end : (bytes : List ℕ) (frames : List (List ℕ)) → ReadInTurn bytes frames (Ok None) → Frames bytes frames []
-read_to_end bytes frames g =
+told_end : (bytes : List ℕ) (frames : List (List ℕ)) → ReadInTurn (Some bytes) frames (Ok None) → Frames bytes frames []
+told_end bytes frames g =
     let r = read_to frames bytes (Ok None) g in
     let end = r.end in
     let none : r.rest ≡ [] = end.1 ∙ ap (λ (b : List ℕ). b ++ r.more) end.2.0 ∙ end.2.1 in
@@ -343,16 +345,16 @@ read_to_end bytes frames g =
       over = (short_part [] (omega arith)).no_frame;
     }
 
-pub read_inside : (bytes : List ℕ) (frames : List (List ℕ)) → ReadInTurn bytes frames (Err EndInside) → (rest : List ℕ) × Frames bytes frames rest × IsPart rest × (0 < length rest)
-read_inside bytes frames g =
+told_inside : (bytes : List ℕ) (frames : List (List ℕ)) → ReadInTurn (Some bytes) frames (Err EndInside) → (rest : List ℕ) × Frames bytes frames rest × IsPart rest × (0 < length rest)
+told_inside bytes frames g =
     let r = read_to frames bytes (Err EndInside) g in
     let end = r.end in
     let all : end.0 ≡ r.rest = sym (end.1 ∙ ap (λ (b : List ℕ). end.0 ++ b) end.2.2 ∙ append-nil end.0) in
     let part : IsPart r.rest = subst IsPart all end.2.0 in
     (r.rest, record { whole = r.whole; each = r.each; over = part.no_frame }, part, omega (arith, ap length all, end.2.1))
 
-pub read_broken : (bytes : List ℕ) (frames : List (List ℕ)) (e : Refusal) → ReadInTurn bytes frames (Err (BrokenInput e)) → (rest : List ℕ) × Frames bytes frames rest × IsBroken rest
-read_broken bytes frames e g =
+told_broken : (bytes : List ℕ) (frames : List (List ℕ)) (e : Refusal) → ReadInTurn (Some bytes) frames (Err (BrokenInput e)) → (rest : List ℕ) × Frames bytes frames rest × IsBroken rest
+told_broken bytes frames e g =
     let r = read_to frames bytes (Err (BrokenInput e)) g in
     let end = r.end in
     let b : IsBroken end.0 = end.2.0 in
@@ -364,3 +366,37 @@ read_broken bytes frames e g =
         outside = elim b.outside [ inl low ↦ inl (omega (arith, low, same)) | inr high ↦ inr (omega (arith, high, same)) ];
       },
     )
+
+-- ---- the same of sources that tell no bytes
+
+OfBytes-map : {P Q : List ℕ → Type 0} → ((bytes : List ℕ) → P bytes → Q bytes) → (coming : Option (List ℕ)) → OfBytes P coming → OfBytes Q coming
+OfBytes-map f (Some bytes) h = f bytes h
+OfBytes-map f None h = (h.0, f h.0 h.1)
+
+-- what was answered after some bytes is answered where these are all
+answer_at_end : (bytes : List ℕ) (more : Option (List ℕ)) (last : Result (Option (ArrayVec ℕ)) ReadFault) → IsAnswer bytes more last → IsAnswer bytes (Some []) last
+answer_at_end bytes more (Ok (Some frame)) h = h
+answer_at_end bytes more (Ok None) h = (h.0, refl)
+answer_at_end bytes more (Err Device) h = h
+answer_at_end bytes more (Err EndInside) h = (h.0, h.1, refl)
+answer_at_end bytes more (Err (BrokenInput e)) h = h
+
+some_bytes : (frames : List (List ℕ)) (coming : Option (List ℕ)) (last : Result (Option (ArrayVec ℕ)) ReadFault) → ReadInTurn coming frames last
+    → OfBytes (λ bytes. ReadInTurn (Some bytes) frames last) coming
+some_bytes frames (Some bytes) last g = g
+some_bytes [] None last (more, read) = (read.0, (Some [], (read.0, sym (append-nil read.0), answer_at_end read.0 more last read.2)))
+some_bytes (frame ∷ frames) None last (Some more, read, later) = (read.0 ++ more, (Some more, (read.0, refl, read.2), later))
+some_bytes (frame ∷ frames) None last (None, read, later) =
+    let rest = some_bytes frames None last later in
+    (read.0 ++ rest.0, (Some rest.0, (read.0, refl, read.2), rest.1))
+
+pub read_to_end : (coming : Option (List ℕ)) (frames : List (List ℕ)) → ReadInTurn coming frames (Ok None) → OfBytes (λ bytes. Frames bytes frames []) coming
+read_to_end coming frames g = OfBytes-map (λ bytes h. told_end bytes frames h) coming (some_bytes frames coming (Ok None) g)
+
+pub read_inside : (coming : Option (List ℕ)) (frames : List (List ℕ)) → ReadInTurn coming frames (Err EndInside)
+    → OfBytes (λ bytes. (rest : List ℕ) × Frames bytes frames rest × IsPart rest × (0 < length rest)) coming
+read_inside coming frames g = OfBytes-map (λ bytes h. told_inside bytes frames h) coming (some_bytes frames coming (Err EndInside) g)
+
+pub read_broken : (coming : Option (List ℕ)) (frames : List (List ℕ)) (e : Refusal) → ReadInTurn coming frames (Err (BrokenInput e))
+    → OfBytes (λ bytes. (rest : List ℕ) × Frames bytes frames rest × IsBroken rest) coming
+read_broken coming frames e g = OfBytes-map (λ bytes h. told_broken bytes frames e h) coming (some_bytes frames coming (Err (BrokenInput e)) g)

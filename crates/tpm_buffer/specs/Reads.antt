@@ -38,8 +38,8 @@ ReadsInto old new frame (Ok true) = Consumes old new frame × IsFrame frame
 ReadsInto old new frame (Ok false) = Consumes old new [] × IsAtEnd new
 ReadsInto old new frame (Err fault) = (bytes : List ℕ) × Consumes old new bytes × IsAnswer bytes new (Err fault)
 
--- a buffer without bytes, in whose place a frame is read
-abbrev pub IsEmptyBuffer : Result (Option (ArrayVec ℕ)) ReadFault → Type 0
-IsEmptyBuffer (Ok (Some frame)) = length frame.items ≡ 0
-IsEmptyBuffer (Ok None) = ⊥
-IsEmptyBuffer (Err fault) = ⊥
+-- a buffer, in whose place a frame is read
+abbrev pub IsBuffer : Result (Option (ArrayVec ℕ)) ReadFault → Type 0
+IsBuffer (Ok (Some frame)) = Unit {0}
+IsBuffer (Ok None) = ⊥
+IsBuffer (Err fault) = ⊥

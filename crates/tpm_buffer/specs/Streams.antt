@@ -20,7 +20,8 @@ GivenPieces held (piece ∷ pieces) frames new left =
     (first later : List (List ℕ)) × (between unused behind : List ℕ) × GivenPiece held piece first between unused × GivenPieces between pieces later new behind
     × (frames ≡ first ++ later) × (left ≡ unused ++ behind)
 
--- Frames were read from a source that tells these bytes, one after the other, and then this was answered.
-abbrev pub ReadInTurn : List ℕ → List (List ℕ) → Result (Option (ArrayVec ℕ)) ReadFault → Type 0
-ReadInTurn bytes [] last = (more : List ℕ) × ReadsFrame (Some bytes) (Some more) last
-ReadInTurn bytes (frame ∷ frames) last = (more : List ℕ) × ReadsFrame (Some bytes) (Some more) (Ok (Some (record { items = frame }))) × ReadInTurn more frames last
+-- Frames were read from a source that has these bytes left, where it tells them, one after the other, and then this was
+-- answered.
+abbrev pub ReadInTurn : Option (List ℕ) → List (List ℕ) → Result (Option (ArrayVec ℕ)) ReadFault → Type 0
+ReadInTurn coming [] last = (more : Option (List ℕ)) × ReadsFrame coming more last
+ReadInTurn coming (frame ∷ frames) last = (more : Option (List ℕ)) × ReadsFrame coming more (Ok (Some (record { items = frame }))) × ReadInTurn more frames last

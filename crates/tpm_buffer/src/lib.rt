@@ -39,7 +39,7 @@ pub use laws::{
     parameters_in_command, response_or_fault,
 };
 pub use lent::{EVENT_BYTES, Event};
-pub use reader::{ReadFault, read_frame};
+pub use reader::{ReadFault, read_frame, read_frame_into};
 pub use response::{ErrorCode, NvData, ReplyBody, Response, StartReply};
 pub use response_areas::{ReplyAreas, reply_areas};
 pub use response_decode::decode_response;

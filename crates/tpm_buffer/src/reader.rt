@@ -1,9 +1,9 @@
 //! Frames from a source of bytes.
 
-ghost use Rattle.std.specs.Prelude.{◌≡◌, ◌≤◌, ◌++◌, ℕ, List, length};
+ghost use Rattle.std.specs.Prelude.{◌≡◌, ◌≤◌, ◌++◌, ◌⊎◌, ℕ, true, List, [], length, Ok, IfErr, IsErrOf};
 ghost use Rattle.tpm_buffer.specs.declared.reader.ReadFault.TheVariants.{Device, Broken};
-ghost use Rattle.tpm_buffer.specs.Reads.{Fills, CountsDevice, ReadsFrame, ReadsInto, IsEmptyBuffer};
-ghost use Rattle.tpm_wire.specs.Sources.{CountsFailures};
+ghost use Rattle.tpm_buffer.specs.Reads.{Fills, CountsDevice, ReadsFrame, ReadsInto, IsBuffer};
+ghost use Rattle.tpm_wire.specs.Sources.{CountsFailures, IsWhereItFailed};
 
 use crate::framer::{SIZE_END, stated_size};
 use tpm_wire::{Buffer, ReadFailed, Refusal, Source, put_bytes};
@@ -44,6 +44,7 @@ impl From<Refusal> for ReadFault {
 /// Each read that isn't the last gives at least one byte, so that there are at most 4,096.
 pub fn read_frame<R: Source>(source: &mut R) -> Result<Option<Buffer>, ReadFault>
     ensures failures { CountsDevice (R.failed source.old) (R.failed source.new) result }
+    ensures stop { IsErrOf result Device → IsWhereItFailed (R.stopped source.new) }
     ensures frame { ReadsFrame (R.coming source.old) (R.coming source.new) result }
 {
     let mut answer = Ok(Some(Buffer::new()));
@@ -51,15 +52,16 @@ pub fn read_frame<R: Source>(source: &mut R) -> Result<Option<Buffer>, ReadFault
     answer
 }
 
-// The answer is made in the caller's place, which an empty buffer is in, so that a frame is not copied as it is returned.
+// The answer is made in the caller's place, which a buffer is in, so that a frame is not copied as it is returned.
 #[inline(never)]
 fn read_answer<R: Source>(source: &mut R, answer: &mut Result<Option<Buffer>, ReadFault>)
-    requires { IsEmptyBuffer answer.old }
+    requires { IsBuffer answer.old }
     ensures failures { CountsDevice (R.failed source.old) (R.failed source.new) answer.new }
+    ensures stop { IsErrOf answer.new Device → IsWhereItFailed (R.stopped source.new) }
     ensures frame { ReadsFrame (R.coming source.old) (R.coming source.new) answer.new }
 {
     if let Ok(Some(frame)) = answer {
-        match read_into(source, frame) {
+        match read_frame_into(source, frame) {
             Ok(true) => {}
             Ok(false) => *answer = Ok(None),
             Err(fault) => *answer = Err(fault),
@@ -67,11 +69,29 @@ fn read_answer<R: Source>(source: &mut R, answer: &mut Result<Option<Buffer>, Re
     }
 }
 
+/// Reads the next frame into a buffer, whatever that holds, and says whether there is one: none at the end of the input.
+/// The buffer holds the frame then, and nothing where there is none. Else it does what `read_frame` does, and moves no
+/// buffer.
+pub fn read_frame_into<R: Source>(source: &mut R, frame: &mut Buffer) -> Result<bool, ReadFault>
+    ensures failures { CountsDevice (R.failed source.old) (R.failed source.new) result }
+    ensures stop { IsErrOf result Device → IsWhereItFailed (R.stopped source.new) }
+    ensures frame { ReadsInto (R.coming source.old) (R.coming source.new) frame.new.items result }
+    ensures none { (result ≡ Ok true) ⊎ (frame.new.items ≡ []) }
+{
+    frame.clear();
+    let read = read_into(source, frame);
+    if !matches!(read, Ok(true)) {
+        frame.clear();
+    }
+    read
+}
+
 /// Reads the next frame into an empty buffer, and says whether there is one: none at the end of the input.
 #[inline(never)]
 fn read_into<R: Source>(source: &mut R, frame: &mut Buffer) -> Result<bool, ReadFault>
     requires { length frame.old.items ≡ 0 }
     ensures failures { CountsDevice (R.failed source.old) (R.failed source.new) result }
+    ensures stop { IsErrOf result Device → IsWhereItFailed (R.stopped source.new) }
     ensures frame { ReadsInto (R.coming source.old) (R.coming source.new) frame.new.items result }
 {
     let mut head = [0; SIZE_END];
@@ -107,6 +127,7 @@ fn lengthen(frame: &mut Buffer, size: usize)
 /// Reads until there is no room left or the input ends, and says how many bytes came.
 fn fill<R: Source>(source: &mut R, room: &mut [u8]) -> Result<usize, ReadFailed>
     ensures failures { CountsFailures (R.failed source.old) (R.failed source.new) result }
+    ensures stop { IfErr result (λ _. IsWhereItFailed (R.stopped source.new)) }
     ensures bytes { Fills (R.coming source.old) (R.coming source.new) room.new result }
 {
     let mut count = 0;

@@ -1,7 +1,8 @@
 //! What holds of frames in a stream.
 
-ghost use Rattle.std.specs.Prelude.{◌≡◌, ◌<◌, ◌⊎◌, ℕ, List, [], ◌∷◌, ◌++◌, length};
+ghost use Rattle.std.specs.Prelude.{◌≡◌, ◌<◌, ◌⊎◌, ℕ, List, [], ◌∷◌, ◌++◌, Option, length};
 ghost use Rattle.std.specs.List.{concat};
+ghost use Rattle.tpm_wire.specs.Sources.{OfBytes};
 ghost use Rattle.tpm_wire.specs.declared.refusal.Refusal.{Refusal};
 ghost use Rattle.tpm_buffer.specs.declared.reader.ReadFault.TheVariants.{EndInside, Broken};
 ghost use Rattle.tpm_buffer.specs.declared.framer.Status.{Status};
@@ -37,12 +38,12 @@ pub fn broken_for_ever()
     ensures next { (held new : List ℕ) → IsBroken held → Advances held new → new ≡ held }
 {}
 
-/// The frames that are read from a source that tells its bytes, up to its end or a size that no frame has, are those of
-/// its bytes.
+/// The frames that are read from a source, up to its end or a size that no frame has, are those of its bytes; and of some
+/// bytes, where it doesn't tell them.
 pub fn frames_read()
-    ensures end { (bytes : List ℕ) (frames : List (List ℕ)) → ReadInTurn bytes frames (Ok None) → Frames bytes frames [] }
-    ensures inside { (bytes : List ℕ) (frames : List (List ℕ)) → ReadInTurn bytes frames (Err EndInside)
-        → (rest : List ℕ) × Frames bytes frames rest × IsPart rest × (0 < length rest) }
-    ensures broken { (bytes : List ℕ) (frames : List (List ℕ)) (e : Refusal) → ReadInTurn bytes frames (Err (Broken e))
-        → (rest : List ℕ) × Frames bytes frames rest × IsBroken rest }
+    ensures end { (coming : Option (List ℕ)) (frames : List (List ℕ)) → ReadInTurn coming frames (Ok None) → OfBytes (λ bytes. Frames bytes frames []) coming }
+    ensures inside { (coming : Option (List ℕ)) (frames : List (List ℕ)) → ReadInTurn coming frames (Err EndInside)
+        → OfBytes (λ bytes. (rest : List ℕ) × Frames bytes frames rest × IsPart rest × (0 < length rest)) coming }
+    ensures broken { (coming : Option (List ℕ)) (frames : List (List ℕ)) (e : Refusal) → ReadInTurn coming frames (Err (Broken e))
+        → OfBytes (λ bytes. (rest : List ℕ) × Frames bytes frames rest × IsBroken rest) coming }
 {}

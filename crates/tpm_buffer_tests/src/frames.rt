@@ -4,8 +4,8 @@ use crate::checks::bytes;
 use crate::sources::{Odd, OneByOne};
 use std::process::Abort;
 use std::test::*;
-use tpm_buffer::{Framer, ReadFault, Status, read_frame};
-use tpm_wire::{Reads, Refusal, SliceSource, Source};
+use tpm_buffer::{Framer, ReadFault, Status, read_frame, read_frame_into};
+use tpm_wire::{Buffer, Reads, Refusal, SliceSource, Source};
 
 /// PCR_Read of register 0 in SHA-256, of 20 bytes.
 const READ: &str = "8001 00000014 0000017e 00000001 000b 03 010000";
@@ -194,6 +194,27 @@ fn frames_are_read(rt: HostRuntime) {
     gives(&rt, &mut source, Ok(startup.as_slice()));
     gives(&rt, &mut source, Ok(whole.as_slice()));
     gives(&rt, &mut source, Ok(&[]));
+}
+
+// The longer frame comes first, so that nothing of it may be left; and where there is none the buffer is empty.
+#[test]
+fn frames_are_read_into_one_buffer(rt: HostRuntime) {
+    let longer = bytes(&rt, READ);
+    let shorter = bytes(&rt, "8003 0000000c 00000144 0000");
+    let all = bytes(
+        &rt,
+        "8001 00000014 0000017e 00000001 000b 03 010000 8003 0000000c 00000144 0000 8001 0000000c 0000",
+    );
+    let mut source = SliceSource::new(all.as_slice());
+    let mut frame = Buffer::new();
+    let first = read_frame_into(&mut source, &mut frame);
+    assert!(&rt; first == Ok(true) && frame.as_slice() == longer.as_slice());
+    let second = read_frame_into(&mut source, &mut frame);
+    assert!(&rt; second == Ok(true) && frame.as_slice() == shorter.as_slice());
+    let third = read_frame_into(&mut source, &mut frame);
+    assert!(&rt; third == Err(ReadFault::EndInside) && frame.is_empty());
+    let last = read_frame_into(&mut source, &mut frame);
+    assert!(&rt; last == Ok(false) && frame.is_empty());
 }
 
 // What comes first of a source that gives one byte a read, and how often it is read.

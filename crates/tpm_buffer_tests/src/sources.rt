@@ -22,6 +22,8 @@ pub struct OneByOne<'a> {
     pub odd: Odd,
     pub reads: usize,
     pub failures: u64,
+    // whether the last read failed
+    stopped: bool,
 }
 
 impl<'a> OneByOne<'a> {
@@ -32,6 +34,7 @@ impl<'a> OneByOne<'a> {
             odd,
             reads: 0,
             failures: 0,
+            stopped: false,
         }
     }
 }
@@ -41,11 +44,15 @@ impl Source for OneByOne<'_> {
 
     ghost failed = { λ s. s.failures };
 
+    ghost stopped = { λ s. s.stopped };
+
     fn read(&mut self, room: &mut [u8]) -> Result<usize, ReadFailed> {
         self.reads = self.reads.saturating_add(1);
+        self.stopped = false;
         match self.odd {
             Odd::Fails(at) if self.reads == at => {
                 self.failures = self.failures.saturating_add(1);
+                self.stopped = true;
                 return Err(ReadFailed);
             }
             Odd::Pauses(at) if self.reads == at => return Ok(0),

@@ -1,5 +1,5 @@
 -- A caller's session in memory of C's.
-use Rattle.std.specs.Prelude.{ℕ, ◌==◌, nat_le, Bool, not, ◌&&◌, List, [], ◌∷◌, length, take, Option, Some, None, Result, Ok, Err, if◌then◌else◌}
+use Rattle.std.specs.Prelude.{ℕ, ◌==◌, nat_le, Bool, true, not, ◌&&◌, List, [], ◌∷◌, length, take, Option, Some, None, Result, Ok, Err, if◌then◌else◌}
 use base.Fraction.{full_share}
 use base.Fml.{Fml}
 use denote.RawPtr.{Ptr, lies_at}
@@ -73,30 +73,35 @@ after_start held None = held
 
 -- ---- sealing
 
--- Names and a nonce that are not too long
-abbrev pub do_fit : (first second nonce : List ℕ) → Bool
-do_fit first second nonce = nat_le (length first) name_bytes && nat_le (length second) name_bytes && nat_le (length nonce) digest_bytes
-
 -- a command whose first handle needs authorization
 abbrev pub body_in : Result Command Refusal → Option CommandBody
 body_in (Ok c) = if needs_authorization (code_for c.body) then Some c.body else None
 body_in (Err e) = None
 
--- as many of the Names as there are handles
+-- as many of the Names as there are handles: the second is not looked at where there is one handle
 abbrev pub names_of : CommandBody → (first second : List ℕ) → List (List ℕ)
 names_of body first second = take (length (handles_of body)) (first ∷ second ∷ [])
+
+-- none of the Names is too long
+abbrev pub are_short : List (List ℕ) → Bool
+are_short [] = true
+are_short (name ∷ names) = nat_le (length name) name_bytes && are_short names
+
+-- neither a Name nor the nonce is too long
+abbrev pub do_fit : (names : List (List ℕ)) → (nonce : List ℕ) → Bool
+do_fit names nonce = are_short names && nat_le (length nonce) digest_bytes
 
 abbrev pub seal_of : CallerSession → CommandBody → (first second auth nonce : List ℕ) → Bool → Seal
 seal_of c body first second auth nonce keep = record { caller = c; body = body; names = names_of body first second; auth = auth; nonce = nonce; keep = keep }
 
 abbrev pub seal_by : Held → Option CommandBody → (first second auth nonce : List ℕ) → Bool → Option Seal
-seal_by (Free c) (Some body) first second auth nonce keep = Some (seal_of c body first second auth nonce keep)
+seal_by (Free c) (Some body) first second auth nonce keep = if do_fit (names_of body first second) nonce then Some (seal_of c body first second auth nonce keep) else None
 seal_by _ _ first second auth nonce keep = None
 
 -- what is sealed, if anything is
 abbrev pub sealing : Held → (command_bytes first second auth nonce : List ℕ) → (keep room : ℕ) → Option Seal
 sealing held bytes first second auth nonce keep room =
-    if nat_le 4096 room && do_fit first second nonce then seal_by held (body_in (read_all command bytes)) first second auth nonce (not (keep == 0)) else None
+    if nat_le 4096 room then seal_by held (body_in (read_all command bytes)) first second auth nonce (not (keep == 0)) else None
 
 abbrev pub sealed_bytes : Option Seal → List ℕ
 sealed_bytes (Some s) = sealed s

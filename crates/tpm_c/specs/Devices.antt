@@ -1,7 +1,7 @@
 -- A device in memory of C's.
-use Rattle.std.specs.Prelude.{◌≡◌, ◌⊎◌, ℕ, zero, suc, ◌<◌, ◌≤◌, List, [], length, nat_le, if◌then◌else◌}
+use Rattle.std.specs.Prelude.{ℕ, ◌≤◌, Bool, true, false, List, [], length, nat_le, if◌then◌else◌}
 use base.Fraction.{full_share}
-use base.Fml.{Fml, fex}
+use base.Fml.{Fml, ftrue, fex}
 use denote.RawPtr.{Ptr, lies_at, room_at}
 use Rattle.tpm_types.specs.Limits.{digest_bytes}
 use Rattle.tpm_model.specs.Steps.{History, Origin}
@@ -9,19 +9,36 @@ use Rattle.tpm_model.specs.Answers.{answer, next}
 use Rattle.tpm_device.specs.declared.device.Device.{Device}
 use Rattle.tpm_device.specs.contracts.device.Device.{the_row}
 use Rattle.tpm_device.specs.Stands.{Stands}
+use Rattle.tpm_c.specs.Written.{IsIn}
 
 -- A device that stands at the history lies there.
 abbrev pub device_at : Origin → History → Ptr → Fml
 device_at o h p = fex ((d : Device) × Stands o h d) (λ d. lies_at the_row full_share p d.0)
 
--- A new device lies there where the answer is 1, and where it is 0 there is still room for one.
-abbrev pub made_at : Origin → ℕ → Ptr → Fml
-made_at o zero p = room_at the_row p
-made_at o (suc n) p = device_at o [] p
+-- the owner's value fits
+abbrev pub fits : List ℕ → Bool
+fits owner = nat_le (length owner) digest_bytes
 
--- The answer is 1 where the owner's value fits, and otherwise 0.
-abbrev pub IsWhetherFits : List ℕ → ℕ → Type 0
-IsWhetherFits owner n = ((length owner ≤ digest_bytes) × (n ≡ 1)) ⊎ ((digest_bytes < length owner) × (n ≡ 0))
+-- There is room for a device, where one is to be made.
+abbrev pub room_if : Bool → Ptr → Fml
+room_if true p = room_at the_row p
+room_if false p = ftrue
+
+-- Where the owner's value doesn't fit, no room is asked for: so nothing can be written.
+abbrev pub room_for : List ℕ → Ptr → Fml
+room_for owner p = room_if (fits owner) p
+
+-- A new device lies there, where one was made.
+abbrev pub new_if : Bool → Origin → Ptr → Fml
+new_if true o p = device_at o [] p
+new_if false o p = ftrue
+
+abbrev pub made_at : Origin → Ptr → Fml
+made_at o p = new_if (fits o.owner) o p
+
+-- 1 where the owner's value fits, and otherwise 0
+abbrev pub whether_fits : List ℕ → ℕ
+whether_fits owner = if fits owner then 1 else 0
 
 -- The history after a buffer: the model's next where there is room for any answer, and otherwise the same.
 abbrev pub after : ℕ → Origin → History → (bytes nonce : List ℕ) → History
@@ -30,3 +47,7 @@ after room o h bytes nonce = if nat_le 4096 room then next o h bytes nonce else 
 -- what is written: the model's answer where there is room for any, and otherwise nothing
 abbrev pub written : ℕ → Origin → History → (bytes nonce : List ℕ) → List ℕ
 written room o h bytes nonce = if nat_le 4096 room then answer o h bytes nonce else []
+
+-- The answer was written, which has 10 bytes at least; or nothing, where there is not room for any answer.
+abbrev pub IsAnswered : Origin → History → (bytes nonce : List ℕ) → (old new : List ℕ) → (count : ℕ) → Type 0
+IsAnswered o h bytes nonce old new count = IsIn (written (length old) o h bytes nonce) old new count × (4096 ≤ length old → 10 ≤ count)

@@ -11,3 +11,4 @@ pub mod Quotes
 pub mod ResponseViews
 pub mod Rooms
 pub mod Written
+pub mod Attests

@@ -1,8 +1,9 @@
 -- Parts of a buffer by their places in it, and its fault.
-use Rattle.std.specs.Prelude.{ℕ, nat_le, List, length, take, drop, Result, Err, if◌then◌else◌}
+use Rattle.std.specs.Prelude.{ℕ, nat_le, List, length, take, drop, Result, Ok, Err, if◌then◌else◌}
 use Rattle.tpm_wire.specs.declared.refusal.Refusal.{Refusal}
 use Rattle.tpm_wire.specs.Buffers.{Layout}
-use Rattle.tpm_wire.specs.Reading.{read_all}
+use Rattle.tpm_wire.specs.Token.{Here, at_start}
+use Rattle.tpm_wire.specs.Reading.{read, read_all}
 use Rattle.tpm_wire.specs.ResponseCodes.{rc_size}
 use Rattle.tpm_c.specs.declared.part.TpmPart.{TpmPart}
 use Rattle.tpm_c.specs.declared.part.TpmRefusal.{TpmRefusal}
@@ -17,6 +18,11 @@ bytes_in bytes p = take p.len (drop p.at bytes)
 abbrev pub refusal_of : TpmRefusal → Refusal
 refusal_of r = record { code = r.code; at = r.at }
 
--- what all of the bytes spell, or the first fault; bytes that are more than a buffer's spell nothing
+-- the fault of bytes that are left over behind a value, or the fault before
+abbrev pub left_over : {A : Type 0} → Result (A × Here) Refusal → Refusal
+left_over (Ok x) = record { code = rc_size; at = x.1.at }
+left_over (Err e) = e
+
+-- What is answered where no value has more than 4,096 bytes: what all of the bytes spell, or the first fault, for which these are enough.
 abbrev pub whole_in : {A : Type 0} → Layout A → List ℕ → Result A Refusal
-whole_in l bytes = if nat_le (length bytes) 4096 then read_all l bytes else Err (record { code = rc_size; at = 0 })
+whole_in l bytes = if nat_le (length bytes) 4096 then read_all l bytes else Err (left_over (read 0 l (at_start (take 4096 bytes))))

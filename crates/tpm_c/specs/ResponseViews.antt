@@ -50,11 +50,22 @@ response_view c = record {
   sessions = session_views c;
 }
 
+-- The nonce and the HMAC of a session that begins at this place are the bytes of their parts.
+abbrev pub HoldsSession : List ℕ → ℕ → Option AuthReply → Type 0
+HoldsSession bytes at None = Unit {0}
+HoldsSession bytes at (Some a) = (bytes_in bytes (session_view at (Some a)).nonce ≡ a.nonce) × (bytes_in bytes (session_view at (Some a)).hmac ≡ a.hmac)
+
+-- What the view says lies in the bytes is there.
+abbrev pub HoldsParts : List ℕ → ReplyCut → Type 0
+HoldsParts bytes c =
+    HoldsSession bytes (place c 0) (slice_get c.auths 0) × HoldsSession bytes (place c 1) (slice_get c.auths 1) × HoldsSession bytes (place c 2) (slice_get c.auths 2)
+    × (bytes_in bytes (response_view c).parameters ≡ c.params)
+
 -- For the command of this number the answer is 0 with the view of the response's cut, or 1 with its first fault beside the parameters;
 -- it is 3 where no command has the number. What is not written so is as it was.
 abbrev pub ViewsResponse : ℕ → List ℕ → (answer : ℕ) → (old new : TpmResponseAreas) → (was refusal : TpmRefusal) → Type 0
 ViewsResponse number bytes answer old new was refusal =
-    ((answer ≡ 0) × (code : CommandCode) × (code_of number ≡ Some code) × (c : ReplyCut) × Spells (reply_cut code) c bytes × (new ≡ response_view c) × (bytes_in bytes (response_view c).parameters ≡ c.params) × (refusal ≡ was))
+    ((answer ≡ 0) × (code : CommandCode) × (code_of number ≡ Some code) × (c : ReplyCut) × Spells (reply_cut code) c bytes × (new ≡ response_view c) × HoldsParts bytes c × (refusal ≡ was))
     ⊎ ((answer ≡ 1) × ((code : CommandCode) × (code_of number ≡ Some code) × Fault (reply_cut code) bytes (refusal_of refusal)) × (new ≡ old))
     ⊎ ((answer ≡ 3) × (code_of number ≡ None) × (new ≡ old) × (refusal ≡ was))
 

@@ -15,7 +15,7 @@ ghost use Rattle.tpm_c.specs.declared.caller.Held.TheVariants.{Spent};
 ghost use Rattle.tpm_c.specs.contracts.caller.Held.{the_row};
 ghost use Rattle.tpm_c.specs.Rooms.{room_size, room_align};
 ghost use Rattle.tpm_c.specs.Written.{IsIn};
-ghost use Rattle.tpm_c.specs.Callers.{held_at, request_in, start_reply_in, started_by, start_code, after_start, fault_number, open_code, kept, after_open, give_up_code, after_give_up, names_of, body_in, do_fit, seal_of, sealing, sealed_bytes, after_seal};
+ghost use Rattle.tpm_c.specs.Callers.{held_at, request_in, start_reply_in, started_by, start_code, after_start, fault_number, open_code, kept, after_open, give_up_code, after_give_up, names_of, body_in, are_short, do_fit, seal_of, sealing, sealed_bytes, after_seal};
 
 use crate::out::put;
 use arrayvec::ArrayVec;
@@ -137,10 +137,14 @@ pub unsafe extern "C" fn tpm_caller_start(
     start(&mut *(place as *mut Held), command, reply, bind_auth)
 }
 
-fn do_fit(first: &[u8], second: &[u8], nonce: &[u8]) -> bool
-    ensures { result ≡ do_fit first.now second.now nonce.now }
+// Neither the first so many of the two Names nor the nonce is too long.
+fn do_fit(count: usize, first: &[u8], second: &[u8], nonce: &[u8]) -> bool
+    requires { count ≤ 2 }
+    ensures { result ≡ do_fit (take count (first.now ∷ second.now ∷ [])) nonce.now }
 {
-    first.len() <= NAME_BYTES && second.len() <= NAME_BYTES && nonce.len() <= DIGEST_BYTES
+    (count < 1 || first.len() <= NAME_BYTES)
+        && (count < 2 || second.len() <= NAME_BYTES)
+        && nonce.len() <= DIGEST_BYTES
 }
 
 fn body_in(command: &[u8]) -> Option<CommandBody<'_>>
@@ -181,8 +185,7 @@ fn nonce_of(bytes: &[u8]) -> Nonce
 // The first so many of the two.
 fn names(count: usize, first: &[u8], second: &[u8]) -> ArrayVec<Name, 2>
     requires count { count ≤ 2 }
-    requires first { length first.now ≤ name_bytes }
-    requires second { length second.now ≤ name_bytes }
+    requires short { are_short (take count (first.now ∷ second.now ∷ [])) ≡ true }
     ensures { result.items ≡ take count (first.now ∷ second.now ∷ []) }
 {
     let mut names = ArrayVec::new();
@@ -205,7 +208,7 @@ fn sealed(
     keep: bool,
 ) -> Waiting
     requires authorized { needs_authorization (code_for body) ≡ true }
-    requires fit { do_fit first.now second.now nonce.now ≡ true }
+    requires fit { do_fit (names_of body first.now second.now) nonce.now ≡ true }
     ensures sealed { result ≡ sent (seal_of caller body.entry first.now second.now auth.now nonce.now keep) }
     ensures short { length result.bytes ≤ 4096 }
 {
@@ -225,12 +228,15 @@ fn seal(
 ) -> usize
     ensures { IsIn (sealed_bytes (sealing held.old command.now first.now second.now auth.now nonce.now keep (length out.old))) out.old out.new result × (held.new ≡ after_seal held.old (sealing held.old command.now first.now second.now auth.now nonce.now keep (length out.old))) }
 {
-    if out.len() < BUFFER_BYTES || !do_fit(first, second, nonce) {
+    if out.len() < BUFFER_BYTES {
         return 0;
     }
     let Some(body) = body_in(command) else {
         return 0;
     };
+    if !do_fit(body.code().handles(), first, second, nonce) {
+        return 0;
+    }
     match std::mem::replace(held, Held::Spent) {
         Held::Free(caller) => {
             let waiting = sealed(caller, body, first, second, auth, nonce, keep != 0);
@@ -246,11 +252,11 @@ fn seal(
 }
 
 /// Seals a command with the session that is free, writes its bytes to the beginning of `out`, and says how many they are. The command
-/// is given in bytes, of which the sessions are left out, so it may have none; `first` and `second` are the Names of its handles,
-/// `auth` is what follows the session key in the key of the HMAC, and `nonce` is nonceCaller, a fresh random one. With a `keep`
-/// other than 0 the session goes on after the command. It answers 0, and nothing changes, where no session is free, where `out`
-/// has room for fewer than 4,096 bytes, where the bytes are no command whose first handle needs authorization, or where a Name or
-/// the nonce is too long.
+/// is given in bytes, of which the sessions are left out, so it may have none; `first` and `second` are the Names of its handles, the
+/// second of which is not looked at where there is one handle; `auth` is what follows the session key in the key of the HMAC, and
+/// `nonce` is nonceCaller, a fresh random one. With a `keep` other than 0 the session goes on after the command. It answers 0, and
+/// nothing changes, where no session is free, where `out` has room for fewer than 4,096 bytes, where the bytes are no command whose
+/// first handle needs authorization, or where the Name of a handle or the nonce is too long.
 #[unsafe(no_mangle)]
 pub unsafe extern "C" fn tpm_caller_seal(
     place: *mut u8,

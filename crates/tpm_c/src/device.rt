@@ -2,14 +2,13 @@
 
 ghost use Rattle.std.specs.Prelude.{◌≡◌, ◌≤◌, [], ◌∷◌, length};
 ghost use Rattle.std.specs.Borrow.{sem};
-ghost use denote.RawPtr.{room_at};
 ghost use Rattle.tpm_types.specs.Limits.{digest_bytes};
 ghost use Rattle.tpm_model.specs.Steps.{History, Origin, PowerCycle};
 ghost use Rattle.tpm_device.specs.contracts.device.Device.{the_row};
 ghost use Rattle.tpm_c.specs.Rooms.{room_size, room_align};
 ghost use Rattle.tpm_device.specs.Stands.{Stands};
 ghost use Rattle.tpm_c.specs.Written.{IsIn};
-ghost use Rattle.tpm_c.specs.Devices.{device_at, made_at, IsWhetherFits, after, written};
+ghost use Rattle.tpm_c.specs.Devices.{device_at, room_for, made_at, whether_fits, after, written, IsAnswered};
 
 use crate::out::put;
 use tpm_device::Device;
@@ -38,8 +37,8 @@ pub extern "C" fn tpm_device_align() -> usize
 /// device has had a greater value than this. It answers 0, and nothing is written, where the value has more than 48 bytes.
 #[unsafe(no_mangle)]
 pub unsafe extern "C" fn tpm_device_init(place: *mut u8, owner: &[u8], greatest: u64) -> u32
-    requires* { sem 𝓛 (room_at the_row place) }
-    ensures* { sem 𝓛 (made_at (record { owner = owner.now; greatest = greatest }) result place) ∗ ⌜ IsWhetherFits owner.now result ⌝ }
+    requires* { sem 𝓛 (room_for owner.now place) }
+    ensures* { sem 𝓛 (made_at (record { owner = owner.now; greatest = greatest }) place) ∗ ⌜ result ≡ whether_fits owner.now ⌝ }
 {
     if owner.len() > DIGEST_BYTES {
         return 0;
@@ -68,8 +67,8 @@ pub unsafe extern "C" fn tpm_device_power_cycle(place: *mut u8)
     (*(place as *mut Device)).power_cycle();
 }
 
-/// Answers the bytes of a command, whatever they are, with those of a response at the beginning of `out`, and says how many they are.
-/// The nonce is 64 fresh random bytes. It answers 0, and nothing changes, where `out` has room for fewer than 4,096 bytes.
+/// Answers the bytes of a command, whatever they are, with those of a response at the beginning of `out`, and says how many they are: 10
+/// at least. The nonce is 64 fresh random bytes. It answers 0, and nothing changes, where `out` has room for fewer than 4,096 bytes.
 #[unsafe(no_mangle)]
 pub unsafe extern "C" fn tpm_device_execute(
     place: *mut u8,
@@ -79,7 +78,7 @@ pub unsafe extern "C" fn tpm_device_execute(
 ) -> usize
     ghost at: { Origin × History }
     requires* { sem 𝓛 (device_at at.0 at.1 place) }
-    ensures* { sem 𝓛 (device_at at.0 (after (length out.old) at.0 at.1 command.now nonce.now) place) ∗ ⌜ IsIn (written (length out.old) at.0 at.1 command.now nonce.now) out.old out.new result ⌝ }
+    ensures* { sem 𝓛 (device_at at.0 (after (length out.old) at.0 at.1 command.now nonce.now) place) ∗ ⌜ IsAnswered at.0 at.1 command.now nonce.now out.old out.new result ⌝ }
 {
     execute(&mut *(place as *mut Device), command, nonce, out)
 }

@@ -1,6 +1,7 @@
 //! The library for C: each function works in memory that the caller hands in.
 #![tactic(auto)]
 
+mod attest;
 mod builder;
 mod caller;
 mod command;
@@ -14,6 +15,7 @@ mod policy;
 mod quote;
 mod response;
 
+pub use attest::{TpmAttest, TpmAttestFault, tpm_attest_decode, tpm_log_check_attest};
 pub use builder::tpm_command_build;
 pub use caller::{
     tpm_caller_align, tpm_caller_give_up, tpm_caller_init, tpm_caller_open, tpm_caller_seal,

@@ -1,8 +1,9 @@
 //! Places in the bytes that C hands in.
 
-ghost use Rattle.std.specs.Prelude.{◌≡◌, ◌≤◌, length};
-ghost use Rattle.tpm_wire.specs.Reading.{read_all};
-ghost use Rattle.tpm_c.specs.Parts.{refusal_of, whole_in};
+ghost use Rattle.std.specs.Prelude.{◌≡◌, ◌<◌, ◌≤◌, length, take};
+ghost use Rattle.tpm_wire.specs.Token.{at_start};
+ghost use Rattle.tpm_wire.specs.Reading.{read as read_layout, read_all};
+ghost use Rattle.tpm_c.specs.Parts.{refusal_of, left_over, whole_in};
 
 use tpm_wire::response_code::SIZE;
 use tpm_wire::{Cursor, Refusal, Wire};
@@ -34,7 +35,7 @@ pub struct TpmRefusal {
     pub at: u32,
 }
 
-// How many bytes a buffer has at most.
+// More bytes than any list has.
 const MOST_LOOKED_AT: usize = 4096;
 
 fn read<T: Wire + Drop>(bytes: &[u8]) -> Result<T, Refusal>
@@ -52,12 +53,27 @@ fn read<T: Wire + Drop>(bytes: &[u8]) -> Result<T, Refusal>
     Ok(value)
 }
 
-// The value that all of the bytes spell, or their first fault; SIZE of more than a buffer has.
+// Where none of so many bytes is refused, bytes are left over.
+fn long_fault<T: Wire + Drop>(bytes: &[u8]) -> Refusal
+    requires { 4096 < length bytes.now }
+    ensures { result ≡ left_over (read_layout 0 T.layout (at_start (take 4096 bytes.now))) }
+{
+    let mut cursor = Cursor::new(&bytes[..MOST_LOOKED_AT]);
+    match T::take(&mut cursor) {
+        Ok(_) => Refusal {
+            code: SIZE,
+            at: cursor.at(),
+        },
+        Err(refusal) => refusal,
+    }
+}
+
+// The value that all of the bytes spell, or their first fault. No value has more bytes than are looked at.
 pub(crate) fn whole<T: Wire + Drop>(bytes: &[u8]) -> Result<T, Refusal>
     ensures { result ≡ whole_in T.layout bytes.now }
 {
     if bytes.len() > MOST_LOOKED_AT {
-        return Err(Refusal { code: SIZE, at: 0 });
+        return Err(long_fault::<T>(bytes));
     }
     read(bytes)
 }

@@ -1,17 +1,18 @@
 //! The digest of a policy, without a device (Part 1, "Enhanced Authorization"; Part 3, 23).
 
 ghost use Rattle.std.specs.Prelude.{◌≡◌, List};
+ghost use Rattle.tpm_wire.specs.Reading.{read_all};
 ghost use Rattle.tpm_types.specs.Alg.{alg_of, digest_len};
 ghost use Rattle.tpm_types.specs.Tpml.{selections as selections_layout, or_digests};
 ghost use Rattle.tpm_model.specs.Policies.Assertion.{OrAsserted, CodeAsserted, AuthValueAsserted};
 ghost use Rattle.tpm_session.specs.Policies.{as_assertion};
-ghost use Rattle.tpm_c.specs.Parts.{whole_in};
 ghost use Rattle.tpm_c.specs.Policies.{IsEmpty, IsAsserted, IsSpelled, IsPcrAsserted, of_registers, with_digest};
 
 use crate::out::put;
 use crate::part::{DONE, TpmRefusal, refuse, whole};
 use tpm_session::{Assertion, extend_policy};
 use tpm_types::{Alg, DIGEST_BYTES, Digest, OrDigests, Selections};
+use tpm_wire::Refusal;
 
 /// There is no such hash.
 const NO_HASH: u32 = 4;
@@ -26,6 +27,18 @@ const NO_DIGEST: u32 = 5;
 pub struct TpmPolicy {
     pub hash: u16,
     pub digest: [u8; 48],
+}
+
+fn or_digests_in(bytes: &[u8]) -> Result<OrDigests, Refusal>
+    ensures { result ≡ read_all or_digests bytes.now }
+{
+    whole(bytes)
+}
+
+fn selections_in(bytes: &[u8]) -> Result<Selections, Refusal>
+    ensures { result ≡ read_all selections_layout bytes.now }
+{
+    whole(bytes)
 }
 
 fn set(policy: &mut TpmPolicy, digest: &Digest)
@@ -103,9 +116,9 @@ pub extern "C" fn tpm_policy_or(
     digests: &[u8],
     refusal: &mut TpmRefusal,
 ) -> u32
-    ensures { IsSpelled (whole_in or_digests digests.now) OrAsserted policy.old policy.new refusal.old refusal.new result }
+    ensures { IsSpelled (read_all or_digests digests.now) OrAsserted policy.old policy.new refusal.old refusal.new result }
 {
-    match whole::<OrDigests>(digests) {
+    match or_digests_in(digests) {
         Ok(digests) => assert(policy, &Assertion::Or(&digests)),
         Err(fault) => refuse(refusal, fault),
     }
@@ -117,9 +130,9 @@ fn pcr(
     pcr_digest: &Digest,
     refusal: &mut TpmRefusal,
 ) -> u32
-    ensures { IsSpelled (whole_in selections_layout selections.now) (of_registers pcr_digest.now) policy.old policy.new refusal.old refusal.new result }
+    ensures { IsSpelled (read_all selections_layout selections.now) (of_registers pcr_digest.now) policy.old policy.new refusal.old refusal.new result }
 {
-    match whole::<Selections>(selections) {
+    match selections_in(selections) {
         Ok(selections) => {
             let assertion = Assertion::Pcr {
                 selections: &selections,
@@ -143,7 +156,7 @@ pub extern "C" fn tpm_policy_pcr(
     pcr_digest: &[u8],
     refusal: &mut TpmRefusal,
 ) -> u32
-    ensures { IsPcrAsserted (alg_of policy.old.hash) pcr_digest.now (whole_in selections_layout selections.now) policy.old policy.new refusal.old refusal.new result }
+    ensures { IsPcrAsserted (alg_of policy.old.hash) pcr_digest.now (read_all selections_layout selections.now) policy.old policy.new refusal.old refusal.new result }
 {
     let Some(alg) = Alg::from_number(policy.hash) else {
         return NO_HASH;

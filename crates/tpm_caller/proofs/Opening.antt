@@ -27,7 +27,7 @@ use Rattle.tpm_model.specs.Callers as model
 use Rattle.tpm_model.specs.Callers.{Refused, Code, NotExpected, WrongMac, Waiting, Opened, awaited_text, caller_after, opened_session, opened_response, opened, caller_of_refusal, given_up}
 use Rattle.tpm_caller.specs.declared.waiting.CallerFault.{CallerFault}
 use Rattle.tpm_caller.specs.declared.waiting.CallerFault.TheVariants as faults
-use Rattle.tpm_caller.specs.Sent.{Sent, caller_with, IsSpelledBy}
+use Rattle.tpm_caller.specs.Sent.{caller_with, IsSpelledBy}
 use Rattle.tpm_caller.specs.Faults.{fault_of, opening_of}
 use Rattle.tpm_caller.proofs.ReplyParams.{params_are}
 
@@ -94,74 +94,74 @@ mac_is w body a alg key p rp params nonce own mac attrs same_alg same_key same_p
 
 -- ---- what checking answers
 
-abbrev pub FaultFor : List ℕ → CallerFault → Sent → Type 0
-FaultFor bytes fault z = (body : ReplyBody) (auths : List AuthReply) → IsSpelledBy bytes z.waiting.code body auths → (f : model.CallerFault) × (opened_session z.waiting body auths ≡ Err f) × (fault ≡ fault_of f)
+abbrev pub FaultFor : List ℕ → CallerFault → Waiting → Type 0
+FaultFor bytes fault z = (body : ReplyBody) (auths : List AuthReply) → IsSpelledBy bytes z.code body auths → (f : model.CallerFault) × (opened_session z body auths ≡ Err f) × (fault ≡ fault_of f)
 
-abbrev pub OpenFor : List ℕ → List ℕ → Sent → Type 0
-OpenFor bytes nonce z = (body : ReplyBody) (auths : List AuthReply) → IsSpelledBy bytes z.waiting.code body auths
-    → opened_session z.waiting body auths ≡ Ok (record { caller = caller_with z.waiting nonce; response = done_with (record { body = body; auths = auths }) })
+abbrev pub OpenFor : List ℕ → List ℕ → Waiting → Type 0
+OpenFor bytes nonce z = (body : ReplyBody) (auths : List AuthReply) → IsSpelledBy bytes z.code body auths
+    → opened_session z body auths ≡ Ok (record { caller = caller_with z nonce; response = done_with (record { body = body; auths = auths }) })
 
-pub no_cut : (bytes : List ℕ) (fault : CallerFault) (z : Sent) → ((c : ReplyCut) → Spells (reply_cut z.waiting.code) c bytes → ⊥) → FaultFor bytes fault z
-no_cut bytes fault z none body auths s = let x = some_cut z.waiting.code bytes body auths s in absurd (none x.0 x.1)
+pub no_cut : (bytes : List ℕ) (fault : CallerFault) (z : Waiting) → ((c : ReplyCut) → Spells (reply_cut z.code) c bytes → ⊥) → FaultFor bytes fault z
+no_cut bytes fault z none body auths s = let x = some_cut z.code bytes body auths s in absurd (none x.0 x.1)
 
-pub not_one_for : (bytes : List ℕ) (z : Sent) (cut : ReplyCut) → Spells (reply_cut z.waiting.code) cut bytes → length cut.auths ≢ 1 → FaultFor bytes faults.NotExpected z
-not_one_for bytes z cut spells more body auths s = (NotExpected, not_one z.waiting body auths (λ e. more (ap length (same_auths z.waiting.code bytes body auths cut s spells) ∙ e)), refl)
+pub not_one_for : (bytes : List ℕ) (z : Waiting) (cut : ReplyCut) → Spells (reply_cut z.code) cut bytes → length cut.auths ≢ 1 → FaultFor bytes faults.NotExpected z
+not_one_for bytes z cut spells more body auths s = (NotExpected, not_one z body auths (λ e. more (ap length (same_auths z.code bytes body auths cut s spells) ∙ e)), refl)
 
-pub other_length_for : (bytes : List ℕ) (z : Sent) (cut : ReplyCut) (a : AuthReply) → HasOne z.waiting bytes cut a → length a.nonce ≢ length z.waiting.caller.nonce → FaultFor bytes faults.NotExpected z
-other_length_for bytes z cut a h differ body auths s = (NotExpected, ap (opened_session z.waiting body) (one_auth z.waiting bytes cut a body auths h s) ∙ other_length z.waiting body a differ, refl)
+pub other_length_for : (bytes : List ℕ) (z : Waiting) (cut : ReplyCut) (a : AuthReply) → HasOne z bytes cut a → length a.nonce ≢ length z.caller.nonce → FaultFor bytes faults.NotExpected z
+other_length_for bytes z cut a h differ body auths s = (NotExpected, ap (opened_session z body) (one_auth z bytes cut a body auths h s) ∙ other_length z body a differ, refl)
 
-pub other_mac_for : (bytes : List ℕ) (z : Sent) (cut : ReplyCut) (a : AuthReply) → HasOne z.waiting bytes cut a → length a.nonce ≡ length z.waiting.caller.nonce
-    → ((body : ReplyBody) → cut.params ≡ reply_params body → a.hmac ≢ hmac z.waiting.caller.hash z.waiting.key (awaited_text z.waiting body a)) → needs_authorization z.waiting.code ≡ true → FaultFor bytes faults.WrongMac z
+pub other_mac_for : (bytes : List ℕ) (z : Waiting) (cut : ReplyCut) (a : AuthReply) → HasOne z bytes cut a → length a.nonce ≡ length z.caller.nonce
+    → ((body : ReplyBody) → cut.params ≡ reply_params body → a.hmac ≢ hmac z.caller.hash z.key (awaited_text z body a)) → needs_authorization z.code ≡ true → FaultFor bytes faults.WrongMac z
 other_mac_for bytes z cut a h long differ needs body auths s =
-    (WrongMac, ap (opened_session z.waiting body) (one_auth z.waiting bytes cut a body auths h s) ∙ other_mac z.waiting body a long (differ body (params_of_one z.waiting bytes cut a body auths needs h s)), refl)
+    (WrongMac, ap (opened_session z body) (one_auth z bytes cut a body auths h s) ∙ other_mac z body a long (differ body (params_of_one z bytes cut a body auths needs h s)), refl)
 
-pub open_for : (bytes nonce : List ℕ) (z : Sent) (cut : ReplyCut) (a : AuthReply) → HasOne z.waiting bytes cut a → length a.nonce ≡ length z.waiting.caller.nonce
-    → ((body : ReplyBody) → cut.params ≡ reply_params body → a.hmac ≡ hmac z.waiting.caller.hash z.waiting.key (awaited_text z.waiting body a)) → needs_authorization z.waiting.code ≡ true → nonce ≡ a.nonce → OpenFor bytes nonce z
+pub open_for : (bytes nonce : List ℕ) (z : Waiting) (cut : ReplyCut) (a : AuthReply) → HasOne z bytes cut a → length a.nonce ≡ length z.caller.nonce
+    → ((body : ReplyBody) → cut.params ≡ reply_params body → a.hmac ≡ hmac z.caller.hash z.key (awaited_text z body a)) → needs_authorization z.code ≡ true → nonce ≡ a.nonce → OpenFor bytes nonce z
 open_for bytes nonce z cut a h long same needs is body auths s =
-    let one = one_auth z.waiting bytes cut a body auths h s in
-    let made : List ℕ → List AuthReply → Result Opened model.CallerFault = λ n l. Ok (record { caller = caller_with z.waiting n; response = done_with (record { body = body; auths = l }) }) in
-    ap (opened_session z.waiting body) one ∙ is_open z.waiting body a long (same body (params_of_one z.waiting bytes cut a body auths needs h s))
+    let one = one_auth z bytes cut a body auths h s in
+    let made : List ℕ → List AuthReply → Result Opened model.CallerFault = λ n l. Ok (record { caller = caller_with z n; response = done_with (record { body = body; auths = l }) }) in
+    ap (opened_session z body) one ∙ is_open z body a long (same body (params_of_one z bytes cut a body auths needs h s))
     ∙ ap (λ (n : List ℕ). made n (a ∷ [])) (sym is) ∙ ap (made nonce) (sym one)
 
 -- ---- what opening answers
 
-abbrev okay : Option CallerSession × Response → Result (Option CallerSession × Response) (Sent × CallerFault)
+abbrev okay : Option CallerSession × Response → Result (Option CallerSession × Response) (Waiting × CallerFault)
 okay x = Ok x
 
-abbrev wrong : Sent × CallerFault → Result (Option CallerSession × Response) (Sent × CallerFault)
+abbrev wrong : Waiting × CallerFault → Result (Option CallerSession × Response) (Waiting × CallerFault)
 wrong x = Err x
 
-pub refused_is : (z : Sent) (code : CommandCode) (bytes : List ℕ) (e : Refusal) → code ≡ z.waiting.code → Fault (response code) bytes e → opened z.waiting bytes ≡ Err (Refused e)
-refused_is z code bytes e same f = ap (opened_response z.waiting) (fault_read buffer buffer_sound (response z.waiting.code) bytes e (subst (λ (k : CommandCode). Fault (response k) bytes e) same f))
+pub refused_is : (z : Waiting) (code : CommandCode) (bytes : List ℕ) (e : Refusal) → code ≡ z.code → Fault (response code) bytes e → opened z bytes ≡ Err (Refused e)
+refused_is z code bytes e same f = ap (opened_response z) (fault_read buffer buffer_sound (response z.code) bytes e (subst (λ (k : CommandCode). Fault (response k) bytes e) same f))
 
-pub opened_is : (z : Sent) (code : CommandCode) (bytes : List ℕ) (r : Response) → code ≡ z.waiting.code → Spells (response code) r bytes → opened z.waiting bytes ≡ opened_response z.waiting (Ok r)
-opened_is z code bytes r same s = ap (opened_response z.waiting) (spells_read buffer buffer_sound (response z.waiting.code) bytes r (subst (λ (k : CommandCode). Spells (response k) r bytes) same s))
+pub opened_is : (z : Waiting) (code : CommandCode) (bytes : List ℕ) (r : Response) → code ≡ z.code → Spells (response code) r bytes → opened z bytes ≡ opened_response z (Ok r)
+opened_is z code bytes r same s = ap (opened_response z) (spells_read buffer buffer_sound (response z.code) bytes r (subst (λ (k : CommandCode). Spells (response k) r bytes) same s))
 
-pub spelled_by : (z : Sent) (code : CommandCode) (bytes : List ℕ) (r : Response) (body : ReplyBody) (auths : List AuthReply) → code ≡ z.waiting.code → Spells (response code) r bytes → bytes ≡ spelling (response code) r
-    → r ≡ done_with (record { body = body; auths = auths }) → IsSpelledBy bytes z.waiting.code body auths
+pub spelled_by : (z : Waiting) (code : CommandCode) (bytes : List ℕ) (r : Response) (body : ReplyBody) (auths : List AuthReply) → code ≡ z.code → Spells (response code) r bytes → bytes ≡ spelling (response code) r
+    → r ≡ done_with (record { body = body; auths = auths }) → IsSpelledBy bytes z.code body auths
 spelled_by z code bytes r body auths same s is made = record {
-  spells = subst (λ (q : Response). Spells (response z.waiting.code) q bytes) made (subst (λ (k : CommandCode). Spells (response k) r bytes) same s);
-  is = is ∙ ap (λ (k : CommandCode). spelling (response k) r) same ∙ ap (spelling (response z.waiting.code)) made;
+  spells = subst (λ (q : Response). Spells (response z.code) q bytes) made (subst (λ (k : CommandCode). Spells (response k) r bytes) same s);
+  is = is ∙ ap (λ (k : CommandCode). spelling (response k) r) same ∙ ap (spelling (response z.code)) made;
 }
 
-pub open_done : (z : Sent) (code : CommandCode) (bytes nonce : List ℕ) (r : Response) (body : ReplyBody) (auths : List AuthReply) (caller : Option CallerSession) → code ≡ z.waiting.code → Spells (response code) r bytes
-    → bytes ≡ spelling (response code) r → r ≡ done_with (record { body = body; auths = auths }) → OpenFor bytes nonce z → caller ≡ caller_with z.waiting nonce → okay (caller, r) ≡ opening_of z (opened z.waiting bytes)
+pub open_done : (z : Waiting) (code : CommandCode) (bytes nonce : List ℕ) (r : Response) (body : ReplyBody) (auths : List AuthReply) (caller : Option CallerSession) → code ≡ z.code → Spells (response code) r bytes
+    → bytes ≡ spelling (response code) r → r ≡ done_with (record { body = body; auths = auths }) → OpenFor bytes nonce z → caller ≡ caller_with z nonce → okay (caller, r) ≡ opening_of z (opened z bytes)
 open_done z code bytes nonce r body auths caller same s is made opens kept =
     let x = spelled_by z code bytes r body auths same s is made in
-    ap (λ (o : Option CallerSession). okay (o, r)) kept ∙ ap (λ (q : Response). okay (caller_with z.waiting nonce, q)) made
-    ∙ sym (ap (opening_of z) (opened_is z code bytes r same s ∙ ap (λ (q : Response). opened_response z.waiting (Ok q)) made ∙ opens body auths x))
+    ap (λ (o : Option CallerSession). okay (o, r)) kept ∙ ap (λ (q : Response). okay (caller_with z nonce, q)) made
+    ∙ sym (ap (opening_of z) (opened_is z code bytes r same s ∙ ap (λ (q : Response). opened_response z (Ok q)) made ∙ opens body auths x))
 
-pub fault_done : (z : Sent) (code : CommandCode) (bytes : List ℕ) (r : Response) (body : ReplyBody) (auths : List AuthReply) (fault : CallerFault) → code ≡ z.waiting.code → Spells (response code) r bytes
-    → bytes ≡ spelling (response code) r → r ≡ done_with (record { body = body; auths = auths }) → FaultFor bytes fault z → wrong (z, fault) ≡ opening_of z (opened z.waiting bytes)
+pub fault_done : (z : Waiting) (code : CommandCode) (bytes : List ℕ) (r : Response) (body : ReplyBody) (auths : List AuthReply) (fault : CallerFault) → code ≡ z.code → Spells (response code) r bytes
+    → bytes ≡ spelling (response code) r → r ≡ done_with (record { body = body; auths = auths }) → FaultFor bytes fault z → wrong (z, fault) ≡ opening_of z (opened z bytes)
 fault_done z code bytes r body auths fault same s is made faulty =
     let f = faulty body auths (spelled_by z code bytes r body auths same s is made) in
     ap (λ (x : CallerFault). wrong (z, x)) f.2
-    ∙ sym (ap (opening_of z) (opened_is z code bytes r same s ∙ ap (λ (q : Response). opened_response z.waiting (Ok q)) made ∙ f.1))
+    ∙ sym (ap (opening_of z) (opened_is z code bytes r same s ∙ ap (λ (q : Response). opened_response z (Ok q)) made ∙ f.1))
 
 -- ---- what giving up answers
 
-pub given_up_is : (z : Sent) (code : CommandCode) (bytes : List ℕ) (r : Response) → code ≡ z.waiting.code → Spells (response code) r bytes → given_up z.waiting bytes ≡ caller_of_refusal z.waiting (Ok r)
-given_up_is z code bytes r same s = ap (caller_of_refusal z.waiting) (spells_read buffer buffer_sound (response z.waiting.code) bytes r (subst (λ (k : CommandCode). Spells (response k) r bytes) same s))
+pub given_up_is : (z : Waiting) (code : CommandCode) (bytes : List ℕ) (r : Response) → code ≡ z.code → Spells (response code) r bytes → given_up z bytes ≡ caller_of_refusal z (Ok r)
+given_up_is z code bytes r same s = ap (caller_of_refusal z) (spells_read buffer buffer_sound (response z.code) bytes r (subst (λ (k : CommandCode). Spells (response k) r bytes) same s))
 
-pub not_given_up : (z : Sent) (code : CommandCode) (bytes : List ℕ) (e : Refusal) → code ≡ z.waiting.code → Fault (response code) bytes e → given_up z.waiting bytes ≡ None
-not_given_up z code bytes e same f = ap (caller_of_refusal z.waiting) (fault_read buffer buffer_sound (response z.waiting.code) bytes e (subst (λ (k : CommandCode). Fault (response k) bytes e) same f))
+pub not_given_up : (z : Waiting) (code : CommandCode) (bytes : List ℕ) (e : Refusal) → code ≡ z.code → Fault (response code) bytes e → given_up z bytes ≡ None
+not_given_up z code bytes e same f = ap (caller_of_refusal z) (fault_read buffer buffer_sound (response z.code) bytes e (subst (λ (k : CommandCode). Fault (response k) bytes e) same f))

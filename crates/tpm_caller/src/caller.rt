@@ -13,11 +13,12 @@ ghost use Rattle.tpm_model.specs.Callers.{started_with, bound_to, attrs_for as a
 ghost use Rattle.tpm_model.specs.Premises.{HasSpelling};
 ghost use Rattle.tpm_caller.specs.Sent.{sent, hmac_key, hmac_at, with_hmac};
 
+use crate::pending::Pending;
 use crate::waiting::Waiting;
 use arrayvec::ArrayVec;
 use std::marker::Model;
 use tpm_buffer::{Command, CommandBody, CommandCode, StartAuth, StartReply, put_command};
-use tpm_hmac::{command_mac, cp_hash, hash, session_key, trim};
+use tpm_hmac::{SessionKey, command_mac, cp_hash, hash, session_key, trim};
 use tpm_types::{
     Alg, Auth, AuthSession, AuthValue, BLOCK_BYTES, BindHandle, DIGEST_BYTES, Digest, Name, Nonce,
     SessionAttrs, SessionHandle,
@@ -35,8 +36,7 @@ const LEAST_NONCE: usize = 16;
 #[derive(Drop)]
 pub struct Caller {
     handle: SessionHandle,
-    hash: Alg,
-    key: Digest,
+    key: SessionKey,
     nonce: Nonce,
 }
 
@@ -45,7 +45,7 @@ impl Model for Caller {
 
     ghost Value = { model.CallerSession };
 
-    ghost view = { λ c. record { handle = c.handle; hash = c.hash; key = c.key; nonce = c.nonce } };
+    ghost view = { λ c. record { handle = c.handle; hash = c.key.hash; key = c.key.bytes; nonce = c.nonce } };
 }
 
 // The key of a session that is started so.
@@ -99,8 +99,7 @@ impl Caller {
         }
         Some(Caller {
             handle: reply.session,
-            hash: request.auth_hash,
-            key: key_of_start(request, reply, bind_auth),
+            key: SessionKey::new(request.auth_hash, key_of_start(request, reply, bind_auth)),
             nonce: reply.nonce_tpm.duplicate(),
         })
     }
@@ -108,7 +107,7 @@ impl Caller {
     pub(crate) fn hash(&self) -> Alg
         ensures { result ≡ self.now.hash }
     {
-        self.hash
+        self.key.hash()
     }
 
     pub(crate) fn nonce(&self) -> &[u8]
@@ -132,11 +131,11 @@ impl Caller {
     fn key_with(&self, auth: &[u8]) -> Bounded<BLOCK_BYTES>
         ensures { result ≡ hmac_key self.now.hash (whole_key self.now.key auth.now) }
     {
-        let session_key = self.key.as_slice();
+        let session_key = self.key.bytes();
         let auth = trim(auth);
         let mut key = ArrayVec::<u8, BLOCK_BYTES>::new();
-        if session_key.len() + auth.len() > self.hash.block_len() {
-            let _ = key.try_extend_from_slice(hash(self.hash, &[session_key, auth]).as_slice());
+        if session_key.len() + auth.len() > self.hash().block_len() {
+            let _ = key.try_extend_from_slice(hash(self.hash(), &[session_key, auth]).as_slice());
         } else {
             let _ = key.try_extend_from_slice(session_key);
             let _ = key.try_extend_from_slice(auth);
@@ -145,6 +144,24 @@ impl Caller {
             Some(key) => key,
             None => unreachable!(),
         }
+    }
+
+    // The MAC of a command or of a response under this key. Where it is the session key alone, what is kept of that is used.
+    pub(crate) fn mac(
+        &self,
+        key: &[u8],
+        p_hash: &[u8],
+        newer: &[u8],
+        older: &[u8],
+        attrs: SessionAttrs,
+    ) -> Digest
+        ensures value { result ≡ hmac self.now.hash (whole_key key.now []) (mac_text p_hash.now newer.now older.now attrs) }
+        ensures len { length result ≡ digest_len self.now.hash }
+    {
+        if key == self.key.bytes() {
+            return self.key.session_mac(&[], p_hash, newer, older, attrs);
+        }
+        command_mac(self.hash(), key, &[], p_hash, newer, older, attrs)
     }
 
     // The command with the session, whose HMAC is not made yet.
@@ -161,7 +178,7 @@ impl Caller {
             session,
             nonce: nonce.duplicate(),
             attrs,
-            hmac: no_mac(self.hash),
+            hmac: no_mac(self.hash()),
         });
         Command { body, auths }
     }
@@ -182,17 +199,9 @@ impl Caller {
         ensures { bytes.new.items ≡ with_hmac (hmac_at names.now nonce.now) (hmac self.now.hash (whole_key key.now []) (mac_text (cp_hash_of self.now.hash (code_number code) names.now (drop (hmac_at names.now nonce.now + digest_len self.now.hash) bytes.old.items)) nonce.now self.now.nonce attrs)) bytes.old.items }
     {
         let begin = BEFORE_HMAC + 4 * names.len() + nonce.len();
-        let end = begin + self.hash.digest_len();
-        let p_hash = cp_hash(self.hash, code, names, &bytes.as_slice()[end..]);
-        let mac = command_mac(
-            self.hash,
-            key,
-            &[],
-            p_hash.as_slice(),
-            nonce,
-            self.nonce.as_slice(),
-            attrs,
-        );
+        let end = begin + self.hash().digest_len();
+        let p_hash = cp_hash(self.hash(), code, names, &bytes.as_slice()[end..]);
+        let mac = self.mac(key, p_hash.as_slice(), nonce, self.nonce.as_slice(), attrs);
         bytes.as_mut_slice()[begin..end].copy_from_slice(mac.as_slice());
     }
 
@@ -214,27 +223,46 @@ impl Caller {
         ensures sealed { result ≡ sent (record { caller = self; body = body.entry; names = names.items; auth = auth.now; nonce = nonce; keep = keep }) }
         ensures spelled { HasSpelling (record { caller = self; body = body.entry; names = names.items; auth = auth.now; nonce = nonce; keep = keep }) }
     {
+        let mut bytes = Buffer::new();
+        let pending = self.seal_into(body, names, auth, nonce, keep, &mut bytes);
+        Waiting { pending, bytes }
+    }
+
+    /// As `seal`, into this buffer, whatever is in it: its bytes are to be sent, and what is answered opens their reply.
+    pub fn seal_into(
+        self,
+        body: CommandBody<'_>,
+        names: ArrayVec<Name, 2>,
+        auth: &[u8],
+        nonce: Nonce,
+        keep: bool,
+        bytes: &mut Buffer,
+    ) -> Pending
+        requires authorized { needs_authorization (code_for body) ≡ true }
+        requires named { length names.items ≡ length (handles_of body) }
+        ensures sealed { record { waiting = result; bytes = bytes.new.items } ≡ sent (record { caller = self; body = body.entry; names = names.items; auth = auth.now; nonce = nonce; keep = keep }) }
+        ensures spelled { HasSpelling (record { caller = self; body = body.entry; names = names.items; auth = auth.now; nonce = nonce; keep = keep }) }
+    {
         let code = body.code();
         let key = self.key_with(auth);
         let attrs = attrs_for(keep);
         let command = self.unsigned(body, &nonce, attrs);
-        let mut waiting = Waiting {
+        bytes.clear();
+        put_command(&command, bytes);
+        self.sign(
+            code,
+            names.as_slice(),
+            key.as_slice(),
+            nonce.as_slice(),
+            attrs,
+            bytes,
+        );
+        Pending {
             caller: self,
             code,
             key,
             nonce,
             keep,
-            bytes: ArrayVec::new(),
-        };
-        put_command(&command, &mut waiting.bytes);
-        waiting.caller.sign(
-            code,
-            names.as_slice(),
-            waiting.key.as_slice(),
-            waiting.nonce.as_slice(),
-            attrs,
-            &mut waiting.bytes,
-        );
-        waiting
+        }
     }
 }

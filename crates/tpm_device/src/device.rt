@@ -227,7 +227,17 @@ impl Device {
         ensures refused { 0 < code_in result.items → self.new ≡ self.old }
     {
         let mut out = Buffer::new();
-        self.answer(bytes, nonce, &mut out);
+        self.execute_into(bytes, nonce, &mut out);
         out
+    }
+
+    /// As `execute`, into this buffer, whatever is in it.
+    pub fn execute_into(&mut self, bytes: &[u8], nonce: &[u8; 64], out: &mut Buffer)
+        ensures answer { (o : Origin) (h : History) → Stands o h self.old → out.new.items ≡ answer o h bytes.now nonce.now }
+        ensures stands { (o : Origin) (h : History) → Stands o h self.old → Stands o (next o h bytes.now nonce.now) self.new }
+        ensures refused { 0 < code_in out.new.items → self.new ≡ self.old }
+    {
+        out.clear();
+        self.answer(bytes, nonce, out);
     }
 }

@@ -4,3 +4,4 @@ pub mod Trimming
 pub mod Filling
 pub mod Differences
 pub mod KdfaBlocks
+pub mod Kept

@@ -2,3 +2,4 @@ pub mod Hashes
 pub mod Hmac
 pub mod Sessions
 pub mod Hashers
+pub mod Keys

@@ -4,6 +4,8 @@
 mod bytes;
 mod hashing;
 mod kdf;
+mod key;
+mod known;
 mod laws;
 mod mac;
 mod session;
@@ -11,6 +13,7 @@ mod session;
 pub use bytes::{same, trim};
 pub use hashing::hash;
 pub use kdf::kdfa;
+pub use key::SessionKey;
 pub use laws::{lengths, trimmed};
 pub use mac::hmac;
 pub use session::{command_mac, cp_hash, response_mac, rp_hash, session_key};

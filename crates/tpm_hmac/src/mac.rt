@@ -13,11 +13,11 @@ use crate::hashing::Hasher;
 use tpm_types::{Alg, BLOCK_BYTES, Digest};
 
 // The bytes that the key's block is changed by, for the inner and for the outer hash.
-const INNER_PAD: u8 = 0x36;
+pub(crate) const INNER_PAD: u8 = 0x36;
 
-const OUTER_PAD: u8 = 0x5C;
+pub(crate) const OUTER_PAD: u8 = 0x5C;
 
-fn xored(block: &[u8; BLOCK_BYTES], with: u8) -> [u8; BLOCK_BYTES]
+pub(crate) fn xored(block: &[u8; BLOCK_BYTES], with: u8) -> [u8; BLOCK_BYTES]
     ensures { result ≡ xored_bytes with block.now }
 {
     let mut out = *block;
@@ -40,7 +40,7 @@ fn fill(front: &[u8], back: &[u8]) -> [u8; BLOCK_BYTES]
 
 // The key, of which both parts are one, as a block.
 #[tactic(auto, unfolding(crate::specs::Hmac::block_key))]
-fn key_block(alg: Alg, front: &[u8], back: &[u8]) -> [u8; BLOCK_BYTES]
+pub(crate) fn key_block(alg: Alg, front: &[u8], back: &[u8]) -> [u8; BLOCK_BYTES]
     ensures { take (block_len alg) result ≡ block_key alg (front.now ++ back.now) }
 {
     if front.len() + back.len() > alg.block_len() {

@@ -1,14 +1,16 @@
 //! What the HMACs of sessions are made of (Part 1, "Session-Based Authorizations").
 
-ghost use Rattle.std.specs.Prelude.{◌≡◌, ℕ, List, Some, length};
+ghost use Rattle.std.specs.Prelude.{◌≡◌, ℕ, List, Some, ◌++◌, length};
 ghost use Rattle.tpm_types.specs.Alg.{digest_len};
 ghost use Rattle.tpm_buffer.specs.Codes.{code_number};
 ghost use Rattle.tpm_hmac.specs.Hmac.{hmac as hmac_of};
 ghost use Rattle.tpm_hmac.specs.Sessions.{session_key as session_key_of, whole_key, mac_text, cp_hash as cp_hash_of, rp_hash as rp_hash_of};
 
 use crate::bytes::trim;
-use crate::hashing::Hasher;
+use crate::hashing::{Hasher, digest_of};
 use crate::kdf::kdfa;
+use crate::key::SessionKey;
+use crate::known::known_rp_hash;
 use crate::mac::Mac;
 use tpm_buffer::CommandCode;
 use tpm_types::{Alg, DIGEST_BYTES, Digest, Name, SessionAttrs};
@@ -51,6 +53,11 @@ pub fn rp_hash(alg: Alg, code: CommandCode, params: &[u8]) -> Digest
     ensures value { result ≡ rp_hash_of alg (code_number code) params.now }
     ensures len { length result ≡ digest_len alg }
 {
+    if params.is_empty() {
+        if let Some(hash) = known_rp_hash(alg, code) {
+            return digest_of(hash);
+        }
+    }
     let success: u32 = 0;
     let mut hasher = Hasher::new(alg);
     hasher.update(&success.to_be_bytes());
@@ -80,6 +87,50 @@ pub fn command_mac(
     mac.update(older);
     mac.update(&[attrs.number()]);
     mac.finish()
+}
+
+impl SessionKey {
+    /// The MAC of a command or of a response, under this key followed by the trimmed authorization value, as `command_mac` and
+    /// `response_mac` give it (Part 1, "HMAC Computation").
+    #[tactic(auto, using(crate::proofs::DigestLengths::lengths))]
+    pub fn session_mac(
+        &self,
+        auth_value: &[u8],
+        p_hash: &[u8],
+        newer: &[u8],
+        older: &[u8],
+        attrs: SessionAttrs,
+    ) -> Digest
+        ensures value { result ≡ hmac_of self.now.hash (whole_key self.now.bytes auth_value.now) (mac_text p_hash.now newer.now older.now attrs) }
+        ensures len { length result ≡ digest_len self.now.hash }
+    {
+        if trim(auth_value).is_empty() {
+            return self.mac_of(p_hash, newer, older, &[attrs.number()]);
+        }
+        command_mac(
+            self.hash(),
+            self.bytes(),
+            auth_value,
+            p_hash,
+            newer,
+            older,
+            attrs,
+        )
+    }
+
+    // The MAC under this key alone. The parts live equally long, as those of one list do.
+    fn mac_of<'a>(
+        &self,
+        p_hash: &'a [u8],
+        newer: &'a [u8],
+        older: &'a [u8],
+        attrs: &'a [u8],
+    ) -> Digest
+        ensures value { result ≡ hmac_of self.now.hash self.now.bytes (p_hash.now ++ (newer.now ++ (older.now ++ attrs.now))) }
+        ensures len { length result ≡ digest_len self.now.hash }
+    {
+        self.mac(&[p_hash, newer, older, attrs])
+    }
 }
 
 /// The MAC of a response, under the key of its command. `p_hash` is its rpHash, `newer` its nonceTPM, and `older` the

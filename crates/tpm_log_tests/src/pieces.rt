@@ -111,3 +111,58 @@ fn a_long_header_has_its_fault_at_its_end(rt: HostRuntime) {
         }
     }
 }
+
+// The header, a record that extends nothing, and a separator at register 7.
+const LOG: &str =
+    "000000000300000000000000000000000000000000000000000000002900000053706563204944204576656e74303300000000000002000203000000040014000b0020000c003000000000000003000000000000000000000007000000040000000300000004009069ca78e7450a285173431b3e52c5c25299e4730b00df3f619804a92fdb4057192dc43dd748ea778adc52bc498ce80524c014b811190c00394341b7182cd227c5c6b07ef8000cdfd86136c4292b8e576573ad7ed9ae41019f5818b4b971c9effc60e1ad9f1289f00400000000000000";
+
+// The header, and two records that tell a start-up locality.
+const LOCALITIES: &str =
+    "000000000300000000000000000000000000000000000000000000002900000053706563204944204576656e74303300000000000002000203000000040014000b0020000c0030000000000000030000000000000011000000537461727475704c6f63616c697479000300000000030000000000000011000000537461727475704c6f63616c6974790003";
+
+// Each fault is that of the longer log from the last byte of its token on, and one of the header's event from the last byte of that.
+#[test]
+fn a_fault_is_told_with_the_piece_that_shows_it(rt: HostRuntime) {
+    for (log, place, byte, kind, at, shown) in [
+        (LOG, 4, 0x04, LogFaultKind::NotCryptoAgile, 4, 8),
+        (LOG, 28, 0x28, LogFaultKind::BadHeader, 72, 72),
+        (LOG, 28, 0x2a, LogFaultKind::BadHeader, 73, 74),
+        (LOG, 56, 0x00, LogFaultKind::BadHeader, 56, 73),
+        (LOG, 64, 0x04, LogFaultKind::DuplicateAlgorithm, 64, 73),
+        (LOG, 66, 0x21, LogFaultKind::WrongDigestSize, 66, 73),
+        (LOG, 89, 0x11, LogFaultKind::BadRegister, 89, 97),
+        (LOG, 101, 0x0d, LogFaultKind::UnknownAlgorithm, 101, 103),
+        (LOG, 123, 0x04, LogFaultKind::RepeatedDigest, 123, 125),
+        (LOG, 210, 0xff, LogFaultKind::TooLong, 211, 211),
+        (LOCALITIES, 105, 0x02, LogFaultKind::BadLocality, 89, 106),
+        (LOCALITIES, 105, 0x03, LogFaultKind::LateLocality, 122, 139),
+    ] {
+        let mut bytes = bytes_of(log);
+        if let Some(place) = bytes.as_mut_slice().get_mut(place) {
+            *place = byte;
+        }
+        let fault = LogFault { kind, at };
+        for cut in 0..bytes.len().saturating_add(1) {
+            let (front, back) = bytes.as_slice().split_at(cut.min(bytes.len()));
+            let mut replay = LogReplay::new();
+            let answer = replay.feed(front);
+            if cut < shown {
+                assert!(rt; answer.is_ok(), "{fault:?} behind {cut}");
+            } else {
+                is_fault(&rt, answer, fault);
+            }
+            is_fault(&rt, replay.feed(back), fault);
+        }
+        let mut replay = LogReplay::new();
+        let mut fed: usize = 0;
+        for byte in bytes.as_slice() {
+            fed = fed.saturating_add(1);
+            let answer = replay.feed(&[*byte]);
+            if fed < shown {
+                assert!(rt; answer.is_ok(), "{fault:?} behind {fed}");
+            } else {
+                is_fault(&rt, answer, fault);
+            }
+        }
+    }
+}

@@ -1,6 +1,7 @@
 -- What authorizes a command, as it is handed in and as the code has it.
 use Rattle.std.specs.Prelude.{ℕ, List, [], Result, Ok, Err, if◌then◌else◌}
 use Rattle.tpm_types.specs.declared.tpms.Auth.{Auth}
+use Rattle.tpm_types.specs.declared.tpms.AuthReply.{AuthReply}
 use Rattle.tpm_buffer.specs.declared.code.CommandCode.{CommandCode}
 use Rattle.tpm_hmac.specs.Hmac.{hmac}
 use Rattle.tpm_model.specs.Sessions.{Session}
@@ -46,3 +47,7 @@ signed_by s e p_hash a = record { session = s; key = authorization.key_for s e; 
 abbrev pub reply_hmac : Session → model.Entity → Auth → CommandCode → (params newer : List ℕ) → List ℕ
 reply_hmac s e a code params newer =
     if authorization.needs_none (signed_by s e [] a) then [] else hmac s.hash (authorization.key_for s e) (authorization.reply_text s.hash code params newer a.nonce a.attrs)
+
+-- The session of a reply that has none: no nonce, no attributes, no HMAC.
+abbrev pub no_reply : AuthReply
+no_reply = record { nonce = []; attrs = 0; hmac = [] }

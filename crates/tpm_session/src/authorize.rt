@@ -1,16 +1,16 @@
 //! Whether a command is authorized: the checks of its sessions, in their order (Part 1, "Authorizations and Acknowledgments"; the
 //! order is this profile's).
 
-ghost use Rattle.std.specs.Prelude.{◌≡◌, ℕ, ◌<◌, suc, List, ◌∷◌, [], length, Ok};
+ghost use Rattle.std.specs.Prelude.{◌≡◌, ℕ, ◌<◌, suc, List, ◌∷◌, [], length, Ok, IsErr};
 ghost use Rattle.tpm_types.specs.declared.tpms.Auth.{Auth};
 ghost use Rattle.tpm_model.specs.Entities.{Entity as EntityOf, auth_value, is_owner_entity};
 ghost use Rattle.tpm_model.specs.Sessions.{loaded};
 ghost use Rattle.tpm_model.specs.Authorization.{Evidence, check_loaded as loaded_checked, check_session as session_checked, check_auth as auth_checked, check_policy_allowed as allowed_checked, has_policy, check_policy as policy_checked, check_entity as entity_checked, evidence_of as evidence_by_all, first_loaded, authorize as authorized, reply_auths};
-ghost use Rattle.tpm_session.specs.Entities.{entity_in, authorizer_in, found, given};
+ghost use Rattle.tpm_session.specs.Entities.{entity_in, authorizer_in, found, given, no_reply};
 
 use crate::access::Access;
 use crate::entity::Entity;
-use crate::evidence::{check_evidence, password_reply};
+use crate::evidence::{check_evidence, no_reply, password_reply};
 use crate::policy::differs;
 use crate::session::{NONCE_BYTES, Session};
 use crate::sessions::Sessions;
@@ -87,7 +87,7 @@ impl Session {
         match entity {
             Entity::Index(public, _) => {
                 same(self.policy.digest.as_slice(), public.policy.as_slice())
-                    && self.hash == public.alg
+                    && self.hash() == public.alg
             }
             Entity::Register | Entity::Null | Entity::Owner(_) => false,
         }
@@ -217,6 +217,7 @@ impl Sessions {
         params: &[u8],
         counter: u32,
     ) -> Result<(), u32>
+        requires { 0 < count }
         ensures { (others : List Auth) → count ≡ suc (length others) →
             result ≡ authorized (loaded self.now auth.now.session) (entity_in entity.now) command names.now params.now counter (auth.now ∷ others) }
     {
@@ -227,7 +228,8 @@ impl Sessions {
     /// The session of the reply to a command that this session authorized, before it rolls: a password is
     /// answered with continueSession alone, a session with its next nonce, the command's attributes and its HMAC over the reply's
     /// parameters. The HMAC is empty where the command's could be. The entity is that of the command, or as it is after the
-    /// command with the same authorization value (Part 1, "HMAC Computation"). An empty one for a session that is not loaded.
+    /// command with the same authorization value (Part 1, "HMAC Computation"). Of a session that is not loaded it is empty: no
+    /// nonce, no attributes and no HMAC.
     pub fn reply_auth(
         &self,
         auth: &AuthRef<'_>,
@@ -236,15 +238,16 @@ impl Sessions {
         params: &[u8],
         nonce: &[u8; NONCE_BYTES],
     ) -> AuthReply
-        ensures { (e : EntityOf) (names : List (List ℕ)) (sent : List ℕ) (counter : ℕ) (others : List Auth) (x : Evidence) →
+        ensures answer { (e : EntityOf) (names : List (List ℕ)) (sent : List ℕ) (counter : ℕ) (others : List Auth) (x : Evidence) →
             evidence_by_all (loaded self.now auth.now.session) e command names sent counter (auth.now ∷ others) ≡ Ok x →
             auth_value e ≡ auth_value (entity_in entity.now) → is_owner_entity e ≡ is_owner_entity (entity_in entity.now) →
             reply_auths x command params.now nonce.now ≡ result ∷ [] }
+        ensures unloaded { IsErr (loaded_checked auth.now.session (loaded self.now auth.now.session)) → result ≡ no_reply }
     {
         match self.authorizer(auth) {
             Ok(Authorizer::Loaded(session)) => session.reply(auth, entity, command, params, nonce),
             Ok(Authorizer::Password) => password_reply(),
-            Err(_) => AuthReply::default(),
+            Err(_) => no_reply(),
         }
     }
 }

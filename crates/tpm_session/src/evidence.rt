@@ -6,13 +6,13 @@ ghost use Rattle.tpm_buffer.specs.Codes.{code_number};
 ghost use Rattle.tpm_hmac.specs.Hmac.{hmac};
 ghost use Rattle.tpm_hmac.specs.Sessions.{cp_hash as cp_hash_of};
 ghost use Rattle.tpm_model.specs.Authorization.{follows, key_for, is_empty, command_text, is_signed as is_signed_of, failure as failure_of, Evidence, evidence_by, check_evidence as evidence_checked, nonce_next, reply_auths, password_reply as password_reply_of};
-ghost use Rattle.tpm_session.specs.Entities.{entity_in, authorizer_in, signed_by, reply_hmac};
+ghost use Rattle.tpm_session.specs.Entities.{entity_in, authorizer_in, signed_by, reply_hmac, no_reply as no_reply_of};
 
 use crate::authorize::Authorizer;
 use crate::entity::Entity;
 use crate::session::{NONCE_BYTES, Session};
 use tpm_buffer::{AuthRef, CommandCode};
-use tpm_hmac::{command_mac, cp_hash, response_mac, rp_hash, same, trim};
+use tpm_hmac::{cp_hash, rp_hash, same, trim};
 use tpm_types::{AuthReply, AuthValue, Name, Nonce, SessionAttrs, SessionType};
 use tpm_wire::response_code::{AUTH_FAIL, BAD_AUTH, of_session};
 
@@ -38,7 +38,7 @@ impl Session {
     fn has_no_key(&self, entity: &Entity<'_>) -> bool
         ensures { result ≡ (is_empty self.now.key && is_empty (follows self.now (entity_in entity.now))) }
     {
-        self.key.as_slice().is_empty() && self.follows(entity).is_empty()
+        self.key.bytes().is_empty() && self.follows(entity).is_empty()
     }
 
     // Whether an empty HMAC is none: the command has no other, and there is no key.
@@ -62,10 +62,8 @@ impl Session {
         ensures { result ≡ bytes_eq auth.now.hmac (hmac self.now.hash (key_for self.now (entity_in entity.now))
             (command_text (signed_by self.now (entity_in entity.now) (cp_hash_of self.now.hash (code_number command) names.now params.now) auth.now))) }
     {
-        let p_hash = cp_hash(self.hash, command, names, params);
-        let mac = command_mac(
-            self.hash,
-            self.key.as_slice(),
+        let p_hash = cp_hash(self.hash(), command, names, params);
+        let mac = self.key.session_mac(
             self.follows(entity),
             p_hash.as_slice(),
             auth.nonce(),
@@ -114,10 +112,8 @@ impl Session {
         if self.needs_none(entity, auth) {
             return AuthValue::default();
         }
-        let p_hash = rp_hash(self.hash, command, params);
-        response_mac(
-            self.hash,
-            self.key.as_slice(),
+        let p_hash = rp_hash(self.hash(), command, params);
+        self.key.session_mac(
             self.follows(entity),
             p_hash.as_slice(),
             nonce,
@@ -159,6 +155,17 @@ pub fn password_reply() -> AuthReply
             hmac: AuthValue::default(),
         },
         None => unreachable!(),
+    }
+}
+
+// That of a session that is not loaded.
+pub(crate) fn no_reply() -> AuthReply
+    ensures { result ≡ no_reply_of }
+{
+    AuthReply {
+        nonce: Nonce::default(),
+        attrs: SessionAttrs::default(),
+        hmac: AuthValue::default(),
     }
 }
 

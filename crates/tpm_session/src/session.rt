@@ -2,6 +2,7 @@
 
 ghost use Rattle.std.specs.Prelude.{◌≡◌, ◌≤◌, [], length};
 ghost use Rattle.tpm_types.specs.Handles.{kind_of};
+ghost use Rattle.tpm_types.specs.declared.handle_sets.BindHandle.TheVariants as binds;
 ghost use Rattle.tpm_hmac.specs.Sessions.{trim as trim_of};
 ghost use Rattle.tpm_model.specs.Steps.{Origin};
 ghost use Rattle.tpm_model.specs.Registers.{Registers, value_in, composite as composite_of};
@@ -13,7 +14,7 @@ ghost use Rattle.tpm_session.specs.Policies.{as_assertion, asserting, restarted}
 use crate::policy::{Assertion, Policy, differs, is_listed};
 use std::marker::Model;
 use tpm_buffer::StartAuth;
-use tpm_hmac::session_key;
+use tpm_hmac::{SessionKey, session_key};
 use tpm_types::{
     Alg, BindHandle, Digest, Nonce, OrDigests, Selections, SessionHandle, SessionType,
 };
@@ -27,8 +28,7 @@ pub const NONCE_BYTES: usize = 64;
 #[derive(Drop)]
 pub struct Session {
     pub(crate) session_type: SessionType,
-    pub(crate) hash: Alg,
-    pub(crate) key: Digest,
+    pub(crate) key: SessionKey,
     pub(crate) nonce: Nonce,
     pub(crate) is_bound: bool,
     pub(crate) policy: Policy,
@@ -40,7 +40,7 @@ impl Model for Session {
 
     ghost Value = { model.Session };
 
-    ghost view = { λ s. record { session_type = s.session_type; hash = s.hash; key = s.key; nonce = s.nonce; nonce_length = length s.nonce; is_bound = s.is_bound; policy = s.policy } };
+    ghost view = { λ s. record { session_type = s.session_type; hash = s.key.hash; key = s.key.bytes; nonce = s.nonce; nonce_length = length s.nonce; is_bound = s.is_bound; policy = s.policy } };
 }
 
 impl Session {
@@ -48,14 +48,14 @@ impl Session {
     pub fn hash(&self) -> Alg
         ensures { result ≡ self.now.hash }
     {
-        self.hash
+        self.key.hash()
     }
 
     /// sessionKey: as long as a digest where the session is bound, else empty.
     pub fn key(&self) -> &[u8]
         ensures { result.now ≡ self.now.key }
     {
-        self.key.as_slice()
+        self.key.bytes()
     }
 
     /// nonceTPM: the session's part of the nonces of its next command.
@@ -78,7 +78,7 @@ impl Session {
     // A session that is started with these bytes for its nonce, bound to an entity with this authorization value.
     pub(crate) fn started(start: &StartAuth, bind_auth: &[u8], nonce: &[u8; NONCE_BYTES]) -> Self
         requires { length start.now.nonce_caller ≤ 48 }
-        ensures { (o : Origin) → trim_of bind_auth.now ≡ trim_of o.owner → result ≡ as_session o nonce.now [] (record { request = start.now; nonce = nonce.now }) }
+        ensures { (o : Origin) → (start.now.bind ≡ binds.Owner → trim_of bind_auth.now ≡ trim_of o.owner) → result ≡ as_session o nonce.now [] (record { request = start.now; nonce = nonce.now }) }
     {
         let nonce = first_of(start, nonce);
         let key = match start.bind {
@@ -92,8 +92,7 @@ impl Session {
         };
         Session {
             session_type: start.session_type,
-            hash: start.auth_hash,
-            key,
+            key: SessionKey::new(start.auth_hash, key),
             nonce,
             is_bound: start.bind == BindHandle::Owner,
             policy: Policy::new(start.auth_hash),
@@ -189,22 +188,25 @@ impl Session {
     pub(crate) fn assert(&mut self, assertion: &Assertion<'_>)
         ensures { self.new ≡ asserting (as_assertion assertion.now) self.old }
     {
-        self.policy.assert(self.hash, assertion);
+        self.policy.assert(self.key.hash(), assertion);
     }
 
     // Nothing is asserted any more.
     pub(crate) fn restart(&mut self)
         ensures { self.new ≡ restarted self.old }
     {
-        self.policy = Policy::new(self.hash);
+        self.policy = Policy::new(self.key.hash());
     }
 
-    // The next nonce, and nothing asserted any more.
+    // The next nonce, and nothing asserted any more. A session that goes on has its key hashed by now.
     pub(crate) fn roll(&mut self, nonce: &[u8; NONCE_BYTES])
         ensures { self.new ≡ rolled nonce.now self.old }
     {
         let len = self.nonce.as_slice().len();
         self.nonce.set(&nonce[..len]);
+        if self.session_type == SessionType::Hmac {
+            self.key.keep();
+        }
         self.restart();
     }
 }

@@ -14,6 +14,7 @@ ghost use Rattle.tpm_model.specs.Registers.{value_in, composite as composite_of,
 ghost use Rattle.tpm_model.specs.Sessions as model;
 ghost use Rattle.tpm_types.specs.declared.tpms.Auth.{Auth};
 ghost use Rattle.tpm_types.specs.Tpma.{continues};
+ghost use Rattle.tpm_types.specs.declared.handle_sets.BindHandle.TheVariants as binds;
 ghost use Rattle.tpm_buffer.specs.Handles.{needs_authorization};
 ghost use Rattle.tpm_buffer.specs.Commands.{code_for};
 ghost use Rattle.tpm_session.specs.Answers.{started_reply, after_command};
@@ -123,7 +124,7 @@ impl Sessions {
     }
 
     /// TPM2_StartAuthSession: starts a session in the lowest free slot, with the first of these bytes for its nonce; `bind_auth`
-    /// is the authorization value of what it is bound to, if it is bound (Part 3, 11.1). Refused in this order: SIZE of parameter
+    /// is the authorization value of what it is bound to, and is not looked at where bind is TPM_RH_NULL (Part 3, 11.1). Refused in this order: SIZE of parameter
     /// 1 for a nonce of fewer than 16 bytes or more than a digest has; SESSION_MEMORY where no slot is free.
     pub fn start(
         &mut self,
@@ -132,7 +133,7 @@ impl Sessions {
         nonce: &[u8; NONCE_BYTES],
     ) -> Result<StartReply, u32>
         ensures answer { started_reply result ≡ start_session self.old start.now nonce.now }
-        ensures started { IfOk result (λ reply. (o : Origin) (h : History) (c : Command) (r : Reply) → trim_of bind_auth.now ≡ trim_of o.owner →
+        ensures started { IfOk result (λ reply. (o : Origin) (h : History) (c : Command) (r : Reply) → (start.now.bind ≡ binds.Owner → trim_of bind_auth.now ≡ trim_of o.owner) →
             c.body ≡ bodies.StartAuthSession start.now → c.auths.items ≡ [] → r.body ≡ replies.StartAuthSession reply →
             self.old ≡ sessions_at o h → self.new ≡ sessions_at o (Accepted c r nonce.now ∷ h)) }
         ensures refused { OnErr result (self.new ≡ self.old) }

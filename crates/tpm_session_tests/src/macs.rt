@@ -4,7 +4,7 @@ use crate::texts::{alg, bytes, number, word};
 use std::process::Abort;
 use std::test::*;
 use tpm_buffer::CommandCode;
-use tpm_hmac::{command_mac, cp_hash, response_mac, rp_hash};
+use tpm_hmac::{SessionKey, command_mac, cp_hash, response_mac, rp_hash};
 use tpm_types::{Alg, Digest, Name, SessionAttrs};
 
 // A command or a response a line: its hash, the session key, the authorization value, the code, the Names of the handles (two at
@@ -85,6 +85,20 @@ fn mac(side: &str, alg: Alg, texts: Texts<'_>, attrs: SessionAttrs) -> Digest {
     }
 }
 
+// The same by a session's key that is hashed once.
+fn kept_mac(rt: &impl Abort, alg: Alg, texts: Texts<'_>, attrs: SessionAttrs) -> Digest {
+    let bytes = Digest::new(texts.session_key).expect(rt, "a session key");
+    let mut key = SessionKey::new(alg, bytes);
+    key.keep();
+    key.session_mac(
+        texts.auth_value,
+        texts.p_hash,
+        texts.newer,
+        texts.older,
+        attrs,
+    )
+}
+
 // Whether the rest of a line, from the hash of the parameters on, ends in the MAC.
 fn ends_in_the_mac(rt: &impl Abort, side: &str, alg: Alg, keys: (&str, &str), rest: &str) -> bool {
     let mut rest = rest;
@@ -102,7 +116,9 @@ fn ends_in_the_mac(rt: &impl Abort, side: &str, alg: Alg, keys: (&str, &str), re
         newer: newer.as_slice(),
         older: older.as_slice(),
     };
-    mac(side, alg, texts, attrs).as_slice() == bytes(rt, rest).as_slice()
+    let expected = bytes(rt, rest);
+    mac(side, alg, texts, attrs).as_slice() == expected.as_slice()
+        && kept_mac(rt, alg, texts, attrs).as_slice() == expected.as_slice()
 }
 
 // Whether the hash and the MAC of a line are so.

@@ -85,6 +85,6 @@ fn nonces_and_keys_that_sessions_are_started_with(rt: HostRuntime) {
 
 // Three sessions, all of them in place.
 #[test]
-fn sessions_take_648_bytes(rt: HostRuntime) {
-    assert!(rt; size_of::<Sessions>() == 648);
+fn sessions_take_1320_bytes(rt: HostRuntime) {
+    assert!(rt; size_of::<Sessions>() == 1320);
 }

@@ -1,7 +1,8 @@
 -- Lists of registers that are compared one part after the other.
-use Rattle.std.proofs.Common.{◌≡◌, ◌≢◌, ℕ, Bool, true, ◌+◌, ◌<◌, ◌≤◌, false, List, [], ◌∷◌, ◌++◌, length, map, Option, Some, None, option_map, refl, sym, ap, subst, ◌∙◌, inl, inr, arith, append_assoc, length-append}
+use Rattle.std.proofs.Common.{◌≡◌, ◌≢◌, ℕ, Bool, true, ◌+◌, ◌<◌, ◌≤◌, false, List, [], ◌∷◌, ◌++◌, length, map, Option, Some, None, option_map, refl, sym, ap, subst, ◌∙◌, inl, inr, arith, append_assoc, length-append, position}
 use Rattle.std.specs.Prelude.{suc, nat_eq, IfSome}
 use Rattle.std.specs.Str.{bytes_eq}
+use Rattle.std.specs.Fmt.{digits}
 use Rattle.std.proofs.lemmas.List.Quantifiers.{position-Some}
 use Rattle.tpm_types.specs.declared.alg.Alg.{Alg}
 use Rattle.tpm_tool.specs.declared.stated.TheConstants.{REGISTERS}
@@ -13,11 +14,12 @@ use Rattle.std.proofs.lemmas.Option.{none-some}
 use Rattle.tpm_buffer.proofs.Filled.{consumes_both}
 use Rattle.tpm_tool.specs.declared.status.Status.{Status}
 use Rattle.tpm_tool.specs.declared.status.Status.TheVariants.{Done, Refused}
-use Rattle.tpm_tool.specs.Script.{lines_of, HasNoFeed, AreEnded, most_bytes}
+use Rattle.tpm_tool.specs.Script.{lines_of, HasNoFeed, AreEnded, most_bytes, most_piece}
 use Rattle.tpm_tool.specs.Status.{both}
-use Rattle.tpm_tool.specs.Compare.{Values, Stated, Comparison, stated_in, is_value, compared_line, not_a_register_line, bank_lines, register_line, register_named, comparison_of, comparison_from, comparison, status_if, most_line, AreRegisters, ReadsList, ReadsTooMuchList}
+use Rattle.tpm_tool.specs.Compare.{Values, Stated, Comparison, stated_in, is_value, compared_line, not_a_register_line, bank_lines, register_line, register_names, register_named, comparison_of, comparison_from, comparison, status_if, most_line, AreRegisters, IsStated, ReadsList, ReadsTooMuchList}
 use Rattle.tpm_tool.specs.Comparing.{Place, start, behind, with_status, comparison_at, IsOpen, Leads, Stops, Ends, GoesOn, Takes, status_behind, EndsLine, Reaches}
 use Rattle.tpm_tool.proofs.InputLines.{ended_line, last_line, first_line, other_lines, longer_line, lines_of-append, ended_both}
+use Rattle.tpm_tool.proofs.Tables.{position-map}
 use Rattle.tpm_tool.proofs.Scripts.{joins_appends}
 
 -- ---- registers
@@ -25,10 +27,15 @@ use Rattle.tpm_tool.proofs.Scripts.{joins_appends}
 pub bank_lines-more : (value : Values) (bank : Alg) (n : ℕ) → bank_lines value bank (n + 1) ≡ bank_lines value bank n ++ register_line bank n (value bank n)
 bank_lines-more value bank n = let e : n + 1 ≡ suc n = omega arith in rw e refl
 
+-- the table has the numbers in decimal
+pub named-is : (word : List ℕ) → position (λ name. bytes_eq name.now word) REGISTERS ≡ register_named word
+unfolding digits
+named-is word = position-map REGISTERS (λ name. name.now) (λ name. bytes_eq name word)
+
 -- what is at a place in the table is the number of a register
 pub named-below : (o : Option ℕ) (word : List ℕ) → o ≡ register_named word → IfSome o (λ number. number < 24)
 named-below None word e = tt
-named-below (Some number) word e = (position-Some (λ name. bytes_eq name.now word) REGISTERS number (record { now = [] }) (sym e)).0
+named-below (Some number) word e = (position-Some (λ name. bytes_eq name word) register_names number [] (sym e)).0
 
 -- ---- statuses
 
@@ -215,6 +222,17 @@ whole_list value bytes = from_start value bytes ∙ ap (comparison_at value star
 
 -- ---- the input
 
+-- each line states a register of what was taken
+stated : (value : Values) (bytes text : List ℕ) (p : Place) → GoesOn value start bytes text p → IsStated bytes
+stated value bytes text p f = record {
+  lines = f.ends.0;
+  line = p.line;
+  are = f.ends.1;
+  ended = f.ends.2;
+  registers = f.ends.3;
+  short = (f.open_again.line, f.open_again.most);
+}
+
 abbrev pub Answers : Values → (old new a c : Option (List ℕ)) → Option Status → Type 0
 Answers value old new a c status = (bytes : List ℕ) × ReadsList value old new bytes × (status ≡ (comparison value bytes).status) × Appends a c (comparison value bytes).text
 
@@ -236,9 +254,9 @@ answers_at_end value old mid new a b c read p status f le consumed end ended =
 
 -- at a line that states no register
 pub answers_stopped : (value : Values) (old mid new a b c : Option (List ℕ)) (read count : ℕ) (bytes text : List ℕ) (p : Place)
-    → Reaches value old mid read p (Appends a b) → read + count ≤ most_bytes → Consumes mid new bytes → count ≡ length bytes
+    → Reaches value old mid read p (Appends a b) → read + count ≤ most_bytes → count ≤ most_piece → Consumes mid new bytes → count ≡ length bytes
     → Appends b c text → Stops value p bytes text → Answers value old new a c None
-answers_stopped value old mid new a b c read count bytes text p f le consumed counted added stops =
+answers_stopped value old mid new a b c read count bytes text p f le few consumed counted added stops =
     let both = stops_both value start p f.bytes bytes f.text text f.goes_on.leads stops in
     let all = f.bytes ++ bytes in
     let whole : comparison value all ≡ record { text = f.text ++ text; status = None } = whole_list value all ∙ both [] in (
@@ -246,7 +264,11 @@ answers_stopped value old mid new a b c read count bytes text p f le consumed co
       record {
         read = consumes_both old mid new f.bytes bytes f.consumed consumed;
         most = omega (arith, f.count, counted, le, length-append f.bytes bytes);
-        whole = inr (ap (λ (c : Comparison). c.status) whole, λ more. from_start value (all ++ more) ∙ both more ∙ sym whole);
+        whole = inr (
+          ap (λ (c : Comparison). c.status) whole,
+          record { before = f.bytes; last = bytes; are = refl; stated = stated value f.bytes f.text p f.goes_on; most = rw counted at few },
+          λ more. from_start value (all ++ more) ∙ both more ∙ sym whole,
+        );
       },
       ap (λ (c : Comparison). c.status) (sym whole),
       subst (λ (d : Comparison). Appends a c d.text) (sym whole) (joins_appends a b c f.text text f.added added),
@@ -271,10 +293,5 @@ reads_too_much value old mid new read more p Added f consumed one is = record {
   read = consumes_both old mid new f.bytes more f.consumed consumed;
   most = sym f.count ∙ is;
   one = one;
-  lines = f.goes_on.ends.0;
-  line = p.line;
-  are = f.goes_on.ends.1;
-  ended = f.goes_on.ends.2;
-  registers = f.goes_on.ends.3;
-  short = (f.goes_on.open_again.line, f.goes_on.open_again.most);
+  stated = stated value f.bytes f.text p f.goes_on;
 }

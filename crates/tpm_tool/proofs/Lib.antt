@@ -5,6 +5,7 @@ mod Scripts
 mod Nonces
 mod Comparisons
 mod Checks
+mod Verdicts
 mod EventSizes
 mod EventLines
 mod Tables

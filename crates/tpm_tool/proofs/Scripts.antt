@@ -16,7 +16,7 @@ use Rattle.tpm_tool.specs.declared.script.Run.{Run}
 use Rattle.tpm_tool.specs.declared.status.Status.{Status}
 use Rattle.tpm_tool.specs.declared.status.Status.TheVariants.{Done, Refused}
 use Rattle.tpm_tool.specs.Text.{bytes_line, line}
-use Rattle.tpm_tool.specs.Script.{Line, Blank, Power, Command, NotHexadecimal, Script, lines_of, line_of, most_digits, HasNoFeed, AreEnded, AreAccepted, IsRefusedLine, IsRefusedIn, IsUnrefused, events_from, refused_from, script_from, script, events_text, refused_text, script_text, status_for, ReadsScript, most_bytes}
+use Rattle.tpm_tool.specs.Script.{Line, Blank, Power, Command, NotHexadecimal, Script, lines_of, line_of, most_digits, HasNoFeed, AreEnded, AreAccepted, IsRefusedLine, IsRefusedIn, IsUnrefused, events_from, refused_from, script_from, script, events_text, refused_text, script_text, status_for, ReadsScript, most_bytes, most_piece}
 use Rattle.tpm_tool.specs.Progress.{Place, start, script_at, IsOpen, behind, Leads, Ends, refused_at, StandsAt, Performs, AddedTo, place, next_command, EndsLine, Takes, Reaches}
 use Rattle.tpm_tool.proofs.InputLines.{no_feed-more, ended_line, last_line, first_line, other_lines, longer_line, lines_of-append, ended_both}
 
@@ -384,16 +384,20 @@ answers_at_end old mid new read device first r s A B C status joins is same f le
 
 -- at a line that is refused
 pub answers_refused : (old mid new : Option (List ℕ)) (read count : ℕ) (bytes : List ℕ) (device : Device) (first r s : Run) (A B C : List ℕ → Type 0) → Joins A B C
-    → place first ≡ start → first.device ≡ device → Reaches old mid read first r A → read + count ≤ most_bytes → Consumes mid new bytes → count ≡ length bytes
+    → place first ≡ start → first.device ≡ device → Reaches old mid read first r A → read + count ≤ most_bytes → count ≤ most_piece → Consumes mid new bytes → count ≡ length bytes
     → Takes bytes r s B Refused → Answers old new device C Refused
-answers_refused old mid new read count bytes device first r s A B C joins is same f le consumed counted takes =
+answers_refused old mid new read count bytes device first r s A B C joins is same f le few consumed counted takes =
     let all = takes_both f.bytes bytes first r s A B C Refused joins f.takes takes in
     let answer = answered_refused (f.bytes ++ bytes) first s C is all in (
       f.bytes ++ bytes,
       record {
         read = consumes_both old mid new f.bytes bytes f.consumed consumed;
         most = omega (arith, f.count, counted, le, length-append f.bytes bytes);
-        whole = inr (from_start (place first) (f.bytes ++ bytes) is all.ends, over (f.bytes ++ bytes) first s C is all);
+        whole = inr (
+          from_start (place first) (f.bytes ++ bytes) is all.ends,
+          record { before = f.bytes; last = bytes; are = refl; unrefused = unrefused f.bytes first r A is f.takes; most = rw counted at few },
+          over (f.bytes ++ bytes) first s C is all,
+        );
       },
       answer.0,
       rw same at answer.1,

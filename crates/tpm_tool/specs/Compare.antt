@@ -2,7 +2,7 @@
 use Rattle.std.specs.Prelude.{◌≡◌, ◌≢◌, ◌⊎◌, ℕ, zero, suc, ◌+◌, ◌≤◌, ◌==◌, nat_lt, Bool, true, false, List, [], ◌∷◌, ◌++◌, length, map, position, find, codes, Option, Some, None, option_map, if◌then◌else◌}
 use Rattle.std.specs.Str.{bytes_eq}
 use Rattle.std.specs.Fmt.{decimal}
-use Rattle.std.specs.List.{AllByRecursion, before_first, after_first}
+use Rattle.std.specs.List.{AllByRecursion, before_first, after_first, range_with_len}
 use Rattle.std.specs.Io.KnownBytes.{Consumes, IsAtEnd}
 use Rattle.hex.specs.Hex.{encode_lower}
 use Rattle.tpm_types.specs.declared.alg.Alg.{Alg}
@@ -10,10 +10,9 @@ use Rattle.tpm_types.specs.declared.alg.Alg.TheVariants.{Sha1, Sha256, Sha384}
 use Rattle.tpm_types.specs.Alg.{all_algs, digest_len}
 use Rattle.tpm_tool.specs.declared.status.Status.{Status}
 use Rattle.tpm_tool.specs.declared.status.Status.TheVariants.{Done, Refused}
-use Rattle.tpm_tool.specs.declared.stated.TheConstants.{REGISTERS}
 use Rattle.tpm_tool.specs.Status.{both}
 use Rattle.tpm_tool.specs.Text.{bytes_in, line}
-use Rattle.tpm_tool.specs.Script.{lines_of, HasNoFeed, AreEnded, most_bytes}
+use Rattle.tpm_tool.specs.Script.{lines_of, HasNoFeed, AreEnded, most_bytes, most_piece}
 
 -- ---- registers
 
@@ -59,9 +58,13 @@ behind_word text = after_first is_space text
 abbrev pub bank_named : List ℕ → Option Alg
 bank_named word = find (λ bank. bytes_eq (bank_name bank) word) all_algs
 
--- its place in the table of the registers' numbers in decimal
+-- the numbers of a bank's registers in decimal
+abbrev pub register_names : List (List ℕ)
+register_names = map decimal (range_with_len 0 24)
+
+-- the number below 24 whose decimal spelling this is
 abbrev pub register_named : List ℕ → Option ℕ
-register_named word = position (λ name. bytes_eq name.now word) REGISTERS
+register_named word = position (λ name. bytes_eq name word) register_names
 
 -- a value has as many bytes as a digest of the bank's hash
 abbrev pub stated_of : Option Alg → Option ℕ → Option (List ℕ) → Option Stated
@@ -121,14 +124,31 @@ comparison value bytes = comparison_from value 1 (map stated_in (lines_of bytes)
 
 -- ---- what is read of a list
 
--- These bytes were read, not too many; and the list has ended, or a line of them states no register, and whatever comes makes no difference.
+abbrev pub AreRegisters : List ℕ → Type 0
+AreRegisters lines = AllByRecursion (λ line. stated_in line ≢ None) (lines_of lines)
+
+-- All lines that have ended state registers, and the one behind them is not too long to.
+pub record IsStated (bytes : List ℕ) : Type 0 where
+  pub lines : List ℕ
+  pub line : List ℕ
+  pub are : bytes ≡ lines ++ line
+  pub ended : AreEnded lines
+  pub registers : AreRegisters lines
+  pub short : HasNoFeed line × (length line ≤ most_line)
+
+-- Of these bytes each line states a register but in the last of them, no more than are asked for at a time.
+pub record IsStatedBefore (bytes : List ℕ) : Type 0 where
+  pub before : List ℕ
+  pub last : List ℕ
+  pub are : bytes ≡ before ++ last
+  pub stated : IsStated before
+  pub most : length last ≤ most_piece
+
+-- These bytes were read, not too many; and the list has ended, or a line of the last of them states no register, and whatever comes makes no difference.
 pub record ReadsList (value : Values) (old new : Option (List ℕ)) (bytes : List ℕ) : Type 0 where
   pub read : Consumes old new bytes
   pub most : length bytes ≤ most_bytes
-  pub whole : IsAtEnd new ⊎ ((comparison value bytes).status ≡ None) × ((more : List ℕ) → comparison value (bytes ++ more) ≡ comparison value bytes)
-
-abbrev pub AreRegisters : List ℕ → Type 0
-AreRegisters lines = AllByRecursion (λ line. stated_in line ≢ None) (lines_of lines)
+  pub whole : IsAtEnd new ⊎ ((comparison value bytes).status ≡ None) × IsStatedBefore bytes × ((more : List ℕ) → comparison value (bytes ++ more) ≡ comparison value bytes)
 
 -- One byte more was read than a list may have, and up to it each line that has ended states a register.
 pub record ReadsTooMuchList (old new : Option (List ℕ)) : Type 0 where
@@ -137,9 +157,4 @@ pub record ReadsTooMuchList (old new : Option (List ℕ)) : Type 0 where
   pub read : Consumes old new (bytes ++ more)
   pub most : length bytes ≡ most_bytes
   pub one : length more ≡ 1
-  pub lines : List ℕ
-  pub line : List ℕ
-  pub are : bytes ≡ lines ++ line
-  pub ended : AreEnded lines
-  pub registers : AreRegisters lines
-  pub short : HasNoFeed line × (length line ≤ most_line)
+  pub stated : IsStated bytes

@@ -10,6 +10,8 @@ pub mod Progress
 pub mod Compare
 pub mod Comparing
 pub mod Check
+pub mod CheckAttest
 pub mod Explain
 pub mod EventTypes
+pub mod Reads
 pub mod ListEvents

@@ -146,6 +146,10 @@ status_for (Some n) = Refused
 abbrev pub most_bytes : ℕ
 most_bytes = 16777216
 
+-- how many bytes are asked for at a time
+abbrev pub most_piece : ℕ
+most_piece = 4096
+
 -- A read failed where the answer is Read, and nowhere else.
 abbrev pub CountsRead : {X : Type 0} → ℕ → ℕ → Result X ToolFault → Type 0
 CountsRead old new (Ok x) = new ≡ old
@@ -154,11 +158,19 @@ CountsRead old new (Err Memory) = new ≡ old
 CountsRead old new (Err Write) = new ≡ old
 CountsRead old new (Err InputTooLong) = new ≡ old
 
--- These bytes of the input were read, not too many; and it has ended, or a line of them is refused, and whatever comes makes no difference.
+-- Of these bytes no line is refused but in the last of them, no more than are asked for at a time.
+pub record IsRefusedLast (bytes : List ℕ) : Type 0 where
+  pub before : List ℕ
+  pub last : List ℕ
+  pub are : bytes ≡ before ++ last
+  pub unrefused : IsUnrefused before
+  pub most : length last ≤ most_piece
+
+-- These bytes of the input were read, not too many; and it has ended, or a line of the last of them is refused, and whatever comes makes no difference.
 pub record ReadsScript (old new : Option (List ℕ)) (bytes : List ℕ) : Type 0 where
   pub read : Consumes old new bytes
   pub most : length bytes ≤ most_bytes
-  pub whole : IsAtEnd new ⊎ IsRefusedIn bytes × ((more : List ℕ) → script (bytes ++ more) ≡ script bytes)
+  pub whole : IsAtEnd new ⊎ IsRefusedIn bytes × IsRefusedLast bytes × ((more : List ℕ) → script (bytes ++ more) ≡ script bytes)
 
 -- One byte more was read than a script may have, and up to it no line was refused.
 pub record ReadsTooMuch (old new : Option (List ℕ)) : Type 0 where

@@ -11,7 +11,8 @@ ghost use Rattle.tpm_model.specs.Registers.{Registers as RegistersValue};
 ghost use Rattle.tpm_log.specs.Changes.{AreAfter};
 ghost use Rattle.tpm_log.specs.Replays.{ReplaysFrom, ReadsFrom};
 ghost use Rattle.tpm_log.specs.declared.fault.LogFault.{LogFault as LogFaultValue};
-ghost use Rattle.tpm_tool.specs.declared.fault.ToolFault.TheVariants.{InputTooLong};
+ghost use Rattle.tpm_wire.specs.Sources.{IsWhereItFailed};
+ghost use Rattle.tpm_tool.specs.declared.fault.ToolFault.TheVariants.{InputTooLong, Read};
 ghost use Rattle.tpm_tool.specs.Script.{CountsRead};
 ghost use Rattle.tpm_tool.specs.Check.{ChecksQuote, ChecksValues, ChecksLog, CountsReads, ReadsTooMuchIfList, list_before, list_after, log_fault_line};
 
@@ -59,7 +60,8 @@ fn print_registers<W: Write>(
     Ok(Status::Done)
 }
 
-fn print_quote<W: Write>(
+/// Prints what a quote's information in hexadecimal says of registers.
+pub(crate) fn print_quote<W: Write>(
     alloc: Global,
     found: &Registers,
     hash: Alg,
@@ -92,8 +94,8 @@ fn check_alone<W: Write>(
     }
 }
 
-// Prints each line of a list beside registers, and then what the quote says of them.
-fn check_stated<F: Source, W: Write>(
+/// Prints each line of a list beside registers, and then what the quote says of them.
+pub(crate) fn check_stated<F: Source, W: Write>(
     alloc: Global,
     found: &Registers,
     list: &mut F,
@@ -102,6 +104,7 @@ fn check_stated<F: Source, W: Write>(
     out: &mut W,
 ) -> Result<Status, ToolFault>
     ensures failures { CountsRead (F.failed list.old) (F.failed list.new) result }
+    ensures stop { IsErrOf result Read → IsWhereItFailed (F.stopped list.new) }
     ensures ok { IfOk result (λ status. (bytes : List ℕ) × (text : List ℕ)
         × ReadsList (value_in found.now.banks) (F.coming list.old) (F.coming list.new) bytes
         × ChecksValues (value_in found.now.banks) hash (Some bytes) (option_map (λ q. q.now) quote.entry) status text

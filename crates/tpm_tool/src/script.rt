@@ -5,7 +5,8 @@ ghost use Rattle.std.specs.Io.KnownBytes.{Appends};
 ghost use Rattle.tpm_model.specs.Steps.{History, Origin};
 ghost use Rattle.tpm_model.specs.Runs.{Given, Cycled};
 ghost use Rattle.tpm_device.specs.Stands.{Stands};
-ghost use Rattle.tpm_tool.specs.declared.fault.ToolFault.TheVariants.{InputTooLong};
+ghost use Rattle.tpm_wire.specs.Sources.{IsWhereItFailed};
+ghost use Rattle.tpm_tool.specs.declared.fault.ToolFault.TheVariants.{InputTooLong, Read};
 ghost use Rattle.tpm_tool.specs.Faults.{FailsByMemoryOrWrite};
 ghost use Rattle.tpm_tool.specs.Script.{nonce_of, line_of, refused_line, script, script_text, status_for, CountsRead, ReadsScript, ReadsTooMuch};
 ghost use Rattle.tpm_tool.specs.Progress.{place, start, IsOpen, EndsLine, Takes, Performs, AddedTo};
@@ -199,6 +200,7 @@ pub fn run_script<R: Source, W: Write>(
     device: Device,
 ) -> Result<Status, ToolFault>
     ensures failures { CountsRead (R.failed input.old) (R.failed input.new) result }
+    ensures stop { IsErrOf result Read → IsWhereItFailed (R.stopped input.new) }
     ensures ok { IfOk result (λ status. (bytes : List ℕ)
         × ReadsScript (R.coming input.old) (R.coming input.new) bytes
         × (status ≡ status_for (script bytes).refused)

@@ -4,9 +4,11 @@ ghost use Rattle.std.specs.Prelude.{◌≡◌, ℕ};
 ghost use Rattle.tpm_wire.specs.Token.{Here};
 ghost use Rattle.tpm_wire.specs.Reading.{read};
 ghost use Rattle.tpm_types.specs.Limits.{banks, digest_bytes, name_bytes, public_bytes, block_bytes};
+ghost use Rattle.tpm_types.specs.Attest.{data_bytes};
 ghost use Rattle.tpm_types.specs.Tpms.{select_bytes};
 ghost use Rattle.tpm_types.specs.Tpml.{most_digests, selections, digests, or_digests, digest_values};
 
+use crate::attest::DATA_BYTES;
 use crate::limits::{BANKS, BLOCK_BYTES, DIGEST_BYTES, NAME_BYTES, PUBLIC_BYTES};
 use crate::tpml::{DigestValues, Digests, MOST_DIGESTS, OrDigests, Selections};
 use crate::tpms::SELECT_BYTES;
@@ -21,6 +23,7 @@ pub fn same_limits()
     ensures block { BLOCK_BYTES ≡ block_bytes }
     ensures select { SELECT_BYTES ≡ select_bytes }
     ensures digests { MOST_DIGESTS ≡ most_digests }
+    ensures data_bytes { DATA_BYTES ≡ data_bytes }
 {}
 
 /// Each counted list is read as its layout says, with the least and the greatest count of that.

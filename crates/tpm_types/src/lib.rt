@@ -7,6 +7,7 @@ mod constants;
 mod handle_sets;
 mod handles;
 mod laws;
+mod lent;
 mod limits;
 mod tpm2b;
 mod tpma;
@@ -15,7 +16,7 @@ mod tpms;
 mod tpmt;
 
 pub use alg::Alg;
-pub use attest::QuoteInfo;
+pub use attest::{Attest, ClockInfo, DATA_BYTES, QuoteInfo};
 pub use constants::{SessionType, StartupType};
 pub use handle_sets::{BindHandle, NullHandle, NvAuthHandle, OwnerHandle, PcrOrNull};
 pub use handles::{
@@ -23,6 +24,7 @@ pub use handles::{
     PolicyHandle, REGISTERS, RH_NULL, RH_OWNER, RS_PW, Registers, SessionHandle, Sessions,
 };
 pub use laws::{same_limits, same_lists};
+pub use lent::Lent;
 pub use limits::{BANKS, BLOCK_BYTES, DIGEST_BYTES, NAME_BYTES, PUBLIC_BYTES};
 pub use tpm2b::{AuthValue, Digest, EncryptedSalt, Name, Nonce, name_of_handle};
 pub use tpma::{NvAttrs, SessionAttrs};

@@ -4,10 +4,10 @@
 use crate::checks::rows;
 use std::test::*;
 use tpm_types::{
-    Alg, Auth, AuthReply, AuthSession, AuthValue, BindHandle, Digest, DigestValues, Digests,
-    EncryptedSalt, HashedDigest, KeyBits, Name, Nonce, NullHandle, NvAttrs, NvAuthHandle, NvIndex,
-    NvPublic, OrDigests, OwnerHandle, PcrIndex, PcrOrNull, PolicyHandle, QuoteInfo, Selection,
-    Selections, SessionAttrs, SessionHandle, SessionType, StartupType, SymDef,
+    Alg, Auth, AuthReply, AuthSession, AuthValue, BindHandle, ClockInfo, Digest, DigestValues,
+    Digests, EncryptedSalt, HashedDigest, KeyBits, Name, Nonce, NullHandle, NvAttrs, NvAuthHandle,
+    NvIndex, NvPublic, OrDigests, OwnerHandle, PcrIndex, PcrOrNull, PolicyHandle, QuoteInfo,
+    Selection, Selections, SessionAttrs, SessionHandle, SessionType, StartupType, SymDef,
 };
 
 #[test]
@@ -274,6 +274,16 @@ fn structures(rt: HostRuntime) {
         0031 01 0000 ! 0095 00
         0000 10 0000 ! 00a1 02
         0000 01 0031 ! 0095 03
+        ",
+    );
+    // clock, resetCount, restartCount, safe
+    rows::<ClockInfo>(
+        &rt,
+        "
+        00000000000003a1 00000002 00000003 01 = 0000000000000000 08080808 0c0c0c0c 10
+        ffffffffffffffff ffffffff ffffffff 00 = 0000000000000000 08080808 0c0c0c0c 10
+        00000000000003a1 00000002 00000003 02 ! 0084 10
+        00000000000003a1 00000002 00000003 ff ! 0084 10
         ",
     );
     // pcrSelect: count, SHA-256 and register 7; pcrDigest

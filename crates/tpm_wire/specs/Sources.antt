@@ -1,5 +1,5 @@
--- What sources of bytes count.
-use Rattle.std.specs.Prelude.{◌≡◌, ℕ, ◌+◌, ◌-◌, ◌^◌, min, Result, Ok, Err}
+-- What sources of bytes count, where they stop, and what is said of their bytes where they do not tell them.
+use Rattle.std.specs.Prelude.{◌≡◌, ℕ, ◌+◌, ◌-◌, ◌^◌, min, Bool, true, List, Option, Some, None, Result, Ok, Err}
 
 -- one failure more, where the count has room for it
 abbrev pub one_more : ℕ → ℕ
@@ -9,3 +9,12 @@ one_more n = min (n + 1) (2 ^ 64 - 1)
 abbrev pub CountsFailures : {X E : Type 0} → ℕ → ℕ → Result X E → Type 0
 CountsFailures old new (Ok x) = new ≡ old
 CountsFailures old new (Err e) = new ≡ one_more old
+
+-- The last read of a source is the one that failed, and none came behind it.
+abbrev pub IsWhereItFailed : Bool → Type 0
+IsWhereItFailed stopped = stopped ≡ true
+
+-- This holds of the bytes of a source where it tells them, and else of some bytes.
+abbrev pub OfBytes : (List ℕ → Type 0) → Option (List ℕ) → Type 0
+OfBytes P (Some bytes) = P bytes
+OfBytes P None = (bytes : List ℕ) × P bytes

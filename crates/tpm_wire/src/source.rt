@@ -1,9 +1,9 @@
 //! Where bytes come from.
 
-ghost use Rattle.std.specs.Prelude.{◌≡◌, ℕ, min, length, List, Option, Some, Ok};
+ghost use Rattle.std.specs.Prelude.{◌≡◌, ℕ, Bool, true, false, min, length, List, Option, Some, Ok, IfErr};
 ghost use Rattle.std.specs.Io.{ReadsAtMost};
 ghost use Rattle.std.specs.Io.KnownBytes.{ReadConsumes};
-ghost use Rattle.tpm_wire.specs.Sources.{CountsFailures};
+ghost use Rattle.tpm_wire.specs.Sources.{CountsFailures, IsWhereItFailed};
 
 use std::io::Read;
 use std::marker::Model;
@@ -20,13 +20,18 @@ pub trait Source {
     /// How many reads have failed.
     ghost failed: { Self → ℕ };
 
+    /// Whether the last read failed. It is true after a read that failed; after any other, and where a source doesn't
+    /// keep it, nothing is said of it, so that a function over any source which promises it reads no more.
+    ghost stopped: { Self → Bool } = { λ _. true };
+
     /// Moves the next bytes to the front of `room` and says how many these are: at most as many as have room, and none
     /// only at their end or where there is no room. A read that failed gives no bytes, and it alone raises the count of
     /// failures, by one; at 2^64 - 1 the count stays.
     fn read(&mut self, room: &mut [u8]) -> Result<usize, ReadFailed>
         ensures bound { ReadsAtMost result room.new }
         ensures bytes { ReadConsumes (coming self.old) (coming self.new) result room.new }
-        ensures count { CountsFailures (failed self.old) (failed self.new) result };
+        ensures count { CountsFailures (failed self.old) (failed self.new) result }
+        ensures stop { IfErr result (λ _. IsWhereItFailed (stopped self.new)) };
 
     /// How many reads have failed, up to 2^64 - 1.
     fn failures(&self) -> u64
@@ -61,10 +66,13 @@ impl Source for SliceSource<'_> {
 
     ghost failed = { λ _. 0 };
 
+    ghost stopped = { λ _. false };
+
     fn read(&mut self, room: &mut [u8]) -> Result<usize, ReadFailed>
         ensures bound { ReadsAtMost result room.new }
         ensures bytes { ReadConsumes (Some self.old) (Some self.new) result room.new }
         ensures count { CountsFailures 0 0 result }
+        ensures stop { IfErr result (λ _. IsWhereItFailed false) }
         ensures all { result ≡ Ok (min (length self.old) (length room.old)) }
     {
         let n = self.rest.len().min(room.len());

@@ -47,9 +47,13 @@ explain_app = with_rule (new_app (codes "explain")) (required_rule (codes "CODE"
 abbrev pub log_app : App
 log_app = with_rule (new_app (codes "check")) (required_rule (codes "LOG"))
 
--- check LOG [--registers FILE] [--quote HEX] [--hash NAME]
+-- check LOG [--registers FILE] [--quote HEX]
+abbrev pub compare_app : App
+compare_app = with_rule (with_rule log_app (option_rule (codes "registers"))) (option_rule (codes "quote"))
+
+-- check LOG [--registers FILE] [--quote HEX] [--attest FILE] [--nonce HEX] [--hash NAME]
 abbrev pub check_app : App
-check_app = with_rule (with_rule (with_rule log_app (option_rule (codes "registers"))) (option_rule (codes "quote"))) (option_rule (codes "hash"))
+check_app = with_rule (with_rule (with_rule compare_app (option_rule (codes "attest"))) (option_rule (codes "nonce"))) (option_rule (codes "hash"))
 
 -- events LOG
 abbrev pub events_app : App

@@ -35,6 +35,12 @@ hash_word Sha384 = codes "sha384"
 abbrev pub IsHash : Text → Alg → Type 0
 IsHash text hash = text ≡ hash_word hash
 
+-- The one is given only where the other is.
+abbrev pub IsWith : Option Text → Option Text → Type 0
+IsWith None other = Unit {0}
+IsWith (Some text) None = ⊥
+IsWith (Some text) (Some other) = Unit {0}
+
 -- a subcommand of this name, with these values of its words by their names, asks for the task
 abbrev pub AsksWith : Text → (Text → Option Text) → Task → Type 0
 AsksWith name value (Show reply fields hex) = (name ≡ codes "show") × Replies (value (codes "reply")) reply × (fields ≡ is_given (value (codes "fields")))
@@ -45,8 +51,10 @@ AsksWith name value (Build code handles sessions parameters) = (name ≡ codes "
 AsksWith name value (Run owner greatest) = (name ≡ codes "run") × IsOwner (unwrap_or (value (codes "owner")) (codes "")) owner
     × IsDecimal (unwrap_or (value (codes "greatest")) (codes "0")) greatest
 AsksWith name value (Explain code) = (name ≡ codes "explain") × IsCode (value (codes "CODE")) code
-AsksWith name value (Check log registers quote hash) = (name ≡ codes "check") × (value (codes "LOG") ≡ Some log.now)
+AsksWith name value (Check log registers quote attest nonce hash) = (name ≡ codes "check") × (value (codes "LOG") ≡ Some log.now)
     × (value (codes "registers") ≡ option_map (λ r. r.now) registers) × (value (codes "quote") ≡ option_map (λ q. q.now) quote)
+    × (value (codes "attest") ≡ option_map (λ a. a.now) attest) × (value (codes "nonce") ≡ option_map (λ n. n.now) nonce)
+    × IsWith (value (codes "nonce")) (value (codes "attest"))
     × IsHash (unwrap_or (value (codes "hash")) (codes "sha256")) hash
 AsksWith name value (Events log) = (name ≡ codes "events") × (value (codes "LOG") ≡ Some log.now)
 

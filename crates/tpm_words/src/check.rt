@@ -1,10 +1,10 @@
 //! The words of the subcommand `check`.
 
-ghost use Rattle.std.specs.Prelude.{MatchOption, MatchResult, codes};
+ghost use Rattle.std.specs.Prelude.{MatchOption, MatchResult, codes, option_map};
 ghost use Rattle.clap.specs.Words.{first_value, found_of};
 ghost use Rattle.tpm_types.specs.declared.alg.Alg.{Alg as AlgValue};
 ghost use Rattle.tpm_words.specs.Stop.{IsMemoryOr};
-ghost use Rattle.tpm_words.specs.Task.{AsksNothingWith, AsksWith, IsHash};
+ghost use Rattle.tpm_words.specs.Task.{AsksNothingWith, AsksWith, IsHash, IsWith};
 
 use crate::invalid::invalid_value;
 use crate::program::check_words;
@@ -26,13 +26,32 @@ pub(crate) fn check_task<'a>(
     let Some(log) = words.get_str("LOG") else {
         return Ok(None);
     };
+    let attest = words.get_str("attest");
+    let nonce = words.get_str("nonce");
+    nonce_with(alloc, nonce, attest)?;
     let hash = hash(alloc, words.get_str("hash").unwrap_or("sha256"))?;
     Ok(Some(Task::Check {
         log,
         registers: words.get_str("registers"),
         quote: words.get_str("quote"),
+        attest,
+        nonce,
         hash,
     }))
+}
+
+// A usage fault where a nonce is given without a quote as it was signed.
+fn nonce_with(alloc: Global, nonce: Option<&str>, attest: Option<&str>) -> Result<(), Stop>
+    ensures { MatchResult result (λ _. IsWith (option_map (λ n. n.now) nonce.entry) (option_map (λ a. a.now) attest.entry))
+        (IsMemoryOr (IsWith (option_map (λ n. n.now) nonce.entry) (option_map (λ a. a.now) attest.entry) → ⊥)) }
+{
+    match (nonce, attest) {
+        (Some(text), None) => {
+            let reason = "no --attest is given";
+            Err(invalid_value(alloc, check_words(alloc), text, "--nonce <HEX>", reason))
+        }
+        _ => Ok(()),
+    }
 }
 
 // The hash of this name. A usage fault where none has it.

@@ -3,7 +3,7 @@
 ghost use Rattle.std.specs.Prelude.{◌≡◌, IfOk, false};
 ghost use Rattle.clap.specs.Words.{rule_of};
 ghost use Rattle.clap.specs.declared.builder.value_parser.ValueParser.TheVariants.{Names};
-ghost use Rattle.tpm_words.specs.Program.{required_rule, name_rule, reply_rule, flag_rule, option_rule, show_app, build_app, run_app, explain_app, log_app, check_app, events_app, above_subcommands, program_app, IsApp};
+ghost use Rattle.tpm_words.specs.Program.{required_rule, name_rule, reply_rule, flag_rule, option_rule, show_app, build_app, run_app, explain_app, log_app, compare_app, check_app, events_app, above_subcommands, program_app, IsApp};
 
 use clap::{Arg, ArgAction, Command};
 use std::alloc::{AllocError, Global};
@@ -23,6 +23,7 @@ const AFTER_HELP: &str = "Examples:
   tpmtool run --greatest 7 <SCRIPT
   tpmtool explain 9a2
   tpmtool check LOG --registers FILE
+  tpmtool check LOG --attest FILE --nonce 6e6f
   tpmtool events LOG
 
 Exit status:
@@ -157,9 +158,9 @@ fn log_words<'a>(alloc: Global) -> Result<Command<'a>, AllocError>
         .arg(required(alloc, "LOG", "The event log, a file"))
 }
 
-/// The subcommand `check`.
-pub(crate) fn check_words<'a>(alloc: Global) -> Result<Command<'a>, AllocError>
-    ensures { IfOk result (λ c. IsApp check_app c) }
+// The subcommand `check`, with a list and the information of a quote.
+fn compare_words<'a>(alloc: Global) -> Result<Command<'a>, AllocError>
+    ensures { IfOk result (λ c. IsApp compare_app c) }
 {
     let registers = option(
         alloc,
@@ -173,13 +174,32 @@ pub(crate) fn check_words<'a>(alloc: Global) -> Result<Command<'a>, AllocError>
         "HEX",
         "Compares them with a quote, its TPMS_QUOTE_INFO in hexadecimal",
     );
+    log_words(alloc)?.arg(registers)?.arg(quote)
+}
+
+/// The subcommand `check`.
+pub(crate) fn check_words<'a>(alloc: Global) -> Result<Command<'a>, AllocError>
+    ensures { IfOk result (λ c. IsApp check_app c) }
+{
+    let attest = option(
+        alloc,
+        "attest",
+        "FILE",
+        "Compares them with a quote as it was signed, a TPMS_ATTEST, and prints what it says",
+    );
+    let nonce = option(
+        alloc,
+        "nonce",
+        "HEX",
+        "The nonce that was sent for that quote; it is not compared if it is not given",
+    );
     let hash = option(
         alloc,
         "hash",
         "NAME",
         "The hash of the quote's digest: sha1, sha256 or sha384; sha256 if it is not given",
     );
-    log_words(alloc)?.arg(registers)?.arg(quote)?.arg(hash)
+    compare_words(alloc)?.arg(attest)?.arg(nonce)?.arg(hash)
 }
 
 fn events_words<'a>(alloc: Global) -> Result<Command<'a>, AllocError>

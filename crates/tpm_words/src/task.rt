@@ -38,7 +38,8 @@ pub enum Task<'a> {
         /// The code.
         code: u32,
     },
-    /// `check LOG [--registers FILE] [--quote HEX] [--hash NAME]`: print the registers that a log gives, or compare them.
+    /// `check LOG [--registers FILE] [--quote HEX] [--attest FILE [--nonce HEX]] [--hash NAME]`: print the registers that a log
+    /// gives, or compare them.
     Check {
         /// The path of the log.
         log: &'a str,
@@ -46,6 +47,10 @@ pub enum Task<'a> {
         registers: Option<&'a str>,
         /// A quote's information, in hexadecimal digits.
         quote: Option<&'a str>,
+        /// The path of a quote as it was signed.
+        attest: Option<&'a str>,
+        /// The nonce that was sent for it, in hexadecimal digits.
+        nonce: Option<&'a str>,
         /// The hash of the quote's digest.
         hash: Alg,
     },

@@ -7,8 +7,8 @@ use std::rt::{Env, Files};
 use std::{env, fs, io};
 use tpm_device::Device;
 use tpm_tool::{
-    Status, ToolFault, build, check_log, explain, list_events, not_hexadecimal, run_script, show,
-    show_fields,
+    Signed, Status, ToolFault, build, check_log, check_signed, explain, list_events,
+    not_hexadecimal, read_attest, run_script, show, show_fields,
 };
 use tpm_types::Alg;
 use tpm_wire::Reads;
@@ -36,13 +36,21 @@ fn opened<R: Files>(rt: &R, path: &str) -> Result<Reads<R::File>, ToolFault> {
     }
 }
 
-// Opens the log and then the list of registers, and checks the one against the other and against the quote.
+// The path of a quote as it was signed, and the nonce that was sent for it.
+#[derive(Clone, Copy)]
+struct Attested<'a> {
+    path: &'a str,
+    nonce: Option<&'a str>,
+}
+
+// Opens the log and then the list of registers, and checks the one against the other and against the quotes.
 fn check<R: AllocGlobal + Files, W: Write>(
     rt: &R,
     out: &mut W,
     log: &str,
     registers: Option<&str>,
     quote: Option<&str>,
+    attested: Option<Attested<'_>>,
     hash: Alg,
 ) -> Result<Status, ToolFault> {
     let mut log = opened(rt, log)?;
@@ -50,7 +58,24 @@ fn check<R: AllocGlobal + Files, W: Write>(
         Some(path) => Some(opened(rt, path)?),
         None => None,
     };
-    check_log(rt.alloc(), &mut log, registers.as_mut(), quote, hash, out)
+    let Some(Attested { path, nonce }) = attested else {
+        return check_log(rt.alloc(), &mut log, registers.as_mut(), quote, hash, out);
+    };
+    let attest = read_attest(rt.alloc(), &mut opened(rt, path)?)?;
+    let signed = Signed {
+        attest: attest.as_slice(),
+        nonce,
+        required: None,
+    };
+    check_signed(
+        rt.alloc(),
+        &mut log,
+        &signed,
+        registers.as_mut(),
+        quote,
+        hash,
+        out,
+    )
 }
 
 fn perform<R: AllocGlobal + Files + Input + Print>(
@@ -87,8 +112,13 @@ fn perform<R: AllocGlobal + Files + Input + Print>(
             log,
             registers,
             quote,
+            attest,
+            nonce,
             hash,
-        } => check(rt, out, log, registers, quote, hash),
+        } => {
+            let attested = attest.map(|path| Attested { path, nonce });
+            check(rt, out, log, registers, quote, attested, hash)
+        }
         Task::Events { log } => list_events(rt.alloc(), &mut opened(rt, log)?, out),
     }
 }

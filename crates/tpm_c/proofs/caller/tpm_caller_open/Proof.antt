@@ -1,43 +1,5 @@
 -- `tpm_caller_open` meets its contract: a walk of its MIR by hand.
-use Rattle.std.proofs.Common.{◌≡◌, ℕ, List, [], ◌∷◌, length, refl, w32, Bor}
-use seplogic.Ra.Ura.{Ura}
-use base.Fraction.{full_share}
-use mir.Syntax.{named}
-use mir.Val.{Val, vptr}
-use base.Logic.{SProp, ent, sep, via, snd∗, never, never_e, id⊢, emp}
-use base.Fml.{Lft, GName, Fml, flft, flent}
-use prog.Memory.{Memory}
-use prog.Routine.{Routine}
-use prog.Wp.{Calls, Loops, WpFn, Tables}
-use types.Logic.{Logic, sem}
-use types.SemTy.{Body}
-use contract.Monad.{Fun, fact, fact_i}
-use contract.Lifetimes.{Lfts, Shares}
-use contract.Running.{tables, tables_of}
-use types.Kit.{‵, raw, ◌⊛◌, some, later, ◌$◌, ◌∵◌, !, qed, by, move, drop, use0, use1, use3, split, join, pick, fsplit, fjoin, rewrite, suffices, await, done}
-use types.Tokens.{lft_new, lft_end}
-use types.Run.{addr, stop, of_opd, and_then, no_more, returns, enter}
-use types.ByLocal.{alloc_all, pass_all, free_all, look_at, through, get, sets, lands_as}
-use sound.WpLaws.{FmC, fm_of, WpFn-mono}
-use denote.Exit.{yes}
-use denote.RattleType.{owns}
-use denote.Memory.{mem, part_at}
-use denote.Plain.{uint_Lawful}
-use denote.Builtin.{u8, u32, SliceRefOf}
-use denote.Laws.{Is, shows}
-use denote.Ref.{MutBor, MutRef}
-use denote.Slice.{Room, ShrSlice, slice_val, shr_slice_vals, shr_slice_Tells}
-use denote.Signature.{Slot, plain}
-use denote.Lend.{lends_ref, ref_back}
-use denote.RawPtr.{Ptr, block_ptr, null_ptr, RawPtr, ptr_val, rawptr_vals, rawptr_Tells}
-use denote.Steps.{peeks, heard, nothing}
-use denote.Triple.Statement.{Contract, Triple}
-use denote.Triple.Call.{calls_at}
-use denote.Triple.Clauses.{ensured, lasts}
-use denote.Triple.Entry.{on_entry, alive}
-use denote.Triple.Spec.{Meets, triple_of}
-use denote.Triple.Table.{entered}
-use denote.Triple.Walked.{Stays, stay_dropped, walk_of, Goes-dropped, ends_at, walked, walk_Meets}
+use Rattle.tpm_c.proofs.Steps.{◌≡◌, ℕ, List, [], ◌∷◌, length, refl, w32, Bor, Ura, full_share, named, Val, vptr, SProp, ent, sep, via, snd∗, never, never_e, id⊢, emp, Lft, GName, Fml, flft, flent, Memory, Routine, Calls, Loops, WpFn, Logic, sem, Body, Fun, fact, fact_i, Lfts, Shares, tables, ‵, raw, ◌⊛◌, some, later, ◌$◌, ◌∵◌, !, qed, by, move, drop, use0, use1, use3, split, join, pick, fsplit, fjoin, rewrite, suffices, await, done, lft_new, lft_end, addr, stop, of_opd, and_then, no_more, returns, enter, alloc_all, pass_all, free_all, look_at, through, get, sets, lands_as, FmC, yes, owns, mem, part_at, uint_Lawful, u8, u32, SliceRefOf, Is, shows, MutBor, MutRef, Room, ShrSlice, slice_val, shr_slice_vals, shr_slice_Tells, Slot, plain, lends_ref, ref_back, Ptr, block_ptr, null_ptr, RawPtr, ptr_val, rawptr_vals, rawptr_Tells, peeks, heard, nothing, Contract, Triple, calls_at, ensured, lasts, on_entry, alive, triple_of, Stays, stay_dropped, walk_of, Goes-dropped, ends_at, proved, framed}
 use Rattle.tpm_c.specs.declared.caller.Held.{Held}
 use Rattle.tpm_c.specs.contracts.caller.Held.{the_row}
 use Rattle.tpm_c.specs.contracts.caller.open as of
@@ -141,20 +103,11 @@ module _ {M : Type 1} {𝓤 : Ura M} (𝓛 : Logic 𝓤) (at_mem : Memory → SP
   at_each (block_ptr b o) rc = qed 𝓛 (raw (Entry (block_ptr b o)) ∷ ‵ (held_at d (block_ptr b o)) ∷ []) ∵ move ! (1 ∷ []) $ by ! (walk b o rc)
   at_each null_ptr rc = via 𝓤 (never 𝓤) (snd∗ 𝓤 (Entry null_ptr) (never 𝓤)) (never_e 𝓤 _)
 
-meets : {M : Type 1} {𝓤 : Ura M} (𝓛 : Logic 𝓤) (at_mem : Memory → SProp 𝓤) (run : Routine → Fun 𝓤) (𝓣 : Tables 𝓤 𝓛.H)
-    → Triple 𝓤 (𝓣.C #of) (Of 𝓛 at_mem run) → Meets 𝓛 f.signature (WpFn 𝓤 𝓛.H 𝓣.C 𝓣.Λ code.function) (f.spec 𝓛 at_mem run)
-meets {𝓤 = 𝓤} 𝓛 at_mem run 𝓣 known =
-    walk_Meets 𝓛 f.ended stayed (Goes-dropped 𝓛 1 place-slot yes (λ κs x f. refl), (Goes-dropped 𝓛 1 c-slot yes (λ κs x f. refl), tt))
-    (f.clauses 𝓛 at_mem run) (WpFn 𝓤 𝓛.H 𝓣.C 𝓣.Λ code.function) (WpFn-mono 𝓤 𝓛.H 𝓛.laws 𝓣 code.function)
-    (walked 𝓛 f.ended stayed (f.clauses 𝓛 at_mem run) (WpFn 𝓤 𝓛.H 𝓣.C 𝓣.Λ code.function)
+pub tpm_caller_open_spec : {M : Type 1} → stated.statement M
+tpm_caller_open_spec 𝓤 𝓛 𝓜 𝓡 wired =
+    let 𝓣 = tables 𝓤 𝓛.H 𝓜 𝓡 𝓡.env in
+    proved 𝓛 f.ended stayed (f.clauses 𝓛 𝓜.mem 𝓡.returns) 𝓜 𝓡 (Goes-dropped 𝓛 1 place-slot yes (λ κs x f. refl), (Goes-dropped 𝓛 1 c-slot yes (λ κs x f. refl), tt))
+    key code.function (code.unfolded 𝓤 𝓛.H 𝓜 𝓡 wired)
     (λ κs. (rawptr_vals, (shr_slice_vals, tt)))
     (λ κs. (rawptr_Tells, (shr_slice_Tells (named 0) κs.0 u8, tt)))
-    (λ κs qs bounds a g are. at_each 𝓛 at_mem run 𝓣.C 𝓣.Λ (fm_of 𝓤 𝓛.H 𝓛.laws 𝓣) known κs qs a.1.0 g a.0 are.1.0.0.1))
-
-pub tpm_caller_open_spec : {M : Type 1} → stated.statement M
-unfolding tables_of
-tpm_caller_open_spec 𝓤 𝓛 𝓜 𝓡 wired =
-    entered 𝓤 𝓛.H (triple_of 𝓛 f.signature (f.spec 𝓛 𝓜.mem 𝓡.returns))
-    (tables 𝓤 𝓛.H 𝓜 𝓡 𝓡.env).C (tables 𝓤 𝓛.H 𝓜 𝓡 𝓡.env).Λ key code.function (code.unfolded 𝓤 𝓛.H 𝓜 𝓡 wired)
-    (meets 𝓛 𝓜.mem 𝓡.returns (tables_of 𝓤 𝓛.H 𝓜 (tables 𝓤 𝓛.H 𝓜 𝓡 𝓡.env))
-    (of_thm.met 𝓤 𝓛 𝓜 𝓡 (code.calls-tpm_c::caller::open 𝓡.env wired)))
+    (λ κs qs bounds a g are. at_each 𝓛 𝓜.mem 𝓡.returns 𝓣.C 𝓣.Λ (framed 𝓤 𝓛.H 𝓜 𝓣) (of_thm.met 𝓤 𝓛 𝓜 𝓡 (code.calls-tpm_c::caller::open 𝓡.env wired)) κs qs a.1.0 g a.0 are.1.0.0.1)

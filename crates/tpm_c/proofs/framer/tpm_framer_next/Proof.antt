@@ -1,38 +1,5 @@
 -- `tpm_framer_next` meets its contract: a walk of its MIR by hand. The framer is lent for a lifetime that is made for the call, and comes back once it is ended.
-use Rattle.std.proofs.Common.{ℕ, List, [], ◌∷◌, refl, ap}
-use seplogic.Ra.Ura.{Ura}
-use base.Fraction.{full_share}
-use mir.Syntax.{named}
-use mir.Val.{Val, vptr, vunit}
-use base.Logic.{SProp, ent, sep, via, snd∗, never, never_e, id⊢}
-use base.Fml.{Lft, GName, Fml, ftrue, flft, flent, fres}
-use prog.Memory.{Memory}
-use prog.Routine.{Routine}
-use prog.Wp.{Calls, Loops, WpFn, Tables}
-use types.Logic.{Logic, sem}
-use types.SemTy.{Body}
-use contract.Monad.{Fun, fact}
-use contract.Running.{tables, tables_of}
-use types.Kit.{‵, raw, ◌⊛◌, some, later, ◌$◌, ◌∵◌, !, qed, by, move, drop, use1, use3, split, join, pick, fjoin, fpack, feq_l, feq_i, suffices, await, done}
-use types.Tokens.{lft_new, lft_end}
-use types.Run.{addr, stop, of_opd, unit_lit, and_then, no_more, returns, enter}
-use types.ByLocal.{alloc_all, pass_all, free_all, look_at, through, get, sets, lands_as}
-use sound.WpLaws.{FmC, fm_of, WpFn-mono}
-use denote.Exit.{yes}
-use denote.RattleType.{owns}
-use denote.Memory.{mem, part_at}
-use denote.Plain.{Nothing}
-use denote.Ref.{MutBor, MutRef}
-use denote.Lend.{lends_ref, ref_back}
-use denote.RawPtr.{Ptr, block_ptr, null_ptr, RawPtr, rawptr_vals, rawptr_Tells}
-use denote.Steps.{only, heard, nothing}
-use denote.Triple.Statement.{Contract, Triple}
-use denote.Triple.Call.{calls_at}
-use denote.Triple.Clauses.{ensured}
-use denote.Triple.Entry.{on_entry}
-use denote.Triple.Spec.{Meets, triple_of}
-use denote.Triple.Table.{entered}
-use denote.Triple.Walked.{Stays, stay_none, walk_of, Goes-none, ends_at, walked, walk_Meets}
+use Rattle.tpm_c.proofs.Steps.{ℕ, List, [], ◌∷◌, refl, ap, Ura, full_share, named, Val, vptr, vunit, SProp, ent, sep, via, snd∗, never, never_e, id⊢, Lft, GName, Fml, ftrue, flft, flent, fres, Memory, Routine, Calls, Loops, WpFn, Logic, sem, Body, Fun, fact, tables, ‵, raw, ◌⊛◌, some, later, ◌$◌, ◌∵◌, !, qed, by, move, drop, use1, use3, split, join, pick, fjoin, fpack, feq_l, feq_i, suffices, await, done, lft_new, lft_end, addr, stop, of_opd, unit_lit, and_then, no_more, returns, enter, alloc_all, pass_all, free_all, look_at, through, get, sets, lands_as, FmC, yes, owns, mem, part_at, Nothing, MutBor, MutRef, lends_ref, ref_back, Ptr, block_ptr, null_ptr, RawPtr, rawptr_vals, rawptr_Tells, only, heard, nothing, Contract, Triple, calls_at, ensured, on_entry, triple_of, Stays, stay_none, walk_of, Goes-none, ends_at, proved, framed}
 use Rattle.tpm_buffer.specs.contracts.framer.Framer.{the_row}
 use Rattle.tpm_buffer.specs.Frames.{Advances}
 use Rattle.tpm_buffer.specs.contracts.framer.Framer.next as of
@@ -110,18 +77,11 @@ module _ {M : Type 1} {𝓤 : Ura M} (𝓛 : Logic 𝓤) (at_mem : Memory → SP
       qed 𝓛 (raw (Entry (block_ptr b o)) ∷ ‵ (framer_at d (block_ptr b o)) ∷ []) ∵ move ! (1 ∷ []) $ by ! (walk b o)
   at_each null_ptr = via 𝓤 (never 𝓤) (snd∗ 𝓤 (Entry null_ptr) (never 𝓤)) (never_e 𝓤 _)
 
-meets : {M : Type 1} {𝓤 : Ura M} (𝓛 : Logic 𝓤) (at_mem : Memory → SProp 𝓤) (run : Routine → Fun 𝓤) (𝓣 : Tables 𝓤 𝓛.H)
-    → Triple 𝓤 (𝓣.C #of) (Of 𝓛 at_mem run) → Meets 𝓛 f.signature (WpFn 𝓤 𝓛.H 𝓣.C 𝓣.Λ code.function) (f.spec 𝓛 at_mem run)
-meets {𝓤 = 𝓤} 𝓛 at_mem run 𝓣 known =
-    walk_Meets 𝓛 f.ended stayed (Goes-none 𝓛 0 (λ _. RawPtr) yes (λ κs a g. refl), tt)
-    (f.clauses 𝓛 at_mem run) (WpFn 𝓤 𝓛.H 𝓣.C 𝓣.Λ code.function) (WpFn-mono 𝓤 𝓛.H 𝓛.laws 𝓣 code.function)
-    (walked 𝓛 f.ended stayed (f.clauses 𝓛 at_mem run) (WpFn 𝓤 𝓛.H 𝓣.C 𝓣.Λ code.function) (λ κs. (rawptr_vals, tt)) (λ κs. (rawptr_Tells, tt))
-    (λ κs qs bounds a g are. at_each 𝓛 at_mem run 𝓣.C 𝓣.Λ (fm_of 𝓤 𝓛.H 𝓛.laws 𝓣) known g a.0))
-
 pub tpm_framer_next_spec : {M : Type 1} → stated.statement M
-unfolding tables_of
 tpm_framer_next_spec 𝓤 𝓛 𝓜 𝓡 wired =
-    entered 𝓤 𝓛.H (triple_of 𝓛 f.signature (f.spec 𝓛 𝓜.mem 𝓡.returns))
-    (tables 𝓤 𝓛.H 𝓜 𝓡 𝓡.env).C (tables 𝓤 𝓛.H 𝓜 𝓡 𝓡.env).Λ key code.function (code.unfolded 𝓤 𝓛.H 𝓜 𝓡 wired)
-    (meets 𝓛 𝓜.mem 𝓡.returns (tables_of 𝓤 𝓛.H 𝓜 (tables 𝓤 𝓛.H 𝓜 𝓡 𝓡.env))
-    (of_thm.met 𝓤 𝓛 𝓜 𝓡 (code.calls-tpm_buffer::framer::Framer::next 𝓡.env wired)))
+    let 𝓣 = tables 𝓤 𝓛.H 𝓜 𝓡 𝓡.env in
+    proved 𝓛 f.ended stayed (f.clauses 𝓛 𝓜.mem 𝓡.returns) 𝓜 𝓡 (Goes-none 𝓛 0 (λ _. RawPtr) yes (λ κs a g. refl), tt)
+    key code.function (code.unfolded 𝓤 𝓛.H 𝓜 𝓡 wired)
+    (λ κs. (rawptr_vals, tt))
+    (λ κs. (rawptr_Tells, tt))
+    (λ κs qs bounds a g are. at_each 𝓛 𝓜.mem 𝓡.returns 𝓣.C 𝓣.Λ (framed 𝓤 𝓛.H 𝓜 𝓣) (of_thm.met 𝓤 𝓛 𝓜 𝓡 (code.calls-tpm_buffer::framer::Framer::next 𝓡.env wired)) g a.0)

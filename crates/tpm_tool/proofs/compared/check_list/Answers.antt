@@ -31,9 +31,10 @@ returns-then-not-branch-clause-ok g c =
     let room = c.read.new.room in
     let contents = g.W.Write.contents in
     let is : c.in_ok-print.field-0 ≡ false = search rules in
+    let len : length room ≡ c.clamp-room.result = search rules in
     let taken = rw (is, take-append-le count room (drop c.clamp-room.result c.loop-comparing.piece) c.in_ok-count.ensures.bound.0) at c.in_ok-print.ensures.ok in
     answers_stopped (value_in c.args.found.now.banks) _ _ _ (contents c.args.out.now) (contents c.loop-comparing.out) (contents c.print.new.out) c.loop-comparing.read count (take count room) taken.0 (place c.loop-comparing.comparing)
-    c.loop-comparing.invariant.reaches (omega arith) c.in_ok-count.ensures.bytes.0 (sym (length-take-le count room c.in_ok-count.ensures.bound.0)) taken.1 taken.2
+    c.loop-comparing.invariant.reaches (omega arith) (omega (arith, len, c.in_ok-count.ensures.bound.0)) c.in_ok-count.ensures.bytes.0 (sym (length-take-le count room c.in_ok-count.ensures.bound.0)) taken.1 taken.2
 
 pub loop-comparing-preserved : goal.loop-comparing-preserved
 loop-comparing-preserved g c =

@@ -42,9 +42,10 @@ returns-then-eq-clause-ok g c =
     let room = c.read.new.room in
     let contents = g.W.Write.contents in
     let is : c.in_ok-print.field-0 ≡ Refused = search rules in
+    let len : length room ≡ c.clamp-room.result = search rules in
     answers_refused _ _ _ c.loop-run.read count (take count room) c.args.device c.new-run.result c.loop-run.run c.print.new.self _ _ (Appends (contents c.args.out.now) (contents c.print.new.out))
     (joins_appends (contents c.args.out.now) (contents c.loop-run.out) (contents c.print.new.out)) c.new-run.ensures.place c.new-run.ensures.device
-    c.loop-run.invariant.reaches (omega arith) c.in_ok-count.ensures.bytes.0 (sym (length-take-le count room c.in_ok-count.ensures.bound.0)) (rw (is, take-append-le count room (drop c.clamp-room.result c.loop-run.piece) c.in_ok-count.ensures.bound.0) at c.in_ok-print.ensures.ok)
+    c.loop-run.invariant.reaches (omega arith) (omega (arith, len, c.in_ok-count.ensures.bound.0)) c.in_ok-count.ensures.bytes.0 (sym (length-take-le count room c.in_ok-count.ensures.bound.0)) (rw (is, take-append-le count room (drop c.clamp-room.result c.loop-run.piece) c.in_ok-count.ensures.bound.0) at c.in_ok-print.ensures.ok)
 
 pub loop-run-preserved : goal.loop-run-preserved
 loop-run-preserved g c =

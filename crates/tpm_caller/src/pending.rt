@@ -1,0 +1,123 @@
+//! What is kept of a sealed command until its reply comes.
+
+ghost use Rattle.std.specs.Prelude.{◌≡◌, ◌≤◌, List, length, Ok, Err, IfOk, IfErr};
+ghost use Rattle.tpm_types.specs.Limits.{digest_bytes};
+ghost use Rattle.tpm_types.specs.declared.tpms.AuthReply.{AuthReply};
+ghost use Rattle.tpm_buffer.specs.declared.response.ReplyBody.{ReplyBody};
+ghost use Rattle.tpm_buffer.specs.Responses.{done_with};
+ghost use Rattle.tpm_model.specs.Callers.{CallerFault as Fault, opened, opened_session, given_up};
+ghost use Rattle.tpm_caller.specs.Faults.{fault_of, opening_of, giving_up_of};
+ghost use Rattle.tpm_caller.specs.Sent.{caller_with, IsSpelledBy};
+
+use crate::caller::Caller;
+use crate::waiting::CallerFault;
+use std::marker::Model;
+use tpm_buffer::{CommandCode, Response, decode_response, reply_areas};
+use tpm_hmac::{rp_hash, same};
+use tpm_types::{BLOCK_BYTES, Nonce};
+use tpm_wire::Bounded;
+
+/// What is kept of a sealed command until its reply comes: all but the command's bytes, which lie in the caller's buffer.
+#[derive(Drop)]
+pub struct Pending {
+    pub(crate) caller: Caller,
+    pub(crate) code: CommandCode,
+    pub(crate) key: Bounded<BLOCK_BYTES>,
+    pub(crate) nonce: Nonce,
+    pub(crate) keep: bool,
+}
+
+impl Model for Pending {
+    ghost use Rattle.std.specs.Prelude.{◌≡◌, true};
+    ghost use Rattle.tpm_buffer.specs.Handles.{needs_authorization};
+    ghost use Rattle.tpm_model.specs.Callers as model;
+
+    ghost Value = { model.Waiting };
+
+    ghost view = { λ w. record { caller = w.caller; code = w.code; key = w.key; nonce = w.nonce; keep = w.keep } };
+
+    ghost invariant = { λ w. needs_authorization w.code ≡ true };
+}
+
+impl Pending {
+    // The nonceTPM of the reply, where it has one session, with a nonceTPM of the session's length and the HMAC. Nothing is copied.
+    fn check<'a>(&self, bytes: &'a [u8]) -> Result<&'a [u8], CallerFault>
+        ensures ok { (body : ReplyBody) (auths : List AuthReply) → IsSpelledBy bytes.now self.now.code body auths →
+            IfOk result (λ nonce. opened_session self.now body auths ≡ Ok (record { caller = caller_with self.now nonce.now; response = done_with (record { body = body; auths = auths }) })) }
+        ensures err { (body : ReplyBody) (auths : List AuthReply) → IsSpelledBy bytes.now self.now.code body auths →
+            IfErr result (λ fault. (f : Fault) × (opened_session self.now body auths ≡ Err f) × (fault ≡ fault_of f)) }
+        ensures fits { IfOk result (λ nonce. length nonce.now ≤ digest_bytes) }
+    {
+        let Ok(areas) = reply_areas(self.code, bytes) else {
+            return Err(CallerFault::NotExpected);
+        };
+        if areas.auth_count() != 1 {
+            return Err(CallerFault::NotExpected);
+        }
+        let Some(session) = areas.auth(0) else {
+            return Err(CallerFault::NotExpected);
+        };
+        let nonce = session.nonce();
+        if nonce.len() != self.caller.nonce().len() {
+            return Err(CallerFault::NotExpected);
+        }
+        let hash = self.caller.hash();
+        let mac = self.caller.mac(
+            self.key.as_slice(),
+            rp_hash(hash, self.code, areas.params()).as_slice(),
+            nonce,
+            self.nonce.as_slice(),
+            session.attrs(),
+        );
+        if !same(session.hmac(), mac.as_slice()) {
+            return Err(CallerFault::WrongMac);
+        }
+        Ok(nonce)
+    }
+
+    // The caller after a reply with this nonceTPM, where it is kept.
+    fn caller_after(self, nonce: &[u8]) -> Option<Caller>
+        requires { length nonce.now ≤ digest_bytes }
+        ensures { result ≡ caller_with self nonce.now }
+    {
+        let Pending { caller, keep, .. } = self;
+        if keep {
+            Some(caller.after(nonce))
+        } else {
+            None
+        }
+    }
+
+    /// Opens the reply: the response, and the caller with the session's new nonceTPM, where it was kept. What is no reply is refused with
+    /// the first of these faults, and leaves this unchanged: `Refused` where the bytes do not decode as a response to the command;
+    /// `Code` for a response code that is not 0; `NotExpected` where there is not exactly one session, or its nonceTPM has another
+    /// length than the session's; `WrongMac` where its HMAC is not that of the new nonceTPM, the command's nonceCaller and the
+    /// response's attributes (Part 1, "Session-Based Authorizations").
+    pub fn open(self, bytes: &[u8]) -> Result<(Option<Caller>, Response), (Pending, CallerFault)>
+        ensures { result ≡ opening_of self (opened self bytes.now) }
+    {
+        let checked = self.check(bytes);
+        let response = match decode_response(self.code, bytes) {
+            Ok(response) => response,
+            Err(refusal) => return Err((self, CallerFault::Refused(refusal))),
+        };
+        if let Response::Code(code) = &response {
+            return Err((self, CallerFault::Code(*code)));
+        }
+        match checked {
+            Ok(nonce) => Ok((self.caller_after(nonce), response)),
+            Err(fault) => Err((self, fault)),
+        }
+    }
+
+    /// The caller as it was before it sealed the command, where these bytes are a response whose code is not 0. This is unchanged else.
+    pub fn give_up(self, refusal: &[u8]) -> Result<Caller, Pending>
+        ensures { result ≡ giving_up_of self (given_up self refusal.now) }
+    {
+        match decode_response(self.code, refusal) {
+            Ok(Response::Code(_)) => Ok(self.caller),
+            Ok(Response::Done { .. }) => Err(self),
+            Err(_) => Err(self),
+        }
+    }
+}

@@ -1,0 +1,7 @@
+use Rattle.std.proofs.Common.{take}
+use Rattle.std.specs.List.{flat_map}
+use Rattle.sha1.specs.Sha1.{Holds}
+use Rattle.tpm_hmac.proofs.hashing.sha1_of.Given as goal
+
+abbrev pub invariant-loop-part : goal.invariant-loop-part
+invariant-loop-part l = Holds l.hasher (flat_map (λ p. p.now) (take l.part-index l.parts))

@@ -1,0 +1,158 @@
+//! A key that is hashed once for many HMACs (RFC 2104, section 4).
+
+ghost use Rattle.std.specs.Prelude.{◌≡◌, ℕ, List, ◌++◌, length, take};
+ghost use Rattle.std.specs.List.{flat_map};
+ghost use Rattle.tpm_types.specs.Alg.{digest_len, block_len};
+ghost use Rattle.tpm_types.specs.declared.alg.Alg.TheVariants as algs;
+ghost use Rattle.tpm_hmac.specs.Hashes.{digest};
+ghost use Rattle.tpm_hmac.specs.Hmac.{hmac as hmac_of, block_key, xored as xored_bytes};
+ghost use Rattle.tpm_hmac.specs.Keys.{IsKept};
+ghost use Rattle.sha1.specs.Sha1.{Holds, sha1};
+ghost use Rattle.sha2.specs.Hashers.{Holds256};
+ghost use Rattle.sha2.specs.Sha256.{sha256};
+
+use crate::hashing::digest_of;
+use crate::mac::{INNER_PAD, OUTER_PAD, hmac, key_block, xored};
+use sha2::Digest as _;
+use std::marker::Model;
+use tpm_types::{Alg, BLOCK_BYTES, Digest};
+
+/// What is kept of a key: the hashers that have taken in its block, changed for the inner and for the outer hash.
+#[derive(Drop)]
+pub(crate) enum Kept {
+    Nothing,
+    Sha1(sha1::Sha1, sha1::Sha1),
+    Sha256(sha2::Sha256, sha2::Sha256),
+}
+
+/// A session's key, for HMACs by the session's hash. It is hashed once, where it is made, for SHA-1 and SHA-256; the empty key is
+/// hashed where `keep` says so, and one for SHA-384 for each HMAC, since its states would take twice the room (RFC 2104, section 4).
+#[derive(Drop)]
+pub struct SessionKey {
+    hash: Alg,
+    bytes: Digest,
+    kept: Kept,
+}
+
+impl Model for SessionKey {
+    ghost use Rattle.tpm_hmac.specs.Keys as keys;
+
+    ghost Value = { keys.Key };
+
+    ghost view = { λ k. record { hash = k.hash; bytes = k.bytes } };
+
+    ghost invariant = { λ k. keys.IsKept k.hash k.bytes k.kept };
+}
+
+// A hasher that has taken in the block, changed by the pad.
+fn begun_sha1(block: &[u8; BLOCK_BYTES], pad: u8) -> sha1::Sha1
+    ensures { Holds result (xored_bytes pad (take (block_len algs.Sha1) block.now)) }
+{
+    let mut hasher = sha1::Sha1::new();
+    hasher.update(&xored(block, pad)[..Alg::Sha1.block_len()]);
+    hasher
+}
+
+fn begun_sha256(block: &[u8; BLOCK_BYTES], pad: u8) -> sha2::Sha256
+    ensures { Holds256 result (xored_bytes pad (take (block_len algs.Sha256) block.now)) }
+{
+    let mut hasher = sha2::Sha256::new();
+    hasher.update(&xored(block, pad)[..Alg::Sha256.block_len()]);
+    hasher
+}
+
+fn states_of(hash: Alg, key: &[u8]) -> Kept
+    ensures { IsKept hash key.now result }
+{
+    let block = key_block(hash, key, &[]);
+    match hash {
+        Alg::Sha1 => Kept::Sha1(begun_sha1(&block, INNER_PAD), begun_sha1(&block, OUTER_PAD)),
+        Alg::Sha256 => Kept::Sha256(
+            begun_sha256(&block, INNER_PAD),
+            begun_sha256(&block, OUTER_PAD),
+        ),
+        Alg::Sha384 => Kept::Nothing,
+    }
+}
+
+fn mac_sha1(inner: &sha1::Sha1, outer: &sha1::Sha1, parts: &[&[u8]]) -> Digest
+    ensures { (i o : List ℕ) → Holds inner.now i → Holds outer.now o → result ≡ sha1 (o ++ sha1 (i ++ flat_map (λ p. p.now) parts.now)) }
+{
+    let Ok(mut hasher) = inner.clone() else {
+        unreachable!()
+    };
+    for part in parts {
+        hasher.update(part);
+    }
+    let Ok(mut behind) = outer.clone() else {
+        unreachable!()
+    };
+    behind.update(&hasher.finalize());
+    digest_of(&behind.finalize())
+}
+
+fn mac_sha256(inner: &sha2::Sha256, outer: &sha2::Sha256, parts: &[&[u8]]) -> Digest
+    ensures { (i o : List ℕ) → Holds256 inner.now i → Holds256 outer.now o → result ≡ sha256 (o ++ sha256 (i ++ flat_map (λ p. p.now) parts.now)) }
+{
+    let Ok(mut hasher) = inner.clone() else {
+        unreachable!()
+    };
+    for part in parts {
+        hasher.update(*part);
+    }
+    let Ok(mut behind) = outer.clone() else {
+        unreachable!()
+    };
+    behind.update(&hasher.finalize());
+    digest_of(&behind.finalize())
+}
+
+impl SessionKey {
+    /// The key of these bytes.
+    pub fn new(hash: Alg, bytes: Digest) -> Self
+        ensures { result ≡ record { hash = hash; bytes = bytes } }
+    {
+        let kept = if bytes.as_slice().is_empty() {
+            Kept::Nothing
+        } else {
+            states_of(hash, bytes.as_slice())
+        };
+        SessionKey { hash, bytes, kept }
+    }
+
+    /// Hashes the key now, where that was not done.
+    pub fn keep(&mut self)
+        ensures { self.new ≡ self.old }
+    {
+        if let Kept::Nothing = self.kept {
+            self.kept = states_of(self.hash, self.bytes.as_slice());
+        }
+    }
+
+    /// The hash.
+    pub fn hash(&self) -> Alg
+        ensures { result ≡ self.now.hash }
+    {
+        self.hash
+    }
+
+    /// The bytes of the key.
+    pub fn bytes(&self) -> &[u8]
+        ensures { result.now ≡ self.now.bytes }
+    {
+        self.bytes.as_slice()
+    }
+
+    /// The HMAC of the parts, joined (RFC 2104).
+    #[tactic(auto, using(crate::proofs::DigestLengths::lengths))]
+    pub fn mac(&self, parts: &[&[u8]]) -> Digest
+        ensures value { result ≡ hmac_of self.now.hash self.now.bytes (flat_map (λ p. p.now) parts.now) }
+        ensures len { length result ≡ digest_len self.now.hash }
+    {
+        match &self.kept {
+            Kept::Nothing => hmac(self.hash, self.bytes.as_slice(), parts),
+            Kept::Sha1(inner, outer) => mac_sha1(inner, outer, parts),
+            Kept::Sha256(inner, outer) => mac_sha256(inner, outer, parts),
+        }
+    }
+}
