@@ -19,6 +19,8 @@
 
 size_t tpm_bench_hash(uint16_t alg, const uint8_t *message, size_t message_len, uint8_t *out, size_t out_len);
 size_t tpm_bench_hmac(uint16_t alg, const uint8_t *key, size_t key_len, const uint8_t *text, size_t text_len, uint8_t *out, size_t out_len);
+uint32_t tpm_bench_same(const uint8_t *a, size_t a_len, const uint8_t *b, size_t b_len, uint32_t times);
+uint32_t tpm_bench_session_hashes(const uint8_t *key, size_t key_len, const uint8_t *message, size_t message_len, const uint8_t *text, size_t text_len, uint32_t times);
 uint32_t tpm_bench_decode_command(const uint8_t *bytes, size_t len);
 uint32_t tpm_bench_decode_pcr_read_reply(const uint8_t *bytes, size_t len);
 size_t tpm_bench_encode_command(const uint8_t *bytes, size_t len, uint32_t times, uint8_t *out, size_t out_len);
@@ -308,17 +310,40 @@ static size_t both_ends(size_t argument, uint8_t *out) {
     return tpm_bench_both_ends(TIMES) == TIMES;
 }
 
-// What opening the reply hashes, by the library: rpHash, of two numbers, and the HMAC.
-static size_t hashes_of_open(size_t argument, uint8_t *out) {
-    (void)argument;
-    return tpm_bench_hash(SHA256_ALG, cp_hashed, 4 + 4, out, OUT) + tpm_bench_hmac(SHA256_ALG, key, KEY, mac_text, MAC_TEXT, out, OUT);
+// What sealing and opening hash, by the library, under a key that is hashed once: cpHash and the HMAC, and the HMAC alone, since rpHash
+// of a reply without parameters is known. The device hashes the same, and extends besides.
+static size_t hashes_of_seal(size_t argument, uint8_t *out) {
+    (void)argument, (void)out;
+    return tpm_bench_session_hashes(key, KEY, cp_hashed, CP_HASHED, mac_text + 32, MAC_TEXT - 32, TIMES);
 }
 
-// Sealing hashes what the device's check does, and opening what its reply does; the device extends besides.
-static size_t hashes_of_both_ends(size_t argument, uint8_t *out) {
-    size_t len = hashes_of_authorize(argument, out) + hashes_of_authorize(argument, out);
-    return len + hashes_of_open(argument, out) + hashes_of_open(argument, out) + hashes_of_extend(argument, out);
+static size_t hashes_of_open(size_t argument, uint8_t *out) {
+    (void)argument, (void)out;
+    return tpm_bench_session_hashes(key, KEY, cp_hashed, 0, mac_text, MAC_TEXT, TIMES);
 }
+
+static size_t hashes_of_both_ends(size_t argument, uint8_t *out) {
+    size_t len = hashes_of_seal(argument, out) + hashes_of_seal(argument, out) + hashes_of_open(argument, out) + hashes_of_open(argument, out);
+    for (int i = 0; i < TIMES; i++)
+        len += hashes_of_extend(argument, out);
+    return len;
+}
+
+// Two lists of so many bytes that differ in this byte, or in none where it is behind them.
+enum { SAME = 1024 };
+static size_t compare(size_t len, size_t at) {
+    static uint8_t a[48], b[48];
+    memset(b, 0, sizeof b);
+    b[at % sizeof b] = at < len;
+    uint32_t found = 0;
+    for (int i = 0; i < SAME; i++)
+        found += tpm_bench_same(a, len, b, len, 1);
+    return found == (at < len ? 0 : SAME);
+}
+
+static size_t same_but_first(size_t len, uint8_t *out) { return (void)out, compare(len, 0); }
+static size_t same_but_last(size_t len, uint8_t *out) { return (void)out, compare(len, len - 1); }
+static size_t same_whole(size_t len, uint8_t *out) { return (void)out, compare(len, len); }
 
 static size_t copy_buffer(size_t which, uint8_t *out) {
     memcpy(out, buffers[which].bytes, buffers[which].len);
@@ -395,9 +420,15 @@ static struct row rows[] = {
     {"session, NV_DefineSpace", DEFINE_SESSION, {execute_run, TIMES}, {hashes_of_run}, 1},
     {"session, NV_UndefineSpace", UNDEFINE_SESSION, {execute_run, TIMES}, {hashes_of_run}, 1},
     {"authorize PCR_Extend", PCR_EXTEND_SIGNED, {authorize, TIMES}, {hashes_of_authorize}, 1},
-    {"seal PCR_Extend", PCR_EXTEND_SIGNED, {seal, TIMES}, {hashes_of_authorize}, 1},
-    {"open reply of PCR_Extend", PCR_EXTEND_SIGNED, {open_reply, TIMES}, {hashes_of_open}, 1},
-    {"PCR_Extend at both ends", PCR_EXTEND_SIGNED, {both_ends, TIMES}, {hashes_of_both_ends}, 1},
+    {"seal PCR_Extend", PCR_EXTEND_SIGNED, {seal, TIMES}, {hashes_of_seal, TIMES}, 1},
+    {"open reply of PCR_Extend", PCR_EXTEND_SIGNED, {open_reply, TIMES}, {hashes_of_open, TIMES}, 1},
+    {"PCR_Extend at both ends", PCR_EXTEND_SIGNED, {both_ends, TIMES}, {hashes_of_both_ends, TIMES}, 1},
+    {"same, 32 bytes, first differs", 32, {same_but_first, SAME}, {NULL}},
+    {"same, 32 bytes, last differs", 32, {same_but_last, SAME}, {NULL}},
+    {"same, 32 bytes, none differs", 32, {same_whole, SAME}, {NULL}},
+    {"same, 48 bytes, first differs", 48, {same_but_first, SAME}, {NULL}},
+    {"same, 48 bytes, last differs", 48, {same_but_last, SAME}, {NULL}},
+    {"same, 48 bytes, none differs", 48, {same_whole, SAME}, {NULL}},
     {"Framer, pieces of 1", 1, {push_frames}, {copy_stream}},
     {"Framer, pieces of 64", 64, {push_frames}, {copy_stream}},
     {"Framer, pieces of 4,096", 4096, {push_frames}, {copy_stream}},
@@ -462,6 +493,20 @@ static void print(const struct timed *timed) {
         printf(" %14.0f %10.2f", timed->ns, timed->ns / unit.ns);
 }
 
+// By how much the three rows of `same` over so many bytes differ, of the least of them.
+static void print_same(size_t len) {
+    double least = 0, most = 0;
+    for (size_t i = 0; i < ROWS; i++) {
+        work *done = rows[i].here.work;
+        if (rows[i].argument != len || (done != same_but_first && done != same_but_last && done != same_whole))
+            continue;
+        double ns = rows[i].here.ns;
+        least = least == 0 || ns < least ? ns : least;
+        most = ns > most ? ns : most;
+    }
+    printf("same of %zu bytes: %.1f to %.1f ns, which differ by %.1f %%\n", len, least, most, 100 * (most - least) / least);
+}
+
 // Does one row so many times and times nothing, for a profiler.
 static int run(const char *name, long times) {
     static uint8_t out[OUT];
@@ -494,16 +539,19 @@ int main(int argc, char **argv) {
         }
     }
     printf("A unit is SHA-256 of 64 bytes by %s: %.0f ns\n\n", OpenSSL_version(OPENSSL_VERSION), unit.ns);
-    printf("%-28s %14s %10s %14s %10s\n", "", "ns", "units", "beside it ns", "units");
+    printf("%-30s %14s %10s %14s %10s\n", "", "ns", "units", "beside it ns", "units");
     for (size_t i = 0; i < ROWS; i++) {
-        printf("%-28s", rows[i].name);
+        printf("%-30s", rows[i].name);
         print(&rows[i].here);
         print(&rows[i].there);
         printf("\n");
     }
+    printf("\n");
+    print_same(32);
+    print_same(48);
     static const char *const sizes[] = {"Device", "Command", "Areas"};
     printf("\n");
     for (uint32_t i = 0; i < sizeof sizes / sizeof sizes[0]; i++)
-        printf("%-28s %14zu bytes\n", sizes[i], tpm_bench_size(i));
+        printf("%-30s %14zu bytes\n", sizes[i], tpm_bench_size(i));
     return 0;
 }
