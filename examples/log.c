@@ -1,9 +1,10 @@
 /* A log of a measured boot from standard input: the registers that it gives, as `tpmtool check` prints them, or the log's fault.
  *
- * With a number the log is replayed in pieces of so many bytes as they are read, and none of it is kept. With the information of
- * a quote in hexadecimal it says what the quote says of the registers, by its digest under this hash.
+ * The log may have any size: it is replayed in pieces as they are read, of 65,536 bytes or of the number that is given, and none of
+ * it is kept. With the word `whole` it is read as a whole first, as far as a log can go; so it is with the information of a quote in
+ * hexadecimal, of which it says what the quote says of the registers, by its digest under this hash.
  *
- *     log [PIECE_BYTES | QUOTE_HEX sha1|sha256|sha384]
+ *     log [whole | PIECE_BYTES | QUOTE_HEX sha1|sha256|sha384]
  */
 #include "vinjakwe.h"
 
@@ -11,7 +12,11 @@
 #include <stdlib.h>
 #include <string.h>
 
-static uint8_t bytes[1 << 20], registers[TPM_REGISTERS_BYTES], quote[TPM_BUFFER_BYTES];
+/* How many bytes a log has at most; one more is read, which tells that it is too long. */
+#define LOG_BYTES 16777216
+#define PIECE_BYTES 65536
+
+static uint8_t bytes[LOG_BYTES + 1], registers[TPM_REGISTERS_BYTES], quote[TPM_BUFFER_BYTES];
 static uint64_t replay_room[1024];
 
 static const char *const kinds[] = {"Done", "Truncated", "TooLong", "NotCryptoAgile", "BadHeader", "DuplicateAlgorithm", "WrongDigestSize", "UnknownAlgorithm", "RepeatedDigest", "BadRegister", "BadLocality", "LateLocality"};
@@ -35,6 +40,13 @@ static void print_registers(void) {
 static int print_fault(uint32_t kind, uint32_t at) {
     printf("log %s at %lu\n", kinds[kind], (unsigned long)at);
     return 1;
+}
+
+static void want_reading(void) {
+    if (ferror(stdin)) {
+        fprintf(stderr, "log: standard input can't be read\n");
+        exit(3);
+    }
 }
 
 static int check(size_t len, const char *text, const char *name) {
@@ -71,6 +83,7 @@ static uint32_t replay_in_pieces(size_t size, uint32_t *at) {
     tpm_log_replay_init(replay);
     for (;;) {
         size_t len = fread(bytes, 1, size, stdin);
+        want_reading();
         if (len == 0)
             return tpm_log_replay_end(replay, registers, at);
         uint32_t kind = tpm_log_replay_feed(replay, bytes, len, at);
@@ -79,20 +92,28 @@ static uint32_t replay_in_pieces(size_t size, uint32_t *at) {
     }
 }
 
+/* Reads the log as a whole, and says how many bytes it has, as far as they are read. */
+static size_t read_whole(void) {
+    size_t len = fread(bytes, 1, sizeof bytes, stdin);
+    want_reading();
+    return len;
+}
+
 int main(int argc, char **argv) {
     uint32_t at, kind;
-    if (argc == 2) {
-        size_t size = (size_t)strtoul(argv[1], NULL, 10);
-        if (size == 0 || size > sizeof bytes) {
-            fprintf(stderr, "log: a piece has 1 to %lu bytes\n", (unsigned long)sizeof bytes);
+    if (argc == 3)
+        return check(read_whole(), argv[1], argv[2]);
+    if (argc == 2 && strcmp(argv[1], "whole") == 0) {
+        kind = tpm_log_replay(bytes, read_whole(), registers, &at);
+    } else {
+        char *end = "";
+        size_t size = argc == 2 ? (size_t)strtoul(argv[1], &end, 10) : PIECE_BYTES;
+        if (argc > 3 || *end != '\0' || size == 0 || size > sizeof bytes) {
+            fprintf(stderr, "usage: log [whole | PIECE_BYTES | QUOTE_HEX sha1|sha256|sha384], where a piece has 1 to %lu bytes\n",
+                    (unsigned long)sizeof bytes);
             return 2;
         }
         kind = replay_in_pieces(size, &at);
-    } else {
-        size_t len = fread(bytes, 1, sizeof bytes, stdin);
-        if (argc > 2)
-            return check(len, argv[1], argv[2]);
-        kind = tpm_log_replay(bytes, len, registers, &at);
     }
     if (kind != TPM_LOG_DONE)
         return print_fault(kind, at);

@@ -62,6 +62,8 @@ static uint32_t print_policy(const struct hash *hash) {
 
 int main(void) {
     static const uint8_t one[] = {0, 0, 0, 1, 0, 0};
+    /* Two empty digests, and bytes behind them that no list has. */
+    static const uint8_t long_list[5000] = {0, 0, 0, 2};
     struct tpm_policy policy;
     struct tpm_refusal refusal;
     for (const struct hash *hash = hashes; hash != hashes + 3; hash++)
@@ -72,6 +74,8 @@ int main(void) {
     tpm_policy_start(&policy, TPM_ALG_SHA256);
     printf(" %lu", (unsigned long)tpm_policy_pcr(&policy, selected, sizeof selected, selected, sizeof selected, &refusal));
     printf(" %lu", (unsigned long)tpm_policy_or(&policy, one, sizeof one, &refusal));
+    printf(" with %lx at %lu", (unsigned long)refusal.code, (unsigned long)refusal.at);
+    printf(" %lu", (unsigned long)tpm_policy_or(&policy, long_list, sizeof long_list, &refusal));
     printf(" with %lx at %lu\n", (unsigned long)refusal.code, (unsigned long)refusal.at);
     return 0;
 }

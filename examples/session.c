@@ -57,20 +57,35 @@ static uint32_t start(void) {
     return number_at(reply + 10);
 }
 
-/* Seals a command on the counter. The session is bound to the owner, who authorizes: so the key has no authorization value. */
-static void seal(const uint8_t *command, size_t len) {
+/* Seals a command, whose second handle has this Name. The session is bound to the owner, who authorizes: so the key has no
+ * authorization value. */
+static void seal_with(const uint8_t *command, size_t len, const uint8_t *name, size_t name_len) {
     uint8_t nonce[NONCE_BYTES] = {0};
     nonce[7] = ++caller_count;
-    sealed_len = tpm_caller_seal(caller, command, len, owner_name, sizeof owner_name, counter_name, sizeof counter_name, nonce, 0, nonce, sizeof nonce, 1, sealed, sizeof sealed);
+    sealed_len = tpm_caller_seal(caller, command, len, owner_name, sizeof owner_name, name, name_len, nonce, 0, nonce, sizeof nonce, 1, sealed, sizeof sealed);
     if (sealed_len == 0)
         fail("nothing is sealed");
 }
 
-static void exchange(const uint8_t *command, size_t len) {
-    seal(command, len);
+static void seal(const uint8_t *command, size_t len) {
+    seal_with(command, len, counter_name, sizeof counter_name);
+}
+
+static void send_sealed(void) {
     transmit(sealed, sealed_len);
     if (tpm_caller_open(caller, reply, reply_len) != TPM_CALLER_OPENED)
         fail("no reply is opened");
+}
+
+static void exchange(const uint8_t *command, size_t len) {
+    seal(command, len);
+    send_sealed();
+}
+
+/* There is one handle, the owner: so the second Name is not looked at, and may be any bytes. */
+static void define_counter(void) {
+    seal_with(define, sizeof define, old, sizeof old);
+    send_sealed();
 }
 
 /* The counter's Name, which its first increment changes. It is in the reply as it came over the bus, and a wrong one would be found by
@@ -89,7 +104,7 @@ static void begin(void) {
     transmit(sealed, sealed_len);
     if (tpm_caller_give_up(caller, reply, reply_len)) {
         printf("the counter is to be defined\n");
-        exchange(define, sizeof define);
+        define_counter();
         take_name();
         exchange(increment, sizeof increment);
     } else if (tpm_caller_open(caller, reply, reply_len) != TPM_CALLER_OPENED) {
