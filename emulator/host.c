@@ -1,0 +1,459 @@
+#include "host.h"
+#include "fault.h"
+#include "wire.h"
+
+#include <string.h>
+
+#define FOR_PARAMETER_1 (TPM_RC_P + TPM_RC_1)
+
+/* ---- the response, behind its header */
+
+struct reply {
+    uint8_t *bytes;
+    size_t len;
+};
+
+static void reply8(struct reply *reply, uint8_t number) {
+    reply->bytes[reply->len++] = number;
+}
+
+static void reply16(struct reply *reply, uint16_t number) {
+    put16(reply->bytes + reply->len, number);
+    reply->len += 2;
+}
+
+static void reply32(struct reply *reply, uint32_t number) {
+    put32(reply->bytes + reply->len, number);
+    reply->len += 4;
+}
+
+static void reply64(struct reply *reply, uint64_t number) {
+    put64(reply->bytes + reply->len, number);
+    reply->len += 8;
+}
+
+static void reply_bytes(struct reply *reply, const uint8_t *bytes, size_t len) {
+    memcpy(reply->bytes + reply->len, bytes, len);
+    reply->len += len;
+}
+
+/* ---- TPM2_GetCapability (Part 3, 30.2) */
+
+enum capability {
+    CAP_ALGS,
+    CAP_HANDLES,
+    CAP_COMMANDS,
+    CAP_PP_COMMANDS,
+    CAP_AUDIT_COMMANDS,
+    CAP_PCRS,
+    CAP_TPM_PROPERTIES,
+    CAP_PCR_PROPERTIES,
+    CAP_ECC_CURVES,
+    CAP_AUTH_POLICIES
+};
+
+/* An entry of a list: what it is asked for by, and what is said of it. Lists rise by their tags. */
+struct entry {
+    uint32_t tag;
+    uint32_t value;
+};
+
+#define ENTRIES 64
+
+struct entries {
+    struct entry at[ENTRIES];
+    size_t count;
+};
+
+static void add(struct entries *list, uint32_t tag, uint32_t value) {
+    size_t at = list->count++;
+    for (; at > 0 && list->at[at - 1].tag > tag; at--)
+        list->at[at] = list->at[at - 1];
+    list->at[at] = (struct entry){tag, value};
+}
+
+/* TPMA_CC (Part 2, 8.9): the command's number, whether it writes NV memory, and how many handles it and its response have. */
+#define CC_NV ((uint32_t)1 << 22)
+#define CC_HANDLES(n) ((uint32_t)(n) << 25)
+#define CC_ANSWERS_HANDLE ((uint32_t)1 << 28)
+
+static const uint32_t device_commands[] = {
+    TPM_CC_NV_UndefineSpace | CC_NV | CC_HANDLES(2),
+    TPM_CC_NV_DefineSpace | CC_NV | CC_HANDLES(1),
+    TPM_CC_NV_Increment | CC_NV | CC_HANDLES(2),
+    TPM_CC_PCR_Event | CC_NV | CC_HANDLES(1),
+    TPM_CC_PCR_Reset | CC_NV | CC_HANDLES(1),
+    TPM_CC_Startup | CC_NV,
+    TPM_CC_NV_Read | CC_HANDLES(2),
+    TPM_CC_FlushContext,
+    TPM_CC_NV_ReadPublic | CC_HANDLES(1),
+    TPM_CC_PolicyAuthValue | CC_HANDLES(1),
+    TPM_CC_PolicyCommandCode | CC_HANDLES(1),
+    TPM_CC_PolicyOR | CC_HANDLES(1),
+    TPM_CC_StartAuthSession | CC_HANDLES(2) | CC_ANSWERS_HANDLE,
+    TPM_CC_PCR_Read,
+    TPM_CC_PolicyPCR | CC_HANDLES(1),
+    TPM_CC_PolicyRestart | CC_HANDLES(1),
+    TPM_CC_PCR_Extend | CC_NV | CC_HANDLES(1),
+    TPM_CC_PolicyGetDigest | CC_HANDLES(1),
+};
+
+#define COUNT(list) (sizeof(list) / sizeof *(list))
+
+/* The table of what the host answers stands at the end of this file. */
+static uint32_t host_command(size_t number);
+static size_t host_command_count(void);
+
+static void list_commands(struct entries *list) {
+    for (size_t i = 0; i < COUNT(device_commands); i++)
+        add(list, device_commands[i] & 0xffff, device_commands[i]);
+    for (size_t i = 0; i < host_command_count(); i++)
+        add(list, host_command(i) & 0xffff, host_command(i));
+}
+
+/* TPMA_ALGORITHM (Part 2, 8.2): these are hashes. */
+static void list_algorithms(struct entries *list) {
+    static const uint32_t is_hash = 1 << 2;
+    add(list, TPM_ALG_SHA1, is_hash);
+    add(list, TPM_ALG_SHA256, is_hash);
+    add(list, TPM_ALG_SHA384, is_hash);
+}
+
+static uint32_t loaded_sessions(const struct record *record) {
+    uint32_t count = 0;
+    for (size_t i = 0; i < SESSION_SLOTS; i++)
+        count += record->sessions[i].loaded;
+    return count;
+}
+
+static uint32_t written_counters(const struct record *record) {
+    uint32_t count = 0;
+    for (size_t i = 0; i < record->counter_count; i++)
+        count += counter_is_written(&record->counters[i]);
+    return count;
+}
+
+/* TPM_PT (Part 2, 6.13): the limits are those of the device. */
+static void list_properties(struct entries *list, const struct machine *machine) {
+    static const struct entry fixed[] = {
+        {0x100, 0x322E3000},       /* family "2.0" */
+        {0x101, 0},                /* level */
+        {0x102, 159},              /* revision */
+        {0x103, 312},              /* day of the year, and year, of this revision */
+        {0x104, 2019},             /* */
+        {0x105, 0x564A4B57},       /* manufacturer "VJKW" */
+        {0x106, 0x56696E6A},       /* vendor's text "Vinj", "akwe" */
+        {0x107, 0x616B7765},       /* */
+        {0x108, 0},                /* */
+        {0x109, 0},                /* */
+        {0x10A, 0},                /* vendor's kind of TPM */
+        {0x10B, 0},                /* firmware's version */
+        {0x10C, 0},                /* */
+        {0x10D, 1024},             /* greatest TPM2B_MAX_BUFFER, TPM2B_EVENT */
+        {0x10E, 0},                /* transient and persistent objects */
+        {0x10F, 0},                /* */
+        {0x110, SESSION_SLOTS},    /* sessions that are loaded */
+        {0x111, SESSION_SLOTS},    /* sessions that are active */
+        {0x112, 24},               /* registers */
+        {0x113, 3},                /* bytes of a selection */
+        {0x114, 0xFFFFFFFF},       /* how many contexts may be saved after one */
+        {0x116, COUNTER_SLOTS},    /* counters */
+        {0x117, 8},                /* bytes of an index */
+        {0x11E, TPM_BUFFER_BYTES}, /* bytes of a command */
+        {0x11F, TPM_BUFFER_BYTES}, /* bytes of a response */
+        {0x120, 48},               /* bytes of a digest */
+        {0x12C, 8},                /* bytes that are read of an index */
+    };
+    const struct record *record = &machine->record;
+    uint32_t sessions = loaded_sessions(record), counters = (uint32_t)record->counter_count;
+    uint32_t commands = (uint32_t)(COUNT(device_commands) + host_command_count());
+    for (size_t i = 0; i < COUNT(fixed); i++)
+        add(list, fixed[i].tag, fixed[i].value);
+    add(list, 0x129, commands); /* commands, those of the library, those of the vendor */
+    add(list, 0x12A, commands);
+    add(list, 0x12B, 0);
+    add(list, 0x200, machine->making.owner_len > 0); /* TPMA_PERMANENT: ownerAuthSet */
+    add(list, 0x201, 1 << 1);                        /* TPMA_STARTUP_CLEAR: shEnable */
+    add(list, 0x202, counters);
+    add(list, 0x203, sessions);
+    add(list, 0x204, SESSION_SLOTS - sessions);
+    add(list, 0x205, sessions);
+    add(list, 0x206, SESSION_SLOTS - sessions);
+    add(list, 0x207, 0); /* room for transient objects; persistent ones, and room for them */
+    add(list, 0x208, 0);
+    add(list, 0x209, 0);
+    add(list, 0x20A, written_counters(record));
+    add(list, 0x20B, COUNTER_SLOTS - counters);
+}
+
+/* The handles of a type, which is the first byte of the property (Part 2, 7.2). A session that was saved is listed as saved, as tools
+ * expect it, though it stays loaded in the device. */
+static void list_handles(struct entries *list, const struct record *record, uint32_t type) {
+    switch (type) {
+    case 0x00:
+        for (uint32_t i = 0; i < 24; i++)
+            add(list, i, 0);
+        break;
+    case 0x01:
+        for (size_t i = 0; i < record->counter_count; i++)
+            add(list, record->counters[i].index, 0);
+        break;
+    case 0x02:
+    case 0x03:
+        for (size_t i = 0; i < SESSION_SLOTS; i++)
+            if (record->sessions[i].loaded && (record->sessions[i].save != 0) == (type == 0x03))
+                add(list, record->sessions[i].handle, 0);
+        break;
+    case 0x40:
+        add(list, TPM_RH_OWNER, 0);
+        add(list, TPM_RH_NULL, 0);
+        add(list, TPM_RS_PW, 0);
+        break;
+    }
+}
+
+/* A TPML of the entries from this tag on, at most so many, behind TPMI_YES_NO moreData and the capability. */
+static void reply_entries(struct reply *reply, const struct entries *list, enum capability capability, uint32_t from, uint32_t most) {
+    size_t first = 0;
+    while (first < list->count && list->at[first].tag < from)
+        first++;
+    size_t count = list->count - first < most ? list->count - first : most;
+    reply8(reply, first + count < list->count);
+    reply32(reply, capability);
+    reply32(reply, (uint32_t)count);
+    for (size_t i = first; i < first + count; i++) {
+        if (capability == CAP_ALGS)
+            reply16(reply, (uint16_t)list->at[i].tag);
+        else if (capability != CAP_COMMANDS)
+            reply32(reply, list->at[i].tag);
+        if (capability != CAP_HANDLES)
+            reply32(reply, list->at[i].value);
+    }
+}
+
+/* TPML_PCR_SELECTION: each bank has all registers. */
+static void reply_banks(struct reply *reply) {
+    static const uint16_t banks[] = {TPM_ALG_SHA1, TPM_ALG_SHA256, TPM_ALG_SHA384};
+    reply8(reply, 0);
+    reply32(reply, CAP_PCRS);
+    reply32(reply, COUNT(banks));
+    for (size_t i = 0; i < COUNT(banks); i++) {
+        reply16(reply, banks[i]);
+        reply32(reply, 0x03FFFFFF);
+    }
+}
+
+/* TPML_TAGGED_PCR_PROPERTY: which registers are extended, and which are reset, from locality 0. */
+static void reply_register_properties(struct reply *reply) {
+    reply8(reply, 0);
+    reply32(reply, CAP_PCR_PROPERTIES);
+    reply32(reply, 2);
+    reply32(reply, 1);
+    reply32(reply, 0x03FFFF81);
+    reply32(reply, 2);
+    reply32(reply, 0x03000081);
+}
+
+static void reply_none(struct reply *reply, enum capability capability) {
+    reply8(reply, 0);
+    reply32(reply, capability);
+    reply32(reply, 0);
+}
+
+static uint32_t get_capability(struct machine *machine, const uint8_t *parameters, size_t len, struct reply *reply) {
+    uint32_t capability = number32(parameters), property = number32(parameters + 4), most = number32(parameters + 8);
+    struct entries list = {.count = 0};
+    (void)len;
+    switch (capability) {
+    case CAP_ALGS:
+        list_algorithms(&list);
+        break;
+    case CAP_HANDLES:
+        list_handles(&list, &machine->record, property >> 24);
+        break;
+    case CAP_COMMANDS:
+        list_commands(&list);
+        break;
+    case CAP_TPM_PROPERTIES:
+        list_properties(&list, machine);
+        break;
+    case CAP_PCRS:
+        reply_banks(reply);
+        return TPM_RC_SUCCESS;
+    case CAP_PCR_PROPERTIES:
+        reply_register_properties(reply);
+        return TPM_RC_SUCCESS;
+    case CAP_PP_COMMANDS:
+    case CAP_AUDIT_COMMANDS:
+    case CAP_ECC_CURVES:
+    case CAP_AUTH_POLICIES:
+        reply_none(reply, capability);
+        return TPM_RC_SUCCESS;
+    default:
+        return TPM_RC_VALUE + FOR_PARAMETER_1;
+    }
+    reply_entries(reply, &list, capability, property, most);
+    return TPM_RC_SUCCESS;
+}
+
+/* ---- TPM2_ContextSave and TPM2_ContextLoad (Part 3, 28.2 and 28.3) */
+
+/* A saved session: TPMS_CONTEXT, whose blob is the number of the session's start and an HMAC of all before it. */
+#define SAVED_BLOB (8 + SHA256_BYTES)
+#define SAVED_BYTES (8 + 4 + 4 + 2 + SAVED_BLOB)
+
+static void seal_context(const struct machine *machine, const uint8_t *context, uint8_t mac[SHA256_BYTES]) {
+    hmac_sha256(machine->key, context, SAVED_BYTES - SHA256_BYTES, mac);
+}
+
+/* The session stays loaded in the device: what is saved names it, and is good for one load while the session lives. */
+static uint32_t context_save(struct machine *machine, const uint8_t *parameters, size_t len, struct reply *reply) {
+    struct session *session = record_session(&machine->record, number32(parameters));
+    uint8_t *context = reply->bytes + reply->len, mac[SHA256_BYTES];
+    (void)len;
+    if (!session)
+        return TPM_RC_REFERENCE_H0;
+    session->save = ++machine->saves;
+    reply64(reply, session->save);
+    reply32(reply, session->handle);
+    reply32(reply, TPM_RH_NULL);
+    reply16(reply, SAVED_BLOB);
+    reply64(reply, session->start);
+    seal_context(machine, context, mac);
+    reply_bytes(reply, mac, sizeof mac);
+    return TPM_RC_SUCCESS;
+}
+
+static uint32_t context_load(struct machine *machine, const uint8_t *parameters, size_t len, struct reply *reply) {
+    uint8_t mac[SHA256_BYTES];
+    if (len != SAVED_BYTES || number16(parameters + 16) != SAVED_BLOB)
+        return TPM_RC_SIZE + FOR_PARAMETER_1;
+    seal_context(machine, parameters, mac);
+    if (memcmp(mac, parameters + SAVED_BYTES - SHA256_BYTES, sizeof mac) != 0)
+        return RC_INTEGRITY + FOR_PARAMETER_1;
+    struct session *session = record_session(&machine->record, number32(parameters + 8));
+    if (!session || session->save != number64(parameters) || session->start != number64(parameters + 18))
+        return TPM_RC_HANDLE + FOR_PARAMETER_1;
+    session->save = 0;
+    reply32(reply, session->handle);
+    return TPM_RC_SUCCESS;
+}
+
+/* ---- the others */
+
+/* TPM2_GetRandom (Part 3, 16.1): at most a digest's bytes. */
+static uint32_t get_random(struct machine *machine, const uint8_t *parameters, size_t len, struct reply *reply) {
+    uint8_t bytes[48];
+    size_t count = number16(parameters) < sizeof bytes ? number16(parameters) : sizeof bytes;
+    (void)machine;
+    (void)len;
+    random_bytes(bytes, count);
+    reply16(reply, (uint16_t)count);
+    reply_bytes(reply, bytes, count);
+    return TPM_RC_SUCCESS;
+}
+
+/* TPM2_SelfTest (Part 3, 10.2): there is nothing to test. */
+static uint32_t self_test(struct machine *machine, const uint8_t *parameters, size_t len, struct reply *reply) {
+    (void)machine;
+    (void)len;
+    (void)reply;
+    return parameters[0] <= 1 ? TPM_RC_SUCCESS : TPM_RC_VALUE + FOR_PARAMETER_1;
+}
+
+/* TPM2_GetTestResult (Part 3, 10.4): no data, and TPM_RC_SUCCESS. */
+static uint32_t get_test_result(struct machine *machine, const uint8_t *parameters, size_t len, struct reply *reply) {
+    (void)machine;
+    (void)parameters;
+    (void)len;
+    reply16(reply, 0);
+    reply32(reply, TPM_RC_SUCCESS);
+    return TPM_RC_SUCCESS;
+}
+
+/* TPM2_Shutdown (Part 3, 9.4): counters are always kept, and the rest of a state can't be. */
+static uint32_t shut_down(struct machine *machine, const uint8_t *parameters, size_t len, struct reply *reply) {
+    (void)machine;
+    (void)len;
+    (void)reply;
+    return number16(parameters) == TPM_SU_CLEAR ? TPM_RC_SUCCESS : TPM_RC_VALUE + FOR_PARAMETER_1;
+}
+
+static uint64_t milliseconds_since(const struct timespec *then) {
+    struct timespec now;
+    clock_gettime(CLOCK_MONOTONIC, &now);
+    return (uint64_t)((int64_t)(now.tv_sec - then->tv_sec) * 1000 + (now.tv_nsec - then->tv_nsec) / 1000000);
+}
+
+/* TPM2_ReadClock (Part 3, 29.1): time since the power came on, and since this process began; so the clock is not safe. */
+static uint32_t read_clock(struct machine *machine, const uint8_t *parameters, size_t len, struct reply *reply) {
+    (void)parameters;
+    (void)len;
+    reply64(reply, milliseconds_since(&machine->powered_at));
+    reply64(reply, milliseconds_since(&machine->began_at));
+    reply32(reply, machine->power_cycles);
+    reply32(reply, 0);
+    reply8(reply, 0);
+    return TPM_RC_SUCCESS;
+}
+
+/* ---- the table: all that the host answers */
+
+static const struct answer {
+    uint32_t command; /* as TPMA_CC */
+    size_t least;     /* bytes behind the header */
+    size_t most;
+    uint32_t (*reply)(struct machine *, const uint8_t *, size_t, struct reply *);
+} table[] = {
+    {0x143 | CC_NV, 1, 1, self_test},
+    {0x145 | CC_NV, 2, 2, shut_down},
+    {0x161 | CC_ANSWERS_HANDLE, 18, TPM_BUFFER_BYTES, context_load},
+    {0x162 | CC_HANDLES(1), 4, 4, context_save},
+    {0x17A, 12, 12, get_capability},
+    {0x17B, 2, 2, get_random},
+    {0x17C, 0, 0, get_test_result},
+    {0x181, 0, 0, read_clock},
+};
+
+static uint32_t host_command(size_t number) {
+    return table[number].command;
+}
+
+static size_t host_command_count(void) {
+    return COUNT(table);
+}
+
+static const struct answer *answer_to(uint32_t code) {
+    for (size_t i = 0; i < COUNT(table); i++)
+        if ((table[i].command & 0xffff) == code)
+            return &table[i];
+    return NULL;
+}
+
+/* The checks before an answer are those of the device, in its order: started, no sessions, and the size of the parameters. */
+static uint32_t judged(struct machine *machine, const struct answer *answer, const uint8_t *command, size_t len, struct reply *reply) {
+    if (!machine->record.started)
+        return TPM_RC_INITIALIZE;
+    if (number16(command) == TPM_ST_SESSIONS)
+        return TPM_RC_AUTH_CONTEXT;
+    if (len - 10 < answer->least)
+        return TPM_RC_INSUFFICIENT + FOR_PARAMETER_1;
+    if (len - 10 > answer->most)
+        return TPM_RC_SIZE;
+    return answer->reply(machine, command + 10, len - 10, reply);
+}
+
+size_t host_answer(struct machine *machine, const uint8_t *command, size_t len, uint8_t *response) {
+    struct reply reply = {response, 10};
+    if (len < 10 || number32(command + 2) != len || (number16(command) != TPM_ST_NO_SESSIONS && number16(command) != TPM_ST_SESSIONS))
+        return 0;
+    const struct answer *answer = answer_to(number32(command + 6));
+    if (!answer)
+        return 0;
+    uint32_t code = judged(machine, answer, command, len, &reply);
+    if (code != TPM_RC_SUCCESS)
+        return code_alone(response, code);
+    code_alone(response, TPM_RC_SUCCESS);
+    put32(response + 2, (uint32_t)reply.len);
+    return reply.len;
+}

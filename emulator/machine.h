@@ -1,0 +1,38 @@
+/* One proved device with the host around it: what both protocols and the stream speak to. */
+#ifndef EMULATOR_MACHINE_H
+#define EMULATOR_MACHINE_H
+
+#include "record.h"
+#include "sha256.h"
+#include "state.h"
+
+#include <time.h>
+
+struct machine {
+    struct making making;
+    struct record record;
+    struct state *state; /* or none */
+    bool only_device;
+    bool startup; /* the host sends TPM2_Startup itself, whenever the power comes on */
+    bool powered;
+    struct timespec powered_at;
+    struct timespec began_at;
+    uint32_t power_cycles;
+    uint64_t saves;
+    uint8_t key[SHA256_BYTES]; /* seals saved sessions */
+};
+
+/* Switches a machine on whose device was made, and whose record and words are set. */
+void machine_begin(struct machine *machine);
+
+void machine_power_on(struct machine *machine);
+void machine_power_off(struct machine *machine);
+
+/* Answers these bytes, whatever they are, with those of a response, at most TPM_BUFFER_BYTES, and says how many they are. Counters
+ * that the command changed are in the state file when it returns. */
+size_t machine_answer(struct machine *machine, const uint8_t *command, size_t len, uint8_t *response);
+
+/* A response with this code alone. */
+size_t code_alone(uint8_t *response, uint32_t code);
+
+#endif

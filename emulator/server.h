@@ -1,0 +1,50 @@
+/* Connections, and the protocols that TPM software speaks over them. One process serves all of them in turns; nobody waits for
+ * anybody's bytes. */
+#ifndef EMULATOR_SERVER_H
+#define EMULATOR_SERVER_H
+
+#include "machine.h"
+
+/* What a connection speaks. */
+enum protocol {
+    MSSIM_COMMANDS, /* those of the reference simulator: commands in envelopes */
+    MSSIM_PLATFORM, /* and the power */
+    SWTPM_DATA,     /* those of swtpm: plain frames */
+    SWTPM_CONTROL,  /* and its control channel */
+    STREAM          /* plain frames on standard input and output */
+};
+
+#define LISTENERS 4
+
+struct link;
+
+struct listener {
+    int descriptor;
+    enum protocol protocol;
+};
+
+struct server {
+    struct machine *machine;
+    struct listener listeners[LISTENERS];
+    size_t listener_count;
+    struct link **links;
+    size_t link_count;
+    size_t link_most;
+    uint64_t turn;
+    int signals;
+    bool ended;
+    int status;
+};
+
+void server_init(struct server *server, struct machine *machine);
+
+/* Listens at this port of this address (IPv4, as digits). The program ends where it can't. */
+void server_listen(struct server *server, const char *address, uint16_t port, enum protocol protocol);
+
+/* Serves standard input and output. */
+void server_stream(struct server *server);
+
+/* Serves until SIGTERM or SIGINT comes, the control channel says so, or the stream ends. The answer is the program's status. */
+int server_run(struct server *server);
+
+#endif
