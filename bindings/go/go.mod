@@ -1,0 +1,3 @@
+module vinjakwe
+
+go 1.19

@@ -1,0 +1,134 @@
+"""Answers the lines of the table in checks/bindings.sh by the package, as the other bindings do."""
+import mmap
+import sys
+
+import vinjakwe
+from vinjakwe import Kind, LogFault, Refusal
+
+
+def unhex(text):
+    return b"" if text == "-" else bytes.fromhex(text)
+
+
+def text(data):
+    return data.hex() or "-"
+
+
+def command(data):
+    it = vinjakwe.decode_command(data)
+    yield f"command {it.name} size {it.size}"
+    yield from (f"handle {i} {handle:08x}" for i, handle in enumerate(it.handles, 1))
+    for i, s in enumerate(it.sessions, 1):
+        yield f"session {i} {s.handle:08x} nonce {text(s.nonce)} attributes {s.attributes:02x} hmac {text(s.hmac)}"
+    yield f"parameters {text(it.parameters)}"
+
+
+def reply(name, data):
+    it = vinjakwe.decode_response(name, data)
+    if it.code:
+        yield f"reply code {it.code:03x}"
+        return
+    yield f"reply {name} size {len(data)}"
+    if it.handle is not None:
+        yield f"handle 1 {it.handle:08x}"
+    yield f"parameters {text(it.parameters)}"
+    for i, s in enumerate(it.sessions, 1):
+        yield f"session {i} nonce {text(s.nonce)} attributes {s.attributes:02x} hmac {text(s.hmac)}"
+
+
+def registers(log):
+    for name, values in vinjakwe.replay(log).items():
+        yield from (f"{name} {i} {value.hex()}" for i, value in enumerate(values))
+
+
+def frames(size, stream):
+    framer = vinjakwe.Framer()
+    for at in range(0, len(stream), size):
+        try:
+            yield from ("frame " + it.hex() for it in framer.push(stream[at:at + size]))
+        except vinjakwe.BrokenStream as fault:
+            yield from ("frame " + it.hex() for it in fault.frames)
+            yield str(fault)
+            return
+    if framer.within:
+        yield "inside"
+
+
+def attest(log, quote, nonce, require, hash):
+    try:
+        verdict = vinjakwe.check(log, unhex(quote), unhex(nonce), unhex(require), hash)
+    except (Refusal, LogFault):
+        raise
+    except ValueError as fault:
+        yield "requirement refused" if str(fault).startswith("require: ") else str(fault)
+        return
+    yield {Kind.MATCHES: "matches", Kind.NONCE: "nonce differs", Kind.LACKS: f"lacks {verdict.hash} {verdict.pcr}",
+           Kind.EMPTY: "selects nothing", Kind.DIFFERS: "digest differs"}[verdict.kind]
+
+
+def whole(name):
+    with open(name, "rb") as file:
+        return file.read()
+
+
+def opened(name):
+    with open(name, "rb") as file:
+        yield from registers(file)
+
+
+class Answers:
+    number, device = 0, None
+
+    def zeros(self, size, first):
+        zeros, first = mmap.mmap(-1, int(size)), unhex(first)
+        zeros[:len(first)] = first
+        yield from told(command, zeros)
+        yield from told(registers, zeros)
+
+    def of(self, verb, *words):
+        if verb == "command":
+            yield from command(unhex(*words or "-"))
+        elif verb == "reply":
+            yield from reply(words[0], unhex(*words[1:] or "-"))
+        elif verb == "build":
+            yield vinjakwe.build_command(words[0], *map(unhex, words[1:])).hex()
+        elif verb == "log":
+            yield from registers(whole(*words))
+        elif verb == "pieces":
+            yield from opened(*words)
+        elif verb == "quote":
+            yield "quote " + ("matches" if vinjakwe.check_quote(whole(words[0]), unhex(words[1]), words[2]) else "differs")
+        elif verb == "attest":
+            yield from attest(whole(words[0]), *words[1:])
+        elif verb == "frames":
+            yield from frames(int(words[0]), unhex(words[1]))
+        elif verb == "device":
+            self.device = vinjakwe.Device(unhex(words[0]))
+        elif verb == "power":
+            self.device.power_cycle()
+            yield verb
+        elif verb == "execute":
+            self.number += 1
+            yield self.device.execute(unhex(words[0]), self.number.to_bytes(16, "big") * 4).hex()
+        elif verb == "zeros":
+            yield from self.zeros(*words)
+
+
+def told(ask, *words):
+    try:
+        yield from ask(*words)
+    except Refusal as it:
+        yield f"refused {it.code:03x} at {it.at}"
+    except ValueError as it:
+        yield str(it)
+
+
+def main():
+    answers = Answers()
+    for line in sys.stdin:
+        if line.split():
+            for answer in told(answers.of, *line.split()):
+                print(answer)
+
+
+main()

@@ -1,0 +1,424 @@
+"""Commands and responses of a TPM 2.0, logs of a measured boot, and quotes, judged by the library vinjakwe.
+
+Bytes are anything with the buffer protocol, and are lent to the library without a copy. Each call holds the interpreter's lock
+until it returns, so that no other thread changes them meanwhile; a map of a file has to be left alone by other processes, too.
+"""
+import ctypes
+import enum
+import os
+from ctypes import POINTER, Structure, byref, c_size_t, c_uint8, c_uint16, c_uint32, c_uint64, c_void_p
+from ctypes.util import find_library
+from typing import Dict, List, NamedTuple, Optional, Tuple
+
+__version__ = "0.1.0"
+
+# As in vinjakwe.h, with which a test compares them.
+BUFFER_BYTES, OWNER_BYTES, NONCE_BYTES, REGISTERS_BYTES = 4096, 48, 64, 2400
+HASHES = {"sha1": 0x0004, "sha256": 0x000B, "sha384": 0x000C}
+COMMANDS = {
+    "NV_UndefineSpace": 0x122, "NV_DefineSpace": 0x12A, "NV_Increment": 0x134, "PCR_Event": 0x13C, "PCR_Reset": 0x13D,
+    "Startup": 0x144, "NV_Read": 0x14E, "FlushContext": 0x165, "NV_ReadPublic": 0x169, "PolicyAuthValue": 0x16B,
+    "PolicyCommandCode": 0x16C, "PolicyOR": 0x171, "StartAuthSession": 0x176, "PCR_Read": 0x17E, "PolicyPCR": 0x17F,
+    "PolicyRestart": 0x180, "PCR_Extend": 0x182, "PolicyGetDigest": 0x189,
+}
+CODES = {
+    "SUCCESS": 0x000, "BAD_TAG": 0x01E, "INITIALIZE": 0x100, "AUTH_MISSING": 0x125, "PCR_CHANGED": 0x128,
+    "AUTH_UNAVAILABLE": 0x12F, "COMMAND_SIZE": 0x142, "COMMAND_CODE": 0x143, "AUTHSIZE": 0x144, "AUTH_CONTEXT": 0x145,
+    "NV_RANGE": 0x146, "NV_AUTHORIZATION": 0x149, "NV_UNINITIALIZED": 0x14A, "NV_SPACE": 0x14B, "NV_DEFINED": 0x14C,
+    "SESSION_MEMORY": 0x903, "LOCALITY": 0x907, "REFERENCE_H0": 0x910, "REFERENCE_S0": 0x918, "ATTRIBUTES": 0x082,
+    "HASH": 0x083, "VALUE": 0x084, "MODE": 0x089, "HANDLE": 0x08B, "AUTH_FAIL": 0x08E, "NONCE": 0x08F, "SIZE": 0x095,
+    "SYMMETRIC": 0x096, "INSUFFICIENT": 0x09A, "POLICY_FAIL": 0x09D, "RESERVED_BITS": 0x0A1, "BAD_AUTH": 0x0A2,
+    "POLICY_CC": 0x0A4,
+}
+LOG_FAULTS = ("DONE", "TRUNCATED", "TOO_LONG", "NOT_CRYPTO_AGILE", "BAD_HEADER", "DUPLICATE_ALGORITHM", "WRONG_DIGEST_SIZE",
+              "UNKNOWN_ALGORITHM", "REPEATED_DIGEST", "BAD_REGISTER", "BAD_LOCALITY", "LATE_LOCALITY")
+_DONE, _REFUSED, _NO_ROOM, _NO_COMMAND = range(4)
+_MORE, _READY, _BROKEN = range(3)
+_DIGESTS = {"sha1": (0, 20), "sha256": (480, 32), "sha384": (1248, 48)}
+_COMMAND_NAMES = {number: name for name, number in COMMANDS.items()}
+_CODE_NAMES = {number: name for name, number in CODES.items()}
+
+
+class LibraryError(ImportError):
+    """The library is not found, or has another version than this package."""
+
+
+def code_name(code: int) -> str:
+    """The name of a response code in Part 2, 6.6.3, with the handle, session or parameter that it tells, or its number."""
+    if not code & 0x80:
+        return "TPM_RC_" + _CODE_NAMES[code] if code in _CODE_NAMES else f"{code:#x}"
+    base, number = code & 0xBF, code >> 8 & 15
+    if code >> 12 or base not in _CODE_NAMES:
+        return f"{code:#x}"
+    what = ("parameter", number) if code & 0x40 else ("session", number & 7) if number & 8 else ("handle", number)
+    return "TPM_RC_" + _CODE_NAMES[base] + (f" for {what[0]} {what[1]}" if what[1] else "")
+
+
+class Refusal(ValueError):
+    """The bytes are refused: the TPM's response code, and how many bytes are before the first fault."""
+
+    def __init__(self, code: int, at: int) -> None:
+        super().__init__(f"refused {code:03x} at {at}: {code_name(code)}")
+        self.code, self.at, self.name = code, at, code_name(code)
+
+
+class LogFault(ValueError):
+    """The log is none: the kind of its first fault, as `Truncated`, and how many bytes are before it."""
+
+    def __init__(self, kind: int, at: int) -> None:
+        self.kind, self.at = "".join(word.capitalize() for word in LOG_FAULTS[kind].split("_")), at
+        super().__init__(f"log {self.kind} at {at}")
+
+
+class BrokenStream(ValueError):
+    """A stream has a buffer whose size field is none of 10 to 4,096."""
+
+
+class _Refusal(Structure):
+    _fields_ = [("code", c_uint32), ("at", c_uint32)]
+
+
+class _Part(Structure):
+    _fields_ = [("at", c_size_t), ("len", c_size_t)]
+
+
+class _CommandSession(Structure):
+    _fields_ = [("handle", c_uint32), ("attributes", c_uint8), ("nonce", _Part), ("hmac", _Part)]
+
+
+class _CommandAreas(Structure):
+    _fields_ = [("code", c_uint32), ("size", c_size_t), ("handle_count", c_size_t), ("handles", c_uint32 * 2),
+                ("session_count", c_size_t), ("sessions", _CommandSession * 3), ("parameters", _Part)]
+
+
+class _ResponseSession(Structure):
+    _fields_ = [("attributes", c_uint8), ("nonce", _Part), ("hmac", _Part)]
+
+
+class _ResponseAreas(Structure):
+    _fields_ = [("code", c_uint32), ("handle_count", c_size_t), ("handle", c_uint32), ("parameters", _Part),
+                ("session_count", c_size_t), ("sessions", _ResponseSession * 3)]
+
+
+class _AttestFault(Structure):
+    _fields_ = [("code", c_uint32), ("at", c_uint32), ("hash", c_uint16), ("pcr", c_uint32)]
+
+
+def _load() -> ctypes.PyDLL:
+    name = os.environ.get("VINJAKWE_LIBRARY") or find_library("vinjakwe") or "libvinjakwe.so.0"
+    try:
+        library = ctypes.PyDLL(name)
+    except OSError as error:
+        raise LibraryError(f"the library vinjakwe is not found ({error}): install it, or name its file in VINJAKWE_LIBRARY") from None
+    try:
+        found = ctypes.string_at(ctypes.addressof(ctypes.c_char.in_dll(library, "vinjakwe_version"))).decode()
+    except ValueError:
+        raise LibraryError(f"{name} is not the library vinjakwe, which tells its version") from None
+    if found != __version__:
+        raise LibraryError(f"{name} has version {found}, and this package is for {__version__}")
+    p, size, number = c_void_p, c_size_t, c_uint32
+    for function, result, words in [
+        ("device_size", size, []), ("device_align", size, []), ("device_init", number, [p, p, size, c_uint64]),
+        ("device_power_cycle", None, [p]), ("device_execute", size, [p, p, size, p, p, size]),
+        ("framer_size", size, []), ("framer_align", size, []), ("framer_init", None, [p]),
+        ("framer_push", size, [p, p, size, POINTER(number)]), ("framer_frame", size, [p, p, size]), ("framer_next", None, [p]),
+        ("command_cut", number, [p, size, POINTER(_CommandAreas), POINTER(_Refusal)]),
+        ("command_decode", number, [p, size, POINTER(_Refusal)]),
+        ("response_cut", number, [number, p, size, POINTER(_ResponseAreas), POINTER(_Refusal)]),
+        ("response_decode", number, [number, p, size, POINTER(_Refusal)]),
+        ("command_build", number, [number, p, size, p, size, p, size, p, size, POINTER(size), POINTER(_Refusal)]),
+        ("log_replay", number, [p, size, p, POINTER(number)]), ("log_replay_size", size, []), ("log_replay_align", size, []),
+        ("log_replay_init", None, [p]), ("log_replay_feed", number, [p, p, size, POINTER(number)]),
+        ("log_replay_end", number, [p, p, POINTER(number)]),
+        ("log_check_quote", number, [p, size, p, size, c_uint16, POINTER(number)]),
+        ("log_check_attest", number, [p, size, p, size, c_uint16, p, size, p, size, POINTER(_AttestFault)]),
+        ("caller_size", size, []), ("caller_align", size, []), ("caller_init", None, [p]),
+        ("caller_start", number, [p, p, size, p, size, p, size]), ("caller_open", number, [p, p, size]),
+        ("caller_seal", size, [p, p, size, p, size, p, size, p, size, p, size, number, p, size]),
+        ("caller_give_up", number, [p, p, size]),
+    ]:
+        call = getattr(library, "tpm_" + function, None)
+        if call is not None:
+            call.restype, call.argtypes = result, words
+    return library
+
+
+_library = _load()
+
+
+class _View(Structure):
+    """Py_buffer of the interpreter's C interface, whose layout is part of its stable binary interface."""
+
+    _fields_ = [("buf", c_void_p), ("obj", ctypes.py_object), ("len", ctypes.c_ssize_t), ("itemsize", ctypes.c_ssize_t),
+                ("readonly", ctypes.c_int), ("ndim", ctypes.c_int), ("rest", c_void_p * 5)]
+
+
+_borrow, _give_back = ctypes.pythonapi.PyObject_GetBuffer, ctypes.pythonapi.PyBuffer_Release
+_borrow.argtypes, _borrow.restype = [ctypes.py_object, POINTER(_View), ctypes.c_int], ctypes.c_int
+_give_back.argtypes, _give_back.restype = [POINTER(_View)], None
+_nothing = ctypes.create_string_buffer(1)
+
+
+def _lend(call, *words):
+    """Calls the function with these words, where a tuple of one object lends its bytes, as their address and their number."""
+    views, given = [], []
+    try:
+        for word in words:
+            if not isinstance(word, tuple):
+                given.append(word)
+                continue
+            view = _View()
+            _borrow(word[0], byref(view), 0)
+            views.append(view)
+            given += [view.buf or ctypes.addressof(_nothing), view.len]
+        return call(*given)
+    finally:
+        for view in views:
+            _give_back(byref(view))
+
+
+def _room(what: str) -> ctypes.Array:
+    """Memory for a device, a framer, a replay or a caller, at the place that it wants."""
+    size, align = getattr(_library, f"tpm_{what}_size")(), getattr(_library, f"tpm_{what}_align")()
+    whole = (c_uint8 * (size + align))()
+    return (c_uint8 * size).from_buffer(whole, -ctypes.addressof(whole) % align)
+
+
+def _judged(answer: int, refusal: _Refusal) -> None:
+    if answer == _NO_COMMAND:
+        raise ValueError("no command has this number")
+    if answer == _REFUSED:
+        raise Refusal(refusal.code, refusal.at)
+
+
+def _number(command) -> int:
+    if isinstance(command, str):
+        if command not in COMMANDS:
+            raise ValueError(f"no command has the name {command}")
+        return COMMANDS[command]
+    if not 0 <= command < 1 << 32:
+        raise ValueError("no command has this number")
+    return command
+
+
+def _hash(name: str) -> int:
+    if name not in HASHES:
+        raise ValueError(f"no bank has the hash {name}: it is none of {', '.join(HASHES)}")
+    return HASHES[name]
+
+
+class CommandSession(NamedTuple):
+    handle: int
+    nonce: bytes
+    attributes: int
+    hmac: bytes
+
+
+class Command(NamedTuple):
+    code: int
+    name: str
+    size: int
+    handles: Tuple[int, ...]
+    sessions: Tuple[CommandSession, ...]
+    parameters: bytes
+
+
+class ResponseSession(NamedTuple):
+    nonce: bytes
+    attributes: int
+    hmac: bytes
+
+
+class Response(NamedTuple):
+    """Of a response whose code is not 0 nothing else is there."""
+
+    code: int
+    handle: Optional[int]
+    parameters: bytes
+    sessions: Tuple[ResponseSession, ...]
+
+
+def decode_command(data) -> Command:
+    """The command that all the bytes spell. Raises Refusal."""
+    areas, refusal = _CommandAreas(), _Refusal()
+    _judged(_lend(_library.tpm_command_decode, (data,), byref(refusal)), refusal)
+    _judged(_lend(_library.tpm_command_cut, (data,), byref(areas), byref(refusal)), refusal)
+    with memoryview(data).cast("B") as view:
+        def part(it):
+            return bytes(view[it.at:it.at + it.len])
+        sessions = tuple(CommandSession(it.handle, part(it.nonce), it.attributes, part(it.hmac)) for it in areas.sessions[:areas.session_count])
+        return Command(areas.code, _COMMAND_NAMES[areas.code], areas.size, tuple(areas.handles[:areas.handle_count]), sessions, part(areas.parameters))
+
+
+def decode_response(command, data) -> Response:
+    """The response that all the bytes spell to the command of this name or number. Raises Refusal."""
+    areas, refusal, number = _ResponseAreas(), _Refusal(), _number(command)
+    _judged(_lend(_library.tpm_response_decode, number, (data,), byref(refusal)), refusal)
+    _judged(_lend(_library.tpm_response_cut, number, (data,), byref(areas), byref(refusal)), refusal)
+    with memoryview(data).cast("B") as view:
+        def part(it):
+            return bytes(view[it.at:it.at + it.len])
+        sessions = tuple(ResponseSession(part(it.nonce), it.attributes, part(it.hmac)) for it in areas.sessions[:areas.session_count])
+        return Response(areas.code, areas.handle if areas.handle_count else None, part(areas.parameters), sessions)
+
+
+def build_command(command, handles=b"", sessions=b"", parameters=b"") -> bytes:
+    """The command of this name or number, joined from the bytes of its parts. Raises Refusal where they spell none."""
+    out, count, refusal = (c_uint8 * BUFFER_BYTES)(), c_size_t(), _Refusal()
+    answer = _lend(_library.tpm_command_build, _number(command), (handles,), (sessions,), (parameters,), out, BUFFER_BYTES, byref(count), byref(refusal))
+    _judged(answer, refusal)
+    return bytes(out[:count.value])
+
+
+class Framer:
+    """Cuts a stream into its buffers, each of which states its size."""
+
+    def __init__(self) -> None:
+        self._room = _room("framer")
+        _library.tpm_framer_init(self._room)
+        self.within = False
+        """Whether the stream stands inside a buffer."""
+
+    def push(self, piece) -> List[bytes]:
+        """The buffers that end in this piece. Raises BrokenStream, now and from now on; `frames` then has those that came before."""
+        frames, status, out, rest = [], c_uint32(), (c_uint8 * BUFFER_BYTES)(), memoryview(piece).cast("B")
+        while True:
+            taken = _lend(_library.tpm_framer_push, self._room, (rest,), byref(status))
+            rest = rest[taken:]
+            if status.value == _READY:
+                frames.append(bytes(out[:_library.tpm_framer_frame(self._room, out, BUFFER_BYTES)]))
+                _library.tpm_framer_next(self._room)
+                self.within = False
+            elif status.value == _BROKEN:
+                error = BrokenStream("no buffer has the size that was stated")
+                error.frames = frames
+                raise error
+            else:
+                self.within = self.within or taken > 0
+            if not len(rest):
+                return frames
+
+
+Registers = Dict[str, Tuple[bytes, ...]]
+
+
+def _registers(out) -> Registers:
+    whole = bytes(out)
+    return {name: tuple(whole[at + size * i:at + size * (i + 1)] for i in range(24)) for name, (at, size) in _DIGESTS.items()}
+
+
+def _has_bytes(it) -> bool:
+    try:
+        memoryview(it).release()
+    except TypeError:
+        return False
+    return True
+
+
+def replay(log) -> Registers:
+    """The 24 registers of each bank, by the hash's name, after a log: its bytes, or a file that is read to its end. Raises LogFault."""
+    out, at = (c_uint8 * REGISTERS_BYTES)(), c_uint32()
+    if _has_bytes(log) or not hasattr(log, "read"):
+        kind = _lend(_library.tpm_log_replay, (log,), out, byref(at))
+    else:
+        room, kind = _room("log_replay"), 0
+        _library.tpm_log_replay_init(room)
+        while not kind:
+            piece = log.read(1 << 16)
+            if not piece:
+                kind = _library.tpm_log_replay_end(room, out, byref(at))
+                break
+            kind = _lend(_library.tpm_log_replay_feed, room, (piece,), byref(at))
+    if kind:
+        raise LogFault(kind, at.value)
+    return _registers(out)
+
+
+def check_quote(log, quote, hash: str = "sha256") -> bool:
+    """Whether the digest of a quote's TPMS_QUOTE_INFO is that of a log's registers. Raises LogFault, Refusal (whose code is not told: 0)."""
+    at = c_uint32()
+    answer = _lend(_library.tpm_log_check_quote, (log,), (quote,), _hash(hash), byref(at))
+    if answer == 17:
+        raise Refusal(0, at.value)
+    if 0 < answer < len(LOG_FAULTS):
+        raise LogFault(answer, at.value)
+    return answer == 0
+
+
+class Kind(enum.Enum):
+    MATCHES, DIFFERS, NONCE, LACKS, EMPTY = 0, 16, 19, 20, 21
+
+
+class Verdict(NamedTuple):
+    """What is said of a signed quote: it matches, or the first that fails: another nonce, a required register that is not selected (its
+    bank and number are there), another digest, or no register is selected. It is true where the quote matches."""
+
+    kind: Kind
+    hash: Optional[str] = None
+    pcr: Optional[int] = None
+
+    def __bool__(self) -> bool:
+        return self.kind is Kind.MATCHES
+
+
+def check(log, attest, nonce, require=b"", hash: str = "sha256") -> Verdict:
+    """Compares a log with a TPMS_ATTEST of a quote, whose signature has to be verified elsewhere: its nonce, the registers of the
+    TPML_PCR_SELECTION `require`, and the digest under this hash. Raises LogFault, and Refusal for bytes that spell no quote;
+    ValueError where `require` is no selection."""
+    fault = _AttestFault()
+    answer = _lend(_library.tpm_log_check_attest, (log,), (attest,), _hash(hash), (nonce,), (require,), byref(fault))
+    if 0 < answer < len(LOG_FAULTS):
+        raise LogFault(answer, fault.at)
+    if answer == 17:
+        raise Refusal(fault.code, fault.at)
+    if answer == 22:
+        raise ValueError("require: " + str(Refusal(fault.code, fault.at)))
+    if Kind(answer) is Kind.LACKS:
+        return Verdict(Kind.LACKS, {number: name for name, number in HASHES.items()}[fault.hash], fault.pcr)
+    return Verdict(Kind(answer))
+
+
+class Device:
+    """A device in memory, which is not started. No counter of it has had a greater value than `greatest`."""
+
+    def __init__(self, owner=b"", greatest: int = 0) -> None:
+        if not 0 <= greatest < 1 << 64:
+            raise ValueError("greatest is no number of 64 bits")
+        self._room = _room("device")
+        if not _lend(_library.tpm_device_init, self._room, (owner,), greatest):
+            raise ValueError(f"the owner's value has more than {OWNER_BYTES} bytes")
+
+    def power_cycle(self) -> None:
+        _library.tpm_device_power_cycle(self._room)
+
+    def execute(self, command, nonce=None) -> bytes:
+        """The response to these bytes. `nonce`: 64 fresh random bytes, which are taken from the system if none are given."""
+        nonce, out = os.urandom(NONCE_BYTES) if nonce is None else bytes(nonce), (c_uint8 * BUFFER_BYTES)()
+        if len(nonce) != NONCE_BYTES:
+            raise ValueError(f"a nonce has {NONCE_BYTES} bytes")
+        return bytes(out[:_lend(_library.tpm_device_execute, self._room, (command,), (c_uint8 * NONCE_BYTES)(*nonce), out, BUFFER_BYTES)])
+
+
+class Caller:
+    """The other end of a session. Each call is false, or raises ValueError, where it does not apply, and then nothing changes."""
+
+    def __init__(self) -> None:
+        self._room = _room("caller")
+        _library.tpm_caller_init(self._room)
+
+    def start(self, command, reply, bind_auth=b"") -> bool:
+        return bool(_lend(_library.tpm_caller_start, self._room, (command,), (reply,), (bind_auth,)))
+
+    def seal(self, command, first, second=b"", auth=b"", nonce=None, keep: bool = True) -> bytes:
+        out, nonce = (c_uint8 * BUFFER_BYTES)(), os.urandom(16) if nonce is None else nonce
+        count = _lend(_library.tpm_caller_seal, self._room, (command,), (first,), (second,), (auth,), (nonce,), int(keep), out, BUFFER_BYTES)
+        if not count:
+            raise ValueError("no session is free, or the command needs no authorization, or a Name or the nonce is too long")
+        return bytes(out[:count])
+
+    def open(self, reply) -> bool:
+        """Whether the reply is that of the sealed command; until it is, nothing in it is to be believed."""
+        return _lend(_library.tpm_caller_open, self._room, (reply,)) == 0
+
+    def give_up(self, refusal) -> bool:
+        return bool(_lend(_library.tpm_caller_give_up, self._room, (refusal,)))

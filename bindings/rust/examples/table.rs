@@ -1,0 +1,175 @@
+//! Answers the lines of the table in checks/bindings.sh by the crate, as the other bindings do.
+use std::collections::BTreeMap;
+use std::fs::File;
+use std::io::{stdin, stdout, BufRead, BufWriter, Read, Write};
+use vinjakwe::*;
+
+fn unhex(text: &str) -> Vec<u8> {
+    let digits = text.trim_start_matches('-').as_bytes();
+    digits.chunks(2).map(|it| u8::from_str_radix(std::str::from_utf8(it).unwrap(), 16).unwrap()).collect()
+}
+
+fn text(bytes: &[u8]) -> String {
+    if bytes.is_empty() { "-".into() } else { hex(bytes) }
+}
+
+fn hex(bytes: &[u8]) -> String {
+    bytes.iter().map(|it| format!("{it:02x}")).collect()
+}
+
+fn bank(name: &str) -> Bank {
+    match name {
+        "sha1" => Bank::Sha1,
+        "sha256" => Bank::Sha256,
+        _ => Bank::Sha384,
+    }
+}
+
+fn command(out: &mut impl Write, names: &BTreeMap<u32, String>, bytes: &[u8]) -> std::io::Result<()> {
+    let it = match Command::decode(bytes) {
+        Ok(it) => it,
+        Err(fault) => return writeln!(out, "{fault}"),
+    };
+    writeln!(out, "command {} size {}", names[&it.code()], it.size())?;
+    for (i, handle) in it.handles().iter().enumerate() {
+        writeln!(out, "handle {} {handle:08x}", i + 1)?;
+    }
+    for (i, s) in it.sessions().enumerate() {
+        writeln!(out, "session {} {:08x} nonce {} attributes {:02x} hmac {}", i + 1, s.handle, text(s.nonce), s.attributes, text(s.hmac))?;
+    }
+    writeln!(out, "parameters {}", text(it.parameters()))
+}
+
+fn reply(out: &mut impl Write, name: &str, code: u32, bytes: &[u8]) -> std::io::Result<()> {
+    let it = match Response::decode(code, bytes) {
+        Ok(it) => it,
+        Err(fault) => return writeln!(out, "{fault}"),
+    };
+    if it.code() != 0 {
+        return writeln!(out, "reply code {:03x}", it.code());
+    }
+    writeln!(out, "reply {name} size {}", bytes.len())?;
+    if let Some(handle) = it.handle() {
+        writeln!(out, "handle 1 {handle:08x}")?;
+    }
+    writeln!(out, "parameters {}", text(it.parameters()))?;
+    for (i, s) in it.sessions().enumerate() {
+        writeln!(out, "session {} nonce {} attributes {:02x} hmac {}", i + 1, text(s.nonce), s.attributes, text(s.hmac))?;
+    }
+    Ok(())
+}
+
+fn registers(out: &mut impl Write, found: Result<Registers, LogFault>) -> std::io::Result<()> {
+    let found = match found {
+        Ok(found) => found,
+        Err(fault) => return writeln!(out, "{fault}"),
+    };
+    for name in ["sha1", "sha256", "sha384"] {
+        for i in 0..24 {
+            writeln!(out, "{name} {i} {}", hex(found.value(bank(name), i).unwrap()))?;
+        }
+    }
+    Ok(())
+}
+
+fn pieces(name: &str) -> Result<Registers, LogFault> {
+    let (mut room, mut file, mut piece) = (Room::new(), File::open(name).unwrap(), [0; 1000]);
+    let mut replay = Replay::new(&mut room).unwrap();
+    loop {
+        match file.read(&mut piece).unwrap() {
+            0 => return replay.end(),
+            count => replay.feed(&piece[..count])?,
+        }
+    }
+}
+
+fn frames(out: &mut impl Write, size: usize, stream: &[u8]) -> std::io::Result<()> {
+    let (mut room, mut frame, mut inside) = (Room::new(), [0; BUFFER_BYTES], false);
+    let mut framer = Framer::new(&mut room).unwrap();
+    for mut piece in stream.chunks(size) {
+        while !piece.is_empty() {
+            match framer.push(piece) {
+                Ok((taken, ready)) => {
+                    piece = &piece[taken..];
+                    inside = !ready;
+                    if let Some(frame) = framer.take(&mut frame) {
+                        writeln!(out, "frame {}", hex(frame))?;
+                    }
+                }
+                Err(fault) => return writeln!(out, "{fault}"),
+            }
+        }
+    }
+    if inside { writeln!(out, "inside") } else { Ok(()) }
+}
+
+fn main() -> std::io::Result<()> {
+    check_version().unwrap();
+    let mut names = BTreeMap::new();
+    let mut numbers = BTreeMap::new();
+    for line in std::env::args().skip(1) {
+        let (name, number) = line.split_once('=').unwrap();
+        names.insert(number.parse().unwrap(), name.to_string());
+        numbers.insert(name.to_string(), number.parse::<u32>().unwrap());
+    }
+    let out = &mut BufWriter::new(stdout());
+    let (mut room, mut device, mut number) = (Some(Box::new(Room::new())), None, 0u64);
+    for line in stdin().lock().lines() {
+        let line = line?;
+        let mut words: Vec<&str> = line.split_whitespace().collect();
+        words.resize(8, "");
+        let code = |name| numbers.get(name).copied().unwrap_or(0);
+        match words[0] {
+            "command" => command(out, &names, &unhex(words[1]))?,
+            "reply" => reply(out, words[1], code(words[1]), &unhex(words[2]))?,
+            "build" => {
+                let mut built = [0; BUFFER_BYTES];
+                match build_command(code(words[1]), &unhex(words[2]), &unhex(words[3]), &unhex(words[4]), &mut built) {
+                    Ok(built) => writeln!(out, "{}", hex(built))?,
+                    Err(fault) => writeln!(out, "{fault}")?,
+                }
+            }
+            "log" => registers(out, replay(&std::fs::read(words[1])?))?,
+            "pieces" => registers(out, pieces(words[1]))?,
+            "quote" => match check_quote(&std::fs::read(words[1])?, &unhex(words[2]), bank(words[3])) {
+                Ok(matches) => writeln!(out, "quote {}", if matches { "matches" } else { "differs" })?,
+                Err(fault) => writeln!(out, "{fault}")?,
+            },
+            "attest" => match check(&std::fs::read(words[1])?, &unhex(words[2]), &unhex(words[3]), &unhex(words[4]), bank(words[5])) {
+                Ok(Verdict::Matches) => writeln!(out, "matches")?,
+                Ok(Verdict::Nonce) => writeln!(out, "nonce differs")?,
+                Ok(Verdict::Lacks(bank, register)) => writeln!(out, "lacks {} {register}", format!("{bank:?}").to_lowercase())?,
+                Ok(Verdict::Empty) => writeln!(out, "selects nothing")?,
+                Ok(Verdict::Differs) => writeln!(out, "digest differs")?,
+                Err(Fault::Requirement(_)) => writeln!(out, "requirement refused")?,
+                Err(fault) => writeln!(out, "{fault}")?,
+            },
+            "frames" => frames(out, words[1].parse().unwrap(), &unhex(words[2]))?,
+            "device" => {
+                let place = room.take().map(Box::leak).unwrap();
+                device = Some(Device::new(place, &unhex(words[1]), 0).unwrap());
+            }
+            "power" => {
+                device.as_mut().unwrap().power_cycle();
+                writeln!(out, "power")?;
+            }
+            "execute" => {
+                number += 1;
+                let (mut nonce, mut response) = ([0; NONCE_BYTES], [0; BUFFER_BYTES]);
+                for group in nonce.chunks_mut(16) {
+                    group[8..].copy_from_slice(&number.to_be_bytes());
+                }
+                writeln!(out, "{}", hex(device.as_mut().unwrap().execute(&unhex(words[1]), &nonce, &mut response)))?;
+            }
+            "zeros" => {
+                let mut zeros = vec![0; words[1].parse().unwrap()];
+                let first = unhex(words[2]);
+                zeros[..first.len()].copy_from_slice(&first);
+                command(out, &names, &zeros)?;
+                registers(out, replay(&zeros))?;
+            }
+            _ => {}
+        }
+    }
+    out.flush()
+}

@@ -1,0 +1,345 @@
+# The bindings for Python, Go and Rust over what ./install installs: one table of questions, answered by each as by the C programs
+# and by tpmtool. A question is a line:
+#
+#     command HEX, reply NAME HEX, build NAME HANDLES SESSIONS PARAMETERS      as examples/view.c
+#     log FILE, pieces FILE                                                   `tpmtool check FILE`, whole and from a reader
+#     quote FILE HEX HASH                                                     as examples/log.c
+#     attest LOG HEX NONCE REQUIRE HASH                                       a quote as it was signed
+#     frames SIZE HEX                                                         a stream in pieces of so many bytes
+#     device OWNER, execute HEX, power                                        a script, by its nonces
+#     zeros SIZE HEX                                                          as command and as log: HEX, and zeros up to this size
+
+prefix=$room/prefix
+table=$room/table
+LD_LIBRARY_PATH=$prefix/lib
+PKG_CONFIG_PATH=$prefix/lib/pkgconfig
+PYTHONPATH=$PWD/bindings/python
+PYTHONDONTWRITEBYTECODE=yes
+CARGO_TARGET_DIR=$room/rust
+GOFLAGS=-mod=mod
+GOCACHE=$room/go
+GODEBUG=cgocheck=1
+
+compiler=
+for word in "${CC:-cc}" gcc clang; do
+    if command -v "$word" >/dev/null 2>&1; then
+        compiler=$word
+        break
+    fi
+done
+
+# in_place WORD..: runs the words with the installed library, wherever that is.
+in_place() {
+    env LD_LIBRARY_PATH="$LD_LIBRARY_PATH" PKG_CONFIG_PATH="$PKG_CONFIG_PATH" PYTHONPATH="$PYTHONPATH" CARGO_TARGET_DIR="$CARGO_TARGET_DIR" \
+        PYTHONDONTWRITEBYTECODE=yes GOFLAGS="$GOFLAGS" GOCACHE="$GOCACHE" GODEBUG="$GODEBUG" CGO_LDFLAGS_ALLOW='.*' "$@"
+}
+
+# agrees NAME WORD..: the check NAME passes where the words succeed.
+agrees() {
+    name=$1
+    shift
+    if "$@" >"$room/said" 2>&1; then pass "$name"; else fail "$name" "$(head -n 5 "$room/said")"; fi
+}
+
+# selection WORD: the TPML_PCR_SELECTION of `sha256:0,7+sha1:1`.
+selection() {
+    echo "$1" | awk '
+        BEGIN { number["sha1"] = "0004"; number["sha256"] = "000b"; number["sha384"] = "000c" }
+        {
+            count = split($0, entries, "+")
+            for (i = 1; i <= count; i++) {
+                split(entries[i], halves, ":")
+                many = split(halves[2], registers, ",")
+                octets[0] = octets[1] = octets[2] = 0
+                for (j = 1; j <= many; j++) octets[int(registers[j] / 8)] += 2 ^ (registers[j] % 8)
+                text = text number[halves[1]] sprintf("03%02x%02x%02x", octets[0], octets[1], octets[2])
+            }
+            printf "%08x%s\n", count, text
+        }'
+}
+
+# ask_quotes: of each quote in checks/quotes what is right of it, and what is wrong where a word is another, with the answers.
+ask_quotes() {
+    while read -r quote log hash nonce selected; do
+        bytes=$(xxd -p "checks/quotes/$quote.msg" | tr -d '\n')
+        log=checks/quotes/$log
+        list=$(selection "$selected")
+        {
+            echo "attest $log $bytes $nonce $list $hash"
+            echo "attest $log $bytes $nonce - $hash"
+            echo "attest $log $bytes ${nonce}00 $list $hash"
+            echo "attest $log $bytes - $list $hash"
+            echo "attest $log $bytes $nonce $(selection sha384:9) $hash"
+            echo "attest $log $bytes $nonce 000000 $hash"
+            echo "attest $log fe${bytes#??} $nonce $list $hash"
+            echo "attest checks/logs/worked.log $bytes $nonce $list $hash"
+            echo "attest checks/logs/cut_by_a_byte.log $bytes $nonce $list $hash"
+        } >>"$table"
+        # No log extends the registers that this quote selects, so that each gives its digest.
+        other='digest differs'
+        [ "$quote" != not-measured ] || other=matches
+        printf '%s\n' matches matches 'nonce differs' 'nonce differs' 'lacks sha384 9' 'requirement refused' 'refused 084 at 0' \
+            "$other" 'log Truncated at 211' >>"$table.wanted"
+    done <checks/quotes/cases.txt
+}
+
+# make_table: the questions, and their answers by C and by tpmtool.
+make_table() {
+    : >"$room/asked"
+    : >"$room/wanted"
+    set -f
+    while IFS= read -r line; do
+        case $line in
+        '#'*) ;;
+        'buffer '* | 'command '* | 'reply '* | 'cut '* | 'sized '* | 'set '*) row "$line" ;;
+        esac
+    done <<ROWS
+$(cat checks/commands.txt checks/responses.txt checks/cut.txt)
+ROWS
+    set +f
+    awk 'NF < 2 || $1 == "reply" && NF < 3 { $0 = $0 " -" } { gsub(/  +/, " "); print }' "$room/asked" >"$table"
+    cat checks/show.txt checks/build.txt | while IFS= read -r line; do
+        case $line in
+        '$ show '[0-9a-fA-F]*) echo "command ${line#??show }" ;;
+        '$ build '*"'"*) ;;
+        '$ build '*) echo "${line#??}" ;;
+        esac
+    done | awk '
+        function is_hex(word) { return word == "-" || length(word) % 2 == 0 && word ~ /^[0-9a-fA-F]+$/ }
+        $1 == "command" && NF == 2 && is_hex($2) || $1 == "build" && NF == 5 && is_hex($3) && is_hex($4) && is_hex($5)' >>"$table"
+    "$room/c_view" <"$table" >"$table.wanted" || return 1
+    for log in checks/logs/*.log; do
+        printf 'log %s\npieces %s\n' "$log" "$log" >>"$table"
+        "$program" check "$log" >"$room/out"
+        cat "$room/out" "$room/out" >>"$table.wanted"
+    done
+    quoted=00000001000b03810000
+    digest=002029007275b14d167931c84e098e48fbede947a9cc74f672be54fcb83ed9d07a5c
+    for words in "$quoted$digest sha256" "$quoted$digest sha384" "00000001000b03800000$digest sha256"; do
+        echo "quote checks/logs/worked.log $words" >>"$table"
+        "$room/c_log" $words <checks/logs/worked.log >>"$table.wanted"
+    done
+    for size in 1 5 12 100; do
+        echo "frames $size 80010000000c00000144000080010000000a000000008001" >>"$table"
+        printf 'frame %s\n' 80010000000c000001440000 80010000000a00000000 >>"$table.wanted"
+        echo inside >>"$table.wanted"
+        echo "frames $size 80010000000c00000144000080010000000980010000000a00000000" >>"$table"
+        printf '%s\n' 'frame 80010000000c000001440000' 'no buffer has the size that was stated' >>"$table.wanted"
+    done
+    echo "device 6f776e6572" >>"$table"
+    : >"$room/in"
+    : >"$room/out.wanted"
+    set -f
+    while IFS= read -r line; do
+        case $line in
+        'execute '* | power) row "$line" ;;
+        esac
+    done <checks/hundred.txt
+    set +f
+    sed '/^power$/!s/^/execute /' "$room/in" >>"$table"
+    "$program" run --owner 6f776e6572 <"$room/in" >>"$table.wanted" || return 1
+    echo "zeros 4294967308 80010000000c000001440000" >>"$table"
+    printf '%s\n' 'refused 142 at 2' 'log NotCryptoAgile at 0' >>"$table.wanted"
+    ! [ -d checks/quotes ] || ask_quotes
+}
+
+# make_changed: a hundred thousand commands and replies of the table, each with a digit changed, some cut.
+make_changed() {
+    awk '($1 == "command" && $2 != "-" || $1 == "reply" && $3 != "-") && length($0) < 400' "$table" | awk '
+        { lines[NR] = $0 }
+        END {
+            srand(1)
+            for (i = 0; i < 100000; i++) {
+                line = lines[1 + i % NR]
+                count = split(line, words, " ")
+                hex = words[count]
+                head = substr(line, 1, length(line) - length(hex))
+                at = int(rand() * length(hex))
+                hex = substr(hex, 1, at) substr("0123456789abcdef", 1 + int(rand() * 16), 1) substr(hex, at + 2)
+                if (i % 16 == 0) hex = substr(hex, 1, 2 * int(rand() * length(hex) / 2))
+                print head (hex == "" ? "-" : hex)
+            }
+        }' >"$room/changed"
+    "$room/c_view" <"$room/changed" >"$room/changed.wanted"
+}
+
+# answers WORD..: this program answers the table, and the changed buffers, as C and tpmtool do.
+answers() {
+    in_place "$@" <"$table" >"$room/out" && diff "$table.wanted" "$room/out"
+}
+
+answers_changed() {
+    in_place "$@" <"$room/changed" >"$room/out" || return 1
+    cmp "$room/changed.wanted" "$room/out"
+}
+
+# make_layout: of each structure of the header that the bindings write again its size and the places of its fields, and each number.
+make_layout() {
+    awk '
+        BEGIN { print "#include \"vinjakwe.h\"\n#include <stdio.h>\nint main(void) {" }
+        /^struct tpm_[a-z_]* \{/ && ($2 ~ /refusal|part|session|areas|attest_fault/) { name = $2; printf "printf(\"%s %%zu\\n\", sizeof(struct %s));\n", name, name; next }
+        /^}/ { name = "" }
+        name { field = $NF; sub(/(\[.*)?;.*/, "", field); if ($0 ~ /;/) { $0 = $0; for (i = 1; i <= NF; i++) if ($i ~ /;/) { field = $i; break } sub(/(\[.*)?;.*/, "", field); printf "printf(\"%s.%s %%zu\\n\", offsetof(struct %s, %s));\n", name, field, name, field } }
+        /^#define TPM_(CC|RC)_/ && $2 !~ /^TPM_RC_([HPS1-7])$/ { printf "printf(\"%s %%lu\\n\", (unsigned long)%s);\n", $2, $2 }
+        /^#define TPM_ALG_SHA/ || /^#define TPM_(BUFFER|OWNER|NONCE|REGISTERS)_BYTES/ { printf "printf(\"%s %%lu\\n\", (unsigned long)%s);\n", $2, $2 }
+        /^#define TPM_LOG_/ { sub(/^TPM_LOG_/, "", $2); gsub(/_/, "", $2); printf "printf(\"TPM_LOG_%s %%lu\\n\", (unsigned long)%s);\n", $2, $3 }
+        END { print "return 0; }" }' include/vinjakwe.h >"$room/layout.c"
+    "$compiler" -Iinclude -o "$room/c_layout" "$room/layout.c" && "$room/c_layout" | sort >"$room/layout"
+}
+
+# python_layout: the same of the package.
+python_layout() {
+    in_place python3 - >"$room/out.unsorted" <<'END' && sort "$room/out.unsorted" | diff "$room/layout" -
+import ctypes
+import vinjakwe as v
+
+for it, name in ((v._Refusal, "refusal"), (v._Part, "part"), (v._CommandSession, "command_session"), (v._CommandAreas, "command_areas"),
+                 (v._ResponseSession, "response_session"), (v._ResponseAreas, "response_areas"), (v._AttestFault, "attest_fault")):
+    print(f"tpm_{name} {ctypes.sizeof(it)}")
+    for field, _ in it._fields_:
+        print(f"tpm_{name}.{field} {getattr(it, field).offset}")
+for prefix, table in (("CC", v.COMMANDS), ("RC", v.CODES), ("ALG", {name.upper(): number for name, number in v.HASHES.items()})):
+    for name, number in table.items():
+        print(f"TPM_{prefix}_{name} {number}")
+for i, name in enumerate(v.LOG_FAULTS):
+    print(f"TPM_LOG_{name.replace('_', '')} {i}")
+for name in ("BUFFER_BYTES", "OWNER_BYTES", "NONCE_BYTES", "REGISTERS_BYTES"):
+    print(f"TPM_{name} {getattr(v, name)}")
+END
+}
+
+# python_faults: what has no bytes, a library that is not there or is another, and a file.
+python_faults() {
+    in_place python3 - <<'END' || return 1
+import vinjakwe as v
+
+def refuses(kind, call, *words):
+    try:
+        call(*words)
+    except kind:
+        return
+    raise SystemExit(f"{call} {words}")
+
+for it in ("80", 5, None, object(), 1.5, (b"",), [b""]):
+    for call in (v.decode_command, v.replay, v.Framer().push, v.Device, v.Device().execute):
+        refuses((TypeError, AttributeError), call, it)
+refuses(BufferError, v.decode_command, memoryview(b"1234")[::2])
+refuses(ValueError, v.decode_response, "GetRandom", b"")
+refuses(ValueError, v.decode_response, -1, b"")
+refuses(ValueError, v.build_command, 1 << 32)
+refuses(ValueError, v.Device, b"1" * 49)
+refuses(ValueError, v.Device, b"", 1 << 64)
+refuses(ValueError, v.Device().execute, b"", b"")
+refuses(ValueError, v.check_quote, b"", b"", "md5")
+refuses(ValueError, v.Caller().seal, b"", b"")
+assert not v.Caller().start(b"", b"") and not v.Caller().open(b"") and not v.Caller().give_up(b"")
+assert v.code_name(0x9A2) == "TPM_RC_BAD_AUTH for session 1" and v.code_name(0x1C4) == "TPM_RC_VALUE for parameter 1"
+with open("checks/logs/worked.log", "rb") as log:
+    found = v.replay(log)
+    assert v.replay(bytearray(open(log.name, "rb").read())) == found
+END
+    in_place env VINJAKWE_LIBRARY=/nowhere/none.so python3 -c 'import vinjakwe' 2>&1 | grep -q 'LibraryError: the library vinjakwe is not found' || return 1
+    printf 'extern const char vinjakwe_version[];\nconst char vinjakwe_version[] = "9.0.0";\n' >"$room/other.c"
+    "$compiler" -shared -fPIC -o "$room/other.so" "$room/other.c" || return 1
+    in_place env VINJAKWE_LIBRARY="$room/other.so" python3 -c 'import vinjakwe' 2>&1 | grep -q 'LibraryError: .* has version 9.0.0' || return 1
+    in_place python3 -m vinjakwe check checks/logs/worked.log | cmp - checks/logs/worked.registers
+}
+
+# go_built: the package is vetted, and the program that answers the table is built.
+go_built() {
+    (cd bindings/go && in_place go vet ./... && in_place go build -o "$room/go_table" ./table)
+}
+
+# rust_built: the crate is built without a warning, and so is the program that answers the table; the layout of what it declares.
+rust_built() {
+    (cd bindings/rust && RUSTFLAGS='-D warnings' in_place cargo build --offline --release --locked --examples)
+}
+
+rust_layout() {
+    grep -v -e '^TPM_CC_' -e '^TPM_RC_' -e '^TPM_OWNER_' "$room/layout" >"$room/layout.rust"
+    in_place "$room/rust/release/examples/layout" | sort | diff "$room/layout.rust" -
+}
+
+# numbers: the commands of the header, as words for the program in Rust, which has no table of their names.
+numbers() {
+    sed -n 's/^TPM_CC_\([A-Za-z_]*\) /\1=/p' "$room/layout"
+}
+
+# example FILE: the block of code in a README.
+example() {
+    awk -v fence="^\`\`\`$2\$" '$0 ~ fence { inside = 1; next } /^```$/ { inside = 0 } inside' "$1"
+}
+
+# python_example, go_example, rust_example: the README's example as it stands there, from a log, a quote and a nonce to a verdict.
+python_example() {
+    example bindings/python/README.md python >"$room/example.py"
+    [ "$(in_place python3 "$room/example.py" $one_quote)" = "$verdict" ]
+}
+
+go_example() {
+    mkdir -p "$room/example" && example bindings/go/README.md go >"$room/example/main.go"
+    printf 'module example\n\ngo 1.19\n\nrequire vinjakwe v0.1.0\n\nreplace vinjakwe => %s/bindings/go\n' "$PWD" >"$room/example/go.mod"
+    (cd "$room/example" && in_place go build -o "$room/go_example" .) && [ "$(in_place "$room/go_example" $one_quote)" = "$verdict" ]
+}
+
+rust_example() {
+    mkdir -p "$room/example_rust/src" && example bindings/rust/README.md rust >"$room/example_rust/src/main.rs"
+    printf '[package]\nname = "example"\nversion = "0.0.0"\nedition = "2021"\n\n[dependencies]\nvinjakwe = { path = "%s/bindings/rust" }\n' "$PWD" \
+        >"$room/example_rust/Cargo.toml"
+    (cd "$room/example_rust" && in_place cargo build --offline) && [ "$(in_place "$room/rust/debug/example" $one_quote)" = "$verdict" ]
+}
+
+one_quote="$PWD/checks/quotes/17-ovmf-secureboot.log $PWD/checks/quotes/ecc-sha256.msg c0ffee0000000000000000000000000000000000"
+verdict='the machine booted as its log says'
+
+if [ -z "$compiler" ] || ! command -v xxd >/dev/null 2>&1; then
+    skip "the bindings" "there is no C compiler or no xxd"
+elif ! grep -q tpm_log_check_attest include/vinjakwe.h; then
+    skip "the bindings" "the header has no quote as it was signed"
+elif ! ./install "$prefix" >"$room/said" 2>&1 || [ ! -e "$prefix/lib/libvinjakwe.so" ]; then
+    fail "the bindings" "nothing is installed: $(tail -n 3 "$room/said")"
+elif ! "$compiler" -O2 -Iinclude -o "$room/c_view" examples/view.c "$prefix/lib/libvinjakwe.a" || ! "$compiler" -O2 -Iinclude -o "$room/c_log" examples/log.c "$prefix/lib/libvinjakwe.a" ||
+    ! make_table || ! make_changed || ! make_layout; then
+    fail "the bindings" "the table was not made"
+else
+    if ! command -v python3 >/dev/null 2>&1; then
+        skip "the binding for Python" "there is no python3"
+    else
+        agrees "Python has the header's numbers and places" python_layout
+        agrees "Python answers the table of $(wc -l <"$table" | tr -d ' ') questions" answers python3 bindings/python/table.py
+        agrees "Python answers a hundred thousand changed buffers" answers_changed python3 bindings/python/table.py
+        sanitizer=$("$compiler" -print-file-name=libasan.so)
+        if [ -e "$sanitizer" ]; then
+            agrees "Python answers them beside an address sanitizer" answers_changed env LD_PRELOAD="$sanitizer" ASAN_OPTIONS=detect_leaks=0 \
+                python3 bindings/python/table.py
+        else
+            skip "Python answers them beside an address sanitizer" "there is no libasan.so"
+        fi
+        agrees "Python refuses what has no bytes, and other libraries" python_faults
+        agrees "the example in Python" python_example
+    fi
+    if ! command -v go >/dev/null 2>&1 || ! command -v pkg-config >/dev/null 2>&1; then
+        skip "the binding for Go" "there is no go or no pkg-config"
+    elif ! go_built >"$room/said" 2>&1; then
+        fail "the binding for Go" "$(head -n 5 "$room/said")"
+    else
+        agrees "Go answers the table" answers "$room/go_table"
+        agrees "Go answers a hundred thousand changed buffers" answers_changed "$room/go_table"
+        agrees "the example in Go" go_example
+    fi
+    if ! command -v cargo >/dev/null 2>&1; then
+        skip "the binding for Rust" "there is no cargo"
+    elif ! rust_built >"$room/said" 2>&1; then
+        fail "the binding for Rust" "$(head -n 5 "$room/said")"
+    else
+        agrees "Rust has the header's numbers and places" rust_layout
+        agrees "Rust answers the table" answers "$room/rust/release/examples/table" $(numbers)
+        agrees "Rust answers a hundred thousand changed buffers" answers_changed "$room/rust/release/examples/table" $(numbers)
+        if command -v valgrind >/dev/null 2>&1; then
+            agrees "Rust answers them under valgrind" answers_changed valgrind -q --error-exitcode=9 "$room/rust/release/examples/table" $(numbers)
+        else
+            skip "Rust answers them under valgrind" "there is no valgrind"
+        fi
+        agrees "the example in Rust" rust_example
+    fi
+fi
