@@ -2,39 +2,12 @@
 # print is compared with `tpmtool run`, with the rows and the cases in the files beside this one, with the lists of checks/logs and
 # with what the program of crate using writes of its session.
 
+. checks/toolchain.sh
 archive=crates/tpm_c/out/libtpm_c.a
-kit=$(dirname "$(rt doc)")
 
-compiler=
-for word in "${CC:-cc}" gcc clang; do
-    if command -v "$word" >/dev/null 2>&1; then
-        compiler=$word
-        break
-    fi
-done
-
-# rattle WORD..: the toolchain's compiler on crate tpm_c, over the libraries that the gate has proved and kept.
-rattle() {
-    root=$PWD
-    for crate in wire types buffer hmac model store log session device caller; do
-        library=$root/crates/tpm_$crate/out/rlib
-        set -- "$@" --extern "tpm_$crate=$library/tpm_$crate.rlib" -L "dependency=$library"
-    done
-    (
-        cd crates/tpm_c && "$kit/bin/rattle" "$@" --crate-name tpm_c --crate-type staticlib src/lib.rt --extern "std=$kit/rlibs/std.rlib" \
-            --extern "arrayvec=$kit/rlibs/arrayvec.rlib" -L "dependency=$kit/rlibs" --antt-project "$kit/rattle/logic/antt-project.json"
-    ) >"$room/lib" 2>&1
-}
-
-# checked: the crate's proofs are checked once, for both backends.
-checked() {
-    rattle check -o "$room/checked" --logic-built "$kit/logic_built"
-}
-
-# built BACKEND: the archive as this backend compiles what was checked.
+# built BACKEND: the archive by this backend, which is kept for ./install, too.
 built() {
-    rm -f "$archive"
-    rattle build --crate-checked "$room/checked" --toolchain "$kit/toolchain" --backend "$1" -o "out/libtpm_c.a" && [ -f "$archive" ]
+    compiled tpm_c "$1" && mkdir -p "crates/tpm_c/out/$1" && cp "$archive" "crates/tpm_c/out/$1/libtpm_c.a"
 }
 
 # undefined: the names that the archive needs and does not define, in a line.
@@ -70,7 +43,7 @@ holds() {
 
 # hosted: the programs with the C library, over the archive.
 hosted() {
-    for example in device log policy session view; do
+    for example in attest device log policy session view; do
         "$compiler" -std=c99 -O2 -Wall -Wextra -pedantic -Werror -Iinclude -o "$room/$example" "examples/$example.c" "$archive" || return 1
     done
 }
@@ -166,6 +139,81 @@ same_logs() {
     done <checks/logs/faults.txt
 }
 
+# long_log EVENTS: the log checks/logs/worked.log, with so many records of EV_IPL behind it, of 122 bytes each, in register 5.
+long_log() {
+    cat checks/logs/worked.log
+    {
+        printf '05000000 0d000000 03000000 0400 %040d 0b00 %064d 0c00 %096d 00000000' 0 0 0 | xxd -r -p >"$room/record"
+        : >"$room/records"
+        for i in 1 2 3 4 5 6 7 8 9 10 11 12 13 14 15 16; do cat "$room/record" >>"$room/records"; done
+        rest=$1
+        while [ "$rest" -ge 16 ]; do cat "$room/records" && rest=$((rest - 16)); done
+        while [ "$rest" -gt 0 ]; do cat "$room/record" && rest=$((rest - 1)); done
+    }
+}
+
+# same_long_log: a log of 1.1 MB gives by C the registers that it gives by tpmtool, and cut by a byte the same fault.
+same_long_log() {
+    long_log 10000 >"$room/long.log"
+    [ "$(wc -c <"$room/long.log")" -gt 1100000 ] || return 1
+    "$program" check "$room/long.log" >"$room/out.wanted" || return 1
+    "$room/log" <"$room/long.log" >"$room/out" && cmp "$room/out" "$room/out.wanted" || return 1
+    "$room/log" whole <"$room/long.log" >"$room/out" && cmp "$room/out" "$room/out.wanted" || return 1
+    "$room/log" 8191 <"$room/long.log" >"$room/out" && cmp "$room/out" "$room/out.wanted" || return 1
+    head -c 1100001 "$room/long.log" >"$room/cut.log"
+    "$program" check "$room/cut.log" >"$room/out.wanted"
+    "$room/log" <"$room/cut.log" >"$room/out"
+    [ $? -eq 1 ] && cmp "$room/out" "$room/out.wanted"
+}
+
+# faults_of WORD..: the status of the example with these words, and the first line of what it writes.
+faults_of() {
+    "$@" >"$room/out" 2>&1
+    echo "$? $(head -n 1 "$room/out" | tr -d '\0')"
+}
+
+# is_told STATUS LINE WORD..: the example with these words ends so; standard input is $room/in.told.
+is_told() {
+    told="$1 $2"
+    shift 2
+    [ "$(faults_of "$@" <"$room/in.told")" = "$told" ] || { echo "$*: $(faults_of "$@" <"$room/in.told")" && return 1; }
+}
+
+# device_faults: words that the device does not know, text that is no hexadecimal, and streams that end too early.
+device_faults() {
+    : >"$room/in.told"
+    is_told 2 'device: these words are unknown' "$room/device" scripts || return 1
+    is_told 2 'device: these words are unknown' "$room/device" script 00 1 2 || return 1
+    is_told 2 "device: the owner's value is no hexadecimal, or too long" "$room/device" script 6f7 || return 1
+    is_told 2 "device: the owner's value is no hexadecimal, or too long" "$room/device" script 6g || return 1
+    is_told 2 "device: the owner's value is no hexadecimal, or too long" "$room/device" script "$(printf '%098d' 0)" || return 1
+    is_told 2 'device: the greatest value is no number of 64 bits' "$room/device" script 00 -1 || return 1
+    is_told 2 'device: the greatest value is no number of 64 bits' "$room/device" script 00 18446744073709551616 || return 1
+    is_told 2 'device: the greatest value is no number of 64 bits' "$room/device" script 00 1x || return 1
+    is_told 0 '' "$room/device" stream || return 1
+    is_told 0 '' "$room/device" power "$(printf '%096d' 0)" 18446744073709551615 || return 1
+    echo 80010000000c00000144000 >"$room/in.told"
+    is_told 1 'line 1: not hexadecimal, or more than 4096 bytes' "$room/device" script || return 1
+    printf '80010000000c0000014400' | as_bytes >"$room/in.told"
+    is_told 3 'device: the input ends inside a command' "$room/device" || return 1
+    printf '800100000009' | as_bytes >"$room/in.told"
+    is_told 3 'device: no buffer has the size that was stated' "$room/device" || return 1
+    printf 'pow' >"$room/in.told"
+    is_told 3 'device: the input ends inside a command' "$room/device" || return 1
+    is_told 3 'device: neither a command nor the word power' "$room/device" power || return 1
+    : >"$room/in.told"
+    is_told 2 "usage: log [whole | PIECE_BYTES | QUOTE_HEX sha1|sha256|sha384], where a piece has 1 to 16777217 bytes" "$room/log" 1x
+}
+
+# same_power: a stream with the word `power` in it answers as a script with it does, and without the word it does not.
+same_power() {
+    startup=80010000000c000001440000
+    printf '%s\n' $startup $startup power $startup | "$room/device" script | grep -v power | tr -d '\n' >"$room/out.wanted.stream"
+    { printf '%s%s' $startup $startup | as_bytes && printf power && printf '%s' $startup | as_bytes; } >"$room/in.stream"
+    "$room/device" power <"$room/in.stream" | xxd -p | tr -d '\n' >"$room/out.stream"
+    [ -s "$room/out.stream" ] && cmp "$room/out.stream" "$room/out.wanted.stream" && ! "$room/device" <"$room/in.stream" >"$room/out.stream"
+}
+
 # says LOG QUOTE HASH WORD..: what the words say of a quote beside a log.
 says() {
     log=$1 quote=$2 hash=$3
@@ -186,6 +234,60 @@ same_quotes() {
     says worked "${quoted}002029007275b14d167931c84e098e48fbede947a9cc74f672be54fcb83ed9d07a5c00" sha256 refused at 44 || return 1
     says worked "$quoted" md5 no bank || return 1
     says cut_by_a_byte "$quoted" sha256 log Truncated at 211
+}
+
+# attests CASE WORD..: what the words say last of a quote of checks/quotes; beside LOG, HASH, NONCE and WANTED.
+attests() {
+    case=$1
+    shift
+    echo "$*" >"$room/out.wanted"
+    "$room/attest" "checks/quotes/$log" "$room/quoted" "$hash" "$sent" "$wanted" | tail -n 1 >"$room/out"
+    cmp "$room/out" "$room/out.wanted" || { echo "$case: $(cat "$room/out")" && return 1; }
+}
+
+# quoted NAME [AT BYTE]: the quote of this name, with this byte in octal at this place.
+quoted() {
+    cp "checks/quotes/$1.msg" "$room/quoted"
+    if [ $# -gt 1 ]; then printf "\\$3" | dd of="$room/quoted" bs=1 seek="$2" conv=notrunc 2>/dev/null; fi
+}
+
+# same_attests: the quotes of checks/quotes beside their logs, and what is said where one thing is another.
+same_attests() {
+    while read -r quote log hash sent wanted; do
+        quoted "$quote"
+        attests "$quote" matches || return 1
+        case $log in
+        16-*) ;;
+        *) (log=16-seabios.log && attests "$quote beside another log" digest differs) || return 1 ;;
+        esac
+        (sent=${sent%??} && attests "$quote, a nonce shorter by a byte" nonce differs) || return 1
+        (sent=${sent}00 && attests "$quote, a nonce longer by a byte" nonce differs) || return 1
+        (sent=${sent%?}1 && attests "$quote, another nonce" nonce differs) || return 1
+        (wanted=sha384:7 && attests "$quote, a bank that is not quoted" selection lacks sha384 7) || return 1
+        (wanted=sha256:all && attests "$quote, all registers" "$(case $quote in rsa-sha1 | not-measured) echo selection lacks sha256 0 ;; ecc-sha256) echo selection lacks sha256 8 ;; *) echo selection lacks sha256 1 ;; esac)") || return 1
+        (wanted=- && attests "$quote, nothing required" matches) || return 1
+        quoted "$quote" 3 106
+        attests "$quote, another magic" quote refused 0084 at 0 || return 1
+        quoted "$quote" 5 024
+        attests "$quote, a certification" quote refused 0084 at 4 || return 1
+        quoted "$quote" 80 002
+        attests "$quote, safe 2" quote refused 0084 at 80 || return 1
+        quoted "$quote"
+        printf x >>"$room/quoted"
+        attests "$quote, a byte behind it" quote refused 0095 at "$(wc -c <"checks/quotes/$quote.msg" | tr -d ' ')" || return 1
+    done <checks/quotes/cases.txt
+    # No register, and the digest of no bytes.
+    { head -c 89 checks/quotes/ecc-sha256.msg && echo 00000001000b030000000020e3b0c44298fc1c149afbf4c8996fb92427ae41e4649b934ca495991b7852b855 | as_bytes; } >"$room/quoted"
+    log=17-ovmf-secureboot.log hash=sha256 sent=c0ffee0000000000000000000000000000000000
+    (wanted=- && attests "no register" selection is empty) || return 1
+    (wanted=sha256:0 && attests "no register, one required" selection lacks sha256 0)
+}
+
+# changed_quotes: a quote changed at random 20,000 times; with the compiler's sanitizers where it has them.
+changed_quotes() {
+    "$compiler" -std=c99 -O1 -g -fsanitize=address,undefined -fno-sanitize-recover=all -Iinclude -o "$room/attest_changed" examples/attest.c "$archive" 2>/dev/null ||
+        cp "$room/attest" "$room/attest_changed"
+    "$room/attest_changed" --changed "${CHANGED_QUOTES:-20000}" checks/quotes/16-seabios.log checks/quotes/not-measured.msg sha256 c0ffee0000000000000000000000000000000000 sha256:10,11
 }
 
 # same_policies: the digest of a policy in each hash, as Python's hashlib gives it, and what is refused.
@@ -213,7 +315,7 @@ if [ -z "$compiler" ]; then
     skip "the library for C" "no C compiler was found"
 elif ! command -v nm >/dev/null 2>&1 || ! command -v xxd >/dev/null 2>&1; then
     skip "the library for C" "there is no nm or no xxd"
-elif ! mkdir -p crates/tpm_c/out || ! checked || ! built llvm; then
+elif ! checked tpm_c || ! built llvm; then
     fail "the library for C" "it isn't built: $(tail -n 3 "$room/lib")"
 else
     write_hundred
@@ -231,9 +333,15 @@ else
     holds "commands joined through C are those of tpmtool" same_cases checks/build.txt
     holds "too small a room, and no command, through C" other_answers
     holds "the logs through C give their registers and faults" same_logs
+    holds "the logs through C as a whole" same_logs whole
     holds "the logs through C byte by byte" same_logs 1
     holds "the logs through C in pieces of 100 bytes" same_logs 100
+    holds "a log of 1.1 MB through C" same_long_log
+    holds "a device through C tells what it does not know" device_faults
+    holds "the power of a device behind a stream" same_power
     holds "quotes beside a log through C" same_quotes
+    holds "quotes as they were signed, beside their logs through C" same_attests
+    holds "quotes that are changed at random through C" changed_quotes
     holds "the digest of a policy through C" same_policies
     holds "a session is held through C" same_session
     name="the archive needs memcpy, memmove and memset alone"

@@ -1,5 +1,6 @@
-# The conditions of calls: README's paragraph on them names each public function of the library that has a `requires`, and no
-# other, as `function`, as `Type::function`, or by the beginning of its name and an underscore.
+# The conditions of calls: the table of them in docs/AUDIT.md names each public function of the library that has a `requires`, and
+# no other, as `function`, as `Type::function`, or by the beginning of its name and an underscore. And no definition takes a number
+# from the code: what a contract cites imports no constant of the sources.
 
 # conditions FILE..: a line 'NAME' or 'TYPE::NAME' for each public function with a condition, whatever is public of the crate.
 conditions() {
@@ -51,10 +52,10 @@ for crate in crates/tpm_*; do
     esac
 done | sort -u >"$room/asked"
 
-grep -e '^Every function that is called with its `requires` met' README.md | tr -cs 'A-Za-z0-9_:`\n' '\n' |
-    awk -F '`' '/^`/ && NF == 3 && $2 != "requires" { print $2 }' | sort -u >"$room/named"
+awk '/^## / { inside = /^## What calls ask for/ } inside && /^[|]/' docs/AUDIT.md | tr -cs 'A-Za-z0-9_:`\n' '\n' |
+    awk -F '`' '/^`/ && NF == 3 { print $2 }' | sort -u >"$room/named"
 
-# is_named FUNCTION: README names it.
+# is_named FUNCTION: the table names it.
 is_named() {
     while IFS= read -r name; do
         case $1 in
@@ -74,5 +75,9 @@ done <"$room/asked"
 while IFS= read -r name; do
     grep -q -e "^\(.*::\)\{0,1\}$name" "$room/asked" || wrong="$wrong $name has no condition;"
 done <"$room/named"
-name="README names the $(wc -l <"$room/asked" | tr -d ' ') public functions that have a condition"
+name="docs/AUDIT.md names the $(wc -l <"$room/asked" | tr -d ' ') public functions that have a condition"
+if [ -n "$wrong" ]; then fail "$name" "$wrong"; else pass "$name"; fi
+
+wrong=$(grep -l -e 'TheConstants' crates/*/specs/*.antt | tr '\n' ' ')
+name="no definition imports a constant of the code"
 if [ -n "$wrong" ]; then fail "$name" "$wrong"; else pass "$name"; fi

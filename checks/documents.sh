@@ -1,6 +1,6 @@
 # The documents: each path that they name is there, each name stands in the sources, and the counts of edits are those in must-fail/.
 
-documents="README.md docs/*.md"
+documents="README.md CONTRIBUTING.md docs/*.md"
 
 # quoted: a line for each piece of code in the documents' text.
 quoted() {

@@ -1,5 +1,6 @@
 # Each request of the program for memory, refused in turn: `out of memory` with status 3, or the
-# answer as if none had been refused (the program may ask again for less), and never another answer.
+# answer as if none had been refused (the program may ask again for less), and never another answer. And no run is out of memory
+# where no request is refused.
 
 compiler=
 for word in "${CC:-cc}" gcc clang; do
@@ -31,7 +32,9 @@ refuses() {
             wrong="$wrong $request (status $status)"
         fi
     done
-    if [ -n "$wrong" ]; then
+    if [ $whole -eq 3 ]; then
+        fail "$name" "it ends with 3 where no request is refused"
+    elif [ -n "$wrong" ]; then
         fail "$name" "another answer at request$wrong"
     elif [ $wanting -eq 0 ]; then
         fail "$name" "no request was refused"
@@ -59,7 +62,10 @@ else
     refuses "a script" run
     refuses "an owner value" run --owner 6f776e6572
     refuses "an owner value that is not hexadecimal" run --owner no
+    refuses "an owner value that is too long" run --owner "$(zeros 49)"
+    refuses "a number that is none" run --greatest no
     refuses "a code" explain 9a2
+    refuses "a code that is none" explain no
     quote=00000001000b038000000020da301acd1cfa3963a46b39f70c3ce51e88a5a296769f49656b6598230817df89
     refuses "a log" check checks/logs/worked.log
     refuses "a log that is none" check checks/logs/cut_by_a_byte.log

@@ -1,0 +1,41 @@
+# What builds an archive beside the gate: a C compiler, or none, and the toolchain's own over the libraries that the gate has kept.
+
+kit=$(dirname "$(rt doc)")
+
+compiler=
+for word in "${CC:-cc}" gcc clang; do
+    if command -v "$word" >/dev/null 2>&1; then
+        compiler=$word
+        break
+    fi
+done
+
+# rattle CRATE WORD..: the toolchain's compiler on this static library, over the libraries that the gate has proved and kept.
+rattle() {
+    crate=$1
+    shift
+    for library in $(sed -n "s/^$crate staticlib: //p" crates.txt); do
+        case $library in
+        tpm_*) set -- "$@" --extern "$library=$PWD/crates/$library/out/rlib/$library.rlib" ;;
+        *) set -- "$@" --extern "$library=$kit/rlibs/$library.rlib" ;;
+        esac
+    done
+    for folder in crates/*/out/rlib; do
+        set -- "$@" -L "dependency=$PWD/$folder"
+    done
+    (
+        cd "crates/$crate" && "$kit/bin/rattle" "$@" --crate-name "$crate" --crate-type staticlib src/lib.rt --extern "std=$kit/rlibs/std.rlib" \
+            -L "dependency=$kit/rlibs" --antt-project "$kit/rattle/logic/antt-project.json"
+    ) >"$room/lib" 2>&1
+}
+
+# checked CRATE: its proofs are checked once, for each backend.
+checked() {
+    mkdir -p "crates/$1/out" && rattle "$1" check -o "$room/$1.checked" --logic-built "$kit/logic_built"
+}
+
+# compiled CRATE BACKEND: its archive in out/, as this backend compiles what was checked.
+compiled() {
+    rm -f "crates/$1/out/lib$1.a"
+    rattle "$1" build --crate-checked "$room/$1.checked" --toolchain "$kit/toolchain" --backend "$2" -o "out/lib$1.a" && [ -f "crates/$1/out/lib$1.a" ]
+}
