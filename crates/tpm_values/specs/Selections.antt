@@ -1,0 +1,57 @@
+-- Registers of banks by their text, as tpm2-tools spell a selection: sha1:7+sha256:0,1,2 or sha256:all (this profile).
+use Rattle.std.specs.Prelude.{◌≡◌, ◌<◌, ◌==◌, ◌&&◌, ◌||◌, nat_lt, ℕ, Bool, true, List, codes, length, map}
+use Rattle.std.specs.List.{AllByRecursion, list_all, list_any, slice_split, before_first, after_first}
+use Rattle.std.specs.Str.{bytes_eq, all_ascii_digits}
+use Rattle.std.specs.Str.Parse.{digits_value}
+use Rattle.tpm_types.specs.declared.alg.Alg.{Alg}
+use Rattle.tpm_types.specs.declared.alg.Alg.TheVariants.{Sha1, Sha256, Sha384}
+use Rattle.tpm_types.specs.declared.tpms.Selection.{Selection}
+use Rattle.tpm_types.specs.Alg.{all_algs}
+use Rattle.tpm_types.specs.Handles.{is_pcr}
+use Rattle.tpm_types.specs.Tpms.{is_selected}
+
+-- the name of a hash, and of its bank
+abbrev pub hash_word : Alg → List ℕ
+hash_word Sha1 = codes "sha1"
+hash_word Sha256 = codes "sha256"
+hash_word Sha384 = codes "sha384"
+
+-- decimal digits, one or more
+abbrev pub is_numeral : List ℕ → Bool
+is_numeral text = nat_lt 0 (length text) && all_ascii_digits text
+
+-- the parts between the characters of this code: `,` is 44 and `+` is 43
+abbrev pub parts : ℕ → List ℕ → List (List ℕ)
+parts code text = slice_split (λ b. b == code) text
+
+-- `all`, or numbers of registers with commas between them
+abbrev pub are_registers : List ℕ → Bool
+are_registers text = bytes_eq text (codes "all") || list_all (λ t. is_numeral t && is_pcr (digits_value 10 t)) (parts 44 text)
+
+-- They name this register.
+abbrev pub name_register : ℕ → List ℕ → Bool
+name_register register text = bytes_eq text (codes "all") || list_any (λ t. is_numeral t && (digits_value 10 t == register)) (parts 44 text)
+
+-- what stands before the first colon, and behind it
+abbrev pub name_in : List ℕ → List ℕ
+name_in part = before_first (λ b. b == 58) part
+
+abbrev pub registers_in : List ℕ → List ℕ
+registers_in part = after_first (λ b. b == 58) part
+
+-- the name of a bank, a colon, and registers of the bank
+abbrev pub is_part : List ℕ → Bool
+is_part part = list_any (λ bank. bytes_eq (name_in part) (hash_word bank)) all_algs && are_registers (registers_in part)
+
+-- A part names this register of the bank.
+abbrev pub part_names : Alg → ℕ → List ℕ → Bool
+part_names bank register part = bytes_eq (name_in part) (hash_word bank) && name_register register (registers_in part)
+
+-- One of the parts does.
+abbrev pub names : List ℕ → Alg → ℕ → Bool
+names text bank register = list_any (part_names bank register) (parts 43 text)
+
+-- a part or more with `+` between them, and an entry for each bank in which the registers that they name are selected, and no others
+abbrev pub AreSelections : List ℕ → List Selection → Type 0
+AreSelections text selections = (list_all is_part (parts 43 text) ≡ true) × (map (λ s. s.hash) selections ≡ all_algs)
+    × AllByRecursion (λ s. (register : ℕ) → register < 24 → is_selected s.select register ≡ names text s.hash register) selections
