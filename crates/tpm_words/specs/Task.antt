@@ -1,5 +1,5 @@
 -- What the words ask for, by what clap finds in them.
-use Rattle.std.specs.Prelude.{◌≡◌, ℕ, List, Option, Some, None, codes, option_and_then, option_map, is_some, Bool, true, false, unwrap_or}
+use Rattle.std.specs.Prelude.{◌≡◌, ℕ, List, take, drop, Option, Some, None, codes, option_and_then, option_map, is_some, Bool, true, false, unwrap_or, if◌then◌else◌}
 use Rattle.std.specs.Str.{bytes_eq}
 use Rattle.clap.specs.Words.{Row, Text, first_of}
 use Rattle.tpm_types.specs.declared.alg.Alg.{Alg}
@@ -21,10 +21,17 @@ abbrev pub is_given : Option Text → Bool
 is_given None = false
 is_given (Some text) = bytes_eq text (codes "true")
 
+-- what stands behind `0x` or `0X`, or all of a text where it begins with neither
+abbrev pub digits_in : Text → Text
+digits_in text =
+    if bytes_eq (take 2 text) (codes "0x") then drop 2 text
+    else if bytes_eq (take 2 text) (codes "0X") then drop 2 text
+    else text
+
 -- a response code, by a word that has to be there
 abbrev pub IsCode : Option Text → ℕ → Type 0
 IsCode None code = ⊥
-IsCode (Some text) code = IsHexadecimal text code
+IsCode (Some text) code = IsHexadecimal (digits_in text) code
 
 -- the name of a hash
 abbrev pub hash_word : Alg → Text

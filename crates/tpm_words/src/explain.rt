@@ -4,7 +4,7 @@ ghost use Rattle.std.specs.Prelude.{◌≡◌, ℕ, MatchOption, MatchResult, co
 ghost use Rattle.clap.specs.Words.{first_value, found_of};
 ghost use Rattle.tpm_values.specs.Numbers.{IsHexadecimal};
 ghost use Rattle.tpm_words.specs.Stop.{IsMemoryOr};
-ghost use Rattle.tpm_words.specs.Task.{AsksNothingWith, AsksWith};
+ghost use Rattle.tpm_words.specs.Task.{AsksNothingWith, AsksWith, digits_in};
 
 use crate::invalid::invalid_value;
 use crate::program::explain_words;
@@ -30,12 +30,29 @@ pub(crate) fn explain_task<'a>(
     Ok(Some(Task::Explain { code }))
 }
 
-// A number of hexadecimal digits alone, without a sign. A usage fault where it is none, or not below 2^32.
-fn code(alloc: Global, text: &str) -> Result<u32, Stop>
-    ensures { MatchResult result (λ code. IsHexadecimal text.now code)
-        (IsMemoryOr ((code : ℕ) → IsHexadecimal text.now code → ⊥)) }
+// What stands behind `0x` or `0X`, or all where the text begins with neither.
+fn digits(text: &str) -> &str
+    ensures { result.now ≡ digits_in text.now }
 {
-    if let Some(code) = hexadecimal(text) {
+    text.strip_prefix("0x")
+        .or(text.strip_prefix("0X"))
+        .unwrap_or(text)
+}
+
+// The number of a text's digits, or none where it has other characters or is not below 2^32.
+fn number(text: &str) -> Option<u32>
+    ensures { MatchOption result ((number : ℕ) → IsHexadecimal (digits_in text.now) number → ⊥) (λ number. IsHexadecimal (digits_in text.now) number) }
+{
+    hexadecimal(digits(text))
+}
+
+// A number of hexadecimal digits, with `0x` before them or not, and without a sign. A usage fault where it is none, or not
+// below 2^32.
+fn code(alloc: Global, text: &str) -> Result<u32, Stop>
+    ensures { MatchResult result (λ code. IsHexadecimal (digits_in text.now) code)
+        (IsMemoryOr ((code : ℕ) → IsHexadecimal (digits_in text.now) code → ⊥)) }
+{
+    if let Some(code) = number(text) {
         return Ok(code);
     }
     let reason = "it is no hexadecimal number up to ffffffff";

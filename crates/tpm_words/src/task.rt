@@ -33,7 +33,7 @@ pub enum Task<'a> {
         /// The greatest value that a counter of the device has had.
         greatest: u64,
     },
-    /// `explain CODE`: print what a response code says.
+    /// `explain CODE`: print what a response code says, which is in hexadecimal, with `0x` before it or not.
     Explain {
         /// The code.
         code: u32,
