@@ -1,24 +1,16 @@
--- What `explain` prints (this profile), of the response codes of Part 2, 6.6.
-use Rattle.std.specs.Prelude.{ℕ, ◌/◌, ◌^◌, ◌==◌, nat_lt, bit_and, List, [], ◌∷◌, ◌++◌, codes, Option, Some, None, find, if◌then◌else◌}
+-- What `explain` prints (this profile), of the response codes of Part 2, 6.6, and of those of the software above a TPM.
+use Rattle.std.specs.Prelude.{ℕ, ◌/◌, ◌^◌, ◌==◌, nat_lt, bit_and, List, [], ◌∷◌, ◌++◌, codes, Option, Some, None, option_map, if◌then◌else◌}
+use Rattle.std.specs.Option.{option_or}
 use Rattle.std.specs.Fmt.{decimal}
-use Rattle.tpm_tool.specs.declared.explained.Meaning.{Meaning as RustMeaning}
+use Rattle.tpm_tool.specs.declared.layers.Codes.{Codes}
+use Rattle.tpm_tool.specs.declared.layers.Codes.TheVariants.{Base, BaseOrTpm, Tpm}
 use Rattle.tpm_tool.specs.declared.status.Status.{Status}
 use Rattle.tpm_tool.specs.declared.status.Status.TheVariants.{Done, Refused}
+use Rattle.tpm_tool.specs.Layers.{Layer, layer_of, base_of}
+use Rattle.tpm_tool.specs.Meanings.{Meaning, means, meaning_in}
 use Rattle.tpm_tool.specs.Text.{line}
 
 -- ---- the codes (Part 2, 6.6.3)
-
--- a code, its name behind TPM_RC_, and what it says
-pub record Meaning : Type 0 where
-  pub code : ℕ
-  pub name : List ℕ
-  pub words : List ℕ
-
-abbrev pub means : ℕ → List ℕ → List ℕ → Meaning
-means code name words = record { code = code; name = name; words = words }
-
-abbrev pub meaning_as : RustMeaning → Meaning
-meaning_as m = means m.code m.name.now m.words.now
 
 -- codes without a number: success, those of TPM 1.2, errors and warnings
 abbrev pub format_zero : List Meaning
@@ -128,9 +120,6 @@ format_one =
     means 0x27 (codes "ECC_POINT") (codes "the point is not on the curve") ∷
     []
 
-unfoldable pub meaning_in : List Meaning → ℕ → Option Meaning
-meaning_in table code = find (λ m. m.code == code) table
-
 -- ---- the format of a code (Part 2, 6.6.2)
 
 -- Bit 7 tells the two formats. A code has twelve bits.
@@ -159,16 +148,47 @@ subject_text code =
 unfoldable pub meaning_line : ℕ → Meaning → List ℕ
 meaning_line code m = line ((codes "TPM_RC_" ++ (m.name ++ (subject_text code ++ codes ":"))) ∷ m.words ∷ [])
 
-abbrev pub explained : ℕ → Option Meaning → List ℕ
-explained code (Some m) = meaning_line code m
-explained code None = line (codes "unknown" ∷ codes "response" ∷ codes "code" ∷ [])
+unfoldable pub base_line : Meaning → List ℕ
+base_line m = line ((codes "TSS2_BASE_RC_" ++ (m.name ++ codes ":")) ∷ m.words ∷ [])
 
-abbrev pub status_of_meaning : Option Meaning → Status
-status_of_meaning (Some m) = Done
-status_of_meaning None = Refused
+unfoldable pub layer_line : Layer → List ℕ
+layer_line l = line ((codes "TSS2_" ++ (l.name ++ codes "_RC_LAYER:")) ∷ l.words ∷ [])
+
+abbrev pub unknown_line : List ℕ
+unknown_line = line (codes "unknown" ∷ codes "response" ∷ codes "code" ∷ [])
+
+-- the line of a TPM's code that is listed, and of a base code
+abbrev pub tpm_line : ℕ → Option (List ℕ)
+tpm_line code = option_map (meaning_line code) (meaning_of code)
+
+abbrev pub base_code_line : ℕ → Option (List ℕ)
+base_code_line code = option_map base_line (base_of code)
+
+-- of a code within a layer
+abbrev pub line_within : Codes → ℕ → Option (List ℕ)
+line_within Base code = base_code_line code
+line_within BaseOrTpm code = option_or (base_code_line code) (tpm_line code)
+line_within Tpm code = tpm_line code
+
+abbrev pub line_or_unknown : Option (List ℕ) → List ℕ
+line_or_unknown (Some line) = line
+line_or_unknown None = unknown_line
+
+abbrev pub status_of_line : Option (List ℕ) → Status
+status_of_line (Some line) = Done
+status_of_line None = Refused
+
+-- a line for the layer, if it is listed, and one for the code within it
+abbrev pub layer_text : Option Layer → List ℕ
+layer_text None = []
+layer_text (Some l) = layer_line l
+
+abbrev pub code_line : Option Layer → ℕ → Option (List ℕ)
+code_line None code = tpm_line code
+code_line (Some l) code = line_within l.answers (bit_and code 0xFFFF)
 
 abbrev pub explanation : ℕ → List ℕ
-explanation code = explained code (meaning_of code)
+explanation code = layer_text (layer_of code) ++ line_or_unknown (code_line (layer_of code) code)
 
 abbrev pub explain_status : ℕ → Status
-explain_status code = status_of_meaning (meaning_of code)
+explain_status code = status_of_line (code_line (layer_of code) code)

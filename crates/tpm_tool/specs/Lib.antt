@@ -11,6 +11,8 @@ pub mod Compare
 pub mod Comparing
 pub mod Check
 pub mod CheckAttest
+pub mod Meanings
+pub mod Layers
 pub mod Explain
 pub mod EventTypes
 pub mod Reads

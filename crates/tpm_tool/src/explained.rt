@@ -1,12 +1,18 @@
 //! The subcommand `explain`.
 
-ghost use Rattle.std.specs.Prelude.{◌≡◌, ◌++◌, IfOk, OnOk, map, option_map, string_bytes};
+ghost use Rattle.std.specs.Prelude.{◌≡◌, ◌++◌, IfOk, OnOk, option_map, string_bytes};
 ghost use Rattle.std.specs.Io.KnownBytes.{Appends};
 ghost use Rattle.tpm_tool.specs.Faults.{FailsByMemoryOrWrite};
-ghost use Rattle.tpm_tool.specs.Explain.{meaning_as, meaning_in, meaning_of, meaning_line, subject_of, subject_number, subject_text, explanation, explain_status};
+ghost use Rattle.tpm_tool.specs.Explain.{meaning_of, meaning_line, base_line, layer_line, subject_of, subject_number, subject_text, unknown_line, tpm_line, base_code_line, line_within, line_or_unknown, status_of_line, explanation, explain_status};
+ghost use Rattle.tpm_tool.specs.Layers.{layer_as};
+ghost use Rattle.tpm_tool.specs.Meanings.{meaning_as};
+ghost use Rattle.tpm_tool.specs.declared.layers.Codes.TheVariants.{BaseOrTpm};
+ghost use Rattle.tpm_tool.specs.declared.status.Status.TheVariants.{Refused};
 
 use crate::answer::Answer;
 use crate::fault::ToolFault;
+use crate::layers::{Codes, Layer, base_meaning, layer_of};
+use crate::meaning::{Meaning, look_up};
 use crate::status::Status;
 use std::alloc::{AllocError, Global};
 use std::io::Write;
@@ -20,14 +26,8 @@ const PARAMETER: u32 = 0x40;
 /// Set in such a code where it is about a session, and no parameter.
 const SESSION: u32 = 0x800;
 
-/// What a response code says.
-#[derive(Clone, Copy)]
-pub(crate) struct Meaning {
-    code: u32,
-    // behind TPM_RC_
-    name: &'static str,
-    words: &'static str,
-}
+/// The bits of a code within its layer (TCG TSS 2.0 Overview and Common Structures, response codes).
+const CODE: u32 = 0xFFFF;
 
 // Codes without a number: success, those of TPM 1.2, errors and warnings (Part 2, 6.6.3).
 const WITHOUT_NUMBER: [Meaning; 65] = [
@@ -527,13 +527,6 @@ const WITH_NUMBER: [Meaning; 33] = [
     },
 ];
 
-// What the table says of this code.
-fn look_up(table: &'static [Meaning], code: u32) -> Option<&'static Meaning>
-    ensures { option_map (λ m. meaning_as m.now) result ≡ meaning_in (map meaning_as table.now) code }
-{
-    table.iter().find(|meaning| meaning.code == code)
-}
-
 // What a response code says, whatever its number.
 fn code_meaning(code: u32) -> Option<&'static Meaning>
     ensures { option_map (λ m. meaning_as m.now) result ≡ meaning_of code }
@@ -597,19 +590,102 @@ fn push_meaning(text: &mut String, code: u32, meaning: &Meaning) -> Result<(), A
     writeln!(text, ": {words}")
 }
 
+fn push_base(text: &mut String, meaning: &Meaning) -> Result<(), AllocError>
+    ensures { OnOk result (string_bytes text.new ≡ string_bytes text.old ++ base_line (meaning_as meaning.now)) }
+{
+    let name = meaning.name;
+    let words = meaning.words;
+    writeln!(text, "TSS2_BASE_RC_{name}: {words}")
+}
+
+#[tactic(auto, unfolding(crate::specs::Explain::layer_line))]
+fn push_layer(text: &mut String, layer: &Layer) -> Result<(), AllocError>
+    ensures { OnOk result (string_bytes text.new ≡ string_bytes text.old ++ layer_line (layer_as layer.now)) }
+{
+    let name = layer.name;
+    let words = layer.words;
+    writeln!(text, "TSS2_{name}_RC_LAYER: {words}")
+}
+
+fn push_unknown(text: &mut String) -> Result<Status, AllocError>
+    ensures { IfOk result (λ status. (status ≡ Refused) × (string_bytes text.new ≡ string_bytes text.old ++ unknown_line)) }
+{
+    text.push_str("unknown response code\n")?;
+    Ok(Status::Refused)
+}
+
+// Adds what a TPM's code says.
+fn push_tpm_code(text: &mut String, code: u32) -> Result<Status, AllocError>
+    ensures { IfOk result (λ status. (status ≡ status_of_line (tpm_line code))
+        × (string_bytes text.new ≡ string_bytes text.old ++ line_or_unknown (tpm_line code))) }
+{
+    let Some(meaning) = code_meaning(code) else {
+        return push_unknown(text);
+    };
+    push_meaning(text, code, meaning)?;
+    Ok(Status::Done)
+}
+
+// Adds what a base code says.
+fn push_base_code(text: &mut String, code: u32) -> Result<Status, AllocError>
+    ensures { IfOk result (λ status. (status ≡ status_of_line (base_code_line code))
+        × (string_bytes text.new ≡ string_bytes text.old ++ line_or_unknown (base_code_line code))) }
+{
+    let Some(meaning) = base_meaning(code) else {
+        return push_unknown(text);
+    };
+    push_base(text, meaning)?;
+    Ok(Status::Done)
+}
+
+// Adds what a code says in a layer that is no TPM's alone.
+fn push_base_or_tpm_code(text: &mut String, code: u32) -> Result<Status, AllocError>
+    ensures { IfOk result (λ status. (status ≡ status_of_line (line_within BaseOrTpm code))
+        × (string_bytes text.new ≡ string_bytes text.old ++ line_or_unknown (line_within BaseOrTpm code))) }
+{
+    let Some(meaning) = base_meaning(code) else {
+        return push_tpm_code(text, code);
+    };
+    push_base(text, meaning)?;
+    Ok(Status::Done)
+}
+
+// Adds what a code says within its layer.
+fn push_code_within(text: &mut String, codes: Codes, code: u32) -> Result<Status, AllocError>
+    ensures { IfOk result (λ status. (status ≡ status_of_line (line_within codes code))
+        × (string_bytes text.new ≡ string_bytes text.old ++ line_or_unknown (line_within codes code))) }
+{
+    match codes {
+        Codes::Base => push_base_code(text, code),
+        Codes::BaseOrTpm => push_base_or_tpm_code(text, code),
+        Codes::Tpm => push_tpm_code(text, code),
+    }
+}
+
+fn push_code(text: &mut String, code: u32) -> Result<Status, AllocError>
+    ensures { IfOk result (λ status. (status ≡ explain_status code) × (string_bytes text.new ≡ string_bytes text.old ++ explanation code)) }
+{
+    let Some(layer) = layer_of(code) else {
+        return push_tpm_code(text, code);
+    };
+    push_layer(text, layer)?;
+    push_code_within(text, layer.codes, code & CODE)
+}
+
 fn answer(alloc: Global, code: u32) -> Result<Answer, AllocError>
     ensures { IfOk result (λ a. (a.status ≡ explain_status code) × (string_bytes a.text ≡ explanation code)) }
 {
-    let Some(meaning) = code_meaning(code) else {
-        return Answer::of(alloc, Status::Refused, "unknown response code\n");
-    };
     let mut text = String::new(alloc);
-    push_meaning(&mut text, code, meaning)?;
-    Ok(Answer::done(text))
+    let status = push_code(&mut text, code)?;
+    Ok(Answer { status, text })
 }
 
 /// Prints what a response code says: `TPM_RC_NAME: WORDS`, or `TPM_RC_NAME for SUBJECT N: WORDS` where it has the number of a
-/// handle, session or parameter (Part 2, 6.6). A code that Part 2 doesn't list is `unknown response code`, with the status `Refused`.
+/// handle, session or parameter (Part 2, 6.6).
+///
+/// Of a code of the software above a TPM it prints the line of the layer before that, `TSS2_NAME_RC_LAYER: WORDS`, and then
+/// `TSS2_BASE_RC_NAME: WORDS`, or the line of the TPM's code that a resource manager answers (TCG TSS 2.0 Overview and Common
+/// Structures, response codes). A code that isn't listed is `unknown response code`, with the status `Refused`.
 ///
 /// Where a request for memory is refused the answer is `Memory`, and where the writer fails it is
 /// `Write`. What was written before is then left open.

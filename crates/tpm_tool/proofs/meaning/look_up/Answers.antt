@@ -1,10 +1,10 @@
 use Rattle.std.proofs.Common.{rules, ◌≡◌, ℕ, List, map, find, ◌==◌, option_map, Option, Bor}
 use Rattle.std.proofs.lemmas.Iterator.{YieldsList-from_slice}
 use Rattle.std.proofs.lemmas.Iterator.Search.{find_from_yields_List}
-use Rattle.tpm_tool.specs.declared.explained.Meaning.{Meaning}
-use Rattle.tpm_tool.specs.Explain.{meaning_as, meaning_in}
+use Rattle.tpm_tool.specs.declared.meaning.Meaning.{Meaning}
+use Rattle.tpm_tool.specs.Meanings.{meaning_as, meaning_in}
 use Rattle.tpm_tool.proofs.Tables.{found_as}
-use Rattle.tpm_tool.proofs.explained.look_up.Goals as goal
+use Rattle.tpm_tool.proofs.meaning.look_up.Goals as goal
 
 found : (table : List Meaning) (n : ℕ) (o : Option (Bor Meaning)) → option_map (λ m. m.now) o ≡ find (λ m. m.code == n) table
     → option_map (λ m. meaning_as m.now) o ≡ meaning_in (map meaning_as table) n
