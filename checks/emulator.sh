@@ -243,10 +243,11 @@ script_gives() {
 
 # the_records LOG: the records of a log that extend, as words of tpm2_pcrextend, a line each.
 the_records() {
-    awk '$7 != "EV_NO_ACTION" {
+    awk '$3 != "EV_NO_ACTION" {
         words = ""
-        for (i = 8; i < NF; i += 2) if ($i == "sha1" || $i == "sha256" || $i == "sha384") words = words (words == "" ? "" : ",") $i "=" $(i + 1)
-        if (words != "") print $6 ":" words
+        count = split($6, digests, ",")
+        for (i = 1; i <= count; i++) if (digests[i] ~ /^sha(1|256|384)=/) words = words (words == "" ? "" : ",") digests[i]
+        if (words != "") print $2 ":" words
     }' "checks/logs/$1.events"
 }
 

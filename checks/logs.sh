@@ -30,8 +30,16 @@ done
 for events in "$logs"/*.events; do
     log=${events%.events}
     cp "$events" "$room/out.wanted"
-    ran "the records of ${log##*/}" 0 events "$log.log"
+    ran "the records of ${log##*/}" 0 events "$log.log" --digests --places
 done
+
+cp "$logs/said.listed" "$room/out.wanted"
+ran "what the data of events say" 0 events "$logs/said.log"
+cp "$logs/said.register" "$room/out.wanted"
+ran "the records of a register" 0 events "$logs/said.log" --register 7
+: >"$room/out.wanted"
+ran "the records of a register that there is none of" 0 events "$logs/said.log" --register 18446744073709551615
+if LC_ALL=C grep -q '[^ -~]' "$logs/said.listed"; then fail "lines are printable" ""; else pass "lines are printable"; fi
 
 while read -r log kind at; do
     echo "log $kind at $at" >"$room/out.wanted"

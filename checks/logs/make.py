@@ -9,6 +9,7 @@ No value is read from the program. Run it in this folder; it writes the same byt
 """
 import hashlib
 import struct
+import uuid
 
 SIZES = {0x0004: 20, 0x000B: 32, 0x000C: 48, 0x000D: 64, 0x0012: 32, 0x0027: 32, 0x0028: 48, 0x0029: 64}
 BANKS = {0x0004: ("sha1", hashlib.sha1), 0x000B: ("sha256", hashlib.sha256), 0x000C: ("sha384", hashlib.sha384)}
@@ -17,7 +18,7 @@ FOUR = THREE + [0x000D]
 EIGHT = [0x0012, 0x000D, 0x000C, 0x0027, 0x000B, 0x0028, 0x0004, 0x0029]
 
 NO_ACTION, SEPARATOR, POST_CODE, CRTM_VERSION, CRTM_CONTENTS, IPL = 3, 4, 1, 8, 7, 13
-VARIABLE, BLOB, SERVICES, HCRTM = 0x80000001, 0x80000008, 0x80000003, 0x80000010
+VARIABLE, BLOB, SERVICES, HCRTM, GPT = 0x80000001, 0x80000008, 0x80000003, 0x80000010, 0x80000006
 
 
 def header(algorithms, vendor=b"", class_=0, version=(0, 2, 0, 2)):
@@ -105,6 +106,38 @@ def worked():
     return log.record(7, SEPARATOR, bytes(4))
 
 
+def variable(name, value, units=None):
+    """A variable of EFI_GLOBAL_VARIABLE: its name may be text or bytes, and may be counted wrongly."""
+    guid = uuid.UUID("8be4df61-93ca-11d2-aa0d-00e098032b8c").bytes_le
+    name = name.encode("utf-16-le") if isinstance(name, str) else name
+    return guid + struct.pack("<QQ", len(name) // 2 if units is None else units, len(value)) + name + value
+
+
+def said():
+    """What the data of events say, and what they only seem to."""
+    log = Log(THREE)
+    for name, value in (("SecureBoot", b"\x01"), ("PK", bytes(range(40))), ("db", b"")):
+        log.record(7, VARIABLE, variable(name, value))
+    log.record(7, VARIABLE, variable("db", b"\x02"), b"what was measured is something else")
+    log.record(7, VARIABLE, variable("past", b"\x01", units=6))
+    log.record(7, VARIABLE, variable("greatest", b"\x01", units=2**64 - 1))
+    log.record(7, VARIABLE, variable(b"a\0\x3d\xd8b\0", b"\x01"))
+    log.record(7, VARIABLE, variable("\U0001f512 Schl\u00fcssel", b"\x01"))
+    log.record(1, VARIABLE, variable("\x1b[2J\n\r\x7f\x9b\u202e\"\\", b"\x01"))
+    log.record(1, VARIABLE, variable("", b""))
+    for data in (bytes(4), b"\xff\xff\xff\xff", bytes(3)):
+        log.record(5, SEPARATOR, data)
+    log.record(5, GPT, b"EFI PART" + bytes(range(84)) + bytes(8))
+    log.record(4, SERVICES, bytes(32) + b"\\EFI\\BOOT\\BOOTX64.EFI\0", b"boot loader")
+    log.record(8, IPL, b'grub_cmd: echo "a \\ b"\0').record(8, IPL, b"\x1b]0;owned\x07\n").record(8, IPL, b"")
+    log.record(0, CRTM_VERSION, "1.0\x1b[31m\n\0".encode("utf-16-le")).record(0, CRTM_VERSION, b"odd")
+    # two digests of the data, and one of nothing
+    log.record(9, IPL, b"half")
+    log.bytes = log.bytes[: -8 - 48] + bytes(48) + log.bytes[-8:]
+    log.registers[0x000C, 9] = hashlib.sha384(bytes(48) + bytes(48)).digest()
+    return log
+
+
 def accepted():
     worked().write("worked")
     Log(THREE).write("header_alone")
@@ -135,6 +168,8 @@ def accepted():
     for kind in (*range(0x13), *range(0x80000000, 0x8000000E), 0x80000010, *range(0x800000E0, 0x800000E3), 0x13, 0xA0000001):
         log.record(16, kind, struct.pack("<I", kind))
     log.write("every_type")
+
+    said().write("said")
 
     # SHA-512 alone: no bank is extended
     Log([0x000D]).record(0, SEPARATOR, bytes(4)).write("no_bank")

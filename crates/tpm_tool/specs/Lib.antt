@@ -16,4 +16,5 @@ pub mod Layers
 pub mod Explain
 pub mod EventTypes
 pub mod Reads
+pub mod EventText
 pub mod ListEvents

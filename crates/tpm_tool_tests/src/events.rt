@@ -5,19 +5,26 @@ use crate::pieces::Pieces;
 use std::alloc::Global;
 use std::process::Abort;
 use std::test::Fail;
-use tpm_tool::{Status, ToolFault, list_events};
+use tpm_tool::{Listing, Status, ToolFault, list_events};
 use tpm_wire::Source;
 
 // The records of the log, by a reading of its bytes in Python.
 pub(crate) const TEXT: &str =
-    "event 1 at 73 register 0 EV_NO_ACTION size 0\nevent 2 at 89 register 7 EV_SEPARATOR sha1 9069ca78e7450a285173431b3e52c5c25299e473 sha256 df3f619804a92fdb4057192dc43dd748ea778adc52bc498ce80524c014b81119 sha384 394341b7182cd227c5c6b07ef8000cdfd86136c4292b8e576573ad7ed9ae41019f5818b4b971c9effc60e1ad9f1289f0 size 4\n";
+    "1 0 EV_NO_ACTION not-hashed at=73 - size 0\n2 7 EV_SEPARATOR hashed=sha1,sha256,sha384 at=89 sha1=9069ca78e7450a285173431b3e52c5c25299e473,sha256=df3f619804a92fdb4057192dc43dd748ea778adc52bc498ce80524c014b81119,sha384=394341b7182cd227c5c6b07ef8000cdfd86136c4292b8e576573ad7ed9ae41019f5818b4b971c9effc60e1ad9f1289f0 size 4\n";
 
 // A separator with a digest of SHA-512 alone, which has no bank, and its line.
 const NO_BANK: &str =
     "000000000300000000000000000000000000000000000000000000002100000053706563204944204576656e743033000000000000020002010000000d004000000000000004000000010000000d002248a8803402a2062fee5d37fede63ea8fb30fe502b9d6ba344c0c15c566d555612494e7e0bbc6fcf26e4b2325cb9310d99db8426e78f17ef3191b4d69adcf4a0400000000000000";
 
 const NO_BANK_TEXT: &str =
-    "event 1 at 65 register 0 EV_SEPARATOR 000d 2248a8803402a2062fee5d37fede63ea8fb30fe502b9d6ba344c0c15c566d555612494e7e0bbc6fcf26e4b2325cb9310d99db8426e78f17ef3191b4d69adcf4a size 4\n";
+    "1 0 EV_SEPARATOR not-hashed at=65 000d=2248a8803402a2062fee5d37fede63ea8fb30fe502b9d6ba344c0c15c566d555612494e7e0bbc6fcf26e4b2325cb9310d99db8426e78f17ef3191b4d69adcf4a size 4\n";
+
+// Lines with all that they may have.
+pub(crate) const ALL: Listing = Listing {
+    register: None,
+    places: true,
+    digests: true,
+};
 
 fn lists(
     rt: &(impl AllocGlobal + Abort),
@@ -26,7 +33,7 @@ fn lists(
     text: &str,
 ) {
     let mut out = Vec::new(rt.alloc());
-    let status = list_events(rt.alloc(), log, &mut out);
+    let status = list_events(rt.alloc(), log, ALL, &mut out);
     assert_eq!(rt; status, answer);
     assert_eq!(rt; out.as_slice(), text.as_bytes());
 }

@@ -96,7 +96,12 @@ fn list<W: Write>(alloc: Global, out: &mut W, log: &str) -> Result<Status, ToolF
         Ok(log) => log,
         Err(_) => return Err(ToolFault::Memory),
     };
-    list_events(alloc, &mut SliceSource::new(log.as_slice()), out)
+    list_events(
+        alloc,
+        &mut SliceSource::new(log.as_slice()),
+        events::ALL,
+        out,
+    )
 }
 
 fn perform<W: Write>(alloc: Global, out: &mut W, call: Call) -> Result<Status, ToolFault> {

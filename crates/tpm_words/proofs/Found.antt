@@ -24,7 +24,7 @@ use Rattle.tpm_values.specs.Owner.{IsOwner}
 use Rattle.tpm_words.specs.declared.task.Task.{Task}
 use Rattle.tpm_words.specs.declared.task.Task.TheVariants.{Show, Build, Run, Explain, Check, Events}
 use Rattle.tpm_words.specs.Program.{program_app}
-use Rattle.tpm_words.specs.Task.{Asks, AsksNothing, AsksNothingWith, AsksWith, IsCode, IsHash, Replies, is_given, IsWith}
+use Rattle.tpm_words.specs.Task.{Asks, AsksNothing, AsksNothingWith, AsksWith, IsCode, IsHash, IsRegister, Replies, is_given, IsWith}
 use Rattle.tpm_words.specs.declared.stop.Stop.{Stop}
 use Rattle.tpm_words.specs.declared.stop.Stop.TheVariants.{Help, Usage, Memory}
 use Rattle.tpm_words.specs.Stop.{IsHelp, IsMemoryOr, Refuses, StopsFor}
@@ -55,7 +55,13 @@ agrees name v w same (Check log registers quote attest nonce hash) h = (
   subst (λ (x : Option Text). IsWith x (w (codes "attest"))) (same (codes "nonce")) (subst (λ (x : Option Text). IsWith (v (codes "nonce")) x) (same (codes "attest")) h.6),
   subst (λ (x : Option Text). IsHash (unwrap_or x (codes "sha256")) hash) (same (codes "hash")) h.7,
 )
-agrees name v w same (Events log) h = (h.0, sym (same (codes "LOG")) ∙ h.1)
+agrees name v w same (Events log register places digests) h = (
+  h.0,
+  sym (same (codes "LOG")) ∙ h.1,
+  subst (λ (x : Option Text). IsRegister x register) (same (codes "register")) h.2,
+  h.3 ∙ ap is_given (same (codes "places")),
+  h.4 ∙ ap is_given (same (codes "digests")),
+)
 
 met : (o : Option (Text × List Row)) (name : Text) (f : Found) (t : Task) → option_map (λ (p : Text × List Row). p.0) o ≡ Some name → option_map (λ (p : Text × List Row). p.1) o ≡ Some (rows_of f)
     → AsksWith name (first_value f) t → Asks o t
@@ -138,3 +144,11 @@ pub stops : (words : List Text) (names : Bor (List (Bor (List ℕ)))) (kind : Er
 stops words names kind (Help text) all passes h = (names, all, is_false (takes (program_app (Names names)) words) (λ taken. is_no_help kind h (passes taken)))
 stops words names kind (Usage text) all passes h = (names, all, λ taken. absurd (h.2 (passes taken)))
 stops words names kind Memory all passes h = tt
+
+-- ---- a register
+
+-- A text that is no number is no register's.
+pub no_register : (given : Option Text) (text : Text) → given ≡ Some text → ((n : ℕ) → IsDecimal text n → ⊥) → (r : Option ℕ) → IsRegister given r → ⊥
+no_register None text is none r h = let z : ⊥ = cc in z
+no_register (Some t) text is none None h = h
+no_register (Some t) text is none (Some n) h = none n (subst (λ (x : Text). IsDecimal x n) (some t text is) h)

@@ -55,9 +55,13 @@ compare_app = with_rule (with_rule log_app (option_rule (codes "registers"))) (o
 abbrev pub check_app : App
 check_app = with_rule (with_rule (with_rule compare_app (option_rule (codes "attest"))) (option_rule (codes "nonce"))) (option_rule (codes "hash"))
 
--- events LOG
+-- events LOG [--register N]
+abbrev pub records_app : App
+records_app = with_rule (with_rule (new_app (codes "events")) (required_rule (codes "LOG"))) (option_rule (codes "register"))
+
+-- events LOG [--register N] [--places] [--digests]
 abbrev pub events_app : App
-events_app = with_rule (new_app (codes "events")) (required_rule (codes "LOG"))
+events_app = with_rule (with_rule records_app (flag_rule (codes "places"))) (flag_rule (codes "digests"))
 
 -- one of the subcommands, or a version
 abbrev pub above_subcommands : App

@@ -42,6 +42,12 @@ hash_word Sha384 = codes "sha384"
 abbrev pub IsHash : Text → Alg → Type 0
 IsHash text hash = text ≡ hash_word hash
 
+-- a register by its number, where the option is given
+abbrev pub IsRegister : Option Text → Option ℕ → Type 0
+IsRegister None register = register ≡ None
+IsRegister (Some text) None = ⊥
+IsRegister (Some text) (Some register) = IsDecimal text register
+
 -- The one is given only where the other is.
 abbrev pub IsWith : Option Text → Option Text → Type 0
 IsWith None other = Unit {0}
@@ -63,7 +69,9 @@ AsksWith name value (Check log registers quote attest nonce hash) = (name ≡ co
     × (value (codes "attest") ≡ option_map (λ a. a.now) attest) × (value (codes "nonce") ≡ option_map (λ n. n.now) nonce)
     × IsWith (value (codes "nonce")) (value (codes "attest"))
     × IsHash (unwrap_or (value (codes "hash")) (codes "sha256")) hash
-AsksWith name value (Events log) = (name ≡ codes "events") × (value (codes "LOG") ≡ Some log.now)
+AsksWith name value (Events log register places digests) = (name ≡ codes "events") × (value (codes "LOG") ≡ Some log.now)
+    × IsRegister (value (codes "register")) register × (places ≡ is_given (value (codes "places")))
+    × (digests ≡ is_given (value (codes "digests")))
 
 -- There is no such task.
 abbrev pub AsksNothingWith : Text → (Text → Option Text) → Type 0

@@ -11,6 +11,7 @@ ghost use Rattle.tpm_words.specs.Stop.{StopsFor, IsMemoryOr, Refuses};
 ghost use Rattle.tpm_words.specs.Task.{is_given as is_given_by, Asks, AsksNothing, AsksNothingWith, AsksWith};
 
 use crate::check::check_task;
+use crate::events::register;
 use crate::explain::explain_task;
 use crate::names::{command_named, command_names};
 use crate::program::program;
@@ -52,8 +53,8 @@ impl Words {
     ///
     /// The names that may be given are those of all commands. Where the words are those of a subcommand they are refused
     /// only for a value: of `run` an owner value of too many bytes, or a number that is other than decimal digits or
-    /// above 2^64 - 1; of `explain` other than hexadecimal digits, or a number above 2^32 - 1; of `check` a hash other than
-    /// `sha1`, `sha256` and `sha384`.
+    /// above 2^64 - 1, and likewise of `events`; of `explain` other than hexadecimal digits, or a number above 2^32 - 1; of
+    /// `check` a hash other than `sha1`, `sha256` and `sha384`.
     pub fn task(&self, alloc: Global) -> Result<Task<'_>, Stop>
         ensures ok { IfOk result (λ t. (names : Bor (List (Bor (List ℕ)))) × AreAllNames names.now
             × Asks (subcommand_of (program_app (Names names)) self.now) t) }
@@ -107,13 +108,21 @@ fn build_task<'a>(words: &ArgMatches<'a>) -> Option<Task<'a>>
     })
 }
 
-fn events_task<'a>(words: &ArgMatches<'a>) -> Option<Task<'a>>
-    ensures { MatchOption result (AsksNothingWith (codes "events") (first_value (found_of words.now)))
-        (λ t. AsksWith (codes "events") (first_value (found_of words.now)) t) }
+fn events_task<'a>(alloc: Global, words: &ArgMatches<'a>) -> Result<Option<Task<'a>>, Stop>
+    ensures { MatchResult result
+        (λ asked. MatchOption asked (AsksNothingWith (codes "events") (first_value (found_of words.now))) (λ t. AsksWith (codes "events") (first_value (found_of words.now)) t))
+        (IsMemoryOr (AsksNothingWith (codes "events") (first_value (found_of words.now)))) }
 {
-    Some(Task::Events {
-        log: words.get_str("LOG")?,
-    })
+    let Some(log) = words.get_str("LOG") else {
+        return Ok(None);
+    };
+    let register = register(alloc, words.get_str("register"))?;
+    Ok(Some(Task::Events {
+        log,
+        register,
+        places: is_given(words, "places"),
+        digests: is_given(words, "digests"),
+    }))
 }
 
 fn asked<'a>(alloc: Global, matches: &ArgMatches<'a>) -> Result<Option<Task<'a>>, Stop>
@@ -130,7 +139,7 @@ fn asked<'a>(alloc: Global, matches: &ArgMatches<'a>) -> Result<Option<Task<'a>>
         "run" => Ok(Some(run_task(alloc, words)?)),
         "explain" => explain_task(alloc, words),
         "check" => check_task(alloc, words),
-        "events" => Ok(events_task(words)),
+        "events" => events_task(alloc, words),
         _ => Ok(None),
     }
 }

@@ -2,6 +2,7 @@
 #![tactic(auto)]
 
 mod check;
+mod events;
 mod explain;
 mod given;
 mod invalid;

@@ -3,7 +3,7 @@
 ghost use Rattle.std.specs.Prelude.{◌≡◌, IfOk, false};
 ghost use Rattle.clap.specs.Words.{rule_of};
 ghost use Rattle.clap.specs.declared.builder.value_parser.ValueParser.TheVariants.{Names};
-ghost use Rattle.tpm_words.specs.Program.{required_rule, name_rule, reply_rule, flag_rule, option_rule, show_app, build_app, run_app, explain_app, log_app, compare_app, check_app, events_app, above_subcommands, program_app, IsApp};
+ghost use Rattle.tpm_words.specs.Program.{required_rule, name_rule, reply_rule, flag_rule, option_rule, show_app, build_app, run_app, explain_app, log_app, compare_app, check_app, records_app, events_app, above_subcommands, program_app, IsApp};
 
 use clap::{Arg, ArgAction, Command};
 use std::alloc::{AllocError, Global};
@@ -25,6 +25,7 @@ const AFTER_HELP: &str = "Examples:
   tpmtool check LOG --registers FILE
   tpmtool check LOG --attest FILE --nonce 6e6f
   tpmtool events LOG
+  tpmtool events LOG --register 7 --digests
 
 Exit status:
   0  done
@@ -202,12 +203,33 @@ pub(crate) fn check_words<'a>(alloc: Global) -> Result<Command<'a>, AllocError>
     compare_words(alloc)?.arg(attest)?.arg(nonce)?.arg(hash)
 }
 
-fn events_words<'a>(alloc: Global) -> Result<Command<'a>, AllocError>
-    ensures { IfOk result (λ c. IsApp events_app c) }
+// The subcommand `events`, with which records are listed.
+fn records_words<'a>(alloc: Global) -> Result<Command<'a>, AllocError>
+    ensures { IfOk result (λ c. IsApp records_app c) }
 {
     Command::new(alloc, "events")
-        .about("Prints the records of an event log")
-        .arg(required(alloc, "LOG", "The event log, a file"))
+        .bin_name("tpmtool events")?
+        .about("Prints the records of an event log, a line each")
+        .arg(required(alloc, "LOG", "The event log, a file"))?
+        .arg(option(
+            alloc,
+            "register",
+            "N",
+            "Prints the records of this register alone",
+        ))
+}
+
+/// The subcommand `events`.
+pub(crate) fn events_words<'a>(alloc: Global) -> Result<Command<'a>, AllocError>
+    ensures { IfOk result (λ c. IsApp events_app c) }
+{
+    let places = flag(
+        alloc,
+        "places",
+        "Prints how many bytes of the log precede each record, too",
+    );
+    let digests = flag(alloc, "digests", "Prints the digests of each record, too");
+    records_words(alloc)?.arg(places)?.arg(digests)
 }
 
 // The program, without its subcommands.

@@ -54,9 +54,15 @@ pub enum Task<'a> {
         /// The hash of the quote's digest.
         hash: Alg,
     },
-    /// `events LOG`: print the records of a log.
+    /// `events LOG [--register N] [--places] [--digests]`: print the records of a log.
     Events {
         /// The path of the log.
         log: &'a str,
+        /// The register whose records alone are printed.
+        register: Option<u64>,
+        /// Whether each record is printed with its place.
+        places: bool,
+        /// Whether it is printed with its digests.
+        digests: bool,
     },
 }

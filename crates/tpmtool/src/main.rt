@@ -7,7 +7,7 @@ use std::rt::{Env, Files};
 use std::{env, fs, io};
 use tpm_device::Device;
 use tpm_tool::{
-    Signed, Status, ToolFault, build, check_log, check_signed, explain, list_events,
+    Listing, Signed, Status, ToolFault, build, check_log, check_signed, explain, list_events,
     not_hexadecimal, read_attest, run_script, show, show_fields,
 };
 use tpm_types::Alg;
@@ -119,7 +119,19 @@ fn perform<R: AllocGlobal + Files + Input + Print>(
             let attested = attest.map(|path| Attested { path, nonce });
             check(rt, out, log, registers, quote, attested, hash)
         }
-        Task::Events { log } => list_events(rt.alloc(), &mut opened(rt, log)?, out),
+        Task::Events {
+            log,
+            register,
+            places,
+            digests,
+        } => {
+            let listing = Listing {
+                register,
+                places,
+                digests,
+            };
+            list_events(rt.alloc(), &mut opened(rt, log)?, listing, out)
+        }
     }
 }
 

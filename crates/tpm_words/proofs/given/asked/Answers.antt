@@ -51,5 +51,5 @@ pub returns-in-events : goal.returns-in-events
 returns-in-events c =
     let name : subcommand_name_of c.args.matches.now ≡ Some (codes "events") = search rules in
     let rows : option_map (λ (p : Text × List Row). p.1) (subcommand_rows_of c.args.matches.now) ≡ Some (rows_of (found_of c.in-Some.words.now)) = search rules in
-    match_then c.events_task.result c.events_task.ensures (asks_nothing c.args.matches.now (codes "events") (found_of c.in-Some.words.now) name rows)
+    result_then c.events_task.result c.events_task.ensures (asks_nothing c.args.matches.now (codes "events") (found_of c.in-Some.words.now) name rows)
     (λ t h. asks c.args.matches.now (codes "events") (found_of c.in-Some.words.now) t name rows h)
