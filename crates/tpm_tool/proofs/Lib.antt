@@ -2,6 +2,7 @@ mod Padded
 mod Listed
 mod InputLines
 mod Scripts
+mod Captures
 mod Nonces
 mod Comparisons
 mod Checks

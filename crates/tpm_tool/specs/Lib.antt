@@ -4,6 +4,8 @@ pub mod Text
 pub mod ReplyText
 pub mod Show
 pub mod Fields
+pub mod Capture
+pub mod Capturing
 pub mod Build
 pub mod Script
 pub mod Progress

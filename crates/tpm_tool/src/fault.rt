@@ -20,7 +20,7 @@ pub enum ToolFault {
     /// A write failed.
     #[error("writing failed")]
     Write,
-    /// A script or a list of registers has more than 16,777,216 bytes.
+    /// A script or a list of registers has more than 16,777,216 bytes, or a capture more than 2^62.
     #[error("input too long")]
     InputTooLong,
 }

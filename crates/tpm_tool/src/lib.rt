@@ -3,6 +3,9 @@
 
 mod answer;
 mod built;
+mod capture;
+mod capture_frames;
+mod capture_lines;
 mod checked;
 mod checked_signed;
 mod compared;
@@ -34,6 +37,7 @@ mod text;
 
 pub use answer::not_hexadecimal;
 pub use built::build;
+pub use capture::show_lines;
 pub use checked::check_log;
 pub use checked_signed::check_signed;
 pub use explained::explain;

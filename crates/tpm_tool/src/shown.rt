@@ -16,7 +16,8 @@ use std::alloc::{AllocError, Global};
 use std::io::Write;
 use tpm_buffer::CommandCode;
 
-fn answer_to_bytes(alloc: Global, bytes: &[u8]) -> Result<Answer, AllocError>
+/// What `show` answers to bytes that are taken for a command.
+pub(crate) fn answer_to_bytes(alloc: Global, bytes: &[u8]) -> Result<Answer, AllocError>
     ensures { IfOk result (λ a. ShowsBytes bytes.now a.status (string_bytes a.text)) }
 {
     match command_and_areas(bytes) {

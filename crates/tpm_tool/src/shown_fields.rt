@@ -51,7 +51,8 @@ fn push_command_text(
     push_command_fields(alloc, text, body)
 }
 
-fn answer_to_command(alloc: Global, bytes: &[u8]) -> Result<Answer, AllocError>
+/// What `show --fields` answers to bytes that are taken for a command.
+pub(crate) fn answer_to_command(alloc: Global, bytes: &[u8]) -> Result<Answer, AllocError>
     ensures { IfOk result (λ a. ShowsCommand bytes.now a.status (string_bytes a.text)) }
 {
     match command_and_areas(bytes) {
@@ -114,7 +115,12 @@ fn push_response_text(
     }
 }
 
-fn answer_to_reply(alloc: Global, command: CommandCode, bytes: &[u8]) -> Result<Answer, AllocError>
+/// What `show --fields` answers to bytes that are taken for a response to this command.
+pub(crate) fn answer_to_reply(
+    alloc: Global,
+    command: CommandCode,
+    bytes: &[u8],
+) -> Result<Answer, AllocError>
     ensures { IfOk result (λ a. ShowsReply command bytes.now a.status (string_bytes a.text)) }
 {
     match response_and_areas(command, bytes) {

@@ -9,7 +9,7 @@ use tpm_buffer::CommandCode;
 use tpm_device::Device;
 use tpm_tool::{
     Status, ToolFault, build, check_log, list_events, not_hexadecimal, run_script, show,
-    show_fields,
+    show_fields, show_lines,
 };
 use tpm_types::{Alg, AuthValue};
 use tpm_wire::SliceSource;
@@ -21,6 +21,7 @@ enum Call {
     ShowReply(&'static str),
     ShowFields(&'static str),
     ShowReplyFields(&'static str),
+    ShowLines(&'static str, bool),
     Build(&'static str),
     Run(&'static str),
     Check(&'static str, Option<&'static str>),
@@ -34,8 +35,10 @@ const RESET_REPLY: &str = "80020000001300000000000000000000010000";
 
 const READ_REPLY: &str = "80020000001d000000000000000a000800000000000000040000010000";
 
+const CAPTURE: &str = "80010000000c000001440000\n80010000000a00000000\n< 80010000000a00000000\n";
+
 // Each call, and the whole text that it prints.
-const CALLS: [(Call, &str); 17] = [
+const CALLS: [(Call, &str); 20] = [
     (
         Call::Show(STARTUP),
         "command Startup size 12\nparameters 0000\n",
@@ -53,6 +56,15 @@ const CALLS: [(Call, &str); 17] = [
         Call::ShowReplyFields(READ_REPLY),
         "reply NV_Read size 29\nparameters 00080000000000000004\n  data TPM2B_MAX_NV_BUFFER 00080000000000000004\nsession 1 nonce - attributes 01 hmac -\n",
     ),
+    (
+        Call::ShowLines(CAPTURE, false),
+        "1 > command Startup size 12\nparameters 0000\n2 < reply Startup size 10\nparameters -\n3 < no command is before it\n",
+    ),
+    (
+        Call::ShowLines(CAPTURE, true),
+        "1 > command Startup size 12\nparameters 0000\n  startupType TPM_SU 0000\n2 < reply Startup size 10\nparameters -\n3 < no command is before it\n",
+    ),
+    (Call::ShowLines("no", true), "1 not hexadecimal\n"),
     (Call::Build("0000"), "80010000000c000001440000\n"),
     (Call::Build("0002"), "refused 1c4 at 10\n"),
     (Call::Run("power\n"), "power\n"),
@@ -110,6 +122,14 @@ fn perform<W: Write>(alloc: Global, out: &mut W, call: Call) -> Result<Status, T
         Call::ShowReply(hex) => show(alloc, out, Some(CommandCode::PcrReset), hex),
         Call::ShowFields(hex) => show_fields(alloc, out, None, hex),
         Call::ShowReplyFields(hex) => show_fields(alloc, out, Some(CommandCode::NvRead), hex),
+        Call::ShowLines(capture, fields) => {
+            show_lines(
+                alloc,
+                &mut SliceSource::new(capture.as_bytes()),
+                out,
+                fields,
+            )
+        }
         Call::Build(parameters) => build(alloc, out, CommandCode::Startup, "-", "-", parameters),
         Call::Run(script) => run(alloc, out, script),
         Call::NotHexadecimal => not_hexadecimal(alloc, out),
