@@ -18,4 +18,4 @@ pub use device::{tpm_bench_execute, tpm_bench_start};
 pub use hashes::{tpm_bench_hash, tpm_bench_hmac, tpm_bench_same, tpm_bench_session_hashes};
 pub use sessions::tpm_bench_authorize;
 pub use sizes::tpm_bench_size;
-pub use streams::{tpm_bench_push_frames, tpm_bench_read_frames};
+pub use streams::{tpm_bench_push_frames, tpm_bench_read_frames, tpm_bench_read_frames_into};

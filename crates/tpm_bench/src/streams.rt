@@ -8,8 +8,8 @@ ghost use Rattle.tpm_wire.specs.Sources.{CountsFailures, IsWhereItFailed};
 ghost use Rattle.tpm_buffer.specs.Frames.{IsFrame, Frames};
 
 use crate::out::append;
-use tpm_buffer::{Framer, Status, read_frame};
-use tpm_wire::{ReadFailed, Source};
+use tpm_buffer::{Framer, Status, read_frame, read_frame_into};
+use tpm_wire::{Buffer, ReadFailed, Source};
 
 /// Writes the frames of the stream one after the other, and answers how many bytes they have. The stream comes to a framer
 /// in pieces of at most so many bytes, and of at least one.
@@ -93,6 +93,21 @@ pub extern "C" fn tpm_bench_read_frames(stream: &[u8], most: usize, out: &mut [u
     let mut source = Pieces { rest: stream, most };
     let mut written = 0;
     while let Ok(Some(frame)) = read_frame(&mut source) {
+        written = append(out, written, frame.as_slice());
+    }
+    written
+}
+
+/// The same with one buffer, which each frame is read into.
+#[unsafe(no_mangle)]
+pub extern "C" fn tpm_bench_read_frames_into(stream: &[u8], most: usize, out: &mut [u8]) -> usize
+    requires { length stream.now ≤ length out.old }
+    ensures { (frames : List (List ℕ)) × (rest : List ℕ) × Frames stream.now frames rest × (result ≡ length (concat frames)) × (take result out.new ≡ concat frames) }
+{
+    let mut source = Pieces { rest: stream, most };
+    let mut frame = Buffer::new();
+    let mut written = 0;
+    while let Ok(true) = read_frame_into(&mut source, &mut frame) {
         written = append(out, written, frame.as_slice());
     }
     written
