@@ -43,7 +43,7 @@ holds() {
 
 # hosted: the programs with the C library, over the archive.
 hosted() {
-    for example in attest device log policy session view; do
+    for example in attest device events log policy session view; do
         "$compiler" -std=c99 -O2 -Wall -Wextra -pedantic -Werror -Iinclude -o "$room/$example" "examples/$example.c" "$archive" || return 1
     done
 }
@@ -177,6 +177,21 @@ is_told() {
     told="$1 $2"
     shift 2
     [ "$(faults_of "$@" <"$room/in.told")" = "$told" ] || { echo "$*: $(faults_of "$@" <"$room/in.told")" && return 1; }
+}
+
+# same_events: the records of each log that has a list of registers, and of the others the fault of the list.
+same_events() {
+    : >"$room/out"
+    for list in checks/logs/*.registers; do
+        log=${list%.registers}
+        echo "log ${log##*/}" >>"$room/out"
+        "$room/events" <"$log.log" >>"$room/out" || return 1
+    done
+    cmp "$room/out" checks/logs/places.txt || return 1
+    while read -r log kind at; do
+        "$room/events" <"checks/logs/$log.log" >"$room/out"
+        [ $? -eq 1 ] && [ "$(tail -n 1 "$room/out")" = "log $kind at $at" ] || return 1
+    done <checks/logs/faults.txt
 }
 
 # device_faults: words that the device does not know, text that is no hexadecimal, and streams that end too early.
@@ -337,6 +352,7 @@ else
     holds "the logs through C byte by byte" same_logs 1
     holds "the logs through C in pieces of 100 bytes" same_logs 100
     holds "a log of 1.1 MB through C" same_long_log
+    holds "the records of the logs through C" same_events
     holds "a device through C tells what it does not know" device_faults
     holds "the power of a device behind a stream" same_power
     holds "quotes beside a log through C" same_quotes

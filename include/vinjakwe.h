@@ -198,6 +198,45 @@ uint32_t tpm_command_build(uint32_t command, const uint8_t *handles, size_t hand
  * that has it, and leaves the registers as they were. */
 uint32_t tpm_log_replay(const uint8_t *log, size_t len, uint8_t *registers, uint32_t *at);
 
+/* A place among the records of a log, which the caller keeps: zeros to begin. `at`: how many bytes precede it, or 0 before the first
+ * record; `late`: other than 0 where a start-up locality comes too late there. It is plain bytes, which may be copied and kept. */
+struct tpm_log_place {
+    uint32_t at;
+    uint32_t late;
+};
+
+/* A digest of a record: TPM_ALG of its hash; whether it is that hash of the event's data, 0 or 1, which is computed for
+ * TPM_ALG_SHA1, TPM_ALG_SHA256 and TPM_ALG_SHA384; and its bytes. */
+struct tpm_log_digest {
+    uint16_t hash;
+    uint8_t hashed;
+    struct tpm_part digest;
+};
+
+/* How many digests a record has at most. */
+#define TPM_RECORD_DIGESTS 8
+
+/* A record of a log, TCG_PCR_EVENT2: its register; its type, 3 for EV_NO_ACTION, which extends nothing; its digests, in their order;
+ * and the event's data. Of the digests as many are there as are counted, and the others are 0. */
+struct tpm_log_event {
+    uint32_t pcr;
+    uint32_t type;
+    size_t digest_count;
+    struct tpm_log_digest digests[TPM_RECORD_DIGESTS];
+    struct tpm_part data;
+};
+
+/* A record was told. */
+#define TPM_EVENT ((uint32_t)32)
+
+/* Tells the record at a place of a log. TPM_EVENT: it is in `event`, by its parts in all of the log's bytes, and the place is then
+ * behind it. TPM_LOG_DONE: no byte is left there. Otherwise it answers the log's fault, and writes to `at` how many bytes precede
+ * the token that has it. What isn't written so stays as it was.
+ *
+ * Called again and again from zeros on it tells the records of the log one by one, and then its end; or, of bytes with a fault,
+ * some records and then the fault that tpm_log_replay answers. Each call reads the log's header and one record. */
+uint32_t tpm_log_event(const uint8_t *log, size_t len, struct tpm_log_place *place, struct tpm_log_event *event, uint32_t *at);
+
 /* A replay of a log that comes in pieces, however it is cut. */
 struct tpm_log_replay;
 

@@ -6,3 +6,4 @@ pub mod Lists
 pub mod Quoting
 pub mod Replies
 pub mod Steps
+pub mod Telling

@@ -8,6 +8,7 @@ mod command;
 mod device;
 mod framer;
 mod log;
+mod log_event;
 mod log_pieces;
 mod out;
 mod part;
@@ -30,6 +31,7 @@ pub use framer::{
     tpm_framer_size,
 };
 pub use log::tpm_log_replay;
+pub use log_event::{TpmLogDigest, TpmLogEvent, TpmLogPlace, tpm_log_event};
 pub use log_pieces::{
     tpm_log_replay_align, tpm_log_replay_end, tpm_log_replay_feed, tpm_log_replay_init,
     tpm_log_replay_size,
