@@ -3,6 +3,7 @@
 #
 #     command HEX, reply NAME HEX, build NAME HANDLES SESSIONS PARAMETERS      as examples/view.c
 #     log FILE, pieces FILE                                                   `tpmtool check FILE`, whole and from a reader
+#     events FILE                                                             as examples/events.c, which checks/c.sh compares
 #     quote FILE HEX HASH                                                     as examples/log.c
 #     attest LOG HEX NONCE REQUIRE HASH                                       a quote as it was signed
 #     frames SIZE HEX                                                         a stream in pieces of so many bytes
@@ -112,6 +113,8 @@ ROWS
         printf 'log %s\npieces %s\n' "$log" "$log" >>"$table"
         "$program" check "$log" >"$room/out"
         cat "$room/out" "$room/out" >>"$table.wanted"
+        echo "events $log" >>"$table"
+        "$room/c_events" bytes <"$log" >>"$table.wanted"
     done
     quoted=00000001000b03810000
     digest=002029007275b14d167931c84e098e48fbede947a9cc74f672be54fcb83ed9d07a5c
@@ -177,7 +180,7 @@ answers_changed() {
 make_layout() {
     awk '
         BEGIN { print "#include \"vinjakwe.h\"\n#include <stdio.h>\nint main(void) {" }
-        /^struct tpm_[a-z_]* \{/ && ($2 ~ /refusal|part|session|areas|attest_fault/) { name = $2; printf "printf(\"%s %%zu\\n\", sizeof(struct %s));\n", name, name; next }
+        /^struct tpm_[a-z_]* \{/ && ($2 ~ /refusal|part|session|areas|attest_fault|log_(place|digest|event)/) { name = $2; printf "printf(\"%s %%zu\\n\", sizeof(struct %s));\n", name, name; next }
         /^}/ { name = "" }
         name { field = $NF; sub(/(\[.*)?;.*/, "", field); if ($0 ~ /;/) { $0 = $0; for (i = 1; i <= NF; i++) if ($i ~ /;/) { field = $i; break } sub(/(\[.*)?;.*/, "", field); printf "printf(\"%s.%s %%zu\\n\", offsetof(struct %s, %s));\n", name, field, name, field } }
         /^#define TPM_(CC|RC)_/ && $2 !~ /^TPM_RC_([HPS1-7])$/ { printf "printf(\"%s %%lu\\n\", (unsigned long)%s);\n", $2, $2 }
@@ -194,7 +197,8 @@ import ctypes
 import vinjakwe as v
 
 for it, name in ((v._Refusal, "refusal"), (v._Part, "part"), (v._CommandSession, "command_session"), (v._CommandAreas, "command_areas"),
-                 (v._ResponseSession, "response_session"), (v._ResponseAreas, "response_areas"), (v._AttestFault, "attest_fault")):
+                 (v._ResponseSession, "response_session"), (v._ResponseAreas, "response_areas"), (v._LogPlace, "log_place"),
+                 (v._LogDigest, "log_digest"), (v._LogEvent, "log_event"), (v._AttestFault, "attest_fault")):
     print(f"tpm_{name} {ctypes.sizeof(it)}")
     for field, _ in it._fields_:
         print(f"tpm_{name}.{field} {getattr(it, field).offset}")
@@ -299,6 +303,7 @@ elif ! grep -q tpm_log_check_attest include/vinjakwe.h; then
 elif ! ./install "$prefix" >"$room/said" 2>&1 || [ ! -e "$prefix/lib/libvinjakwe.so" ]; then
     fail "the bindings" "nothing is installed: $(tail -n 3 "$room/said")"
 elif ! "$compiler" -O2 -Iinclude -o "$room/c_view" examples/view.c "$prefix/lib/libvinjakwe.a" || ! "$compiler" -O2 -Iinclude -o "$room/c_log" examples/log.c "$prefix/lib/libvinjakwe.a" ||
+    ! "$compiler" -O2 -Iinclude -o "$room/c_events" examples/events.c "$prefix/lib/libvinjakwe.a" ||
     ! make_table || ! make_changed || ! make_layout; then
     fail "the bindings" "the table was not made"
 else

@@ -41,6 +41,12 @@ def registers(log):
         yield from (f"{name} {i} {value.hex()}" for i, value in enumerate(values))
 
 
+def events(log):
+    for it in vinjakwe.events(log):
+        digests = (f" {vinjakwe.HASHES.get(name, name):04x}:{text(value)}{'*' if name in it.hashed else ''}" for name, value in it.digests.items())
+        yield f"{it.register} {it.type:08x} {text(it.data)}{''.join(digests)}"
+
+
 def frames(size, stream):
     framer = vinjakwe.Framer()
     for at in range(0, len(stream), size):
@@ -96,6 +102,8 @@ class Answers:
             yield from registers(whole(*words))
         elif verb == "pieces":
             yield from opened(*words)
+        elif verb == "events":
+            yield from events(whole(*words))
         elif verb == "quote":
             yield "quote " + ("matches" if vinjakwe.check_quote(whole(words[0]), unhex(words[1]), words[2]) else "differs")
         elif verb == "attest":

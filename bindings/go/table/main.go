@@ -107,6 +107,21 @@ func read(name string) []byte {
 	return bytes
 }
 
+func events(log []byte) {
+	it := vinjakwe.NewEvents(log)
+	for it.Next() {
+		event := it.Event()
+		fmt.Fprintf(out, "%d %08x %s", event.Register, event.Type, text(event.Data))
+		for _, digest := range event.Digests {
+			fmt.Fprintf(out, " %04x:%s%s", uint16(digest.Hash), text(digest.Bytes), map[bool]string{true: "*"}[digest.Hashed])
+		}
+		fmt.Fprintln(out)
+	}
+	if it.Err() != nil {
+		tell(it.Err())
+	}
+}
+
 func frames(size int, stream []byte) {
 	framer := vinjakwe.NewFramer()
 	for len(stream) > 0 {
@@ -163,6 +178,8 @@ func main() {
 			}
 			registers(vinjakwe.ReplayFrom(file))
 			file.Close()
+		case "events":
+			events(read(words[1]))
 		case "quote":
 			matches, err := vinjakwe.CheckQuote(read(words[1]), unhex(words[2]), hashes[words[3]])
 			if err != nil {

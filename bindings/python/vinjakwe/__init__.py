@@ -8,7 +8,7 @@ import enum
 import os
 from ctypes import POINTER, Structure, byref, c_size_t, c_uint8, c_uint16, c_uint32, c_uint64, c_void_p
 from ctypes.util import find_library
-from typing import Dict, List, NamedTuple, Optional, Tuple
+from typing import Dict, Iterator, List, NamedTuple, Optional, Tuple, Union
 
 __version__ = "0.1.0"
 
@@ -34,9 +34,11 @@ LOG_FAULTS = ("DONE", "TRUNCATED", "TOO_LONG", "NOT_CRYPTO_AGILE", "BAD_HEADER",
               "UNKNOWN_ALGORITHM", "REPEATED_DIGEST", "BAD_REGISTER", "BAD_LOCALITY", "LATE_LOCALITY")
 _DONE, _REFUSED, _NO_ROOM, _NO_COMMAND = range(4)
 _MORE, _READY, _BROKEN = range(3)
+_EVENT = 32
 _DIGESTS = {"sha1": (0, 20), "sha256": (480, 32), "sha384": (1248, 48)}
 _COMMAND_NAMES = {number: name for name, number in COMMANDS.items()}
 _CODE_NAMES = {number: name for name, number in CODES.items()}
+_HASH_NAMES = {number: name for name, number in HASHES.items()}
 
 
 class LibraryError(ImportError):
@@ -100,6 +102,18 @@ class _ResponseAreas(Structure):
                 ("session_count", c_size_t), ("sessions", _ResponseSession * 3)]
 
 
+class _LogPlace(Structure):
+    _fields_ = [("at", c_uint32), ("late", c_uint32)]
+
+
+class _LogDigest(Structure):
+    _fields_ = [("hash", c_uint16), ("hashed", c_uint8), ("digest", _Part)]
+
+
+class _LogEvent(Structure):
+    _fields_ = [("pcr", c_uint32), ("type", c_uint32), ("digest_count", c_size_t), ("digests", _LogDigest * 8), ("data", _Part)]
+
+
 class _AttestFault(Structure):
     _fields_ = [("code", c_uint32), ("at", c_uint32), ("hash", c_uint16), ("pcr", c_uint32)]
 
@@ -128,7 +142,7 @@ def _load() -> ctypes.PyDLL:
         ("response_decode", number, [number, p, size, POINTER(_Refusal)]),
         ("command_build", number, [number, p, size, p, size, p, size, p, size, POINTER(size), POINTER(_Refusal)]),
         ("log_replay", number, [p, size, p, POINTER(number)]), ("log_replay_size", size, []), ("log_replay_align", size, []),
-        ("log_replay_init", None, [p]), ("log_replay_feed", number, [p, p, size, POINTER(number)]),
+        ("log_event", number, [p, size, POINTER(_LogPlace), POINTER(_LogEvent), POINTER(number)]), ("log_replay_init", None, [p]), ("log_replay_feed", number, [p, p, size, POINTER(number)]),
         ("log_replay_end", number, [p, p, POINTER(number)]),
         ("log_check_quote", number, [p, size, p, size, c_uint16, POINTER(number)]),
         ("log_check_attest", number, [p, size, p, size, c_uint16, p, size, p, size, POINTER(_AttestFault)]),
@@ -191,6 +205,10 @@ def _judged(answer: int, refusal: _Refusal) -> None:
         raise Refusal(refusal.code, refusal.at)
 
 
+def _part(view: memoryview, it: _Part) -> bytes:
+    return bytes(view[it.at:it.at + it.len])
+
+
 def _number(command) -> int:
     if isinstance(command, str):
         if command not in COMMANDS:
@@ -244,10 +262,8 @@ def decode_command(data) -> Command:
     _judged(_lend(_library.tpm_command_decode, (data,), byref(refusal)), refusal)
     _judged(_lend(_library.tpm_command_cut, (data,), byref(areas), byref(refusal)), refusal)
     with memoryview(data).cast("B") as view:
-        def part(it):
-            return bytes(view[it.at:it.at + it.len])
-        sessions = tuple(CommandSession(it.handle, part(it.nonce), it.attributes, part(it.hmac)) for it in areas.sessions[:areas.session_count])
-        return Command(areas.code, _COMMAND_NAMES[areas.code], areas.size, tuple(areas.handles[:areas.handle_count]), sessions, part(areas.parameters))
+        sessions = tuple(CommandSession(it.handle, _part(view, it.nonce), it.attributes, _part(view, it.hmac)) for it in areas.sessions[:areas.session_count])
+        return Command(areas.code, _COMMAND_NAMES[areas.code], areas.size, tuple(areas.handles[:areas.handle_count]), sessions, _part(view, areas.parameters))
 
 
 def decode_response(command, data) -> Response:
@@ -256,10 +272,8 @@ def decode_response(command, data) -> Response:
     _judged(_lend(_library.tpm_response_decode, number, (data,), byref(refusal)), refusal)
     _judged(_lend(_library.tpm_response_cut, number, (data,), byref(areas), byref(refusal)), refusal)
     with memoryview(data).cast("B") as view:
-        def part(it):
-            return bytes(view[it.at:it.at + it.len])
-        sessions = tuple(ResponseSession(part(it.nonce), it.attributes, part(it.hmac)) for it in areas.sessions[:areas.session_count])
-        return Response(areas.code, areas.handle if areas.handle_count else None, part(areas.parameters), sessions)
+        sessions = tuple(ResponseSession(_part(view, it.nonce), it.attributes, _part(view, it.hmac)) for it in areas.sessions[:areas.session_count])
+        return Response(areas.code, areas.handle if areas.handle_count else None, _part(view, areas.parameters), sessions)
 
 
 def build_command(command, handles=b"", sessions=b"", parameters=b"") -> bytes:
@@ -334,6 +348,31 @@ def replay(log) -> Registers:
     return _registers(out)
 
 
+class Event(NamedTuple):
+    """A record of a log: its place among them from 1 on, its register, its type, the digests and the event's data. A hash is told by its
+    name in HASHES, or else by its number. `hashed`: those whose digest is that hash of the data; another is not wrong."""
+
+    number: int
+    register: int
+    type: int
+    digests: Dict[Union[str, int], bytes]
+    data: bytes
+    hashed: Tuple[str, ...]
+
+
+def events(log) -> Iterator[Event]:
+    """The records of a log's bytes, one by one. Raises LogFault behind those before the fault."""
+    place, event, at, number = _LogPlace(), _LogEvent(), c_uint32(), 0
+    while (said := _lend(_library.tpm_log_event, (log,), byref(place), byref(event), byref(at))) == _EVENT:
+        number += 1
+        found = [(_HASH_NAMES.get(it.hash, it.hash), it) for it in event.digests[:event.digest_count]]
+        with memoryview(log).cast("B") as view:
+            digests, data = {name: _part(view, it.digest) for name, it in found}, _part(view, event.data)
+        yield Event(number, event.pcr, event.type, digests, data, tuple(name for name, it in found if it.hashed))
+    if said:
+        raise LogFault(said, at.value)
+
+
 def check_quote(log, quote, hash: str = "sha256") -> bool:
     """Whether the digest of a quote's TPMS_QUOTE_INFO is that of a log's registers. Raises LogFault, Refusal (whose code is not told: 0)."""
     at = c_uint32()
@@ -374,7 +413,7 @@ def check(log, attest, nonce, require=b"", hash: str = "sha256") -> Verdict:
     if answer == 22:
         raise ValueError("require: " + str(Refusal(fault.code, fault.at)))
     if Kind(answer) is Kind.LACKS:
-        return Verdict(Kind.LACKS, {number: name for name, number in HASHES.items()}[fault.hash], fault.pcr)
+        return Verdict(Kind.LACKS, _HASH_NAMES[fault.hash], fault.pcr)
     return Verdict(Kind(answer))
 
 

@@ -5,7 +5,7 @@ use vinjakwe::c::*;
 macro_rules! tell {
     ($name:ident: $type:ty, $($field:ident),*) => {
         println!("tpm_{} {}", stringify!($name), size_of::<$type>());
-        $(println!("tpm_{}.{} {}", stringify!($name), stringify!($field), offset_of!($type, $field));)*
+        $(println!("tpm_{}.{} {}", stringify!($name), stringify!($field).trim_start_matches("r#"), offset_of!($type, $field));)*
     };
 }
 
@@ -16,6 +16,9 @@ fn main() {
     tell!(command_areas: CommandAreas, code, size, handle_count, handles, session_count, sessions, parameters);
     tell!(response_session: ResponseSession, attributes, nonce, hmac);
     tell!(response_areas: ResponseAreas, code, handle_count, handle, parameters, session_count, sessions);
+    tell!(log_place: LogPlace, at, late);
+    tell!(log_digest: LogDigest, hash, hashed, digest);
+    tell!(log_event: LogEvent, pcr, r#type, digest_count, digests, data);
     tell!(attest_fault: AttestFault, code, at, hash, pcr);
     for (number, name) in vinjakwe::LOG_FAULTS.iter().enumerate() {
         println!("TPM_LOG_{} {number}", name.to_uppercase());

@@ -72,6 +72,21 @@ fn registers(out: &mut impl Write, found: Result<Registers, LogFault>) -> std::i
     Ok(())
 }
 
+fn tell_events(out: &mut impl Write, log: &[u8]) -> std::io::Result<()> {
+    for found in events(log) {
+        let it = match found {
+            Ok(it) => it,
+            Err(fault) => return writeln!(out, "{fault}"),
+        };
+        write!(out, "{} {:08x} {}", it.register, it.kind, text(it.data))?;
+        for digest in it.digests() {
+            write!(out, " {:04x}:{}{}", digest.hash, text(digest.bytes), if digest.hashed { "*" } else { "" })?;
+        }
+        writeln!(out)?;
+    }
+    Ok(())
+}
+
 fn pieces(name: &str) -> Result<Registers, LogFault> {
     let (mut room, mut file, mut piece) = (Room::new(), File::open(name).unwrap(), [0; 1000]);
     let mut replay = Replay::new(&mut room).unwrap();
@@ -131,6 +146,7 @@ fn main() -> std::io::Result<()> {
             }
             "log" => registers(out, replay(&std::fs::read(words[1])?))?,
             "pieces" => registers(out, pieces(words[1]))?,
+            "events" => tell_events(out, &std::fs::read(words[1])?)?,
             "quote" => match check_quote(&std::fs::read(words[1])?, &unhex(words[2]), bank(words[3])) {
                 Ok(matches) => writeln!(out, "quote {}", if matches { "matches" } else { "differs" })?,
                 Err(fault) => writeln!(out, "{fault}")?,

@@ -57,6 +57,31 @@ pub struct ResponseAreas {
 
 #[repr(C)]
 #[derive(Clone, Copy, Default)]
+pub struct LogPlace {
+    pub at: u32,
+    pub late: u32,
+}
+
+#[repr(C)]
+#[derive(Clone, Copy, Default)]
+pub struct LogDigest {
+    pub hash: u16,
+    pub hashed: u8,
+    pub digest: Part,
+}
+
+#[repr(C)]
+#[derive(Clone, Copy, Default)]
+pub struct LogEvent {
+    pub pcr: u32,
+    pub r#type: u32,
+    pub digest_count: usize,
+    pub digests: [LogDigest; 8],
+    pub data: Part,
+}
+
+#[repr(C)]
+#[derive(Clone, Copy, Default)]
 pub struct AttestFault {
     pub code: u32,
     pub at: u32,
@@ -87,6 +112,7 @@ extern "C" {
     pub fn tpm_command_build(command: u32, handles: P, handles_len: usize, sessions: P, sessions_len: usize, parameters: P,
         parameters_len: usize, out: *mut u8, out_len: usize, count: *mut usize, refusal: *mut Refusal) -> u32;
     pub fn tpm_log_replay(log: P, len: usize, registers: *mut u8, at: *mut u32) -> u32;
+    pub fn tpm_log_event(log: P, len: usize, place: *mut LogPlace, event: *mut LogEvent, at: *mut u32) -> u32;
     pub fn tpm_log_replay_size() -> usize;
     pub fn tpm_log_replay_align() -> usize;
     pub fn tpm_log_replay_init(replay: *mut u8);

@@ -269,9 +269,11 @@ impl Default for Room {
 }
 
 mod attest;
+mod events;
 mod log;
 mod state;
 
 pub use attest::{check, Verdict};
+pub use events::{events, Digest, Event, Events};
 pub use log::{check_quote, replay, Bank, Registers, Replay};
 pub use state::{Caller, Device, Framer};
