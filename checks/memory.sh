@@ -78,6 +78,12 @@ else
     refuses "the records of a log" events checks/logs/worked.log
     refuses "the records of a log that is none" events checks/logs/cut_by_a_byte.log
     refuses "a hash without a name" check --hash sha512 checks/logs/worked.log
+    signed='--attest checks/quotes/not-measured.msg --nonce c0ffee0000000000000000000000000000000000'
+    refuses "a quote as it was signed with what is required" check checks/logs/worked.log $signed --require sha256:10
+    refuses "a quote as it was signed that lacks what is required" check checks/logs/worked.log $signed --require sha256:7
+    refuses "a list of no registers" check checks/logs/worked.log $signed --require no
+    refuses "a list of registers without a quote as it was signed" check checks/logs/worked.log --require sha256:7
+    refuses "a hash without a quote" check checks/logs/worked.log --hash sha1
     refuses "help" show --help
     refuses "a usage fault" show
 fi

@@ -24,7 +24,7 @@ use Rattle.tpm_values.specs.Owner.{IsOwner}
 use Rattle.tpm_words.specs.declared.task.Task.{Task}
 use Rattle.tpm_words.specs.declared.task.Task.TheVariants.{Show, Build, Run, Explain, Check, Events}
 use Rattle.tpm_words.specs.Program.{program_app}
-use Rattle.tpm_words.specs.Task.{Asks, AsksNothing, AsksNothingWith, AsksWith, IsCode, IsHash, IsRegister, Replies, is_given, IsWith}
+use Rattle.tpm_words.specs.Task.{Asks, AsksNothing, AsksNothingWith, AsksWith, IsCode, IsHash, IsRegister, Replies, is_given, IsWith, IsWithEither, Requires}
 use Rattle.tpm_words.specs.declared.stop.Stop.{Stop}
 use Rattle.tpm_words.specs.declared.stop.Stop.TheVariants.{Help, Usage, Memory}
 use Rattle.tpm_words.specs.Stop.{IsHelp, IsMemoryOr, Refuses, StopsFor}
@@ -45,7 +45,7 @@ agrees name v w same (Run owner greatest) h = (
   subst (λ (x : Option Text). IsDecimal (unwrap_or x (codes "0")) greatest) (same (codes "greatest")) h.2,
 )
 agrees name v w same (Explain code) h = (h.0, subst (λ (x : Option Text). IsCode x code) (same (codes "CODE")) h.1)
-agrees name v w same (Check log registers quote attest nonce hash) h = (
+agrees name v w same (Check log registers quote attest sent required hash) h = (
   h.0,
   sym (same (codes "LOG")) ∙ h.1,
   sym (same (codes "registers")) ∙ h.2,
@@ -53,7 +53,12 @@ agrees name v w same (Check log registers quote attest nonce hash) h = (
   sym (same (codes "attest")) ∙ h.4,
   sym (same (codes "nonce")) ∙ h.5,
   subst (λ (x : Option Text). IsWith x (w (codes "attest"))) (same (codes "nonce")) (subst (λ (x : Option Text). IsWith (v (codes "nonce")) x) (same (codes "attest")) h.6),
-  subst (λ (x : Option Text). IsHash (unwrap_or x (codes "sha256")) hash) (same (codes "hash")) h.7,
+  subst (λ (x : Option Text). Requires x required) (same (codes "require")) h.7,
+  subst (λ (x : Option Text). IsWith x (w (codes "attest"))) (same (codes "require")) (subst (λ (x : Option Text). IsWith (v (codes "require")) x) (same (codes "attest")) h.8),
+  subst (λ (x : Option Text). IsHash (unwrap_or x (codes "sha256")) hash) (same (codes "hash")) h.9,
+  subst (λ (x : Option Text). IsWithEither x (w (codes "quote")) (w (codes "attest"))) (same (codes "hash"))
+      (subst (λ (x : Option Text). IsWithEither (v (codes "hash")) x (w (codes "attest"))) (same (codes "quote"))
+      (subst (λ (x : Option Text). IsWithEither (v (codes "hash")) (v (codes "quote")) x) (same (codes "attest")) h.10)),
 )
 agrees name v w same (Events log register places digests) h = (
   h.0,

@@ -51,9 +51,13 @@ log_app = with_rule (new_app (codes "check")) (required_rule (codes "LOG"))
 abbrev pub compare_app : App
 compare_app = with_rule (with_rule log_app (option_rule (codes "registers"))) (option_rule (codes "quote"))
 
--- check LOG [--registers FILE] [--quote HEX] [--attest FILE] [--nonce HEX] [--hash NAME]
+-- check LOG [--registers FILE] [--quote HEX] [--attest FILE] [--nonce HEX] [--require LIST]
+abbrev pub attest_app : App
+attest_app = with_rule (with_rule (with_rule compare_app (option_rule (codes "attest"))) (option_rule (codes "nonce"))) (option_rule (codes "require"))
+
+-- check LOG [--registers FILE] [--quote HEX] [--attest FILE] [--nonce HEX] [--require LIST] [--hash NAME]
 abbrev pub check_app : App
-check_app = with_rule (with_rule (with_rule compare_app (option_rule (codes "attest"))) (option_rule (codes "nonce"))) (option_rule (codes "hash"))
+check_app = with_rule attest_app (option_rule (codes "hash"))
 
 -- events LOG [--register N]
 abbrev pub records_app : App

@@ -1,12 +1,13 @@
 -- What the words ask for, by what clap finds in them.
-use Rattle.std.specs.Prelude.{◌≡◌, ℕ, List, take, drop, Option, Some, None, codes, option_and_then, option_map, is_some, Bool, true, false, unwrap_or, if◌then◌else◌}
+use Rattle.std.specs.Prelude.{◌≡◌, ℕ, List, take, drop, Option, Some, None, codes, option_and_then, option_map, is_some, Bool, true, false, unwrap_or, if◌then◌else◌, IsSomeAnd}
 use Rattle.std.specs.Str.{bytes_eq}
 use Rattle.clap.specs.Words.{Row, Text, first_of}
 use Rattle.tpm_types.specs.declared.alg.Alg.{Alg}
-use Rattle.tpm_types.specs.declared.alg.Alg.TheVariants.{Sha1, Sha256, Sha384}
+use Rattle.tpm_types.specs.declared.tpms.Selection.{Selection}
 use Rattle.tpm_buffer.specs.declared.code.CommandCode.{CommandCode}
 use Rattle.tpm_values.specs.Numbers.{IsDecimal, IsHexadecimal}
 use Rattle.tpm_values.specs.Owner.{IsOwner}
+use Rattle.tpm_values.specs.Selections.{hash_word, AreSelections}
 use Rattle.tpm_words.specs.declared.task.Task.{Task}
 use Rattle.tpm_words.specs.declared.task.Task.TheVariants.{Show, Build, Run, Explain, Check, Events}
 use Rattle.tpm_words.specs.Names.{command_of_name}
@@ -34,11 +35,6 @@ IsCode None code = ⊥
 IsCode (Some text) code = IsHexadecimal (digits_in text) code
 
 -- the name of a hash
-abbrev pub hash_word : Alg → Text
-hash_word Sha1 = codes "sha1"
-hash_word Sha256 = codes "sha256"
-hash_word Sha384 = codes "sha384"
-
 abbrev pub IsHash : Text → Alg → Type 0
 IsHash text hash = text ≡ hash_word hash
 
@@ -54,6 +50,16 @@ IsWith None other = Unit {0}
 IsWith (Some text) None = ⊥
 IsWith (Some text) (Some other) = Unit {0}
 
+-- The one is given only where one of the others is.
+abbrev pub IsWithEither : Option Text → (other another : Option Text) → Type 0
+IsWithEither option None another = IsWith option another
+IsWithEither option (Some text) another = Unit {0}
+
+-- the registers that a list names, where it is given
+abbrev pub Requires : Option Text → Option (List Selection) → Type 0
+Requires None required = required ≡ None
+Requires (Some text) required = IsSomeAnd required (AreSelections text)
+
 -- a subcommand of this name, with these values of its words by their names, asks for the task
 abbrev pub AsksWith : Text → (Text → Option Text) → Task → Type 0
 AsksWith name value (Show reply fields hex) = (name ≡ codes "show") × Replies (value (codes "reply")) reply × (fields ≡ is_given (value (codes "fields")))
@@ -64,11 +70,12 @@ AsksWith name value (Build code handles sessions parameters) = (name ≡ codes "
 AsksWith name value (Run owner greatest) = (name ≡ codes "run") × IsOwner (unwrap_or (value (codes "owner")) (codes "")) owner
     × IsDecimal (unwrap_or (value (codes "greatest")) (codes "0")) greatest
 AsksWith name value (Explain code) = (name ≡ codes "explain") × IsCode (value (codes "CODE")) code
-AsksWith name value (Check log registers quote attest nonce hash) = (name ≡ codes "check") × (value (codes "LOG") ≡ Some log.now)
+AsksWith name value (Check log registers quote attest sent required hash) = (name ≡ codes "check") × (value (codes "LOG") ≡ Some log.now)
     × (value (codes "registers") ≡ option_map (λ r. r.now) registers) × (value (codes "quote") ≡ option_map (λ q. q.now) quote)
-    × (value (codes "attest") ≡ option_map (λ a. a.now) attest) × (value (codes "nonce") ≡ option_map (λ n. n.now) nonce)
+    × (value (codes "attest") ≡ option_map (λ a. a.now) attest) × (value (codes "nonce") ≡ option_map (λ s. s.now) sent)
     × IsWith (value (codes "nonce")) (value (codes "attest"))
-    × IsHash (unwrap_or (value (codes "hash")) (codes "sha256")) hash
+    × Requires (value (codes "require")) required × IsWith (value (codes "require")) (value (codes "attest"))
+    × IsHash (unwrap_or (value (codes "hash")) (codes "sha256")) hash × IsWithEither (value (codes "hash")) (value (codes "quote")) (value (codes "attest"))
 AsksWith name value (Events log register places digests) = (name ≡ codes "events") × (value (codes "LOG") ≡ Some log.now)
     × IsRegister (value (codes "register")) register × (places ≡ is_given (value (codes "places")))
     × (digests ≡ is_given (value (codes "digests")))

@@ -54,7 +54,8 @@ impl Words {
     /// The names that may be given are those of all commands. Where the words are those of a subcommand they are refused
     /// only for a value: of `run` an owner value of too many bytes, or a number that is other than decimal digits or
     /// above 2^64 - 1, and likewise of `events`; of `explain` other than hexadecimal digits, or a number above 2^32 - 1; of
-    /// `check` a hash other than `sha1`, `sha256` and `sha384`.
+    /// `check` a hash other than `sha1`, `sha256` and `sha384`, a list of no registers, or a word whose quote is not given: the
+    /// nonce and the list want `--attest`, the hash one of `--quote` and `--attest`.
     pub fn task(&self, alloc: Global) -> Result<Task<'_>, Stop>
         ensures ok { IfOk result (λ t. (names : Bor (List (Bor (List ℕ)))) × AreAllNames names.now
             × Asks (subcommand_of (program_app (Names names)) self.now) t) }

@@ -3,7 +3,7 @@
 ghost use Rattle.std.specs.Prelude.{◌≡◌, IfOk, false};
 ghost use Rattle.clap.specs.Words.{rule_of};
 ghost use Rattle.clap.specs.declared.builder.value_parser.ValueParser.TheVariants.{Names};
-ghost use Rattle.tpm_words.specs.Program.{required_rule, name_rule, reply_rule, flag_rule, option_rule, show_app, build_app, run_app, explain_app, log_app, compare_app, check_app, records_app, events_app, above_subcommands, program_app, IsApp};
+ghost use Rattle.tpm_words.specs.Program.{required_rule, name_rule, reply_rule, flag_rule, option_rule, show_app, build_app, run_app, explain_app, log_app, compare_app, check_app, records_app, events_app, above_subcommands, program_app, IsApp, attest_app};
 
 use clap::{Arg, ArgAction, Command};
 use std::alloc::{AllocError, Global};
@@ -178,9 +178,9 @@ fn compare_words<'a>(alloc: Global) -> Result<Command<'a>, AllocError>
     log_words(alloc)?.arg(registers)?.arg(quote)
 }
 
-/// The subcommand `check`.
-pub(crate) fn check_words<'a>(alloc: Global) -> Result<Command<'a>, AllocError>
-    ensures { IfOk result (λ c. IsApp check_app c) }
+// The subcommand `check`, without the hash.
+fn attest_words<'a>(alloc: Global) -> Result<Command<'a>, AllocError>
+    ensures { IfOk result (λ c. IsApp attest_app c) }
 {
     let attest = option(
         alloc,
@@ -194,13 +194,26 @@ pub(crate) fn check_words<'a>(alloc: Global) -> Result<Command<'a>, AllocError>
         "HEX",
         "The nonce that was sent for that quote; it is not compared if it is not given",
     );
+    let require = option(
+        alloc,
+        "require",
+        "LIST",
+        "The registers that it has to select, as sha1:7+sha256:0,1,2 or sha256:all",
+    );
+    compare_words(alloc)?.arg(attest)?.arg(nonce)?.arg(require)
+}
+
+/// The subcommand `check`.
+pub(crate) fn check_words<'a>(alloc: Global) -> Result<Command<'a>, AllocError>
+    ensures { IfOk result (λ c. IsApp check_app c) }
+{
     let hash = option(
         alloc,
         "hash",
         "NAME",
         "The hash of the quote's digest: sha1, sha256 or sha384; sha256 if it is not given",
     );
-    compare_words(alloc)?.arg(attest)?.arg(nonce)?.arg(hash)
+    attest_words(alloc)?.arg(hash)
 }
 
 // The subcommand `events`, with which records are listed.

@@ -1,10 +1,10 @@
 //! What the words ask for.
 
 use tpm_buffer::CommandCode;
-use tpm_types::{Alg, AuthValue};
+use tpm_types::{Alg, AuthValue, Selections};
 
 /// What the words ask for.
-#[derive(Debug, PartialEq, Eq, Drop)]
+#[derive(Drop)]
 pub enum Task<'a> {
     /// `show [--reply NAME] [--fields] HEX`: print the command that the hexadecimal digits spell, or the response.
     Show {
@@ -38,8 +38,8 @@ pub enum Task<'a> {
         /// The code.
         code: u32,
     },
-    /// `check LOG [--registers FILE] [--quote HEX] [--attest FILE [--nonce HEX]] [--hash NAME]`: print the registers that a log
-    /// gives, or compare them.
+    /// `check LOG [--registers FILE] [--quote HEX] [--attest FILE [--nonce HEX] [--require LIST]] [--hash NAME]`: print the
+    /// registers that a log gives, or compare them.
     Check {
         /// The path of the log.
         log: &'a str,
@@ -51,6 +51,8 @@ pub enum Task<'a> {
         attest: Option<&'a str>,
         /// The nonce that was sent for it, in hexadecimal digits.
         nonce: Option<&'a str>,
+        /// The registers that it has to select.
+        required: Option<Selections>,
         /// The hash of the quote's digest.
         hash: Alg,
     },

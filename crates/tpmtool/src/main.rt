@@ -10,7 +10,7 @@ use tpm_tool::{
     Listing, Signed, Status, ToolFault, build, check_log, check_signed, explain, list_events,
     not_hexadecimal, read_attest, run_script, show, show_fields,
 };
-use tpm_types::Alg;
+use tpm_types::{Alg, Selections};
 use tpm_wire::Reads;
 use tpm_words::{Stop, Task, Words, words_not_text};
 
@@ -36,11 +36,12 @@ fn opened<R: Files>(rt: &R, path: &str) -> Result<Reads<R::File>, ToolFault> {
     }
 }
 
-// The path of a quote as it was signed, and the nonce that was sent for it.
-#[derive(Clone, Copy)]
+// The path of a quote as it was signed, the nonce that was sent for it and the registers that it has to select.
+#[derive(Drop)]
 struct Attested<'a> {
     path: &'a str,
     nonce: Option<&'a str>,
+    required: Option<Selections>,
 }
 
 // Opens the log and then the list of registers, and checks the one against the other and against the quotes.
@@ -58,14 +59,21 @@ fn check<R: AllocGlobal + Files, W: Write>(
         Some(path) => Some(opened(rt, path)?),
         None => None,
     };
-    let Some(Attested { path, nonce }) = attested else {
+    let Some(
+        Attested {
+            path,
+            nonce,
+            required,
+        },
+    ) = attested
+    else {
         return check_log(rt.alloc(), &mut log, registers.as_mut(), quote, hash, out);
     };
     let attest = read_attest(rt.alloc(), &mut opened(rt, path)?)?;
     let signed = Signed {
         attest: attest.as_slice(),
         nonce,
-        required: None,
+        required,
     };
     check_signed(
         rt.alloc(),
@@ -114,9 +122,14 @@ fn perform<R: AllocGlobal + Files + Input + Print>(
             quote,
             attest,
             nonce,
+            required,
             hash,
         } => {
-            let attested = attest.map(|path| Attested { path, nonce });
+            let attested = attest.map(|path| Attested {
+                path,
+                nonce,
+                required,
+            });
             check(rt, out, log, registers, quote, attested, hash)
         }
         Task::Events {
