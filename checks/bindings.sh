@@ -249,6 +249,34 @@ END
     in_place python3 -m vinjakwe check checks/logs/worked.log | cmp - checks/logs/worked.registers
 }
 
+# same_said WORD..: `python -m vinjakwe` and tpmtool write the same and have the same status for these words.
+same_said() {
+    "$program" "$@" >"$room/out.wanted" 2>"$room/err" </dev/null
+    wanted=$?
+    in_place python3 -m vinjakwe "$@" >"$room/out" 2>"$room/err" </dev/null
+    [ $? -eq "$wanted" ] && cmp "$room/out.wanted" "$room/out" && return
+    echo "$*"
+    return 1
+}
+
+# python_program: each quote in checks/quotes beside its log, another and a broken one, with nonces, lists of registers and hashes.
+python_program() {
+    while read -r quote log hash nonce selected; do
+        for log in "checks/quotes/$log" checks/logs/worked.log checks/logs/cut_by_a_byte.log; do
+            for words in "" "--nonce $nonce" "--nonce ${nonce}00 --hash $hash" "--nonce no" "--nonce $nonce --require $selected --hash $hash" \
+                "--require sha256:007,0+sha1:7" "--require sha384:9+$selected --nonce $nonce" "--require sha1:all --hash sha384"; do
+                same_said check "$log" --attest "checks/quotes/$quote.msg" $words || return 1
+            done
+        done
+    done <checks/quotes/cases.txt
+    for list in "" all none sha256 sha256: sha256:none sha256:0, sha256:,0 sha256:0+ sha256:24 sha256:0x1 sha256:-1 sha256:all,0 SHA256:0 md5:0 ' sha256:0' \
+        'sha256:0 ' sha256:0:1 sha256:18446744073709551623; do
+        same_said check checks/logs/worked.log --attest checks/quotes/not-measured.msg --require "$list" || return 1
+    done
+    same_said check checks/logs/worked.log --attest checks/logs/worked.log && same_said check checks/logs/worked.log --require sha256:0 \
+        && same_said check checks/logs/worked.log --nonce 00 && same_said check checks/logs/worked.log --hash sha1
+}
+
 # go_built: the package is vetted, and the program that answers the table is built.
 go_built() {
     (cd bindings/go && in_place go vet ./... && in_place go build -o "$room/go_table" ./table)
@@ -321,6 +349,7 @@ else
             skip "Python answers them beside an address sanitizer" "there is no libasan.so"
         fi
         agrees "Python refuses what has no bytes, and other libraries" python_faults
+        agrees "Python prints of quotes what tpmtool prints" python_program
         agrees "the example in Python" python_example
     fi
     if ! command -v go >/dev/null 2>&1 || ! command -v pkg-config >/dev/null 2>&1; then

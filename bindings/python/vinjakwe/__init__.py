@@ -6,6 +6,7 @@ until it returns, so that no other thread changes them meanwhile; a map of a fil
 import ctypes
 import enum
 import os
+import re
 from ctypes import POINTER, Structure, byref, c_size_t, c_uint8, c_uint16, c_uint32, c_uint64, c_void_p
 from ctypes.util import find_library
 from typing import Dict, Iterator, List, NamedTuple, Optional, Tuple, Union
@@ -114,6 +115,11 @@ class _LogEvent(Structure):
     _fields_ = [("pcr", c_uint32), ("type", c_uint32), ("digest_count", c_size_t), ("digests", _LogDigest * 8), ("data", _Part)]
 
 
+class _Attest(Structure):
+    _fields_ = [("signer", _Part), ("nonce", _Part), ("clock", c_uint64), ("reset_count", c_uint32), ("restart_count", c_uint32),
+                ("safe", c_uint8), ("firmware_version", c_uint64), ("selections", _Part), ("digest", _Part)]
+
+
 class _AttestFault(Structure):
     _fields_ = [("code", c_uint32), ("at", c_uint32), ("hash", c_uint16), ("pcr", c_uint32)]
 
@@ -146,6 +152,7 @@ def _load() -> ctypes.PyDLL:
         ("log_replay_end", number, [p, p, POINTER(number)]),
         ("log_check_quote", number, [p, size, p, size, c_uint16, POINTER(number)]),
         ("log_check_attest", number, [p, size, p, size, c_uint16, p, size, p, size, POINTER(_AttestFault)]),
+        ("attest_decode", number, [p, size, POINTER(_Attest), POINTER(_Refusal)]),
         ("caller_size", size, []), ("caller_align", size, []), ("caller_init", None, [p]),
         ("caller_start", number, [p, p, size, p, size, p, size]), ("caller_open", number, [p, p, size]),
         ("caller_seal", size, [p, p, size, p, size, p, size, p, size, p, size, number, p, size]),
@@ -382,6 +389,52 @@ def check_quote(log, quote, hash: str = "sha256") -> bool:
     if 0 < answer < len(LOG_FAULTS):
         raise LogFault(answer, at.value)
     return answer == 0
+
+
+_REGISTER = re.compile("0*(1[0-9]|2[0-3]|[0-9])")
+
+
+def selection(text: str) -> bytes:
+    """The TPML_PCR_SELECTION of registers as tpm2-tools list them: `sha1:7+sha256:0,1,2`, or `sha256:all`. Raises ValueError."""
+    bits = dict.fromkeys(HASHES, 0)
+    for part in text.split("+"):
+        name, _, listed = part.partition(":")
+        numbers = [_REGISTER.fullmatch(it) for it in listed.split(",")]
+        if name not in HASHES or listed != "all" and None in numbers:
+            raise ValueError(f"{part!r} is no list of registers, as sha256:0,1,2 or sha256:all")
+        for pcr in range(24) if listed == "all" else (int(it[1]) for it in numbers):
+            bits[name] |= 1 << pcr
+    return len(HASHES).to_bytes(4, "big") + b"".join(
+        number.to_bytes(2, "big") + b"\3" + bits[name].to_bytes(3, "little") for name, number in HASHES.items())
+
+
+class Attest(NamedTuple):
+    """A quote as it was signed, a TPMS_ATTEST: the registers that each entry of its selection has, and its TPMS_QUOTE_INFO whole."""
+
+    signer: bytes
+    nonce: bytes
+    clock: int
+    resets: int
+    restarts: int
+    safe: bool
+    firmware: int
+    selections: Tuple[Tuple[str, Tuple[int, ...]], ...]
+    info: bytes
+
+
+def decode_attest(data) -> Attest:
+    """The quote as it was signed that all the bytes spell. Raises Refusal."""
+    found, refusal = _Attest(), _Refusal()
+    _judged(_lend(_library.tpm_attest_decode, (data,), byref(found), byref(refusal)), refusal)
+    with memoryview(data).cast("B") as view:
+        def part(it):
+            return bytes(view[it.at:it.at + it.len])
+        names, entries = {number: name for name, number in HASHES.items()}, part(found.selections)[4:]
+        selections = tuple(
+            (names[int.from_bytes(it[:2], "big")], tuple(i for i in range(24) if it[3 + i // 8] >> i % 8 & 1))
+            for it in (entries[at:at + 6] for at in range(0, len(entries), 6)))
+        return Attest(part(found.signer), part(found.nonce), found.clock, found.reset_count, found.restart_count, found.safe != 0,
+                      found.firmware_version, selections, bytes(view[found.selections.at:]))
 
 
 class Kind(enum.Enum):

@@ -1,9 +1,41 @@
-"""python -m vinjakwe check LOG [--attest FILE --nonce HEX [--require HEX] [--hash NAME]]: a log's registers, as tpmtool prints them, or
-what is said of a quote beside it. `--require` is a TPML_PCR_SELECTION. The status is 0, or 1 for a mismatch, a refusal or a fault."""
+"""python -m vinjakwe check LOG [--attest FILE [--nonce HEX] [--require LIST] [--hash NAME]]: a log's registers, or what a quote as it
+was signed says and what is said of it beside the log, as tpmtool prints them. The status is 0, or 1 for a mismatch, a refusal or a
+fault."""
 import argparse
+import re
 import sys
 
-from . import HASHES, Kind, LogFault, Refusal, check, replay
+from . import HASHES, Kind, LogFault, Refusal, check, check_quote, decode_attest, replay, selection
+
+
+def show_registers(log) -> int:
+    for name, values in replay(log).items():
+        for i, value in enumerate(values):
+            print(name, i, value.hex())
+    return 0
+
+
+def show_quote(log: bytes, data: bytes, nonce, require, hash: str) -> int:
+    replay(log)
+    if nonce is not None and not re.fullmatch("([0-9a-fA-F]{2})*", nonce):
+        print("not hexadecimal")
+        return 1
+    quote = decode_attest(data)
+    print("signer", quote.signer.hex() or "-")
+    print("nonce", quote.nonce.hex() or "-")
+    print(f"clock {quote.clock}\nresets {quote.resets}\nrestarts {quote.restarts}")
+    print(f"safe {'yes' if quote.safe else 'no'}\nfirmware {quote.firmware:016x}")
+    print("selection", *(word for name, registers in quote.selections for word in (name, *registers)))
+    fits = [nonce is None or bytes.fromhex(nonce) == quote.nonce]
+    print("nonce", "not compared" if nonce is None else "matches" if fits[0] else "differs")
+    # The quote's own nonce, so that what is said is of the selection.
+    verdict = check(log, data, quote.nonce, require or b"", hash)
+    fits.append(verdict.kind not in (Kind.LACKS, Kind.EMPTY))
+    print("selection", {Kind.LACKS: f"lacks {verdict.hash} {verdict.pcr}", Kind.EMPTY: "empty"}.get(
+        verdict.kind, "not compared" if require is None else "covers"))
+    fits.append(check_quote(log, quote.info, hash))
+    print("quote", "matches" if fits[2] else "differs")
+    return 0 if all(fits) else 1
 
 
 def main() -> int:
@@ -11,34 +43,27 @@ def main() -> int:
     of_check = words.add_subparsers(dest="verb", required=True).add_parser("check")
     of_check.add_argument("log")
     of_check.add_argument("--attest", metavar="FILE")
-    of_check.add_argument("--nonce", metavar="HEX", type=bytes.fromhex)
-    of_check.add_argument("--require", metavar="HEX", type=bytes.fromhex, default=b"")
-    of_check.add_argument("--hash", choices=HASHES, default="sha256")
+    of_check.add_argument("--nonce", metavar="HEX")
+    of_check.add_argument("--require", metavar="LIST", type=selection)
+    of_check.add_argument("--hash", choices=HASHES)
     given = words.parse_args()
-    if given.attest and given.nonce is None:
-        words.error("a quote is compared with the nonce that was sent: --nonce HEX")
+    if given.attest is None and (given.nonce, given.require, given.hash) != (None, None, None):
+        words.error("no --attest is given")
     try:
         with open(given.log, "rb") as log:
-            if not given.attest:
-                for name, values in replay(log).items():
-                    for i, value in enumerate(values):
-                        print(name, i, value.hex())
-                return 0
+            if given.attest is None:
+                return show_registers(log)
             with open(given.attest, "rb") as attest:
-                verdict = check(log.read(), attest.read(), given.nonce, given.require, given.hash)
+                return show_quote(log.read(), attest.read(), given.nonce, given.require, given.hash or "sha256")
     except LogFault as fault:
         print(fault)
         return 1
     except Refusal as refusal:
         print(f"refused {refusal.code:03x} at {refusal.at}")
         return 1
-    except (OSError, ValueError) as error:
+    except OSError as error:
         print(f"python -m vinjakwe: {error}", file=sys.stderr)
-        return 3 if isinstance(error, OSError) else 2
-    said = {Kind.MATCHES: "quote matches", Kind.DIFFERS: "quote differs", Kind.NONCE: "nonce differs", Kind.EMPTY: "selection is empty",
-            Kind.LACKS: f"selection lacks {verdict.hash} {verdict.pcr}"}
-    print(said[verdict.kind])
-    return 0 if verdict else 1
+        return 3
 
 
 sys.exit(main())
