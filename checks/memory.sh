@@ -60,6 +60,8 @@ else
     refuses "joined parts that are refused" build Startup - - 0002
     printf '%s\n' $startup power no >"$room/script"
     refuses "a script" run
+    refuses "a capture" show -
+    refuses "a capture by the names of its parameters" show --fields --file "$room/script"
     refuses "an owner value" run --owner 6f776e6572
     refuses "an owner value that is not hexadecimal" run --owner no
     refuses "an owner value that is too long" run --owner "$(zeros 49)"

@@ -82,6 +82,7 @@ cases() {
 
 cases checks/show.txt
 cases checks/fields.txt
+cases checks/captures.txt
 cases checks/build.txt
 cases checks/run.txt
 cases checks/explain.txt
@@ -117,6 +118,45 @@ runs_long "a line that ends with byte 16,777,216" 1 'line 16777214: not hexadeci
 runs_long "a line that ends with byte 16,777,217" 3 '' 'input too long
 '
 
+# A capture of 100,000 frames, and one of a hundredth of it: the longer wants no more memory (address space, in KiB).
+capture() {
+    awk -v frames="$1" 'BEGIN { for (i = 0; i < frames; i += 2) print "> 80010000000c000001440000\n< 80010000000a00000000" }'
+}
+
+# captured N: what is told of it.
+captured() {
+    awk -v frames="$1" 'BEGIN { for (i = 1; i < frames; i += 2)
+        printf "%d > command Startup size 12\nparameters 0000\n%d < reply Startup size 10\nparameters -\n", i, i + 1 }'
+}
+
+# least_memory: the least limit, of those tried, under which $room/in is told.
+least_memory() {
+    for limit in 4096 8192 16384 32768 65536 131072 262144; do
+        if (ulimit -v $limit && "$program" show - <"$room/in") >"$room/out" 2>"$room/err"; then
+            echo $limit
+            return
+        fi
+    done
+}
+
+name="a capture of 100,000 frames" wanted=0
+capture 100000 >"$room/in"
+captured 100000 >"$room/out.wanted"
+: >"$room/err.wanted"
+"$program" show - >"$room/out" 2>"$room/err" <"$room/in"
+check $?
+long=$(least_memory)
+capture 1000 >"$room/in"
+short=$(least_memory)
+name="a capture of 100,000 frames has the memory of one of 1,000"
+if [ -z "$short" ]; then
+    skip "$name" "no limit on memory under which the program runs"
+elif [ "$long" = "$short" ]; then
+    pass "$name (under $long KiB)"
+else
+    fail "$name" "it wants ${long:-more than 262144} KiB in place of $short"
+fi
+
 # runs_without_output NAME TARGET WORD..: standard output is closed (-) or a file that takes nothing.
 runs_without_output() {
     name=$1 target=$2 wanted=3
@@ -135,6 +175,7 @@ runs_without_output "a closed standard output" - show $startup
 runs_without_output "a closed standard output for a refusal" - show ''
 runs_without_output "a closed standard output for a response" - show --reply Startup 80010000000a00000100
 runs_without_output "a closed standard output for parameters by their names" - show --fields $startup
+runs_without_output "a closed standard output for a capture" - show --file "$room/in"
 runs_without_output "a closed standard output for joined parts" - build Startup - - 0000
 runs_without_output "a closed standard output for a script" - run
 runs_without_output "a closed standard output for a code" - explain 100

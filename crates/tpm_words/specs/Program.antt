@@ -10,6 +10,10 @@ use Rattle.clap.specs.declared.builder.value_parser.ValueParser.{ValueParser}
 abbrev pub required_rule : Text → Rule
 required_rule name = record (new_rule name) { required = true }
 
+-- a word that may be there
+abbrev pub optional_rule : Text → Rule
+optional_rule name = new_rule name
+
 -- NAME, by what it may be
 abbrev pub name_rule : ValueParser → Rule
 name_rule names = record (required_rule (codes "NAME")) { parser = Some names }
@@ -22,18 +26,19 @@ reply_rule names = record (new_rule (codes "reply")) { long = Some (codes "reply
 abbrev pub flag_rule : Text → Rule
 flag_rule name = record (new_rule name) { long = Some name; action = Some SetTrue }
 
--- show [--reply NAME] [--fields] HEX
+-- an option with a value, as --owner HEX
+abbrev pub option_rule : Text → Rule
+option_rule name = record (new_rule name) { long = Some name; value_names = 1 }
+
+-- show [--reply NAME] [--fields] [--file FILE] [HEX]
 abbrev pub show_app : ValueParser → App
-show_app names = with_rule (with_rule (with_rule (new_app (codes "show")) (reply_rule names)) (flag_rule (codes "fields"))) (required_rule (codes "HEX"))
+show_app names = with_rule (with_rule (with_rule (with_rule (new_app (codes "show")) (reply_rule names)) (flag_rule (codes "fields")))
+    (option_rule (codes "file"))) (optional_rule (codes "HEX"))
 
 -- build NAME HANDLES SESSIONS PARAMETERS
 abbrev pub build_app : ValueParser → App
 build_app names = with_rule (with_rule (with_rule (with_rule (new_app (codes "build")) (name_rule names))
     (required_rule (codes "HANDLES"))) (required_rule (codes "SESSIONS"))) (required_rule (codes "PARAMETERS"))
-
--- an option with a value, as --owner HEX
-abbrev pub option_rule : Text → Rule
-option_rule name = record (new_rule name) { long = Some name; value_names = 1 }
 
 -- run [--owner HEX] [--greatest N]
 abbrev pub run_app : App

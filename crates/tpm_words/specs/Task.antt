@@ -1,5 +1,5 @@
 -- What the words ask for, by what clap finds in them.
-use Rattle.std.specs.Prelude.{◌≡◌, ℕ, List, take, drop, Option, Some, None, codes, option_and_then, option_map, is_some, Bool, true, false, unwrap_or, if◌then◌else◌, IsSomeAnd}
+use Rattle.std.specs.Prelude.{◌≡◌, ℕ, List, take, drop, Option, Some, None, codes, option_and_then, option_map, is_some, Bool, true, false, unwrap_or, if◌then◌else◌, IsSomeAnd, ◌≢◌}
 use Rattle.std.specs.Str.{bytes_eq}
 use Rattle.clap.specs.Words.{Row, Text, first_of}
 use Rattle.tpm_types.specs.declared.alg.Alg.{Alg}
@@ -9,7 +9,7 @@ use Rattle.tpm_values.specs.Numbers.{IsDecimal, IsHexadecimal}
 use Rattle.tpm_values.specs.Owner.{IsOwner}
 use Rattle.tpm_values.specs.Selections.{hash_word, AreSelections}
 use Rattle.tpm_words.specs.declared.task.Task.{Task}
-use Rattle.tpm_words.specs.declared.task.Task.TheVariants.{Show, Build, Run, Explain, Check, Events}
+use Rattle.tpm_words.specs.declared.task.Task.TheVariants.{Show, ShowLines, Build, Run, Explain, Check, Events}
 use Rattle.tpm_words.specs.Names.{command_of_name}
 
 -- the command of the option, where the option is given
@@ -60,10 +60,18 @@ abbrev pub Requires : Option Text → Option (List Selection) → Type 0
 Requires None required = required ≡ None
 Requires (Some text) required = IsSomeAnd required (AreSelections text)
 
+-- standard input, by the word `-`, or a file
+abbrev pub IsInput : (word file : Option Text) → Type 0
+IsInput (Some text) None = text ≡ codes "-"
+IsInput None (Some path) = Unit {0}
+IsInput _ _ = ⊥
+
 -- a subcommand of this name, with these values of its words by their names, asks for the task
 abbrev pub AsksWith : Text → (Text → Option Text) → Task → Type 0
 AsksWith name value (Show reply fields hex) = (name ≡ codes "show") × Replies (value (codes "reply")) reply × (fields ≡ is_given (value (codes "fields")))
-    × (value (codes "HEX") ≡ Some hex.now)
+    × (value (codes "HEX") ≡ Some hex.now) × (hex.now ≢ codes "-") × (value (codes "file") ≡ None)
+AsksWith name value (ShowLines file fields) = (name ≡ codes "show") × (value (codes "reply") ≡ None) × (fields ≡ is_given (value (codes "fields")))
+    × (value (codes "file") ≡ option_map (λ f. f.now) file) × IsInput (value (codes "HEX")) (value (codes "file"))
 AsksWith name value (Build code handles sessions parameters) = (name ≡ codes "build")
     × (option_and_then command_of_name (value (codes "NAME")) ≡ Some code)
     × (value (codes "HANDLES") ≡ Some handles.now) × (value (codes "SESSIONS") ≡ Some sessions.now) × (value (codes "PARAMETERS") ≡ Some parameters.now)

@@ -16,6 +16,7 @@ use crate::explain::explain_task;
 use crate::names::{command_named, command_names};
 use crate::program::program;
 use crate::run::run_task;
+use crate::show::show_task;
 use crate::stop::Stop;
 use crate::task::Task;
 use clap::error::ErrorKind;
@@ -55,7 +56,8 @@ impl Words {
     /// only for a value: of `run` an owner value of too many bytes, or a number that is other than decimal digits or
     /// above 2^64 - 1, and likewise of `events`; of `explain` other than hexadecimal digits, or a number above 2^32 - 1; of
     /// `check` a hash other than `sha1`, `sha256` and `sha384`, a list of no registers, or a word whose quote is not given: the
-    /// nonce and the list want `--attest`, the hash one of `--quote` and `--attest`.
+    /// nonce and the list want `--attest`, the hash one of `--quote` and `--attest`; and of `show` where they have a buffer and a
+    /// file, or neither, or a capture with `--reply`.
     pub fn task(&self, alloc: Global) -> Result<Task<'_>, Stop>
         ensures ok { IfOk result (λ t. (names : Bor (List (Bor (List ℕ)))) × AreAllNames names.now
             × Asks (subcommand_of (program_app (Names names)) self.now) t) }
@@ -65,36 +67,25 @@ impl Words {
         match program.try_get_matches_from_mut(self.given.as_slice()) {
             Ok(matches) => match asked(alloc, &matches)? {
                 Some(task) => Ok(task),
-                None => Err(Stop::Usage(program.render_usage()?)),
+                None => {
+                    let mut usage = program.render_usage()?;
+                    usage.push_str("\n")?;
+                    Err(Stop::Usage(usage))
+                }
             },
             Err(error) => Err(Stop::of(alloc, &error)),
         }
     }
 }
 
-// Whether the flag of this name is given.
-fn is_given(words: &ArgMatches<'_>, name: &str) -> bool
+/// Whether the flag of this name is given.
+pub(crate) fn is_given(words: &ArgMatches<'_>, name: &str) -> bool
     ensures { result ≡ is_given_by (first_value (found_of words.now) name.now) }
 {
     match words.get_str(name) {
         Some(text) => text == "true",
         None => false,
     }
-}
-
-fn show_task<'a>(words: &ArgMatches<'a>) -> Option<Task<'a>>
-    ensures { MatchOption result (AsksNothingWith (codes "show") (first_value (found_of words.now)))
-        (λ t. AsksWith (codes "show") (first_value (found_of words.now)) t) }
-{
-    let reply = match words.get_str("reply") {
-        Some(name) => Some(command_named(name)?),
-        None => None,
-    };
-    Some(Task::Show {
-        reply,
-        fields: is_given(words, "fields"),
-        hex: words.get_str("HEX")?,
-    })
 }
 
 fn build_task<'a>(words: &ArgMatches<'a>) -> Option<Task<'a>>

@@ -9,6 +9,7 @@ mod invalid;
 mod names;
 mod program;
 mod run;
+mod show;
 mod stop;
 mod task;
 

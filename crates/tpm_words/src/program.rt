@@ -3,7 +3,7 @@
 ghost use Rattle.std.specs.Prelude.{◌≡◌, IfOk, false};
 ghost use Rattle.clap.specs.Words.{rule_of};
 ghost use Rattle.clap.specs.declared.builder.value_parser.ValueParser.TheVariants.{Names};
-ghost use Rattle.tpm_words.specs.Program.{required_rule, name_rule, reply_rule, flag_rule, option_rule, show_app, build_app, run_app, explain_app, log_app, compare_app, check_app, records_app, events_app, above_subcommands, program_app, IsApp, attest_app};
+ghost use Rattle.tpm_words.specs.Program.{required_rule, name_rule, reply_rule, flag_rule, option_rule, show_app, build_app, run_app, explain_app, log_app, compare_app, check_app, records_app, events_app, above_subcommands, program_app, IsApp, attest_app, optional_rule};
 
 use clap::{Arg, ArgAction, Command};
 use std::alloc::{AllocError, Global};
@@ -19,6 +19,7 @@ const AFTER_HELP: &str = "Examples:
   tpmtool show 80010000000c000001440000
   tpmtool show --reply Startup 80010000000a00000100
   tpmtool show --fields 80010000000c000001440000
+  tpmtool show --file FILE
   tpmtool build PCR_Reset 00000010 400000090000010000 -
   tpmtool run --greatest 7 <SCRIPT
   tpmtool explain 9a2
@@ -38,6 +39,13 @@ fn required<'a>(alloc: Global, name: &'a str, help: &'a str) -> Arg<'a>
     ensures local { result.global ≡ false }
 {
     Arg::new(alloc, name).required(true).help(help)
+}
+
+fn optional<'a>(alloc: Global, name: &'a str, help: &'a str) -> Arg<'a>
+    ensures rule { rule_of result ≡ optional_rule name.entry.now }
+    ensures local { result.global ≡ false }
+{
+    Arg::new(alloc, name).help(help)
 }
 
 fn reply_word<'a>(alloc: Global, names: &'a [&'a str]) -> Arg<'a>
@@ -72,7 +80,17 @@ fn show_words<'a>(alloc: Global, names: &'a [&'a str]) -> Result<Command<'a>, Al
             "fields",
             "Prints each parameter by its name and its type, too",
         ))?
-        .arg(required(alloc, "HEX", "The buffer, in hexadecimal"))
+        .arg(option(
+            alloc,
+            "file",
+            "FILE",
+            "Reads a capture: a command or a reply a line, in hexadecimal",
+        ))?
+        .arg(optional(
+            alloc,
+            "HEX",
+            "The buffer, in hexadecimal, or - for a capture on standard input",
+        ))
 }
 
 fn name_word<'a>(alloc: Global, names: &'a [&'a str]) -> Arg<'a>

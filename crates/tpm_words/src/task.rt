@@ -15,6 +15,13 @@ pub enum Task<'a> {
         /// The digits.
         hex: &'a str,
     },
+    /// `show [--fields] -` and `show [--fields] --file FILE`: print each frame of a capture.
+    ShowLines {
+        /// The path of the capture, or none where it is on standard input.
+        file: Option<&'a str>,
+        /// Whether each parameter is printed by its name and its type, too.
+        fields: bool,
+    },
     /// `build NAME HANDLES SESSIONS PARAMETERS`: print the buffer of the parts.
     Build {
         /// The command.

@@ -8,7 +8,7 @@ use std::{env, fs, io};
 use tpm_device::Device;
 use tpm_tool::{
     Listing, Signed, Status, ToolFault, build, check_log, check_signed, explain, list_events,
-    not_hexadecimal, read_attest, run_script, show, show_fields,
+    not_hexadecimal, read_attest, run_script, show, show_fields, show_lines,
 };
 use tpm_types::{Alg, Selections};
 use tpm_wire::Reads;
@@ -102,6 +102,13 @@ fn perform<R: AllocGlobal + Files + Input + Print>(
             fields: false,
             hex,
         } => show(rt.alloc(), out, reply, hex),
+        Task::ShowLines { file: None, fields } => {
+            show_lines(rt.alloc(), &mut Reads::new(rt.reader()), out, fields)
+        }
+        Task::ShowLines {
+            file: Some(path),
+            fields,
+        } => show_lines(rt.alloc(), &mut opened(rt, path)?, out, fields),
         Task::Build {
             name,
             handles,
