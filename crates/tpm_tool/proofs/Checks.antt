@@ -1,7 +1,7 @@
 -- What is printed of a log, a list of registers and a quote.
-use Rattle.std.proofs.Common.{◌≡◌, ℕ, List, ◌++◌, Option, Some, None, Result, Ok, Err, refl, subst, inl, inr}
+use Rattle.std.proofs.Common.{◌≡◌, ℕ, Bool, List, ◌++◌, Option, Some, None, Result, Ok, Err, refl, subst, inl, inr}
 use Rattle.std.specs.Prelude.{IsErrOf}
-use Rattle.tpm_wire.specs.Sources.{one_more}
+use Rattle.tpm_wire.specs.Sources.{one_more, IsWhereItFailed}
 use Rattle.tpm_types.specs.declared.alg.Alg.{Alg}
 use Rattle.tpm_log.specs.declared.fault.LogFault.{LogFault}
 use Rattle.tpm_log.specs.declared.fault.LogFaultKind.{LogFaultKind}
@@ -18,7 +18,7 @@ use Rattle.tpm_tool.specs.Faults.{FailsByMemoryOrWrite}
 use Rattle.tpm_tool.specs.Script.{CountsRead}
 use Rattle.tpm_tool.specs.Text.{bytes_in}
 use Rattle.tpm_tool.specs.Compare.{Values, comparison}
-use Rattle.tpm_tool.specs.Check.{ChecksQuote, ChecksBehind, ChecksValues, CountsList, CountsReads, IsSame}
+use Rattle.tpm_tool.specs.Check.{ChecksQuote, ChecksBehind, ChecksValues, CountsList, CountsReads, FailsLast, IsSame}
 
 -- ---- a list
 
@@ -69,15 +69,28 @@ counts_stated failed log log-2 old new (Err InputTooLong) f same = (same, f)
 pub counts_log : (X : Type 0) {F : Type 0} (failed : F → ℕ) (log log-2 : ℕ) (list : Option F) → log-2 ≡ one_more log → CountsReads {X = X} failed log log-2 list list (Err Read)
 counts_log X failed log log-2 list more = inl (more, counts_same failed list)
 
+-- ---- the last read
+
+-- What fails by memory or by a write does not fail by a read.
+pub not_read : {X : Type 0} (r : Result X ToolFault) → FailsByMemoryOrWrite r → IsErrOf r Read → ⊥
+not_read r f is = rw is at f
+
+pub log_last : {F : Type 0} (failed : F → ℕ) (stopped : F → Bool) (log log-2 : ℕ) (last : Bool) (list : Option F) → log-2 ≡ one_more log → IsWhereItFailed last → FailsLast failed stopped log log-2 last list list
+log_last failed stopped log log-2 last list more is = inl (more, is, refl)
+
+pub stated_last : {X F : Type 0} (failed : F → ℕ) (stopped : F → Bool) (log log-2 : ℕ) (last : Bool) (old new : F) (r : Result X ToolFault) → CountsRead (failed old) (failed new) r → (IsErrOf r Read → IsWhereItFailed (stopped new)) → log-2 ≡ log
+    → IsErrOf r Read → FailsLast failed stopped log log-2 last (Some old) (Some new)
+stated_last failed stopped log log-2 last old new (Err Read) f ends same is = inr (same, (f, ends is))
+stated_last failed stopped log log-2 last old new (Ok x) f ends same is = absurd cc
+stated_last failed stopped log log-2 last old new (Err Memory) f ends same is = absurd cc
+stated_last failed stopped log log-2 last old new (Err Write) f ends same is = absurd cc
+stated_last failed stopped log log-2 last old new (Err InputTooLong) f ends same is = absurd cc
+
 -- ---- the log
 
 module _ {X : Type 0} (P : List LogRecord → X → Type 0) (coming : Option (List ℕ)) (old new : ℕ) where
   pub replayed : (x : X) → ReplaysFrom P coming old new (Ok x) → new ≡ old
-  replayed x f = go coming f
-    where
-      go : (coming : Option (List ℕ)) → ReplaysFrom P coming old new (Ok x) → new ≡ old
-      go (Some bytes) f = f.0
-      go None f = f
+  replayed x f = f.0
 
 pub of_bytes : (kind : LogFaultKind) → (kind ≡ kinds.Device → ⊥) → IsOfBytes kind
 of_bytes kinds.Truncated f = tt
@@ -109,9 +122,7 @@ other_kind kinds.Device P Q f h = absurd f
 
 module _ {X : Type 0} (P : List LogRecord → X → Type 0) where
   pub read_failed : (coming : Option (List ℕ)) (old new : ℕ) (e : LogFault) → e.kind ≡ kinds.Device → ReplaysFrom P coming old new (Err e) → new ≡ one_more old
-  read_failed (Some bytes) old new e is f = rw is at f
-  read_failed None old new e is f = rw is at f
+  read_failed coming old new e is f = rw is at f
 
   pub no_read_failed : (coming : Option (List ℕ)) (old new : ℕ) (e : LogFault) → IsOfBytes e.kind → ReplaysFrom P coming old new (Err e) → new ≡ old
-  no_read_failed (Some bytes) old new e of f = (other_kind e.kind _ _ of f).0
-  no_read_failed None old new e of f = other_kind e.kind _ _ of f
+  no_read_failed coming old new e of f = (other_kind e.kind _ _ of f).0

@@ -14,7 +14,7 @@ ghost use Rattle.tpm_log.specs.declared.fault.LogFault.{LogFault as LogFaultValu
 ghost use Rattle.tpm_wire.specs.Sources.{IsWhereItFailed};
 ghost use Rattle.tpm_tool.specs.declared.fault.ToolFault.TheVariants.{InputTooLong, Read};
 ghost use Rattle.tpm_tool.specs.Script.{CountsRead};
-ghost use Rattle.tpm_tool.specs.Check.{ChecksQuote, ChecksValues, ChecksLog, CountsReads, ReadsTooMuchIfList, list_before, list_after, log_fault_line};
+ghost use Rattle.tpm_tool.specs.Check.{ChecksQuote, ChecksValues, ChecksLog, CountsReads, FailsLast, ReadsTooMuchIfList, list_before, list_after, log_fault_line};
 
 use crate::answer::write;
 use crate::compared::check_list;
@@ -142,9 +142,10 @@ pub fn check_log<L: Source, F: Source, W: Write>(
     out: &mut W,
 ) -> Result<Status, ToolFault>
     ensures failures { CountsReads F.failed (L.failed log.old) (L.failed log.new) (list_before registers.entry) (list_after registers.exit) result }
+    ensures stop { IsErrOf result Read → FailsLast F.failed F.stopped (L.failed log.old) (L.failed log.new) (L.stopped log.new) (list_before registers.entry) (list_after registers.exit) }
     ensures ok { IfOk result (λ status. (found : Result RegistersValue LogFaultValue) × (text : List ℕ)
         × ReplaysFrom AreAfter (L.coming log.old) (L.failed log.old) (L.failed log.new) found
-        × ReadsFrom (L.coming log.old) (L.coming log.new) found
+        × ReadsFrom AreAfter (L.coming log.old) (L.coming log.new) found
         × ChecksLog found hash F.coming (list_before registers.entry) (list_after registers.exit) (option_map (λ q. q.now) quote.entry) status text
         × Appends (W.contents out.old) (W.contents out.new) text) }
     ensures too_long { IsErrOf result InputTooLong → ReadsTooMuchIfList F.coming (list_before registers.entry) (list_after registers.exit) }

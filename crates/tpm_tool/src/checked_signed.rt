@@ -12,7 +12,7 @@ ghost use Rattle.tpm_tool.specs.declared.fault.ToolFault.TheVariants.{InputTooLo
 ghost use Rattle.tpm_tool.specs.Faults.{FailsByMemoryOrWrite};
 ghost use Rattle.tpm_tool.specs.Script.{CountsRead};
 ghost use Rattle.tpm_tool.specs.Compare.{ReadsList, ReadsTooMuchList};
-ghost use Rattle.tpm_tool.specs.Check.{CountsReads, ReadsTooMuchIfList, list_before, list_after};
+ghost use Rattle.tpm_tool.specs.Check.{CountsReads, FailsLast, ReadsTooMuchIfList, list_before, list_after};
 ghost use Rattle.tpm_tool.specs.CheckAttest.{ChecksGiven, ChecksAll, ChecksSigned};
 
 use crate::checked::{check_stated, print_fault, print_quote};
@@ -112,9 +112,10 @@ pub fn check_signed<L: Source, F: Source, W: Write>(
     out: &mut W,
 ) -> Result<Status, ToolFault>
     ensures failures { CountsReads F.failed (L.failed log.old) (L.failed log.new) (list_before registers.entry) (list_after registers.exit) result }
+    ensures stop { IsErrOf result Read → FailsLast F.failed F.stopped (L.failed log.old) (L.failed log.new) (L.stopped log.new) (list_before registers.entry) (list_after registers.exit) }
     ensures ok { IfOk result (λ status. (found : Result RegistersValue LogFaultValue) × (text : List ℕ)
         × ReplaysFrom AreAfter (L.coming log.old) (L.failed log.old) (L.failed log.new) found
-        × ReadsFrom (L.coming log.old) (L.coming log.new) found
+        × ReadsFrom AreAfter (L.coming log.old) (L.coming log.new) found
         × ChecksSigned found hash (option_map (λ n. n.now) signed.now.nonce) signed.now.required signed.now.attest.now F.coming (list_before registers.entry) (list_after registers.exit) (option_map (λ q. q.now) quote.entry) status text
         × Appends (W.contents out.old) (W.contents out.new) text) }
     ensures too_long { IsErrOf result InputTooLong → ReadsTooMuchIfList F.coming (list_before registers.entry) (list_after registers.exit) }

@@ -5,7 +5,7 @@ use Rattle.tpm_log.specs.Changes.{AreAfter}
 use Rattle.tpm_log.specs.Takes.{IsOfBytes}
 use Rattle.tpm_tool.specs.declared.status.Status.{Status}
 use Rattle.tpm_tool.specs.Check.{log_fault_line}
-use Rattle.tpm_tool.proofs.Checks.{by_list, not_too_long, counts_alone, counts_stated, counts_log, replayed, of_bytes, read_failed, no_read_failed}
+use Rattle.tpm_tool.proofs.Checks.{by_list, not_too_long, counts_alone, counts_stated, counts_log, not_read, log_last, stated_last, replayed, of_bytes, read_failed, no_read_failed}
 use Rattle.tpm_tool.proofs.checked_signed.check_signed.Goals as goal
 
 pub returns-in-Err-Device-clause-failures : goal.returns-in-Err-Device-clause-failures
@@ -52,3 +52,26 @@ returns-in-Some-clause-ok g c =
 
 pub returns-in-Some-clause-too_long : goal.returns-in-Some-clause-too_long
 returns-in-Some-clause-too_long g c = rw c.in-Some.is c.check_signed_stated.ensures.too_long
+
+pub returns-in-Err-Device-clause-stop : goal.returns-in-Err-Device-clause-stop
+returns-in-Err-Device-clause-stop g c =
+    let coming = g.L.Source.coming c.args.log.now in
+    let old = g.L.Source.failed c.args.log.now in
+    let new = g.L.Source.failed c.replay_from.new.source in
+    let last = g.L.Source.stopped c.replay_from.new.source in
+    let is : c.in-Err-Device.field-0.kind ≡ kinds.Device = search rules in
+    let more = read_failed AreAfter coming old new c.in-Err-Device.field-0 is c.in-Err-Device.ensures.replays in
+    let ends = c.in-Err-Device.ensures.stop is in
+    by_list c.args.registers (λ e. rw e (λ fails. log_last g.F.Source.failed g.F.Source.stopped old new last None more ends))
+    (λ list e. rw e (λ fails. log_last g.F.Source.failed g.F.Source.stopped old new last (Some list.now) more ends))
+
+pub returns-in-Err-clause-stop : goal.returns-in-Err-clause-stop
+returns-in-Err-clause-stop g c = λ is. absurd (not_read c.print_fault.result c.print_fault.ensures.err is)
+
+pub returns-in-Some-clause-stop : goal.returns-in-Some-clause-stop
+returns-in-Some-clause-stop g c =
+    let old = g.L.Source.failed c.args.log.now in
+    let new = g.L.Source.failed c.replay_from.new.source in
+    let last = g.L.Source.stopped c.replay_from.new.source in
+    let same = replayed AreAfter (g.L.Source.coming c.args.log.now) old new c.in-Ok.found c.in-Ok.ensures.replays in
+    rw c.in-Some.is (stated_last g.F.Source.failed g.F.Source.stopped old new last c.in-Some.list.now c.check_signed_stated.new.list c.check_signed_stated.result c.check_signed_stated.ensures.failures c.check_signed_stated.ensures.stop same)
