@@ -197,3 +197,15 @@ name="a directory as standard input" wanted=3
 echo 'reading failed' >"$room/err.wanted"
 ./tpmtool run >"$room/out" 2>"$room/err" <.
 check $?
+
+name="a log that may not be read" wanted=3
+: >"$room/closed.log"
+chmod 000 "$room/closed.log"
+if [ -r "$room/closed.log" ]; then
+    skip "$name" "this user may read every file"
+else
+    : >"$room/out.wanted"
+    echo "cannot read $room/closed.log: permission is denied" >"$room/err.wanted"
+    ./tpmtool check "$room/closed.log" >"$room/out" 2>"$room/err"
+    check $?
+fi

@@ -1,6 +1,10 @@
 //! The program: reads its words, calls the subcommand that they name, and ends with its status.
 #![tactic(auto)]
 
+mod fault;
+
+use crate::fault::Fault;
+use std::fmt::Display;
 use std::io::Write;
 use std::process::ExitCode;
 use std::rt::{Env, Files};
@@ -10,8 +14,8 @@ use tpm_tool::{
     Listing, Signed, Status, ToolFault, build, check_log, check_signed, explain, list_events,
     not_hexadecimal, read_attest, run_script, show, show_fields, show_lines,
 };
-use tpm_types::{Alg, Selections};
-use tpm_wire::Reads;
+use tpm_types::{Alg, AuthValue, Selections};
+use tpm_wire::{Reads, Source};
 use tpm_words::{Stop, Task, Words, words_not_text};
 
 /// The status of a usage fault.
@@ -29,10 +33,13 @@ fn words<R: Env + AllocGlobal>(rt: &R) -> Result<Words, Stop> {
 }
 
 // The file at a path, opened for reading.
-fn opened<R: Files>(rt: &R, path: &str) -> Result<Reads<R::File>, ToolFault> {
+fn opened<'a, R: Files>(rt: &R, path: &'a str) -> Result<Reads<R::File>, Fault<'a>> {
     match fs::open(rt, path) {
         Ok(file) => Ok(Reads::new(file)),
-        Err(_) => Err(ToolFault::Read),
+        Err(error) => Err(Fault::File {
+            path,
+            kind: error.kind(),
+        }),
     }
 }
 
@@ -44,54 +51,111 @@ struct Attested<'a> {
     required: Option<Selections>,
 }
 
+// The bytes of a quote as it was signed.
+fn attest_at<'a, R: AllocGlobal + Files>(rt: &R, path: &'a str) -> Result<Vec<u8>, Fault<'a>> {
+    match read_attest(rt.alloc(), &mut opened(rt, path)?) {
+        Ok(attest) => Ok(attest),
+        Err(fault) => Err(Fault::of_reading(rt, fault, path)),
+    }
+}
+
 // Opens the log and then the list of registers, and checks the one against the other and against the quotes.
-fn check<R: AllocGlobal + Files, W: Write>(
+fn check<'a, R: AllocGlobal + Files, W: Write>(
     rt: &R,
     out: &mut W,
-    log: &str,
-    registers: Option<&str>,
+    log_path: &'a str,
+    list_path: Option<&'a str>,
     quote: Option<&str>,
-    attested: Option<Attested<'_>>,
+    attested: Option<Attested<'a>>,
     hash: Alg,
-) -> Result<Status, ToolFault> {
-    let mut log = opened(rt, log)?;
-    let mut registers = match registers {
+) -> Result<Status, Fault<'a>> {
+    let mut log = opened(rt, log_path)?;
+    let mut registers = match list_path {
         Some(path) => Some(opened(rt, path)?),
         None => None,
     };
-    let Some(
-        Attested {
-            path,
-            nonce,
-            required,
-        },
-    ) = attested
-    else {
-        return check_log(rt.alloc(), &mut log, registers.as_mut(), quote, hash, out);
+    let checked = match attested {
+        None => check_log(rt.alloc(), &mut log, registers.as_mut(), quote, hash, out),
+        Some(
+            Attested {
+                path,
+                nonce,
+                required,
+            },
+        ) => {
+            let attest = attest_at(rt, path)?;
+            let signed = Signed {
+                attest: attest.as_slice(),
+                nonce,
+                required,
+            };
+            check_signed(
+                rt.alloc(),
+                &mut log,
+                &signed,
+                registers.as_mut(),
+                quote,
+                hash,
+                out,
+            )
+        }
     };
-    let attest = read_attest(rt.alloc(), &mut opened(rt, path)?)?;
-    let signed = Signed {
-        attest: attest.as_slice(),
-        nonce,
-        required,
+    // The list is read behind the log, and only where no read of the log has failed.
+    let path = match list_path {
+        Some(path) if log.failures() == 0 => path,
+        _ => log_path,
     };
-    check_signed(
-        rt.alloc(),
-        &mut log,
-        &signed,
-        registers.as_mut(),
-        quote,
-        hash,
-        out,
-    )
+    checked.map_err(|fault| Fault::of_reading(rt, fault, path))
 }
 
-fn perform<R: AllocGlobal + Files + Input + Print>(
+// Opens a log and lists its records.
+fn events<'a, R: AllocGlobal + Files, W: Write>(
     rt: &R,
-    task: Task<'_>,
+    out: &mut W,
+    path: &'a str,
+    listing: Listing,
+) -> Result<Status, Fault<'a>> {
+    let mut log = opened(rt, path)?;
+    list_events(rt.alloc(), &mut log, listing, out).map_err(|fault| Fault::of_reading(
+        rt, fault, path,
+    ))
+}
+
+// Opens a capture and tells its frames.
+fn capture<'a, R: AllocGlobal + Files, W: Write>(
+    rt: &R,
+    out: &mut W,
+    path: &'a str,
+    fields: bool,
+) -> Result<Status, Fault<'a>> {
+    let mut lines = opened(rt, path)?;
+    show_lines(rt.alloc(), &mut lines, out, fields).map_err(|fault| Fault::of_reading(
+        rt, fault, path,
+    ))
+}
+
+// Runs the script on standard input.
+fn run_input<R: AllocGlobal + Input, W: Write>(
+    rt: &R,
+    out: &mut W,
+    owner: Option<AuthValue>,
+    greatest: u64,
 ) -> Result<Status, ToolFault> {
+    match owner {
+        Some(owner) => {
+            let device = Device::new(&owner, greatest);
+            run_script(rt.alloc(), &mut Reads::new(rt.reader()), out, device)
+        }
+        None => not_hexadecimal(rt.alloc(), out),
+    }
+}
+
+fn perform<'a, R: AllocGlobal + Files + Input + Print>(
+    rt: &R,
+    task: Task<'a>,
+) -> Result<Status, Fault<'a>> {
     let out = &mut io::writer(rt);
-    match task {
+    let answered = match task {
         Task::Show {
             reply,
             fields: true,
@@ -108,20 +172,14 @@ fn perform<R: AllocGlobal + Files + Input + Print>(
         Task::ShowLines {
             file: Some(path),
             fields,
-        } => show_lines(rt.alloc(), &mut opened(rt, path)?, out, fields),
+        } => return capture(rt, out, path, fields),
         Task::Build {
             name,
             handles,
             sessions,
             parameters,
         } => build(rt.alloc(), out, name, handles, sessions, parameters),
-        Task::Run { owner, greatest } => match owner {
-            Some(owner) => {
-                let device = Device::new(&owner, greatest);
-                run_script(rt.alloc(), &mut Reads::new(rt.reader()), out, device)
-            }
-            None => not_hexadecimal(rt.alloc(), out),
-        },
+        Task::Run { owner, greatest } => run_input(rt, out, owner, greatest),
         Task::Explain { code } => explain(rt.alloc(), out, code),
         Task::Check {
             log,
@@ -137,7 +195,7 @@ fn perform<R: AllocGlobal + Files + Input + Print>(
                 nonce,
                 required,
             });
-            check(rt, out, log, registers, quote, attested, hash)
+            return check(rt, out, log, registers, quote, attested, hash);
         }
         Task::Events {
             log,
@@ -150,42 +208,47 @@ fn perform<R: AllocGlobal + Files + Input + Print>(
                 places,
                 digests,
             };
-            list_events(rt.alloc(), &mut opened(rt, log)?, listing, out)
+            return events(rt, out, log, listing);
         }
-    }
+    };
+    Ok(answered?)
 }
 
-fn stopped<R: Print + Eprint>(rt: &R, stop: Stop) -> Result<u8, ToolFault> {
+// Prints a fault, and answers the status for it.
+fn failed<R: Eprint, F: Display + Drop>(rt: &R, fault: F) -> u8 {
+    let _ = rt.eprintln(fault);
+    FAULT
+}
+
+fn stopped<R: Print + Eprint>(rt: &R, stop: Stop) -> u8 {
     match stop {
-        Stop::Help(text) => {
-            rt.print(text).map_err(|_| ToolFault::Write)?;
-            Ok(0)
-        }
+        Stop::Help(text) => match rt.print(text) {
+            Ok(()) => 0,
+            Err(_) => failed(rt, ToolFault::Write),
+        },
         Stop::Usage(text) => {
             let _ = rt.eprint(text);
-            Ok(USAGE)
+            USAGE
         }
-        Stop::Memory => Err(ToolFault::Memory),
+        Stop::Memory => failed(rt, ToolFault::Memory),
     }
 }
 
-fn run<R: Env + AllocGlobal + Files + Input + Print + Eprint>(rt: &R) -> Result<u8, ToolFault> {
+fn run<R: Env + AllocGlobal + Files + Input + Print + Eprint>(rt: &R) -> u8 {
     let words = match words(rt) {
         Ok(words) => words,
         Err(stop) => return stopped(rt, stop),
     };
-    match words.task(rt.alloc()) {
-        Ok(task) => Ok(perform(rt, task)?.number()),
-        Err(stop) => stopped(rt, stop),
+    let task = match words.task(rt.alloc()) {
+        Ok(task) => task,
+        Err(stop) => return stopped(rt, stop),
+    };
+    match perform(rt, task) {
+        Ok(status) => status.number(),
+        Err(fault) => failed(rt, fault),
     }
 }
 
 fn main(rt: HostRuntime) -> ExitCode {
-    match run(&rt) {
-        Ok(status) => ExitCode::from(status),
-        Err(fault) => {
-            let _ = rt.eprintln(fault);
-            ExitCode::from(FAULT)
-        }
-    }
+    ExitCode::from(run(&rt))
 }
