@@ -39,6 +39,23 @@ cp "$logs/said.register" "$room/out.wanted"
 ran "the records of a register" 0 events "$logs/said.log" --register 7
 : >"$room/out.wanted"
 ran "the records of a register that there is none of" 0 events "$logs/said.log" --register 18446744073709551615
+for objects in "$logs"/*.json; do
+    log=${objects%.json}
+    cp "$objects" "$room/out.wanted"
+    ran "the objects of ${log##*/}" 0 events "$log.log" --json --places --digests
+done
+grep '"register":7,' "$logs/said.json" >"$room/out.wanted"
+ran "the objects of a register" 0 events "$logs/said.log" --json --register 7
+echo 'log Truncated at 211' >"$room/out.wanted"
+ran "a log that is none has no objects" 1 events "$logs/cut_by_a_byte.log" --json
+if python3 -m json.tool --help >"$room/out" 2>&1; then
+    while read -r object; do
+        printf '%s\n' "$object" | python3 -m json.tool >"$room/out" || echo "$object"
+    done <"$logs/said.json" >"$room/refused" 2>&1
+    if [ -s "$room/refused" ]; then fail "each object is JSON" "$(cat "$room/refused")"; else pass "each object is JSON"; fi
+else
+    skip "each object is JSON" "python3 is not there"
+fi
 if LC_ALL=C grep -q '[^ -~]' "$logs/said.listed"; then fail "lines are printable" ""; else pass "lines are printable"; fi
 
 while read -r log kind at; do

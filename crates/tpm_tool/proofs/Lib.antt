@@ -10,3 +10,4 @@ mod Verdicts
 mod EventSizes
 mod EventLines
 mod Tables
+mod Pushed

@@ -19,4 +19,5 @@ pub mod Explain
 pub mod EventTypes
 pub mod Reads
 pub mod EventText
+pub mod EventJson
 pub mod ListEvents

@@ -9,6 +9,7 @@ mod capture_lines;
 mod checked;
 mod checked_signed;
 mod compared;
+mod event_json;
 mod event_lines;
 mod event_text;
 mod event_types;

@@ -24,6 +24,7 @@ pub(crate) const ALL: Listing = Listing {
     register: None,
     places: true,
     digests: true,
+    json: false,
 };
 
 fn lists(

@@ -67,12 +67,13 @@ agrees name v w same (Check log registers quote attest sent required hash) h = (
       (subst (λ (x : Option Text). IsWithEither (v (codes "hash")) x (w (codes "attest"))) (same (codes "quote"))
       (subst (λ (x : Option Text). IsWithEither (v (codes "hash")) (v (codes "quote")) x) (same (codes "attest")) h.10)),
 )
-agrees name v w same (Events log register places digests) h = (
+agrees name v w same (Events log register places digests json) h = (
   h.0,
   sym (same (codes "LOG")) ∙ h.1,
   subst (λ (x : Option Text). IsRegister x register) (same (codes "register")) h.2,
   h.3 ∙ ap is_given (same (codes "places")),
   h.4 ∙ ap is_given (same (codes "digests")),
+  h.5 ∙ ap is_given (same (codes "json")),
 )
 
 met : (o : Option (Text × List Row)) (name : Text) (f : Found) (t : Task) → option_map (λ (p : Text × List Row). p.0) o ≡ Some name → option_map (λ (p : Text × List Row). p.1) o ≡ Some (rows_of f)

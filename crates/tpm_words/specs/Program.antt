@@ -68,9 +68,9 @@ check_app = with_rule attest_app (option_rule (codes "hash"))
 abbrev pub records_app : App
 records_app = with_rule (with_rule (new_app (codes "events")) (required_rule (codes "LOG"))) (option_rule (codes "register"))
 
--- events LOG [--register N] [--places] [--digests]
+-- events LOG [--register N] [--places] [--digests] [--json]
 abbrev pub events_app : App
-events_app = with_rule (with_rule records_app (flag_rule (codes "places"))) (flag_rule (codes "digests"))
+events_app = with_rule (with_rule (with_rule records_app (flag_rule (codes "places"))) (flag_rule (codes "digests"))) (flag_rule (codes "json"))
 
 -- one of the subcommands, or a version
 abbrev pub above_subcommands : App

@@ -84,9 +84,9 @@ AsksWith name value (Check log registers quote attest sent required hash) = (nam
     × IsWith (value (codes "nonce")) (value (codes "attest"))
     × Requires (value (codes "require")) required × IsWith (value (codes "require")) (value (codes "attest"))
     × IsHash (unwrap_or (value (codes "hash")) (codes "sha256")) hash × IsWithEither (value (codes "hash")) (value (codes "quote")) (value (codes "attest"))
-AsksWith name value (Events log register places digests) = (name ≡ codes "events") × (value (codes "LOG") ≡ Some log.now)
+AsksWith name value (Events log register places digests json) = (name ≡ codes "events") × (value (codes "LOG") ≡ Some log.now)
     × IsRegister (value (codes "register")) register × (places ≡ is_given (value (codes "places")))
-    × (digests ≡ is_given (value (codes "digests")))
+    × (digests ≡ is_given (value (codes "digests"))) × (json ≡ is_given (value (codes "json")))
 
 -- There is no such task.
 abbrev pub AsksNothingWith : Text → (Text → Option Text) → Type 0

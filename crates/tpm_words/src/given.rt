@@ -114,6 +114,7 @@ fn events_task<'a>(alloc: Global, words: &ArgMatches<'a>) -> Result<Option<Task<
         register,
         places: is_given(words, "places"),
         digests: is_given(words, "digests"),
+        json: is_given(words, "json"),
     }))
 }
 

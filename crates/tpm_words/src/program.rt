@@ -260,7 +260,12 @@ pub(crate) fn events_words<'a>(alloc: Global) -> Result<Command<'a>, AllocError>
         "Prints how many bytes of the log precede each record, too",
     );
     let digests = flag(alloc, "digests", "Prints the digests of each record, too");
-    records_words(alloc)?.arg(places)?.arg(digests)
+    let json = flag(
+        alloc,
+        "json",
+        "Prints each record as an object of JSON, with all that it holds",
+    );
+    records_words(alloc)?.arg(places)?.arg(digests)?.arg(json)
 }
 
 // The program, without its subcommands.

@@ -63,7 +63,7 @@ pub enum Task<'a> {
         /// The hash of the quote's digest.
         hash: Alg,
     },
-    /// `events LOG [--register N] [--places] [--digests]`: print the records of a log.
+    /// `events LOG [--register N] [--places] [--digests] [--json]`: print the records of a log.
     Events {
         /// The path of the log.
         log: &'a str,
@@ -73,5 +73,7 @@ pub enum Task<'a> {
         places: bool,
         /// Whether it is printed with its digests.
         digests: bool,
+        /// Whether it is printed as an object of JSON.
+        json: bool,
     },
 }

@@ -202,11 +202,13 @@ fn perform<'a, R: AllocGlobal + Files + Input + Print>(
             register,
             places,
             digests,
+            json,
         } => {
             let listing = Listing {
                 register,
                 places,
                 digests,
+                json,
             };
             return events(rt, out, log, listing);
         }
