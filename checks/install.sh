@@ -91,7 +91,7 @@ offer run --owner ''
 cd "$2" && offer check 'a l'
 END
     mkdir -p "$room/offered" && : >"$room/offered/a log"
-    printf '%s\n' events --fields 'PCR_Reset PCR_Read' sha256 '' 'a log' >"$room/wanted"
+    printf '%s\n' events '--fields --file' 'PCR_Reset PCR_Read' sha256 '' 'a log' >"$room/wanted"
     bash "$room/complete" "$installed/share/bash-completion/completions/tpmtool" "$room/offered" | diff "$room/wanted" -
 }
 
