@@ -26,6 +26,10 @@ PROGRAM
     [ "$BROKEN" = killed ] && kill -9 $PPID
     [ -z "$BROKEN" ]
     ;;
+check)
+    [ "${PWD##*/}" != "$UNPROVED" ] || exit 1
+    mkdir -p out && echo "$PWD" >out/proved
+    ;;
 try)
     shift 4
     [ -z "$SLOW" ] || { touch "$SLOW" && exec sleep 60; }
@@ -183,4 +187,38 @@ if [ "$status" -eq 127 ] && [ ! -s "$wrapper/out" ] && grep -q '`rt`.* is not in
     pass "the wrapper says that the toolchain is missing"
 else
     fail "the wrapper says that the toolchain is missing" "status $status: $(cat "$wrapper/err")"
+fi
+
+# side_by_side: a first build over crates with the names of those that are proved side by side.
+side_by_side() {
+    rm -rf "$wrapper/crates"
+    mkdir -p "$wrapper/crates/tpmtool/src"
+    for crate in tpm_buffer tpm_log tpm_device tpm_words; do mkdir -p "$wrapper/crates/$crate/src"; done
+    : >"$wrapper/calls"
+    wrapped --build show
+}
+printf 'tpm_buffer:\ntpm_log: tpm_buffer\ntpm_device: tpm_buffer\ntpm_words: tpm_buffer\ntpmtool: tpm_log tpm_device tpm_words\n' >"$wrapper/crates.txt"
+wants '<show>' "in $wrapper/elsewhere" given
+side_by_side
+says "the wrapper proves crates side by side at the first build" 3 1 0
+name="the wrapper brings what was proved in a copy, and leaves no copy"
+if [ "$(cd "$wrapper/crates" && cat tpm_buffer/out/proved tpm_log/out/proved tpm_device/out/proved tpm_words/out/proved | sed "s|^$wrapper/crates/||")" = "\
+tpm_buffer
+tpmtool/out/copies/tpm_log/crates/tpm_log
+tpm_device
+tpmtool/out/copies/tpm_words/crates/tpm_words" ] && [ ! -e "$wrapper/crates/tpmtool/out/copies" ]; then
+    pass "$name"
+else
+    fail "$name" "$(cat "$wrapper"/crates/*/out/proved; ls "$wrapper/crates/tpmtool/out")"
+fi
+wants '<show>' "in $wrapper/elsewhere" given
+UNPROVED=tpm_log
+export UNPROVED
+side_by_side
+unset UNPROVED
+name="the wrapper leaves a crate that fails in its copy to the build"
+if [ "$status" -eq 3 ] && [ ! -e "$wrapper/crates/tpm_log/out" ] && [ -e "$wrapper/crates/tpm_words/out/proved" ]; then
+    pass "$name"
+else
+    fail "$name" "status $status: $(cat "$wrapper/err")"
 fi
