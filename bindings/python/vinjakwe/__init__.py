@@ -3,13 +3,18 @@
 Bytes are anything with the buffer protocol, and are lent to the library without a copy. Each call holds the interpreter's lock
 until it returns, so that no other thread changes them meanwhile; a map of a file has to be left alone by other processes, too.
 """
+from __future__ import annotations
+
 import ctypes
 import enum
 import os
 import re
 from ctypes import POINTER, Structure, byref, c_size_t, c_uint8, c_uint16, c_uint32, c_uint64, c_void_p
 from ctypes.util import find_library
-from typing import Dict, Iterator, List, NamedTuple, Optional, Tuple, Union
+from typing import TYPE_CHECKING, Any, BinaryIO, Callable, Iterator, NamedTuple
+
+if TYPE_CHECKING:
+    from typing_extensions import Buffer
 
 __version__ = "0.1.0"
 
@@ -34,8 +39,9 @@ CODES = {
 LOG_FAULTS = ("DONE", "TRUNCATED", "TOO_LONG", "NOT_CRYPTO_AGILE", "BAD_HEADER", "DUPLICATE_ALGORITHM", "WRONG_DIGEST_SIZE",
               "UNKNOWN_ALGORITHM", "REPEATED_DIGEST", "BAD_REGISTER", "BAD_LOCALITY", "LATE_LOCALITY")
 _DONE, _REFUSED, _NO_ROOM, _NO_COMMAND = range(4)
-_MORE, _READY, _BROKEN = range(3)
-_EVENT = 32
+_FRAMER_MORE, _FRAMER_READY, _FRAMER_BROKEN = range(3)
+_EVENT, _CALLER_OPENED = 32, 0
+_ATTEST_REFUSED, _ATTEST_NO_BANK, _ATTEST_REQUIREMENT = 17, 18, 22
 _DIGESTS = {"sha1": (0, 20), "sha256": (480, 32), "sha384": (1248, 48)}
 _COMMAND_NAMES = {number: name for name, number in COMMANDS.items()}
 _CODE_NAMES = {number: name for name, number in CODES.items()}
@@ -74,7 +80,11 @@ class LogFault(ValueError):
 
 
 class BrokenStream(ValueError):
-    """A stream has a buffer whose size field is none of 10 to 4,096."""
+    """A stream has a buffer whose size field is none of 10 to 4,096. `frames`: the buffers that the same piece ended before it."""
+
+    def __init__(self, frames: list[bytes]) -> None:
+        super().__init__("no buffer has the size that was stated")
+        self.frames = frames
 
 
 class _Refusal(Structure):
@@ -136,31 +146,29 @@ def _load() -> ctypes.PyDLL:
         raise LibraryError(f"{name} is not the library vinjakwe, which tells its version") from None
     if found != __version__:
         raise LibraryError(f"{name} has version {found}, and this package is for {__version__}")
-    p, size, number = c_void_p, c_size_t, c_uint32
-    for function, result, words in [
-        ("device_size", size, []), ("device_align", size, []), ("device_init", number, [p, p, size, c_uint64]),
-        ("device_power_cycle", None, [p]), ("device_execute", size, [p, p, size, p, p, size]),
-        ("framer_size", size, []), ("framer_align", size, []), ("framer_init", None, [p]),
-        ("framer_push", size, [p, p, size, POINTER(number)]), ("framer_frame", size, [p, p, size]), ("framer_next", None, [p]),
-        ("command_cut", number, [p, size, POINTER(_CommandAreas), POINTER(_Refusal)]),
-        ("command_decode", number, [p, size, POINTER(_Refusal)]),
-        ("response_cut", number, [number, p, size, POINTER(_ResponseAreas), POINTER(_Refusal)]),
-        ("response_decode", number, [number, p, size, POINTER(_Refusal)]),
-        ("command_build", number, [number, p, size, p, size, p, size, p, size, POINTER(size), POINTER(_Refusal)]),
-        ("log_replay", number, [p, size, p, POINTER(number)]), ("log_replay_size", size, []), ("log_replay_align", size, []),
-        ("log_event", number, [p, size, POINTER(_LogPlace), POINTER(_LogEvent), POINTER(number)]), ("log_replay_init", None, [p]), ("log_replay_feed", number, [p, p, size, POINTER(number)]),
-        ("log_replay_end", number, [p, p, POINTER(number)]),
-        ("log_check_quote", number, [p, size, p, size, c_uint16, POINTER(number)]),
+    p, size, number, refusal, count = c_void_p, c_size_t, c_uint32, POINTER(_Refusal), POINTER(c_uint32)
+    functions = [(f"{state}_{what}", size, []) for state in ("device", "framer", "log_replay", "caller") for what in ("size", "align")]
+    for function, result, words in functions + [
+        ("device_init", number, [p, p, size, c_uint64]), ("device_power_cycle", None, [p]),
+        ("device_execute", size, [p, p, size, p, p, size]),
+        ("framer_init", None, [p]), ("framer_push", size, [p, p, size, count]), ("framer_frame", size, [p, p, size]),
+        ("framer_next", None, [p]),
+        ("command_cut", number, [p, size, POINTER(_CommandAreas), refusal]), ("command_decode", number, [p, size, refusal]),
+        ("response_cut", number, [number, p, size, POINTER(_ResponseAreas), refusal]),
+        ("response_decode", number, [number, p, size, refusal]),
+        ("command_build", number, [number, p, size, p, size, p, size, p, size, POINTER(size), refusal]),
+        ("log_replay", number, [p, size, p, count]), ("log_replay_init", None, [p]),
+        ("log_replay_feed", number, [p, p, size, count]), ("log_replay_end", number, [p, p, count]),
+        ("log_event", number, [p, size, POINTER(_LogPlace), POINTER(_LogEvent), count]),
+        ("log_check_quote", number, [p, size, p, size, c_uint16, count]),
         ("log_check_attest", number, [p, size, p, size, c_uint16, p, size, p, size, POINTER(_AttestFault)]),
-        ("attest_decode", number, [p, size, POINTER(_Attest), POINTER(_Refusal)]),
-        ("caller_size", size, []), ("caller_align", size, []), ("caller_init", None, [p]),
-        ("caller_start", number, [p, p, size, p, size, p, size]), ("caller_open", number, [p, p, size]),
+        ("attest_decode", number, [p, size, POINTER(_Attest), refusal]),
+        ("caller_init", None, [p]), ("caller_start", number, [p, p, size, p, size, p, size]),
         ("caller_seal", size, [p, p, size, p, size, p, size, p, size, p, size, number, p, size]),
-        ("caller_give_up", number, [p, p, size]),
+        ("caller_open", number, [p, p, size]), ("caller_give_up", number, [p, p, size]),
     ]:
-        call = getattr(library, "tpm_" + function, None)
-        if call is not None:
-            call.restype, call.argtypes = result, words
+        call = getattr(library, "tpm_" + function)
+        call.restype, call.argtypes = result, words
     return library
 
 
@@ -180,9 +188,10 @@ _give_back.argtypes, _give_back.restype = [POINTER(_View)], None
 _nothing = ctypes.create_string_buffer(1)
 
 
-def _lend(call, *words):
+def _lend(call: Callable[..., int], *words: Any) -> int:
     """Calls the function with these words, where a tuple of one object lends its bytes, as their address and their number."""
-    views, given = [], []
+    views: list[_View] = []
+    given: list[Any] = []
     try:
         for word in words:
             if not isinstance(word, tuple):
@@ -198,6 +207,24 @@ def _lend(call, *words):
             _give_back(byref(view))
 
 
+def _judge(call: Callable[..., int], *words: Any) -> None:
+    """Makes a call whose last word is a refusal, and raises it."""
+    refusal = _Refusal()
+    answer = _lend(call, *words, byref(refusal))
+    if answer == _NO_COMMAND:
+        raise ValueError("no command has this number")
+    if answer == _REFUSED:
+        raise Refusal(refusal.code, refusal.at)
+
+
+def _raise_fault(answer: int, at: int, code: int = 0) -> None:
+    """Raises the fault of a log or of a quote beside it, if this answer is one."""
+    if 0 < answer < len(LOG_FAULTS):
+        raise LogFault(answer, at)
+    if answer == _ATTEST_REFUSED:
+        raise Refusal(code, at)
+
+
 def _room(what: str) -> ctypes.Array:
     """Memory for a device, a framer, a replay or a caller, at the place that it wants."""
     size, align = getattr(_library, f"tpm_{what}_size")(), getattr(_library, f"tpm_{what}_align")()
@@ -205,18 +232,11 @@ def _room(what: str) -> ctypes.Array:
     return (c_uint8 * size).from_buffer(whole, -ctypes.addressof(whole) % align)
 
 
-def _judged(answer: int, refusal: _Refusal) -> None:
-    if answer == _NO_COMMAND:
-        raise ValueError("no command has this number")
-    if answer == _REFUSED:
-        raise Refusal(refusal.code, refusal.at)
-
-
 def _part(view: memoryview, it: _Part) -> bytes:
     return bytes(view[it.at:it.at + it.len])
 
 
-def _number(command) -> int:
+def _number(command: str | int) -> int:
     if isinstance(command, str):
         if command not in COMMANDS:
             raise ValueError(f"no command has the name {command}")
@@ -232,62 +252,61 @@ def _hash(name: str) -> int:
     return HASHES[name]
 
 
-class CommandSession(NamedTuple):
-    handle: int
+class Session(NamedTuple):
+    """A session of a command or of a response, of which a response's has no handle."""
+
+    handle: int | None
     nonce: bytes
     attributes: int
     hmac: bytes
+
+
+def _sessions(view: memoryview, areas: _CommandAreas | _ResponseAreas) -> tuple[Session, ...]:
+    return tuple(Session(getattr(it, "handle", None), _part(view, it.nonce), it.attributes, _part(view, it.hmac))
+                 for it in areas.sessions[:areas.session_count])
 
 
 class Command(NamedTuple):
     code: int
     name: str
     size: int
-    handles: Tuple[int, ...]
-    sessions: Tuple[CommandSession, ...]
+    handles: tuple[int, ...]
+    sessions: tuple[Session, ...]
     parameters: bytes
-
-
-class ResponseSession(NamedTuple):
-    nonce: bytes
-    attributes: int
-    hmac: bytes
 
 
 class Response(NamedTuple):
     """Of a response whose code is not 0 nothing else is there."""
 
     code: int
-    handle: Optional[int]
+    handle: int | None
     parameters: bytes
-    sessions: Tuple[ResponseSession, ...]
+    sessions: tuple[Session, ...]
 
 
-def decode_command(data) -> Command:
+def decode_command(data: Buffer) -> Command:
     """The command that all the bytes spell. Raises Refusal."""
-    areas, refusal = _CommandAreas(), _Refusal()
-    _judged(_lend(_library.tpm_command_decode, (data,), byref(refusal)), refusal)
-    _judged(_lend(_library.tpm_command_cut, (data,), byref(areas), byref(refusal)), refusal)
+    it = _CommandAreas()
+    _judge(_library.tpm_command_decode, (data,))
+    _judge(_library.tpm_command_cut, (data,), byref(it))
     with memoryview(data).cast("B") as view:
-        sessions = tuple(CommandSession(it.handle, _part(view, it.nonce), it.attributes, _part(view, it.hmac)) for it in areas.sessions[:areas.session_count])
-        return Command(areas.code, _COMMAND_NAMES[areas.code], areas.size, tuple(areas.handles[:areas.handle_count]), sessions, _part(view, areas.parameters))
+        handles = tuple(it.handles[:it.handle_count])
+        return Command(it.code, _COMMAND_NAMES[it.code], it.size, handles, _sessions(view, it), _part(view, it.parameters))
 
 
-def decode_response(command, data) -> Response:
+def decode_response(command: str | int, data: Buffer) -> Response:
     """The response that all the bytes spell to the command of this name or number. Raises Refusal."""
-    areas, refusal, number = _ResponseAreas(), _Refusal(), _number(command)
-    _judged(_lend(_library.tpm_response_decode, number, (data,), byref(refusal)), refusal)
-    _judged(_lend(_library.tpm_response_cut, number, (data,), byref(areas), byref(refusal)), refusal)
+    it, number = _ResponseAreas(), _number(command)
+    _judge(_library.tpm_response_decode, number, (data,))
+    _judge(_library.tpm_response_cut, number, (data,), byref(it))
     with memoryview(data).cast("B") as view:
-        sessions = tuple(ResponseSession(_part(view, it.nonce), it.attributes, _part(view, it.hmac)) for it in areas.sessions[:areas.session_count])
-        return Response(areas.code, areas.handle if areas.handle_count else None, _part(view, areas.parameters), sessions)
+        return Response(it.code, it.handle if it.handle_count else None, _part(view, it.parameters), _sessions(view, it))
 
 
-def build_command(command, handles=b"", sessions=b"", parameters=b"") -> bytes:
+def build_command(command: str | int, handles: Buffer = b"", sessions: Buffer = b"", parameters: Buffer = b"") -> bytes:
     """The command of this name or number, joined from the bytes of its parts. Raises Refusal where they spell none."""
-    out, count, refusal = (c_uint8 * BUFFER_BYTES)(), c_size_t(), _Refusal()
-    answer = _lend(_library.tpm_command_build, _number(command), (handles,), (sessions,), (parameters,), out, BUFFER_BYTES, byref(count), byref(refusal))
-    _judged(answer, refusal)
+    out, count = (c_uint8 * BUFFER_BYTES)(), c_size_t()
+    _judge(_library.tpm_command_build, _number(command), (handles,), (sessions,), (parameters,), out, BUFFER_BYTES, byref(count))
     return bytes(out[:count.value])
 
 
@@ -300,59 +319,48 @@ class Framer:
         self.within = False
         """Whether the stream stands inside a buffer."""
 
-    def push(self, piece) -> List[bytes]:
-        """The buffers that end in this piece. Raises BrokenStream, now and from now on; `frames` then has those that came before."""
+    def push(self, piece: Buffer) -> list[bytes]:
+        """The buffers that end in this piece. Raises BrokenStream, now and from now on."""
         frames, status, out, rest = [], c_uint32(), (c_uint8 * BUFFER_BYTES)(), memoryview(piece).cast("B")
         while True:
             taken = _lend(_library.tpm_framer_push, self._room, (rest,), byref(status))
             rest = rest[taken:]
-            if status.value == _READY:
+            if status.value == _FRAMER_READY:
                 frames.append(bytes(out[:_library.tpm_framer_frame(self._room, out, BUFFER_BYTES)]))
                 _library.tpm_framer_next(self._room)
                 self.within = False
-            elif status.value == _BROKEN:
-                error = BrokenStream("no buffer has the size that was stated")
-                error.frames = frames
-                raise error
+            elif status.value == _FRAMER_BROKEN:
+                raise BrokenStream(frames)
             else:
                 self.within = self.within or taken > 0
             if not len(rest):
                 return frames
 
 
-Registers = Dict[str, Tuple[bytes, ...]]
+Registers = dict[str, tuple[bytes, ...]]
 
 
-def _registers(out) -> Registers:
-    whole = bytes(out)
-    return {name: tuple(whole[at + size * i:at + size * (i + 1)] for i in range(24)) for name, (at, size) in _DIGESTS.items()}
-
-
-def _has_bytes(it) -> bool:
-    try:
-        memoryview(it).release()
-    except TypeError:
-        return False
-    return True
-
-
-def replay(log) -> Registers:
+def replay(log: Buffer | BinaryIO) -> Registers:
     """The 24 registers of each bank, by the hash's name, after a log: its bytes, or a file that is read to its end. Raises LogFault."""
     out, at = (c_uint8 * REGISTERS_BYTES)(), c_uint32()
-    if _has_bytes(log) or not hasattr(log, "read"):
+    try:
         kind = _lend(_library.tpm_log_replay, (log,), out, byref(at))
-    else:
-        room, kind = _room("log_replay"), 0
-        _library.tpm_log_replay_init(room)
-        while not kind:
-            piece = log.read(1 << 16)
-            if not piece:
-                kind = _library.tpm_log_replay_end(room, out, byref(at))
-                break
-            kind = _lend(_library.tpm_log_replay_feed, room, (piece,), byref(at))
-    if kind:
-        raise LogFault(kind, at.value)
-    return _registers(out)
+    except TypeError:
+        if not hasattr(log, "read"):
+            raise
+        kind = _replay_file(log, out, at)
+    _raise_fault(kind, at.value)
+    whole = bytes(out)
+    return {name: tuple(whole[start + size * i:][:size] for i in range(24)) for name, (start, size) in _DIGESTS.items()}
+
+
+def _replay_file(log: BinaryIO, out: ctypes.Array, at: c_uint32) -> int:
+    room = _room("log_replay")
+    _library.tpm_log_replay_init(room)
+    while piece := log.read(1 << 16):
+        if kind := _lend(_library.tpm_log_replay_feed, room, (piece,), byref(at)):
+            return kind
+    return _library.tpm_log_replay_end(room, out, byref(at))
 
 
 class Event(NamedTuple):
@@ -362,12 +370,12 @@ class Event(NamedTuple):
     number: int
     register: int
     type: int
-    digests: Dict[Union[str, int], bytes]
+    digests: dict[str | int, bytes]
     data: bytes
-    hashed: Tuple[str, ...]
+    hashed: tuple[str, ...]
 
 
-def events(log) -> Iterator[Event]:
+def events(log: Buffer) -> Iterator[Event]:
     """The records of a log's bytes, one by one. Raises LogFault behind those before the fault."""
     place, event, at, number = _LogPlace(), _LogEvent(), c_uint32(), 0
     while (said := _lend(_library.tpm_log_event, (log,), byref(place), byref(event), byref(at))) == _EVENT:
@@ -376,19 +384,15 @@ def events(log) -> Iterator[Event]:
         with memoryview(log).cast("B") as view:
             digests, data = {name: _part(view, it.digest) for name, it in found}, _part(view, event.data)
         yield Event(number, event.pcr, event.type, digests, data, tuple(name for name, it in found if it.hashed))
-    if said:
-        raise LogFault(said, at.value)
+    _raise_fault(said, at.value)
 
 
-def check_quote(log, quote, hash: str = "sha256") -> bool:
+def check_quote(log: Buffer, quote: Buffer, hash: str = "sha256") -> bool:
     """Whether the digest of a quote's TPMS_QUOTE_INFO is that of a log's registers. Raises LogFault, Refusal (whose code is not told: 0)."""
     at = c_uint32()
     answer = _lend(_library.tpm_log_check_quote, (log,), (quote,), _hash(hash), byref(at))
-    if answer == 17:
-        raise Refusal(0, at.value)
-    if 0 < answer < len(LOG_FAULTS):
-        raise LogFault(answer, at.value)
-    return answer == 0
+    _raise_fault(answer, at.value)
+    return Kind(answer) is Kind.MATCHES
 
 
 _REGISTER = re.compile("0*(1[0-9]|2[0-3]|[0-9])")
@@ -418,23 +422,21 @@ class Attest(NamedTuple):
     restarts: int
     safe: bool
     firmware: int
-    selections: Tuple[Tuple[str, Tuple[int, ...]], ...]
+    selections: tuple[tuple[str, tuple[int, ...]], ...]
     info: bytes
 
 
-def decode_attest(data) -> Attest:
+def decode_attest(data: Buffer) -> Attest:
     """The quote as it was signed that all the bytes spell. Raises Refusal."""
-    found, refusal = _Attest(), _Refusal()
-    _judged(_lend(_library.tpm_attest_decode, (data,), byref(found), byref(refusal)), refusal)
+    it = _Attest()
+    _judge(_library.tpm_attest_decode, (data,), byref(it))
     with memoryview(data).cast("B") as view:
-        def part(it):
-            return bytes(view[it.at:it.at + it.len])
-        names, entries = {number: name for name, number in HASHES.items()}, part(found.selections)[4:]
-        selections = tuple(
-            (names[int.from_bytes(it[:2], "big")], tuple(i for i in range(24) if it[3 + i // 8] >> i % 8 & 1))
-            for it in (entries[at:at + 6] for at in range(0, len(entries), 6)))
-        return Attest(part(found.signer), part(found.nonce), found.clock, found.reset_count, found.restart_count, found.safe != 0,
-                      found.firmware_version, selections, bytes(view[found.selections.at:]))
+        listed = _part(view, it.selections)[4:]
+        entries = [listed[at:at + 6] for at in range(0, len(listed), 6)]
+        selections = tuple((_HASH_NAMES[int.from_bytes(entry[:2], "big")], tuple(i for i in range(24) if entry[3 + i // 8] >> i % 8 & 1))
+                           for entry in entries)
+        return Attest(_part(view, it.signer), _part(view, it.nonce), it.clock, it.reset_count, it.restart_count, it.safe != 0,
+                      it.firmware_version, selections, bytes(view[it.selections.at:]))
 
 
 class Kind(enum.Enum):
@@ -446,34 +448,30 @@ class Verdict(NamedTuple):
     bank and number are there), another digest, or no register is selected. It is true where the quote matches."""
 
     kind: Kind
-    hash: Optional[str] = None
-    pcr: Optional[int] = None
+    hash: str | None = None
+    pcr: int | None = None
 
     def __bool__(self) -> bool:
         return self.kind is Kind.MATCHES
 
 
-def check(log, attest, nonce, require=b"", hash: str = "sha256") -> Verdict:
+def check(log: Buffer, attest: Buffer, nonce: Buffer, require: Buffer = b"", hash: str = "sha256") -> Verdict:
     """Compares a log with a TPMS_ATTEST of a quote, whose signature has to be verified elsewhere: its nonce, the registers of the
     TPML_PCR_SELECTION `require`, and the digest under this hash. Raises LogFault, and Refusal for bytes that spell no quote;
     ValueError where `require` is no selection."""
     fault = _AttestFault()
     answer = _lend(_library.tpm_log_check_attest, (log,), (attest,), _hash(hash), (nonce,), (require,), byref(fault))
-    if 0 < answer < len(LOG_FAULTS):
-        raise LogFault(answer, fault.at)
-    if answer == 17:
-        raise Refusal(fault.code, fault.at)
-    if answer == 22:
+    _raise_fault(answer, fault.at, fault.code)
+    if answer == _ATTEST_REQUIREMENT:
         raise ValueError("require: " + str(Refusal(fault.code, fault.at)))
-    if Kind(answer) is Kind.LACKS:
-        return Verdict(Kind.LACKS, _HASH_NAMES[fault.hash], fault.pcr)
-    return Verdict(Kind(answer))
+    lacks = Kind(answer) is Kind.LACKS
+    return Verdict(Kind(answer), _HASH_NAMES[fault.hash] if lacks else None, fault.pcr if lacks else None)
 
 
 class Device:
     """A device in memory, which is not started. No counter of it has had a greater value than `greatest`."""
 
-    def __init__(self, owner=b"", greatest: int = 0) -> None:
+    def __init__(self, owner: Buffer = b"", greatest: int = 0) -> None:
         if not 0 <= greatest < 1 << 64:
             raise ValueError("greatest is no number of 64 bits")
         self._room = _room("device")
@@ -483,12 +481,13 @@ class Device:
     def power_cycle(self) -> None:
         _library.tpm_device_power_cycle(self._room)
 
-    def execute(self, command, nonce=None) -> bytes:
+    def execute(self, command: Buffer, nonce: Buffer | None = None) -> bytes:
         """The response to these bytes. `nonce`: 64 fresh random bytes, which are taken from the system if none are given."""
         nonce, out = os.urandom(NONCE_BYTES) if nonce is None else bytes(nonce), (c_uint8 * BUFFER_BYTES)()
         if len(nonce) != NONCE_BYTES:
             raise ValueError(f"a nonce has {NONCE_BYTES} bytes")
-        return bytes(out[:_lend(_library.tpm_device_execute, self._room, (command,), (c_uint8 * NONCE_BYTES)(*nonce), out, BUFFER_BYTES)])
+        count = _lend(_library.tpm_device_execute, self._room, (command,), (c_uint8 * NONCE_BYTES)(*nonce), out, BUFFER_BYTES)
+        return bytes(out[:count])
 
 
 class Caller:
@@ -498,19 +497,21 @@ class Caller:
         self._room = _room("caller")
         _library.tpm_caller_init(self._room)
 
-    def start(self, command, reply, bind_auth=b"") -> bool:
+    def start(self, command: Buffer, reply: Buffer, bind_auth: Buffer = b"") -> bool:
         return bool(_lend(_library.tpm_caller_start, self._room, (command,), (reply,), (bind_auth,)))
 
-    def seal(self, command, first, second=b"", auth=b"", nonce=None, keep: bool = True) -> bytes:
+    def seal(self, command: Buffer, first: Buffer, second: Buffer = b"", auth: Buffer = b"", nonce: Buffer | None = None,
+             keep: bool = True) -> bytes:
         out, nonce = (c_uint8 * BUFFER_BYTES)(), os.urandom(16) if nonce is None else nonce
-        count = _lend(_library.tpm_caller_seal, self._room, (command,), (first,), (second,), (auth,), (nonce,), int(keep), out, BUFFER_BYTES)
+        count = _lend(_library.tpm_caller_seal, self._room, (command,), (first,), (second,), (auth,), (nonce,), int(keep),
+                      out, BUFFER_BYTES)
         if not count:
             raise ValueError("no session is free, or the command needs no authorization, or a Name or the nonce is too long")
         return bytes(out[:count])
 
-    def open(self, reply) -> bool:
+    def open(self, reply: Buffer) -> bool:
         """Whether the reply is that of the sealed command; until it is, nothing in it is to be believed."""
-        return _lend(_library.tpm_caller_open, self._room, (reply,)) == 0
+        return _lend(_library.tpm_caller_open, self._room, (reply,)) == _CALLER_OPENED
 
-    def give_up(self, refusal) -> bool:
+    def give_up(self, refusal: Buffer) -> bool:
         return bool(_lend(_library.tpm_caller_give_up, self._room, (refusal,)))

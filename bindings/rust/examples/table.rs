@@ -30,14 +30,14 @@ fn command(out: &mut impl Write, names: &BTreeMap<u32, String>, bytes: &[u8]) ->
         Ok(it) => it,
         Err(fault) => return writeln!(out, "{fault}"),
     };
-    writeln!(out, "command {} size {}", names[&it.code()], it.size())?;
-    for (i, handle) in it.handles().iter().enumerate() {
+    writeln!(out, "command {} size {}", names[&it.code], it.size)?;
+    for (i, handle) in it.handles.iter().enumerate() {
         writeln!(out, "handle {} {handle:08x}", i + 1)?;
     }
-    for (i, s) in it.sessions().enumerate() {
+    for (i, s) in it.sessions.iter().enumerate() {
         writeln!(out, "session {} {:08x} nonce {} attributes {:02x} hmac {}", i + 1, s.handle, text(s.nonce), s.attributes, text(s.hmac))?;
     }
-    writeln!(out, "parameters {}", text(it.parameters()))
+    writeln!(out, "parameters {}", text(it.parameters))
 }
 
 fn reply(out: &mut impl Write, name: &str, code: u32, bytes: &[u8]) -> std::io::Result<()> {
@@ -45,21 +45,21 @@ fn reply(out: &mut impl Write, name: &str, code: u32, bytes: &[u8]) -> std::io::
         Ok(it) => it,
         Err(fault) => return writeln!(out, "{fault}"),
     };
-    if it.code() != 0 {
-        return writeln!(out, "reply code {:03x}", it.code());
+    if it.code != 0 {
+        return writeln!(out, "reply code {:03x}", it.code);
     }
     writeln!(out, "reply {name} size {}", bytes.len())?;
-    if let Some(handle) = it.handle() {
+    if let Some(handle) = it.handle {
         writeln!(out, "handle 1 {handle:08x}")?;
     }
-    writeln!(out, "parameters {}", text(it.parameters()))?;
-    for (i, s) in it.sessions().enumerate() {
+    writeln!(out, "parameters {}", text(it.parameters))?;
+    for (i, s) in it.sessions.iter().enumerate() {
         writeln!(out, "session {} nonce {} attributes {:02x} hmac {}", i + 1, text(s.nonce), s.attributes, text(s.hmac))?;
     }
     Ok(())
 }
 
-fn registers(out: &mut impl Write, found: Result<Registers, LogFault>) -> std::io::Result<()> {
+fn registers(out: &mut impl Write, found: Result<Registers, Fault>) -> std::io::Result<()> {
     let found = match found {
         Ok(found) => found,
         Err(fault) => return writeln!(out, "{fault}"),
@@ -79,7 +79,7 @@ fn tell_events(out: &mut impl Write, log: &[u8]) -> std::io::Result<()> {
             Err(fault) => return writeln!(out, "{fault}"),
         };
         write!(out, "{} {:08x} {}", it.register, it.kind, text(it.data))?;
-        for digest in it.digests() {
+        for digest in it.digests.iter() {
             write!(out, " {:04x}:{}{}", digest.hash, text(digest.bytes), if digest.hashed { "*" } else { "" })?;
         }
         writeln!(out)?;
@@ -87,7 +87,7 @@ fn tell_events(out: &mut impl Write, log: &[u8]) -> std::io::Result<()> {
     Ok(())
 }
 
-fn pieces(name: &str) -> Result<Registers, LogFault> {
+fn pieces(name: &str) -> Result<Registers, Fault> {
     let (mut room, mut file, mut piece) = (Room::new(), File::open(name).unwrap(), [0; 1000]);
     let mut replay = Replay::new(&mut room).unwrap();
     loop {

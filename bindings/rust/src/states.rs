@@ -1,5 +1,27 @@
 //! A framer, a device and a caller, each in memory of its own.
-use crate::{c, Fault, Room, BUFFER_BYTES, NONCE_BYTES};
+use crate::{c, Fault, BUFFER_BYTES, NONCE_BYTES};
+use core::mem::{align_of, size_of};
+
+/// Room for one of the library's states, a device, a framer, a replay or a caller, which lies where it is until that is dropped.
+#[repr(C, align(16))]
+pub struct Room([u8; 8192]);
+
+impl Room {
+    /// Room with nothing in it.
+    #[allow(clippy::new_without_default)]
+    pub const fn new() -> Self {
+        Room([0; 8192])
+    }
+
+    /// The place for a state of this size and alignment.
+    pub(crate) fn fit(&mut self, size: usize, align: usize) -> Result<&mut Self, Fault> {
+        if size > size_of::<Room>() || align > align_of::<Room>() { Err(Fault::Length) } else { Ok(self) }
+    }
+
+    pub(crate) fn place(&mut self) -> *mut u8 {
+        self.0.as_mut_ptr()
+    }
+}
 
 /// Cuts a stream into its buffers, each of which states its size.
 pub struct Framer<'r>(&'r mut Room);
@@ -8,17 +30,20 @@ impl<'r> Framer<'r> {
     /// A framer that holds nothing.
     pub fn new(room: &'r mut Room) -> Result<Self, Fault> {
         // SAFETY: the room is large enough and lies where the library wants it, and is borrowed as long as it is used.
-        let it = Framer(unsafe { room.fits(c::tpm_framer_size(), c::tpm_framer_align()) }?);
-        unsafe { c::tpm_framer_init(it.0.place()) };
-        Ok(it)
+        unsafe {
+            let room = room.fit(c::tpm_framer_size(), c::tpm_framer_align())?;
+            c::tpm_framer_init(room.place());
+            Ok(Framer(room))
+        }
     }
 
-    /// Takes bytes of the piece up to the end of the present buffer, and gives how many, and whether a buffer is held; or Broken, now and from now on.
+    /// Takes bytes of the piece up to the end of the present buffer, and gives how many, and whether a buffer is held; or Broken, now
+    /// and from now on.
     pub fn push(&mut self, piece: &[u8]) -> Result<(usize, bool), Fault> {
         let mut status = 0;
         // SAFETY: a framer lies there, and the piece is there for the call.
         let taken = unsafe { c::tpm_framer_push(self.0.place(), piece.as_ptr(), piece.len(), &mut status) };
-        if status == 2 { Err(Fault::Broken) } else { Ok((taken, status == 1)) }
+        if status == c::TPM_FRAMER_BROKEN { Err(Fault::Broken) } else { Ok((taken, status == c::TPM_FRAMER_READY)) }
     }
 
     /// Moves the buffer that is held to the beginning of `out`, or gives none where none is held.
@@ -34,12 +59,15 @@ impl<'r> Framer<'r> {
 pub struct Device<'r>(&'r mut Room);
 
 impl<'r> Device<'r> {
-    /// A device of this owner, which is not started, and of which no counter has had a greater value; or Length, of an owner's value of more than 48 bytes.
+    /// A device of this owner, which is not started, and of which no counter has had a greater value; or Length, of an owner's value
+    /// of more than 48 bytes.
     pub fn new(room: &'r mut Room, owner: &[u8], greatest: u64) -> Result<Self, Fault> {
-        // SAFETY: the room is large enough and lies where the library wants it, and is borrowed as long as it is used.
-        let it = Device(unsafe { room.fits(c::tpm_device_size(), c::tpm_device_align()) }?);
-        let made = unsafe { c::tpm_device_init(it.0.place(), owner.as_ptr(), owner.len(), greatest) };
-        if made == 0 { Err(Fault::Length) } else { Ok(it) }
+        // SAFETY: as for a framer, and the owner's value is there for the call.
+        unsafe {
+            let room = room.fit(c::tpm_device_size(), c::tpm_device_align())?;
+            let made = c::tpm_device_init(room.place(), owner.as_ptr(), owner.len(), greatest);
+            if made == 0 { Err(Fault::Length) } else { Ok(Device(room)) }
+        }
     }
 
     /// The power is switched off and on: the counters stay.
@@ -61,31 +89,38 @@ impl<'r> Device<'r> {
 /// The other end of a session. Where a call gives a fault, nothing changes.
 pub struct Caller<'r>(&'r mut Room);
 
+fn applies(it: bool) -> Result<(), Fault> {
+    if it { Ok(()) } else { Err(Fault::Session) }
+}
+
 impl<'r> Caller<'r> {
     /// A caller without a session.
     pub fn new(room: &'r mut Room) -> Result<Self, Fault> {
         // SAFETY: the room is large enough and lies where the library wants it, and is borrowed as long as it is used.
-        let it = Caller(unsafe { room.fits(c::tpm_caller_size(), c::tpm_caller_align()) }?);
-        unsafe { c::tpm_caller_init(it.0.place()) };
-        Ok(it)
+        unsafe {
+            let room = room.fit(c::tpm_caller_size(), c::tpm_caller_align())?;
+            c::tpm_caller_init(room.place());
+            Ok(Caller(room))
+        }
     }
 
     /// Holds the session that a TPM2_StartAuthSession and its reply make.
     pub fn start(&mut self, command: &[u8], reply: &[u8], bind_auth: &[u8]) -> Result<(), Fault> {
         // SAFETY: a caller lies there, and all are there for the call.
-        let held = unsafe {
-            c::tpm_caller_start(self.0.place(), command.as_ptr(), command.len(), reply.as_ptr(), reply.len(), bind_auth.as_ptr(), bind_auth.len())
-        };
-        if held == 0 { Err(Fault::Session) } else { Ok(()) }
+        applies(0 != unsafe {
+            c::tpm_caller_start(self.0.place(), command.as_ptr(), command.len(), reply.as_ptr(), reply.len(), bind_auth.as_ptr(),
+                bind_auth.len())
+        })
     }
 
     /// The command with the session, which then waits for the reply. `names` are those of its handles; the nonce is fresh and random.
-    pub fn seal<'o>(&mut self, command: &[u8], names: [&[u8]; 2], auth: &[u8], nonce: &[u8], keep: bool, out: &'o mut [u8; BUFFER_BYTES]) -> Result<&'o [u8], Fault> {
+    pub fn seal<'o>(&mut self, command: &[u8], names: [&[u8]; 2], auth: &[u8], nonce: &[u8], keep: bool,
+        out: &'o mut [u8; BUFFER_BYTES]) -> Result<&'o [u8], Fault> {
         let [first, second] = names;
         // SAFETY: the same.
         let count = unsafe {
-            c::tpm_caller_seal(self.0.place(), command.as_ptr(), command.len(), first.as_ptr(), first.len(), second.as_ptr(), second.len(),
-                auth.as_ptr(), auth.len(), nonce.as_ptr(), nonce.len(), keep.into(), out.as_mut_ptr(), out.len())
+            c::tpm_caller_seal(self.0.place(), command.as_ptr(), command.len(), first.as_ptr(), first.len(), second.as_ptr(),
+                second.len(), auth.as_ptr(), auth.len(), nonce.as_ptr(), nonce.len(), keep.into(), out.as_mut_ptr(), out.len())
         };
         out.get(..count).filter(|sealed| !sealed.is_empty()).ok_or(Fault::Session)
     }
@@ -93,12 +128,12 @@ impl<'r> Caller<'r> {
     /// Opens the reply to the sealed command: until it is opened nothing in it is to be believed.
     pub fn open(&mut self, reply: &[u8]) -> Result<(), Fault> {
         // SAFETY: the same.
-        if unsafe { c::tpm_caller_open(self.0.place(), reply.as_ptr(), reply.len()) } == 0 { Ok(()) } else { Err(Fault::Session) }
+        applies(c::TPM_CALLER_OPENED == unsafe { c::tpm_caller_open(self.0.place(), reply.as_ptr(), reply.len()) })
     }
 
     /// Frees the session as it was before the command that this refusal answers.
     pub fn give_up(&mut self, refusal: &[u8]) -> Result<(), Fault> {
         // SAFETY: the same.
-        if unsafe { c::tpm_caller_give_up(self.0.place(), refusal.as_ptr(), refusal.len()) } == 0 { Err(Fault::Session) } else { Ok(()) }
+        applies(0 != unsafe { c::tpm_caller_give_up(self.0.place(), refusal.as_ptr(), refusal.len()) })
     }
 }
