@@ -287,6 +287,13 @@ go_built() {
     (cd bindings/go && in_place go vet ./... && in_place go build -o "$room/go_table" ./table)
 }
 
+# go_names: the package has the name of each response code of the header.
+go_names() {
+    echo codes | in_place "$room/go_table" | sort >"$room/out"
+    awk '/^TPM_RC_/ { printf "%03x %s\n", $2, $1 }' "$room/layout" | sort | comm -23 - "$room/out" >"$room/lacking"
+    cat "$room/lacking" && ! [ -s "$room/lacking" ]
+}
+
 # rust_built: the crate is built without a warning, and so is the program that answers the table; its structures, made of the
 # header, lie as C lays them out, and its log faults are in the header's order.
 rust_built() {
@@ -363,8 +370,16 @@ else
     elif ! go_built >"$room/said" 2>&1; then
         fail "the binding for Go" "$(head -n 5 "$room/said")"
     else
+        agrees "Go has the names of the header's codes" go_names
         agrees "Go answers the table" answers "$room/go_table"
+        agrees "Go answers the table while its collector works, which clears what it frees" answers env \
+            GODEBUG=cgocheck=1,clobberfree=1 GOGC=1 "$room/go_table"
         agrees "Go answers a hundred thousand changed buffers" answers_changed "$room/go_table"
+        if (cd bindings/go && in_place go build -asan -o "$room/go_asan" ./table) >"$room/said" 2>&1; then
+            agrees "Go answers them beside an address sanitizer" answers_changed env ASAN_OPTIONS=detect_leaks=0 "$room/go_asan"
+        else
+            skip "Go answers them beside an address sanitizer" "$(head -n 1 "$room/said")"
+        fi
         agrees "the example in Go" go_example
     fi
     if ! command -v cargo >/dev/null 2>&1; then

@@ -1,66 +1,47 @@
 package vinjakwe
 
-// #include "vinjakwe.h"
+/*
+#include "vinjakwe.h"
+
+struct vinjakwe_named {
+	uint32_t number;
+	const char *name;
+};
+
+#define COMMAND(name) {TPM_CC_##name, #name}
+#define CODE(name) {TPM_RC_##name, "TPM_RC_" #name}
+
+const struct vinjakwe_named vinjakwe_commands[] = {
+	COMMAND(NV_UndefineSpace), COMMAND(NV_DefineSpace), COMMAND(NV_Increment), COMMAND(PCR_Event), COMMAND(PCR_Reset),
+	COMMAND(Startup), COMMAND(NV_Read), COMMAND(FlushContext), COMMAND(NV_ReadPublic), COMMAND(PolicyAuthValue),
+	COMMAND(PolicyCommandCode), COMMAND(PolicyOR), COMMAND(StartAuthSession), COMMAND(PCR_Read), COMMAND(PolicyPCR),
+	COMMAND(PolicyRestart), COMMAND(PCR_Extend), COMMAND(PolicyGetDigest),
+};
+
+const struct vinjakwe_named vinjakwe_codes[] = {
+	CODE(SUCCESS), CODE(BAD_TAG), CODE(INITIALIZE), CODE(AUTH_MISSING), CODE(PCR_CHANGED), CODE(AUTH_UNAVAILABLE),
+	CODE(COMMAND_SIZE), CODE(COMMAND_CODE), CODE(AUTHSIZE), CODE(AUTH_CONTEXT), CODE(NV_RANGE), CODE(NV_AUTHORIZATION),
+	CODE(NV_UNINITIALIZED), CODE(NV_SPACE), CODE(NV_DEFINED), CODE(SESSION_MEMORY), CODE(LOCALITY), CODE(REFERENCE_H0),
+	CODE(REFERENCE_S0), CODE(ATTRIBUTES), CODE(HASH), CODE(VALUE), CODE(MODE), CODE(HANDLE), CODE(AUTH_FAIL), CODE(NONCE),
+	CODE(SIZE), CODE(SYMMETRIC), CODE(INSUFFICIENT), CODE(POLICY_FAIL), CODE(RESERVED_BITS), CODE(BAD_AUTH), CODE(POLICY_CC),
+};
+*/
 import "C"
 
 import "fmt"
 
 // Commands has the number of each command by its name in Part 3.
-var Commands = map[string]uint32{
-	"NV_UndefineSpace":  C.TPM_CC_NV_UndefineSpace,
-	"NV_DefineSpace":    C.TPM_CC_NV_DefineSpace,
-	"NV_Increment":      C.TPM_CC_NV_Increment,
-	"PCR_Event":         C.TPM_CC_PCR_Event,
-	"PCR_Reset":         C.TPM_CC_PCR_Reset,
-	"Startup":           C.TPM_CC_Startup,
-	"NV_Read":           C.TPM_CC_NV_Read,
-	"FlushContext":      C.TPM_CC_FlushContext,
-	"NV_ReadPublic":     C.TPM_CC_NV_ReadPublic,
-	"PolicyAuthValue":   C.TPM_CC_PolicyAuthValue,
-	"PolicyCommandCode": C.TPM_CC_PolicyCommandCode,
-	"PolicyOR":          C.TPM_CC_PolicyOR,
-	"StartAuthSession":  C.TPM_CC_StartAuthSession,
-	"PCR_Read":          C.TPM_CC_PCR_Read,
-	"PolicyPCR":         C.TPM_CC_PolicyPCR,
-	"PolicyRestart":     C.TPM_CC_PolicyRestart,
-	"PCR_Extend":        C.TPM_CC_PCR_Extend,
-	"PolicyGetDigest":   C.TPM_CC_PolicyGetDigest,
-}
+var Commands = map[string]uint32{}
 
-var codes = map[uint32]string{
-	C.TPM_RC_SUCCESS:          "TPM_RC_SUCCESS",
-	C.TPM_RC_BAD_TAG:          "TPM_RC_BAD_TAG",
-	C.TPM_RC_INITIALIZE:       "TPM_RC_INITIALIZE",
-	C.TPM_RC_AUTH_MISSING:     "TPM_RC_AUTH_MISSING",
-	C.TPM_RC_PCR_CHANGED:      "TPM_RC_PCR_CHANGED",
-	C.TPM_RC_AUTH_UNAVAILABLE: "TPM_RC_AUTH_UNAVAILABLE",
-	C.TPM_RC_COMMAND_SIZE:     "TPM_RC_COMMAND_SIZE",
-	C.TPM_RC_COMMAND_CODE:     "TPM_RC_COMMAND_CODE",
-	C.TPM_RC_AUTHSIZE:         "TPM_RC_AUTHSIZE",
-	C.TPM_RC_AUTH_CONTEXT:     "TPM_RC_AUTH_CONTEXT",
-	C.TPM_RC_NV_RANGE:         "TPM_RC_NV_RANGE",
-	C.TPM_RC_NV_AUTHORIZATION: "TPM_RC_NV_AUTHORIZATION",
-	C.TPM_RC_NV_UNINITIALIZED: "TPM_RC_NV_UNINITIALIZED",
-	C.TPM_RC_NV_SPACE:         "TPM_RC_NV_SPACE",
-	C.TPM_RC_NV_DEFINED:       "TPM_RC_NV_DEFINED",
-	C.TPM_RC_SESSION_MEMORY:   "TPM_RC_SESSION_MEMORY",
-	C.TPM_RC_LOCALITY:         "TPM_RC_LOCALITY",
-	C.TPM_RC_REFERENCE_H0:     "TPM_RC_REFERENCE_H0",
-	C.TPM_RC_REFERENCE_S0:     "TPM_RC_REFERENCE_S0",
-	C.TPM_RC_ATTRIBUTES:       "TPM_RC_ATTRIBUTES",
-	C.TPM_RC_HASH:             "TPM_RC_HASH",
-	C.TPM_RC_VALUE:            "TPM_RC_VALUE",
-	C.TPM_RC_MODE:             "TPM_RC_MODE",
-	C.TPM_RC_HANDLE:           "TPM_RC_HANDLE",
-	C.TPM_RC_AUTH_FAIL:        "TPM_RC_AUTH_FAIL",
-	C.TPM_RC_NONCE:            "TPM_RC_NONCE",
-	C.TPM_RC_SIZE:             "TPM_RC_SIZE",
-	C.TPM_RC_SYMMETRIC:        "TPM_RC_SYMMETRIC",
-	C.TPM_RC_INSUFFICIENT:     "TPM_RC_INSUFFICIENT",
-	C.TPM_RC_POLICY_FAIL:      "TPM_RC_POLICY_FAIL",
-	C.TPM_RC_RESERVED_BITS:    "TPM_RC_RESERVED_BITS",
-	C.TPM_RC_BAD_AUTH:         "TPM_RC_BAD_AUTH",
-	C.TPM_RC_POLICY_CC:        "TPM_RC_POLICY_CC",
+var codes = map[uint32]string{}
+
+func init() {
+	for _, it := range C.vinjakwe_commands {
+		Commands[C.GoString(it.name)] = uint32(it.number)
+	}
+	for _, it := range C.vinjakwe_codes {
+		codes[uint32(it.number)] = C.GoString(it.name)
+	}
 }
 
 // CodeName is the name of a response code in Part 2, 6.6.3, with the handle, session or parameter that it tells, or its number.

@@ -1,0 +1,201 @@
+package vinjakwe
+
+/*
+#include "vinjakwe.h"
+
+// As the states in states.go.
+struct tpm_log_replay { uint64_t first; };
+*/
+import "C"
+
+import (
+	"fmt"
+	"io"
+)
+
+// LogFault says that a log is none: the kind of its first fault, as "Truncated", and how many bytes are before it.
+type LogFault struct {
+	Kind string
+	At   uint32
+}
+
+func (f *LogFault) Error() string { return fmt.Sprintf("log %s at %d", f.Kind, f.At) }
+
+var logFaults = map[C.uint32_t]string{
+	C.TPM_LOG_TRUNCATED: "Truncated", C.TPM_LOG_TOO_LONG: "TooLong", C.TPM_LOG_NOT_CRYPTO_AGILE: "NotCryptoAgile",
+	C.TPM_LOG_BAD_HEADER: "BadHeader", C.TPM_LOG_DUPLICATE_ALGORITHM: "DuplicateAlgorithm",
+	C.TPM_LOG_WRONG_DIGEST_SIZE: "WrongDigestSize", C.TPM_LOG_UNKNOWN_ALGORITHM: "UnknownAlgorithm",
+	C.TPM_LOG_REPEATED_DIGEST: "RepeatedDigest", C.TPM_LOG_BAD_REGISTER: "BadRegister",
+	C.TPM_LOG_BAD_LOCALITY: "BadLocality", C.TPM_LOG_LATE_LOCALITY: "LateLocality",
+}
+
+func logJudged(kind, at C.uint32_t) error {
+	if kind == C.TPM_LOG_DONE {
+		return nil
+	}
+	return &LogFault{logFaults[kind], uint32(at)}
+}
+
+// A Hash is the number of a hash, TPM_ALG.
+type Hash uint16
+
+// The hashes of the banks.
+const (
+	SHA1   Hash = C.TPM_ALG_SHA1
+	SHA256 Hash = C.TPM_ALG_SHA256
+	SHA384 Hash = C.TPM_ALG_SHA384
+)
+
+var banks = map[Hash]struct{ at, size int }{SHA1: {0, 20}, SHA256: {480, 32}, SHA384: {1248, 48}}
+
+// Registers has the values of the 24 registers of each bank.
+type Registers [C.TPM_REGISTERS_BYTES]byte
+
+// Value is that of a register, or nil where the bank or the register is none.
+func (r *Registers) Value(hash Hash, register int) []byte {
+	bank, known := banks[hash]
+	if !known || register < 0 || register > 23 {
+		return nil
+	}
+	return r[bank.at+bank.size*register:][:bank.size]
+}
+
+// Replay gives the registers after a log, or a *LogFault.
+func Replay(log []byte) (*Registers, error) {
+	var at C.uint32_t
+	registers := new(Registers)
+	kind := C.tpm_log_replay(place(log), size(log), place(registers[:]), &at)
+	if err := logJudged(kind, at); err != nil {
+		return nil, err
+	}
+	return registers, nil
+}
+
+// ReplayFrom does what Replay does over the bytes of a reader, of any number, or gives the reader's error.
+func ReplayFrom(log io.Reader) (*Registers, error) {
+	var at C.uint32_t
+	registers, piece := new(Registers), make([]byte, 1<<16)
+	replay := (*C.struct_tpm_log_replay)(room(C.tpm_log_replay_size(), C.tpm_log_replay_align()))
+	C.tpm_log_replay_init(replay)
+	for {
+		count, err := log.Read(piece)
+		kind := C.tpm_log_replay_feed(replay, place(piece), C.size_t(count), &at)
+		if err == io.EOF && kind == C.TPM_LOG_DONE {
+			kind = C.tpm_log_replay_end(replay, place(registers[:]), &at)
+		}
+		if fault := logJudged(kind, at); fault != nil {
+			return nil, fault
+		} else if err == io.EOF {
+			return registers, nil
+		} else if err != nil {
+			return nil, err
+		}
+	}
+}
+
+// A Digest of a record: its hash, its bytes, and whether it is that hash of the event's data, which is told of SHA-1, SHA-256 and
+// SHA-384.
+type Digest struct {
+	Hash   Hash
+	Bytes  []byte
+	Hashed bool
+}
+
+// An Event is a record of a log: its place among them from 1 on, its register, its type, its digests and the event's data, which are
+// lent from the log. A digest that is not a hash of the data is not wrong: firmware measures some events by something else.
+type Event struct {
+	Number   int
+	Register uint32
+	Type     uint32
+	Digests  []Digest
+	Data     []byte
+}
+
+// Events goes over the records of a log, as a bufio.Scanner over lines: Next, Event, and Err behind the last.
+type Events struct {
+	log   []byte
+	place C.struct_tpm_log_place
+	event Event
+	err   error
+}
+
+// NewEvents stands before the first record of these bytes.
+func NewEvents(log []byte) *Events { return &Events{log: log} }
+
+// Next goes to the next record, if there is one: behind it is the log's end, or its fault.
+func (e *Events) Next() bool {
+	var it C.struct_tpm_log_event
+	var at C.uint32_t
+	from := e.place
+	said := C.tpm_log_event(place(e.log), size(e.log), &from, &it, &at)
+	if said != C.TPM_EVENT {
+		e.err = logJudged(said, at)
+		return false
+	}
+	e.place = from
+	e.event = Event{Number: e.event.Number + 1, Register: uint32(it.pcr), Type: uint32(it._type), Data: part(e.log, it.data)}
+	for _, found := range it.digests[:it.digest_count] {
+		e.event.Digests = append(e.event.Digests, Digest{Hash(found.hash), part(e.log, found.digest), found.hashed != 0})
+	}
+	return true
+}
+
+// Event is the record that Next went to.
+func (e *Events) Event() Event { return e.event }
+
+// Err is the log's fault, a *LogFault, once Next said that there is no record, or nil.
+func (e *Events) Err() error { return e.err }
+
+// A Verdict on a quote: it matches, or the first that fails.
+type Verdict int
+
+const (
+	Matches Verdict = C.TPM_ATTEST_MATCHES
+	Differs Verdict = C.TPM_ATTEST_DIFFERS // the digest is another
+	Nonce   Verdict = C.TPM_ATTEST_NONCE   // the nonce is another
+	Lacks   Verdict = C.TPM_ATTEST_LACKS   // a required register is not selected
+	Empty   Verdict = C.TPM_ATTEST_EMPTY   // no register is selected
+)
+
+// A Selected register is the one that a quote lacks.
+type Selected struct {
+	Bank     Hash
+	Register uint32
+}
+
+// CheckQuote says whether the digest of a TPMS_QUOTE_INFO is that of a log's registers. Otherwise the error is a *LogFault, a *Refusal,
+// whose code is 0, since it is not told, or ErrNoBank.
+func CheckQuote(log, quote []byte, hash Hash) (bool, error) {
+	var fault C.struct_tpm_attest_fault
+	answer := C.tpm_log_check_quote(place(log), size(log), place(quote), size(quote), C.uint16_t(hash), &fault.at)
+	verdict, _, err := said(answer, &fault)
+	return verdict == Matches, err
+}
+
+// Check compares a log with a TPMS_ATTEST of a quote, whose signature has to be verified elsewhere: its nonce, the registers of the
+// TPML_PCR_SELECTION `require`, of which there may be no bytes, and the digest under this hash. The quote is good where the verdict is
+// Matches and the error nil. Otherwise the error is a *LogFault, a *Refusal of the quote's bytes, ErrNoBank, or ErrRequirement.
+func Check(log, attest, nonce, require []byte, hash Hash) (Verdict, Selected, error) {
+	var fault C.struct_tpm_attest_fault
+	answer := C.tpm_log_check_attest(place(log), size(log), place(attest), size(attest), C.uint16_t(hash), place(nonce), size(nonce),
+		place(require), size(require), &fault)
+	return said(answer, &fault)
+}
+
+// said is what TPM_QUOTE and TPM_ATTEST, which have the same numbers, say of a quote.
+func said(answer C.uint32_t, fault *C.struct_tpm_attest_fault) (Verdict, Selected, error) {
+	refusal := &Refusal{uint32(fault.code), uint32(fault.at)}
+	switch answer {
+	case C.TPM_ATTEST_MATCHES, C.TPM_ATTEST_DIFFERS, C.TPM_ATTEST_NONCE, C.TPM_ATTEST_EMPTY:
+		return Verdict(answer), Selected{}, nil
+	case C.TPM_ATTEST_LACKS:
+		return Lacks, Selected{Hash(fault.hash), uint32(fault.pcr)}, nil
+	case C.TPM_ATTEST_REFUSED:
+		return Differs, Selected{}, refusal
+	case C.TPM_ATTEST_REQUIREMENT:
+		return Differs, Selected{}, fmt.Errorf("%w: %v", ErrRequirement, refusal)
+	case C.TPM_ATTEST_NO_BANK:
+		return Differs, Selected{}, ErrNoBank
+	}
+	return Differs, Selected{}, logJudged(answer, fault.at)
+}

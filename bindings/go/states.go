@@ -1,0 +1,129 @@
+package vinjakwe
+
+/*
+#include "vinjakwe.h"
+
+// The states have their first bytes here: Go's collector does not look at pointers to a type that has none, and would free the room.
+struct tpm_framer { uint64_t first; };
+struct tpm_device { uint64_t first; };
+struct tpm_caller { uint64_t first; };
+*/
+import "C"
+
+import "unsafe"
+
+// room is memory for so many bytes at a multiple of 8.
+func room(size, align C.size_t) unsafe.Pointer {
+	if align > 8 {
+		panic("vinjakwe: the library wants another alignment")
+	}
+	return unsafe.Pointer(&make([]uint64, (size+7)/8)[0])
+}
+
+// unless is nil where a call was done, and else the error.
+func unless(done bool, err error) error {
+	if done {
+		return nil
+	}
+	return err
+}
+
+// A Framer cuts a stream into its buffers, each of which states its size. NewFramer makes one.
+type Framer struct {
+	framer *C.struct_tpm_framer
+	inside bool
+}
+
+// NewFramer makes a framer that holds nothing.
+func NewFramer() *Framer {
+	framer := (*C.struct_tpm_framer)(room(C.tpm_framer_size(), C.tpm_framer_align()))
+	C.tpm_framer_init(framer)
+	return &Framer{framer: framer}
+}
+
+// Push gives the buffers that end in this piece, and ErrBroken, now and from now on, behind the first bytes of one that has no size.
+func (f *Framer) Push(piece []byte) (frames [][]byte, err error) {
+	for {
+		var status C.uint32_t
+		taken := C.tpm_framer_push(f.framer, place(piece), size(piece), &status)
+		piece = piece[taken:]
+		switch status {
+		case C.TPM_FRAMER_READY:
+			out := make([]byte, BufferBytes)
+			frames = append(frames, out[:C.tpm_framer_frame(f.framer, place(out), size(out))])
+			C.tpm_framer_next(f.framer)
+			f.inside = false
+		case C.TPM_FRAMER_BROKEN:
+			return frames, ErrBroken
+		default:
+			f.inside = f.inside || taken > 0
+		}
+		if len(piece) == 0 {
+			return frames, nil
+		}
+	}
+}
+
+// Inside says whether the stream stands inside a buffer.
+func (f *Framer) Inside() bool { return f.inside }
+
+// A Device in memory answers commands. NewDevice makes one, which is not started.
+type Device struct{ device *C.struct_tpm_device }
+
+// NewDevice makes a device of this owner, of which no counter has had a greater value, or gives ErrTooLong.
+func NewDevice(owner []byte, greatest uint64) (*Device, error) {
+	device := (*C.struct_tpm_device)(room(C.tpm_device_size(), C.tpm_device_align()))
+	if C.tpm_device_init(device, place(owner), size(owner), C.uint64_t(greatest)) == 0 {
+		return nil, ErrTooLong
+	}
+	return &Device{device}, nil
+}
+
+// PowerCycle switches the power off and on: the counters stay.
+func (d *Device) PowerCycle() { C.tpm_device_power_cycle(d.device) }
+
+// Execute gives the response to these bytes. The nonce is 64 fresh random bytes; of another length it is ErrNonce.
+func (d *Device) Execute(command, nonce []byte) ([]byte, error) {
+	if len(nonce) != NonceBytes {
+		return nil, ErrNonce
+	}
+	out := make([]byte, BufferBytes)
+	return out[:C.tpm_device_execute(d.device, place(command), size(command), place(nonce), place(out), size(out))], nil
+}
+
+// A Caller is the other end of a session. NewCaller makes one; where a call gives an error, nothing changes.
+type Caller struct{ caller *C.struct_tpm_caller }
+
+// NewCaller makes a caller without a session.
+func NewCaller() *Caller {
+	caller := (*C.struct_tpm_caller)(room(C.tpm_caller_size(), C.tpm_caller_align()))
+	C.tpm_caller_init(caller)
+	return &Caller{caller}
+}
+
+// Start holds the session that a TPM2_StartAuthSession and its reply make, or gives ErrNoSession.
+func (c *Caller) Start(command, reply, bindAuth []byte) error {
+	held := C.tpm_caller_start(c.caller, place(command), size(command), place(reply), size(reply), place(bindAuth), size(bindAuth))
+	return unless(held != 0, ErrNoSession)
+}
+
+// Seal gives the command with the session, which then waits for the reply, or ErrNotSealed. The nonce is fresh and random.
+func (c *Caller) Seal(command, first, second, auth, nonce []byte, keep bool) ([]byte, error) {
+	out, kept := make([]byte, BufferBytes), C.uint32_t(0)
+	if keep {
+		kept = 1
+	}
+	count := C.tpm_caller_seal(c.caller, place(command), size(command), place(first), size(first), place(second), size(second),
+		place(auth), size(auth), place(nonce), size(nonce), kept, place(out), size(out))
+	return out[:count], unless(count != 0, ErrNotSealed)
+}
+
+// Open takes the reply to the sealed command, or gives ErrNotOpened: then nothing in it is to be believed.
+func (c *Caller) Open(reply []byte) error {
+	return unless(C.tpm_caller_open(c.caller, place(reply), size(reply)) == C.TPM_CALLER_OPENED, ErrNotOpened)
+}
+
+// GiveUp frees the session as it was before the command that this refusal answers, or gives ErrNotGivenUp.
+func (c *Caller) GiveUp(refusal []byte) error {
+	return unless(C.tpm_caller_give_up(c.caller, place(refusal), size(refusal)) != 0, ErrNotGivenUp)
+}
