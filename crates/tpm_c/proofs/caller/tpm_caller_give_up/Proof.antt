@@ -1,113 +1,34 @@
--- `tpm_caller_give_up` meets its contract: a walk of its MIR by hand.
-use Rattle.tpm_c.proofs.Steps.{◌≡◌, ℕ, List, [], ◌∷◌, length, refl, w32, Bor, Ura, full_share, named, Val, vptr, SProp, ent, sep, via, snd∗, never, never_e, id⊢, emp, Lft, GName, Fml, flft, flent, Memory, Routine, Calls, Loops, WpFn, Logic, sem, Body, Fun, fact, fact_i, Lfts, Shares, tables, ‵, raw, ◌⊛◌, some, later, ◌$◌, ◌∵◌, !, qed, by, move, drop, use0, use1, use3, split, join, pick, fsplit, fjoin, rewrite, suffices, await, done, lft_new, lft_end, addr, stop, of_opd, and_then, no_more, returns, enter, alloc_all, pass_all, free_all, look_at, through, get, sets, lands_as, FmC, yes, owns, mem, part_at, uint_Lawful, u8, u32, SliceRefOf, Is, shows, MutBor, MutRef, Room, ShrSlice, slice_val, shr_slice_vals, shr_slice_Tells, Slot, plain, lends_ref, ref_back, Ptr, block_ptr, null_ptr, RawPtr, ptr_val, rawptr_vals, rawptr_Tells, peeks, heard, nothing, Contract, Triple, calls_at, ensured, lasts, on_entry, alive, triple_of, Stays, stay_dropped, walk_of, Goes-dropped, ends_at, proved, framed}
-use Rattle.tpm_c.specs.declared.caller.Held.{Held}
+-- `tpm_caller_give_up` meets its contract: what is held is lent to `give_up`.
+use Rattle.tpm_c.proofs.Steps.{◌≡◌, [], ◌∷◌, refl, w32, full_share, named, id⊢, Valss, ‵, ◌$◌, ◌∵◌, !, qed, done, addr, stop, of_opd, and_then, no_more, returns, enter, alloc_all, pass_all, free_all, look_at, through, get, sets, lands_as, WpFn, uint_Lawful, u8, mut_vals, shr_slice_vals, shr_slice_Tells, Ptr, block_ptr, rawptr_vals, rawptr_Tells, types_at, triple_of, walk_of, lasts_of, tables, proved, framed}
+use Rattle.tpm_c.proofs.Lending.{stayed, goes, others, entry, in_block, becomes, lent}
 use Rattle.tpm_c.specs.contracts.caller.Held.{the_row}
-use Rattle.tpm_c.specs.contracts.caller.give_up as of
-use Rattle.tpm_c.proofs.caller.give_up.Symbol.{name as #of}
-use Rattle.tpm_c.proofs.caller.give_up.Met as of_thm
 use Rattle.tpm_c.specs.Callers.{held_at, give_up_code, after_give_up}
-use Rattle.tpm_c.specs.contracts.caller.tpm_caller_give_up.Key.{name as key}
+use Rattle.tpm_c.specs.contracts.caller.give_up as of
+use Rattle.tpm_c.proofs.caller.give_up.Met.{met}
 use Rattle.tpm_c.specs.contracts.caller.tpm_caller_give_up as f
 use Rattle.tpm_c.proofs.caller.tpm_caller_give_up.Statement as stated
 use Rattle.tpm_c.proofs.caller.tpm_caller_give_up.Code as code
 
--- the parameters of which nothing is wanted at exit
-abbrev place-slot : Slot 1
-place-slot = plain (λ κs. RawPtr)
-
-abbrev c-slot : Slot 1
-c-slot = SliceRefOf (0 ∷ []) tt (plain (λ κs. u8)) (λ κs. tt)
-
-abbrev stayed : Stays (f.ended).signature.params (f.ended).kept
-stayed = (stay_dropped place-slot yes, (stay_dropped c-slot yes, tt))
-
-module _ {M : Type 1} {𝓤 : Ura M} (𝓛 : Logic 𝓤) (at_mem : Memory → SProp 𝓤) (run : Routine → Fun 𝓤) where
-  abbrev Of : Contract 𝓤
-  Of = triple_of 𝓛 of.signature (of.spec 𝓛 at_mem run)
-
-module _ {M : Type 1} {𝓤 : Ura M} (𝓛 : Logic 𝓤) (at_mem : Memory → SProp 𝓤) (run : Routine → Fun 𝓤) (C : Calls 𝓤 𝓛.H) (Λ : Loops 𝓤 𝓛.H) (fm : FmC 𝓤 𝓛.H 𝓛.laws C)
-    (known : Triple 𝓤 (C #of) (Of 𝓛 at_mem run)) (κs : Lfts 1) (qs : Shares 1) (c : Bor (List ℕ)) (d : Held) where
-  open 𝓛 use {H}
-
-  abbrev Entry : Ptr → SProp 𝓤
-  Entry p = on_entry 𝓛 f.signature κs qs (p, (c, tt)) (rawptr_vals p, (shr_slice_vals c, tt))
-
-  abbrev bound : Ptr → (walk_of 𝓛 f.ended stayed (f.clauses 𝓛 at_mem run)).Ghost
-  bound p = ((κs, qs, tt, (p, (c, tt)), (rawptr_vals p, (shr_slice_vals c, tt))), d)
-
-  abbrev Post : Ptr → Val → SProp 𝓤
-  Post p = (walk_of 𝓛 f.ended stayed (f.clauses 𝓛 at_mem run)).post (bound p)
-
-  abbrev Runs : Ptr → SProp 𝓤
-  Runs p = WpFn 𝓤 H C Λ code.function (ptr_val p ∷ slice_val c.ref_ptr (length c.now) ∷ []) (Post p)
-
-  abbrev Ends : Type 0
-  Ends = Held × (Unit {0} × Unit {0})
-
-  -- what is held after the call
-  abbrev next : Held
-  next = after_give_up d c.now
-
-  module _ (b o : ℕ) where
-    abbrev lies : Held → Fml
-    lies x = part_at the_row full_share x b o
-
-    abbrev Says : ℕ → Ends → Type 0
-    Says r ws = r ≡ give_up_code d c.now
-
-    abbrev Gives : ℕ → Ends → Type 0
-    Gives r ws = Says r ws × (ws.0 ≡ next)
-
-    walk : Room u8 (length c.now) → ent 𝓤 (sep 𝓤 (sem 𝓛 (lies d)) (Entry (block_ptr b o))) (Runs (block_ptr b o))
-    walk rc =
-        qed 𝓛 (‵ (lies d) ∷ (raw (alive 𝓛 f.signature κs qs) ⊛ ‵ (owns (RawPtr ∷ ShrSlice (named 0) κs.0 u8 ∷ [])
-        (block_ptr b o, (c, tt)) (rawptr_vals (block_ptr b o), (shr_slice_vals c, tt)))) ∷ []) ∵
-        enter ! C Λ code.function (vptr b o ∷ slice_val c.ref_ptr (length c.now) ∷ []) _ $
-        alloc_all ! (λ l. pass_all ! refl ((tt, tt), ((tt, (tt, (record { fits = rc.0 }, tt))), tt)) $
-        -- &mut *(place as *mut Held)
-        sets ! (of_opd ! (get ! refl)) refl (tt, tt) $
-        sets ! (addr ! (through ! refl (stop !))) refl (tt, tt) $
-        lft_new ! tt (λ α. let κ : Lft = α ∷ [] in move ! (1 ∷ []) $
-        use1 𝓛 (later (some (λ (δ : GName). ‵ ((MutRef (named 0) κ the_row).own_val (record { ref_ptr = (b, o); ghost_name = δ; now = d }) (vptr b o ∷ [])) ⊛ ‵ (flent κ (Body (mem the_row) b o δ)))))
-        (lends_ref 𝓛 the_row (named 0) κ d b o) $ await ! tt $ pick ! (λ δ. split ! $
-        -- [the reference; the lender's part; the token; what the types own; the locals]
-        let x : MutBor Held = record { ref_ptr = (b, o); ghost_name = δ; now = d } in
-        let y : (Of 𝓛 at_mem run).Ghost = (((κ, κs), (full_share, qs), tt, (x, (c, tt)), (vptr b o ∷ [], (shr_slice_vals c, tt))), tt) in
-        move ! (3 ∷ []) $ split ! $ move ! (1 ∷ []) $ fsplit ! $ drop ! $ move ! (2 ∷ 0 ∷ []) $ fjoin ! $ move ! (3 ∷ 1 ∷ 0 ∷ []) $ join ! $ join ! $
-        nothing ! $ move ! (1 ∷ 0 ∷ []) $ join ! $
-        use1 𝓛 (raw ((Of 𝓛 at_mem run).pre y)) (id⊢ 𝓤 ((Of 𝓛 at_mem run).pre y)) $
-        -- give_up(..)
-        calls_at ! fm (Of 𝓛 at_mem run) known y (and_then ! (get ! refl) (and_then ! (get ! refl) (no_more !))) (λ v.
-        use1 𝓛 (later (some (λ (r : ℕ). ((‵ (flft κ full_share) ⊛ raw (alive 𝓛 f.signature κs qs)) ⊛ ‵ (u32.own_val r (v ∷ []))) ⊛ raw (ensured 𝓛 of.ended (of.clauses 𝓛 at_mem run) (κ, κs) (x, (c, tt)) tt r)))) (id⊢ 𝓤 _) $ await ! tt $ pick ! (λ r.
-        split ! $ move ! (1 ∷ []) $
-        use1 𝓛 (some (λ (ws : Ends). ‵ (lasts of.ended (κ, κs) (x, (c, tt)) ws) ⊛ raw (fact 𝓤 (Gives r ws)))) (id⊢ 𝓤 _) $ pick ! (λ ws.
-        split ! $ move ! (1 ∷ []) $ heard ! (Gives r ws) (λ e. fsplit ! $ fsplit ! $
-        -- [what is said of the last value; the borrow; the other parameters; the tokens and the result; the lender's part; ..]
-        move ! (3 ∷ []) $ split ! $ split ! $ lft_end ! tt $ move ! (0 ∷ 6 ∷ 3 ∷ []) $
-        use3 𝓛 (later (‵ (lies ws.0))) (ref_back 𝓛 the_row κ δ ws.0 b o) $ await ! tt $
-        rewrite ! 0 (λ (h : Held). ‵ (lies h)) e.1 refl $
-        -- [what is held; the tokens; the result; the borrow; what is said of the parameters; the locals]
-        move ! (3 ∷ []) $ drop ! $ move ! (2 ∷ []) $
-        peeks ! u32 (Is u32) (shows 𝓛 u32) r (v ∷ []) (λ is. lands_as ! refl refl ((uint_Lawful 𝓛 w32).typed r _ is).0 $
-        returns ! (look_at ! 0 refl) $ free_all ! refl $
-        -- [the result; what is held; the tokens; what is said of the parameters]
-        move ! (3 ∷ []) $ drop ! $ nothing ! $ nothing ! $ fjoin ! $ nothing ! $ fjoin ! $
-        -- [what is had of the parameters; the result; what is held; the tokens]
-        move ! (2 ∷ []) $
-        suffices ! _ (ends_at 𝓛 f.ended stayed (f.clauses 𝓛 at_mem run) (bound (block_ptr b o)) v r (tt, (tt, tt)) (tt, (tt, tt))) $
-        use0 𝓛 (raw (fact 𝓤 (Says r ws))) (fact_i 𝓤 (Says r ws) (emp 𝓤) e.0) $ move ! (1 ∷ 0 ∷ []) $ join ! $
-        -- [what is held with what is said; what is had; the result; the tokens]
-        move ! (1 ∷ 2 ∷ []) $ join ! $ move ! (2 ∷ 0 ∷ []) $ join ! $ done !))))))))
-
-  at_each : (p : Ptr) → Room u8 (length c.now) → ent 𝓤 (sep 𝓤 (Entry p) (sem 𝓛 (held_at d p))) (Runs p)
-  at_each (block_ptr b o) rc = qed 𝓛 (raw (Entry (block_ptr b o)) ∷ ‵ (held_at d (block_ptr b o)) ∷ []) ∵ move ! (1 ∷ []) $ by ! (walk b o rc)
-  at_each null_ptr rc = via 𝓤 (never 𝓤) (snd∗ 𝓤 (Entry null_ptr) (never 𝓤)) (never_e 𝓤 _)
-
 pub tpm_caller_give_up_spec : {M : Type 1} → stated.statement M
 tpm_caller_give_up_spec 𝓤 𝓛 𝓜 𝓡 wired =
-    let 𝓣 = tables 𝓤 𝓛.H 𝓜 𝓡 𝓡.env in
-    proved 𝓛 f.ended stayed (f.clauses 𝓛 𝓜.mem 𝓡.returns) 𝓜 𝓡 (Goes-dropped 𝓛 1 place-slot yes (λ κs x f. refl), (Goes-dropped 𝓛 1 c-slot yes (λ κs x f. refl), tt))
-    key code.function (code.unfolded 𝓤 𝓛.H 𝓜 𝓡 wired)
+    let c = f.clauses 𝓛 𝓜.mem 𝓡.returns in let 𝓣 = tables 𝓤 𝓛.H 𝓜 𝓡 𝓡.env in
+    proved 𝓛 f.ended (stayed f.ended) c 𝓜 𝓡 (goes 𝓛 f.ended) f.Key.name code.function (code.unfolded 𝓤 𝓛.H 𝓜 𝓡 wired)
     (λ κs. (rawptr_vals, (shr_slice_vals, tt)))
     (λ κs. (rawptr_Tells, (shr_slice_Tells (named 0) κs.0 u8, tt)))
-    (λ κs qs bounds a g are. at_each 𝓛 𝓜.mem 𝓡.returns 𝓣.C 𝓣.Λ (framed 𝓤 𝓛.H 𝓜 𝓣) (of_thm.met 𝓤 𝓛 𝓜 𝓡 (code.calls-tpm_c::caller::give_up 𝓡.env wired)) κs qs a.1.0 g a.0 are.1.0.0.1)
+    (λ κs qs bounds a held are.
+    let vals : Valss (types_at (others f.signature.params) κs) = (shr_slice_vals a.1.0, tt) in
+    let refusal = a.1.0.now in
+    let y : Ptr → (walk_of 𝓛 f.ended (stayed f.ended) c).Ghost = λ p. ((κs, qs, bounds, (p, a.1), (rawptr_vals p, vals)), held) in
+    in_block 𝓛 f.ended c (WpFn 𝓤 𝓛.H 𝓣.C 𝓣.Λ code.function) y (held_at held) (id⊢ 𝓤 _) (λ b o.
+    qed 𝓛 (‵ (held_at held (block_ptr b o)) ∷ entry 𝓛 f.ended c (y (block_ptr b o)) ∷ []) ∵ enter ! _ _ _ _ _ $
+    alloc_all ! (λ l. pass_all ! refl ((tt, tt), ((tt, (tt, (record { fits = are.1.0.0.1.0 }, tt))), tt)) $
+    -- &mut *(place as *mut Held)
+    sets ! (of_opd ! (get ! refl)) refl (tt, tt) $
+    sets ! (addr ! (through ! refl (stop !))) refl (tt, tt) $
+    lent ! (framed 𝓤 𝓛.H 𝓜 𝓣) f.ended c (y (block_ptr b o)) the_row held b o (λ us. (tt, us)) (lasts_of κs (others f.signature.params) (f.ended).kept.1 a.1) (λ us. refl)
+    (λ r w us. (r ≡ give_up_code held refusal) × (w ≡ after_give_up held refusal))
+    (triple_of 𝓛 of.signature (of.spec 𝓛 𝓜.mem 𝓡.returns)) (met 𝓤 𝓛 𝓜 𝓡 (code.calls-tpm_c::caller::give_up 𝓡.env wired))
+    (λ κ x. (((κ, κs), (full_share, qs), tt, (x, a.1), (mut_vals x, vals)), tt)) (λ κ δ. id⊢ 𝓤 _) (λ κ δ v. id⊢ 𝓤 _)
+    (λ r w us e. becomes 𝓛 the_row b o e.1 e.0)
+    (λ κ δ. and_then ! (get ! refl) (and_then ! (get ! refl) (no_more !)))
+    (λ v r is. lands_as ! refl refl ((uint_Lawful 𝓛 w32).typed r _ is).0 $ returns ! (look_at ! 0 refl) $ free_all ! refl $ done !))) a.0)
