@@ -17,7 +17,7 @@ ghost use Rattle.tpm_c.specs.Rooms.{room_size, room_align};
 ghost use Rattle.tpm_c.specs.Written.{IsIn};
 ghost use Rattle.tpm_c.specs.Callers.{held_at, request_in, start_reply_in, started_by, start_code, after_start, fault_number, open_code, kept, after_open, give_up_code, after_give_up, names_of, body_in, are_short, do_fit, seal_of, sealing, sealed_bytes, after_seal};
 
-use crate::out::put;
+use crate::out::{BUFFER_BYTES, put};
 use arrayvec::ArrayVec;
 use tpm_buffer::{
     Command, CommandBody, CommandCode, ReplyBody, Response, StartAuth, StartReply, decode_command,
@@ -25,9 +25,6 @@ use tpm_buffer::{
 };
 use tpm_caller::{Caller, CallerFault, Waiting};
 use tpm_types::{DIGEST_BYTES, NAME_BYTES, Name, Nonce};
-
-/// The room that any command needs.
-const BUFFER_BYTES: usize = 4096;
 
 /// Nothing is waited for.
 const NOT_WAITING: u32 = 5;

@@ -10,12 +10,9 @@ ghost use Rattle.tpm_device.specs.Stands.{Stands};
 ghost use Rattle.tpm_c.specs.Written.{IsIn};
 ghost use Rattle.tpm_c.specs.Devices.{device_at, room_for, made_at, whether_fits, after, written, IsAnswered};
 
-use crate::out::put;
+use crate::out::{BUFFER_BYTES, put};
 use tpm_device::Device;
 use tpm_types::{AuthValue, DIGEST_BYTES};
-
-/// The room that any answer needs.
-const BUFFER_BYTES: usize = 4096;
 
 /// How many bytes a device takes.
 #[unsafe(no_mangle)]

@@ -5,6 +5,7 @@ ghost use Rattle.tpm_wire.specs.Token.{at_start};
 ghost use Rattle.tpm_wire.specs.Reading.{read as read_layout, read_all};
 ghost use Rattle.tpm_c.specs.Parts.{refusal_of, left_over, whole_in};
 
+use crate::out::BUFFER_BYTES;
 use tpm_wire::response_code::SIZE;
 use tpm_wire::{Cursor, Refusal, Wire};
 
@@ -35,9 +36,6 @@ pub struct TpmRefusal {
     pub at: u32,
 }
 
-// More bytes than any list has.
-const MOST_LOOKED_AT: usize = 4096;
-
 fn read<T: Wire + Drop>(bytes: &[u8]) -> Result<T, Refusal>
     requires { length bytes.now ≤ 4096 }
     ensures { result ≡ read_all T.layout bytes.now }
@@ -58,7 +56,7 @@ fn long_fault<T: Wire + Drop>(bytes: &[u8]) -> Refusal
     requires { 4096 < length bytes.now }
     ensures { result ≡ left_over (read_layout 0 T.layout (at_start (take 4096 bytes.now))) }
 {
-    let mut cursor = Cursor::new(&bytes[..MOST_LOOKED_AT]);
+    let mut cursor = Cursor::new(&bytes[..BUFFER_BYTES]);
     match T::take(&mut cursor) {
         Ok(_) => Refusal {
             code: SIZE,
@@ -72,7 +70,7 @@ fn long_fault<T: Wire + Drop>(bytes: &[u8]) -> Refusal
 pub(crate) fn whole<T: Wire + Drop>(bytes: &[u8]) -> Result<T, Refusal>
     ensures { result ≡ whole_in T.layout bytes.now }
 {
-    if bytes.len() > MOST_LOOKED_AT {
+    if bytes.len() > BUFFER_BYTES {
         return Err(long_fault::<T>(bytes));
     }
     read(bytes)
