@@ -1,6 +1,5 @@
 -- The parts of a command's view are those bytes of the command.
 use Rattle.std.proofs.Common.{◌≡◌, ◌≢◌, ℕ, ◌+◌, ◌*◌, ◌<◌, true, false, eqb, List, [], ◌∷◌, ◌++◌, length, take, drop, Some, refl, ap, subst, ◌∙◌, arith, append_assoc, append-nil, length-append}
-use Rattle.std.proofs.Math.Seq.{drop-append_seam, take-append_seam}
 use Rattle.std.specs.Prelude.{slice_get}
 use Rattle.std.specs.Int.{bytes_high_first}
 use Rattle.tpm_wire.specs.Spelling.{spelling, joined}
@@ -16,11 +15,7 @@ use Rattle.tpm_buffer.specs.Handles.{handles, handles_from, handle_kinds, others
 use Rattle.tpm_buffer.specs.Commands.{header, tag, command_size, authorization, authorization_size, sessions}
 use Rattle.tpm_buffer.specs.CommandAreas.{Cut, IsSpelledBy}
 use Rattle.tpm_c.specs.CommandViews.{HoldsSession, HoldsParts, behind, first_place, place}
-
--- a part behind so many bytes
-part_is : (before xs after bytes : List ℕ) (n : ℕ) → bytes ≡ before ++ (xs ++ after) → length before ≡ n → take (length xs) (drop n bytes) ≡ xs
-part_is before xs after bytes n is count =
-    rw (is, ← count) (ap (take (length xs)) (drop-append_seam before (xs ++ after)) ∙ take-append_seam xs after)
+use Rattle.tpm_c.proofs.Parts.{part_is}
 
 session_long : (a : Auth) → length (spelling auth_command a) ≡ 9 + length a.nonce + length a.hmac
 unfolding auth_command auth_session session_attrs sized_bytes

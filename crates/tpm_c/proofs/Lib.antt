@@ -4,6 +4,7 @@ pub mod HeldReplies
 pub mod Lending
 pub mod Lengths
 pub mod Lists
+pub mod Parts
 pub mod Quoting
 pub mod Replies
 pub mod Steps

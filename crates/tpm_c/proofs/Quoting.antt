@@ -1,6 +1,5 @@
 -- The parts of a quote's view are those bytes of the quote.
-use Rattle.std.proofs.Common.{◌≡◌, ℕ, ◌+◌, List, [], ◌++◌, length, take, drop, ap, ◌∙◌, arith, append_assoc, append-nil, length-append}
-use Rattle.std.proofs.Math.Seq.{drop-append_seam, take-append_seam}
+use Rattle.std.proofs.Common.{◌≡◌, ℕ, ◌+◌, List, [], ◌++◌, length, ◌∙◌, arith, append_assoc, append-nil, length-append}
 use Rattle.std.specs.Int.{bytes_high_first}
 use Rattle.tpm_wire.specs.Spelling.{spelling}
 use Rattle.tpm_wire.specs.Structures.{sized_bytes}
@@ -8,11 +7,7 @@ use Rattle.tpm_types.specs.declared.attest.Attest.{Attest}
 use Rattle.tpm_types.specs.Tpml.{selections}
 use Rattle.tpm_types.specs.Attest.{generated_value, generated, attest_quote, attest_type, yes_no, clock_info, quote_info, attest}
 use Rattle.tpm_c.specs.Attests.{HoldsAttest}
-
--- a part behind so many bytes
-part_is : (before xs after bytes : List ℕ) (n : ℕ) → bytes ≡ before ++ (xs ++ after) → length before ≡ n → take (length xs) (drop n bytes) ≡ xs
-part_is before xs after bytes n is count =
-    rw (is, ← count) (ap (take (length xs)) (drop-append_seam before (xs ++ after)) ∙ take-append_seam xs after)
+use Rattle.tpm_c.proofs.Parts.{part_is}
 
 clock_long : (a : Attest) → length (spelling clock_info a.clock_info) ≡ 17
 unfolding clock_info yes_no
