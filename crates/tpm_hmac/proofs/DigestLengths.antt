@@ -5,7 +5,6 @@ use Rattle.sha1.specs.Sha1 as S1
 use Rattle.sha2.specs.Sha256 as S2
 use Rattle.sha2.specs.Sha512 as S3
 use Rattle.tpm_types.specs.declared.alg.Alg.{Alg}
-use Rattle.tpm_types.specs.declared.alg.Alg.TheVariants.{Sha1, Sha256, Sha384}
 use Rattle.tpm_types.specs.Alg.{digest_len}
 use Rattle.tpm_hmac.specs.Hashes.{digest}
 use Rattle.tpm_hmac.specs.Hmac.{hmac}
@@ -25,11 +24,23 @@ unfolding S3.digest_bytes
 length-sha512_bytes h zero = refl
 length-sha512_bytes h (suc n) = length-append (S3.digest_bytes h n) (to_be_bytes w64 (slice_index h n)) ∙ rw (length-sha512_bytes h n) (omega arith)
 
+pub length-sha1 : (m : List ℕ) → length (S1.sha1 m) ≡ 20
+unfolding S1.sha1
+length-sha1 m = length-sha1_bytes _ 5
+
+pub length-sha256 : (m : List ℕ) → length (S2.sha256 m) ≡ 32
+unfolding S2.sha256
+length-sha256 m = length-sha256_bytes _ 8
+
+pub length-sha384 : (m : List ℕ) → length (S3.sha384 m) ≡ 48
+unfolding S3.sha384
+length-sha384 m = length-take-le 48 _ (omega (arith, length-sha512_bytes (S3.final_hash S3.initial_hash_384 m) 8))
+
+pub ruleset hashes = (length-sha1, length-sha256, length-sha384)
+
 pub length-digest : (a : Alg) (m : List ℕ) → length (digest a m) ≡ digest_len a
-unfolding digest S1.sha1 S2.sha256 S3.sha384
-length-digest Sha1 m = length-sha1_bytes _ 5
-length-digest Sha256 m = length-sha256_bytes _ 8
-length-digest Sha384 m = length-take-le 48 _ (omega (arith, length-sha512_bytes (S3.final_hash S3.initial_hash_384 m) 8))
+unfolding digest
+length-digest a m = grind (arith, hashes)
 
 pub length-hmac : (a : Alg) (key text : List ℕ) → length (hmac a key text) ≡ digest_len a
 unfolding hmac

@@ -2,10 +2,6 @@
 use Rattle.std.proofs.Common.{◌≡◌, ℕ, ◌+◌, ◌-◌, ◌≤◌, List, ◌++◌, length, take, drop, replicate, length-append, append_assoc, refl, sym, ap, ◌∙◌, arith}
 use Rattle.std.proofs.Math.Seq.{take-append-add}
 use Rattle.std.proofs.lemmas.List.{take_at, drop_at, drop-drop, drop-replicate, take-replicate}
-use Rattle.tpm_types.specs.declared.alg.Alg.{Alg}
-use Rattle.tpm_types.specs.declared.alg.Alg.TheVariants.{Sha1, Sha256, Sha384}
-use Rattle.tpm_types.specs.Alg.{block_len, digest_len}
-use Rattle.tpm_types.specs.Limits.{block_bytes}
 use Rattle.tpm_hmac.specs.Hmac.{filled}
 
 -- what is left of the zeros behind two parts that were written one after the other
@@ -27,14 +23,3 @@ fitted n m key long fits =
     let there : n ≡ length key + (n - length key) = omega arith in
     ap (λ (k : ℕ). take k (filled m key)) there ∙ take-append-add key (replicate (m - length key) 0) (n - length key)
     ∙ ap (λ (zeros : List ℕ). key ++ zeros) (take-replicate (n - length key) (m - length key) 0 (omega arith))
-
-pub block_fits : (alg : Alg) → block_len alg ≤ block_bytes
-block_fits Sha1 = omega arith
-block_fits Sha256 = omega arith
-block_fits Sha384 = omega arith
-
--- a digest takes no more than a block
-pub digest_fits : (alg : Alg) → digest_len alg ≤ block_len alg
-digest_fits Sha1 = omega arith
-digest_fits Sha256 = omega arith
-digest_fits Sha384 = omega arith

@@ -3,27 +3,17 @@ use Rattle.std.proofs.Common.{◌≡◌, ℕ, zero, suc, ◌+◌, ◌*◌, ◌<�
 use Rattle.std.proofs.lemmas.List.{take_all, take_at, take-append-drop}
 use Rattle.std.specs.Int.{w32, to_be_bytes}
 use Rattle.tpm_types.specs.declared.alg.Alg.{Alg}
-use Rattle.tpm_types.specs.declared.alg.Alg.TheVariants.{Sha1, Sha256, Sha384}
 use Rattle.tpm_types.specs.Alg.{digest_len}
 use Rattle.tpm_hmac.specs.Hmac.{kdfa, kdfa_block, kdfa_blocks, kdfa_text, block_count}
 use Rattle.tpm_hmac.proofs.DigestLengths.{length-hmac}
 
 -- where the next block ends
 pub next_end : (alg : Alg) (k : ℕ) → (k + 1) * digest_len alg ≡ k * digest_len alg + digest_len alg
-next_end Sha1 k = omega arith
-next_end Sha256 k = omega arith
-next_end Sha384 k = omega arith
-
-pub some : (alg : Alg) → 0 < digest_len alg
-some Sha1 = omega arith
-some Sha256 = omega arith
-some Sha384 = omega arith
+next_end alg k = omega arith
 
 -- so many blocks as reach n bytes and no more
 pub block_count-reached : (alg : Alg) (k n : ℕ) → n ≤ k * digest_len alg → k * digest_len alg < n + digest_len alg → block_count alg n ≡ k
-block_count-reached Sha1 k n reached before = omega arith
-block_count-reached Sha256 k n reached before = omega arith
-block_count-reached Sha384 k n reached before = omega arith
+block_count-reached alg k n reached before = grind arith
 
 pub length-kdfa_blocks : (alg : Alg) (key text : List ℕ) (k : ℕ) → length (kdfa_blocks alg key text k) ≡ k * digest_len alg
 unfolding kdfa_blocks
@@ -60,9 +50,7 @@ kdfa-whole alg key label context_u context_v k n out long reached before written
     sym (take_all n out (omega arith)) ∙ written ∙ rw (block_count-reached alg k n reached before) refl
 
 enough : (alg : Alg) (n : ℕ) → n ≤ block_count alg n * digest_len alg
-enough Sha1 n = omega arith
-enough Sha256 n = omega arith
-enough Sha384 n = omega arith
+enough alg n = grind arith
 
 pub length-kdfa : (alg : Alg) (key label context_u context_v : List ℕ) (n : ℕ) → length (kdfa alg key label context_u context_v n) ≡ n
 unfolding kdfa

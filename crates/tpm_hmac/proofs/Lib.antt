@@ -1,5 +1,4 @@
 pub mod DigestLengths
-pub mod Hashers
 pub mod Trimming
 pub mod Filling
 pub mod Differences

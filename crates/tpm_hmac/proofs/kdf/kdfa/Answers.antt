@@ -1,7 +1,8 @@
 use Rattle.std.proofs.Common.{◌≡◌, ◌-◌, ◌*◌, length, take, min, ap, ◌∙◌, arith, length-take-le}
 use Rattle.tpm_types.specs.Alg.{digest_len}
+use Rattle.tpm_types.proofs.Algs.{digest_some}
 use Rattle.tpm_hmac.specs.Hmac.{kdfa_text}
-use Rattle.tpm_hmac.proofs.KdfaBlocks.{next_end, some, written_more, kdfa-whole}
+use Rattle.tpm_hmac.proofs.KdfaBlocks.{next_end, written_more, kdfa-whole}
 use Rattle.tpm_hmac.proofs.kdf.kdfa.Goals as goal
 
 pub loop-done-preserved : goal.loop-done-preserved
@@ -18,7 +19,7 @@ loop-done-preserved c =
       long = omega (arith, c.put.auto.out, before.long);
       place = omega (arith, place, len, next);
       last = omega (arith, place, next, before.long, c.loop-done-test.true);
-      counted = omega (arith, len, some alg, before.counted, before.long, c.loop-done-test.true);
+      counted = omega (arith, len, digest_some alg, before.counted, before.long, c.loop-done-test.true);
       written = written_more alg c.args.key.now text k c.loop-done.done c.min-len.result c.loop-done.out c.put.new.out c.kdfa_block-block.result (take c.min-len.result c.as_slice.result.now)
           place long before.written c.kdfa_block-block.ensures.value (ap (take c.min-len.result) c.as_slice.ensures.value) c.put.ensures;
     }
