@@ -19,6 +19,7 @@ use Rattle.tpm_types.specs.declared.tpms.AuthReply.{AuthReply}
 use Rattle.tpm_types.specs.Handles.{rs_pw, is_session}
 use Rattle.tpm_types.specs.Tpma.{session_attrs, audits_or_encrypts}
 use Rattle.tpm_types.specs.Tpms.{auth_response}
+use Rattle.tpm_types.proofs.Algs.{digest_most}
 use Rattle.tpm_wire.specs.Structures.{sized_bytes}
 use Rattle.tpm_buffer.specs.declared.code.CommandCode.{CommandCode}
 use Rattle.tpm_buffer.specs.declared.command.Command.{Command}
@@ -46,7 +47,7 @@ use Rattle.tpm_model.specs.Runs.Event.{Given, Cycled}
 use Rattle.tpm_model.specs.Premises.{IsAccepted, HasSessionMac, NoncesDiffer, most_nonce, Keyed, mac_of, IsAmong, texts_checked, NoCollision, IsSealedBy, AreSealed, IsOther, SealsDiffer, keyed_reply, text_by, text_replied, texts_replied, Opening, keyed_awaited, text_awaited, text_opened, texts_opened, NoCollisionWith, IsOfCallers}
 use Rattle.tpm_model.proofs.Accepted.{Passed, passed, ok_is}
 use Rattle.tpm_model.proofs.Spelled.{was_read, spelled_by}
-use Rattle.tpm_model.proofs.Nonces.{HasStart, sound_along, digest_short}
+use Rattle.tpm_model.proofs.Nonces.{HasStart, sound_along}
 use Rattle.tpm_model.proofs.StillInStep.{held as still_held}
 use Rattle.tpm_model.proofs.Replay.{refused_not, among_later, cut_front, twice_as}
 use Rattle.tpm_model.proofs.Sealing.{loaded_handle, hmac_some}
@@ -311,7 +312,7 @@ module _ (o : Origin) (seals : List Seal) (xs : List Opening) (es fs : List Even
       ∙ ap (λ b. let c : AuthReply = record { nonce = nonce_next y.session n; attrs = y.auth.attrs; hmac = if b then [] else reply_mac y x.code params n } in c ∷ []) signs in
       let k = keyed_reply y x.code params n in
       let q = keyed_awaited w t.opening.body t.opening.auth in
-      let short : length a.hmac ≤ most_nonce = omega (arith, length-hmac y.session.hash y.key k.text, digest_short y.session.hash) in
+      let short : length a.hmac ≤ most_nonce = omega (arith, length-hmac y.session.hash y.key k.text, digest_most y.session.hash) in
       let read_it = step_read o before bytes n s d t done y.auth a one reply few short in
       let text : text_replied (presented p bytes) (outcome p bytes n) n ≡ k ∷ [] =
       ap (λ z. text_replied z (outcome p bytes n) n) done.asked ∙ ap (λ z. text_replied (Ok x) z n) t.is ∙ ap (λ z. text_by z x.code params n) evidence ∙ ap (λ b. if b then [] else k ∷ []) signs in

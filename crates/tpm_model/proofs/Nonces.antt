@@ -4,9 +4,8 @@ use Rattle.std.specs.Prelude.{if◌then◌else◌, ◌==◌, ◌⊎◌, nat_lt, 
 use Rattle.std.proofs.lemmas.Bool.Decides.{nat_tests}
 use Rattle.tpm_wire.specs.ResponseCodes.{rc_size, of_parameter}
 use Rattle.tpm_wire.proofs.Agreement.{bind_ok}
-use Rattle.tpm_types.specs.declared.alg.Alg.{Alg}
-use Rattle.tpm_types.specs.declared.alg.Alg.TheVariants.{Sha1, Sha256, Sha384}
 use Rattle.tpm_types.specs.Alg.{digest_len}
+use Rattle.tpm_types.proofs.Algs.{digest_most}
 use Rattle.tpm_buffer.specs.declared.command.Command.{Command}
 use Rattle.tpm_buffer.specs.declared.command.CommandBody.{CommandBody}
 use Rattle.tpm_buffer.specs.declared.command.CommandBody.TheVariants as bodies
@@ -111,11 +110,6 @@ both_passed true b code e = absurd (let z : ⊥ = cc in z)
 both_passed false true code e = absurd (let z : ⊥ = cc in z)
 both_passed false false code e = (refl, refl)
 
-pub digest_short : (a : Alg) → digest_len a ≤ most_nonce
-digest_short Sha1 = omega arith
-digest_short Sha256 = omega arith
-digest_short Sha384 = omega arith
-
 enough_and_few : (n m : ℕ) → nat_lt n 16 ≡ false → nat_lt m n ≡ false → m ≤ most_nonce → (least_nonce ≤ n) × (n ≤ most_nonce)
 enough_and_few n m a b le =
     let enough : 16 ≤ n = grind (arith, nat_tests) in
@@ -136,7 +130,7 @@ start_by o h k (bodies.StartAuthSession s) n reply q e b =
     let short = nat_lt (length s.nonce_caller) 16 in
     let f = bind_ok (refuse (short || nat_lt (digest_len s.auth_hash) (length s.nonce_caller)) (rc_size + of_parameter 1)) _ reply e in
     let g = both_passed short (nat_lt (digest_len s.auth_hash) (length s.nonce_caller)) (rc_size + of_parameter 1) f.1 in
-    subst HasLength (begun_same k s q reply b) (enough_and_few (length s.nonce_caller) (digest_len s.auth_hash) g.0 g.1 (digest_short s.auth_hash))
+    subst HasLength (begun_same k s q reply b) (enough_and_few (length s.nonce_caller) (digest_len s.auth_hash) g.0 g.1 (digest_most s.auth_hash))
 start_by o h k _ n reply q e b = absurd (let z : ⊥ = cc in z)
 
 pub sound_along : (o : Origin) (k : ℕ) (es : List Event) → IsSound k (after o [] es)

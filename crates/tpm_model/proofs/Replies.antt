@@ -87,8 +87,7 @@ reply_read by i size offset bytes le = record {
 value_spelled : (alg : Alg) (d : List ℕ) → length d ≡ digest_len alg → IsSpelled digest_value (alg, d)
 unfolding digest_value hash
 value_spelled Sha1 d e = record { fits = λ left. ((omega arith, refl), ((e, refl), refl)); some = omega arith }
-value_spelled Sha256 d e = record { fits = λ left. ((omega arith, refl), ((e, refl), refl)); some = omega arith }
-value_spelled Sha384 d e = record { fits = λ left. ((omega arith, refl), ((e, refl), refl)); some = omega arith }
+value_spelled alg d e = record { fits = λ left. ((omega arith, refl), ((e, refl), refl)); some = omega arith }
 
 length_value : (alg : Alg) (d : List ℕ) → length d ≡ digest_len alg → length (spelling digest_value (alg, d)) ≡ 2 + digest_len alg
 unfolding digest_value hash

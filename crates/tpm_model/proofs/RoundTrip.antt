@@ -9,9 +9,7 @@ use Rattle.tpm_wire.specs.Spelling.{spelling}
 use Rattle.tpm_wire.proofs.Buffers.{buffer_sound}
 use Rattle.tpm_wire.proofs.Whole.{exactly_one, spells_read}
 use Rattle.tpm_types.specs.declared.tpms.AuthReply.{AuthReply}
-use Rattle.tpm_types.specs.declared.alg.Alg.{Alg}
-use Rattle.tpm_types.specs.declared.alg.Alg.TheVariants.{Sha1, Sha256, Sha384}
-use Rattle.tpm_types.specs.Alg.{digest_len}
+use Rattle.tpm_types.proofs.Algs.{digest_most}
 use Rattle.tpm_types.specs.Tpma.{is_session_attrs}
 use Rattle.tpm_buffer.specs.declared.code.CommandCode.{CommandCode}
 use Rattle.tpm_buffer.specs.declared.command.Command.{Command}
@@ -89,11 +87,6 @@ keep_attrs : (keep : Bool) → is_session_attrs (attrs_for keep) ≡ true
 keep_attrs true = refl
 keep_attrs false = refl
 
-digest_short : (a : Alg) → digest_len a ≤ most_nonce
-digest_short Sha1 = omega arith
-digest_short Sha256 = omega arith
-digest_short Sha384 = omega arith
-
 open_is : (w : Waiting) (body : ReplyBody) (a : AuthReply) → length a.nonce ≡ length w.caller.nonce → a.hmac ≡ hmac w.caller.hash w.key (awaited_text w body a)
     → opened_session w body (a ∷ []) ≡ Ok (record { caller = caller_after w a; response = done_with (record { body = body; auths = a ∷ [] }) })
 open_is w body a l m =
@@ -109,7 +102,7 @@ open_trip o h s n d short whole e t =
     let a = replied s d.reply.body n in
     let r : Reply = record { body = d.reply.body; auths = a ∷ [] } in
     let long : length a.nonce ≡ length s.caller.nonce = omega (arith, length-take (length s.caller.nonce) n) in
-    let mac_short : length a.hmac ≤ most_nonce = omega (arith, digest_short s.caller.hash, length-hmac s.caller.hash (seal_key s) (reply_text s.caller.hash (code_for s.body) (reply_params d.reply.body) (take (length s.caller.nonce) n) s.nonce (attrs_for s.keep))) in
+    let mac_short : length a.hmac ≤ most_nonce = omega (arith, digest_most s.caller.hash, length-hmac s.caller.hash (seal_key s) (reply_text s.caller.hash (code_for s.body) (reply_params d.reply.body) (take (length s.caller.nonce) n) s.nonce (attrs_for s.keep))) in
     let bytes_are : answer o h (sealed s) n ≡ spelling (response (code_for s.body)) (done_with r) =
     ap answered e ∙ ap (λ (c : Command). spelling (response (code_for c.body)) (done_with d.reply)) t.command ∙ ap (λ (q : Reply). spelling (response (code_for s.body)) (done_with q)) t.reply in
     let read_it = ap (read_all (response (code_for s.body))) bytes_are ∙ read_again_as s.body d.reply.body a t.own (omega arith) mac_short (keep_small s.keep) (keep_attrs s.keep) in

@@ -22,8 +22,7 @@ use Rattle.tpm_buffer.specs.Codes.{code_number}
 use Rattle.tpm_types.specs.declared.tpms.Auth.{Auth}
 use Rattle.tpm_types.specs.Handles.{is_session, is_hmac_session, is_policy}
 use Rattle.tpm_types.specs.declared.alg.Alg.{Alg}
-use Rattle.tpm_types.specs.declared.alg.Alg.TheVariants.{Sha1, Sha256, Sha384}
-use Rattle.tpm_types.specs.Alg.{digest_len}
+use Rattle.tpm_types.proofs.Algs.{digest_some}
 use Rattle.tpm_hmac.specs.Hmac.{hmac}
 use Rattle.tpm_hmac.specs.Sessions.{trim, whole_key, cp_hash, mac_text}
 use Rattle.tpm_hmac.proofs.DigestLengths.{length-hmac}
@@ -110,11 +109,6 @@ pub some_is : (s t : Session) → some s ≡ some t → s ≡ t
 some_is s t e = cc
 
 -- ---- the HMAC of a sealed command
-
-pub digest_some : (a : Alg) → 0 < digest_len a
-digest_some Sha1 = omega arith
-digest_some Sha256 = omega arith
-digest_some Sha384 = omega arith
 
 pub hmac_some : (a : Alg) (key text : List ℕ) → 0 < length (hmac a key text)
 hmac_some a key text = omega (arith, length-hmac a key text, digest_some a)

@@ -9,6 +9,7 @@ use Rattle.tpm_types.specs.declared.handle_sets.BindHandle.{BindHandle}
 use Rattle.tpm_types.specs.declared.handle_sets.BindHandle.TheVariants as binds
 use Rattle.tpm_types.specs.declared.alg.Alg.{Alg}
 use Rattle.tpm_types.specs.Alg.{digest_len}
+use Rattle.tpm_types.proofs.Algs.{digest_most}
 use Rattle.tpm_types.specs.Handles.{is_hmac_session, is_policy}
 use Rattle.tpm_buffer.specs.declared.command.CommandBody.TheVariants as bodies
 use Rattle.tpm_buffer.specs.declared.command.StartAuth.{StartAuth}
@@ -27,7 +28,7 @@ use Rattle.tpm_model.specs.Callers.{nonces_fit, bound_to, started_with}
 use Rattle.tpm_model.specs.Premises.{nonce_bytes}
 use Rattle.tpm_model.proofs.Accepted.{passed, next_is, ok_is}
 use Rattle.tpm_model.proofs.Slots.{IsSlot, in_slot}
-use Rattle.tpm_model.proofs.Nonces.{both_passed, digest_short}
+use Rattle.tpm_model.proofs.Nonces.{both_passed}
 use Rattle.tpm_model.proofs.Sealing.{some}
 
 -- ---- what was answered
@@ -116,7 +117,7 @@ starts o h bytes n d q r auth e body reply whole same =
     let g : History = Accepted d.command d.reply n ∷ h in
     let k = slot_of r.session in
     let tpm : r.nonce_tpm ≡ nonce_from q n = ap (λ (z : StartReply). z.nonce_tpm) x.is in
-    let long : length r.nonce_tpm ≡ length q.nonce_caller = omega (arith, ap length tpm, length-take (length q.nonce_caller) n, whole, x.most, digest_short q.auth_hash) in
+    let long : length r.nonce_tpm ≡ length q.nonce_caller = omega (arith, ap length tpm, length-take (length q.nonce_caller) n, whole, x.most, digest_most q.auth_hash) in
     let fit : nonces_fit q r ≡ true = rw (eq-eqb (length r.nonce_tpm) (length q.nonce_caller) long, le-leb 16 (length q.nonce_caller) x.least, le-leb (length q.nonce_caller) (digest_len q.auth_hash) x.most) refl in
     let c : CallerSession = record { handle = r.session; hash = q.auth_hash; key = session_key q.auth_hash (bound_to q.bind auth) r.nonce_tpm q.nonce_caller; nonce = r.nonce_tpm } in
     let by : begun k d.command.body d.reply.body ≡ Some q =
