@@ -1,46 +1,27 @@
 -- One register of a bank is written, and no other changes.
 use Rattle.std.proofs.Common.{◌≡◌, ◌≢◌, ℕ, ◌+◌, ◌-◌, ◌*◌, ◌<◌, ◌≤◌, List, length, take, drop, true, false, refl, sym, ap, ◌∙◌, arith, subst}
-use Rattle.std.specs.Prelude.{◌==◌, nat_lt, slice_index_or, if◌then◌else◌}
+use Rattle.std.specs.Prelude.{◌==◌, nat_lt, if◌then◌else◌}
 use Rattle.std.proofs.lemmas.Bool.Decides.{nat_tests}
 use Rattle.std.proofs.lemmas.List.{drop-take}
 use Rattle.std.proofs.lemmas.Slice.{take-put_mid_below, drop-put_mid, between-put_mid}
 use borrow.Rule.Slice.PartMut.{put_mid}
 use Rattle.tpm_types.specs.declared.alg.Alg.{Alg}
-use Rattle.tpm_types.specs.declared.alg.Alg.TheVariants.{Sha1, Sha256, Sha384}
-use Rattle.tpm_types.specs.Alg.{all_algs, bank_place, digest_len}
-use Rattle.tpm_store.specs.Banks.{place_of, value_at, with_value, Holds}
+use Rattle.tpm_types.specs.Alg.{bank_place, digest_len}
+use Rattle.tpm_types.proofs.Algs.{same_bank}
+use Rattle.tpm_store.specs.Banks.{registers, all_bytes, place_of, value_at, with_value, Holds}
 
 -- ---- places
 
 -- the registers of all banks in the order of their places
 abbrev number_of : Alg → ℕ → ℕ
-number_of alg q = 24 * bank_place alg + q
+number_of alg q = registers * bank_place alg + q
 
 -- an earlier register ends before a later one
-apart : (a b : Alg) (q p : ℕ) → q < 24 → p < 24 → number_of a q < number_of b p → place_of a q + digest_len a ≤ place_of b p
-apart Sha1 Sha1 q p q_lt p_lt before = omega arith
-apart Sha1 Sha256 q p q_lt p_lt before = omega arith
-apart Sha1 Sha384 q p q_lt p_lt before = omega arith
-apart Sha256 Sha1 q p q_lt p_lt before = omega arith
-apart Sha256 Sha256 q p q_lt p_lt before = omega arith
-apart Sha256 Sha384 q p q_lt p_lt before = omega arith
-apart Sha384 Sha1 q p q_lt p_lt before = omega arith
-apart Sha384 Sha256 q p q_lt p_lt before = omega arith
-apart Sha384 Sha384 q p q_lt p_lt before = omega arith
+apart : (a b : Alg) (q p : ℕ) → q < registers → p < registers → number_of a q < number_of b p → place_of a q + digest_len a ≤ place_of b p
+apart a b q p q_lt p_lt before = grind arith
 
-pub fits : (a : Alg) (q : ℕ) → q < 24 → place_of a q + digest_len a ≤ 2400
-fits Sha1 q q_lt = omega arith
-fits Sha256 q q_lt = omega arith
-fits Sha384 q q_lt = omega arith
-
-bank_at : (a : Alg) → slice_index_or all_algs (bank_place a) Sha1 ≡ a
-bank_at Sha1 = refl
-bank_at Sha256 = refl
-bank_at Sha384 = refl
-
--- a bank has a place of its own
-pub same_bank : (a b : Alg) → bank_place a ≡ bank_place b → a ≡ b
-same_bank a b e = sym (bank_at a) ∙ ap (λ (k : ℕ). slice_index_or all_algs k Sha1) e ∙ bank_at b
+pub fits : (a : Alg) (q : ℕ) → q < registers → place_of a q + digest_len a ≤ all_bytes
+fits a q q_lt = grind arith
 
 -- ---- parts of a list
 
@@ -58,7 +39,7 @@ part_here xs v at n within long =
 
 -- ---- a value
 
-other : (b a : Alg) (p q : ℕ) (bytes v : List ℕ) → length bytes ≡ 2400 → p < 24 → q < 24 → length v ≡ digest_len b → number_of a q ≢ number_of b p →
+other : (b a : Alg) (p q : ℕ) (bytes v : List ℕ) → length bytes ≡ all_bytes → p < registers → q < registers → length v ≡ digest_len b → number_of a q ≢ number_of b p →
     value_at (put_mid (place_of b p) (digest_len b) bytes v) a q ≡ value_at bytes a q
 unfolding value_at
 other b a p q bytes v whole p_lt q_lt long differ =
@@ -73,12 +54,12 @@ other b a p q bytes v whole p_lt q_lt long differ =
           part_after bytes v (place_of b p) (digest_len b) (place_of a q) (digest_len a) (apart b a p q p_lt q_lt after) within long
     ] refl
 
-here : (b : Alg) (p : ℕ) (bytes v : List ℕ) → length bytes ≡ 2400 → p < 24 → length v ≡ digest_len b → value_at (put_mid (place_of b p) (digest_len b) bytes v) b p ≡ v
+here : (b : Alg) (p : ℕ) (bytes v : List ℕ) → length bytes ≡ all_bytes → p < registers → length v ≡ digest_len b → value_at (put_mid (place_of b p) (digest_len b) bytes v) b p ≡ v
 unfolding value_at
 here b p bytes v whole p_lt long = part_here bytes v (place_of b p) (digest_len b) (omega (arith, fits b p p_lt, whole)) long
 
 -- where the value of one register is written, it has that value, and each other its own
-pub written : (b : Alg) (p : ℕ) (bytes v : List ℕ) → length bytes ≡ 2400 → p < 24 → length v ≡ digest_len b →
+pub written : (b : Alg) (p : ℕ) (bytes v : List ℕ) → length bytes ≡ all_bytes → p < registers → length v ≡ digest_len b →
     Holds (put_mid (place_of b p) (digest_len b) bytes v) (with_value b p v (value_at bytes))
 written b p bytes v whole p_lt long a q q_lt =
     let new = put_mid (place_of b p) (digest_len b) bytes v in

@@ -3,7 +3,7 @@ use Rattle.std.proofs.Common.{◌≡◌, ℕ, ◌+◌, ◌%◌, ◌^◌, ◌<◌
 use Rattle.std.proofs.lemmas.List.FromFn.{get_or-map-range_with_len}
 use Rattle.tpm_types.specs.declared.alg.Alg.{Alg}
 use Rattle.tpm_types.specs.Alg.{all_algs}
-use Rattle.tpm_types.specs.declared.alg.Alg.TheVariants.{Sha1, Sha256, Sha384}
+use Rattle.tpm_types.specs.declared.alg.Alg.TheVariants.{Sha1}
 use Rattle.tpm_model.specs.Registers.{Change, value_by, register_value, all_registers, banks_of, value_in, updates_by, update_counter, Registers, registers_after}
 use Rattle.tpm_model.specs.Registers.Change.{Extend}
 use Rattle.tpm_store.specs.Banks.{value_at, Holds, changed}
@@ -12,8 +12,7 @@ use Rattle.tpm_store.specs.Banks.{value_at, Holds, changed}
 pub value_in-banks : (value : Alg → ℕ → List ℕ) (a : Alg) (q : ℕ) → q < 24 → value_in (banks_of value) a q ≡ value a q
 unfolding banks_of
 value_in-banks value Sha1 q lt = get_or-map-range_with_len (value Sha1) 0 24 q q [] lt (omega arith)
-value_in-banks value Sha256 q lt = get_or-map-range_with_len (value Sha256) 0 24 q q [] lt (omega arith)
-value_in-banks value Sha384 q lt = get_or-map-range_with_len (value Sha384) 0 24 q q [] lt (omega arith)
+value_in-banks value a q lt = get_or-map-range_with_len (value a) 0 24 q q [] lt (omega arith)
 
 abbrev pub AreRegisters : List ℕ → Type 0
 AreRegisters [] = Unit {0}

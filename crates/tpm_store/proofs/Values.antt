@@ -5,25 +5,26 @@ use Rattle.std.proofs.lemmas.Bool.Decides.{nat_tests}
 use Rattle.std.proofs.lemmas.List.{append-nil, map-append, take-replicate, drop-replicate}
 use Rattle.std.proofs.lemmas.List.Elements.{filter-append}
 use Rattle.tpm_types.specs.declared.alg.Alg.{Alg}
-use Rattle.tpm_types.specs.declared.alg.Alg.TheVariants.{Sha1, Sha256, Sha384}
-use Rattle.tpm_types.specs.Alg.{alg_number, bank_place, digest_len}
+use Rattle.tpm_types.specs.declared.alg.Alg.TheVariants.{Sha1}
+use Rattle.tpm_types.specs.Alg.{bank_place, digest_len}
+use Rattle.tpm_types.specs.Limits.{banks}
+use Rattle.tpm_types.proofs.Algs.{same_bank, same_test}
 use Rattle.tpm_hmac.specs.Hashes.{digest}
 use Rattle.tpm_model.specs.Registers.{filled_with, zeros, extended, is_of, digests_for}
 use Rattle.tpm_model.specs.Registers.Change.{StartAt, Reset, Extend}
-use Rattle.tpm_store.specs.Banks.{place_of, value_at, with_value, with_values, filled_but_last, Holds, changed}
-use Rattle.tpm_store.proofs.Places.{fits, same_bank}
+use Rattle.tpm_store.specs.Banks.{registers, all_bytes, place_of, value_at, with_value, with_values, filled_but_last, Holds, changed}
+use Rattle.tpm_store.proofs.Places.{fits}
 
 -- ---- the start
 
 pub filled_all : (byte : ℕ) (a : Alg) → filled_but_last byte byte a ≡ filled_with byte a
 filled_all byte Sha1 = refl
-filled_all byte Sha256 = refl
-filled_all byte Sha384 = refl
+filled_all byte a = refl
 
-pub zeros_at : (a : Alg) (q : ℕ) → q < 24 → value_at (replicate 2400 0) a q ≡ zeros a
+pub zeros_at : (a : Alg) (q : ℕ) → q < registers → value_at (replicate all_bytes 0) a q ≡ zeros a
 unfolding value_at
 zeros_at a q lt =
-    ap (take (digest_len a)) (drop-replicate (place_of a q) 2400 0) ∙ take-replicate (digest_len a) (2400 - place_of a q) 0 (omega (arith, fits a q lt))
+    ap (take (digest_len a)) (drop-replicate (place_of a q) all_bytes 0) ∙ take-replicate (digest_len a) (all_bytes - place_of a q) 0 (omega (arith, fits a q lt))
 
 -- the value of a register while those of dynamic launch are filled, of which so many are done
 abbrev pub starting : ℕ → Alg → ℕ → List ℕ
@@ -47,6 +48,35 @@ starting_more done old new from before more a q lt =
           before a q lt ∙ rw same refl
     ] refl
 
+-- ---- each bank
+
+-- these values, but for one register in each of the first banks, so many of them
+abbrev pub with_first : ℕ → ℕ → (Alg → List ℕ) → (Alg → ℕ → List ℕ) → Alg → ℕ → List ℕ
+with_first n p value old a q = if nat_lt (bank_place a) n then with_values p value old a q else old a q
+
+pub first_none : (p : ℕ) (value : Alg → List ℕ) (old : List ℕ) → Holds old (with_first 0 p value (value_at old))
+first_none p value old a q lt = let none : nat_lt (bank_place a) 0 ≡ false = grind (arith, nat_tests) in rw none refl
+
+pub first_more : (n p : ℕ) (b : Alg) (value : Alg → List ℕ) (old mid new : List ℕ) → bank_place b ≡ n → Holds mid (with_first n p value (value_at old)) →
+    Holds new (with_value b p (value b) (value_at mid)) → Holds new (with_first (n + 1) p value (value_at old))
+first_more n p b value old mid new place before more a q lt =
+    more a q lt ∙ elim (bank_place b == bank_place a) as
+    (λ t. (bank_place b == bank_place a) ≡ t → (if t then (if p == q then value b else value_at mid a q) else value_at mid a q) ≡ with_first (n + 1) p value (value_at old) a q) [
+      | true ↦ λ t.
+          let bank : bank_place b ≡ bank_place a = grind (arith, nat_tests) in
+          let was : nat_lt (bank_place a) n ≡ false = grind (arith, nat_tests) in
+          let is : nat_lt (bank_place a) (n + 1) ≡ true = grind (arith, nat_tests) in
+          rw (is, same_bank b a bank) (ap (λ (x : List ℕ). if p == q then value a else x) (before a q lt ∙ rw was refl))
+      | false ↦ λ t.
+          let same : nat_lt (bank_place a) (n + 1) ≡ nat_lt (bank_place a) n = grind (arith, nat_tests) in
+          before a q lt ∙ rw same refl
+    ] refl
+
+pub first_all : (n p : ℕ) (value : Alg → List ℕ) (old new : List ℕ) → banks ≤ n → Holds new (with_first n p value (value_at old)) → Holds new (with_values p value (value_at old))
+first_all n p value old new all is a q lt =
+    let each : nat_lt (bank_place a) n ≡ true = grind (arith, nat_tests) in
+    is a q lt ∙ rw each refl
+
 -- ---- extending
 
 extended_more : (a : Alg) (old : List ℕ) (ds : List (List ℕ)) (d : List ℕ) → extended a old (ds ++ d ∷ []) ≡ digest a (extended a old ds ++ d)
@@ -59,18 +89,6 @@ digests_more a ds e is =
 
 digests_same : (a : Alg) (ds : List (Alg × List ℕ)) (e : Alg × List ℕ) → is_of a e ≡ false → digests_for a (ds ++ e ∷ []) ≡ digests_for a ds
 digests_same a ds e is = ap (map (λ (d : Alg × List ℕ). d.1)) (filter-append (is_of a) ds (e ∷ []) ∙ rw is (append-nil (filter (is_of a) ds)))
-
--- a bank is known by its number as by its place
-same_test : (a b : Alg) → (alg_number b == alg_number a) ≡ (bank_place b == bank_place a)
-same_test Sha1 Sha1 = refl
-same_test Sha1 Sha256 = refl
-same_test Sha1 Sha384 = refl
-same_test Sha256 Sha1 = refl
-same_test Sha256 Sha256 = refl
-same_test Sha256 Sha384 = refl
-same_test Sha384 Sha1 = refl
-same_test Sha384 Sha256 = refl
-same_test Sha384 Sha384 = refl
 
 pub extend_more : (p : ℕ) (old mid new : List ℕ) (ds : List (Alg × List ℕ)) (e : Alg × List ℕ) → Holds mid (changed (Extend p ds) old) →
     Holds new (with_value e.0 p (digest e.0 (value_at mid e.0 p ++ e.1)) (value_at mid)) → Holds new (changed (Extend p (ds ++ e ∷ [])) old)

@@ -1,23 +1,24 @@
 -- The banks of registers in one array.
-use Rattle.std.specs.Prelude.{◌≡◌, ℕ, ◌+◌, ◌*◌, ◌<◌, ◌-◌, ◌==◌, List, [], ◌∷◌, ◌++◌, take, drop, replicate, if◌then◌else◌}
+use Rattle.std.specs.Prelude.{◌≡◌, ℕ, ◌+◌, ◌*◌, ◌<◌, ◌-◌, ◌==◌, List, [], ◌∷◌, ◌++◌, map, sum, take, drop, replicate, if◌then◌else◌}
 use Rattle.tpm_types.specs.declared.alg.Alg.{Alg}
-use Rattle.tpm_types.specs.declared.alg.Alg.TheVariants.{Sha1, Sha256, Sha384}
-use Rattle.tpm_types.specs.Alg.{bank_place, digest_len}
+use Rattle.tpm_types.specs.Alg.{all_algs, bank_place, digest_len}
 use Rattle.tpm_model.specs.Registers.{Change, value_by}
 
 -- how many registers a bank has
 abbrev pub registers : ℕ
 registers = 24
 
+-- how many bytes the registers of these banks have
+abbrev pub bytes_of : List Alg → ℕ
+bytes_of algs = registers * sum (map digest_len algs)
+
 -- how many bytes all banks have
 abbrev pub all_bytes : ℕ
-all_bytes = 2400
+all_bytes = bytes_of all_algs
 
--- where a bank begins
+-- where a bank begins: behind those before it
 abbrev pub bank_start : Alg → ℕ
-bank_start Sha1 = 0
-bank_start Sha256 = 480
-bank_start Sha384 = 1248
+bank_start alg = bytes_of (take (bank_place alg) all_algs)
 
 -- where a register of a bank begins
 abbrev pub place_of : Alg → ℕ → ℕ

@@ -70,9 +70,9 @@ pub(crate) fn fill_each(bytes: &mut [u8], register: u32, byte: u8, last: u8)
     requires register { register < registers }
     ensures { Holds bytes.new (with_values register (filled_but_last byte last) (value_at bytes.old)) }
 {
-    fill(bytes, Alg::Sha1, register, byte, last);
-    fill(bytes, Alg::Sha256, register, byte, last);
-    fill(bytes, Alg::Sha384, register, byte, last);
+    for alg in Alg::ALL {
+        fill(bytes, alg, register, byte, last);
+    }
 }
 
 /// Starts the registers: zeros, and bytes 0xFF in the registers of dynamic launch, 17 to 22.

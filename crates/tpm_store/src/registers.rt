@@ -162,9 +162,9 @@ pub fn event_digests(event: &[u8]) -> DigestValues
     ensures { result ≡ event_digests_of event.now }
 {
     let mut digests = DigestValues::default();
-    digests.push(event_digest(Alg::Sha1, event));
-    digests.push(event_digest(Alg::Sha256, event));
-    digests.push(event_digest(Alg::Sha384, event));
+    for alg in Alg::ALL {
+        digests.push(event_digest(alg, event));
+    }
     digests
 }
 
