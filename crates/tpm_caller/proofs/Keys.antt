@@ -3,20 +3,15 @@ use Rattle.std.proofs.Common.{◌≡◌, ℕ, ◌≤◌, Bool, true, false, List
 use Rattle.std.specs.Prelude.{nat_lt, if◌then◌else◌}
 use Rattle.std.proofs.lemmas.Bool.Decides.{nat_tests}
 use Rattle.tpm_types.specs.declared.alg.Alg.{Alg}
-use Rattle.tpm_types.specs.declared.alg.Alg.TheVariants.{Sha1, Sha256, Sha384}
-use Rattle.tpm_types.specs.Alg.{block_len, digest_len}
+use Rattle.tpm_types.specs.Alg.{block_len}
+use Rattle.tpm_types.proofs.Algs.{digest_fits}
 use Rattle.tpm_hmac.specs.Hashes.{digest}
 use Rattle.tpm_hmac.specs.Hmac.{filled, block_key, hmac}
 use Rattle.tpm_hmac.proofs.DigestLengths.{length-digest}
 use Rattle.tpm_caller.specs.Sent.{hmac_key}
 
-short : (a : Alg) → digest_len a ≤ block_len a
-short Sha1 = omega arith
-short Sha256 = omega arith
-short Sha384 = omega arith
-
 not_longer : (a : Alg) (key : List ℕ) → nat_lt (block_len a) (length (digest a key)) ≡ false
-not_longer a key = let fits : length (digest a key) ≤ block_len a = omega (arith, length-digest a key, short a) in grind (arith, nat_tests)
+not_longer a key = let fits : length (digest a key) ≤ block_len a = omega (arith, length-digest a key, digest_fits a) in grind (arith, nat_tests)
 
 one_block : (a : Alg) (key : List ℕ) → block_key a (hmac_key a key) ≡ block_key a key
 unfolding block_key
