@@ -12,8 +12,6 @@ use tpm_types::{Alg, PcrIndex};
 /// How many bytes a line has at most: those of a line of SHA-384 for a register of two digits.
 pub(crate) const MOST_LINE: usize = 106;
 
-const BANKS: [Alg; 3] = [Alg::Sha1, Alg::Sha256, Alg::Sha384];
-
 const REGISTERS: [&str; 24] = [
     "0", "1", "2", "3", "4", "5", "6", "7", "8", "9", "10", "11", "12", "13", "14", "15", "16",
     "17", "18", "19", "20", "21", "22", "23",
@@ -47,7 +45,7 @@ fn cut(text: &[u8]) -> (&[u8], &[u8])
 fn bank_named(word: &[u8]) -> Option<Alg>
     ensures { result ≡ bank_named word.now }
 {
-    BANKS
+    Alg::ALL
         .iter()
         .copied()
         .find(|bank| bank_name(*bank).as_bytes() == word)
