@@ -1,5 +1,5 @@
 -- What `check` prints of registers and of a list of them (this profile).
-use Rattle.std.specs.Prelude.{◌≡◌, ◌≢◌, ◌⊎◌, ℕ, zero, suc, ◌+◌, ◌≤◌, ◌==◌, nat_lt, Bool, true, false, List, [], ◌∷◌, ◌++◌, length, map, position, find, codes, Option, Some, None, option_map, if◌then◌else◌}
+use Rattle.std.specs.Prelude.{◌≡◌, ◌≢◌, ◌⊎◌, ℕ, zero, suc, ◌+◌, ◌≤◌, ◌==◌, nat_lt, Bool, true, false, List, [], ◌∷◌, ◌++◌, length, map, position, find, flat_map, codes, Option, Some, None, option_map, if◌then◌else◌}
 use Rattle.std.specs.Str.{bytes_eq}
 use Rattle.std.specs.Fmt.{decimal}
 use Rattle.std.specs.List.{AllByRecursion, before_first, after_first, range_with_len}
@@ -35,7 +35,7 @@ bank_lines value bank (suc n) = bank_lines value bank n ++ register_line bank n 
 
 -- the lines of all registers
 abbrev pub registers_text : Values → List ℕ
-registers_text value = bank_lines value Sha1 24 ++ (bank_lines value Sha256 24 ++ bank_lines value Sha384 24)
+registers_text value = flat_map (λ bank. bank_lines value bank 24) all_algs
 
 -- ---- a line of a list
 

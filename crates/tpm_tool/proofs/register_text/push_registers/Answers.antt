@@ -1,17 +1,18 @@
-use Rattle.std.proofs.Common.{List, ℕ, ◌++◌, ap, ◌∙◌, append_assoc, string_bytes}
-use Rattle.tpm_types.specs.declared.alg.Alg.TheVariants.{Sha1, Sha256, Sha384}
+use Rattle.std.proofs.Common.{◌≡◌, ◌<◌, ◌+◌, List, ℕ, ◌∷◌, [], ◌++◌, length, take, get_or, flat_map, ap, sym, ◌∙◌, string_bytes}
+use Rattle.std.proofs.lemmas.List.{flat_map_more, take_more}
+use Rattle.tpm_types.specs.declared.alg.Alg.{Alg}
+use Rattle.tpm_types.specs.Alg.{all_algs}
 use Rattle.tpm_model.specs.Registers.{value_in}
 use Rattle.tpm_tool.specs.Compare.{bank_lines}
 use Rattle.tpm_tool.proofs.register_text.push_registers.Goals as goal
 
-pub returns : goal.returns
-returns c =
-    let value = value_in c.args.found.now.banks in
-    let old = string_bytes c.args.text.now in
-    let first = bank_lines value Sha1 24 in
-    let second = bank_lines value Sha256 24 in
-    let third = bank_lines value Sha384 24 in
-    c.in_ok-push_bank-3.ensures
-    ∙ ap (λ (t : List ℕ). t ++ third) (c.in_ok-push_bank-2.ensures ∙ ap (λ (t : List ℕ). t ++ second) c.in_ok-push_bank.ensures)
-    ∙ append_assoc (old ++ first) second third
-    ∙ append_assoc old first (second ++ third)
+-- the lines of one bank more
+lines_more : (lines : Alg → List ℕ) (old text new : List ℕ) (i : ℕ) (d : Alg) → i < length all_algs → text ≡ old ++ flat_map lines (take i all_algs) → new ≡ text ++ lines (get_or all_algs i d)
+    → new ≡ old ++ flat_map lines (take (i + 1) all_algs)
+lines_more lines old text new i d lt before more =
+    more ∙ ap (λ (t : List ℕ). t ++ lines (get_or all_algs i d)) before ∙ flat_map_more lines old (take i all_algs) (get_or all_algs i d)
+    ∙ ap (λ (banks : List Alg). old ++ flat_map lines banks) (sym (take_more all_algs i d lt))
+
+pub loop-bank-preserved : goal.loop-bank-preserved
+loop-bank-preserved c =
+    lines_more (λ bank. bank_lines (value_in c.args.found.now.banks) bank 24) (string_bytes c.args.text.now) (string_bytes c.loop-bank.text) _ c.loop-bank.bank-index _ c.loop-bank-test.true c.loop-bank.invariant c.in_ok-push_bank.ensures
