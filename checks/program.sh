@@ -89,6 +89,24 @@ cases checks/explain.txt
 cases checks/check.txt
 cases checks/words.txt
 
+# A frame of each code in the header of tpm2-tss: one that is refused for its code alone has its name there.
+header=/usr/include/tss2/tss2_tpm2_types.h
+name="each command that is not in the profile has its name"
+if [ -r "$header" ]; then
+    sed -n 's/^#define TPM2_CC_\([A-Za-z0-9_]*\) *((TPM2_CC) 0x\([0-9a-f]\{8\}\))$/\1 \2/p' "$header" | grep -v '^LAST ' >"$room/commands"
+    awk '{ print "> 80010000000a" $2 }' "$room/commands" | ./tpmtool show - >"$room/out" 2>"$room/err"
+    awk '
+        FILENAME == ARGV[1] { name[FNR] = $1; commands = FNR; next }
+        absent { if ($0 != "TPM2_" name[absent] " is not in this profile") print "line " FNR ": " $0; named++; absent = 0; next }
+        $2 == ">" { number = $1 }
+        / refused 143 at 6$/ { absent = number }
+        END { if (commands < 100 || number != commands || named != commands - 18) print commands " commands, " named " with names" }
+    ' "$room/commands" "$room/out" >"$room/wrong" 2>&1
+    if [ -s "$room/wrong" ]; then fail "$name" "$(cat "$room/wrong")"; else pass "$name"; fi
+else
+    skip "$name" "the header of tpm2-tss is not there"
+fi
+
 # feeds N: N line feeds.
 feeds() {
     head -c "$1" /dev/zero | tr '\0' '\n'

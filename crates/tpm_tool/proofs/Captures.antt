@@ -6,13 +6,19 @@ use Rattle.std.proofs.lemmas.Bool.{cases_order, lt-ltb}
 use Rattle.std.proofs.lemmas.List.{append-nil, map-append, take_all, take-append-le}
 use Rattle.std.proofs.lemmas.List.Elements.{filter-append}
 use Rattle.tpm_buffer.proofs.Filled.{consumes_both}
+use Rattle.tpm_wire.specs.Buffers.{buffer}
+use Rattle.tpm_wire.specs.Path.{Spells}
+use Rattle.tpm_wire.proofs.Buffers.{buffer_sound}
+use Rattle.tpm_wire.proofs.Whole.{exactly_one}
+use Rattle.tpm_buffer.specs.declared.command.Command.{Command}
+use Rattle.tpm_buffer.specs.Commands.{command}
 use Rattle.tpm_tool.specs.declared.status.Status.{Status}
 use Rattle.tpm_tool.specs.declared.status.Status.TheVariants.{Done, Refused}
 use Rattle.tpm_tool.specs.declared.capture.Capture.{Capture}
 use Rattle.tpm_tool.specs.Status.{both}
 use Rattle.tpm_tool.specs.Script.{lines_of, HasNoFeed}
 use Rattle.tpm_tool.specs.Capture as specs
-use Rattle.tpm_tool.specs.Capture.{Line, Place, start, is_blank, without_blanks, told_in, line_of, most_line, behind, TellsLine, TellsFrom, TellsCapture, ReadsAll}
+use Rattle.tpm_tool.specs.Capture.{Line, Place, start, is_blank, without_blanks, told_in, line_of, most_line, behind, ShowsCommandBy, TellsCommand, TellsLine, TellsFrom, TellsCapture, ReadsAll}
 use Rattle.tpm_tool.specs.Capturing.{place, EndsLine, behind_all, Taken, Takes, Reaches}
 use Rattle.tpm_tool.proofs.InputLines.{no_feed-more, ended_line, last_line, lines_of-append, ended_both}
 use Rattle.tpm_tool.proofs.Scripts.{Joins}
@@ -39,6 +45,14 @@ both_assoc Refused b c = refl
 both_done : (a : Status) → both a Done ≡ a
 both_done Done = refl
 both_done Refused = refl
+
+-- ---- commands that are told
+
+-- What is shown of bytes that spell a command is told of them.
+pub told_command : (fields : Bool) (c : Command) (bytes : List ℕ) (status : Status) (text : List ℕ) → Spells command c bytes → ShowsCommandBy fields bytes status text → TellsCommand fields bytes status text
+told_command fields c bytes Done text spelled shown = shown
+told_command false c bytes Refused text spelled shown = absurd ((exactly_one buffer buffer_sound command bytes).not_both c shown.0 spelled shown.1)
+told_command true c bytes Refused text spelled shown = absurd ((exactly_one buffer buffer_sound command bytes).not_both c shown.0 spelled shown.1)
 
 -- ---- lines that are told
 

@@ -3,9 +3,12 @@ use Rattle.std.specs.Prelude.{◌≡◌, ◌<◌, ℕ, ◌+◌, ◌==◌, ◌||�
 use Rattle.std.specs.Str.{bytes_eq}
 use Rattle.std.specs.Fmt.{decimal}
 use Rattle.std.specs.Io.KnownBytes.{Consumes, IsAtEnd}
+use Rattle.tpm_wire.specs.declared.refusal.Refusal.{Refusal}
 use Rattle.tpm_wire.specs.Token.{number_of}
+use Rattle.tpm_wire.specs.Path.{Fault}
 use Rattle.tpm_buffer.specs.declared.code.CommandCode.{CommandCode}
 use Rattle.tpm_buffer.specs.Codes.{code_of}
+use Rattle.tpm_buffer.specs.Commands.{command}
 use Rattle.tpm_tool.specs.declared.status.Status.{Status}
 use Rattle.tpm_tool.specs.declared.status.Status.TheVariants.{Done, Refused}
 use Rattle.tpm_tool.specs.declared.capture_lines.Direction.{Direction}
@@ -13,7 +16,8 @@ use Rattle.tpm_tool.specs.declared.capture_lines.Direction.TheVariants.{Command,
 use Rattle.tpm_tool.specs.declared.capture_frames.Awaited.{Awaited}
 use Rattle.tpm_tool.specs.declared.capture_frames.Awaited.TheVariants as awaits
 use Rattle.tpm_tool.specs.Status.{both}
-use Rattle.tpm_tool.specs.Text.{line, bytes_in}
+use Rattle.tpm_tool.specs.Text.{line, bytes_in, refusal_line}
+use Rattle.tpm_tool.specs.CommandNames.{absent_behind}
 use Rattle.tpm_tool.specs.Script.{lines_of}
 use Rattle.tpm_tool.specs.Show.{ShowsBytes, ShowsReplyBytes}
 use Rattle.tpm_tool.specs.Fields.{ShowsCommand, ShowsReply}
@@ -101,6 +105,11 @@ abbrev pub ShowsCommandBy : (fields : Bool) → List ℕ → Status → List ℕ
 ShowsCommandBy false bytes status text = ShowsBytes bytes status text
 ShowsCommandBy true bytes status text = ShowsCommand bytes status text
 
+-- Behind the refusal of its code alone stands which command it is.
+abbrev pub TellsCommand : (fields : Bool) → List ℕ → Status → List ℕ → Type 0
+TellsCommand fields bytes Done text = ShowsCommandBy fields bytes Done text
+TellsCommand fields bytes Refused text = (refusal : Refusal) × Fault command bytes refusal × (text ≡ refusal_line refusal ++ absent_behind refusal (code_number_in bytes))
+
 abbrev pub ShowsReplyBy : (fields : Bool) → CommandCode → List ℕ → Status → List ℕ → Type 0
 ShowsReplyBy false command bytes status text = ShowsReplyBytes command bytes status text
 ShowsReplyBy true command bytes status text = ShowsReply command bytes status text
@@ -111,7 +120,7 @@ TellsReply fields awaits.Unknown bytes status text = (status ≡ Refused) × (te
 TellsReply fields awaits.Nothing bytes status text = (status ≡ Refused) × (text ≡ line (codes "no" ∷ codes "command" ∷ codes "is" ∷ codes "before" ∷ codes "it" ∷ []))
 
 abbrev pub TellsFrame : (fields : Bool) → Direction → Awaited → List ℕ → Status → List ℕ → Type 0
-TellsFrame fields Command awaited bytes status text = ShowsCommandBy fields bytes status text
+TellsFrame fields Command awaited bytes status text = TellsCommand fields bytes status text
 TellsFrame fields Reply awaited bytes status text = TellsReply fields awaited bytes status text
 
 abbrev pub mark_of : Direction → List ℕ

@@ -16,7 +16,9 @@ pub mod CheckAttest
 pub mod Meanings
 pub mod Layers
 pub mod Explain
+pub mod Named
 pub mod EventTypes
+pub mod CommandNames
 pub mod Reads
 pub mod EventText
 pub mod EventJson

@@ -182,8 +182,9 @@ impl Capture {
 ///
 /// In front of what is told of a frame stand its number, from 1, and its mark. A reply is read as one to the command
 /// before it, by the code of that; with none before it the line is `N < no command is before it`, and with a code that
-/// the profile hasn't `N < its command is not known`. A line of other text is `N not hexadecimal`, and one of more than
-/// 8,195 bytes beside its blanks `N too long`; the next is read all the same.
+/// the profile hasn't `N < its command is not known`. Where a command is refused for its code alone, and the library has
+/// one with that code (Part 2, 6.5.2), the line `TPM2_NAME is not in this profile` follows. A line of other text is
+/// `N not hexadecimal`, and one of more than 8,195 bytes beside its blanks `N too long`; the next is read all the same.
 ///
 /// The status is `Refused` where a frame or a line was refused, and else `Done`. What a read gave is answered before the
 /// next read, and no more than one line and one piece is held.

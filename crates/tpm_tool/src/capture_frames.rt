@@ -1,10 +1,11 @@
 //! The frames of a capture.
 
 ghost use Rattle.std.specs.Prelude.{◌≡◌, ◌++◌, List, ℕ, IfOk, OnOk, string_bytes};
-ghost use Rattle.tpm_tool.specs.Capture.{code_number_in, awaited_behind, direction_of, is_response, front, fault_line, ShowsCommandBy, ShowsReplyBy, TellsFrame};
+ghost use Rattle.tpm_tool.specs.Capture.{code_number_in, awaited_behind, direction_of, is_response, front, fault_line, TellsCommand, ShowsReplyBy, TellsFrame};
 
 use crate::answer::Answer;
 use crate::capture_lines::Direction;
+use crate::command_names::answer_to_refused;
 use crate::shown::answer_to_bytes;
 use crate::shown_fields::{
     answer_to_command as command_by_fields, answer_to_reply as reply_by_fields,
@@ -12,7 +13,7 @@ use crate::shown_fields::{
 use crate::shown_reply::answer_to_reply;
 use crate::status::Status;
 use std::alloc::{AllocError, Global};
-use tpm_buffer::CommandCode;
+use tpm_buffer::{CommandCode, decode_command};
 
 /// Which reply may come next.
 #[derive(Clone, Copy, Debug, PartialEq, Eq)]
@@ -71,12 +72,12 @@ pub(crate) fn awaited_behind(direction: Direction, bytes: &[u8]) -> Awaited
 // ---- what is told of it
 
 fn answer_to_a_command(alloc: Global, fields: bool, bytes: &[u8]) -> Result<Answer, AllocError>
-    ensures { IfOk result (λ a. ShowsCommandBy fields bytes.now a.status (string_bytes a.text)) }
+    ensures { IfOk result (λ a. TellsCommand fields bytes.now a.status (string_bytes a.text)) }
 {
-    if fields {
-        command_by_fields(alloc, bytes)
-    } else {
-        answer_to_bytes(alloc, bytes)
+    match decode_command(bytes) {
+        Err(refusal) => answer_to_refused(alloc, &refusal, code_number(bytes)),
+        Ok(_) if fields => command_by_fields(alloc, bytes),
+        Ok(_) => answer_to_bytes(alloc, bytes),
     }
 }
 
