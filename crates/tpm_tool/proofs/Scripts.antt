@@ -2,7 +2,7 @@
 use Rattle.std.proofs.Common.{◌≡◌, ◌≢◌, ℕ, ◌+◌, ◌<◌, ◌≤◌, false, List, [], ◌∷◌, ◌++◌, length, map, Option, Some, None, refl, sym, ap, ◌∙◌, subst, inl, inr, arith, append_assoc, length-append}
 use Rattle.std.specs.Prelude.{codes, nat_eq}
 use Rattle.std.specs.List.{AllByRecursion}
-use Rattle.std.specs.Io.KnownBytes.{Consumes, IsAtEnd, Appends}
+use Rattle.std.specs.Io.KnownBytes.{Keeps, Consumes, IsAtEnd, Appends}
 use Rattle.std.proofs.lemmas.Bool.{lt-ltb}
 use Rattle.std.proofs.lemmas.List.{append-nil}
 use Rattle.std.proofs.lemmas.Option.{none-some}
@@ -16,7 +16,7 @@ use Rattle.tpm_tool.specs.declared.script.Run.{Run}
 use Rattle.tpm_tool.specs.declared.status.Status.{Status}
 use Rattle.tpm_tool.specs.declared.status.Status.TheVariants.{Done, Refused}
 use Rattle.tpm_tool.specs.Text.{bytes_line, line}
-use Rattle.tpm_tool.specs.Script.{Line, Blank, Power, Command, NotHexadecimal, Script, lines_of, line_of, most_digits, HasNoFeed, AreEnded, AreAccepted, IsRefusedLine, IsRefusedIn, IsUnrefused, events_from, refused_from, script_from, script, events_text, refused_text, script_text, status_for, ReadsScript, most_bytes, most_piece}
+use Rattle.tpm_tool.specs.Script.{Line, Blank, Power, Command, NotHexadecimal, Script, lines_of, line_of, most_digits, HasNoFeed, AreEnded, AreAccepted, IsRefusedLine, IsRefusedIn, IsUnrefused, events_from, refused_from, script_from, script, events_text, refused_text, script_text, status_for, ReadsNoFurther, ReadsScript, most_bytes, most_piece}
 use Rattle.tpm_tool.specs.Progress.{Place, start, script_at, IsOpen, behind, Leads, Ends, refused_at, StandsAt, Performs, AddedTo, place, next_command, EndsLine, Takes, Reaches}
 use Rattle.tpm_tool.proofs.InputLines.{no_feed-more, ended_line, last_line, first_line, other_lines, longer_line, lines_of-append, ended_both}
 
@@ -351,6 +351,24 @@ unrefused bytes first r A is f = record {
   accepted = f.ends.3;
   one = f.open_again.line;
   most = f.open_again.most;
+}
+
+-- a read that failed gave nothing
+pub keeps_none : (a b : Option (List ℕ)) → Keeps a b → Consumes a b []
+keeps_none None b keeps = tt
+keeps_none (Some xs) None keeps = keeps
+keeps_none (Some xs) (Some ys) keeps = sym keeps
+
+-- no line is refused of what was read before the last bytes
+pub no_further : (old mid new : Option (List ℕ)) (read count : ℕ) (bytes : List ℕ) (first r : Run) (A : List ℕ → Type 0) → place first ≡ start → Reaches old mid read first r A
+    → Consumes mid new bytes → count ≡ length bytes → count ≤ most_piece → read + count ≤ most_bytes → ReadsNoFurther old new
+no_further old mid new read count bytes first r A is f consumed counted few le = record {
+  before = f.bytes;
+  last = bytes;
+  read = consumes_both old mid new f.bytes bytes f.consumed consumed;
+  unrefused = unrefused f.bytes first r A is f.takes;
+  piece = rw counted at few;
+  most = omega (arith, f.count, counted, le);
 }
 
 pub reaches_more : (old mid new : Option (List ℕ)) (read count : ℕ) (bytes : List ℕ) (first r s : Run) (A B C : List ℕ → Type 0) → Joins A B C

@@ -166,6 +166,15 @@ pub record IsRefusedLast (bytes : List ℕ) : Type 0 where
   pub unrefused : IsUnrefused before
   pub most : length last ≤ most_piece
 
+-- Not too many bytes were read, and of these no line is refused but in the last of them, no more than are asked for at a time.
+pub record ReadsNoFurther (old new : Option (List ℕ)) : Type 0 where
+  pub before : List ℕ
+  pub last : List ℕ
+  pub read : Consumes old new (before ++ last)
+  pub unrefused : IsUnrefused before
+  pub piece : length last ≤ most_piece
+  pub most : length before + length last ≤ most_bytes
+
 -- These bytes of the input were read, not too many; and it has ended, or a line of the last of them is refused, and whatever comes makes no difference.
 pub record ReadsScript (old new : Option (List ℕ)) (bytes : List ℕ) : Type 0 where
   pub read : Consumes old new bytes

@@ -8,7 +8,7 @@ ghost use Rattle.tpm_device.specs.Stands.{Stands};
 ghost use Rattle.tpm_wire.specs.Sources.{IsWhereItFailed};
 ghost use Rattle.tpm_tool.specs.declared.fault.ToolFault.TheVariants.{InputTooLong, Read};
 ghost use Rattle.tpm_tool.specs.Faults.{FailsByMemoryOrWrite};
-ghost use Rattle.tpm_tool.specs.Script.{nonce_of, line_of, refused_line, script, script_text, status_for, CountsRead, ReadsScript, ReadsTooMuch};
+ghost use Rattle.tpm_tool.specs.Script.{nonce_of, line_of, refused_line, script, script_text, status_for, CountsRead, ReadsNoFurther, ReadsScript, ReadsTooMuch};
 ghost use Rattle.tpm_tool.specs.Progress.{place, start, IsOpen, EndsLine, Takes, Performs, AddedTo};
 
 use crate::answer::write;
@@ -189,6 +189,8 @@ impl Run {
 /// do without.
 ///
 /// What a read gave is answered before the next read, and no more than one line and one piece is held.
+/// So whatever is answered, what was read behind the end of a refused line came in one read of at most
+/// 4,096 bytes with it.
 ///
 /// Where a request for memory is refused the answer is `Memory`, where a read fails `Read`, where the
 /// writer fails `Write`, and where more than 16,777,216 bytes come before the script has ended
@@ -201,6 +203,7 @@ pub fn run_script<R: Source, W: Write>(
 ) -> Result<Status, ToolFault>
     ensures failures { CountsRead (R.failed input.old) (R.failed input.new) result }
     ensures stop { IsErrOf result Read → IsWhereItFailed (R.stopped input.new) }
+    ensures further { (IsErrOf result InputTooLong → ⊥) → ReadsNoFurther (R.coming input.old) (R.coming input.new) }
     ensures ok { IfOk result (λ status. (bytes : List ℕ)
         × ReadsScript (R.coming input.old) (R.coming input.new) bytes
         × (status ≡ status_for (script bytes).refused)

@@ -5,7 +5,7 @@ use Rattle.std.specs.Io.KnownBytes.{Appends, Consumes}
 use Rattle.tpm_buffer.proofs.Filled.{consumes_both}
 use Rattle.tpm_tool.specs.declared.status.Status.TheVariants.{Done, Refused}
 use Rattle.tpm_tool.specs.Progress.{StandsAt, IsOpen, place}
-use Rattle.tpm_tool.proofs.Scripts.{joins_appends, reaches_more, takes_none, unrefused, answers_at_end, answers_refused}
+use Rattle.tpm_tool.proofs.Scripts.{joins_appends, reaches_more, takes_none, unrefused, answers_at_end, answers_refused, keeps_none, no_further}
 use Rattle.tpm_tool.proofs.script.run_script.Goals as goal
 
 pub returns-then-read-gt-MOST_BYTES-clause-too_long : goal.returns-then-read-gt-MOST_BYTES-clause-too_long
@@ -23,6 +23,34 @@ returns-then-read-gt-MOST_BYTES-clause-too_long g c = λ _.
       one = omega (arith, len, f.count, counted, c.in_ok-count.ensures.bound.0);
       unrefused = unrefused f.bytes c.new-run.result c.loop-run.run _ c.new-run.ensures.place f.takes;
     }
+
+pub returns-then-read-gt-MOST_BYTES-clause-further : goal.returns-then-read-gt-MOST_BYTES-clause-further
+returns-then-read-gt-MOST_BYTES-clause-further g c = λ unless. absurd (unless refl)
+
+pub returns-in_err-count-clause-further : goal.returns-in_err-count-clause-further
+returns-in_err-count-clause-further g c = λ _.
+    no_further _ _ _ c.loop-run.read 0 [] c.new-run.result c.loop-run.run _ c.new-run.ensures.place c.loop-run.invariant.reaches (keeps_none _ _ c.in_err-count.ensures.bytes) refl (omega arith) (omega (arith, c.loop-run.invariant.bound))
+
+pub returns-then-count-eq0-clause-further : goal.returns-then-count-eq0-clause-further
+returns-then-count-eq0-clause-further g c = λ _.
+    let bytes = rw c.if-count-eq0.true at c.in_ok-count.ensures.bytes in
+    no_further _ _ _ c.loop-run.read 0 [] c.new-run.result c.loop-run.run _ c.new-run.ensures.place c.loop-run.invariant.reaches bytes.0 refl (omega arith) (omega (arith, c.loop-run.invariant.bound))
+
+pub returns-in_err-print-clause-further : goal.returns-in_err-print-clause-further
+returns-in_err-print-clause-further g c = λ _.
+    let count = c.in_ok-count.count in
+    let room = c.read.new.room in
+    let len : length room ≡ c.clamp-room.result = search rules in
+    no_further _ _ _ c.loop-run.read count (take count room) c.new-run.result c.loop-run.run _ c.new-run.ensures.place c.loop-run.invariant.reaches c.in_ok-count.ensures.bytes.0
+    (sym (length-take-le count room c.in_ok-count.ensures.bound.0)) (omega (arith, len, c.in_ok-count.ensures.bound.0)) (omega arith)
+
+pub returns-then-eq-clause-further : goal.returns-then-eq-clause-further
+returns-then-eq-clause-further g c = λ _.
+    let count = c.in_ok-count.count in
+    let room = c.read.new.room in
+    let len : length room ≡ c.clamp-room.result = search rules in
+    no_further _ _ _ c.loop-run.read count (take count room) c.new-run.result c.loop-run.run _ c.new-run.ensures.place c.loop-run.invariant.reaches c.in_ok-count.ensures.bytes.0
+    (sym (length-take-le count room c.in_ok-count.ensures.bound.0)) (omega (arith, len, c.in_ok-count.ensures.bound.0)) (omega arith)
 
 pub returns-then-count-eq0-clause-ok : goal.returns-then-count-eq0-clause-ok
 unfolding StandsAt
