@@ -1,8 +1,9 @@
 //! What a subcommand answers: a status and a text.
 
-ghost use Rattle.std.specs.Prelude.{◌≡◌, IfOk, OnOk, string_bytes};
+ghost use Rattle.std.specs.Prelude.{◌≡◌, IfOk, IsErrOf, OnOk, string_bytes};
 ghost use Rattle.std.specs.Io.KnownBytes.{Appends};
 ghost use Rattle.tpm_tool.specs.declared.status.Status.TheVariants.{Done, Refused};
+ghost use Rattle.tpm_tool.specs.declared.fault.ToolFault.TheVariants.{Memory};
 ghost use Rattle.tpm_tool.specs.Faults.{FailsByMemoryOrWrite};
 ghost use Rattle.tpm_tool.specs.Text.{not_hexadecimal_line};
 
@@ -71,10 +72,11 @@ impl Answer {
     }
 }
 
-/// Writes a text.
+/// Writes a text. No memory is asked for.
 pub(crate) fn write<W: Write>(out: &mut W, text: &String) -> Result<(), ToolFault>
     ensures ok { OnOk result (Appends (W.contents out.old) (W.contents out.new) (string_bytes text.now)) }
     ensures err { FailsByMemoryOrWrite result }
+    ensures memory { IsErrOf result Memory → ⊥ }
 {
     out.write_all(text.as_bytes()).map_err(|_| ToolFault::Write)
 }
