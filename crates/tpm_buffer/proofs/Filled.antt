@@ -98,3 +98,11 @@ pub short_read : (old new : Option (List ℕ)) (front : List ℕ) (count : ℕ) 
 short_read old new front count six fits some few read end =
     let len = length-take-le count front fits in
     (take count front, read, (short_part (take count front) (omega (arith, len, few)), omega (arith, len, some), end (omega (arith, six, few))))
+
+-- a buffer of this length that is begun with six bytes
+pub headed : (xs held written head : List ℕ) (n size : ℕ) → written ≡ head ++ drop 6 held → length head ≡ 6 → length held ≡ size → 10 ≤ size → n ≡ size
+    → (more : List ℕ) × (refill n xs written ≡ head ++ more) × (length (refill n xs written) ≡ size)
+headed xs held written head n size is six long least count =
+    let fits : length written ≡ size = omega (arith, length-append head (drop 6 held), length-drop 6 held, ap length is, six, long, least) in
+    let whole : refill n xs written ≡ written = take-append-le n written (drop (length written) xs) (omega (arith, fits, count)) ∙ take_all n written (omega (arith, fits, count)) in
+    (drop 6 held, whole ∙ is, ap length whole ∙ fits)

@@ -1,5 +1,5 @@
 -- What has come of a frame, and what a push does to it.
-use Rattle.std.proofs.Common.{◌≡◌, ℕ, ◌+◌, ◌-◌, ◌≤◌, ◌<◌, ◌⊎◌, inl, inr, min, List, ◌++◌, length, take, drop, sym, ap, ◌∙◌, append_assoc, arith, length-append, length-drop, length-take-le, take-append-drop, append-nil}
+use Rattle.std.proofs.Common.{◌≡◌, ℕ, ◌+◌, ◌-◌, ◌≤◌, ◌<◌, ◌⊎◌, inl, inr, min, List, [], ◌++◌, refl, length, take, drop, sym, ap, ◌∙◌, append_assoc, arith, length-append, length-drop, length-take-le, take-append-drop, append-nil}
 use Rattle.std.proofs.lemmas.List.{take-append-le, drop-append-le, take-take}
 use Rattle.std.proofs.Math.Seq.{take-add}
 use Rattle.std.proofs.lemmas.Bool.{cases_lt}
@@ -151,3 +151,32 @@ module _ (old piece mid new : List ℕ) (n m size : ℕ) (was : IsHeld old) (cou
     fewest = sized_fewest;
     all = λ h. cc;
   }
+
+-- a piece that begins a frame of this size, behind nothing
+module _ (piece new : List ℕ) (k size : ℕ) (some : 6 ≤ length piece) (states : size ≡ stated piece) (least : 10 ≤ size) (most : size ≤ 4096)
+    (count : k ≡ min size (length piece)) (whole : new ≡ take k piece) where
+  first_mid : size ≡ stated (take 6 piece)
+  first_mid = states ∙ sym (stated_front 6 piece (omega arith) some)
+
+  first_six : 6 ≤ length (take 6 piece)
+  first_six = omega (arith, length-take-le 6 piece some)
+
+  first_rest : k - 6 ≡ min (size - length (take 6 piece)) (length (drop 6 piece))
+  first_rest = omega (arith, count, length-take-le 6 piece some, length-drop 6 piece, some, least)
+
+  first_sum : k ≡ 6 + (k - 6)
+  first_sum = omega (arith, count, some, least)
+
+  first_whole : new ≡ take 6 piece ++ take (k - 6) (drop 6 piece)
+  first_whole = whole ∙ ap (λ n. take n piece) first_sum ∙ take-add 6 (k - 6) piece
+
+  first_length : length new ≡ k
+  first_length = ap length whole ∙ length-take-le k piece (omega (arith, count))
+
+  pub begins_part : k < size → Pushes [] piece new k More
+  begins_part lt = rw first_sum
+      (pushes_part [] piece (take 6 piece) new 6 (k - 6) size (inl (short_part [] (omega arith))) (omega (arith, some)) refl first_six first_mid least most first_rest first_whole (omega (arith, first_length, lt)))
+
+  pub begins_ready : size ≤ k → Pushes [] piece new k Ready
+  begins_ready le = rw first_sum
+      (pushes_ready [] piece (take 6 piece) new 6 (k - 6) size (inl (short_part [] (omega arith))) (omega (arith, some)) refl first_six first_mid least most first_rest first_whole (omega (arith, first_length, le)))

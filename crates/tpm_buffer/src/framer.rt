@@ -1,14 +1,89 @@
 //! Frames from pieces of a stream.
 
 ghost use Rattle.std.specs.Prelude.{◌≡◌, ◌+◌, ◌≤◌, ◌<◌, ◌++◌, [], length, min, take, ◌-◌, ◌⊎◌, MatchBool, MatchOption, MatchResult};
-ghost use Rattle.tpm_buffer.specs.Frames.{stated, IsFrame, bad_size, Pushes, Advances};
+ghost use Rattle.tpm_buffer.specs.Frames.{stated, IsFrame, IsHeld, bad_size, Pushes, Advances};
 
 use std::marker::Model;
+use tpm_wire::Refusal;
 use tpm_wire::response_code::COMMAND_SIZE;
-use tpm_wire::{Buffer, Refusal};
 
 /// The tag and the size of a buffer are its first six bytes.
 pub(crate) const SIZE_END: usize = 6;
+
+const MOST: usize = 4096;
+
+// The bytes that came of a frame. What lies behind them is left as it is, where a buffer would be filled.
+#[derive(Drop)]
+struct Held {
+    bytes: [u8; MOST],
+    len: usize,
+}
+
+impl Model for Held {
+    ghost use Rattle.std.specs.Prelude.{◌≡◌, ◌≤◌, List, ℕ, length, take};
+
+    ghost Value = { List ℕ };
+
+    ghost view = { λ h. take h.len h.bytes };
+
+    ghost invariant = { λ h. (h.len ≤ 4096) × (length h.bytes ≡ 4096) };
+}
+
+impl Held {
+    fn new() -> Self
+        ensures { result ≡ [] }
+    {
+        Held {
+            bytes: [0; MOST],
+            len: 0,
+        }
+    }
+
+    #[inline]
+    fn len(&self) -> usize
+        ensures value { result ≡ length self.now }
+        ensures fits { result ≤ 4096 }
+    {
+        self.len
+    }
+
+    #[inline]
+    fn as_slice(&self) -> &[u8]
+        ensures { result.now ≡ self.now }
+    {
+        &self.bytes[..self.len]
+    }
+
+    #[inline]
+    fn clear(&mut self)
+        ensures { self.new ≡ [] }
+    {
+        self.len = 0;
+    }
+
+    // Adds the bytes at the end.
+    #[inline]
+    fn append(&mut self, more: &[u8])
+        requires { length self.old + length more.now ≤ 4096 }
+        ensures { self.new ≡ self.old ++ more.now }
+    {
+        let end = self.len + more.len();
+        self.bytes[self.len..end].copy_from_slice(more);
+        self.len = end;
+    }
+
+    // Adds bytes from the front of the piece, as long as there are fewer than `size`, and says how many these are.
+    #[inline]
+    fn take_up_to(&mut self, size: usize, piece: &[u8]) -> usize
+        requires { size ≤ 4096 }
+        ensures count { result ≡ min (size - length self.old) (length piece.now) }
+        ensures held { self.new ≡ self.old ++ take result piece.now }
+    {
+        let count = size.saturating_sub(self.len()).min(piece.len());
+        self.append(&piece[..count]);
+        count
+    }
+}
 
 /// What a framer holds.
 #[derive(Clone, Copy, Debug, PartialEq, Eq)]
@@ -27,7 +102,7 @@ pub enum Status {
 /// A framer at a refused size is broken, and stays so.
 #[derive(Drop)]
 pub struct Framer {
-    held: Buffer,
+    held: Held,
 }
 
 impl Model for Framer {
@@ -36,9 +111,9 @@ impl Model for Framer {
 
     ghost Value = { List ℕ };
 
-    ghost view = { λ f. f.held.items };
+    ghost view = { λ f. f.held };
 
-    ghost invariant = { λ f. IsHeld f.held.items };
+    ghost invariant = { λ f. IsHeld f.held };
 }
 
 impl Framer {
@@ -46,9 +121,7 @@ impl Framer {
     pub fn new() -> Self
         ensures { result ≡ [] }
     {
-        Framer {
-            held: Buffer::new(),
-        }
+        Framer { held: Held::new() }
     }
 
     /// Takes bytes of the piece up to the end of the present frame, and no further. The answer is how many were taken,
@@ -57,19 +130,12 @@ impl Framer {
     pub fn push(&mut self, piece: &[u8]) -> (usize, Status)
         ensures { Pushes self.old piece.now self.new result.0 result.1 }
     {
-        let size_bytes = take_up_to(&mut self.held, SIZE_END, piece);
-        if self.held.len() < SIZE_END {
-            return (size_bytes, Status::More);
+        if self.held.len() == 0 && SIZE_END <= piece.len() {
+            if let Ok(size) = stated_size(piece) {
+                return begin(&mut self.held, size, piece);
+            }
         }
-        let size = match stated_size(self.held.as_slice()) {
-            Ok(size) => size,
-            Err(refusal) => return (size_bytes, Status::Broken(refusal)),
-        };
-        let taken = size_bytes + take_up_to(&mut self.held, size, &piece[size_bytes..]);
-        if self.held.len() < size {
-            return (taken, Status::More);
-        }
-        (taken, Status::Ready)
+        go_on(&mut self.held, piece)
     }
 
     /// The frame, where one is held.
@@ -117,13 +183,40 @@ pub(crate) fn stated_size(bytes: &[u8]) -> Result<usize, Refusal>
     Ok(size as usize)
 }
 
-/// Moves bytes from the front of the piece to the end of what is held, as long as fewer than `size` are held, and says how many these are.
-fn take_up_to(held: &mut Buffer, size: usize, piece: &[u8]) -> usize
-    requires { size ≤ 4096 }
-    ensures count { result ≡ min (size - length held.old.items) (length piece.now) }
-    ensures held { held.new.items ≡ held.old.items ++ take result piece.now }
+// Takes bytes of a piece that begins a frame of this size.
+#[inline]
+fn begin(held: &mut Held, size: usize, piece: &[u8]) -> (usize, Status)
+    requires empty { held.old ≡ [] }
+    requires size { (6 ≤ length piece.now) × (size ≡ stated piece.now) × (10 ≤ size) × (size ≤ 4096) }
+    ensures pushes { Pushes [] piece.now held.new result.0 result.1 }
+    ensures held { IsHeld held.new }
 {
-    let count = size.saturating_sub(held.len()).min(piece.len());
-    let _ = held.try_extend_from_slice(&piece[..count]);
-    count
+    let taken = held.take_up_to(size, piece);
+    let status = if taken < size {
+        Status::More
+    } else {
+        Status::Ready
+    };
+    (taken, status)
+}
+
+// Takes bytes of a piece behind what is held.
+fn go_on(held: &mut Held, piece: &[u8]) -> (usize, Status)
+    requires { IsHeld held.old }
+    ensures pushes { Pushes held.old piece.now held.new result.0 result.1 }
+    ensures held { IsHeld held.new }
+{
+    let size_bytes = held.take_up_to(SIZE_END, piece);
+    if held.len() < SIZE_END {
+        return (size_bytes, Status::More);
+    }
+    let size = match stated_size(held.as_slice()) {
+        Ok(size) => size,
+        Err(refusal) => return (size_bytes, Status::Broken(refusal)),
+    };
+    let taken = size_bytes + held.take_up_to(size, &piece[size_bytes..]);
+    if held.len() < size {
+        return (taken, Status::More);
+    }
+    (taken, Status::Ready)
 }

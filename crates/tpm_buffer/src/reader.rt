@@ -1,15 +1,17 @@
 //! Frames from a source of bytes.
 
-ghost use Rattle.std.specs.Prelude.{◌≡◌, ◌≤◌, ◌++◌, ◌⊎◌, ℕ, true, List, [], length, Ok, IfErr, IsErrOf};
+ghost use Rattle.std.specs.Prelude.{◌≡◌, ◌≤◌, ◌++◌, ◌⊎◌, ℕ, true, List, [], length, drop, Ok, IfErr, IsErrOf};
 ghost use Rattle.tpm_buffer.specs.declared.reader.ReadFault.TheVariants.{Device, Broken};
 ghost use Rattle.tpm_buffer.specs.Reads.{Fills, CountsDevice, ReadsFrame, ReadsInto, IsBuffer};
 ghost use Rattle.tpm_wire.specs.Sources.{CountsFailures, IsWhereItFailed};
 
 use crate::framer::{SIZE_END, stated_size};
-use tpm_wire::{Buffer, ReadFailed, Refusal, Source, put_bytes};
+use tpm_wire::{Buffer, ReadFailed, Refusal, Source};
 
 // By how many bytes a buffer is lengthened at once.
-const PIECE: usize = 128;
+const PIECE: usize = 256;
+
+const ZEROS: [u8; PIECE] = [0; PIECE];
 
 /// Why there is no frame.
 #[derive(Clone, Copy, Debug, PartialEq, Eq)]
@@ -78,7 +80,6 @@ pub fn read_frame_into<R: Source>(source: &mut R, frame: &mut Buffer) -> Result<
     ensures frame { ReadsInto (R.coming source.old) (R.coming source.new) frame.new.items result }
     ensures none { (result ≡ Ok true) ⊎ (frame.new.items ≡ []) }
 {
-    frame.clear();
     let read = read_into(source, frame);
     if !matches!(read, Ok(true)) {
         frame.clear();
@@ -86,10 +87,9 @@ pub fn read_frame_into<R: Source>(source: &mut R, frame: &mut Buffer) -> Result<
     read
 }
 
-/// Reads the next frame into an empty buffer, and says whether there is one: none at the end of the input.
+/// Reads the next frame into a buffer, and says whether there is one: none at the end of the input.
 #[inline(never)]
 fn read_into<R: Source>(source: &mut R, frame: &mut Buffer) -> Result<bool, ReadFault>
-    requires { length frame.old.items ≡ 0 }
     ensures failures { CountsDevice (R.failed source.old) (R.failed source.new) result }
     ensures stop { IsErrOf result Device → IsWhereItFailed (R.stopped source.new) }
     ensures frame { ReadsInto (R.coming source.old) (R.coming source.new) frame.new.items result }
@@ -103,8 +103,7 @@ fn read_into<R: Source>(source: &mut R, frame: &mut Buffer) -> Result<bool, Read
         return Err(ReadFault::EndInside);
     }
     let size = stated_size(&head)?;
-    put_bytes(frame, &head);
-    lengthen(frame, size);
+    begin(frame, &head, size);
     let count = fill(source, &mut frame.as_mut_slice()[SIZE_END..size])?;
     if SIZE_END + count < size {
         return Err(ReadFault::EndInside);
@@ -112,15 +111,32 @@ fn read_into<R: Source>(source: &mut R, frame: &mut Buffer) -> Result<bool, Read
     Ok(true)
 }
 
-// Adds bytes at the end, which are written over, until there are so many.
+// Makes the buffer so long, and begins it with these bytes. The others, which are written over, are what it held, as far as that
+// goes: so no more is filled than what it is longer or shorter by.
+fn begin(frame: &mut Buffer, head: &[u8; SIZE_END], size: usize)
+    requires { (10 ≤ size) × (size ≤ 4096) }
+    ensures { (more : List ℕ) × (frame.new.items ≡ head.now ++ more) × (length frame.new.items ≡ size) }
+{
+    frame.truncate(size);
+    lengthen(frame, size);
+    put_head(frame.as_mut_slice(), head);
+}
+
+fn put_head(bytes: &mut [u8], head: &[u8; SIZE_END])
+    requires { 6 ≤ length bytes.old }
+    ensures { bytes.new ≡ head.now ++ drop 6 bytes.old }
+{
+    bytes[..SIZE_END].copy_from_slice(head);
+}
+
+// Adds zeros at the end, until there are so many bytes.
 fn lengthen(frame: &mut Buffer, size: usize)
     requires { (length frame.old.items ≤ size) × (size ≤ 4096) }
-    ensures { (more : List ℕ) × (frame.new.items ≡ frame.old.items ++ more) × (length frame.new.items ≡ size) }
+    ensures { length frame.new.items ≡ size }
 {
-    let zeros = [0; PIECE];
     while frame.len() < size {
         let count = (size - frame.len()).min(PIECE);
-        let _ = frame.try_extend_from_slice(&zeros[..count]);
+        let _ = frame.try_extend_from_slice(&ZEROS[..count]);
     }
 }
 

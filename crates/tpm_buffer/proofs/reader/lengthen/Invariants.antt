@@ -1,11 +1,10 @@
-use Rattle.std.proofs.Common.{◌≡◌, ◌-◌, ◌≤◌, ◌++◌, length, List, ℕ}
+use Rattle.std.proofs.Common.{◌-◌, ◌≤◌, length}
 use Rattle.tpm_buffer.proofs.reader.lengthen.Given as goal
 
-abbrev pub invariant-loop-zeros : goal.invariant-loop-zeros
-invariant-loop-zeros l = record {
-  more : (more : List ℕ) × (l.frame.items ≡ l.fn.frame.items ++ more);
+abbrev pub invariant-loop-frame : goal.invariant-loop-frame
+invariant-loop-frame l = record {
   within : length l.frame.items ≤ l.size;
 }
 
-abbrev pub decreases-loop-zeros : goal.decreases-loop-zeros
-decreases-loop-zeros l = l.size - length l.frame.items
+abbrev pub decreases-loop-frame : goal.decreases-loop-frame
+decreases-loop-frame l = l.size - length l.frame.items
