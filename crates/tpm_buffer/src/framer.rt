@@ -80,6 +80,10 @@ impl Held {
         ensures held { self.new ≡ self.old ++ take result piece.now }
     {
         let count = size.saturating_sub(self.len()).min(piece.len());
+        // To copy nothing is a call, too.
+        if count == 0 {
+            return 0;
+        }
         self.append(&piece[..count]);
         count
     }
