@@ -4,6 +4,7 @@ pub mod Staged
 pub mod Places
 pub mod Longer
 pub mod Short
+pub mod EachCommand
 pub mod Sessions
 pub mod Within
 pub mod ReadSessions

@@ -1,27 +1,26 @@
 -- A response that is read, is read with its parameters as they came too.
-use Rattle.std.proofs.Common.{◌≡◌, ℕ, Bool, true, false, cond, eqb, List, [], ◌∷◌, length, take, drop, Option, Some, None, Result, Ok, Err, refl, sym, subst, ap, ◌∙◌, arith}
+use Rattle.std.proofs.Common.{◌≡◌, ℕ, Bool, true, false, cond, eqb, List, [], length, take, drop, Option, Some, None, Result, Ok, Err, refl, sym, subst, ap, ◌∙◌, arith}
 use Rattle.std.proofs.lemmas.Bool.{eqb-true}
 use Rattle.std.proofs.lemmas.List.{length-drop, take_all}
 use Rattle.tpm_wire.specs.declared.refusal.Refusal.{Refusal}
-use Rattle.tpm_wire.specs.Token.{number_of, Here, past, at_start, or_fault}
+use Rattle.tpm_wire.specs.Token.{Here, past, at_start}
 use Rattle.tpm_wire.specs.Layout.{Form, raw, either}
 use Rattle.tpm_wire.specs.Reading.{read, read_all, finish, unless, refuse, ◌>>=◌}
 use Rattle.tpm_wire.specs.Buffers.{buffer, Layout, too_few}
 use Rattle.tpm_wire.specs.Path.{Spells}
-use Rattle.tpm_wire.proofs.Agreement.{bind_ok, number_ok}
+use Rattle.tpm_wire.proofs.Agreement.{bind_ok}
 use Rattle.tpm_wire.proofs.Buffers.{buffer_sound, buffer_roomy}
 use Rattle.tpm_wire.proofs.Whole.{spells_read, read_spells}
-use Rattle.tpm_types.specs.Handles.{session, is_session}
-use Rattle.tpm_wire.specs.ResponseCodes.{rc_size, rc_value}
+use Rattle.tpm_wire.specs.ResponseCodes.{rc_size}
 use Rattle.tpm_buffer.specs.declared.code.CommandCode.{CommandCode}
-use Rattle.tpm_buffer.specs.declared.code.CommandCode.TheVariants as codes
 use Rattle.tpm_buffer.specs.declared.response.ReplyBody.{ReplyBody}
 use Rattle.tpm_buffer.specs.declared.response.Response.{Response}
 use Rattle.tpm_buffer.specs.declared.response.Response.TheVariants as responses
-use Rattle.tpm_buffer.specs.Replies.{code_for_reply, session_handle, session_in, reply_handles, reply_handles_of, reply_parameters, parameters_of_reply, pcr_event_reply, nv_read_reply, nv_read_public_reply, start_auth_session_reply, pcr_read_reply, policy_get_digest_reply}
+use Rattle.tpm_buffer.specs.Replies.{reply_handles, reply_parameters, parameters_of_reply}
 use Rattle.tpm_buffer.specs.Responses.{response_front, response_code, parameter_size, reply_sessions, with_sessions, without_sessions, Reply, reply, reply_of, done_with, behind_code, response, ReplyCut, raw_with_sessions, raw_without_sessions, cut_behind_code, reply_cut, Answers}
 use Rattle.tpm_buffer.specs.ResponseAreas.{IsCutOf}
 use Rattle.tpm_buffer.proofs.Places.{alone}
+use Rattle.tpm_buffer.proofs.EachCommand.{ends_read, AreRead, are_read, IsBodyOf, bodies}
 
 abbrev ok : {A : Type 0} → A → Result A Refusal
 ok x = Ok x
@@ -99,90 +98,6 @@ area_or_raw {A = A} {B = B} {C = C} R n l h f g next = room (too_few 0 h.at n (l
         (unless buffer t 0 h (ok (take n h.rest, past n h)) >>= g)
     room (Some fault) = never R _ _
     room None = inside (read 0 l within) refl
-
--- ---- the handle of a reply is that which was read
-
--- each value that is read of the layout has the property
-abbrev Ends : {A : Type 0} → (A → Type 0) → Layout A → Type 0
-Ends P (Form.done x) = P x
-Ends P (Form.field {B = B} get l f) = (b : B) → Ends P (f b)
-Ends P _ = ⊥
-
-ends_read : {A : Type 0} (P : A → Type 0) (l : Layout A) (m : ℕ) (h : Here) (x : A × Here) → Ends P l → read m l h ≡ Ok x → P x.0
-ends_read P (Form.done a) m h x p e = subst P (ap (λ z. z.0) (ok_is (a, h) x e)) p
-ends_read P (Form.field get l f) m h x p e =
-    let b = bind_ok (read m l h) (λ y. read m (f y.0) y.1) x e in
-    ends_read P (f b.0.0) m b.0.1 x (p b.0.0) b.2
-ends_read P (Form.number width meaning number_for fault) m h x p e = absurd p
-ends_read P (Form.text n judge text_for) m h x p e = absurd p
-ends_read P (Form.area n fault l) m h x p e = absurd p
-ends_read P (Form.list most stops l) m h x p e = absurd p
-ends_read P (Form.by_left f) m h x p e = absurd p
-ends_read P (Form.marked n l) m h x p e = absurd p
-
-abbrev AreRead : CommandCode → List ℕ → Type 0
-AreRead codes.StartAuthSession hs = (n : ℕ) × (hs ≡ n ∷ []) × (session_in n ≡ n)
-AreRead _ hs = hs ≡ []
-
-none_read : (h g : Here) (hs : List ℕ) → (let o : Result (List ℕ × Here) Refusal = Ok ([], h) in o) ≡ Ok (hs, g) → hs ≡ []
-none_read h g hs e = sym (ap (λ (p : List ℕ × Here). p.0) (ok_is ([], h) (hs, g) e))
-
-was_session : (m n code : ℕ) (b : Bool) → is_session m ≡ b → or_fault {F = ℕ} (cond b (Some m) None) code ≡ Ok n → is_session n ≡ true
-was_session m n code true is e = let same : m ≡ n = cc in rw (← same) is
-was_session m n code false is e = absurd (let z : ⊥ = cc in z)
-
-session_read : (h g : Here) (hs : List ℕ) → read 0 session_handle h ≡ Ok (hs, g) → (n : ℕ) × (hs ≡ n ∷ []) × (session_in n ≡ n)
-unfolding session_handle session
-session_read h g hs e =
-    let b = bind_ok (read 0x100 session h) (λ n. ok (n.0 ∷ [], n.1)) (hs, g) e in
-    let n = number_ok buffer buffer_sound 0x100 4 (λ left n. cond (is_session n) (Some n) None) (λ n. n) rc_value h b.0 b.1 in
-    let good : is_session b.0.0 ≡ true = was_session (number_of (take 4 h.rest)) b.0.0 rc_value (is_session (number_of (take 4 h.rest))) refl n.1 in
-    (b.0.0, sym (ap (λ z. z.0) (ok_is (b.0.0 ∷ [], b.0.1) (hs, g) b.2)), rw good refl)
-
-are_read : (code : CommandCode) (h g : Here) (hs : List ℕ) → read 0 (reply_handles code) h ≡ Ok (hs, g) → AreRead code hs
-are_read codes.NvUndefineSpace h g hs e = none_read h g hs e
-are_read codes.NvDefineSpace h g hs e = none_read h g hs e
-are_read codes.NvIncrement h g hs e = none_read h g hs e
-are_read codes.PcrEvent h g hs e = none_read h g hs e
-are_read codes.PcrReset h g hs e = none_read h g hs e
-are_read codes.Startup h g hs e = none_read h g hs e
-are_read codes.NvRead h g hs e = none_read h g hs e
-are_read codes.FlushContext h g hs e = none_read h g hs e
-are_read codes.NvReadPublic h g hs e = none_read h g hs e
-are_read codes.PolicyAuthValue h g hs e = none_read h g hs e
-are_read codes.PolicyCommandCode h g hs e = none_read h g hs e
-are_read codes.PolicyOr h g hs e = none_read h g hs e
-are_read codes.StartAuthSession h g hs e = session_read h g hs e
-are_read codes.PcrRead h g hs e = none_read h g hs e
-are_read codes.PolicyPcr h g hs e = none_read h g hs e
-are_read codes.PolicyRestart h g hs e = none_read h g hs e
-are_read codes.PcrExtend h g hs e = none_read h g hs e
-are_read codes.PolicyGetDigest h g hs e = none_read h g hs e
-
--- the body is that of the command, with this handle
-abbrev IsBodyOf : CommandCode → List ℕ → ReplyBody → Type 0
-IsBodyOf code hs body = (code_for_reply body ≡ code) × (reply_handles_of body ≡ hs)
-
-bodies : (code : CommandCode) (hs : List ℕ) → AreRead code hs → Ends (IsBodyOf code hs) (reply_parameters code hs)
-unfolding pcr_event_reply nv_read_reply nv_read_public_reply start_auth_session_reply pcr_read_reply policy_get_digest_reply
-bodies codes.NvUndefineSpace hs are = (refl, sym are)
-bodies codes.NvDefineSpace hs are = (refl, sym are)
-bodies codes.NvIncrement hs are = (refl, sym are)
-bodies codes.PcrEvent hs are = λ a. (refl, sym are)
-bodies codes.PcrReset hs are = (refl, sym are)
-bodies codes.Startup hs are = (refl, sym are)
-bodies codes.NvRead hs are = λ a. (refl, sym are)
-bodies codes.FlushContext hs are = (refl, sym are)
-bodies codes.NvReadPublic hs are = λ a b. (refl, sym are)
-bodies codes.PolicyAuthValue hs are = (refl, sym are)
-bodies codes.PolicyCommandCode hs are = (refl, sym are)
-bodies codes.PolicyOr hs are = (refl, sym are)
-bodies codes.StartAuthSession hs are = λ nonce. (refl, rw (are.1, are.2) refl)
-bodies codes.PcrRead hs are = λ a b c. (refl, sym are)
-bodies codes.PolicyPcr hs are = (refl, sym are)
-bodies codes.PolicyRestart hs are = (refl, sym are)
-bodies codes.PcrExtend hs are = (refl, sym are)
-bodies codes.PolicyGetDigest hs are = λ a. (refl, sym are)
 
 all_read : {A : Type 0} (l : Layout A) (bytes : List ℕ) (x : A) → read_all l bytes ≡ Ok x → (h : Here) × (read 0 l (at_start bytes) ≡ Ok (x, h))
 all_read l bytes x e =

@@ -1,49 +1,41 @@
--- Sessions and parameters take few bytes, and are read alike whatever is behind them.
-use Rattle.std.proofs.Common.{◌≡◌, ℕ, ◌+◌, ◌≤◌, ◌<◌, Bool, true, false, eqb, List, ◌++◌, length, take, drop, Result, Ok, Err, refl, sym, ap, ◌∙◌, arith}
+-- The parts of sessions and parameters take few bytes, and are read alike whatever is behind them.
+use Rattle.std.proofs.Common.{◌≡◌, ℕ, ◌+◌, ◌≤◌, ◌<◌, Bool, true, false, eqb, List, ◌++◌, length, Result, Ok, Err, refl, arith}
 use Rattle.std.proofs.lemmas.Bool.{ne_eqb, eqb-true}
-use Rattle.std.proofs.lemmas.List.{take-append-drop, length-take, length-drop, length-append}
+use Rattle.std.proofs.lemmas.List.{length-append}
 use Rattle.tpm_wire.specs.declared.refusal.Refusal.{Refusal}
-use Rattle.tpm_wire.specs.ResponseCodes.{rc_size, rc_hash, rc_value, of_parameter}
-use Rattle.tpm_wire.specs.Token.{Here, at_start}
+use Rattle.tpm_wire.specs.ResponseCodes.{rc_size, rc_hash, rc_value}
+use Rattle.tpm_wire.specs.Token.{Here}
 use Rattle.tpm_wire.specs.Layout.{Form, raw, either}
-use Rattle.tpm_wire.specs.Reading.{read, read_all, finish, ◌>>=◌}
+use Rattle.tpm_wire.specs.Reading.{finish, ◌>>=◌}
 use Rattle.tpm_wire.specs.Buffers.{buffer, Layout, number_in, numbered}
 use Rattle.tpm_types.specs.declared.alg.Alg.{Alg}
 use Rattle.tpm_types.specs.declared.alg.Alg.TheVariants.{Sha1, Sha256, Sha384}
 use Rattle.tpm_types.specs.declared.tpms.Selection.{Selection}
-use Rattle.tpm_types.specs.Limits.{digest_bytes, public_bytes, banks}
+use Rattle.tpm_types.specs.Limits.{digest_bytes}
 use Rattle.tpm_types.specs.Alg.{alg_of, alg_number, digest_len, hash}
-use Rattle.tpm_types.specs.Constants.{startup_of, startup_number, startup_type, session_type_of, session_type_number, session_type}
-use Rattle.tpm_types.specs.Handles.{is_session, session, is_auth_session, auth_session}
+use Rattle.tpm_types.specs.Handles.{is_auth_session, auth_session}
 use Rattle.tpm_types.specs.Tpma.{is_session_attrs, session_attrs}
-use Rattle.tpm_types.specs.Tpm2b.{digest, salt_of, salt_size, encrypted_salt}
-use Rattle.tpm_types.specs.Tpml.{most_digests}
-use Rattle.tpm_types.specs.Tpms.{select_bytes, selection, auth_command, nv_public_area, nv_public}
+use Rattle.tpm_types.specs.Tpms.{select_bytes, selection, auth_command}
 use Rattle.tpm_types.specs.declared.tpmt.SymDef.TheVariants.{Null, Aes, Xor}
 use Rattle.tpm_types.specs.Tpmt.{digest_value, bits_of, hash_of, alg_cfb, alg_null, alg_aes, key_bits_of, key_bits_number, key_bits, algorithm, mode, sym_def}
-use Rattle.tpm_buffer.specs.declared.code.CommandCode.{CommandCode}
-use Rattle.tpm_buffer.specs.declared.code.CommandCode.TheVariants as codes
-use Rattle.tpm_buffer.specs.declared.command_parameters.Params.{Params}
-use Rattle.tpm_buffer.specs.Events.{event_bytes}
-use Rattle.tpm_buffer.specs.Parameters.{nv_define_space, pcr_event, startup, nv_read, flush_context, policy_command_code, policy_or, start_auth_session, pcr_read, policy_pcr, pcr_extend, parameters}
-use Rattle.tpm_buffer.proofs.Longer.{TakesAtMost, with_more, in_set, at_most_more, at_most_done, at_most_number, at_most_number_in, at_most_text, at_most_field, at_most_marked, at_most_sized_bytes, at_most_sized, at_most_counted}
+use Rattle.tpm_buffer.proofs.Longer.{TakesAtMost, with_more, in_set, at_most_more, at_most_done, at_most_number, at_most_number_in, at_most_text, at_most_field, at_most_marked, at_most_sized_bytes}
 
 -- a part, and what follows it
 pub and : {A B : Type 0} (j k : ℕ) (get : A → B) (l : Layout B) (f : B → Layout A) → TakesAtMost j l → ((y : B) → TakesAtMost k (f y)) → TakesAtMost (j + k) (Form.field get l f)
 and j k get l f one two = at_most_field j k get l f one (λ m h y is. two y.0)
 
 -- a parameter, and what follows it
-next : {A B : Type 0} (j k n : ℕ) (get : A → B) (l : Layout B) (f : B → Layout A) → TakesAtMost j l → ((y : B) → TakesAtMost k (f y)) → TakesAtMost (j + k) (Form.field get (numbered n l) f)
+pub next : {A B : Type 0} (j k n : ℕ) (get : A → B) (l : Layout B) (f : B → Layout A) → TakesAtMost j l → ((y : B) → TakesAtMost k (f y)) → TakesAtMost (j + k) (Form.field get (numbered n l) f)
 next j k n get l f one two = and j k get (numbered n l) f (at_most_marked j n l one) two
 
 -- a part, and nothing behind it
 pub last : {A B : Type 0} (j : ℕ) (get : A → B) (l : Layout B) (x : B → A) → TakesAtMost j l → TakesAtMost (j + 0) (Form.field get l (λ y. Form.done (x y)))
 last j get l x one = and j 0 get l (λ y. Form.done (x y)) one (λ y. at_most_done (x y))
 
-only : {A B : Type 0} (j n : ℕ) (get : A → B) (l : Layout B) (x : B → A) → TakesAtMost j l → TakesAtMost (j + 0) (Form.field get (numbered n l) (λ y. Form.done (x y)))
+pub only : {A B : Type 0} (j n : ℕ) (get : A → B) (l : Layout B) (x : B → A) → TakesAtMost j l → TakesAtMost (j + 0) (Form.field get (numbered n l) (λ y. Form.done (x y)))
 only j n get l x one = last j get (numbered n l) x (at_most_marked j n l one)
 
-of_hash : TakesAtMost 2 hash
+pub of_hash : TakesAtMost 2 hash
 unfolding hash
 of_hash = at_most_number 2 alg_of alg_number rc_hash
 
@@ -73,13 +65,13 @@ of_selection =
     let three : n.0 ≡ 3 = eqb-true n.0 select_bytes (in_set 1 (λ n. eqb n select_bytes) rc_value m h n is) in
     at_most_more (n.0 + 0) 3 _ (omega (arith, three)) (last n.0 (λ s. s.select) (raw n.0) (λ select. made alg select) (at_most_text n.0 (λ bytes. Ok bytes) (λ bytes. bytes)))))
 
-of_digest_value : TakesAtMost 50 digest_value
+pub of_digest_value : TakesAtMost 50 digest_value
 unfolding digest_value
 of_digest_value =
     and 2 48 _ _ _ of_hash (λ alg.
     at_most_more (digest_len alg + 0) 48 _ (omega (arith, of_digest_len alg)) (last (digest_len alg) _ _ _ (at_most_text (digest_len alg) (λ bytes. Ok bytes) (λ bytes. bytes))))
 
-of_sym_def : TakesAtMost 6 sym_def
+pub of_sym_def : TakesAtMost 6 sym_def
 unfolding sym_def algorithm key_bits mode
 of_sym_def = and 2 4 _ _ _ (at_most_number_in 2 _ _) (λ n. go (eqb n alg_null) (eqb n alg_aes))
   where
@@ -88,46 +80,12 @@ of_sym_def = and 2 4 _ _ _ (at_most_number_in 2 _ _) (λ n. go (eqb n alg_null) 
     go false true = and 2 2 _ _ _ (at_most_number 2 key_bits_of key_bits_number rc_value) (λ bits. last 2 _ _ _ (at_most_number_in 2 _ _))
     go false false = at_most_more 2 4 _ (omega arith) (last 2 _ _ _ of_hash)
 
--- ---- the parameters of each command
-
-none : {A : Type 0} (x : A) → TakesAtMost 1100 (Form.done x)
-none x = at_most_more 0 1100 (Form.done x) (omega arith) (at_most_done x)
-
-few : {A : Type 0} (k : ℕ) (l : Layout A) → k ≤ 1100 → TakesAtMost k l → TakesAtMost 1100 l
-few k l le t = at_most_more k 1100 l le t
-
-pub of_parameters : (code : CommandCode) → TakesAtMost 1100 (parameters code)
-unfolding nv_define_space pcr_event startup nv_read flush_context policy_command_code policy_or start_auth_session pcr_read policy_pcr pcr_extend startup_type session_type session encrypted_salt nv_public
-of_parameters codes.NvUndefineSpace = none _
-of_parameters codes.NvDefineSpace = few 114 _ (omega arith) (next 50 64 (of_parameter 1) _ _ _ (at_most_sized_bytes digest_bytes) (λ auth. only 64 (of_parameter 2) _ _ _ (at_most_sized public_bytes nv_public_area)))
-of_parameters codes.NvIncrement = none _
-of_parameters codes.PcrEvent = few 1026 _ (omega arith) (only 1026 (of_parameter 1) _ _ _ (at_most_sized_bytes event_bytes))
-of_parameters codes.PcrReset = none _
-of_parameters codes.Startup = few 2 _ (omega arith) (only 2 (of_parameter 1) _ _ _ (at_most_number 2 startup_of startup_number rc_value))
-of_parameters codes.NvRead = few 4 _ (omega arith) (next 2 2 (of_parameter 1) _ _ _ (at_most_number 2 _ _ _) (λ size. only 2 (of_parameter 2) _ _ _ (at_most_number 2 _ _ _)))
-of_parameters codes.FlushContext = few 4 _ (omega arith) (only 4 (of_parameter 1) _ _ _ (at_most_number_in 4 is_session rc_value))
-of_parameters codes.NvReadPublic = none _
-of_parameters codes.PolicyAuthValue = none _
-of_parameters codes.PolicyCommandCode = few 4 _ (omega arith) (only 4 (of_parameter 1) _ _ _ (at_most_number 4 _ _ _))
-of_parameters codes.PolicyOr = few 404 _ (omega arith) (only 404 (of_parameter 1) _ _ _ (at_most_counted 2 most_digests 50 digest (at_most_sized_bytes digest_bytes)))
-of_parameters codes.StartAuthSession = few 61 _ (omega arith) (
-    next 50 11 (of_parameter 1) _ _ _ (at_most_sized_bytes digest_bytes) (λ nonce.
-    next 2 9 (of_parameter 2) _ _ _ (at_most_number 2 salt_of salt_size rc_value) (λ salt.
-    next 1 8 (of_parameter 3) _ _ _ (at_most_number 1 session_type_of session_type_number rc_value) (λ kind.
-    next 6 2 (of_parameter 4) _ _ _ of_sym_def (λ symmetric.
-    only 2 (of_parameter 5) _ _ _ of_hash)))))
-of_parameters codes.PcrRead = few 22 _ (omega arith) (only 22 (of_parameter 1) _ _ _ (at_most_counted 0 banks 6 selection of_selection))
-of_parameters codes.PolicyPcr = few 72 _ (omega arith) (next 50 22 (of_parameter 1) _ _ _ (at_most_sized_bytes digest_bytes) (λ pcr_digest. only 22 (of_parameter 2) _ _ _ (at_most_counted 0 banks 6 selection of_selection)))
-of_parameters codes.PolicyRestart = none _
-of_parameters codes.PcrExtend = few 154 _ (omega arith) (only 154 (of_parameter 1) _ _ _ (at_most_counted 0 banks 50 digest_value of_digest_value))
-of_parameters codes.PolicyGetDigest = none _
-
--- ---- more bytes than any parameters
+-- ---- more bytes than are read
 
 abbrev pub ok : {A : Type 0} → A → Result A Refusal
 ok x = Ok x
 
-abbrev err : {A : Type 0} → Refusal → Result A Refusal
+abbrev pub err : {A : Type 0} → Refusal → Result A Refusal
 err e = Err e
 
 -- behind what was read there are bytes left
@@ -135,21 +93,3 @@ pub over : {A : Type 0} (more : List ℕ) → 0 < length more → (x : A) (g : H
 over more some x g =
     let n : eqb (length (g.rest ++ more)) 0 ≡ false = ne_eqb (length (g.rest ++ more)) 0 (λ e. omega (arith, some, e, length-append g.rest more)) in
     rw n refl
-
--- The begin of longer bytes has their fault, or the bytes behind the parameters are it.
-pub fault_of_long : (code : CommandCode) (bytes : List ℕ) → 4096 < length bytes → (e : Refusal) → read 0 (parameters code) (at_start (take 4096 bytes)) ≡ Err e → read_all (parameters code) bytes ≡ Err e
-fault_of_long code bytes long e is =
-    let whole = take-append-drop 4096 bytes in
-    let all : read 0 (parameters code) (at_start (take 4096 bytes ++ drop 4096 bytes)) ≡ Err e =
-    (of_parameters code).fault 0 (at_start (take 4096 bytes)) (drop 4096 bytes) e (omega (arith, long, length-take 4096 bytes)) is in
-    let same : read 0 (parameters code) (at_start bytes) ≡ Err e = ap (λ (b : List ℕ). read 0 (parameters code) (at_start b)) (sym whole) ∙ all in
-    ap (λ o. (o >>= finish buffer) >>= λ x. ok x.0) same
-
-pub left_of_long : (code : CommandCode) (bytes : List ℕ) → 4096 < length bytes → (p : Params) (g : Here) → read 0 (parameters code) (at_start (take 4096 bytes)) ≡ Ok (p, g)
-    → read_all (parameters code) bytes ≡ Err (record { code = rc_size; at = g.at })
-left_of_long code bytes long p g is =
-    let whole = take-append-drop 4096 bytes in
-    let all : read 0 (parameters code) (at_start (take 4096 bytes ++ drop 4096 bytes)) ≡ Ok (p, with_more (drop 4096 bytes) g) =
-    (of_parameters code).same 0 (at_start (take 4096 bytes)) (drop 4096 bytes) (p, g) is in
-    let same : read 0 (parameters code) (at_start bytes) ≡ Ok (p, with_more (drop 4096 bytes) g) = ap (λ (b : List ℕ). read 0 (parameters code) (at_start b)) (sym whole) ∙ all in
-    ap (λ o. (o >>= finish buffer) >>= λ x. ok x.0) same ∙ over (drop 4096 bytes) (omega (arith, long, length-drop 4096 bytes)) p g

@@ -6,26 +6,21 @@ use Rattle.tpm_wire.specs.Layout.Form.{done, number, field, area, list}
 use Rattle.tpm_wire.specs.ResponseCodes.{rc_bad_tag, rc_command_size, rc_authsize, of_session}
 use Rattle.tpm_wire.specs.Spelling.{spelling}
 use Rattle.tpm_types.specs.declared.tpms.Auth.{Auth}
-use Rattle.tpm_types.specs.declared.handle_sets.PcrOrNull.{PcrOrNull}
-use Rattle.tpm_types.specs.declared.handle_sets.PcrOrNull.TheVariants as pcrs
-use Rattle.tpm_types.specs.declared.handle_sets.NvAuthHandle.{NvAuthHandle}
-use Rattle.tpm_types.specs.declared.handle_sets.NvAuthHandle.TheVariants as nv
-use Rattle.tpm_types.specs.declared.handle_sets.BindHandle.{BindHandle}
-use Rattle.tpm_types.specs.declared.handle_sets.BindHandle.TheVariants as binds
-use Rattle.tpm_types.specs.Handles.{rh_owner, rh_null, is_pcr, is_nv_index, is_policy}
-use Rattle.tpm_types.specs.HandleSets.{pcr_or_null_number, pcr_or_null_of, nv_auth_number, nv_auth_of, bind_number, bind_of}
 use Rattle.tpm_types.specs.Tpms.{auth_command}
 use Rattle.tpm_buffer.specs.declared.code.CommandCode.{CommandCode}
-use Rattle.tpm_buffer.specs.declared.code.CommandCode.TheVariants as codes
 use Rattle.tpm_buffer.specs.declared.command.Command.{Command}
 use Rattle.tpm_buffer.specs.declared.command.CommandBody.{CommandBody}
-use Rattle.tpm_buffer.specs.declared.command.CommandBody.TheVariants as bodies
 use Rattle.tpm_buffer.specs.declared.command.Header.{Header}
-use Rattle.tpm_buffer.specs.declared.command_parameters.Params.{Params}
-use Rattle.tpm_buffer.specs.declared.command_parameters.Params.TheVariants as params
 use Rattle.tpm_buffer.specs.Codes.{command_code}
-use Rattle.tpm_buffer.specs.Handles.{first, second, handles}
+use Rattle.tpm_buffer.specs.Handles.{handles}
 use Rattle.tpm_buffer.specs.Parameters.{parameters}
+pub use Rattle.tpm_buffer.specs.Table.{register_in, index_in, policy_in, pcr_or_null_in, nv_auth_in, bind_in, body_from, params_of, code_for, handles_of}
+pub mod Startup
+pub mod Session
+pub mod Pcr
+pub mod Policy
+pub mod Context
+pub mod Nv
 
 -- ---- the header
 
@@ -61,114 +56,6 @@ unfoldable pub authorization : ℕ → Layout (List Auth)
 authorization t = either (t == 0x8002)
     (field (λ auths. length (spelling sessions auths)) authorization_size (λ n. area n rc_authsize sessions))
     (done [])
-
--- ---- a command by its handles and its parameters
-
--- the value, or else this one, which is never met on handles that were read
-abbrev pub or_else : {A : Type 0} → Option A → A → A
-or_else (Some x) other = x
-or_else None other = other
-
-abbrev pub register_in : ℕ → ℕ
-register_in n = if is_pcr n then n else 0
-
-abbrev pub index_in : ℕ → ℕ
-index_in n = if is_nv_index n then n else 0x01000000
-
-abbrev pub policy_in : ℕ → ℕ
-policy_in n = if is_policy n then n else 0x03000000
-
-abbrev pub pcr_or_null_in : ℕ → PcrOrNull
-pcr_or_null_in n = or_else (pcr_or_null_of n) pcrs.Null
-
-abbrev pub nv_auth_in : ℕ → NvAuthHandle
-nv_auth_in n = or_else (nv_auth_of n) nv.Owner
-
-abbrev pub bind_in : ℕ → BindHandle
-bind_in n = or_else (bind_of n) binds.Null
-
-abbrev pub body_from : List ℕ → Params → CommandBody
-body_from hs params.NvUndefineSpace = bodies.NvUndefineSpace (index_in (second hs))
-body_from hs (params.NvDefineSpace auth public) = bodies.NvDefineSpace auth public
-body_from hs params.NvIncrement = bodies.NvIncrement (nv_auth_in (first hs)) (index_in (second hs))
-body_from hs (params.PcrEvent event) = bodies.PcrEvent (pcr_or_null_in (first hs)) event
-body_from hs params.PcrReset = bodies.PcrReset (register_in (first hs))
-body_from hs (params.Startup startup_type) = bodies.Startup startup_type
-body_from hs (params.NvRead size offset) = bodies.NvRead (nv_auth_in (first hs)) (index_in (second hs)) size offset
-body_from hs (params.FlushContext session) = bodies.FlushContext session
-body_from hs params.NvReadPublic = bodies.NvReadPublic (index_in (first hs))
-body_from hs params.PolicyAuthValue = bodies.PolicyAuthValue (policy_in (first hs))
-body_from hs (params.PolicyCommandCode code) = bodies.PolicyCommandCode (policy_in (first hs)) code
-body_from hs (params.PolicyOr digests) = bodies.PolicyOr (policy_in (first hs)) digests
-body_from hs (params.StartAuthSession nonce session_type symmetric hash) =
-    bodies.StartAuthSession (record { bind = bind_in (second hs); nonce_caller = nonce; session_type = session_type; symmetric = symmetric; auth_hash = hash })
-body_from hs (params.PcrRead selections) = bodies.PcrRead selections
-body_from hs (params.PolicyPcr digest selections) = bodies.PolicyPcr (policy_in (first hs)) digest selections
-body_from hs params.PolicyRestart = bodies.PolicyRestart (policy_in (first hs))
-body_from hs (params.PcrExtend digests) = bodies.PcrExtend (pcr_or_null_in (first hs)) digests
-body_from hs params.PolicyGetDigest = bodies.PolicyGetDigest (policy_in (first hs))
-
--- ---- the handles and the parameters of a command
-
-abbrev pub code_for : CommandBody → CommandCode
-code_for (bodies.NvUndefineSpace index) = codes.NvUndefineSpace
-code_for (bodies.NvDefineSpace auth public) = codes.NvDefineSpace
-code_for (bodies.NvIncrement by index) = codes.NvIncrement
-code_for (bodies.PcrEvent register event) = codes.PcrEvent
-code_for (bodies.PcrReset register) = codes.PcrReset
-code_for (bodies.Startup startup_type) = codes.Startup
-code_for (bodies.NvRead by index size offset) = codes.NvRead
-code_for (bodies.FlushContext session) = codes.FlushContext
-code_for (bodies.NvReadPublic index) = codes.NvReadPublic
-code_for (bodies.PolicyAuthValue session) = codes.PolicyAuthValue
-code_for (bodies.PolicyCommandCode session code) = codes.PolicyCommandCode
-code_for (bodies.PolicyOr session digests) = codes.PolicyOr
-code_for (bodies.StartAuthSession start) = codes.StartAuthSession
-code_for (bodies.PcrRead selections) = codes.PcrRead
-code_for (bodies.PolicyPcr session digest selections) = codes.PolicyPcr
-code_for (bodies.PolicyRestart session) = codes.PolicyRestart
-code_for (bodies.PcrExtend register digests) = codes.PcrExtend
-code_for (bodies.PolicyGetDigest session) = codes.PolicyGetDigest
-
-abbrev pub handles_of : CommandBody → List ℕ
-handles_of (bodies.NvUndefineSpace index) = rh_owner ∷ index ∷ []
-handles_of (bodies.NvDefineSpace auth public) = rh_owner ∷ []
-handles_of (bodies.NvIncrement by index) = nv_auth_number by ∷ index ∷ []
-handles_of (bodies.PcrEvent register event) = pcr_or_null_number register ∷ []
-handles_of (bodies.PcrReset register) = register ∷ []
-handles_of (bodies.Startup startup_type) = []
-handles_of (bodies.NvRead by index size offset) = nv_auth_number by ∷ index ∷ []
-handles_of (bodies.FlushContext session) = []
-handles_of (bodies.NvReadPublic index) = index ∷ []
-handles_of (bodies.PolicyAuthValue session) = session ∷ []
-handles_of (bodies.PolicyCommandCode session code) = session ∷ []
-handles_of (bodies.PolicyOr session digests) = session ∷ []
-handles_of (bodies.StartAuthSession start) = rh_null ∷ bind_number start.bind ∷ []
-handles_of (bodies.PcrRead selections) = []
-handles_of (bodies.PolicyPcr session digest selections) = session ∷ []
-handles_of (bodies.PolicyRestart session) = session ∷ []
-handles_of (bodies.PcrExtend register digests) = pcr_or_null_number register ∷ []
-handles_of (bodies.PolicyGetDigest session) = session ∷ []
-
-abbrev pub params_of : CommandBody → Params
-params_of (bodies.NvUndefineSpace index) = params.NvUndefineSpace
-params_of (bodies.NvDefineSpace auth public) = params.NvDefineSpace auth public
-params_of (bodies.NvIncrement by index) = params.NvIncrement
-params_of (bodies.PcrEvent register event) = params.PcrEvent event
-params_of (bodies.PcrReset register) = params.PcrReset
-params_of (bodies.Startup startup_type) = params.Startup startup_type
-params_of (bodies.NvRead by index size offset) = params.NvRead size offset
-params_of (bodies.FlushContext session) = params.FlushContext session
-params_of (bodies.NvReadPublic index) = params.NvReadPublic
-params_of (bodies.PolicyAuthValue session) = params.PolicyAuthValue
-params_of (bodies.PolicyCommandCode session code) = params.PolicyCommandCode code
-params_of (bodies.PolicyOr session digests) = params.PolicyOr digests
-params_of (bodies.StartAuthSession start) = params.StartAuthSession start.nonce_caller start.session_type start.symmetric start.auth_hash
-params_of (bodies.PcrRead selections) = params.PcrRead selections
-params_of (bodies.PolicyPcr session digest selections) = params.PolicyPcr digest selections
-params_of (bodies.PolicyRestart session) = params.PolicyRestart
-params_of (bodies.PcrExtend register digests) = params.PcrExtend digests
-params_of (bodies.PolicyGetDigest session) = params.PolicyGetDigest
 
 -- ---- the command
 

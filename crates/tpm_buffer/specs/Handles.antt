@@ -1,5 +1,5 @@
 -- The handles of the commands (Part 3, the command table of each).
-use Rattle.std.specs.Prelude.{◌≡◌, ℕ, ◌+◌, Bool, true, false, is_some, List, [], ◌∷◌}
+use Rattle.std.specs.Prelude.{◌≡◌, ℕ, ◌+◌, Bool, true, is_some, List, [], ◌∷◌}
 use Rattle.tpm_wire.specs.Buffers.{Layout, number_in, numbered}
 use Rattle.tpm_wire.specs.Layout.Form.{done, field}
 use Rattle.tpm_wire.specs.ResponseCodes.{rc_value, of_handle}
@@ -8,7 +8,8 @@ use Rattle.tpm_types.specs.HandleSets.{pcr_or_null_of, nv_auth_of, bind_of}
 use Rattle.tpm_buffer.specs.declared.command_handles.HandleKind.{HandleKind}
 use Rattle.tpm_buffer.specs.declared.command_handles.HandleKind.TheVariants.{Pcr, PcrOrNull, Owner, Null, OwnerOrNull, Index, OwnerOrIndex, Policy}
 use Rattle.tpm_buffer.specs.declared.code.CommandCode.{CommandCode}
-use Rattle.tpm_buffer.specs.declared.code.CommandCode.TheVariants as codes
+pub use Rattle.tpm_buffer.specs.Row.{first, others, second}
+use Rattle.tpm_buffer.specs.Table.{row}
 
 abbrev pub admits : HandleKind → ℕ → Bool
 admits Pcr n = is_pcr n
@@ -22,56 +23,11 @@ admits Policy n = is_policy n
 
 -- what the handles of each command may be
 abbrev pub handle_kinds : CommandCode → List HandleKind
-handle_kinds codes.NvUndefineSpace = Owner ∷ Index ∷ []
-handle_kinds codes.NvDefineSpace = Owner ∷ []
-handle_kinds codes.NvIncrement = OwnerOrIndex ∷ Index ∷ []
-handle_kinds codes.PcrEvent = PcrOrNull ∷ []
-handle_kinds codes.PcrReset = Pcr ∷ []
-handle_kinds codes.Startup = []
-handle_kinds codes.NvRead = OwnerOrIndex ∷ Index ∷ []
-handle_kinds codes.FlushContext = []
-handle_kinds codes.NvReadPublic = Index ∷ []
-handle_kinds codes.PolicyAuthValue = Policy ∷ []
-handle_kinds codes.PolicyCommandCode = Policy ∷ []
-handle_kinds codes.PolicyOr = Policy ∷ []
-handle_kinds codes.StartAuthSession = Null ∷ OwnerOrNull ∷ []
-handle_kinds codes.PcrRead = []
-handle_kinds codes.PolicyPcr = Policy ∷ []
-handle_kinds codes.PolicyRestart = Policy ∷ []
-handle_kinds codes.PcrExtend = PcrOrNull ∷ []
-handle_kinds codes.PolicyGetDigest = Policy ∷ []
+handle_kinds code = (row code).handles
 
 -- The first handle needs authorization.
 abbrev pub needs_authorization : CommandCode → Bool
-needs_authorization codes.NvUndefineSpace = true
-needs_authorization codes.NvDefineSpace = true
-needs_authorization codes.NvIncrement = true
-needs_authorization codes.PcrEvent = true
-needs_authorization codes.PcrReset = true
-needs_authorization codes.Startup = false
-needs_authorization codes.NvRead = true
-needs_authorization codes.FlushContext = false
-needs_authorization codes.NvReadPublic = false
-needs_authorization codes.PolicyAuthValue = false
-needs_authorization codes.PolicyCommandCode = false
-needs_authorization codes.PolicyOr = false
-needs_authorization codes.StartAuthSession = false
-needs_authorization codes.PcrRead = false
-needs_authorization codes.PolicyPcr = false
-needs_authorization codes.PolicyRestart = false
-needs_authorization codes.PcrExtend = true
-needs_authorization codes.PolicyGetDigest = false
-
-abbrev pub first : List ℕ → ℕ
-first [] = 0
-first (n ∷ ns) = n
-
-abbrev pub others : List ℕ → List ℕ
-others [] = []
-others (n ∷ ns) = ns
-
-abbrev pub second : List ℕ → ℕ
-second ns = first (others ns)
+needs_authorization code = (row code).authorized
 
 -- handles of these kinds, the first of which has this number
 abbrev pub handles_from : ℕ → List HandleKind → Layout (List ℕ)

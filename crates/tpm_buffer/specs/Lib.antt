@@ -1,3 +1,5 @@
+pub mod Row
+pub mod Table
 pub mod Codes
 pub mod Handles
 pub mod Parameters
