@@ -4,7 +4,8 @@ use Rattle.tpm_wire.specs.Buffers.{Layout}
 use Rattle.tpm_wire.specs.Layout.Form.{number}
 use Rattle.tpm_wire.specs.ResponseCodes.{rc_command_code}
 use Rattle.tpm_buffer.specs.declared.code.CommandCode.{CommandCode}
-use Rattle.tpm_buffer.specs.Table.{row, all_commands}
+use Rattle.tpm_buffer.specs.Table.{row}
+pub use Rattle.tpm_buffer.specs.Table.{all_commands}
 
 abbrev pub code_number : CommandCode → ℕ
 code_number code = (row code).number
