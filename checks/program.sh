@@ -4,6 +4,7 @@
 #     NAME        begins a case, which the empty line ends
 #     $ WORDS     runs the program on these words; a case may have several lines, which all give the same
 #     < LINE      a line of standard input; behind `<.` it has no line feed
+#     <x HEX      bytes of standard input, in hexadecimal
 #     > LINE      a line of standard output
 #     ! LINE      a line of standard error
 #     = N         the status, if it isn't 0
@@ -16,6 +17,17 @@ startup=80010000000c000001440000
 # zeros N: N bytes of zeros, in hexadecimal.
 zeros() {
     printf "%0$((2 * $1))d" 0
+}
+
+# bytes_of HEX: writes the bytes.
+bytes_of() {
+    printf "$(echo "$1" | awk '{
+        gsub(/ /, "")
+        for (i = 1; i < length($0); i += 2) {
+            byte = 16 * (index("0123456789abcdef", substr($0, i, 1)) - 1) + index("0123456789abcdef", substr($0, i + 1, 1)) - 1
+            printf "\\%03o", byte
+        }
+    }')"
 }
 
 # judge STATUS: what was written and the status are what was wanted.
@@ -68,6 +80,7 @@ cases() {
         '$ '*) printf '%s\n' "${line#??}" >>"$room/words" ;;
         '<$ '*) eval "printf '%s\n' ${line#???}" >>"$room/in" ;;
         '<.$ '*) eval "printf '%s' ${line#????}" >>"$room/in" ;;
+        '<x '*) bytes_of "${line#???}" >>"$room/in" ;;
         '<. '*) printf '%s' "${line#???}" >>"$room/in" ;;
         '< '* | '<') line=${line#<} && printf '%s\n' "${line# }" >>"$room/in" ;;
         '>$ '*) eval "printf '%s\n' ${line#???}" >>"$room/out.wanted" ;;
@@ -175,6 +188,25 @@ else
     fail "$name" "it wants ${long:-more than 262144} KiB in place of $short"
 fi
 
+# A stream of 100,000 frames, by the same.
+name="a stream of 100,000 frames" wanted=0
+bytes_of 80010000000c00000144000080010000000a00000000 >"$room/stream"
+for doubled in 1 2 3 4 5 6 7 8 9 10 11 12 13 14 15 16; do
+    cat "$room/stream" "$room/stream" >"$room/twice" && mv "$room/twice" "$room/stream"
+done
+head -c 1100000 "$room/stream" >"$room/twice" && mv "$room/twice" "$room/stream"
+captured 100000 >"$room/out.wanted"
+"$program" show --binary - >"$room/out" 2>"$room/err" <"$room/stream"
+check $?
+name="a stream of 100,000 frames has the memory of a capture of 1,000"
+if [ -z "$short" ]; then
+    skip "$name" "no limit on memory under which the program runs"
+elif (ulimit -v "$short" && "$program" show --binary - <"$room/stream") >"$room/out" 2>"$room/err"; then
+    pass "$name (under $short KiB)"
+else
+    fail "$name" "it wants more than $short KiB"
+fi
+
 # runs_without_output NAME TARGET WORD..: standard output is closed (-) or a file that takes nothing.
 runs_without_output() {
     name=$1 target=$2 wanted=3
@@ -194,6 +226,7 @@ runs_without_output "a closed standard output for a refusal" - show ''
 runs_without_output "a closed standard output for a response" - show --reply Startup 80010000000a00000100
 runs_without_output "a closed standard output for parameters by their names" - show --fields $startup
 runs_without_output "a closed standard output for a capture" - show --file "$room/in"
+runs_without_output "a closed standard output for a stream" - show --binary --file "$room/stream"
 runs_without_output "a closed standard output for joined parts" - build Startup - - 0000
 runs_without_output "a closed standard output for a script" - run
 runs_without_output "a closed standard output for a code" - explain 100

@@ -38,7 +38,7 @@ told_long first rest others f g = rw (lt-ltb most_line (length (first ∷ rest))
 
 -- ---- statuses
 
-both_assoc : (a b c : Status) → both (both a b) c ≡ both a (both b c)
+pub both_assoc : (a b c : Status) → both (both a b) c ≡ both a (both b c)
 both_assoc Done b c = refl
 both_assoc Refused b c = refl
 
@@ -56,11 +56,11 @@ told_command true c bytes Refused text spelled shown = absurd ((exactly_one buff
 
 -- ---- lines that are told
 
-behind_all-append : (p : Place) (xs ys : List Line) → behind_all p (xs ++ ys) ≡ behind_all (behind_all p xs) ys
+pub behind_all-append : (p : Place) (xs ys : List Line) → behind_all p (xs ++ ys) ≡ behind_all (behind_all p xs) ys
 behind_all-append p [] ys = refl
 behind_all-append p (x ∷ xs) ys = behind_all-append (behind p x) xs ys
 
-tells_both : (fields : Bool) (p : Place) (xs ys : List Line) (s t : Status) (a b : List ℕ) → TellsFrom fields p xs s a → TellsFrom fields (behind_all p xs) ys t b
+pub tells_both : (fields : Bool) (p : Place) (xs ys : List Line) (s t : Status) (a b : List ℕ) → TellsFrom fields p xs s a → TellsFrom fields (behind_all p xs) ys t b
     → TellsFrom fields p (xs ++ ys) (both s t) (a ++ b)
 tells_both fields p [] ys s t a b f g = rw (f.0, f.1) g
 tells_both fields p (x ∷ xs) ys s t a b f g = (
@@ -74,7 +74,7 @@ tells_both fields p (x ∷ xs) ys s t a b f g = (
   rw f.7 (append_assoc f.1 f.3 b),
 )
 
-tells_one : (fields : Bool) (p : Place) (l : Line) (s : Status) (a : List ℕ) → TellsLine fields p l s a → TellsFrom fields p (l ∷ []) s a
+pub tells_one : (fields : Bool) (p : Place) (l : Line) (s : Status) (a : List ℕ) → TellsLine fields p l s a → TellsFrom fields p (l ∷ []) s a
 tells_one fields p l s a f = (s, a, Done, [], f, (refl, refl), sym (both_done s), sym (append-nil a))
 
 -- the last line, which may be empty

@@ -3,6 +3,7 @@ mod Listed
 mod InputLines
 mod Scripts
 mod Captures
+mod Streams
 mod Nonces
 mod Comparisons
 mod Checks

@@ -1,6 +1,8 @@
 -- How far a capture has been told.
-use Rattle.std.specs.Prelude.{◌≡◌, ℕ, ◌+◌, ◌≤◌, Bool, List, [], ◌∷◌, ◌++◌, length, take, map, Option}
+use Rattle.std.specs.Prelude.{◌≡◌, ℕ, ◌+◌, ◌≤◌, Bool, List, [], ◌∷◌, ◌++◌, length, take, map, All, Option}
+use Rattle.std.specs.List.{concat}
 use Rattle.std.specs.Io.KnownBytes.{Consumes}
+use Rattle.tpm_buffer.specs.Frames.{IsFrame}
 use Rattle.tpm_tool.specs.declared.status.Status.{Status}
 use Rattle.tpm_tool.specs.declared.capture.Capture.{Capture}
 use Rattle.tpm_tool.specs.declared.capture_frames.Awaited.{Awaited}
@@ -10,6 +12,7 @@ use Rattle.tpm_tool.specs.Script.{lines_of, HasNoFeed, AreEnded}
 use Rattle.tpm_tool.specs.Status.{both}
 use Rattle.tpm_tool.specs.Capture as capture
 use Rattle.tpm_tool.specs.Capture.{Line, Place, start, line_of, most_line, without_blanks, behind, TellsLine, TellsFrom}
+use Rattle.tpm_tool.specs.Stream.{unmarked_frame}
 
 -- what was read of a line
 abbrev pub read_as : RustLine → Line
@@ -83,3 +86,19 @@ pub record Reaches (fields : Bool) (old new : Option (List ℕ)) (read : ℕ) (c
   pub taken : Taken fields bytes text c
   pub added : Added text
   pub number : c.number ≤ read + 1
+
+-- ---- frames
+
+-- So many bytes of the input were read, and are frames that were told.
+pub record Streams (fields : Bool) (old new : Option (List ℕ)) (read : ℕ) (c : Capture) (Added : List ℕ → Type 0) : Type 0 where
+  pub frames : List (List ℕ)
+  pub text : List ℕ
+  pub consumed : Consumes old new (concat frames)
+  pub each : All IsFrame frames
+  pub count : read ≡ length (concat frames)
+  pub tells : TellsFrom fields start (map unmarked_frame frames) c.status text
+  pub place : place c ≡ behind_all start (map unmarked_frame frames)
+  pub number : c.number ≡ length frames + 1
+  pub fewer : length frames ≤ read
+  pub same : c.fields ≡ fields
+  pub added : Added text

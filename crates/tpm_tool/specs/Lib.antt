@@ -5,6 +5,7 @@ pub mod ReplyText
 pub mod Show
 pub mod Fields
 pub mod Capture
+pub mod Stream
 pub mod Capturing
 pub mod Build
 pub mod Script

@@ -1,6 +1,6 @@
-//! The subcommand `show` of a capture.
+//! The subcommand `show` of a capture in lines.
 
-ghost use Rattle.std.specs.Prelude.{◌≡◌, ◌+◌, ◌^◌, ◌<◌, ◌++◌, ℕ, List, ◌∷◌, [], IfOk, OnOk, IsErrOf, length, string_bytes};
+ghost use Rattle.std.specs.Prelude.{◌≡◌, ◌+◌, ◌^◌, ◌<◌, ◌++◌, ℕ, List, ◌∷◌, [], None, IfOk, OnOk, IsErrOf, length, string_bytes};
 ghost use Rattle.std.specs.Io.KnownBytes.{Appends};
 ghost use Rattle.tpm_wire.specs.Sources.{IsWhereItFailed};
 ghost use Rattle.tpm_tool.specs.declared.fault.ToolFault.TheVariants.{InputTooLong, Read};
@@ -23,27 +23,28 @@ use std::io::Write;
 use tpm_wire::Source;
 
 /// How many bytes a capture has at most, which is more than any has.
-const MOST_BYTES: usize = 4_611_686_018_427_387_904;
+pub(crate) const MOST_BYTES: usize = 4_611_686_018_427_387_904;
 
 /// How many bytes are asked for at a time.
 const PIECE: usize = 4096;
 
-// A capture that is being told.
+/// A capture that is being told.
 #[derive(Drop)]
-struct Capture {
+pub(crate) struct Capture {
     // whether each parameter is told by its name
     fields: bool,
     // what has come of the present line, without its blanks, up to a byte too many
     line: Vec<u8>,
     // the number of the next frame
-    number: u64,
+    pub(crate) number: u64,
     awaited: Awaited,
     // whether all frames so far are what they are taken for
-    status: Status,
+    pub(crate) status: Status,
 }
 
 impl Capture {
-    fn new(alloc: Global, fields: bool) -> Self
+    /// A capture of which nothing is told.
+    pub(crate) fn new(alloc: Global, fields: bool) -> Self
         ensures fields { result.fields ≡ fields }
         ensures line { result.line.items ≡ [] }
         ensures place { place result ≡ start }
@@ -106,6 +107,22 @@ impl Capture {
             Line::NotHexadecimal => self.tell_fault(text, "not hexadecimal"),
             Line::TooLong => self.tell_fault(text, "too long"),
         }
+    }
+
+    /// Takes a frame without a mark, and prints what is told of it.
+    pub(crate) fn print_frame<W: Write>(
+        &mut self,
+        alloc: Global,
+        bytes: &[u8],
+        out: &mut W,
+    ) -> Result<(), ToolFault>
+        requires { self.old.number + 1 < 2 ^ 64 }
+        ensures ok { OnOk result (Tells (Frame None bytes.now) self.old self.new (Appends (W.contents out.old) (W.contents out.new))) }
+        ensures err { FailsByMemoryOrWrite result }
+    {
+        let mut text = String::new(alloc);
+        self.tell_frame(alloc, None, bytes, &mut text)?;
+        write(out, &text)
     }
 
     // Tells the present line.

@@ -22,7 +22,7 @@ use Rattle.clap.proofs.WalkLemmas.{first_value-rows}
 use Rattle.tpm_values.specs.Numbers.{IsDecimal}
 use Rattle.tpm_values.specs.Owner.{IsOwner}
 use Rattle.tpm_words.specs.declared.task.Task.{Task}
-use Rattle.tpm_words.specs.declared.task.Task.TheVariants.{Show, ShowLines, Build, Run, Explain, Check, Events}
+use Rattle.tpm_words.specs.declared.task.Task.TheVariants.{Show, ShowCapture, Build, Run, Explain, Check, Events}
 use Rattle.tpm_words.specs.Program.{program_app}
 use Rattle.tpm_words.specs.Task.{Asks, AsksNothing, AsksNothingWith, AsksWith, IsCode, IsHash, IsRegister, Replies, is_given, IsWith, IsWithEither, Requires, IsInput}
 use Rattle.tpm_words.specs.declared.stop.Stop.{Stop}
@@ -35,14 +35,22 @@ some x y e = cc
 
 -- the same task, by values that agree
 agrees : (name : Text) (v w : Text → Option Text) → ((id : Text) → v id ≡ w id) → (t : Task) → AsksWith name v t → AsksWith name w t
-agrees name v w same (Show reply fields hex) h =
-    (h.0, subst (λ (x : Option Text). Replies x reply) (same (codes "reply")) h.1, h.2 ∙ ap is_given (same (codes "fields")), sym (same (codes "HEX")) ∙ h.3, h.4, sym (same (codes "file")) ∙ h.5)
-agrees name v w same (ShowLines file fields) h = (
+agrees name v w same (Show reply fields hex) h = (
+  h.0,
+  subst (λ (x : Option Text). Replies x reply) (same (codes "reply")) h.1,
+  h.2 ∙ ap is_given (same (codes "fields")),
+  sym (same (codes "HEX")) ∙ h.3,
+  h.4,
+  sym (same (codes "file")) ∙ h.5,
+  ap is_given (sym (same (codes "binary"))) ∙ h.6,
+)
+agrees name v w same (ShowCapture file binary fields) h = (
   h.0,
   sym (same (codes "reply")) ∙ h.1,
   h.2 ∙ ap is_given (same (codes "fields")),
   sym (same (codes "file")) ∙ h.3,
   subst (λ (x : Option Text). IsInput x (w (codes "file"))) (same (codes "HEX")) (subst (λ (x : Option Text). IsInput (v (codes "HEX")) x) (same (codes "file")) h.4),
+  h.5 ∙ ap is_given (same (codes "binary")),
 )
 agrees name v w same (Build code handles sessions parameters) h =
     (h.0, rw (← same (codes "NAME")) h.1, sym (same (codes "HANDLES")) ∙ h.2, sym (same (codes "SESSIONS")) ∙ h.3, sym (same (codes "PARAMETERS")) ∙ h.4)

@@ -30,10 +30,13 @@ flag_rule name = record (new_rule name) { long = Some name; action = Some SetTru
 abbrev pub option_rule : Text → Rule
 option_rule name = record (new_rule name) { long = Some name; value_names = 1 }
 
--- show [--reply NAME] [--fields] [--file FILE] [HEX]
+-- show [--reply NAME] [--fields]
+abbrev pub buffer_app : ValueParser → App
+buffer_app names = with_rule (with_rule (new_app (codes "show")) (reply_rule names)) (flag_rule (codes "fields"))
+
+-- show [--reply NAME] [--fields] [--file FILE] [--binary] [HEX]
 abbrev pub show_app : ValueParser → App
-show_app names = with_rule (with_rule (with_rule (with_rule (new_app (codes "show")) (reply_rule names)) (flag_rule (codes "fields")))
-    (option_rule (codes "file"))) (optional_rule (codes "HEX"))
+show_app names = with_rule (with_rule (with_rule (buffer_app names) (option_rule (codes "file"))) (flag_rule (codes "binary"))) (optional_rule (codes "HEX"))
 
 -- build NAME HANDLES SESSIONS PARAMETERS
 abbrev pub build_app : ValueParser → App

@@ -9,7 +9,7 @@ use Rattle.tpm_values.specs.Numbers.{IsDecimal, IsHexadecimal}
 use Rattle.tpm_values.specs.Owner.{IsOwner}
 use Rattle.tpm_values.specs.Selections.{hash_word, AreSelections}
 use Rattle.tpm_words.specs.declared.task.Task.{Task}
-use Rattle.tpm_words.specs.declared.task.Task.TheVariants.{Show, ShowLines, Build, Run, Explain, Check, Events}
+use Rattle.tpm_words.specs.declared.task.Task.TheVariants.{Show, ShowCapture, Build, Run, Explain, Check, Events}
 use Rattle.tpm_words.specs.Names.{command_of_name}
 
 -- the command of the option, where the option is given
@@ -70,8 +70,10 @@ IsInput _ _ = ⊥
 abbrev pub AsksWith : Text → (Text → Option Text) → Task → Type 0
 AsksWith name value (Show reply fields hex) = (name ≡ codes "show") × Replies (value (codes "reply")) reply × (fields ≡ is_given (value (codes "fields")))
     × (value (codes "HEX") ≡ Some hex.now) × (hex.now ≢ codes "-") × (value (codes "file") ≡ None)
-AsksWith name value (ShowLines file fields) = (name ≡ codes "show") × (value (codes "reply") ≡ None) × (fields ≡ is_given (value (codes "fields")))
+    × (is_given (value (codes "binary")) ≡ false)
+AsksWith name value (ShowCapture file binary fields) = (name ≡ codes "show") × (value (codes "reply") ≡ None) × (fields ≡ is_given (value (codes "fields")))
     × (value (codes "file") ≡ option_map (λ f. f.now) file) × IsInput (value (codes "HEX")) (value (codes "file"))
+    × (binary ≡ is_given (value (codes "binary")))
 AsksWith name value (Build code handles sessions parameters) = (name ≡ codes "build")
     × (option_and_then command_of_name (value (codes "NAME")) ≡ Some code)
     × (value (codes "HANDLES") ≡ Some handles.now) × (value (codes "SESSIONS") ≡ Some sessions.now) × (value (codes "PARAMETERS") ≡ Some parameters.now)

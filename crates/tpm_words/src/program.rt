@@ -3,7 +3,7 @@
 ghost use Rattle.std.specs.Prelude.{◌≡◌, IfOk, false};
 ghost use Rattle.clap.specs.Words.{rule_of};
 ghost use Rattle.clap.specs.declared.builder.value_parser.ValueParser.TheVariants.{Names};
-ghost use Rattle.tpm_words.specs.Program.{required_rule, name_rule, reply_rule, flag_rule, option_rule, show_app, build_app, run_app, explain_app, log_app, compare_app, check_app, records_app, events_app, above_subcommands, program_app, IsApp, attest_app, optional_rule};
+ghost use Rattle.tpm_words.specs.Program.{required_rule, name_rule, reply_rule, flag_rule, option_rule, buffer_app, show_app, build_app, run_app, explain_app, log_app, compare_app, check_app, records_app, events_app, above_subcommands, program_app, IsApp, attest_app, optional_rule};
 
 use clap::{Arg, ArgAction, Command};
 use std::alloc::{AllocError, Global};
@@ -69,8 +69,9 @@ fn flag<'a>(alloc: Global, name: &'a str, help: &'a str) -> Arg<'a>
         .help(help)
 }
 
-fn show_words<'a>(alloc: Global, names: &'a [&'a str]) -> Result<Command<'a>, AllocError>
-    ensures { IfOk result (λ c. IsApp (show_app (Names names.entry)) c) }
+// The subcommand `show`, without its capture and its buffer.
+fn buffer_words<'a>(alloc: Global, names: &'a [&'a str]) -> Result<Command<'a>, AllocError>
+    ensures { IfOk result (λ c. IsApp (buffer_app (Names names.entry)) c) }
 {
     Command::new(alloc, "show")
         .about("Prints the command or the response that a buffer spells, or where it is refused")
@@ -79,18 +80,32 @@ fn show_words<'a>(alloc: Global, names: &'a [&'a str]) -> Result<Command<'a>, Al
             alloc,
             "fields",
             "Prints each parameter by its name and its type, too",
-        ))?
-        .arg(option(
-            alloc,
-            "file",
-            "FILE",
-            "Reads a capture: a command or a reply a line, in hexadecimal",
-        ))?
-        .arg(optional(
-            alloc,
-            "HEX",
-            "The buffer, in hexadecimal, or - for a capture on standard input",
         ))
+}
+
+fn show_words<'a>(alloc: Global, names: &'a [&'a str]) -> Result<Command<'a>, AllocError>
+    ensures { IfOk result (λ c. IsApp (show_app (Names names.entry)) c) }
+{
+    let file = option(
+        alloc,
+        "file",
+        "FILE",
+        "Reads a capture: a command or a reply a line, in hexadecimal",
+    );
+    let binary = flag(
+        alloc,
+        "binary",
+        "Reads the capture as frames one after the other, in place of lines",
+    );
+    let buffer = optional(
+        alloc,
+        "HEX",
+        "The buffer, in hexadecimal, or - for a capture on standard input",
+    );
+    buffer_words(alloc, names)?
+        .arg(file)?
+        .arg(binary)?
+        .arg(buffer)
 }
 
 fn name_word<'a>(alloc: Global, names: &'a [&'a str]) -> Arg<'a>

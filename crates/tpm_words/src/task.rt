@@ -15,10 +15,12 @@ pub enum Task<'a> {
         /// The digits.
         hex: &'a str,
     },
-    /// `show [--fields] -` and `show [--fields] --file FILE`: print each frame of a capture.
-    ShowLines {
+    /// `show [--binary] [--fields] -` and `show [--binary] [--fields] --file FILE`: print each frame of a capture.
+    ShowCapture {
         /// The path of the capture, or none where it is on standard input.
         file: Option<&'a str>,
+        /// Whether it is a stream of frames in place of lines.
+        binary: bool,
         /// Whether each parameter is printed by its name and its type, too.
         fields: bool,
     },

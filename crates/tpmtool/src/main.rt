@@ -12,7 +12,7 @@ use std::{env, fs, io};
 use tpm_device::Device;
 use tpm_tool::{
     Listing, Signed, Status, ToolFault, build, check_log, check_signed, explain, list_events,
-    not_hexadecimal, read_attest, run_script, show, show_fields, show_lines,
+    not_hexadecimal, read_attest, run_script, show, show_fields, show_lines, show_stream,
 };
 use tpm_types::{Alg, AuthValue, Selections};
 use tpm_wire::{Reads, Source};
@@ -121,15 +121,31 @@ fn events<'a, R: AllocGlobal + Files, W: Write>(
     ))
 }
 
+// Tells the frames of a capture.
+fn show_capture<R: AllocGlobal, S: Source, W: Write>(
+    rt: &R,
+    input: &mut S,
+    out: &mut W,
+    binary: bool,
+    fields: bool,
+) -> Result<Status, ToolFault> {
+    if binary {
+        show_stream(rt.alloc(), input, out, fields)
+    } else {
+        show_lines(rt.alloc(), input, out, fields)
+    }
+}
+
 // Opens a capture and tells its frames.
-fn capture<'a, R: AllocGlobal + Files, W: Write>(
+fn show_file<'a, R: AllocGlobal + Files, W: Write>(
     rt: &R,
     out: &mut W,
     path: &'a str,
+    binary: bool,
     fields: bool,
 ) -> Result<Status, Fault<'a>> {
-    let mut lines = opened(rt, path)?;
-    show_lines(rt.alloc(), &mut lines, out, fields).map_err(|fault| Fault::of_reading(
+    let mut input = opened(rt, path)?;
+    show_capture(rt, &mut input, out, binary, fields).map_err(|fault| Fault::of_reading(
         rt, fault, path,
     ))
 }
@@ -166,13 +182,16 @@ fn perform<'a, R: AllocGlobal + Files + Input + Print>(
             fields: false,
             hex,
         } => show(rt.alloc(), out, reply, hex),
-        Task::ShowLines { file: None, fields } => {
-            show_lines(rt.alloc(), &mut Reads::new(rt.reader()), out, fields)
-        }
-        Task::ShowLines {
-            file: Some(path),
+        Task::ShowCapture {
+            file: None,
+            binary,
             fields,
-        } => return capture(rt, out, path, fields),
+        } => show_capture(rt, &mut Reads::new(rt.reader()), out, binary, fields),
+        Task::ShowCapture {
+            file: Some(path),
+            binary,
+            fields,
+        } => return show_file(rt, out, path, binary, fields),
         Task::Build {
             name,
             handles,

@@ -1,0 +1,148 @@
+-- Streams of frames that are told one frame after the other.
+use Rattle.std.proofs.Common.{◌≡◌, ℕ, ◌+◌, ◌<◌, ◌≤◌, Bool, List, [], ◌∷◌, ◌++◌, length, map, All, Option, Some, None, refl, sym, ap, subst, ◌∙◌, ◌⊎◌, inl, inr, arith, append_assoc, length-append}
+use Rattle.std.specs.List.{concat}
+use Rattle.std.specs.Io.KnownBytes.{Appends, Consumes, IsAtEnd}
+use Rattle.std.proofs.lemmas.List.{append-nil, map-append}
+use Rattle.std.proofs.lemmas.List.Elements.{All-nil, All-push}
+use Rattle.std.proofs.lemmas.List.Folds.{concat-append}
+use Rattle.tpm_buffer.specs.Frames.{IsFrame, IsBroken, BeginsNoFrame, Frames}
+use Rattle.tpm_buffer.proofs.Filled.{consumes_both}
+use Rattle.tpm_buffer.proofs.Framed.{stated_more}
+use Rattle.tpm_buffer.proofs.Streamed.{broken_begins}
+use Rattle.tpm_tool.specs.declared.status.Status.{Status}
+use Rattle.tpm_tool.specs.declared.status.Status.TheVariants.{Done, Refused}
+use Rattle.tpm_tool.specs.declared.capture.Capture.{Capture}
+use Rattle.tpm_tool.specs.Status.{both}
+use Rattle.tpm_tool.specs.Capture.{Line, Frame, Place, start, behind, TellsFrom}
+use Rattle.tpm_tool.specs.Capturing.{place, behind_all, Tells, Streams}
+use Rattle.tpm_tool.specs.Stream.{Ending, AtEnd, Inside, BadSize, IsEnding, unmarked_frame, ending_text, ending_status, TellsStream, TellsRead}
+use Rattle.tpm_tool.proofs.Captures.{tells_both, tells_one, behind_all-append}
+use Rattle.tpm_tool.proofs.Scripts.{Joins}
+
+pub appends_nothing : (a : Option (List ℕ)) → Appends a a []
+appends_nothing None = tt
+appends_nothing (Some l) = sym (append-nil l)
+
+-- ---- frames
+
+pub streams_none : (fields : Bool) (a : Option (List ℕ)) (c : Capture) (A : List ℕ → Type 0) → Consumes a a [] → A [] → c.fields ≡ fields → place c ≡ start → c.status ≡ Done
+    → Streams fields a a 0 c A
+streams_none fields a c A none added same first done = record {
+  frames = [];
+  text = [];
+  consumed = none;
+  each = All-nil IsFrame;
+  count = refl;
+  tells = (done, refl);
+  place = first;
+  number = ap (λ (p : Place). p.number) first;
+  fewer = omega arith;
+  same = same;
+  added = added;
+}
+
+joined : (frames : List (List ℕ)) (frame : List ℕ) → concat (frames ++ frame ∷ []) ≡ concat frames ++ frame
+joined frames frame = concat-append frames (frame ∷ []) ∙ ap (λ (r : List ℕ). concat frames ++ r) (append-nil frame)
+
+pub streams_more : (fields : Bool) (old mid new : Option (List ℕ)) (read : ℕ) (frame : List ℕ) (c d : Capture) (A B C : List ℕ → Type 0) → Joins A B C
+    → Streams fields old mid read c A → Consumes mid new frame → IsFrame frame → Tells (Frame None frame) c d B → Streams fields old new (read + length frame) d C
+streams_more fields old mid new read frame c d A B C joins f consumed is g =
+    let lines = map unmarked_frame f.frames in
+    let mapped : map unmarked_frame (f.frames ++ frame ∷ []) ≡ lines ++ Frame None frame ∷ [] = map-append unmarked_frame f.frames (frame ∷ []) in
+    record {
+      frames = f.frames ++ frame ∷ [];
+      text = f.text ++ g.text;
+      consumed = subst (Consumes old new) (sym (joined f.frames frame)) (consumes_both old mid new (concat f.frames) frame f.consumed consumed);
+      each = All-push IsFrame f.frames frame f.each is;
+      count = omega (arith, f.count, ap length (joined f.frames frame), length-append (concat f.frames) frame);
+      tells = rw (g.all, mapped)
+          (tells_both fields start lines (Frame None frame ∷ []) c.status g.status f.text g.text f.tells
+          (tells_one fields (behind_all start lines) (Frame None frame) g.status g.text (rw (← f.place, ← f.same) g.tells)));
+      place = g.place ∙ ap (λ (p : Place). behind p (Frame None frame)) f.place ∙ sym (behind_all-append start lines (Frame None frame ∷ [])) ∙ ap (behind_all start) (sym mapped);
+      number = omega (arith, ap (λ (p : Place). p.number) g.place, f.number, length-append f.frames (frame ∷ []));
+      fewer = omega (arith, f.fewer, is.least, length-append f.frames (frame ∷ []));
+      same = g.fields ∙ f.same;
+      added = joins f.text g.text f.added g.added;
+    }
+
+-- ---- the end
+
+both_done : (a : Status) → both a Done ≡ a
+both_done Done = refl
+both_done Refused = refl
+
+both_refused : (a : Status) → both a Refused ≡ Refused
+both_refused Done = refl
+both_refused Refused = refl
+
+broken_more : (rest more : List ℕ) → IsBroken rest → IsBroken (rest ++ more)
+broken_more rest more b = record {
+  has_size = omega (arith, b.has_size, length-append rest more);
+  outside = rw (stated_more rest more b.has_size) b.outside;
+}
+
+-- of a stream whose frames were told
+tells_stream : (fields : Bool) (old mid : Option (List ℕ)) (read : ℕ) (c : Capture) (A : List ℕ → Type 0) → (f : Streams fields old mid read c A)
+    → (rest : List ℕ) (ending : Ending) → BeginsNoFrame rest → IsEnding rest ending → TellsStream fields (concat f.frames ++ rest) (both c.status (ending_status ending)) (f.text ++ ending_text ending c.number read)
+tells_stream fields old mid read c A f rest ending over ends = record {
+  frames = f.frames;
+  rest = rest;
+  cut = record { whole = refl; each = f.each; over = over };
+  ending = ending;
+  ends = ends;
+  one = c.status;
+  told = f.text;
+  tells = f.tells;
+  all = refl;
+  are = rw (f.number, f.count) refl;
+}
+
+abbrev pub StreamAnswers : (fields : Bool) → (old new : Option (List ℕ)) → (C : List ℕ → Type 0) → Status → Type 0
+StreamAnswers fields old new C status = (text : List ℕ) × TellsRead fields old new status text × C text
+
+-- behind the last frame
+pub stream_ends : (fields : Bool) (old mid new : Option (List ℕ)) (read : ℕ) (c : Capture) (A : List ℕ → Type 0) → Streams fields old mid read c A → Consumes mid new [] → IsAtEnd new
+    → BeginsNoFrame [] → StreamAnswers fields old new A c.status
+stream_ends fields old mid new read c A f consumed end over = (
+  f.text,
+  record {
+    bytes = concat f.frames ++ [];
+    read = consumes_both old mid new (concat f.frames) [] f.consumed consumed;
+    tells = subst (λ (s : Status). TellsStream fields (concat f.frames ++ []) s f.text) (both_done c.status)
+        (subst (TellsStream fields (concat f.frames ++ []) (both c.status Done)) (append-nil f.text) (tells_stream fields old mid read c A f [] AtEnd over refl));
+    whole = inl end;
+  },
+  f.added,
+)
+
+-- inside a frame
+pub stream_cut : (fields : Bool) (old mid new : Option (List ℕ)) (read : ℕ) (rest : List ℕ) (c : Capture) (A B C : List ℕ → Type 0) → Joins A B C → Streams fields old mid read c A → Consumes mid new rest
+    → IsEnding rest Inside → IsAtEnd new → B (ending_text Inside c.number read) → StreamAnswers fields old new C Refused
+stream_cut fields old mid new read rest c A B C joins f consumed ends end added = (
+  f.text ++ ending_text Inside c.number read,
+  record {
+    bytes = concat f.frames ++ rest;
+    read = consumes_both old mid new (concat f.frames) rest f.consumed consumed;
+    tells = subst (λ (s : Status). TellsStream fields (concat f.frames ++ rest) s (f.text ++ ending_text Inside c.number read)) (both_refused c.status)
+        (tells_stream fields old mid read c A f rest Inside ends.0.no_frame ends);
+    whole = inl end;
+  },
+  joins f.text (ending_text Inside c.number read) f.added added,
+)
+
+-- at a size that no frame has
+pub stream_breaks : (fields : Bool) (old mid new : Option (List ℕ)) (read : ℕ) (rest : List ℕ) (c : Capture) (A B C : List ℕ → Type 0) → Joins A B C → Streams fields old mid read c A → Consumes mid new rest
+    → IsBroken rest → B (ending_text BadSize c.number read) → StreamAnswers fields old new C Refused
+stream_breaks fields old mid new read rest c A B C joins f consumed broken added =
+    let whole : (more : List ℕ) → TellsStream fields (concat f.frames ++ (rest ++ more)) Refused (f.text ++ ending_text BadSize c.number read) =
+    λ more. subst (λ (s : Status). TellsStream fields (concat f.frames ++ (rest ++ more)) s (f.text ++ ending_text BadSize c.number read)) (both_refused c.status)
+    (tells_stream fields old mid read c A f (rest ++ more) BadSize (broken_begins rest more broken) (broken_more rest more broken)) in (
+      f.text ++ ending_text BadSize c.number read,
+      record {
+        bytes = concat f.frames ++ rest;
+        read = consumes_both old mid new (concat f.frames) rest f.consumed consumed;
+        tells = subst (λ (r : List ℕ). TellsStream fields (concat f.frames ++ r) Refused (f.text ++ ending_text BadSize c.number read)) (append-nil rest) (whole []);
+        whole = inr (λ more. rw (append_assoc (concat f.frames) rest more) (whole more));
+      },
+      joins f.text (ending_text BadSize c.number read) f.added added,
+    )
