@@ -1,6 +1,6 @@
 # The library for C: the archive of crate tpm_c, built by both backends, with the header and the programs in examples/. What they
 # print is compared with `tpmtool run`, with the rows and the cases in the files beside this one, with the lists of checks/logs and
-# with what the program of crate using writes of its session.
+# with what the program of crate tpm_examples writes of its session.
 
 . checks/toolchain.sh
 archive=crates/tpm_c/out/libtpm_c.a
@@ -310,9 +310,9 @@ same_policies() {
     "$room/policy" >"$room/out" && cmp "$room/out" checks/policy.txt
 }
 
-# same_session: a caller and a device in one process, by C and by crate using, which writes these seven lines last.
+# same_session: a caller and a device in one process, by C and by crate tpm_examples, which writes these seven lines last.
 same_session() {
-    "$room/session" >"$room/out" && tail -n 7 crates/using/stdout | cmp - "$room/out"
+    "$room/session" >"$room/out" && tail -n 7 crates/tpm_examples/stdout | cmp - "$room/out"
 }
 
 # freestanding: the program without a C library, of which no name is left undefined.

@@ -28,7 +28,7 @@ buffers >"$room/in"
 name="$changed changed buffers, with seed $seed"
 limited=
 command -v timeout >/dev/null 2>&1 && limited="timeout $most_seconds"
-if $limited crates/tpm_trials/out/tpm_trials "$seed" "$changed" <"$room/in" >"$room/out" 2>&1; then
+if $limited crates/tpm_fuzz/out/tpm_fuzz "$seed" "$changed" <"$room/in" >"$room/out" 2>&1; then
     pass "$name"
     cat "$room/out"
 else

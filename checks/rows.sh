@@ -1,4 +1,4 @@
-# What is taken and what is refused, by the program that was built, and by tpm_trials, which reads all buffers of a check in one
+# What is taken and what is refused, by the program that was built, and by tpm_fuzz, which reads all buffers of a check in one
 # run of what `show` calls: rows in the files beside this one.
 #
 #     NAME                      begins a check, which the empty line ends
@@ -16,7 +16,7 @@
 #
 # HEX has spaces between its fields, XX*N for N times XX, and `-` for no bytes.
 
-trials=crates/tpm_trials/out/tpm_trials
+trials=crates/tpm_fuzz/out/tpm_fuzz
 
 names="NV_UndefineSpace NV_DefineSpace NV_Increment PCR_Event PCR_Reset Startup NV_Read FlushContext NV_ReadPublic
 PolicyAuthValue PolicyCommandCode PolicyOR StartAuthSession PCR_Read PolicyPCR PolicyRestart PCR_Extend PolicyGetDigest"

@@ -193,20 +193,20 @@ fi
 side_by_side() {
     rm -rf "$wrapper/crates"
     mkdir -p "$wrapper/crates/tpmtool/src"
-    for crate in tpm_buffer tpm_log tpm_device tpm_words; do mkdir -p "$wrapper/crates/$crate/src"; done
+    for crate in tpm_buffer tpm_log tpm_device tpm_args; do mkdir -p "$wrapper/crates/$crate/src"; done
     : >"$wrapper/calls"
     wrapped --build show
 }
-printf 'tpm_buffer:\ntpm_log: tpm_buffer\ntpm_device: tpm_buffer\ntpm_words: tpm_buffer\ntpmtool: tpm_log tpm_device tpm_words\n' >"$wrapper/crates.txt"
+printf 'tpm_buffer:\ntpm_log: tpm_buffer\ntpm_device: tpm_buffer\ntpm_words: tpm_buffer\ntpmtool: tpm_log tpm_device tpm_args\n' >"$wrapper/crates.txt"
 wants '<show>' "in $wrapper/elsewhere" given
 side_by_side
 says "the wrapper proves crates side by side at the first build" 3 1 0
 name="the wrapper brings what was proved in a copy, and leaves no copy"
-if [ "$(cd "$wrapper/crates" && cat tpm_buffer/out/proved tpm_log/out/proved tpm_device/out/proved tpm_words/out/proved | sed "s|^$wrapper/crates/||")" = "\
+if [ "$(cd "$wrapper/crates" && cat tpm_buffer/out/proved tpm_log/out/proved tpm_device/out/proved tpm_args/out/proved | sed "s|^$wrapper/crates/||")" = "\
 tpm_buffer
 tpmtool/out/copies/tpm_log/crates/tpm_log
 tpm_device
-tpmtool/out/copies/tpm_words/crates/tpm_words" ] && [ ! -e "$wrapper/crates/tpmtool/out/copies" ]; then
+tpmtool/out/copies/tpm_args/crates/tpm_args" ] && [ ! -e "$wrapper/crates/tpmtool/out/copies" ]; then
     pass "$name"
 else
     fail "$name" "$(cat "$wrapper"/crates/*/out/proved; ls "$wrapper/crates/tpmtool/out")"
@@ -217,7 +217,7 @@ export UNPROVED
 side_by_side
 unset UNPROVED
 name="the wrapper leaves a crate that fails in its copy to the build"
-if [ "$status" -eq 3 ] && [ ! -e "$wrapper/crates/tpm_log/out" ] && [ -e "$wrapper/crates/tpm_words/out/proved" ]; then
+if [ "$status" -eq 3 ] && [ ! -e "$wrapper/crates/tpm_log/out" ] && [ -e "$wrapper/crates/tpm_args/out/proved" ]; then
     pass "$name"
 else
     fail "$name" "status $status: $(cat "$wrapper/err")"

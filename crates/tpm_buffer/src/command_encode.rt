@@ -198,35 +198,35 @@ fn known_params(body: &CommandBody<'_>)
 {
     match body {
         CommandBody::NvDefineSpace { auth, public } => {
-            auth.known();
-            public.known();
+            auth.has_spelling();
+            public.has_spelling();
         }
-        CommandBody::PcrEvent { event, .. } => event.known(),
-        CommandBody::Startup(startup_type) => startup_type.known(),
+        CommandBody::PcrEvent { event, .. } => event.has_spelling(),
+        CommandBody::Startup(startup_type) => startup_type.has_spelling(),
         CommandBody::NvRead { size, offset, .. } => {
             prove!(*size <= u16::MAX);
             prove!(*offset <= u16::MAX);
         }
-        CommandBody::FlushContext(session) => session.known(),
+        CommandBody::FlushContext(session) => session.has_spelling(),
         CommandBody::PolicyCommandCode { code, .. } => prove!(*code <= u32::MAX),
-        CommandBody::PolicyOr { digests, .. } => digests.known(),
+        CommandBody::PolicyOr { digests, .. } => digests.has_spelling(),
         CommandBody::StartAuthSession(start) => {
-            start.nonce_caller.known();
-            EncryptedSalt::Empty.known();
-            start.session_type.known();
-            start.symmetric.known();
-            start.auth_hash.known();
+            start.nonce_caller.has_spelling();
+            EncryptedSalt::Empty.has_spelling();
+            start.session_type.has_spelling();
+            start.symmetric.has_spelling();
+            start.auth_hash.has_spelling();
         }
-        CommandBody::PcrRead(selections) => selections.known(),
+        CommandBody::PcrRead(selections) => selections.has_spelling(),
         CommandBody::PolicyPcr {
             pcr_digest,
             selections,
             ..
         } => {
-            pcr_digest.known();
-            selections.known();
+            pcr_digest.has_spelling();
+            selections.has_spelling();
         }
-        CommandBody::PcrExtend { digests, .. } => digests.known(),
+        CommandBody::PcrExtend { digests, .. } => digests.has_spelling(),
         CommandBody::NvUndefineSpace { .. }
         | CommandBody::NvIncrement { .. }
         | CommandBody::PcrReset { .. }

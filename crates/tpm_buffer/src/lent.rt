@@ -60,7 +60,7 @@ impl<'a> Event<'a> {
 
     // Each event has a spelling.
     #[tactic(auto, unfolding(tpm_wire::specs::Structures::sized_bytes))]
-    pub(crate) fn known(&self)
+    pub(crate) fn has_spelling(&self)
         ensures { (left : ℕ) → Fits left (sized_bytes event_bytes) self.now }
     {
         prove!(self.bytes.len() <= EVENT_BYTES);

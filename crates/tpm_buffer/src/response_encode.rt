@@ -61,7 +61,7 @@ fn known_handles(body: &ReplyBody)
     ensures { (left : ℕ) → Fits left (reply_handles (code_for_reply body.now)) (reply_handles_of body.now) }
 {
     if let ReplyBody::StartAuthSession(reply) = body {
-        reply.session.known();
+        reply.session.has_spelling();
     }
 }
 
@@ -151,15 +151,15 @@ fn known_params(body: &ReplyBody)
     ensures { (left : ℕ) → Fits left (parameters_of_reply body.now) body.now }
 {
     match body {
-        ReplyBody::PcrEvent(digests) => digests.known(),
-        ReplyBody::NvRead(bytes) => bytes.known(),
+        ReplyBody::PcrEvent(digests) => digests.has_spelling(),
+        ReplyBody::NvRead(bytes) => bytes.has_spelling(),
         ReplyBody::NvReadPublic { public, name } => {
-            public.known();
-            name.known();
+            public.has_spelling();
+            name.has_spelling();
         }
         ReplyBody::StartAuthSession(reply) => {
             prove!(reply.session.number() <= u32::MAX);
-            reply.nonce_tpm.known();
+            reply.nonce_tpm.has_spelling();
         }
         ReplyBody::PcrRead {
             update_counter,
@@ -167,10 +167,10 @@ fn known_params(body: &ReplyBody)
             digests,
         } => {
             prove!(*update_counter <= u32::MAX);
-            selections.known();
-            digests.known();
+            selections.has_spelling();
+            digests.has_spelling();
         }
-        ReplyBody::PolicyGetDigest(digest) => digest.known(),
+        ReplyBody::PolicyGetDigest(digest) => digest.has_spelling(),
         ReplyBody::NvUndefineSpace
         | ReplyBody::NvDefineSpace
         | ReplyBody::NvIncrement
@@ -216,7 +216,7 @@ fn known_behind(first: &AuthReply, others: &[AuthReply])
     requires { length others.now ≤ 2 }
     ensures { Fits (length (spelling reply_sessions (first.now ∷ others.now))) reply_sessions (first.now ∷ others.now) }
 {
-    first.known();
+    first.has_spelling();
     known_list(others);
 }
 

@@ -1,5 +1,5 @@
 mod Padded
-mod Listed
+mod AlgorithmSize
 mod InputLines
 mod Scripts
 mod Captures

@@ -89,7 +89,7 @@ impl Wire for Alg {
 
     ghost most = { 2 };
 
-    fn known(&self) {}
+    fn has_spelling(&self) {}
 
     fn len(&self) -> usize {
         2

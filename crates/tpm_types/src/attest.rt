@@ -31,9 +31,9 @@ impl Wire for QuoteInfo {
 
     ghost most = { (4 + banks * 6) + (2 + digest_bytes) };
 
-    fn known(&self) {
-        self.selections.known();
-        self.digest.known();
+    fn has_spelling(&self) {
+        self.selections.has_spelling();
+        self.digest.has_spelling();
     }
 
     fn len(&self) -> usize {
@@ -110,10 +110,10 @@ impl Wire for ClockInfo {
 
     ghost most = { 17 };
 
-    fn known(&self) {
-        self.clock.known();
-        self.reset_count.known();
-        self.restart_count.known();
+    fn has_spelling(&self) {
+        self.clock.has_spelling();
+        self.reset_count.has_spelling();
+        self.restart_count.has_spelling();
         known_yes_no(self.safe);
     }
 
@@ -199,14 +199,14 @@ impl<'a> Attest<'a> {
     ghost use Rattle.tpm_types.specs.Attest.{attest};
 
     /// A quote has a spelling. It does nothing, and is called for what it ensures.
-    pub fn known(&self)
+    pub fn has_spelling(&self)
         ensures { (left : ℕ) → Fits left attest self.now }
     {
-        self.signer.known();
-        self.extra_data.known();
-        self.clock_info.known();
-        self.firmware_version.known();
-        self.quote.known();
+        self.signer.has_spelling();
+        self.extra_data.has_spelling();
+        self.clock_info.has_spelling();
+        self.firmware_version.has_spelling();
+        self.quote.has_spelling();
     }
 
     /// How many bytes its spelling has.

@@ -49,7 +49,7 @@ impl Wire for StartupType {
 
     ghost most = { 2 };
 
-    fn known(&self) {
+    fn has_spelling(&self) {
         prove!(self.number() <= u16::MAX);
     }
 
@@ -115,7 +115,7 @@ impl Wire for SessionType {
 
     ghost most = { 1 };
 
-    fn known(&self) {
+    fn has_spelling(&self) {
         prove!(self.number() <= u8::MAX);
     }
 

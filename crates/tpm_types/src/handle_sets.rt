@@ -46,7 +46,7 @@ impl Wire for OwnerHandle {
 
     ghost most = { 4 };
 
-    fn known(&self) {
+    fn has_spelling(&self) {
         prove!(self.number() <= u32::MAX);
     }
 
@@ -104,7 +104,7 @@ impl Wire for NullHandle {
 
     ghost most = { 4 };
 
-    fn known(&self) {
+    fn has_spelling(&self) {
         prove!(self.number() <= u32::MAX);
     }
 
@@ -165,7 +165,7 @@ impl Wire for PcrOrNull {
 
     ghost most = { 4 };
 
-    fn known(&self) {
+    fn has_spelling(&self) {
         prove!(self.number() <= u32::MAX);
     }
 
@@ -226,7 +226,7 @@ impl Wire for NvAuthHandle {
 
     ghost most = { 4 };
 
-    fn known(&self) {
+    fn has_spelling(&self) {
         prove!(self.number() <= u32::MAX);
     }
 
@@ -288,7 +288,7 @@ impl Wire for BindHandle {
 
     ghost most = { 4 };
 
-    fn known(&self) {
+    fn has_spelling(&self) {
         prove!(self.number() <= u32::MAX);
     }
 

@@ -64,7 +64,7 @@ impl<'a, const N: usize> Lent<'a, N> {
 
     /// The bytes have a spelling. It does nothing, and is called for what it ensures.
     #[tactic(auto, unfolding(tpm_wire::specs::Structures::sized_bytes))]
-    pub(crate) fn known(&self)
+    pub(crate) fn has_spelling(&self)
         ensures { (left : ℕ) → Fits left (sized_bytes N) self.now }
     {
         prove!(self.bytes.len() <= N);

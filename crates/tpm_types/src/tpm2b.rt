@@ -45,7 +45,7 @@ impl Wire for EncryptedSalt {
 
     ghost most = { 2 };
 
-    fn known(&self) {}
+    fn has_spelling(&self) {}
 
     fn len(&self) -> usize {
         2

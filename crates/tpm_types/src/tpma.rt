@@ -90,7 +90,7 @@ impl Wire for SessionAttrs {
 
     ghost most = { 1 };
 
-    fn known(&self) {
+    fn has_spelling(&self) {
         prove!(self.number() <= u8::MAX);
     }
 
@@ -290,7 +290,7 @@ impl Wire for NvAttrs {
 
     ghost most = { 4 };
 
-    fn known(&self) {
+    fn has_spelling(&self) {
         prove!(self.number() <= u32::MAX);
     }
 

@@ -48,8 +48,8 @@ impl Wire for Selection {
 
     ghost most = { 6 };
 
-    fn known(&self) {
-        self.hash.known();
+    fn has_spelling(&self) {
+        self.hash.has_spelling();
     }
 
     fn len(&self) -> usize {
@@ -112,11 +112,11 @@ impl Wire for Auth {
 
     ghost most = { 4 + (2 + digest_bytes) + 1 + (2 + digest_bytes) };
 
-    fn known(&self) {
-        self.session.known();
-        self.nonce.known();
-        self.attrs.known();
-        self.hmac.known();
+    fn has_spelling(&self) {
+        self.session.has_spelling();
+        self.nonce.has_spelling();
+        self.attrs.has_spelling();
+        self.hmac.has_spelling();
     }
 
     fn len(&self) -> usize {
@@ -169,10 +169,10 @@ impl Wire for AuthReply {
 
     ghost most = { (2 + digest_bytes) + 1 + (2 + digest_bytes) };
 
-    fn known(&self) {
-        self.nonce.known();
-        self.attrs.known();
-        self.hmac.known();
+    fn has_spelling(&self) {
+        self.nonce.has_spelling();
+        self.attrs.has_spelling();
+        self.hmac.has_spelling();
     }
 
     fn len(&self) -> usize {
@@ -252,11 +252,11 @@ impl NvPublic {
     fn known_area(&self)
         ensures { (left : ℕ) → Fits left nv_public_area self.now }
     {
-        self.index.known();
-        self.alg.known();
-        self.attrs.known();
-        self.policy.known();
-        self.data_size.known();
+        self.index.has_spelling();
+        self.alg.has_spelling();
+        self.attrs.has_spelling();
+        self.policy.has_spelling();
+        self.data_size.has_spelling();
     }
 
     fn take_area(cursor: &mut Cursor<'_>) -> Result<Self, Refusal>
@@ -284,7 +284,7 @@ impl Wire for NvPublic {
 
     ghost most = { 2 + public_bytes };
 
-    fn known(&self) {
+    fn has_spelling(&self) {
         prove!(self.area_len() <= PUBLIC_BYTES);
         self.known_area();
     }

@@ -89,8 +89,8 @@ impl Wire for HashedDigest {
 
     ghost most = { 2 + digest_bytes };
 
-    fn known(&self) {
-        self.hash.known();
+    fn has_spelling(&self) {
+        self.hash.has_spelling();
         prove!(self.digest().len() == self.hash.digest_len());
     }
 
@@ -177,7 +177,7 @@ impl Wire for KeyBits {
 
     ghost most = { 2 };
 
-    fn known(&self) {
+    fn has_spelling(&self) {
         prove!(self.number() <= u16::MAX);
     }
 
@@ -215,11 +215,11 @@ impl Wire for SymDef {
 
     ghost most = { 6 };
 
-    fn known(&self) {
+    fn has_spelling(&self) {
         match self {
             SymDef::Null => {}
-            SymDef::Aes(bits) => bits.known(),
-            SymDef::Xor(alg) => alg.known(),
+            SymDef::Aes(bits) => bits.has_spelling(),
+            SymDef::Xor(alg) => alg.has_spelling(),
         }
     }
 

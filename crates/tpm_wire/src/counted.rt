@@ -123,7 +123,7 @@ impl<T: Wire + Default + Duplicate + Drop, const LEAST: usize, const MOST: usize
 
     ghost most = { 4 + MOST * T.most };
 
-    fn known(&self) {
+    fn has_spelling(&self) {
         known_list(self.entries.as_slice());
     }
 

@@ -78,7 +78,7 @@ pub fn known_list<T: Wire>(entries: &[T])
     ensures { All (IsSpelled T.layout) entries.now }
 {
     for entry in entries {
-        entry.known();
+        entry.has_spelling();
     }
 }
 

@@ -9,6 +9,7 @@ use std::io::Write;
 use std::process::ExitCode;
 use std::rt::{Env, Files};
 use std::{env, fs, io};
+use tpm_args::{Stop, Task, Words, words_not_text};
 use tpm_device::Device;
 use tpm_tool::{
     Listing, Signed, Status, ToolFault, build, check_log, check_signed, explain, list_events,
@@ -16,7 +17,6 @@ use tpm_tool::{
 };
 use tpm_types::{Alg, AuthValue, Selections};
 use tpm_wire::{Reads, Source};
-use tpm_words::{Stop, Task, Words, words_not_text};
 
 /// The status of a usage fault.
 const USAGE: u8 = 2;

@@ -1,0 +1,175 @@
+-- What was found in the words, by the getters and by the matches.
+use Rattle.std.proofs.Common.{◌≡◌, ℕ, ap, sym, subst, refl, ◌∙◌, Bool, true, false, Bor, inl, inr, codes, List, Option, Some, None, option_map, unwrap_or}
+use Rattle.std.specs.Prelude.{Box}
+use Rattle.std.specs.Box.{box_value}
+use Rattle.std.specs.Option.{MatchOption}
+use Rattle.std.specs.Prelude.{Result, Ok, Err, MatchResult}
+use Rattle.clap.specs.Matches.{subcommand_name_of, first_value}
+use Rattle.clap.specs.Walk.{Row, Text, first_of, rows_of}
+use Rattle.clap.specs.Simple.{App, HasMatchesOf, app_of, is_simple, subcommand_of, subcommand_rows, subcommand_rows_of}
+use Rattle.clap.specs.declared.parser.matches.Found.{Found}
+use Rattle.clap.specs.declared.parser.matches.ArgMatches.{ArgMatches}
+use Rattle.clap.specs.declared.parser.matches.ArgMatches.TheViews.{out-ArgMatches, out-SubCommand}
+use Rattle.clap.specs.declared.parser.matches.SubCommand.{SubCommand}
+use Rattle.clap.specs.declared.builder.command.Command.{Command}
+use Rattle.clap.specs.declared.builder.value_parser.ValueParser.{ValueParser}
+use Rattle.clap.specs.declared.builder.value_parser.ValueParser.TheVariants.{Names}
+use Rattle.clap.specs.declared.error.kind.ErrorKind.{ErrorKind}
+use Rattle.clap.specs.declared.error.kind.ErrorKind.TheVariants.{OutOfMemory}
+use Rattle.clap.specs.Takes.{takes}
+use Rattle.clap.proofs.OnLiterals.{clap_on_literals}
+use Rattle.clap.proofs.WalkLemmas.{first_value-rows}
+use Rattle.tpm_arg_values.specs.Numbers.{IsDecimal}
+use Rattle.tpm_arg_values.specs.Owner.{IsOwner}
+use Rattle.tpm_args.specs.declared.task.Task.{Task}
+use Rattle.tpm_args.specs.declared.task.Task.TheVariants.{Show, ShowCapture, Build, Run, Explain, Check, Events}
+use Rattle.tpm_args.specs.Program.{program_app}
+use Rattle.tpm_args.specs.Task.{Asks, AsksNothing, AsksNothingWith, AsksWith, IsCode, IsHash, IsRegister, Replies, is_given, IsWith, IsWithEither, Requires, IsInput}
+use Rattle.tpm_args.specs.declared.stop.Stop.{Stop}
+use Rattle.tpm_args.specs.declared.stop.Stop.TheVariants.{Help, Usage, Memory}
+use Rattle.tpm_args.specs.Stop.{IsHelp, IsMemoryOr, Refuses, StopsFor}
+use Rattle.tpm_args.specs.Names.{AreAllNames}
+
+some : {A : Type 0} (x y : A) → (let a : Option A = Some x in a) ≡ Some y → x ≡ y
+some x y e = cc
+
+-- the same task, by values that agree
+agrees : (name : Text) (v w : Text → Option Text) → ((id : Text) → v id ≡ w id) → (t : Task) → AsksWith name v t → AsksWith name w t
+agrees name v w same (Show reply fields hex) h = (
+  h.0,
+  subst (λ (x : Option Text). Replies x reply) (same (codes "reply")) h.1,
+  h.2 ∙ ap is_given (same (codes "fields")),
+  sym (same (codes "HEX")) ∙ h.3,
+  h.4,
+  sym (same (codes "file")) ∙ h.5,
+  ap is_given (sym (same (codes "binary"))) ∙ h.6,
+)
+agrees name v w same (ShowCapture file binary fields) h = (
+  h.0,
+  sym (same (codes "reply")) ∙ h.1,
+  h.2 ∙ ap is_given (same (codes "fields")),
+  sym (same (codes "file")) ∙ h.3,
+  subst (λ (x : Option Text). IsInput x (w (codes "file"))) (same (codes "HEX")) (subst (λ (x : Option Text). IsInput (v (codes "HEX")) x) (same (codes "file")) h.4),
+  h.5 ∙ ap is_given (same (codes "binary")),
+)
+agrees name v w same (Build code handles sessions parameters) h =
+    (h.0, rw (← same (codes "NAME")) h.1, sym (same (codes "HANDLES")) ∙ h.2, sym (same (codes "SESSIONS")) ∙ h.3, sym (same (codes "PARAMETERS")) ∙ h.4)
+agrees name v w same (Run owner greatest) h = (
+  h.0,
+  subst (λ (x : Option Text). IsOwner (unwrap_or x (codes "")) owner) (same (codes "owner")) h.1,
+  subst (λ (x : Option Text). IsDecimal (unwrap_or x (codes "0")) greatest) (same (codes "greatest")) h.2,
+)
+agrees name v w same (Explain code) h = (h.0, subst (λ (x : Option Text). IsCode x code) (same (codes "CODE")) h.1)
+agrees name v w same (Check log registers quote attest sent required hash) h = (
+  h.0,
+  sym (same (codes "LOG")) ∙ h.1,
+  sym (same (codes "registers")) ∙ h.2,
+  sym (same (codes "quote")) ∙ h.3,
+  sym (same (codes "attest")) ∙ h.4,
+  sym (same (codes "nonce")) ∙ h.5,
+  subst (λ (x : Option Text). IsWith x (w (codes "attest"))) (same (codes "nonce")) (subst (λ (x : Option Text). IsWith (v (codes "nonce")) x) (same (codes "attest")) h.6),
+  subst (λ (x : Option Text). Requires x required) (same (codes "require")) h.7,
+  subst (λ (x : Option Text). IsWith x (w (codes "attest"))) (same (codes "require")) (subst (λ (x : Option Text). IsWith (v (codes "require")) x) (same (codes "attest")) h.8),
+  subst (λ (x : Option Text). IsHash (unwrap_or x (codes "sha256")) hash) (same (codes "hash")) h.9,
+  subst (λ (x : Option Text). IsWithEither x (w (codes "quote")) (w (codes "attest"))) (same (codes "hash"))
+      (subst (λ (x : Option Text). IsWithEither (v (codes "hash")) x (w (codes "attest"))) (same (codes "quote"))
+      (subst (λ (x : Option Text). IsWithEither (v (codes "hash")) (v (codes "quote")) x) (same (codes "attest")) h.10)),
+)
+agrees name v w same (Events log register places digests json) h = (
+  h.0,
+  sym (same (codes "LOG")) ∙ h.1,
+  subst (λ (x : Option Text). IsRegister x register) (same (codes "register")) h.2,
+  h.3 ∙ ap is_given (same (codes "places")),
+  h.4 ∙ ap is_given (same (codes "digests")),
+  h.5 ∙ ap is_given (same (codes "json")),
+)
+
+met : (o : Option (Text × List Row)) (name : Text) (f : Found) (t : Task) → option_map (λ (p : Text × List Row). p.0) o ≡ Some name → option_map (λ (p : Text × List Row). p.1) o ≡ Some (rows_of f)
+    → AsksWith name (first_value f) t → Asks o t
+met None name f t n r h = absurd (let z : ⊥ = cc in z)
+met (Some p) name f t n r h =
+    let named : name ≡ p.0 = sym (some p.0 name n) in
+    let rows : rows_of f ≡ p.1 = sym (some p.1 (rows_of f) r) in
+    subst (λ (x : Text). AsksWith x (λ id. first_of id p.1) t) named
+    (agrees name (first_value f) (λ id. first_of id p.1) (λ id. first_value-rows f id ∙ ap (first_of id) rows) t h)
+
+met_back : (o : Option (Text × List Row)) (name : Text) (f : Found) (t : Task) → option_map (λ (p : Text × List Row). p.0) o ≡ Some name → option_map (λ (p : Text × List Row). p.1) o ≡ Some (rows_of f)
+    → Asks o t → AsksWith name (first_value f) t
+met_back None name f t n r h = absurd h
+met_back (Some p) name f t n r h =
+    let named : p.0 ≡ name = some p.0 name n in
+    let rows : rows_of f ≡ p.1 = sym (some p.1 (rows_of f) r) in
+    subst (λ (x : Text). AsksWith x (first_value f) t) named
+    (agrees p.0 (λ id. first_of id p.1) (first_value f) (λ id. sym (first_value-rows f id ∙ ap (first_of id) rows)) t h)
+
+name_in : {Z : Type 0} (o : Option (Box SubCommand Z)) → option_map (λ (p : Text × List Row). p.0) (subcommand_rows o) ≡ option_map (λ (b : Box SubCommand Z). (out-SubCommand (box_value b)).name.now) o
+name_in None = refl
+name_in (Some b) = refl
+
+named : (m : ArgMatches) → option_map (λ (p : Text × List Row). p.0) (subcommand_rows_of m) ≡ subcommand_name_of m
+named m = name_in (out-ArgMatches m).subcommand
+
+-- The task of a subcommand that was met is that of the matches.
+pub asks : (m : ArgMatches) (name : Text) (f : Found) (t : Task) → subcommand_name_of m ≡ Some name → option_map (λ (p : Text × List Row). p.1) (subcommand_rows_of m) ≡ Some (rows_of f)
+    → AsksWith name (first_value f) t → Asks (subcommand_rows_of m) t
+asks m name f t n r h = met (subcommand_rows_of m) name f t (named m ∙ n) r h
+
+pub asks_nothing : (m : ArgMatches) (name : Text) (f : Found) → subcommand_name_of m ≡ Some name → option_map (λ (p : Text × List Row). p.1) (subcommand_rows_of m) ≡ Some (rows_of f)
+    → AsksNothingWith name (first_value f) → AsksNothing (subcommand_rows_of m)
+asks_nothing m name f n r none = λ t h. none t (met_back (subcommand_rows_of m) name f t (named m ∙ n) r h)
+
+-- an answer with a reason, where the one follows from the other
+pub match_then : {A : Type 0} (o : Option A) {N M : Type 0} {P Q : A → Type 0} → MatchOption o N P → (N → M) → ((x : A) → P x → Q x) → MatchOption o M Q
+match_then None h f g = f h
+match_then (Some x) h f g = g x h
+
+pub memory_or : {N M : Type 0} (stop : Stop) → (N → M) → IsMemoryOr N stop → IsMemoryOr M stop
+memory_or (Help text) f h = h
+memory_or (Usage text) f h = f h
+memory_or Memory f h = tt
+
+-- an answer that may be a reason in two ways
+pub result_then : {A : Type 0} (o : Result (Option A) Stop) {N M : Type 0} {P Q : A → Type 0}
+    → MatchResult o (λ asked. MatchOption asked N P) (IsMemoryOr N) → (N → M) → ((x : A) → P x → Q x) → MatchResult o (λ asked. MatchOption asked M Q) (IsMemoryOr M)
+result_then (Ok asked) h f g = match_then asked h f g
+result_then (Err stop) h f g = memory_or stop f h
+
+-- clap says exactly what it finds in the program's words
+pub simple : (names : ValueParser) → is_simple (program_app names) ≡ true
+unfolding clap_on_literals
+simple names = refl
+
+-- what clap met in these words is what the program says
+pub met_is : (m : ArgMatches) (program : Command) (names : Bor (List (Bor (List ℕ)))) (given words : List Text) → app_of program ≡ program_app (Names names) → HasMatchesOf (app_of program) given m → given ≡ words
+    → subcommand_rows_of m ≡ subcommand_of (program_app (Names names)) words
+met_is m program names given words same has is =
+    (has (ap is_simple same ∙ simple (Names names))).1 ∙ ap (λ (a : App). subcommand_of a given) same ∙ ap (subcommand_of (program_app (Names names))) is
+
+-- ---- words that are refused
+
+pub refuses : (words : List Text) (names : Bor (List (Bor (List ℕ)))) (stop : Stop) → AreAllNames names.now → IsMemoryOr (AsksNothing (subcommand_of (program_app (Names names)) words)) stop → Refuses words stop
+refuses words names (Help text) all h = absurd h
+refuses words names (Usage text) all h = (names, all, λ _. h)
+refuses words names Memory all h = tt
+
+is_false : (b : Bool) → (b ≡ true → ⊥) → b ≡ false
+is_false true f = absurd (f refl)
+is_false false f = refl
+
+is_no_help : (kind : ErrorKind) → IsHelp kind → kind ≡ OutOfMemory → ⊥
+is_no_help kind (inl h) e = let z : ⊥ = cc in z
+is_no_help kind (inr h) e = let z : ⊥ = cc in z
+
+pub stops : (words : List Text) (names : Bor (List (Bor (List ℕ)))) (kind : ErrorKind) (stop : Stop) → AreAllNames names.now
+    → (takes (program_app (Names names)) words ≡ true → kind ≡ OutOfMemory) → StopsFor kind stop → Refuses words stop
+stops words names kind (Help text) all passes h = (names, all, is_false (takes (program_app (Names names)) words) (λ taken. is_no_help kind h (passes taken)))
+stops words names kind (Usage text) all passes h = (names, all, λ taken. absurd (h.2 (passes taken)))
+stops words names kind Memory all passes h = tt
+
+-- ---- a register
+
+-- A text that is no number is no register's.
+pub no_register : (given : Option Text) (text : Text) → given ≡ Some text → ((n : ℕ) → IsDecimal text n → ⊥) → (r : Option ℕ) → IsRegister given r → ⊥
+no_register None text is none r h = let z : ⊥ = cc in z
+no_register (Some t) text is none None h = h
+no_register (Some t) text is none (Some n) h = none n (subst (λ (x : Text). IsDecimal x n) (some t text is) h)

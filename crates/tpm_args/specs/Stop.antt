@@ -1,0 +1,35 @@
+-- What becomes of the words that are refused.
+use Rattle.std.specs.Prelude.{◌≡◌, ◌≢◌, ◌⊎◌, ℕ, List, true, false}
+use Rattle.std.specs.Borrow.{Bor}
+use Rattle.clap.specs.Words.{Text, subcommand_of, takes}
+use Rattle.clap.specs.declared.builder.value_parser.ValueParser.TheVariants.{Names}
+use Rattle.clap.specs.declared.error.kind.ErrorKind.{ErrorKind}
+use Rattle.clap.specs.declared.error.kind.ErrorKind.TheVariants.{DisplayHelp, DisplayVersion, OutOfMemory}
+use Rattle.tpm_args.specs.declared.stop.Stop.{Stop}
+use Rattle.tpm_args.specs.declared.stop.Stop.TheVariants.{Help, Usage, Memory}
+use Rattle.tpm_args.specs.Names.{AreAllNames}
+use Rattle.tpm_args.specs.Program.{program_app}
+use Rattle.tpm_args.specs.Task.{AsksNothing}
+
+-- a text that was asked for
+abbrev pub IsHelp : ErrorKind → Type 0
+IsHelp kind = (kind ≡ DisplayHelp) ⊎ (kind ≡ DisplayVersion)
+
+-- The kind of the error tells help from usage; the text of either may want memory.
+abbrev pub StopsFor : ErrorKind → Stop → Type 0
+StopsFor kind (Help text) = IsHelp kind
+StopsFor kind (Usage text) = (kind ≢ DisplayHelp) × (kind ≢ DisplayVersion) × (kind ≢ OutOfMemory)
+StopsFor kind Memory = Unit {0}
+
+-- want of memory, or a usage fault for this reason
+abbrev pub IsMemoryOr : Type 0 → Stop → Type 0
+IsMemoryOr Reason (Help text) = ⊥
+IsMemoryOr Reason (Usage text) = Reason
+IsMemoryOr Reason Memory = Unit {0}
+
+-- Help is answered only where clap doesn't take the words, and a usage fault only there and where they ask for nothing.
+abbrev pub Refuses : List Text → Stop → Type 0
+Refuses words (Help text) = (names : Bor (List (Bor (List ℕ)))) × AreAllNames names.now × (takes (program_app (Names names)) words ≡ false)
+Refuses words (Usage text) = (names : Bor (List (Bor (List ℕ)))) × AreAllNames names.now
+    × (takes (program_app (Names names)) words ≡ true → AsksNothing (subcommand_of (program_app (Names names)) words))
+Refuses words Memory = Unit {0}

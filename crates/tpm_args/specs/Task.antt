@@ -1,0 +1,103 @@
+-- What the words ask for, by what clap finds in them.
+use Rattle.std.specs.Prelude.{◌≡◌, ℕ, List, take, drop, Option, Some, None, codes, option_and_then, option_map, is_some, Bool, true, false, unwrap_or, if◌then◌else◌, IsSomeAnd, ◌≢◌}
+use Rattle.std.specs.Str.{bytes_eq}
+use Rattle.clap.specs.Words.{Row, Text, first_of}
+use Rattle.tpm_types.specs.declared.alg.Alg.{Alg}
+use Rattle.tpm_types.specs.declared.tpms.Selection.{Selection}
+use Rattle.tpm_buffer.specs.declared.code.CommandCode.{CommandCode}
+use Rattle.tpm_arg_values.specs.Numbers.{IsDecimal, IsHexadecimal}
+use Rattle.tpm_arg_values.specs.Owner.{IsOwner}
+use Rattle.tpm_arg_values.specs.Selections.{hash_word, AreSelections}
+use Rattle.tpm_args.specs.declared.task.Task.{Task}
+use Rattle.tpm_args.specs.declared.task.Task.TheVariants.{Show, ShowCapture, Build, Run, Explain, Check, Events}
+use Rattle.tpm_args.specs.Names.{command_of_name}
+
+-- the command of the option, where the option is given
+abbrev pub Replies : Option Text → Option CommandCode → Type 0
+Replies None reply = reply ≡ None
+Replies (Some name) reply = (reply ≡ command_of_name name) × (is_some reply ≡ true)
+
+-- whether a flag is given
+abbrev pub is_given : Option Text → Bool
+is_given None = false
+is_given (Some text) = bytes_eq text (codes "true")
+
+-- what stands behind `0x` or `0X`, or all of a text where it begins with neither
+abbrev pub digits_in : Text → Text
+digits_in text =
+    if bytes_eq (take 2 text) (codes "0x") then drop 2 text
+    else if bytes_eq (take 2 text) (codes "0X") then drop 2 text
+    else text
+
+-- a response code, by a word that has to be there
+abbrev pub IsCode : Option Text → ℕ → Type 0
+IsCode None code = ⊥
+IsCode (Some text) code = IsHexadecimal (digits_in text) code
+
+-- the name of a hash
+abbrev pub IsHash : Text → Alg → Type 0
+IsHash text hash = text ≡ hash_word hash
+
+-- a register by its number, where the option is given
+abbrev pub IsRegister : Option Text → Option ℕ → Type 0
+IsRegister None register = register ≡ None
+IsRegister (Some text) None = ⊥
+IsRegister (Some text) (Some register) = IsDecimal text register
+
+-- The one is given only where the other is.
+abbrev pub IsWith : Option Text → Option Text → Type 0
+IsWith None other = Unit {0}
+IsWith (Some text) None = ⊥
+IsWith (Some text) (Some other) = Unit {0}
+
+-- The one is given only where one of the others is.
+abbrev pub IsWithEither : Option Text → (other another : Option Text) → Type 0
+IsWithEither option None another = IsWith option another
+IsWithEither option (Some text) another = Unit {0}
+
+-- the registers that a list names, where it is given
+abbrev pub Requires : Option Text → Option (List Selection) → Type 0
+Requires None required = required ≡ None
+Requires (Some text) required = IsSomeAnd required (AreSelections text)
+
+-- standard input, by the word `-`, or a file
+abbrev pub IsInput : (word file : Option Text) → Type 0
+IsInput (Some text) None = text ≡ codes "-"
+IsInput None (Some path) = Unit {0}
+IsInput _ _ = ⊥
+
+-- a subcommand of this name, with these values of its words by their names, asks for the task
+abbrev pub AsksWith : Text → (Text → Option Text) → Task → Type 0
+AsksWith name value (Show reply fields hex) = (name ≡ codes "show") × Replies (value (codes "reply")) reply × (fields ≡ is_given (value (codes "fields")))
+    × (value (codes "HEX") ≡ Some hex.now) × (hex.now ≢ codes "-") × (value (codes "file") ≡ None)
+    × (is_given (value (codes "binary")) ≡ false)
+AsksWith name value (ShowCapture file binary fields) = (name ≡ codes "show") × (value (codes "reply") ≡ None) × (fields ≡ is_given (value (codes "fields")))
+    × (value (codes "file") ≡ option_map (λ f. f.now) file) × IsInput (value (codes "HEX")) (value (codes "file"))
+    × (binary ≡ is_given (value (codes "binary")))
+AsksWith name value (Build code handles sessions parameters) = (name ≡ codes "build")
+    × (option_and_then command_of_name (value (codes "NAME")) ≡ Some code)
+    × (value (codes "HANDLES") ≡ Some handles.now) × (value (codes "SESSIONS") ≡ Some sessions.now) × (value (codes "PARAMETERS") ≡ Some parameters.now)
+AsksWith name value (Run owner greatest) = (name ≡ codes "run") × IsOwner (unwrap_or (value (codes "owner")) (codes "")) owner
+    × IsDecimal (unwrap_or (value (codes "greatest")) (codes "0")) greatest
+AsksWith name value (Explain code) = (name ≡ codes "explain") × IsCode (value (codes "CODE")) code
+AsksWith name value (Check log registers quote attest sent required hash) = (name ≡ codes "check") × (value (codes "LOG") ≡ Some log.now)
+    × (value (codes "registers") ≡ option_map (λ r. r.now) registers) × (value (codes "quote") ≡ option_map (λ q. q.now) quote)
+    × (value (codes "attest") ≡ option_map (λ a. a.now) attest) × (value (codes "nonce") ≡ option_map (λ s. s.now) sent)
+    × IsWith (value (codes "nonce")) (value (codes "attest"))
+    × Requires (value (codes "require")) required × IsWith (value (codes "require")) (value (codes "attest"))
+    × IsHash (unwrap_or (value (codes "hash")) (codes "sha256")) hash × IsWithEither (value (codes "hash")) (value (codes "quote")) (value (codes "attest"))
+AsksWith name value (Events log register places digests json) = (name ≡ codes "events") × (value (codes "LOG") ≡ Some log.now)
+    × IsRegister (value (codes "register")) register × (places ≡ is_given (value (codes "places")))
+    × (digests ≡ is_given (value (codes "digests"))) × (json ≡ is_given (value (codes "json")))
+
+-- There is no such task.
+abbrev pub AsksNothingWith : Text → (Text → Option Text) → Type 0
+AsksNothingWith name value = (task : Task) → AsksWith name value task → ⊥
+
+-- the same, of the subcommand that was met, with its matches
+abbrev pub Asks : Option (Text × List Row) → Task → Type 0
+Asks None task = ⊥
+Asks (Some met) task = AsksWith met.0 (λ id. first_of id met.1) task
+
+abbrev pub AsksNothing : Option (Text × List Row) → Type 0
+AsksNothing met = (task : Task) → Asks met task → ⊥

@@ -1,0 +1,121 @@
+//! The words of the subcommand `check`.
+
+ghost use Rattle.std.specs.Prelude.{List, Option, MatchOption, MatchResult, codes, option_map};
+ghost use Rattle.clap.specs.Words.{first_value, found_of};
+ghost use Rattle.tpm_types.specs.declared.alg.Alg.{Alg as AlgValue};
+ghost use Rattle.tpm_args.specs.Stop.{IsMemoryOr};
+ghost use Rattle.tpm_types.specs.declared.tpms.Selection.{Selection as SelectionValue};
+ghost use Rattle.tpm_args.specs.Task.{AsksNothingWith, AsksWith, IsHash, IsWith, IsWithEither, Requires};
+
+use crate::invalid::invalid_value;
+use crate::program::check_words;
+use crate::stop::Stop;
+use crate::task::Task;
+use clap::ArgMatches;
+use std::alloc::Global;
+use tpm_arg_values::selections;
+use tpm_types::{Alg, Selections};
+
+/// The task of the words of `check`.
+pub(crate) fn check_task<'a>(
+    alloc: Global,
+    words: &ArgMatches<'a>,
+) -> Result<Option<Task<'a>>, Stop>
+    ensures { MatchResult result
+        (λ asked. MatchOption asked (AsksNothingWith (codes "check") (first_value (found_of words.now))) (λ t. AsksWith (codes "check") (first_value (found_of words.now)) t))
+        (IsMemoryOr (AsksNothingWith (codes "check") (first_value (found_of words.now)))) }
+{
+    let Some(log) = words.get_str("LOG") else {
+        return Ok(None);
+    };
+    let quote = words.get_str("quote");
+    let attest = words.get_str("attest");
+    let nonce = words.get_str("nonce");
+    with_attest(alloc, nonce, "--nonce <HEX>", attest)?;
+    let list = words.get_str("require");
+    with_attest(alloc, list, "--require <LIST>", attest)?;
+    let required = required(alloc, list)?;
+    let name = words.get_str("hash");
+    let hash = hash(alloc, name.unwrap_or("sha256"))?;
+    with_quote(alloc, name, quote, attest)?;
+    Ok(Some(Task::Check {
+        log,
+        registers: words.get_str("registers"),
+        quote,
+        attest,
+        nonce,
+        required,
+        hash,
+    }))
+}
+
+// A usage fault where this word is given without a quote as it was signed.
+fn with_attest(
+    alloc: Global,
+    given: Option<&str>,
+    word: &str,
+    attest: Option<&str>,
+) -> Result<(), Stop>
+    ensures { MatchResult result (λ _. IsWith (option_map (λ g. g.now) given.entry) (option_map (λ a. a.now) attest.entry))
+        (IsMemoryOr (IsWith (option_map (λ g. g.now) given.entry) (option_map (λ a. a.now) attest.entry) → ⊥)) }
+{
+    match (given, attest) {
+        (Some(text), None) => {
+            let reason = "no --attest is given";
+            Err(invalid_value(alloc, check_words(alloc), text, word, reason))
+        }
+        _ => Ok(()),
+    }
+}
+
+// A usage fault where a hash is given without a quote.
+fn with_quote(
+    alloc: Global,
+    name: Option<&str>,
+    quote: Option<&str>,
+    attest: Option<&str>,
+) -> Result<(), Stop>
+    ensures { MatchResult result (λ _. IsWithEither (option_map (λ n. n.now) name.entry) (option_map (λ q. q.now) quote.entry) (option_map (λ a. a.now) attest.entry))
+        (IsMemoryOr (IsWithEither (option_map (λ n. n.now) name.entry) (option_map (λ q. q.now) quote.entry) (option_map (λ a. a.now) attest.entry) → ⊥)) }
+{
+    match (name, quote, attest) {
+        (Some(text), None, None) => {
+            let reason = "no --quote or --attest is given";
+            Err(invalid_value(alloc, check_words(alloc), text, "--hash <NAME>", reason))
+        }
+        _ => Ok(()),
+    }
+}
+
+// The registers that a list names, where it is given. A usage fault where it is none.
+fn required(alloc: Global, list: Option<&str>) -> Result<Option<Selections>, Stop>
+    ensures { MatchResult result (λ required. Requires (option_map (λ l. l.now) list.entry) required)
+        (IsMemoryOr ((required : Option (List SelectionValue)) → Requires (option_map (λ l. l.now) list.entry) required → ⊥)) }
+{
+    let Some(text) = list else {
+        return Ok(None);
+    };
+    match selections(text) {
+        Some(required) => Ok(Some(required)),
+        None => {
+            let reason = "it is no list of registers, as sha1:7+sha256:0,1,2 or sha256:all";
+            Err(invalid_value(alloc, check_words(alloc), text, "--require <LIST>", reason))
+        }
+    }
+}
+
+// The hash of this name. A usage fault where none has it.
+fn hash(alloc: Global, text: &str) -> Result<Alg, Stop>
+    ensures { MatchResult result (λ hash. IsHash text.now hash)
+        (IsMemoryOr ((hash : AlgValue) → IsHash text.now hash → ⊥)) }
+{
+    match text {
+        "sha1" => Ok(Alg::Sha1),
+        "sha256" => Ok(Alg::Sha256),
+        "sha384" => Ok(Alg::Sha384),
+        _ => {
+            let reason = "it is none of sha1, sha256 and sha384";
+            Err(invalid_value(alloc, check_words(alloc), text, "--hash <NAME>", reason))
+        }
+    }
+}

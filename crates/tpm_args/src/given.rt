@@ -1,0 +1,155 @@
+//! The words that a run was given.
+
+ghost use Rattle.std.specs.Prelude.{◌≡◌, ℕ, List, IfOk, IfErr, IfSome, MatchOption, MatchResult, codes, map, string_bytes};
+ghost use Rattle.std.specs.Borrow.{Bor};
+ghost use Rattle.clap.specs.Words.{first_value, found_of, kind_of, subcommand_of, subcommand_rows_of};
+ghost use Rattle.clap.specs.declared.error.kind.ErrorKind.TheVariants.{InvalidValue};
+ghost use Rattle.clap.specs.declared.builder.value_parser.ValueParser.TheVariants.{Names};
+ghost use Rattle.tpm_args.specs.Names.{AreAllNames};
+ghost use Rattle.tpm_args.specs.Program.{program_app};
+ghost use Rattle.tpm_args.specs.Stop.{StopsFor, IsMemoryOr, Refuses};
+ghost use Rattle.tpm_args.specs.Task.{is_given as is_given_by, Asks, AsksNothing, AsksNothingWith, AsksWith};
+
+use crate::check::check_task;
+use crate::events::register;
+use crate::explain::explain_task;
+use crate::names::{command_named, command_names};
+use crate::program::program;
+use crate::run::run_task;
+use crate::show::show_task;
+use crate::stop::Stop;
+use crate::task::Task;
+use clap::error::ErrorKind;
+use clap::{ArgMatches, Error};
+use std::alloc::{AllocError, Global};
+use std::marker::Model;
+
+/// The words of a run, with the names that they may give.
+#[derive(Drop)]
+pub struct Words {
+    given: Vec<String>,
+    names: Vec<&'static str>,
+}
+
+impl Model for Words {
+    ghost Value = { List (List ℕ) };
+
+    ghost view = { λ w. map string_bytes w.given.items };
+
+    ghost invariant = { λ w. AreAllNames w.names.items };
+}
+
+impl Words {
+    /// These words, of which the first is the program's name.
+    pub fn new(alloc: Global, given: Vec<String>) -> Result<Self, AllocError>
+        ensures { IfOk result (λ w. w ≡ map string_bytes given.items) }
+    {
+        Ok(Words {
+            given,
+            names: command_names(alloc)?,
+        })
+    }
+
+    /// What they ask for.
+    ///
+    /// The names that may be given are those of all commands. Where the words are those of a subcommand they are refused
+    /// only for a value: of `run` an owner value of too many bytes, or a number that is other than decimal digits or
+    /// above 2^64 - 1, and likewise of `events`; of `explain` other than hexadecimal digits, or a number above 2^32 - 1; of
+    /// `check` a hash other than `sha1`, `sha256` and `sha384`, a list of no registers, or a word whose quote is not given: the
+    /// nonce and the list want `--attest`, the hash one of `--quote` and `--attest`; and of `show` where they have a buffer and a
+    /// file, or neither, a capture with `--reply`, or a buffer with `--binary`.
+    pub fn task(&self, alloc: Global) -> Result<Task<'_>, Stop>
+        ensures ok { IfOk result (λ t. (names : Bor (List (Bor (List ℕ)))) × AreAllNames names.now
+            × Asks (subcommand_of (program_app (Names names)) self.now) t) }
+        ensures err { IfErr result (λ stop. Refuses self.now stop) }
+    {
+        let mut program = program(alloc, self.names.as_slice())?;
+        match program.try_get_matches_from_mut(self.given.as_slice()) {
+            Ok(matches) => match asked(alloc, &matches)? {
+                Some(task) => Ok(task),
+                None => {
+                    let mut usage = program.render_usage()?;
+                    usage.push_str("\n")?;
+                    Err(Stop::Usage(usage))
+                }
+            },
+            Err(error) => Err(Stop::of(alloc, &error)),
+        }
+    }
+}
+
+/// Whether the flag of this name is given.
+pub(crate) fn is_given(words: &ArgMatches<'_>, name: &str) -> bool
+    ensures { result ≡ is_given_by (first_value (found_of words.now) name.now) }
+{
+    match words.get_str(name) {
+        Some(text) => text == "true",
+        None => false,
+    }
+}
+
+fn build_task<'a>(words: &ArgMatches<'a>) -> Option<Task<'a>>
+    ensures { MatchOption result (AsksNothingWith (codes "build") (first_value (found_of words.now)))
+        (λ t. AsksWith (codes "build") (first_value (found_of words.now)) t) }
+{
+    Some(Task::Build {
+        name: command_named(words.get_str("NAME")?)?,
+        handles: words.get_str("HANDLES")?,
+        sessions: words.get_str("SESSIONS")?,
+        parameters: words.get_str("PARAMETERS")?,
+    })
+}
+
+fn events_task<'a>(alloc: Global, words: &ArgMatches<'a>) -> Result<Option<Task<'a>>, Stop>
+    ensures { MatchResult result
+        (λ asked. MatchOption asked (AsksNothingWith (codes "events") (first_value (found_of words.now))) (λ t. AsksWith (codes "events") (first_value (found_of words.now)) t))
+        (IsMemoryOr (AsksNothingWith (codes "events") (first_value (found_of words.now)))) }
+{
+    let Some(log) = words.get_str("LOG") else {
+        return Ok(None);
+    };
+    let register = register(alloc, words.get_str("register"))?;
+    Ok(Some(Task::Events {
+        log,
+        register,
+        places: is_given(words, "places"),
+        digests: is_given(words, "digests"),
+        json: is_given(words, "json"),
+    }))
+}
+
+fn asked<'a>(alloc: Global, matches: &ArgMatches<'a>) -> Result<Option<Task<'a>>, Stop>
+    ensures { MatchResult result
+        (λ asked. MatchOption asked (AsksNothing (subcommand_rows_of matches.now)) (λ t. Asks (subcommand_rows_of matches.now) t))
+        (λ stop. IsMemoryOr (AsksNothing (subcommand_rows_of matches.now)) stop) }
+{
+    let Some((name, words)) = matches.subcommand() else {
+        return Ok(None);
+    };
+    match name {
+        "show" => Ok(show_task(words)),
+        "build" => Ok(build_task(words)),
+        "run" => Ok(Some(run_task(alloc, words)?)),
+        "explain" => explain_task(alloc, words),
+        "check" => check_task(alloc, words),
+        "events" => events_task(alloc, words),
+        _ => Ok(None),
+    }
+}
+
+fn not_text(alloc: Global) -> Result<Error, AllocError>
+    ensures { IfOk result (λ e. kind_of e ≡ InvalidValue) }
+{
+    let message = "invalid UTF-8 was detected in one or more arguments";
+    program(alloc, &[])?.error(ErrorKind::InvalidValue, message)
+}
+
+/// The fault of words that are not text, of which no more can be read.
+pub fn words_not_text(alloc: Global) -> Stop
+    ensures { StopsFor InvalidValue result }
+{
+    match not_text(alloc) {
+        Ok(error) => Stop::of(alloc, &error),
+        Err(AllocError) => Stop::Memory,
+    }
+}

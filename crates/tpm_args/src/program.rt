@@ -1,0 +1,312 @@
+//! The program's subcommands and their words.
+
+ghost use Rattle.std.specs.Prelude.{◌≡◌, IfOk, false};
+ghost use Rattle.clap.specs.Words.{rule_of};
+ghost use Rattle.clap.specs.declared.builder.value_parser.ValueParser.TheVariants.{Names};
+ghost use Rattle.tpm_args.specs.Program.{required_rule, name_rule, reply_rule, flag_rule, option_rule, buffer_app, show_app, build_app, run_app, explain_app, log_app, compare_app, check_app, records_app, events_app, above_subcommands, program_app, IsApp, attest_app, optional_rule};
+
+use clap::{Arg, ArgAction, Command};
+use std::alloc::{AllocError, Global};
+
+const VERSION: &str = "0.1.0";
+
+const LONG_VERSION: &str = "0.1.0
+profile: 18 commands; SHA-1, SHA-256 and SHA-384; counters; event logs
+library: TPM 2.0, revision 1.59
+toolchain: rattle-kit-13b";
+
+const AFTER_HELP: &str = "Examples:
+  tpmtool show 80010000000c000001440000
+  tpmtool show --reply Startup 80010000000a00000100
+  tpmtool show --fields 80010000000c000001440000
+  tpmtool show --file FILE
+  tpmtool build PCR_Reset 00000010 400000090000010000 -
+  tpmtool run --greatest 7 <SCRIPT
+  tpmtool explain 9a2
+  tpmtool check LOG --registers FILE
+  tpmtool check LOG --attest FILE --nonce 6e6f
+  tpmtool events LOG
+  tpmtool events LOG --register 7 --digests
+
+Exit status:
+  0  done
+  1  refused, or a mismatch
+  2  the words are at fault
+  3  a reading or writing fault, want of memory, or input too long";
+
+fn required<'a>(alloc: Global, name: &'a str, help: &'a str) -> Arg<'a>
+    ensures rule { rule_of result ≡ required_rule name.entry.now }
+    ensures local { result.global ≡ false }
+{
+    Arg::new(alloc, name).required(true).help(help)
+}
+
+fn optional<'a>(alloc: Global, name: &'a str, help: &'a str) -> Arg<'a>
+    ensures rule { rule_of result ≡ optional_rule name.entry.now }
+    ensures local { result.global ≡ false }
+{
+    Arg::new(alloc, name).help(help)
+}
+
+fn reply_word<'a>(alloc: Global, names: &'a [&'a str]) -> Arg<'a>
+    ensures rule { rule_of result ≡ reply_rule (Names names.entry) }
+    ensures local { result.global ≡ false }
+{
+    Arg::new(alloc, "reply")
+        .long("reply")
+        .value_name("NAME")
+        .value_parser(names)
+        .help("Reads the buffer as a response to this command")
+}
+
+fn flag<'a>(alloc: Global, name: &'a str, help: &'a str) -> Arg<'a>
+    ensures rule { rule_of result ≡ flag_rule name.entry.now }
+    ensures local { result.global ≡ false }
+{
+    Arg::new(alloc, name)
+        .long(name)
+        .action(ArgAction::SetTrue)
+        .help(help)
+}
+
+// The subcommand `show`, without its capture and its buffer.
+fn buffer_words<'a>(alloc: Global, names: &'a [&'a str]) -> Result<Command<'a>, AllocError>
+    ensures { IfOk result (λ c. IsApp (buffer_app (Names names.entry)) c) }
+{
+    Command::new(alloc, "show")
+        .about("Prints the command or the response that a buffer spells, or where it is refused")
+        .arg(reply_word(alloc, names))?
+        .arg(flag(
+            alloc,
+            "fields",
+            "Prints each parameter by its name and its type, too",
+        ))
+}
+
+fn show_words<'a>(alloc: Global, names: &'a [&'a str]) -> Result<Command<'a>, AllocError>
+    ensures { IfOk result (λ c. IsApp (show_app (Names names.entry)) c) }
+{
+    let file = option(
+        alloc,
+        "file",
+        "FILE",
+        "Reads a capture: a command or a reply a line, in hexadecimal",
+    );
+    let binary = flag(
+        alloc,
+        "binary",
+        "Reads the capture as frames one after the other, in place of lines",
+    );
+    let buffer = optional(
+        alloc,
+        "HEX",
+        "The buffer, in hexadecimal, or - for a capture on standard input",
+    );
+    buffer_words(alloc, names)?
+        .arg(file)?
+        .arg(binary)?
+        .arg(buffer)
+}
+
+fn name_word<'a>(alloc: Global, names: &'a [&'a str]) -> Arg<'a>
+    ensures rule { rule_of result ≡ name_rule (Names names.entry) }
+    ensures local { result.global ≡ false }
+{
+    required(alloc, "NAME", "The command's name").value_parser(names)
+}
+
+fn build_words<'a>(alloc: Global, names: &'a [&'a str]) -> Result<Command<'a>, AllocError>
+    ensures { IfOk result (λ c. IsApp (build_app (Names names.entry)) c) }
+{
+    let handles = required(
+        alloc,
+        "HANDLES",
+        "Its handles, in hexadecimal or - for none",
+    );
+    let sessions = required(
+        alloc,
+        "SESSIONS",
+        "The sessions of its authorization area, in hexadecimal or - for none",
+    );
+    let parameters = required(
+        alloc,
+        "PARAMETERS",
+        "Its parameters, in hexadecimal or - for none",
+    );
+    Command::new(alloc, "build")
+        .about("Prints the buffer of a command, joined from its parts")
+        .arg(name_word(alloc, names))?
+        .arg(handles)?
+        .arg(sessions)?
+        .arg(parameters)
+}
+
+fn option<'a>(alloc: Global, name: &'a str, value: &'a str, help: &'a str) -> Arg<'a>
+    ensures rule { rule_of result ≡ option_rule name.entry.now }
+    ensures local { result.global ≡ false }
+{
+    Arg::new(alloc, name)
+        .long(name)
+        .value_name(value)
+        .help(help)
+}
+
+/// The subcommand `run`.
+pub(crate) fn run_words<'a>(alloc: Global) -> Result<Command<'a>, AllocError>
+    ensures { IfOk result (λ c. IsApp run_app c) }
+{
+    Command::new(alloc, "run")
+        .bin_name("tpmtool run")?
+        .about("Runs the commands on standard input, one a line, on a new device")
+        .arg(option(
+            alloc,
+            "owner",
+            "HEX",
+            "The owner's authorization value, in hexadecimal; empty if it is not given",
+        ))?
+        .arg(option(
+            alloc,
+            "greatest",
+            "N",
+            "The greatest value that a counter has had; 0 if it is not given",
+        ))
+}
+
+/// The subcommand `explain`.
+pub(crate) fn explain_words<'a>(alloc: Global) -> Result<Command<'a>, AllocError>
+    ensures { IfOk result (λ c. IsApp explain_app c) }
+{
+    Command::new(alloc, "explain")
+        .bin_name("tpmtool explain")?
+        .about("Prints what a response code says")
+        .arg(required(alloc, "CODE", "The code, in hexadecimal"))
+}
+
+// The subcommand `check`, without what it compares.
+fn log_words<'a>(alloc: Global) -> Result<Command<'a>, AllocError>
+    ensures { IfOk result (λ c. IsApp log_app c) }
+{
+    Command::new(alloc, "check")
+        .bin_name("tpmtool check")?
+        .about("Prints the registers that an event log gives, or compares them")
+        .arg(required(alloc, "LOG", "The event log, a file"))
+}
+
+// The subcommand `check`, with a list and the information of a quote.
+fn compare_words<'a>(alloc: Global) -> Result<Command<'a>, AllocError>
+    ensures { IfOk result (λ c. IsApp compare_app c) }
+{
+    let registers = option(
+        alloc,
+        "registers",
+        "FILE",
+        "Compares them with a list of registers, whose lines are as those that are printed",
+    );
+    let quote = option(
+        alloc,
+        "quote",
+        "HEX",
+        "Compares them with a quote, its TPMS_QUOTE_INFO in hexadecimal",
+    );
+    log_words(alloc)?.arg(registers)?.arg(quote)
+}
+
+// The subcommand `check`, without the hash.
+fn attest_words<'a>(alloc: Global) -> Result<Command<'a>, AllocError>
+    ensures { IfOk result (λ c. IsApp attest_app c) }
+{
+    let attest = option(
+        alloc,
+        "attest",
+        "FILE",
+        "Compares them with a quote as it was signed, a TPMS_ATTEST, and prints what it says",
+    );
+    let nonce = option(
+        alloc,
+        "nonce",
+        "HEX",
+        "The nonce that was sent for that quote; it is not compared if it is not given",
+    );
+    let require = option(
+        alloc,
+        "require",
+        "LIST",
+        "The registers that it has to select, as sha1:7+sha256:0,1,2 or sha256:all",
+    );
+    compare_words(alloc)?.arg(attest)?.arg(nonce)?.arg(require)
+}
+
+/// The subcommand `check`.
+pub(crate) fn check_words<'a>(alloc: Global) -> Result<Command<'a>, AllocError>
+    ensures { IfOk result (λ c. IsApp check_app c) }
+{
+    let hash = option(
+        alloc,
+        "hash",
+        "NAME",
+        "The hash of the quote's digest: sha1, sha256 or sha384; sha256 if it is not given",
+    );
+    attest_words(alloc)?.arg(hash)
+}
+
+// The subcommand `events`, with which records are listed.
+fn records_words<'a>(alloc: Global) -> Result<Command<'a>, AllocError>
+    ensures { IfOk result (λ c. IsApp records_app c) }
+{
+    Command::new(alloc, "events")
+        .bin_name("tpmtool events")?
+        .about("Prints the records of an event log, a line each")
+        .arg(required(alloc, "LOG", "The event log, a file"))?
+        .arg(option(
+            alloc,
+            "register",
+            "N",
+            "Prints the records of this register alone",
+        ))
+}
+
+/// The subcommand `events`.
+pub(crate) fn events_words<'a>(alloc: Global) -> Result<Command<'a>, AllocError>
+    ensures { IfOk result (λ c. IsApp events_app c) }
+{
+    let places = flag(
+        alloc,
+        "places",
+        "Prints how many bytes of the log precede each record, too",
+    );
+    let digests = flag(alloc, "digests", "Prints the digests of each record, too");
+    let json = flag(
+        alloc,
+        "json",
+        "Prints each record as an object of JSON, with all that it holds",
+    );
+    records_words(alloc)?.arg(places)?.arg(digests)?.arg(json)
+}
+
+// The program, without its subcommands.
+fn above_subcommands<'a>(alloc: Global) -> Result<Command<'a>, AllocError>
+    ensures { IfOk result (λ c. IsApp above_subcommands c) }
+{
+    Ok(
+        Command::new(alloc, "tpmtool")
+            .bin_name("tpmtool")?
+            .about("Reads and writes TPM 2.0 commands, and reads event logs")
+            .version(VERSION)
+            .long_version(LONG_VERSION)
+            .after_help(AFTER_HELP)
+            .subcommand_required(true),
+    )
+}
+
+/// The program, with the names of the commands.
+pub(crate) fn program<'a>(alloc: Global, names: &'a [&'a str]) -> Result<Command<'a>, AllocError>
+    ensures { IfOk result (λ c. IsApp (program_app (Names names.entry)) c) }
+{
+    above_subcommands(alloc)?
+        .subcommand(show_words(alloc, names)?)?
+        .subcommand(build_words(alloc, names)?)?
+        .subcommand(run_words(alloc)?)?
+        .subcommand(explain_words(alloc)?)?
+        .subcommand(check_words(alloc)?)?
+        .subcommand(events_words(alloc)?)
+}

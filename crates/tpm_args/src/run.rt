@@ -1,0 +1,67 @@
+//! The words of the subcommand `run`.
+
+ghost use Rattle.std.specs.Prelude.{ℕ, List, Option, MatchResult, codes};
+ghost use Rattle.clap.specs.Words.{first_value, found_of};
+ghost use Rattle.tpm_arg_values.specs.Numbers.{IsDecimal};
+ghost use Rattle.tpm_arg_values.specs.Owner.{IsOwner};
+ghost use Rattle.tpm_args.specs.Stop.{IsMemoryOr};
+ghost use Rattle.tpm_args.specs.Task.{AsksNothingWith, AsksWith};
+
+use crate::invalid::invalid_value;
+use crate::program::run_words;
+use crate::stop::Stop;
+use crate::task::Task;
+use clap::ArgMatches;
+use std::alloc::{AllocError, Global};
+use tpm_arg_values::{OwnerFault, decimal, owner_value};
+use tpm_types::{AuthValue, DIGEST_BYTES};
+
+/// The task of the words of `run`.
+pub(crate) fn run_task<'a>(alloc: Global, words: &ArgMatches<'a>) -> Result<Task<'a>, Stop>
+    ensures { MatchResult result (λ t. AsksWith (codes "run") (first_value (found_of words.now)) t)
+        (IsMemoryOr (AsksNothingWith (codes "run") (first_value (found_of words.now)))) }
+{
+    let owner = owner(alloc, words.get_str("owner").unwrap_or(""))?;
+    let greatest = greatest(alloc, words.get_str("greatest").unwrap_or("0"))?;
+    Ok(Task::Run { owner, greatest })
+}
+
+// The value that hexadecimal digits are, or none for any other text. A usage fault where it has too many bytes.
+fn owner(alloc: Global, text: &str) -> Result<Option<AuthValue>, Stop>
+    ensures { MatchResult result (λ owner. IsOwner text.now owner)
+        (IsMemoryOr ((owner : Option (List ℕ)) → IsOwner text.now owner → ⊥)) }
+{
+    match owner_value(alloc, text) {
+        Ok(owner) => Ok(Some(owner)),
+        Err(OwnerFault::NotHexadecimal) => Ok(None),
+        Err(OwnerFault::TooLong) => Err(too_long(alloc, text)),
+        Err(OwnerFault::OutOfMemory) => Err(Stop::Memory),
+    }
+}
+
+// A number of decimal digits alone, without a sign. A usage fault where it is none, or not below 2^64.
+fn greatest(alloc: Global, text: &str) -> Result<u64, Stop>
+    ensures { MatchResult result (λ greatest. IsDecimal text.now greatest)
+        (IsMemoryOr ((greatest : ℕ) → IsDecimal text.now greatest → ⊥)) }
+{
+    if let Some(greatest) = decimal(text) {
+        return Ok(greatest);
+    }
+    let reason = "it is no decimal number up to 18446744073709551615";
+    Err(invalid_value(alloc, run_words(alloc), text, "--greatest <N>", reason))
+}
+
+fn too_long(alloc: Global, text: &str) -> Stop
+    ensures { IsMemoryOr (Unit {0}) result }
+{
+    match format!(in alloc; "it has more than {DIGEST_BYTES} bytes") {
+        Ok(reason) => invalid_value(
+            alloc,
+            run_words(alloc),
+            text,
+            "--owner <HEX>",
+            reason.as_str(),
+        ),
+        Err(AllocError) => Stop::Memory,
+    }
+}
