@@ -4,7 +4,7 @@ use crate::pieces::Pieces;
 use std::alloc::Global;
 use std::process::Abort;
 use std::test::Fail;
-use tpm_tool::{Status, ToolFault, show_lines};
+use tpm_tool::{Status, ToolFault, show_lines, show_stream};
 use tpm_wire::Source;
 
 // A comment, a command and its reply, a line that isn't hexadecimal, and a reply that has no command.
@@ -13,6 +13,15 @@ const CAPTURE: &str =
 
 const TEXT: &str =
     "1 > command Startup size 12\nparameters 0000\n2 < reply Startup size 10\nparameters -\n3 not hexadecimal\n4 < its command is not known\n";
+
+// A command and its reply, and a size that no frame has.
+const STREAM: [u8; 28] = [
+    0x80, 1, 0, 0, 0, 12, 0, 0, 1, 0x44, 0, 0, 0x80, 1, 0, 0, 0, 10, 0, 0, 0, 0, 0x80, 1, 0, 0, 0,
+    9,
+];
+
+const STREAM_TEXT: &str =
+    "1 > command Startup size 12\nparameters 0000\n2 < reply Startup size 10\nparameters -\n3 bad size at 22\n";
 
 fn told(
     alloc: Global,
@@ -82,6 +91,32 @@ fn a_read_that_fails_is_answered_and_not_tried_again(rt: HostRuntime) -> Result<
         assert_eq!(rt; input.reads, fails_at);
         assert_eq!(rt; input.failures(), 1);
         assert!(rt; TEXT.as_bytes().starts_with(out.as_slice()));
+    }
+    Ok(())
+}
+
+#[test]
+fn a_stream_is_the_same_in_any_pieces(rt: HostRuntime) -> Result<(), Fail> {
+    for most in [1, 2, 3, 7, 25, 4096] {
+        let mut out = Vec::new(rt.alloc());
+        let mut input = Pieces::new(&STREAM, most);
+        let status = show_stream(rt.alloc(), &mut input, &mut out, false);
+        assert_eq!(rt; status, Ok(Status::Refused));
+        assert_eq!(rt; out.as_slice(), STREAM_TEXT.as_bytes());
+    }
+    Ok(())
+}
+
+#[test]
+fn a_read_of_a_stream_that_fails_is_answered(rt: HostRuntime) -> Result<(), Fail> {
+    for fails_at in 1..STREAM.len() + 1 {
+        let mut out = Vec::new(rt.alloc());
+        let mut input = Pieces::failing(&STREAM, 1, fails_at);
+        let status = show_stream(rt.alloc(), &mut input, &mut out, false);
+        assert_eq!(rt; status, Err(ToolFault::Read));
+        assert_eq!(rt; input.reads, fails_at);
+        assert_eq!(rt; input.failures(), 1);
+        assert!(rt; STREAM_TEXT.as_bytes().starts_with(out.as_slice()));
     }
     Ok(())
 }

@@ -9,7 +9,7 @@ use tpm_buffer::CommandCode;
 use tpm_device::Device;
 use tpm_tool::{
     Status, ToolFault, build, check_log, list_events, not_hexadecimal, run_script, show,
-    show_fields, show_lines,
+    show_fields, show_lines, show_stream,
 };
 use tpm_types::{Alg, AuthValue};
 use tpm_wire::SliceSource;
@@ -22,6 +22,7 @@ enum Call {
     ShowFields(&'static str),
     ShowReplyFields(&'static str),
     ShowLines(&'static str, bool),
+    ShowStream(&'static [u8]),
     Build(&'static str),
     Run(&'static str),
     Check(&'static str, Option<&'static str>),
@@ -37,8 +38,11 @@ const READ_REPLY: &str = "80020000001d000000000000000a00080000000000000004000001
 
 const CAPTURE: &str = "80010000000c000001440000\n80010000000a00000000\n< 80010000000a00000000\n";
 
+// A command, and less than a frame.
+const STREAM: [u8; 13] = [0x80, 1, 0, 0, 0, 12, 0, 0, 1, 0x44, 0, 0, 0x80];
+
 // Each call, and the whole text that it prints.
-const CALLS: [(Call, &str); 20] = [
+const CALLS: [(Call, &str); 21] = [
     (
         Call::Show(STARTUP),
         "command Startup size 12\nparameters 0000\n",
@@ -65,6 +69,10 @@ const CALLS: [(Call, &str); 20] = [
         "1 > command Startup size 12\nparameters 0000\n  startupType TPM_SU 0000\n2 < reply Startup size 10\nparameters -\n3 < no command is before it\n",
     ),
     (Call::ShowLines("no", true), "1 not hexadecimal\n"),
+    (
+        Call::ShowStream(&STREAM),
+        "1 > command Startup size 12\nparameters 0000\n2 cut short at 12\n",
+    ),
     (Call::Build("0000"), "80010000000c000001440000\n"),
     (Call::Build("0002"), "refused 1c4 at 10\n"),
     (Call::Run("power\n"), "power\n"),
@@ -130,6 +138,7 @@ fn perform<W: Write>(alloc: Global, out: &mut W, call: Call) -> Result<Status, T
                 fields,
             )
         }
+        Call::ShowStream(stream) => show_stream(alloc, &mut SliceSource::new(stream), out, false),
         Call::Build(parameters) => build(alloc, out, CommandCode::Startup, "-", "-", parameters),
         Call::Run(script) => run(alloc, out, script),
         Call::NotHexadecimal => not_hexadecimal(alloc, out),
