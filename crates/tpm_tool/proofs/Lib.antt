@@ -1,5 +1,5 @@
 mod Padded
-mod AlgorithmSize
+mod Listed
 mod InputLines
 mod Scripts
 mod Captures

@@ -1,6 +1,6 @@
 use Rattle.std.proofs.Common.{◌∙◌, sym, arith}
 use Rattle.tpm_tool.specs.Text.{session_line}
-use Rattle.tpm_tool.proofs.AlgorithmSize.{lines_further, is_within}
+use Rattle.tpm_tool.proofs.Listed.{lines_further, is_within}
 use Rattle.tpm_tool.proofs.text.push_sessions.Goals.{in-Some+in_ok-push_session, in_default}
 use Rattle.tpm_tool.proofs.text.push_sessions.Goals as goal
 
