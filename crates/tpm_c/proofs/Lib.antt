@@ -7,5 +7,6 @@ pub mod Lists
 pub mod Parts
 pub mod Quoting
 pub mod Replies
+pub mod Sealing
 pub mod Steps
 pub mod Telling
