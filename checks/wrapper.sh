@@ -197,7 +197,7 @@ side_by_side() {
     : >"$wrapper/calls"
     wrapped --build show
 }
-printf 'tpm_buffer:\ntpm_log: tpm_buffer\ntpm_device: tpm_buffer\ntpm_words: tpm_buffer\ntpmtool: tpm_log tpm_device tpm_args\n' >"$wrapper/crates.txt"
+printf 'tpm_buffer:\ntpm_log: tpm_buffer\ntpm_device: tpm_buffer\ntpm_args: tpm_buffer\ntpmtool: tpm_log tpm_device tpm_args\n' >"$wrapper/crates.txt"
 wants '<show>' "in $wrapper/elsewhere" given
 side_by_side
 says "the wrapper proves crates side by side at the first build" 3 1 0
