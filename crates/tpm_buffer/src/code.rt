@@ -1,6 +1,6 @@
 //! The command table: each command's number, name and handles (Part 2, 6.5.2; Part 3).
 
-ghost use Rattle.std.specs.Prelude.{◌≡◌, length};
+ghost use Rattle.std.specs.Prelude.{◌≡◌};
 ghost use Rattle.tpm_buffer.specs.Codes.{code_of, code_number, code_name};
 
 /// A command of the profile, by its name in Part 3.
@@ -84,25 +84,6 @@ impl CommandCode {
     pub fn name(self) -> &'static str
         ensures { result.now ≡ code_name self }
     {
-        match self {
-            CommandCode::NvUndefineSpace => "NV_UndefineSpace",
-            CommandCode::NvDefineSpace => "NV_DefineSpace",
-            CommandCode::NvIncrement => "NV_Increment",
-            CommandCode::PcrEvent => "PCR_Event",
-            CommandCode::PcrReset => "PCR_Reset",
-            CommandCode::Startup => "Startup",
-            CommandCode::NvRead => "NV_Read",
-            CommandCode::FlushContext => "FlushContext",
-            CommandCode::NvReadPublic => "NV_ReadPublic",
-            CommandCode::PolicyAuthValue => "PolicyAuthValue",
-            CommandCode::PolicyCommandCode => "PolicyCommandCode",
-            CommandCode::PolicyOr => "PolicyOR",
-            CommandCode::StartAuthSession => "StartAuthSession",
-            CommandCode::PcrRead => "PCR_Read",
-            CommandCode::PolicyPcr => "PolicyPCR",
-            CommandCode::PolicyRestart => "PolicyRestart",
-            CommandCode::PcrExtend => "PCR_Extend",
-            CommandCode::PolicyGetDigest => "PolicyGetDigest",
-        }
+        self.row().name
     }
 }

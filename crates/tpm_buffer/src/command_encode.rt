@@ -10,50 +10,10 @@ ghost use Rattle.tpm_buffer.specs.Commands.{authorization, tag_of, code_for, han
 use crate::command::{Command, CommandBody};
 use crate::command_header::{NO_SESSIONS, SESSIONS};
 use arrayvec::ArrayVec;
-use tpm_types::{Auth, EncryptedSalt, RH_NULL, RH_OWNER};
+use tpm_types::Auth;
 use tpm_wire::{Buffer, Wire, known_list, list_len, put_list};
 
 // ---- handles
-
-// They are of the command's kinds, and with its parameters they make it again.
-fn handle_numbers(body: &CommandBody<'_>) -> ArrayVec<u32, 2>
-    ensures value { result.items ≡ handles_of body.now }
-    ensures spelled { (left : ℕ) → Fits left (handles_layout (code_for body.now)) (handles_of body.now) }
-    ensures whole { body_from (handles_of body.now) (params_of body.now) ≡ body.now }
-{
-    let mut numbers = ArrayVec::new();
-    match body {
-        CommandBody::NvUndefineSpace { index } => {
-            numbers.push(RH_OWNER);
-            numbers.push(index.number());
-        }
-        CommandBody::NvDefineSpace { .. } => numbers.push(RH_OWNER),
-        CommandBody::NvIncrement { by, index } => {
-            numbers.push(by.number());
-            numbers.push(index.number());
-        }
-        CommandBody::PcrEvent { register, .. } => numbers.push(register.number()),
-        CommandBody::PcrReset { register } => numbers.push(register.number()),
-        CommandBody::NvRead { by, index, .. } => {
-            numbers.push(by.number());
-            numbers.push(index.number());
-        }
-        CommandBody::NvReadPublic { index } => numbers.push(index.number()),
-        CommandBody::PolicyAuthValue { session } => numbers.push(session.number()),
-        CommandBody::PolicyCommandCode { session, .. } => numbers.push(session.number()),
-        CommandBody::PolicyOr { session, .. } => numbers.push(session.number()),
-        CommandBody::StartAuthSession(start) => {
-            numbers.push(RH_NULL);
-            numbers.push(start.bind.number());
-        }
-        CommandBody::PolicyPcr { session, .. } => numbers.push(session.number()),
-        CommandBody::PolicyRestart { session } => numbers.push(session.number()),
-        CommandBody::PcrExtend { register, .. } => numbers.push(register.number()),
-        CommandBody::PolicyGetDigest { session } => numbers.push(session.number()),
-        CommandBody::Startup(_) | CommandBody::FlushContext(_) | CommandBody::PcrRead(_) => {}
-    }
-    numbers
-}
 
 fn handles_len(body: &CommandBody<'_>) -> usize
     ensures value { result ≡ length (spelling (handles_layout (code_for body.now)) (handles_of body.now)) }
@@ -61,14 +21,14 @@ fn handles_len(body: &CommandBody<'_>) -> usize
     ensures spelled { (left : ℕ) → Fits left (handles_layout (code_for body.now)) (handles_of body.now) }
     ensures whole { body_from (handles_of body.now) (params_of body.now) ≡ body.now }
 {
-    4 * handle_numbers(body).len()
+    4 * body.handle_numbers().len()
 }
 
 fn put_handles(body: &CommandBody<'_>, out: &mut Buffer)
     requires { length out.old.items + length (spelling (handles_layout (code_for body.now)) (handles_of body.now)) ≤ 4096 }
     ensures { out.new.items ≡ out.old.items ++ spelling (handles_layout (code_for body.now)) (handles_of body.now) }
 {
-    match handle_numbers(body).as_slice() {
+    match body.handle_numbers().as_slice() {
         [] => {}
         [only] => only.put(out),
         [one, two, ..] => {
@@ -108,135 +68,6 @@ fn put_authorization(tag: u16, auths: &[Auth], out: &mut Buffer)
 
 // ---- parameters
 
-#[tactic(auto, unfolding(crate::specs::Parameters::startup, crate::specs::Parameters::nv_define_space, crate::specs::Parameters::pcr_event, crate::specs::Parameters::nv_read, crate::specs::Parameters::flush_context, crate::specs::Parameters::policy_command_code, crate::specs::Parameters::policy_or, crate::specs::Parameters::start_auth_session, crate::specs::Parameters::pcr_read, crate::specs::Parameters::policy_pcr, crate::specs::Parameters::pcr_extend))]
-fn params_len(body: &CommandBody<'_>) -> usize
-    ensures value { result ≡ length (spelling (parameters (code_for body.now)) (params_of body.now)) }
-    ensures fits { result ≤ 3500 }
-{
-    match body {
-        CommandBody::NvDefineSpace { auth, public } => auth.len() + public.len(),
-        CommandBody::PcrEvent { event, .. } => event.len(),
-        CommandBody::Startup(startup_type) => startup_type.len(),
-        CommandBody::NvRead { size, offset, .. } => size.len() + offset.len(),
-        CommandBody::FlushContext(session) => session.len(),
-        CommandBody::PolicyCommandCode { code, .. } => code.len(),
-        CommandBody::PolicyOr { digests, .. } => digests.len(),
-        CommandBody::StartAuthSession(start) => {
-            start.nonce_caller.len()
-                + EncryptedSalt::Empty.len()
-                + start.session_type.len()
-                + start.symmetric.len()
-                + start.auth_hash.len()
-        }
-        CommandBody::PcrRead(selections) => selections.len(),
-        CommandBody::PolicyPcr {
-            pcr_digest,
-            selections,
-            ..
-        } => pcr_digest.len() + selections.len(),
-        CommandBody::PcrExtend { digests, .. } => digests.len(),
-        CommandBody::NvUndefineSpace { .. }
-        | CommandBody::NvIncrement { .. }
-        | CommandBody::PcrReset { .. }
-        | CommandBody::NvReadPublic { .. }
-        | CommandBody::PolicyAuthValue { .. }
-        | CommandBody::PolicyRestart { .. }
-        | CommandBody::PolicyGetDigest { .. } => 0,
-    }
-}
-
-#[tactic(auto, unfolding(crate::specs::Parameters::startup, crate::specs::Parameters::nv_define_space, crate::specs::Parameters::pcr_event, crate::specs::Parameters::nv_read, crate::specs::Parameters::flush_context, crate::specs::Parameters::policy_command_code, crate::specs::Parameters::policy_or, crate::specs::Parameters::start_auth_session, crate::specs::Parameters::pcr_read, crate::specs::Parameters::policy_pcr, crate::specs::Parameters::pcr_extend))]
-#[inline(never)]
-fn put_params(body: &CommandBody<'_>, out: &mut Buffer)
-    requires { length out.old.items + length (spelling (parameters (code_for body.now)) (params_of body.now)) ≤ 4096 }
-    ensures { out.new.items ≡ out.old.items ++ spelling (parameters (code_for body.now)) (params_of body.now) }
-{
-    match body {
-        CommandBody::NvDefineSpace { auth, public } => {
-            auth.put(out);
-            public.put(out);
-        }
-        CommandBody::PcrEvent { event, .. } => event.put(out),
-        CommandBody::Startup(startup_type) => startup_type.put(out),
-        CommandBody::NvRead { size, offset, .. } => {
-            size.put(out);
-            offset.put(out);
-        }
-        CommandBody::FlushContext(session) => session.put(out),
-        CommandBody::PolicyCommandCode { code, .. } => code.put(out),
-        CommandBody::PolicyOr { digests, .. } => digests.put(out),
-        CommandBody::StartAuthSession(start) => {
-            start.nonce_caller.put(out);
-            EncryptedSalt::Empty.put(out);
-            start.session_type.put(out);
-            start.symmetric.put(out);
-            start.auth_hash.put(out);
-        }
-        CommandBody::PcrRead(selections) => selections.put(out),
-        CommandBody::PolicyPcr {
-            pcr_digest,
-            selections,
-            ..
-        } => {
-            pcr_digest.put(out);
-            selections.put(out);
-        }
-        CommandBody::PcrExtend { digests, .. } => digests.put(out),
-        CommandBody::NvUndefineSpace { .. }
-        | CommandBody::NvIncrement { .. }
-        | CommandBody::PcrReset { .. }
-        | CommandBody::NvReadPublic { .. }
-        | CommandBody::PolicyAuthValue { .. }
-        | CommandBody::PolicyRestart { .. }
-        | CommandBody::PolicyGetDigest { .. } => {}
-    }
-}
-
-#[tactic(auto, unfolding(crate::specs::Parameters::startup, crate::specs::Parameters::nv_define_space, crate::specs::Parameters::pcr_event, crate::specs::Parameters::nv_read, crate::specs::Parameters::flush_context, crate::specs::Parameters::policy_command_code, crate::specs::Parameters::policy_or, crate::specs::Parameters::start_auth_session, crate::specs::Parameters::pcr_read, crate::specs::Parameters::policy_pcr, crate::specs::Parameters::pcr_extend))]
-fn known_params(body: &CommandBody<'_>)
-    ensures { (left : ℕ) → Fits left (parameters (code_for body.now)) (params_of body.now) }
-{
-    match body {
-        CommandBody::NvDefineSpace { auth, public } => {
-            auth.has_spelling();
-            public.has_spelling();
-        }
-        CommandBody::PcrEvent { event, .. } => event.has_spelling(),
-        CommandBody::Startup(startup_type) => startup_type.has_spelling(),
-        CommandBody::NvRead { size, offset, .. } => {
-            prove!(*size <= u16::MAX);
-            prove!(*offset <= u16::MAX);
-        }
-        CommandBody::FlushContext(session) => session.has_spelling(),
-        CommandBody::PolicyCommandCode { code, .. } => prove!(*code <= u32::MAX),
-        CommandBody::PolicyOr { digests, .. } => digests.has_spelling(),
-        CommandBody::StartAuthSession(start) => {
-            start.nonce_caller.has_spelling();
-            EncryptedSalt::Empty.has_spelling();
-            start.session_type.has_spelling();
-            start.symmetric.has_spelling();
-            start.auth_hash.has_spelling();
-        }
-        CommandBody::PcrRead(selections) => selections.has_spelling(),
-        CommandBody::PolicyPcr {
-            pcr_digest,
-            selections,
-            ..
-        } => {
-            pcr_digest.has_spelling();
-            selections.has_spelling();
-        }
-        CommandBody::PcrExtend { digests, .. } => digests.has_spelling(),
-        CommandBody::NvUndefineSpace { .. }
-        | CommandBody::NvIncrement { .. }
-        | CommandBody::PcrReset { .. }
-        | CommandBody::NvReadPublic { .. }
-        | CommandBody::PolicyAuthValue { .. }
-        | CommandBody::PolicyRestart { .. }
-        | CommandBody::PolicyGetDigest { .. } => {}
-    }
-}
-
 // ---- the command
 
 fn tag_for(command: &Command<'_>) -> u16
@@ -255,10 +86,11 @@ fn rest_len(tag: u16, command: &Command<'_>) -> usize
     ensures few { length command.now.auths.items ≤ 3 }
     ensures handles { (left : ℕ) → Fits left (handles_layout (code_for command.now.body)) (handles_of command.now.body) }
     ensures whole { body_from (handles_of command.now.body) (params_of command.now.body) ≡ command.now.body }
+    ensures params { (left : ℕ) → Fits left (parameters (code_for command.now.body)) (params_of command.now.body) }
 {
     handles_len(&command.body)
         + authorization_len(tag, command.auths.as_slice())
-        + params_len(&command.body)
+        + command.body.params_len()
 }
 
 fn put_rest(tag: u16, command: &Command<'_>, out: &mut Buffer)
@@ -267,7 +99,7 @@ fn put_rest(tag: u16, command: &Command<'_>, out: &mut Buffer)
 {
     put_handles(&command.body, out);
     put_authorization(tag, command.auths.as_slice(), out);
-    put_params(&command.body, out);
+    command.body.put_params(out);
 }
 
 #[tactic(auto, unfolding(crate::specs::Commands::command, crate::specs::Commands::header, crate::specs::Commands::tag, crate::specs::Commands::command_size, crate::specs::Codes::command_code))]
@@ -296,7 +128,6 @@ pub fn put_command(command: &Command<'_>, out: &mut Buffer)
     let tag = tag_for(command);
     let len = rest_len(tag, command);
     known_list(command.auths.as_slice());
-    known_params(&command.body);
     put_whole(tag, len, command, out);
 }
 

@@ -4,7 +4,8 @@ ghost use Rattle.std.specs.Prelude.{◌≡◌, true, ◌+◌, ◌≤◌, ◌*◌
 ghost use Rattle.tpm_wire.specs.Spelling.{spelling};
 ghost use Rattle.tpm_wire.specs.Buffers.{TakesNumbered, number_in, numbered};
 ghost use Rattle.tpm_wire.specs.ResponseCodes.{rc_value, of_handle as the_number};
-ghost use Rattle.tpm_buffer.specs.Handles.{admits as is_admitted, handle_kinds, needs_authorization as does_need, handles as handles_layout, handles_from, AreAdmitted};
+ghost use Rattle.tpm_buffer.specs.Commands.{register_in as the_register, index_in as the_index, policy_in as the_policy, pcr_or_null_in as the_pcr_or_null, nv_auth_in as the_nv_auth, bind_in as the_bind};
+ghost use Rattle.tpm_buffer.specs.Handles.{first as first_of, second as second_of, admits as is_admitted, handle_kinds, needs_authorization as does_need, handles as handles_layout, handles_from, AreAdmitted};
 
 use crate::code::CommandCode;
 use arrayvec::ArrayVec;
@@ -100,26 +101,7 @@ impl CommandCode {
         ensures value { result.now ≡ handle_kinds self }
         ensures few { length result.now ≤ 2 }
     {
-        match self {
-            CommandCode::NvUndefineSpace => &[HandleKind::Owner, HandleKind::Index],
-            CommandCode::NvDefineSpace => &[HandleKind::Owner],
-            CommandCode::NvIncrement => &[HandleKind::OwnerOrIndex, HandleKind::Index],
-            CommandCode::PcrEvent => &[HandleKind::PcrOrNull],
-            CommandCode::PcrReset => &[HandleKind::Pcr],
-            CommandCode::Startup => &[],
-            CommandCode::NvRead => &[HandleKind::OwnerOrIndex, HandleKind::Index],
-            CommandCode::FlushContext => &[],
-            CommandCode::NvReadPublic => &[HandleKind::Index],
-            CommandCode::PolicyAuthValue => &[HandleKind::Policy],
-            CommandCode::PolicyCommandCode => &[HandleKind::Policy],
-            CommandCode::PolicyOr => &[HandleKind::Policy],
-            CommandCode::StartAuthSession => &[HandleKind::Null, HandleKind::OwnerOrNull],
-            CommandCode::PcrRead => &[],
-            CommandCode::PolicyPcr => &[HandleKind::Policy],
-            CommandCode::PolicyRestart => &[HandleKind::Policy],
-            CommandCode::PcrExtend => &[HandleKind::PcrOrNull],
-            CommandCode::PolicyGetDigest => &[HandleKind::Policy],
-        }
+        self.row().handles
     }
 
     /// How many handles the command has, 0 to 2.
@@ -134,25 +116,80 @@ impl CommandCode {
     pub fn needs_authorization(self) -> bool
         ensures { result ≡ does_need self }
     {
-        match self {
-            CommandCode::NvUndefineSpace
-            | CommandCode::NvDefineSpace
-            | CommandCode::NvIncrement
-            | CommandCode::PcrEvent
-            | CommandCode::PcrReset
-            | CommandCode::NvRead
-            | CommandCode::PcrExtend => true,
-            CommandCode::Startup
-            | CommandCode::FlushContext
-            | CommandCode::NvReadPublic
-            | CommandCode::PolicyAuthValue
-            | CommandCode::PolicyCommandCode
-            | CommandCode::PolicyOr
-            | CommandCode::StartAuthSession
-            | CommandCode::PcrRead
-            | CommandCode::PolicyPcr
-            | CommandCode::PolicyRestart
-            | CommandCode::PolicyGetDigest => false,
-        }
+        self.row().needs_authorization
+    }
+}
+
+// ---- a handle by its number, or where the command cannot have it one of its kind, which is never met on handles that were read
+
+pub(crate) fn register_in(handle: u32) -> PcrIndex
+    ensures { result ≡ the_register handle }
+{
+    match PcrIndex::from_number(handle) {
+        Some(register) => register,
+        None => PcrIndex::default(),
+    }
+}
+
+pub(crate) fn index_in(handle: u32) -> NvIndex
+    ensures { result ≡ the_index handle }
+{
+    match NvIndex::from_number(handle).or(NvIndex::from_number(0x01000000)) {
+        Some(index) => index,
+        None => unreachable!(),
+    }
+}
+
+pub(crate) fn policy_in(handle: u32) -> PolicyHandle
+    ensures { result ≡ the_policy handle }
+{
+    match PolicyHandle::from_number(handle).or(PolicyHandle::from_number(0x03000000)) {
+        Some(session) => session,
+        None => unreachable!(),
+    }
+}
+
+pub(crate) fn pcr_or_null_in(handle: u32) -> PcrOrNull
+    ensures { result ≡ the_pcr_or_null handle }
+{
+    match PcrOrNull::from_number(handle) {
+        Some(register) => register,
+        None => PcrOrNull::Null,
+    }
+}
+
+pub(crate) fn nv_auth_in(handle: u32) -> NvAuthHandle
+    ensures { result ≡ the_nv_auth handle }
+{
+    match NvAuthHandle::from_number(handle) {
+        Some(by) => by,
+        None => NvAuthHandle::Owner,
+    }
+}
+
+pub(crate) fn bind_in(handle: u32) -> BindHandle
+    ensures { result ≡ the_bind handle }
+{
+    match BindHandle::from_number(handle) {
+        Some(bind) => bind,
+        None => BindHandle::Null,
+    }
+}
+
+pub(crate) fn first(handles: &[u32]) -> u32
+    ensures { result ≡ first_of handles.now }
+{
+    match handles {
+        [handle, ..] => *handle,
+        [] => 0,
+    }
+}
+
+pub(crate) fn second(handles: &[u32]) -> u32
+    ensures { result ≡ second_of handles.now }
+{
+    match handles {
+        [_, handle, ..] => *handle,
+        _ => 0,
     }
 }

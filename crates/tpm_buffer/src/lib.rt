@@ -11,6 +11,7 @@ mod command_header;
 mod command_join;
 mod command_parameters;
 mod command_sessions;
+mod commands;
 mod framer;
 mod laws;
 mod lent;

@@ -1,9 +1,7 @@
 //! A response as a value.
 
 ghost use Rattle.std.specs.Prelude.{◌≡◌, ◌<◌, ℕ, Some, None, nat_lt, if◌then◌else◌};
-ghost use Rattle.tpm_buffer.specs.Replies.{code_for_reply};
 
-use crate::code::CommandCode;
 use arrayvec::ArrayVec;
 use std::marker::Model;
 use tpm_types::{
@@ -97,32 +95,4 @@ pub enum Response {
         body: ReplyBody,
         auths: ArrayVec<AuthReply, 3>,
     },
-}
-
-impl ReplyBody {
-    /// The code of the command that is answered so.
-    pub fn code(&self) -> CommandCode
-        ensures { result ≡ code_for_reply self.now }
-    {
-        match self {
-            ReplyBody::NvUndefineSpace => CommandCode::NvUndefineSpace,
-            ReplyBody::NvDefineSpace => CommandCode::NvDefineSpace,
-            ReplyBody::NvIncrement => CommandCode::NvIncrement,
-            ReplyBody::PcrEvent(_) => CommandCode::PcrEvent,
-            ReplyBody::PcrReset => CommandCode::PcrReset,
-            ReplyBody::Startup => CommandCode::Startup,
-            ReplyBody::NvRead(_) => CommandCode::NvRead,
-            ReplyBody::FlushContext => CommandCode::FlushContext,
-            ReplyBody::NvReadPublic { .. } => CommandCode::NvReadPublic,
-            ReplyBody::PolicyAuthValue => CommandCode::PolicyAuthValue,
-            ReplyBody::PolicyCommandCode => CommandCode::PolicyCommandCode,
-            ReplyBody::PolicyOr => CommandCode::PolicyOr,
-            ReplyBody::StartAuthSession(_) => CommandCode::StartAuthSession,
-            ReplyBody::PcrRead { .. } => CommandCode::PcrRead,
-            ReplyBody::PolicyPcr => CommandCode::PolicyPcr,
-            ReplyBody::PolicyRestart => CommandCode::PolicyRestart,
-            ReplyBody::PcrExtend => CommandCode::PcrExtend,
-            ReplyBody::PolicyGetDigest(_) => CommandCode::PolicyGetDigest,
-        }
-    }
 }

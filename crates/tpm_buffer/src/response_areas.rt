@@ -11,8 +11,9 @@ ghost use Rattle.tpm_buffer.specs.ResponseAreas.{Stands, handle_list, handle_of,
 
 use crate::code::CommandCode;
 use crate::command_header::SESSIONS;
+use crate::commands::take_reply_handle;
 use crate::response_header::{long_fault, take_code, take_front};
-use crate::response_parameters::{take_parameter_size, take_reply_handle};
+use crate::response_parameters::take_parameter_size;
 use crate::response_sessions::{ReplyRef, session_at, take_sessions};
 use arrayvec::ArrayVec;
 use std::marker::Model;

@@ -15,9 +15,10 @@ ghost use Rattle.tpm_buffer.specs.ResponseAreas.{handle_list, HasHandle, IsReply
 
 use crate::code::CommandCode;
 use crate::command_header::SESSIONS;
+use crate::commands::{read_reply_params, take_reply_handle};
 use crate::response::{ErrorCode, ReplyBody, Response};
 use crate::response_header::{long_fault, take_code, take_front};
-use crate::response_parameters::{read_reply_params, take_parameter_size, take_reply_handle};
+use crate::response_parameters::take_parameter_size;
 use crate::response_sessions::read_sessions;
 use arrayvec::ArrayVec;
 use tpm_types::{AuthReply, Digests, Selections, SessionHandle};

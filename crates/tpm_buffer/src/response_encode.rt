@@ -1,12 +1,12 @@
 //! From a response to its bytes.
 
-ghost use Rattle.std.specs.Prelude.{◌≡◌, ◌≤◌, ◌<◌, ◌^◌, ◌+◌, ◌++◌, ◌∷◌, length, ℕ};
+ghost use Rattle.std.specs.Prelude.{◌≡◌, ◌≤◌, ◌<◌, ◌^◌, ◌+◌, ◌++◌, ◌∷◌, length};
 ghost use Rattle.std.specs.Int.{bytes_high_first};
 ghost use Rattle.tpm_wire.specs.Spelling.{spelling, Fits};
 ghost use Rattle.tpm_wire.specs.Path.{Spells};
 ghost use Rattle.tpm_buffer.specs.declared.code.CommandCode.{CommandCode as CodeOf};
 ghost use Rattle.tpm_buffer.specs.declared.response.Response.TheVariants as responses;
-ghost use Rattle.tpm_buffer.specs.Replies.{code_for_reply, reply_handles, reply_handles_of, parameters_of_reply};
+ghost use Rattle.tpm_buffer.specs.Replies.{code_for_reply, parameters_of_reply};
 ghost use Rattle.tpm_buffer.specs.Responses.{code_tag, reply_sessions, reply_tag, reply_behind, reply, response as response_layout, Answers};
 
 use crate::command_header::{NO_SESSIONS, SESSIONS};
@@ -19,171 +19,15 @@ use tpm_wire::{Buffer, Wire, known_list, list_len, put_list};
 
 // ---- handles
 
-#[tactic(auto, unfolding(crate::specs::Replies::session_handle))]
-fn handles_len(body: &ReplyBody) -> usize
-    ensures value { result ≡ length (spelling (reply_handles (code_for_reply body.now)) (reply_handles_of body.now)) }
-    ensures fits { result ≤ 4 }
-{
-    match body {
-        ReplyBody::StartAuthSession(reply) => reply.session.len(),
-        ReplyBody::NvUndefineSpace
-        | ReplyBody::NvDefineSpace
-        | ReplyBody::NvIncrement
-        | ReplyBody::PcrEvent(_)
-        | ReplyBody::PcrReset
-        | ReplyBody::Startup
-        | ReplyBody::NvRead(_)
-        | ReplyBody::FlushContext
-        | ReplyBody::NvReadPublic { .. }
-        | ReplyBody::PolicyAuthValue
-        | ReplyBody::PolicyCommandCode
-        | ReplyBody::PolicyOr
-        | ReplyBody::PcrRead { .. }
-        | ReplyBody::PolicyPcr
-        | ReplyBody::PolicyRestart
-        | ReplyBody::PcrExtend
-        | ReplyBody::PolicyGetDigest(_) => 0,
-    }
-}
-
-#[tactic(auto, unfolding(crate::specs::Replies::session_handle, tpm_types::specs::Handles::session))]
-fn put_handles(body: &ReplyBody, out: &mut Buffer)
-    requires { length out.old.items + length (spelling (reply_handles (code_for_reply body.now)) (reply_handles_of body.now)) ≤ 4096 }
-    ensures { out.new.items ≡ out.old.items ++ spelling (reply_handles (code_for_reply body.now)) (reply_handles_of body.now) }
-{
-    if let ReplyBody::StartAuthSession(reply) = body {
-        reply.session.put(out);
-    }
-}
-
-#[tactic(auto, unfolding(crate::specs::Replies::session_handle))]
-fn known_handles(body: &ReplyBody)
-    ensures { (left : ℕ) → Fits left (reply_handles (code_for_reply body.now)) (reply_handles_of body.now) }
-{
-    if let ReplyBody::StartAuthSession(reply) = body {
-        reply.session.has_spelling();
-    }
-}
-
 // ---- parameters
-
-#[tactic(auto, unfolding(crate::specs::Replies::pcr_event_reply, crate::specs::Replies::nv_read_reply, crate::specs::Replies::nv_read_public_reply, crate::specs::Replies::start_auth_session_reply, crate::specs::Replies::pcr_read_reply, crate::specs::Replies::policy_get_digest_reply))]
-#[inline(always)]
-fn params_len(body: &ReplyBody) -> usize
-    ensures value { result ≡ length (spelling (parameters_of_reply body.now) body.now) }
-    ensures fits { result ≤ 3500 }
-{
-    match body {
-        ReplyBody::PcrEvent(digests) => digests.len(),
-        ReplyBody::NvRead(bytes) => bytes.len(),
-        ReplyBody::NvReadPublic { public, name } => public.len() + name.len(),
-        ReplyBody::StartAuthSession(reply) => reply.nonce_tpm.len(),
-        ReplyBody::PcrRead {
-            update_counter,
-            selections,
-            digests,
-        } => update_counter.len() + selections.len() + digests.len(),
-        ReplyBody::PolicyGetDigest(digest) => digest.len(),
-        ReplyBody::NvUndefineSpace
-        | ReplyBody::NvDefineSpace
-        | ReplyBody::NvIncrement
-        | ReplyBody::PcrReset
-        | ReplyBody::Startup
-        | ReplyBody::FlushContext
-        | ReplyBody::PolicyAuthValue
-        | ReplyBody::PolicyCommandCode
-        | ReplyBody::PolicyOr
-        | ReplyBody::PolicyPcr
-        | ReplyBody::PolicyRestart
-        | ReplyBody::PcrExtend => 0,
-    }
-}
-
-#[tactic(auto, unfolding(crate::specs::Replies::pcr_event_reply, crate::specs::Replies::nv_read_reply, crate::specs::Replies::nv_read_public_reply, crate::specs::Replies::start_auth_session_reply, crate::specs::Replies::pcr_read_reply, crate::specs::Replies::policy_get_digest_reply))]
-fn put_params(body: &ReplyBody, out: &mut Buffer)
-    requires { length out.old.items + length (spelling (parameters_of_reply body.now) body.now) ≤ 4096 }
-    ensures { out.new.items ≡ out.old.items ++ spelling (parameters_of_reply body.now) body.now }
-{
-    match body {
-        ReplyBody::PcrEvent(digests) => digests.put(out),
-        ReplyBody::NvRead(bytes) => bytes.put(out),
-        ReplyBody::NvReadPublic { public, name } => {
-            public.put(out);
-            name.put(out);
-        }
-        ReplyBody::StartAuthSession(reply) => reply.nonce_tpm.put(out),
-        ReplyBody::PcrRead {
-            update_counter,
-            selections,
-            digests,
-        } => {
-            update_counter.put(out);
-            selections.put(out);
-            digests.put(out);
-        }
-        ReplyBody::PolicyGetDigest(digest) => digest.put(out),
-        ReplyBody::NvUndefineSpace
-        | ReplyBody::NvDefineSpace
-        | ReplyBody::NvIncrement
-        | ReplyBody::PcrReset
-        | ReplyBody::Startup
-        | ReplyBody::FlushContext
-        | ReplyBody::PolicyAuthValue
-        | ReplyBody::PolicyCommandCode
-        | ReplyBody::PolicyOr
-        | ReplyBody::PolicyPcr
-        | ReplyBody::PolicyRestart
-        | ReplyBody::PcrExtend => {}
-    }
-}
 
 /// Adds to an empty buffer the parameters of a reply alone, as they are hashed for its HMAC (Part 1, "rpHash").
 pub fn put_reply_params(body: &ReplyBody, out: &mut Buffer)
     requires { length out.old.items ≡ 0 }
     ensures { out.new.items ≡ spelling (parameters_of_reply body.now) body.now }
 {
-    prove!(params_len(body) <= 4096);
-    put_params(body, out);
-}
-
-#[tactic(auto, unfolding(crate::specs::Replies::pcr_event_reply, crate::specs::Replies::nv_read_reply, crate::specs::Replies::nv_read_public_reply, crate::specs::Replies::start_auth_session_reply, crate::specs::Replies::pcr_read_reply, crate::specs::Replies::policy_get_digest_reply))]
-fn known_params(body: &ReplyBody)
-    ensures { (left : ℕ) → Fits left (parameters_of_reply body.now) body.now }
-{
-    match body {
-        ReplyBody::PcrEvent(digests) => digests.has_spelling(),
-        ReplyBody::NvRead(bytes) => bytes.has_spelling(),
-        ReplyBody::NvReadPublic { public, name } => {
-            public.has_spelling();
-            name.has_spelling();
-        }
-        ReplyBody::StartAuthSession(reply) => {
-            prove!(reply.session.number() <= u32::MAX);
-            reply.nonce_tpm.has_spelling();
-        }
-        ReplyBody::PcrRead {
-            update_counter,
-            selections,
-            digests,
-        } => {
-            prove!(*update_counter <= u32::MAX);
-            selections.has_spelling();
-            digests.has_spelling();
-        }
-        ReplyBody::PolicyGetDigest(digest) => digest.has_spelling(),
-        ReplyBody::NvUndefineSpace
-        | ReplyBody::NvDefineSpace
-        | ReplyBody::NvIncrement
-        | ReplyBody::PcrReset
-        | ReplyBody::Startup
-        | ReplyBody::FlushContext
-        | ReplyBody::PolicyAuthValue
-        | ReplyBody::PolicyCommandCode
-        | ReplyBody::PolicyOr
-        | ReplyBody::PolicyPcr
-        | ReplyBody::PolicyRestart
-        | ReplyBody::PcrExtend => {}
-    }
+    prove!(body.params_len() <= 4096);
+    body.put_params(out);
 }
 
 // ---- sessions
@@ -253,7 +97,7 @@ fn reply_len(body: &ReplyBody, auths: &[AuthReply]) -> usize
     } else {
         4 + sessions_len(auths)
     };
-    handles_len(body) + params_len(body) + sessions
+    body.handles_len() + body.params_len() + sessions
 }
 
 #[tactic(auto, unfolding(crate::specs::Responses::with_sessions, crate::specs::Responses::without_sessions, crate::specs::Responses::parameter_size))]
@@ -262,12 +106,12 @@ fn put_parts(body: &ReplyBody, auths: &[AuthReply], out: &mut Buffer)
     requires room { length out.old.items + length (spelling (reply (code_for_reply body.now) (reply_tag auths.now)) (record { body = body.now; auths = auths.now })) ≤ 4096 }
     ensures { out.new.items ≡ out.old.items ++ spelling (reply (code_for_reply body.now) (reply_tag auths.now)) (record { body = body.now; auths = auths.now }) }
 {
-    put_handles(body, out);
+    body.put_handles(out);
     if auths.is_empty() {
-        put_params(body, out);
+        body.put_params(out);
     } else {
-        (params_len(body) as u32).put(out);
-        put_params(body, out);
+        (body.params_len() as u32).put(out);
+        body.put_params(out);
         put_sessions(auths, out);
     }
 }
@@ -310,7 +154,7 @@ fn known_reply(body: &ReplyBody, auths: &[AuthReply])
     ensures { Fits (length (spelling (reply_behind (reply_tag auths.now) (parameters_of_reply body.now)) (record { body = body.now; auths = auths.now })))
         (reply_behind (reply_tag auths.now) (parameters_of_reply body.now)) (record { body = body.now; auths = auths.now }) }
 {
-    known_params(body);
+    prove!(body.params_len() <= 3500);
     if !auths.is_empty() {
         known_sessions(auths);
     }
@@ -340,7 +184,7 @@ pub fn put_reply(body: &ReplyBody, auths: &[AuthReply], out: &mut Buffer)
     ensures bytes { out.new.items ≡ spelling (response_layout (code_for_reply body.now)) (responses.Done body.now (record { items = auths.now })) }
 {
     put_done(body, auths, out);
-    known_handles(body);
+    body.known_handles();
     known_reply(body, auths);
 }
 

@@ -13,7 +13,7 @@ returns-clause-spells c =
     let short : length (spelling (rest_of (code_for value.body) (tag_of value)) value) ≤ 4000 =
     subst (λ (t : ℕ). length (spelling (rest_of (code_for value.body) t) value) ≤ 4000) c.tag_for-tag.ensures (omega (arith, c.rest_len-len.ensures.value, c.rest_len-len.ensures.fits)) in
     encoded value c.put_whole.new.out.items c.put_whole.ensures (search rules) short
-    (fits_rest value c.rest_len-len.ensures.few each c.rest_len-len.ensures.handles c.known_params.ensures c.rest_len-len.ensures.whole short)
+    (fits_rest value c.rest_len-len.ensures.few each c.rest_len-len.ensures.handles c.rest_len-len.ensures.params c.rest_len-len.ensures.whole short)
 
 pub returns-clause-fits : goal.returns-clause-fits
 returns-clause-fits c =
@@ -22,5 +22,5 @@ returns-clause-fits c =
     let short : length (spelling (rest_of (code_for value.body) (tag_of value)) value) ≤ 4000 =
     subst (λ (t : ℕ). length (spelling (rest_of (code_for value.body) t) value) ≤ 4000) c.tag_for-tag.ensures (omega (arith, c.rest_len-len.ensures.value, c.rest_len-len.ensures.fits)) in
     let fits : Fits (length (spelling command value)) command value =
-    fits_command value (search rules) short (fits_rest value c.rest_len-len.ensures.few each c.rest_len-len.ensures.handles c.known_params.ensures c.rest_len-len.ensures.whole short) in
+    fits_command value (search rules) short (fits_rest value c.rest_len-len.ensures.few each c.rest_len-len.ensures.handles c.rest_len-len.ensures.params c.rest_len-len.ensures.whole short) in
     subst (λ (n : ℕ). Fits n command value) (sym (ap length c.put_whole.ensures)) fits
