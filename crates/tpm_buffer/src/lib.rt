@@ -21,7 +21,6 @@ mod response_areas;
 mod response_decode;
 mod response_encode;
 mod response_header;
-mod response_parameters;
 mod response_sessions;
 mod stream_laws;
 

@@ -1,4 +1,4 @@
-//! The sessions of a response, by their positions in its bytes.
+//! The sessions of a response, by their positions in its bytes, and the size that stands before them.
 
 ghost use Rattle.std.specs.Prelude.{◌≡◌, ◌≤◌, ◌<◌, ◌+◌, ◌^◌, ◌++◌, IfOk, OnOk, drop, length};
 ghost use Rattle.std.specs.List.{All};
@@ -6,14 +6,14 @@ ghost use Rattle.tpm_wire.specs.Spelling.{spelling, joined_all};
 ghost use Rattle.tpm_wire.specs.Buffers.{Takes, TakesNumbered};
 ghost use Rattle.tpm_types.specs.Limits.{digest_bytes};
 ghost use Rattle.tpm_types.specs.Tpms.{auth_response};
-ghost use Rattle.tpm_buffer.specs.Responses.{further_sessions, reply_sessions};
+ghost use Rattle.tpm_buffer.specs.Responses.{further_sessions, parameter_size, reply_sessions};
 ghost use Rattle.tpm_buffer.specs.ResponseAreas.{Stands, IsSession, session_at as the_session_at, sessions_at};
 
 use crate::lent::take_sized;
 use arrayvec::ArrayVec;
 use std::marker::Model;
 use tpm_types::{AuthReply, DIGEST_BYTES, SessionAttrs};
-use tpm_wire::response_code::of_session;
+use tpm_wire::response_code::{SIZE, of_session};
 use tpm_wire::{Cursor, Refusal, Wire};
 
 /// A session of a response, lent from its bytes: TPMS_AUTH_RESPONSE (Part 2, 10.13.3).
@@ -59,6 +59,22 @@ impl<'a> ReplyRef<'a> {
     {
         self.hmac
     }
+}
+
+/// The size of the parameters, where sessions follow them.
+#[tactic(auto, unfolding(crate::specs::Responses::parameter_size))]
+pub(crate) fn take_parameter_size(cursor: &mut Cursor<'_>) -> Result<u32, Refusal>
+    ensures reads { Takes parameter_size cursor.old cursor.new result }
+    ensures spelled { IfOk result (λ n. cursor.old.here.rest ≡ spelling parameter_size n ++ cursor.new.here.rest) }
+    ensures fits { IfOk result (λ n. n ≤ length cursor.new.here.rest) }
+    ensures length { IfOk result (λ n. length cursor.old.here.rest ≡ 4 + length cursor.new.here.rest) }
+{
+    let refusal = cursor.refusal(SIZE);
+    let size = u32::take(cursor)?;
+    if size as usize > cursor.left() {
+        return Err(refusal);
+    }
+    Ok(size)
 }
 
 // The session that begins here.
