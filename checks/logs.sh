@@ -27,6 +27,14 @@ for list in "$logs"/*.registers; do
     checked "${log##*/} beside a list of its registers" 0 "$log.log" --registers "$list"
 done
 
+# What tpm2_pcrread prints of swtpm, whose registers the records of the log have extended. Of the banks in one_bank.pcrread only
+# that of SHA-256 has registers.
+log=fewer_and_in_other_order
+awk '{ print "match", $1, $2 }' "$logs/$log.registers" >"$room/out.wanted"
+checked "$log beside what tpm2_pcrread prints" 0 "$logs/$log.log" --registers "$logs/$log.pcrread"
+awk '$1 == "sha256" { print "match", $1, $2 }' "$logs/worked.registers" >"$room/out.wanted"
+checked "worked beside what tpm2_pcrread prints of one bank" 0 "$logs/worked.log" --registers "$logs/one_bank.pcrread"
+
 for events in "$logs"/*.events; do
     log=${events%.events}
     cp "$events" "$room/out.wanted"

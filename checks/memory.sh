@@ -74,6 +74,7 @@ else
     refuses "a log" check checks/logs/worked.log
     refuses "a log that is none" check checks/logs/cut_by_a_byte.log
     refuses "a log beside a list of registers" check checks/logs/worked.log --registers checks/logs/worked.registers
+    refuses "a log beside what tpm2_pcrread prints" check checks/logs/worked.log --registers checks/logs/worked.pcrread
     refuses "a log beside a list without registers" check checks/logs/worked.log --registers "$room/script"
     refuses "a log beside a quote" check checks/logs/worked.log --quote $quote
     refuses "a log beside a quote under another hash" check checks/logs/worked.log --quote $quote --hash sha384

@@ -200,7 +200,7 @@ fn compare_words<'a>(alloc: Global) -> Result<Command<'a>, AllocError>
         alloc,
         "registers",
         "FILE",
-        "Compares them with a list of registers, whose lines are as those that are printed",
+        "Compares them with a list of registers, as they are printed here or by tpm2_pcrread",
     );
     let quote = option(
         alloc,

@@ -1,6 +1,6 @@
 -- Lists of registers that are compared one part after the other.
-use Rattle.std.proofs.Common.{◌≡◌, ◌≢◌, ℕ, Bool, true, ◌+◌, ◌<◌, ◌≤◌, false, List, [], ◌∷◌, ◌++◌, length, map, Option, Some, None, option_map, refl, sym, ap, subst, ◌∙◌, inl, inr, arith, append_assoc, length-append, position}
-use Rattle.std.specs.Prelude.{suc, nat_eq, IfSome}
+use Rattle.std.proofs.Common.{◌≡◌, ℕ, Bool, true, ◌+◌, ◌<◌, ◌≤◌, false, List, [], ◌∷◌, ◌++◌, length, Option, Some, None, option_map, refl, sym, ap, subst, ◌∙◌, inl, inr, arith, append_assoc, length-append, position}
+use Rattle.std.specs.Prelude.{suc, nat_eq, IfSome, ◌≢◌}
 use Rattle.std.specs.Str.{bytes_eq}
 use Rattle.std.specs.Fmt.{digits}
 use Rattle.std.proofs.lemmas.List.Quantifiers.{position-Some}
@@ -10,14 +10,14 @@ use Rattle.std.specs.List.{AllByRecursion}
 use Rattle.std.specs.Io.KnownBytes.{Consumes, IsAtEnd, Appends}
 use Rattle.std.proofs.lemmas.Bool.{lt-ltb}
 use Rattle.std.proofs.lemmas.List.{append-nil}
-use Rattle.std.proofs.lemmas.Option.{none-some}
 use Rattle.tpm_buffer.proofs.Filled.{consumes_both}
+use Rattle.tpm_tool.specs.declared.list_lines.Heading.{Heading}
 use Rattle.tpm_tool.specs.declared.status.Status.{Status}
 use Rattle.tpm_tool.specs.declared.status.Status.TheVariants.{Done, Refused}
 use Rattle.tpm_tool.specs.Script.{lines_of, HasNoFeed, AreEnded, most_bytes, most_piece}
 use Rattle.tpm_tool.specs.Status.{both}
-use Rattle.tpm_tool.specs.Compare.{Values, Stated, Comparison, stated_in, is_value, compared_line, not_a_register_line, bank_lines, register_line, register_names, register_named, comparison_of, comparison_from, comparison, status_if, most_line, AreRegisters, IsStated, ReadsList, ReadsTooMuchList}
-use Rattle.tpm_tool.specs.Comparing.{Place, start, behind, with_status, comparison_at, IsOpen, Leads, Stops, Ends, GoesOn, Takes, status_behind, EndsLine, Reaches}
+use Rattle.tpm_tool.specs.Compare.{Values, Stated, Comparison, ListLine, States, Heads, Passes, Wrong, line_under, heading_behind, lines_under, is_value, compared_line, not_a_register_line, bank_lines, register_line, register_names, register_named, comparison_of, comparison_from, comparison, status_if, most_line, AreRegisters, IsStated, ReadsList, ReadsTooMuchList}
+use Rattle.tpm_tool.specs.Comparing.{Place, next_line, heading_after, start, behind, with_status, comparison_at, IsOpen, Leads, Stops, Ends, GoesOn, Takes, status_behind, EndsAs, EndsLine, Reaches}
 use Rattle.tpm_tool.proofs.InputLines.{ended_line, last_line, first_line, other_lines, longer_line, lines_of-append, ended_both}
 use Rattle.tpm_tool.proofs.Tables.{position-map}
 use Rattle.tpm_tool.proofs.Scripts.{joins_appends}
@@ -57,40 +57,55 @@ both_none (Some status) = refl
 
 -- ---- bytes that are taken
 
-stated-long : (text : List ℕ) → most_line < length text → stated_in text ≡ None
-stated-long text lt = rw (lt-ltb most_line (length text) lt) refl
+wrong-long : (heading : Heading) (text : List ℕ) → most_line < length text → line_under heading text ≡ Wrong
+unfolding line_under
+wrong-long heading text lt = rw (lt-ltb most_line (length text) lt) refl
 
 behind-behind : (text more : List ℕ) (c : Comparison) → behind text (behind more c) ≡ behind (text ++ more) c
 behind-behind text more c = ap (λ (t : List ℕ). record { text = t; status = c.status }) (sym (append_assoc text more c.text))
 
 -- a byte of a line
-pub leads_longer : (value : Values) (p : Place) (byte : ℕ) → Leads value p (byte ∷ []) [] (record { line = p.line ++ byte ∷ []; number = p.number; status = p.status })
-leads_longer value p byte = λ more. ap (λ (bytes : List ℕ). with_status p.status (comparison_from value p.number (map stated_in (lines_of bytes)))) (sym (append_assoc p.line (byte ∷ []) more))
+pub leads_longer : (value : Values) (p : Place) (byte : ℕ) → Leads value p (byte ∷ []) [] (record { line = p.line ++ byte ∷ []; number = p.number; heading = p.heading; status = p.status })
+leads_longer value p byte = λ more. ap (λ (bytes : List ℕ). with_status p.status (comparison_from value p.number (lines_under p.heading (lines_of bytes)))) (sym (append_assoc p.line (byte ∷ []) more))
 
--- the line feed of a line that states a register
-leads_line : (value : Values) (p q : Place) (s : Stated) → HasNoFeed p.line → stated_in p.line ≡ Some s
-    → q ≡ record { line = []; number = p.number + 1; status = status_behind p.status (is_value value s) } → Leads value p (10 ∷ []) (compared_line (is_value value s) s.bank s.register) q
+-- what is printed of a line that says this, and of those behind it
+abbrev comparison_behind : (value : Values) (p : Place) (line : ListLine) (more : List ℕ) → Comparison
+comparison_behind value p line more = with_status p.status (comparison_of value p.number line (comparison_from value (p.number + 1) (lines_under (heading_behind p.heading line) (lines_of more))))
+
+-- the line feed of the present line
+after_feed : (value : Values) (p : Place) (line : ListLine) (more : List ℕ) → HasNoFeed p.line → line_under p.heading p.line ≡ line → comparison_at value p (10 ∷ more) ≡ comparison_behind value p line more
+after_feed value p line more f is =
+    ap (λ (lines : List (List ℕ)). with_status p.status (comparison_from value p.number (lines_under p.heading lines))) (ended_line p.line more f)
+    ∙ ap (λ (line : ListLine). comparison_behind value p line more) is
+
+-- that of a line that states a register
+leads_line : (value : Values) (p q : Place) (s : Stated) → HasNoFeed p.line → line_under p.heading p.line ≡ States s
+    → q ≡ record { line = []; number = p.number + 1; heading = p.heading; status = status_behind p.status (is_value value s) } → Leads value p (10 ∷ []) (compared_line (is_value value s) s.bank s.register) q
 leads_line value p q s f is there = rw there (λ more.
-    let rest = comparison_from value (p.number + 1) (map stated_in (lines_of more)) in
-    ap (λ (lines : List (List ℕ)). with_status p.status (comparison_from value p.number (map stated_in lines))) (ended_line p.line more f)
-    ∙ ap (λ (o : Option Stated). with_status p.status (comparison_of value p.number o rest)) is
+    let rest = comparison_from value (p.number + 1) (lines_under p.heading (lines_of more)) in
+    after_feed value p (States s) more f is
     ∙ ap (λ (status : Option Status). record { text = compared_line (is_value value s) s.bank s.register ++ rest.text; status = status }) (behind_line p.status (is_value value s) rest.status))
 
--- the line feed of one that states none
-stops_line : (value : Values) (p : Place) → HasNoFeed p.line → stated_in p.line ≡ None → Stops value p (10 ∷ []) (not_a_register_line p.number)
-stops_line value p f is = λ more.
-    let rest = comparison_from value (p.number + 1) (map stated_in (lines_of more)) in
-    ap (λ (lines : List (List ℕ)). with_status p.status (comparison_from value p.number (map stated_in lines))) (ended_line p.line more f)
-    ∙ ap (λ (o : Option Stated). with_status p.status (comparison_of value p.number o rest)) is
+-- of a heading
+leads_heading : (value : Values) (p q : Place) (heading : Heading) → HasNoFeed p.line → line_under p.heading p.line ≡ Heads heading → q ≡ next_line p heading → Leads value p (10 ∷ []) [] q
+leads_heading value p q heading f is there = rw there (λ more. after_feed value p (Heads heading) more f is)
+
+-- of a register of another bank
+leads_passed : (value : Values) (p q : Place) → HasNoFeed p.line → line_under p.heading p.line ≡ Passes → q ≡ next_line p p.heading → Leads value p (10 ∷ []) [] q
+leads_passed value p q f is there = rw there (λ more. after_feed value p Passes more f is)
+
+-- of one that is wrong
+stops_line : (value : Values) (p : Place) → HasNoFeed p.line → line_under p.heading p.line ≡ Wrong → Stops value p (10 ∷ []) (not_a_register_line p.number)
+stops_line value p f is = λ more. after_feed value p Wrong more f is
 
 -- a byte too many
 pub stops_long : (value : Values) (p : Place) (byte : ℕ) → HasNoFeed p.line → nat_eq byte 10 ≡ false → most_line ≤ length p.line → Stops value p (byte ∷ []) (not_a_register_line p.number)
 stops_long value p byte f g le = λ more.
     let long = p.line ++ byte ∷ first_line (lines_of more) in
     let is_long : most_line < length long = omega (arith, le, length-append p.line (byte ∷ first_line (lines_of more))) in
-    let rest = comparison_from value (p.number + 1) (map stated_in (other_lines (lines_of more))) in
-    ap (λ (lines : List (List ℕ)). with_status p.status (comparison_from value p.number (map stated_in lines))) (longer_line p.line byte more f g)
-    ∙ ap (λ (o : Option Stated). with_status p.status (comparison_of value p.number o rest)) (stated-long long is_long)
+    let others = other_lines (lines_of more) in
+    ap (λ (lines : List (List ℕ)). with_status p.status (comparison_from value p.number (lines_under p.heading lines))) (longer_line p.line byte more f g)
+    ∙ ap (λ (line : ListLine). with_status p.status (comparison_of value p.number line (comparison_from value (p.number + 1) (lines_under (heading_behind p.heading line) others)))) (wrong-long p.heading long is_long)
 
 leads_both : (value : Values) (p q r : Place) (xs ys t u : List ℕ) → Leads value p xs t q → Leads value q ys u r → Leads value p (xs ++ ys) (t ++ u) r
 leads_both value p q r xs ys t u f g = λ more.
@@ -100,45 +115,56 @@ stops_both : (value : Values) (p q : Place) (xs ys t u : List ℕ) → Leads val
 stops_both value p q xs ys t u f g = λ more.
     ap (comparison_at value p) (append_assoc xs ys more) ∙ f (ys ++ more) ∙ ap (behind t) (g more)
 
--- A list that has come to a line that states no register is over.
+-- A list that has come to a line that is wrong is over.
 pub stops_further : (value : Values) (p : Place) (xs ys t : List ℕ) → Stops value p xs t → Stops value p (xs ++ ys) t
 stops_further value p xs ys t f = λ more. ap (comparison_at value p) (append_assoc xs ys more) ∙ f (ys ++ more)
 
--- ---- lines that state registers
+-- ---- lines that are not wrong
 
-all_registers : (xs ys : List (List ℕ)) → AllByRecursion (λ (line : List ℕ). stated_in line ≢ None) xs → AllByRecursion (λ (line : List ℕ). stated_in line ≢ None) ys
-    → AllByRecursion (λ (line : List ℕ). stated_in line ≢ None) (xs ++ ys)
-all_registers [] ys f g = g
-all_registers (x ∷ xs) ys f g = (f.0, all_registers xs ys f.1 g)
+abbrev AreRight : List ListLine → Type 0
+AreRight lines = AllByRecursion (λ (line : ListLine). line ≢ Wrong) lines
 
-registers_both : (a b : List ℕ) → AreEnded a → AreRegisters a → AreRegisters b → AreRegisters (a ++ b)
-registers_both a b ended f g = rw (lines_of-append a b ended) (all_registers (lines_of a) (lines_of b) f g)
+all_right : (heading : Heading) (xs ys : List (List ℕ)) → AreRight (lines_under heading xs) → AreRight (lines_under (heading_after heading xs) ys) → AreRight (lines_under heading (xs ++ ys))
+all_right heading [] ys f g = g
+all_right heading (x ∷ xs) ys f g = (f.0, all_right (heading_behind heading (line_under heading x)) xs ys f.1 g)
 
-ends_both : (l xs ys m n : List ℕ) → Ends l xs m → Ends m ys n → Ends l (xs ++ ys) n
-ends_both l xs ys m n f g = (
+after_both : (heading : Heading) (xs ys : List (List ℕ)) → heading_after heading (xs ++ ys) ≡ heading_after (heading_after heading xs) ys
+after_both heading [] ys = refl
+after_both heading (x ∷ xs) ys = after_both (heading_behind heading (line_under heading x)) xs ys
+
+registers_both : (heading : Heading) (a b : List ℕ) → AreEnded a → AreRegisters heading a → AreRegisters (heading_after heading (lines_of a)) b → AreRegisters heading (a ++ b)
+registers_both heading a b ended f g = rw (lines_of-append a b ended) (all_right heading (lines_of a) (lines_of b) f g)
+
+headings_both : (heading : Heading) (a b : List ℕ) → AreEnded a → heading_after (heading_after heading (lines_of a)) (lines_of b) ≡ heading_after heading (lines_of (a ++ b))
+headings_both heading a b ended = rw (lines_of-append a b ended) (sym (after_both heading (lines_of a) (lines_of b)))
+
+ends_both : (p q r : Place) (xs ys : List ℕ) → Ends p xs q → Ends q ys r → Ends p (xs ++ ys) r
+ends_both p q r xs ys f g = (
   f.0 ++ g.0,
-  sym (append_assoc l xs ys) ∙ ap (λ (bytes : List ℕ). bytes ++ ys) f.1 ∙ append_assoc f.0 m ys ∙ ap (λ (bytes : List ℕ). f.0 ++ bytes) g.1 ∙ sym (append_assoc f.0 g.0 n),
+  sym (append_assoc p.line xs ys) ∙ ap (λ (bytes : List ℕ). bytes ++ ys) f.1 ∙ append_assoc f.0 q.line ys ∙ ap (λ (bytes : List ℕ). f.0 ++ bytes) g.1 ∙ sym (append_assoc f.0 g.0 r.line),
   ended_both f.0 g.0 f.2 g.2,
-  registers_both f.0 g.0 f.2 f.3 g.3,
+  registers_both p.heading f.0 g.0 f.2 f.3 (subst (λ (heading : Heading). AreRegisters heading g.0) f.4 g.3),
+  g.4 ∙ ap (λ (heading : Heading). heading_after heading (lines_of g.0)) f.4 ∙ headings_both p.heading f.0 g.0 f.2,
 )
 
-ends_line : (l m : List ℕ) (s : Stated) → HasNoFeed l → stated_in l ≡ Some s → m ≡ [] → Ends l (10 ∷ []) m
-ends_line l m s f is none = (
-  l ++ 10 ∷ [],
-  rw none (sym (append-nil (l ++ 10 ∷ []))),
-  inr (l, refl),
-  rw (ended_line l [] f) ((λ e. none-some s (sym e ∙ is)), tt),
+ends_line : (p q : Place) (line : ListLine) → HasNoFeed p.line → line_under p.heading p.line ≡ line → line ≢ Wrong → q.line ≡ [] → q.heading ≡ heading_behind p.heading line → Ends p (10 ∷ []) q
+ends_line p q line f is right none heading = (
+  p.line ++ 10 ∷ [],
+  rw none (sym (append-nil (p.line ++ 10 ∷ []))),
+  inr (p.line, refl),
+  rw (ended_line p.line [] f) ((λ e. right (sym is ∙ e)), tt),
+  rw (ended_line p.line [] f) (heading ∙ ap (heading_behind p.heading) (sym is)),
 )
 
-pub ends_longer : (l : List ℕ) (byte : ℕ) → Ends l (byte ∷ []) (l ++ byte ∷ [])
-ends_longer l byte = ([], refl, inl refl, tt)
+pub ends_longer : (p : Place) (byte : ℕ) → Ends p (byte ∷ []) (record { line = p.line ++ byte ∷ []; number = p.number; heading = p.heading; status = p.status })
+ends_longer p byte = ([], refl, inl refl, tt, refl)
 
 -- ---- bytes, and then others
 
 pub goes_none : (value : Values) (p : Place) → IsOpen p → GoesOn value p [] [] p
 goes_none value p present = record {
   leads = λ more. refl;
-  ends = ([], append-nil p.line, inl refl, tt);
+  ends = ([], append-nil p.line, inl refl, tt, refl);
   number = omega arith;
   open_again = present;
 }
@@ -146,7 +172,7 @@ goes_none value p present = record {
 pub takes_both : (value : Values) (p q r : Place) (xs ys t u : List ℕ) (goes_on : Bool) → GoesOn value p xs t q → Takes value q ys goes_on r u → Takes value p (xs ++ ys) goes_on r (t ++ u)
 takes_both value p q r xs ys t u true f g = record {
   leads = leads_both value p q r xs ys t u f.leads g.leads;
-  ends = ends_both p.line xs ys q.line r.line f.ends g.ends;
+  ends = ends_both p q r xs ys f.ends g.ends;
   number = omega (arith, f.number, g.number, length-append xs ys);
   open_again = g.open_again;
 }
@@ -156,20 +182,39 @@ takes_both value p q r xs ys t u false f g = stops_both value p q xs ys t u f.le
 abbrev pub Added : (Text : List ℕ → Type 0) → (List ℕ → Type 0) → Type 0
 Added Text P = (added : List ℕ) × Text added × P added
 
+-- a line that is right
+goes_line : (value : Values) (p q : Place) (text : List ℕ) (line : ListLine) → IsOpen p → line_under p.heading p.line ≡ line → line ≢ Wrong
+    → Leads value p (10 ∷ []) text q → q.line ≡ [] → q.number ≡ p.number + 1 → q.heading ≡ heading_behind p.heading line → GoesOn value p (10 ∷ []) text q
+goes_line value p q text line present is right leads none number heading = record {
+  leads = leads;
+  ends = ends_line p q line present.line is right none heading;
+  number = omega (arith, number);
+  open_again = record { line = rw none tt; most = rw none (omega arith) };
+}
+
+takes_line : (value : Values) (p q : Place) (Text : List ℕ → Type 0) (line : ListLine) → IsOpen p → line_under p.heading p.line ≡ line → EndsAs value p line q Text → Added Text (λ text. GoesOn value p (10 ∷ []) text q)
+takes_line value p q Text (States s) present is ended = (
+  compared_line (is_value value s) s.bank s.register,
+  ended.0,
+  goes_line value p q (compared_line (is_value value s) s.bank s.register) (States s) present is (λ e. let z : ⊥ = cc in z) (leads_line value p q s present.line is ended.1)
+      (ap (λ (r : Place). r.line) ended.1) (ap (λ (r : Place). r.number) ended.1) (ap (λ (r : Place). r.heading) ended.1),
+)
+takes_line value p q Text (Heads heading) present is ended = (
+  [],
+  ended.0,
+  goes_line value p q [] (Heads heading) present is (λ e. let z : ⊥ = cc in z) (leads_heading value p q heading present.line is ended.1)
+      (ap (λ (r : Place). r.line) ended.1) (ap (λ (r : Place). r.number) ended.1) (ap (λ (r : Place). r.heading) ended.1),
+)
+takes_line value p q Text Passes present is ended = (
+  [],
+  ended.0,
+  goes_line value p q [] Passes present is (λ e. let z : ⊥ = cc in z) (leads_passed value p q present.line is ended.1)
+      (ap (λ (r : Place). r.line) ended.1) (ap (λ (r : Place). r.number) ended.1) (ap (λ (r : Place). r.heading) ended.1),
+)
+takes_line value p q Text Wrong present is ended = absurd ended
+
 pub takes_feed : (value : Values) (p q : Place) (goes_on : Bool) (Text : List ℕ → Type 0) → IsOpen p → EndsLine value p goes_on q Text → Added Text (Takes value p (10 ∷ []) goes_on q)
-takes_feed value p q true Text present ended =
-    let s = ended.0 in
-    let line = ap (λ (r : Place). r.line) ended.2.1 in
-    let number = ap (λ (r : Place). r.number) ended.2.1 in (
-      compared_line (is_value value s) s.bank s.register,
-      ended.2.0,
-      record {
-        leads = leads_line value p q s present.line ended.1 ended.2.1;
-        ends = ends_line p.line q.line s present.line ended.1 line;
-        number = omega (arith, number);
-        open_again = rw ended.2.1 (record { line = tt; most = omega arith });
-      },
-    )
+takes_feed value p q true Text present ended = takes_line value p q Text ended.0 present ended.1 ended.2
 takes_feed value p q false Text present ended = (not_a_register_line p.number, ended.1, stops_line value p present.line ended.0)
 
 -- ---- the end
@@ -177,33 +222,52 @@ takes_feed value p q false Text present ended = (not_a_register_line p.number, e
 pub at_end_none : (value : Values) (p : Place) → p.line ≡ [] → comparison_at value p [] ≡ record { text = []; status = Some p.status }
 at_end_none value p none = rw none (ap (λ (status : Status). record { text = []; status = Some status }) (both_done p.status))
 
-at_line_end : (value : Values) (n : ℕ) (status : Status) (line : List ℕ) → 0 < length line → HasNoFeed line
-    → with_status status (comparison_from value n (map stated_in (lines_of (line ++ [])))) ≡ with_status status (comparison_of value n (stated_in line) (record { text = []; status = Some Done }))
-at_line_end value n status [] some f = absurd (omega arith)
-at_line_end value n status (x ∷ line) some f =
-    ap (λ (bytes : List ℕ). with_status status (comparison_from value n (map stated_in (lines_of bytes)))) (append-nil (x ∷ line))
-    ∙ ap (λ (lines : List (List ℕ)). with_status status (comparison_from value n (map stated_in lines))) (last_line x line f)
+alone : (line : List ℕ) → 0 < length line → HasNoFeed line → lines_of line ≡ line ∷ []
+alone [] some f = absurd (omega arith)
+alone (x ∷ line) some f = last_line x line f
+
+at_line_end : (value : Values) (p : Place) (line : ListLine) → 0 < length p.line → IsOpen p → line_under p.heading p.line ≡ line
+    → comparison_at value p [] ≡ with_status p.status (comparison_of value p.number line (record { text = []; status = Some Done }))
+at_line_end value p line some present is =
+    ap (λ (bytes : List ℕ). with_status p.status (comparison_from value p.number (lines_under p.heading (lines_of bytes)))) (append-nil p.line)
+    ∙ ap (λ (lines : List (List ℕ)). with_status p.status (comparison_from value p.number (lines_under p.heading lines))) (alone p.line some present.line)
+    ∙ ap (λ (line : ListLine). with_status p.status (comparison_of value p.number line (record { text = []; status = Some Done }))) is
+
+-- behind the last line
+abbrev EndsWith : Values → Place → Place → (Text : List ℕ → Type 0) → Type 0
+EndsWith value p q Text = (Some q.status ≡ (comparison_at value p []).status) × Text (comparison_at value p []).text
+
+ends_with : (value : Values) (p q : Place) (Text : List ℕ → Type 0) (text : List ℕ) → comparison_at value p [] ≡ record { text = text; status = Some q.status } → Text text → EndsWith value p q Text
+ends_with value p q Text text is added = (ap (λ (c : Comparison). c.status) (sym is), subst (λ (c : Comparison). Text c.text) (sym is) added)
+
+at_end_as : (value : Values) (p q : Place) (Text : List ℕ → Type 0) (line : ListLine) → 0 < length p.line → IsOpen p → line_under p.heading p.line ≡ line → EndsAs value p line q Text → EndsWith value p q Text
+at_end_as value p q Text (States s) some present is ended =
+    let same = is_value value s in
+    let text = compared_line same s.bank s.register in
+    ends_with value p q Text text (
+    at_line_end value p (States s) some present is
+    ∙ ap (λ (t : List ℕ). record { text = t; status = option_map (both p.status) (Some (both (status_if same) Done)) }) (append-nil text)
+    ∙ ap (λ (o : Option Status). record { text = text; status = o }) (behind_line p.status same (Some Done) ∙ ap (λ (status : Status). Some status) (both_done (status_behind p.status same)))
+    ∙ ap (λ (r : Place). record { text = text; status = Some r.status }) (sym ended.1)
+    ) ended.0
+at_end_as value p q Text (Heads heading) some present is ended = ends_with value p q Text [] (
+    at_line_end value p (Heads heading) some present is
+    ∙ ap (λ (status : Status). record { text = []; status = Some status }) (both_done p.status ∙ ap (λ (r : Place). r.status) (sym ended.1))
+    ) ended.0
+at_end_as value p q Text Passes some present is ended = ends_with value p q Text [] (
+    at_line_end value p Passes some present is
+    ∙ ap (λ (status : Status). record { text = []; status = Some status }) (both_done p.status ∙ ap (λ (r : Place). r.status) (sym ended.1))
+    ) ended.0
+at_end_as value p q Text Wrong some present is ended = absurd ended
 
 pub at_end_line : (value : Values) (p q : Place) (Text : List ℕ → Type 0) → 0 < length p.line → IsOpen p → EndsLine value p true q Text
     → (Some q.status ≡ (comparison_at value p []).status) × Text (comparison_at value p []).text
-at_end_line value p q Text some present ended =
-    let s = ended.0 in
-    let same = is_value value s in
-    let is : comparison_at value p [] ≡ record { text = compared_line same s.bank s.register; status = Some (status_behind p.status same) } =
-    at_line_end value p.number p.status p.line some present.line
-    ∙ ap (λ (o : Option Stated). with_status p.status (comparison_of value p.number o (record { text = []; status = Some Done }))) ended.1
-    ∙ ap (λ (t : List ℕ). record { text = t; status = option_map (both p.status) (Some (both (status_if same) Done)) }) (append-nil (compared_line same s.bank s.register))
-    ∙ ap (λ (o : Option Status). record { text = compared_line same s.bank s.register; status = o }) (behind_line p.status same (Some Done) ∙ ap (λ (status : Status). Some status) (both_done (status_behind p.status same))) in (
-      ap (λ (r : Place). Some r.status) ended.2.1 ∙ ap (λ (c : Comparison). c.status) (sym is),
-      subst (λ (c : Comparison). Text c.text) (sym is) ended.2.0,
-    )
+at_end_line value p q Text some present ended = at_end_as value p q Text ended.0 some present ended.1 ended.2
 
 pub at_end_stop : (value : Values) (p q : Place) (Text : List ℕ → Type 0) → 0 < length p.line → IsOpen p → EndsLine value p false q Text
     → (None ≡ (comparison_at value p []).status) × Text (comparison_at value p []).text
 at_end_stop value p q Text some present ended =
-    let is : comparison_at value p [] ≡ record { text = not_a_register_line p.number; status = None } =
-    at_line_end value p.number p.status p.line some present.line
-    ∙ ap (λ (o : Option Stated). with_status p.status (comparison_of value p.number o (record { text = []; status = Some Done }))) ended.0 in (
+    let is : comparison_at value p [] ≡ record { text = not_a_register_line p.number; status = None } = at_line_end value p Wrong some present ended.0 in (
       ap (λ (c : Comparison). c.status) (sym is),
       subst (λ (c : Comparison). Text c.text) (sym is) ended.1,
     )
@@ -222,7 +286,7 @@ whole_list value bytes = from_start value bytes ∙ ap (comparison_at value star
 
 -- ---- the input
 
--- each line states a register of what was taken
+-- no line is wrong of what was taken
 stated : (value : Values) (bytes text : List ℕ) (p : Place) → GoesOn value start bytes text p → IsStated bytes
 stated value bytes text p f = record {
   lines = f.ends.0;
@@ -252,7 +316,7 @@ answers_at_end value old mid new a b c read p status f le consumed end ended =
       subst (λ (d : Comparison). Appends a c d.text) (sym whole) (joins_appends a b c f.text (comparison_at value p []).text f.added ended.1),
     )
 
--- at a line that states no register
+-- at a line that is wrong
 pub answers_stopped : (value : Values) (old mid new a b c : Option (List ℕ)) (read count : ℕ) (bytes text : List ℕ) (p : Place)
     → Reaches value old mid read p (Appends a b) → read + count ≤ most_bytes → count ≤ most_piece → Consumes mid new bytes → count ≡ length bytes
     → Appends b c text → Stops value p bytes text → Answers value old new a c None

@@ -124,11 +124,13 @@ pub(crate) fn check_stated<F: Source, W: Write>(
 /// Replays a log of a measured boot, and prints the registers that it gives, or compares them with a list and with a quote.
 ///
 /// A fault of the log is `log KIND at N`, the kind and how many bytes precede it, and ends the output. Without a list and a quote
-/// the registers are printed, `sha1 I X` for each of the 24, then `sha256 I X` and `sha384 I X`. For each line of a list, which has
-/// that form, `match BANK I` or `differs BANK I` is printed; any other line is `line N: not a register`, which ends the output. The
-/// quote, the information of one (TPMS_QUOTE_INFO; Part 2, 10.12.4) in hexadecimal, comes last: `quote matches` or `quote differs`,
-/// by its digest under this hash; where it is not hexadecimal `not hexadecimal`, and where the bytes spell none `refused XXX at N`.
-/// The status is `Refused` for a fault, for what differs and for what is refused.
+/// the registers are printed, `sha1 I X` for each of the 24, then `sha256 I X` and `sha384 I X`. For each line of a list that
+/// states a register, in that form or as `tpm2_pcrread` prints it below the bank's heading, `match BANK I` or `differs BANK I` is
+/// printed, and nothing for a heading and for a register below that of SHA-512, SM3 or SHA-3; any other line is
+/// `line N: not a register`, which ends the output. The quote, the information of one (TPMS_QUOTE_INFO; Part 2, 10.12.4) in
+/// hexadecimal, comes last: `quote matches` or `quote differs`, by its digest under this hash; where it is not hexadecimal
+/// `not hexadecimal`, and where the bytes spell none `refused XXX at N`. The status is `Refused` for a fault, for what
+/// differs and for what is refused.
 ///
 /// Where a request for memory is refused the answer is `Memory`, where a read of the log or of the list fails `Read`, where the
 /// writer fails `Write`, and where more than 16,777,216 bytes of a list come before its output has ended `InputTooLong`. What was

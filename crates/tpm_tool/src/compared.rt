@@ -8,12 +8,13 @@ ghost use Rattle.tpm_tool.specs.declared.fault.ToolFault.TheVariants.{InputTooLo
 ghost use Rattle.tpm_tool.specs.Faults.{FailsByMemoryOrWrite};
 ghost use Rattle.tpm_tool.specs.Script.{CountsRead};
 ghost use Rattle.tpm_tool.specs.Compare.{comparison, compared_line, is_value, ReadsList, ReadsTooMuchList};
-ghost use Rattle.tpm_tool.specs.Comparing.{stated_as, place, start, comparison_at, IsOpen, Takes, EndsLine, EndsStated, AddedTo, status_behind};
+ghost use Rattle.tpm_tool.specs.Comparing.{stated_as, place, start, comparison_at, IsOpen, Takes, EndsLine, EndsStated, AddedTo, next_line, status_behind};
 
 use crate::answer::write;
 use crate::fault::ToolFault;
+use crate::list_lines::{Heading, Line, MOST_LINE, read_line};
 use crate::register_text::{push_compared, push_not_a_register};
-use crate::stated::{MOST_LINE, Stated, read_stated};
+use crate::stated::Stated;
 use crate::status::Status;
 use std::alloc::{AllocError, Global};
 use std::io::Write;
@@ -32,6 +33,8 @@ struct Comparing {
     // what has come of the present line, and its number
     line: Vec<u8>,
     number: u64,
+    // the heading above it
+    heading: Heading,
     // whether all lines before it match
     status: Status,
 }
@@ -61,6 +64,7 @@ impl Comparing {
         Comparing {
             line: Vec::new(alloc),
             number: 1,
+            heading: Heading::NoBank,
             status: Status::Done,
         }
     }
@@ -83,7 +87,17 @@ impl Comparing {
         Ok(())
     }
 
-    // Compares the register of the present line, and answers whether it states one.
+    // Takes the present line, of which nothing is said, up to the next under this heading.
+    fn end_unsaid(&mut self, heading: Heading)
+        requires { self.old.number + 1 < 2 ^ 64 }
+        ensures { place self.new ≡ next_line (place self.old) heading }
+    {
+        self.heading = heading;
+        self.line.clear();
+        self.number += 1;
+    }
+
+    // Takes the present line, and answers whether it is right.
     fn end_line(
         &mut self,
         alloc: Global,
@@ -94,11 +108,15 @@ impl Comparing {
         ensures { IfOk result (λ goes_on. EndsLine (value_in found.now.banks) (place self.old) goes_on (place self.new)
             (AddedTo (string_bytes text.old) (string_bytes text.new))) }
     {
-        let Some(stated) = read_stated(alloc, self.line.as_slice())? else {
-            push_not_a_register(text, self.number)?;
-            return Ok(false);
-        };
-        self.end_stated(found, &stated, text)?;
+        match read_line(alloc, self.heading, self.line.as_slice())? {
+            Line::Stated(stated) => self.end_stated(found, &stated, text)?,
+            Line::Heading(heading) => self.end_unsaid(heading),
+            Line::Passed => self.end_unsaid(self.heading),
+            Line::Wrong => {
+                push_not_a_register(text, self.number)?;
+                return Ok(false);
+            }
+        }
         Ok(true)
     }
 
@@ -126,7 +144,7 @@ impl Comparing {
         Ok(true)
     }
 
-    // Takes the next bytes, up to a line that states no register.
+    // Takes the next bytes, up to a line that is wrong.
     fn feed(
         &mut self,
         alloc: Global,
@@ -167,7 +185,7 @@ impl Comparing {
         Ok(goes_on)
     }
 
-    // Takes the end, and answers the status, or none where the last line states no register.
+    // Takes the end, and answers the status, or none where the last line is wrong.
     fn end(
         &mut self,
         alloc: Global,
@@ -208,8 +226,8 @@ impl Comparing {
     }
 }
 
-/// Compares a list of registers with those that were found, and prints of each line whether they match. None is answered where a
-/// line states no register, which ends the output.
+/// Compares a list of registers with those that were found, and prints of each line that states one whether they match. None is
+/// answered where a line is wrong, which ends the output.
 pub(crate) fn check_list<F: Source, W: Write>(
     alloc: Global,
     found: &Registers,

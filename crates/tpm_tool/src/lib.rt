@@ -23,6 +23,7 @@ mod judged;
 mod laws;
 mod layers;
 mod lines;
+mod list_lines;
 mod listed_events;
 mod meaning;
 mod named;

@@ -1,16 +1,14 @@
-//! The lines of a list of registers.
+//! Lines that state a register as its line is printed.
 
-ghost use Rattle.std.specs.Prelude.{◌≡◌, ◌<◌, IfOk, IfSome, position, option_map};
-ghost use Rattle.tpm_tool.specs.Compare.{is_space, first_word, behind_word, bank_named, register_named, stated_in};
+ghost use Rattle.std.specs.Prelude.{◌≡◌, ◌<◌, IfOk, IfSome, Some, position, option_map};
+ghost use Rattle.tpm_tool.specs.Text.{bytes_in};
+ghost use Rattle.tpm_tool.specs.Compare.{is_space, first_word, behind_word, bank_named, register_named, stated_of, stated_in};
 ghost use Rattle.tpm_tool.specs.Comparing.{stated_as};
 
 use crate::hexadecimal::decoded;
 use crate::register_text::bank_name;
 use std::alloc::{AllocError, Global};
 use tpm_types::{Alg, PcrIndex};
-
-/// How many bytes a line has at most: those of a line of SHA-384 for a register of two digits.
-pub(crate) const MOST_LINE: usize = 106;
 
 const REGISTERS: [&str; 24] = [
     "0", "1", "2", "3", "4", "5", "6", "7", "8", "9", "10", "11", "12", "13", "14", "15", "16",
@@ -31,8 +29,8 @@ fn first_space(text: &[u8]) -> Option<usize>
     text.iter().position(|byte| *byte == b' ')
 }
 
-// What stands before the first space, or all where there is none; and what stands behind it.
-fn cut(text: &[u8]) -> (&[u8], &[u8])
+/// What stands before the first space, or all where there is none; and what stands behind it.
+pub(crate) fn cut(text: &[u8]) -> (&[u8], &[u8])
     ensures first { result.0.now ≡ first_word text.now }
     ensures behind { result.1.now ≡ behind_word text.now }
 {
@@ -59,7 +57,8 @@ fn number_named(word: &[u8]) -> Option<usize>
     REGISTERS.iter().position(|name| name.as_bytes() == word)
 }
 
-fn register_named(word: &[u8]) -> Option<PcrIndex>
+/// The register of this number in decimal.
+pub(crate) fn register_named(word: &[u8]) -> Option<PcrIndex>
     ensures { result ≡ register_named word.now }
 {
     match number_named(word) {
@@ -68,22 +67,15 @@ fn register_named(word: &[u8]) -> Option<PcrIndex>
     }
 }
 
-/// What a line states: its words are a bank, the number of a register in decimal, and a value in as many hexadecimal digits as
-/// a digest of the bank's hash has, with one space between them. None for any other line.
-pub(crate) fn read_stated(alloc: Global, line: &[u8]) -> Result<Option<Stated>, AllocError>
-    ensures { IfOk result (λ s. option_map stated_as s ≡ stated_in line.now) }
+/// What is stated by a value in as many hexadecimal digits as a digest of the bank's hash has. None for any other text.
+pub(crate) fn read_value(
+    alloc: Global,
+    bank: Alg,
+    register: PcrIndex,
+    value: &[u8],
+) -> Result<Option<Stated>, AllocError>
+    ensures { IfOk result (λ s. option_map stated_as s ≡ stated_of (Some bank) (Some register) (bytes_in value.now)) }
 {
-    if line.len() > MOST_LINE {
-        return Ok(None);
-    }
-    let (bank, behind) = cut(line);
-    let (register, value) = cut(behind);
-    let Some(bank) = bank_named(bank) else {
-        return Ok(None);
-    };
-    let Some(register) = register_named(register) else {
-        return Ok(None);
-    };
     let Some(value) = decoded(alloc, value)? else {
         return Ok(None);
     };
@@ -95,4 +87,20 @@ pub(crate) fn read_stated(alloc: Global, line: &[u8]) -> Result<Option<Stated>, 
         register,
         value,
     }))
+}
+
+/// What a line states: its words are a bank, the number of a register in decimal, and a value in as many hexadecimal digits as
+/// a digest of the bank's hash has, with one space between them. None for any other line.
+pub(crate) fn read_stated(alloc: Global, line: &[u8]) -> Result<Option<Stated>, AllocError>
+    ensures { IfOk result (λ s. option_map stated_as s ≡ stated_in line.now) }
+{
+    let (bank, behind) = cut(line);
+    let (register, value) = cut(behind);
+    let Some(bank) = bank_named(bank) else {
+        return Ok(None);
+    };
+    let Some(register) = register_named(register) else {
+        return Ok(None);
+    };
+    read_value(alloc, bank, register, value)
 }

@@ -68,6 +68,28 @@ fn a_read_of_a_log_that_fails_is_answered(rt: HostRuntime) -> Result<(), Fail> {
     Ok(())
 }
 
+// What `tpm2_pcrread sha1:0,7+sha256:7+sha512:7` printed of swtpm, whose registers the records of the log had extended.
+const PRINTED: &str = "  sha1:
+    0 : 0x0000000000000000000000000000000000000000
+    7 : 0xB2A83B0EBF2F8374299A5B2BDFC31EA955AD7236
+  sha256:
+    7 : 0x3D458CFE55CC03EA1F443F1562BEEC8DF51C75E14A9FCF9A7234A13F198E7969
+  sha512:
+    7 : 0x00000000000000000000000000000000000000000000000000000000000000000000000000000000000000000000000000000000000000000000000000000000
+";
+
+#[test]
+fn printed_registers_are_compared_alike_in_any_pieces(rt: HostRuntime) -> Result<(), Fail> {
+    let log = hex::decode(rt.alloc(), LOG)?;
+    for most in [1, 2, 7, 64, 4096] {
+        let log = &mut Pieces::new(log.as_slice(), 215);
+        let list = &mut Pieces::new(PRINTED.as_bytes(), most);
+        let text = "match sha1 0\nmatch sha1 7\nmatch sha256 7\nquote matches\n";
+        answers(&rt, log, list, Ok(Status::Done), text);
+    }
+    Ok(())
+}
+
 // A list of which a read fails: the answer is that, and what was written is the beginning of the text.
 fn fails(rt: &(impl AllocGlobal + Abort), log: &[u8], list: &mut Pieces<'_>) {
     let (status, out) = checked(rt.alloc(), &mut Pieces::new(log, 64), list);
@@ -99,7 +121,7 @@ fn an_endless_log_has_a_fault(rt: HostRuntime) {
     assert_eq!(rt; list.reads, 0);
 }
 
-// An endless list ends with its first line that states no register, and an endless line when it is too long for one.
+// An endless list ends with its first line that is wrong, and an endless line when it is too long for one.
 #[test]
 fn an_endless_list_ends(rt: HostRuntime) -> Result<(), Fail> {
     let log = hex::decode(rt.alloc(), LOG)?;
