@@ -1,13 +1,15 @@
 //! What the HMACs of sessions are made of (Part 1, "Session-Based Authorizations").
 
 ghost use Rattle.std.specs.Prelude.{◌≡◌, ℕ, List, Some, ◌++◌, length};
+ghost use Rattle.std.specs.List.{flat_map};
 ghost use Rattle.tpm_types.specs.Alg.{digest_len};
 ghost use Rattle.tpm_buffer.specs.Codes.{code_number};
+ghost use Rattle.tpm_hmac.specs.Hashes.{digest};
 ghost use Rattle.tpm_hmac.specs.Hmac.{hmac as hmac_of};
 ghost use Rattle.tpm_hmac.specs.Sessions.{session_key as session_key_of, whole_key, mac_text, cp_hash as cp_hash_of, rp_hash as rp_hash_of};
 
 use crate::bytes::trim;
-use crate::hashing::{Hasher, digest_of};
+use crate::hashing::{Hasher, digest_of, hash};
 use crate::kdf::kdfa;
 use crate::key::SessionKey;
 use crate::known::known_rp_hash;
@@ -32,6 +34,31 @@ pub fn session_key(alg: Alg, auth_value: &[u8], nonce_tpm: &[u8], nonce_caller: 
     }
 }
 
+// The hash of the parts, joined. They live equally long, as those of one list do.
+fn hash_of_two<'a>(alg: Alg, first: &'a [u8], second: &'a [u8]) -> Digest
+    ensures { result ≡ digest alg (first.now ++ second.now) }
+{
+    hash(alg, &[first, second])
+}
+
+fn hash_of_three<'a>(alg: Alg, first: &'a [u8], second: &'a [u8], third: &'a [u8]) -> Digest
+    ensures { result ≡ digest alg (first.now ++ (second.now ++ third.now)) }
+{
+    hash(alg, &[first, second, third])
+}
+
+// The same, with the Names between. It is out of line, since a hasher of any hash is filled where its function begins.
+#[inline(never)]
+fn hash_of_names(alg: Alg, number: &[u8], names: &[Name], params: &[u8]) -> Digest
+    ensures { result ≡ digest alg (number.now ++ (flat_map (λ name. name) names.now ++ params.now)) }
+{
+    let mut hasher = Hasher::new(alg);
+    hasher.update(number);
+    hasher.update_names(names);
+    hasher.update(params);
+    hasher.finish()
+}
+
 /// cpHash of a command: the hash of its code, the Name of each of its handles, in their order, and its parameters as they are
 /// sent (Part 1, "Command Parameter Hash (cpHash)").
 #[tactic(auto, using(crate::proofs::DigestLengths::lengths))]
@@ -39,11 +66,12 @@ pub fn cp_hash(alg: Alg, code: CommandCode, names: &[Name], params: &[u8]) -> Di
     ensures value { result ≡ cp_hash_of alg (code_number code) names.now params.now }
     ensures len { length result ≡ digest_len alg }
 {
-    let mut hasher = Hasher::new(alg);
-    hasher.update(&code.number().to_be_bytes());
-    hasher.update_names(names);
-    hasher.update(params);
-    hasher.finish()
+    let number = code.number().to_be_bytes();
+    match names {
+        [] => hash_of_two(alg, &number, params),
+        [name] => hash_of_three(alg, &number, name.as_slice(), params),
+        _ => hash_of_names(alg, &number, names, params),
+    }
 }
 
 /// rpHash of the response to a command with this code: the hash of the response code, which is 0, the command code, and the
