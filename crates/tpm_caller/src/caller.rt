@@ -18,7 +18,7 @@ use crate::waiting::Waiting;
 use arrayvec::ArrayVec;
 use std::marker::Model;
 use tpm_buffer::{Command, CommandBody, CommandCode, StartAuth, StartReply, put_command};
-use tpm_hmac::{SessionKey, command_mac, cp_hash, hash, session_key, trim};
+use tpm_hmac::{SessionKey, command_mac, cp_hash, hash, same, session_key, trim};
 use tpm_types::{
     Alg, Auth, AuthSession, AuthValue, BLOCK_BYTES, BindHandle, DIGEST_BYTES, Digest, Name, Nonce,
     SessionAttrs, SessionHandle,
@@ -158,7 +158,7 @@ impl Caller {
         ensures value { result ≡ hmac self.now.hash (whole_key key.now []) (mac_text p_hash.now newer.now older.now attrs) }
         ensures len { length result ≡ digest_len self.now.hash }
     {
-        if key == self.key.bytes() {
+        if same(key, self.key.bytes()) {
             return self.key.session_mac(&[], p_hash, newer, older, attrs);
         }
         command_mac(self.hash(), key, &[], p_hash, newer, older, attrs)
