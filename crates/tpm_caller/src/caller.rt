@@ -3,7 +3,7 @@
 ghost use Rattle.std.specs.Prelude.{◌≡◌, ◌∷◌, [], ◌+◌, ◌*◌, ◌≤◌, ◌++◌, true, length, take, drop};
 ghost use Rattle.tpm_types.specs.declared.tpms.Auth.{Auth as AuthOf};
 ghost use Rattle.tpm_types.specs.Alg.{digest_len};
-ghost use Rattle.tpm_types.specs.Limits.{digest_bytes};
+ghost use Rattle.tpm_types.specs.Limits.{block_bytes, digest_bytes};
 ghost use Rattle.tpm_buffer.specs.Codes.{code_number};
 ghost use Rattle.tpm_buffer.specs.Handles.{needs_authorization};
 ghost use Rattle.tpm_buffer.specs.Commands.{code_for, handles_of};
@@ -83,6 +83,18 @@ fn no_mac(alg: Alg) -> AuthValue
     }
 }
 
+// Both parts, joined. It is out of line, since what it makes is filled where its function begins.
+#[inline(never)]
+fn joined(front: &[u8], back: &[u8]) -> ArrayVec<u8, BLOCK_BYTES>
+    requires { length front.now + length back.now ≤ block_bytes }
+    ensures { result.items ≡ front.now ++ back.now }
+{
+    let mut both = ArrayVec::new();
+    let _ = both.try_extend_from_slice(front);
+    let _ = both.try_extend_from_slice(back);
+    both
+}
+
 impl Caller {
     /// The session that this TPM2_StartAuthSession and its reply make, bound to an entity with this authorization value, which is not
     /// looked at where bind is TPM_RH_NULL (Part 1, "sessionKey Creation"). None where the two nonces differ in length, or have fewer
@@ -133,17 +145,15 @@ impl Caller {
     {
         let session_key = self.key.bytes();
         let auth = trim(auth);
-        let mut key = ArrayVec::<u8, BLOCK_BYTES>::new();
+        let mut key = Bounded::default();
         if session_key.len() + auth.len() > self.hash().block_len() {
-            let _ = key.try_extend_from_slice(hash(self.hash(), &[session_key, auth]).as_slice());
+            key.set(hash(self.hash(), &[session_key, auth]).as_slice());
+        } else if auth.is_empty() {
+            key.set(session_key);
         } else {
-            let _ = key.try_extend_from_slice(session_key);
-            let _ = key.try_extend_from_slice(auth);
+            key.set(joined(session_key, auth).as_slice());
         }
-        match Bounded::new(key.as_slice()) {
-            Some(key) => key,
-            None => unreachable!(),
-        }
+        key
     }
 
     // The MAC of a command or of a response under this key. Where it is the session key alone, what is kept of that is used.
