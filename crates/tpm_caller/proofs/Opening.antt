@@ -151,12 +151,18 @@ open_done z code bytes nonce r body auths caller same s is made opens kept =
     ap (λ (o : Option CallerSession). okay (o, r)) kept ∙ ap (λ (q : Response). okay (caller_with z nonce, q)) made
     ∙ sym (ap (opening_of z) (opened_is z code bytes r same s ∙ ap (λ (q : Response). opened_response z (Ok q)) made ∙ opens body auths x))
 
-pub fault_done : (z : Waiting) (code : CommandCode) (bytes : List ℕ) (r : Response) (body : ReplyBody) (auths : List AuthReply) (fault : CallerFault) → code ≡ z.code → Spells (response code) r bytes
-    → bytes ≡ spelling (response code) r → r ≡ done_with (record { body = body; auths = auths }) → FaultFor bytes fault z → wrong (z, fault) ≡ opening_of z (opened z bytes)
-fault_done z code bytes r body auths fault same s is made faulty =
+-- The first fault of the bytes, as it is answered.
+abbrev pub FirstFault : List ℕ → CallerFault → Waiting → Type 0
+FirstFault bytes fault z = (f : model.CallerFault) × (opened z bytes ≡ Err f) × (fault ≡ fault_of f)
+
+pub first_is : (z : Waiting) (code : CommandCode) (bytes : List ℕ) (r : Response) (body : ReplyBody) (auths : List AuthReply) (fault : CallerFault) → code ≡ z.code → Spells (response code) r bytes
+    → bytes ≡ spelling (response code) r → r ≡ done_with (record { body = body; auths = auths }) → FaultFor bytes fault z → FirstFault bytes fault z
+first_is z code bytes r body auths fault same s is made faulty =
     let f = faulty body auths (spelled_by z code bytes r body auths same s is made) in
-    ap (λ (x : CallerFault). wrong (z, x)) f.2
-    ∙ sym (ap (opening_of z) (opened_is z code bytes r same s ∙ ap (λ (q : Response). opened_response z (Ok q)) made ∙ f.1))
+    (f.0, opened_is z code bytes r same s ∙ ap (λ (q : Response). opened_response z (Ok q)) made ∙ f.1, f.2)
+
+pub wrong_is : (z : Waiting) (bytes : List ℕ) (fault : CallerFault) → FirstFault bytes fault z → wrong (z, fault) ≡ opening_of z (opened z bytes)
+wrong_is z bytes fault f = ap (λ (x : CallerFault). wrong (z, x)) f.2 ∙ sym (ap (opening_of z) f.1)
 
 -- ---- what giving up answers
 

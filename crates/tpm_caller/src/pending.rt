@@ -41,6 +41,7 @@ impl Model for Pending {
 
 impl Pending {
     // The nonceTPM of the reply, where it has one session, with a nonceTPM of the session's length and the HMAC. Nothing is copied.
+    #[inline(never)]
     fn check<'a>(&self, bytes: &'a [u8]) -> Result<&'a [u8], CallerFault>
         ensures ok { (body : ReplyBody) (auths : List AuthReply) → IsSpelledBy bytes.now self.now.code body auths →
             IfOk result (λ nonce. opened_session self.now body auths ≡ Ok (record { caller = caller_with self.now nonce.now; response = done_with (record { body = body; auths = auths }) })) }
@@ -75,6 +76,23 @@ impl Pending {
         Ok(nonce)
     }
 
+    // The first fault of a reply in which `check` finds this one. The response is made here, so that nobody moves it.
+    #[inline(never)]
+    fn first_fault(&self, bytes: &[u8], checked: CallerFault) -> CallerFault
+        requires { (body : ReplyBody) (auths : List AuthReply) → IsSpelledBy bytes.now self.now.code body auths →
+            (f : Fault) × (opened_session self.now body auths ≡ Err f) × (checked ≡ fault_of f) }
+        ensures { (f : Fault) × (opened self.now bytes.now ≡ Err f) × (result ≡ fault_of f) }
+    {
+        let response = match decode_response(self.code, bytes) {
+            Ok(response) => response,
+            Err(refusal) => return CallerFault::Refused(refusal),
+        };
+        if let Response::Code(code) = &response {
+            return CallerFault::Code(*code);
+        }
+        checked
+    }
+
     // The caller after a reply with this nonceTPM, where it is kept.
     fn caller_after(self, nonce: &[u8]) -> Option<Caller>
         requires { length nonce.now ≤ digest_bytes }
@@ -88,15 +106,19 @@ impl Pending {
         }
     }
 
-    /// Opens the reply: the response, and the caller with the session's new nonceTPM, where it was kept. What is no reply is refused with
-    /// the first of these faults, and leaves this unchanged: `Refused` where the bytes do not decode as a response to the command;
-    /// `Code` for a response code that is not 0; `NotExpected` where there is not exactly one session, or its nonceTPM has another
-    /// length than the session's; `WrongMac` where its HMAC is not that of the new nonceTPM, the command's nonceCaller and the
-    /// response's attributes (Part 1, "Session-Based Authorizations").
-    pub fn open(self, bytes: &[u8]) -> Result<(Option<Caller>, Response), (Pending, CallerFault)>
+    // Opens a reply with this nonceTPM, in which `check` finds no fault. What it makes is filled where the function begins, and so not in
+    // `open`.
+    #[inline(never)]
+    fn accept(
+        self,
+        bytes: &[u8],
+        nonce: &[u8],
+    ) -> Result<(Option<Caller>, Response), (Pending, CallerFault)>
+        requires checked { (body : ReplyBody) (auths : List AuthReply) → IsSpelledBy bytes.now self.code body auths →
+            opened_session self body auths ≡ Ok (record { caller = caller_with self nonce.now; response = done_with (record { body = body; auths = auths }) }) }
+        requires fits { length nonce.now ≤ digest_bytes }
         ensures { result ≡ opening_of self (opened self bytes.now) }
     {
-        let checked = self.check(bytes);
         let response = match decode_response(self.code, bytes) {
             Ok(response) => response,
             Err(refusal) => return Err((self, CallerFault::Refused(refusal))),
@@ -104,10 +126,27 @@ impl Pending {
         if let Response::Code(code) = &response {
             return Err((self, CallerFault::Code(*code)));
         }
-        match checked {
-            Ok(nonce) => Ok((self.caller_after(nonce), response)),
-            Err(fault) => Err((self, fault)),
-        }
+        Ok((self.caller_after(nonce), response))
+    }
+
+    /// Opens the reply: the response, and the caller with the session's new nonceTPM, where it was kept. What is no reply is refused with
+    /// the first of these faults, and leaves this unchanged: `Refused` where the bytes do not decode as a response to the command;
+    /// `Code` for a response code that is not 0; `NotExpected` where there is not exactly one session, or its nonceTPM has another
+    /// length than the session's; `WrongMac` where its HMAC is not that of the new nonceTPM, the command's nonceCaller and the
+    /// response's attributes (Part 1, "Session-Based Authorizations").
+    // It is in line, since what it answers would be copied as it is returned. What it calls is not.
+    #[inline(always)]
+    pub fn open(self, bytes: &[u8]) -> Result<(Option<Caller>, Response), (Pending, CallerFault)>
+        ensures { result ≡ opening_of self (opened self bytes.now) }
+    {
+        let nonce = match self.check(bytes) {
+            Ok(nonce) => nonce,
+            Err(fault) => {
+                let first = self.first_fault(bytes, fault);
+                return Err((self, first));
+            }
+        };
+        self.accept(bytes, nonce)
     }
 
     /// The caller as it was before it sealed the command, where these bytes are a response whose code is not 0. This is unchanged else.
