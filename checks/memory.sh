@@ -64,6 +64,7 @@ else
     refuses "a capture by the names of its parameters" show --fields --file "$room/script"
     bytes_of 80010000000c00000144000080010000000a0000000080 >"$room/stream"
     refuses "a stream" show --binary --file "$room/stream"
+    refuses "a capture as JSON" show --json --fields --file "$room/script"
     refuses "an owner value" run --owner 6f776e6572
     refuses "an owner value that is not hexadecimal" run --owner no
     refuses "an owner value that is too long" run --owner "$(zeros 49)"

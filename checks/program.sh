@@ -96,6 +96,16 @@ cases() {
 cases checks/show.txt
 cases checks/fields.txt
 cases checks/captures.txt
+# What the cases of JSON have is JSON.
+if python3 -m json.tool --help >"$room/out" 2>&1; then
+    sed -n 's/^> {/{/p' checks/captures.txt >"$room/objects"
+    while read -r object; do
+        printf '%s\n' "$object" | python3 -m json.tool >"$room/out" || echo "$object"
+    done <"$room/objects" >"$room/refused" 2>&1
+    if [ -s "$room/refused" ]; then fail "each object of a frame is JSON" "$(cat "$room/refused")"; else pass "each object of a frame is JSON"; fi
+else
+    skip "each object of a frame is JSON" "python3 is not there"
+fi
 cases checks/build.txt
 cases checks/run.txt
 cases checks/explain.txt

@@ -43,14 +43,16 @@ agrees name v w same (Show reply fields hex) h = (
   h.4,
   sym (same (codes "file")) ∙ h.5,
   ap is_given (sym (same (codes "binary"))) ∙ h.6,
+  ap is_given (sym (same (codes "json"))) ∙ h.7,
 )
-agrees name v w same (ShowCapture file binary fields) h = (
+agrees name v w same (ShowCapture file binary fields json) h = (
   h.0,
   sym (same (codes "reply")) ∙ h.1,
   h.2 ∙ ap is_given (same (codes "fields")),
   sym (same (codes "file")) ∙ h.3,
   subst (λ (x : Option Text). IsInput x (w (codes "file"))) (same (codes "HEX")) (subst (λ (x : Option Text). IsInput (v (codes "HEX")) x) (same (codes "file")) h.4),
   h.5 ∙ ap is_given (same (codes "binary")),
+  h.6 ∙ ap is_given (same (codes "json")),
 )
 agrees name v w same (Build code handles sessions parameters) h =
     (h.0, rw (← same (codes "NAME")) h.1, sym (same (codes "HANDLES")) ∙ h.2, sym (same (codes "SESSIONS")) ∙ h.3, sym (same (codes "PARAMETERS")) ∙ h.4)

@@ -70,10 +70,10 @@ IsInput _ _ = ⊥
 abbrev pub AsksWith : Text → (Text → Option Text) → Task → Type 0
 AsksWith name value (Show reply fields hex) = (name ≡ codes "show") × Replies (value (codes "reply")) reply × (fields ≡ is_given (value (codes "fields")))
     × (value (codes "HEX") ≡ Some hex.now) × (hex.now ≢ codes "-") × (value (codes "file") ≡ None)
-    × (is_given (value (codes "binary")) ≡ false)
-AsksWith name value (ShowCapture file binary fields) = (name ≡ codes "show") × (value (codes "reply") ≡ None) × (fields ≡ is_given (value (codes "fields")))
+    × (is_given (value (codes "binary")) ≡ false) × (is_given (value (codes "json")) ≡ false)
+AsksWith name value (ShowCapture file binary fields json) = (name ≡ codes "show") × (value (codes "reply") ≡ None) × (fields ≡ is_given (value (codes "fields")))
     × (value (codes "file") ≡ option_map (λ f. f.now) file) × IsInput (value (codes "HEX")) (value (codes "file"))
-    × (binary ≡ is_given (value (codes "binary")))
+    × (binary ≡ is_given (value (codes "binary"))) × (json ≡ is_given (value (codes "json")))
 AsksWith name value (Build code handles sessions parameters) = (name ≡ codes "build")
     × (option_and_then command_of_name (value (codes "NAME")) ≡ Some code)
     × (value (codes "HANDLES") ≡ Some handles.now) × (value (codes "SESSIONS") ≡ Some sessions.now) × (value (codes "PARAMETERS") ≡ Some parameters.now)

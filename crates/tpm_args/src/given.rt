@@ -57,7 +57,8 @@ impl Words {
     /// above 2^64 - 1, and likewise of `events`; of `explain` other than hexadecimal digits, or a number above 2^32 - 1; of
     /// `check` a hash other than `sha1`, `sha256` and `sha384`, a list of no registers, or a word whose quote is not given: the
     /// nonce and the list want `--attest`, the hash one of `--quote` and `--attest`; and of `show` where they have a buffer and a
-    /// file, or neither, a capture with `--reply`, or a buffer with `--binary`.
+    /// file, or neither, a capture with `--reply`, or a buffer with `--binary` or
+    /// `--json`.
     pub fn task(&self, alloc: Global) -> Result<Task<'_>, Stop>
         ensures ok { IfOk result (λ t. (names : Bor (List (Bor (List ℕ)))) × AreAllNames names.now
             × Asks (subcommand_of (program_app (Names names)) self.now) t) }

@@ -97,6 +97,11 @@ fn show_words<'a>(alloc: Global, names: &'a [&'a str]) -> Result<Command<'a>, Al
         "binary",
         "Reads the capture as frames one after the other, in place of lines",
     );
+    let json = flag(
+        alloc,
+        "json",
+        "Prints each frame of the capture as an object of JSON, in a line",
+    );
     let buffer = optional(
         alloc,
         "HEX",
@@ -105,6 +110,7 @@ fn show_words<'a>(alloc: Global, names: &'a [&'a str]) -> Result<Command<'a>, Al
     buffer_words(alloc, names)?
         .arg(file)?
         .arg(binary)?
+        .arg(json)?
         .arg(buffer)
 }
 

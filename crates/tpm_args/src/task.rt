@@ -15,7 +15,7 @@ pub enum Task<'a> {
         /// The digits.
         hex: &'a str,
     },
-    /// `show [--binary] [--fields] -` and `show [--binary] [--fields] --file FILE`: print each frame of a capture.
+    /// `show [--binary] [--fields] [--json] -` and `show [--binary] [--fields] [--json] --file FILE`: print each frame of a capture.
     ShowCapture {
         /// The path of the capture, or none where it is on standard input.
         file: Option<&'a str>,
@@ -23,6 +23,8 @@ pub enum Task<'a> {
         binary: bool,
         /// Whether each parameter is printed by its name and its type, too.
         fields: bool,
+        /// Whether each frame is printed as an object of JSON.
+        json: bool,
     },
     /// `build NAME HANDLES SESSIONS PARAMETERS`: print the buffer of the parts.
     Build {

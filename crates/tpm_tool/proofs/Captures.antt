@@ -13,6 +13,7 @@ use Rattle.tpm_wire.proofs.Whole.{exactly_one}
 use Rattle.tpm_buffer.specs.declared.command.Command.{Command}
 use Rattle.tpm_buffer.specs.Commands.{command}
 use Rattle.tpm_tool.specs.declared.status.Status.{Status}
+use Rattle.tpm_tool.specs.declared.telling.Telling.{Telling}
 use Rattle.tpm_tool.specs.declared.status.Status.TheVariants.{Done, Refused}
 use Rattle.tpm_tool.specs.declared.capture.Capture.{Capture}
 use Rattle.tpm_tool.specs.Status.{both}
@@ -49,10 +50,11 @@ both_done Refused = refl
 -- ---- commands that are told
 
 -- What is shown of bytes that spell a command is told of them.
-pub told_command : (fields : Bool) (c : Command) (bytes : List ℕ) (status : Status) (text : List ℕ) → Spells command c bytes → ShowsCommandBy fields bytes status text → TellsCommand fields bytes status text
-told_command fields c bytes Done text spelled shown = shown
-told_command false c bytes Refused text spelled shown = absurd ((exactly_one buffer buffer_sound command bytes).not_both c shown.0 spelled shown.1)
-told_command true c bytes Refused text spelled shown = absurd ((exactly_one buffer buffer_sound command bytes).not_both c shown.0 spelled shown.1)
+pub told_command : (json fields : Bool) (c : Command) (bytes : List ℕ) (status : Status) (text : List ℕ) → Spells command c bytes → ShowsCommandBy json fields bytes status text → TellsCommand json fields bytes status text
+told_command json fields c bytes Done text spelled shown = shown
+told_command false false c bytes Refused text spelled shown = absurd ((exactly_one buffer buffer_sound command bytes).not_both c shown.0 spelled shown.1)
+told_command false true c bytes Refused text spelled shown = absurd ((exactly_one buffer buffer_sound command bytes).not_both c shown.0 spelled shown.1)
+told_command true fields c bytes Refused text spelled shown = absurd ((exactly_one buffer buffer_sound command bytes).not_both c shown.0 spelled shown.1)
 
 -- ---- lines that are told
 
@@ -60,27 +62,27 @@ pub behind_all-append : (p : Place) (xs ys : List Line) → behind_all p (xs ++ 
 behind_all-append p [] ys = refl
 behind_all-append p (x ∷ xs) ys = behind_all-append (behind p x) xs ys
 
-pub tells_both : (fields : Bool) (p : Place) (xs ys : List Line) (s t : Status) (a b : List ℕ) → TellsFrom fields p xs s a → TellsFrom fields (behind_all p xs) ys t b
-    → TellsFrom fields p (xs ++ ys) (both s t) (a ++ b)
-tells_both fields p [] ys s t a b f g = rw (f.0, f.1) g
-tells_both fields p (x ∷ xs) ys s t a b f g = (
+pub tells_both : (how : Telling) (p : Place) (xs ys : List Line) (s t : Status) (a b : List ℕ) → TellsFrom how p xs s a → TellsFrom how (behind_all p xs) ys t b
+    → TellsFrom how p (xs ++ ys) (both s t) (a ++ b)
+tells_both how p [] ys s t a b f g = rw (f.0, f.1) g
+tells_both how p (x ∷ xs) ys s t a b f g = (
   f.0,
   f.1,
   both f.2 t,
   f.3 ++ b,
   f.4,
-  tells_both fields (behind p x) xs ys f.2 t f.3 b f.5 g,
+  tells_both how (behind p x) xs ys f.2 t f.3 b f.5 g,
   rw f.6 (both_assoc f.0 f.2 t),
   rw f.7 (append_assoc f.1 f.3 b),
 )
 
-pub tells_one : (fields : Bool) (p : Place) (l : Line) (s : Status) (a : List ℕ) → TellsLine fields p l s a → TellsFrom fields p (l ∷ []) s a
-tells_one fields p l s a f = (s, a, Done, [], f, (refl, refl), sym (both_done s), sym (append-nil a))
+pub tells_one : (how : Telling) (p : Place) (l : Line) (s : Status) (a : List ℕ) → TellsLine how p l s a → TellsFrom how p (l ∷ []) s a
+tells_one how p l s a f = (s, a, Done, [], f, (refl, refl), sym (both_done s), sym (append-nil a))
 
 -- the last line, which may be empty
-tells_last : (fields : Bool) (p : Place) (line : List ℕ) (s : Status) (a : List ℕ) → HasNoFeed line → TellsLine fields p (line_of line) s a → TellsFrom fields p (map line_of (lines_of line)) s a
-tells_last fields p [] s a f g = g
-tells_last fields p (x ∷ line) s a f g = rw (last_line x line f) (tells_one fields p (line_of (x ∷ line)) s a g)
+tells_last : (how : Telling) (p : Place) (line : List ℕ) (s : Status) (a : List ℕ) → HasNoFeed line → TellsLine how p (line_of line) s a → TellsFrom how p (map line_of (lines_of line)) s a
+tells_last how p [] s a f g = g
+tells_last how p (x ∷ line) s a f g = rw (last_line x line f) (tells_one how p (line_of (x ∷ line)) s a g)
 
 -- ---- what is kept of a line
 
@@ -133,11 +135,11 @@ keeps_full byte held lt = λ kept same. kept_same kept held (without_blanks (byt
 
 -- a byte of a line
 pub takes_byte : (byte : ℕ) (c d : Capture) (A : List ℕ → Type 0) → nat_eq byte 10 ≡ false → A [] → Keeps byte c.line.items d.line.items
-    → place d ≡ place c → d.status ≡ c.status → d.fields ≡ c.fields → Takes (byte ∷ []) c d A
+    → place d ≡ place c → d.status ≡ c.status → d.how ≡ c.how → Takes (byte ∷ []) c d A
 takes_byte byte c d A other none keeps same_place same_status same_fields = record {
   added = [];
   is_added = none;
-  goes_on = λ fields before text f. record {
+  goes_on = λ how before text f. record {
     lines = f.lines;
     line = f.line ++ byte ∷ [];
     are = ap (λ (bytes : List ℕ). bytes ++ byte ∷ []) f.are ∙ append_assoc f.lines f.line (byte ∷ []);
@@ -162,7 +164,7 @@ pub takes_feed : (c d : Capture) (A : List ℕ → Type 0) → EndsLine (told_in
 takes_feed c d A f = record {
   added = f.tells.text;
   is_added = f.tells.added;
-  goes_on = λ fields before text g.
+  goes_on = λ how before text g.
       let l : told_in c.line.items ≡ line_of g.line = ap told_in g.held ∙ told_kept (without_blanks g.line) in
       let ended = g.line ++ 10 ∷ [] in
       let lines : lines_of (g.lines ++ ended) ≡ lines_of g.lines ++ g.line ∷ [] = lines_of-append g.lines ended g.ended ∙ ap (λ (ls : List (List ℕ)). lines_of g.lines ++ ls) (ended_line g.line [] g.one) in
@@ -175,12 +177,12 @@ takes_feed c d A f = record {
         one = tt;
         held = f.line;
         tells = rw (f.tells.all, mapped)
-            (tells_both fields start (map line_of (lines_of g.lines)) (line_of g.line ∷ []) c.status f.tells.status text f.tells.text g.tells
-            (tells_one fields (behind_all start (map line_of (lines_of g.lines))) (line_of g.line) f.tells.status f.tells.text
+            (tells_both how start (map line_of (lines_of g.lines)) (line_of g.line ∷ []) c.status f.tells.status text f.tells.text g.tells
+            (tells_one how (behind_all start (map line_of (lines_of g.lines))) (line_of g.line) f.tells.status f.tells.text
             (rw (← g.place, ← g.same, ← l) f.tells.tells)));
         place = f.tells.place ∙ ap (λ (p : Place). behind p (told_in c.line.items)) g.place ∙ ap (behind (behind_all start (map line_of (lines_of g.lines)))) l
             ∙ sym (behind_all-append start (map line_of (lines_of g.lines)) (line_of g.line ∷ [])) ∙ ap (behind_all start) (sym mapped);
-        same = f.tells.fields ∙ g.same;
+        same = f.tells.how ∙ g.same;
       };
   number = omega (arith, ap (λ (p : Place). p.number) f.tells.place, behind-most (place c) (told_in c.line.items));
 }
@@ -189,7 +191,7 @@ pub takes_none : (c : Capture) (A : List ℕ → Type 0) → A [] → Takes [] c
 takes_none c A none = record {
   added = [];
   is_added = none;
-  goes_on = λ fields before text f. rw (append-nil before, append-nil text) f;
+  goes_on = λ how before text f. rw (append-nil before, append-nil text) f;
   number = omega arith;
 }
 
@@ -197,15 +199,15 @@ pub takes_both : (xs ys : List ℕ) (c d e : Capture) (A B C : List ℕ → Type
 takes_both xs ys c d e A B C joins f g = record {
   added = f.added ++ g.added;
   is_added = joins f.added g.added f.is_added g.is_added;
-  goes_on = λ fields before text taken.
-      rw (← append_assoc before xs ys, ← append_assoc text f.added g.added) (g.goes_on fields (before ++ xs) (text ++ f.added) (f.goes_on fields before text taken));
+  goes_on = λ how before text taken.
+      rw (← append_assoc before xs ys, ← append_assoc text f.added g.added) (g.goes_on how (before ++ xs) (text ++ f.added) (f.goes_on how before text taken));
   number = omega (arith, f.number, g.number, length-append xs ys);
 }
 
 -- ---- the input
 
-pub taken_none : (fields : Bool) (c : Capture) → c.fields ≡ fields → c.line.items ≡ [] → place c ≡ start → c.status ≡ Done → Taken fields [] [] c
-taken_none fields c same none first done = record {
+pub taken_none : (how : Telling) (c : Capture) → c.how ≡ how → c.line.items ≡ [] → place c ≡ start → c.status ≡ Done → Taken how [] [] c
+taken_none how c same none first done = record {
   lines = [];
   line = [];
   are = refl;
@@ -217,24 +219,24 @@ taken_none fields c same none first done = record {
   same = same;
 }
 
-pub reaches_more : (fields : Bool) (old mid new : Option (List ℕ)) (read count : ℕ) (bytes : List ℕ) (c d : Capture) (A B C : List ℕ → Type 0) → Joins A B C
-    → Reaches fields old mid read c A → Consumes mid new bytes → count ≡ length bytes → Takes bytes c d B → Reaches fields old new (read + count) d C
-reaches_more fields old mid new read count bytes c d A B C joins f consumed is takes = record {
+pub reaches_more : (how : Telling) (old mid new : Option (List ℕ)) (read count : ℕ) (bytes : List ℕ) (c d : Capture) (A B C : List ℕ → Type 0) → Joins A B C
+    → Reaches how old mid read c A → Consumes mid new bytes → count ≡ length bytes → Takes bytes c d B → Reaches how old new (read + count) d C
+reaches_more how old mid new read count bytes c d A B C joins f consumed is takes = record {
   bytes = f.bytes ++ bytes;
   text = f.text ++ takes.added;
   consumed = consumes_both old mid new f.bytes bytes f.consumed consumed;
   count = omega (arith, f.count, is, length-append f.bytes bytes);
-  taken = takes.goes_on fields f.bytes f.text f.taken;
+  taken = takes.goes_on how f.bytes f.text f.taken;
   added = joins f.text takes.added f.added takes.is_added;
   number = omega (arith, f.number, takes.number, is);
 }
 
-abbrev pub Answers : (fields : Bool) → (old new : Option (List ℕ)) → (A : List ℕ → Type 0) → Status → Type 0
-Answers fields old new A status = (bytes : List ℕ) × (text : List ℕ) × ReadsAll old new bytes × TellsCapture fields bytes status text × A text
+abbrev pub Answers : (how : Telling) → (old new : Option (List ℕ)) → (A : List ℕ → Type 0) → Status → Type 0
+Answers how old new A status = (bytes : List ℕ) × (text : List ℕ) × ReadsAll old new bytes × TellsCapture how bytes status text × A text
 
-pub answers_at_end : (fields : Bool) (old mid new : Option (List ℕ)) (read : ℕ) (c d : Capture) (A B C : List ℕ → Type 0) → Joins A B C → Reaches fields old mid read c A
-    → Consumes mid new [] → IsAtEnd new → EndsLine (told_in c.line.items) c d B → Answers fields old new C d.status
-answers_at_end fields old mid new read c d A B C joins f consumed end ended =
+pub answers_at_end : (how : Telling) (old mid new : Option (List ℕ)) (read : ℕ) (c d : Capture) (A B C : List ℕ → Type 0) → Joins A B C → Reaches how old mid read c A
+    → Consumes mid new [] → IsAtEnd new → EndsLine (told_in c.line.items) c d B → Answers how old new C d.status
+answers_at_end how old mid new read c d A B C joins f consumed end ended =
     let g = f.taken in
     let l : told_in c.line.items ≡ line_of g.line = ap told_in g.held ∙ told_kept (without_blanks g.line) in
     let mapped : map line_of (lines_of f.bytes) ≡ map line_of (lines_of g.lines) ++ map line_of (lines_of g.line) =
@@ -243,8 +245,8 @@ answers_at_end fields old mid new read c d A B C joins f consumed end ended =
       f.text ++ ended.tells.text,
       record { read = rw append-nil at (consumes_both old mid new f.bytes [] f.consumed consumed); whole = end },
       rw (ended.tells.all, mapped)
-          (tells_both fields start (map line_of (lines_of g.lines)) (map line_of (lines_of g.line)) c.status ended.tells.status f.text ended.tells.text g.tells
-          (tells_last fields (behind_all start (map line_of (lines_of g.lines))) g.line ended.tells.status ended.tells.text g.one
+          (tells_both how start (map line_of (lines_of g.lines)) (map line_of (lines_of g.line)) c.status ended.tells.status f.text ended.tells.text g.tells
+          (tells_last how (behind_all start (map line_of (lines_of g.lines))) g.line ended.tells.status ended.tells.text g.one
           (rw (← g.place, ← g.same, ← l) ended.tells.tells))),
       joins f.text ended.tells.text f.added ended.tells.added,
     )

@@ -1,5 +1,5 @@
 -- Streams of frames that are told one frame after the other.
-use Rattle.std.proofs.Common.{◌≡◌, ℕ, ◌+◌, ◌<◌, ◌≤◌, Bool, List, [], ◌∷◌, ◌++◌, length, map, All, Option, Some, None, refl, sym, ap, subst, ◌∙◌, ◌⊎◌, inl, inr, arith, append_assoc, length-append}
+use Rattle.std.proofs.Common.{◌≡◌, ℕ, ◌+◌, ◌<◌, ◌≤◌, List, [], ◌∷◌, ◌++◌, length, map, All, Option, Some, None, refl, sym, ap, subst, ◌∙◌, ◌⊎◌, inl, inr, arith, append_assoc, length-append}
 use Rattle.std.specs.List.{concat}
 use Rattle.std.specs.Io.KnownBytes.{Appends, Consumes, IsAtEnd}
 use Rattle.std.proofs.lemmas.List.{append-nil, map-append}
@@ -10,6 +10,7 @@ use Rattle.tpm_buffer.proofs.Filled.{consumes_both}
 use Rattle.tpm_buffer.proofs.Framed.{stated_more}
 use Rattle.tpm_buffer.proofs.Streamed.{broken_begins}
 use Rattle.tpm_tool.specs.declared.status.Status.{Status}
+use Rattle.tpm_tool.specs.declared.telling.Telling.{Telling}
 use Rattle.tpm_tool.specs.declared.status.Status.TheVariants.{Done, Refused}
 use Rattle.tpm_tool.specs.declared.capture.Capture.{Capture}
 use Rattle.tpm_tool.specs.Status.{both}
@@ -25,9 +26,9 @@ appends_nothing (Some l) = sym (append-nil l)
 
 -- ---- frames
 
-pub streams_none : (fields : Bool) (a : Option (List ℕ)) (c : Capture) (A : List ℕ → Type 0) → Consumes a a [] → A [] → c.fields ≡ fields → place c ≡ start → c.status ≡ Done
-    → Streams fields a a 0 c A
-streams_none fields a c A none added same first done = record {
+pub streams_none : (how : Telling) (a : Option (List ℕ)) (c : Capture) (A : List ℕ → Type 0) → Consumes a a [] → A [] → c.how ≡ how → place c ≡ start → c.status ≡ Done
+    → Streams how a a 0 c A
+streams_none how a c A none added same first done = record {
   frames = [];
   text = [];
   consumed = none;
@@ -44,9 +45,9 @@ streams_none fields a c A none added same first done = record {
 joined : (frames : List (List ℕ)) (frame : List ℕ) → concat (frames ++ frame ∷ []) ≡ concat frames ++ frame
 joined frames frame = concat-append frames (frame ∷ []) ∙ ap (λ (r : List ℕ). concat frames ++ r) (append-nil frame)
 
-pub streams_more : (fields : Bool) (old mid new : Option (List ℕ)) (read : ℕ) (frame : List ℕ) (c d : Capture) (A B C : List ℕ → Type 0) → Joins A B C
-    → Streams fields old mid read c A → Consumes mid new frame → IsFrame frame → Tells (Frame None frame) c d B → Streams fields old new (read + length frame) d C
-streams_more fields old mid new read frame c d A B C joins f consumed is g =
+pub streams_more : (how : Telling) (old mid new : Option (List ℕ)) (read : ℕ) (frame : List ℕ) (c d : Capture) (A B C : List ℕ → Type 0) → Joins A B C
+    → Streams how old mid read c A → Consumes mid new frame → IsFrame frame → Tells (Frame None frame) c d B → Streams how old new (read + length frame) d C
+streams_more how old mid new read frame c d A B C joins f consumed is g =
     let lines = map unmarked_frame f.frames in
     let mapped : map unmarked_frame (f.frames ++ frame ∷ []) ≡ lines ++ Frame None frame ∷ [] = map-append unmarked_frame f.frames (frame ∷ []) in
     record {
@@ -56,12 +57,12 @@ streams_more fields old mid new read frame c d A B C joins f consumed is g =
       each = All-push IsFrame f.frames frame f.each is;
       count = omega (arith, f.count, ap length (joined f.frames frame), length-append (concat f.frames) frame);
       tells = rw (g.all, mapped)
-          (tells_both fields start lines (Frame None frame ∷ []) c.status g.status f.text g.text f.tells
-          (tells_one fields (behind_all start lines) (Frame None frame) g.status g.text (rw (← f.place, ← f.same) g.tells)));
+          (tells_both how start lines (Frame None frame ∷ []) c.status g.status f.text g.text f.tells
+          (tells_one how (behind_all start lines) (Frame None frame) g.status g.text (rw (← f.place, ← f.same) g.tells)));
       place = g.place ∙ ap (λ (p : Place). behind p (Frame None frame)) f.place ∙ sym (behind_all-append start lines (Frame None frame ∷ [])) ∙ ap (behind_all start) (sym mapped);
       number = omega (arith, ap (λ (p : Place). p.number) g.place, f.number, length-append f.frames (frame ∷ []));
       fewer = omega (arith, f.fewer, is.least, length-append f.frames (frame ∷ []));
-      same = g.fields ∙ f.same;
+      same = g.how ∙ f.same;
       added = joins f.text g.text f.added g.added;
     }
 
@@ -82,9 +83,9 @@ broken_more rest more b = record {
 }
 
 -- of a stream whose frames were told
-tells_stream : (fields : Bool) (old mid : Option (List ℕ)) (read : ℕ) (c : Capture) (A : List ℕ → Type 0) → (f : Streams fields old mid read c A)
-    → (rest : List ℕ) (ending : Ending) → BeginsNoFrame rest → IsEnding rest ending → TellsStream fields (concat f.frames ++ rest) (both c.status (ending_status ending)) (f.text ++ ending_text ending c.number read)
-tells_stream fields old mid read c A f rest ending over ends = record {
+tells_stream : (how : Telling) (old mid : Option (List ℕ)) (read : ℕ) (c : Capture) (A : List ℕ → Type 0) → (f : Streams how old mid read c A)
+    → (rest : List ℕ) (ending : Ending) → BeginsNoFrame rest → IsEnding rest ending → TellsStream how (concat f.frames ++ rest) (both c.status (ending_status ending)) (f.text ++ ending_text how.json ending c.number read)
+tells_stream how old mid read c A f rest ending over ends = record {
   frames = f.frames;
   rest = rest;
   cut = record { whole = refl; each = f.each; over = over };
@@ -97,52 +98,52 @@ tells_stream fields old mid read c A f rest ending over ends = record {
   are = rw (f.number, f.count) refl;
 }
 
-abbrev pub StreamAnswers : (fields : Bool) → (old new : Option (List ℕ)) → (C : List ℕ → Type 0) → Status → Type 0
-StreamAnswers fields old new C status = (text : List ℕ) × TellsRead fields old new status text × C text
+abbrev pub StreamAnswers : (how : Telling) → (old new : Option (List ℕ)) → (C : List ℕ → Type 0) → Status → Type 0
+StreamAnswers how old new C status = (text : List ℕ) × TellsRead how old new status text × C text
 
 -- behind the last frame
-pub stream_ends : (fields : Bool) (old mid new : Option (List ℕ)) (read : ℕ) (c : Capture) (A : List ℕ → Type 0) → Streams fields old mid read c A → Consumes mid new [] → IsAtEnd new
-    → BeginsNoFrame [] → StreamAnswers fields old new A c.status
-stream_ends fields old mid new read c A f consumed end over = (
+pub stream_ends : (how : Telling) (old mid new : Option (List ℕ)) (read : ℕ) (c : Capture) (A : List ℕ → Type 0) → Streams how old mid read c A → Consumes mid new [] → IsAtEnd new
+    → BeginsNoFrame [] → StreamAnswers how old new A c.status
+stream_ends how old mid new read c A f consumed end over = (
   f.text,
   record {
     bytes = concat f.frames ++ [];
     read = consumes_both old mid new (concat f.frames) [] f.consumed consumed;
-    tells = subst (λ (s : Status). TellsStream fields (concat f.frames ++ []) s f.text) (both_done c.status)
-        (subst (TellsStream fields (concat f.frames ++ []) (both c.status Done)) (append-nil f.text) (tells_stream fields old mid read c A f [] AtEnd over refl));
+    tells = subst (λ (s : Status). TellsStream how (concat f.frames ++ []) s f.text) (both_done c.status)
+        (subst (TellsStream how (concat f.frames ++ []) (both c.status Done)) (append-nil f.text) (tells_stream how old mid read c A f [] AtEnd over refl));
     whole = inl end;
   },
   f.added,
 )
 
 -- inside a frame
-pub stream_cut : (fields : Bool) (old mid new : Option (List ℕ)) (read : ℕ) (rest : List ℕ) (c : Capture) (A B C : List ℕ → Type 0) → Joins A B C → Streams fields old mid read c A → Consumes mid new rest
-    → IsEnding rest Inside → IsAtEnd new → B (ending_text Inside c.number read) → StreamAnswers fields old new C Refused
-stream_cut fields old mid new read rest c A B C joins f consumed ends end added = (
-  f.text ++ ending_text Inside c.number read,
+pub stream_cut : (how : Telling) (old mid new : Option (List ℕ)) (read : ℕ) (rest : List ℕ) (c : Capture) (A B C : List ℕ → Type 0) → Joins A B C → Streams how old mid read c A → Consumes mid new rest
+    → IsEnding rest Inside → IsAtEnd new → B (ending_text how.json Inside c.number read) → StreamAnswers how old new C Refused
+stream_cut how old mid new read rest c A B C joins f consumed ends end added = (
+  f.text ++ ending_text how.json Inside c.number read,
   record {
     bytes = concat f.frames ++ rest;
     read = consumes_both old mid new (concat f.frames) rest f.consumed consumed;
-    tells = subst (λ (s : Status). TellsStream fields (concat f.frames ++ rest) s (f.text ++ ending_text Inside c.number read)) (both_refused c.status)
-        (tells_stream fields old mid read c A f rest Inside ends.0.no_frame ends);
+    tells = subst (λ (s : Status). TellsStream how (concat f.frames ++ rest) s (f.text ++ ending_text how.json Inside c.number read)) (both_refused c.status)
+        (tells_stream how old mid read c A f rest Inside ends.0.no_frame ends);
     whole = inl end;
   },
-  joins f.text (ending_text Inside c.number read) f.added added,
+  joins f.text (ending_text how.json Inside c.number read) f.added added,
 )
 
 -- at a size that no frame has
-pub stream_breaks : (fields : Bool) (old mid new : Option (List ℕ)) (read : ℕ) (rest : List ℕ) (c : Capture) (A B C : List ℕ → Type 0) → Joins A B C → Streams fields old mid read c A → Consumes mid new rest
-    → IsBroken rest → B (ending_text BadSize c.number read) → StreamAnswers fields old new C Refused
-stream_breaks fields old mid new read rest c A B C joins f consumed broken added =
-    let whole : (more : List ℕ) → TellsStream fields (concat f.frames ++ (rest ++ more)) Refused (f.text ++ ending_text BadSize c.number read) =
-    λ more. subst (λ (s : Status). TellsStream fields (concat f.frames ++ (rest ++ more)) s (f.text ++ ending_text BadSize c.number read)) (both_refused c.status)
-    (tells_stream fields old mid read c A f (rest ++ more) BadSize (broken_begins rest more broken) (broken_more rest more broken)) in (
-      f.text ++ ending_text BadSize c.number read,
+pub stream_breaks : (how : Telling) (old mid new : Option (List ℕ)) (read : ℕ) (rest : List ℕ) (c : Capture) (A B C : List ℕ → Type 0) → Joins A B C → Streams how old mid read c A → Consumes mid new rest
+    → IsBroken rest → B (ending_text how.json BadSize c.number read) → StreamAnswers how old new C Refused
+stream_breaks how old mid new read rest c A B C joins f consumed broken added =
+    let whole : (more : List ℕ) → TellsStream how (concat f.frames ++ (rest ++ more)) Refused (f.text ++ ending_text how.json BadSize c.number read) =
+    λ more. subst (λ (s : Status). TellsStream how (concat f.frames ++ (rest ++ more)) s (f.text ++ ending_text how.json BadSize c.number read)) (both_refused c.status)
+    (tells_stream how old mid read c A f (rest ++ more) BadSize (broken_begins rest more broken) (broken_more rest more broken)) in (
+      f.text ++ ending_text how.json BadSize c.number read,
       record {
         bytes = concat f.frames ++ rest;
         read = consumes_both old mid new (concat f.frames) rest f.consumed consumed;
-        tells = subst (λ (r : List ℕ). TellsStream fields (concat f.frames ++ r) Refused (f.text ++ ending_text BadSize c.number read)) (append-nil rest) (whole []);
+        tells = subst (λ (r : List ℕ). TellsStream how (concat f.frames ++ r) Refused (f.text ++ ending_text how.json BadSize c.number read)) (append-nil rest) (whole []);
         whole = inr (λ more. rw (append_assoc (concat f.frames) rest more) (whole more));
       },
-      joins f.text (ending_text BadSize c.number read) f.added added,
+      joins f.text (ending_text how.json BadSize c.number read) f.added added,
     )

@@ -15,12 +15,14 @@ use Rattle.tpm_tool.specs.declared.capture_lines.Direction.{Direction}
 use Rattle.tpm_tool.specs.declared.capture_lines.Direction.TheVariants.{Command, Reply}
 use Rattle.tpm_tool.specs.declared.capture_frames.Awaited.{Awaited}
 use Rattle.tpm_tool.specs.declared.capture_frames.Awaited.TheVariants as awaits
+use Rattle.tpm_tool.specs.declared.telling.Telling.{Telling}
 use Rattle.tpm_tool.specs.Status.{both}
 use Rattle.tpm_tool.specs.Text.{line, bytes_in, refusal_line}
 use Rattle.tpm_tool.specs.CommandNames.{absent_behind}
 use Rattle.tpm_tool.specs.Script.{lines_of}
 use Rattle.tpm_tool.specs.Show.{ShowsBytes, ShowsReplyBytes}
 use Rattle.tpm_tool.specs.Fields.{ShowsCommand, ShowsReply}
+use Rattle.tpm_tool.specs.FrameJson.{HasCommandMembers, HasReplyMembers, fault_member, fault_object, refusal_members}
 
 -- ---- what a line has
 
@@ -100,28 +102,39 @@ awaited_behind Reply bytes = awaits.Nothing
 
 -- ---- what is told of a frame
 
--- as `show` has it, or `show --fields`
-abbrev pub ShowsCommandBy : (fields : Bool) → List ℕ → Status → List ℕ → Type 0
-ShowsCommandBy false bytes status text = ShowsBytes bytes status text
-ShowsCommandBy true bytes status text = ShowsCommand bytes status text
+-- as `show` has it, or `show --fields`, or as members of an object
+abbrev pub ShowsCommandBy : (json fields : Bool) → List ℕ → Status → List ℕ → Type 0
+ShowsCommandBy false false bytes status text = ShowsBytes bytes status text
+ShowsCommandBy false true bytes status text = ShowsCommand bytes status text
+ShowsCommandBy true fields bytes status text = HasCommandMembers fields bytes status text
+
+abbrev pub refusal_text : (json : Bool) → Refusal → List ℕ
+refusal_text false refusal = refusal_line refusal
+refusal_text true refusal = refusal_members refusal
 
 -- Behind the refusal of its code alone stands which command it is.
-abbrev pub TellsCommand : (fields : Bool) → List ℕ → Status → List ℕ → Type 0
-TellsCommand fields bytes Done text = ShowsCommandBy fields bytes Done text
-TellsCommand fields bytes Refused text = (refusal : Refusal) × Fault command bytes refusal × (text ≡ refusal_line refusal ++ absent_behind refusal (code_number_in bytes))
+abbrev pub TellsCommand : (json fields : Bool) → List ℕ → Status → List ℕ → Type 0
+TellsCommand json fields bytes Done text = ShowsCommandBy json fields bytes Done text
+TellsCommand json fields bytes Refused text = (refusal : Refusal) × Fault command bytes refusal
+    × (text ≡ refusal_text json refusal ++ absent_behind json refusal (code_number_in bytes))
 
-abbrev pub ShowsReplyBy : (fields : Bool) → CommandCode → List ℕ → Status → List ℕ → Type 0
-ShowsReplyBy false command bytes status text = ShowsReplyBytes command bytes status text
-ShowsReplyBy true command bytes status text = ShowsReply command bytes status text
+abbrev pub ShowsReplyBy : (json fields : Bool) → CommandCode → List ℕ → Status → List ℕ → Type 0
+ShowsReplyBy false false command bytes status text = ShowsReplyBytes command bytes status text
+ShowsReplyBy false true command bytes status text = ShowsReply command bytes status text
+ShowsReplyBy true fields command bytes status text = HasReplyMembers fields command bytes status text
 
-abbrev pub TellsReply : (fields : Bool) → Awaited → List ℕ → Status → List ℕ → Type 0
-TellsReply fields (awaits.Reply command) bytes status text = ShowsReplyBy fields command bytes status text
-TellsReply fields awaits.Unknown bytes status text = (status ≡ Refused) × (text ≡ line (codes "its" ∷ codes "command" ∷ codes "is" ∷ codes "not" ∷ codes "known" ∷ []))
-TellsReply fields awaits.Nothing bytes status text = (status ≡ Refused) × (text ≡ line (codes "no" ∷ codes "command" ∷ codes "is" ∷ codes "before" ∷ codes "it" ∷ []))
+abbrev pub sentence_text : (json : Bool) → List ℕ → List ℕ
+sentence_text false sentence = sentence ++ codes "\n"
+sentence_text true sentence = fault_member sentence
 
-abbrev pub TellsFrame : (fields : Bool) → Direction → Awaited → List ℕ → Status → List ℕ → Type 0
-TellsFrame fields Command awaited bytes status text = TellsCommand fields bytes status text
-TellsFrame fields Reply awaited bytes status text = TellsReply fields awaited bytes status text
+abbrev pub TellsReply : (json fields : Bool) → Awaited → List ℕ → Status → List ℕ → Type 0
+TellsReply json fields (awaits.Reply command) bytes status text = ShowsReplyBy json fields command bytes status text
+TellsReply json fields awaits.Unknown bytes status text = (status ≡ Refused) × (text ≡ sentence_text json (codes "its command is not known"))
+TellsReply json fields awaits.Nothing bytes status text = (status ≡ Refused) × (text ≡ sentence_text json (codes "no command is before it"))
+
+abbrev pub TellsFrame : (json fields : Bool) → Direction → Awaited → List ℕ → Status → List ℕ → Type 0
+TellsFrame json fields Command awaited bytes status text = TellsCommand json fields bytes status text
+TellsFrame json fields Reply awaited bytes status text = TellsReply json fields awaited bytes status text
 
 abbrev pub mark_of : Direction → List ℕ
 mark_of Command = codes ">"
@@ -131,8 +144,24 @@ mark_of Reply = codes "<"
 abbrev pub front : ℕ → Direction → List ℕ
 front number direction = decimal number ++ (codes " " ++ (mark_of direction ++ codes " "))
 
+abbrev pub kind_of : Direction → List ℕ
+kind_of Command = codes "command"
+kind_of Reply = codes "response"
+
+-- in one object, with its number and which way it went
+unfoldable pub frame_object : ℕ → Direction → List ℕ → List ℕ
+frame_object number direction members = codes "{\"number\":" ++ (decimal number ++ (codes ",\"kind\":\"" ++ (kind_of direction ++ (codes "\"" ++ (members ++ codes "}\n")))))
+
+abbrev pub numbered : (json : Bool) → ℕ → Direction → List ℕ → List ℕ
+numbered false number direction told = front number direction ++ told
+numbered true number direction told = frame_object number direction told
+
 unfoldable pub fault_line : ℕ → List ℕ → List ℕ
 fault_line number fault = line (decimal number ∷ fault ∷ [])
+
+abbrev pub fault_text : (json : Bool) → ℕ → List ℕ → List ℕ
+fault_text false number fault = fault_line number fault
+fault_text true number fault = fault_object number fault
 
 -- ---- what is told of lines
 
@@ -149,23 +178,23 @@ behind p Nothing = p
 behind p (Frame mark bytes) = record { number = p.number + 1; awaited = awaited_behind (direction_of mark p.awaited bytes) bytes }
 behind p _ = record { number = p.number + 1; awaited = awaits.Unknown }
 
-abbrev pub TellsLine : (fields : Bool) → Place → Line → Status → List ℕ → Type 0
-TellsLine fields p Nothing status text = (status ≡ Done) × (text ≡ [])
-TellsLine fields p (Frame mark bytes) status text =
+abbrev pub TellsLine : (how : Telling) → Place → Line → Status → List ℕ → Type 0
+TellsLine how p Nothing status text = (status ≡ Done) × (text ≡ [])
+TellsLine how p (Frame mark bytes) status text =
     let direction = direction_of mark p.awaited bytes in
-    (told : List ℕ) × TellsFrame fields direction p.awaited bytes status told × (text ≡ front p.number direction ++ told)
-TellsLine fields p NotHexadecimal status text = (status ≡ Refused) × (text ≡ fault_line p.number (codes "not hexadecimal"))
-TellsLine fields p TooLong status text = (status ≡ Refused) × (text ≡ fault_line p.number (codes "too long"))
+    (told : List ℕ) × TellsFrame how.json how.fields direction p.awaited bytes status told × (text ≡ numbered how.json p.number direction told)
+TellsLine how p NotHexadecimal status text = (status ≡ Refused) × (text ≡ fault_text how.json p.number (codes "not hexadecimal"))
+TellsLine how p TooLong status text = (status ≡ Refused) × (text ≡ fault_text how.json p.number (codes "too long"))
 
 -- From this place the lines are told one after the other. All is done where each is.
-abbrev pub TellsFrom : (fields : Bool) → Place → List Line → Status → List ℕ → Type 0
-TellsFrom fields p [] status text = (status ≡ Done) × (text ≡ [])
-TellsFrom fields p (first ∷ others) status text = (one : Status) × (told : List ℕ) × (rest : Status) × (more : List ℕ)
-    × TellsLine fields p first one told × TellsFrom fields (behind p first) others rest more × (status ≡ both one rest) × (text ≡ told ++ more)
+abbrev pub TellsFrom : (how : Telling) → Place → List Line → Status → List ℕ → Type 0
+TellsFrom how p [] status text = (status ≡ Done) × (text ≡ [])
+TellsFrom how p (first ∷ others) status text = (one : Status) × (told : List ℕ) × (rest : Status) × (more : List ℕ)
+    × TellsLine how p first one told × TellsFrom how (behind p first) others rest more × (status ≡ both one rest) × (text ≡ told ++ more)
 
 -- For these bytes of a capture this is the status and what is printed.
-abbrev pub TellsCapture : (fields : Bool) → List ℕ → Status → List ℕ → Type 0
-TellsCapture fields bytes status text = TellsFrom fields start (map line_of (lines_of bytes)) status text
+abbrev pub TellsCapture : (how : Telling) → List ℕ → Status → List ℕ → Type 0
+TellsCapture how bytes status text = TellsFrom how start (map line_of (lines_of bytes)) status text
 
 -- ---- what is read
 

@@ -1,5 +1,5 @@
 -- The commands of the library by their names (Part 2, 6.5.2, TPM_CC).
-use Rattle.std.specs.Prelude.{ℕ, ◌==◌, ◌&&◌, List, [], ◌∷◌, ◌++◌, codes, Option, Some, None, if◌then◌else◌}
+use Rattle.std.specs.Prelude.{ℕ, ◌==◌, ◌&&◌, Bool, true, false, List, [], ◌∷◌, ◌++◌, codes, Option, Some, None, if◌then◌else◌}
 use Rattle.tpm_wire.specs.ResponseCodes.{rc_command_code}
 use Rattle.tpm_wire.specs.declared.refusal.Refusal.{Refusal}
 use Rattle.tpm_tool.specs.Named.{Named, named, named_in}
@@ -135,15 +135,23 @@ commands =
 unfoldable pub absent_line : List ℕ → List ℕ
 absent_line name = line ((codes "TPM2_" ++ name) ∷ codes "is" ∷ codes "not" ∷ codes "in" ∷ codes "this" ∷ codes "profile" ∷ [])
 
-abbrev pub absent_of : Option Named → List ℕ
-absent_of None = []
-absent_of (Some n) = absent_line n.name
+unfoldable pub absent_member : List ℕ → List ℕ
+absent_member name = codes ",\"name\":\"TPM2_" ++ (name ++ codes "\"")
 
--- A code without a name has no line.
-abbrev pub absent_text : ℕ → List ℕ
-absent_text code = absent_of (named_in commands code)
+-- its line, or its member
+abbrev pub absent_named : (json : Bool) → List ℕ → List ℕ
+absent_named false name = absent_line name
+absent_named true name = absent_member name
+
+abbrev pub absent_of : (json : Bool) → Option Named → List ℕ
+absent_of json None = []
+absent_of json (Some n) = absent_named json n.name
+
+-- A code without a name has none.
+abbrev pub absent_text : (json : Bool) → ℕ → List ℕ
+absent_text json code = absent_of json (named_in commands code)
 
 -- The code stands behind the tag and the size.
-abbrev pub absent_behind : Refusal → Option ℕ → List ℕ
-absent_behind refusal None = []
-absent_behind refusal (Some code) = if refusal.code == rc_command_code && refusal.at == 6 then absent_text code else []
+abbrev pub absent_behind : (json : Bool) → Refusal → Option ℕ → List ℕ
+absent_behind json refusal None = []
+absent_behind json refusal (Some code) = if refusal.code == rc_command_code && refusal.at == 6 then absent_text json code else []

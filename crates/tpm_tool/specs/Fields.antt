@@ -1,5 +1,6 @@
 -- What `show --fields` prints: each parameter by its name and its type (this profile).
-use Rattle.std.specs.Prelude.{◌≡◌, ℕ, List, [], ◌∷◌, ◌++◌, length, codes as text, Option}
+use Rattle.std.specs.Prelude.{◌≡◌, ℕ, ◌+◌, Bool, true, false, List, [], ◌∷◌, ◌++◌, length, codes as text, Option}
+use Rattle.hex.specs.Hex.{encode_lower}
 use Rattle.tpm_wire.specs.declared.refusal.Refusal.{Refusal}
 use Rattle.tpm_wire.specs.Buffers.{Layout}
 use Rattle.tpm_wire.specs.Layout.Form.{field}
@@ -20,7 +21,7 @@ use Rattle.tpm_buffer.specs.ResponseAreas.{handle_of}
 use Rattle.tpm_buffer.specs.Responses.{ReplyCut, reply_cut, response}
 use Rattle.tpm_tool.specs.declared.status.Status.{Status}
 use Rattle.tpm_tool.specs.declared.status.Status.TheVariants.{Done, Refused}
-use Rattle.tpm_tool.specs.Text.{line, lines_from, bytes_in, bytes_text, command_text, parameters_line, refusal_line}
+use Rattle.tpm_tool.specs.Text.{comma, line, lines_from, bytes_in, bytes_text, command_text, parameters_line, refusal_line}
 use Rattle.tpm_tool.specs.Show.{ShowsDecoded}
 use Rattle.tpm_tool.specs.ReplyText.{reply_line, reply_handle_line, reply_session_line, reply_code_line}
 
@@ -94,28 +95,37 @@ parts _ x = []
 unfoldable pub field_line : List ℕ → List ℕ → List ℕ → List ℕ
 field_line name type bytes = text "  " ++ line (name ∷ type ∷ bytes_text bytes ∷ [])
 
-abbrev pub field_lines : List Parameter → List (List ℕ) → List ℕ
-field_lines (p ∷ ps) (bytes ∷ others) = field_line p.name p.type bytes ++ field_lines ps others
-field_lines _ _ = []
+-- as an object of JSON (RFC 8259)
+unfoldable pub field_object : List ℕ → List ℕ → List ℕ → List ℕ
+field_object name type bytes = text "{\"name\":\"" ++ (name ++ (text "\",\"type\":\"" ++ (type ++ (text "\",\"value\":\"" ++ (encode_lower bytes ++ text "\"}")))))
 
--- a line for each parameter of a command
-abbrev pub command_fields : CommandBody → List ℕ
-command_fields body = field_lines (command_names (code_for body)) (parts (parameters (code_for body)) (params_of body))
+-- its line, or its object as an entry of a list
+unfoldable pub field_text : (json : Bool) → ℕ → List ℕ → List ℕ → List ℕ → List ℕ
+field_text false i name type bytes = field_line name type bytes
+field_text true i name type bytes = comma i ++ field_object name type bytes
 
--- a line for each parameter of a reply
-abbrev pub reply_fields : ReplyBody → List ℕ
-reply_fields body = field_lines (reply_names (code_for_reply body)) (parts (parameters_of_reply body) body)
+abbrev pub fields_from : (json : Bool) → ℕ → List Parameter → List (List ℕ) → List ℕ
+fields_from json i (p ∷ ps) (bytes ∷ others) = field_text json i p.name p.type bytes ++ fields_from json (i + 1) ps others
+fields_from json i _ _ = []
+
+-- a line or an object for each parameter of a command
+abbrev pub command_fields : (json : Bool) → CommandBody → List ℕ
+command_fields json body = fields_from json 1 (command_names (code_for body)) (parts (parameters (code_for body)) (params_of body))
+
+-- a line or an object for each parameter of a reply
+abbrev pub reply_fields : (json : Bool) → ReplyBody → List ℕ
+reply_fields json body = fields_from json 1 (reply_names (code_for_reply body)) (parts (parameters_of_reply body) body)
 
 -- ---- the text
 
 -- a command of so many bytes: as it is shown, and its parameters by their names and their types
 unfoldable pub command_fields_text : ℕ → Cut → CommandBody → List ℕ
-command_fields_text size areas body = command_text size areas ++ command_fields body
+command_fields_text size areas body = command_text size areas ++ command_fields false body
 
 -- a reply to this command, of so many bytes: as it is shown, with its parameters by their names and their types under their line
 unfoldable pub reply_fields_text : CommandCode → ℕ → ReplyCut → ReplyBody → List ℕ
 reply_fields_text code size r body =
-    reply_line code size ++ (reply_handle_line (handle_of r) ++ (parameters_line r.params ++ (reply_fields body ++ lines_from reply_session_line 1 r.auths)))
+    reply_line code size ++ (reply_handle_line (handle_of r) ++ (parameters_line r.params ++ (reply_fields false body ++ lines_from reply_session_line 1 r.auths)))
 
 abbrev pub response_fields_text : CommandCode → ℕ → ReplyCut → Response → List ℕ
 response_fields_text code size areas (responses.Code n) = reply_code_line n

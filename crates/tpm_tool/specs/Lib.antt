@@ -4,6 +4,7 @@ pub mod Text
 pub mod ReplyText
 pub mod Show
 pub mod Fields
+pub mod FrameJson
 pub mod Capture
 pub mod Stream
 pub mod Capturing

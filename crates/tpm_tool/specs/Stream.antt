@@ -1,13 +1,15 @@
 -- What `show --binary` prints of a stream of frames (this profile).
-use Rattle.std.specs.Prelude.{◌≡◌, ℕ, ◌+◌, ◌<◌, ◌⊎◌, Bool, List, [], ◌∷◌, ◌++◌, length, map, codes, Option, None}
+use Rattle.std.specs.Prelude.{◌≡◌, ℕ, ◌+◌, ◌<◌, ◌⊎◌, Bool, true, false, List, [], ◌∷◌, ◌++◌, length, map, codes, Option, None}
 use Rattle.std.specs.List.{concat}
 use Rattle.std.specs.Fmt.{decimal}
 use Rattle.std.specs.Io.KnownBytes.{Consumes, IsAtEnd}
 use Rattle.tpm_buffer.specs.Frames.{Frames, IsPart, IsBroken}
 use Rattle.tpm_tool.specs.declared.status.Status.{Status}
+use Rattle.tpm_tool.specs.declared.telling.Telling.{Telling}
 use Rattle.tpm_tool.specs.declared.status.Status.TheVariants.{Done, Refused}
 use Rattle.tpm_tool.specs.Status.{both}
 use Rattle.tpm_tool.specs.Text.{line}
+use Rattle.tpm_tool.specs.FrameJson.{stop_object}
 use Rattle.tpm_tool.specs.Capture.{Line, Frame, start, TellsFrom}
 
 -- how a stream goes on behind its last frame: not at all, with less than a frame, or with a size that no frame has
@@ -25,10 +27,15 @@ IsEnding rest BadSize = IsBroken rest
 unfoldable pub stop_line : ℕ → List ℕ → ℕ → List ℕ
 stop_line number fault at = line (decimal number ∷ fault ∷ codes "at" ∷ decimal at ∷ [])
 
-abbrev pub ending_text : Ending → (number at : ℕ) → List ℕ
-ending_text AtEnd number at = []
-ending_text Inside number at = stop_line number (codes "cut short") at
-ending_text BadSize number at = stop_line number (codes "bad size") at
+-- its line, or its object
+abbrev pub stop_text : (json : Bool) → ℕ → List ℕ → ℕ → List ℕ
+stop_text false number fault at = stop_line number fault at
+stop_text true number fault at = stop_object number fault at
+
+abbrev pub ending_text : (json : Bool) → Ending → (number at : ℕ) → List ℕ
+ending_text json AtEnd number at = []
+ending_text json Inside number at = stop_text json number (codes "cut short") at
+ending_text json BadSize number at = stop_text json number (codes "bad size") at
 
 abbrev pub ending_status : Ending → Status
 ending_status AtEnd = Done
@@ -39,7 +46,7 @@ unmarked_frame bytes = Frame None bytes
 
 -- For these bytes of a stream this is the status and what is printed: its frames are told as those of a capture without marks, and
 -- then how it goes on.
-pub record TellsStream (fields : Bool) (bytes : List ℕ) (status : Status) (text : List ℕ) : Type 0 where
+pub record TellsStream (how : Telling) (bytes : List ℕ) (status : Status) (text : List ℕ) : Type 0 where
   pub frames : List (List ℕ)
   pub rest : List ℕ
   pub cut : Frames bytes frames rest
@@ -47,15 +54,15 @@ pub record TellsStream (fields : Bool) (bytes : List ℕ) (status : Status) (tex
   pub ends : IsEnding rest ending
   pub one : Status
   pub told : List ℕ
-  pub tells : TellsFrom fields start (map unmarked_frame frames) one told
+  pub tells : TellsFrom how start (map unmarked_frame frames) one told
   pub all : status ≡ both one (ending_status ending)
-  pub are : text ≡ told ++ ending_text ending (length frames + 1) (length (concat frames))
+  pub are : text ≡ told ++ ending_text how.json ending (length frames + 1) (length (concat frames))
 
 -- ---- what is read
 
 -- These bytes of the input were read and told; and it has ended, or whatever comes makes no difference.
-pub record TellsRead (fields : Bool) (old new : Option (List ℕ)) (status : Status) (text : List ℕ) : Type 0 where
+pub record TellsRead (how : Telling) (old new : Option (List ℕ)) (status : Status) (text : List ℕ) : Type 0 where
   pub bytes : List ℕ
   pub read : Consumes old new bytes
-  pub tells : TellsStream fields bytes status text
-  pub whole : IsAtEnd new ⊎ ((more : List ℕ) → TellsStream fields (bytes ++ more) status text)
+  pub tells : TellsStream how bytes status text
+  pub whole : IsAtEnd new ⊎ ((more : List ℕ) → TellsStream how (bytes ++ more) status text)

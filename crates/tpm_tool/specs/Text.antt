@@ -1,5 +1,5 @@
 -- The program's lines (this profile).
-use Rattle.std.specs.Prelude.{ℕ, ◌+◌, ◌-◌, false, List, [], ◌∷◌, ◌++◌, length, replicate, codes, Option, Some, None, Result, Ok, Err}
+use Rattle.std.specs.Prelude.{ℕ, ◌+◌, ◌-◌, ◌==◌, if◌then◌else◌, false, List, [], ◌∷◌, ◌++◌, length, replicate, codes, Option, Some, None, Result, Ok, Err}
 use Rattle.std.specs.Fmt.{decimal, digits}
 use Rattle.hex.specs.Hex.{decode_of, encode_lower}
 use Rattle.hex.specs.declared.error.FromHexError.{FromHexError}
@@ -19,6 +19,10 @@ line (word ∷ next ∷ words) = word ++ (codes " " ++ line (next ∷ words))
 abbrev pub lines_from : {A : Type 0} → (ℕ → A → List ℕ) → ℕ → List A → List ℕ
 lines_from one i [] = []
 lines_from one i (x ∷ xs) = one i x ++ lines_from one (i + 1) xs
+
+-- before an entry of a list, counted from 1: a comma, where it isn't the first
+abbrev pub comma : ℕ → List ℕ
+comma i = if i == 1 then [] else codes ","
 
 -- a number in hexadecimal digits, lower case, at least so many of them
 abbrev pub hexadecimal : ℕ → ℕ → List ℕ

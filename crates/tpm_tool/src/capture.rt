@@ -8,16 +8,17 @@ ghost use Rattle.tpm_tool.specs.declared.capture_frames.Awaited.TheVariants.{Unk
 ghost use Rattle.tpm_tool.specs.declared.status.Status.TheVariants.{Done, Refused};
 ghost use Rattle.tpm_tool.specs.Faults.{FailsByMemoryOrWrite};
 ghost use Rattle.tpm_tool.specs.Script.{CountsRead};
-ghost use Rattle.tpm_tool.specs.Capture.{Frame, start, told_in, fault_line, TellsCapture, ReadsAll, ReadsTooMuchCapture};
+ghost use Rattle.tpm_tool.specs.Capture.{Frame, start, told_in, fault_text, TellsCapture, ReadsAll, ReadsTooMuchCapture};
 ghost use Rattle.tpm_tool.specs.Capturing.{read_as, place, AddedTo, Passes, Tells, EndsLine, Takes};
 
 use crate::answer::write;
 use crate::capture_frames::{
-    Awaited, answer_to_frame, awaited_behind, direction_of, push_fault, push_front,
+    Awaited, answer_to_frame, awaited_behind, direction_of, push_fault, push_numbered,
 };
 use crate::capture_lines::{Direction, Line, MOST_LINE, is_blank, read_line};
 use crate::fault::ToolFault;
 use crate::status::Status;
+use crate::telling::Telling;
 use std::alloc::{AllocError, Global};
 use std::io::Write;
 use tpm_wire::Source;
@@ -31,8 +32,7 @@ const PIECE: usize = 4096;
 /// A capture that is being told.
 #[derive(Drop)]
 pub(crate) struct Capture {
-    // whether each parameter is told by its name
-    fields: bool,
+    pub(crate) how: Telling,
     // what has come of the present line, without its blanks, up to a byte too many
     line: Vec<u8>,
     // the number of the next frame
@@ -44,14 +44,14 @@ pub(crate) struct Capture {
 
 impl Capture {
     /// A capture of which nothing is told.
-    pub(crate) fn new(alloc: Global, fields: bool) -> Self
-        ensures fields { result.fields ≡ fields }
+    pub(crate) fn new(alloc: Global, how: Telling) -> Self
+        ensures how { result.how ≡ how }
         ensures line { result.line.items ≡ [] }
         ensures place { place result ≡ start }
         ensures status { result.status ≡ Done }
     {
         Capture {
-            fields,
+            how,
             line: Vec::new(alloc),
             number: 1,
             awaited: Awaited::Nothing,
@@ -71,10 +71,10 @@ impl Capture {
 
     fn tell_fault(&mut self, text: &mut String, fault: &str) -> Result<(), AllocError>
         requires { self.old.number + 1 < 2 ^ 64 }
-        ensures { OnOk result (string_bytes text.new ≡ string_bytes text.old ++ fault_line self.old.number fault.now
+        ensures { OnOk result (string_bytes text.new ≡ string_bytes text.old ++ fault_text self.old.how.json self.old.number fault.now
             × Passes self.old Unknown Refused self.new) }
     {
-        push_fault(text, self.number, fault)?;
+        push_fault(text, self.how.json, self.number, fault)?;
         self.pass(Awaited::Unknown, Status::Refused);
         Ok(())
     }
@@ -90,9 +90,14 @@ impl Capture {
         ensures { OnOk result (Tells (Frame mark bytes.now) self.old self.new (AddedTo (string_bytes text.old) (string_bytes text.new))) }
     {
         let direction = direction_of(mark, self.awaited, bytes);
-        let answer = answer_to_frame(alloc, self.fields, direction, self.awaited, bytes)?;
-        push_front(text, self.number, direction)?;
-        text.push_str(answer.text.as_str())?;
+        let answer = answer_to_frame(alloc, self.how, direction, self.awaited, bytes)?;
+        push_numbered(
+            text,
+            self.how.json,
+            self.number,
+            direction,
+            answer.text.as_str(),
+        )?;
         self.pass(awaited_behind(direction, bytes), answer.status);
         Ok(())
     }
@@ -190,7 +195,7 @@ impl Capture {
     }
 }
 
-/// Prints what `show` prints of each frame of a capture, or what `show --fields` prints.
+/// Prints what `show` prints of each frame of a capture, or what `show --fields` prints, or an object of JSON in a line.
 ///
 /// A line has a frame in hexadecimal digits, two to a byte and in either case, behind `0x` or without it. Spaces, tabs
 /// and carriage returns count for nothing wherever they stand. `>` before it marks a command and `<` a reply. Without a
@@ -203,6 +208,12 @@ impl Capture {
 /// one with that code (Part 2, 6.5.2), the line `TPM2_NAME is not in this profile` follows. A line of other text is
 /// `N not hexadecimal`, and one of more than 8,195 bytes beside its blanks `N too long`; the next is read all the same.
 ///
+/// The object has the members `number` and `kind`, which is `command` or `response`. A command has its name as `command`, `size`,
+/// `handles`, `sessions` and `parameters`, and a reply the same; a response of another code than 0 has `code`. What is refused has
+/// `refused` and `at`, and `name` where the profile hasn't the command; a reply without its command has `fault`. Where parameters
+/// are told by their names there is `fields`, a list of objects with `name`, `type` and `value`. A line without a frame has `number`
+/// and `fault`. Each says what its line says: bytes, handles, attributes and codes are in hexadecimal, and no bytes are empty.
+///
 /// The status is `Refused` where a frame or a line was refused, and else `Done`. What a read gave is answered before the
 /// next read, and no more than one line and one piece is held.
 ///
@@ -213,17 +224,17 @@ pub fn show_lines<R: Source, W: Write>(
     alloc: Global,
     input: &mut R,
     out: &mut W,
-    fields: bool,
+    how: Telling,
 ) -> Result<Status, ToolFault>
     ensures failures { CountsRead (R.failed input.old) (R.failed input.new) result }
     ensures stop { IsErrOf result Read → IsWhereItFailed (R.stopped input.new) }
     ensures ok { IfOk result (λ status. (bytes text : List ℕ)
         × ReadsAll (R.coming input.old) (R.coming input.new) bytes
-        × TellsCapture fields bytes status text
+        × TellsCapture how bytes status text
         × Appends (W.contents out.old) (W.contents out.new) text) }
     ensures too_long { IsErrOf result InputTooLong → ReadsTooMuchCapture (R.coming input.old) (R.coming input.new) }
 {
-    let mut capture = Capture::new(alloc, fields);
+    let mut capture = Capture::new(alloc, how);
     let mut piece = [0; PIECE];
     let mut read = 0;
     loop {

@@ -8,51 +8,70 @@ ghost use Rattle.tpm_tool.specs.declared.status.Status.TheVariants.{Refused};
 ghost use Rattle.tpm_tool.specs.Faults.{FailsByMemoryOrWrite};
 ghost use Rattle.tpm_tool.specs.Script.{CountsRead};
 ghost use Rattle.tpm_tool.specs.Capture.{ReadsTooMuchCapture};
-ghost use Rattle.tpm_tool.specs.Stream.{stop_line, TellsRead};
+ghost use Rattle.tpm_tool.specs.Stream.{stop_line, stop_text, TellsRead};
 
 use crate::answer::write;
 use crate::capture::{Capture, MOST_BYTES};
 use crate::fault::ToolFault;
+use crate::frame_json::push_stop_object;
 use crate::status::Status;
+use crate::telling::Telling;
 use std::alloc::{AllocError, Global};
 use std::io::Write;
 use tpm_buffer::{ReadFault, read_frame_into};
 use tpm_wire::{Buffer, Source};
 
-// Adds the line of a frame that does not come.
 #[tactic(auto, unfolding(crate::specs::Stream::stop_line))]
-fn push_stop(text: &mut String, number: u64, fault: &str, at: usize) -> Result<(), AllocError>
+fn push_stop_line(text: &mut String, number: u64, fault: &str, at: usize) -> Result<(), AllocError>
     ensures { OnOk result (string_bytes text.new ≡ string_bytes text.old ++ stop_line number fault.now at) }
 {
     writeln!(text, "{number} {fault} at {at}")
 }
 
-// Prints the line of a frame that does not come.
+// Adds the line or the object of a frame that does not come.
+fn push_stop(
+    text: &mut String,
+    json: bool,
+    number: u64,
+    fault: &str,
+    at: usize,
+) -> Result<(), AllocError>
+    ensures { OnOk result (string_bytes text.new ≡ string_bytes text.old ++ stop_text json number fault.now at) }
+{
+    if json {
+        push_stop_object(text, number, fault, at)
+    } else {
+        push_stop_line(text, number, fault, at)
+    }
+}
+
+// Prints the line or the object of a frame that does not come.
 fn print_stop<W: Write>(
     alloc: Global,
+    json: bool,
     number: u64,
     fault: &str,
     at: usize,
     out: &mut W,
 ) -> Result<Status, ToolFault>
     ensures ok { IfOk result (λ status. (status ≡ Refused)
-        × Appends (W.contents out.old) (W.contents out.new) (stop_line number fault.now at)) }
+        × Appends (W.contents out.old) (W.contents out.new) (stop_text json number fault.now at)) }
     ensures err { FailsByMemoryOrWrite result }
 {
     let mut text = String::new(alloc);
-    push_stop(&mut text, number, fault, at)?;
+    push_stop(&mut text, json, number, fault, at)?;
     write(out, &text)?;
     Ok(Status::Refused)
 }
 
-/// Prints what `show` prints of each frame of a stream, or what `show --fields` prints.
+/// Prints what `show` prints of each frame of a stream, or what `show --fields` prints, or an object of JSON in a line.
 ///
 /// The stream is frames one after the other, each of 10 to 4,096 bytes that state their size in the third to sixth of them
 /// (Part 1, "Command/Response Structure"). What is told of them is what `show_lines` tells of the same frames without marks: a
 /// frame is a command, but where one is before it and the frame is of ten bytes, or has the code 0, it is the reply.
 ///
 /// A size that no frame has ends the stream: behind the frames before it the line is `N bad size at P`, and where the input ends
-/// inside a frame `N cut short at P`. N is the number of that frame, from 1, and P is how many bytes precede it.
+/// inside a frame `N cut short at P`. N is the number of that frame, from 1, and P is how many bytes precede it. In JSON these are the members `number`, `fault` and `at`.
 ///
 /// The status is `Refused` where a frame was refused or did not come whole, and else `Done`. Each frame is answered before the
 /// next is read, and no more than one frame is held. Behind a size that no frame has nothing is read.
@@ -64,16 +83,16 @@ pub fn show_stream<R: Source, W: Write>(
     alloc: Global,
     input: &mut R,
     out: &mut W,
-    fields: bool,
+    how: Telling,
 ) -> Result<Status, ToolFault>
     ensures failures { CountsRead (R.failed input.old) (R.failed input.new) result }
     ensures stop { IsErrOf result Read → IsWhereItFailed (R.stopped input.new) }
     ensures ok { IfOk result (λ status. (text : List ℕ)
-        × TellsRead fields (R.coming input.old) (R.coming input.new) status text
+        × TellsRead how (R.coming input.old) (R.coming input.new) status text
         × Appends (W.contents out.old) (W.contents out.new) text) }
     ensures too_long { IsErrOf result InputTooLong → ReadsTooMuchCapture (R.coming input.old) (R.coming input.new) }
 {
-    let mut capture = Capture::new(alloc, fields);
+    let mut capture = Capture::new(alloc, how);
     let mut frame = Buffer::new();
     let mut read = 0;
     loop {
@@ -82,10 +101,10 @@ pub fn show_stream<R: Source, W: Write>(
             Ok(false) => return Ok(capture.status),
             Err(ReadFault::Device) => return Err(ToolFault::Read),
             Err(ReadFault::EndInside) => {
-                return print_stop(alloc, capture.number, "cut short", read, out);
+                return print_stop(alloc, how.json, capture.number, "cut short", read, out);
             }
             Err(ReadFault::Broken(_)) => {
-                return print_stop(alloc, capture.number, "bad size", read, out);
+                return print_stop(alloc, how.json, capture.number, "bad size", read, out);
             }
         }
         read += frame.len();

@@ -2,10 +2,11 @@
 
 ghost use Rattle.std.specs.Prelude.{◌≡◌, ◌++◌, Option, IfOk, OnOk, string_bytes};
 ghost use Rattle.tpm_tool.specs.declared.status.Status.TheVariants.{Refused};
-ghost use Rattle.tpm_tool.specs.Text.{refusal_line};
-ghost use Rattle.tpm_tool.specs.CommandNames.{absent_line, absent_text, absent_behind};
+ghost use Rattle.tpm_tool.specs.Capture.{refusal_text};
+ghost use Rattle.tpm_tool.specs.CommandNames.{absent_line, absent_member, absent_named, absent_text, absent_behind};
 
 use crate::answer::Answer;
+use crate::frame_json::answer_to_refusal;
 use crate::named::{Named, look_up};
 use std::alloc::{AllocError, Global};
 use tpm_wire::Refusal;
@@ -508,30 +509,58 @@ fn push_absent_line(text: &mut String, name: &str) -> Result<(), AllocError>
     writeln!(text, "TPM2_{name} is not in this profile")
 }
 
+#[tactic(auto, unfolding(crate::specs::CommandNames::absent_member))]
+fn push_absent_member(text: &mut String, name: &str) -> Result<(), AllocError>
+    ensures { OnOk result (string_bytes text.new ≡ string_bytes text.old ++ absent_member name.now) }
+{
+    write!(text, ",\"name\":\"TPM2_{name}\"")
+}
+
+fn push_absent_name(text: &mut String, json: bool, name: &str) -> Result<(), AllocError>
+    ensures { OnOk result (string_bytes text.new ≡ string_bytes text.old ++ absent_named json name.now) }
+{
+    if json {
+        push_absent_member(text, name)
+    } else {
+        push_absent_line(text, name)
+    }
+}
+
 // Adds that the command with this code isn't in the profile, if it has a name.
-fn push_absent(text: &mut String, code: u32) -> Result<(), AllocError>
-    ensures { OnOk result (string_bytes text.new ≡ string_bytes text.old ++ absent_text code) }
+fn push_absent(text: &mut String, json: bool, code: u32) -> Result<(), AllocError>
+    ensures { OnOk result (string_bytes text.new ≡ string_bytes text.old ++ absent_text json code) }
 {
     match look_up(&COMMANDS, code) {
-        Some(named) => push_absent_line(text, named.name),
+        Some(named) => push_absent_name(text, json, named.name),
         None => Ok(()),
     }
 }
 
-/// The line of a refusal, and behind that of a command's code which command it is.
+fn answer_to_a_refusal(alloc: Global, json: bool, refusal: &Refusal) -> Result<Answer, AllocError>
+    ensures { IfOk result (λ a. (a.status ≡ Refused) × (string_bytes a.text ≡ refusal_text json refusal.now)) }
+{
+    if json {
+        answer_to_refusal(alloc, refusal)
+    } else {
+        Answer::refusal(alloc, refusal)
+    }
+}
+
+/// The line of a refusal or its members, and behind that of a command's code which command it is.
 pub(crate) fn answer_to_refused(
     alloc: Global,
+    json: bool,
     refusal: &Refusal,
     code: Option<u32>,
 ) -> Result<Answer, AllocError>
     ensures { IfOk result (λ a. (a.status ≡ Refused)
-        × (string_bytes a.text ≡ refusal_line refusal.now ++ absent_behind refusal.now code)) }
+        × (string_bytes a.text ≡ refusal_text json refusal.now ++ absent_behind json refusal.now code)) }
 {
-    let mut answer = Answer::refusal(alloc, refusal)?;
+    let mut answer = answer_to_a_refusal(alloc, json, refusal)?;
     if *refusal == UNSUPPORTED
         && let Some(code) = code
     {
-        push_absent(&mut answer.text, code)?;
+        push_absent(&mut answer.text, json, code)?;
     }
     Ok(answer)
 }

@@ -4,17 +4,17 @@ ghost use Rattle.std.specs.Prelude.{◌≡◌, ◌++◌, ◌≤◌, OnOk, codes,
 ghost use Rattle.tpm_wire.specs.Spelling.{spelling};
 ghost use Rattle.tpm_wire.specs.Structures.{sized_bytes};
 ghost use Rattle.tpm_buffer.specs.Events.{event_bytes};
-ghost use Rattle.tpm_tool.specs.Fields.{field_line, command_fields, reply_fields};
+ghost use Rattle.tpm_tool.specs.Fields.{field_line, field_object, field_text, command_fields, reply_fields};
 
 use crate::hexadecimal::shown_bytes;
+use crate::text::push_comma;
 use std::alloc::{AllocError, Global};
 use tpm_buffer::{CommandBody, Event, ReplyBody, StartAuth};
 use tpm_types::EncryptedSalt;
 use tpm_wire::{Buffer, Wire, put_bytes};
 
-// Adds the line of a parameter with this name and this type, of these bytes.
 #[tactic(auto, unfolding(crate::specs::Fields::field_line))]
-fn push_bytes(
+fn push_line(
     alloc: Global,
     text: &mut String,
     name: &str,
@@ -27,67 +27,137 @@ fn push_bytes(
     writeln!(text, "  {name} {kind} {bytes}")
 }
 
-// Adds the line of a parameter with this name and this type, of this value.
+#[tactic(auto, unfolding(crate::specs::Fields::field_object))]
+fn push_object(
+    alloc: Global,
+    text: &mut String,
+    name: &str,
+    kind: &str,
+    bytes: &[u8],
+) -> Result<(), AllocError>
+    ensures { OnOk result (string_bytes text.new ≡ string_bytes text.old ++ field_object name.now kind.now bytes.now) }
+{
+    let value = hex::encode(alloc, bytes)?;
+    write!(
+        text,
+        "{{\"name\":\"{name}\",\"type\":\"{kind}\",\"value\":\"{value}\"}}"
+    )
+}
+
+// Adds the line or the object of a parameter with this number, this name and this type, of these bytes.
+#[tactic(auto, unfolding(crate::specs::Fields::field_text))]
+fn push_bytes(
+    alloc: Global,
+    text: &mut String,
+    json: bool,
+    i: usize,
+    name: &str,
+    kind: &str,
+    bytes: &[u8],
+) -> Result<(), AllocError>
+    ensures { OnOk result (string_bytes text.new ≡ string_bytes text.old ++ field_text json i name.now kind.now bytes.now) }
+{
+    if !json {
+        return push_line(alloc, text, name, kind, bytes);
+    }
+    push_comma(text, i)?;
+    push_object(alloc, text, name, kind, bytes)
+}
+
+// Adds the line or the object of a parameter with this number, this name and this type, of this value.
 fn push_field<T: Wire>(
     alloc: Global,
     text: &mut String,
+    json: bool,
+    i: usize,
     name: &str,
     kind: &str,
     value: &T,
 ) -> Result<(), AllocError>
     requires { length (spelling T.layout value.now) ≤ 4096 }
-    ensures { OnOk result (string_bytes text.new ≡ string_bytes text.old ++ field_line name.now kind.now (spelling T.layout value.now)) }
+    ensures { OnOk result (string_bytes text.new ≡ string_bytes text.old ++ field_text json i name.now kind.now (spelling T.layout value.now)) }
 {
     let mut bytes = Buffer::new();
     value.put(&mut bytes);
-    push_bytes(alloc, text, name, kind, bytes.as_slice())
+    push_bytes(alloc, text, json, i, name, kind, bytes.as_slice())
 }
 
-// Adds the line of an event, which is lent.
+// Adds the line or the object of an event, which is lent.
 #[tactic(auto, unfolding(tpm_wire::specs::Structures::sized_bytes))]
-fn push_event(alloc: Global, text: &mut String, event: &Event<'_>) -> Result<(), AllocError>
-    ensures { OnOk result (string_bytes text.new ≡ string_bytes text.old ++ field_line (codes "eventData") (codes "TPM2B_EVENT") (spelling (sized_bytes event_bytes) event.now)) }
+fn push_event(
+    alloc: Global,
+    text: &mut String,
+    json: bool,
+    event: &Event<'_>,
+) -> Result<(), AllocError>
+    ensures { OnOk result (string_bytes text.new ≡ string_bytes text.old ++ field_text json 1 (codes "eventData") (codes "TPM2B_EVENT") (spelling (sized_bytes event_bytes) event.now)) }
 {
     let event = event.as_slice();
     let mut bytes = Buffer::new();
     (event.len() as u16).put(&mut bytes);
     put_bytes(&mut bytes, event);
-    push_bytes(alloc, text, "eventData", "TPM2B_EVENT", bytes.as_slice())
+    push_bytes(
+        alloc,
+        text,
+        json,
+        1,
+        "eventData",
+        "TPM2B_EVENT",
+        bytes.as_slice(),
+    )
 }
 
-/// Adds a line for each parameter of a command: its name, its type and its bytes (Part 3, the table of the command).
+/// Adds a line, or an object of JSON, for each parameter of a command: its name, its type and its bytes (Part 3, the table of the
+/// command).
 #[tactic(auto, unfolding(tpm_types::specs::Constants::startup_type, tpm_types::specs::Constants::session_type, tpm_types::specs::Tpm2b::encrypted_salt, tpm_buffer::specs::Parameters::startup, tpm_buffer::specs::Parameters::nv_define_space, tpm_buffer::specs::Parameters::pcr_event, tpm_buffer::specs::Parameters::nv_read, tpm_buffer::specs::Parameters::flush_context, tpm_buffer::specs::Parameters::policy_command_code, tpm_buffer::specs::Parameters::policy_or, tpm_buffer::specs::Parameters::start_auth_session, tpm_buffer::specs::Parameters::pcr_read, tpm_buffer::specs::Parameters::policy_pcr, tpm_buffer::specs::Parameters::pcr_extend))]
 pub(crate) fn push_command_fields(
     alloc: Global,
     text: &mut String,
+    json: bool,
     body: &CommandBody<'_>,
 ) -> Result<(), AllocError>
-    ensures { OnOk result (string_bytes text.new ≡ string_bytes text.old ++ command_fields body.now) }
+    ensures { OnOk result (string_bytes text.new ≡ string_bytes text.old ++ command_fields json body.now) }
 {
     match body {
         CommandBody::NvDefineSpace { auth, public } => {
             prove!(auth.len() + public.len() <= 4096);
-            push_field(alloc, text, "auth", "TPM2B_AUTH", auth)?;
-            push_field(alloc, text, "publicInfo", "TPM2B_NV_PUBLIC", public)
+            push_field(alloc, text, json, 1, "auth", "TPM2B_AUTH", auth)?;
+            push_field(
+                alloc,
+                text,
+                json,
+                2,
+                "publicInfo",
+                "TPM2B_NV_PUBLIC",
+                public,
+            )
         }
-        CommandBody::PcrEvent { event, .. } => push_event(alloc, text, event),
+        CommandBody::PcrEvent { event, .. } => push_event(alloc, text, json, event),
         CommandBody::Startup(startup_type) => {
-            push_field(alloc, text, "startupType", "TPM_SU", startup_type)
+            push_field(alloc, text, json, 1, "startupType", "TPM_SU", startup_type)
         }
         CommandBody::NvRead { size, offset, .. } => {
-            push_field(alloc, text, "size", "UINT16", size)?;
-            push_field(alloc, text, "offset", "UINT16", offset)
+            push_field(alloc, text, json, 1, "size", "UINT16", size)?;
+            push_field(alloc, text, json, 2, "offset", "UINT16", offset)
         }
         CommandBody::FlushContext(session) => {
             prove!(session.len() <= 4096);
-            push_field(alloc, text, "flushHandle", "TPMI_DH_CONTEXT", session)
+            push_field(
+                alloc,
+                text,
+                json,
+                1,
+                "flushHandle",
+                "TPMI_DH_CONTEXT",
+                session,
+            )
         }
         CommandBody::PolicyCommandCode { code, .. } => {
-            push_field(alloc, text, "code", "TPM_CC", code)
+            push_field(alloc, text, json, 1, "code", "TPM_CC", code)
         }
         CommandBody::PolicyOr { digests, .. } => {
             prove!(digests.len() <= 4096);
-            push_field(alloc, text, "pHashList", "TPML_DIGEST", digests)
+            push_field(alloc, text, json, 1, "pHashList", "TPML_DIGEST", digests)
         }
         CommandBody::StartAuthSession(start) => {
             let StartAuth {
@@ -98,23 +168,35 @@ pub(crate) fn push_command_fields(
                 ..
             } = start;
             prove!(nonce_caller.len() + symmetric.len() + auth_hash.len() <= 4096);
-            push_field(alloc, text, "nonceCaller", "TPM2B_NONCE", nonce_caller)?;
             push_field(
                 alloc,
                 text,
+                json,
+                1,
+                "nonceCaller",
+                "TPM2B_NONCE",
+                nonce_caller,
+            )?;
+            push_field(
+                alloc,
+                text,
+                json,
+                2,
                 "encryptedSalt",
                 "TPM2B_ENCRYPTED_SECRET",
                 &EncryptedSalt::Empty,
             )?;
-            push_field(alloc, text, "sessionType", "TPM_SE", session_type)?;
-            push_field(alloc, text, "symmetric", "TPMT_SYM_DEF", symmetric)?;
-            push_field(alloc, text, "authHash", "TPMI_ALG_HASH", auth_hash)
+            push_field(alloc, text, json, 3, "sessionType", "TPM_SE", session_type)?;
+            push_field(alloc, text, json, 4, "symmetric", "TPMT_SYM_DEF", symmetric)?;
+            push_field(alloc, text, json, 5, "authHash", "TPMI_ALG_HASH", auth_hash)
         }
         CommandBody::PcrRead(selections) => {
             prove!(selections.len() <= 4096);
             push_field(
                 alloc,
                 text,
+                json,
+                1,
                 "pcrSelectionIn",
                 "TPML_PCR_SELECTION",
                 selections,
@@ -126,12 +208,36 @@ pub(crate) fn push_command_fields(
             ..
         } => {
             prove!(pcr_digest.len() + selections.len() <= 4096);
-            push_field(alloc, text, "pcrDigest", "TPM2B_DIGEST", pcr_digest)?;
-            push_field(alloc, text, "pcrs", "TPML_PCR_SELECTION", selections)
+            push_field(
+                alloc,
+                text,
+                json,
+                1,
+                "pcrDigest",
+                "TPM2B_DIGEST",
+                pcr_digest,
+            )?;
+            push_field(
+                alloc,
+                text,
+                json,
+                2,
+                "pcrs",
+                "TPML_PCR_SELECTION",
+                selections,
+            )
         }
         CommandBody::PcrExtend { digests, .. } => {
             prove!(digests.len() <= 4096);
-            push_field(alloc, text, "digests", "TPML_DIGEST_VALUES", digests)
+            push_field(
+                alloc,
+                text,
+                json,
+                1,
+                "digests",
+                "TPML_DIGEST_VALUES",
+                digests,
+            )
         }
         CommandBody::NvUndefineSpace { .. }
         | CommandBody::NvIncrement { .. }
@@ -143,32 +249,50 @@ pub(crate) fn push_command_fields(
     }
 }
 
-/// Adds a line for each parameter of a reply: its name, its type and its bytes (Part 3, the response table of the command).
+/// Adds a line, or an object of JSON, for each parameter of a reply: its name, its type and its bytes (Part 3, the response table of
+/// the command).
 #[tactic(auto, unfolding(tpm_buffer::specs::Replies::pcr_event_reply, tpm_buffer::specs::Replies::nv_read_reply, tpm_buffer::specs::Replies::nv_read_public_reply, tpm_buffer::specs::Replies::start_auth_session_reply, tpm_buffer::specs::Replies::pcr_read_reply, tpm_buffer::specs::Replies::policy_get_digest_reply))]
 pub(crate) fn push_reply_fields(
     alloc: Global,
     text: &mut String,
+    json: bool,
     body: &ReplyBody,
 ) -> Result<(), AllocError>
-    ensures { OnOk result (string_bytes text.new ≡ string_bytes text.old ++ reply_fields body.now) }
+    ensures { OnOk result (string_bytes text.new ≡ string_bytes text.old ++ reply_fields json body.now) }
 {
     match body {
         ReplyBody::PcrEvent(digests) => {
             prove!(digests.len() <= 4096);
-            push_field(alloc, text, "digests", "TPML_DIGEST_VALUES", digests)
+            push_field(
+                alloc,
+                text,
+                json,
+                1,
+                "digests",
+                "TPML_DIGEST_VALUES",
+                digests,
+            )
         }
         ReplyBody::NvRead(data) => {
             prove!(data.len() <= 4096);
-            push_field(alloc, text, "data", "TPM2B_MAX_NV_BUFFER", data)
+            push_field(alloc, text, json, 1, "data", "TPM2B_MAX_NV_BUFFER", data)
         }
         ReplyBody::NvReadPublic { public, name } => {
             prove!(public.len() + name.len() <= 4096);
-            push_field(alloc, text, "nvPublic", "TPM2B_NV_PUBLIC", public)?;
-            push_field(alloc, text, "nvName", "TPM2B_NAME", name)
+            push_field(alloc, text, json, 1, "nvPublic", "TPM2B_NV_PUBLIC", public)?;
+            push_field(alloc, text, json, 2, "nvName", "TPM2B_NAME", name)
         }
         ReplyBody::StartAuthSession(reply) => {
             prove!(reply.nonce_tpm.len() <= 4096);
-            push_field(alloc, text, "nonceTPM", "TPM2B_NONCE", &reply.nonce_tpm)
+            push_field(
+                alloc,
+                text,
+                json,
+                1,
+                "nonceTPM",
+                "TPM2B_NONCE",
+                &reply.nonce_tpm,
+            )
         }
         ReplyBody::PcrRead {
             update_counter,
@@ -176,19 +300,29 @@ pub(crate) fn push_reply_fields(
             digests,
         } => {
             prove!(selections.len() + digests.len() <= 4096);
-            push_field(alloc, text, "pcrUpdateCounter", "UINT32", update_counter)?;
             push_field(
                 alloc,
                 text,
+                json,
+                1,
+                "pcrUpdateCounter",
+                "UINT32",
+                update_counter,
+            )?;
+            push_field(
+                alloc,
+                text,
+                json,
+                2,
                 "pcrSelectionOut",
                 "TPML_PCR_SELECTION",
                 selections,
             )?;
-            push_field(alloc, text, "pcrValues", "TPML_DIGEST", digests)
+            push_field(alloc, text, json, 3, "pcrValues", "TPML_DIGEST", digests)
         }
         ReplyBody::PolicyGetDigest(digest) => {
             prove!(digest.len() <= 4096);
-            push_field(alloc, text, "policyDigest", "TPM2B_DIGEST", digest)
+            push_field(alloc, text, json, 1, "policyDigest", "TPM2B_DIGEST", digest)
         }
         ReplyBody::NvUndefineSpace
         | ReplyBody::NvDefineSpace

@@ -1,6 +1,7 @@
 //! Bytes as hexadecimal text.
 
-ghost use Rattle.std.specs.Prelude.{◌≡◌, IfOk, option_map, string_bytes};
+ghost use Rattle.std.specs.Prelude.{◌≡◌, ◌++◌, IfOk, OnOk, option_map, string_bytes};
+ghost use Rattle.hex.specs.Hex.{encode_lower};
 ghost use Rattle.tpm_tool.specs.Text.{bytes_in, bytes_text};
 
 use hex::FromHexError;
@@ -29,4 +30,12 @@ pub(crate) fn shown_bytes(alloc: Global, bytes: &[u8]) -> Result<String, AllocEr
         return String::from_str(alloc, "-");
     }
     hex::encode(alloc, bytes)
+}
+
+/// Adds bytes in hexadecimal.
+pub(crate) fn push_hex(alloc: Global, text: &mut String, bytes: &[u8]) -> Result<(), AllocError>
+    ensures { OnOk result (string_bytes text.new ≡ string_bytes text.old ++ encode_lower bytes.now) }
+{
+    let bytes = hex::encode(alloc, bytes)?;
+    write!(text, "{bytes}")
 }

@@ -48,7 +48,7 @@ fn push_command_text(
     ensures { OnOk result (string_bytes text.new ≡ string_bytes text.old ++ command_fields_text size areas.now body.now) }
 {
     push_command(alloc, text, size, areas)?;
-    push_command_fields(alloc, text, body)
+    push_command_fields(alloc, text, false, body)
 }
 
 /// What `show --fields` answers to bytes that are taken for a command.
@@ -95,7 +95,7 @@ fn push_reply_text(
     push_name(text, command, size)?;
     push_first_handle(text, areas.handle())?;
     push_parameters(alloc, text, areas.params())?;
-    push_reply_fields(alloc, text, body)?;
+    push_reply_fields(alloc, text, false, body)?;
     push_sessions(alloc, text, areas)
 }
 

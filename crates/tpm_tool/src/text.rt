@@ -1,12 +1,22 @@
 //! The program's lines.
 
 ghost use Rattle.std.specs.Prelude.{◌≡◌, ◌++◌, OnOk, string_bytes};
-ghost use Rattle.tpm_tool.specs.Text.{lines_from, refusal_line, bytes_line, command_line, handle_line, session_line, parameters_line, command_text};
+ghost use Rattle.tpm_tool.specs.Text.{comma, lines_from, refusal_line, bytes_line, command_line, handle_line, session_line, parameters_line, command_text};
 
 use crate::hexadecimal::shown_bytes;
 use std::alloc::{AllocError, Global};
 use tpm_buffer::{Areas, AuthRef, CommandCode};
 use tpm_wire::Refusal;
+
+/// Adds what stands before the entry of a list with this number, from 1: a comma, where it isn't the first.
+pub(crate) fn push_comma(text: &mut String, i: usize) -> Result<(), AllocError>
+    ensures { OnOk result (string_bytes text.new ≡ string_bytes text.old ++ comma i) }
+{
+    if i == 1 {
+        return Ok(());
+    }
+    text.push_str(",")
+}
 
 /// Adds the line of a refusal.
 #[tactic(auto, unfolding(crate::specs::Text::refusal_line))]

@@ -4,7 +4,7 @@ use crate::pieces::Pieces;
 use std::alloc::Global;
 use std::process::Abort;
 use std::test::Fail;
-use tpm_tool::{Status, ToolFault, show_lines, show_stream};
+use tpm_tool::{Status, Telling, ToolFault, show_lines, show_stream};
 use tpm_wire::Source;
 
 // A comment, a command and its reply, a line that isn't hexadecimal, and a reply that has no command.
@@ -23,12 +23,17 @@ const STREAM: [u8; 28] = [
 const STREAM_TEXT: &str =
     "1 > command Startup size 12\nparameters 0000\n2 < reply Startup size 10\nparameters -\n3 bad size at 22\n";
 
+const AS_LINES: Telling = Telling {
+    fields: false,
+    json: false,
+};
+
 fn told(
     alloc: Global,
     input: &mut Pieces<'_>,
 ) -> Result<(Result<Status, ToolFault>, Vec<u8>), Fail> {
     let mut out = Vec::new(alloc);
-    Ok((show_lines(alloc, input, &mut out, false), out))
+    Ok((show_lines(alloc, input, &mut out, AS_LINES), out))
 }
 
 fn check(
@@ -100,7 +105,7 @@ fn a_stream_is_the_same_in_any_pieces(rt: HostRuntime) -> Result<(), Fail> {
     for most in [1, 2, 3, 7, 25, 4096] {
         let mut out = Vec::new(rt.alloc());
         let mut input = Pieces::new(&STREAM, most);
-        let status = show_stream(rt.alloc(), &mut input, &mut out, false);
+        let status = show_stream(rt.alloc(), &mut input, &mut out, AS_LINES);
         assert_eq!(rt; status, Ok(Status::Refused));
         assert_eq!(rt; out.as_slice(), STREAM_TEXT.as_bytes());
     }
@@ -112,7 +117,7 @@ fn a_read_of_a_stream_that_fails_is_answered(rt: HostRuntime) -> Result<(), Fail
     for fails_at in 1..STREAM.len() + 1 {
         let mut out = Vec::new(rt.alloc());
         let mut input = Pieces::failing(&STREAM, 1, fails_at);
-        let status = show_stream(rt.alloc(), &mut input, &mut out, false);
+        let status = show_stream(rt.alloc(), &mut input, &mut out, AS_LINES);
         assert_eq!(rt; status, Err(ToolFault::Read));
         assert_eq!(rt; input.reads, fails_at);
         assert_eq!(rt; input.failures(), 1);

@@ -8,11 +8,26 @@ use std::test::Fail;
 use tpm_buffer::CommandCode;
 use tpm_device::Device;
 use tpm_tool::{
-    Status, ToolFault, build, check_log, list_events, not_hexadecimal, run_script, show,
+    Status, Telling, ToolFault, build, check_log, list_events, not_hexadecimal, run_script, show,
     show_fields, show_lines, show_stream,
 };
 use tpm_types::{Alg, AuthValue};
 use tpm_wire::SliceSource;
+
+const AS_LINES: Telling = Telling {
+    fields: false,
+    json: false,
+};
+
+const BY_FIELDS: Telling = Telling {
+    fields: true,
+    json: false,
+};
+
+const AS_JSON: Telling = Telling {
+    fields: true,
+    json: true,
+};
 
 // A call that prints.
 #[derive(Clone, Copy)]
@@ -21,8 +36,8 @@ enum Call {
     ShowReply(&'static str),
     ShowFields(&'static str),
     ShowReplyFields(&'static str),
-    ShowLines(&'static str, bool),
-    ShowStream(&'static [u8]),
+    ShowLines(&'static str, Telling),
+    ShowStream(&'static [u8], Telling),
     Build(&'static str),
     Run(&'static str),
     Check(&'static str, Option<&'static str>),
@@ -42,7 +57,7 @@ const CAPTURE: &str = "80010000000c000001440000\n80010000000a00000000\n< 8001000
 const STREAM: [u8; 13] = [0x80, 1, 0, 0, 0, 12, 0, 0, 1, 0x44, 0, 0, 0x80];
 
 // Each call, and the whole text that it prints.
-const CALLS: [(Call, &str); 21] = [
+const CALLS: [(Call, &str); 23] = [
     (
         Call::Show(STARTUP),
         "command Startup size 12\nparameters 0000\n",
@@ -61,17 +76,25 @@ const CALLS: [(Call, &str); 21] = [
         "reply NV_Read size 29\nparameters 00080000000000000004\n  data TPM2B_MAX_NV_BUFFER 00080000000000000004\nsession 1 nonce - attributes 01 hmac -\n",
     ),
     (
-        Call::ShowLines(CAPTURE, false),
+        Call::ShowLines(CAPTURE, AS_LINES),
         "1 > command Startup size 12\nparameters 0000\n2 < reply Startup size 10\nparameters -\n3 < no command is before it\n",
     ),
     (
-        Call::ShowLines(CAPTURE, true),
+        Call::ShowLines(CAPTURE, BY_FIELDS),
         "1 > command Startup size 12\nparameters 0000\n  startupType TPM_SU 0000\n2 < reply Startup size 10\nparameters -\n3 < no command is before it\n",
     ),
-    (Call::ShowLines("no", true), "1 not hexadecimal\n"),
     (
-        Call::ShowStream(&STREAM),
+        Call::ShowLines(CAPTURE, AS_JSON),
+        "{\"number\":1,\"kind\":\"command\",\"command\":\"Startup\",\"size\":12,\"handles\":[],\"sessions\":[],\"parameters\":\"0000\",\"fields\":[{\"name\":\"startupType\",\"type\":\"TPM_SU\",\"value\":\"0000\"}]}\n{\"number\":2,\"kind\":\"response\",\"command\":\"Startup\",\"size\":10,\"handles\":[],\"parameters\":\"\",\"fields\":[],\"sessions\":[]}\n{\"number\":3,\"kind\":\"response\",\"fault\":\"no command is before it\"}\n",
+    ),
+    (Call::ShowLines("no", BY_FIELDS), "1 not hexadecimal\n"),
+    (
+        Call::ShowStream(&STREAM, AS_LINES),
         "1 > command Startup size 12\nparameters 0000\n2 cut short at 12\n",
+    ),
+    (
+        Call::ShowStream(&STREAM, AS_JSON),
+        "{\"number\":1,\"kind\":\"command\",\"command\":\"Startup\",\"size\":12,\"handles\":[],\"sessions\":[],\"parameters\":\"0000\",\"fields\":[{\"name\":\"startupType\",\"type\":\"TPM_SU\",\"value\":\"0000\"}]}\n{\"number\":2,\"fault\":\"cut short\",\"at\":12}\n",
     ),
     (Call::Build("0000"), "80010000000c000001440000\n"),
     (Call::Build("0002"), "refused 1c4 at 10\n"),
@@ -130,15 +153,12 @@ fn perform<W: Write>(alloc: Global, out: &mut W, call: Call) -> Result<Status, T
         Call::ShowReply(hex) => show(alloc, out, Some(CommandCode::PcrReset), hex),
         Call::ShowFields(hex) => show_fields(alloc, out, None, hex),
         Call::ShowReplyFields(hex) => show_fields(alloc, out, Some(CommandCode::NvRead), hex),
-        Call::ShowLines(capture, fields) => {
-            show_lines(
-                alloc,
-                &mut SliceSource::new(capture.as_bytes()),
-                out,
-                fields,
-            )
+        Call::ShowLines(capture, how) => {
+            show_lines(alloc, &mut SliceSource::new(capture.as_bytes()), out, how)
         }
-        Call::ShowStream(stream) => show_stream(alloc, &mut SliceSource::new(stream), out, false),
+        Call::ShowStream(stream, how) => {
+            show_stream(alloc, &mut SliceSource::new(stream), out, how)
+        }
         Call::Build(parameters) => build(alloc, out, CommandCode::Startup, "-", "-", parameters),
         Call::Run(script) => run(alloc, out, script),
         Call::NotHexadecimal => not_hexadecimal(alloc, out),

@@ -12,8 +12,9 @@ use std::{env, fs, io};
 use tpm_args::{Stop, Task, Words, words_not_text};
 use tpm_device::Device;
 use tpm_tool::{
-    Listing, Signed, Status, ToolFault, build, check_log, check_signed, explain, list_events,
-    not_hexadecimal, read_attest, run_script, show, show_fields, show_lines, show_stream,
+    Listing, Signed, Status, Telling, ToolFault, build, check_log, check_signed, explain,
+    list_events, not_hexadecimal, read_attest, run_script, show, show_fields, show_lines,
+    show_stream,
 };
 use tpm_types::{Alg, AuthValue, Selections};
 use tpm_wire::{Reads, Source};
@@ -127,12 +128,12 @@ fn show_capture<R: AllocGlobal, S: Source, W: Write>(
     input: &mut S,
     out: &mut W,
     binary: bool,
-    fields: bool,
+    how: Telling,
 ) -> Result<Status, ToolFault> {
     if binary {
-        show_stream(rt.alloc(), input, out, fields)
+        show_stream(rt.alloc(), input, out, how)
     } else {
-        show_lines(rt.alloc(), input, out, fields)
+        show_lines(rt.alloc(), input, out, how)
     }
 }
 
@@ -142,10 +143,10 @@ fn show_file<'a, R: AllocGlobal + Files, W: Write>(
     out: &mut W,
     path: &'a str,
     binary: bool,
-    fields: bool,
+    how: Telling,
 ) -> Result<Status, Fault<'a>> {
     let mut input = opened(rt, path)?;
-    show_capture(rt, &mut input, out, binary, fields).map_err(|fault| Fault::of_reading(
+    show_capture(rt, &mut input, out, binary, how).map_err(|fault| Fault::of_reading(
         rt, fault, path,
     ))
 }
@@ -186,12 +187,17 @@ fn perform<'a, R: AllocGlobal + Files + Input + Print>(
             file: None,
             binary,
             fields,
-        } => show_capture(rt, &mut Reads::new(rt.reader()), out, binary, fields),
+            json,
+        } => {
+            let how = Telling { fields, json };
+            show_capture(rt, &mut Reads::new(rt.reader()), out, binary, how)
+        }
         Task::ShowCapture {
             file: Some(path),
             binary,
             fields,
-        } => return show_file(rt, out, path, binary, fields),
+            json,
+        } => return show_file(rt, out, path, binary, Telling { fields, json }),
         Task::Build {
             name,
             handles,

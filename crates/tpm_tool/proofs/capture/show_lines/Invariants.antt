@@ -7,7 +7,7 @@ use Rattle.tpm_tool.proofs.capture.show_lines.Given as goal
 -- the bytes so far are taken, and are not too many
 abbrev pub invariant-loop-capture : goal.invariant-loop-capture
 invariant-loop-capture g l = record {
-  reaches : Reaches l.fields (g.R.Source.coming l.fn.input) (g.R.Source.coming l.input) l.read l.capture (Appends (g.W.Write.contents l.fn.out) (g.W.Write.contents l.out));
+  reaches : Reaches l.fn.how (g.R.Source.coming l.fn.input) (g.R.Source.coming l.input) l.read l.capture (Appends (g.W.Write.contents l.fn.out) (g.W.Write.contents l.out));
   bound : l.read ≤ most_bytes;
   failures : g.R.Source.failed l.input ≡ g.R.Source.failed l.fn.input;
 }

@@ -16,8 +16,8 @@ loop-capture-init g c =
     let contents = g.W.Write.contents in
     let coming = g.R.Source.coming in
     record {
-      streams = streams_none c.args.fields (coming c.args.input.now) c.new-capture.result (Appends (contents c.args.out.now) (contents c.args.out.now)) (consumes_none (coming c.args.input.now))
-          (appends_nothing (contents c.args.out.now)) c.new-capture.ensures.fields c.new-capture.ensures.place c.new-capture.ensures.status;
+      streams = streams_none c.args.how (coming c.args.input.now) c.new-capture.result (Appends (contents c.args.out.now) (contents c.args.out.now)) (consumes_none (coming c.args.input.now))
+          (appends_nothing (contents c.args.out.now)) c.new-capture.ensures.how c.new-capture.ensures.place c.new-capture.ensures.status;
       bound = omega arith;
       failures = refl;
     }
@@ -28,7 +28,7 @@ returns-in-Err-EndInside-clause-ok g c =
     let coming = g.R.Source.coming in
     let is = subst (λ (e : ReadFault). ReadsInto (coming c.loop-capture.input) (coming c.read_frame_into.new.source) c.read_frame_into.new.frame.items (Err e)) c.in-Err-EndInside.field-0-is c.in-Err-EndInside.ensures.frame in
     IfOk-weaker c.print_stop.result _ _ (λ status told.
-    rw told.0 (stream_cut c.args.fields (coming c.args.input.now) (coming c.loop-capture.input) (coming c.read_frame_into.new.source) c.loop-capture.read is.0 c.loop-capture.capture
+    rw told.0 (stream_cut c.args.how (coming c.args.input.now) (coming c.loop-capture.input) (coming c.read_frame_into.new.source) c.loop-capture.read is.0 c.loop-capture.capture
     (Appends (contents c.args.out.now) (contents c.loop-capture.out)) (Appends (contents c.loop-capture.out) (contents c.print_stop.new.out)) (Appends (contents c.args.out.now) (contents c.print_stop.new.out))
     (joins_appends (contents c.args.out.now) (contents c.loop-capture.out) (contents c.print_stop.new.out))
     c.loop-capture.invariant.streams is.1 (is.2.0, is.2.1) is.2.2 told.1)) c.print_stop.ensures.ok
@@ -39,7 +39,7 @@ returns-in-Err-Broken-clause-ok g c =
     let coming = g.R.Source.coming in
     let is = subst (λ (e : ReadFault). ReadsInto (coming c.loop-capture.input) (coming c.read_frame_into.new.source) c.read_frame_into.new.frame.items (Err e)) c.in-Err-Broken.field-0-is c.in-Err-Broken.ensures.frame in
     IfOk-weaker c.print_stop-in-Err-Broken.result _ _ (λ status told.
-    rw told.0 (stream_breaks c.args.fields (coming c.args.input.now) (coming c.loop-capture.input) (coming c.read_frame_into.new.source) c.loop-capture.read is.0 c.loop-capture.capture
+    rw told.0 (stream_breaks c.args.how (coming c.args.input.now) (coming c.loop-capture.input) (coming c.read_frame_into.new.source) c.loop-capture.read is.0 c.loop-capture.capture
     (Appends (contents c.args.out.now) (contents c.loop-capture.out)) (Appends (contents c.loop-capture.out) (contents c.print_stop-in-Err-Broken.new.out)) (Appends (contents c.args.out.now) (contents c.print_stop-in-Err-Broken.new.out))
     (joins_appends (contents c.args.out.now) (contents c.loop-capture.out) (contents c.print_stop-in-Err-Broken.new.out))
     c.loop-capture.invariant.streams is.1 is.2.0 told.1)) c.print_stop-in-Err-Broken.ensures.ok
@@ -65,9 +65,9 @@ loop-capture-preserved g c =
     let told = subst (λ (s : List ℕ). Tells (Frame None s) c.loop-capture.capture c.print_frame.new.self (Appends (contents c.loop-capture.out) (contents c.print_frame.new.out)))
     c.as_slice.ensures.value c.in_ok-print_frame.ensures.ok in
     record {
-      streams = subst (λ (n : ℕ). Streams c.args.fields (coming c.args.input.now) (coming c.read_frame_into.new.source) (c.loop-capture.read + n) c.print_frame.new.self
+      streams = subst (λ (n : ℕ). Streams c.args.how (coming c.args.input.now) (coming c.read_frame_into.new.source) (c.loop-capture.read + n) c.print_frame.new.self
           (Appends (contents c.args.out.now) (contents c.print_frame.new.out))) (sym c.len-read.ensures.value)
-          (streams_more c.args.fields (coming c.args.input.now) (coming c.loop-capture.input) (coming c.read_frame_into.new.source) c.loop-capture.read frame c.loop-capture.capture c.print_frame.new.self
+          (streams_more c.args.how (coming c.args.input.now) (coming c.loop-capture.input) (coming c.read_frame_into.new.source) c.loop-capture.read frame c.loop-capture.capture c.print_frame.new.self
           (Appends (contents c.args.out.now) (contents c.loop-capture.out)) (Appends (contents c.loop-capture.out) (contents c.print_frame.new.out)) (Appends (contents c.args.out.now) (contents c.print_frame.new.out))
           (joins_appends (contents c.args.out.now) (contents c.loop-capture.out) (contents c.print_frame.new.out))
           c.loop-capture.invariant.streams is.0 is.1 told);

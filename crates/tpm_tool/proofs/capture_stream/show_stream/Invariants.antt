@@ -7,7 +7,7 @@ use Rattle.tpm_tool.proofs.capture_stream.show_stream.Given as goal
 -- the frames so far are told, and have not too many bytes
 abbrev pub invariant-loop-capture : goal.invariant-loop-capture
 invariant-loop-capture g l = record {
-  streams : Streams l.fn.fields (g.R.Source.coming l.fn.input) (g.R.Source.coming l.input) l.read l.capture (Appends (g.W.Write.contents l.fn.out) (g.W.Write.contents l.out));
+  streams : Streams l.fn.how (g.R.Source.coming l.fn.input) (g.R.Source.coming l.input) l.read l.capture (Appends (g.W.Write.contents l.fn.out) (g.W.Write.contents l.out));
   bound : l.read ≤ most_bytes;
   failures : g.R.Source.failed l.input ≡ g.R.Source.failed l.fn.input;
 }
