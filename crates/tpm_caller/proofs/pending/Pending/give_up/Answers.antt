@@ -1,30 +1,33 @@
-use Rattle.std.proofs.Common.{◌≡◌, Result, Ok, sym, ap, ◌∙◌}
+use Rattle.std.proofs.Common.{◌≡◌, ◌<◌, Option, Some, None, Result, Ok, sym, ap, ◌∙◌, subst, arith}
 use Rattle.tpm_model.specs.InStep.{CallerSession}
-use Rattle.tpm_model.specs.Callers.{Waiting, caller_of_refusal}
+use Rattle.tpm_model.specs.Callers.{Waiting, given_up}
 use Rattle.tpm_caller.specs.Faults.{giving_up_of}
-use Rattle.tpm_caller.proofs.Opening.{given_up_is, not_given_up}
+use Rattle.tpm_caller.proofs.FromCut.{code_given_up, done_not_given_up, uncut_not_given_up}
 use Rattle.tpm_caller.proofs.pending.Pending.give_up.Goals as goal
 
 abbrev okay : CallerSession → Result CallerSession Waiting
 okay x = Ok x
 
-pub returns-in-Ok-Code : goal.returns-in-Ok-Code
-returns-in-Ok-Code c =
-    let z = c.args.self in
-    let code : c.self.inside.code ≡ z.code = ap (λ (s : Waiting). s.code) c.self.view_is in
-    let spells = (c.decode_response.ensures.ok c.in-Ok-Code.field-0).0 c.in-Ok-Code.is in
-    ap (λ (s : Waiting). okay s.caller) c.self.view_is
-    ∙ sym (ap (giving_up_of z) (given_up_is z c.self.inside.code c.args.refusal.now c.in-Ok-Code.field-0 code spells ∙ ap (λ r. caller_of_refusal z (Ok r)) c.in-Ok-Code.field-0-is))
+pub returns-then-code-eq0 : goal.returns-then-code-eq0
+returns-then-code-eq0 c =
+    let bytes = c.args.refusal.now in
+    let z : Waiting = record { caller = c.self.inside.caller; code = c.self.inside.code; key = c.self.inside.key; nonce = c.self.inside.nonce; keep = c.self.inside.keep } in
+    let cut = c.in-Ok.areas in
+    let none : given_up z bytes ≡ None = done_not_given_up z bytes cut (sym c.code.ensures ∙ c.if-code-eq0.true) ((c.reply_areas.ensures.ok cut).0 c.in-Ok.is) in
+    sym (ap (giving_up_of c.args.self) (subst (λ (w : Waiting). given_up w bytes ≡ None) c.self.view_is none))
 
-pub returns-in-Ok-Done : goal.returns-in-Ok-Done
-returns-in-Ok-Done c =
-    let z = c.args.self in
-    let code : c.self.inside.code ≡ z.code = ap (λ (s : Waiting). s.code) c.self.view_is in
-    let spells = (c.decode_response.ensures.ok c.in-Ok-Done.field-0).0 c.in-Ok-Done.is in
-    sym (ap (giving_up_of z) (given_up_is z c.self.inside.code c.args.refusal.now c.in-Ok-Done.field-0 code spells ∙ ap (λ r. caller_of_refusal z (Ok r)) c.in-Ok-Done.field-0-is))
+pub returns-else-code-eq0 : goal.returns-else-code-eq0
+returns-else-code-eq0 c =
+    let bytes = c.args.refusal.now in
+    let z : Waiting = record { caller = c.self.inside.caller; code = c.self.inside.code; key = c.self.inside.key; nonce = c.self.inside.nonce; keep = c.self.inside.keep } in
+    let cut = c.in-Ok.areas in
+    let some : 0 < cut.code = omega (arith, c.code.ensures, c.if-code-eq0.false) in
+    let given : given_up z bytes ≡ Some z.caller = code_given_up z bytes cut some ((c.reply_areas.ensures.ok cut).0 c.in-Ok.is) in
+    subst (λ (w : Waiting). okay z.caller ≡ giving_up_of w (given_up w bytes)) c.self.view_is (sym (ap (giving_up_of z) given))
 
 pub returns-in-Err : goal.returns-in-Err
 returns-in-Err c =
-    let z = c.args.self in
-    let code : c.self.inside.code ≡ z.code = ap (λ (s : Waiting). s.code) c.self.view_is in
-    sym (ap (giving_up_of z) (not_given_up z c.self.inside.code c.args.refusal.now c.in-Err.field-0 code ((c.decode_response.ensures.err c.in-Err.field-0).0 c.in-Err.is)))
+    let bytes = c.args.refusal.now in
+    let z : Waiting = record { caller = c.self.inside.caller; code = c.self.inside.code; key = c.self.inside.key; nonce = c.self.inside.nonce; keep = c.self.inside.keep } in
+    let none : given_up z bytes ≡ None = uncut_not_given_up z bytes (λ k s. absurd (let q = (c.reply_areas.ensures.ok k).1 s in let w : ⊥ = cc in w)) in
+    sym (ap (giving_up_of c.args.self) (subst (λ (w : Waiting). given_up w bytes ≡ None) c.self.view_is none))
