@@ -46,41 +46,6 @@ nothing_left x y e = go (length x.1.rest == 0) refl e
     go true t e = eqb-true _ _ t
     go false t e = absurd (let z : ⊥ = cc in z)
 
--- ---- a code that is not 0
-
-with_code : (n : ℕ) (hs : List ℕ) (h : Here) (x : ReplyCut × Here) → read 0 (raw_with_sessions n hs) h ≡ Ok x → x.0.code ≡ n
-unfolding raw_with_sessions
-with_code n hs h x e =
-    let s = bind_ok (read 0 parameter_size h) _ x e in
-    let p = bind_ok (read {r = buffer} 0 (raw s.0.0) s.0.1) _ x s.2 in
-    let q = bind_ok (read 0 reply_sessions p.0.1) _ x p.2 in
-    let made : ReplyCut = record { code = n; handles = hs; params = p.0.0; auths = q.0.0 } in
-    sym (ap (λ (z : ReplyCut × Here). z.0.code) (okay_is {E = Refusal} (made, q.0.1) x q.2))
-
-without_code : (n : ℕ) (hs : List ℕ) (h : Here) (x : ReplyCut × Here) → read 0 (raw_without_sessions n hs) h ≡ Ok x → x.0.code ≡ n
-unfolding raw_without_sessions
-without_code n hs h x e =
-    let p = bind_ok (read {r = buffer} 0 (either true (raw (length h.rest)) (raw 0)) h) _ x e in
-    let made : ReplyCut = record { code = n; handles = hs; params = p.0.0; auths = [] } in
-    sym (ap (λ (z : ReplyCut × Here). z.0.code) (okay_is {E = Refusal} (made, p.0.1) x p.2))
-
-behind_has_code : (two : Bool) (n : ℕ) (hs : List ℕ) (h : Here) (x : ReplyCut × Here) → read 0 (raw_behind two n hs) h ≡ Ok x → x.0.code ≡ n
-behind_has_code true n hs h x e = with_code n hs h x e
-behind_has_code false n hs h x e = without_code n hs h x e
-
-code_behind : (code : CommandCode) (t n : ℕ) (h : Here) (x : ReplyCut × Here) → 0 < x.0.code → read 0 (cut_behind_code code t n) h ≡ Ok x → read 0 (behind_code code t n) h ≡ Ok (responses.Code x.0.code, x.1)
-code_behind code t n h x some e = go (n == 0) refl e
-  where
-    alone : ReplyCut
-    alone = record { code = n; handles = []; params = []; auths = [] }
-
-    go : (b : Bool) → (n == 0) ≡ b → read 0 (either b (field (λ c. c.handles) (reply_handles code) (λ hs. raw_behind (t == 0x8002) n hs)) (done alone)) h ≡ Ok x
-        → read 0 (either b (field reply_of (reply code t) (λ r. done (done_with r))) (done (responses.Code n))) h ≡ Ok (responses.Code x.0.code, x.1)
-    go true zero e =
-        let hs = bind_ok (read 0 (reply_handles code) h) _ x e in
-        absurd (omega (arith, some, behind_has_code (t == 0x8002) n hs.0.0 hs.0.1 x hs.2, eqb-true n 0 zero))
-    go false other e = ap (λ (z : ReplyCut × Here). okay {E = Refusal} (responses.Code z.0.code, z.1)) (okay_is {E = Refusal} (alone, h) x e)
-
 -- ---- a reply without parameters
 
 raw_area : (body : ReplyBody) (n : ℕ) (h : Here) (p : List ℕ × Here) → length p.0 ≡ 0 → read {r = buffer} 0 (raw n) h ≡ Ok p → read {r = buffer} 0 (area n rc_size (done body)) h ≡ Ok (body, p.1)
@@ -152,11 +117,6 @@ whole_told code bytes c r tells e =
     (goes_on (read 0 (response_code f.0.0.0) f.0.1) (λ n. read 0 (behind_code code f.0.0.0 n.0) n.1) n.0 _ n.1 there) in
     rw (read_it, left) refl
 
-pub code_read : (code : CommandCode) (bytes : List ℕ) (c : ReplyCut) → 0 < c.code → Spells (reply_cut code) c bytes → read_all (response code) bytes ≡ Ok (responses.Code c.code)
-code_read code bytes c some s = whole_told code bytes c (responses.Code c.code)
-    (λ t n h x is e. code_behind code t n h x (subst (λ (d : ReplyCut). 0 < d.code) (sym is) some) e ∙ ap (λ (d : ReplyCut). okay {E = Refusal} (responses.Code d.code, x.1)) is)
-    (spells_read buffer buffer_sound (reply_cut code) bytes c s)
-
 pub plain_read : (code : CommandCode) (bytes : List ℕ) (c : ReplyCut) (body : ReplyBody) (a : AuthReply) → needs_authorization code ≡ true → reply_parameters code [] ≡ done body → length c.params ≡ 0 → c.auths ≡ a ∷ [] → Spells (reply_cut code) c bytes
     → read_all (response code) bytes ≡ Ok (done_with (plain body (a ∷ [])))
 plain_read code bytes c body a needs none empty one s = whole_told code bytes c (done_with (plain body (a ∷ [])))
@@ -164,58 +124,7 @@ plain_read code bytes c body a needs none empty one s = whole_told code bytes c 
     ∙ ap (λ (l : List AuthReply). okay {E = Refusal} (done_with (plain body l), x.1)) (ap (λ (d : ReplyCut). d.auths) is ∙ one))
     (spells_read buffer buffer_sound (reply_cut code) bytes c s)
 
--- ---- no response has the code 0
-
-some_behind : (code : CommandCode) (t m n : ℕ) (h : Here) (x : Response × Here) → x.0 ≡ responses.Code n → read 0 (behind_code code t m) h ≡ Ok x → n ≡ 0 → ⊥
-some_behind code t m n h x is e zero = go (m == 0) refl e
-  where
-    go : (b : Bool) → (m == 0) ≡ b → read 0 (either b (field reply_of (reply code t) (λ r. done (done_with r))) (done (responses.Code m))) h ≡ Ok x → ⊥
-    go true z e =
-        let r = bind_ok (read 0 (reply code t) h) _ x e in
-        let k : done_with r.0.0 ≡ responses.Code n = ap (λ (z : Response × Here). z.0) (okay_is {E = Refusal} (done_with r.0.0, r.0.1) x r.2) ∙ is in
-        let w : ⊥ = cc in w
-    go false other e =
-        let k : responses.Code m ≡ responses.Code n = ap (λ (z : Response × Here). z.0) (okay_is {E = Refusal} (responses.Code m, h) x e) ∙ is in
-        let same : m ≡ n = cc in
-        both_ways (m == 0) other (eq-eqb m 0 (same ∙ zero))
-
-no_zero : (code : CommandCode) (bytes : List ℕ) (n : ℕ) → read_all (response code) bytes ≡ Ok (responses.Code n) → n ≡ 0 → ⊥
-unfolding response
-no_zero code bytes n e zero =
-    let all = bind_ok (read 0 (response code) (at_start bytes) >>= finish buffer) (λ x. okay {E = Refusal} x.0) (responses.Code n) e in
-    let whole = bind_ok (read 0 (response code) (at_start bytes)) (finish buffer) all.0 all.1 in
-    let value : whole.0.0 ≡ responses.Code n = ap (λ (z : Response × Here). z.0) (finished whole.0 all.0 whole.2) ∙ okay_is {E = Refusal} all.0.0 (responses.Code n) all.2 in
-    let f = bind_ok (read 0 response_front (at_start bytes)) _ whole.0 whole.1 in
-    let m = bind_ok (read 0 (response_code f.0.0.0) f.0.1) _ whole.0 f.2 in
-    some_behind code f.0.0.0 m.0.0 n m.0.1 whole.0 value m.2 zero
-
 -- ---- what is opened
-
--- A nonzero code is given up.
-pub code_given_up : (z : Waiting) (bytes : List ℕ) (c : ReplyCut) → 0 < c.code → Spells (reply_cut z.code) c bytes → given_up z bytes ≡ Some z.caller
-code_given_up z bytes c some s = ap (caller_of_refusal z) (code_read z.code bytes c some s)
-
--- the code of a response with a code is that of its cut
-code_of_cut : (code : CommandCode) (bytes : List ℕ) (c : ReplyCut) (n : ℕ) → Spells (reply_cut code) c bytes → read_all (response code) bytes ≡ Ok (responses.Code n) → c.code ≡ n
-code_of_cut code bytes c n s e =
-    let x = has_areas code bytes (responses.Code n) (read_spells buffer buffer_sound (response code) bytes (responses.Code n) e) in
-    ap (λ (z : ReplyCut). z.code) ((exactly_one buffer buffer_sound (reply_cut code) bytes).one_value c x.0 s x.1 ∙ x.2)
-
-pub done_not_given_up : (z : Waiting) (bytes : List ℕ) (c : ReplyCut) → c.code ≡ 0 → Spells (reply_cut z.code) c bytes → given_up z bytes ≡ None
-done_not_given_up z bytes c none s = go (read_all (response z.code) bytes) refl
-  where
-    go : (r : Result Response Refusal) → read_all (response z.code) bytes ≡ r → caller_of_refusal z r ≡ None
-    go (Err e) is = refl
-    go (Ok (responses.Done body auths)) is = refl
-    go (Ok (responses.Code n)) is = absurd (no_zero z.code bytes n is (sym (code_of_cut z.code bytes c n s is) ∙ none))
-
--- What is no cut is no response.
-pub uncut_not_given_up : (z : Waiting) (bytes : List ℕ) → ((c : ReplyCut) → Spells (reply_cut z.code) c bytes → ⊥) → given_up z bytes ≡ None
-uncut_not_given_up z bytes none = go (read_all (response z.code) bytes) refl
-  where
-    go : (r : Result Response Refusal) → read_all (response z.code) bytes ≡ r → caller_of_refusal z r ≡ None
-    go (Err e) is = refl
-    go (Ok r) is = let x = has_areas z.code bytes r (read_spells buffer buffer_sound (response z.code) bytes r is) in absurd (none x.0 x.1)
 
 -- the reply without parameters that was read, whichever command it is to
 record IsPlain (code : CommandCode) (bytes : List ℕ) (a : AuthReply) : Type 0 where

@@ -1,10 +1,11 @@
 //! What is kept of a sealed command until its reply comes.
 
-ghost use Rattle.std.specs.Prelude.{◌≡◌, ◌≤◌, List, length, Ok, Err, IfOk, IfErr};
+ghost use Rattle.std.specs.Prelude.{◌≡◌, ◌≤◌, ◌<◌, ◌^◌, ◌++◌, ℕ, true, List, length, Some, None, Ok, Err, IfOk, IfErr, if◌then◌else◌};
+ghost use Rattle.std.specs.Int.{bytes_high_first};
 ghost use Rattle.tpm_types.specs.Limits.{digest_bytes};
 ghost use Rattle.tpm_types.specs.declared.tpms.AuthReply.{AuthReply};
 ghost use Rattle.tpm_buffer.specs.declared.response.ReplyBody.{ReplyBody};
-ghost use Rattle.tpm_buffer.specs.Responses.{done_with};
+ghost use Rattle.tpm_buffer.specs.Responses.{code_tag, done_with};
 ghost use Rattle.tpm_model.specs.Callers.{CallerFault as Fault, opened, opened_session, given_up};
 ghost use Rattle.tpm_caller.specs.Faults.{fault_of, opening_of, giving_up_of};
 ghost use Rattle.tpm_caller.specs.Sent.{caller_with, has_no_params as has_no_params_of, IsSpelledBy};
@@ -12,10 +13,11 @@ ghost use Rattle.tpm_caller.specs.Sent.{caller_with, has_no_params as has_no_par
 use crate::caller::Caller;
 use crate::waiting::CallerFault;
 use std::marker::Model;
-use tpm_buffer::{CommandCode, Response, decode_response, reply_areas};
+use tpm_buffer::{CommandCode, NO_SESSIONS, RSP_COMMAND, Response, decode_response, reply_areas};
 use tpm_hmac::{rp_hash, same};
 use tpm_types::{BLOCK_BYTES, Nonce};
 use tpm_wire::Bounded;
+use tpm_wire::response_code::BAD_TAG;
 
 /// What is kept of a sealed command until its reply comes: all but the command's bytes, which lie in the caller's buffer.
 #[derive(Drop)]
@@ -51,6 +53,24 @@ fn has_no_params(code: CommandCode) -> bool
             | CommandCode::PcrReset
             | CommandCode::PcrExtend
     )
+}
+
+// These bytes are a response code that is not 0, by its tag and its size. What they are else is not told.
+fn is_code(bytes: &[u8]) -> bool
+    ensures { result ≡ true → (n : ℕ) × (0 < n) × (n < 2 ^ 32) × (bytes.now ≡ bytes_high_first 2 (code_tag n) ++ (bytes_high_first 4 10 ++ bytes_high_first 4 n)) }
+{
+    match bytes {
+        [high, low, 0, 0, 0, 10, first, second, third, fourth] => {
+            let tag = u16::from_be_bytes([*high, *low]);
+            let code = u32::from_be_bytes([*first, *second, *third, *fourth]);
+            if code == BAD_TAG {
+                tag == RSP_COMMAND
+            } else {
+                code != 0 && tag == NO_SESSIONS
+            }
+        }
+        _ => false,
+    }
 }
 
 impl Pending {
@@ -111,6 +131,18 @@ impl Pending {
         checked
     }
 
+    // These bytes are a response whose code is not 0. It is out of line, since it reads a whole response.
+    #[inline(never)]
+    fn is_refused(&self, bytes: &[u8]) -> bool
+        ensures { given_up self.now bytes.now ≡ (if result then Some self.now.caller else None) }
+    {
+        match decode_response(self.code, bytes) {
+            Ok(Response::Code(_)) => true,
+            Ok(Response::Done { .. }) => false,
+            Err(_) => false,
+        }
+    }
+
     // The caller after a reply with this nonceTPM, where it is kept.
     fn caller_after(self, nonce: &[u8]) -> Option<Caller>
         requires { length nonce.now ≤ digest_bytes }
@@ -168,14 +200,9 @@ impl Pending {
     pub fn give_up(self, refusal: &[u8]) -> Result<Caller, Pending>
         ensures { result ≡ giving_up_of self (given_up self refusal.now) }
     {
-        match reply_areas(self.code, refusal) {
-            Ok(areas) => {
-                if areas.code() == 0 {
-                    return Err(self);
-                }
-                Ok(self.caller)
-            }
-            Err(_) => Err(self),
+        if is_code(refusal) || self.is_refused(refusal) {
+            return Ok(self.caller);
         }
+        Err(self)
     }
 }

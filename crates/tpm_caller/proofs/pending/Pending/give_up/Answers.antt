@@ -1,33 +1,31 @@
-use Rattle.std.proofs.Common.{◌≡◌, ◌<◌, Option, Some, None, Result, Ok, sym, ap, ◌∙◌, subst, arith}
+use Rattle.std.proofs.Common.{◌≡◌, Bool, Option, Some, None, Result, Ok, sym, ap, ◌∙◌}
+use Rattle.std.specs.Prelude.{if◌then◌else◌}
+use Rattle.tpm_wire.specs.Buffers.{buffer}
+use Rattle.tpm_wire.proofs.Buffers.{buffer_sound}
+use Rattle.tpm_wire.proofs.Whole.{spells_read}
+use Rattle.tpm_buffer.specs.declared.response.Response.TheVariants as responses
+use Rattle.tpm_buffer.specs.Responses.{response}
+use Rattle.tpm_buffer.proofs.Answered.{code_spelled}
 use Rattle.tpm_model.specs.InStep.{CallerSession}
-use Rattle.tpm_model.specs.Callers.{Waiting, given_up}
+use Rattle.tpm_model.specs.Callers.{Waiting, caller_of_refusal, given_up}
 use Rattle.tpm_caller.specs.Faults.{giving_up_of}
-use Rattle.tpm_caller.proofs.FromCut.{code_given_up, done_not_given_up, uncut_not_given_up}
 use Rattle.tpm_caller.proofs.pending.Pending.give_up.Goals as goal
+use Rattle.tpm_caller.proofs.pending.Pending.give_up.Goals.{then-is_code-via-then-is_code, then-is_code-via-else-is_code+then-is_refused}
 
 abbrev okay : CallerSession → Result CallerSession Waiting
 okay x = Ok x
 
-pub returns-then-code-eq0 : goal.returns-then-code-eq0
-returns-then-code-eq0 c =
-    let bytes = c.args.refusal.now in
-    let z : Waiting = record { caller = c.self.inside.caller; code = c.self.inside.code; key = c.self.inside.key; nonce = c.self.inside.nonce; keep = c.self.inside.keep } in
-    let cut = c.in-Ok.areas in
-    let none : given_up z bytes ≡ None = done_not_given_up z bytes cut (sym c.code.ensures ∙ c.if-code-eq0.true) ((c.reply_areas.ensures.ok cut).0 c.in-Ok.is) in
-    sym (ap (giving_up_of c.args.self) (subst (λ (w : Waiting). given_up w bytes ≡ None) c.self.view_is none))
+abbrev given : CallerSession → Bool → Option CallerSession
+given caller does = if does then Some caller else None
 
-pub returns-else-code-eq0 : goal.returns-else-code-eq0
-returns-else-code-eq0 c =
+pub returns-then-is_code : goal.returns-then-is_code
+returns-then-is_code c =
+    let z = c.args.self in
     let bytes = c.args.refusal.now in
-    let z : Waiting = record { caller = c.self.inside.caller; code = c.self.inside.code; key = c.self.inside.key; nonce = c.self.inside.nonce; keep = c.self.inside.keep } in
-    let cut = c.in-Ok.areas in
-    let some : 0 < cut.code = omega (arith, c.code.ensures, c.if-code-eq0.false) in
-    let given : given_up z bytes ≡ Some z.caller = code_given_up z bytes cut some ((c.reply_areas.ensures.ok cut).0 c.in-Ok.is) in
-    subst (λ (w : Waiting). okay z.caller ≡ giving_up_of w (given_up w bytes)) c.self.view_is (sym (ap (giving_up_of z) given))
-
-pub returns-in-Err : goal.returns-in-Err
-returns-in-Err c =
-    let bytes = c.args.refusal.now in
-    let z : Waiting = record { caller = c.self.inside.caller; code = c.self.inside.code; key = c.self.inside.key; nonce = c.self.inside.nonce; keep = c.self.inside.keep } in
-    let none : given_up z bytes ≡ None = uncut_not_given_up z bytes (λ k s. absurd (let q = (c.reply_areas.ensures.ok k).1 s in let w : ⊥ = cc in w)) in
-    sym (ap (giving_up_of c.args.self) (subst (λ (w : Waiting). given_up w bytes ≡ None) c.self.view_is none))
+    let gives : given_up z bytes ≡ Some z.caller = elim c.then-is_code.branch [
+      | then-is_code-via-then-is_code w ↦
+          let f = c.is_code.ensures w.if-is_code.true in
+          ap (caller_of_refusal z) (spells_read buffer buffer_sound (response z.code) bytes (responses.Code f.0) (code_spelled z.code f.0 bytes f.1 f.2 f.3))
+      | then-is_code-via-else-is_code+then-is_refused w ↦ w.is_refused.ensures ∙ ap (given z.caller) w.if-is_refused.true
+    ] in
+    ap (λ (s : Waiting). okay s.caller) c.self.view_is ∙ sym (ap (giving_up_of z) gives)
