@@ -1,7 +1,7 @@
 -- What the cut of a reply tells of the whole response.
-use Rattle.std.proofs.Common.{◌≡◌, ◌≢◌, ℕ, ◌<◌, Bool, true, false, List, [], ◌∷◌, length, take, Result, Ok, Err, Some, None, Option, refl, sym, ap, ◌∙◌, subst, arith}
+use Rattle.std.proofs.Common.{◌≡◌, ◌≢◌, ℕ, Bool, true, false, List, [], ◌∷◌, length, take, Result, Ok, Some, None, Option, refl, sym, ap, ◌∙◌, subst}
 use Rattle.std.specs.Prelude.{◌==◌, if◌then◌else◌}
-use Rattle.std.proofs.lemmas.Bool.{eqb-true, eq-eqb, both_ways}
+use Rattle.std.proofs.lemmas.Bool.{eqb-true, eq-eqb}
 use Rattle.std.proofs.lemmas.List.{nil_from_length}
 use Rattle.tpm_wire.specs.declared.refusal.Refusal.{Refusal}
 use Rattle.tpm_wire.specs.Buffers.{buffer, Layout}
@@ -13,7 +13,7 @@ use Rattle.tpm_wire.specs.ResponseCodes.{rc_size}
 use Rattle.tpm_wire.specs.Path.{Spells}
 use Rattle.tpm_wire.proofs.Agreement.{bind_ok}
 use Rattle.tpm_wire.proofs.Buffers.{buffer_sound}
-use Rattle.tpm_wire.proofs.Whole.{exactly_one, spells_read, read_spells}
+use Rattle.tpm_wire.proofs.Whole.{spells_read}
 use Rattle.tpm_types.specs.declared.tpms.AuthReply.{AuthReply}
 use Rattle.tpm_buffer.specs.declared.code.CommandCode.{CommandCode}
 use Rattle.tpm_buffer.specs.declared.code.CommandCode.TheVariants as codes
@@ -23,11 +23,10 @@ use Rattle.tpm_buffer.specs.declared.response.Response.{Response}
 use Rattle.tpm_buffer.specs.declared.response.Response.TheVariants as responses
 use Rattle.tpm_buffer.specs.Handles.{needs_authorization}
 use Rattle.tpm_buffer.specs.Replies.{reply_handles, reply_parameters}
-use Rattle.tpm_buffer.specs.Responses.{response_front, response_code, parameter_size, reply_sessions, Reply, with_sessions, without_sessions, reply_behind, reply, reply_of, done_with, behind_code, response, ReplyCut, raw_with_sessions, raw_without_sessions, cut_behind_code, reply_cut}
-use Rattle.tpm_buffer.proofs.Parted.{has_areas}
+use Rattle.tpm_buffer.specs.Responses.{response_front, response_code, parameter_size, reply_sessions, Reply, with_sessions, without_sessions, reply_behind, reply, reply_of, done_with, behind_code, response, ReplyCut, raw_with_sessions, cut_behind_code, reply_cut}
 use Rattle.tpm_hmac.specs.Hmac.{hmac}
 use Rattle.tpm_model.specs.Answers.{reply_params}
-use Rattle.tpm_model.specs.Callers.{WrongMac, Waiting, awaited_text, opened_response, caller_of_refusal, given_up}
+use Rattle.tpm_model.specs.Callers.{WrongMac, Waiting, awaited_text, opened_response}
 use Rattle.tpm_model.proofs.Sealing.{okay, okay_is}
 use Rattle.tpm_model.proofs.ReplySessions.{finished}
 use Rattle.tpm_caller.specs.declared.waiting.CallerFault.TheVariants as faults

@@ -1,4 +1,4 @@
-use Rattle.std.proofs.Common.{◌≡◌, Result, Ok, sym, ap, ◌∙◌}
+use Rattle.std.proofs.Common.{◌≡◌, Ok, ap, ◌∙◌}
 use Rattle.tpm_model.specs.Callers.{Waiting, caller_of_refusal}
 use Rattle.tpm_caller.proofs.Opening.{given_up_is, not_given_up}
 use Rattle.tpm_caller.proofs.pending.Pending.is_refused.Goals as goal
