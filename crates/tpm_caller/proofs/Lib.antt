@@ -4,3 +4,4 @@ pub mod ReplyParams
 pub mod Opening
 pub mod Kept
 pub mod Told
+pub mod FromCut

@@ -42,7 +42,7 @@ same_auths code bytes body auths c s cut =
     let x = has_areas code bytes (done_with (record { body = body; auths = auths })) s.spells in
     ap (λ (z : ReplyCut). z.auths) ((exactly_one buffer buffer_sound (reply_cut code) bytes).one_value c x.0 cut x.1) ∙ x.2.auths_are
 
-only : (auths : List AuthReply) (a : AuthReply) → length auths ≡ 1 → Some a ≡ slice_get auths 0 → auths ≡ a ∷ []
+pub only : (auths : List AuthReply) (a : AuthReply) → length auths ≡ 1 → Some a ≡ slice_get auths 0 → auths ≡ a ∷ []
 only [] a one is = absurd (omega (arith, one))
 only (b ∷ []) a one is = let same : a ≡ b = cc in ap (λ (x : AuthReply). x ∷ []) (sym same)
 only (b ∷ d ∷ others) a one is = absurd (omega (arith, one))

@@ -39,10 +39,10 @@ use Rattle.tpm_caller.specs.Sent.{IsSpelledBy}
 abbrev by_size : List ℕ → List ℕ
 by_size rest = take (number_of (take 4 rest)) (drop 4 rest)
 
-abbrev none : Layout (List ℕ)
+abbrev pub none : Layout (List ℕ)
 none = done []
 
-no_handles : (code : CommandCode) → needs_authorization code ≡ true → reply_handles code ≡ none
+pub no_handles : (code : CommandCode) → needs_authorization code ≡ true → reply_handles code ≡ none
 no_handles codes.StartAuthSession e = absurd (let z : ⊥ = cc in z)
 no_handles _ e = refl
 
@@ -59,7 +59,7 @@ with_params n hs h x e =
     ∙ ap (λ (k : ℕ). take k s.0.1.rest) (sym size.0)
     ∙ ap (λ (g : Here). take (number_of (take 4 h.rest)) g.rest) size.1
 
-without_auths : (n : ℕ) (hs : List ℕ) (h : Here) (x : ReplyCut × Here) → read 0 (raw_without_sessions n hs) h ≡ Ok x → x.0.auths ≡ []
+pub without_auths : (n : ℕ) (hs : List ℕ) (h : Here) (x : ReplyCut × Here) → read 0 (raw_without_sessions n hs) h ≡ Ok x → x.0.auths ≡ []
 unfolding raw_without_sessions
 without_auths n hs h x e =
     let p = bind_ok (read {r = buffer} 0 remaining h) _ x e in
@@ -67,7 +67,7 @@ without_auths n hs h x e =
     sym (ap (λ (z : ReplyCut × Here). z.0.auths) (okay_is {E = Refusal} (made, p.0.1) x p.2))
 
 -- the cut behind a code of 0
-abbrev raw_behind : Bool → ℕ → List ℕ → Layout ReplyCut
+abbrev pub raw_behind : Bool → ℕ → List ℕ → Layout ReplyCut
 raw_behind two n hs = either two (raw_with_sessions n hs) (raw_without_sessions n hs)
 
 behind_params : (two : Bool) (n : ℕ) (h : Here) (x : ReplyCut × Here) (a : AuthReply) → x.0.auths ≡ a ∷ [] → read 0 (raw_behind two n []) h ≡ Ok x → x.0.params ≡ by_size h.rest

@@ -1,9 +1,10 @@
 -- What is kept of a sealed command until its reply comes.
-use Rattle.std.specs.Prelude.{◌≡◌, ℕ, ◌+◌, ◌*◌, List, ◌++◌, length, take, drop, nat_lt, Option, Some, None, if◌then◌else◌}
+use Rattle.std.specs.Prelude.{◌≡◌, ℕ, Bool, true, false, ◌+◌, ◌*◌, List, ◌++◌, length, take, drop, nat_lt, Option, Some, None, if◌then◌else◌}
 use Rattle.tpm_wire.specs.Path.{Spells}
 use Rattle.tpm_wire.specs.Spelling.{spelling}
 use Rattle.tpm_types.specs.declared.tpms.AuthReply.{AuthReply}
 use Rattle.tpm_buffer.specs.declared.code.CommandCode.{CommandCode}
+use Rattle.tpm_buffer.specs.declared.code.CommandCode.TheVariants as codes
 use Rattle.tpm_buffer.specs.declared.response.ReplyBody.{ReplyBody}
 use Rattle.tpm_buffer.specs.Responses.{response, done_with}
 use Rattle.tpm_types.specs.declared.alg.Alg.{Alg}
@@ -38,6 +39,15 @@ abbrev pub with_hmac : ℕ → (hmac bytes : List ℕ) → List ℕ
 with_hmac at hmac bytes = take at bytes ++ (hmac ++ drop (at + length hmac) bytes)
 
 -- ---- a reply
+
+-- what is sent in a session and answered without parameters (Part 3, the response table of each)
+abbrev pub has_no_params : CommandCode → Bool
+has_no_params codes.NvUndefineSpace = true
+has_no_params codes.NvDefineSpace = true
+has_no_params codes.NvIncrement = true
+has_no_params codes.PcrReset = true
+has_no_params codes.PcrExtend = true
+has_no_params _ = false
 
 -- The bytes are the spelling of this reply to the command, and spell it.
 pub record IsSpelledBy (bytes : List ℕ) (code : CommandCode) (body : ReplyBody) (auths : List AuthReply) : Type 0 where

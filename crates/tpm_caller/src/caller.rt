@@ -139,13 +139,12 @@ impl Caller {
         caller
     }
 
-    // sessionKey || authValue. One that is longer than a block is hashed, as HMAC would hash it each time.
-    fn key_with(&self, auth: &[u8]) -> Bounded<BLOCK_BYTES>
-        ensures { result ≡ hmac_key self.now.hash (whole_key self.now.key auth.now) }
+    // Sets the key to sessionKey || authValue. One that is longer than a block is hashed, as HMAC would hash it each time.
+    fn set_key(&self, auth: &[u8], key: &mut Bounded<BLOCK_BYTES>)
+        ensures { key.new ≡ hmac_key self.now.hash (whole_key self.now.key auth.now) }
     {
         let session_key = self.key.bytes();
         let auth = trim(auth);
-        let mut key = Bounded::default();
         if session_key.len() + auth.len() > self.hash().block_len() {
             key.set(hash(self.hash(), &[session_key, auth]).as_slice());
         } else if auth.is_empty() {
@@ -153,7 +152,6 @@ impl Caller {
         } else {
             key.set(joined(session_key, auth).as_slice());
         }
-        key
     }
 
     // The MAC of a command or of a response under this key. Where it is the session key alone, what is kept of that is used.
@@ -183,14 +181,17 @@ impl Caller {
             Some(session) => session,
             None => unreachable!(),
         };
-        let mut auths = ArrayVec::new();
-        auths.push(Auth {
+        let mut command = Command {
+            body,
+            auths: ArrayVec::new(),
+        };
+        command.auths.push(Auth {
             session,
             nonce: nonce.duplicate(),
             attrs,
             hmac: no_mac(self.hash()),
         });
-        Command { body, auths }
+        command
     }
 
     // Puts the HMAC in its place: behind the header, the handles and what is before it of the session, and right before the parameters.
@@ -254,7 +255,8 @@ impl Caller {
         ensures spelled { HasSpelling (record { caller = self; body = body.entry; names = names.items; auth = auth.now; nonce = nonce; keep = keep }) }
     {
         let code = body.code();
-        let key = self.key_with(auth);
+        let mut key = Bounded::default();
+        self.set_key(auth, &mut key);
         let attrs = attrs_for(keep);
         let command = self.unsigned(body, &nonce, attrs);
         bytes.clear();

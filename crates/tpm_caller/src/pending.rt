@@ -1,21 +1,23 @@
 //! What is kept of a sealed command until its reply comes.
 
-ghost use Rattle.std.specs.Prelude.{◌≡◌, ◌≤◌, List, length, Ok, Err, IfOk, IfErr};
+ghost use Rattle.std.specs.Prelude.{◌≡◌, ◌≤◌, ◌<◌, ◌^◌, ◌++◌, ℕ, true, List, length, Some, None, Ok, Err, IfOk, IfErr, if◌then◌else◌};
+ghost use Rattle.std.specs.Int.{bytes_high_first};
 ghost use Rattle.tpm_types.specs.Limits.{digest_bytes};
 ghost use Rattle.tpm_types.specs.declared.tpms.AuthReply.{AuthReply};
 ghost use Rattle.tpm_buffer.specs.declared.response.ReplyBody.{ReplyBody};
-ghost use Rattle.tpm_buffer.specs.Responses.{done_with};
+ghost use Rattle.tpm_buffer.specs.Responses.{code_tag, done_with};
 ghost use Rattle.tpm_model.specs.Callers.{CallerFault as Fault, opened, opened_session, given_up};
 ghost use Rattle.tpm_caller.specs.Faults.{fault_of, opening_of, giving_up_of};
-ghost use Rattle.tpm_caller.specs.Sent.{caller_with, IsSpelledBy};
+ghost use Rattle.tpm_caller.specs.Sent.{caller_with, has_no_params as has_no_params_of, IsSpelledBy};
 
 use crate::caller::Caller;
 use crate::waiting::CallerFault;
 use std::marker::Model;
-use tpm_buffer::{CommandCode, Response, decode_response, reply_areas};
+use tpm_buffer::{CommandCode, NO_SESSIONS, RSP_COMMAND, Response, decode_response, reply_areas};
 use tpm_hmac::{rp_hash, same};
 use tpm_types::{BLOCK_BYTES, Nonce};
 use tpm_wire::Bounded;
+use tpm_wire::response_code::BAD_TAG;
 
 /// What is kept of a sealed command until its reply comes: all but the command's bytes, which lie in the caller's buffer.
 #[derive(Drop)]
@@ -39,41 +41,77 @@ impl Model for Pending {
     ghost invariant = { λ w. needs_authorization w.code ≡ true };
 }
 
+// The command is sent in a session and answered without parameters (Part 3, the response table of each).
+fn has_no_params(code: CommandCode) -> bool
+    ensures { result ≡ has_no_params_of code }
+{
+    matches!(
+        code,
+        CommandCode::NvUndefineSpace
+            | CommandCode::NvDefineSpace
+            | CommandCode::NvIncrement
+            | CommandCode::PcrReset
+            | CommandCode::PcrExtend
+    )
+}
+
+// These bytes are a response code that is not 0, by its tag and its size. What they are else is not told.
+fn is_code(bytes: &[u8]) -> bool
+    ensures { result ≡ true → (n : ℕ) × (0 < n) × (n < 2 ^ 32) × (bytes.now ≡ bytes_high_first 2 (code_tag n) ++ (bytes_high_first 4 10 ++ bytes_high_first 4 n)) }
+{
+    match bytes {
+        [high, low, 0, 0, 0, 10, first, second, third, fourth] => {
+            let tag = u16::from_be_bytes([*high, *low]);
+            let code = u32::from_be_bytes([*first, *second, *third, *fourth]);
+            if code == BAD_TAG {
+                tag == RSP_COMMAND
+            } else {
+                code != 0 && tag == NO_SESSIONS
+            }
+        }
+        _ => false,
+    }
+}
+
 impl Pending {
-    // The nonceTPM of the reply, where it has one session, with a nonceTPM of the session's length and the HMAC. Nothing is copied.
+    // The nonceTPM of the reply, where it has one session, with a nonceTPM of the session's length and the HMAC, or else the reply's first
+    // fault. Nothing is copied. What a reply without parameters spells is known, so it is not read again.
     #[inline(never)]
     fn check<'a>(&self, bytes: &'a [u8]) -> Result<&'a [u8], CallerFault>
         ensures ok { (body : ReplyBody) (auths : List AuthReply) → IsSpelledBy bytes.now self.now.code body auths →
             IfOk result (λ nonce. opened_session self.now body auths ≡ Ok (record { caller = caller_with self.now nonce.now; response = done_with (record { body = body; auths = auths }) })) }
-        ensures err { (body : ReplyBody) (auths : List AuthReply) → IsSpelledBy bytes.now self.now.code body auths →
-            IfErr result (λ fault. (f : Fault) × (opened_session self.now body auths ≡ Err f) × (fault ≡ fault_of f)) }
+        ensures err { IfErr result (λ fault. (f : Fault) × (opened self.now bytes.now ≡ Err f) × (fault ≡ fault_of f)) }
         ensures fits { IfOk result (λ nonce. length nonce.now ≤ digest_bytes) }
     {
         let Ok(areas) = reply_areas(self.code, bytes) else {
-            return Err(CallerFault::NotExpected);
+            return Err(self.first_fault(bytes, CallerFault::NotExpected));
         };
         if areas.auth_count() != 1 {
-            return Err(CallerFault::NotExpected);
+            return Err(self.first_fault(bytes, CallerFault::NotExpected));
         }
         let Some(session) = areas.auth(0) else {
-            return Err(CallerFault::NotExpected);
+            return Err(self.first_fault(bytes, CallerFault::NotExpected));
         };
         let nonce = session.nonce();
         if nonce.len() != self.caller.nonce().len() {
-            return Err(CallerFault::NotExpected);
+            return Err(self.first_fault(bytes, CallerFault::NotExpected));
         }
         let hash = self.caller.hash();
+        let params = areas.params();
         let mac = self.caller.mac(
             self.key.as_slice(),
-            rp_hash(hash, self.code, areas.params()).as_slice(),
+            rp_hash(hash, self.code, params).as_slice(),
             nonce,
             self.nonce.as_slice(),
             session.attrs(),
         );
-        if !same(session.hmac(), mac.as_slice()) {
+        if same(session.hmac(), mac.as_slice()) {
+            return Ok(nonce);
+        }
+        if has_no_params(self.code) && params.is_empty() {
             return Err(CallerFault::WrongMac);
         }
-        Ok(nonce)
+        Err(self.first_fault(bytes, CallerFault::WrongMac))
     }
 
     // The first fault of a reply in which `check` finds this one. The response is made here, so that nobody moves it.
@@ -91,6 +129,18 @@ impl Pending {
             return CallerFault::Code(*code);
         }
         checked
+    }
+
+    // These bytes are a response whose code is not 0. It is out of line, since it reads a whole response.
+    #[inline(never)]
+    fn is_refused(&self, bytes: &[u8]) -> bool
+        ensures { given_up self.now bytes.now ≡ (if result then Some self.now.caller else None) }
+    {
+        match decode_response(self.code, bytes) {
+            Ok(Response::Code(_)) => true,
+            Ok(Response::Done { .. }) => false,
+            Err(_) => false,
+        }
     }
 
     // The caller after a reply with this nonceTPM, where it is kept.
@@ -141,10 +191,7 @@ impl Pending {
     {
         let nonce = match self.check(bytes) {
             Ok(nonce) => nonce,
-            Err(fault) => {
-                let first = self.first_fault(bytes, fault);
-                return Err((self, first));
-            }
+            Err(fault) => return Err((self, fault)),
         };
         self.accept(bytes, nonce)
     }
@@ -153,10 +200,9 @@ impl Pending {
     pub fn give_up(self, refusal: &[u8]) -> Result<Caller, Pending>
         ensures { result ≡ giving_up_of self (given_up self refusal.now) }
     {
-        match decode_response(self.code, refusal) {
-            Ok(Response::Code(_)) => Ok(self.caller),
-            Ok(Response::Done { .. }) => Err(self),
-            Err(_) => Err(self),
+        if is_code(refusal) || self.is_refused(refusal) {
+            return Ok(self.caller);
         }
+        Err(self)
     }
 }

@@ -29,9 +29,9 @@ returns-clause-sealed c =
     let u = unsigned s x.0 c.put_command.new.out.items c.attrs_for-attrs.result c.requires.named x.2 x.3 x.4 c.attrs_for-attrs.ensures x.5 (c.put_command.ensures.bytes ∙ ap (spelling command) made) in
     let view : CommandCode → List ℕ → List ℕ → Sent = λ code key bytes. record { waiting = record { caller = s.caller; code = code; key = key; nonce = s.nonce; keep = s.keep }; bytes = bytes } in
     let put = rw (c.as_slice.ensures.value, c.as_slice-2.ensures.value, c.as_slice-3.ensures.value) at c.sign.ensures in
-    let done = signed s x.0 c.put_command.new.out.items c.sign.new.bytes.items c.key_with-key.result c.code-code.result c.attrs_for-attrs.result u c.code-code.ensures c.attrs_for-attrs.ensures c.key_with-key.ensures put in
-    ap (λ (z : CommandCode). view z c.key_with-key.result c.sign.new.bytes.items) c.code-code.ensures
-    ∙ ap (λ (z : List ℕ). view (code_for s.body) z c.sign.new.bytes.items) c.key_with-key.ensures
+    let done = signed s x.0 c.put_command.new.out.items c.sign.new.bytes.items c.set_key.new.key c.code-code.result c.attrs_for-attrs.result u c.code-code.ensures c.attrs_for-attrs.ensures c.set_key.ensures put in
+    ap (λ (z : CommandCode). view z c.set_key.new.key c.sign.new.bytes.items) c.code-code.ensures
+    ∙ ap (λ (z : List ℕ). view (code_for s.body) z c.sign.new.bytes.items) c.set_key.ensures
     ∙ ap (view (code_for s.body) (hmac_key s.caller.hash (seal_key s))) done
 
 pub returns-clause-spelled : goal.returns-clause-spelled

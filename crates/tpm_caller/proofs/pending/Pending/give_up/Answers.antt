@@ -1,30 +1,31 @@
-use Rattle.std.proofs.Common.{◌≡◌, Result, Ok, sym, ap, ◌∙◌}
+use Rattle.std.proofs.Common.{◌≡◌, Bool, Option, Some, None, Result, Ok, sym, ap, ◌∙◌}
+use Rattle.std.specs.Prelude.{if◌then◌else◌}
+use Rattle.tpm_wire.specs.Buffers.{buffer}
+use Rattle.tpm_wire.proofs.Buffers.{buffer_sound}
+use Rattle.tpm_wire.proofs.Whole.{spells_read}
+use Rattle.tpm_buffer.specs.declared.response.Response.TheVariants as responses
+use Rattle.tpm_buffer.specs.Responses.{response}
+use Rattle.tpm_buffer.proofs.Answered.{code_spelled}
 use Rattle.tpm_model.specs.InStep.{CallerSession}
-use Rattle.tpm_model.specs.Callers.{Waiting, caller_of_refusal}
+use Rattle.tpm_model.specs.Callers.{Waiting, caller_of_refusal, given_up}
 use Rattle.tpm_caller.specs.Faults.{giving_up_of}
-use Rattle.tpm_caller.proofs.Opening.{given_up_is, not_given_up}
 use Rattle.tpm_caller.proofs.pending.Pending.give_up.Goals as goal
+use Rattle.tpm_caller.proofs.pending.Pending.give_up.Goals.{then-is_code-via-then-is_code, then-is_code-via-else-is_code+then-is_refused}
 
 abbrev okay : CallerSession → Result CallerSession Waiting
 okay x = Ok x
 
-pub returns-in-Ok-Code : goal.returns-in-Ok-Code
-returns-in-Ok-Code c =
-    let z = c.args.self in
-    let code : c.self.inside.code ≡ z.code = ap (λ (s : Waiting). s.code) c.self.view_is in
-    let spells = (c.decode_response.ensures.ok c.in-Ok-Code.field-0).0 c.in-Ok-Code.is in
-    ap (λ (s : Waiting). okay s.caller) c.self.view_is
-    ∙ sym (ap (giving_up_of z) (given_up_is z c.self.inside.code c.args.refusal.now c.in-Ok-Code.field-0 code spells ∙ ap (λ r. caller_of_refusal z (Ok r)) c.in-Ok-Code.field-0-is))
+abbrev given : CallerSession → Bool → Option CallerSession
+given caller does = if does then Some caller else None
 
-pub returns-in-Ok-Done : goal.returns-in-Ok-Done
-returns-in-Ok-Done c =
+pub returns-then-is_code : goal.returns-then-is_code
+returns-then-is_code c =
     let z = c.args.self in
-    let code : c.self.inside.code ≡ z.code = ap (λ (s : Waiting). s.code) c.self.view_is in
-    let spells = (c.decode_response.ensures.ok c.in-Ok-Done.field-0).0 c.in-Ok-Done.is in
-    sym (ap (giving_up_of z) (given_up_is z c.self.inside.code c.args.refusal.now c.in-Ok-Done.field-0 code spells ∙ ap (λ r. caller_of_refusal z (Ok r)) c.in-Ok-Done.field-0-is))
-
-pub returns-in-Err : goal.returns-in-Err
-returns-in-Err c =
-    let z = c.args.self in
-    let code : c.self.inside.code ≡ z.code = ap (λ (s : Waiting). s.code) c.self.view_is in
-    sym (ap (giving_up_of z) (not_given_up z c.self.inside.code c.args.refusal.now c.in-Err.field-0 code ((c.decode_response.ensures.err c.in-Err.field-0).0 c.in-Err.is)))
+    let bytes = c.args.refusal.now in
+    let gives : given_up z bytes ≡ Some z.caller = elim c.then-is_code.branch [
+      | then-is_code-via-then-is_code w ↦
+          let f = c.is_code.ensures w.if-is_code.true in
+          ap (caller_of_refusal z) (spells_read buffer buffer_sound (response z.code) bytes (responses.Code f.0) (code_spelled z.code f.0 bytes f.1 f.2 f.3))
+      | then-is_code-via-else-is_code+then-is_refused w ↦ w.is_refused.ensures ∙ ap (given z.caller) w.if-is_refused.true
+    ] in
+    ap (λ (s : Waiting). okay s.caller) c.self.view_is ∙ sym (ap (giving_up_of z) gives)
