@@ -13,6 +13,7 @@ ghost use Rattle.tpm_c.specs.Devices.{device_at, room_for, made_at, whether_fits
 use crate::out::{BUFFER_BYTES, put};
 use tpm_device::Device;
 use tpm_types::{AuthValue, DIGEST_BYTES};
+use tpm_wire::Buffer;
 
 /// How many bytes a device takes.
 #[unsafe(no_mangle)]
@@ -87,6 +88,7 @@ fn execute(device: &mut Device, command: &[u8], nonce: &[u8; 64], out: &mut [u8]
     if out.len() < BUFFER_BYTES {
         return 0;
     }
-    let answer = device.execute(command, nonce);
+    let mut answer = Buffer::new();
+    device.execute_into(command, nonce, &mut answer);
     put(out, answer.as_slice())
 }

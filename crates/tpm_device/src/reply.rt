@@ -59,23 +59,24 @@ impl Device {
             .reply_auth(auth, &entity, areas.code(), params, nonce)
     }
 
-    // That of a session, whose HMAC covers the parameters. They are written into a buffer of their own, and not into the answer's:
-    // what is hashed lends its address, and a buffer whose address was lent is copied as it is returned. It is out of line, since
-    // a password needs no such buffer.
-    #[inline(never)]
+    // That of a session, whose HMAC covers the parameters. They are written into the answer's buffer, which is cleared again.
     fn sealed(
         &self,
         auth: &AuthRef<'_>,
         areas: &Areas<'_>,
         body: &ReplyBody,
         nonce: &[u8; 64],
+        out: &mut Buffer,
     ) -> AuthReply
-        ensures { (p : Present) (e : Evidence) (others : List Auth) → IsAlike p self.now (first_of areas.now.handles) → areas.now.auths ≡ auth.now ∷ others →
+        requires empty { length out.old.items ≡ 0 }
+        ensures session { (p : Present) (e : Evidence) (others : List Auth) → IsAlike p self.now (first_of areas.now.handles) → areas.now.auths ≡ auth.now ∷ others →
             evidence_for p areas.now ≡ Ok e → reply_auths e areas.now.header.code (reply_params body.now) nonce.now ≡ result ∷ [] }
+        ensures cleared { length out.new.items ≡ 0 }
     {
-        let mut params = Buffer::new();
-        put_reply_params(body, &mut params);
-        self.reply_session(auth, areas, params.as_slice(), nonce)
+        put_reply_params(body, out);
+        let session = self.reply_session(auth, areas, out.as_slice(), nonce);
+        out.clear();
+        session
     }
 
     /// Adds the reply to a command that has acted, whose first session this is, and which has not rolled yet.
@@ -99,7 +100,8 @@ impl Device {
                 if auth.session().number() == RS_PW {
                     put_reply(body, &[password_reply()], out);
                 } else {
-                    put_reply(body, &[self.sealed(auth, areas, body, nonce)], out);
+                    let session = self.sealed(auth, areas, body, nonce, out);
+                    put_reply(body, &[session], out);
                 }
             }
         }

@@ -32,4 +32,4 @@ returns-else-number-eq-RS_PW-clause-bytes c = λ p e alike gives.
     let a = c.in-Some.auth in
     let split = first_auth c.args.areas.now.auths a (sym c.in-Some.is ∙ c.requires.own) in
     c.put_reply-else-number-eq-RS_PW.ensures.bytes ∙ ap (λ (auths : List AuthReply). reply_bytes (record { body = c.args.body.now; auths = auths }))
-    (sym (c.sealed.ensures p e split.0 (alike a split.0 split.1) split.1 gives))
+    (sym (c.sealed-session.ensures.session p e split.0 (alike a split.0 split.1) split.1 gives))
