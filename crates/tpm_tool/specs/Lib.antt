@@ -25,3 +25,4 @@ pub mod Reads
 pub mod EventText
 pub mod EventJson
 pub mod ListEvents
+pub mod HeldLines
