@@ -1,5 +1,5 @@
 -- A line for each entry of a list.
-use Rattle.std.proofs.Common.{◌≡◌, ◌<◌, ◌+◌, ◌++◌, ◌∷◌, ℕ, suc, List, Some, None, length, drop, sym, ap, subst, ◌∙◌, append_assoc, inl, inr, arith}
+use Rattle.std.proofs.Common.{◌≡◌, ◌<◌, ◌+◌, ◌++◌, ◌∷◌, ℕ, suc, List, Bool, true, false, cond, filter, Some, None, length, drop, sym, ap, subst, ◌∙◌, append_assoc, inl, inr, arith}
 use Rattle.std.specs.List.{slice_get}
 use Rattle.std.proofs.Math.Seq.{drop-cons}
 use Rattle.std.proofs.lemmas.Option.{get_or_from_slice_get, slice_get_within, slice_get_cases, none-some}
@@ -29,3 +29,18 @@ is_within xs i e lt = elim (slice_get_cases xs i).1 [
   | inl h ↦ none-some h.0 (sym e ∙ h.2)
   | inr h ↦ let past = h.0 in omega (arith, lt, past)
 ]
+
+-- the same of the entries that pass: one that passes is added
+pub filtered_further : {A : Type 0} (one : ℕ → A → List ℕ) (passes : A → Bool) (x : A) (xs : List A) (i : ℕ) (old new all : List ℕ) → passes x ≡ true → new ≡ old ++ one i x
+    → old ++ lines_from one i (filter passes (x ∷ xs)) ≡ all → new ++ lines_from one (i + 1) (filter passes xs) ≡ all
+filtered_further one passes x xs i old new all passing added so_far =
+    ap (λ (text : List ℕ). text ++ lines_from one (i + 1) (filter passes xs)) added
+    ∙ append_assoc old (one i x) (lines_from one (i + 1) (filter passes xs))
+    ∙ ap (λ (b : Bool). old ++ lines_from one i (cond b (x ∷ filter passes xs) (filter passes xs))) (sym passing)
+    ∙ so_far
+
+-- and one that doesn't is passed over
+pub filtered_over : {A : Type 0} (one : ℕ → A → List ℕ) (passes : A → Bool) (x : A) (xs : List A) (i : ℕ) (old all : List ℕ) → passes x ≡ false
+    → old ++ lines_from one i (filter passes (x ∷ xs)) ≡ all → old ++ lines_from one i (filter passes xs) ≡ all
+filtered_over one passes x xs i old all failing so_far =
+    ap (λ (b : Bool). old ++ lines_from one i (cond b (x ∷ filter passes xs) (filter passes xs))) (sym failing) ∙ so_far

@@ -1,16 +1,14 @@
--- What `show --fields` prints: each parameter by its name and its type (this profile).
-use Rattle.std.specs.Prelude.{◌≡◌, ℕ, ◌+◌, Bool, true, false, List, [], ◌∷◌, ◌++◌, length, codes as text, Option}
-use Rattle.hex.specs.Hex.{encode_lower}
+-- What `show --fields` prints: each parameter by its name and its type, and what stands in it (this profile).
+use Rattle.std.specs.Prelude.{◌≡◌, ℕ, Bool, false, List, [], ◌∷◌, ◌++◌, length, codes as text, Option, Some, None}
 use Rattle.tpm_wire.specs.declared.refusal.Refusal.{Refusal}
-use Rattle.tpm_wire.specs.Buffers.{Layout}
-use Rattle.tpm_wire.specs.Layout.Form.{field}
-use Rattle.tpm_wire.specs.Spelling.{spelling}
 use Rattle.tpm_wire.specs.Path.{Spells, Fault}
 use Rattle.tpm_buffer.specs.declared.code.CommandCode.{CommandCode}
 use Rattle.tpm_buffer.specs.declared.code.CommandCode.TheVariants as codes
 use Rattle.tpm_buffer.specs.declared.command.Command.{Command}
 use Rattle.tpm_buffer.specs.declared.command.CommandBody.{CommandBody}
+use Rattle.tpm_buffer.specs.declared.command.CommandBody.TheVariants as bodies
 use Rattle.tpm_buffer.specs.declared.response.ReplyBody.{ReplyBody}
+use Rattle.tpm_buffer.specs.declared.response.ReplyBody.TheVariants as replies
 use Rattle.tpm_buffer.specs.declared.response.Response.{Response}
 use Rattle.tpm_buffer.specs.declared.response.Response.TheVariants as responses
 use Rattle.tpm_buffer.specs.Parameters.{parameters}
@@ -21,21 +19,16 @@ use Rattle.tpm_buffer.specs.ResponseAreas.{handle_of}
 use Rattle.tpm_buffer.specs.Responses.{ReplyCut, reply_cut, response}
 use Rattle.tpm_tool.specs.declared.status.Status.{Status}
 use Rattle.tpm_tool.specs.declared.status.Status.TheVariants.{Done, Refused}
-use Rattle.tpm_tool.specs.Text.{comma, line, lines_from, bytes_in, bytes_text, command_text, parameters_line, refusal_line}
+use Rattle.tpm_tool.specs.Text.{lines_from, bytes_in, command_text, parameters_line, refusal_line}
+use Rattle.tpm_tool.specs.FieldText.{Field, named, parts, fields_from}
+use Rattle.tpm_tool.specs.Parts.{public_parts, selection_parts, digest_parts, digest_value_parts, symmetric_parts}
 use Rattle.tpm_tool.specs.Show.{ShowsDecoded}
 use Rattle.tpm_tool.specs.ReplyText.{reply_line, reply_handle_line, reply_session_line, reply_code_line}
 
 -- ---- the parameters by their names and their types (Part 3, the command table and the response table of each command), where a
 -- plus behind a type, as of TPMT_SYM_DEF+, is no part of its name
 
-pub record Parameter : Type 0 where
-  pub name : List ℕ
-  pub type : List ℕ
-
-abbrev pub named : List ℕ → List ℕ → Parameter
-named name type = record { name = name; type = type }
-
-abbrev pub command_names : CommandCode → List Parameter
+abbrev pub command_names : CommandCode → List Field
 command_names codes.NvUndefineSpace = []
 command_names codes.NvDefineSpace = named (text "auth") (text "TPM2B_AUTH") ∷ named (text "publicInfo") (text "TPM2B_NV_PUBLIC") ∷ []
 command_names codes.NvIncrement = []
@@ -61,7 +54,7 @@ command_names codes.PolicyRestart = []
 command_names codes.PcrExtend = named (text "digests") (text "TPML_DIGEST_VALUES") ∷ []
 command_names codes.PolicyGetDigest = []
 
-abbrev pub reply_names : CommandCode → List Parameter
+abbrev pub reply_names : CommandCode → List Field
 reply_names codes.NvUndefineSpace = []
 reply_names codes.NvDefineSpace = []
 reply_names codes.NvIncrement = []
@@ -85,36 +78,34 @@ reply_names codes.PolicyRestart = []
 reply_names codes.PcrExtend = []
 reply_names codes.PolicyGetDigest = named (text "policyDigest") (text "TPM2B_DIGEST") ∷ []
 
+-- ---- what stands in them
+
+-- the parts of each parameter of a command, where they are told
+abbrev pub command_insides : (json : Bool) → CommandBody → List (Option (List ℕ))
+command_insides json (bodies.NvDefineSpace auth public) = None ∷ Some (public_parts json public) ∷ []
+command_insides json (bodies.PolicyOr session digests) = Some (digest_parts json digests) ∷ []
+command_insides json (bodies.StartAuthSession start) = None ∷ None ∷ None ∷ Some (symmetric_parts json start.symmetric) ∷ []
+command_insides json (bodies.PcrRead selections) = Some (selection_parts json selections) ∷ []
+command_insides json (bodies.PolicyPcr session pcr_digest selections) = None ∷ Some (selection_parts json selections) ∷ []
+command_insides json (bodies.PcrExtend register digests) = Some (digest_value_parts json digests) ∷ []
+command_insides json _ = []
+
+-- the parts of each parameter of a reply, where they are told
+abbrev pub reply_insides : (json : Bool) → ReplyBody → List (Option (List ℕ))
+reply_insides json (replies.PcrEvent digests) = Some (digest_value_parts json digests) ∷ []
+reply_insides json (replies.NvReadPublic public name) = Some (public_parts json public) ∷ []
+reply_insides json (replies.PcrRead update_counter selections digests) = None ∷ Some (selection_parts json selections) ∷ Some (digest_parts json digests) ∷ []
+reply_insides json _ = []
+
 -- ---- their lines
 
--- the spelling of each part of a value, in the order of its layout: joined they are the spelling of the value
-abbrev pub parts : {A : Type 0} → Layout A → A → List (List ℕ)
-parts (field get l f) x = spelling l (get x) ∷ parts (f (get x)) x
-parts _ x = []
-
-unfoldable pub field_line : List ℕ → List ℕ → List ℕ → List ℕ
-field_line name type bytes = text "  " ++ line (name ∷ type ∷ bytes_text bytes ∷ [])
-
--- as an object of JSON (RFC 8259)
-unfoldable pub field_object : List ℕ → List ℕ → List ℕ → List ℕ
-field_object name type bytes = text "{\"name\":\"" ++ (name ++ (text "\",\"type\":\"" ++ (type ++ (text "\",\"value\":\"" ++ (encode_lower bytes ++ text "\"}")))))
-
--- its line, or its object as an entry of a list
-unfoldable pub field_text : (json : Bool) → ℕ → List ℕ → List ℕ → List ℕ → List ℕ
-field_text false i name type bytes = field_line name type bytes
-field_text true i name type bytes = comma i ++ field_object name type bytes
-
-abbrev pub fields_from : (json : Bool) → ℕ → List Parameter → List (List ℕ) → List ℕ
-fields_from json i (p ∷ ps) (bytes ∷ others) = field_text json i p.name p.type bytes ++ fields_from json (i + 1) ps others
-fields_from json i _ _ = []
-
--- a line or an object for each parameter of a command
+-- a line or an object for each parameter of a command, with its parts
 abbrev pub command_fields : (json : Bool) → CommandBody → List ℕ
-command_fields json body = fields_from json 1 (command_names (code_for body)) (parts (parameters (code_for body)) (params_of body))
+command_fields json body = fields_from json (text "  ") 1 (command_names (code_for body)) (parts (parameters (code_for body)) (params_of body)) (command_insides json body)
 
--- a line or an object for each parameter of a reply
+-- a line or an object for each parameter of a reply, with its parts
 abbrev pub reply_fields : (json : Bool) → ReplyBody → List ℕ
-reply_fields json body = fields_from json 1 (reply_names (code_for_reply body)) (parts (parameters_of_reply body) body)
+reply_fields json body = fields_from json (text "  ") 1 (reply_names (code_for_reply body)) (parts (parameters_of_reply body) body) (reply_insides json body)
 
 -- ---- the text
 

@@ -3,6 +3,8 @@ pub mod Faults
 pub mod Text
 pub mod ReplyText
 pub mod Show
+pub mod FieldText
+pub mod Parts
 pub mod Fields
 pub mod FrameJson
 pub mod Capture

@@ -211,8 +211,10 @@ impl Capture {
 /// The object has the members `number` and `kind`, which is `command` or `response`. A command has its name as `command`, `size`,
 /// `handles`, `sessions` and `parameters`, and a reply the same; a response of another code than 0 has `code`. What is refused has
 /// `refused` and `at`, and `name` where the profile hasn't the command; a reply without its command has `fault`. Where parameters
-/// are told by their names there is `fields`, a list of objects with `name`, `type` and `value`. A line without a frame has `number`
-/// and `fault`. Each says what its line says: bytes, handles, attributes and codes are in hexadecimal, and no bytes are empty.
+/// are told by their names there is `fields`, a list of objects with `name`, `type` and `value`. That of a structure has `fields`
+/// likewise, of its members or entries; bits that are set, and registers, are objects with `name` and `number`, which is decimal.
+/// A line without a frame has `number` and `fault`. Each says what its line says: bytes, handles, attributes and codes are in
+/// hexadecimal, and no bytes are empty.
 ///
 /// The status is `Refused` where a frame or a line was refused, and else `Done`. What a read gave is answered before the
 /// next read, and no more than one line and one piece is held.

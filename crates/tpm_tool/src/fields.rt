@@ -1,86 +1,20 @@
 //! The parameters of commands and replies by their names and their types.
 
-ghost use Rattle.std.specs.Prelude.{◌≡◌, ◌++◌, ◌≤◌, OnOk, codes, length, string_bytes};
+ghost use Rattle.std.specs.Prelude.{◌≡◌, ◌++◌, OnOk, codes, string_bytes};
 ghost use Rattle.tpm_wire.specs.Spelling.{spelling};
 ghost use Rattle.tpm_wire.specs.Structures.{sized_bytes};
 ghost use Rattle.tpm_buffer.specs.Events.{event_bytes};
-ghost use Rattle.tpm_tool.specs.Fields.{field_line, field_object, field_text, command_fields, reply_fields};
+ghost use Rattle.tpm_tool.specs.FieldText.{field_text};
+ghost use Rattle.tpm_tool.specs.Fields.{command_fields, reply_fields};
 
-use crate::hexadecimal::shown_bytes;
-use crate::text::push_comma;
+use crate::field_text::{push_bytes, push_field};
+use crate::parts::{
+    push_digest_values, push_digests, push_public, push_selections, push_symmetric,
+};
 use std::alloc::{AllocError, Global};
 use tpm_buffer::{CommandBody, Event, ReplyBody, StartAuth};
 use tpm_types::EncryptedSalt;
 use tpm_wire::{Buffer, Wire, put_bytes};
-
-#[tactic(auto, unfolding(crate::specs::Fields::field_line))]
-fn push_line(
-    alloc: Global,
-    text: &mut String,
-    name: &str,
-    kind: &str,
-    bytes: &[u8],
-) -> Result<(), AllocError>
-    ensures { OnOk result (string_bytes text.new ≡ string_bytes text.old ++ field_line name.now kind.now bytes.now) }
-{
-    let bytes = shown_bytes(alloc, bytes)?;
-    writeln!(text, "  {name} {kind} {bytes}")
-}
-
-#[tactic(auto, unfolding(crate::specs::Fields::field_object))]
-fn push_object(
-    alloc: Global,
-    text: &mut String,
-    name: &str,
-    kind: &str,
-    bytes: &[u8],
-) -> Result<(), AllocError>
-    ensures { OnOk result (string_bytes text.new ≡ string_bytes text.old ++ field_object name.now kind.now bytes.now) }
-{
-    let value = hex::encode(alloc, bytes)?;
-    write!(
-        text,
-        "{{\"name\":\"{name}\",\"type\":\"{kind}\",\"value\":\"{value}\"}}"
-    )
-}
-
-// Adds the line or the object of a parameter with this number, this name and this type, of these bytes.
-#[tactic(auto, unfolding(crate::specs::Fields::field_text))]
-fn push_bytes(
-    alloc: Global,
-    text: &mut String,
-    json: bool,
-    i: usize,
-    name: &str,
-    kind: &str,
-    bytes: &[u8],
-) -> Result<(), AllocError>
-    ensures { OnOk result (string_bytes text.new ≡ string_bytes text.old ++ field_text json i name.now kind.now bytes.now) }
-{
-    if !json {
-        return push_line(alloc, text, name, kind, bytes);
-    }
-    push_comma(text, i)?;
-    push_object(alloc, text, name, kind, bytes)
-}
-
-// Adds the line or the object of a parameter with this number, this name and this type, of this value.
-fn push_field<T: Wire>(
-    alloc: Global,
-    text: &mut String,
-    json: bool,
-    i: usize,
-    name: &str,
-    kind: &str,
-    value: &T,
-) -> Result<(), AllocError>
-    requires { length (spelling T.layout value.now) ≤ 4096 }
-    ensures { OnOk result (string_bytes text.new ≡ string_bytes text.old ++ field_text json i name.now kind.now (spelling T.layout value.now)) }
-{
-    let mut bytes = Buffer::new();
-    value.put(&mut bytes);
-    push_bytes(alloc, text, json, i, name, kind, bytes.as_slice())
-}
 
 // Adds the line or the object of an event, which is lent.
 #[tactic(auto, unfolding(tpm_wire::specs::Structures::sized_bytes))]
@@ -90,7 +24,7 @@ fn push_event(
     json: bool,
     event: &Event<'_>,
 ) -> Result<(), AllocError>
-    ensures { OnOk result (string_bytes text.new ≡ string_bytes text.old ++ field_text json 1 (codes "eventData") (codes "TPM2B_EVENT") (spelling (sized_bytes event_bytes) event.now)) }
+    ensures { OnOk result (string_bytes text.new ≡ string_bytes text.old ++ field_text json (codes "  ") 1 (codes "eventData") (codes "TPM2B_EVENT") (spelling (sized_bytes event_bytes) event.now)) }
 {
     let event = event.as_slice();
     let mut bytes = Buffer::new();
@@ -100,6 +34,7 @@ fn push_event(
         alloc,
         text,
         json,
+        "  ",
         1,
         "eventData",
         "TPM2B_EVENT",
@@ -108,7 +43,7 @@ fn push_event(
 }
 
 /// Adds a line, or an object of JSON, for each parameter of a command: its name, its type and its bytes (Part 3, the table of the
-/// command).
+/// command), and what stands in it.
 #[tactic(auto, unfolding(tpm_types::specs::Constants::startup_type, tpm_types::specs::Constants::session_type, tpm_types::specs::Tpm2b::encrypted_salt, tpm_buffer::specs::Parameters::startup, tpm_buffer::specs::Parameters::nv_define_space, tpm_buffer::specs::Parameters::pcr_event, tpm_buffer::specs::Parameters::nv_read, tpm_buffer::specs::Parameters::flush_context, tpm_buffer::specs::Parameters::policy_command_code, tpm_buffer::specs::Parameters::policy_or, tpm_buffer::specs::Parameters::start_auth_session, tpm_buffer::specs::Parameters::pcr_read, tpm_buffer::specs::Parameters::policy_pcr, tpm_buffer::specs::Parameters::pcr_extend))]
 pub(crate) fn push_command_fields(
     alloc: Global,
@@ -120,25 +55,26 @@ pub(crate) fn push_command_fields(
 {
     match body {
         CommandBody::NvDefineSpace { auth, public } => {
-            prove!(auth.len() + public.len() <= 4096);
-            push_field(alloc, text, json, 1, "auth", "TPM2B_AUTH", auth)?;
+            prove!(auth.len() <= 4096);
+            push_field(alloc, text, json, "  ", 1, "auth", "TPM2B_AUTH", auth)?;
+            push_public(alloc, text, json, 2, "publicInfo", public)
+        }
+        CommandBody::PcrEvent { event, .. } => push_event(alloc, text, json, event),
+        CommandBody::Startup(startup_type) => {
             push_field(
                 alloc,
                 text,
                 json,
-                2,
-                "publicInfo",
-                "TPM2B_NV_PUBLIC",
-                public,
+                "  ",
+                1,
+                "startupType",
+                "TPM_SU",
+                startup_type,
             )
         }
-        CommandBody::PcrEvent { event, .. } => push_event(alloc, text, json, event),
-        CommandBody::Startup(startup_type) => {
-            push_field(alloc, text, json, 1, "startupType", "TPM_SU", startup_type)
-        }
         CommandBody::NvRead { size, offset, .. } => {
-            push_field(alloc, text, json, 1, "size", "UINT16", size)?;
-            push_field(alloc, text, json, 2, "offset", "UINT16", offset)
+            push_field(alloc, text, json, "  ", 1, "size", "UINT16", size)?;
+            push_field(alloc, text, json, "  ", 2, "offset", "UINT16", offset)
         }
         CommandBody::FlushContext(session) => {
             prove!(session.len() <= 4096);
@@ -146,6 +82,7 @@ pub(crate) fn push_command_fields(
                 alloc,
                 text,
                 json,
+                "  ",
                 1,
                 "flushHandle",
                 "TPMI_DH_CONTEXT",
@@ -153,11 +90,10 @@ pub(crate) fn push_command_fields(
             )
         }
         CommandBody::PolicyCommandCode { code, .. } => {
-            push_field(alloc, text, json, 1, "code", "TPM_CC", code)
+            push_field(alloc, text, json, "  ", 1, "code", "TPM_CC", code)
         }
         CommandBody::PolicyOr { digests, .. } => {
-            prove!(digests.len() <= 4096);
-            push_field(alloc, text, json, 1, "pHashList", "TPML_DIGEST", digests)
+            push_digests(alloc, text, json, 1, "pHashList", digests)
         }
         CommandBody::StartAuthSession(start) => {
             let StartAuth {
@@ -167,11 +103,12 @@ pub(crate) fn push_command_fields(
                 auth_hash,
                 ..
             } = start;
-            prove!(nonce_caller.len() + symmetric.len() + auth_hash.len() <= 4096);
+            prove!(nonce_caller.len() + auth_hash.len() <= 4096);
             push_field(
                 alloc,
                 text,
                 json,
+                "  ",
                 1,
                 "nonceCaller",
                 "TPM2B_NONCE",
@@ -181,63 +118,57 @@ pub(crate) fn push_command_fields(
                 alloc,
                 text,
                 json,
+                "  ",
                 2,
                 "encryptedSalt",
                 "TPM2B_ENCRYPTED_SECRET",
                 &EncryptedSalt::Empty,
             )?;
-            push_field(alloc, text, json, 3, "sessionType", "TPM_SE", session_type)?;
-            push_field(alloc, text, json, 4, "symmetric", "TPMT_SYM_DEF", symmetric)?;
-            push_field(alloc, text, json, 5, "authHash", "TPMI_ALG_HASH", auth_hash)
-        }
-        CommandBody::PcrRead(selections) => {
-            prove!(selections.len() <= 4096);
             push_field(
                 alloc,
                 text,
                 json,
-                1,
-                "pcrSelectionIn",
-                "TPML_PCR_SELECTION",
-                selections,
+                "  ",
+                3,
+                "sessionType",
+                "TPM_SE",
+                session_type,
+            )?;
+            push_symmetric(alloc, text, json, symmetric)?;
+            push_field(
+                alloc,
+                text,
+                json,
+                "  ",
+                5,
+                "authHash",
+                "TPMI_ALG_HASH",
+                auth_hash,
             )
+        }
+        CommandBody::PcrRead(selections) => {
+            push_selections(alloc, text, json, 1, "pcrSelectionIn", selections)
         }
         CommandBody::PolicyPcr {
             pcr_digest,
             selections,
             ..
         } => {
-            prove!(pcr_digest.len() + selections.len() <= 4096);
+            prove!(pcr_digest.len() <= 4096);
             push_field(
                 alloc,
                 text,
                 json,
+                "  ",
                 1,
                 "pcrDigest",
                 "TPM2B_DIGEST",
                 pcr_digest,
             )?;
-            push_field(
-                alloc,
-                text,
-                json,
-                2,
-                "pcrs",
-                "TPML_PCR_SELECTION",
-                selections,
-            )
+            push_selections(alloc, text, json, 2, "pcrs", selections)
         }
         CommandBody::PcrExtend { digests, .. } => {
-            prove!(digests.len() <= 4096);
-            push_field(
-                alloc,
-                text,
-                json,
-                1,
-                "digests",
-                "TPML_DIGEST_VALUES",
-                digests,
-            )
+            push_digest_values(alloc, text, json, 1, "digests", digests)
         }
         CommandBody::NvUndefineSpace { .. }
         | CommandBody::NvIncrement { .. }
@@ -250,7 +181,7 @@ pub(crate) fn push_command_fields(
 }
 
 /// Adds a line, or an object of JSON, for each parameter of a reply: its name, its type and its bytes (Part 3, the response table of
-/// the command).
+/// the command), and what stands in it.
 #[tactic(auto, unfolding(tpm_buffer::specs::Replies::pcr_event_reply, tpm_buffer::specs::Replies::nv_read_reply, tpm_buffer::specs::Replies::nv_read_public_reply, tpm_buffer::specs::Replies::start_auth_session_reply, tpm_buffer::specs::Replies::pcr_read_reply, tpm_buffer::specs::Replies::policy_get_digest_reply))]
 pub(crate) fn push_reply_fields(
     alloc: Global,
@@ -262,25 +193,25 @@ pub(crate) fn push_reply_fields(
 {
     match body {
         ReplyBody::PcrEvent(digests) => {
-            prove!(digests.len() <= 4096);
+            push_digest_values(alloc, text, json, 1, "digests", digests)
+        }
+        ReplyBody::NvRead(data) => {
+            prove!(data.len() <= 4096);
             push_field(
                 alloc,
                 text,
                 json,
+                "  ",
                 1,
-                "digests",
-                "TPML_DIGEST_VALUES",
-                digests,
+                "data",
+                "TPM2B_MAX_NV_BUFFER",
+                data,
             )
         }
-        ReplyBody::NvRead(data) => {
-            prove!(data.len() <= 4096);
-            push_field(alloc, text, json, 1, "data", "TPM2B_MAX_NV_BUFFER", data)
-        }
         ReplyBody::NvReadPublic { public, name } => {
-            prove!(public.len() + name.len() <= 4096);
-            push_field(alloc, text, json, 1, "nvPublic", "TPM2B_NV_PUBLIC", public)?;
-            push_field(alloc, text, json, 2, "nvName", "TPM2B_NAME", name)
+            prove!(name.len() <= 4096);
+            push_public(alloc, text, json, 1, "nvPublic", public)?;
+            push_field(alloc, text, json, "  ", 2, "nvName", "TPM2B_NAME", name)
         }
         ReplyBody::StartAuthSession(reply) => {
             prove!(reply.nonce_tpm.len() <= 4096);
@@ -288,6 +219,7 @@ pub(crate) fn push_reply_fields(
                 alloc,
                 text,
                 json,
+                "  ",
                 1,
                 "nonceTPM",
                 "TPM2B_NONCE",
@@ -299,30 +231,31 @@ pub(crate) fn push_reply_fields(
             selections,
             digests,
         } => {
-            prove!(selections.len() + digests.len() <= 4096);
             push_field(
                 alloc,
                 text,
                 json,
+                "  ",
                 1,
                 "pcrUpdateCounter",
                 "UINT32",
                 update_counter,
             )?;
+            push_selections(alloc, text, json, 2, "pcrSelectionOut", selections)?;
+            push_digests(alloc, text, json, 3, "pcrValues", digests)
+        }
+        ReplyBody::PolicyGetDigest(digest) => {
+            prove!(digest.len() <= 4096);
             push_field(
                 alloc,
                 text,
                 json,
-                2,
-                "pcrSelectionOut",
-                "TPML_PCR_SELECTION",
-                selections,
-            )?;
-            push_field(alloc, text, json, 3, "pcrValues", "TPML_DIGEST", digests)
-        }
-        ReplyBody::PolicyGetDigest(digest) => {
-            prove!(digest.len() <= 4096);
-            push_field(alloc, text, json, 1, "policyDigest", "TPM2B_DIGEST", digest)
+                "  ",
+                1,
+                "policyDigest",
+                "TPM2B_DIGEST",
+                digest,
+            )
         }
         ReplyBody::NvUndefineSpace
         | ReplyBody::NvDefineSpace

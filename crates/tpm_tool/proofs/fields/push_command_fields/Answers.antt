@@ -6,7 +6,7 @@ use Rattle.tpm_tool.proofs.fields.push_command_fields.Goals as goal
 pub returns-in_ok-push_field-in-NvDefineSpace : goal.returns-in_ok-push_field-in-NvDefineSpace
 unfolding nv_define_space
 returns-in_ok-push_field-in-NvDefineSpace c =
-    let written = simp (c.in_ok-push_field-in-NvDefineSpace.ensures, append_assoc) at c.push_field-in-NvDefineSpace.ensures in
+    let written = simp (c.in_ok-push_field-in-NvDefineSpace.ensures, append_assoc) at c.push_public.ensures in
     rw c.in-NvDefineSpace.is (simp append-nil written)
 
 pub returns-in-Startup : goal.returns-in-Startup
@@ -19,25 +19,25 @@ returns-in-FlushContext c = rw c.in-FlushContext.is (simp append-nil c.push_fiel
 
 pub returns-in-PolicyOr : goal.returns-in-PolicyOr
 unfolding policy_or
-returns-in-PolicyOr c = rw c.in-PolicyOr.is (simp append-nil c.push_field-in-PolicyOr.ensures)
+returns-in-PolicyOr c = rw c.in-PolicyOr.is (simp append-nil c.push_digests.ensures)
 
-pub returns-in_ok-push_field-in-StartAuthSession-4 : goal.returns-in_ok-push_field-in-StartAuthSession-4
+pub returns-in_ok-push_symmetric-in-StartAuthSession : goal.returns-in_ok-push_symmetric-in-StartAuthSession
 unfolding start_auth_session
-returns-in_ok-push_field-in-StartAuthSession-4 c =
-    let joined = simp (c.in_ok-push_field-in-StartAuthSession-4.ensures, c.in_ok-push_field-in-StartAuthSession-3.ensures, c.in_ok-push_field-in-StartAuthSession-2.ensures, c.in_ok-push_field-in-StartAuthSession.ensures) at c.push_field-in-StartAuthSession-5.ensures in
+returns-in_ok-push_symmetric-in-StartAuthSession c =
+    let joined = simp (c.in_ok-push_symmetric-in-StartAuthSession.ensures, c.in_ok-push_field-in-StartAuthSession-3.ensures, c.in_ok-push_field-in-StartAuthSession-2.ensures, c.in_ok-push_field-in-StartAuthSession.ensures) at c.push_field-in-StartAuthSession-4.ensures in
     let written = simp append_assoc at joined in
     rw c.in-StartAuthSession.is (simp append-nil written)
 
 pub returns-in-PcrRead : goal.returns-in-PcrRead
 unfolding pcr_read
-returns-in-PcrRead c = rw c.in-PcrRead.is (simp append-nil c.push_field-in-PcrRead.ensures)
+returns-in-PcrRead c = rw c.in-PcrRead.is (simp append-nil c.push_selections.ensures)
 
 pub returns-in_ok-push_field-in-PolicyPcr : goal.returns-in_ok-push_field-in-PolicyPcr
 unfolding policy_pcr
 returns-in_ok-push_field-in-PolicyPcr c =
-    let written = simp (c.in_ok-push_field-in-PolicyPcr.ensures, append_assoc) at c.push_field-in-PolicyPcr-2.ensures in
+    let written = simp (c.in_ok-push_field-in-PolicyPcr.ensures, append_assoc) at c.push_selections-in-PolicyPcr.ensures in
     rw c.in-PolicyPcr.is (simp append-nil written)
 
 pub returns-in-PcrExtend : goal.returns-in-PcrExtend
 unfolding pcr_extend
-returns-in-PcrExtend c = rw c.in-PcrExtend.is (simp append-nil c.push_field-in-PcrExtend.ensures)
+returns-in-PcrExtend c = rw c.in-PcrExtend.is (simp append-nil c.push_digest_values.ensures)

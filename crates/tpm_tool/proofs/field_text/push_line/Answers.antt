@@ -1,5 +1,5 @@
-use Rattle.tpm_tool.specs.Fields.{field_line}
-use Rattle.tpm_tool.proofs.fields.push_line.Goals as goal
+use Rattle.tpm_tool.specs.FieldText.{field_line}
+use Rattle.tpm_tool.proofs.field_text.push_line.Goals as goal
 
 pub returns : goal.returns
 unfolding field_line
