@@ -193,18 +193,19 @@ fi
 side_by_side() {
     rm -rf "$wrapper/crates"
     mkdir -p "$wrapper/crates/tpmtool/src"
-    for crate in tpm_buffer tpm_log tpm_device tpm_args; do mkdir -p "$wrapper/crates/$crate/src"; done
+    for crate in tpm_buffer tpm_check tpm_show tpm_device tpm_args; do mkdir -p "$wrapper/crates/$crate/src"; done
     : >"$wrapper/calls"
     wrapped --build show
 }
-printf 'tpm_buffer:\ntpm_log: tpm_buffer\ntpm_device: tpm_buffer\ntpm_args: tpm_buffer\ntpmtool: tpm_log tpm_device tpm_args\n' >"$wrapper/crates.txt"
+printf 'tpm_buffer:\ntpm_check: tpm_buffer\ntpm_show: tpm_buffer\ntpm_device: tpm_buffer\ntpm_args: tpm_buffer\ntpmtool: tpm_check tpm_show tpm_device tpm_args\n' >"$wrapper/crates.txt"
 wants '<show>' "in $wrapper/elsewhere" given
 side_by_side
 says "the wrapper proves crates side by side at the first build" 3 1 0
 name="the wrapper brings what was proved in a copy, and leaves no copy"
-if [ "$(cd "$wrapper/crates" && cat tpm_buffer/out/proved tpm_log/out/proved tpm_device/out/proved tpm_args/out/proved | sed "s|^$wrapper/crates/||")" = "\
+if [ "$(cd "$wrapper/crates" && cat tpm_buffer/out/proved tpm_check/out/proved tpm_show/out/proved tpm_device/out/proved tpm_args/out/proved | sed "s|^$wrapper/crates/||")" = "\
 tpm_buffer
-tpmtool/out/copies/tpm_log/crates/tpm_log
+tpmtool/out/copies/tpm_check/crates/tpm_check
+tpmtool/out/copies/tpm_show/crates/tpm_show
 tpm_device
 tpmtool/out/copies/tpm_args/crates/tpm_args" ] && [ ! -e "$wrapper/crates/tpmtool/out/copies" ]; then
     pass "$name"
@@ -212,12 +213,12 @@ else
     fail "$name" "$(cat "$wrapper"/crates/*/out/proved; ls "$wrapper/crates/tpmtool/out")"
 fi
 wants '<show>' "in $wrapper/elsewhere" given
-UNPROVED=tpm_log
+UNPROVED=tpm_check
 export UNPROVED
 side_by_side
 unset UNPROVED
 name="the wrapper leaves a crate that fails in its copy to the build"
-if [ "$status" -eq 3 ] && [ ! -e "$wrapper/crates/tpm_log/out" ] && [ -e "$wrapper/crates/tpm_args/out/proved" ]; then
+if [ "$status" -eq 3 ] && [ ! -e "$wrapper/crates/tpm_check/out" ] && [ -e "$wrapper/crates/tpm_args/out/proved" ]; then
     pass "$name"
 else
     fail "$name" "status $status: $(cat "$wrapper/err")"

@@ -1,14 +1,2 @@
-mod Padded
-mod Listed
-mod InputLines
 mod Scripts
-mod Captures
-mod Streams
 mod Nonces
-mod Comparisons
-mod Checks
-mod Verdicts
-mod EventSizes
-mod EventLines
-mod Tables
-mod Pushed

@@ -13,12 +13,15 @@ use Rattle.tpm_model.proofs.Runs.{after-append}
 use Rattle.tpm_buffer.proofs.Filled.{consumes_both}
 use Rattle.tpm_device.specs.declared.device.Device.{Device}
 use Rattle.tpm_tool.specs.declared.script.Run.{Run}
-use Rattle.tpm_tool.specs.declared.status.Status.{Status}
-use Rattle.tpm_tool.specs.declared.status.Status.TheVariants.{Done, Refused}
-use Rattle.tpm_tool.specs.Text.{bytes_line, line}
-use Rattle.tpm_tool.specs.Script.{Line, Blank, Power, Command, NotHexadecimal, Script, lines_of, line_of, most_digits, HasNoFeed, AreEnded, AreAccepted, IsRefusedLine, IsRefusedIn, IsUnrefused, events_from, refused_from, script_from, script, events_text, refused_text, script_text, status_for, ReadsNoFurther, ReadsScript, most_bytes, most_piece}
-use Rattle.tpm_tool.specs.Progress.{Place, start, script_at, IsOpen, behind, Leads, Ends, refused_at, StandsAt, Performs, AddedTo, place, next_command, EndsLine, Takes, Reaches}
-use Rattle.tpm_tool.proofs.InputLines.{no_feed-more, ended_line, last_line, first_line, other_lines, longer_line, lines_of-append, ended_both}
+use Rattle.tpm_text.specs.declared.status.Status.{Status}
+use Rattle.tpm_text.specs.declared.status.Status.TheVariants.{Done, Refused}
+use Rattle.tpm_text.specs.Text.{bytes_line, line}
+use Rattle.tpm_text.specs.InputLines.{lines_of, HasNoFeed, AreEnded, most_bytes, most_piece}
+use Rattle.tpm_tool.specs.Script.{Line, Blank, Power, Command, NotHexadecimal, Script, line_of, most_digits, AreAccepted, IsRefusedLine, IsRefusedIn, IsUnrefused, events_from, refused_from, script_from, script, events_text, refused_text, script_text, status_for, ReadsNoFurther, ReadsScript}
+use Rattle.tpm_text.specs.InputLines.{AddedTo}
+use Rattle.tpm_tool.specs.Progress.{Place, start, script_at, IsOpen, behind, Leads, Ends, refused_at, StandsAt, Performs, place, next_command, EndsLine, Takes, Reaches}
+use Rattle.tpm_text.proofs.InputLines.{no_feed-more, ended_line, last_line, first_line, other_lines, longer_line, lines_of-append, ended_both}
+use Rattle.tpm_text.proofs.Joins.{Joins}
 
 -- ---- lines
 
@@ -115,19 +118,6 @@ script_text-append o h es s =
     ∙ ap (λ (text : List ℕ). text ++ refused_text s.refused) (sym (events_text-append o h es s.events))
 
 -- ---- the device
-
--- What two parts add is added by both.
-abbrev pub Joins : (A B C : List ℕ → Type 0) → Type 0
-Joins A B C = (xs ys : List ℕ) → A xs → B ys → C (xs ++ ys)
-
-pub joins_texts : (a b c : List ℕ) → Joins (AddedTo a b) (AddedTo b c) (AddedTo a c)
-joins_texts a b c xs ys f g = g ∙ ap (λ (text : List ℕ). text ++ ys) f ∙ append_assoc a xs ys
-
-pub joins_appends : (a b c : Option (List ℕ)) → Joins (Appends a b) (Appends b c) (Appends a c)
-joins_appends None b c xs ys f g = tt
-joins_appends (Some l) None c xs ys f g = absurd f
-joins_appends (Some l) (Some m) None xs ys f g = absurd g
-joins_appends (Some l) (Some m) (Some n) xs ys f g = g ∙ ap (λ (text : List ℕ). text ++ ys) f ∙ append_assoc l xs ys
 
 pub performs_both : (es : List Event) (s : Script) (d e f : Device) (A B C : List ℕ → Type 0) → Joins A B C
     → Performs (record { events = es; refused = None }) d e A → Performs s e f B → Performs (behind es s) d f C

@@ -8,9 +8,10 @@ use Rattle.tpm_device.specs.Stands.{Stands}
 use Rattle.tpm_tool.specs.declared.lines.Line.{Line as RustLine}
 use Rattle.tpm_tool.specs.declared.lines.Line.TheVariants as rust
 use Rattle.tpm_tool.specs.declared.script.Run.{Run}
-use Rattle.tpm_tool.specs.declared.status.Status.{Status}
-use Rattle.tpm_tool.specs.declared.status.Status.TheVariants.{Done, Refused}
-use Rattle.tpm_tool.specs.Script.{Line, Blank, Power, Command, NotHexadecimal, Script, lines_of, line_of, most_digits, HasNoFeed, AreEnded, AreAccepted, IsRefusedIn, events_from, refused_from, script_from, script_text}
+use Rattle.tpm_text.specs.declared.status.Status.{Status}
+use Rattle.tpm_text.specs.declared.status.Status.TheVariants.{Done, Refused}
+use Rattle.tpm_text.specs.InputLines.{lines_of, HasNoFeed, AreEnded}
+use Rattle.tpm_tool.specs.Script.{Line, Blank, Power, Command, NotHexadecimal, Script, line_of, most_digits, AreAccepted, IsRefusedIn, events_from, refused_from, script_from, script_text}
 
 -- what was read of a line
 abbrev pub read_as : RustLine → Line
@@ -65,10 +66,6 @@ Performs s old new Added = (o : Origin) (h : History) → StandsAt o h old → r
   stands : StandsAt o (after o h s.events) new;
   text : Added (script_text o h s);
 }
-
--- to a text
-abbrev pub AddedTo : (old new : List ℕ) → List ℕ → Type 0
-AddedTo old new added = new ≡ old ++ added
 
 -- ---- a run
 

@@ -8,23 +8,12 @@ use Rattle.std.specs.Io.KnownBytes.{Consumes, IsAtEnd}
 use Rattle.tpm_wire.specs.Sources.{one_more}
 use Rattle.tpm_model.specs.Steps.{History, Origin}
 use Rattle.tpm_model.specs.Runs.{Event, Given, Cycled, run}
-use Rattle.tpm_tool.specs.declared.status.Status.{Status}
-use Rattle.tpm_tool.specs.declared.status.Status.TheVariants.{Done, Refused}
-use Rattle.tpm_tool.specs.declared.fault.ToolFault.{ToolFault}
-use Rattle.tpm_tool.specs.declared.fault.ToolFault.TheVariants.{Memory, Read, Write, InputTooLong}
-use Rattle.tpm_tool.specs.Text.{bytes_in, bytes_line, line}
-
--- ---- the lines of an input
-
--- this byte, and then these lines
-abbrev pub onto_first : ℕ → List (List ℕ) → List (List ℕ)
-onto_first byte [] = (byte ∷ []) ∷ []
-onto_first byte (first ∷ others) = (byte ∷ first) ∷ others
-
--- A line ends with a line feed, which is no part of it. The last may do without.
-abbrev pub lines_of : List ℕ → List (List ℕ)
-lines_of [] = []
-lines_of (byte ∷ bytes) = if byte == 10 then [] ∷ lines_of bytes else onto_first byte (lines_of bytes)
+use Rattle.tpm_text.specs.declared.status.Status.{Status}
+use Rattle.tpm_text.specs.declared.status.Status.TheVariants.{Done, Refused}
+use Rattle.tpm_text.specs.declared.fault.ToolFault.{ToolFault}
+use Rattle.tpm_text.specs.declared.fault.ToolFault.TheVariants.{Memory, Read, Write, InputTooLong}
+use Rattle.tpm_text.specs.Text.{bytes_in, bytes_line, line}
+use Rattle.tpm_text.specs.InputLines.{lines_of, HasNoFeed, AreEnded, most_bytes, most_piece}
 
 -- ---- what a line asks for
 
@@ -50,14 +39,6 @@ line_of text =
     else command_in (bytes_in text)
 
 -- ---- lines that have ended
-
--- No line feed is among these bytes.
-abbrev pub HasNoFeed : List ℕ → Type 0
-HasNoFeed line = AllByRecursion (λ byte. (byte == 10) ≡ false) line
-
--- These bytes are lines, each with its line feed.
-abbrev pub AreEnded : List ℕ → Type 0
-AreEnded lines = (lines ≡ []) ⊎ (before : List ℕ) × (lines ≡ before ++ 10 ∷ [])
 
 abbrev pub AreAccepted : List ℕ → Type 0
 AreAccepted lines = AllByRecursion (λ line. line_of line ≢ NotHexadecimal) (lines_of lines)
@@ -142,21 +123,6 @@ status_for None = Done
 status_for (Some n) = Refused
 
 -- ---- what is read
-
-abbrev pub most_bytes : ℕ
-most_bytes = 16777216
-
--- how many bytes are asked for at a time
-abbrev pub most_piece : ℕ
-most_piece = 4096
-
--- A read failed where the answer is Read, and nowhere else.
-abbrev pub CountsRead : {X : Type 0} → ℕ → ℕ → Result X ToolFault → Type 0
-CountsRead old new (Ok x) = new ≡ old
-CountsRead old new (Err Read) = new ≡ one_more old
-CountsRead old new (Err Memory) = new ≡ old
-CountsRead old new (Err Write) = new ≡ old
-CountsRead old new (Err InputTooLong) = new ≡ old
 
 -- Of these bytes no line is refused but in the last of them, no more than are asked for at a time.
 pub record IsRefusedLast (bytes : List ℕ) : Type 0 where

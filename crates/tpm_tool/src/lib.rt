@@ -1,65 +1,16 @@
-//! What the program does for each of its subcommands.
+//! What the program does for each of its subcommands. `run` stands here.
 #![tactic(auto)]
 
-mod answer;
-mod built;
-mod capture;
-mod capture_frames;
-mod capture_lines;
-mod capture_stream;
-mod checked;
-mod checked_signed;
-mod command_names;
-mod compared;
-mod event_json;
-mod event_lines;
-mod event_text;
-mod event_types;
-mod explained;
-mod fault;
-mod field_text;
-mod fields;
-mod frame_json;
-mod held_lines;
-mod hexadecimal;
-mod judged;
 mod laws;
-mod layers;
 mod lines;
-mod list_lines;
-mod listed_events;
-mod meaning;
-mod named;
-mod parts;
-mod quoted;
-mod reads;
-mod register_text;
-mod reply_text;
 mod script;
-mod shown;
-mod shown_fields;
-mod shown_reply;
-mod signed_text;
-mod stated;
-mod status;
-mod telling;
-mod text;
 
-pub use answer::not_hexadecimal;
-pub use built::build;
-pub use capture::show_lines;
-pub use capture_stream::show_stream;
-pub use checked::check_log;
-pub use checked_signed::check_signed;
-pub use explained::explain;
-pub use fault::ToolFault;
-pub use held_lines::HeldLines;
-pub use judged::Signed;
 pub use laws::no_replay_in_a_script;
-pub use listed_events::{Listing, list_events};
-pub use reads::read_attest;
 pub use script::run_script;
-pub use shown::show;
-pub use shown_fields::show_fields;
-pub use status::Status;
-pub use telling::Telling;
+pub use tpm_check::{
+    HeldLines, Listing, Signed, check_log, check_signed, list_events, read_attest,
+};
+pub use tpm_show::{Telling, build, explain, show, show_fields, show_lines, show_stream};
+pub use tpm_text::answer::not_hexadecimal;
+pub use tpm_text::fault::ToolFault;
+pub use tpm_text::status::Status;

@@ -4,8 +4,8 @@ ghost use Rattle.std.specs.Prelude.{◌≡◌, IfOk};
 ghost use Rattle.tpm_tool.specs.Script.{line_of, nonce_of};
 ghost use Rattle.tpm_tool.specs.Progress.{read_as};
 
-use crate::hexadecimal::decoded;
 use std::alloc::{AllocError, Global};
+use tpm_text::hexadecimal::decoded;
 
 /// How many digits a line has at most: those of a buffer of 4,096 bytes.
 pub(crate) const MOST_DIGITS: usize = 8192;

@@ -6,19 +6,21 @@ ghost use Rattle.tpm_model.specs.Steps.{History, Origin};
 ghost use Rattle.tpm_model.specs.Runs.{Given, Cycled};
 ghost use Rattle.tpm_device.specs.Stands.{Stands};
 ghost use Rattle.tpm_wire.specs.Sources.{IsWhereItFailed};
-ghost use Rattle.tpm_tool.specs.declared.fault.ToolFault.TheVariants.{InputTooLong, Read};
-ghost use Rattle.tpm_tool.specs.Faults.{FailsByMemoryOrWrite};
-ghost use Rattle.tpm_tool.specs.Script.{nonce_of, line_of, refused_line, script, script_text, status_for, CountsRead, ReadsNoFurther, ReadsScript, ReadsTooMuch};
-ghost use Rattle.tpm_tool.specs.Progress.{place, start, IsOpen, EndsLine, Takes, Performs, AddedTo};
+ghost use Rattle.tpm_text.specs.declared.fault.ToolFault.TheVariants.{InputTooLong, Read};
+ghost use Rattle.tpm_text.specs.Faults.{FailsByMemoryOrWrite};
+ghost use Rattle.tpm_text.specs.InputLines.{CountsRead};
+ghost use Rattle.tpm_tool.specs.Script.{nonce_of, line_of, refused_line, script, script_text, status_for, ReadsNoFurther, ReadsScript, ReadsTooMuch};
+ghost use Rattle.tpm_text.specs.InputLines.{AddedTo};
+ghost use Rattle.tpm_tool.specs.Progress.{place, start, IsOpen, EndsLine, Takes, Performs};
 
-use crate::answer::write;
-use crate::fault::ToolFault;
 use crate::lines::{Line, MOST_DIGITS, nonce, read_line};
-use crate::status::Status;
-use crate::text::push_bytes;
 use std::alloc::{AllocError, Global};
 use std::io::Write;
 use tpm_device::Device;
+use tpm_text::answer::write;
+use tpm_text::fault::ToolFault;
+use tpm_text::status::Status;
+use tpm_text::text::push_bytes;
 use tpm_wire::Source;
 
 /// How many bytes a script has at most.

@@ -1,7 +1,7 @@
 use Rattle.std.proofs.Common.{◌≡◌, ◌+◌, ◌-◌, ◌≤◌}
 use Rattle.std.specs.Io.KnownBytes.{Appends}
 use Rattle.tpm_tool.specs.Progress.{Reaches}
-use Rattle.tpm_tool.specs.Script.{most_bytes}
+use Rattle.tpm_text.specs.InputLines.{most_bytes}
 use Rattle.tpm_tool.proofs.script.run_script.Given as goal
 
 -- the bytes so far are taken, and are not too many

@@ -1,6 +1,7 @@
 use Rattle.std.proofs.Common.{take, string_bytes}
-use Rattle.tpm_tool.specs.declared.status.Status.TheVariants.{Done}
-use Rattle.tpm_tool.specs.Progress.{Takes, AddedTo}
+use Rattle.tpm_text.specs.declared.status.Status.TheVariants.{Done}
+use Rattle.tpm_text.specs.InputLines.{AddedTo}
+use Rattle.tpm_tool.specs.Progress.{Takes}
 use Rattle.tpm_tool.proofs.script.Run.feed.Given as goal
 
 -- the bytes so far are taken

@@ -4,7 +4,7 @@ use Rattle.std.specs.Prelude.{nat_eq}
 use Rattle.std.proofs.lemmas.Result.{IfOk-weaker}
 use Rattle.tpm_tool.specs.Progress.{place}
 use Rattle.tpm_tool.proofs.Scripts.{takes_feed, leads_longer, leads_too_long, ends_longer, ends_too_long}
-use Rattle.tpm_tool.proofs.InputLines.{no_feed-more}
+use Rattle.tpm_text.proofs.InputLines.{no_feed-more}
 use Rattle.tpm_tool.proofs.script.Run.take.Goals as goal
 
 pub returns-then-byte-eq10 : goal.returns-then-byte-eq10

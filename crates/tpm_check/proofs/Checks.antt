@@ -1,0 +1,128 @@
+-- What is printed of a log, a list of registers and a quote.
+use Rattle.std.proofs.Common.{◌≡◌, ℕ, Bool, List, ◌++◌, Option, Some, None, Result, Ok, Err, refl, subst, inl, inr}
+use Rattle.std.specs.Prelude.{IsErrOf}
+use Rattle.tpm_wire.specs.Sources.{one_more, IsWhereItFailed}
+use Rattle.tpm_types.specs.declared.alg.Alg.{Alg}
+use Rattle.tpm_log.specs.declared.fault.LogFault.{LogFault}
+use Rattle.tpm_log.specs.declared.fault.LogFaultKind.{LogFaultKind}
+use Rattle.tpm_log.specs.declared.fault.LogFaultKind.TheVariants as kinds
+use Rattle.tpm_log.specs.Records.{LogRecord}
+use Rattle.tpm_log.specs.Replays.{ReplaysFrom, OnDevice}
+use Rattle.tpm_log.specs.Takes.{IsOfBytes}
+use Rattle.tpm_text.specs.declared.fault.ToolFault.{ToolFault}
+use Rattle.tpm_text.specs.declared.fault.ToolFault.TheVariants.{Memory, Read, Write, InputTooLong}
+use Rattle.tpm_text.specs.declared.status.Status.{Status}
+use Rattle.tpm_text.specs.declared.status.Status.TheVariants.{Refused}
+use Rattle.tpm_text.specs.Status.{both}
+use Rattle.tpm_text.specs.Faults.{FailsByMemoryOrWrite}
+use Rattle.tpm_text.specs.InputLines.{CountsRead}
+use Rattle.tpm_text.specs.Text.{bytes_in}
+use Rattle.tpm_check.specs.Compare.{Values, comparison}
+use Rattle.tpm_check.specs.Check.{ChecksQuote, ChecksBehind, ChecksValues, CountsList, CountsReads, FailsLast, IsSame}
+
+-- ---- a list
+
+pub stated_none : (value : Values) (hash : Alg) (bytes : List ℕ) (quote : Option (List ℕ)) → None ≡ (comparison value bytes).status → ChecksValues value hash (Some bytes) quote Refused (comparison value bytes).text
+stated_none value hash bytes quote e = subst (λ (o : Option Status). ChecksBehind value hash (comparison value bytes).text o quote Refused (comparison value bytes).text) e (refl, refl)
+
+pub stated_alone : (value : Values) (hash : Alg) (bytes : List ℕ) (first : Status) → Some first ≡ (comparison value bytes).status → ChecksValues value hash (Some bytes) None first (comparison value bytes).text
+stated_alone value hash bytes first e = subst (λ (o : Option Status). ChecksBehind value hash (comparison value bytes).text o None first (comparison value bytes).text) e (refl, refl)
+
+pub stated_quoted : (value : Values) (hash : Alg) (bytes quote more : List ℕ) (first second : Status) → Some first ≡ (comparison value bytes).status → ChecksQuote value hash (bytes_in quote) second more
+    → ChecksValues value hash (Some bytes) (Some quote) (both first second) ((comparison value bytes).text ++ more)
+stated_quoted value hash bytes quote more first second e checks =
+    subst (λ (o : Option Status). ChecksBehind value hash (comparison value bytes).text o (Some quote) (both first second) ((comparison value bytes).text ++ more)) e (second, more, checks, refl, refl)
+
+-- ---- a list, where there is one
+
+pub by_list : {X P : Type 0} (list : Option X) → (list ≡ None → P) → ((x : X) → list ≡ Some x → P) → P
+by_list None f g = f refl
+by_list (Some x) f g = g x refl
+
+-- ---- reads that fail
+
+-- What fails by memory or by a write does not fail by its length.
+pub not_too_long : {X : Type 0} (r : Result X ToolFault) → FailsByMemoryOrWrite r → IsErrOf r InputTooLong → ⊥
+not_too_long r f is = rw is at f
+
+counts_same : {F : Type 0} (failed : F → ℕ) (list : Option F) → CountsList IsSame failed list list
+counts_same failed None = tt
+counts_same failed (Some list) = refl
+
+-- nothing of a list was read
+pub counts_alone : {X F : Type 0} (failed : F → ℕ) (log log-2 : ℕ) (list : Option F) (r : Result X ToolFault) → FailsByMemoryOrWrite r → log-2 ≡ log → CountsReads failed log log-2 list list r
+counts_alone failed log log-2 list (Ok x) f same = (same, counts_same failed list)
+counts_alone failed log log-2 list (Err Memory) f same = (same, counts_same failed list)
+counts_alone failed log log-2 list (Err Write) f same = (same, counts_same failed list)
+counts_alone failed log log-2 list (Err Read) f same = absurd f
+counts_alone failed log log-2 list (Err InputTooLong) f same = absurd f
+
+-- a list was read
+pub counts_stated : {X F : Type 0} (failed : F → ℕ) (log log-2 : ℕ) (old new : F) (r : Result X ToolFault) → CountsRead (failed old) (failed new) r → log-2 ≡ log → CountsReads failed log log-2 (Some old) (Some new) r
+counts_stated failed log log-2 old new (Ok x) f same = (same, f)
+counts_stated failed log log-2 old new (Err Memory) f same = (same, f)
+counts_stated failed log log-2 old new (Err Write) f same = (same, f)
+counts_stated failed log log-2 old new (Err Read) f same = inr (same, f)
+counts_stated failed log log-2 old new (Err InputTooLong) f same = (same, f)
+
+-- a read of the log failed
+pub counts_log : (X : Type 0) {F : Type 0} (failed : F → ℕ) (log log-2 : ℕ) (list : Option F) → log-2 ≡ one_more log → CountsReads {X = X} failed log log-2 list list (Err Read)
+counts_log X failed log log-2 list more = inl (more, counts_same failed list)
+
+-- ---- the last read
+
+-- What fails by memory or by a write does not fail by a read.
+pub not_read : {X : Type 0} (r : Result X ToolFault) → FailsByMemoryOrWrite r → IsErrOf r Read → ⊥
+not_read r f is = rw is at f
+
+pub log_last : {F : Type 0} (failed : F → ℕ) (stopped : F → Bool) (log log-2 : ℕ) (last : Bool) (list : Option F) → log-2 ≡ one_more log → IsWhereItFailed last → FailsLast failed stopped log log-2 last list list
+log_last failed stopped log log-2 last list more is = inl (more, is, refl)
+
+pub stated_last : {X F : Type 0} (failed : F → ℕ) (stopped : F → Bool) (log log-2 : ℕ) (last : Bool) (old new : F) (r : Result X ToolFault) → CountsRead (failed old) (failed new) r → (IsErrOf r Read → IsWhereItFailed (stopped new)) → log-2 ≡ log
+    → IsErrOf r Read → FailsLast failed stopped log log-2 last (Some old) (Some new)
+stated_last failed stopped log log-2 last old new (Err Read) f ends same is = inr (same, (f, ends is))
+stated_last failed stopped log log-2 last old new (Ok x) f ends same is = absurd cc
+stated_last failed stopped log log-2 last old new (Err Memory) f ends same is = absurd cc
+stated_last failed stopped log log-2 last old new (Err Write) f ends same is = absurd cc
+stated_last failed stopped log log-2 last old new (Err InputTooLong) f ends same is = absurd cc
+
+-- ---- the log
+
+module _ {X : Type 0} (P : List LogRecord → X → Type 0) (coming : Option (List ℕ)) (old new : ℕ) where
+  pub replayed : (x : X) → ReplaysFrom P coming old new (Ok x) → new ≡ old
+  replayed x f = f.0
+
+pub of_bytes : (kind : LogFaultKind) → (kind ≡ kinds.Device → ⊥) → IsOfBytes kind
+of_bytes kinds.Truncated f = tt
+of_bytes kinds.TooLong f = tt
+of_bytes kinds.NotCryptoAgile f = tt
+of_bytes kinds.BadHeader f = tt
+of_bytes kinds.DuplicateAlgorithm f = tt
+of_bytes kinds.WrongDigestSize f = tt
+of_bytes kinds.UnknownAlgorithm f = tt
+of_bytes kinds.RepeatedDigest f = tt
+of_bytes kinds.BadRegister f = tt
+of_bytes kinds.BadLocality f = tt
+of_bytes kinds.LateLocality f = tt
+of_bytes kinds.Device f = f refl
+
+other_kind : (kind : LogFaultKind) (P Q : Type 0) → IsOfBytes kind → OnDevice kind P Q → Q
+other_kind kinds.Truncated P Q f h = h
+other_kind kinds.TooLong P Q f h = h
+other_kind kinds.NotCryptoAgile P Q f h = h
+other_kind kinds.BadHeader P Q f h = h
+other_kind kinds.DuplicateAlgorithm P Q f h = h
+other_kind kinds.WrongDigestSize P Q f h = h
+other_kind kinds.UnknownAlgorithm P Q f h = h
+other_kind kinds.RepeatedDigest P Q f h = h
+other_kind kinds.BadRegister P Q f h = h
+other_kind kinds.BadLocality P Q f h = h
+other_kind kinds.LateLocality P Q f h = h
+other_kind kinds.Device P Q f h = absurd f
+
+module _ {X : Type 0} (P : List LogRecord → X → Type 0) where
+  pub read_failed : (coming : Option (List ℕ)) (old new : ℕ) (e : LogFault) → e.kind ≡ kinds.Device → ReplaysFrom P coming old new (Err e) → new ≡ one_more old
+  read_failed coming old new e is f = rw is at f
+
+  pub no_read_failed : (coming : Option (List ℕ)) (old new : ℕ) (e : LogFault) → IsOfBytes e.kind → ReplaysFrom P coming old new (Err e) → new ≡ old
+  no_read_failed coming old new e of f = (other_kind e.kind _ _ of f).0

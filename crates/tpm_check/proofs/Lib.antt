@@ -1,0 +1,6 @@
+mod Comparisons
+mod Checks
+mod Verdicts
+mod EventSizes
+mod EventLines
+mod Pushed

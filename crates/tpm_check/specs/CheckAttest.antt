@@ -1,0 +1,155 @@
+-- What `check` prints of a quote as it was signed (this profile).
+use Rattle.std.specs.Prelude.{◌≡◌, ◌⊎◌, ℕ, zero, suc, Bool, true, false, List, [], ◌∷◌, ◌++◌, codes, Option, Some, None, Result, Ok, Err, if◌then◌else◌}
+use Rattle.std.specs.Str.{bytes_eq}
+use Rattle.std.specs.Fmt.{decimal}
+use Rattle.std.specs.List.{flat_map}
+use Rattle.tpm_wire.specs.declared.refusal.Refusal.{Refusal}
+use Rattle.tpm_wire.specs.Path.{Spells, Fault}
+use Rattle.tpm_types.specs.declared.alg.Alg.{Alg}
+use Rattle.tpm_types.specs.declared.tpms.Selection.{Selection}
+use Rattle.tpm_types.specs.declared.attest.QuoteInfo.{QuoteInfo}
+use Rattle.tpm_types.specs.declared.attest.ClockInfo.{ClockInfo}
+use Rattle.tpm_types.specs.declared.attest.Attest.{Attest}
+use Rattle.tpm_types.specs.Attest.{attest}
+use Rattle.tpm_types.specs.Tpms.{is_selected}
+use Rattle.tpm_model.specs.Registers.{Registers, composite, value_in}
+use Rattle.tpm_log.specs.declared.fault.LogFault.{LogFault}
+use Rattle.tpm_log.specs.declared.attest.NotSelected.{NotSelected}
+use Rattle.tpm_log.specs.Attests.{first_not_selected, registers_of}
+use Rattle.tpm_log.specs.Takes.{IsOfBytes}
+use Rattle.tpm_text.specs.declared.status.Status.{Status}
+use Rattle.tpm_text.specs.declared.status.Status.TheVariants.{Done, Refused}
+use Rattle.tpm_text.specs.Status.{both}
+use Rattle.tpm_text.specs.Text.{bytes_in, bytes_text, hexadecimal, line, refusal_line, not_hexadecimal_line}
+use Rattle.tpm_check.specs.Compare.{Values, bank_name, status_if}
+use Rattle.tpm_check.specs.Check.{ChecksValues, ReadsIfList, log_fault_line}
+
+-- ---- what the quote says: TPMS_ATTEST (Part 2, 10.12)
+
+unfoldable pub signer_line : List ℕ → List ℕ
+signer_line signer = line (codes "signer" ∷ bytes_text signer ∷ [])
+
+unfoldable pub nonce_line : List ℕ → List ℕ
+nonce_line nonce = line (codes "nonce" ∷ bytes_text nonce ∷ [])
+
+-- a line of this word and a number in decimal
+unfoldable pub number_line : List ℕ → ℕ → List ℕ
+number_line word n = line (word ∷ decimal n ∷ [])
+
+abbrev pub yes_no_text : Bool → List ℕ
+yes_no_text true = codes "yes"
+yes_no_text false = codes "no"
+
+unfoldable pub safe_line : Bool → List ℕ
+safe_line safe = line (codes "safe" ∷ yes_no_text safe ∷ [])
+
+abbrev pub clock_lines : ClockInfo → List ℕ
+clock_lines c = number_line (codes "clock") c.clock ++ (number_line (codes "resets") c.reset_count ++ (number_line (codes "restarts") c.restart_count ++ safe_line c.safe))
+
+unfoldable pub firmware_line : ℕ → List ℕ
+firmware_line version = line (codes "firmware" ∷ hexadecimal 16 version ∷ [])
+
+unfoldable pub register_word : ℕ → List ℕ
+register_word register = codes " " ++ decimal register
+
+-- of the first registers, so many of them, those that are selected
+abbrev pub register_words : (select : List ℕ) → ℕ → List ℕ
+register_words select zero = []
+register_words select (suc n) = register_words select n ++ (if is_selected select n then register_word n else [])
+
+-- the bank, and each register of it that is selected
+abbrev pub entry_words : Selection → List ℕ
+entry_words s = codes " " ++ (bank_name s.hash ++ register_words s.select 24)
+
+abbrev pub selection_line : List Selection → List ℕ
+selection_line sels = codes "selection" ++ (flat_map entry_words sels ++ codes "\n")
+
+abbrev pub attest_text : Attest → List ℕ
+attest_text a = signer_line a.signer ++ (nonce_line a.extra_data ++ (clock_lines a.clock_info ++ (firmware_line a.firmware_version ++ selection_line a.quote.selections)))
+
+-- ---- verdicts
+
+-- a line, and the status for it
+pub record Verdict : Type 0 where
+  pub status : Status
+  pub text : List ℕ
+
+abbrev pub whether : List ℕ → Bool → Verdict
+whether word true = record { status = Done; text = line (word ∷ codes "matches" ∷ []) }
+whether word false = record { status = Refused; text = line (word ∷ codes "differs" ∷ []) }
+
+-- extraData beside the nonce that was sent, where there is one
+abbrev pub on_nonce : (sent : Option (List ℕ)) → List ℕ → Verdict
+on_nonce None nonce = record { status = Done; text = line (codes "nonce" ∷ codes "not" ∷ codes "compared" ∷ []) }
+on_nonce (Some sent) nonce = whether (codes "nonce") (bytes_eq nonce sent)
+
+unfoldable pub lacks_line : NotSelected → List ℕ
+lacks_line r = line (codes "selection" ∷ codes "lacks" ∷ bank_name r.bank ∷ decimal r.register ∷ [])
+
+abbrev pub on_missing : Option NotSelected → Verdict
+on_missing None = record { status = Done; text = line (codes "selection" ∷ codes "covers" ∷ []) }
+on_missing (Some r) = record { status = Refused; text = lacks_line r }
+
+-- where nothing is required: a quote that selects no register says nothing of any
+abbrev pub on_registers : List NotSelected → Verdict
+on_registers [] = record { status = Refused; text = line (codes "selection" ∷ codes "empty" ∷ []) }
+on_registers (r ∷ rs) = record { status = Done; text = line (codes "selection" ∷ codes "not" ∷ codes "compared" ∷ []) }
+
+abbrev pub on_selection : (required : Option (List Selection)) → List Selection → Verdict
+on_selection None quoted = on_registers (registers_of quoted)
+on_selection (Some required) quoted = on_missing (first_not_selected quoted required)
+
+-- the digest beside that of the registers under the hash (Part 1, "Selecting Multiple PCR")
+abbrev pub on_quote : Values → Alg → QuoteInfo → Verdict
+on_quote value hash quote = whether (codes "quote") (bytes_eq (composite hash value quote.selections) quote.digest)
+
+abbrev pub behind : Verdict → Verdict → Verdict
+behind v w = record { status = both v.status w.status; text = v.text ++ w.text }
+
+-- what the quote says, and the verdicts on its nonce, its selection and its digest
+abbrev pub on_attest : Values → Alg → (sent : Option (List ℕ)) → (required : Option (List Selection)) → Attest → Verdict
+on_attest value hash sent required a =
+    behind (record { status = Done; text = attest_text a }) (behind (on_nonce sent a.extra_data) (behind (on_selection required a.quote.selections) (on_quote value hash a.quote)))
+
+-- A text was added with its status.
+abbrev pub Adds : Verdict → Status → (old new : List ℕ) → Type 0
+Adds v status old new = (status ≡ v.status) × (new ≡ old ++ v.text)
+
+-- ---- what is printed
+
+abbrev pub Says : Verdict → Status → List ℕ → Type 0
+Says v status text = (status ≡ v.status) × (text ≡ v.text)
+
+-- the quote that the bytes spell, and else their fault
+abbrev pub ChecksAttest : Values → Alg → (sent : Option (List ℕ)) → (required : Option (List Selection)) → (bytes : List ℕ) → Status → List ℕ → Type 0
+ChecksAttest value hash sent required bytes status text =
+    ((a : Attest) × Spells attest a bytes × Says (on_attest value hash sent required a) status text)
+    ⊎ ((refusal : Refusal) × Fault attest bytes refusal × (status ≡ Refused) × (text ≡ refusal_line refusal))
+
+abbrev pub ChecksDecoded : Values → Alg → (sent : Option (List ℕ)) → (required : Option (List Selection)) → (bytes : List ℕ) → Status → List ℕ → Type 0
+ChecksDecoded value hash None required bytes status text = (status ≡ Refused) × (text ≡ not_hexadecimal_line)
+ChecksDecoded value hash (Some sent) required bytes status text = ChecksAttest value hash (Some sent) required bytes status text
+
+-- the same with the nonce by its hexadecimal digits
+abbrev pub ChecksGiven : Values → Alg → (sent : Option (List ℕ)) → (required : Option (List Selection)) → (bytes : List ℕ) → Status → List ℕ → Type 0
+ChecksGiven value hash None required bytes status text = ChecksAttest value hash None required bytes status text
+ChecksGiven value hash (Some sent) required bytes status text = ChecksDecoded value hash (bytes_in sent) required bytes status text
+
+-- Besides: a list of registers and the information of a quote, where one of them is given.
+abbrev pub ChecksBesides : Values → Alg → (list quote : Option (List ℕ)) → Status → List ℕ → Type 0
+ChecksBesides value hash None None status text = (status ≡ Done) × (text ≡ [])
+ChecksBesides value hash None (Some quote) status text = ChecksValues value hash None (Some quote) status text
+ChecksBesides value hash (Some list) quote status text = ChecksValues value hash (Some list) quote status text
+
+-- What was printed of the quote as it was signed, with its status, comes before that.
+abbrev pub ChecksAll : Values → Alg → (sent : Option (List ℕ)) → (required : Option (List Selection)) → (bytes : List ℕ) → (list quote : Option (List ℕ)) → Status → List ℕ → Type 0
+ChecksAll value hash sent required bytes list quote status text = (first second : Status) × (said more : List ℕ)
+    × ChecksGiven value hash sent required bytes first said × ChecksBesides value hash list quote second more
+    × (status ≡ both first second) × (text ≡ said ++ more)
+
+-- For what the log gives this is the status and the text; a list is not read behind a fault.
+abbrev pub ChecksSigned : {F : Type 0} → Result Registers LogFault → Alg → (sent : Option (List ℕ)) → (required : Option (List Selection)) → (bytes : List ℕ)
+    → (coming : F → Option (List ℕ)) → (old new : Option F) → (quote : Option (List ℕ)) → Status → List ℕ → Type 0
+ChecksSigned (Ok found) hash sent required bytes coming old new quote status text =
+    (list : Option (List ℕ)) × ReadsIfList (value_in found.banks) coming old new list × ChecksAll (value_in found.banks) hash sent required bytes list quote status text
+ChecksSigned (Err fault) hash sent required bytes coming old new quote status text = (new ≡ old) × IsOfBytes fault.kind × (status ≡ Refused) × (text ≡ log_fault_line fault)

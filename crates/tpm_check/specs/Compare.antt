@@ -1,0 +1,244 @@
+-- What `check` prints of registers and of a list of them (this profile).
+use Rattle.std.specs.Prelude.{◌≡◌, ◌≢◌, ◌⊎◌, ℕ, zero, suc, ◌+◌, ◌≤◌, ◌==◌, nat_lt, Bool, true, false, List, [], ◌∷◌, ◌++◌, length, map, position, find, flat_map, codes, Option, Some, None, option_map, if◌then◌else◌, ◌&&◌, take, drop}
+use Rattle.std.specs.Str.{bytes_eq}
+use Rattle.std.specs.Fmt.{decimal}
+use Rattle.std.specs.List.{AllByRecursion, before_first, after_first, range_with_len}
+use Rattle.std.specs.Io.KnownBytes.{Consumes, IsAtEnd}
+use Rattle.hex.specs.Hex.{encode_lower}
+use Rattle.tpm_types.specs.declared.alg.Alg.{Alg}
+use Rattle.tpm_types.specs.declared.alg.Alg.TheVariants.{Sha1, Sha256, Sha384}
+use Rattle.tpm_types.specs.Alg.{all_algs, digest_len}
+use Rattle.tpm_check.specs.declared.list_lines.Heading.{Heading}
+use Rattle.tpm_check.specs.declared.list_lines.Heading.TheVariants.{NoBank, Bank, OtherBank}
+use Rattle.tpm_text.specs.declared.status.Status.{Status}
+use Rattle.tpm_text.specs.declared.status.Status.TheVariants.{Done, Refused}
+use Rattle.tpm_text.specs.Status.{both}
+use Rattle.tpm_text.specs.Text.{bytes_in, line}
+use Rattle.tpm_text.specs.InputLines.{lines_of, HasNoFeed, AreEnded, most_bytes, most_piece}
+
+-- ---- registers
+
+-- the values of registers, by bank and number
+abbrev pub Values : Type 0
+Values = Alg → ℕ → List ℕ
+
+abbrev pub bank_name : Alg → List ℕ
+bank_name Sha1 = codes "sha1"
+bank_name Sha256 = codes "sha256"
+bank_name Sha384 = codes "sha384"
+
+unfoldable pub register_line : Alg → ℕ → List ℕ → List ℕ
+register_line bank register value = line (bank_name bank ∷ decimal register ∷ encode_lower value ∷ [])
+
+-- the lines of a bank's first registers, so many of them
+abbrev pub bank_lines : Values → Alg → ℕ → List ℕ
+bank_lines value bank zero = []
+bank_lines value bank (suc n) = bank_lines value bank n ++ register_line bank n (value bank n)
+
+-- the lines of all registers
+abbrev pub registers_text : Values → List ℕ
+registers_text value = flat_map (λ bank. bank_lines value bank 24) all_algs
+
+-- ---- a line that states a register as its line is printed
+
+pub record Stated : Type 0 where
+  pub bank : Alg
+  pub register : ℕ
+  pub value : List ℕ
+
+abbrev pub is_space : ℕ → Bool
+is_space byte = byte == 32
+
+-- what stands before the first space, or all where there is none
+abbrev pub first_word : List ℕ → List ℕ
+first_word text = before_first is_space text
+
+-- what stands behind the first space, or nothing where there is none
+abbrev pub behind_word : List ℕ → List ℕ
+behind_word text = after_first is_space text
+
+abbrev pub bank_named : List ℕ → Option Alg
+bank_named word = find (λ bank. bytes_eq (bank_name bank) word) all_algs
+
+-- the numbers of a bank's registers in decimal
+abbrev pub register_names : List (List ℕ)
+register_names = map decimal (range_with_len 0 24)
+
+-- the number below 24 whose decimal spelling this is
+abbrev pub register_named : List ℕ → Option ℕ
+register_named word = position (λ name. bytes_eq name word) register_names
+
+-- a value has as many bytes as a digest of the bank's hash
+abbrev pub stated_of : Option Alg → Option ℕ → Option (List ℕ) → Option Stated
+stated_of (Some bank) (Some register) (Some value) = if length value == digest_len bank then Some (record { bank = bank; register = register; value = value }) else None
+stated_of _ _ _ = None
+
+-- the bank, the register and the value that a line states: their words, with a space between them
+abbrev pub stated_in : List ℕ → Option Stated
+stated_in text = stated_of (bank_named (first_word text)) (register_named (first_word (behind_word text))) (bytes_in (behind_word (behind_word text)))
+
+-- ---- a line of what tpm2_pcrread prints: a bank's heading, or a register's number and value
+
+-- the heading of the bank of this name
+abbrev pub heading_line : List ℕ → List ℕ
+heading_line name = codes "  " ++ (name ++ codes ":")
+
+abbrev pub bank_headed : List ℕ → Option Alg
+bank_headed text = find (λ bank. bytes_eq (heading_line (bank_name bank)) text) all_algs
+
+-- how many bytes a digest has of the other bank whose heading this is
+abbrev pub other_headed : List ℕ → Option ℕ
+other_headed text =
+    if bytes_eq text (codes "  sha512:") then Some 64
+    else if bytes_eq text (codes "  sm3_256:") then Some 32
+    else if bytes_eq text (codes "  sha3_256:") then Some 32
+    else if bytes_eq text (codes "  sha3_384:") then Some 48
+    else if bytes_eq text (codes "  sha3_512:") then Some 64
+    else None
+
+abbrev pub heading_of : Option Alg → Option ℕ → Option Heading
+heading_of (Some bank) _ = Some (Bank bank)
+heading_of None other = option_map OtherBank other
+
+abbrev pub heading_in : List ℕ → Option Heading
+heading_in text = heading_of (bank_headed text) (other_headed text)
+
+-- Four spaces, the number in two places, a colon, a space and `0x` stand before the value.
+abbrev pub is_numbered : List ℕ → Bool
+is_numbered text = bytes_eq (take 4 text) (codes "    ") && bytes_eq (take 4 (drop 6 text)) (codes ": 0x")
+
+-- A number of one digit has a space behind it.
+abbrev pub number_in : List ℕ → Option ℕ
+number_in text = register_named (first_word (take 2 (drop 4 text)))
+
+abbrev pub numbered_value : List ℕ → Option (List ℕ)
+numbered_value text = bytes_in (drop 10 text)
+
+-- ---- a line of a list
+
+pub data ListLine : Type 0 where
+  States : Stated → ListLine
+  Heads : Heading → ListLine
+  -- a register of another bank
+  Passes : ListLine
+  Wrong : ListLine
+
+abbrev pub stating : Option Stated → ListLine
+stating (Some s) = States s
+stating None = Wrong
+
+-- a value of another bank, whose digests have so many bytes
+abbrev pub passing : ℕ → Option ℕ → Option (List ℕ) → ListLine
+passing size (Some register) (Some value) = if length value == size then Passes else Wrong
+passing size _ _ = Wrong
+
+-- a number and a value under a heading
+abbrev pub numbered_under : Heading → Option ℕ → Option (List ℕ) → ListLine
+numbered_under NoBank register value = Wrong
+numbered_under (Bank bank) register value = stating (stated_of (Some bank) register value)
+numbered_under (OtherBank size) register value = passing size register value
+
+-- those of a line of SHA-512 that tpm2_pcrread prints
+abbrev pub most_line : ℕ
+most_line = 138
+
+abbrev pub line_told : Option Heading → ListLine → ListLine
+line_told (Some heading) _ = Heads heading
+line_told None line = line
+
+-- what a line says under a heading
+unfoldable pub line_under : Heading → List ℕ → ListLine
+line_under heading text =
+    if nat_lt most_line (length text) then Wrong
+    else line_told (heading_in text) (if is_numbered text then numbered_under heading (number_in text) (numbered_value text) else stating (stated_in text))
+
+-- the heading of what is behind a line
+abbrev pub heading_behind : Heading → ListLine → Heading
+heading_behind heading (Heads other) = other
+heading_behind heading _ = heading
+
+-- what lines say, of which the first is under this heading
+abbrev pub lines_under : Heading → List (List ℕ) → List ListLine
+lines_under heading [] = []
+lines_under heading (first ∷ others) = let line = line_under heading first in line ∷ lines_under (heading_behind heading line) others
+
+-- ---- what is printed of a list
+
+abbrev pub compared_word : Bool → List ℕ
+compared_word true = codes "match"
+compared_word false = codes "differs"
+
+unfoldable pub compared_line : Bool → Alg → ℕ → List ℕ
+compared_line same bank register = line (compared_word same ∷ bank_name bank ∷ decimal register ∷ [])
+
+unfoldable pub not_a_register_line : ℕ → List ℕ
+not_a_register_line n = line (codes "line" ∷ (decimal n ++ codes ":") ∷ codes "not" ∷ codes "a" ∷ codes "register" ∷ [])
+
+abbrev pub status_if : Bool → Status
+status_if true = Done
+status_if false = Refused
+
+-- what is printed, and the status, or none where the output has ended
+pub record Comparison : Type 0 where
+  pub text : List ℕ
+  pub status : Option Status
+
+abbrev pub is_value : Values → Stated → Bool
+is_value value s = bytes_eq (value s.bank s.register) s.value
+
+-- a line, and what is printed of those behind it
+abbrev pub with_line : Bool → Stated → Comparison → Comparison
+with_line same s rest = record { text = compared_line same s.bank s.register ++ rest.text; status = option_map (both (status_if same)) rest.status }
+
+-- of the line of this number, and those behind it
+abbrev pub comparison_of : Values → ℕ → ListLine → Comparison → Comparison
+comparison_of value n (States s) rest = with_line (is_value value s) s rest
+comparison_of value n (Heads heading) rest = rest
+comparison_of value n Passes rest = rest
+comparison_of value n Wrong rest = record { text = not_a_register_line n; status = None }
+
+-- Of these lines the first has number n.
+abbrev pub comparison_from : Values → ℕ → List ListLine → Comparison
+comparison_from value n [] = record { text = []; status = Some Done }
+comparison_from value n (first ∷ others) = comparison_of value n first (comparison_from value (n + 1) others)
+
+abbrev pub comparison : Values → List ℕ → Comparison
+comparison value bytes = comparison_from value 1 (lines_under NoBank (lines_of bytes))
+
+-- ---- what is read of a list
+
+-- None of these lines is wrong, of which the first is under this heading.
+abbrev pub AreRegisters : Heading → List ℕ → Type 0
+AreRegisters heading lines = AllByRecursion (λ line. line ≢ Wrong) (lines_under heading (lines_of lines))
+
+-- No line that has ended is wrong, and the one behind them is not too long.
+pub record IsStated (bytes : List ℕ) : Type 0 where
+  pub lines : List ℕ
+  pub line : List ℕ
+  pub are : bytes ≡ lines ++ line
+  pub ended : AreEnded lines
+  pub registers : AreRegisters NoBank lines
+  pub short : HasNoFeed line × (length line ≤ most_line)
+
+-- Of these bytes no line is wrong but in the last of them, no more than are asked for at a time.
+pub record IsStatedBefore (bytes : List ℕ) : Type 0 where
+  pub before : List ℕ
+  pub last : List ℕ
+  pub are : bytes ≡ before ++ last
+  pub stated : IsStated before
+  pub most : length last ≤ most_piece
+
+-- These bytes were read, not too many; and the list has ended, or a line of the last of them is wrong, and whatever comes makes no difference.
+pub record ReadsList (value : Values) (old new : Option (List ℕ)) (bytes : List ℕ) : Type 0 where
+  pub read : Consumes old new bytes
+  pub most : length bytes ≤ most_bytes
+  pub whole : IsAtEnd new ⊎ ((comparison value bytes).status ≡ None) × IsStatedBefore bytes × ((more : List ℕ) → comparison value (bytes ++ more) ≡ comparison value bytes)
+
+-- One byte more was read than a list may have, and up to it no line that has ended is wrong.
+pub record ReadsTooMuchList (old new : Option (List ℕ)) : Type 0 where
+  pub bytes : List ℕ
+  pub more : List ℕ
+  pub read : Consumes old new (bytes ++ more)
+  pub most : length bytes ≡ most_bytes
+  pub one : length more ≡ 1
+  pub stated : IsStated bytes

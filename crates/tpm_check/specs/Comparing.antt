@@ -1,0 +1,132 @@
+-- How far a list of registers has been compared.
+use Rattle.std.specs.Prelude.{◌≡◌, ℕ, ◌+◌, ◌≤◌, Bool, true, false, List, [], ◌∷◌, ◌++◌, length, Option, None, option_map}
+use Rattle.std.specs.Io.KnownBytes.{Consumes}
+use Rattle.tpm_check.specs.declared.compared.Comparing.{Comparing}
+use Rattle.tpm_check.specs.declared.list_lines.Heading.{Heading}
+use Rattle.tpm_check.specs.declared.list_lines.Heading.TheVariants.{NoBank}
+use Rattle.tpm_check.specs.declared.list_lines.Line.{Line}
+use Rattle.tpm_check.specs.declared.list_lines.Line.TheVariants as listed
+use Rattle.tpm_check.specs.declared.stated.Stated.{Stated as RustStated}
+use Rattle.tpm_text.specs.declared.status.Status.{Status}
+use Rattle.tpm_text.specs.declared.status.Status.TheVariants.{Done, Refused}
+use Rattle.tpm_text.specs.InputLines.{lines_of, HasNoFeed, AreEnded}
+use Rattle.tpm_text.specs.Status.{both}
+use Rattle.tpm_check.specs.Compare.{Values, Stated, ListLine, States, Heads, Passes, Wrong, Comparison, line_under, heading_behind, lines_under, is_value, compared_line, not_a_register_line, comparison_from, most_line, AreRegisters}
+
+-- what was read of a line
+abbrev pub stated_as : RustStated → Stated
+stated_as s = record { bank = s.bank; register = s.register; value = s.value.items }
+
+abbrev pub line_as : Line → ListLine
+line_as (listed.Stated s) = States (stated_as s)
+line_as (listed.Heading heading) = Heads heading
+line_as listed.Passed = Passes
+line_as listed.Wrong = Wrong
+
+-- ---- a place in a list
+
+-- the heading of what is behind these lines
+abbrev pub heading_after : Heading → List (List ℕ) → Heading
+heading_after heading [] = heading
+heading_after heading (first ∷ others) = heading_after (heading_behind heading (line_under heading first)) others
+
+-- what has come of the present line, its number, the heading above it, and the status of the lines before it
+pub record Place : Type 0 where
+  pub line : List ℕ
+  pub number : ℕ
+  pub heading : Heading
+  pub status : Status
+
+abbrev pub start : Place
+start = record { line = []; number = 1; heading = NoBank; status = Done }
+
+-- this text, and then a comparison
+abbrev pub behind : List ℕ → Comparison → Comparison
+behind text c = record { text = text ++ c.text; status = c.status }
+
+-- a comparison behind lines of this status
+abbrev pub with_status : Status → Comparison → Comparison
+with_status status c = record { text = c.text; status = option_map (both status) c.status }
+
+-- what is printed from here, where these bytes are to come
+abbrev pub comparison_at : Values → Place → List ℕ → Comparison
+comparison_at value p bytes = with_status p.status (comparison_from value p.number (lines_under p.heading (lines_of (p.line ++ bytes))))
+
+-- The line has not ended, and is not too long.
+pub record IsOpen (p : Place) : Type 0 where
+  pub line : HasNoFeed p.line
+  pub most : length p.line ≤ most_line
+
+-- These bytes, and more, lead from a place to the other with this text.
+abbrev pub Leads : Values → Place → List ℕ → List ℕ → Place → Type 0
+Leads value p bytes text q = (more : List ℕ) → comparison_at value p (bytes ++ more) ≡ behind text (comparison_at value q more)
+
+-- With these bytes, and whatever follows, the output ends behind this text.
+abbrev pub Stops : Values → Place → List ℕ → List ℕ → Type 0
+Stops value p bytes text = (more : List ℕ) → comparison_at value p (bytes ++ more) ≡ record { text = text; status = None }
+
+-- What has come of a line, and these bytes, are lines of which none is wrong, and then what has come of the other under their heading.
+abbrev pub Ends : Place → List ℕ → Place → Type 0
+Ends p bytes q = (lines : List ℕ) × (p.line ++ bytes ≡ lines ++ q.line) × AreEnded lines × AreRegisters p.heading lines × (q.heading ≡ heading_after p.heading (lines_of lines))
+
+-- From a place with these bytes to the other, with this text.
+pub record GoesOn (value : Values) (p : Place) (bytes text : List ℕ) (q : Place) : Type 0 where
+  pub leads : Leads value p bytes text q
+  pub ends : Ends p bytes q
+  pub number : q.number ≤ p.number + length bytes
+  pub open_again : IsOpen q
+
+-- These bytes were taken with this text, and the list goes on at the other place; or a line is wrong.
+abbrev pub Takes : Values → Place → List ℕ → Bool → Place → List ℕ → Type 0
+Takes value p bytes true q text = GoesOn value p bytes text q
+Takes value p bytes false q text = Stops value p bytes text
+
+-- ---- a comparison
+
+abbrev pub place : Comparing → Place
+place c = record { line = c.line.items; number = c.number; heading = c.heading; status = c.status }
+
+-- to a text
+abbrev pub AddedTo : (old new : List ℕ) → List ℕ → Type 0
+AddedTo old new added = new ≡ old ++ added
+
+-- the status behind a line that has the register's value, or has not
+abbrev pub status_behind : Status → Bool → Status
+status_behind status true = status
+status_behind status false = Refused
+
+-- The present line, which states this, was compared.
+abbrev pub EndsStated : Values → Place → Stated → Place → (Added : List ℕ → Type 0) → Type 0
+EndsStated value p s q Added = Added (compared_line (is_value value s) s.bank s.register)
+    × (q ≡ record { line = []; number = p.number + 1; heading = p.heading; status = status_behind p.status (is_value value s) })
+
+-- the next line, under this heading
+abbrev pub next_line : Place → Heading → Place
+next_line p heading = record { line = []; number = p.number + 1; heading = heading; status = p.status }
+
+-- The present line says this, and was taken.
+abbrev pub EndsAs : Values → Place → ListLine → Place → (Added : List ℕ → Type 0) → Type 0
+EndsAs value p (States s) q Added = EndsStated value p s q Added
+EndsAs value p (Heads heading) q Added = Added [] × (q ≡ next_line p heading)
+EndsAs value p Passes q Added = Added [] × (q ≡ next_line p p.heading)
+EndsAs value p Wrong q Added = ⊥
+
+-- The present line was taken, or is wrong.
+abbrev pub EndsLine : Values → Place → Bool → Place → (Added : List ℕ → Type 0) → Type 0
+EndsLine value p true q Added = (line : ListLine) × (line_under p.heading p.line ≡ line) × EndsAs value p line q Added
+EndsLine value p false q Added = (line_under p.heading p.line ≡ Wrong) × Added (not_a_register_line p.number)
+
+-- So many bytes of the input were read and taken.
+pub record Reaches (value : Values) (old new : Option (List ℕ)) (read : ℕ) (p : Place) (Added : List ℕ → Type 0) : Type 0 where
+  pub bytes : List ℕ
+  pub text : List ℕ
+  pub consumed : Consumes old new bytes
+  pub count : read ≡ length bytes
+  pub added : Added text
+  pub goes_on : GoesOn value start bytes text p
+
+-- Of a piece these bytes were taken.
+pub record Fed (value : Values) (p : Place) (bytes : List ℕ) (q : Place) (Added : List ℕ → Type 0) : Type 0 where
+  pub text : List ℕ
+  pub added : Added text
+  pub goes_on : GoesOn value p bytes text q

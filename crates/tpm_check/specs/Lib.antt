@@ -1,0 +1,10 @@
+pub mod Compare
+pub mod Comparing
+pub mod Check
+pub mod CheckAttest
+pub mod EventTypes
+pub mod Reads
+pub mod EventText
+pub mod EventJson
+pub mod ListEvents
+pub mod HeldLines

@@ -1,0 +1,26 @@
+//! The subcommands `check` and `events`: a log of a measured boot beside a list of registers and a quote, and its records.
+#![tactic(auto)]
+
+mod checked;
+mod checked_signed;
+mod compared;
+mod event_json;
+mod event_lines;
+mod event_text;
+mod event_types;
+mod held_lines;
+mod judged;
+mod list_lines;
+mod listed_events;
+mod quoted;
+mod reads;
+mod register_text;
+mod signed_text;
+mod stated;
+
+pub use checked::check_log;
+pub use checked_signed::check_signed;
+pub use held_lines::HeldLines;
+pub use judged::Signed;
+pub use listed_events::{Listing, list_events};
+pub use reads::read_attest;

@@ -1,0 +1,252 @@
+-- Captures that are told one part after the other.
+use Rattle.std.proofs.Common.{◌≡◌, ℕ, Bool, true, ◌+◌, ◌<◌, ◌≤◌, false, List, [], ◌∷◌, ◌++◌, length, map, take, not, Option, refl, sym, ap, ◌∙◌, ◌⊎◌, inl, inr, arith, append_assoc, length-append, length-take-le}
+use Rattle.std.specs.Prelude.{nat_eq}
+use Rattle.std.specs.Io.KnownBytes.{Consumes, IsAtEnd}
+use Rattle.std.proofs.lemmas.Bool.{cases_order, lt-ltb}
+use Rattle.std.proofs.lemmas.List.{append-nil, map-append, take_all, take-append-le}
+use Rattle.std.proofs.lemmas.List.Elements.{filter-append}
+use Rattle.tpm_buffer.proofs.Filled.{consumes_both}
+use Rattle.tpm_wire.specs.Buffers.{buffer}
+use Rattle.tpm_wire.specs.Path.{Spells}
+use Rattle.tpm_wire.proofs.Buffers.{buffer_sound}
+use Rattle.tpm_wire.proofs.Whole.{exactly_one}
+use Rattle.tpm_buffer.specs.declared.command.Command.{Command}
+use Rattle.tpm_buffer.specs.Commands.{command}
+use Rattle.tpm_text.specs.declared.status.Status.{Status}
+use Rattle.tpm_show.specs.declared.telling.Telling.{Telling}
+use Rattle.tpm_text.specs.declared.status.Status.TheVariants.{Done, Refused}
+use Rattle.tpm_show.specs.declared.capture.Capture.{Capture}
+use Rattle.tpm_text.specs.Status.{both}
+use Rattle.tpm_text.specs.InputLines.{lines_of, HasNoFeed}
+use Rattle.tpm_show.specs.Capture as specs
+use Rattle.tpm_show.specs.Capture.{Line, Place, start, is_blank, without_blanks, told_in, line_of, most_line, behind, ShowsCommandBy, TellsCommand, TellsLine, TellsFrom, TellsCapture, ReadsAll}
+use Rattle.tpm_show.specs.Capturing.{place, EndsLine, behind_all, Taken, Takes, Reaches}
+use Rattle.tpm_text.proofs.InputLines.{no_feed-more, ended_line, last_line, lines_of-append, ended_both}
+use Rattle.tpm_text.proofs.Joins.{Joins}
+
+-- ---- a line of which no more is kept than one byte too many
+
+by_order : (n m : ℕ) → (n ≡ m) ⊎ ((n < m) ⊎ (m < n)) → (n ≤ m) ⊎ (m < n)
+by_order n m (inl same) = inl (omega (arith, same))
+by_order n m (inr (inl less)) = inl (omega (arith, less))
+by_order n m (inr (inr more)) = inr more
+
+by_length : (n m : ℕ) → (n ≤ m) ⊎ (m < n)
+by_length n m = by_order n m (cases_order n m)
+
+told_long : (first : ℕ) (rest others : List ℕ) → most_line < length (first ∷ rest) → most_line < length (first ∷ others) → told_in (first ∷ rest) ≡ told_in (first ∷ others)
+told_long first rest others f g = rw (lt-ltb most_line (length (first ∷ rest)) f, lt-ltb most_line (length (first ∷ others)) g) refl
+
+-- ---- statuses
+
+pub both_assoc : (a b c : Status) → both (both a b) c ≡ both a (both b c)
+both_assoc Done b c = refl
+both_assoc Refused b c = refl
+
+both_done : (a : Status) → both a Done ≡ a
+both_done Done = refl
+both_done Refused = refl
+
+-- ---- commands that are told
+
+-- What is shown of bytes that spell a command is told of them.
+pub told_command : (json fields : Bool) (c : Command) (bytes : List ℕ) (status : Status) (text : List ℕ) → Spells command c bytes → ShowsCommandBy json fields bytes status text → TellsCommand json fields bytes status text
+told_command json fields c bytes Done text spelled shown = shown
+told_command false false c bytes Refused text spelled shown = absurd ((exactly_one buffer buffer_sound command bytes).not_both c shown.0 spelled shown.1)
+told_command false true c bytes Refused text spelled shown = absurd ((exactly_one buffer buffer_sound command bytes).not_both c shown.0 spelled shown.1)
+told_command true fields c bytes Refused text spelled shown = absurd ((exactly_one buffer buffer_sound command bytes).not_both c shown.0 spelled shown.1)
+
+-- ---- lines that are told
+
+pub behind_all-append : (p : Place) (xs ys : List Line) → behind_all p (xs ++ ys) ≡ behind_all (behind_all p xs) ys
+behind_all-append p [] ys = refl
+behind_all-append p (x ∷ xs) ys = behind_all-append (behind p x) xs ys
+
+pub tells_both : (how : Telling) (p : Place) (xs ys : List Line) (s t : Status) (a b : List ℕ) → TellsFrom how p xs s a → TellsFrom how (behind_all p xs) ys t b
+    → TellsFrom how p (xs ++ ys) (both s t) (a ++ b)
+tells_both how p [] ys s t a b f g = rw (f.0, f.1) g
+tells_both how p (x ∷ xs) ys s t a b f g = (
+  f.0,
+  f.1,
+  both f.2 t,
+  f.3 ++ b,
+  f.4,
+  tells_both how (behind p x) xs ys f.2 t f.3 b f.5 g,
+  rw f.6 (both_assoc f.0 f.2 t),
+  rw f.7 (append_assoc f.1 f.3 b),
+)
+
+pub tells_one : (how : Telling) (p : Place) (l : Line) (s : Status) (a : List ℕ) → TellsLine how p l s a → TellsFrom how p (l ∷ []) s a
+tells_one how p l s a f = (s, a, Done, [], f, (refl, refl), sym (both_done s), sym (append-nil a))
+
+-- the last line, which may be empty
+tells_last : (how : Telling) (p : Place) (line : List ℕ) (s : Status) (a : List ℕ) → HasNoFeed line → TellsLine how p (line_of line) s a → TellsFrom how p (map line_of (lines_of line)) s a
+tells_last how p [] s a f g = g
+tells_last how p (x ∷ line) s a f g = rw (last_line x line f) (tells_one how p (line_of (x ∷ line)) s a g)
+
+-- ---- what is kept of a line
+
+-- Of a line that has one byte too many, more makes no difference.
+told_kept : (kept : List ℕ) → told_in (take (most_line + 1) kept) ≡ told_in kept
+told_kept [] = refl
+told_kept (first ∷ rest) = by (by_length (length (first ∷ rest)) (most_line + 1))
+  where
+    by : (length (first ∷ rest) ≤ most_line + 1) ⊎ (most_line + 1 < length (first ∷ rest)) → told_in (take (most_line + 1) (first ∷ rest)) ≡ told_in (first ∷ rest)
+    by (inl le) = ap told_in (take_all (most_line + 1) (first ∷ rest) le)
+    by (inr lt) = told_long first (take most_line rest) rest (omega (arith, length-take-le most_line rest (omega (arith, lt)))) (omega (arith, lt))
+
+-- a byte that counts, of a line that is not too long
+kept_more : (kept held : List ℕ) (byte : ℕ) → held ≡ take (most_line + 1) kept → length held ≤ most_line → held ++ byte ∷ [] ≡ take (most_line + 1) (kept ++ byte ∷ [])
+kept_more kept held byte is le = by (by_length (length kept) (most_line + 1))
+  where
+    by : (length kept ≤ most_line + 1) ⊎ (most_line + 1 < length kept) → held ++ byte ∷ [] ≡ take (most_line + 1) (kept ++ byte ∷ [])
+    by (inl few) =
+        let same : held ≡ kept = is ∙ take_all (most_line + 1) kept few in
+        let counted : length held ≡ length kept = ap length same in
+        ap (λ (bytes : List ℕ). bytes ++ byte ∷ []) same ∙ sym (take_all (most_line + 1) (kept ++ byte ∷ []) (omega (arith, le, counted, length-append kept (byte ∷ []))))
+    by (inr many) =
+        let counted : length held ≡ most_line + 1 = ap length is ∙ length-take-le (most_line + 1) kept (omega (arith, many)) in
+        absurd (omega (arith, counted, le))
+
+-- a byte that counts, of one that is
+kept_same : (kept held : List ℕ) (more : List ℕ) → held ≡ take (most_line + 1) kept → most_line < length held → held ≡ take (most_line + 1) (kept ++ more)
+kept_same kept held more is lt = by (by_length (length kept) most_line)
+  where
+    by : (length kept ≤ most_line) ⊎ (most_line < length kept) → held ≡ take (most_line + 1) (kept ++ more)
+    by (inl few) =
+        let counted : length held ≡ length kept = ap length (is ∙ take_all (most_line + 1) kept (omega (arith, few))) in
+        absurd (omega (arith, counted, lt, few))
+    by (inr many) = is ∙ sym (take-append-le (most_line + 1) kept more (omega (arith, many)))
+
+-- ---- bytes that are taken
+
+-- what a byte makes of what is kept
+abbrev Keeps : (byte : ℕ) → (old new : List ℕ) → Type 0
+Keeps byte old new = (kept : List ℕ) → old ≡ take (most_line + 1) kept → new ≡ take (most_line + 1) (kept ++ without_blanks (byte ∷ []))
+
+pub keeps_blank : (byte : ℕ) (held : List ℕ) → is_blank byte ≡ true → Keeps byte held held
+keeps_blank byte held is = λ kept same. rw (is, append-nil kept) same
+
+pub keeps_byte : (byte : ℕ) (held : List ℕ) → is_blank byte ≡ false → length held ≤ most_line → Keeps byte held (held ++ byte ∷ [])
+keeps_byte byte held is le = λ kept same. rw is (kept_more kept held byte same le)
+
+pub keeps_full : (byte : ℕ) (held : List ℕ) → most_line < length held → Keeps byte held held
+keeps_full byte held lt = λ kept same. kept_same kept held (without_blanks (byte ∷ [])) same lt
+
+-- a byte of a line
+pub takes_byte : (byte : ℕ) (c d : Capture) (A : List ℕ → Type 0) → nat_eq byte 10 ≡ false → A [] → Keeps byte c.line.items d.line.items
+    → place d ≡ place c → d.status ≡ c.status → d.how ≡ c.how → Takes (byte ∷ []) c d A
+takes_byte byte c d A other none keeps same_place same_status same_fields = record {
+  added = [];
+  is_added = none;
+  goes_on = λ how before text f. record {
+    lines = f.lines;
+    line = f.line ++ byte ∷ [];
+    are = ap (λ (bytes : List ℕ). bytes ++ byte ∷ []) f.are ∙ append_assoc f.lines f.line (byte ∷ []);
+    ended = f.ended;
+    one = no_feed-more f.line byte f.one other;
+    held = keeps (without_blanks f.line) f.held ∙ ap (take (most_line + 1)) (sym (filter-append (λ (b : ℕ). not (is_blank b)) f.line (byte ∷ [])));
+    tells = rw (same_status, append-nil text) f.tells;
+    place = same_place ∙ f.place;
+    same = same_fields ∙ f.same;
+  };
+  number = omega (arith, ap (λ (p : Place). p.number) same_place);
+}
+
+behind-most : (p : Place) (l : Line) → (behind p l).number ≤ p.number + 1
+behind-most p specs.Nothing = omega arith
+behind-most p (specs.Frame mark bytes) = omega arith
+behind-most p specs.NotHexadecimal = omega arith
+behind-most p specs.TooLong = omega arith
+
+-- the line feed
+pub takes_feed : (c d : Capture) (A : List ℕ → Type 0) → EndsLine (told_in c.line.items) c d A → Takes (10 ∷ []) c d A
+takes_feed c d A f = record {
+  added = f.tells.text;
+  is_added = f.tells.added;
+  goes_on = λ how before text g.
+      let l : told_in c.line.items ≡ line_of g.line = ap told_in g.held ∙ told_kept (without_blanks g.line) in
+      let ended = g.line ++ 10 ∷ [] in
+      let lines : lines_of (g.lines ++ ended) ≡ lines_of g.lines ++ g.line ∷ [] = lines_of-append g.lines ended g.ended ∙ ap (λ (ls : List (List ℕ)). lines_of g.lines ++ ls) (ended_line g.line [] g.one) in
+      let mapped : map line_of (lines_of (g.lines ++ ended)) ≡ map line_of (lines_of g.lines) ++ line_of g.line ∷ [] = ap (map line_of) lines ∙ map-append line_of (lines_of g.lines) (g.line ∷ []) in
+      record {
+        lines = g.lines ++ ended;
+        line = [];
+        are = ap (λ (bytes : List ℕ). bytes ++ 10 ∷ []) g.are ∙ append_assoc g.lines g.line (10 ∷ []) ∙ sym (append-nil (g.lines ++ ended));
+        ended = ended_both g.lines ended g.ended (inr (g.line, refl));
+        one = tt;
+        held = f.line;
+        tells = rw (f.tells.all, mapped)
+            (tells_both how start (map line_of (lines_of g.lines)) (line_of g.line ∷ []) c.status f.tells.status text f.tells.text g.tells
+            (tells_one how (behind_all start (map line_of (lines_of g.lines))) (line_of g.line) f.tells.status f.tells.text
+            (rw (← g.place, ← g.same, ← l) f.tells.tells)));
+        place = f.tells.place ∙ ap (λ (p : Place). behind p (told_in c.line.items)) g.place ∙ ap (behind (behind_all start (map line_of (lines_of g.lines)))) l
+            ∙ sym (behind_all-append start (map line_of (lines_of g.lines)) (line_of g.line ∷ [])) ∙ ap (behind_all start) (sym mapped);
+        same = f.tells.how ∙ g.same;
+      };
+  number = omega (arith, ap (λ (p : Place). p.number) f.tells.place, behind-most (place c) (told_in c.line.items));
+}
+
+pub takes_none : (c : Capture) (A : List ℕ → Type 0) → A [] → Takes [] c c A
+takes_none c A none = record {
+  added = [];
+  is_added = none;
+  goes_on = λ how before text f. rw (append-nil before, append-nil text) f;
+  number = omega arith;
+}
+
+pub takes_both : (xs ys : List ℕ) (c d e : Capture) (A B C : List ℕ → Type 0) → Joins A B C → Takes xs c d A → Takes ys d e B → Takes (xs ++ ys) c e C
+takes_both xs ys c d e A B C joins f g = record {
+  added = f.added ++ g.added;
+  is_added = joins f.added g.added f.is_added g.is_added;
+  goes_on = λ how before text taken.
+      rw (← append_assoc before xs ys, ← append_assoc text f.added g.added) (g.goes_on how (before ++ xs) (text ++ f.added) (f.goes_on how before text taken));
+  number = omega (arith, f.number, g.number, length-append xs ys);
+}
+
+-- ---- the input
+
+pub taken_none : (how : Telling) (c : Capture) → c.how ≡ how → c.line.items ≡ [] → place c ≡ start → c.status ≡ Done → Taken how [] [] c
+taken_none how c same none first done = record {
+  lines = [];
+  line = [];
+  are = refl;
+  ended = inl refl;
+  one = tt;
+  held = none;
+  tells = (done, refl);
+  place = first;
+  same = same;
+}
+
+pub reaches_more : (how : Telling) (old mid new : Option (List ℕ)) (read count : ℕ) (bytes : List ℕ) (c d : Capture) (A B C : List ℕ → Type 0) → Joins A B C
+    → Reaches how old mid read c A → Consumes mid new bytes → count ≡ length bytes → Takes bytes c d B → Reaches how old new (read + count) d C
+reaches_more how old mid new read count bytes c d A B C joins f consumed is takes = record {
+  bytes = f.bytes ++ bytes;
+  text = f.text ++ takes.added;
+  consumed = consumes_both old mid new f.bytes bytes f.consumed consumed;
+  count = omega (arith, f.count, is, length-append f.bytes bytes);
+  taken = takes.goes_on how f.bytes f.text f.taken;
+  added = joins f.text takes.added f.added takes.is_added;
+  number = omega (arith, f.number, takes.number, is);
+}
+
+abbrev pub Answers : (how : Telling) → (old new : Option (List ℕ)) → (A : List ℕ → Type 0) → Status → Type 0
+Answers how old new A status = (bytes : List ℕ) × (text : List ℕ) × ReadsAll old new bytes × TellsCapture how bytes status text × A text
+
+pub answers_at_end : (how : Telling) (old mid new : Option (List ℕ)) (read : ℕ) (c d : Capture) (A B C : List ℕ → Type 0) → Joins A B C → Reaches how old mid read c A
+    → Consumes mid new [] → IsAtEnd new → EndsLine (told_in c.line.items) c d B → Answers how old new C d.status
+answers_at_end how old mid new read c d A B C joins f consumed end ended =
+    let g = f.taken in
+    let l : told_in c.line.items ≡ line_of g.line = ap told_in g.held ∙ told_kept (without_blanks g.line) in
+    let mapped : map line_of (lines_of f.bytes) ≡ map line_of (lines_of g.lines) ++ map line_of (lines_of g.line) =
+    ap (λ (bytes : List ℕ). map line_of (lines_of bytes)) g.are ∙ ap (map line_of) (lines_of-append g.lines g.line g.ended) ∙ map-append line_of (lines_of g.lines) (lines_of g.line) in (
+      f.bytes,
+      f.text ++ ended.tells.text,
+      record { read = rw append-nil at (consumes_both old mid new f.bytes [] f.consumed consumed); whole = end },
+      rw (ended.tells.all, mapped)
+          (tells_both how start (map line_of (lines_of g.lines)) (map line_of (lines_of g.line)) c.status ended.tells.status f.text ended.tells.text g.tells
+          (tells_last how (behind_all start (map line_of (lines_of g.lines))) g.line ended.tells.status ended.tells.text g.one
+          (rw (← g.place, ← g.same, ← l) ended.tells.tells))),
+      joins f.text ended.tells.text f.added ended.tells.added,
+    )

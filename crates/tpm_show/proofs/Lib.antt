@@ -1,0 +1,2 @@
+mod Captures
+mod Streams

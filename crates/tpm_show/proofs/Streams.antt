@@ -1,0 +1,149 @@
+-- Streams of frames that are told one frame after the other.
+use Rattle.std.proofs.Common.{◌≡◌, ℕ, ◌+◌, ◌<◌, ◌≤◌, List, [], ◌∷◌, ◌++◌, length, map, All, Option, Some, None, refl, sym, ap, subst, ◌∙◌, ◌⊎◌, inl, inr, arith, append_assoc, length-append}
+use Rattle.std.specs.List.{concat}
+use Rattle.std.specs.Io.KnownBytes.{Appends, Consumes, IsAtEnd}
+use Rattle.std.proofs.lemmas.List.{append-nil, map-append}
+use Rattle.std.proofs.lemmas.List.Elements.{All-nil, All-push}
+use Rattle.std.proofs.lemmas.List.Folds.{concat-append}
+use Rattle.tpm_buffer.specs.Frames.{IsFrame, IsBroken, BeginsNoFrame, Frames}
+use Rattle.tpm_buffer.proofs.Filled.{consumes_both}
+use Rattle.tpm_buffer.proofs.Framed.{stated_more}
+use Rattle.tpm_buffer.proofs.Streamed.{broken_begins}
+use Rattle.tpm_text.specs.declared.status.Status.{Status}
+use Rattle.tpm_show.specs.declared.telling.Telling.{Telling}
+use Rattle.tpm_text.specs.declared.status.Status.TheVariants.{Done, Refused}
+use Rattle.tpm_show.specs.declared.capture.Capture.{Capture}
+use Rattle.tpm_text.specs.Status.{both}
+use Rattle.tpm_show.specs.Capture.{Line, Frame, Place, start, behind, TellsFrom}
+use Rattle.tpm_show.specs.Capturing.{place, behind_all, Tells, Streams}
+use Rattle.tpm_show.specs.Stream.{Ending, AtEnd, Inside, BadSize, IsEnding, unmarked_frame, ending_text, ending_status, TellsStream, TellsRead}
+use Rattle.tpm_show.proofs.Captures.{tells_both, tells_one, behind_all-append}
+use Rattle.tpm_text.proofs.Joins.{Joins}
+
+pub appends_nothing : (a : Option (List ℕ)) → Appends a a []
+appends_nothing None = tt
+appends_nothing (Some l) = sym (append-nil l)
+
+-- ---- frames
+
+pub streams_none : (how : Telling) (a : Option (List ℕ)) (c : Capture) (A : List ℕ → Type 0) → Consumes a a [] → A [] → c.how ≡ how → place c ≡ start → c.status ≡ Done
+    → Streams how a a 0 c A
+streams_none how a c A none added same first done = record {
+  frames = [];
+  text = [];
+  consumed = none;
+  each = All-nil IsFrame;
+  count = refl;
+  tells = (done, refl);
+  place = first;
+  number = ap (λ (p : Place). p.number) first;
+  fewer = omega arith;
+  same = same;
+  added = added;
+}
+
+joined : (frames : List (List ℕ)) (frame : List ℕ) → concat (frames ++ frame ∷ []) ≡ concat frames ++ frame
+joined frames frame = concat-append frames (frame ∷ []) ∙ ap (λ (r : List ℕ). concat frames ++ r) (append-nil frame)
+
+pub streams_more : (how : Telling) (old mid new : Option (List ℕ)) (read : ℕ) (frame : List ℕ) (c d : Capture) (A B C : List ℕ → Type 0) → Joins A B C
+    → Streams how old mid read c A → Consumes mid new frame → IsFrame frame → Tells (Frame None frame) c d B → Streams how old new (read + length frame) d C
+streams_more how old mid new read frame c d A B C joins f consumed is g =
+    let lines = map unmarked_frame f.frames in
+    let mapped : map unmarked_frame (f.frames ++ frame ∷ []) ≡ lines ++ Frame None frame ∷ [] = map-append unmarked_frame f.frames (frame ∷ []) in
+    record {
+      frames = f.frames ++ frame ∷ [];
+      text = f.text ++ g.text;
+      consumed = subst (Consumes old new) (sym (joined f.frames frame)) (consumes_both old mid new (concat f.frames) frame f.consumed consumed);
+      each = All-push IsFrame f.frames frame f.each is;
+      count = omega (arith, f.count, ap length (joined f.frames frame), length-append (concat f.frames) frame);
+      tells = rw (g.all, mapped)
+          (tells_both how start lines (Frame None frame ∷ []) c.status g.status f.text g.text f.tells
+          (tells_one how (behind_all start lines) (Frame None frame) g.status g.text (rw (← f.place, ← f.same) g.tells)));
+      place = g.place ∙ ap (λ (p : Place). behind p (Frame None frame)) f.place ∙ sym (behind_all-append start lines (Frame None frame ∷ [])) ∙ ap (behind_all start) (sym mapped);
+      number = omega (arith, ap (λ (p : Place). p.number) g.place, f.number, length-append f.frames (frame ∷ []));
+      fewer = omega (arith, f.fewer, is.least, length-append f.frames (frame ∷ []));
+      same = g.how ∙ f.same;
+      added = joins f.text g.text f.added g.added;
+    }
+
+-- ---- the end
+
+both_done : (a : Status) → both a Done ≡ a
+both_done Done = refl
+both_done Refused = refl
+
+both_refused : (a : Status) → both a Refused ≡ Refused
+both_refused Done = refl
+both_refused Refused = refl
+
+broken_more : (rest more : List ℕ) → IsBroken rest → IsBroken (rest ++ more)
+broken_more rest more b = record {
+  has_size = omega (arith, b.has_size, length-append rest more);
+  outside = rw (stated_more rest more b.has_size) b.outside;
+}
+
+-- of a stream whose frames were told
+tells_stream : (how : Telling) (old mid : Option (List ℕ)) (read : ℕ) (c : Capture) (A : List ℕ → Type 0) → (f : Streams how old mid read c A)
+    → (rest : List ℕ) (ending : Ending) → BeginsNoFrame rest → IsEnding rest ending → TellsStream how (concat f.frames ++ rest) (both c.status (ending_status ending)) (f.text ++ ending_text how.json ending c.number read)
+tells_stream how old mid read c A f rest ending over ends = record {
+  frames = f.frames;
+  rest = rest;
+  cut = record { whole = refl; each = f.each; over = over };
+  ending = ending;
+  ends = ends;
+  one = c.status;
+  told = f.text;
+  tells = f.tells;
+  all = refl;
+  are = rw (f.number, f.count) refl;
+}
+
+abbrev pub StreamAnswers : (how : Telling) → (old new : Option (List ℕ)) → (C : List ℕ → Type 0) → Status → Type 0
+StreamAnswers how old new C status = (text : List ℕ) × TellsRead how old new status text × C text
+
+-- behind the last frame
+pub stream_ends : (how : Telling) (old mid new : Option (List ℕ)) (read : ℕ) (c : Capture) (A : List ℕ → Type 0) → Streams how old mid read c A → Consumes mid new [] → IsAtEnd new
+    → BeginsNoFrame [] → StreamAnswers how old new A c.status
+stream_ends how old mid new read c A f consumed end over = (
+  f.text,
+  record {
+    bytes = concat f.frames ++ [];
+    read = consumes_both old mid new (concat f.frames) [] f.consumed consumed;
+    tells = subst (λ (s : Status). TellsStream how (concat f.frames ++ []) s f.text) (both_done c.status)
+        (subst (TellsStream how (concat f.frames ++ []) (both c.status Done)) (append-nil f.text) (tells_stream how old mid read c A f [] AtEnd over refl));
+    whole = inl end;
+  },
+  f.added,
+)
+
+-- inside a frame
+pub stream_cut : (how : Telling) (old mid new : Option (List ℕ)) (read : ℕ) (rest : List ℕ) (c : Capture) (A B C : List ℕ → Type 0) → Joins A B C → Streams how old mid read c A → Consumes mid new rest
+    → IsEnding rest Inside → IsAtEnd new → B (ending_text how.json Inside c.number read) → StreamAnswers how old new C Refused
+stream_cut how old mid new read rest c A B C joins f consumed ends end added = (
+  f.text ++ ending_text how.json Inside c.number read,
+  record {
+    bytes = concat f.frames ++ rest;
+    read = consumes_both old mid new (concat f.frames) rest f.consumed consumed;
+    tells = subst (λ (s : Status). TellsStream how (concat f.frames ++ rest) s (f.text ++ ending_text how.json Inside c.number read)) (both_refused c.status)
+        (tells_stream how old mid read c A f rest Inside ends.0.no_frame ends);
+    whole = inl end;
+  },
+  joins f.text (ending_text how.json Inside c.number read) f.added added,
+)
+
+-- at a size that no frame has
+pub stream_breaks : (how : Telling) (old mid new : Option (List ℕ)) (read : ℕ) (rest : List ℕ) (c : Capture) (A B C : List ℕ → Type 0) → Joins A B C → Streams how old mid read c A → Consumes mid new rest
+    → IsBroken rest → B (ending_text how.json BadSize c.number read) → StreamAnswers how old new C Refused
+stream_breaks how old mid new read rest c A B C joins f consumed broken added =
+    let whole : (more : List ℕ) → TellsStream how (concat f.frames ++ (rest ++ more)) Refused (f.text ++ ending_text how.json BadSize c.number read) =
+    λ more. subst (λ (s : Status). TellsStream how (concat f.frames ++ (rest ++ more)) s (f.text ++ ending_text how.json BadSize c.number read)) (both_refused c.status)
+    (tells_stream how old mid read c A f (rest ++ more) BadSize (broken_begins rest more broken) (broken_more rest more broken)) in (
+      f.text ++ ending_text how.json BadSize c.number read,
+      record {
+        bytes = concat f.frames ++ rest;
+        read = consumes_both old mid new (concat f.frames) rest f.consumed consumed;
+        tells = subst (λ (r : List ℕ). TellsStream how (concat f.frames ++ r) Refused (f.text ++ ending_text how.json BadSize c.number read)) (append-nil rest) (whole []);
+        whole = inr (λ more. rw (append_assoc (concat f.frames) rest more) (whole more));
+      },
+      joins f.text (ending_text how.json BadSize c.number read) f.added added,
+    )

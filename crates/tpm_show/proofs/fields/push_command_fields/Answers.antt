@@ -1,0 +1,43 @@
+use Rattle.std.proofs.Common.{append_assoc}
+use Rattle.std.proofs.lemmas.List.{append-nil}
+use Rattle.tpm_buffer.specs.Parameters.{startup, nv_define_space, flush_context, policy_or, start_auth_session, pcr_read, policy_pcr, pcr_extend}
+use Rattle.tpm_show.proofs.fields.push_command_fields.Goals as goal
+
+pub returns-in_ok-push_field-in-NvDefineSpace : goal.returns-in_ok-push_field-in-NvDefineSpace
+unfolding nv_define_space
+returns-in_ok-push_field-in-NvDefineSpace c =
+    let written = simp (c.in_ok-push_field-in-NvDefineSpace.ensures, append_assoc) at c.push_public.ensures in
+    rw c.in-NvDefineSpace.is (simp append-nil written)
+
+pub returns-in-Startup : goal.returns-in-Startup
+unfolding startup
+returns-in-Startup c = rw c.in-Startup.is (simp append-nil c.push_field-in-Startup.ensures)
+
+pub returns-in-FlushContext : goal.returns-in-FlushContext
+unfolding flush_context
+returns-in-FlushContext c = rw c.in-FlushContext.is (simp append-nil c.push_field-in-FlushContext.ensures)
+
+pub returns-in-PolicyOr : goal.returns-in-PolicyOr
+unfolding policy_or
+returns-in-PolicyOr c = rw c.in-PolicyOr.is (simp append-nil c.push_digests.ensures)
+
+pub returns-in_ok-push_symmetric-in-StartAuthSession : goal.returns-in_ok-push_symmetric-in-StartAuthSession
+unfolding start_auth_session
+returns-in_ok-push_symmetric-in-StartAuthSession c =
+    let joined = simp (c.in_ok-push_symmetric-in-StartAuthSession.ensures, c.in_ok-push_field-in-StartAuthSession-3.ensures, c.in_ok-push_field-in-StartAuthSession-2.ensures, c.in_ok-push_field-in-StartAuthSession.ensures) at c.push_field-in-StartAuthSession-4.ensures in
+    let written = simp append_assoc at joined in
+    rw c.in-StartAuthSession.is (simp append-nil written)
+
+pub returns-in-PcrRead : goal.returns-in-PcrRead
+unfolding pcr_read
+returns-in-PcrRead c = rw c.in-PcrRead.is (simp append-nil c.push_selections.ensures)
+
+pub returns-in_ok-push_field-in-PolicyPcr : goal.returns-in_ok-push_field-in-PolicyPcr
+unfolding policy_pcr
+returns-in_ok-push_field-in-PolicyPcr c =
+    let written = simp (c.in_ok-push_field-in-PolicyPcr.ensures, append_assoc) at c.push_selections-in-PolicyPcr.ensures in
+    rw c.in-PolicyPcr.is (simp append-nil written)
+
+pub returns-in-PcrExtend : goal.returns-in-PcrExtend
+unfolding pcr_extend
+returns-in-PcrExtend c = rw c.in-PcrExtend.is (simp append-nil c.push_digest_values.ensures)

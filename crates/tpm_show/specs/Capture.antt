@@ -1,0 +1,214 @@
+-- What `show` prints of a capture: frames of both directions, each in a line (this profile).
+use Rattle.std.specs.Prelude.{◌≡◌, ◌<◌, ℕ, ◌+◌, ◌==◌, ◌||◌, nat_lt, Bool, true, false, not, List, [], ◌∷◌, ◌++◌, length, take, drop, map, filter, codes, Option, Some, None, if◌then◌else◌}
+use Rattle.std.specs.Str.{bytes_eq}
+use Rattle.std.specs.Fmt.{decimal}
+use Rattle.std.specs.Io.KnownBytes.{Consumes, IsAtEnd}
+use Rattle.tpm_wire.specs.declared.refusal.Refusal.{Refusal}
+use Rattle.tpm_wire.specs.Token.{number_of}
+use Rattle.tpm_wire.specs.Path.{Fault}
+use Rattle.tpm_buffer.specs.declared.code.CommandCode.{CommandCode}
+use Rattle.tpm_buffer.specs.Codes.{code_of}
+use Rattle.tpm_buffer.specs.Commands.{command}
+use Rattle.tpm_text.specs.declared.status.Status.{Status}
+use Rattle.tpm_text.specs.declared.status.Status.TheVariants.{Done, Refused}
+use Rattle.tpm_show.specs.declared.capture_lines.Direction.{Direction}
+use Rattle.tpm_show.specs.declared.capture_lines.Direction.TheVariants.{Command, Reply}
+use Rattle.tpm_show.specs.declared.capture_frames.Awaited.{Awaited}
+use Rattle.tpm_show.specs.declared.capture_frames.Awaited.TheVariants as awaits
+use Rattle.tpm_show.specs.declared.telling.Telling.{Telling}
+use Rattle.tpm_text.specs.Status.{both}
+use Rattle.tpm_text.specs.Text.{line, bytes_in, refusal_line}
+use Rattle.tpm_show.specs.CommandNames.{absent_behind}
+use Rattle.tpm_text.specs.InputLines.{lines_of}
+use Rattle.tpm_show.specs.Show.{ShowsBytes, ShowsReplyBytes}
+use Rattle.tpm_show.specs.Fields.{ShowsCommand, ShowsReply}
+use Rattle.tpm_show.specs.FrameJson.{HasCommandMembers, HasReplyMembers, fault_member, fault_object, refusal_members}
+
+-- ---- what a line has
+
+-- a frame with its mark, `>` for a command and `<` for a reply, where it has one
+pub data Line : Type 0 where
+  Nothing : Line
+  Frame : (mark : Option Direction) → (bytes : List ℕ) → Line
+  NotHexadecimal : Line
+  TooLong : Line
+
+-- a space, a tab or a carriage return
+abbrev pub is_blank : ℕ → Bool
+is_blank byte = byte == 32 || (byte == 9 || byte == 13)
+
+abbrev pub without_blanks : List ℕ → List ℕ
+without_blanks text = filter (λ byte. not (is_blank byte)) text
+
+-- the digits behind `0x`, or all where it isn't there
+abbrev pub without_prefix : List ℕ → List ℕ
+without_prefix text = if bytes_eq (take 2 text) (codes "0x") then drop 2 text else text
+
+abbrev pub frame_of : Option Direction → Option (List ℕ) → Line
+frame_of mark (Some bytes) = Frame mark bytes
+frame_of mark None = NotHexadecimal
+
+-- a mark, `0x` and the digits of a buffer of 4,096 bytes
+abbrev pub most_line : ℕ
+most_line = 8195
+
+-- What stands behind `#` is a comment.
+abbrev pub told_in : List ℕ → Line
+told_in [] = Nothing
+told_in (first ∷ rest) =
+    if first == 35 then Nothing
+    else if nat_lt most_line (length (first ∷ rest)) then TooLong
+    else if first == 62 then frame_of (Some Command) (bytes_in (without_prefix rest))
+    else if first == 60 then frame_of (Some Reply) (bytes_in (without_prefix rest))
+    else frame_of None (bytes_in (without_prefix (first ∷ rest)))
+
+abbrev pub line_of : List ℕ → Line
+line_of text = told_in (without_blanks text)
+
+-- ---- which way a frame went
+
+-- the number behind the tag and the size: a command's code, or a response's (Part 1, 18)
+abbrev pub code_number_in : List ℕ → Option ℕ
+code_number_in bytes = if nat_lt (length bytes) 10 then None else Some (number_of (take 4 (drop 6 bytes)))
+
+abbrev pub is_zero : Option ℕ → Bool
+is_zero None = false
+is_zero (Some n) = n == 0
+
+-- Without a mark a frame is taken for a response by its code 0, or since it has no more than a code.
+abbrev pub is_response : List ℕ → Bool
+is_response bytes = length bytes == 10 || is_zero (code_number_in bytes)
+
+abbrev pub unmarked : Awaited → List ℕ → Direction
+unmarked awaits.Nothing bytes = Command
+unmarked _ bytes = if is_response bytes then Reply else Command
+
+abbrev pub direction_of : Option Direction → Awaited → List ℕ → Direction
+direction_of (Some direction) awaited bytes = direction
+direction_of None awaited bytes = unmarked awaited bytes
+
+abbrev pub awaited_of : Option CommandCode → Awaited
+awaited_of None = awaits.Unknown
+awaited_of (Some command) = awaits.Reply command
+
+abbrev pub command_named : Option ℕ → Option CommandCode
+command_named None = None
+command_named (Some n) = code_of n
+
+-- Behind a command comes its reply.
+abbrev pub awaited_behind : Direction → List ℕ → Awaited
+awaited_behind Command bytes = awaited_of (command_named (code_number_in bytes))
+awaited_behind Reply bytes = awaits.Nothing
+
+-- ---- what is told of a frame
+
+-- as `show` has it, or `show --fields`, or as members of an object
+abbrev pub ShowsCommandBy : (json fields : Bool) → List ℕ → Status → List ℕ → Type 0
+ShowsCommandBy false false bytes status text = ShowsBytes bytes status text
+ShowsCommandBy false true bytes status text = ShowsCommand bytes status text
+ShowsCommandBy true fields bytes status text = HasCommandMembers fields bytes status text
+
+abbrev pub refusal_text : (json : Bool) → Refusal → List ℕ
+refusal_text false refusal = refusal_line refusal
+refusal_text true refusal = refusal_members refusal
+
+-- Behind the refusal of its code alone stands which command it is.
+abbrev pub TellsCommand : (json fields : Bool) → List ℕ → Status → List ℕ → Type 0
+TellsCommand json fields bytes Done text = ShowsCommandBy json fields bytes Done text
+TellsCommand json fields bytes Refused text = (refusal : Refusal) × Fault command bytes refusal
+    × (text ≡ refusal_text json refusal ++ absent_behind json refusal (code_number_in bytes))
+
+abbrev pub ShowsReplyBy : (json fields : Bool) → CommandCode → List ℕ → Status → List ℕ → Type 0
+ShowsReplyBy false false command bytes status text = ShowsReplyBytes command bytes status text
+ShowsReplyBy false true command bytes status text = ShowsReply command bytes status text
+ShowsReplyBy true fields command bytes status text = HasReplyMembers fields command bytes status text
+
+abbrev pub sentence_text : (json : Bool) → List ℕ → List ℕ
+sentence_text false sentence = sentence ++ codes "\n"
+sentence_text true sentence = fault_member sentence
+
+abbrev pub TellsReply : (json fields : Bool) → Awaited → List ℕ → Status → List ℕ → Type 0
+TellsReply json fields (awaits.Reply command) bytes status text = ShowsReplyBy json fields command bytes status text
+TellsReply json fields awaits.Unknown bytes status text = (status ≡ Refused) × (text ≡ sentence_text json (codes "its command is not known"))
+TellsReply json fields awaits.Nothing bytes status text = (status ≡ Refused) × (text ≡ sentence_text json (codes "no command is before it"))
+
+abbrev pub TellsFrame : (json fields : Bool) → Direction → Awaited → List ℕ → Status → List ℕ → Type 0
+TellsFrame json fields Command awaited bytes status text = TellsCommand json fields bytes status text
+TellsFrame json fields Reply awaited bytes status text = TellsReply json fields awaited bytes status text
+
+abbrev pub mark_of : Direction → List ℕ
+mark_of Command = codes ">"
+mark_of Reply = codes "<"
+
+-- its number, and which way it went
+abbrev pub front : ℕ → Direction → List ℕ
+front number direction = decimal number ++ (codes " " ++ (mark_of direction ++ codes " "))
+
+abbrev pub kind_of : Direction → List ℕ
+kind_of Command = codes "command"
+kind_of Reply = codes "response"
+
+-- in one object, with its number and which way it went
+unfoldable pub frame_object : ℕ → Direction → List ℕ → List ℕ
+frame_object number direction members = codes "{\"number\":" ++ (decimal number ++ (codes ",\"kind\":\"" ++ (kind_of direction ++ (codes "\"" ++ (members ++ codes "}\n")))))
+
+abbrev pub numbered : (json : Bool) → ℕ → Direction → List ℕ → List ℕ
+numbered false number direction told = front number direction ++ told
+numbered true number direction told = frame_object number direction told
+
+unfoldable pub fault_line : ℕ → List ℕ → List ℕ
+fault_line number fault = line (decimal number ∷ fault ∷ [])
+
+abbrev pub fault_text : (json : Bool) → ℕ → List ℕ → List ℕ
+fault_text false number fault = fault_line number fault
+fault_text true number fault = fault_object number fault
+
+-- ---- what is told of lines
+
+-- the number of the next frame, and which reply may come next
+pub record Place : Type 0 where
+  pub number : ℕ
+  pub awaited : Awaited
+
+abbrev pub start : Place
+start = record { number = 1; awaited = awaits.Nothing }
+
+abbrev pub behind : Place → Line → Place
+behind p Nothing = p
+behind p (Frame mark bytes) = record { number = p.number + 1; awaited = awaited_behind (direction_of mark p.awaited bytes) bytes }
+behind p _ = record { number = p.number + 1; awaited = awaits.Unknown }
+
+abbrev pub TellsLine : (how : Telling) → Place → Line → Status → List ℕ → Type 0
+TellsLine how p Nothing status text = (status ≡ Done) × (text ≡ [])
+TellsLine how p (Frame mark bytes) status text =
+    let direction = direction_of mark p.awaited bytes in
+    (told : List ℕ) × TellsFrame how.json how.fields direction p.awaited bytes status told × (text ≡ numbered how.json p.number direction told)
+TellsLine how p NotHexadecimal status text = (status ≡ Refused) × (text ≡ fault_text how.json p.number (codes "not hexadecimal"))
+TellsLine how p TooLong status text = (status ≡ Refused) × (text ≡ fault_text how.json p.number (codes "too long"))
+
+-- From this place the lines are told one after the other. All is done where each is.
+abbrev pub TellsFrom : (how : Telling) → Place → List Line → Status → List ℕ → Type 0
+TellsFrom how p [] status text = (status ≡ Done) × (text ≡ [])
+TellsFrom how p (first ∷ others) status text = (one : Status) × (told : List ℕ) × (rest : Status) × (more : List ℕ)
+    × TellsLine how p first one told × TellsFrom how (behind p first) others rest more × (status ≡ both one rest) × (text ≡ told ++ more)
+
+-- For these bytes of a capture this is the status and what is printed.
+abbrev pub TellsCapture : (how : Telling) → List ℕ → Status → List ℕ → Type 0
+TellsCapture how bytes status text = TellsFrom how start (map line_of (lines_of bytes)) status text
+
+-- ---- what is read
+
+-- These bytes of the input were read, and it has ended.
+pub record ReadsAll (old new : Option (List ℕ)) (bytes : List ℕ) : Type 0 where
+  pub read : Consumes old new bytes
+  pub whole : IsAtEnd new
+
+-- 2^62
+abbrev pub most_bytes : ℕ
+most_bytes = 4611686018427387904
+
+-- More was read than a capture may have.
+pub record ReadsTooMuchCapture (old new : Option (List ℕ)) : Type 0 where
+  pub bytes : List ℕ
+  pub read : Consumes old new bytes
+  pub more : most_bytes < length bytes

@@ -1,0 +1,79 @@
+-- The text of a field of a buffer: its name, its type and its bytes, and what is told of its parts (this profile; RFC 8259).
+use Rattle.std.specs.Prelude.{ℕ, ◌+◌, Bool, true, false, List, [], ◌∷◌, ◌++◌, codes as text, Option, Some, None}
+use Rattle.std.specs.Fmt.{decimal}
+use Rattle.hex.specs.Hex.{encode_lower}
+use Rattle.tpm_wire.specs.Buffers.{Layout}
+use Rattle.tpm_wire.specs.Layout.Form.{field}
+use Rattle.tpm_wire.specs.Spelling.{spelling}
+use Rattle.tpm_text.specs.Text.{comma, line, bytes_text}
+
+-- a parameter, or a member of a structure
+pub record Field : Type 0 where
+  pub name : List ℕ
+  pub type : List ℕ
+
+abbrev pub named : List ℕ → List ℕ → Field
+named name type = record { name = name; type = type }
+
+-- the spelling of each part of a value, in the order of its layout: joined they are the spelling of the value
+abbrev pub parts : {A : Type 0} → Layout A → A → List (List ℕ)
+parts (field get l f) x = spelling l (get x) ∷ parts (f (get x)) x
+parts _ x = []
+
+-- ---- one field
+
+unfoldable pub field_line : (indent : List ℕ) → List ℕ → List ℕ → List ℕ → List ℕ
+field_line indent name type bytes = indent ++ line (name ∷ type ∷ bytes_text bytes ∷ [])
+
+unfoldable pub field_members : List ℕ → List ℕ → List ℕ → List ℕ
+field_members name type bytes = text "{\"name\":\"" ++ (name ++ (text "\",\"type\":\"" ++ (type ++ (text "\",\"value\":\"" ++ (encode_lower bytes ++ text "\"")))))
+
+-- its line, so far in, or the first members of its object, as an entry of a list
+unfoldable pub field_head : (json : Bool) → (indent : List ℕ) → ℕ → List ℕ → List ℕ → List ℕ → List ℕ
+field_head false indent i name type bytes = field_line indent name type bytes
+field_head true indent i name type bytes = comma i ++ field_members name type bytes
+
+abbrev pub field_end : (json : Bool) → List ℕ
+field_end false = []
+field_end true = text "}"
+
+-- a field of which no parts are told
+unfoldable pub field_text : (json : Bool) → (indent : List ℕ) → ℕ → List ℕ → List ℕ → List ℕ → List ℕ
+field_text json indent i name type bytes = field_head json indent i name type bytes ++ field_end json
+
+abbrev pub parts_begin : (json : Bool) → List ℕ
+parts_begin false = []
+parts_begin true = text ",\"fields\":["
+
+abbrev pub parts_end : (json : Bool) → List ℕ
+parts_end false = []
+parts_end true = text "]}"
+
+-- a field with its parts: their lines stand under its own, their objects are a member of its own
+unfoldable pub structure_text : (json : Bool) → (indent : List ℕ) → ℕ → List ℕ → List ℕ → List ℕ → (parts : List ℕ) → List ℕ
+structure_text json indent i name type bytes parts = field_head json indent i name type bytes ++ (parts_begin json ++ (parts ++ parts_end json))
+
+-- a number by its name: a bit that is set, a field of bits, or a register that is selected
+unfoldable pub number_text : (json : Bool) → (indent : List ℕ) → ℕ → List ℕ → ℕ → List ℕ
+number_text false indent i name n = indent ++ line (name ∷ decimal n ∷ [])
+number_text true indent i name n = comma i ++ (text "{\"name\":\"" ++ (name ++ (text "\",\"number\":" ++ (decimal n ++ text "}"))))
+
+-- ---- the fields of a structure
+
+abbrev pub told : (json : Bool) → (indent : List ℕ) → ℕ → Field → List ℕ → Option (List ℕ) → List ℕ
+told json indent i f bytes None = field_text json indent i f.name f.type bytes
+told json indent i f bytes (Some parts) = structure_text json indent i f.name f.type bytes parts
+
+abbrev pub first_of : List (Option (List ℕ)) → Option (List ℕ)
+first_of [] = None
+first_of (x ∷ xs) = x
+
+abbrev pub others_of : List (Option (List ℕ)) → List (Option (List ℕ))
+others_of [] = []
+others_of (x ∷ xs) = xs
+
+-- each field under its name, with its parts where there are some
+abbrev pub fields_from : (json : Bool) → (indent : List ℕ) → ℕ → List Field → List (List ℕ) → (insides : List (Option (List ℕ))) → List ℕ
+fields_from json indent i (f ∷ fs) (bytes ∷ others) insides =
+    told json indent i f bytes (first_of insides) ++ fields_from json indent (i + 1) fs others (others_of insides)
+fields_from json indent i _ _ insides = []

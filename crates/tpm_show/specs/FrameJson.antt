@@ -1,0 +1,116 @@
+-- What `show --json` prints of a frame of a capture (this profile; RFC 8259).
+use Rattle.std.specs.Prelude.{◌≡◌, ℕ, ◌==◌, Bool, true, false, List, [], ◌∷◌, ◌++◌, length, codes, Option, Some, None, if◌then◌else◌}
+use Rattle.std.specs.Fmt.{decimal}
+use Rattle.hex.specs.Hex.{encode_lower}
+use Rattle.tpm_wire.specs.declared.refusal.Refusal.{Refusal}
+use Rattle.tpm_wire.specs.Path.{Spells, Fault}
+use Rattle.tpm_types.specs.declared.tpms.Auth.{Auth}
+use Rattle.tpm_types.specs.declared.tpms.AuthReply.{AuthReply}
+use Rattle.tpm_buffer.specs.declared.code.CommandCode.{CommandCode}
+use Rattle.tpm_buffer.specs.declared.command.Command.{Command}
+use Rattle.tpm_buffer.specs.declared.command.CommandBody.{CommandBody}
+use Rattle.tpm_buffer.specs.declared.response.ReplyBody.{ReplyBody}
+use Rattle.tpm_buffer.specs.declared.response.Response.{Response}
+use Rattle.tpm_buffer.specs.declared.response.Response.TheVariants as responses
+use Rattle.tpm_buffer.specs.Codes.{code_name}
+use Rattle.tpm_buffer.specs.Commands.{command}
+use Rattle.tpm_buffer.specs.CommandAreas.{Cut, HasCut}
+use Rattle.tpm_buffer.specs.ResponseAreas.{handle_of}
+use Rattle.tpm_buffer.specs.Responses.{ReplyCut, reply_cut, response}
+use Rattle.tpm_text.specs.declared.status.Status.{Status}
+use Rattle.tpm_text.specs.declared.status.Status.TheVariants.{Done, Refused}
+use Rattle.tpm_text.specs.Text.{comma, hexadecimal, lines_from}
+use Rattle.tpm_show.specs.Fields.{command_fields, reply_fields}
+
+-- ---- refusals and faults
+
+unfoldable pub refusal_members : Refusal → List ℕ
+refusal_members refusal = codes ",\"refused\":\"" ++ (hexadecimal 3 refusal.code ++ (codes "\",\"at\":" ++ decimal refusal.at))
+
+abbrev pub fault_member : List ℕ → List ℕ
+fault_member fault = codes ",\"fault\":\"" ++ (fault ++ codes "\"")
+
+-- of a line that has no frame
+unfoldable pub fault_object : ℕ → List ℕ → List ℕ
+fault_object number fault = codes "{\"number\":" ++ (decimal number ++ (fault_member fault ++ codes "}\n"))
+
+-- of a frame that does not come, behind so many bytes
+unfoldable pub stop_object : ℕ → List ℕ → ℕ → List ℕ
+stop_object number fault at = codes "{\"number\":" ++ (decimal number ++ (fault_member fault ++ (codes ",\"at\":" ++ (decimal at ++ codes "}\n"))))
+
+-- ---- what commands and replies share
+
+unfoldable pub head_members : CommandCode → ℕ → List ℕ
+head_members code size = codes ",\"command\":\"" ++ (code_name code ++ (codes "\",\"size\":" ++ decimal size))
+
+unfoldable pub handle_entry : ℕ → ℕ → List ℕ
+handle_entry i handle = comma i ++ (codes "\"" ++ (hexadecimal 8 handle ++ codes "\""))
+
+unfoldable pub handles_member : List ℕ → List ℕ
+handles_member handles = codes ",\"handles\":[" ++ (lines_from handle_entry 1 handles ++ codes "]")
+
+unfoldable pub parameters_member : List ℕ → List ℕ
+parameters_member bytes = codes ",\"parameters\":\"" ++ (encode_lower bytes ++ codes "\"")
+
+-- the objects of the parameters, where they are told by their names
+abbrev pub fields_member : (fields : Bool) → List ℕ → List ℕ
+fields_member false objects = []
+fields_member true objects = codes ",\"fields\":[" ++ (objects ++ codes "]")
+
+-- ---- a command
+
+unfoldable pub session_object : Auth → List ℕ
+session_object auth = codes "{\"session\":\"" ++ (hexadecimal 8 auth.session ++ (codes "\",\"nonce\":\"" ++ (encode_lower auth.nonce
+    ++ (codes "\",\"attributes\":\"" ++ (hexadecimal 2 auth.attrs ++ (codes "\",\"hmac\":\"" ++ (encode_lower auth.hmac ++ codes "\"}")))))))
+
+unfoldable pub session_entry : ℕ → Auth → List ℕ
+session_entry i auth = comma i ++ session_object auth
+
+unfoldable pub sessions_member : List Auth → List ℕ
+sessions_member auths = codes ",\"sessions\":[" ++ (lines_from session_entry 1 auths ++ codes "]")
+
+-- of a command of so many bytes
+unfoldable pub command_members : (fields : Bool) → ℕ → Cut → CommandBody → List ℕ
+command_members fields size c body = head_members c.header.code size
+    ++ (handles_member c.handles ++ (sessions_member c.auths ++ (parameters_member c.params ++ fields_member fields (command_fields true body))))
+
+-- ---- a response
+
+unfoldable pub code_member : ℕ → List ℕ
+code_member code = codes ",\"code\":\"" ++ (hexadecimal 3 code ++ codes "\"")
+
+unfoldable pub reply_session_object : AuthReply → List ℕ
+reply_session_object auth = codes "{\"nonce\":\"" ++ (encode_lower auth.nonce
+    ++ (codes "\",\"attributes\":\"" ++ (hexadecimal 2 auth.attrs ++ (codes "\",\"hmac\":\"" ++ (encode_lower auth.hmac ++ codes "\"}")))))
+
+unfoldable pub reply_session_entry : ℕ → AuthReply → List ℕ
+reply_session_entry i auth = comma i ++ reply_session_object auth
+
+unfoldable pub reply_sessions_member : List AuthReply → List ℕ
+reply_sessions_member auths = codes ",\"sessions\":[" ++ (lines_from reply_session_entry 1 auths ++ codes "]")
+
+abbrev pub handles_of : Option ℕ → List ℕ
+handles_of None = []
+handles_of (Some handle) = handle ∷ []
+
+-- of a reply to this command, of so many bytes
+unfoldable pub reply_members : (fields : Bool) → CommandCode → ℕ → ReplyCut → ReplyBody → List ℕ
+reply_members fields code size r body = head_members code size
+    ++ (handles_member (handles_of (handle_of r)) ++ (parameters_member r.params ++ (fields_member fields (reply_fields true body) ++ reply_sessions_member r.auths)))
+
+abbrev pub response_members : (fields : Bool) → CommandCode → ℕ → ReplyCut → Response → List ℕ
+response_members fields code size areas (responses.Code n) = code_member n
+response_members fields code size areas (responses.Done body auths) = reply_members fields code size areas body
+
+-- ---- what is told of a frame
+
+-- a command that the bytes spell, and else their fault
+abbrev pub HasCommandMembers : (fields : Bool) → List ℕ → Status → List ℕ → Type 0
+HasCommandMembers fields bytes Done text = (c : Command) × (areas : Cut) × Spells command c bytes × HasCut bytes areas × (text ≡ command_members fields (length bytes) areas c.body)
+HasCommandMembers fields bytes Refused text = (refusal : Refusal) × Fault command bytes refusal × (text ≡ refusal_members refusal)
+
+-- a response to this command that the bytes spell, and else their fault
+abbrev pub HasReplyMembers : (fields : Bool) → CommandCode → List ℕ → Status → List ℕ → Type 0
+HasReplyMembers fields code bytes Done text = (r : Response) × (areas : ReplyCut) × Spells (response code) r bytes × Spells (reply_cut code) areas bytes
+    × (text ≡ response_members fields code (length bytes) areas r)
+HasReplyMembers fields code bytes Refused text = (refusal : Refusal) × Fault (response code) bytes refusal × (text ≡ refusal_members refusal)

@@ -1,0 +1,14 @@
+pub mod ReplyText
+pub mod Show
+pub mod FieldText
+pub mod Parts
+pub mod Fields
+pub mod FrameJson
+pub mod Capture
+pub mod Stream
+pub mod Capturing
+pub mod Build
+pub mod Meanings
+pub mod Layers
+pub mod Explain
+pub mod CommandNames

@@ -1,0 +1,68 @@
+-- What `show --binary` prints of a stream of frames (this profile).
+use Rattle.std.specs.Prelude.{◌≡◌, ℕ, ◌+◌, ◌<◌, ◌⊎◌, Bool, true, false, List, [], ◌∷◌, ◌++◌, length, map, codes, Option, None}
+use Rattle.std.specs.List.{concat}
+use Rattle.std.specs.Fmt.{decimal}
+use Rattle.std.specs.Io.KnownBytes.{Consumes, IsAtEnd}
+use Rattle.tpm_buffer.specs.Frames.{Frames, IsPart, IsBroken}
+use Rattle.tpm_text.specs.declared.status.Status.{Status}
+use Rattle.tpm_show.specs.declared.telling.Telling.{Telling}
+use Rattle.tpm_text.specs.declared.status.Status.TheVariants.{Done, Refused}
+use Rattle.tpm_text.specs.Status.{both}
+use Rattle.tpm_text.specs.Text.{line}
+use Rattle.tpm_show.specs.FrameJson.{stop_object}
+use Rattle.tpm_show.specs.Capture.{Line, Frame, start, TellsFrom}
+
+-- how a stream goes on behind its last frame: not at all, with less than a frame, or with a size that no frame has
+pub data Ending : Type 0 where
+  AtEnd : Ending
+  Inside : Ending
+  BadSize : Ending
+
+abbrev pub IsEnding : List ℕ → Ending → Type 0
+IsEnding rest AtEnd = rest ≡ []
+IsEnding rest Inside = IsPart rest × (0 < length rest)
+IsEnding rest BadSize = IsBroken rest
+
+-- that no frame comes, where the next one has this number, behind so many bytes
+unfoldable pub stop_line : ℕ → List ℕ → ℕ → List ℕ
+stop_line number fault at = line (decimal number ∷ fault ∷ codes "at" ∷ decimal at ∷ [])
+
+-- its line, or its object
+abbrev pub stop_text : (json : Bool) → ℕ → List ℕ → ℕ → List ℕ
+stop_text false number fault at = stop_line number fault at
+stop_text true number fault at = stop_object number fault at
+
+abbrev pub ending_text : (json : Bool) → Ending → (number at : ℕ) → List ℕ
+ending_text json AtEnd number at = []
+ending_text json Inside number at = stop_text json number (codes "cut short") at
+ending_text json BadSize number at = stop_text json number (codes "bad size") at
+
+abbrev pub ending_status : Ending → Status
+ending_status AtEnd = Done
+ending_status _ = Refused
+
+abbrev pub unmarked_frame : List ℕ → Line
+unmarked_frame bytes = Frame None bytes
+
+-- For these bytes of a stream this is the status and what is printed: its frames are told as those of a capture without marks, and
+-- then how it goes on.
+pub record TellsStream (how : Telling) (bytes : List ℕ) (status : Status) (text : List ℕ) : Type 0 where
+  pub frames : List (List ℕ)
+  pub rest : List ℕ
+  pub cut : Frames bytes frames rest
+  pub ending : Ending
+  pub ends : IsEnding rest ending
+  pub one : Status
+  pub told : List ℕ
+  pub tells : TellsFrom how start (map unmarked_frame frames) one told
+  pub all : status ≡ both one (ending_status ending)
+  pub are : text ≡ told ++ ending_text how.json ending (length frames + 1) (length (concat frames))
+
+-- ---- what is read
+
+-- These bytes of the input were read and told; and it has ended, or whatever comes makes no difference.
+pub record TellsRead (how : Telling) (old new : Option (List ℕ)) (status : Status) (text : List ℕ) : Type 0 where
+  pub bytes : List ℕ
+  pub read : Consumes old new bytes
+  pub tells : TellsStream how bytes status text
+  pub whole : IsAtEnd new ⊎ ((more : List ℕ) → TellsStream how (bytes ++ more) status text)

@@ -1,0 +1,253 @@
+//! The subcommand `show` of a capture in lines.
+
+ghost use Rattle.std.specs.Prelude.{◌≡◌, ◌+◌, ◌^◌, ◌<◌, ◌++◌, ℕ, List, ◌∷◌, [], None, IfOk, OnOk, IsErrOf, length, string_bytes};
+ghost use Rattle.std.specs.Io.KnownBytes.{Appends};
+ghost use Rattle.tpm_wire.specs.Sources.{IsWhereItFailed};
+ghost use Rattle.tpm_text.specs.declared.fault.ToolFault.TheVariants.{InputTooLong, Read};
+ghost use Rattle.tpm_show.specs.declared.capture_frames.Awaited.TheVariants.{Unknown};
+ghost use Rattle.tpm_text.specs.declared.status.Status.TheVariants.{Done, Refused};
+ghost use Rattle.tpm_text.specs.Faults.{FailsByMemoryOrWrite};
+ghost use Rattle.tpm_text.specs.InputLines.{CountsRead};
+ghost use Rattle.tpm_show.specs.Capture.{Frame, start, told_in, fault_text, TellsCapture, ReadsAll, ReadsTooMuchCapture};
+ghost use Rattle.tpm_show.specs.Capturing.{read_as, place, AddedTo, Passes, Tells, EndsLine, Takes};
+
+use crate::capture_frames::{
+    Awaited, answer_to_frame, awaited_behind, direction_of, push_fault, push_numbered,
+};
+use crate::capture_lines::{Direction, Line, MOST_LINE, is_blank, read_line};
+use crate::telling::Telling;
+use std::alloc::{AllocError, Global};
+use std::io::Write;
+use tpm_text::answer::write;
+use tpm_text::fault::ToolFault;
+use tpm_text::status::Status;
+use tpm_wire::Source;
+
+/// How many bytes a capture has at most, which is more than any has.
+pub(crate) const MOST_BYTES: usize = 4_611_686_018_427_387_904;
+
+/// How many bytes are asked for at a time.
+const PIECE: usize = 4096;
+
+/// A capture that is being told.
+#[derive(Drop)]
+pub(crate) struct Capture {
+    pub(crate) how: Telling,
+    // what has come of the present line, without its blanks, up to a byte too many
+    line: Vec<u8>,
+    // the number of the next frame
+    pub(crate) number: u64,
+    awaited: Awaited,
+    // whether all frames so far are what they are taken for
+    pub(crate) status: Status,
+}
+
+impl Capture {
+    /// A capture of which nothing is told.
+    pub(crate) fn new(alloc: Global, how: Telling) -> Self
+        ensures how { result.how ≡ how }
+        ensures line { result.line.items ≡ [] }
+        ensures place { place result ≡ start }
+        ensures status { result.status ≡ Done }
+    {
+        Capture {
+            how,
+            line: Vec::new(alloc),
+            number: 1,
+            awaited: Awaited::Nothing,
+            status: Status::Done,
+        }
+    }
+
+    // Goes on behind a frame.
+    fn pass(&mut self, awaited: Awaited, status: Status)
+        requires { self.old.number + 1 < 2 ^ 64 }
+        ensures { Passes self.old awaited status self.new }
+    {
+        self.number += 1;
+        self.awaited = awaited;
+        self.status = self.status.both(status);
+    }
+
+    fn tell_fault(&mut self, text: &mut String, fault: &str) -> Result<(), AllocError>
+        requires { self.old.number + 1 < 2 ^ 64 }
+        ensures { OnOk result (string_bytes text.new ≡ string_bytes text.old ++ fault_text self.old.how.json self.old.number fault.now
+            × Passes self.old Unknown Refused self.new) }
+    {
+        push_fault(text, self.how.json, self.number, fault)?;
+        self.pass(Awaited::Unknown, Status::Refused);
+        Ok(())
+    }
+
+    fn tell_frame(
+        &mut self,
+        alloc: Global,
+        mark: Option<Direction>,
+        bytes: &[u8],
+        text: &mut String,
+    ) -> Result<(), AllocError>
+        requires { self.old.number + 1 < 2 ^ 64 }
+        ensures { OnOk result (Tells (Frame mark bytes.now) self.old self.new (AddedTo (string_bytes text.old) (string_bytes text.new))) }
+    {
+        let direction = direction_of(mark, self.awaited, bytes);
+        let answer = answer_to_frame(alloc, self.how, direction, self.awaited, bytes)?;
+        push_numbered(
+            text,
+            self.how.json,
+            self.number,
+            direction,
+            answer.text.as_str(),
+        )?;
+        self.pass(awaited_behind(direction, bytes), answer.status);
+        Ok(())
+    }
+
+    fn tell(&mut self, alloc: Global, line: &Line, text: &mut String) -> Result<(), AllocError>
+        requires { self.old.number + 1 < 2 ^ 64 }
+        ensures { OnOk result (Tells (read_as line.now) self.old self.new (AddedTo (string_bytes text.old) (string_bytes text.new))) }
+    {
+        match line {
+            Line::Nothing => Ok(()),
+            Line::Frame(mark, bytes) => self.tell_frame(alloc, *mark, bytes.as_slice(), text),
+            Line::NotHexadecimal => self.tell_fault(text, "not hexadecimal"),
+            Line::TooLong => self.tell_fault(text, "too long"),
+        }
+    }
+
+    /// Takes a frame without a mark, and prints what is told of it.
+    pub(crate) fn print_frame<W: Write>(
+        &mut self,
+        alloc: Global,
+        bytes: &[u8],
+        out: &mut W,
+    ) -> Result<(), ToolFault>
+        requires { self.old.number + 1 < 2 ^ 64 }
+        ensures ok { OnOk result (Tells (Frame None bytes.now) self.old self.new (Appends (W.contents out.old) (W.contents out.new))) }
+        ensures err { FailsByMemoryOrWrite result }
+    {
+        let mut text = String::new(alloc);
+        self.tell_frame(alloc, None, bytes, &mut text)?;
+        write(out, &text)
+    }
+
+    // Tells the present line.
+    fn end_line(&mut self, alloc: Global, text: &mut String) -> Result<(), AllocError>
+        requires { self.old.number + 1 < 2 ^ 64 }
+        ensures { OnOk result (EndsLine (told_in self.old.line.items) self.old self.new (AddedTo (string_bytes text.old) (string_bytes text.new))) }
+    {
+        let line = read_line(alloc, self.line.as_slice())?;
+        self.tell(alloc, &line, text)?;
+        self.line.clear();
+        Ok(())
+    }
+
+    // Takes the next byte.
+    fn take(&mut self, alloc: Global, byte: u8, text: &mut String) -> Result<(), AllocError>
+        requires { self.old.number + 1 < 2 ^ 64 }
+        ensures { OnOk result (Takes (byte ∷ []) self.old self.new (AddedTo (string_bytes text.old) (string_bytes text.new))) }
+    {
+        if byte == b'\n' {
+            return self.end_line(alloc, text);
+        }
+        if is_blank(byte) {
+            return Ok(());
+        }
+        if self.line.len() > MOST_LINE {
+            return Ok(());
+        }
+        self.line.push(byte)?;
+        Ok(())
+    }
+
+    // Takes the next bytes.
+    fn feed(&mut self, alloc: Global, piece: &[u8], text: &mut String) -> Result<(), AllocError>
+        requires { self.old.number + length piece.now < 2 ^ 64 }
+        ensures { OnOk result (Takes piece.now self.old self.new (AddedTo (string_bytes text.old) (string_bytes text.new))) }
+    {
+        for byte in piece {
+            self.take(alloc, *byte, text)?;
+        }
+        Ok(())
+    }
+
+    // Takes the next bytes, and prints what comes of them.
+    fn print<W: Write>(&mut self, alloc: Global, piece: &[u8], out: &mut W) -> Result<(), ToolFault>
+        requires { self.old.number + length piece.now < 2 ^ 64 }
+        ensures ok { OnOk result (Takes piece.now self.old self.new (Appends (W.contents out.old) (W.contents out.new))) }
+        ensures err { FailsByMemoryOrWrite result }
+    {
+        let mut text = String::new(alloc);
+        self.feed(alloc, piece, &mut text)?;
+        write(out, &text)
+    }
+
+    // Tells the last line, and prints what comes of it.
+    fn print_end<W: Write>(&mut self, alloc: Global, out: &mut W) -> Result<Status, ToolFault>
+        requires { self.old.number + 1 < 2 ^ 64 }
+        ensures ok { IfOk result (λ status. (status ≡ self.new.status)
+            × EndsLine (told_in self.old.line.items) self.old self.new (Appends (W.contents out.old) (W.contents out.new))) }
+        ensures err { FailsByMemoryOrWrite result }
+    {
+        let mut text = String::new(alloc);
+        self.end_line(alloc, &mut text)?;
+        write(out, &text)?;
+        Ok(self.status)
+    }
+}
+
+/// Prints what `show` prints of each frame of a capture, or what `show --fields` prints, or an object of JSON in a line.
+///
+/// A line has a frame in hexadecimal digits, two to a byte and in either case, behind `0x` or without it. Spaces, tabs
+/// and carriage returns count for nothing wherever they stand. `>` before it marks a command and `<` a reply. Without a
+/// mark a frame is a command, but where one is before it and the frame is of ten bytes, or has the code 0, it is the
+/// reply. A line that is empty, or begins with `#`, is skipped. A line ends with a line feed, and the last may do without.
+///
+/// In front of what is told of a frame stand its number, from 1, and its mark. A reply is read as one to the command
+/// before it, by the code of that; with none before it the line is `N < no command is before it`, and with a code that
+/// the profile hasn't `N < its command is not known`. Where a command is refused for its code alone, and the library has
+/// one with that code (Part 2, 6.5.2), the line `TPM2_NAME is not in this profile` follows. A line of other text is
+/// `N not hexadecimal`, and one of more than 8,195 bytes beside its blanks `N too long`; the next is read all the same.
+///
+/// The object has the members `number` and `kind`, which is `command` or `response`. A command has its name as `command`, `size`,
+/// `handles`, `sessions` and `parameters`, and a reply the same; a response of another code than 0 has `code`. What is refused has
+/// `refused` and `at`, and `name` where the profile hasn't the command; a reply without its command has `fault`. Where parameters
+/// are told by their names there is `fields`, a list of objects with `name`, `type` and `value`. That of a structure has `fields`
+/// likewise, of its members or entries; bits that are set, and registers, are objects with `name` and `number`, which is decimal.
+/// A line without a frame has `number` and `fault`. Each says what its line says: bytes, handles, attributes and codes are in
+/// hexadecimal, and no bytes are empty.
+///
+/// The status is `Refused` where a frame or a line was refused, and else `Done`. What a read gave is answered before the
+/// next read, and no more than one line and one piece is held.
+///
+/// Where a request for memory is refused the answer is `Memory`, where a read fails `Read`, where the writer fails
+/// `Write`, and where more than 2^62 bytes come `InputTooLong`. What was written before is then left open, and a failed
+/// read isn't tried again.
+pub fn show_lines<R: Source, W: Write>(
+    alloc: Global,
+    input: &mut R,
+    out: &mut W,
+    how: Telling,
+) -> Result<Status, ToolFault>
+    ensures failures { CountsRead (R.failed input.old) (R.failed input.new) result }
+    ensures stop { IsErrOf result Read → IsWhereItFailed (R.stopped input.new) }
+    ensures ok { IfOk result (λ status. (bytes text : List ℕ)
+        × ReadsAll (R.coming input.old) (R.coming input.new) bytes
+        × TellsCapture how bytes status text
+        × Appends (W.contents out.old) (W.contents out.new) text) }
+    ensures too_long { IsErrOf result InputTooLong → ReadsTooMuchCapture (R.coming input.old) (R.coming input.new) }
+{
+    let mut capture = Capture::new(alloc, how);
+    let mut piece = [0; PIECE];
+    let mut read = 0;
+    loop {
+        let count = input.read(&mut piece)?;
+        read += count;
+        if read > MOST_BYTES {
+            return Err(ToolFault::InputTooLong);
+        }
+        if count == 0 {
+            return capture.print_end(alloc, out);
+        }
+        capture.print(alloc, &piece[..count], out)?;
+    }
+}

@@ -1,0 +1,80 @@
+//! The lines of a capture.
+
+ghost use Rattle.std.specs.Prelude.{◌≡◌, IfOk};
+ghost use Rattle.tpm_show.specs.Capture.{is_blank, told_in, frame_of, without_prefix};
+ghost use Rattle.tpm_show.specs.Capturing.{read_as};
+ghost use Rattle.tpm_text.specs.Text.{bytes_in};
+
+use std::alloc::{AllocError, Global};
+use tpm_text::hexadecimal::decoded;
+
+/// How many bytes a line has at most beside its blanks: a mark, `0x`, and the digits of a buffer of 4,096 bytes.
+pub(crate) const MOST_LINE: usize = 8195;
+
+/// Which way a frame went.
+#[derive(Clone, Copy, Debug, PartialEq, Eq)]
+pub(crate) enum Direction {
+    /// To the TPM.
+    Command,
+    /// From it.
+    Reply,
+}
+
+/// What a line of a capture has.
+#[derive(Drop)]
+pub(crate) enum Line {
+    /// No frame: it is empty, or a comment.
+    Nothing,
+    /// A frame, and its mark where it has one.
+    Frame(Option<Direction>, Vec<u8>),
+    /// It isn't hexadecimal.
+    NotHexadecimal,
+    /// It has too many bytes.
+    TooLong,
+}
+
+/// Whether a byte counts for nothing in a line: a space, a tab or a carriage return.
+pub(crate) fn is_blank(byte: u8) -> bool
+    ensures { result ≡ is_blank byte }
+{
+    byte == b' ' || byte == b'\t' || byte == b'\r'
+}
+
+// The digits behind `0x`, or all where it isn't there.
+fn without_prefix(text: &[u8]) -> &[u8]
+    ensures { result.now ≡ without_prefix text.now }
+{
+    match text {
+        [b'0', b'x', digits @ ..] => digits,
+        _ => text,
+    }
+}
+
+fn read_frame(alloc: Global, mark: Option<Direction>, text: &[u8]) -> Result<Line, AllocError>
+    ensures { IfOk result (λ line. read_as line ≡ frame_of mark (bytes_in (without_prefix text.now))) }
+{
+    match decoded(alloc, without_prefix(text))? {
+        Some(bytes) => Ok(Line::Frame(mark, bytes)),
+        None => Ok(Line::NotHexadecimal),
+    }
+}
+
+/// What a line without its blanks has.
+pub(crate) fn read_line(alloc: Global, text: &[u8]) -> Result<Line, AllocError>
+    ensures { IfOk result (λ line. read_as line ≡ told_in text.now) }
+{
+    let Some((first, rest)) = text.split_first() else {
+        return Ok(Line::Nothing);
+    };
+    if *first == b'#' {
+        return Ok(Line::Nothing);
+    }
+    if text.len() > MOST_LINE {
+        return Ok(Line::TooLong);
+    }
+    match *first {
+        b'>' => read_frame(alloc, Some(Direction::Command), rest),
+        b'<' => read_frame(alloc, Some(Direction::Reply), rest),
+        _ => read_frame(alloc, None, text),
+    }
+}

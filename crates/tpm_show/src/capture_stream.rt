@@ -1,0 +1,116 @@
+//! The subcommand `show` of a stream of frames.
+
+ghost use Rattle.std.specs.Prelude.{◌≡◌, ◌++◌, ℕ, List, IfOk, OnOk, IsErrOf, string_bytes};
+ghost use Rattle.std.specs.Io.KnownBytes.{Appends};
+ghost use Rattle.tpm_wire.specs.Sources.{IsWhereItFailed};
+ghost use Rattle.tpm_text.specs.declared.fault.ToolFault.TheVariants.{InputTooLong, Read};
+ghost use Rattle.tpm_text.specs.declared.status.Status.TheVariants.{Refused};
+ghost use Rattle.tpm_text.specs.Faults.{FailsByMemoryOrWrite};
+ghost use Rattle.tpm_text.specs.InputLines.{CountsRead};
+ghost use Rattle.tpm_show.specs.Capture.{ReadsTooMuchCapture};
+ghost use Rattle.tpm_show.specs.Stream.{stop_line, stop_text, TellsRead};
+
+use crate::capture::{Capture, MOST_BYTES};
+use crate::frame_json::push_stop_object;
+use crate::telling::Telling;
+use std::alloc::{AllocError, Global};
+use std::io::Write;
+use tpm_buffer::{ReadFault, read_frame_into};
+use tpm_text::answer::write;
+use tpm_text::fault::ToolFault;
+use tpm_text::status::Status;
+use tpm_wire::{Buffer, Source};
+
+#[tactic(auto, unfolding(crate::specs::Stream::stop_line))]
+fn push_stop_line(text: &mut String, number: u64, fault: &str, at: usize) -> Result<(), AllocError>
+    ensures { OnOk result (string_bytes text.new ≡ string_bytes text.old ++ stop_line number fault.now at) }
+{
+    writeln!(text, "{number} {fault} at {at}")
+}
+
+// Adds the line or the object of a frame that does not come.
+fn push_stop(
+    text: &mut String,
+    json: bool,
+    number: u64,
+    fault: &str,
+    at: usize,
+) -> Result<(), AllocError>
+    ensures { OnOk result (string_bytes text.new ≡ string_bytes text.old ++ stop_text json number fault.now at) }
+{
+    if json {
+        push_stop_object(text, number, fault, at)
+    } else {
+        push_stop_line(text, number, fault, at)
+    }
+}
+
+// Prints the line or the object of a frame that does not come.
+fn print_stop<W: Write>(
+    alloc: Global,
+    json: bool,
+    number: u64,
+    fault: &str,
+    at: usize,
+    out: &mut W,
+) -> Result<Status, ToolFault>
+    ensures ok { IfOk result (λ status. (status ≡ Refused)
+        × Appends (W.contents out.old) (W.contents out.new) (stop_text json number fault.now at)) }
+    ensures err { FailsByMemoryOrWrite result }
+{
+    let mut text = String::new(alloc);
+    push_stop(&mut text, json, number, fault, at)?;
+    write(out, &text)?;
+    Ok(Status::Refused)
+}
+
+/// Prints what `show` prints of each frame of a stream, or what `show --fields` prints, or an object of JSON in a line.
+///
+/// The stream is frames one after the other, each of 10 to 4,096 bytes that state their size in the third to sixth of them
+/// (Part 1, "Command/Response Structure"). What is told of them is what `show_lines` tells of the same frames without marks: a
+/// frame is a command, but where one is before it and the frame is of ten bytes, or has the code 0, it is the reply.
+///
+/// A size that no frame has ends the stream: behind the frames before it the line is `N bad size at P`, and where the input ends
+/// inside a frame `N cut short at P`. N is the number of that frame, from 1, and P is how many bytes precede it. In JSON these are the members `number`, `fault` and `at`.
+///
+/// The status is `Refused` where a frame was refused or did not come whole, and else `Done`. Each frame is answered before the
+/// next is read, and no more than one frame is held. Behind a size that no frame has nothing is read.
+///
+/// Where a request for memory is refused the answer is `Memory`, where a read fails `Read`, where the writer fails
+/// `Write`, and where more than 2^62 bytes come `InputTooLong`. What was written before is then left open, and a failed
+/// read isn't tried again.
+pub fn show_stream<R: Source, W: Write>(
+    alloc: Global,
+    input: &mut R,
+    out: &mut W,
+    how: Telling,
+) -> Result<Status, ToolFault>
+    ensures failures { CountsRead (R.failed input.old) (R.failed input.new) result }
+    ensures stop { IsErrOf result Read → IsWhereItFailed (R.stopped input.new) }
+    ensures ok { IfOk result (λ status. (text : List ℕ)
+        × TellsRead how (R.coming input.old) (R.coming input.new) status text
+        × Appends (W.contents out.old) (W.contents out.new) text) }
+    ensures too_long { IsErrOf result InputTooLong → ReadsTooMuchCapture (R.coming input.old) (R.coming input.new) }
+{
+    let mut capture = Capture::new(alloc, how);
+    let mut frame = Buffer::new();
+    let mut read = 0;
+    loop {
+        match read_frame_into(input, &mut frame) {
+            Ok(true) => {}
+            Ok(false) => return Ok(capture.status),
+            Err(ReadFault::Device) => return Err(ToolFault::Read),
+            Err(ReadFault::EndInside) => {
+                return print_stop(alloc, how.json, capture.number, "cut short", read, out);
+            }
+            Err(ReadFault::Broken(_)) => {
+                return print_stop(alloc, how.json, capture.number, "bad size", read, out);
+            }
+        }
+        read += frame.len();
+        if read > MOST_BYTES {
+            return Err(ToolFault::InputTooLong);
+        }
+        capture.print_frame(alloc, frame.as_slice(), out)?;
+    }
+}

@@ -1,0 +1,29 @@
+//! The subcommands `show`, `build` and `explain`.
+#![tactic(auto)]
+
+mod built;
+mod capture;
+mod capture_frames;
+mod capture_lines;
+mod capture_stream;
+mod command_names;
+mod explained;
+mod field_text;
+mod fields;
+mod frame_json;
+mod layers;
+mod meaning;
+mod parts;
+mod reply_text;
+mod shown;
+mod shown_fields;
+mod shown_reply;
+mod telling;
+
+pub use built::build;
+pub use capture::show_lines;
+pub use capture_stream::show_stream;
+pub use explained::explain;
+pub use shown::show;
+pub use shown_fields::show_fields;
+pub use telling::Telling;

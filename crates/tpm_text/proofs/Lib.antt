@@ -1,0 +1,5 @@
+pub mod Padded
+pub mod Listed
+pub mod InputLines
+pub mod Tables
+pub mod Joins

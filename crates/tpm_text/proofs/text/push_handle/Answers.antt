@@ -1,0 +1,10 @@
+use Rattle.std.proofs.Common.{append_assoc}
+use Rattle.tpm_text.specs.Text.{handle_line}
+use Rattle.tpm_text.proofs.Padded.{padded_integral-zeros}
+use Rattle.tpm_text.proofs.text.push_handle.Goals as goal
+
+pub returns : goal.returns
+unfolding handle_line
+returns c =
+    let written = simp (c.in_radix.ensures, c.laid_out.ensures, padded_integral-zeros, append_assoc) at c.writeln.ensures.bytes in
+    simp append_assoc written

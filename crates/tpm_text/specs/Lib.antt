@@ -1,0 +1,5 @@
+pub mod Status
+pub mod Faults
+pub mod Text
+pub mod Named
+pub mod InputLines

@@ -1,7 +1,0 @@
-use Rattle.std.proofs.Common.{append_assoc}
-use Rattle.tpm_tool.specs.Explain.{base_line}
-use Rattle.tpm_tool.proofs.explained.push_base.Goals as goal
-
-pub returns : goal.returns
-unfolding base_line
-returns c = simp append_assoc c.writeln.ensures.bytes

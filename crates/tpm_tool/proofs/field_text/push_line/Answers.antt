@@ -1,6 +1,0 @@
-use Rattle.tpm_tool.specs.FieldText.{field_line}
-use Rattle.tpm_tool.proofs.field_text.push_line.Goals as goal
-
-pub returns : goal.returns
-unfolding field_line
-returns c = rw (← c.in_ok-bytes.ensures) c.writeln.ensures.bytes
