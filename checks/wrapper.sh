@@ -6,12 +6,11 @@ cp tpmtool "$wrapper/tpmtool"
 printf 'low:\ntpmtool: low\n' >"$wrapper/crates.txt"
 cat >"$wrapper/bin/rt" <<'END'
 #!/bin/sh
-# run: a build, and the program with a word; try: the program, and then what `rt try` says of it.
+# lib: a proof; run: a build, and the program with a word; try: the program, and then what `rt try` says of it.
 echo "$PWD $*" >>"$CALLS"
 case $1 in
 run)
     echo "what a build says"
-    echo "rt: chose --jobs 2 for low"
     echo "what a build complains of" >&2
     mkdir -p out
     cat >out/tpmtool <<'PROGRAM'
@@ -26,9 +25,10 @@ PROGRAM
     [ "$BROKEN" = killed ] && kill -9 $PPID
     [ -z "$BROKEN" ]
     ;;
-check)
+lib)
+    echo "what a proof of ${PWD##*/} says"
     [ "${PWD##*/}" != "$UNPROVED" ] || exit 1
-    mkdir -p out && echo "$PWD" >out/proved
+    mkdir -p out/rlib && echo "$PWD, over$(cd .. && ls -d */out/rlib/proved 2>/dev/null | sed 's,/.*,,' | tr '\n' ' ' | sed 's/^/ /')" >out/rlib/proved
     ;;
 try)
     shift 4
@@ -131,6 +131,7 @@ says "the wrapper builds where it is asked to, and passes words, input, output a
 {
     echo 'tpmtool: proving and building the program, which takes some minutes the first time'
     echo 'tpmtool: proving low (1 of 2)'
+    echo 'tpmtool: proving tpmtool (2 of 2)'
     echo complaint
 } >"$wrapper/err.wanted"
 name="the wrapper says which crate it proves"
@@ -189,36 +190,32 @@ else
     fail "the wrapper says that the toolchain is missing" "status $status: $(cat "$wrapper/err")"
 fi
 
-# side_by_side: a first build over crates with the names of those that are proved side by side.
-side_by_side() {
+# from_nothing: a first build of a program that is made of four crates.
+from_nothing() {
     rm -rf "$wrapper/crates"
-    mkdir -p "$wrapper/crates/tpmtool/src"
-    for crate in tpm_buffer tpm_check tpm_show tpm_device tpm_args; do mkdir -p "$wrapper/crates/$crate/src"; done
+    for crate in low left right high tpmtool; do mkdir -p "$wrapper/crates/$crate/src"; done
     : >"$wrapper/calls"
     wrapped --build show
 }
-printf 'tpm_buffer:\ntpm_check: tpm_buffer\ntpm_show: tpm_buffer\ntpm_device: tpm_buffer\ntpm_args: tpm_buffer\ntpmtool: tpm_check tpm_show tpm_device tpm_args\n' >"$wrapper/crates.txt"
+printf 'low:\nleft: low\nright: low\nhigh staticlib: left right\ntpmtool: high\n' >"$wrapper/crates.txt"
 wants '<show>' "in $wrapper/elsewhere" given
-side_by_side
-says "the wrapper proves crates side by side at the first build" 3 1 0
-name="the wrapper brings what was proved in a copy, and leaves no copy"
-if [ "$(cd "$wrapper/crates" && cat tpm_buffer/out/proved tpm_check/out/proved tpm_show/out/proved tpm_device/out/proved tpm_args/out/proved | sed "s|^$wrapper/crates/||")" = "\
-tpm_buffer
-tpmtool/out/copies/tpm_check/crates/tpm_check
-tpmtool/out/copies/tpm_show/crates/tpm_show
-tpm_device
-tpmtool/out/copies/tpm_args/crates/tpm_args" ] && [ ! -e "$wrapper/crates/tpmtool/out/copies" ]; then
+from_nothing
+says "the wrapper proves crate after crate at the first build" 3 1 0
+name="the wrapper proves each crate in a copy, over those below it, brings what was proved and leaves no copy"
+sed "s|^$wrapper/crates/tpmtool/out/copies/||" "$wrapper"/crates/*/out/rlib/proved >"$wrapper/out"
+wants 'high/crates/high, over left low right ' 'left/crates/left, over low ' 'low/crates/low, over' 'right/crates/right, over low '
+if cmp -s "$wrapper/out" "$wrapper/wanted" && [ ! -e "$wrapper/crates/tpmtool/out/copies" ]; then
     pass "$name"
 else
-    fail "$name" "$(cat "$wrapper"/crates/*/out/proved; ls "$wrapper/crates/tpmtool/out")"
+    fail "$name" "$(cat "$wrapper/out"; ls "$wrapper/crates/tpmtool/out")"
 fi
-wants '<show>' "in $wrapper/elsewhere" given
-UNPROVED=tpm_check
+UNPROVED=right
 export UNPROVED
-side_by_side
+from_nothing
 unset UNPROVED
-name="the wrapper leaves a crate that fails in its copy to the build"
-if [ "$status" -eq 3 ] && [ ! -e "$wrapper/crates/tpm_check/out" ] && [ -e "$wrapper/crates/tpm_args/out/proved" ]; then
+name="the wrapper stops at a crate that is not proved, and says why"
+if [ "$status" -eq 126 ] && grep -q '^what a proof of right says' "$wrapper/err" && ! grep -q ' run ' "$wrapper/calls" &&
+    [ ! -e "$wrapper/crates/high/out" ] && [ ! -e "$wrapper/crates/tpmtool/out/copies" ] && [ -z "$(ls "$wrapper/tmp")" ]; then
     pass "$name"
 else
     fail "$name" "status $status: $(cat "$wrapper/err")"
