@@ -4,7 +4,7 @@ use Rattle.std.specs.List.{concat}
 use Rattle.std.proofs.lemmas.List.{take-take, nil_from_length}
 use Rattle.std.proofs.lemmas.List.Elements.{All-nil, All-push}
 use Rattle.std.proofs.lemmas.List.Folds.{concat-append}
-use Rattle.tpm_buffer.specs.Frames.{IsFrame, IsPart, BeginsNoFrame, Frames}
+use Rattle.tpm_stream.specs.Frames.{IsFrame, IsPart, BeginsNoFrame, Frames}
 
 -- They are written one after the other. Behind them in the stream is what is held, and then what is left.
 pub record Came (stream held left out : List ℕ) (written : ℕ) : Type 0 where

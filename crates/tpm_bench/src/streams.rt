@@ -5,7 +5,7 @@ ghost use Rattle.std.specs.List.{concat};
 ghost use Rattle.std.specs.Io.{ReadsAtMost};
 ghost use Rattle.std.specs.Io.KnownBytes.{ReadConsumes};
 ghost use Rattle.tpm_wire.specs.Sources.{CountsFailures, IsWhereItFailed};
-ghost use Rattle.tpm_buffer.specs.Frames.{IsFrame, Frames};
+ghost use Rattle.tpm_stream.specs.Frames.{IsFrame, Frames};
 
 use crate::out::append;
 use tpm_buffer::{Framer, Status, read_frame, read_frame_into};

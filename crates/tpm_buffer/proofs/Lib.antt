@@ -11,6 +11,3 @@ pub mod ReadSessions
 pub mod Answered
 pub mod Parted
 pub mod Canonical
-pub mod Framed
-pub mod Filled
-pub mod Streamed

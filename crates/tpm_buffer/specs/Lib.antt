@@ -10,6 +10,3 @@ pub mod Replies
 pub mod Responses
 pub mod ResponseAreas
 pub mod Events
-pub mod Frames
-pub mod Reads
-pub mod Streams

@@ -5,7 +5,7 @@ use Rattle.std.specs.Io.KnownBytes.{Consumes, IsAtEnd}
 use Rattle.std.proofs.lemmas.Bool.{cases_order, lt-ltb}
 use Rattle.std.proofs.lemmas.List.{append-nil, map-append, take_all, take-append-le}
 use Rattle.std.proofs.lemmas.List.Elements.{filter-append}
-use Rattle.tpm_buffer.proofs.Filled.{consumes_both}
+use Rattle.tpm_stream.proofs.Filled.{consumes_both}
 use Rattle.tpm_wire.specs.Buffers.{buffer}
 use Rattle.tpm_wire.specs.Path.{Spells}
 use Rattle.tpm_wire.proofs.Buffers.{buffer_sound}

@@ -5,10 +5,10 @@ use Rattle.std.specs.Io.KnownBytes.{Appends, Consumes, IsAtEnd}
 use Rattle.std.proofs.lemmas.List.{append-nil, map-append}
 use Rattle.std.proofs.lemmas.List.Elements.{All-nil, All-push}
 use Rattle.std.proofs.lemmas.List.Folds.{concat-append}
-use Rattle.tpm_buffer.specs.Frames.{IsFrame, IsBroken, BeginsNoFrame, Frames}
-use Rattle.tpm_buffer.proofs.Filled.{consumes_both}
-use Rattle.tpm_buffer.proofs.Framed.{stated_more}
-use Rattle.tpm_buffer.proofs.Streamed.{broken_begins}
+use Rattle.tpm_stream.specs.Frames.{IsFrame, IsBroken, BeginsNoFrame, Frames}
+use Rattle.tpm_stream.proofs.Filled.{consumes_both}
+use Rattle.tpm_stream.proofs.Framed.{stated_more}
+use Rattle.tpm_stream.proofs.Streamed.{broken_begins}
 use Rattle.tpm_text.specs.declared.status.Status.{Status}
 use Rattle.tpm_show.specs.declared.telling.Telling.{Telling}
 use Rattle.tpm_text.specs.declared.status.Status.TheVariants.{Done, Refused}

@@ -3,7 +3,7 @@ use Rattle.std.specs.Prelude.{◌≡◌, ℕ, ◌+◌, ◌<◌, ◌⊎◌, Bool,
 use Rattle.std.specs.List.{concat}
 use Rattle.std.specs.Fmt.{decimal}
 use Rattle.std.specs.Io.KnownBytes.{Consumes, IsAtEnd}
-use Rattle.tpm_buffer.specs.Frames.{Frames, IsPart, IsBroken}
+use Rattle.tpm_stream.specs.Frames.{Frames, IsPart, IsBroken}
 use Rattle.tpm_text.specs.declared.status.Status.{Status}
 use Rattle.tpm_show.specs.declared.telling.Telling.{Telling}
 use Rattle.tpm_text.specs.declared.status.Status.TheVariants.{Done, Refused}

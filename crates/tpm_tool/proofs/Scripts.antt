@@ -10,7 +10,7 @@ use Rattle.tpm_model.specs.Steps.{History, Origin, PowerCycle}
 use Rattle.tpm_model.specs.Answers.{answer, next}
 use Rattle.tpm_model.specs.Runs.{Event, Given, Cycled, after, run}
 use Rattle.tpm_model.proofs.Runs.{after-append}
-use Rattle.tpm_buffer.proofs.Filled.{consumes_both}
+use Rattle.tpm_stream.proofs.Filled.{consumes_both}
 use Rattle.tpm_device.specs.declared.device.Device.{Device}
 use Rattle.tpm_tool.specs.declared.script.Run.{Run}
 use Rattle.tpm_text.specs.declared.status.Status.{Status}

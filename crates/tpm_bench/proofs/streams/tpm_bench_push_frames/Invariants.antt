@@ -1,5 +1,5 @@
 use Rattle.std.proofs.Common.{◌≡◌, length}
-use Rattle.tpm_buffer.specs.Frames.{IsPart}
+use Rattle.tpm_stream.specs.Frames.{IsPart}
 use Rattle.tpm_bench.proofs.Came.{Came}
 use Rattle.tpm_bench.proofs.streams.tpm_bench_push_frames.Given as goal
 

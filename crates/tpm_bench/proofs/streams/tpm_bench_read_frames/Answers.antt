@@ -1,5 +1,5 @@
 use Rattle.std.proofs.Common.{◌≡◌, ◌+◌, ◌++◌, ℕ, List, [], Some, Ok, length, take, ap, sym, subst, ◌∙◌}
-use Rattle.tpm_buffer.specs.Reads.{ReadsFrame}
+use Rattle.tpm_stream.specs.Reads.{ReadsFrame}
 use Rattle.tpm_bench.proofs.Came.{Came, more, frame}
 use Rattle.tpm_bench.proofs.streams.tpm_bench_read_frames.Goals as goal
 

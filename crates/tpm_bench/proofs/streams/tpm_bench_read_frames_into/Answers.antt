@@ -1,5 +1,5 @@
 use Rattle.std.proofs.Common.{◌≡◌, ◌+◌, ◌++◌, ℕ, List, [], Bool, Some, Ok, length, take, ap, sym, subst, ◌∙◌}
-use Rattle.tpm_buffer.specs.Reads.{ReadsInto}
+use Rattle.tpm_stream.specs.Reads.{ReadsInto}
 use Rattle.tpm_bench.proofs.Came.{Came, more, frame}
 use Rattle.tpm_bench.proofs.streams.tpm_bench_read_frames_into.Goals as goal
 

@@ -1,7 +1,7 @@
 -- `tpm_framer_frame` meets its contract: the framer is lent to `frame`, with the room.
 use Rattle.tpm_c.proofs.Steps.{◌≡◌, [], ◌∷◌, refl, w64, full_share, named, id⊢, Valss, ‵, ◌$◌, ◌∵◌, !, qed, done, whole, sub, agg, addr, stop, of_opd, fld, hop, from, and_then, no_more, returns, enter, alloc_all, pass_all, free_all, look_at, look_in_at, through, get, get_in, sets, lands_as, WpFn, uint_Lawful, u8, mut_vals, mut_slice_vals, mut_slice_Tells, Ptr, block_ptr, rawptr_vals, rawptr_Tells, types_at, triple_of, walk_of, lasts_of, tables, proved, framed}
 use Rattle.tpm_c.proofs.Lending.{stayed, goes, others, entry, in_block, becomes, lent}
-use Rattle.tpm_buffer.specs.contracts.framer.Framer.{the_row}
+use Rattle.tpm_stream.specs.contracts.framer.Framer.{the_row}
 use Rattle.tpm_c.specs.Framers.{framer_at, FrameIn}
 use Rattle.tpm_c.specs.contracts.framer.frame as of
 use Rattle.tpm_c.proofs.framer.frame.Met.{met}

@@ -1,10 +1,10 @@
 -- `tpm_framer_init` meets its contract: the room is written, and what lies there is a framer that holds nothing.
 use Rattle.tpm_c.proofs.Steps.{◌≡◌, [], ◌∷◌, refl, vunit, id⊢, emp, emp∗, ftrue, ‵, ◌$◌, ◌∵◌, !, qed, by, move, done, feq_i, alive, init, stop, of_opd, unit_lit, assigns, no_more, returns, enter, alloc_all, pass_all, free_all, look_at, through, get, sets, lands_as, WpFn, Ptr, block_ptr, room_at, rawptr_vals, rawptr_Tells, triple_of, walk_of, tables, proved, framed}
 use Rattle.tpm_c.proofs.Lending.{stayed, goes, entry, in_block, is_this, made, makes}
-use Rattle.tpm_buffer.specs.contracts.framer.Framer.{the_row}
-use Rattle.tpm_buffer.proofs.framer.Framer.TheLaws.{the_row_laws}
-use Rattle.tpm_buffer.specs.contracts.framer.Framer.new as of
-use Rattle.tpm_buffer.proofs.framer.Framer.new.Met.{met}
+use Rattle.tpm_stream.specs.contracts.framer.Framer.{the_row}
+use Rattle.tpm_stream.proofs.framer.Framer.TheLaws.{the_row_laws}
+use Rattle.tpm_stream.specs.contracts.framer.Framer.new as of
+use Rattle.tpm_stream.proofs.framer.Framer.new.Met.{met}
 use Rattle.tpm_c.specs.contracts.framer.tpm_framer_init as f
 use Rattle.tpm_c.proofs.framer.tpm_framer_init.Statement as stated
 use Rattle.tpm_c.proofs.framer.tpm_framer_init.Code as code
@@ -21,7 +21,7 @@ tpm_framer_init_spec 𝓤 𝓛 𝓜 𝓡 wired =
     -- place as *mut Framer
     sets ! (of_opd ! (get ! refl)) refl (tt, tt) $ move ! (1 ∷ []) $
     made ! (framed 𝓤 𝓛.H 𝓜 𝓣) the_row (the_row_laws.lawful 𝓛) (alive 𝓛 f.signature κs qs) (λ (us : Unit {0}). ftrue) (λ x. x ≡ [])
-    (triple_of 𝓛 of.signature (of.spec 𝓛 𝓜.mem 𝓡.returns)) (met 𝓤 𝓛 𝓜 𝓡 (code.calls-tpm_buffer::framer::Framer::new 𝓡.env wired)) ((tt, tt, tt, tt, tt), tt) (id⊢ 𝓤 _) (λ v. id⊢ 𝓤 _) (no_more !)
+    (triple_of 𝓛 of.signature (of.spec 𝓛 𝓜.mem 𝓡.returns)) (met 𝓤 𝓛 𝓜 𝓡 (code.calls-tpm_stream::framer::Framer::new 𝓡.env wired)) ((tt, tt, tt, tt, tt), tt) (id⊢ 𝓤 _) (λ v. id⊢ 𝓤 _) (no_more !)
     (λ v x e wt. lands_as ! refl refl wt.0 $ assigns ! (of_opd ! (get ! refl)) (through ! refl (stop !)) (init ! 2 refl wt.0) $
     sets ! (of_opd ! (unit_lit !)) refl (tt, tt) $ returns ! (look_at ! 0 refl) $ free_all ! refl $
     by ! (makes 𝓛 f.ended c (y (block_ptr b o)) vunit tt (tt, tt) the_row refl x b o v (emp∗ 𝓤 (emp 𝓤)) (qed 𝓛 [] ∵ feq_i ! _ (vunit ∷ []) _ refl $ done !) (is_this 𝓛 the_row b o e))))) a.0)

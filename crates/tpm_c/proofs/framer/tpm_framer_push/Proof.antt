@@ -1,9 +1,9 @@
 -- `tpm_framer_push` meets its contract: the framer is lent to `push`.
 use Rattle.tpm_c.proofs.Steps.{◌≡◌, ℕ, List, [], ◌∷◌, refl, w64, full_share, named, id⊢, Valss, ‵, ◌$◌, ◌∵◌, !, qed, done, addr, stop, of_opd, and_then, no_more, returns, enter, alloc_all, pass_all, free_all, look_at, through, get, sets, lands_as, WpFn, uint_Lawful, u8, u32, mut_vals, mut_Tells, shr_slice_vals, shr_slice_Tells, Ptr, block_ptr, rawptr_vals, rawptr_Tells, types_at, triple_of, walk_of, lasts_of, tables, proved, framed}
 use Rattle.tpm_c.proofs.Lending.{stayed, goes, others, entry, in_block, is_one, lent}
-use Rattle.tpm_buffer.specs.contracts.framer.Framer.{the_row}
-use Rattle.tpm_buffer.specs.Frames.{Pushes}
-use Rattle.tpm_buffer.specs.declared.framer.Status.{Status}
+use Rattle.tpm_stream.specs.contracts.framer.Framer.{the_row}
+use Rattle.tpm_stream.specs.Frames.{Pushes}
+use Rattle.tpm_stream.specs.declared.framer.Status.{Status}
 use Rattle.tpm_c.specs.Framers.{framer_at, status_number}
 use Rattle.tpm_c.specs.contracts.framer.push as of
 use Rattle.tpm_c.proofs.framer.push.Met.{met}

@@ -2,9 +2,9 @@ use Rattle.std.proofs.Common.{ℕ, List, Bool, length, ◌+◌, ◌++◌, Ok, Er
 use Rattle.std.specs.List.{concat}
 use Rattle.std.specs.Io.KnownBytes.{Appends}
 use Rattle.std.proofs.lemmas.Result.{IfOk-weaker}
-use Rattle.tpm_buffer.specs.declared.reader.ReadFault.{ReadFault}
-use Rattle.tpm_buffer.specs.Reads.{ReadsInto}
-use Rattle.tpm_buffer.proofs.Filled.{consumes_both, consumes_none}
+use Rattle.tpm_stream.specs.declared.reader.ReadFault.{ReadFault}
+use Rattle.tpm_stream.specs.Reads.{ReadsInto}
+use Rattle.tpm_stream.proofs.Filled.{consumes_both, consumes_none}
 use Rattle.tpm_show.specs.Capture.{Frame}
 use Rattle.tpm_show.specs.Capturing.{Streams, Tells}
 use Rattle.tpm_text.proofs.Joins.{joins_appends}

@@ -2,7 +2,7 @@ use Rattle.std.proofs.Common.{◌≡◌, [], take, refl, sym, ◌∙◌, arith, 
 use Rattle.std.proofs.lemmas.List.{take-append-le}
 use Rattle.std.proofs.lemmas.Result.{IfOk-weaker}
 use Rattle.std.specs.Io.KnownBytes.{Appends, Consumes}
-use Rattle.tpm_buffer.proofs.Filled.{consumes_both}
+use Rattle.tpm_stream.proofs.Filled.{consumes_both}
 use Rattle.tpm_text.specs.declared.status.Status.TheVariants.{Done, Refused}
 use Rattle.tpm_tool.specs.Progress.{StandsAt, IsOpen, place}
 use Rattle.tpm_text.proofs.Joins.{joins_appends}

@@ -1,5 +1,0 @@
-use Rattle.tpm_buffer.proofs.Streamed.{some_of_pieces, of_pieces, one_of_pieces, rest_of_pieces}
-use Rattle.tpm_buffer.proofs.stream_laws.frames_of_pieces.Goals as goal
-
-pub returns : goal.returns
-returns c = record { some = some_of_pieces; frames = of_pieces; cut = one_of_pieces; rest = rest_of_pieces }
