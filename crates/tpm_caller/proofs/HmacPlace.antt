@@ -80,23 +80,7 @@ parts body a =
 
 handles_long : (body : CommandBody) → length (handle_bytes body) ≡ 4 * length (handles_of body)
 handles_long (bodies.NvUndefineSpace index) = refl
-handles_long (bodies.NvDefineSpace auth public) = refl
-handles_long (bodies.NvIncrement by index) = refl
-handles_long (bodies.PcrEvent register event) = refl
-handles_long (bodies.PcrReset register) = refl
-handles_long (bodies.Startup kind) = refl
-handles_long (bodies.NvRead by index size offset) = refl
-handles_long (bodies.FlushContext session) = refl
-handles_long (bodies.NvReadPublic index) = refl
-handles_long (bodies.PolicyAuthValue session) = refl
-handles_long (bodies.PolicyCommandCode session code) = refl
-handles_long (bodies.PolicyOr session digests) = refl
-handles_long (bodies.StartAuthSession start) = refl
-handles_long (bodies.PcrRead selected) = refl
-handles_long (bodies.PolicyPcr session digest selected) = refl
-handles_long (bodies.PolicyRestart session) = refl
-handles_long (bodies.PcrExtend register digests) = refl
-handles_long (bodies.PolicyGetDigest session) = refl
+handles_long _ = refl
 
 header_long : (h : Header) → length (spelling header h) ≡ 10
 unfolding header tag command_size command_code

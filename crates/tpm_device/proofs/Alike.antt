@@ -76,17 +76,7 @@ value_after o h (bodies.NvDefineSpace auth public) reply n handle needs owner = 
 value_after o h (bodies.NvUndefineSpace index) reply n handle needs owner = owners_value (is_pcr handle) (is_owner handle) (is_nv_index handle) o.owner _ _ (owner refl)
 value_after o h (bodies.NvIncrement by index) reply n handle needs owner =
     same_value (is_pcr handle) (is_owner handle) (is_nv_index handle) o.owner _ _ (value_stays index (nv_memory o h).greatest handle (nv_memory o h).counters)
-value_after o h (bodies.Startup kind) reply n handle needs owner = absurd (cc)
-value_after o h (bodies.PcrRead sels) reply n handle needs owner = absurd (cc)
-value_after o h (bodies.StartAuthSession start) reply n handle needs owner = absurd (cc)
-value_after o h (bodies.FlushContext session) reply n handle needs owner = absurd (cc)
-value_after o h (bodies.PolicyPcr session d sels) reply n handle needs owner = absurd (cc)
-value_after o h (bodies.PolicyOr session ds) reply n handle needs owner = absurd (cc)
-value_after o h (bodies.PolicyCommandCode session code) reply n handle needs owner = absurd (cc)
-value_after o h (bodies.PolicyAuthValue session) reply n handle needs owner = absurd (cc)
-value_after o h (bodies.PolicyRestart session) reply n handle needs owner = absurd (cc)
-value_after o h (bodies.PolicyGetDigest session) reply n handle needs owner = absurd (cc)
-value_after o h (bodies.NvReadPublic index) reply n handle needs owner = absurd (cc)
+value_after o h _ reply n handle needs owner = absurd (cc)
 
 -- A device that has acted authorizes as before.
 pub alike : (o : Origin) (h : History) (old new : Device) (body : CommandBody) (reply : ReplyBody) (n : List ℕ) (handle : ℕ) → Stands o h old → Stands o (step_of body reply n ∷ h) new

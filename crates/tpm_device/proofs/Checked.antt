@@ -48,22 +48,7 @@ owner_first kinds h x e =
 pub owner_read : (code : CommandCode) (h : Here) (ns : List ℕ) (g : Here) → read 0 (handles code) h ≡ Ok (ns, g) → owner_authorizes code ≡ true → is_owner (first ns) ≡ true
 owner_read codes.NvDefineSpace h ns g e is = owner_first [] h (ns, g) e
 owner_read codes.NvUndefineSpace h ns g e is = owner_first (Index ∷ []) h (ns, g) e
-owner_read codes.NvIncrement h ns g e is = absurd (cc)
-owner_read codes.PcrEvent h ns g e is = absurd (cc)
-owner_read codes.PcrReset h ns g e is = absurd (cc)
-owner_read codes.Startup h ns g e is = absurd (cc)
-owner_read codes.NvRead h ns g e is = absurd (cc)
-owner_read codes.FlushContext h ns g e is = absurd (cc)
-owner_read codes.NvReadPublic h ns g e is = absurd (cc)
-owner_read codes.PolicyAuthValue h ns g e is = absurd (cc)
-owner_read codes.PolicyCommandCode h ns g e is = absurd (cc)
-owner_read codes.PolicyOr h ns g e is = absurd (cc)
-owner_read codes.StartAuthSession h ns g e is = absurd (cc)
-owner_read codes.PcrRead h ns g e is = absurd (cc)
-owner_read codes.PolicyPcr h ns g e is = absurd (cc)
-owner_read codes.PolicyRestart h ns g e is = absurd (cc)
-owner_read codes.PcrExtend h ns g e is = absurd (cc)
-owner_read codes.PolicyGetDigest h ns g e is = absurd (cc)
+owner_read _ h ns g e is = absurd (cc)
 
 -- ---- the sessions
 

@@ -59,17 +59,7 @@ sessions_stay o h (bodies.NvDefineSpace auth public) reply n needs = refl
 sessions_stay o h (bodies.NvUndefineSpace index) reply n needs = refl
 sessions_stay o h (bodies.NvIncrement by index) reply n needs = refl
 sessions_stay o h (bodies.NvRead by index size offset) reply n needs = refl
-sessions_stay o h (bodies.Startup kind) reply n needs = absurd (cc)
-sessions_stay o h (bodies.PcrRead sels) reply n needs = absurd (cc)
-sessions_stay o h (bodies.StartAuthSession start) reply n needs = absurd (cc)
-sessions_stay o h (bodies.FlushContext handle) reply n needs = absurd (cc)
-sessions_stay o h (bodies.PolicyPcr handle d sels) reply n needs = absurd (cc)
-sessions_stay o h (bodies.PolicyOr handle ds) reply n needs = absurd (cc)
-sessions_stay o h (bodies.PolicyCommandCode handle code) reply n needs = absurd (cc)
-sessions_stay o h (bodies.PolicyAuthValue handle) reply n needs = absurd (cc)
-sessions_stay o h (bodies.PolicyRestart handle) reply n needs = absurd (cc)
-sessions_stay o h (bodies.PolicyGetDigest handle) reply n needs = absurd (cc)
-sessions_stay o h (bodies.NvReadPublic index) reply n needs = absurd (cc)
+sessions_stay o h _ reply n needs = absurd (cc)
 
 -- A command with these sessions leaves the device where it leaves it without them, if the sessions are those of the history with them.
 pub with_sessions : (o : Origin) (h : History) (old new : Device) (body : CommandBody) (reply : ReplyBody) (auths : List Auth) (replied : List AuthReply) (n : List ℕ)

@@ -5,12 +5,12 @@ use Rattle.tpm_wire.specs.Buffers.{Layout}
 use Rattle.tpm_wire.specs.Layout.{either}
 use Rattle.tpm_wire.specs.ResponseCodes.{rc_reserved_bits, rc_value}
 use Rattle.tpm_types.specs.Alg.{hash}
-use Rattle.tpm_types.specs.Constants.{startup_type, session_type}
-use Rattle.tpm_types.specs.Handles.{session, auth_session, nv_index, is_session, is_auth_session, is_nv_index}
+use Rattle.tpm_types.specs.Constants.{session_type}
+use Rattle.tpm_types.specs.Handles.{auth_session, nv_index, is_auth_session, is_nv_index}
 use Rattle.tpm_types.specs.Limits.{digest_bytes, banks, public_bytes}
 use Rattle.tpm_types.specs.Tpma.{session_attrs, nv_attrs, is_session_attrs, is_nv_attrs}
-use Rattle.tpm_types.specs.Tpm2b.{digest, encrypted_salt}
-use Rattle.tpm_types.specs.Tpml.{selections, most_digests}
+use Rattle.tpm_types.specs.Tpm2b.{encrypted_salt}
+use Rattle.tpm_types.specs.Tpml.{selections}
 use Rattle.tpm_types.specs.Tpms.{selection, auth_command, nv_public_area, nv_public}
 use Rattle.tpm_types.specs.Tpmt.{digest_value, algorithm, key_bits, mode, sym_def}
 use Rattle.tpm_buffer.specs.declared.command_handles.HandleKind.{HandleKind}
@@ -18,8 +18,7 @@ use Rattle.tpm_buffer.specs.declared.code.CommandCode.{CommandCode}
 use Rattle.tpm_buffer.specs.declared.code.CommandCode.TheVariants as codes
 use Rattle.tpm_buffer.specs.Codes.{command_code}
 use Rattle.tpm_buffer.specs.Handles.{admits, handles_from, handles, handle_kinds}
-use Rattle.tpm_buffer.specs.Parameters.{parameters, nv_define_space, startup, nv_read, flush_context, policy_command_code, policy_or, start_auth_session, pcr_read, policy_pcr, pcr_extend, pcr_event}
-use Rattle.tpm_buffer.specs.Events.{event_bytes}
+use Rattle.tpm_buffer.specs.Parameters.{parameters, start_auth_session}
 use Rattle.tpm_buffer.specs.Commands.{tag, command_size, header, sessions, authorization_size, authorization}
 use Rattle.tpm_model.proofs.Nonzero.{IsCoded, coded_in, coded_number, coded_sized_bytes, coded_sized, coded_counted}
 
@@ -69,7 +68,7 @@ coded_selection : IsCoded selection
 unfolding selection
 coded_selection = (coded_hash, λ alg. (coded_in 1 _ rc_value (omega arith, omega arith), λ n. (λ bytes. tt, λ select. tt)))
 
-coded_digest_value : IsCoded digest_value
+pub coded_digest_value : IsCoded digest_value
 unfolding digest_value
 coded_digest_value = (coded_hash, λ alg. (λ bytes. tt, λ d. tt))
 
@@ -81,15 +80,15 @@ coded_sym_def = (
       (coded_number _ rc_value (omega arith, omega arith), λ bits. (coded_in 2 _ 0x089 (omega arith, omega arith), λ m. tt)) (coded_hash, λ alg. tt)),
 )
 
-coded_public : IsCoded nv_public
+pub coded_public : IsCoded nv_public
 unfolding nv_public nv_public_area nv_index nv_attrs
 coded_public = coded_sized public_bytes nv_public_area
     (coded_in 4 is_nv_index rc_value (omega arith, omega arith), λ index. (coded_hash, λ alg. (coded_in 4 is_nv_attrs rc_reserved_bits (omega arith, omega arith), λ attrs. (coded_sized_bytes digest_bytes, λ policy. (λ left n. tt, λ data_size. tt)))))
 
-coded_selections : IsCoded selections
+pub coded_selections : IsCoded selections
 coded_selections = coded_counted 0 banks selection coded_selection
 
-coded_start : IsCoded start_auth_session
+pub coded_start : IsCoded start_auth_session
 unfolding start_auth_session encrypted_salt session_type
 coded_start = (
   (omega arith, coded_sized_bytes digest_bytes),
@@ -102,19 +101,3 @@ coded_start = (
     ),
   ),
 )
-
-pub coded_parameters : (code : CommandCode) → IsCoded (parameters code)
-unfolding nv_define_space startup startup_type nv_read flush_context session policy_command_code policy_or pcr_read policy_pcr pcr_extend pcr_event
-coded_parameters codes.NvDefineSpace = ((omega arith, coded_sized_bytes digest_bytes), λ auth. ((omega arith, coded_public), λ public. tt))
-coded_parameters codes.Startup = ((omega arith, coded_number _ rc_value (omega arith, omega arith)), λ kind. tt)
-coded_parameters codes.NvRead = ((omega arith, λ left n. tt), λ size. ((omega arith, λ left n. tt), λ offset. tt))
-coded_parameters codes.FlushContext = ((omega arith, coded_in 4 is_session rc_value (omega arith, omega arith)), λ handle. tt)
-coded_parameters codes.PolicyCommandCode = ((omega arith, λ left n. tt), λ code. tt)
-coded_parameters codes.PolicyOr = ((omega arith, coded_counted 2 most_digests digest (coded_sized_bytes digest_bytes)), λ digests. tt)
-coded_parameters codes.StartAuthSession = coded_start
-coded_parameters codes.PcrRead = ((omega arith, coded_selections), λ selected. tt)
-coded_parameters codes.PolicyPcr = ((omega arith, coded_sized_bytes digest_bytes), λ d. ((omega arith, coded_selections), λ selected. tt))
-coded_parameters codes.PcrExtend = ((omega arith, coded_counted 0 banks digest_value coded_digest_value), λ digests. tt)
-coded_parameters codes.PcrEvent = ((omega arith, coded_sized_bytes event_bytes), λ event. tt)
-coded_parameters codes.NvUndefineSpace = tt
-coded_parameters _ = tt

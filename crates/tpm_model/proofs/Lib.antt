@@ -9,6 +9,7 @@ pub mod Replay
 pub mod Again
 pub mod Nonzero
 pub mod Coded
+pub mod EachCommand
 pub mod Refused
 pub mod Told
 pub mod Sealing

@@ -12,11 +12,10 @@ use Rattle.tpm_wire.specs.ResponseCodes.{rc_auth_context, rc_auth_missing}
 use Rattle.tpm_wire.proofs.Agreement.{bind_ok}
 use Rattle.tpm_types.specs.declared.tpms.Auth.{Auth}
 use Rattle.tpm_buffer.specs.declared.code.CommandCode.{CommandCode}
-use Rattle.tpm_buffer.specs.declared.code.CommandCode.TheVariants as codes
 use Rattle.tpm_buffer.specs.declared.command_parameters.Params.{Params}
 use Rattle.tpm_buffer.specs.declared.command_parameters.Params.TheVariants as params
 use Rattle.tpm_buffer.specs.Handles.{needs_authorization}
-use Rattle.tpm_buffer.specs.Parameters.{nv_define_space, startup, nv_read, flush_context, policy_command_code, policy_or, start_auth_session, pcr_read, policy_pcr, pcr_extend, parameters, params_code, pcr_event}
+use Rattle.tpm_buffer.specs.Parameters.{parameters, params_code}
 use Rattle.tpm_buffer.specs.Commands.{sessions, authorization_size, authorization, body_from, code_for}
 use Rattle.tpm_model.specs.Present.{Present}
 use Rattle.tpm_model.specs.Authorization.{refuse as test}
@@ -25,13 +24,9 @@ use Rattle.tpm_model.proofs.Accepted.{Passed}
 use Rattle.tpm_model.proofs.Spelled.{was_read, code_ok}
 use Rattle.tpm_model.proofs.Sealing.{okay, okay_is}
 use Rattle.tpm_model.proofs.ReplySessions.{finished}
+use Rattle.tpm_model.proofs.EachCommand.{Ends, own_params}
 
 -- ---- what a layout ends with
-
-Ends : {A : Type 0} → (A → Type 0) → Layout A → Type 0
-Ends P (done x) = P x
-Ends P (field get l f) = (y : _) → Ends P (f y)
-Ends P _ = ⊥
 
 ends : {A : Type 0} (P : A → Type 0) (mark : ℕ) (l : Layout A) (h : Here) (x : A × Here) → Ends P l → read mark l h ≡ Ok x → P x.0
 unfolding Ends
@@ -45,21 +40,6 @@ ends P mark (area n fault l) h x p e = absurd p
 ends P mark (list most stops l) h x p e = absurd p
 ends P mark (by_left f) h x p e = absurd p
 ends P mark (marked n l) h x p e = absurd p
-
-own_params : (code : CommandCode) → Ends (λ p. params_code p ≡ code) (parameters code)
-unfolding Ends nv_define_space startup nv_read flush_context policy_command_code policy_or start_auth_session pcr_read policy_pcr pcr_extend pcr_event
-own_params codes.NvDefineSpace = λ auth public. refl
-own_params codes.Startup = λ kind. refl
-own_params codes.NvRead = λ size offset. refl
-own_params codes.FlushContext = λ handle. refl
-own_params codes.PolicyCommandCode = λ code. refl
-own_params codes.PolicyOr = λ digests. refl
-own_params codes.StartAuthSession = λ nonce salt kind symmetric alg. refl
-own_params codes.PcrRead = λ selected. refl
-own_params codes.PolicyPcr = λ d selected. refl
-own_params codes.PcrExtend = λ digests. refl
-own_params codes.PcrEvent = λ event. refl
-own_params _ = refl
 
 params_are : (code : CommandCode) (bytes : List ℕ) (p : Params) → read_all (parameters code) bytes ≡ Ok p → params_code p ≡ code
 params_are code bytes p e =

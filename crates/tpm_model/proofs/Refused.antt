@@ -1,77 +1,32 @@
 -- What is not done is refused with a code.
-use Rattle.std.proofs.Common.{◌≡◌, ℕ, suc, ◌+◌, ◌<◌, List, [], ◌∷◌, length, Result, Ok, Err, Option, Some, None, Bool, true, false, not, refl, sym, ap, ◌∙◌, subst, arith}
-use Rattle.std.specs.Prelude.{◌^◌, ◌&&◌, ◌||◌, if◌then◌else◌, ok_or, is_some, ◌==◌, nat_lt, nat_le, bytes_eq, take, drop}
-use Rattle.std.specs.Int.{w64, to_be_bytes}
+use Rattle.std.proofs.Common.{◌≡◌, ℕ, suc, ◌+◌, ◌<◌, List, [], ◌∷◌, length, Result, Ok, Err, Option, Some, None, Bool, true, false, not, sym, ap, ◌∙◌, subst, arith}
+use Rattle.std.specs.Prelude.{if◌then◌else◌, ◌==◌}
 use Rattle.tpm_wire.specs.declared.refusal.Refusal.{Refusal}
 use Rattle.tpm_wire.specs.Buffers.{Layout, number_in, numbered}
 use Rattle.tpm_wire.specs.Token.{Here, at_start}
 use Rattle.tpm_wire.specs.Reading.{read, read_all, ◌>>=◌}
 use Rattle.tpm_wire.specs.ResponseCodes.{rc_value, of_handle}
 use Rattle.tpm_wire.proofs.Agreement.{bind_ok}
-use Rattle.tpm_types.specs.declared.constants.StartupType.TheVariants.{Clear, State}
-use Rattle.tpm_types.specs.declared.handle_sets.PcrOrNull.TheVariants as registers
-use Rattle.tpm_types.specs.declared.constants.StartupType.{StartupType}
-use Rattle.tpm_types.specs.declared.handle_sets.PcrOrNull.{PcrOrNull}
-use Rattle.tpm_types.specs.declared.handle_sets.NvAuthHandle.{NvAuthHandle}
 use Rattle.tpm_types.specs.declared.tpms.Auth.{Auth}
-use Rattle.tpm_types.specs.declared.tpms.NvPublic.{NvPublic}
-use Rattle.tpm_types.specs.Alg.{digest_len}
 use Rattle.tpm_types.specs.Handles.{rs_pw, is_policy, is_nv_index}
-use Rattle.tpm_types.specs.Tpma.{no_da, audits_or_encrypts, owner_writes, owner_reads}
+use Rattle.tpm_types.specs.Tpma.{no_da, audits_or_encrypts}
 use Rattle.tpm_buffer.specs.declared.command_handles.HandleKind.{HandleKind}
 use Rattle.tpm_buffer.specs.declared.code.CommandCode.{CommandCode}
 use Rattle.tpm_buffer.specs.declared.code.CommandCode.TheVariants as codes
-use Rattle.tpm_buffer.specs.declared.command.CommandBody.{CommandBody}
-use Rattle.tpm_buffer.specs.declared.command.CommandBody.TheVariants as bodies
-use Rattle.tpm_buffer.specs.declared.command.StartAuth.{StartAuth}
-use Rattle.tpm_buffer.specs.declared.response.ReplyBody.{ReplyBody}
 use Rattle.tpm_buffer.specs.Codes.{code_number}
 use Rattle.tpm_buffer.specs.Handles.{admits, first, handle_kinds, handles_from, handles, needs_authorization}
 use Rattle.tpm_buffer.specs.Parameters.{parameters}
 use Rattle.tpm_buffer.specs.Commands.{header, authorization, body_from}
-use Rattle.tpm_hmac.specs.Sessions.{trim}
-use Rattle.tpm_model.specs.Sessions.{Session, is_hmac, is_trial, loaded, free_slot}
-use Rattle.tpm_model.specs.Counters.{Counter, counter_in, next_value}
+use Rattle.tpm_model.specs.Sessions.{Session, is_hmac, loaded}
 use Rattle.tpm_model.specs.Present.{Present}
 use Rattle.tpm_model.specs.Entities.{Entity, Register, Index, entity_of, names_of}
-use Rattle.tpm_model.specs.Authorization.{refuse, is_empty, differs, has_policy, Authorizer, Password, BySession, by_session, check_loaded, check_no_trial, check_no_nonce, check_session, check_auth, check_policy_allowed, check_policy, check_entity, evidence_of, Evidence, NotAsked, ByPassword, ByMac, failure, check_evidence, first_loaded}
-use Rattle.tpm_model.specs.Actions.{check_startup, check_extend, start_session, check_policy_pcr, is_definable, most_counters, counter_size, check_define, defined_counter, may, increment, read_counter, then_reply, action, policy_session}
+use Rattle.tpm_model.specs.Authorization.{is_empty, differs, has_policy, Authorizer, Password, BySession, by_session, check_loaded, check_no_trial, check_no_nonce, check_session, check_auth, check_policy_allowed, check_policy, check_entity, evidence_of, Evidence, NotAsked, ByPassword, ByMac, failure, check_evidence, first_loaded}
+use Rattle.tpm_model.specs.Actions.{action}
 use Rattle.tpm_model.specs.Answers.{code_only, by_grammar, check_started, check_handle, check_handles, check_tag, Presented, evidence_in, presented, permitted, performed, outcome}
 use Rattle.tpm_model.proofs.Accepted.{ok_is}
 use Rattle.tpm_model.proofs.Nonzero.{IsAnswered, IfRefused, IsCoded, read_coded, read_all_coded}
-use Rattle.tpm_model.proofs.Coded.{coded_header, coded_handles, coded_authorization, coded_parameters}
-
--- What is refused is refused with a code.
-data IfErr {A : Type 0} : Result A ℕ → Type 0 where
-  not_refused : {x : A} → IfErr (Ok x)
-  with_code : {n : ℕ} → IsAnswered n → IfErr (Err n)
-
-its_code : {A : Type 0} {n : ℕ} → IfErr {A = A} (Err n) → IsAnswered n
-its_code (with_code c) = c
-
-next_too : {A B : Type 0} (r : Result A ℕ) (f : A → Result B ℕ) → IfErr r → ((x : A) → IfErr (f x)) → IfErr (r >>= f)
-next_too (Ok x) f c d = d x
-next_too (Err n) f c d = with_code (its_code c)
-
--- the same, where it is known what came before
-afterwards : {A B : Type 0} (r : Result A ℕ) (f : A → Result B ℕ) → IfErr r → ((x : A) → r ≡ Ok x → IfErr (f x)) → IfErr (r >>= f)
-afterwards (Ok x) f c d = d x refl
-afterwards (Err n) f c d = with_code (its_code c)
-
-tested : (b : Bool) (n : ℕ) → IsAnswered n → IfErr (refuse b n)
-tested true n c = with_code c
-tested false n c = not_refused
-
-test_first : {B : Type 0} (b : Bool) (n : ℕ) (f : Unit {0} → Result B ℕ) → IsAnswered n → ((x : Unit {0}) → IfErr (f x)) → IfErr (refuse b n >>= f)
-test_first b n f c d = next_too (refuse b n) f (tested b n c) d
-
-looked_up : {A : Type 0} (o : Option A) (n : ℕ) → IsAnswered n → IfErr (ok_or o n)
-looked_up None n c = with_code c
-looked_up (Some x) n c = not_refused
-
-one_of : {A : Type 0} (b : Bool) (x y : Result A ℕ) → IfErr x → IfErr y → IfErr (if b then x else y)
-one_of true x y c d = c
-one_of false x y c d = d
+use Rattle.tpm_model.proofs.Coded.{coded_header, coded_handles, coded_authorization}
+use Rattle.tpm_model.proofs.EachCommand.{IfErr, not_refused, with_code, its_code, next_too, afterwards, tested, test_first, looked_up, one_of, coded_parameters, acted}
 
 of_code : {A : Type 0} (r : Result A Refusal) → IfRefused r → IfErr (code_only r)
 of_code (Ok x) c = not_refused
@@ -181,62 +136,6 @@ proof_checked : (e : Entity) (x : Evidence) → IfErr (check_evidence e x)
 proof_checked e NotAsked = not_refused
 proof_checked e (ByPassword given wanted) = tested _ _ (failure_is e)
 proof_checked e (ByMac x) = tested _ _ (failure_is e)
-
--- ---- the action
-
-replied : {A : Type 0} (r : Result A ℕ) (reply : ReplyBody) → IfErr r → IfErr (then_reply r reply)
-replied r reply c = next_too r _ c (λ _. not_refused)
-
-startup_checked : (kind : StartupType) → IfErr (check_startup kind)
-startup_checked Clear = not_refused
-startup_checked State = with_code (omega arith, omega arith)
-
-extend_checked : (q : PcrOrNull) → IfErr (check_extend q)
-extend_checked (registers.Pcr q) = tested _ _ (omega arith, omega arith)
-extend_checked registers.Null = not_refused
-
-policy_pcr_checked : (s : Session) (composite : List ℕ) (n : ℕ) (d : List ℕ) → IfErr (check_policy_pcr s composite n d)
-policy_pcr_checked s composite n d = one_of (is_trial s.session_type) _ _ not_refused
-    (test_first (differs s.policy.update_counter n) 0x128 _ (omega arith, omega arith) (λ _. tested (not (is_empty d) && not (bytes_eq d composite)) 0x1C4 (omega arith, omega arith)))
-
-define_checked : (there : Option Counter) (n : ℕ) (auth : List ℕ) (public : NvPublic) → IfErr (check_define there n auth public)
-define_checked there n auth public =
-    test_first (not (is_definable public.attrs)) 0x2C2 _ (omega arith, omega arith) (λ _. test_first (nat_lt (digest_len public.alg) (length (trim auth))) 0x1D5 _ (omega arith, omega arith) (λ _. test_first (not (is_empty public.policy) && not (length public.policy == digest_len public.alg)) 0x2D5 _ (omega arith, omega arith) (λ _. test_first (not (public.data_size == counter_size)) 0x2D5 _ (omega arith, omega arith) (λ _. test_first (is_some there) 0x14C _ (omega arith, omega arith) (λ _. tested (nat_le most_counters n) 0x14B (omega arith, omega arith))))))
-
-increment_checked : (most : ℕ) (there : Option Counter) (by : NvAuthHandle) (i : ℕ) → IfErr (increment most there by i)
-increment_checked most there by i = next_too (defined_counter there) _ (looked_up there _ (omega arith, omega arith)) (λ c.
-    test_first (not (may by (owner_writes c.public.attrs) i)) 0x149 _ (omega arith, omega arith) (λ _. test_first (nat_le (2 ^ 64) (next_value most c.value)) 0x146 _ (omega arith, omega arith) (λ _. not_refused {x = next_value most c.value})))
-
-read_checked : (there : Option Counter) (by : NvAuthHandle) (i size offset : ℕ) → IfErr (read_counter there by i size offset)
-read_checked there by i size offset = next_too (defined_counter there) _ (looked_up there _ (omega arith, omega arith)) (λ c.
-    test_first (not (may by (owner_reads c.public.attrs) i)) 0x149 _ (omega arith, omega arith) (λ _. next_too (ok_or c.value 0x14A) _ (looked_up c.value 0x14A (omega arith, omega arith)) (λ v. test_first (nat_lt counter_size (offset + size)) 0x146 _ (omega arith, omega arith) (λ _. not_refused {x = take size (drop offset (to_be_bytes w64 v))}))))
-
-start_session_checked : (sessions : List (Option Session)) (s : StartAuth) (n : List ℕ) → IfErr (start_session sessions s n)
-start_session_checked sessions s n =
-    test_first (nat_lt (length s.nonce_caller) 16 || nat_lt (digest_len s.auth_hash) (length s.nonce_caller)) 0x1D5 _ (omega arith, omega arith) (λ _. next_too (ok_or (free_slot sessions) 0x903) _ (looked_up (free_slot sessions) 0x903 (omega arith, omega arith)) (λ k. not_refused))
-
-in_policy : (p : Present) (handle : ℕ) (f : Session → Result ReplyBody ℕ) → ((s : Session) → IfErr (f s)) → IfErr (policy_session (loaded p.sessions handle) >>= f)
-in_policy p handle f c = next_too (policy_session (loaded p.sessions handle)) f (looked_up (loaded p.sessions handle) _ (omega arith, omega arith)) c
-
-acted : (p : Present) (body : CommandBody) (n : List ℕ) → IfErr (action p body n)
-acted p (bodies.Startup kind) n = replied _ _ (startup_checked kind)
-acted p (bodies.PcrExtend q digests) n = replied _ _ (extend_checked q)
-acted p (bodies.PcrEvent q event) n = replied _ _ (extend_checked q)
-acted p (bodies.PcrReset q) n = replied _ _ (tested _ _ (omega arith, omega arith))
-acted p (bodies.PcrRead sels) n = not_refused
-acted p (bodies.StartAuthSession start) n = start_session_checked p.sessions start n
-acted p (bodies.FlushContext handle) n = replied _ _ (tested _ _ (omega arith, omega arith))
-acted p (bodies.PolicyPcr handle d sels) n = in_policy p handle _ (λ s. replied _ _ (policy_pcr_checked s _ _ d))
-acted p (bodies.PolicyOr handle digests) n = in_policy p handle _ (λ s. replied _ _ (tested _ _ (omega arith, omega arith)))
-acted p (bodies.PolicyCommandCode handle code) n = in_policy p handle _ (λ s. replied _ _ (tested _ _ (omega arith, omega arith)))
-acted p (bodies.PolicyAuthValue handle) n = replied _ _ (looked_up (loaded p.sessions handle) _ (omega arith, omega arith))
-acted p (bodies.PolicyRestart handle) n = replied _ _ (looked_up (loaded p.sessions handle) _ (omega arith, omega arith))
-acted p (bodies.PolicyGetDigest handle) n = in_policy p handle _ (λ s. not_refused)
-acted p (bodies.NvDefineSpace auth public) n = replied _ _ (define_checked (counter_in p.nv.counters public.index) (length p.nv.counters) auth public)
-acted p (bodies.NvUndefineSpace index) n = replied _ _ (looked_up (counter_in p.nv.counters index) _ (omega arith, omega arith))
-acted p (bodies.NvIncrement by index) n = replied _ _ (increment_checked p.nv.greatest (counter_in p.nv.counters index) by index)
-acted p (bodies.NvRead by index size offset) n = next_too (read_counter (counter_in p.nv.counters index) by index size offset) _ (read_checked (counter_in p.nv.counters index) by index size offset) (λ _. not_refused)
-acted p (bodies.NvReadPublic index) n = next_too (defined_counter (counter_in p.nv.counters index)) _ (looked_up (counter_in p.nv.counters index) _ (omega arith, omega arith)) (λ _. not_refused)
 
 -- ---- the whole
 

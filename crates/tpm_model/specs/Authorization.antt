@@ -74,22 +74,7 @@ pub data Access : Type 0 where
 abbrev pub access_of : CommandCode → Access
 access_of codes.NvIncrement = Writes
 access_of codes.NvRead = Reads
-access_of codes.Startup = Neither
-access_of codes.PcrExtend = Neither
-access_of codes.PcrEvent = Neither
-access_of codes.PcrReset = Neither
-access_of codes.PcrRead = Neither
-access_of codes.StartAuthSession = Neither
-access_of codes.FlushContext = Neither
-access_of codes.PolicyPcr = Neither
-access_of codes.PolicyOr = Neither
-access_of codes.PolicyCommandCode = Neither
-access_of codes.PolicyAuthValue = Neither
-access_of codes.PolicyRestart = Neither
-access_of codes.PolicyGetDigest = Neither
-access_of codes.NvDefineSpace = Neither
-access_of codes.NvUndefineSpace = Neither
-access_of codes.NvReadPublic = Neither
+access_of _ = Neither
 
 -- An index lets its authValue be used: TPMA_NV_AUTHWRITE and TPMA_NV_AUTHREAD (Part 2, 13.4).
 abbrev pub allows_auth : Access → (attrs : ℕ) → Bool

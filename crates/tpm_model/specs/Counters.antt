@@ -74,21 +74,7 @@ nv_by (bodies.NvIncrement by index) nv = record {
   counters = with_increment index nv.greatest nv.counters;
   greatest = max nv.greatest (next_value nv.greatest (value_of (counter_in nv.counters index)));
 }
-nv_by (bodies.Startup kind) nv = nv
-nv_by (bodies.PcrExtend q digests) nv = nv
-nv_by (bodies.PcrEvent q event) nv = nv
-nv_by (bodies.PcrReset q) nv = nv
-nv_by (bodies.PcrRead sels) nv = nv
-nv_by (bodies.StartAuthSession start) nv = nv
-nv_by (bodies.FlushContext handle) nv = nv
-nv_by (bodies.PolicyPcr handle pcr_digest sels) nv = nv
-nv_by (bodies.PolicyOr handle digests) nv = nv
-nv_by (bodies.PolicyCommandCode handle code) nv = nv
-nv_by (bodies.PolicyAuthValue handle) nv = nv
-nv_by (bodies.PolicyRestart handle) nv = nv
-nv_by (bodies.PolicyGetDigest handle) nv = nv
-nv_by (bodies.NvRead by index size offset) nv = nv
-nv_by (bodies.NvReadPublic index) nv = nv
+nv_by _ nv = nv
 
 -- the NV memory after the commands of a history: power cycles leave it
 abbrev pub nv_memory : Origin → History → NvMemory

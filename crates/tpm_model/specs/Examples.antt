@@ -135,7 +135,7 @@ pub record Examples : Type 0 where
   -- ---- the header
 
   pub wrong_tag : reply_to new [] (hex "8003 0000000c 00000144 0000") ≡ hex "00c4 0000000a 0000001e"
-  pub unknown_code : reply_to new [] (hex "8001 0000000a 0000017b") ≡ code "00000143"
+  pub unknown_code : reply_to new [] (hex "8001 0000000a 0000011e") ≡ code "00000143"
   -- ---- the order of checks, on buffers with two faults
 
   -- a register that there is not, before the start and after it

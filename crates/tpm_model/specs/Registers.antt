@@ -40,20 +40,7 @@ changes_by (bodies.Startup kind) = Restart ∷ []
 changes_by (bodies.PcrExtend q ds) = extends q ds
 changes_by (bodies.PcrEvent q event) = extends q (event_digests event)
 changes_by (bodies.PcrReset q) = Reset q ∷ []
-changes_by (bodies.PcrRead sels) = []
-changes_by (bodies.StartAuthSession start) = []
-changes_by (bodies.FlushContext handle) = []
-changes_by (bodies.PolicyPcr handle pcr_digest sels) = []
-changes_by (bodies.PolicyOr handle digests) = []
-changes_by (bodies.PolicyCommandCode handle code) = []
-changes_by (bodies.PolicyAuthValue handle) = []
-changes_by (bodies.PolicyRestart handle) = []
-changes_by (bodies.PolicyGetDigest handle) = []
-changes_by (bodies.NvDefineSpace auth public) = []
-changes_by (bodies.NvUndefineSpace index) = []
-changes_by (bodies.NvIncrement by index) = []
-changes_by (bodies.NvRead by index size offset) = []
-changes_by (bodies.NvReadPublic index) = []
+changes_by _ = []
 
 -- the changes of a history, the newest first
 abbrev pub changes : History → List Change

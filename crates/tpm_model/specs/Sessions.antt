@@ -49,23 +49,7 @@ begun_with k start _ = None
 -- what the command started the session of this slot with, if it started one
 abbrev pub begun : ℕ → CommandBody → ReplyBody → Option StartAuth
 begun k (bodies.StartAuthSession start) reply = begun_with k start reply
-begun k (bodies.Startup kind) reply = None
-begun k (bodies.PcrExtend q digests) reply = None
-begun k (bodies.PcrEvent q event) reply = None
-begun k (bodies.PcrReset q) reply = None
-begun k (bodies.PcrRead sels) reply = None
-begun k (bodies.FlushContext handle) reply = None
-begun k (bodies.PolicyPcr handle pcr_digest sels) reply = None
-begun k (bodies.PolicyOr handle digests) reply = None
-begun k (bodies.PolicyCommandCode handle code) reply = None
-begun k (bodies.PolicyAuthValue handle) reply = None
-begun k (bodies.PolicyRestart handle) reply = None
-begun k (bodies.PolicyGetDigest handle) reply = None
-begun k (bodies.NvDefineSpace auth public) reply = None
-begun k (bodies.NvUndefineSpace index) reply = None
-begun k (bodies.NvIncrement by index) reply = None
-begun k (bodies.NvRead by index size offset) reply = None
-begun k (bodies.NvReadPublic index) reply = None
+begun k _ reply = None
 
 abbrev pub begins : ℕ → CommandBody → ReplyBody → Bool
 begins k body reply = is_some (begun k body reply)
@@ -88,22 +72,7 @@ closes k (a ∷ others) = is_of_slot k a && not (continues a.attrs)
 abbrev pub clears : ℕ → CommandBody → Bool
 clears k (bodies.Startup kind) = true
 clears k (bodies.FlushContext handle) = slot_of handle == k
-clears k (bodies.PcrExtend q digests) = false
-clears k (bodies.PcrEvent q event) = false
-clears k (bodies.PcrReset q) = false
-clears k (bodies.PcrRead sels) = false
-clears k (bodies.StartAuthSession start) = false
-clears k (bodies.PolicyPcr handle pcr_digest sels) = false
-clears k (bodies.PolicyOr handle digests) = false
-clears k (bodies.PolicyCommandCode handle code) = false
-clears k (bodies.PolicyAuthValue handle) = false
-clears k (bodies.PolicyRestart handle) = false
-clears k (bodies.PolicyGetDigest handle) = false
-clears k (bodies.NvDefineSpace auth public) = false
-clears k (bodies.NvUndefineSpace index) = false
-clears k (bodies.NvIncrement by index) = false
-clears k (bodies.NvRead by index size offset) = false
-clears k (bodies.NvReadPublic index) = false
+clears k _ = false
 
 -- The last TPM2_StartAuthSession that answered the slot stands after the last power cycle, and no later step was a
 -- TPM2_Startup, flushed it, or was authorized by it with continueSession clear.
@@ -155,19 +124,7 @@ asserted_by k (bodies.PolicyOr handle digests) now start old = if slot_of handle
 asserted_by k (bodies.PolicyCommandCode handle code) now start old = if slot_of handle == k then CodeAsserted code ∷ old else old
 asserted_by k (bodies.PolicyAuthValue handle) now start old = if slot_of handle == k then AuthValueAsserted ∷ old else old
 asserted_by k (bodies.PolicyRestart handle) now start old = if slot_of handle == k then [] else old
-asserted_by k (bodies.Startup kind) now start old = old
-asserted_by k (bodies.PcrExtend q digests) now start old = old
-asserted_by k (bodies.PcrEvent q event) now start old = old
-asserted_by k (bodies.PcrReset q) now start old = old
-asserted_by k (bodies.PcrRead sels) now start old = old
-asserted_by k (bodies.StartAuthSession request) now start old = old
-asserted_by k (bodies.FlushContext handle) now start old = old
-asserted_by k (bodies.PolicyGetDigest handle) now start old = old
-asserted_by k (bodies.NvDefineSpace auth public) now start old = old
-asserted_by k (bodies.NvUndefineSpace index) now start old = old
-asserted_by k (bodies.NvIncrement by index) now start old = old
-asserted_by k (bodies.NvRead by index size offset) now start old = old
-asserted_by k (bodies.NvReadPublic index) now start old = old
+asserted_by k _ now start old = old
 
 -- what the slot's session asserts: the policy commands on it, the newest first, since the latest of its start, its last
 -- TPM2_PolicyRestart and the last step that it authorized

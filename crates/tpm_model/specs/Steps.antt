@@ -22,23 +22,7 @@ pub record Origin : Type 0 where
 -- a TPM2_Startup
 abbrev pub starts : CommandBody → Bool
 starts (bodies.Startup kind) = true
-starts (bodies.PcrExtend q digests) = false
-starts (bodies.PcrEvent q event) = false
-starts (bodies.PcrReset q) = false
-starts (bodies.PcrRead sels) = false
-starts (bodies.StartAuthSession start) = false
-starts (bodies.FlushContext handle) = false
-starts (bodies.PolicyPcr handle pcr_digest sels) = false
-starts (bodies.PolicyOr handle digests) = false
-starts (bodies.PolicyCommandCode handle code) = false
-starts (bodies.PolicyAuthValue handle) = false
-starts (bodies.PolicyRestart handle) = false
-starts (bodies.PolicyGetDigest handle) = false
-starts (bodies.NvDefineSpace auth public) = false
-starts (bodies.NvUndefineSpace index) = false
-starts (bodies.NvIncrement by index) = false
-starts (bodies.NvRead by index size offset) = false
-starts (bodies.NvReadPublic index) = false
+starts _ = false
 
 -- A TPM2_Startup stands after the last power cycle (Part 3, 9.3).
 abbrev pub started : History → Bool

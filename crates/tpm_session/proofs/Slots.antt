@@ -81,17 +81,7 @@ stays_out k (bodies.NvRead by index size offset) reply e = record { no_start = r
 stays_out k (bodies.PcrExtend q digests) reply e = record { no_start = refl; no_flush = refl; no_assertion = λ now start old. refl }
 stays_out k (bodies.PcrEvent q event) reply e = record { no_start = refl; no_flush = refl; no_assertion = λ now start old. refl }
 stays_out k (bodies.PcrReset q) reply e = record { no_start = refl; no_flush = refl; no_assertion = λ now start old. refl }
-stays_out k (bodies.NvReadPublic index) reply e = absurd (both_ways false refl e)
-stays_out k (bodies.Startup kind) reply e = absurd (both_ways false refl e)
-stays_out k (bodies.PcrRead sels) reply e = absurd (both_ways false refl e)
-stays_out k (bodies.StartAuthSession start) reply e = absurd (both_ways false refl e)
-stays_out k (bodies.FlushContext handle) reply e = absurd (both_ways false refl e)
-stays_out k (bodies.PolicyPcr handle pcr_digest sels) reply e = absurd (both_ways false refl e)
-stays_out k (bodies.PolicyOr handle digests) reply e = absurd (both_ways false refl e)
-stays_out k (bodies.PolicyCommandCode handle code) reply e = absurd (both_ways false refl e)
-stays_out k (bodies.PolicyAuthValue handle) reply e = absurd (both_ways false refl e)
-stays_out k (bodies.PolicyRestart handle) reply e = absurd (both_ways false refl e)
-stays_out k (bodies.PolicyGetDigest handle) reply e = absurd (both_ways false refl e)
+stays_out k _ reply e = absurd (both_ways false refl e)
 
 as_rolled : (o : Origin) (nonce last : List ℕ) (made : List Assertion) (lives : Bool) (start : Option Start) →
     (if lives then option_map (as_session o nonce []) start else None) ≡ option_map (rolled nonce) (if lives then option_map (as_session o last made) start else None)

@@ -22,22 +22,7 @@ impl Access {
         match command {
             CommandCode::NvIncrement => Access::Writes,
             CommandCode::NvRead => Access::Reads,
-            CommandCode::Startup
-            | CommandCode::PcrExtend
-            | CommandCode::PcrEvent
-            | CommandCode::PcrReset
-            | CommandCode::PcrRead
-            | CommandCode::StartAuthSession
-            | CommandCode::FlushContext
-            | CommandCode::PolicyPcr
-            | CommandCode::PolicyOr
-            | CommandCode::PolicyCommandCode
-            | CommandCode::PolicyAuthValue
-            | CommandCode::PolicyRestart
-            | CommandCode::PolicyGetDigest
-            | CommandCode::NvDefineSpace
-            | CommandCode::NvUndefineSpace
-            | CommandCode::NvReadPublic => Access::Neither,
+            _ => Access::Neither,
         }
     }
 
