@@ -10,6 +10,7 @@ use Rattle.tpm_wire.specs.Reading.{read}
 use Rattle.tpm_wire.specs.Buffers.{buffer, Layout}
 use Rattle.tpm_wire.proofs.Agreement.{bind_ok, number_ok}
 use Rattle.tpm_wire.proofs.Buffers.{buffer_sound}
+use Rattle.tpm_wire.proofs.Longer.{TakesAtMost, at_most_more, at_most_done, at_most_number, at_most_number_in, at_most_sized_bytes, at_most_sized, at_most_counted}
 use Rattle.tpm_types.specs.declared.handle_sets.PcrOrNull.TheVariants as pcrs
 use Rattle.tpm_types.specs.declared.handle_sets.NvAuthHandle.TheVariants as nv
 use Rattle.tpm_types.specs.declared.handle_sets.BindHandle.TheVariants as binds
@@ -33,7 +34,6 @@ use Rattle.tpm_buffer.specs.Handles.{admits, AreAdmitted, handle_kinds, first, s
 use Rattle.tpm_buffer.specs.Parameters.{params_code, parameters, nv_define_space, pcr_event, startup, nv_read, flush_context, policy_command_code, policy_or, start_auth_session, pcr_read, policy_pcr, pcr_extend}
 use Rattle.tpm_buffer.specs.Commands.{register_in, index_in, policy_in, pcr_or_null_in, nv_auth_in, bind_in, body_from, handles_of, params_of}
 use Rattle.tpm_buffer.specs.Replies.{code_for_reply, session_handle, session_in, reply_handles, reply_handles_of, reply_parameters, pcr_event_reply, nv_read_reply, nv_read_public_reply, start_auth_session_reply, pcr_read_reply, policy_get_digest_reply}
-use Rattle.tpm_buffer.proofs.Longer.{TakesAtMost, at_most_more, at_most_done, at_most_number, at_most_number_in, at_most_sized_bytes, at_most_sized, at_most_counted}
 use Rattle.tpm_buffer.proofs.Short.{next, only, of_hash, of_selection, of_digest_value, of_sym_def}
 
 abbrev ok : {A : Type 0} → A → Result A Refusal
@@ -151,11 +151,11 @@ params_again params.PolicyGetDigest hs = refl
 
 -- ---- the parameters of each command
 
-none : {A : Type 0} (x : A) → TakesAtMost 1100 (Form.done x)
-none x = at_most_more 0 1100 (Form.done x) (omega arith) (at_most_done x)
-
 few : {A : Type 0} (k : ℕ) (l : Layout A) → k ≤ 1100 → TakesAtMost k l → TakesAtMost 1100 l
 few k l le t = at_most_more k 1100 l le t
+
+none : {A : Type 0} (x : A) → TakesAtMost {r = buffer} 1100 (Form.done x)
+none x = few 0 (Form.done x) (omega arith) (at_most_done x)
 
 pub of_parameters : (code : CommandCode) → TakesAtMost 1100 (parameters code)
 unfolding nv_define_space pcr_event startup nv_read flush_context policy_command_code policy_or start_auth_session pcr_read policy_pcr pcr_extend startup_type session_type session encrypted_salt nv_public

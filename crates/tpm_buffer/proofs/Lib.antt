@@ -2,7 +2,6 @@ pub mod Spelled
 pub mod Prefix
 pub mod Staged
 pub mod Places
-pub mod Longer
 pub mod Short
 pub mod EachCommand
 pub mod Sessions

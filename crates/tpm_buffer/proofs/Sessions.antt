@@ -8,11 +8,11 @@ use Rattle.tpm_wire.specs.Buffers.{buffer, Layout}
 use Rattle.tpm_wire.proofs.Agreement.{ends_same}
 use Rattle.tpm_wire.proofs.Buffers.{buffer_sound}
 use Rattle.tpm_wire.proofs.Whole.{reads_its_path}
+use Rattle.tpm_wire.specs.Longer.{with_more}
 use Rattle.tpm_types.specs.declared.tpms.Auth.{Auth}
 use Rattle.tpm_types.specs.Tpms.{auth_command}
 use Rattle.tpm_buffer.specs.ResponseAreas.{Stands}
 use Rattle.tpm_buffer.specs.CommandAreas.{LiesIn, session_of, session_at, IsSession, sessions_at}
-use Rattle.tpm_buffer.proofs.Longer.{with_more}
 use Rattle.tpm_buffer.proofs.Places.{alone}
 use Rattle.tpm_buffer.proofs.Short.{of_session}
 

@@ -8,6 +8,8 @@ use Rattle.tpm_wire.specs.Token.{Here}
 use Rattle.tpm_wire.specs.Layout.{Form, raw, either}
 use Rattle.tpm_wire.specs.Reading.{finish, ◌>>=◌}
 use Rattle.tpm_wire.specs.Buffers.{buffer, Layout, number_in, numbered}
+use Rattle.tpm_wire.specs.Longer.{with_more}
+use Rattle.tpm_wire.proofs.Longer.{TakesAtMost, in_set, at_most_more, at_most_done, at_most_number, at_most_number_in, at_most_text, at_most_field, at_most_marked, at_most_sized_bytes}
 use Rattle.tpm_types.specs.declared.alg.Alg.{Alg}
 use Rattle.tpm_types.specs.declared.alg.Alg.TheVariants.{Sha1, Sha256, Sha384}
 use Rattle.tpm_types.specs.declared.tpms.Selection.{Selection}
@@ -18,7 +20,6 @@ use Rattle.tpm_types.specs.Tpma.{is_session_attrs, session_attrs}
 use Rattle.tpm_types.specs.Tpms.{select_bytes, selection, auth_command}
 use Rattle.tpm_types.specs.declared.tpmt.SymDef.TheVariants.{Null, Aes, Xor}
 use Rattle.tpm_types.specs.Tpmt.{digest_value, bits_of, hash_of, alg_cfb, alg_null, alg_aes, key_bits_of, key_bits_number, key_bits, algorithm, mode, sym_def}
-use Rattle.tpm_buffer.proofs.Longer.{TakesAtMost, with_more, in_set, at_most_more, at_most_done, at_most_number, at_most_number_in, at_most_text, at_most_field, at_most_marked, at_most_sized_bytes}
 
 -- a part, and what follows it
 pub and : {A B : Type 0} (j k : ℕ) (get : A → B) (l : Layout B) (f : B → Layout A) → TakesAtMost j l → ((y : B) → TakesAtMost k (f y)) → TakesAtMost (j + k) (Form.field get l f)

@@ -7,11 +7,12 @@ use Rattle.tpm_wire.specs.declared.refusal.Refusal.{Refusal}
 use Rattle.tpm_wire.specs.Token.{Here, at_start}
 use Rattle.tpm_wire.specs.Reading.{read, read_all, finish, ◌>>=◌}
 use Rattle.tpm_wire.specs.Buffers.{buffer, Layout}
+use Rattle.tpm_wire.specs.Longer.{with_more}
+use Rattle.tpm_wire.proofs.Longer.{TakesAtMost, at_most_more, at_most_sized_bytes, at_most_counted}
 use Rattle.tpm_types.specs.Limits.{digest_bytes, banks}
 use Rattle.tpm_types.specs.Tpms.{selection}
 use Rattle.tpm_types.specs.Tpm2b.{digest}
 use Rattle.tpm_types.specs.Tpml.{most_digests, selections, or_digests}
-use Rattle.tpm_buffer.proofs.Longer.{TakesAtMost, with_more, at_most_more, at_most_sized_bytes, at_most_counted}
 use Rattle.tpm_buffer.proofs.Short.{of_selection, ok, over}
 use Rattle.tpm_c.specs.Parts.{left_over, whole_in}
 

@@ -11,6 +11,7 @@ use Rattle.tpm_wire.specs.Reading.{read, ◌>>=◌}
 use Rattle.tpm_wire.specs.ResponseCodes.{rc_auth_context, rc_auth_missing, rc_value, of_handle}
 use Rattle.tpm_wire.specs.Spelling.{spelling}
 use Rattle.tpm_wire.proofs.Agreement.{bind_ok}
+use Rattle.tpm_wire.proofs.Longer.{in_set}
 use Rattle.tpm_types.specs.declared.tpms.Auth.{Auth}
 use Rattle.tpm_types.specs.Handles.{is_owner, is_session, rs_pw}
 use Rattle.tpm_buffer.specs.declared.code.CommandCode.{CommandCode}
@@ -20,7 +21,6 @@ use Rattle.tpm_buffer.specs.declared.command_handles.HandleKind.TheVariants.{Own
 use Rattle.tpm_buffer.specs.CommandAreas.{Cut}
 use Rattle.tpm_buffer.specs.Handles.{admits, first, handles, handles_from, needs_authorization}
 use Rattle.tpm_buffer.specs.Commands.{sessions, authorization_size, authorization}
-use Rattle.tpm_buffer.proofs.Longer.{in_set}
 use Rattle.tpm_model.specs.Sessions.{Session, loaded}
 use Rattle.tpm_model.specs.Present.{Present}
 use Rattle.tpm_model.specs.Entities.{Entity, entity_of, names_of}

@@ -5,10 +5,10 @@ use Rattle.tpm_wire.specs.ResponseCodes.{rc_size}
 use Rattle.tpm_wire.specs.Token.{Here, at_start}
 use Rattle.tpm_wire.specs.Reading.{read, read_all, finish, ◌>>=◌}
 use Rattle.tpm_wire.specs.Buffers.{buffer, Place}
+use Rattle.tpm_wire.specs.Longer.{with_more}
 use Rattle.tpm_buffer.specs.declared.code.CommandCode.{CommandCode}
 use Rattle.tpm_buffer.specs.declared.command_parameters.Params.{Params}
 use Rattle.tpm_buffer.specs.Parameters.{parameters}
-use Rattle.tpm_buffer.proofs.Longer.{with_more}
 use Rattle.tpm_buffer.proofs.Short.{ok, over}
 use Rattle.tpm_buffer.proofs.EachCommand.{of_parameters}
 use Rattle.tpm_buffer.proofs.command_parameters.long_fault.Goals as goal
