@@ -1,5 +1,5 @@
 -- Reading the begin of longer bytes gives what reading all of them gives, where a layout takes so many bytes at most.
-use Rattle.std.proofs.Common.{◌≡◌, ℕ, zero, suc, ◌+◌, ◌*◌, ◌≤◌, Bool, true, false, cond, eqb, leb, List, [], ◌∷◌, ◌++◌, length, take, Option, Some, None, Result, Ok, Err, refl, sym, ap, ◌∙◌, arith}
+use Rattle.std.proofs.Common.{◌≡◌, ℕ, zero, suc, ◌+◌, ◌-◌, ◌*◌, ◌≤◌, Bool, true, false, cond, eqb, leb, List, [], ◌∷◌, ◌++◌, length, take, Option, Some, None, Result, Ok, Err, refl, sym, ap, ◌∙◌, arith}
 use Rattle.std.specs.Prelude.{◌&&◌}
 use Rattle.std.proofs.lemmas.Bool.{leb-true}
 use Rattle.std.proofs.lemmas.List.{length-append, length-drop, take-append-le, drop-append-le}
@@ -8,7 +8,7 @@ use Rattle.tpm_wire.specs.Rules.{Rules, IsSound}
 use Rattle.tpm_wire.specs.Token.{number_of, Here, past, or_fault}
 use Rattle.tpm_wire.specs.Layout.{Form, raw}
 use Rattle.tpm_wire.specs.Reading.{read, unless, found, refuse, entries, ◌>>=◌}
-use Rattle.tpm_wire.specs.Longer.{with_more, IsAlike}
+use Rattle.tpm_wire.specs.Longer.{with_more, IsAlike, IsReadOn}
 use Rattle.tpm_wire.specs.Buffers.{buffer, Layout, number_in}
 use Rattle.tpm_wire.specs.ResponseCodes.{rc_size}
 use Rattle.tpm_wire.specs.Spelling.{spelling}
@@ -61,6 +61,40 @@ found_ends : {A : Type 0} (r : Rules) (p : Result A r.Fault) (n : ℕ) (m : r.Ma
 found_ends r (Err f) n m h x e = absurd cc
 found_ends r (Ok y) n m h x e = here_of (y, past n h) x e
 
+-- what is made of the bytes of an area
+abbrev closed : {A : Type 0} → (r : Rules) → r.Mark → r.Fault → Here → A × Here → Result (A × Here) r.Answer
+closed r m fault next x = cond (eqb (length x.1.rest) 0) (ok (x.0, next)) (refuse r m fault x.1)
+
+abbrev inside : {r : Rules} {A : Type 0} → r.Mark → ℕ → r.Fault → Form r A → Here → Result (A × Here) r.Answer
+inside {r = r} m n fault l h = read m l (record { rest = take n h.rest; at = h.at }) >>= closed r m fault (past n h)
+
+text_longer : {A : Type 0} (r : Rules) (judge : List ℕ → Result A r.Fault) (n : ℕ) (m : r.Mark) (h : Here) (more : List ℕ) → n ≤ length h.rest
+    → found r (judge (take n (h.rest ++ more))) n m (with_more more h) ≡ longer more (found r (judge (take n h.rest)) n m h)
+text_longer r judge n m h more le = ap (λ (bytes : List ℕ). found r (judge bytes) n m (with_more more h)) (take-append-le n h.rest more le) ∙ found_longer r (judge (take n h.rest)) n m h more le
+
+area_longer : {r : Rules} {A : Type 0} (m : r.Mark) (n : ℕ) (fault : r.Fault) (l : Form r A) (h : Here) (more : List ℕ) → n ≤ length h.rest → inside m n fault l (with_more more h) ≡ longer more (inside m n fault l h)
+area_longer {r = r} {A = A} m n fault l h more le = rw (take-append-le n h.rest more le, drop-append-le n h.rest more le) (go (read m l (record { rest = take n h.rest; at = h.at })))
+  where
+    ended : (b : Bool) (x : A × Here) → cond b (ok (x.0, with_more more (past n h))) (refuse r m fault x.1) ≡ longer more (cond b (ok (x.0, past n h)) (refuse r m fault x.1))
+    ended true x = refl
+    ended false x = refl
+
+    go : (o : Result (A × Here) r.Answer) → (o >>= closed r m fault (with_more more (past n h))) ≡ longer more (o >>= closed r m fault (past n h))
+    go (Ok x) = ended (eqb (length x.1.rest) 0) x
+    go (Err e) = refl
+
+area_ends : {r : Rules} {A : Type 0} (m : r.Mark) (n : ℕ) (fault : r.Fault) (l : Form r A) (h : Here) (x : A × Here) → inside m n fault l h ≡ Ok x → past n h ≡ x.1
+area_ends {r = r} {A = A} m n fault l h x e =
+    let b = bind_ok (read m l (record { rest = take n h.rest; at = h.at })) (closed r m fault (past n h)) x e in
+    go (eqb (length b.0.1.rest) 0) b.0 b.2
+  where
+    go : (b : Bool) (y : A × Here) → cond b (ok (y.0, past n h)) (refuse r m fault y.1) ≡ Ok x → past n h ≡ x.1
+    go true y is = here_of (y.0, past n h) x is
+    go false y is = absurd cc
+
+there : (n : ℕ) (h : Here) (more : List ℕ) → n ≤ length h.rest → n ≤ length (h.rest ++ more)
+there n h more le = omega (arith, le, length-append h.rest more)
+
 module _ (r : Rules) (sound : IsSound r) (alike : IsAlike r) where
   -- n bytes, of which something is made that does not depend on what is left
   taken_at_most : {A : Type 0} (n : ℕ) (l : Form r A) (made : r.Mark → Here → Result (A × Here) r.Answer)
@@ -80,53 +114,25 @@ module _ (r : Rules) (sound : IsSound r) (alike : IsAlike r) where
       both : (m : r.Mark) (h : Here) (more : List ℕ) → n ≤ length h.rest → read m l (with_more more h) ≡ longer more (read m l h)
       both m h more le =
           is m (with_more more h)
-          ∙ ap (λ (o : Option r.Fault). unless r o m (with_more more h) (made m (with_more more h))) (alike m h.at n (length h.rest) (length (h.rest ++ more)) le (omega (arith, le, length-append h.rest more)))
+          ∙ ap (λ (o : Option r.Fault). unless r o m (with_more more h) (made m (with_more more h))) (alike m h.at n (length h.rest) (length (h.rest ++ more)) le (there n h more le))
           ∙ unless_longer r (r.lacks m h.at n (length h.rest)) m h more (made m h) (made m (with_more more h)) (flat m h more le)
           ∙ ap (longer more) (sym (is m h))
 
   pub number_at_most : {A : Type 0} (width : ℕ) (meaning : ℕ → Option A) (number_for : A → ℕ) (fault : r.Fault) → TakesAtMost width (Form.number {r = r} width (λ left. meaning) number_for fault)
-  number_at_most width meaning number_for fault =
-      taken_at_most width (Form.number width (λ left. meaning) number_for fault) (λ m h. found r (or_fault (meaning (number_of (take width h.rest))) fault) width m h) (λ m h. refl)
-      (λ m h more le.
-      ap (λ (bytes : List ℕ). found r (or_fault (meaning (number_of bytes)) fault) width m (with_more more h)) (take-append-le width h.rest more le)
-      ∙ found_longer r (or_fault (meaning (number_of (take width h.rest))) fault) width m h more le)
-      (λ m h x e. found_ends r (or_fault (meaning (number_of (take width h.rest))) fault) width m h x e)
+  number_at_most {A = A} width meaning number_for fault =
+      taken_at_most width (Form.number width (λ left. meaning) number_for fault) (λ m h. found r (of_bytes (take width h.rest)) width m h) (λ m h. refl) (λ m h. text_longer r of_bytes width m h)
+      (λ m h. found_ends r (of_bytes (take width h.rest)) width m h)
+    where
+      of_bytes : List ℕ → Result A r.Fault
+      of_bytes bytes = or_fault (meaning (number_of bytes)) fault
 
   pub text_at_most : {A : Type 0} (n : ℕ) (judge : List ℕ → Result A r.Fault) (text_for : A → List ℕ) → TakesAtMost n (Form.text {r = r} n judge text_for)
   text_at_most n judge text_for =
-      taken_at_most n (Form.text n judge text_for) (λ m h. found r (judge (take n h.rest)) n m h) (λ m h. refl)
-      (λ m h more le. ap (λ (bytes : List ℕ). found r (judge bytes) n m (with_more more h)) (take-append-le n h.rest more le) ∙ found_longer r (judge (take n h.rest)) n m h more le)
-      (λ m h x e. found_ends r (judge (take n h.rest)) n m h x e)
+      taken_at_most n (Form.text n judge text_for) (λ m h. found r (judge (take n h.rest)) n m h) (λ m h. refl) (λ m h. text_longer r judge n m h) (λ m h. found_ends r (judge (take n h.rest)) n m h)
 
   -- an area, which is the same whatever is behind it
   pub area_at_most : {A : Type 0} (n : ℕ) (fault : r.Fault) (l : Form r A) → TakesAtMost n (Form.area n fault l)
-  area_at_most {A = A} n fault l = taken_at_most n (Form.area n fault l) (λ m h. inner m h (take n h.rest) (past n h)) (λ m h. refl) flat ends
-    where
-      closed : r.Mark → Here → A × Here → Result (A × Here) r.Answer
-      closed m next x = cond (eqb (length x.1.rest) 0) (ok (x.0, next)) (refuse r m fault x.1)
-
-      inner : r.Mark → Here → List ℕ → Here → Result (A × Here) r.Answer
-      inner m h bytes next = read m l (record { rest = bytes; at = h.at }) >>= closed m next
-
-      closed_longer : (m : r.Mark) (next : Here) (more : List ℕ) (o : Result (A × Here) r.Answer) → (o >>= closed m (with_more more next)) ≡ longer more (o >>= closed m next)
-      closed_longer m next more (Ok x) = go (eqb (length x.1.rest) 0)
-        where
-          go : (b : Bool) → cond b (ok (x.0, with_more more next)) (refuse r m fault x.1) ≡ longer more (cond b (ok (x.0, next)) (refuse r m fault x.1))
-          go true = refl
-          go false = refl
-      closed_longer m next more (Err e) = refl
-
-      flat : (m : r.Mark) (h : Here) (more : List ℕ) → n ≤ length h.rest → inner m (with_more more h) (take n (h.rest ++ more)) (past n (with_more more h)) ≡ longer more (inner m h (take n h.rest) (past n h))
-      flat m h more le = rw (take-append-le n h.rest more le, drop-append-le n h.rest more le) (closed_longer m (past n h) more (read m l (record { rest = take n h.rest; at = h.at })))
-
-      ends : (m : r.Mark) (h : Here) (x : A × Here) → inner m h (take n h.rest) (past n h) ≡ Ok x → past n h ≡ x.1
-      ends m h x e =
-          let b = bind_ok (read m l (record { rest = take n h.rest; at = h.at })) (closed m (past n h)) x e in
-          go (eqb (length b.0.1.rest) 0) b.0 b.2
-        where
-          go : (b : Bool) (y : A × Here) → cond b (ok (y.0, past n h)) (refuse r m fault y.1) ≡ Ok x → past n h ≡ x.1
-          go true y is = here_of (y.0, past n h) x is
-          go false y is = absurd cc
+  area_at_most n fault l = taken_at_most n (Form.area n fault l) (λ m h. inside m n fault l h) (λ m h. refl) (λ m h. area_longer m n fault l h) (λ m h. area_ends m n fault l h)
 
 -- ---- what is made of tokens
 
@@ -211,6 +217,60 @@ at_most_list {r = r} {A = A} n k l one = record {
         then_fault (read m (l before) h) (read m (l before) (with_more more h)) (λ y. entries n (before ++ y.0 ∷ []) false (λ b. read m (l b)) y.1) more e (λ y at. (one before).same m h more y at)
         (λ d bad. (one before).fault m h more d (omega (arith, room)) bad)
         (λ y at. all_fault m n (before ++ y.0 ∷ []) y.1 more e (omega (arith, room, (one before).most m h y at))) is
+
+-- ---- layouts that are read on
+
+-- No part of it asks how many bytes are left, unless it is an area's, which has an end of its own.
+abbrev pub IsPlain : {r : Rules} {A : Type 0} → Form r A → Type 0
+IsPlain (Form.done x) = Unit {0}
+IsPlain (Form.number width meaning number_for fault) = (left more n : ℕ) → meaning left n ≡ meaning more n
+IsPlain (Form.text n judge text_for) = Unit {0}
+IsPlain (Form.field {B = B} get l f) = IsPlain l × ((y : B) → IsPlain (f y))
+IsPlain (Form.area n fault l) = Unit {0}
+IsPlain (Form.list {A = A} most stops l) = (stops ≡ false) × ((before : List A) → IsPlain (l before))
+IsPlain (Form.by_left f) = ⊥
+IsPlain (Form.marked n l) = ⊥
+
+-- Under one mark, where more bytes leave a token's want of bytes as it is, if that is final.
+module _ (r : Rules) (sound : IsSound r) (alike : IsAlike r) (m : r.Mark) (IsFinal : r.Answer → Type 0) (final : (fault : r.Fault) (at n left more : ℕ) → left ≤ more → IsFinal (r.answer m fault at) → r.lacks m at n left ≡ Some fault → r.lacks m at n more ≡ Some fault) where
+  longer_on : {A : Type 0} (more : List ℕ) (a b : Result (A × Here) r.Answer) → b ≡ longer more a → IsReadOn IsFinal more a b
+  longer_on more (Ok x) b is = is
+  longer_on more (Err e) b is = λ last. is
+
+  token_on : {A : Type 0} (n : ℕ) (h : Here) (more : List ℕ) (a b : Result (A × Here) r.Answer) → (n ≤ length h.rest → b ≡ longer more a)
+      → IsReadOn IsFinal more (unless r (r.lacks m h.at n (length h.rest)) m h a) (unless r (r.lacks m h.at n (length (h.rest ++ more))) m (with_more more h) b)
+  token_on n h more a b same = go (r.lacks m h.at n (length h.rest)) refl
+    where
+      go : (o : Option r.Fault) → r.lacks m h.at n (length h.rest) ≡ o → IsReadOn IsFinal more (unless r o m h a) (unless r (r.lacks m h.at n (length (h.rest ++ more))) m (with_more more h) b)
+      go None e =
+          let le = sound m h.at n (length h.rest) e in
+          rw (alike m h.at n (length h.rest) (length (h.rest ++ more)) le (there n h more le) ∙ e) (longer_on more a b (same le))
+      go (Some f) e = λ last. rw (final f h.at n (length h.rest) (length (h.rest ++ more)) (omega (arith, length-append h.rest more)) last e) refl
+
+  then_on : {A B : Type 0} (more : List ℕ) (f : B × Here → Result (A × Here) r.Answer) (a b : Result (B × Here) r.Answer) → IsReadOn IsFinal more a b
+      → ((y : B × Here) → IsReadOn IsFinal more (f y) (f (y.0, with_more more y.1))) → IsReadOn IsFinal more (a >>= f) (b >>= f)
+  then_on more f (Ok y) b one two = rw one (two y)
+  then_on more f (Err e) b one two = λ last. rw (one last) refl
+
+  entries_on : {A : Type 0} (rd : List A → Here → Result (A × Here) r.Answer) → ((before : List A) (h : Here) (more : List ℕ) → IsReadOn IsFinal more (rd before h) (rd before (with_more more h)))
+      → (n : ℕ) (before : List A) (h : Here) (more : List ℕ) → IsReadOn IsFinal more (entries n before false rd h) (entries n before false rd (with_more more h))
+  entries_on rd one zero before h more = refl
+  entries_on rd one (suc n) before h more =
+      then_on more (λ y. entries n (before ++ y.0 ∷ []) false rd y.1) (rd before h) (rd before (with_more more h)) (one before h more) (λ y. entries_on rd one n (before ++ y.0 ∷ []) y.1 more)
+
+  pub plain_on : {A : Type 0} (l : Form r A) → IsPlain l → (h : Here) (more : List ℕ) → IsReadOn IsFinal more (read m l h) (read m l (with_more more h))
+  plain_on (Form.done x) p h more = refl
+  plain_on {A = A} (Form.number width meaning number_for fault) p h more =
+      token_on width h more (found r (or_fault (meaning (length h.rest - width) (number_of (take width h.rest))) fault) width m h) _
+      (λ le.
+      ap (λ (o : Option A). found r (or_fault o fault) width m (with_more more h)) (p (length (h.rest ++ more) - width) (length h.rest - width) (number_of (take width (h.rest ++ more))))
+      ∙ text_longer r (λ bytes. or_fault (meaning (length h.rest - width) (number_of bytes)) fault) width m h more le)
+  plain_on (Form.text n judge text_for) p h more = token_on n h more (found r (judge (take n h.rest)) n m h) (found r (judge (take n (h.rest ++ more))) n m (with_more more h)) (text_longer r judge n m h more)
+  plain_on (Form.field get l f) p h more = then_on more (λ y. read m (f y.0) y.1) (read m l h) (read m l (with_more more h)) (plain_on l p.0 h more) (λ y. plain_on (f y.0) (p.1 y.0) y.1 more)
+  plain_on (Form.area n fault l) p h more = token_on n h more (inside m n fault l h) (inside m n fault l (with_more more h)) (area_longer m n fault l h more)
+  plain_on (Form.list most stops l) p h more = rw p.0 (entries_on (λ before. read m (l before)) (λ before h more. plain_on (l before) (p.1 before) h more) most [] h more)
+  plain_on (Form.by_left f) p h more = absurd p
+  plain_on (Form.marked n l) p h more = absurd p
 
 -- ---- buffers
 
