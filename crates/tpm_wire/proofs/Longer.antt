@@ -118,7 +118,7 @@ module _ (r : Rules) (sound : IsSound r) (alike : IsAlike r) where
           ∙ unless_longer r (r.lacks m h.at n (length h.rest)) m h more (made m h) (made m (with_more more h)) (flat m h more le)
           ∙ ap (longer more) (sym (is m h))
 
-  pub number_at_most : {A : Type 0} (width : ℕ) (meaning : ℕ → Option A) (number_for : A → ℕ) (fault : r.Fault) → TakesAtMost width (Form.number {r = r} width (λ left. meaning) number_for fault)
+  pub number_at_most : {A : Type 0} (width : ℕ) (meaning : ℕ → Option A) (number_for : A → ℕ) (fault : r.Fault) → TakesAtMost {r = r} width (Form.number width (λ left. meaning) number_for fault)
   number_at_most {A = A} width meaning number_for fault =
       taken_at_most width (Form.number width (λ left. meaning) number_for fault) (λ m h. found r (of_bytes (take width h.rest)) width m h) (λ m h. refl) (λ m h. text_longer r of_bytes width m h)
       (λ m h. found_ends r (of_bytes (take width h.rest)) width m h)
@@ -126,7 +126,7 @@ module _ (r : Rules) (sound : IsSound r) (alike : IsAlike r) where
       of_bytes : List ℕ → Result A r.Fault
       of_bytes bytes = or_fault (meaning (number_of bytes)) fault
 
-  pub text_at_most : {A : Type 0} (n : ℕ) (judge : List ℕ → Result A r.Fault) (text_for : A → List ℕ) → TakesAtMost n (Form.text {r = r} n judge text_for)
+  pub text_at_most : {A : Type 0} (n : ℕ) (judge : List ℕ → Result A r.Fault) (text_for : A → List ℕ) → TakesAtMost {r = r} n (Form.text n judge text_for)
   text_at_most n judge text_for =
       taken_at_most n (Form.text n judge text_for) (λ m h. found r (judge (take n h.rest)) n m h) (λ m h. refl) (λ m h. text_longer r judge n m h) (λ m h. found_ends r (judge (take n h.rest)) n m h)
 
