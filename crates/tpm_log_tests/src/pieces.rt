@@ -1,6 +1,6 @@
 //! Logs that are fed in pieces.
 
-use crate::logs::bytes_of;
+use crate::logs::{HEADER, WORKED, bytes_of};
 use std::process::Abort;
 use std::test::*;
 use tpm_log::{LogFault, LogFaultKind, LogReplay};
@@ -26,11 +26,7 @@ pub(crate) fn fed_in_two(log: &[u8], at: usize) -> Result<Registers, LogFault> {
     replay.end()
 }
 
-// Of three algorithms.
-const HEADER: &str =
-    "000000000300000000000000000000000000000000000000000000002900000053706563204944204576656e74303300000000000002000203000000040014000b0020000c00300000";
-
-// The same, of which the event has 1,000 bytes, where its list ends behind 41.
+// The header, of which the event has 1,000 bytes, where its list ends behind 41.
 const LONG_HEADER: &str =
     "00000000030000000000000000000000000000000000000000000000e803000053706563204944204576656e74303300000000000002000203000000040014000b0020000c00300000";
 
@@ -112,10 +108,6 @@ fn a_long_header_has_its_fault_at_its_end(rt: HostRuntime) {
     }
 }
 
-// The header, a record that extends nothing, and a separator at register 7.
-const LOG: &str =
-    "000000000300000000000000000000000000000000000000000000002900000053706563204944204576656e74303300000000000002000203000000040014000b0020000c003000000000000003000000000000000000000007000000040000000300000004009069ca78e7450a285173431b3e52c5c25299e4730b00df3f619804a92fdb4057192dc43dd748ea778adc52bc498ce80524c014b811190c00394341b7182cd227c5c6b07ef8000cdfd86136c4292b8e576573ad7ed9ae41019f5818b4b971c9effc60e1ad9f1289f00400000000000000";
-
 // The header, and two records that tell a start-up locality.
 const LOCALITIES: &str =
     "000000000300000000000000000000000000000000000000000000002900000053706563204944204576656e74303300000000000002000203000000040014000b0020000c0030000000000000030000000000000011000000537461727475704c6f63616c697479000300000000030000000000000011000000537461727475704c6f63616c6974790003";
@@ -124,16 +116,16 @@ const LOCALITIES: &str =
 #[test]
 fn a_fault_is_told_with_the_piece_that_shows_it(rt: HostRuntime) {
     for (log, place, byte, kind, at, shown) in [
-        (LOG, 4, 0x04, LogFaultKind::NotCryptoAgile, 4, 8),
-        (LOG, 28, 0x28, LogFaultKind::BadHeader, 72, 72),
-        (LOG, 28, 0x2a, LogFaultKind::BadHeader, 73, 74),
-        (LOG, 56, 0x00, LogFaultKind::BadHeader, 56, 73),
-        (LOG, 64, 0x04, LogFaultKind::DuplicateAlgorithm, 64, 73),
-        (LOG, 66, 0x21, LogFaultKind::WrongDigestSize, 66, 73),
-        (LOG, 89, 0x11, LogFaultKind::BadRegister, 89, 97),
-        (LOG, 101, 0x0d, LogFaultKind::UnknownAlgorithm, 101, 103),
-        (LOG, 123, 0x04, LogFaultKind::RepeatedDigest, 123, 125),
-        (LOG, 210, 0xff, LogFaultKind::TooLong, 211, 211),
+        (WORKED, 4, 0x04, LogFaultKind::NotCryptoAgile, 4, 8),
+        (WORKED, 28, 0x28, LogFaultKind::BadHeader, 72, 72),
+        (WORKED, 28, 0x2a, LogFaultKind::BadHeader, 73, 74),
+        (WORKED, 56, 0x00, LogFaultKind::BadHeader, 56, 73),
+        (WORKED, 64, 0x04, LogFaultKind::DuplicateAlgorithm, 64, 73),
+        (WORKED, 66, 0x21, LogFaultKind::WrongDigestSize, 66, 73),
+        (WORKED, 89, 0x11, LogFaultKind::BadRegister, 89, 97),
+        (WORKED, 101, 0x0d, LogFaultKind::UnknownAlgorithm, 101, 103),
+        (WORKED, 123, 0x04, LogFaultKind::RepeatedDigest, 123, 125),
+        (WORKED, 210, 0xff, LogFaultKind::TooLong, 211, 211),
         (LOCALITIES, 105, 0x02, LogFaultKind::BadLocality, 89, 106),
         (LOCALITIES, 105, 0x03, LogFaultKind::LateLocality, 122, 139),
     ] {

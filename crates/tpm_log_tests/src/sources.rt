@@ -2,22 +2,14 @@
 
 ghost use Rattle.std.specs.Prelude.{None};
 
-use crate::logs::bytes_of;
+use crate::logs::{HEADER, WORKED, bytes_of};
 use std::process::Abort;
 use std::test::*;
 use tpm_log::{LogFault, LogFaultKind, replay_from};
 use tpm_types::{Alg, PcrIndex};
 use tpm_wire::{ReadFailed, Source};
 
-// Of three algorithms.
-const HEADER: &str =
-    "000000000300000000000000000000000000000000000000000000002900000053706563204944204576656e74303300000000000002000203000000040014000b0020000c00300000";
-
-// The header, a record that extends nothing, and a separator at register 7.
-const LOG: &str =
-    "000000000300000000000000000000000000000000000000000000002900000053706563204944204576656e74303300000000000002000203000000040014000b0020000c003000000000000003000000000000000000000007000000040000000300000004009069ca78e7450a285173431b3e52c5c25299e4730b00df3f619804a92fdb4057192dc43dd748ea778adc52bc498ce80524c014b811190c00394341b7182cd227c5c6b07ef8000cdfd86136c4292b8e576573ad7ed9ae41019f5818b4b971c9effc60e1ad9f1289f00400000000000000";
-
-// What register 7 of SHA-1 is then.
+// What register 7 of SHA-1 is behind the worked log.
 const SEPARATED: &str = "b2a83b0ebf2f8374299a5b2bdfc31ea955ad7236";
 
 // Gives its bytes, at most so many a read, and where it is endless zeros behind them. Fails at the read with this number.
@@ -102,7 +94,7 @@ fn has_fault(rt: &impl Abort, reader: &mut Reader<'_>, kind: LogFaultKind, at: u
 
 #[test]
 fn a_log_is_the_same_in_any_pieces(rt: HostRuntime) {
-    let log = bytes_of(LOG);
+    let log = bytes_of(WORKED);
     for most in [1, 7, 64, 215] {
         is_replayed(&rt, &mut Reader::new(log.as_slice(), most));
         // without its last byte
@@ -120,7 +112,7 @@ fn a_log_is_the_same_in_any_pieces(rt: HostRuntime) {
 // Never registers, and never another fault; and no read is tried again.
 #[test]
 fn a_read_that_fails_is_answered(rt: HostRuntime) {
-    let log = bytes_of(LOG);
+    let log = bytes_of(WORKED);
     for k in 1..log.len().saturating_add(2) {
         let mut reader = Reader::new(log.as_slice(), 1);
         reader.fails_at = k;
