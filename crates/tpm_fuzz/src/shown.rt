@@ -4,7 +4,7 @@ use crate::corpus::Entry;
 use std::alloc::Global;
 use std::io;
 use std::io::ErrorKind;
-use tpm_tool::show;
+use tpm_show::show;
 
 /// The first line that `show` prints of the buffer.
 pub(crate) fn first_line(alloc: Global, entry: &Entry) -> io::Result<String> {

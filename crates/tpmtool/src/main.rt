@@ -10,12 +10,13 @@ use std::process::ExitCode;
 use std::rt::{Env, Files};
 use std::{env, fs, io};
 use tpm_args::{Stop, Task, Words, words_not_text};
+use tpm_check::{Listing, Signed, check_log, check_signed, list_events, read_attest};
 use tpm_device::Device;
-use tpm_tool::{
-    Listing, Signed, Status, Telling, ToolFault, build, check_log, check_signed, explain,
-    list_events, not_hexadecimal, read_attest, run_script, show, show_fields, show_lines,
-    show_stream,
-};
+use tpm_script::run_script;
+use tpm_show::{Telling, build, explain, show, show_fields, show_lines, show_stream};
+use tpm_text::answer::not_hexadecimal;
+use tpm_text::fault::ToolFault;
+use tpm_text::status::Status;
 use tpm_types::{Alg, AuthValue, Selections};
 use tpm_wire::{Reads, Source};
 

@@ -4,10 +4,10 @@ use Rattle.std.proofs.lemmas.Result.{IfOk-weaker}
 use Rattle.std.specs.Io.KnownBytes.{Appends, Consumes}
 use Rattle.tpm_stream.proofs.Filled.{consumes_both}
 use Rattle.tpm_text.specs.declared.status.Status.TheVariants.{Done, Refused}
-use Rattle.tpm_tool.specs.Progress.{StandsAt, IsOpen, place}
+use Rattle.tpm_script.specs.Progress.{StandsAt, IsOpen, place}
 use Rattle.tpm_text.proofs.Joins.{joins_appends}
-use Rattle.tpm_tool.proofs.Scripts.{reaches_more, takes_none, unrefused, answers_at_end, answers_refused, keeps_none, no_further}
-use Rattle.tpm_tool.proofs.script.run_script.Goals as goal
+use Rattle.tpm_script.proofs.Scripts.{reaches_more, takes_none, unrefused, answers_at_end, answers_refused, keeps_none, no_further}
+use Rattle.tpm_script.proofs.script.run_script.Goals as goal
 
 pub returns-then-read-gt-MOST_BYTES-clause-too_long : goal.returns-then-read-gt-MOST_BYTES-clause-too_long
 returns-then-read-gt-MOST_BYTES-clause-too_long g c = λ _.

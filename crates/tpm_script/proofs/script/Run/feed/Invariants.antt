@@ -1,8 +1,8 @@
 use Rattle.std.proofs.Common.{take, string_bytes}
 use Rattle.tpm_text.specs.declared.status.Status.TheVariants.{Done}
 use Rattle.tpm_text.specs.InputLines.{AddedTo}
-use Rattle.tpm_tool.specs.Progress.{Takes}
-use Rattle.tpm_tool.proofs.script.Run.feed.Given as goal
+use Rattle.tpm_script.specs.Progress.{Takes}
+use Rattle.tpm_script.proofs.script.Run.feed.Given as goal
 
 -- the bytes so far are taken
 abbrev pub invariant-loop-byte : goal.invariant-loop-byte

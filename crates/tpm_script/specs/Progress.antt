@@ -5,13 +5,13 @@ use Rattle.tpm_model.specs.Steps.{History, Origin}
 use Rattle.tpm_model.specs.Runs.{Event, after}
 use Rattle.tpm_device.specs.declared.device.Device.{Device}
 use Rattle.tpm_device.specs.Stands.{Stands}
-use Rattle.tpm_tool.specs.declared.lines.Line.{Line as RustLine}
-use Rattle.tpm_tool.specs.declared.lines.Line.TheVariants as rust
-use Rattle.tpm_tool.specs.declared.script.Run.{Run}
+use Rattle.tpm_script.specs.declared.lines.Line.{Line as RustLine}
+use Rattle.tpm_script.specs.declared.lines.Line.TheVariants as rust
+use Rattle.tpm_script.specs.declared.script.Run.{Run}
 use Rattle.tpm_text.specs.declared.status.Status.{Status}
 use Rattle.tpm_text.specs.declared.status.Status.TheVariants.{Done, Refused}
 use Rattle.tpm_text.specs.InputLines.{lines_of, HasNoFeed, AreEnded}
-use Rattle.tpm_tool.specs.Script.{Line, Blank, Power, Command, NotHexadecimal, Script, line_of, most_digits, AreAccepted, IsRefusedIn, events_from, refused_from, script_from, script_text}
+use Rattle.tpm_script.specs.Script.{Line, Blank, Power, Command, NotHexadecimal, Script, line_of, most_digits, AreAccepted, IsRefusedIn, events_from, refused_from, script_from, script_text}
 
 -- what was read of a line
 abbrev pub read_as : RustLine → Line

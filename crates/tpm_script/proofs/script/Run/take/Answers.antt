@@ -2,10 +2,10 @@ use Rattle.std.proofs.Common.{◌≡◌, false, [], ◌∷◌, refl, sym, arith,
 use Rattle.std.proofs.lemmas.List.{append-nil}
 use Rattle.std.specs.Prelude.{nat_eq}
 use Rattle.std.proofs.lemmas.Result.{IfOk-weaker}
-use Rattle.tpm_tool.specs.Progress.{place}
-use Rattle.tpm_tool.proofs.Scripts.{takes_feed, leads_longer, leads_too_long, ends_longer, ends_too_long}
+use Rattle.tpm_script.specs.Progress.{place}
+use Rattle.tpm_script.proofs.Scripts.{takes_feed, leads_longer, leads_too_long, ends_longer, ends_too_long}
 use Rattle.tpm_text.proofs.InputLines.{no_feed-more}
-use Rattle.tpm_tool.proofs.script.Run.take.Goals as goal
+use Rattle.tpm_script.proofs.script.Run.take.Goals as goal
 
 pub returns-then-byte-eq10 : goal.returns-then-byte-eq10
 returns-then-byte-eq10 c =

@@ -2,8 +2,8 @@ use Rattle.std.proofs.Common.{◌≡◌, ◌+◌, ◌<◌, length, take, drop, g
 use Rattle.std.proofs.lemmas.List.{take_more, take-append-drop}
 use Rattle.tpm_text.specs.declared.status.Status.TheVariants.{Done, Refused}
 use Rattle.tpm_text.proofs.Joins.{joins_texts}
-use Rattle.tpm_tool.proofs.Scripts.{takes_both, takes_further}
-use Rattle.tpm_tool.proofs.script.Run.feed.Goals as goal
+use Rattle.tpm_script.proofs.Scripts.{takes_both, takes_further}
+use Rattle.tpm_script.proofs.script.Run.feed.Goals as goal
 
 pub returns-then-eq : goal.returns-then-eq
 returns-then-eq c =

@@ -12,7 +12,7 @@ use Rattle.tpm_model.specs.Premises.{code_in, HasSessionMac, least_nonce, nonces
 use Rattle.tpm_model.proofs.Replay.{twice}
 use Rattle.tpm_device.proofs.Ran.{accepted}
 use Rattle.tpm_text.specs.InputLines.{onto_first, lines_of, most_bytes}
-use Rattle.tpm_tool.specs.Script.{Line, Blank, Power, Command, NotHexadecimal, line_of, nonce_of, events_from, script}
+use Rattle.tpm_script.specs.Script.{Line, Blank, Power, Command, NotHexadecimal, line_of, nonce_of, events_from, script}
 
 -- A nonce begins with its number.
 begins : (k : ℕ) → take least_nonce (nonce_of k) ≡ to_be_bytes w128 k

@@ -7,7 +7,7 @@ ghost use Rattle.tpm_model.specs.Runs.{Event, after};
 ghost use Rattle.tpm_model.specs.Runs.Event.{Given};
 ghost use Rattle.tpm_model.specs.Premises.{code_in, HasSessionMac, NoncesDiffer, NoCollision};
 ghost use Rattle.tpm_text.specs.InputLines.{most_bytes};
-ghost use Rattle.tpm_tool.specs.Script.{script};
+ghost use Rattle.tpm_script.specs.Script.{script};
 
 /// The nonces of a script, of at most 16,777,216 bytes, differ pairwise in their first 16 bytes. So there is no replay in a script
 /// that is run on a new device: where no two different texts that are checked have the same HMAC, no buffer with a session's HMAC

@@ -1,8 +1,8 @@
 use Rattle.std.proofs.Common.{◌≡◌, ◌+◌, ◌-◌, ◌≤◌}
 use Rattle.std.specs.Io.KnownBytes.{Appends}
-use Rattle.tpm_tool.specs.Progress.{Reaches}
+use Rattle.tpm_script.specs.Progress.{Reaches}
 use Rattle.tpm_text.specs.InputLines.{most_bytes}
-use Rattle.tpm_tool.proofs.script.run_script.Given as goal
+use Rattle.tpm_script.proofs.script.run_script.Given as goal
 
 -- the bytes so far are taken, and are not too many
 abbrev pub invariant-loop-run : goal.invariant-loop-run

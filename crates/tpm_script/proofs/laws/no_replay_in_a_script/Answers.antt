@@ -1,5 +1,5 @@
-use Rattle.tpm_tool.proofs.Nonces.{differ, not_twice}
-use Rattle.tpm_tool.proofs.laws.no_replay_in_a_script.Goals as goal
+use Rattle.tpm_script.proofs.Nonces.{differ, not_twice}
+use Rattle.tpm_script.proofs.laws.no_replay_in_a_script.Goals as goal
 
 pub returns-clause-differ : goal.returns-clause-differ
 returns-clause-differ c = differ
