@@ -1,12 +1,14 @@
--- Numbers that stand for a choice (Part 2, 6).
+-- Numbers that stand for a choice (Part 2, 6 and 11.1).
 use Rattle.std.specs.Prelude.{ℕ, Option, Some, None, ◌==◌, if◌then◌else◌}
 use Rattle.tpm_wire.specs.Buffers.{Layout}
 use Rattle.tpm_wire.specs.Layout.Form.{number}
 use Rattle.tpm_wire.specs.ResponseCodes.{rc_value}
 use Rattle.tpm_types.specs.declared.constants.StartupType.{StartupType}
 use Rattle.tpm_types.specs.declared.constants.SessionType.{SessionType}
+use Rattle.tpm_types.specs.declared.constants.KeyBits.{KeyBits}
 use Rattle.tpm_types.specs.declared.constants.StartupType.TheVariants.{Clear, State}
 use Rattle.tpm_types.specs.declared.constants.SessionType.TheVariants.{Hmac, Policy, Trial}
+use Rattle.tpm_types.specs.declared.constants.KeyBits.TheVariants.{Bits128, Bits256}
 
 -- ---- TPM_SU (6.10)
 
@@ -32,3 +34,15 @@ session_type_number Trial = 3
 
 unfoldable pub session_type : Layout SessionType
 session_type = number 1 (λ left. session_type_of) session_type_number rc_value
+
+-- ---- TPMI_AES_KEY_BITS (11.1.2)
+
+abbrev pub key_bits_of : ℕ → Option KeyBits
+key_bits_of n = if n == 128 then Some Bits128 else if n == 256 then Some Bits256 else None
+
+abbrev pub key_bits_number : KeyBits → ℕ
+key_bits_number Bits128 = 128
+key_bits_number Bits256 = 256
+
+unfoldable pub key_bits : Layout KeyBits
+key_bits = number 2 (λ left. key_bits_of) key_bits_number rc_value

@@ -1,16 +1,17 @@
 -- Structures by a choice: TPMT (Part 2, 10.3 and 11.1).
-use Rattle.std.specs.Prelude.{ℕ, List, Option, Some, None, ◌==◌, ◌||◌, if◌then◌else◌}
+use Rattle.std.specs.Prelude.{ℕ, List, ◌==◌, ◌||◌}
 use Rattle.tpm_wire.specs.Buffers.{Layout, number_in}
 use Rattle.tpm_wire.specs.Layout.{either, raw}
-use Rattle.tpm_wire.specs.Layout.Form.{number, field, done}
-use Rattle.tpm_wire.specs.ResponseCodes.{rc_value, rc_mode, rc_symmetric}
+use Rattle.tpm_wire.specs.Layout.Form.{field, done}
+use Rattle.tpm_wire.specs.ResponseCodes.{rc_mode, rc_symmetric}
 use Rattle.tpm_types.specs.Alg.{hash, digest_len}
 use Rattle.tpm_types.specs.declared.alg.Alg.{Alg}
 use Rattle.tpm_types.specs.declared.alg.Alg.TheVariants.{Sha256}
 use Rattle.tpm_types.specs.declared.tpmt.SymDef.{SymDef}
 use Rattle.tpm_types.specs.declared.tpmt.SymDef.TheVariants.{Null, Aes, Xor}
-use Rattle.tpm_types.specs.declared.tpmt.KeyBits.{KeyBits}
-use Rattle.tpm_types.specs.declared.tpmt.KeyBits.TheVariants.{Bits128, Bits256}
+use Rattle.tpm_types.specs.declared.constants.KeyBits.{KeyBits}
+use Rattle.tpm_types.specs.declared.constants.KeyBits.TheVariants.{Bits128}
+pub use Rattle.tpm_types.specs.Constants.{key_bits_of, key_bits_number, key_bits}
 
 -- TPMT_HA (10.3.2): a hash, and a digest of as many bytes as it gives
 unfoldable pub digest_value : Layout (Alg × List ℕ)
@@ -40,17 +41,6 @@ abbrev pub algorithm_of : SymDef → ℕ
 algorithm_of Null = alg_null
 algorithm_of (Aes bits) = alg_aes
 algorithm_of (Xor alg) = alg_xor
-
--- TPMI_AES_KEY_BITS (11.1.2)
-abbrev pub key_bits_of : ℕ → Option KeyBits
-key_bits_of n = if n == 128 then Some Bits128 else if n == 256 then Some Bits256 else None
-
-abbrev pub key_bits_number : KeyBits → ℕ
-key_bits_number Bits128 = 128
-key_bits_number Bits256 = 256
-
-unfoldable pub key_bits : Layout KeyBits
-key_bits = number 2 (λ left. key_bits_of) key_bits_number rc_value
 
 -- TPMI_ALG_SYM_MODE (9.31): CFB alone
 unfoldable pub mode : Layout ℕ

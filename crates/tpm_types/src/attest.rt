@@ -3,7 +3,7 @@
 ghost use Rattle.std.specs.Prelude.{◌≡◌, ◌≤◌, ◌+◌, ◌++◌, ℕ, length, IfOk};
 ghost use Rattle.tpm_wire.specs.Buffers.{Takes};
 ghost use Rattle.tpm_wire.specs.Spelling.{spelling, Fits};
-ghost use Rattle.tpm_types.specs.Attest.{yes_no, generated, attest_type};
+ghost use Rattle.tpm_types.specs.Attest.{yes_no};
 
 use crate::lent::Lent;
 use crate::tpm2b::Digest;
@@ -149,32 +149,6 @@ const ATTEST_QUOTE: u16 = 0x8018;
 /// digest of any, that of SHA-512.
 pub const DATA_BYTES: usize = 66;
 
-#[tactic(auto, unfolding(crate::specs::Attest::generated))]
-fn take_generated(cursor: &mut Cursor<'_>) -> Result<u32, Refusal>
-    ensures reads { Takes generated cursor.old cursor.new result }
-    ensures spelled { IfOk result (λ x. cursor.old.here.rest ≡ spelling generated x ++ cursor.new.here.rest) }
-{
-    let refusal = cursor.refusal(VALUE);
-    let magic = u32::take(cursor)?;
-    if magic != GENERATED_VALUE {
-        return Err(refusal);
-    }
-    Ok(magic)
-}
-
-#[tactic(auto, unfolding(crate::specs::Attest::attest_type))]
-fn take_type(cursor: &mut Cursor<'_>) -> Result<u16, Refusal>
-    ensures reads { Takes attest_type cursor.old cursor.new result }
-    ensures spelled { IfOk result (λ x. cursor.old.here.rest ≡ spelling attest_type x ++ cursor.new.here.rest) }
-{
-    let refusal = cursor.refusal(VALUE);
-    let kind = u16::take(cursor)?;
-    if kind != ATTEST_QUOTE {
-        return Err(refusal);
-    }
-    Ok(kind)
-}
-
 /// A quote as it is signed: TPMS_ATTEST (Part 2, 10.12) of type TPM_ST_ATTEST_QUOTE. What has a length of its own is lent from where
 /// the bytes are.
 #[derive(Drop)]
@@ -242,8 +216,14 @@ impl<'a> Attest<'a> {
         ensures reads { Takes attest cursor.old cursor.new result }
         ensures spelled { IfOk result (λ a. cursor.old.here.rest ≡ spelling attest a ++ cursor.new.here.rest) }
     {
-        take_generated(cursor)?;
-        take_type(cursor)?;
+        let refusal = cursor.refusal(VALUE);
+        if u32::take(cursor)? != GENERATED_VALUE {
+            return Err(refusal);
+        }
+        let refusal = cursor.refusal(VALUE);
+        if u16::take(cursor)? != ATTEST_QUOTE {
+            return Err(refusal);
+        }
         Ok(Attest {
             signer: Lent::take(cursor)?,
             extra_data: Lent::take(cursor)?,

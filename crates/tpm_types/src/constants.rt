@@ -1,4 +1,4 @@
-//! Numbers that stand for a choice (Part 2, 6).
+//! Numbers that stand for a choice (Part 2, 6 and 11.1).
 
 ghost use Rattle.std.specs.Prelude.{◌≡◌, ℕ, Some};
 
@@ -130,5 +130,67 @@ impl Wire for SessionType {
     fn take(cursor: &mut Cursor<'_>) -> Result<Self, Refusal> {
         let refusal = cursor.refusal(VALUE);
         SessionType::from_number(u8::take(cursor)?).ok_or(refusal)
+    }
+}
+
+/// How many bits an AES key has: TPMI_AES_KEY_BITS (Part 2, 11.1.2).
+#[derive(Clone, Copy, Debug, PartialEq, Eq)]
+pub enum KeyBits {
+    /// 128 bits.
+    Bits128,
+    /// 256 bits.
+    Bits256,
+}
+
+impl KeyBits {
+    ghost use Rattle.tpm_types.specs.Constants.{key_bits_of, key_bits_number};
+
+    /// The size of this number of bits, if it is one.
+    pub fn from_number(n: u16) -> Option<Self>
+        ensures { result ≡ key_bits_of n }
+    {
+        match n {
+            128 => Some(KeyBits::Bits128),
+            256 => Some(KeyBits::Bits256),
+            _ => None,
+        }
+    }
+
+    /// The number of bits.
+    pub fn number(self) -> u16
+        ensures value { result ≡ key_bits_number self }
+        ensures in_set { key_bits_of result ≡ Some self }
+    {
+        match self {
+            KeyBits::Bits128 => 128,
+            KeyBits::Bits256 => 256,
+        }
+    }
+}
+
+/// 2 bytes, else VALUE.
+#[tactic(auto, unfolding(crate::specs::Constants::key_bits))]
+impl Wire for KeyBits {
+    ghost use Rattle.tpm_types.specs.Constants.{key_bits};
+
+    ghost layout = { key_bits };
+
+    ghost most = { 2 };
+
+    fn has_spelling(&self) {
+        prove!(self.number() <= u16::MAX);
+    }
+
+    fn len(&self) -> usize {
+        2
+    }
+
+    fn put(&self, out: &mut Buffer) {
+        self.number().put(out);
+    }
+
+    fn take(cursor: &mut Cursor<'_>) -> Result<Self, Refusal> {
+        let refusal = cursor.refusal(VALUE);
+        KeyBits::from_number(u16::take(cursor)?).ok_or(refusal)
     }
 }

@@ -17,8 +17,8 @@ mod tpmt;
 
 pub use alg::Alg;
 pub use attest::{Attest, ClockInfo, DATA_BYTES, QuoteInfo};
-pub use constants::{SessionType, StartupType};
-pub use handle_sets::{BindHandle, NullHandle, NvAuthHandle, OwnerHandle, PcrOrNull};
+pub use constants::{KeyBits, SessionType, StartupType};
+pub use handle_sets::{BindHandle, NvAuthHandle, PcrOrNull};
 pub use handles::{
     AuthSession, AuthSessions, Handle, HandleSet, NvIndex, NvIndices, PcrIndex, Policies,
     PolicyHandle, REGISTERS, RH_NULL, RH_OWNER, RS_PW, Registers, SessionHandle, Sessions,
@@ -30,4 +30,4 @@ pub use tpm2b::{AuthValue, Digest, EncryptedSalt, Name, Nonce, name_of_handle};
 pub use tpma::{NvAttrs, SessionAttrs};
 pub use tpml::{DigestValues, Digests, MOST_DIGESTS, OrDigests, Selections};
 pub use tpms::{Auth, AuthReply, NvPublic, SELECT_BYTES, Selection};
-pub use tpmt::{HashedDigest, KeyBits, SymDef};
+pub use tpmt::{HashedDigest, SymDef};

@@ -1,13 +1,14 @@
 //! Structures by a choice: TPMT (Part 2, 10.3 and 11.1).
 
-ghost use Rattle.std.specs.Prelude.{◌≡◌, ◌≢◌, ◌≤◌, length, replicate, Some, MatchOption};
+ghost use Rattle.std.specs.Prelude.{◌≡◌, ◌≢◌, ◌≤◌, length, replicate, MatchOption};
 ghost use Rattle.tpm_types.specs.Alg.{digest_len, IsDigestValue};
 ghost use Rattle.tpm_types.specs.Limits.{digest_bytes};
 
 use crate::alg::Alg;
+use crate::constants::KeyBits;
 use crate::limits::DIGEST_BYTES;
 use std::marker::Model;
-use tpm_wire::response_code::{INSUFFICIENT, MODE, SYMMETRIC, VALUE};
+use tpm_wire::response_code::{INSUFFICIENT, MODE, SYMMETRIC};
 use tpm_wire::{Buffer, Cursor, Duplicate, Refusal, Wire, put_bytes};
 
 /// A hash, and a digest of as many bytes as it gives: TPMT_HA (Part 2, 10.3.2).
@@ -132,68 +133,6 @@ const XOR: u16 = 0x000A;
 const NULL: u16 = 0x0010;
 
 const CFB: u16 = 0x0043;
-
-/// How many bits an AES key has: TPMI_AES_KEY_BITS (Part 2, 11.1.2).
-#[derive(Clone, Copy, Debug, PartialEq, Eq)]
-pub enum KeyBits {
-    /// 128 bits.
-    Bits128,
-    /// 256 bits.
-    Bits256,
-}
-
-impl KeyBits {
-    ghost use Rattle.tpm_types.specs.Tpmt.{key_bits_of, key_bits_number};
-
-    /// The size of this number of bits, if it is one.
-    pub fn from_number(n: u16) -> Option<Self>
-        ensures { result ≡ key_bits_of n }
-    {
-        match n {
-            128 => Some(KeyBits::Bits128),
-            256 => Some(KeyBits::Bits256),
-            _ => None,
-        }
-    }
-
-    /// The number of bits.
-    pub fn number(self) -> u16
-        ensures value { result ≡ key_bits_number self }
-        ensures in_set { key_bits_of result ≡ Some self }
-    {
-        match self {
-            KeyBits::Bits128 => 128,
-            KeyBits::Bits256 => 256,
-        }
-    }
-}
-
-/// 2 bytes, else VALUE.
-#[tactic(auto, unfolding(crate::specs::Tpmt::key_bits))]
-impl Wire for KeyBits {
-    ghost use Rattle.tpm_types.specs.Tpmt.{key_bits};
-
-    ghost layout = { key_bits };
-
-    ghost most = { 2 };
-
-    fn has_spelling(&self) {
-        prove!(self.number() <= u16::MAX);
-    }
-
-    fn len(&self) -> usize {
-        2
-    }
-
-    fn put(&self, out: &mut Buffer) {
-        self.number().put(out);
-    }
-
-    fn take(cursor: &mut Cursor<'_>) -> Result<Self, Refusal> {
-        let refusal = cursor.refusal(VALUE);
-        KeyBits::from_number(u16::take(cursor)?).ok_or(refusal)
-    }
-}
 
 /// How parameters are encrypted: TPMT_SYM_DEF (Part 2, 11.1.6). It is read and never used.
 #[derive(Clone, Copy, Debug, PartialEq, Eq)]
