@@ -4,7 +4,7 @@ use Rattle.std.specs.Str.{bytes_eq}
 use Rattle.clap.specs.Words.{Row, Text, first_of}
 use Rattle.tpm_types.specs.declared.alg.Alg.{Alg}
 use Rattle.tpm_types.specs.declared.tpms.Selection.{Selection}
-use Rattle.tpm_buffer.specs.declared.code.CommandCode.{CommandCode}
+use Rattle.tpm_commands.specs.declared.code.CommandCode.{CommandCode}
 use Rattle.tpm_arg_values.specs.Numbers.{IsDecimal, IsHexadecimal}
 use Rattle.tpm_arg_values.specs.Owner.{IsOwner}
 use Rattle.tpm_arg_values.specs.Selections.{hash_word, AreSelections}

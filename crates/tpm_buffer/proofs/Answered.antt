@@ -13,11 +13,11 @@ use Rattle.tpm_wire.proofs.Again.{fit_list, read_again}
 use Rattle.tpm_wire.proofs.Whole.{read_spells}
 use Rattle.tpm_types.specs.declared.tpms.AuthReply.{AuthReply}
 use Rattle.tpm_types.specs.Tpms.{auth_response}
-use Rattle.tpm_buffer.specs.declared.code.CommandCode.{CommandCode}
-use Rattle.tpm_buffer.specs.declared.response.ReplyBody.{ReplyBody}
-use Rattle.tpm_buffer.specs.declared.response.Response.TheVariants as responses
+use Rattle.tpm_commands.specs.declared.code.CommandCode.{CommandCode}
+use Rattle.tpm_commands.specs.declared.response.ReplyBody.{ReplyBody}
+use Rattle.tpm_commands.specs.declared.response.Response.TheVariants as responses
 use Rattle.tpm_buffer.specs.Commands.{command_size}
-use Rattle.tpm_buffer.specs.Replies.{code_for_reply, reply_handles, reply_handles_of, parameters_of_reply}
+use Rattle.tpm_commands.specs.Replies.{code_for_reply, reply_handles, reply_handles_of, parameters_of_reply}
 use Rattle.tpm_buffer.proofs.Spelled.{size_meant}
 use Rattle.tpm_buffer.specs.Responses.{response_front, response_tag, code_tag, reply_tag, goes_with, response_code, further_sessions, reply_sessions, parameter_size, with_sessions, without_sessions, reply_behind, Reply, reply, done_with, behind_code, response}
 

@@ -5,14 +5,14 @@ use Rattle.std.proofs.lemmas.Bool.{eqb-true, eq-eqb, ne_eqb}
 use Rattle.std.proofs.lemmas.List.{length-append, append-nil}
 use Rattle.tpm_wire.specs.Spelling.{spelling}
 use Rattle.tpm_types.specs.declared.tpms.Auth.{Auth}
-use Rattle.tpm_buffer.specs.declared.code.CommandCode.{CommandCode}
-use Rattle.tpm_buffer.specs.declared.command.Header.{Header}
-use Rattle.tpm_buffer.specs.declared.command_parameters.Params.{Params}
-use Rattle.tpm_buffer.specs.Codes.{command_code}
-use Rattle.tpm_buffer.specs.Handles.{AreAdmitted, handle_kinds, handles}
-use Rattle.tpm_buffer.specs.Parameters.{params_code, parameters}
+use Rattle.tpm_commands.specs.declared.code.CommandCode.{CommandCode}
+use Rattle.tpm_commands.specs.declared.command.Header.{Header}
+use Rattle.tpm_commands.specs.declared.command_parameters.Params.{Params}
+use Rattle.tpm_commands.specs.Codes.{command_code}
+use Rattle.tpm_commands.specs.Handles.{AreAdmitted, handle_kinds, handles}
+use Rattle.tpm_commands.specs.Parameters.{params_code, parameters}
 use Rattle.tpm_buffer.specs.Commands.{is_tag, tag, command_size, header, authorization, body_from, code_for, handles_of, with_auths, tag_of, size_of, header_of, rest_of, command}
-use Rattle.tpm_buffer.proofs.EachCommand.{handles_again, params_again}
+use Rattle.tpm_commands.proofs.EachCommand.{handles_again, params_again}
 
 left_of : (a b : Bool) → (a || b) ≡ true → b ≡ false → a ≡ true
 left_of true b t f = refl

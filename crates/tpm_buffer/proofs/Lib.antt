@@ -2,8 +2,6 @@ pub mod Spelled
 pub mod Prefix
 pub mod Staged
 pub mod Places
-pub mod Short
-pub mod EachCommand
 pub mod Sessions
 pub mod Within
 pub mod ReadSessions

@@ -12,15 +12,15 @@ use Rattle.tpm_wire.proofs.Agreement.{bind_ok}
 use Rattle.tpm_wire.proofs.Buffers.{buffer_sound, buffer_roomy}
 use Rattle.tpm_wire.proofs.Whole.{spells_read, read_spells}
 use Rattle.tpm_wire.specs.ResponseCodes.{rc_size}
-use Rattle.tpm_buffer.specs.declared.code.CommandCode.{CommandCode}
-use Rattle.tpm_buffer.specs.declared.response.ReplyBody.{ReplyBody}
-use Rattle.tpm_buffer.specs.declared.response.Response.{Response}
-use Rattle.tpm_buffer.specs.declared.response.Response.TheVariants as responses
-use Rattle.tpm_buffer.specs.Replies.{reply_handles, reply_parameters, parameters_of_reply}
+use Rattle.tpm_commands.specs.declared.code.CommandCode.{CommandCode}
+use Rattle.tpm_commands.specs.declared.response.ReplyBody.{ReplyBody}
+use Rattle.tpm_commands.specs.declared.response.Response.{Response}
+use Rattle.tpm_commands.specs.declared.response.Response.TheVariants as responses
+use Rattle.tpm_commands.specs.Replies.{reply_handles, reply_parameters, parameters_of_reply}
 use Rattle.tpm_buffer.specs.Responses.{response_front, response_code, parameter_size, reply_sessions, with_sessions, without_sessions, Reply, reply, reply_of, done_with, behind_code, response, ReplyCut, raw_with_sessions, raw_without_sessions, cut_behind_code, reply_cut, Answers}
 use Rattle.tpm_buffer.specs.ResponseAreas.{IsCutOf}
 use Rattle.tpm_buffer.proofs.Places.{alone}
-use Rattle.tpm_buffer.proofs.EachCommand.{ends_read, AreRead, are_read, IsBodyOf, bodies}
+use Rattle.tpm_commands.proofs.EachCommand.{ends_read, AreRead, are_read, IsBodyOf, bodies}
 
 abbrev ok : {A : Type 0} → A → Result A Refusal
 ok x = Ok x

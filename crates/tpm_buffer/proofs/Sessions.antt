@@ -14,7 +14,7 @@ use Rattle.tpm_types.specs.Tpms.{auth_command}
 use Rattle.tpm_buffer.specs.ResponseAreas.{Stands}
 use Rattle.tpm_buffer.specs.CommandAreas.{LiesIn, session_of, session_at, IsSession, sessions_at}
 use Rattle.tpm_buffer.proofs.Places.{alone}
-use Rattle.tpm_buffer.proofs.Short.{of_session}
+use Rattle.tpm_commands.proofs.Short.{of_session}
 
 -- ---- places in an area
 

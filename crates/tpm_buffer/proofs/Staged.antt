@@ -11,10 +11,10 @@ use Rattle.tpm_wire.proofs.Whole.{fault_read, read_fault, spells_read, read_spel
 use Rattle.tpm_wire.proofs.Agreement.{ends_same}
 use Rattle.tpm_wire.proofs.Cuts.{cut_read, parted}
 use Rattle.tpm_wire.proofs.Elsewhere.{read_later, later}
-use Rattle.tpm_buffer.specs.declared.command.Command.{Command}
-use Rattle.tpm_buffer.specs.declared.command_parameters.Params.{Params}
-use Rattle.tpm_buffer.specs.Handles.{handles}
-use Rattle.tpm_buffer.specs.Parameters.{parameters}
+use Rattle.tpm_commands.specs.declared.command.Command.{Command}
+use Rattle.tpm_commands.specs.declared.command_parameters.Params.{Params}
+use Rattle.tpm_commands.specs.Handles.{handles}
+use Rattle.tpm_commands.specs.Parameters.{parameters}
 use Rattle.tpm_buffer.specs.Commands.{header, authorization, body_from, with_auths, front, Checked, before_params, command}
 
 abbrev err : {A : Type 0} → Refusal → Result A Refusal

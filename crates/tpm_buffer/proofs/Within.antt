@@ -11,7 +11,7 @@ use Rattle.tpm_wire.proofs.Buffers.{buffer_sound}
 use Rattle.tpm_wire.proofs.Agreement.{ends_same}
 use Rattle.tpm_wire.proofs.Whole.{reads_its_path, spells_read, fault_read}
 use Rattle.tpm_wire.proofs.Cuts.{cut_read, cut_decodes}
-use Rattle.tpm_buffer.specs.Handles.{handles}
+use Rattle.tpm_commands.specs.Handles.{handles}
 use Rattle.tpm_buffer.specs.Commands.{authorization, Checked, before_params}
 use Rattle.tpm_buffer.specs.CommandAreas.{HeaderCut, HandlesCut, Cut, IsHandled, HasHandles, checked, params_here, areas_view, HasCut, IsAreas, HasAreas}
 use Rattle.tpm_buffer.proofs.Staged.{cut_fails, cut_is}

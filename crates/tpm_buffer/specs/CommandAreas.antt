@@ -9,14 +9,9 @@ use Rattle.tpm_wire.specs.Path.{Spells, Begins, FaultFrom}
 use Rattle.tpm_types.specs.declared.tpms.Auth.{Auth}
 use Rattle.tpm_types.specs.Handles.{rs_pw}
 use Rattle.tpm_types.specs.Tpms.{auth_command}
-use Rattle.tpm_buffer.specs.declared.command.Header.{Header}
-use Rattle.tpm_buffer.specs.Handles.{handles, handle_kinds, AreAdmitted}
+use Rattle.tpm_commands.specs.declared.command.Header.{Header}
+use Rattle.tpm_commands.specs.Handles.{handles, handle_kinds, AreAdmitted}
 use Rattle.tpm_buffer.specs.Commands.{is_tag, header, authorization, Checked, before_params}
-
--- what was read into a place, or the fault
-abbrev pub placed : {A : Type 0} → A → Result (Unit {0}) Refusal → Result A Refusal
-placed x (Ok u) = Ok x
-placed x (Err e) = Err e
 
 -- ---- a command whose header was read, and the place behind it
 

@@ -1,12 +1,5 @@
-pub mod Row
-pub mod Table
-pub mod Codes
-pub mod Handles
-pub mod Parameters
 pub mod Commands
 pub mod Parts
 pub mod CommandAreas
-pub mod Replies
 pub mod Responses
 pub mod ResponseAreas
-pub mod Events

@@ -1,17 +1,15 @@
 -- What contracts see of a response whose parameters are not judged.
-use Rattle.std.specs.Prelude.{◌≡◌, ℕ, ◌+◌, ◌*◌, ◌≤◌, List, [], ◌∷◌, length, take, drop, map, Option, Some, None, slice_get, ◌==◌, if◌then◌else◌, Result, Ok, Err}
+use Rattle.std.specs.Prelude.{◌≡◌, ℕ, ◌+◌, ◌*◌, ◌≤◌, List, [], length, take, drop, map, Option, slice_get, ◌==◌, if◌then◌else◌, Result, Ok, Err}
 use Rattle.tpm_wire.specs.declared.refusal.Refusal.{Refusal}
 use Rattle.tpm_wire.specs.Token.{Here, at_start}
 use Rattle.tpm_wire.specs.Reading.{read}
 use Rattle.tpm_wire.specs.Path.{Spells}
 use Rattle.tpm_types.specs.declared.tpms.AuthReply.{AuthReply}
 use Rattle.tpm_types.specs.Tpms.{auth_response}
-use Rattle.tpm_buffer.specs.declared.code.CommandCode.{CommandCode}
-use Rattle.tpm_buffer.specs.declared.code.CommandCode.TheVariants as codes
-use Rattle.tpm_buffer.specs.declared.response.ReplyBody.{ReplyBody}
-use Rattle.tpm_buffer.specs.declared.response.Response.{Response}
-use Rattle.tpm_buffer.specs.declared.response.Response.TheVariants as responses
-use Rattle.tpm_buffer.specs.Replies.{code_for_reply, reply_handles_of, parameters_of_reply}
+use Rattle.tpm_commands.specs.declared.response.ReplyBody.{ReplyBody}
+use Rattle.tpm_commands.specs.declared.response.Response.{Response}
+use Rattle.tpm_commands.specs.declared.response.Response.TheVariants as responses
+use Rattle.tpm_commands.specs.Replies.{reply_handles_of, parameters_of_reply}
 use Rattle.tpm_buffer.specs.Responses.{ReplyCut}
 
 -- the handle, where there is one
@@ -52,23 +50,6 @@ pub record IsSession (bytes : List ℕ) (n : ℕ) : Type 0 where
 
 abbrev pub sessions_at : List ℕ → List ℕ → List AuthReply
 sessions_at bytes ns = map (session_at bytes) ns
-
--- ---- the handle
-
-abbrev pub handle_list : Option ℕ → List ℕ
-handle_list None = []
-handle_list (Some n) = n ∷ []
-
--- There is a handle for a command whose response has one, and for no other.
-abbrev pub HasHandle : CommandCode → Option ℕ → Type 0
-HasHandle codes.StartAuthSession None = ⊥
-HasHandle codes.StartAuthSession (Some n) = Unit {0}
-HasHandle code None = Unit {0}
-HasHandle code (Some n) = ⊥
-
--- The reply is to this command, and has this handle.
-abbrev pub IsReplyTo : CommandCode → Option ℕ → ReplyBody → Type 0
-IsReplyTo code handle body = (code_for_reply body ≡ code) × (reply_handles_of body ≡ handle_list handle)
 
 -- ---- a response and its cut
 

@@ -9,13 +9,11 @@ ghost use Rattle.tpm_wire.specs.Path.{Decodes};
 ghost use Rattle.tpm_buffer.specs.Commands.{header as header_layout, before_params};
 ghost use Rattle.tpm_buffer.specs.CommandAreas.{head_and_rest, IsHandled, HasHandles, checked, params_here, areas_view, cut_of, IsAreas, HasAreas, IsSpelledBy};
 
-use crate::code::CommandCode;
-use crate::command::Header;
-use crate::command_handles::take_handles;
 use crate::command_header::{long_fault, take_header};
 use crate::command_sessions::{AuthRef, read_authorization, session_at, take_authorization};
 use arrayvec::ArrayVec;
 use std::marker::Model;
+use tpm_commands::{CommandCode, Header, take_handles};
 use tpm_types::Auth;
 use tpm_wire::{Cursor, Refusal};
 

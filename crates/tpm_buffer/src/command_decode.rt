@@ -6,14 +6,14 @@ ghost use Rattle.tpm_wire.specs.declared.refusal.Refusal.{Refusal as RefusalOf};
 ghost use Rattle.tpm_wire.specs.Reading.{read_all, Gives};
 ghost use Rattle.tpm_wire.specs.Layout.{cut};
 ghost use Rattle.tpm_wire.specs.Path.{Spells, Fault};
-ghost use Rattle.tpm_buffer.specs.declared.command.Command.{Command as CommandOf};
+ghost use Rattle.tpm_commands.specs.declared.command.Command.{Command as CommandOf};
 ghost use Rattle.tpm_buffer.specs.Commands.{before_params, command};
 ghost use Rattle.tpm_buffer.specs.CommandAreas.{Cut, HasCut, IsSpelledBy};
 
-use crate::command::{Command, CommandBody};
 use crate::command_areas::{Areas, any_areas, read_before_params};
 use crate::command_header::long_fault;
 use arrayvec::ArrayVec;
+use tpm_commands::{Command, CommandBody};
 use tpm_types::StartupType;
 use tpm_wire::response_code::SIZE;
 use tpm_wire::{Cursor, Refusal};

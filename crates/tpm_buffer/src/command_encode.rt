@@ -3,13 +3,13 @@
 ghost use Rattle.std.specs.Prelude.{◌≡◌, ◌≤◌, ◌+◌, ◌++◌, length, ℕ};
 ghost use Rattle.tpm_wire.specs.Spelling.{spelling, Fits};
 ghost use Rattle.tpm_wire.specs.Path.{Spells};
-ghost use Rattle.tpm_buffer.specs.Handles.{handles as handles_layout};
-ghost use Rattle.tpm_buffer.specs.Parameters.{parameters};
+ghost use Rattle.tpm_commands.specs.Handles.{handles as handles_layout};
+ghost use Rattle.tpm_commands.specs.Parameters.{parameters};
 ghost use Rattle.tpm_buffer.specs.Commands.{authorization, tag_of, code_for, handles_of, params_of, body_from, rest_of, command as command_layout};
 
-use crate::command::{Command, CommandBody};
 use crate::command_header::{NO_SESSIONS, SESSIONS};
 use arrayvec::ArrayVec;
+use tpm_commands::{Command, CommandBody};
 use tpm_types::Auth;
 use tpm_wire::{Buffer, Wire, known_list, list_len, put_list};
 
@@ -102,7 +102,7 @@ fn put_rest(tag: u16, command: &Command<'_>, out: &mut Buffer)
     command.body.put_params(out);
 }
 
-#[tactic(auto, unfolding(crate::specs::Commands::command, crate::specs::Commands::header, crate::specs::Commands::tag, crate::specs::Commands::command_size, crate::specs::Codes::command_code))]
+#[tactic(auto, unfolding(crate::specs::Commands::command, crate::specs::Commands::header, crate::specs::Commands::tag, crate::specs::Commands::command_size, tpm_commands::specs::Codes::command_code))]
 fn put_whole(tag: u16, len: usize, command: &Command<'_>, out: &mut Buffer)
     requires empty { length out.old.items ≡ 0 }
     requires tag { tag ≡ tag_of command.now }

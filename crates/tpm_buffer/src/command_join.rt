@@ -3,8 +3,8 @@
 ghost use Rattle.std.specs.Prelude.{◌≡◌, ◌+◌, ◌<◌, ◌≤◌, ◌++◌, MatchOption, length};
 ghost use Rattle.tpm_buffer.specs.Parts.{authorization_of, joined, tag_for};
 
-use crate::code::CommandCode;
 use crate::command_header::{NO_SESSIONS, SESSIONS};
+use tpm_commands::CommandCode;
 use tpm_wire::{Buffer, put_bytes};
 
 fn tag(sessions: &[u8]) -> u16

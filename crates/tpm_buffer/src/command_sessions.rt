@@ -12,9 +12,9 @@ ghost use Rattle.tpm_buffer.specs.ResponseAreas.{Stands};
 ghost use Rattle.tpm_buffer.specs.CommandAreas.{LiesIn, IsSession, session_at as the_session_at, sessions_at};
 
 use crate::command_header::SESSIONS;
-use crate::lent::take_sized;
 use arrayvec::ArrayVec;
 use std::marker::Model;
+use tpm_commands::take_sized;
 use tpm_types::{Auth, AuthSession, DIGEST_BYTES, SessionAttrs};
 use tpm_wire::response_code::{AUTHSIZE, of_session};
 use tpm_wire::{Cursor, Refusal, Wire};

@@ -1,46 +1,38 @@
 //! Commands and responses in buffers.
 #![tactic(auto)]
 
-mod code;
-mod command;
 mod command_areas;
 mod command_decode;
 mod command_encode;
-mod command_handles;
 mod command_header;
 mod command_join;
-mod command_parameters;
 mod command_sessions;
-mod commands;
 mod laws;
-mod lent;
-mod response;
 mod response_areas;
 mod response_decode;
 mod response_encode;
 mod response_header;
 mod response_sessions;
 
-pub use code::CommandCode;
-pub use command::{Command, CommandBody, Header, StartAuth};
 pub use command_areas::{Areas, Handled, Headed, header};
 pub use command_decode::{areas, decode_command, one_spelling};
 pub use command_encode::{encode_command, put_command};
 pub use command_header::{NO_SESSIONS, SESSIONS};
 pub use command_join::join_command;
-pub use command_parameters::{Params, decode_params, decode_params_into};
 pub use command_sessions::AuthRef;
 pub use laws::{
     areas_of_a_response, command_or_fault, fault_before_params, no_prefix, no_response_prefix,
     parameters_in_command, response_or_fault,
 };
-pub use lent::{EVENT_BYTES, Event};
-pub use response::{ErrorCode, NvData, ReplyBody, Response, StartReply};
 pub use response_areas::{ReplyAreas, reply_areas};
 pub use response_decode::decode_response;
 pub use response_encode::{encode_response, put_code, put_reply, put_reply_params};
 pub use response_header::RSP_COMMAND;
 pub use response_sessions::ReplyRef;
+pub use tpm_commands::{
+    Command, CommandBody, CommandCode, EVENT_BYTES, ErrorCode, Event, Header, NvData, Params,
+    ReplyBody, Response, StartAuth, StartReply, decode_params, decode_params_into,
+};
 pub use tpm_stream::{
     Framer, ReadFault, Status, broken_for_ever, frames_of_a_stream, frames_of_pieces, frames_read,
     read_frame, read_frame_into,

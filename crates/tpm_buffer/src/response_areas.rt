@@ -7,15 +7,15 @@ ghost use Rattle.tpm_wire.specs.Reading.{read_all};
 ghost use Rattle.tpm_wire.specs.Buffers.{TakesNumbered};
 ghost use Rattle.tpm_wire.specs.Path.{Spells, Fault};
 ghost use Rattle.tpm_buffer.specs.Responses.{ReplyCut, raw_with_sessions, raw_without_sessions, cut_behind_code, reply_cut};
-ghost use Rattle.tpm_buffer.specs.ResponseAreas.{Stands, handle_list, handle_of, place_of_params, HasItsParams};
+ghost use Rattle.tpm_commands.specs.Replies.{handle_list};
+ghost use Rattle.tpm_buffer.specs.ResponseAreas.{Stands, handle_of, place_of_params, HasItsParams};
 
-use crate::code::CommandCode;
 use crate::command_header::SESSIONS;
-use crate::commands::take_reply_handle;
 use crate::response_header::{long_fault, take_code, take_front};
 use crate::response_sessions::{ReplyRef, session_at, take_parameter_size, take_sessions};
 use arrayvec::ArrayVec;
 use std::marker::Model;
+use tpm_commands::{CommandCode, take_reply_handle};
 use tpm_types::SessionHandle;
 use tpm_wire::response_code::SIZE;
 use tpm_wire::{Cursor, Refusal};
@@ -36,7 +36,8 @@ impl<'a> Model for ReplyAreas<'a> {
     ghost use Rattle.std.specs.Prelude.{◌≡◌, ◌≤◌, ◌+◌, length, take, drop};
     ghost use Rattle.std.specs.List.{All};
     ghost use Rattle.tpm_buffer.specs.Responses.{ReplyCut};
-    ghost use Rattle.tpm_buffer.specs.ResponseAreas.{IsSession, sessions_at, handle_list, place_behind};
+    ghost use Rattle.tpm_commands.specs.Replies.{handle_list};
+    ghost use Rattle.tpm_buffer.specs.ResponseAreas.{IsSession, sessions_at, place_behind};
 
     ghost Value = { ReplyCut };
 

@@ -4,15 +4,15 @@ ghost use Rattle.std.specs.Prelude.{◌≡◌, ◌≤◌, ◌<◌, ◌^◌, ◌+
 ghost use Rattle.std.specs.Int.{bytes_high_first};
 ghost use Rattle.tpm_wire.specs.Spelling.{spelling, Fits};
 ghost use Rattle.tpm_wire.specs.Path.{Spells};
-ghost use Rattle.tpm_buffer.specs.declared.code.CommandCode.{CommandCode as CodeOf};
-ghost use Rattle.tpm_buffer.specs.declared.response.Response.TheVariants as responses;
-ghost use Rattle.tpm_buffer.specs.Replies.{code_for_reply, parameters_of_reply};
+ghost use Rattle.tpm_commands.specs.declared.code.CommandCode.{CommandCode as CodeOf};
+ghost use Rattle.tpm_commands.specs.declared.response.Response.TheVariants as responses;
+ghost use Rattle.tpm_commands.specs.Replies.{code_for_reply, parameters_of_reply};
 ghost use Rattle.tpm_buffer.specs.Responses.{code_tag, reply_sessions, reply_tag, reply_behind, reply, response as response_layout, Answers};
 
 use crate::command_header::{NO_SESSIONS, SESSIONS};
-use crate::response::{ErrorCode, ReplyBody, Response};
 use crate::response_header::RSP_COMMAND;
 use arrayvec::ArrayVec;
+use tpm_commands::{ErrorCode, ReplyBody, Response};
 use tpm_types::AuthReply;
 use tpm_wire::response_code::BAD_TAG;
 use tpm_wire::{Buffer, Wire, known_list, list_len, put_list};

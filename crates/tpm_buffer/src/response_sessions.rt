@@ -9,9 +9,9 @@ ghost use Rattle.tpm_types.specs.Tpms.{auth_response};
 ghost use Rattle.tpm_buffer.specs.Responses.{further_sessions, parameter_size, reply_sessions};
 ghost use Rattle.tpm_buffer.specs.ResponseAreas.{Stands, IsSession, session_at as the_session_at, sessions_at};
 
-use crate::lent::take_sized;
 use arrayvec::ArrayVec;
 use std::marker::Model;
+use tpm_commands::take_sized;
 use tpm_types::{AuthReply, DIGEST_BYTES, SessionAttrs};
 use tpm_wire::response_code::{SIZE, of_session};
 use tpm_wire::{Cursor, Refusal, Wire};

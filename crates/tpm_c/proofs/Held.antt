@@ -8,10 +8,10 @@ use Rattle.tpm_types.specs.declared.tpms.Auth.{Auth}
 use Rattle.tpm_types.specs.Handles.{auth_session}
 use Rattle.tpm_types.specs.Tpma.{session_attrs}
 use Rattle.tpm_types.specs.Tpms.{auth_command}
-use Rattle.tpm_buffer.specs.declared.command_handles.HandleKind.{HandleKind}
-use Rattle.tpm_buffer.specs.declared.command.Header.{Header}
-use Rattle.tpm_buffer.specs.Codes.{command_code}
-use Rattle.tpm_buffer.specs.Handles.{handles, handles_from, handle_kinds, others}
+use Rattle.tpm_commands.specs.declared.command_handles.HandleKind.{HandleKind}
+use Rattle.tpm_commands.specs.declared.command.Header.{Header}
+use Rattle.tpm_commands.specs.Codes.{command_code}
+use Rattle.tpm_commands.specs.Handles.{handles, handles_from, handle_kinds, others}
 use Rattle.tpm_buffer.specs.Commands.{header, tag, command_size, authorization, authorization_size, sessions}
 use Rattle.tpm_buffer.specs.CommandAreas.{Cut, IsSpelledBy}
 use Rattle.tpm_c.specs.CommandViews.{HoldsSession, HoldsParts, behind, first_place, place}

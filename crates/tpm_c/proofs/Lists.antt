@@ -13,7 +13,7 @@ use Rattle.tpm_types.specs.Limits.{digest_bytes, banks}
 use Rattle.tpm_types.specs.Tpms.{selection}
 use Rattle.tpm_types.specs.Tpm2b.{digest}
 use Rattle.tpm_types.specs.Tpml.{most_digests, selections, or_digests}
-use Rattle.tpm_buffer.proofs.Short.{of_selection, ok, over}
+use Rattle.tpm_commands.proofs.Short.{of_selection, ok, over}
 use Rattle.tpm_c.specs.Parts.{left_over, whole_in}
 
 pub of_selections : TakesAtMost 4096 selections

@@ -1,7 +1,7 @@
 -- A command that has a Name or a nonce which is too long is not sealed.
 use Rattle.std.proofs.Common.{◌≡◌, ℕ, List, [], ◌∷◌, length, take, Bool, false, Some, refl, sym, ap, ◌∙◌, arith}
-use Rattle.tpm_buffer.specs.declared.command.CommandBody.{CommandBody}
-use Rattle.tpm_buffer.specs.Handles.{handle_kinds}
+use Rattle.tpm_commands.specs.declared.command.CommandBody.{CommandBody}
+use Rattle.tpm_commands.specs.Handles.{handle_kinds}
 use Rattle.tpm_buffer.specs.Commands.{code_for, handles_of}
 use Rattle.tpm_c.specs.declared.caller.Held.{Held}
 use Rattle.tpm_c.specs.declared.caller.Held.TheVariants.{Spent, Free, Sealed}

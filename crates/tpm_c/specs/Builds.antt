@@ -3,9 +3,9 @@ use Rattle.std.specs.Prelude.{◌≡◌, ◌⊎◌, ℕ, ◌<◌, ◌≤◌, Lis
 use Rattle.tpm_wire.specs.declared.refusal.Refusal.{Refusal}
 use Rattle.tpm_wire.specs.ResponseCodes.{rc_command_size}
 use Rattle.tpm_wire.specs.Path.{Spells, Fault}
-use Rattle.tpm_buffer.specs.declared.code.CommandCode.{CommandCode}
-use Rattle.tpm_buffer.specs.declared.command.Command.{Command}
-use Rattle.tpm_buffer.specs.Codes.{code_of}
+use Rattle.tpm_commands.specs.declared.code.CommandCode.{CommandCode}
+use Rattle.tpm_commands.specs.declared.command.Command.{Command}
+use Rattle.tpm_commands.specs.Codes.{code_of}
 use Rattle.tpm_buffer.specs.Commands.{command}
 use Rattle.tpm_buffer.specs.Parts.{joined}
 use Rattle.tpm_c.specs.declared.part.TpmRefusal.{TpmRefusal}

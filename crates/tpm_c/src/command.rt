@@ -1,7 +1,7 @@
 //! A command's verdict, and its areas by their places in its bytes.
 
 ghost use Rattle.std.specs.Prelude.{◌≡◌, ◌≤◌, ◌+◌, ◌∷◌, [], option_map};
-ghost use Rattle.tpm_buffer.specs.Handles.{first, second};
+ghost use Rattle.tpm_commands.specs.Handles.{first, second};
 ghost use Rattle.tpm_c.specs.CommandViews.{session_view, behind as behind_of, first_place as first_place_of, session_views, command_view, ViewsCommand, JudgesCommand};
 
 use crate::part::{DONE, NO_PART, TpmPart, TpmRefusal, refuse};

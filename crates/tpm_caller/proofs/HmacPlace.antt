@@ -9,18 +9,18 @@ use Rattle.tpm_types.specs.declared.tpms.Auth.{Auth}
 use Rattle.tpm_types.specs.Handles.{auth_session}
 use Rattle.tpm_types.specs.Tpma.{session_attrs}
 use Rattle.tpm_types.specs.Tpms.{auth_command}
-use Rattle.tpm_buffer.specs.declared.command.CommandBody.{CommandBody}
-use Rattle.tpm_buffer.specs.declared.command.CommandBody.TheVariants as bodies
-use Rattle.tpm_buffer.specs.declared.command.Header.{Header}
-use Rattle.tpm_buffer.specs.Codes.{command_code}
-use Rattle.tpm_buffer.specs.declared.command.Command.{Command}
-use Rattle.tpm_buffer.specs.Handles.{handles}
-use Rattle.tpm_buffer.specs.Parameters.{parameters}
+use Rattle.tpm_commands.specs.declared.command.CommandBody.{CommandBody}
+use Rattle.tpm_commands.specs.declared.command.CommandBody.TheVariants as bodies
+use Rattle.tpm_commands.specs.declared.command.Header.{Header}
+use Rattle.tpm_commands.specs.Codes.{command_code}
+use Rattle.tpm_commands.specs.declared.command.Command.{Command}
+use Rattle.tpm_commands.specs.Handles.{handles}
+use Rattle.tpm_commands.specs.Parameters.{parameters}
 use Rattle.tpm_buffer.specs.Commands.{tag, command_size, header, sessions, authorization_size, authorization, code_for, handles_of, params_of, with_auths, rest_of, size_of, header_of, command}
 use Rattle.tpm_types.specs.Limits.{digest_bytes}
 use Rattle.tpm_types.specs.Alg.{digest_len}
-use Rattle.tpm_buffer.specs.declared.code.CommandCode.{CommandCode}
-use Rattle.tpm_buffer.specs.Codes.{code_number}
+use Rattle.tpm_commands.specs.declared.code.CommandCode.{CommandCode}
+use Rattle.tpm_commands.specs.Codes.{code_number}
 use Rattle.tpm_hmac.specs.Hmac.{hmac}
 use Rattle.tpm_hmac.specs.Sessions.{whole_key, cp_hash, mac_text}
 use Rattle.tpm_hmac.proofs.DigestLengths.{length-hmac}

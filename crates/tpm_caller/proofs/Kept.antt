@@ -3,9 +3,9 @@ use Rattle.std.proofs.Common.{◌≡◌, ℕ, List, [], ◌∷◌, Result, Ok, E
 use Rattle.tpm_wire.specs.declared.refusal.Refusal.{Refusal}
 use Rattle.tpm_wire.specs.Reading.{read_all}
 use Rattle.tpm_types.specs.declared.tpms.AuthReply.{AuthReply}
-use Rattle.tpm_buffer.specs.declared.response.ReplyBody.{ReplyBody}
-use Rattle.tpm_buffer.specs.declared.response.Response.{Response}
-use Rattle.tpm_buffer.specs.declared.response.Response.TheVariants as responses
+use Rattle.tpm_commands.specs.declared.response.ReplyBody.{ReplyBody}
+use Rattle.tpm_commands.specs.declared.response.Response.{Response}
+use Rattle.tpm_commands.specs.declared.response.Response.TheVariants as responses
 use Rattle.tpm_buffer.specs.Responses.{response}
 use Rattle.tpm_model.specs.Callers.{Waiting, awaited_text, opened_session, opened_response, opened, caller_of_refusal, given_up}
 use Rattle.tpm_caller.specs.Sent.{with_hmac_key}

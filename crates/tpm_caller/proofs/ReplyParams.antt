@@ -16,13 +16,13 @@ use Rattle.tpm_wire.proofs.Buffers.{buffer_sound}
 use Rattle.tpm_wire.proofs.Numbers.{number_of-bytes}
 use Rattle.tpm_wire.proofs.Whole.{spells_read}
 use Rattle.tpm_types.specs.declared.tpms.AuthReply.{AuthReply}
-use Rattle.tpm_buffer.specs.declared.code.CommandCode.{CommandCode}
-use Rattle.tpm_buffer.specs.declared.code.CommandCode.TheVariants as codes
-use Rattle.tpm_buffer.specs.declared.response.ReplyBody.{ReplyBody}
-use Rattle.tpm_buffer.specs.declared.response.ReplyBody.TheVariants as replies
-use Rattle.tpm_buffer.specs.Handles.{needs_authorization}
+use Rattle.tpm_commands.specs.declared.code.CommandCode.{CommandCode}
+use Rattle.tpm_commands.specs.declared.code.CommandCode.TheVariants as codes
+use Rattle.tpm_commands.specs.declared.response.ReplyBody.{ReplyBody}
+use Rattle.tpm_commands.specs.declared.response.ReplyBody.TheVariants as replies
+use Rattle.tpm_commands.specs.Handles.{needs_authorization}
 use Rattle.tpm_buffer.specs.Commands.{command_size}
-use Rattle.tpm_buffer.specs.Replies.{code_for_reply, reply_handles, reply_handles_of}
+use Rattle.tpm_commands.specs.Replies.{code_for_reply, reply_handles, reply_handles_of}
 use Rattle.tpm_buffer.specs.Responses.{is_response_tag, response_tag, response_front, response_code, parameter_size, reply_sessions, size_of_response, response, done_with, ReplyCut, raw_with_sessions, raw_without_sessions, cut_behind_code, reply_cut}
 use Rattle.tpm_buffer.proofs.Places.{raw_is}
 use Rattle.tpm_buffer.proofs.Parted.{answers}

@@ -4,8 +4,8 @@ ghost use Rattle.std.specs.Prelude.{◌≡◌, ◌∷◌, [], ◌+◌, ◌*◌, 
 ghost use Rattle.tpm_types.specs.declared.tpms.Auth.{Auth as AuthOf};
 ghost use Rattle.tpm_types.specs.Alg.{digest_len};
 ghost use Rattle.tpm_types.specs.Limits.{block_bytes, digest_bytes};
-ghost use Rattle.tpm_buffer.specs.Codes.{code_number};
-ghost use Rattle.tpm_buffer.specs.Handles.{needs_authorization};
+ghost use Rattle.tpm_commands.specs.Codes.{code_number};
+ghost use Rattle.tpm_commands.specs.Handles.{needs_authorization};
 ghost use Rattle.tpm_buffer.specs.Commands.{code_for, handles_of};
 ghost use Rattle.tpm_hmac.specs.Hmac.{hmac};
 ghost use Rattle.tpm_hmac.specs.Sessions.{session_key as session_key_of, whole_key, cp_hash as cp_hash_of, mac_text};

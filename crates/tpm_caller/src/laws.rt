@@ -5,12 +5,12 @@ ghost use Rattle.std.specs.Prelude.{◌≡◌, ◌≢◌, ◌↔◌, ◌≤◌, 
 ghost use Rattle.tpm_wire.specs.declared.refusal.Refusal.{Refusal};
 ghost use Rattle.tpm_wire.specs.Path.{Spells, Fault};
 ghost use Rattle.tpm_types.specs.declared.handle_sets.BindHandle.TheVariants.{Owner};
-ghost use Rattle.tpm_buffer.specs.declared.command.CommandBody.TheVariants as bodies;
-ghost use Rattle.tpm_buffer.specs.declared.command.StartAuth.{StartAuth};
-ghost use Rattle.tpm_buffer.specs.declared.response.ReplyBody.TheVariants as replies;
-ghost use Rattle.tpm_buffer.specs.declared.response.Response.TheVariants as responses;
-ghost use Rattle.tpm_buffer.specs.declared.response.StartReply.{StartReply};
-ghost use Rattle.tpm_buffer.specs.Handles.{needs_authorization};
+ghost use Rattle.tpm_commands.specs.declared.command.CommandBody.TheVariants as bodies;
+ghost use Rattle.tpm_commands.specs.declared.command.StartAuth.{StartAuth};
+ghost use Rattle.tpm_commands.specs.declared.response.ReplyBody.TheVariants as replies;
+ghost use Rattle.tpm_commands.specs.declared.response.Response.TheVariants as responses;
+ghost use Rattle.tpm_commands.specs.declared.response.StartReply.{StartReply};
+ghost use Rattle.tpm_commands.specs.Handles.{needs_authorization};
 ghost use Rattle.tpm_buffer.specs.Commands.{command, code_for};
 ghost use Rattle.tpm_buffer.specs.Responses.{response};
 ghost use Rattle.tpm_hmac.specs.Sessions.{trim};

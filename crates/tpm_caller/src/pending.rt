@@ -4,7 +4,7 @@ ghost use Rattle.std.specs.Prelude.{◌≡◌, ◌≤◌, ◌<◌, ◌^◌, ◌+
 ghost use Rattle.std.specs.Int.{bytes_high_first};
 ghost use Rattle.tpm_types.specs.Limits.{digest_bytes};
 ghost use Rattle.tpm_types.specs.declared.tpms.AuthReply.{AuthReply};
-ghost use Rattle.tpm_buffer.specs.declared.response.ReplyBody.{ReplyBody};
+ghost use Rattle.tpm_commands.specs.declared.response.ReplyBody.{ReplyBody};
 ghost use Rattle.tpm_buffer.specs.Responses.{code_tag, done_with};
 ghost use Rattle.tpm_model.specs.Callers.{CallerFault as Fault, opened, opened_session, given_up};
 ghost use Rattle.tpm_caller.specs.Faults.{fault_of, opening_of, giving_up_of};
@@ -31,7 +31,7 @@ pub struct Pending {
 
 impl Model for Pending {
     ghost use Rattle.std.specs.Prelude.{◌≡◌, true};
-    ghost use Rattle.tpm_buffer.specs.Handles.{needs_authorization};
+    ghost use Rattle.tpm_commands.specs.Handles.{needs_authorization};
     ghost use Rattle.tpm_model.specs.Callers as model;
 
     ghost Value = { model.Waiting };

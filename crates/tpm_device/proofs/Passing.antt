@@ -7,17 +7,17 @@ use Rattle.tpm_wire.specs.Reading.{read, read_all, ◌>>=◌}
 use Rattle.tpm_wire.specs.Spelling.{spelling}
 use Rattle.tpm_types.specs.declared.tpms.AuthReply.{AuthReply}
 use Rattle.tpm_types.specs.Handles.{is_owner}
-use Rattle.tpm_buffer.specs.declared.code.CommandCode.{CommandCode}
-use Rattle.tpm_buffer.specs.declared.command.CommandBody.{CommandBody}
-use Rattle.tpm_buffer.specs.declared.command.Header.{Header}
-use Rattle.tpm_buffer.specs.declared.command_parameters.Params.{Params}
-use Rattle.tpm_buffer.specs.declared.command_parameters.Params.TheVariants as params
-use Rattle.tpm_buffer.specs.declared.response.ReplyBody.{ReplyBody}
+use Rattle.tpm_commands.specs.declared.code.CommandCode.{CommandCode}
+use Rattle.tpm_commands.specs.declared.command.CommandBody.{CommandBody}
+use Rattle.tpm_commands.specs.declared.command.Header.{Header}
+use Rattle.tpm_commands.specs.declared.command_parameters.Params.{Params}
+use Rattle.tpm_commands.specs.declared.command_parameters.Params.TheVariants as params
+use Rattle.tpm_commands.specs.declared.response.ReplyBody.{ReplyBody}
 use Rattle.tpm_buffer.specs.CommandAreas.{HeaderCut, HandlesCut, Cut, head_and_rest, params_here, IsHandled, IsAreas}
-use Rattle.tpm_buffer.specs.Handles.{first, needs_authorization}
-use Rattle.tpm_buffer.specs.Parameters.{parameters, params_code}
+use Rattle.tpm_commands.specs.Handles.{first, needs_authorization}
+use Rattle.tpm_commands.specs.Parameters.{parameters, params_code}
 use Rattle.tpm_buffer.specs.Commands.{authorization, command_size, header, body_from, with_auths, code_for}
-use Rattle.tpm_buffer.specs.Replies.{code_for_reply}
+use Rattle.tpm_commands.specs.Replies.{code_for_reply}
 use Rattle.tpm_buffer.specs.Responses.{response_tag, response_front, response_code, response, done_with}
 use Rattle.tpm_model.specs.Steps.{History, Accepted, Origin}
 use Rattle.tpm_model.specs.Present.{Present}

@@ -1,7 +1,7 @@
 -- What a device answers to events is the model's run.
 use Rattle.std.proofs.Common.{◌≡◌, ℕ, ◌<◌, List, [], ◌∷◌, ◌++◌, Some, Result, Ok, Err, refl, sym, ap, subst, ◌∙◌, arith}
 use Rattle.tpm_types.specs.declared.handle_sets.NvAuthHandle.{NvAuthHandle}
-use Rattle.tpm_buffer.specs.declared.command.CommandBody.TheVariants.{NvIncrement}
+use Rattle.tpm_commands.specs.declared.command.CommandBody.TheVariants.{NvIncrement}
 use Rattle.tpm_model.specs.Steps.{History, Origin, PowerCycle}
 use Rattle.tpm_model.specs.Counters.{counter_in, value_of, value_at}
 use Rattle.tpm_model.specs.Present.{Present, present}

@@ -4,14 +4,14 @@ use Rattle.tpm_wire.specs.Reading.{◌>>=◌}
 use Rattle.tpm_wire.specs.Spelling.{spelling}
 use Rattle.tpm_types.specs.declared.tpms.Auth.{Auth}
 use Rattle.tpm_types.specs.Handles.{is_owner}
-use Rattle.tpm_buffer.specs.declared.code.CommandCode.{CommandCode}
-use Rattle.tpm_buffer.specs.declared.code.CommandCode.TheVariants as codes
-use Rattle.tpm_buffer.specs.declared.command.CommandBody.{CommandBody}
-use Rattle.tpm_buffer.specs.declared.response.ReplyBody.{ReplyBody}
+use Rattle.tpm_commands.specs.declared.code.CommandCode.{CommandCode}
+use Rattle.tpm_commands.specs.declared.code.CommandCode.TheVariants as codes
+use Rattle.tpm_commands.specs.declared.command.CommandBody.{CommandBody}
+use Rattle.tpm_commands.specs.declared.response.ReplyBody.{ReplyBody}
 use Rattle.tpm_buffer.specs.CommandAreas.{Cut}
 use Rattle.tpm_buffer.specs.Commands.{with_auths}
-use Rattle.tpm_buffer.specs.Handles.{first, needs_authorization}
-use Rattle.tpm_buffer.specs.Replies.{code_for_reply}
+use Rattle.tpm_commands.specs.Handles.{first, needs_authorization}
+use Rattle.tpm_commands.specs.Replies.{code_for_reply}
 use Rattle.tpm_buffer.specs.Responses.{Reply, response, done_with}
 use Rattle.tpm_model.specs.Steps.{History, Origin, Step, Accepted}
 use Rattle.tpm_model.specs.Present.{Present, present}

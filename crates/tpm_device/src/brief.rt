@@ -6,16 +6,16 @@
 ghost use Rattle.std.specs.Prelude.{◌≡◌, ◌≤◌, length, Ok, IfSome};
 ghost use Rattle.tpm_wire.specs.Reading.{read_all};
 ghost use Rattle.tpm_wire.specs.Buffers.{TakesNumbered};
-ghost use Rattle.tpm_buffer.specs.declared.code.CommandCode.TheVariants as codes;
-ghost use Rattle.tpm_buffer.specs.declared.command_parameters.Params.TheVariants as of_command;
-ghost use Rattle.tpm_buffer.specs.Parameters.{parameters, params_code, startup, nv_read};
+ghost use Rattle.tpm_commands.specs.declared.code.CommandCode.TheVariants as codes;
+ghost use Rattle.tpm_commands.specs.declared.command_parameters.Params.TheVariants as of_command;
+ghost use Rattle.tpm_commands.specs.Parameters.{parameters, params_code, startup, nv_read};
 
 use tpm_buffer::{CommandCode, Params};
 use tpm_types::StartupType;
 use tpm_wire::response_code::of_parameter;
 use tpm_wire::{Cursor, Refusal, Wire};
 
-#[tactic(auto, unfolding(tpm_buffer::specs::Parameters::startup))]
+#[tactic(auto, unfolding(tpm_commands::specs::Parameters::startup))]
 #[inline(always)]
 fn take_startup(cursor: &mut Cursor<'_>) -> Result<StartupType, Refusal>
     ensures { TakesNumbered (λ kind. of_command.Startup kind) startup cursor.old cursor.new result }
@@ -37,7 +37,7 @@ fn startup_kind(bytes: &[u8]) -> Option<StartupType>
     }
 }
 
-#[tactic(auto, unfolding(tpm_buffer::specs::Parameters::nv_read))]
+#[tactic(auto, unfolding(tpm_commands::specs::Parameters::nv_read))]
 #[inline(always)]
 fn take_nv_read(cursor: &mut Cursor<'_>) -> Result<(u16, u16), Refusal>
     ensures { TakesNumbered (λ x. of_command.NvRead x.0 x.1) nv_read cursor.old cursor.new result }

@@ -1,7 +1,7 @@
 //! A device: the order of its checks.
 
 ghost use Rattle.std.specs.Prelude.{◌≡◌, ℕ, ◌<◌, List, [], ◌∷◌, length, slice_get, Ok, Err, IfOk, IfErr, OnOk, OnErr};
-ghost use Rattle.tpm_buffer.specs.Parameters.{params_code};
+ghost use Rattle.tpm_commands.specs.Parameters.{params_code};
 ghost use Rattle.tpm_buffer.specs.Commands.{body_from};
 ghost use Rattle.tpm_model.specs.Steps.{History, PowerCycle, Origin};
 ghost use Rattle.tpm_model.specs.Authorization.{Evidence};

@@ -1,7 +1,7 @@
 //! What the handles of a command name.
 
 ghost use Rattle.std.specs.Prelude.{◌≡◌};
-ghost use Rattle.tpm_buffer.specs.Handles.{first as first_of, second as second_of};
+ghost use Rattle.tpm_commands.specs.Handles.{first as first_of, second as second_of};
 ghost use Rattle.tpm_buffer.specs.Commands.{register_in, pcr_or_null_in, index_in, nv_auth_in, policy_in, bind_in};
 
 use tpm_types::{BindHandle, NvAuthHandle, NvIndex, PcrIndex, PcrOrNull, PolicyHandle};

@@ -2,7 +2,7 @@
 
 ghost use Rattle.std.specs.Prelude.{◌≡◌, ◌<◌, ℕ, List, [], ◌∷◌, ◌++◌, Some, Ok};
 ghost use Rattle.tpm_types.specs.declared.handle_sets.NvAuthHandle.{NvAuthHandle};
-ghost use Rattle.tpm_buffer.specs.declared.command.CommandBody.TheVariants.{NvIncrement};
+ghost use Rattle.tpm_commands.specs.declared.command.CommandBody.TheVariants.{NvIncrement};
 ghost use Rattle.tpm_model.specs.Steps.{History, Origin};
 ghost use Rattle.tpm_model.specs.Answers.{Done, outcome};
 ghost use Rattle.tpm_model.specs.Runs.{Event, after, run};

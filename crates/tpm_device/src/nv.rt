@@ -1,7 +1,7 @@
 //! What the commands on NV counters do (Part 3, 31).
 
 ghost use Rattle.std.specs.Prelude.{◌≡◌, ℕ, List, OnOk, OnErr};
-ghost use Rattle.tpm_buffer.specs.declared.command.CommandBody.TheVariants as bodies;
+ghost use Rattle.tpm_commands.specs.declared.command.CommandBody.TheVariants as bodies;
 ghost use Rattle.tpm_model.specs.Actions.{action};
 ghost use Rattle.tpm_device.specs.Stands.{holds, acted, Steps};
 

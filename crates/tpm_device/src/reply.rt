@@ -4,9 +4,9 @@ ghost use Rattle.std.specs.Prelude.{◌≡◌, ◌<◌, true, false, List, [], �
 ghost use Rattle.tpm_types.specs.declared.tpms.Auth.{Auth};
 ghost use Rattle.tpm_types.specs.declared.tpms.AuthReply.{AuthReply as ReplyOf};
 ghost use Rattle.tpm_types.specs.Handles.{is_session};
-ghost use Rattle.tpm_buffer.specs.declared.response.ReplyBody.{ReplyBody as BodyOf};
-ghost use Rattle.tpm_buffer.specs.declared.command.CommandBody.{CommandBody};
-ghost use Rattle.tpm_buffer.specs.Handles.{first as first_of, needs_authorization};
+ghost use Rattle.tpm_commands.specs.declared.response.ReplyBody.{ReplyBody as BodyOf};
+ghost use Rattle.tpm_commands.specs.declared.command.CommandBody.{CommandBody};
+ghost use Rattle.tpm_commands.specs.Handles.{first as first_of, needs_authorization};
 ghost use Rattle.tpm_buffer.specs.Commands.{code_for, with_auths};
 ghost use Rattle.tpm_model.specs.Steps.{History, Origin, Accepted};
 ghost use Rattle.tpm_model.specs.Present.{Present};

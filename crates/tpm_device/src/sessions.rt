@@ -1,7 +1,7 @@
 //! What the commands on sessions do (Part 3, 11.1 and 28.4).
 
 ghost use Rattle.std.specs.Prelude.{◌≡◌, ℕ, List, OnOk, OnErr};
-ghost use Rattle.tpm_buffer.specs.declared.command.CommandBody.TheVariants as bodies;
+ghost use Rattle.tpm_commands.specs.declared.command.CommandBody.TheVariants as bodies;
 ghost use Rattle.tpm_model.specs.Actions.{action};
 ghost use Rattle.tpm_device.specs.Stands.{holds, acted, Steps};
 

@@ -1,7 +1,7 @@
 //! rpHash of the replies that have no parameters, where a session can authorize their command.
 
 ghost use Rattle.std.specs.Prelude.{◌≡◌, [], IfSome};
-ghost use Rattle.tpm_buffer.specs.Codes.{code_number};
+ghost use Rattle.tpm_commands.specs.Codes.{code_number};
 ghost use Rattle.tpm_hmac.specs.Sessions.{rp_hash};
 
 use tpm_buffer::CommandCode;

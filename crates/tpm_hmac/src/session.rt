@@ -3,7 +3,7 @@
 ghost use Rattle.std.specs.Prelude.{◌≡◌, ℕ, List, Some, ◌++◌, length};
 ghost use Rattle.std.specs.List.{flat_map};
 ghost use Rattle.tpm_types.specs.Alg.{digest_len};
-ghost use Rattle.tpm_buffer.specs.Codes.{code_number};
+ghost use Rattle.tpm_commands.specs.Codes.{code_number};
 ghost use Rattle.tpm_hmac.specs.Hashes.{digest};
 ghost use Rattle.tpm_hmac.specs.Hmac.{hmac as hmac_of};
 ghost use Rattle.tpm_hmac.specs.Sessions.{session_key as session_key_of, whole_key, mac_text, cp_hash as cp_hash_of, rp_hash as rp_hash_of};

@@ -2,8 +2,8 @@
 use Rattle.std.proofs.Common.{◌≡◌, ℕ, List, [], ◌∷◌, Result, Ok, Err, refl, ap, subst}
 use Rattle.tpm_wire.specs.Reading.{read_all}
 use Rattle.tpm_wire.proofs.Agreement.{bind_ok}
-use Rattle.tpm_buffer.specs.declared.command_parameters.Params.{Params}
-use Rattle.tpm_buffer.specs.Parameters.{parameters}
+use Rattle.tpm_commands.specs.declared.command_parameters.Params.{Params}
+use Rattle.tpm_commands.specs.Parameters.{parameters}
 use Rattle.tpm_buffer.specs.Commands.{body_from}
 use Rattle.tpm_model.specs.Steps.{History, Accepted, PowerCycle, Origin}
 use Rattle.tpm_model.specs.Present.{Present, present}

@@ -20,16 +20,16 @@ use Rattle.tpm_types.specs.Tpma.{owner_writes, owner_reads}
 use Rattle.tpm_types.specs.Tpm2b.{digest}
 use Rattle.tpm_types.specs.Tpml.{most_digests}
 use Rattle.tpm_types.specs.Tpmt.{digest_value}
-use Rattle.tpm_buffer.specs.declared.code.CommandCode.{CommandCode}
-use Rattle.tpm_buffer.specs.declared.code.CommandCode.TheVariants as codes
-use Rattle.tpm_buffer.specs.declared.command.CommandBody.{CommandBody}
-use Rattle.tpm_buffer.specs.declared.command.CommandBody.TheVariants as bodies
-use Rattle.tpm_buffer.specs.declared.command.StartAuth.{StartAuth}
-use Rattle.tpm_buffer.specs.declared.response.ReplyBody.{ReplyBody}
-use Rattle.tpm_buffer.specs.Parameters.{parameters, nv_define_space, startup, nv_read, flush_context, policy_command_code, policy_or, start_auth_session, pcr_read, policy_pcr, pcr_extend, pcr_event, params_code}
-use Rattle.tpm_buffer.specs.Events.{event_bytes}
+use Rattle.tpm_commands.specs.declared.code.CommandCode.{CommandCode}
+use Rattle.tpm_commands.specs.declared.code.CommandCode.TheVariants as codes
+use Rattle.tpm_commands.specs.declared.command.CommandBody.{CommandBody}
+use Rattle.tpm_commands.specs.declared.command.CommandBody.TheVariants as bodies
+use Rattle.tpm_commands.specs.declared.command.StartAuth.{StartAuth}
+use Rattle.tpm_commands.specs.declared.response.ReplyBody.{ReplyBody}
+use Rattle.tpm_commands.specs.Parameters.{parameters, nv_define_space, startup, nv_read, flush_context, policy_command_code, policy_or, start_auth_session, pcr_read, policy_pcr, pcr_extend, pcr_event, params_code}
+use Rattle.tpm_commands.specs.Events.{event_bytes}
 use Rattle.tpm_buffer.specs.Commands.{code_for}
-use Rattle.tpm_buffer.specs.Replies.{code_for_reply}
+use Rattle.tpm_commands.specs.Replies.{code_for_reply}
 use Rattle.tpm_hmac.specs.Sessions.{trim}
 use Rattle.tpm_model.specs.Present.{Present}
 use Rattle.tpm_model.specs.Authorization.{refuse, is_empty, differs}

@@ -21,15 +21,15 @@ use Rattle.tpm_types.specs.Tpma.{session_attrs, audits_or_encrypts}
 use Rattle.tpm_types.specs.Tpms.{auth_response}
 use Rattle.tpm_types.proofs.Algs.{digest_most}
 use Rattle.tpm_wire.specs.Structures.{sized_bytes}
-use Rattle.tpm_buffer.specs.declared.code.CommandCode.{CommandCode}
-use Rattle.tpm_buffer.specs.declared.command.Command.{Command}
-use Rattle.tpm_buffer.specs.declared.response.ReplyBody.{ReplyBody}
-use Rattle.tpm_buffer.specs.declared.response.Response.{Response}
-use Rattle.tpm_buffer.specs.declared.response.Response.TheVariants as responses
-use Rattle.tpm_buffer.specs.Codes.{code_number}
-use Rattle.tpm_buffer.specs.Handles.{first, needs_authorization}
+use Rattle.tpm_commands.specs.declared.code.CommandCode.{CommandCode}
+use Rattle.tpm_commands.specs.declared.command.Command.{Command}
+use Rattle.tpm_commands.specs.declared.response.ReplyBody.{ReplyBody}
+use Rattle.tpm_commands.specs.declared.response.Response.{Response}
+use Rattle.tpm_commands.specs.declared.response.Response.TheVariants as responses
+use Rattle.tpm_commands.specs.Codes.{code_number}
+use Rattle.tpm_commands.specs.Handles.{first, needs_authorization}
 use Rattle.tpm_buffer.specs.Commands.{command, command_size, code_for}
-use Rattle.tpm_buffer.specs.Replies.{code_for_reply, reply_handles, reply_handles_of}
+use Rattle.tpm_commands.specs.Replies.{code_for_reply, reply_handles, reply_handles_of}
 use Rattle.tpm_buffer.specs.Responses.{Reply, response, response_front, response_tag, response_code, with_sessions, parameter_size, reply_sessions, further_sessions, size_of_response, done_with}
 use Rattle.tpm_hmac.specs.Hashes.{digest}
 use Rattle.tpm_hmac.specs.Hmac.{hmac}

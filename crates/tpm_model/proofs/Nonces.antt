@@ -6,12 +6,12 @@ use Rattle.tpm_wire.specs.ResponseCodes.{rc_size, of_parameter}
 use Rattle.tpm_wire.proofs.Agreement.{bind_ok}
 use Rattle.tpm_types.specs.Alg.{digest_len}
 use Rattle.tpm_types.proofs.Algs.{digest_most}
-use Rattle.tpm_buffer.specs.declared.command.Command.{Command}
-use Rattle.tpm_buffer.specs.declared.command.CommandBody.{CommandBody}
-use Rattle.tpm_buffer.specs.declared.command.CommandBody.TheVariants as bodies
-use Rattle.tpm_buffer.specs.declared.command.StartAuth.{StartAuth}
-use Rattle.tpm_buffer.specs.declared.response.ReplyBody.{ReplyBody}
-use Rattle.tpm_buffer.specs.declared.response.ReplyBody.TheVariants as replies
+use Rattle.tpm_commands.specs.declared.command.Command.{Command}
+use Rattle.tpm_commands.specs.declared.command.CommandBody.{CommandBody}
+use Rattle.tpm_commands.specs.declared.command.CommandBody.TheVariants as bodies
+use Rattle.tpm_commands.specs.declared.command.StartAuth.{StartAuth}
+use Rattle.tpm_commands.specs.declared.response.ReplyBody.{ReplyBody}
+use Rattle.tpm_commands.specs.declared.response.ReplyBody.TheVariants as replies
 use Rattle.tpm_buffer.specs.Responses.{Reply}
 use Rattle.tpm_model.specs.Steps.{History, Accepted, PowerCycle, Origin}
 use Rattle.tpm_model.specs.Policies.{Assertion}

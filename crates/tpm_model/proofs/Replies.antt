@@ -22,13 +22,13 @@ use Rattle.tpm_types.specs.Alg.{hash, digest_len}
 use Rattle.tpm_types.specs.Tpma.{session_attrs, is_session_attrs, owner_reads}
 use Rattle.tpm_types.specs.Tpmt.{digest_value}
 use Rattle.tpm_types.specs.Tpms.{auth_response}
-use Rattle.tpm_buffer.specs.declared.command.CommandBody.{CommandBody}
-use Rattle.tpm_buffer.specs.declared.command.CommandBody.TheVariants as bodies
-use Rattle.tpm_buffer.specs.declared.response.ReplyBody.{ReplyBody}
-use Rattle.tpm_buffer.specs.declared.response.ReplyBody.TheVariants as replies
-use Rattle.tpm_buffer.specs.Handles.{needs_authorization}
+use Rattle.tpm_commands.specs.declared.command.CommandBody.{CommandBody}
+use Rattle.tpm_commands.specs.declared.command.CommandBody.TheVariants as bodies
+use Rattle.tpm_commands.specs.declared.response.ReplyBody.{ReplyBody}
+use Rattle.tpm_commands.specs.declared.response.ReplyBody.TheVariants as replies
+use Rattle.tpm_commands.specs.Handles.{needs_authorization}
 use Rattle.tpm_buffer.specs.Commands.{code_for}
-use Rattle.tpm_buffer.specs.Replies.{code_for_reply, reply_handles, reply_handles_of, parameters_of_reply, nv_read_reply, pcr_event_reply}
+use Rattle.tpm_commands.specs.Replies.{code_for_reply, reply_handles, reply_handles_of, parameters_of_reply, nv_read_reply, pcr_event_reply}
 use Rattle.tpm_buffer.specs.Responses.{Reply, reply_tag, reply, with_sessions, parameter_size, reply_sessions, further_sessions, response, done_with}
 use Rattle.tpm_buffer.proofs.Answered.{fits_sessions, fits_behind, done_spelled}
 use Rattle.tpm_hmac.specs.Hashes.{digest}

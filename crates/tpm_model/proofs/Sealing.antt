@@ -13,12 +13,12 @@ use Rattle.tpm_wire.specs.ResponseCodes.{rc_auth_context, rc_auth_missing}
 use Rattle.tpm_wire.proofs.Buffers.{buffer_sound, buffer_roomy}
 use Rattle.tpm_wire.proofs.Again.{again, read_again}
 use Rattle.tpm_wire.proofs.Whole.{read_spells}
-use Rattle.tpm_buffer.specs.declared.command.Command.{Command}
-use Rattle.tpm_buffer.specs.Handles.{handles, needs_authorization}
+use Rattle.tpm_commands.specs.declared.command.Command.{Command}
+use Rattle.tpm_commands.specs.Handles.{handles, needs_authorization}
 use Rattle.tpm_buffer.specs.Commands.{header, authorization, Checked, before_params, command, code_for, handles_of, header_of, rest_of}
-use Rattle.tpm_buffer.specs.Handles.{first}
-use Rattle.tpm_buffer.specs.declared.code.CommandCode.{CommandCode}
-use Rattle.tpm_buffer.specs.Codes.{code_number}
+use Rattle.tpm_commands.specs.Handles.{first}
+use Rattle.tpm_commands.specs.declared.code.CommandCode.{CommandCode}
+use Rattle.tpm_commands.specs.Codes.{code_number}
 use Rattle.tpm_types.specs.declared.tpms.Auth.{Auth}
 use Rattle.tpm_types.specs.Handles.{is_session, is_hmac_session, is_policy}
 use Rattle.tpm_types.specs.declared.alg.Alg.{Alg}

@@ -11,11 +11,11 @@ use Rattle.tpm_types.specs.declared.alg.Alg.{Alg}
 use Rattle.tpm_types.specs.Alg.{digest_len}
 use Rattle.tpm_types.proofs.Algs.{digest_most}
 use Rattle.tpm_types.specs.Handles.{is_hmac_session, is_policy}
-use Rattle.tpm_buffer.specs.declared.command.CommandBody.TheVariants as bodies
-use Rattle.tpm_buffer.specs.declared.command.StartAuth.{StartAuth}
-use Rattle.tpm_buffer.specs.declared.response.ReplyBody.{ReplyBody}
-use Rattle.tpm_buffer.specs.declared.response.ReplyBody.TheVariants as replies
-use Rattle.tpm_buffer.specs.declared.response.StartReply.{StartReply}
+use Rattle.tpm_commands.specs.declared.command.CommandBody.TheVariants as bodies
+use Rattle.tpm_commands.specs.declared.command.StartAuth.{StartAuth}
+use Rattle.tpm_commands.specs.declared.response.ReplyBody.{ReplyBody}
+use Rattle.tpm_commands.specs.declared.response.ReplyBody.TheVariants as replies
+use Rattle.tpm_commands.specs.declared.response.StartReply.{StartReply}
 use Rattle.tpm_hmac.specs.Sessions.{trim, session_key}
 use Rattle.tpm_model.specs.Steps.{History, Accepted, Origin}
 use Rattle.tpm_model.specs.Sessions.{Session, slot_of, is_hmac, handle_for, begun, Start, assertions_of, as_session, session_at, session_in, sessions_at, loaded, if_of_kind, is_handle_of, bound_value, nonce_from, free_slot}

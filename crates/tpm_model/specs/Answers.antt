@@ -8,15 +8,15 @@ use Rattle.tpm_wire.specs.Spelling.{spelling}
 use Rattle.tpm_wire.specs.ResponseCodes.{rc_auth_context, rc_auth_missing, rc_handle, rc_initialize, rc_reference_h0, of_handle}
 use Rattle.tpm_types.specs.declared.tpms.Auth.{Auth}
 use Rattle.tpm_types.specs.Handles.{is_nv_index, is_policy}
-use Rattle.tpm_buffer.specs.declared.code.CommandCode.{CommandCode}
-use Rattle.tpm_buffer.specs.declared.code.CommandCode.TheVariants as codes
-use Rattle.tpm_buffer.specs.declared.command.Command.{Command}
-use Rattle.tpm_buffer.specs.declared.response.ReplyBody.{ReplyBody}
-use Rattle.tpm_buffer.specs.declared.response.Response.TheVariants as responses
-use Rattle.tpm_buffer.specs.Handles.{first, handles, needs_authorization}
-use Rattle.tpm_buffer.specs.Parameters.{parameters}
+use Rattle.tpm_commands.specs.declared.code.CommandCode.{CommandCode}
+use Rattle.tpm_commands.specs.declared.code.CommandCode.TheVariants as codes
+use Rattle.tpm_commands.specs.declared.command.Command.{Command}
+use Rattle.tpm_commands.specs.declared.response.ReplyBody.{ReplyBody}
+use Rattle.tpm_commands.specs.declared.response.Response.TheVariants as responses
+use Rattle.tpm_commands.specs.Handles.{first, handles, needs_authorization}
+use Rattle.tpm_commands.specs.Parameters.{parameters}
 use Rattle.tpm_buffer.specs.Commands.{header, authorization, body_from, with_auths, code_for}
-use Rattle.tpm_buffer.specs.Replies.{parameters_of_reply}
+use Rattle.tpm_commands.specs.Replies.{parameters_of_reply}
 use Rattle.tpm_buffer.specs.Responses.{Reply, response, done_with}
 use Rattle.tpm_model.specs.Steps.{History, Accepted, Origin}
 use Rattle.tpm_model.specs.Sessions.{loaded}

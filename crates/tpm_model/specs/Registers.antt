@@ -7,8 +7,8 @@ use Rattle.tpm_types.specs.declared.handle_sets.PcrOrNull.TheVariants.{Pcr, Null
 use Rattle.tpm_types.specs.Alg.{all_algs, bank_place, alg_number, digest_len}
 use Rattle.tpm_types.specs.Tpma.{mask}
 use Rattle.tpm_types.specs.Tpms.{is_selected}
-use Rattle.tpm_buffer.specs.declared.command.CommandBody.{CommandBody}
-use Rattle.tpm_buffer.specs.declared.command.CommandBody.TheVariants as bodies
+use Rattle.tpm_commands.specs.declared.command.CommandBody.{CommandBody}
+use Rattle.tpm_commands.specs.declared.command.CommandBody.TheVariants as bodies
 use Rattle.tpm_hmac.specs.Hashes.{digest}
 use Rattle.tpm_model.specs.Steps.{History, PowerCycle, Accepted}
 

@@ -4,9 +4,9 @@ use Rattle.std.specs.Prelude.{◌==◌, slice_set, if◌then◌else◌}
 use Rattle.std.proofs.lemmas.Bool.Decides.{nat_tests}
 use Rattle.std.proofs.lemmas.Bool.{both_ways}
 use Rattle.std.proofs.lemmas.Option.{none-some, same_Some}
-use Rattle.tpm_buffer.specs.declared.command.Command.{Command}
-use Rattle.tpm_buffer.specs.declared.command.CommandBody.{CommandBody}
-use Rattle.tpm_buffer.specs.declared.command.CommandBody.TheVariants as bodies
+use Rattle.tpm_commands.specs.declared.command.Command.{Command}
+use Rattle.tpm_commands.specs.declared.command.CommandBody.{CommandBody}
+use Rattle.tpm_commands.specs.declared.command.CommandBody.TheVariants as bodies
 use Rattle.tpm_buffer.specs.Responses.{Reply}
 use Rattle.tpm_types.specs.declared.tpms.Selection.{Selection}
 use Rattle.tpm_model.specs.Steps.{Origin, History, Accepted}

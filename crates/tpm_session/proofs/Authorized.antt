@@ -3,8 +3,8 @@ use Rattle.std.proofs.Common.{◌≡◌, ℕ, ◌<◌, Bool, List, [], ◌∷◌
 use Rattle.tpm_wire.specs.Reading.{◌>>=◌}
 use Rattle.tpm_types.specs.declared.tpms.Auth.{Auth}
 use Rattle.tpm_types.specs.declared.tpms.AuthReply.{AuthReply}
-use Rattle.tpm_buffer.specs.declared.code.CommandCode.{CommandCode}
-use Rattle.tpm_buffer.specs.Codes.{code_number}
+use Rattle.tpm_commands.specs.declared.code.CommandCode.{CommandCode}
+use Rattle.tpm_commands.specs.Codes.{code_number}
 use Rattle.std.specs.Prelude.{if◌then◌else◌}
 use Rattle.tpm_hmac.specs.Sessions.{included_auth_value, whole_key, cp_hash}
 use Rattle.tpm_hmac.specs.Sessions.AuthValueRule.{ByHmac, ByPolicy}

@@ -1,9 +1,9 @@
 //! The sessions of a device, by slot.
 
 ghost use Rattle.std.specs.Prelude.{◌≡◌, ◌<◌, ℕ, true, List, [], ◌∷◌, None, option_map, IfOk, IsSome, OnOk, OnErr};
-ghost use Rattle.tpm_buffer.specs.declared.command.Command.{Command};
-ghost use Rattle.tpm_buffer.specs.declared.command.CommandBody.TheVariants as bodies;
-ghost use Rattle.tpm_buffer.specs.declared.response.ReplyBody.TheVariants as replies;
+ghost use Rattle.tpm_commands.specs.declared.command.Command.{Command};
+ghost use Rattle.tpm_commands.specs.declared.command.CommandBody.TheVariants as bodies;
+ghost use Rattle.tpm_commands.specs.declared.response.ReplyBody.TheVariants as replies;
 ghost use Rattle.tpm_buffer.specs.Responses.{Reply};
 ghost use Rattle.tpm_hmac.specs.Sessions.{trim as trim_of};
 ghost use Rattle.tpm_model.specs.Steps.{Origin, History, PowerCycle, Accepted};
@@ -15,7 +15,7 @@ ghost use Rattle.tpm_model.specs.Sessions as model;
 ghost use Rattle.tpm_types.specs.declared.tpms.Auth.{Auth};
 ghost use Rattle.tpm_types.specs.Tpma.{continues};
 ghost use Rattle.tpm_types.specs.declared.handle_sets.BindHandle.TheVariants as binds;
-ghost use Rattle.tpm_buffer.specs.Handles.{needs_authorization};
+ghost use Rattle.tpm_commands.specs.Handles.{needs_authorization};
 ghost use Rattle.tpm_buffer.specs.Commands.{code_for};
 ghost use Rattle.tpm_session.specs.Answers.{started_reply, after_command};
 ghost use Rattle.tpm_session.specs.Policies.{for_policy, as_assertion, asserting, restarted, with_slot};

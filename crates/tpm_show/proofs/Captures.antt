@@ -10,7 +10,7 @@ use Rattle.tpm_wire.specs.Buffers.{buffer}
 use Rattle.tpm_wire.specs.Path.{Spells}
 use Rattle.tpm_wire.proofs.Buffers.{buffer_sound}
 use Rattle.tpm_wire.proofs.Whole.{exactly_one}
-use Rattle.tpm_buffer.specs.declared.command.Command.{Command}
+use Rattle.tpm_commands.specs.declared.command.Command.{Command}
 use Rattle.tpm_buffer.specs.Commands.{command}
 use Rattle.tpm_text.specs.declared.status.Status.{Status}
 use Rattle.tpm_show.specs.declared.telling.Telling.{Telling}

@@ -6,8 +6,8 @@ use Rattle.std.specs.Io.KnownBytes.{Consumes, IsAtEnd}
 use Rattle.tpm_wire.specs.declared.refusal.Refusal.{Refusal}
 use Rattle.tpm_wire.specs.Token.{number_of}
 use Rattle.tpm_wire.specs.Path.{Fault}
-use Rattle.tpm_buffer.specs.declared.code.CommandCode.{CommandCode}
-use Rattle.tpm_buffer.specs.Codes.{code_of}
+use Rattle.tpm_commands.specs.declared.code.CommandCode.{CommandCode}
+use Rattle.tpm_commands.specs.Codes.{code_of}
 use Rattle.tpm_buffer.specs.Commands.{command}
 use Rattle.tpm_text.specs.declared.status.Status.{Status}
 use Rattle.tpm_text.specs.declared.status.Status.TheVariants.{Done, Refused}

@@ -6,13 +6,13 @@ use Rattle.tpm_wire.specs.declared.refusal.Refusal.{Refusal}
 use Rattle.tpm_wire.specs.Path.{Spells, Fault}
 use Rattle.tpm_types.specs.declared.tpms.Auth.{Auth}
 use Rattle.tpm_types.specs.declared.tpms.AuthReply.{AuthReply}
-use Rattle.tpm_buffer.specs.declared.code.CommandCode.{CommandCode}
-use Rattle.tpm_buffer.specs.declared.command.Command.{Command}
-use Rattle.tpm_buffer.specs.declared.command.CommandBody.{CommandBody}
-use Rattle.tpm_buffer.specs.declared.response.ReplyBody.{ReplyBody}
-use Rattle.tpm_buffer.specs.declared.response.Response.{Response}
-use Rattle.tpm_buffer.specs.declared.response.Response.TheVariants as responses
-use Rattle.tpm_buffer.specs.Codes.{code_name}
+use Rattle.tpm_commands.specs.declared.code.CommandCode.{CommandCode}
+use Rattle.tpm_commands.specs.declared.command.Command.{Command}
+use Rattle.tpm_commands.specs.declared.command.CommandBody.{CommandBody}
+use Rattle.tpm_commands.specs.declared.response.ReplyBody.{ReplyBody}
+use Rattle.tpm_commands.specs.declared.response.Response.{Response}
+use Rattle.tpm_commands.specs.declared.response.Response.TheVariants as responses
+use Rattle.tpm_commands.specs.Codes.{code_name}
 use Rattle.tpm_buffer.specs.Commands.{command}
 use Rattle.tpm_buffer.specs.CommandAreas.{Cut, HasCut}
 use Rattle.tpm_buffer.specs.ResponseAreas.{handle_of}

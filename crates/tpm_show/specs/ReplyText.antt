@@ -2,8 +2,8 @@
 use Rattle.std.specs.Prelude.{ℕ, List, [], ◌∷◌, ◌++◌, codes, Option, Some, None, ◌==◌, if◌then◌else◌}
 use Rattle.std.specs.Fmt.{decimal}
 use Rattle.tpm_types.specs.declared.tpms.AuthReply.{AuthReply}
-use Rattle.tpm_buffer.specs.declared.code.CommandCode.{CommandCode}
-use Rattle.tpm_buffer.specs.Codes.{code_name}
+use Rattle.tpm_commands.specs.declared.code.CommandCode.{CommandCode}
+use Rattle.tpm_commands.specs.Codes.{code_name}
 use Rattle.tpm_buffer.specs.ResponseAreas.{handle_of}
 use Rattle.tpm_buffer.specs.Responses.{ReplyCut}
 use Rattle.tpm_text.specs.Text.{line, lines_from, hexadecimal, bytes_text, handle_line, parameters_line}

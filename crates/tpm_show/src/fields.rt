@@ -3,7 +3,7 @@
 ghost use Rattle.std.specs.Prelude.{◌≡◌, ◌++◌, OnOk, codes, string_bytes};
 ghost use Rattle.tpm_wire.specs.Spelling.{spelling};
 ghost use Rattle.tpm_wire.specs.Structures.{sized_bytes};
-ghost use Rattle.tpm_buffer.specs.Events.{event_bytes};
+ghost use Rattle.tpm_commands.specs.Events.{event_bytes};
 ghost use Rattle.tpm_show.specs.FieldText.{field_text};
 ghost use Rattle.tpm_show.specs.Fields.{command_fields, reply_fields};
 
@@ -44,7 +44,7 @@ fn push_event(
 
 /// Adds a line, or an object of JSON, for each parameter of a command: its name, its type and its bytes (Part 3, the table of the
 /// command), and what stands in it.
-#[tactic(auto, unfolding(tpm_types::specs::Constants::startup_type, tpm_types::specs::Constants::session_type, tpm_types::specs::Tpm2b::encrypted_salt, tpm_buffer::specs::Parameters::startup, tpm_buffer::specs::Parameters::nv_define_space, tpm_buffer::specs::Parameters::pcr_event, tpm_buffer::specs::Parameters::nv_read, tpm_buffer::specs::Parameters::flush_context, tpm_buffer::specs::Parameters::policy_command_code, tpm_buffer::specs::Parameters::policy_or, tpm_buffer::specs::Parameters::start_auth_session, tpm_buffer::specs::Parameters::pcr_read, tpm_buffer::specs::Parameters::policy_pcr, tpm_buffer::specs::Parameters::pcr_extend))]
+#[tactic(auto, unfolding(tpm_types::specs::Constants::startup_type, tpm_types::specs::Constants::session_type, tpm_types::specs::Tpm2b::encrypted_salt, tpm_commands::specs::Parameters::startup, tpm_commands::specs::Parameters::nv_define_space, tpm_commands::specs::Parameters::pcr_event, tpm_commands::specs::Parameters::nv_read, tpm_commands::specs::Parameters::flush_context, tpm_commands::specs::Parameters::policy_command_code, tpm_commands::specs::Parameters::policy_or, tpm_commands::specs::Parameters::start_auth_session, tpm_commands::specs::Parameters::pcr_read, tpm_commands::specs::Parameters::policy_pcr, tpm_commands::specs::Parameters::pcr_extend))]
 pub(crate) fn push_command_fields(
     alloc: Global,
     text: &mut String,
@@ -182,7 +182,7 @@ pub(crate) fn push_command_fields(
 
 /// Adds a line, or an object of JSON, for each parameter of a reply: its name, its type and its bytes (Part 3, the response table of
 /// the command), and what stands in it.
-#[tactic(auto, unfolding(tpm_buffer::specs::Replies::pcr_event_reply, tpm_buffer::specs::Replies::nv_read_reply, tpm_buffer::specs::Replies::nv_read_public_reply, tpm_buffer::specs::Replies::start_auth_session_reply, tpm_buffer::specs::Replies::pcr_read_reply, tpm_buffer::specs::Replies::policy_get_digest_reply))]
+#[tactic(auto, unfolding(tpm_commands::specs::Replies::pcr_event_reply, tpm_commands::specs::Replies::nv_read_reply, tpm_commands::specs::Replies::nv_read_public_reply, tpm_commands::specs::Replies::start_auth_session_reply, tpm_commands::specs::Replies::pcr_read_reply, tpm_commands::specs::Replies::policy_get_digest_reply))]
 pub(crate) fn push_reply_fields(
     alloc: Global,
     text: &mut String,

@@ -3,7 +3,7 @@
 ghost use Rattle.std.specs.Prelude.{◌≡◌, ℕ, ◌^◌, ◌<◌, ◌≤◌, nat_le, set, List, [], ◌++◌, length, slice_index_or, Some, None, option_map, IfSome, IfNone, OnOk, OnErr, if◌then◌else◌};
 ghost use Rattle.tpm_types.specs.Limits.{digest_bytes};
 ghost use Rattle.tpm_types.specs.declared.tpms.NvPublic.{NvPublic as Public};
-ghost use Rattle.tpm_buffer.specs.declared.command.CommandBody.TheVariants as bodies;
+ghost use Rattle.tpm_commands.specs.declared.command.CommandBody.TheVariants as bodies;
 ghost use Rattle.tpm_hmac.specs.Sessions.{trim as trim_of};
 ghost use Rattle.tpm_model.specs.Counters.{has_index, counter_in, next_value, written, nv_by};
 ghost use Rattle.tpm_model.specs.Counters as model;

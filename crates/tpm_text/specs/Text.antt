@@ -5,8 +5,8 @@ use Rattle.hex.specs.Hex.{decode_of, encode_lower}
 use Rattle.hex.specs.declared.error.FromHexError.{FromHexError}
 use Rattle.tpm_wire.specs.declared.refusal.Refusal.{Refusal}
 use Rattle.tpm_types.specs.declared.tpms.Auth.{Auth}
-use Rattle.tpm_buffer.specs.declared.code.CommandCode.{CommandCode}
-use Rattle.tpm_buffer.specs.Codes.{code_name}
+use Rattle.tpm_commands.specs.declared.code.CommandCode.{CommandCode}
+use Rattle.tpm_commands.specs.Codes.{code_name}
 use Rattle.tpm_buffer.specs.CommandAreas.{Cut}
 
 -- words with a space between them, and a line feed

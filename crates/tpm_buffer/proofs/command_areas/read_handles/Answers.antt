@@ -1,4 +1,4 @@
-use Rattle.tpm_buffer.specs.Handles.{handles}
+use Rattle.tpm_commands.specs.Handles.{handles}
 use Rattle.tpm_buffer.proofs.Places.{stands_behind}
 use Rattle.tpm_buffer.proofs.command_areas.read_handles.Goals as goal
 

@@ -3,7 +3,7 @@ use Rattle.std.proofs.lemmas.List.{length-map}
 use Rattle.tpm_wire.specs.Token.{Here}
 use Rattle.tpm_wire.specs.Spelling.{spelling}
 use Rattle.tpm_wire.specs.Buffers.{Place}
-use Rattle.tpm_buffer.specs.Handles.{handles}
+use Rattle.tpm_commands.specs.Handles.{handles}
 use Rattle.tpm_buffer.specs.Commands.{header, authorization}
 use Rattle.tpm_buffer.specs.ResponseAreas.{Stands}
 use Rattle.tpm_buffer.specs.CommandAreas.{session_at, sessions_at}

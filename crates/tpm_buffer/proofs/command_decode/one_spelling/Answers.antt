@@ -7,7 +7,7 @@ use Rattle.tpm_wire.specs.Buffers.{buffer}
 use Rattle.tpm_wire.specs.Path.{Spells}
 use Rattle.tpm_wire.proofs.Buffers.{buffer_sound}
 use Rattle.tpm_wire.proofs.Whole.{spells_read}
-use Rattle.tpm_buffer.specs.declared.command.Command.{Command}
+use Rattle.tpm_commands.specs.declared.command.Command.{Command}
 use Rattle.tpm_buffer.specs.Commands.{command}
 use Rattle.tpm_buffer.proofs.command_decode.one_spelling.Goals as goal
 

@@ -6,8 +6,8 @@ use Rattle.tpm_wire.specs.Token.{at_start}
 use Rattle.tpm_wire.specs.Reading.{read}
 use Rattle.tpm_wire.specs.Spelling.{spelling}
 use Rattle.tpm_wire.specs.Buffers.{Place}
-use Rattle.tpm_buffer.specs.Handles.{handles}
-use Rattle.tpm_buffer.specs.Parameters.{parameters}
+use Rattle.tpm_commands.specs.Handles.{handles}
+use Rattle.tpm_commands.specs.Parameters.{parameters}
 use Rattle.tpm_buffer.specs.Commands.{header, authorization, body_from, params_of, before_params}
 use Rattle.tpm_buffer.specs.CommandAreas.{Cut, checked, cut_of}
 use Rattle.tpm_buffer.proofs.Canonical.{canonical}

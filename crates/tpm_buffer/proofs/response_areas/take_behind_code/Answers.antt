@@ -1,6 +1,6 @@
 use Rattle.std.proofs.Common.{arith}
-use Rattle.tpm_buffer.specs.Replies.{reply_handles}
-use Rattle.tpm_buffer.specs.ResponseAreas.{Stands, handle_list}
+use Rattle.tpm_commands.specs.Replies.{reply_handles, handle_list}
+use Rattle.tpm_buffer.specs.ResponseAreas.{Stands}
 use Rattle.tpm_buffer.proofs.Places.{stands_behind}
 use Rattle.tpm_buffer.proofs.response_areas.take_behind_code.Goals as goal
 

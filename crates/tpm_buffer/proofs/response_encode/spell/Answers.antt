@@ -1,5 +1,5 @@
 use Rattle.std.proofs.Common.{◌≡◌, sym}
-use Rattle.tpm_buffer.specs.Replies.{code_for_reply}
+use Rattle.tpm_commands.specs.Replies.{code_for_reply}
 use Rattle.tpm_buffer.proofs.response_encode.spell.Goals as goal
 
 pub returns-in-Code-clause-spells : goal.returns-in-Code-clause-spells

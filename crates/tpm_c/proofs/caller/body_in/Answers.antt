@@ -1,6 +1,6 @@
 use Rattle.std.proofs.Common.{◌≡◌, Ok, true, false, refl, sym, ap, ◌∙◌, rules}
 use Rattle.tpm_wire.specs.Reading.{read_all}
-use Rattle.tpm_buffer.specs.Handles.{needs_authorization}
+use Rattle.tpm_commands.specs.Handles.{needs_authorization}
 use Rattle.tpm_buffer.specs.Commands.{command, code_for}
 use Rattle.tpm_c.specs.Callers.{body_in}
 use Rattle.tpm_c.proofs.Decoding.{is_read, is_refused}

@@ -3,7 +3,7 @@ use Rattle.std.specs.Prelude.{if◌then◌else◌}
 use Rattle.tpm_wire.specs.Buffers.{buffer}
 use Rattle.tpm_wire.proofs.Buffers.{buffer_sound}
 use Rattle.tpm_wire.proofs.Whole.{spells_read}
-use Rattle.tpm_buffer.specs.declared.response.Response.TheVariants as responses
+use Rattle.tpm_commands.specs.declared.response.Response.TheVariants as responses
 use Rattle.tpm_buffer.specs.Responses.{response}
 use Rattle.tpm_buffer.proofs.Answered.{code_spelled}
 use Rattle.tpm_model.specs.InStep.{CallerSession}

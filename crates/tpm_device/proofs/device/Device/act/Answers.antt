@@ -3,9 +3,9 @@ use Rattle.std.specs.Prelude.{OnOk}
 use Rattle.tpm_types.specs.declared.handle_sets.PcrOrNull.{PcrOrNull}
 use Rattle.tpm_types.specs.declared.handle_sets.NvAuthHandle.{NvAuthHandle}
 use Rattle.tpm_types.specs.declared.handle_sets.BindHandle.{BindHandle}
-use Rattle.tpm_buffer.specs.declared.command.CommandBody.{CommandBody}
-use Rattle.tpm_buffer.specs.declared.command.CommandBody.TheVariants as bodies
-use Rattle.tpm_buffer.specs.Handles.{first, second}
+use Rattle.tpm_commands.specs.declared.command.CommandBody.{CommandBody}
+use Rattle.tpm_commands.specs.declared.command.CommandBody.TheVariants as bodies
+use Rattle.tpm_commands.specs.Handles.{first, second}
 use Rattle.tpm_buffer.specs.Commands.{body_from, bind_in, nv_auth_in}
 use Rattle.tpm_model.specs.Actions.{action}
 use Rattle.tpm_device.specs.Stands.{holds, acted, Steps}

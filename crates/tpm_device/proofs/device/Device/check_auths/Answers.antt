@@ -1,7 +1,7 @@
 use Rattle.std.proofs.Common.{List, ap, ◌∙◌}
 use Rattle.std.specs.Prelude.{length}
 use Rattle.tpm_types.specs.declared.tpms.Auth.{Auth}
-use Rattle.tpm_buffer.specs.Handles.{first}
+use Rattle.tpm_commands.specs.Handles.{first}
 use Rattle.tpm_model.specs.Entities.{entity_of, names_of}
 use Rattle.tpm_session.specs.Entities.{entity_in}
 use Rattle.tpm_device.specs.Stands.{holds}

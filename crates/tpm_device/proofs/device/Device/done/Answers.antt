@@ -1,5 +1,5 @@
 use Rattle.std.proofs.Common.{ap, ◌∙◌}
-use Rattle.tpm_buffer.specs.Handles.{needs_authorization}
+use Rattle.tpm_commands.specs.Handles.{needs_authorization}
 use Rattle.tpm_buffer.specs.Commands.{body_from}
 use Rattle.tpm_model.specs.Authorization.{reply_auths}
 use Rattle.tpm_model.specs.Answers.{reply_params}

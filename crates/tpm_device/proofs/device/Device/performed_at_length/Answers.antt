@@ -1,7 +1,7 @@
 use Rattle.std.proofs.Common.{◌≡◌, ◌∙◌, Ok, sym, ap, subst}
 use Rattle.tpm_wire.specs.Reading.{read_all}
-use Rattle.tpm_buffer.specs.CommandAreas.{placed}
-use Rattle.tpm_buffer.specs.Parameters.{parameters}
+use Rattle.tpm_commands.specs.Parameters.{placed}
+use Rattle.tpm_commands.specs.Parameters.{parameters}
 use Rattle.tpm_model.specs.Steps.{History}
 use Rattle.tpm_model.specs.Answers.{with_outcome}
 use Rattle.tpm_device.specs.Stands.{Stands, holds, presented_with, told}

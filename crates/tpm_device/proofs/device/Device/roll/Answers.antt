@@ -1,6 +1,6 @@
 use Rattle.std.proofs.Common.{List, ◌∷◌, sym, subst, ◌∙◌}
 use Rattle.tpm_types.specs.declared.tpms.Auth.{Auth}
-use Rattle.tpm_buffer.specs.Handles.{needs_authorization}
+use Rattle.tpm_commands.specs.Handles.{needs_authorization}
 use Rattle.tpm_buffer.specs.Commands.{code_for, with_auths}
 use Rattle.tpm_model.specs.Steps.{Accepted}
 use Rattle.tpm_device.specs.Stands.{Stands}

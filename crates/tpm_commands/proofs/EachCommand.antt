@@ -1,0 +1,268 @@
+-- What holds of each command, a line for each.
+use Rattle.std.proofs.Common.{◌≡◌, ℕ, ◌≤◌, Bool, true, false, cond, List, [], ◌∷◌, take, Some, None, Result, Ok, refl, sym, subst, ap, arith}
+use Rattle.std.specs.Prelude.{is_some}
+use Rattle.std.proofs.lemmas.Bool.{eqb-true}
+use Rattle.tpm_wire.specs.declared.refusal.Refusal.{Refusal}
+use Rattle.tpm_wire.specs.ResponseCodes.{rc_value, of_parameter}
+use Rattle.tpm_wire.specs.Token.{number_of, Here, or_fault}
+use Rattle.tpm_wire.specs.Layout.{Form}
+use Rattle.tpm_wire.specs.Reading.{read}
+use Rattle.tpm_wire.specs.Buffers.{buffer, Layout}
+use Rattle.tpm_wire.proofs.Agreement.{bind_ok, number_ok}
+use Rattle.tpm_wire.proofs.Buffers.{buffer_sound}
+use Rattle.tpm_wire.proofs.Longer.{TakesAtMost, at_most_more, at_most_done, at_most_number, at_most_number_in, at_most_sized_bytes, at_most_sized, at_most_counted}
+use Rattle.tpm_types.specs.declared.handle_sets.PcrOrNull.TheVariants as pcrs
+use Rattle.tpm_types.specs.declared.handle_sets.NvAuthHandle.TheVariants as nv
+use Rattle.tpm_types.specs.declared.handle_sets.BindHandle.TheVariants as binds
+use Rattle.tpm_types.specs.Limits.{digest_bytes, public_bytes, banks}
+use Rattle.tpm_types.specs.Constants.{startup_of, startup_number, startup_type, session_type_of, session_type_number, session_type}
+use Rattle.tpm_types.specs.Handles.{rh_owner, rh_null, is_owner, is_null, is_pcr, is_nv_index, is_policy, session, is_session}
+use Rattle.tpm_types.specs.HandleSets.{pcr_or_null_of, pcr_or_null_number, nv_auth_of, nv_auth_number, bind_of, bind_number}
+use Rattle.tpm_types.specs.Tpm2b.{digest, salt_of, salt_size, encrypted_salt}
+use Rattle.tpm_types.specs.Tpml.{most_digests}
+use Rattle.tpm_types.specs.Tpms.{selection, nv_public_area, nv_public}
+use Rattle.tpm_types.specs.Tpmt.{digest_value}
+use Rattle.tpm_commands.specs.declared.code.CommandCode.{CommandCode}
+use Rattle.tpm_commands.specs.declared.code.CommandCode.TheVariants as codes
+use Rattle.tpm_commands.specs.declared.command_handles.HandleKind.{HandleKind}
+use Rattle.tpm_commands.specs.declared.command_handles.HandleKind.TheVariants as kinds
+use Rattle.tpm_commands.specs.declared.command_parameters.Params.{Params}
+use Rattle.tpm_commands.specs.declared.command_parameters.Params.TheVariants as params
+use Rattle.tpm_commands.specs.declared.response.ReplyBody.{ReplyBody}
+use Rattle.tpm_commands.specs.Events.{event_bytes}
+use Rattle.tpm_commands.specs.Handles.{admits, AreAdmitted, handle_kinds, first, second}
+use Rattle.tpm_commands.specs.Parameters.{params_code, parameters, nv_define_space, pcr_event, startup, nv_read, flush_context, policy_command_code, policy_or, start_auth_session, pcr_read, policy_pcr, pcr_extend}
+use Rattle.tpm_commands.specs.Table.{register_in, index_in, policy_in, pcr_or_null_in, nv_auth_in, bind_in, body_from, handles_of, params_of}
+use Rattle.tpm_commands.specs.Replies.{code_for_reply, session_handle, session_in, reply_handles, reply_handles_of, reply_parameters, pcr_event_reply, nv_read_reply, nv_read_public_reply, start_auth_session_reply, pcr_read_reply, policy_get_digest_reply}
+use Rattle.tpm_commands.proofs.Short.{next, only, of_hash, of_selection, of_digest_value, of_sym_def}
+
+abbrev ok : {A : Type 0} → A → Result A Refusal
+ok x = Ok x
+
+ok_is : {A : Type 0} (x y : A) → ok x ≡ ok y → x ≡ y
+ok_is x y e = cc
+
+-- ---- a number that is of its kind is that of the handle made from it
+
+owner_again : (n : ℕ) → is_owner n ≡ true → rh_owner ≡ n
+owner_again n t = sym (eqb-true n rh_owner t)
+
+null_again : (n : ℕ) → is_null n ≡ true → rh_null ≡ n
+null_again n t = sym (eqb-true n rh_null t)
+
+pcr_or_null_again : (n : ℕ) → is_some (pcr_or_null_of n) ≡ true → pcr_or_null_number (pcr_or_null_in n) ≡ n
+pcr_or_null_again n t =
+    elim (is_null n) as (λ a. is_null n ≡ a → is_some (cond a (Some pcrs.Null) (cond (is_pcr n) (Some (pcrs.Pcr n)) None)) ≡ true → pcr_or_null_number (pcr_or_null_in n) ≡ n) [
+      | true ↦ λ e s. rw e (null_again n e)
+      | false ↦ λ e. elim (is_pcr n) as (λ b. is_pcr n ≡ b → is_some (cond b (Some (pcrs.Pcr n)) None) ≡ true → pcr_or_null_number (pcr_or_null_in n) ≡ n) [
+        | true ↦ λ f s. rw (e, f) refl
+        | false ↦ λ f s. absurd (let z : ⊥ = cc in z)
+      ] refl
+    ] refl t
+
+nv_auth_again : (n : ℕ) → is_some (nv_auth_of n) ≡ true → nv_auth_number (nv_auth_in n) ≡ n
+nv_auth_again n t =
+    elim (is_owner n) as (λ a. is_owner n ≡ a → is_some (cond a (Some nv.Owner) (cond (is_nv_index n) (Some (nv.Index n)) None)) ≡ true → nv_auth_number (nv_auth_in n) ≡ n) [
+      | true ↦ λ e s. rw e (owner_again n e)
+      | false ↦ λ e. elim (is_nv_index n) as (λ b. is_nv_index n ≡ b → is_some (cond b (Some (nv.Index n)) None) ≡ true → nv_auth_number (nv_auth_in n) ≡ n) [
+        | true ↦ λ f s. rw (e, f) refl
+        | false ↦ λ f s. absurd (let z : ⊥ = cc in z)
+      ] refl
+    ] refl t
+
+bind_again : (n : ℕ) → is_some (bind_of n) ≡ true → bind_number (bind_in n) ≡ n
+bind_again n t =
+    elim (is_owner n) as (λ a. is_owner n ≡ a → is_some (cond a (Some binds.Owner) (cond (is_null n) (Some binds.Null) None)) ≡ true → bind_number (bind_in n) ≡ n) [
+      | true ↦ λ e s. rw e (owner_again n e)
+      | false ↦ λ e. elim (is_null n) as (λ b. is_null n ≡ b → is_some (cond b (Some binds.Null) None) ≡ true → bind_number (bind_in n) ≡ n) [
+        | true ↦ λ f s. rw (e, f) (null_again n f)
+        | false ↦ λ f s. absurd (let z : ⊥ = cc in z)
+      ] refl
+    ] refl t
+
+register_again : (n : ℕ) → is_pcr n ≡ true → register_in n ≡ n
+register_again n t = rw t refl
+
+index_again : (n : ℕ) → is_nv_index n ≡ true → index_in n ≡ n
+index_again n t = rw t refl
+
+policy_again : (n : ℕ) → is_policy n ≡ true → policy_in n ≡ n
+policy_again n t = rw t refl
+
+-- ---- the handles and the parameters of a command that was made from them
+
+one : (kind : HandleKind) (a : ℕ) (hs : List ℕ) → AreAdmitted (kind ∷ []) hs → (admits kind (first hs) ≡ true → a ≡ first hs) → a ∷ [] ≡ hs
+one kind a (n ∷ ns) t same = rw (same t.0, t.1) refl
+one kind a [] t same = absurd t
+
+two : (kind other : HandleKind) (a b : ℕ) (hs : List ℕ) → AreAdmitted (kind ∷ other ∷ []) hs → (admits kind (first hs) ≡ true → a ≡ first hs) → (admits other (second hs) ≡ true → b ≡ second hs) → a ∷ b ∷ [] ≡ hs
+two kind other a b (n ∷ m ∷ ns) t same too = rw (same t.0, too t.1.0, t.1.1) refl
+two kind other a b (n ∷ []) t same too = absurd t.1
+two kind other a b [] t same too = absurd t
+
+policy : (hs : List ℕ) → AreAdmitted (kinds.Policy ∷ []) hs → policy_in (first hs) ∷ [] ≡ hs
+policy hs t = one kinds.Policy _ hs t (policy_again (first hs))
+
+register : (hs : List ℕ) → AreAdmitted (kinds.PcrOrNull ∷ []) hs → pcr_or_null_number (pcr_or_null_in (first hs)) ∷ [] ≡ hs
+register hs t = one kinds.PcrOrNull _ hs t (pcr_or_null_again (first hs))
+
+index : (hs : List ℕ) → AreAdmitted (kinds.OwnerOrIndex ∷ kinds.Index ∷ []) hs → nv_auth_number (nv_auth_in (first hs)) ∷ index_in (second hs) ∷ [] ≡ hs
+index hs t = two kinds.OwnerOrIndex kinds.Index _ _ hs t (nv_auth_again (first hs)) (index_again (second hs))
+
+pub handles_again : (p : Params) (hs : List ℕ) → AreAdmitted (handle_kinds (params_code p)) hs → handles_of (body_from hs p) ≡ hs
+handles_again params.NvUndefineSpace hs t = two kinds.Owner kinds.Index _ _ hs t (owner_again (first hs)) (index_again (second hs))
+handles_again (params.NvDefineSpace auth public) hs t = one kinds.Owner _ hs t (owner_again (first hs))
+handles_again params.NvIncrement hs t = index hs t
+handles_again (params.PcrEvent event) hs t = register hs t
+handles_again params.PcrReset hs t = one kinds.Pcr _ hs t (register_again (first hs))
+handles_again (params.Startup kind) hs t = sym t
+handles_again (params.NvRead size offset) hs t = index hs t
+handles_again (params.FlushContext handle) hs t = sym t
+handles_again params.NvReadPublic hs t = one kinds.Index _ hs t (index_again (first hs))
+handles_again params.PolicyAuthValue hs t = policy hs t
+handles_again (params.PolicyCommandCode code) hs t = policy hs t
+handles_again (params.PolicyOr digests) hs t = policy hs t
+handles_again (params.StartAuthSession nonce_caller kind symmetric alg) hs t = two kinds.Null kinds.OwnerOrNull _ _ hs t (null_again (first hs)) (bind_again (second hs))
+handles_again (params.PcrRead selected) hs t = sym t
+handles_again (params.PolicyPcr pcr_digest selected) hs t = policy hs t
+handles_again params.PolicyRestart hs t = policy hs t
+handles_again (params.PcrExtend digests) hs t = register hs t
+handles_again params.PolicyGetDigest hs t = policy hs t
+
+pub params_again : (p : Params) (hs : List ℕ) → params_of (body_from hs p) ≡ p
+params_again params.NvUndefineSpace hs = refl
+params_again (params.NvDefineSpace auth public) hs = refl
+params_again params.NvIncrement hs = refl
+params_again (params.PcrEvent event) hs = refl
+params_again params.PcrReset hs = refl
+params_again (params.Startup kind) hs = refl
+params_again (params.NvRead size offset) hs = refl
+params_again (params.FlushContext handle) hs = refl
+params_again params.NvReadPublic hs = refl
+params_again params.PolicyAuthValue hs = refl
+params_again (params.PolicyCommandCode code) hs = refl
+params_again (params.PolicyOr digests) hs = refl
+params_again (params.StartAuthSession nonce_caller kind symmetric alg) hs = refl
+params_again (params.PcrRead selected) hs = refl
+params_again (params.PolicyPcr pcr_digest selected) hs = refl
+params_again params.PolicyRestart hs = refl
+params_again (params.PcrExtend digests) hs = refl
+params_again params.PolicyGetDigest hs = refl
+
+-- ---- the parameters of each command
+
+few : {A : Type 0} (k : ℕ) (l : Layout A) → k ≤ 1100 → TakesAtMost k l → TakesAtMost 1100 l
+few k l le t = at_most_more k 1100 l le t
+
+none : {A : Type 0} (x : A) → TakesAtMost {r = buffer} 1100 (Form.done x)
+none x = few 0 (Form.done x) (omega arith) (at_most_done x)
+
+pub of_parameters : (code : CommandCode) → TakesAtMost 1100 (parameters code)
+unfolding nv_define_space pcr_event startup nv_read flush_context policy_command_code policy_or start_auth_session pcr_read policy_pcr pcr_extend startup_type session_type session encrypted_salt nv_public
+of_parameters codes.NvUndefineSpace = none _
+of_parameters codes.NvDefineSpace = few 114 _ (omega arith) (next 50 64 (of_parameter 1) _ _ _ (at_most_sized_bytes digest_bytes) (λ auth. only 64 (of_parameter 2) _ _ _ (at_most_sized public_bytes nv_public_area)))
+of_parameters codes.NvIncrement = none _
+of_parameters codes.PcrEvent = few 1026 _ (omega arith) (only 1026 (of_parameter 1) _ _ _ (at_most_sized_bytes event_bytes))
+of_parameters codes.PcrReset = none _
+of_parameters codes.Startup = few 2 _ (omega arith) (only 2 (of_parameter 1) _ _ _ (at_most_number 2 startup_of startup_number rc_value))
+of_parameters codes.NvRead = few 4 _ (omega arith) (next 2 2 (of_parameter 1) _ _ _ (at_most_number 2 _ _ _) (λ size. only 2 (of_parameter 2) _ _ _ (at_most_number 2 _ _ _)))
+of_parameters codes.FlushContext = few 4 _ (omega arith) (only 4 (of_parameter 1) _ _ _ (at_most_number_in 4 is_session rc_value))
+of_parameters codes.NvReadPublic = none _
+of_parameters codes.PolicyAuthValue = none _
+of_parameters codes.PolicyCommandCode = few 4 _ (omega arith) (only 4 (of_parameter 1) _ _ _ (at_most_number 4 _ _ _))
+of_parameters codes.PolicyOr = few 404 _ (omega arith) (only 404 (of_parameter 1) _ _ _ (at_most_counted 2 most_digests 50 digest (at_most_sized_bytes digest_bytes)))
+of_parameters codes.StartAuthSession = few 61 _ (omega arith) (
+    next 50 11 (of_parameter 1) _ _ _ (at_most_sized_bytes digest_bytes) (λ nonce.
+    next 2 9 (of_parameter 2) _ _ _ (at_most_number 2 salt_of salt_size rc_value) (λ salt.
+    next 1 8 (of_parameter 3) _ _ _ (at_most_number 1 session_type_of session_type_number rc_value) (λ kind.
+    next 6 2 (of_parameter 4) _ _ _ of_sym_def (λ symmetric.
+    only 2 (of_parameter 5) _ _ _ of_hash)))))
+of_parameters codes.PcrRead = few 22 _ (omega arith) (only 22 (of_parameter 1) _ _ _ (at_most_counted 0 banks 6 selection of_selection))
+of_parameters codes.PolicyPcr = few 72 _ (omega arith) (next 50 22 (of_parameter 1) _ _ _ (at_most_sized_bytes digest_bytes) (λ pcr_digest. only 22 (of_parameter 2) _ _ _ (at_most_counted 0 banks 6 selection of_selection)))
+of_parameters codes.PolicyRestart = none _
+of_parameters codes.PcrExtend = few 154 _ (omega arith) (only 154 (of_parameter 1) _ _ _ (at_most_counted 0 banks 50 digest_value of_digest_value))
+of_parameters codes.PolicyGetDigest = none _
+
+-- ---- the handle of a reply is that which was read, and its body is the command's
+
+-- each value that is read of the layout has the property
+abbrev pub Ends : {A : Type 0} → (A → Type 0) → Layout A → Type 0
+Ends P (Form.done x) = P x
+Ends P (Form.field {B = B} get l f) = (b : B) → Ends P (f b)
+Ends P _ = ⊥
+
+pub ends_read : {A : Type 0} (P : A → Type 0) (l : Layout A) (m : ℕ) (h : Here) (x : A × Here) → Ends P l → read m l h ≡ Ok x → P x.0
+ends_read P (Form.done a) m h x p e = subst P (ap (λ z. z.0) (ok_is (a, h) x e)) p
+ends_read P (Form.field get l f) m h x p e =
+    let b = bind_ok (read m l h) (λ y. read m (f y.0) y.1) x e in
+    ends_read P (f b.0.0) m b.0.1 x (p b.0.0) b.2
+ends_read P (Form.number width meaning number_for fault) m h x p e = absurd p
+ends_read P (Form.text n judge text_for) m h x p e = absurd p
+ends_read P (Form.area n fault l) m h x p e = absurd p
+ends_read P (Form.list most stops l) m h x p e = absurd p
+ends_read P (Form.by_left f) m h x p e = absurd p
+ends_read P (Form.marked n l) m h x p e = absurd p
+
+abbrev pub AreRead : CommandCode → List ℕ → Type 0
+AreRead codes.StartAuthSession hs = (n : ℕ) × (hs ≡ n ∷ []) × (session_in n ≡ n)
+AreRead _ hs = hs ≡ []
+
+none_read : (h g : Here) (hs : List ℕ) → (let o : Result (List ℕ × Here) Refusal = Ok ([], h) in o) ≡ Ok (hs, g) → hs ≡ []
+none_read h g hs e = sym (ap (λ (p : List ℕ × Here). p.0) (ok_is ([], h) (hs, g) e))
+
+was_session : (m n code : ℕ) (b : Bool) → is_session m ≡ b → or_fault {F = ℕ} (cond b (Some m) None) code ≡ Ok n → is_session n ≡ true
+was_session m n code true is e = let same : m ≡ n = cc in rw (← same) is
+was_session m n code false is e = absurd (let z : ⊥ = cc in z)
+
+session_read : (h g : Here) (hs : List ℕ) → read 0 session_handle h ≡ Ok (hs, g) → (n : ℕ) × (hs ≡ n ∷ []) × (session_in n ≡ n)
+unfolding session_handle session
+session_read h g hs e =
+    let b = bind_ok (read 0x100 session h) (λ n. ok (n.0 ∷ [], n.1)) (hs, g) e in
+    let n = number_ok buffer buffer_sound 0x100 4 (λ left n. cond (is_session n) (Some n) None) (λ n. n) rc_value h b.0 b.1 in
+    let good : is_session b.0.0 ≡ true = was_session (number_of (take 4 h.rest)) b.0.0 rc_value (is_session (number_of (take 4 h.rest))) refl n.1 in
+    (b.0.0, sym (ap (λ z. z.0) (ok_is (b.0.0 ∷ [], b.0.1) (hs, g) b.2)), rw good refl)
+
+pub are_read : (code : CommandCode) (h g : Here) (hs : List ℕ) → read 0 (reply_handles code) h ≡ Ok (hs, g) → AreRead code hs
+are_read codes.NvUndefineSpace h g hs e = none_read h g hs e
+are_read codes.NvDefineSpace h g hs e = none_read h g hs e
+are_read codes.NvIncrement h g hs e = none_read h g hs e
+are_read codes.PcrEvent h g hs e = none_read h g hs e
+are_read codes.PcrReset h g hs e = none_read h g hs e
+are_read codes.Startup h g hs e = none_read h g hs e
+are_read codes.NvRead h g hs e = none_read h g hs e
+are_read codes.FlushContext h g hs e = none_read h g hs e
+are_read codes.NvReadPublic h g hs e = none_read h g hs e
+are_read codes.PolicyAuthValue h g hs e = none_read h g hs e
+are_read codes.PolicyCommandCode h g hs e = none_read h g hs e
+are_read codes.PolicyOr h g hs e = none_read h g hs e
+are_read codes.StartAuthSession h g hs e = session_read h g hs e
+are_read codes.PcrRead h g hs e = none_read h g hs e
+are_read codes.PolicyPcr h g hs e = none_read h g hs e
+are_read codes.PolicyRestart h g hs e = none_read h g hs e
+are_read codes.PcrExtend h g hs e = none_read h g hs e
+are_read codes.PolicyGetDigest h g hs e = none_read h g hs e
+
+-- the body is that of the command, with this handle
+abbrev pub IsBodyOf : CommandCode → List ℕ → ReplyBody → Type 0
+IsBodyOf code hs body = (code_for_reply body ≡ code) × (reply_handles_of body ≡ hs)
+
+pub bodies : (code : CommandCode) (hs : List ℕ) → AreRead code hs → Ends (IsBodyOf code hs) (reply_parameters code hs)
+unfolding pcr_event_reply nv_read_reply nv_read_public_reply start_auth_session_reply pcr_read_reply policy_get_digest_reply
+bodies codes.NvUndefineSpace hs are = (refl, sym are)
+bodies codes.NvDefineSpace hs are = (refl, sym are)
+bodies codes.NvIncrement hs are = (refl, sym are)
+bodies codes.PcrEvent hs are = λ a. (refl, sym are)
+bodies codes.PcrReset hs are = (refl, sym are)
+bodies codes.Startup hs are = (refl, sym are)
+bodies codes.NvRead hs are = λ a. (refl, sym are)
+bodies codes.FlushContext hs are = (refl, sym are)
+bodies codes.NvReadPublic hs are = λ a b. (refl, sym are)
+bodies codes.PolicyAuthValue hs are = (refl, sym are)
+bodies codes.PolicyCommandCode hs are = (refl, sym are)
+bodies codes.PolicyOr hs are = (refl, sym are)
+bodies codes.StartAuthSession hs are = λ nonce. (refl, rw (are.1, are.2) refl)
+bodies codes.PcrRead hs are = λ a b c. (refl, sym are)
+bodies codes.PolicyPcr hs are = (refl, sym are)
+bodies codes.PolicyRestart hs are = (refl, sym are)
+bodies codes.PcrExtend hs are = (refl, sym are)
+bodies codes.PolicyGetDigest hs are = λ a. (refl, sym are)

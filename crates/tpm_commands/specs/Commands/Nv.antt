@@ -1,0 +1,95 @@
+-- The commands of non-volatile storage (Part 3, 31).
+use Rattle.std.specs.Prelude.{ℕ, List, [], ◌∷◌, true, false, codes}
+use Rattle.tpm_wire.specs.Buffers.{Layout, any_number, numbered}
+use Rattle.tpm_wire.specs.ResponseCodes.{of_parameter}
+use Rattle.tpm_wire.specs.Layout.Form.{done, field}
+use Rattle.tpm_wire.specs.Structures.{sized_bytes}
+use Rattle.tpm_types.specs.declared.alg.Alg.TheVariants.{Sha256}
+use Rattle.tpm_types.specs.declared.tpms.NvPublic.{NvPublic}
+use Rattle.tpm_types.specs.Tpm2b.{auth_value, name}
+use Rattle.tpm_types.specs.Tpms.{nv_public}
+use Rattle.tpm_commands.specs.declared.command_handles.HandleKind.TheVariants.{Owner, Index, OwnerOrIndex}
+use Rattle.tpm_commands.specs.declared.command_parameters.Params.{Params}
+use Rattle.tpm_commands.specs.declared.command_parameters.Params.TheVariants as params
+use Rattle.tpm_commands.specs.declared.response.ReplyBody.{ReplyBody}
+use Rattle.tpm_commands.specs.declared.response.ReplyBody.TheVariants as replies
+use Rattle.tpm_commands.specs.Row.{Row}
+
+abbrev pub no_public : NvPublic
+no_public = record { index = 0x01000000; alg = Sha256; attrs = 0; policy = []; data_size = 0 }
+
+-- ---- TPM2_NV_DefineSpace (31.3)
+
+abbrev pub auth_of : Params → List ℕ
+auth_of (params.NvDefineSpace auth public) = auth
+auth_of _ = []
+
+abbrev pub public_of : Params → NvPublic
+public_of (params.NvDefineSpace auth public) = public
+public_of _ = no_public
+
+unfoldable pub nv_define_space : Layout Params
+nv_define_space =
+    field auth_of (numbered (of_parameter 1) auth_value) (λ auth.
+    field public_of (numbered (of_parameter 2) nv_public) (λ public.
+    done (params.NvDefineSpace auth public)))
+
+abbrev pub nv_define_space_row : Row
+nv_define_space_row = record { number = 0x12A; name = codes "NV_DefineSpace"; handles = Owner ∷ []; authorized = true; parameters = nv_define_space; reply = λ hs. done replies.NvDefineSpace }
+
+-- ---- TPM2_NV_UndefineSpace (31.4)
+
+abbrev pub nv_undefine_space_row : Row
+nv_undefine_space_row = record { number = 0x122; name = codes "NV_UndefineSpace"; handles = Owner ∷ Index ∷ []; authorized = true; parameters = done params.NvUndefineSpace; reply = λ hs. done replies.NvUndefineSpace }
+
+-- ---- TPM2_NV_ReadPublic (31.6)
+
+abbrev pub reply_public_of : ReplyBody → NvPublic
+reply_public_of (replies.NvReadPublic public its_name) = public
+reply_public_of _ = no_public
+
+abbrev pub name_of : ReplyBody → List ℕ
+name_of (replies.NvReadPublic public its_name) = its_name
+name_of _ = []
+
+unfoldable pub nv_read_public_reply : Layout ReplyBody
+nv_read_public_reply =
+    field reply_public_of (numbered (of_parameter 1) nv_public) (λ public.
+    field name_of (numbered (of_parameter 2) name) (λ its_name.
+    done (replies.NvReadPublic public its_name)))
+
+abbrev pub nv_read_public_row : Row
+nv_read_public_row = record { number = 0x169; name = codes "NV_ReadPublic"; handles = Index ∷ []; authorized = false; parameters = done params.NvReadPublic; reply = λ hs. nv_read_public_reply }
+
+-- ---- TPM2_NV_Increment (31.8)
+
+abbrev pub nv_increment_row : Row
+nv_increment_row = record { number = 0x134; name = codes "NV_Increment"; handles = OwnerOrIndex ∷ Index ∷ []; authorized = true; parameters = done params.NvIncrement; reply = λ hs. done replies.NvIncrement }
+
+-- ---- TPM2_NV_Read (31.13)
+
+abbrev pub size_of : Params → ℕ
+size_of (params.NvRead size offset) = size
+size_of _ = 0
+
+abbrev pub offset_of : Params → ℕ
+offset_of (params.NvRead size offset) = offset
+offset_of _ = 0
+
+unfoldable pub nv_read : Layout Params
+nv_read =
+    field size_of (numbered (of_parameter 1) (any_number 2)) (λ size.
+    field offset_of (numbered (of_parameter 2) (any_number 2)) (λ offset.
+    done (params.NvRead size offset)))
+
+abbrev pub data_of : ReplyBody → List ℕ
+data_of (replies.NvRead bytes) = bytes
+data_of _ = []
+
+unfoldable pub nv_read_reply : Layout ReplyBody
+nv_read_reply =
+    field data_of (numbered (of_parameter 1) (sized_bytes 8)) (λ bytes.
+    done (replies.NvRead bytes))
+
+abbrev pub nv_read_row : Row
+nv_read_row = record { number = 0x14E; name = codes "NV_Read"; handles = OwnerOrIndex ∷ Index ∷ []; authorized = true; parameters = nv_read; reply = λ hs. nv_read_reply }

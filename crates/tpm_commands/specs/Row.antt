@@ -1,0 +1,27 @@
+-- What the table says of one command (Part 3, the command table and the response table of each).
+use Rattle.std.specs.Prelude.{ℕ, Bool, List, [], ◌∷◌}
+use Rattle.tpm_wire.specs.Buffers.{Layout}
+use Rattle.tpm_commands.specs.declared.command_handles.HandleKind.{HandleKind}
+use Rattle.tpm_commands.specs.declared.command_parameters.Params.{Params}
+use Rattle.tpm_commands.specs.declared.response.ReplyBody.{ReplyBody}
+
+-- TPM_CC (Part 2, 6.5.2); the name in Part 3 without its TPM2_; what the handles may be; whether the first needs authorization; the
+-- parameters; and those of the reply with these handles
+pub record Row : Type 1 where
+  pub number : ℕ
+  pub name : List ℕ
+  pub handles : List HandleKind
+  pub authorized : Bool
+  pub parameters : Layout Params
+  pub reply : List ℕ → Layout ReplyBody
+
+abbrev pub first : List ℕ → ℕ
+first [] = 0
+first (n ∷ ns) = n
+
+abbrev pub others : List ℕ → List ℕ
+others [] = []
+others (n ∷ ns) = ns
+
+abbrev pub second : List ℕ → ℕ
+second ns = first (others ns)

@@ -1,0 +1,196 @@
+//! What the handles of a command may be, and their reading.
+
+ghost use Rattle.std.specs.Prelude.{◌≡◌, true, ◌+◌, ◌≤◌, ◌*◌, length, ◌++◌, IfOk};
+ghost use Rattle.tpm_wire.specs.Spelling.{spelling};
+ghost use Rattle.tpm_wire.specs.Buffers.{TakesNumbered, number_in, numbered};
+ghost use Rattle.tpm_wire.specs.ResponseCodes.{rc_value, of_handle as the_number};
+ghost use Rattle.tpm_commands.specs.Table.{register_in as the_register, index_in as the_index, policy_in as the_policy, pcr_or_null_in as the_pcr_or_null, nv_auth_in as the_nv_auth, bind_in as the_bind};
+ghost use Rattle.tpm_commands.specs.Handles.{first as first_of, second as second_of, admits as is_admitted, handle_kinds, needs_authorization as does_need, handles as handles_layout, handles_from, AreAdmitted};
+
+use crate::code::CommandCode;
+use arrayvec::ArrayVec;
+use tpm_types::{
+    BindHandle, NvAuthHandle, NvIndex, PcrIndex, PcrOrNull, PolicyHandle, RH_NULL, RH_OWNER,
+};
+use tpm_wire::response_code::{VALUE, of_handle};
+use tpm_wire::{Cursor, Refusal, Wire};
+
+/// What one handle of a command may be.
+#[derive(Clone, Copy, Debug, PartialEq, Eq)]
+pub enum HandleKind {
+    Pcr,
+    PcrOrNull,
+    Owner,
+    Null,
+    OwnerOrNull,
+    Index,
+    OwnerOrIndex,
+    Policy,
+}
+
+impl HandleKind {
+    fn admits(self, handle: u32) -> bool
+        ensures { result ≡ is_admitted self handle }
+    {
+        match self {
+            HandleKind::Pcr => PcrIndex::from_number(handle).is_some(),
+            HandleKind::PcrOrNull => PcrOrNull::from_number(handle).is_some(),
+            HandleKind::Owner => handle == RH_OWNER,
+            HandleKind::Null => handle == RH_NULL,
+            HandleKind::OwnerOrNull => BindHandle::from_number(handle).is_some(),
+            HandleKind::Index => NvIndex::from_number(handle).is_some(),
+            HandleKind::OwnerOrIndex => NvAuthHandle::from_number(handle).is_some(),
+            HandleKind::Policy => PolicyHandle::from_number(handle).is_some(),
+        }
+    }
+
+    // The handle of this number, counted from 1.
+    fn take(self, cursor: &mut Cursor<'_>, number: u32) -> Result<u32, Refusal>
+        requires { (1 ≤ number) × (number ≤ 2) }
+        ensures reads { TakesNumbered (λ n. n) (numbered (the_number number) (number_in 4 (is_admitted self) rc_value)) cursor.old cursor.new result }
+        ensures spelled { IfOk result (λ x. cursor.old.here.rest ≡ spelling (numbered (the_number number) (number_in 4 (is_admitted self) rc_value)) x ++ cursor.new.here.rest) }
+        ensures admitted { IfOk result (λ x. is_admitted self x ≡ true) }
+    {
+        cursor.number(of_handle(number));
+        let refusal = cursor.refusal(VALUE);
+        let handle = u32::take(cursor)?;
+        if !self.admits(handle) {
+            return Err(refusal);
+        }
+        Ok(handle)
+    }
+}
+
+#[inline(always)]
+fn take_kinds(cursor: &mut Cursor<'_>, kinds: &[HandleKind]) -> Result<ArrayVec<u32, 2>, Refusal>
+    requires { length kinds.now ≤ 2 }
+    ensures reads { TakesNumbered (λ v. v.items) (handles_from 1 kinds.now) cursor.old cursor.new result }
+    ensures spelled { IfOk result (λ x. cursor.old.here.rest ≡ spelling (handles_from 1 kinds.now) x.items ++ cursor.new.here.rest) }
+    ensures admitted { IfOk result (λ x. AreAdmitted kinds.now x.items) }
+{
+    let mut list = ArrayVec::new();
+    match kinds {
+        [] => Ok(list),
+        [only] => {
+            list.push(only.take(cursor, 1)?);
+            Ok(list)
+        }
+        [one, two, ..] => {
+            list.push(one.take(cursor, 1)?);
+            list.push(two.take(cursor, 2)?);
+            Ok(list)
+        }
+    }
+}
+
+/// The numbers of the handles that a command with this code has, in their order, each of its kind; or the first fault: INSUFFICIENT
+/// or VALUE with the handle's number (Part 3, the command table of each).
+#[inline(always)]
+pub fn take_handles(
+    cursor: &mut Cursor<'_>,
+    code: CommandCode,
+) -> Result<ArrayVec<u32, 2>, Refusal>
+    ensures reads { TakesNumbered (λ v. v.items) (handles_layout code) cursor.old cursor.new result }
+    ensures spelled { IfOk result (λ x. cursor.old.here.rest ≡ spelling (handles_layout code) x.items ++ cursor.new.here.rest) }
+    ensures admitted { IfOk result (λ x. AreAdmitted (handle_kinds code) x.items) }
+{
+    take_kinds(cursor, code.handle_kinds())
+}
+
+impl CommandCode {
+    fn handle_kinds(self) -> &'static [HandleKind]
+        ensures value { result.now ≡ handle_kinds self }
+        ensures few { length result.now ≤ 2 }
+    {
+        self.row().handles
+    }
+
+    /// How many handles the command has, 0 to 2.
+    pub fn handles(self) -> usize
+        ensures value { result ≡ length (handle_kinds self) }
+        ensures fits { result ≤ 2 }
+    {
+        self.handle_kinds().len()
+    }
+
+    /// Whether its first handle needs authorization.
+    pub fn needs_authorization(self) -> bool
+        ensures { result ≡ does_need self }
+    {
+        self.row().needs_authorization
+    }
+}
+
+// ---- a handle by its number, or where the command cannot have it one of its kind, which is never met on handles that were read
+
+pub(crate) fn register_in(handle: u32) -> PcrIndex
+    ensures { result ≡ the_register handle }
+{
+    match PcrIndex::from_number(handle) {
+        Some(register) => register,
+        None => PcrIndex::default(),
+    }
+}
+
+pub(crate) fn index_in(handle: u32) -> NvIndex
+    ensures { result ≡ the_index handle }
+{
+    match NvIndex::from_number(handle).or(NvIndex::from_number(0x01000000)) {
+        Some(index) => index,
+        None => unreachable!(),
+    }
+}
+
+pub(crate) fn policy_in(handle: u32) -> PolicyHandle
+    ensures { result ≡ the_policy handle }
+{
+    match PolicyHandle::from_number(handle).or(PolicyHandle::from_number(0x03000000)) {
+        Some(session) => session,
+        None => unreachable!(),
+    }
+}
+
+pub(crate) fn pcr_or_null_in(handle: u32) -> PcrOrNull
+    ensures { result ≡ the_pcr_or_null handle }
+{
+    match PcrOrNull::from_number(handle) {
+        Some(register) => register,
+        None => PcrOrNull::Null,
+    }
+}
+
+pub(crate) fn nv_auth_in(handle: u32) -> NvAuthHandle
+    ensures { result ≡ the_nv_auth handle }
+{
+    match NvAuthHandle::from_number(handle) {
+        Some(by) => by,
+        None => NvAuthHandle::Owner,
+    }
+}
+
+pub(crate) fn bind_in(handle: u32) -> BindHandle
+    ensures { result ≡ the_bind handle }
+{
+    match BindHandle::from_number(handle) {
+        Some(bind) => bind,
+        None => BindHandle::Null,
+    }
+}
+
+pub(crate) fn first(handles: &[u32]) -> u32
+    ensures { result ≡ first_of handles.now }
+{
+    match handles {
+        [handle, ..] => *handle,
+        [] => 0,
+    }
+}
+
+pub(crate) fn second(handles: &[u32]) -> u32
+    ensures { result ≡ second_of handles.now }
+{
+    match handles {
+        [_, handle, ..] => *handle,
+        _ => 0,
+    }
+}

@@ -1,0 +1,218 @@
+//! The commands of non-volatile storage (Part 3, 31).
+
+ghost use Rattle.std.specs.Prelude.{◌≡◌, ◌≤◌, ◌+◌, ◌++◌, length, ℕ, None, OnOk};
+ghost use Rattle.tpm_wire.specs.Spelling.{spelling, Fits};
+ghost use Rattle.tpm_wire.specs.Buffers.{TakesNumbered};
+ghost use Rattle.tpm_commands.specs.declared.code.CommandCode.TheVariants as codes;
+ghost use Rattle.tpm_commands.specs.declared.command_parameters.Params.TheVariants as params;
+ghost use Rattle.tpm_commands.specs.declared.response.ReplyBody.TheVariants as replies;
+ghost use Rattle.tpm_commands.specs.Parameters.{nv_define_space, nv_read};
+ghost use Rattle.tpm_commands.specs.Replies.{nv_read_reply, nv_read_public_reply, IsReplyTo};
+
+use crate::command_handles::HandleKind;
+use crate::commands::Row;
+use crate::response::{NvData, ReplyBody};
+use tpm_types::{Alg, AuthValue, Digest, Name, NvAttrs, NvIndex, NvPublic};
+use tpm_wire::response_code::of_parameter;
+use tpm_wire::{Buffer, Cursor, Refusal, Wire};
+
+// ---- TPM2_NV_DefineSpace (31.3)
+
+pub(crate) const NV_DEFINE_SPACE: Row = Row {
+    name: "NV_DefineSpace",
+    handles: &[HandleKind::Owner],
+    needs_authorization: true,
+};
+
+/// An area that another one is read in the place of.
+pub(crate) fn any_public() -> NvPublic {
+    match (NvIndex::from_number(0x01000000), NvAttrs::from_number(0)) {
+        (Some(index), Some(attrs)) => NvPublic {
+            index,
+            alg: Alg::default(),
+            attrs,
+            policy: Digest::default(),
+            data_size: 0,
+        },
+        _ => unreachable!(),
+    }
+}
+
+#[tactic(auto, unfolding(crate::specs::Parameters::nv_define_space))]
+pub(crate) fn read_nv_define_space(
+    cursor: &mut Cursor<'_>,
+    auth: &mut AuthValue,
+    public: &mut NvPublic,
+) -> Result<(), Refusal>
+    ensures reads { TakesNumbered (λ _. params.NvDefineSpace auth.new public.new) nv_define_space cursor.old cursor.new result }
+    ensures spelled { OnOk result (cursor.old.here.rest ≡ spelling nv_define_space (params.NvDefineSpace auth.new public.new) ++ cursor.new.here.rest) }
+{
+    cursor.number(of_parameter(1));
+    auth.read(cursor)?;
+    cursor.number(of_parameter(2));
+    public.read(cursor)
+}
+
+#[tactic(auto, unfolding(crate::specs::Parameters::nv_define_space))]
+#[inline(always)]
+pub(crate) fn nv_define_space_len(auth: &AuthValue, public: &NvPublic) -> usize
+    ensures value { result ≡ length (spelling nv_define_space (params.NvDefineSpace auth.now public.now)) }
+    ensures fits { result ≤ 3500 }
+    ensures spelled { (left : ℕ) → Fits left nv_define_space (params.NvDefineSpace auth.now public.now) }
+{
+    auth.has_spelling();
+    public.has_spelling();
+    auth.len() + public.len()
+}
+
+#[tactic(auto, unfolding(crate::specs::Parameters::nv_define_space))]
+#[inline(always)]
+pub(crate) fn put_nv_define_space(auth: &AuthValue, public: &NvPublic, out: &mut Buffer)
+    requires { length out.old.items + length (spelling nv_define_space (params.NvDefineSpace auth.now public.now)) ≤ 4096 }
+    ensures { out.new.items ≡ out.old.items ++ spelling nv_define_space (params.NvDefineSpace auth.now public.now) }
+{
+    auth.put(out);
+    public.put(out);
+}
+
+// ---- TPM2_NV_UndefineSpace (31.4)
+
+pub(crate) const NV_UNDEFINE_SPACE: Row = Row {
+    name: "NV_UndefineSpace",
+    handles: &[HandleKind::Owner, HandleKind::Index],
+    needs_authorization: true,
+};
+
+// ---- TPM2_NV_ReadPublic (31.6)
+
+pub(crate) const NV_READ_PUBLIC: Row = Row {
+    name: "NV_ReadPublic",
+    handles: &[HandleKind::Index],
+    needs_authorization: false,
+};
+
+#[tactic(auto, unfolding(crate::specs::Replies::nv_read_public_reply))]
+pub(crate) fn read_nv_read_public_reply(
+    cursor: &mut Cursor<'_>,
+    body: &mut ReplyBody,
+) -> Result<(), Refusal>
+    ensures reads { TakesNumbered (λ _. body.new) nv_read_public_reply cursor.old cursor.new result }
+    ensures spelled { OnOk result (cursor.old.here.rest ≡ spelling nv_read_public_reply body.new ++ cursor.new.here.rest) }
+    ensures own { OnOk result (IsReplyTo codes.NvReadPublic None body.new) }
+{
+    cursor.number(of_parameter(1));
+    let public = NvPublic::take(cursor)?;
+    cursor.number(of_parameter(2));
+    let name = Name::take(cursor)?;
+    *body = ReplyBody::NvReadPublic { public, name };
+    Ok(())
+}
+
+#[tactic(auto, unfolding(crate::specs::Replies::nv_read_public_reply))]
+#[inline(always)]
+pub(crate) fn nv_read_public_reply_len(public: &NvPublic, name: &Name) -> usize
+    ensures value { result ≡ length (spelling nv_read_public_reply (replies.NvReadPublic public.now name.now)) }
+    ensures fits { result ≤ 3500 }
+    ensures spelled { (left : ℕ) → Fits left nv_read_public_reply (replies.NvReadPublic public.now name.now) }
+{
+    public.has_spelling();
+    name.has_spelling();
+    public.len() + name.len()
+}
+
+#[tactic(auto, unfolding(crate::specs::Replies::nv_read_public_reply))]
+#[inline(always)]
+pub(crate) fn put_nv_read_public_reply(public: &NvPublic, name: &Name, out: &mut Buffer)
+    requires { length out.old.items + length (spelling nv_read_public_reply (replies.NvReadPublic public.now name.now)) ≤ 4096 }
+    ensures { out.new.items ≡ out.old.items ++ spelling nv_read_public_reply (replies.NvReadPublic public.now name.now) }
+{
+    public.put(out);
+    name.put(out);
+}
+
+// ---- TPM2_NV_Increment (31.8)
+
+pub(crate) const NV_INCREMENT: Row = Row {
+    name: "NV_Increment",
+    handles: &[HandleKind::OwnerOrIndex, HandleKind::Index],
+    needs_authorization: true,
+};
+
+// ---- TPM2_NV_Read (31.13)
+
+pub(crate) const NV_READ: Row = Row {
+    name: "NV_Read",
+    handles: &[HandleKind::OwnerOrIndex, HandleKind::Index],
+    needs_authorization: true,
+};
+
+#[tactic(auto, unfolding(crate::specs::Parameters::nv_read))]
+pub(crate) fn read_nv_read(
+    cursor: &mut Cursor<'_>,
+    size: &mut u16,
+    offset: &mut u16,
+) -> Result<(), Refusal>
+    ensures reads { TakesNumbered (λ _. params.NvRead size.new offset.new) nv_read cursor.old cursor.new result }
+    ensures spelled { OnOk result (cursor.old.here.rest ≡ spelling nv_read (params.NvRead size.new offset.new) ++ cursor.new.here.rest) }
+{
+    cursor.number(of_parameter(1));
+    size.read(cursor)?;
+    cursor.number(of_parameter(2));
+    offset.read(cursor)
+}
+
+#[tactic(auto, unfolding(crate::specs::Parameters::nv_read))]
+#[inline(always)]
+pub(crate) fn nv_read_len(size: u16, offset: u16) -> usize
+    ensures value { result ≡ length (spelling nv_read (params.NvRead size offset)) }
+    ensures fits { result ≤ 3500 }
+    ensures spelled { (left : ℕ) → Fits left nv_read (params.NvRead size offset) }
+{
+    prove!(size <= u16::MAX);
+    prove!(offset <= u16::MAX);
+    size.len() + offset.len()
+}
+
+#[tactic(auto, unfolding(crate::specs::Parameters::nv_read))]
+#[inline(always)]
+pub(crate) fn put_nv_read(size: u16, offset: u16, out: &mut Buffer)
+    requires { length out.old.items + length (spelling nv_read (params.NvRead size offset)) ≤ 4096 }
+    ensures { out.new.items ≡ out.old.items ++ spelling nv_read (params.NvRead size offset) }
+{
+    size.put(out);
+    offset.put(out);
+}
+
+#[tactic(auto, unfolding(crate::specs::Replies::nv_read_reply))]
+pub(crate) fn read_nv_read_reply(
+    cursor: &mut Cursor<'_>,
+    body: &mut ReplyBody,
+) -> Result<(), Refusal>
+    ensures reads { TakesNumbered (λ _. body.new) nv_read_reply cursor.old cursor.new result }
+    ensures spelled { OnOk result (cursor.old.here.rest ≡ spelling nv_read_reply body.new ++ cursor.new.here.rest) }
+    ensures own { OnOk result (IsReplyTo codes.NvRead None body.new) }
+{
+    cursor.number(of_parameter(1));
+    *body = ReplyBody::NvRead(NvData::take(cursor)?);
+    Ok(())
+}
+
+#[tactic(auto, unfolding(crate::specs::Replies::nv_read_reply))]
+#[inline(always)]
+pub(crate) fn nv_read_reply_len(bytes: &NvData) -> usize
+    ensures value { result ≡ length (spelling nv_read_reply (replies.NvRead bytes.now)) }
+    ensures fits { result ≤ 3500 }
+    ensures spelled { (left : ℕ) → Fits left nv_read_reply (replies.NvRead bytes.now) }
+{
+    bytes.has_spelling();
+    bytes.len()
+}
+
+#[tactic(auto, unfolding(crate::specs::Replies::nv_read_reply))]
+#[inline(always)]
+pub(crate) fn put_nv_read_reply(bytes: &NvData, out: &mut Buffer)
+    requires { length out.old.items + length (spelling nv_read_reply (replies.NvRead bytes.now)) ≤ 4096 }
+    ensures { out.new.items ≡ out.old.items ++ spelling nv_read_reply (replies.NvRead bytes.now) }
+{
+    bytes.put(out);
+}

@@ -1,0 +1,260 @@
+//! The commands of the registers (Part 3, 22).
+
+ghost use Rattle.std.specs.Prelude.{◌≡◌, ◌≤◌, ◌+◌, ◌++◌, length, ℕ, None, IfOk, OnOk};
+ghost use Rattle.tpm_wire.specs.Spelling.{spelling, Fits};
+ghost use Rattle.tpm_wire.specs.Buffers.{TakesNumbered};
+ghost use Rattle.tpm_commands.specs.declared.code.CommandCode.TheVariants as codes;
+ghost use Rattle.tpm_commands.specs.declared.command_parameters.Params.TheVariants as params;
+ghost use Rattle.tpm_commands.specs.declared.response.ReplyBody.TheVariants as replies;
+ghost use Rattle.tpm_commands.specs.Parameters.{pcr_event, pcr_read, pcr_extend};
+ghost use Rattle.tpm_commands.specs.Replies.{code_for_reply, pcr_event_reply, pcr_read_reply, IsReplyTo};
+
+use crate::command_handles::HandleKind;
+use crate::commands::Row;
+use crate::lent::Event;
+use crate::response::ReplyBody;
+use tpm_types::{DigestValues, Digests, Selections};
+use tpm_wire::response_code::of_parameter;
+use tpm_wire::{Buffer, Cursor, Refusal, Wire};
+
+// ---- TPM2_PCR_Extend (22.2)
+
+pub(crate) const PCR_EXTEND: Row = Row {
+    name: "PCR_Extend",
+    handles: &[HandleKind::PcrOrNull],
+    needs_authorization: true,
+};
+
+#[tactic(auto, unfolding(crate::specs::Parameters::pcr_extend))]
+pub(crate) fn read_pcr_extend(
+    cursor: &mut Cursor<'_>,
+    digests: &mut DigestValues,
+) -> Result<(), Refusal>
+    ensures reads { TakesNumbered (λ _. params.PcrExtend digests.new) pcr_extend cursor.old cursor.new result }
+    ensures spelled { OnOk result (cursor.old.here.rest ≡ spelling pcr_extend (params.PcrExtend digests.new) ++ cursor.new.here.rest) }
+{
+    cursor.number(of_parameter(1));
+    digests.read(cursor)
+}
+
+#[tactic(auto, unfolding(crate::specs::Parameters::pcr_extend))]
+#[inline(always)]
+pub(crate) fn pcr_extend_len(digests: &DigestValues) -> usize
+    ensures value { result ≡ length (spelling pcr_extend (params.PcrExtend digests.now)) }
+    ensures fits { result ≤ 3500 }
+    ensures spelled { (left : ℕ) → Fits left pcr_extend (params.PcrExtend digests.now) }
+{
+    digests.has_spelling();
+    digests.len()
+}
+
+#[tactic(auto, unfolding(crate::specs::Parameters::pcr_extend))]
+#[inline(always)]
+pub(crate) fn put_pcr_extend(digests: &DigestValues, out: &mut Buffer)
+    requires { length out.old.items + length (spelling pcr_extend (params.PcrExtend digests.now)) ≤ 4096 }
+    ensures { out.new.items ≡ out.old.items ++ spelling pcr_extend (params.PcrExtend digests.now) }
+{
+    digests.put(out);
+}
+
+// ---- TPM2_PCR_Event (22.3)
+
+pub(crate) const PCR_EVENT: Row = Row {
+    name: "PCR_Event",
+    handles: &[HandleKind::PcrOrNull],
+    needs_authorization: true,
+};
+
+/// An event that another one is read in the place of.
+pub(crate) fn any_event<'a>() -> Event<'a> {
+    match Event::new(&[]) {
+        Some(event) => event,
+        None => unreachable!(),
+    }
+}
+
+#[tactic(auto, unfolding(crate::specs::Parameters::pcr_event))]
+pub(crate) fn take_pcr_event<'a>(cursor: &mut Cursor<'a>) -> Result<Event<'a>, Refusal>
+    ensures reads { TakesNumbered (λ e. params.PcrEvent e) pcr_event cursor.old cursor.new result }
+    ensures spelled { IfOk result (λ e. cursor.old.here.rest ≡ spelling pcr_event (params.PcrEvent e) ++ cursor.new.here.rest) }
+{
+    cursor.number(of_parameter(1));
+    Event::take(cursor)
+}
+
+#[tactic(auto, unfolding(crate::specs::Parameters::pcr_event))]
+#[inline(always)]
+pub(crate) fn pcr_event_len(event: &Event<'_>) -> usize
+    ensures value { result ≡ length (spelling pcr_event (params.PcrEvent event.now)) }
+    ensures fits { result ≤ 3500 }
+    ensures spelled { (left : ℕ) → Fits left pcr_event (params.PcrEvent event.now) }
+{
+    event.has_spelling();
+    event.len()
+}
+
+#[tactic(auto, unfolding(crate::specs::Parameters::pcr_event))]
+#[inline(always)]
+pub(crate) fn put_pcr_event(event: &Event<'_>, out: &mut Buffer)
+    requires { length out.old.items + length (spelling pcr_event (params.PcrEvent event.now)) ≤ 4096 }
+    ensures { out.new.items ≡ out.old.items ++ spelling pcr_event (params.PcrEvent event.now) }
+{
+    event.put(out);
+}
+
+#[tactic(auto, unfolding(crate::specs::Replies::pcr_event_reply))]
+pub(crate) fn read_pcr_event_reply(
+    cursor: &mut Cursor<'_>,
+    body: &mut ReplyBody,
+) -> Result<(), Refusal>
+    ensures reads { TakesNumbered (λ _. body.new) pcr_event_reply cursor.old cursor.new result }
+    ensures spelled { OnOk result (cursor.old.here.rest ≡ spelling pcr_event_reply body.new ++ cursor.new.here.rest) }
+    ensures own { OnOk result (IsReplyTo codes.PcrEvent None body.new) }
+{
+    cursor.number(of_parameter(1));
+    *body = ReplyBody::PcrEvent(DigestValues::take(cursor)?);
+    Ok(())
+}
+
+#[tactic(auto, unfolding(crate::specs::Replies::pcr_event_reply))]
+#[inline(always)]
+pub(crate) fn pcr_event_reply_len(digests: &DigestValues) -> usize
+    ensures value { result ≡ length (spelling pcr_event_reply (replies.PcrEvent digests.now)) }
+    ensures fits { result ≤ 3500 }
+    ensures spelled { (left : ℕ) → Fits left pcr_event_reply (replies.PcrEvent digests.now) }
+{
+    digests.has_spelling();
+    digests.len()
+}
+
+#[tactic(auto, unfolding(crate::specs::Replies::pcr_event_reply))]
+#[inline(always)]
+pub(crate) fn put_pcr_event_reply(digests: &DigestValues, out: &mut Buffer)
+    requires { length out.old.items + length (spelling pcr_event_reply (replies.PcrEvent digests.now)) ≤ 4096 }
+    ensures { out.new.items ≡ out.old.items ++ spelling pcr_event_reply (replies.PcrEvent digests.now) }
+{
+    digests.put(out);
+}
+
+// ---- TPM2_PCR_Read (22.4)
+
+pub(crate) const PCR_READ: Row = Row {
+    name: "PCR_Read",
+    handles: &[],
+    needs_authorization: false,
+};
+
+#[tactic(auto, unfolding(crate::specs::Parameters::pcr_read))]
+pub(crate) fn read_pcr_read(
+    cursor: &mut Cursor<'_>,
+    selections: &mut Selections,
+) -> Result<(), Refusal>
+    ensures reads { TakesNumbered (λ _. params.PcrRead selections.new) pcr_read cursor.old cursor.new result }
+    ensures spelled { OnOk result (cursor.old.here.rest ≡ spelling pcr_read (params.PcrRead selections.new) ++ cursor.new.here.rest) }
+{
+    cursor.number(of_parameter(1));
+    selections.read(cursor)
+}
+
+#[tactic(auto, unfolding(crate::specs::Parameters::pcr_read))]
+#[inline(always)]
+pub(crate) fn pcr_read_len(selections: &Selections) -> usize
+    ensures value { result ≡ length (spelling pcr_read (params.PcrRead selections.now)) }
+    ensures fits { result ≤ 3500 }
+    ensures spelled { (left : ℕ) → Fits left pcr_read (params.PcrRead selections.now) }
+{
+    selections.has_spelling();
+    selections.len()
+}
+
+#[tactic(auto, unfolding(crate::specs::Parameters::pcr_read))]
+#[inline(always)]
+pub(crate) fn put_pcr_read(selections: &Selections, out: &mut Buffer)
+    requires { length out.old.items + length (spelling pcr_read (params.PcrRead selections.now)) ≤ 4096 }
+    ensures { out.new.items ≡ out.old.items ++ spelling pcr_read (params.PcrRead selections.now) }
+{
+    selections.put(out);
+}
+
+// Makes it a reply to a PCR_Read, which another one is read in the place of. One that is there stays, since it is the largest reply
+// and costs as many stores to make.
+fn begin_pcr_read(body: &mut ReplyBody)
+    ensures { code_for_reply body.new ≡ codes.PcrRead }
+{
+    match body {
+        ReplyBody::PcrRead { .. } => {}
+        _ => *body = ReplyBody::PcrRead {
+            update_counter: 0,
+            selections: Selections::default(),
+            digests: Digests::default(),
+        },
+    }
+}
+
+#[tactic(auto, unfolding(crate::specs::Replies::pcr_read_reply))]
+pub(crate) fn read_pcr_read_reply(
+    cursor: &mut Cursor<'_>,
+    body: &mut ReplyBody,
+) -> Result<(), Refusal>
+    ensures reads { TakesNumbered (λ _. body.new) pcr_read_reply cursor.old cursor.new result }
+    ensures spelled { OnOk result (cursor.old.here.rest ≡ spelling pcr_read_reply body.new ++ cursor.new.here.rest) }
+    ensures own { OnOk result (IsReplyTo codes.PcrRead None body.new) }
+{
+    begin_pcr_read(body);
+    match body {
+        ReplyBody::PcrRead {
+            update_counter,
+            selections,
+            digests,
+        } => {
+            cursor.number(of_parameter(1));
+            *update_counter = u32::take(cursor)?;
+            cursor.number(of_parameter(2));
+            selections.read(cursor)?;
+            cursor.number(of_parameter(3));
+            digests.read(cursor)
+        }
+        _ => unreachable!(),
+    }
+}
+
+#[tactic(auto, unfolding(crate::specs::Replies::pcr_read_reply))]
+#[inline(always)]
+pub(crate) fn pcr_read_reply_len(
+    update_counter: u32,
+    selections: &Selections,
+    digests: &Digests,
+) -> usize
+    ensures value { result ≡ length (spelling pcr_read_reply (replies.PcrRead update_counter selections.now digests.now)) }
+    ensures fits { result ≤ 3500 }
+    ensures spelled { (left : ℕ) → Fits left pcr_read_reply (replies.PcrRead update_counter selections.now digests.now) }
+{
+    prove!(update_counter <= u32::MAX);
+    selections.has_spelling();
+    digests.has_spelling();
+    update_counter.len() + selections.len() + digests.len()
+}
+
+#[tactic(auto, unfolding(crate::specs::Replies::pcr_read_reply))]
+#[inline(always)]
+pub(crate) fn put_pcr_read_reply(
+    update_counter: u32,
+    selections: &Selections,
+    digests: &Digests,
+    out: &mut Buffer,
+)
+    requires { length out.old.items + length (spelling pcr_read_reply (replies.PcrRead update_counter selections.now digests.now)) ≤ 4096 }
+    ensures { out.new.items ≡ out.old.items ++ spelling pcr_read_reply (replies.PcrRead update_counter selections.now digests.now) }
+{
+    update_counter.put(out);
+    selections.put(out);
+    digests.put(out);
+}
+
+// ---- TPM2_PCR_Reset (22.8)
+
+pub(crate) const PCR_RESET: Row = Row {
+    name: "PCR_Reset",
+    handles: &[HandleKind::Pcr],
+    needs_authorization: true,
+};

@@ -1,0 +1,18 @@
+//! The table of commands, the values of commands and responses, and how handles, parameters and replies are read and written.
+#![tactic(auto)]
+
+mod code;
+mod command;
+mod command_handles;
+mod command_parameters;
+mod commands;
+mod lent;
+mod response;
+
+pub use code::CommandCode;
+pub use command::{Command, CommandBody, Header, StartAuth};
+pub use command_handles::take_handles;
+pub use command_parameters::{Params, decode_params, decode_params_into};
+pub use commands::{read_reply_params, take_reply_handle};
+pub use lent::{EVENT_BYTES, Event, take_sized};
+pub use response::{ErrorCode, NvData, ReplyBody, Response, StartReply};
