@@ -68,15 +68,11 @@ value_stays i g handle (c ∷ cs) = one_of (has_index i c) i g handle c cs (valu
 value_after : (o : Origin) (h : History) (body : CommandBody) (reply : ReplyBody) (n : List ℕ) (handle : ℕ) → needs_authorization (code_for body) ≡ true
     → (owner_authorizes (code_for body) ≡ true → is_owner handle ≡ true)
     → auth_value (entity_of (present o h) handle) ≡ auth_value (entity_of (present o (step_of body reply n ∷ h)) handle)
-value_after o h (bodies.PcrExtend q digests) reply n handle needs owner = refl
-value_after o h (bodies.PcrEvent q event) reply n handle needs owner = refl
-value_after o h (bodies.PcrReset q) reply n handle needs owner = refl
-value_after o h (bodies.NvRead by index size offset) reply n handle needs owner = refl
 value_after o h (bodies.NvDefineSpace auth public) reply n handle needs owner = owners_value (is_pcr handle) (is_owner handle) (is_nv_index handle) o.owner _ _ (owner refl)
 value_after o h (bodies.NvUndefineSpace index) reply n handle needs owner = owners_value (is_pcr handle) (is_owner handle) (is_nv_index handle) o.owner _ _ (owner refl)
 value_after o h (bodies.NvIncrement by index) reply n handle needs owner =
     same_value (is_pcr handle) (is_owner handle) (is_nv_index handle) o.owner _ _ (value_stays index (nv_memory o h).greatest handle (nv_memory o h).counters)
-value_after o h _ reply n handle needs owner = absurd (cc)
+value_after o h _ reply n handle needs owner = refl
 
 -- A device that has acted authorizes as before.
 pub alike : (o : Origin) (h : History) (old new : Device) (body : CommandBody) (reply : ReplyBody) (n : List ℕ) (handle : ℕ) → Stands o h old → Stands o (step_of body reply n ∷ h) new

@@ -52,14 +52,15 @@ its_sessions o h d st = ap (λ (p : Present). p.sessions) st
 -- A command that is authorized leaves the sessions as they were, but for the one that authorized it.
 pub sessions_stay : (o : Origin) (h : History) (body : CommandBody) (reply : ReplyBody) (n : List ℕ) → needs_authorization (code_for body) ≡ true
     → sessions_at o (step_of body reply n ∷ h) ≡ sessions_at o h
-sessions_stay o h (bodies.PcrExtend q digests) reply n needs = refl
-sessions_stay o h (bodies.PcrEvent q event) reply n needs = refl
-sessions_stay o h (bodies.PcrReset q) reply n needs = refl
-sessions_stay o h (bodies.NvDefineSpace auth public) reply n needs = refl
-sessions_stay o h (bodies.NvUndefineSpace index) reply n needs = refl
-sessions_stay o h (bodies.NvIncrement by index) reply n needs = refl
-sessions_stay o h (bodies.NvRead by index size offset) reply n needs = refl
-sessions_stay o h _ reply n needs = absurd (cc)
+sessions_stay o h (bodies.Startup kind) reply n needs = absurd (cc)
+sessions_stay o h (bodies.StartAuthSession start) reply n needs = absurd (cc)
+sessions_stay o h (bodies.FlushContext handle) reply n needs = absurd (cc)
+sessions_stay o h (bodies.PolicyPcr handle d sels) reply n needs = absurd (cc)
+sessions_stay o h (bodies.PolicyOr handle ds) reply n needs = absurd (cc)
+sessions_stay o h (bodies.PolicyCommandCode handle code) reply n needs = absurd (cc)
+sessions_stay o h (bodies.PolicyAuthValue handle) reply n needs = absurd (cc)
+sessions_stay o h (bodies.PolicyRestart handle) reply n needs = absurd (cc)
+sessions_stay o h _ reply n needs = refl
 
 -- A command with these sessions leaves the device where it leaves it without them, if the sessions are those of the history with them.
 pub with_sessions : (o : Origin) (h : History) (old new : Device) (body : CommandBody) (reply : ReplyBody) (auths : List Auth) (replied : List AuthReply) (n : List ℕ)

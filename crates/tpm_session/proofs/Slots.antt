@@ -74,14 +74,15 @@ record StaysOut (k : ℕ) (body : CommandBody) (reply : ReplyBody) : Type 0 wher
   no_assertion : (now : Registers) (start : Option Start) (old : List Assertion) → asserted_by k body now start old ≡ old
 
 stays_out : (k : ℕ) (body : CommandBody) (reply : ReplyBody) → needs_authorization (code_for body) ≡ true → StaysOut k body reply
-stays_out k (bodies.NvUndefineSpace index) reply e = record { no_start = refl; no_flush = refl; no_assertion = λ now start old. refl }
-stays_out k (bodies.NvDefineSpace auth public) reply e = record { no_start = refl; no_flush = refl; no_assertion = λ now start old. refl }
-stays_out k (bodies.NvIncrement by index) reply e = record { no_start = refl; no_flush = refl; no_assertion = λ now start old. refl }
-stays_out k (bodies.NvRead by index size offset) reply e = record { no_start = refl; no_flush = refl; no_assertion = λ now start old. refl }
-stays_out k (bodies.PcrExtend q digests) reply e = record { no_start = refl; no_flush = refl; no_assertion = λ now start old. refl }
-stays_out k (bodies.PcrEvent q event) reply e = record { no_start = refl; no_flush = refl; no_assertion = λ now start old. refl }
-stays_out k (bodies.PcrReset q) reply e = record { no_start = refl; no_flush = refl; no_assertion = λ now start old. refl }
-stays_out k _ reply e = absurd (both_ways false refl e)
+stays_out k (bodies.Startup kind) reply e = absurd (both_ways false refl e)
+stays_out k (bodies.StartAuthSession start) reply e = absurd (both_ways false refl e)
+stays_out k (bodies.FlushContext handle) reply e = absurd (both_ways false refl e)
+stays_out k (bodies.PolicyPcr handle d sels) reply e = absurd (both_ways false refl e)
+stays_out k (bodies.PolicyOr handle ds) reply e = absurd (both_ways false refl e)
+stays_out k (bodies.PolicyCommandCode handle code) reply e = absurd (both_ways false refl e)
+stays_out k (bodies.PolicyAuthValue handle) reply e = absurd (both_ways false refl e)
+stays_out k (bodies.PolicyRestart handle) reply e = absurd (both_ways false refl e)
+stays_out k _ reply e = record { no_start = refl; no_flush = refl; no_assertion = λ now start old. refl }
 
 as_rolled : (o : Origin) (nonce last : List ℕ) (made : List Assertion) (lives : Bool) (start : Option Start) →
     (if lives then option_map (as_session o nonce []) start else None) ≡ option_map (rolled nonce) (if lives then option_map (as_session o last made) start else None)
