@@ -20,7 +20,7 @@ use tpm_device::Device;
 use tpm_text::answer::write;
 use tpm_text::fault::ToolFault;
 use tpm_text::status::Status;
-use tpm_text::text::push_bytes;
+use tpm_text::text::{Pushed, push_bytes};
 use tpm_wire::Source;
 
 /// How many bytes a script has at most.
@@ -47,7 +47,7 @@ fn push_response(
     device: &mut Device,
     k: u64,
     bytes: &[u8],
-) -> Result<(), AllocError>
+) -> Pushed
     ensures { OnOk result (Performs (record { events = Given bytes.now (nonce_of k) ∷ []; refused = None })
         device.old device.new (AddedTo (string_bytes text.old) (string_bytes text.new))) }
 {
@@ -58,7 +58,7 @@ fn push_response(
 
 // Cycles the power, and adds the line of it.
 #[tactic(auto, unfolding(crate::specs::Progress::StandsAt))]
-fn push_power(text: &mut String, device: &mut Device) -> Result<(), AllocError>
+fn push_power(text: &mut String, device: &mut Device) -> Pushed
     ensures { OnOk result (Performs (record { events = Cycled ∷ []; refused = None })
         device.old device.new (AddedTo (string_bytes text.old) (string_bytes text.new))) }
 {
@@ -68,7 +68,7 @@ fn push_power(text: &mut String, device: &mut Device) -> Result<(), AllocError>
 }
 
 #[tactic(auto, unfolding(crate::specs::Script::refused_line))]
-fn push_refused(text: &mut String, number: u64) -> Result<(), AllocError>
+fn push_refused(text: &mut String, number: u64) -> Pushed
     ensures { OnOk result (string_bytes text.new ≡ string_bytes text.old ++ refused_line number) }
 {
     writeln!(text, "line {number}: not hexadecimal")

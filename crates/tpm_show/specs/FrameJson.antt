@@ -1,11 +1,8 @@
 -- What `show --json` prints of a frame of a capture (this profile; RFC 8259).
-use Rattle.std.specs.Prelude.{◌≡◌, ℕ, ◌==◌, Bool, true, false, List, [], ◌∷◌, ◌++◌, length, codes, Option, Some, None, if◌then◌else◌}
+use Rattle.std.specs.Prelude.{◌≡◌, ℕ, ◌==◌, Bool, true, false, List, [], ◌∷◌, ◌++◌, length, map, codes, Option, Some, None, if◌then◌else◌}
 use Rattle.std.specs.Fmt.{decimal}
-use Rattle.hex.specs.Hex.{encode_lower}
 use Rattle.tpm_wire.specs.declared.refusal.Refusal.{Refusal}
 use Rattle.tpm_wire.specs.Path.{Spells, Fault}
-use Rattle.tpm_types.specs.declared.tpms.Auth.{Auth}
-use Rattle.tpm_types.specs.declared.tpms.AuthReply.{AuthReply}
 use Rattle.tpm_commands.specs.declared.code.CommandCode.{CommandCode}
 use Rattle.tpm_commands.specs.declared.command.Command.{Command}
 use Rattle.tpm_commands.specs.declared.command.CommandBody.{CommandBody}
@@ -19,7 +16,7 @@ use Rattle.tpm_buffer.specs.ResponseAreas.{handle_of}
 use Rattle.tpm_buffer.specs.Responses.{ReplyCut, reply_cut, response}
 use Rattle.tpm_text.specs.declared.status.Status.{Status}
 use Rattle.tpm_text.specs.declared.status.Status.TheVariants.{Done, Refused}
-use Rattle.tpm_text.specs.Text.{comma, hexadecimal, lines_from}
+use Rattle.tpm_text.specs.Text.{Session, handle_text, hex_member, hexadecimal, lines_from, of_command, of_reply, session_text}
 use Rattle.tpm_show.specs.Fields.{command_fields, reply_fields}
 
 -- ---- refusals and faults
@@ -43,14 +40,14 @@ stop_object number fault at = codes "{\"number\":" ++ (decimal number ++ (fault_
 unfoldable pub head_members : CommandCode → ℕ → List ℕ
 head_members code size = codes ",\"command\":\"" ++ (code_name code ++ (codes "\",\"size\":" ++ decimal size))
 
-unfoldable pub handle_entry : ℕ → ℕ → List ℕ
-handle_entry i handle = comma i ++ (codes "\"" ++ (hexadecimal 8 handle ++ codes "\""))
-
 unfoldable pub handles_member : List ℕ → List ℕ
-handles_member handles = codes ",\"handles\":[" ++ (lines_from handle_entry 1 handles ++ codes "]")
+handles_member handles = codes ",\"handles\":[" ++ (lines_from (handle_text true) 1 handles ++ codes "]")
 
-unfoldable pub parameters_member : List ℕ → List ℕ
-parameters_member bytes = codes ",\"parameters\":\"" ++ (encode_lower bytes ++ codes "\"")
+unfoldable pub sessions_member : List Session → List ℕ
+sessions_member sessions = codes ",\"sessions\":[" ++ (lines_from (session_text true) 1 sessions ++ codes "]")
+
+abbrev pub parameters_member : List ℕ → List ℕ
+parameters_member bytes = hex_member (codes "parameters") bytes
 
 -- the objects of the parameters, where they are told by their names
 abbrev pub fields_member : (fields : Bool) → List ℕ → List ℕ
@@ -59,35 +56,15 @@ fields_member true objects = codes ",\"fields\":[" ++ (objects ++ codes "]")
 
 -- ---- a command
 
-unfoldable pub session_object : Auth → List ℕ
-session_object auth = codes "{\"session\":\"" ++ (hexadecimal 8 auth.session ++ (codes "\",\"nonce\":\"" ++ (encode_lower auth.nonce
-    ++ (codes "\",\"attributes\":\"" ++ (hexadecimal 2 auth.attrs ++ (codes "\",\"hmac\":\"" ++ (encode_lower auth.hmac ++ codes "\"}")))))))
-
-unfoldable pub session_entry : ℕ → Auth → List ℕ
-session_entry i auth = comma i ++ session_object auth
-
-unfoldable pub sessions_member : List Auth → List ℕ
-sessions_member auths = codes ",\"sessions\":[" ++ (lines_from session_entry 1 auths ++ codes "]")
-
 -- of a command of so many bytes
 unfoldable pub command_members : (fields : Bool) → ℕ → Cut → CommandBody → List ℕ
 command_members fields size c body = head_members c.header.code size
-    ++ (handles_member c.handles ++ (sessions_member c.auths ++ (parameters_member c.params ++ fields_member fields (command_fields true body))))
+    ++ (handles_member c.handles ++ (sessions_member (map of_command c.auths) ++ (parameters_member c.params ++ fields_member fields (command_fields true body))))
 
 -- ---- a response
 
 unfoldable pub code_member : ℕ → List ℕ
 code_member code = codes ",\"code\":\"" ++ (hexadecimal 3 code ++ codes "\"")
-
-unfoldable pub reply_session_object : AuthReply → List ℕ
-reply_session_object auth = codes "{\"nonce\":\"" ++ (encode_lower auth.nonce
-    ++ (codes "\",\"attributes\":\"" ++ (hexadecimal 2 auth.attrs ++ (codes "\",\"hmac\":\"" ++ (encode_lower auth.hmac ++ codes "\"}")))))
-
-unfoldable pub reply_session_entry : ℕ → AuthReply → List ℕ
-reply_session_entry i auth = comma i ++ reply_session_object auth
-
-unfoldable pub reply_sessions_member : List AuthReply → List ℕ
-reply_sessions_member auths = codes ",\"sessions\":[" ++ (lines_from reply_session_entry 1 auths ++ codes "]")
 
 abbrev pub handles_of : Option ℕ → List ℕ
 handles_of None = []
@@ -96,7 +73,7 @@ handles_of (Some handle) = handle ∷ []
 -- of a reply to this command, of so many bytes
 unfoldable pub reply_members : (fields : Bool) → CommandCode → ℕ → ReplyCut → ReplyBody → List ℕ
 reply_members fields code size r body = head_members code size
-    ++ (handles_member (handles_of (handle_of r)) ++ (parameters_member r.params ++ (fields_member fields (reply_fields true body) ++ reply_sessions_member r.auths)))
+    ++ (handles_member (handles_of (handle_of r)) ++ (parameters_member r.params ++ (fields_member fields (reply_fields true body) ++ sessions_member (map of_reply r.auths))))
 
 abbrev pub response_members : (fields : Bool) → CommandCode → ℕ → ReplyCut → Response → List ℕ
 response_members fields code size areas (responses.Code n) = code_member n

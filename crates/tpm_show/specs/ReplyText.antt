@@ -1,12 +1,12 @@
 -- The program's lines of a response (this profile).
-use Rattle.std.specs.Prelude.{ℕ, List, [], ◌∷◌, ◌++◌, codes, Option, Some, None, ◌==◌, if◌then◌else◌}
+use Rattle.std.specs.Prelude.{ℕ, false, List, [], ◌∷◌, ◌++◌, codes, Option, Some, None, ◌==◌, if◌then◌else◌}
 use Rattle.std.specs.Fmt.{decimal}
 use Rattle.tpm_types.specs.declared.tpms.AuthReply.{AuthReply}
 use Rattle.tpm_commands.specs.declared.code.CommandCode.{CommandCode}
 use Rattle.tpm_commands.specs.Codes.{code_name}
 use Rattle.tpm_buffer.specs.ResponseAreas.{handle_of}
 use Rattle.tpm_buffer.specs.Responses.{ReplyCut}
-use Rattle.tpm_text.specs.Text.{line, lines_from, hexadecimal, bytes_text, handle_line, parameters_line}
+use Rattle.tpm_text.specs.Text.{line, lines_from, hexadecimal, handle_text, of_reply, parameters_line, session_text}
 
 unfoldable pub reply_code_line : ℕ → List ℕ
 reply_code_line code = line (codes "reply" ∷ codes "code" ∷ hexadecimal 3 code ∷ [])
@@ -17,11 +17,10 @@ reply_line command size = line (codes "reply" ∷ code_name command ∷ codes "s
 -- the line of the handle, where there is one
 abbrev pub reply_handle_line : Option ℕ → List ℕ
 reply_handle_line None = []
-reply_handle_line (Some handle) = handle_line 1 handle
+reply_handle_line (Some handle) = handle_text false 1 handle
 
-unfoldable pub reply_session_line : ℕ → AuthReply → List ℕ
-reply_session_line i auth = line (codes "session" ∷ decimal i ∷ codes "nonce" ∷ bytes_text auth.nonce
-    ∷ codes "attributes" ∷ hexadecimal 2 auth.attrs ∷ codes "hmac" ∷ bytes_text auth.hmac ∷ [])
+abbrev pub reply_session_line : ℕ → AuthReply → List ℕ
+reply_session_line i auth = session_text false i (of_reply auth)
 
 -- a reply to this command, of so many bytes: its handle, its parameters as they came, and its sessions
 unfoldable pub reply_text : CommandCode → ℕ → ReplyCut → List ℕ

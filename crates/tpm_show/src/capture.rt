@@ -16,11 +16,12 @@ use crate::capture_frames::{
 };
 use crate::capture_lines::{Direction, Line, MOST_LINE, is_blank, read_line};
 use crate::telling::Telling;
-use std::alloc::{AllocError, Global};
+use std::alloc::Global;
 use std::io::Write;
 use tpm_text::answer::write;
 use tpm_text::fault::ToolFault;
 use tpm_text::status::Status;
+use tpm_text::text::Pushed;
 use tpm_wire::Source;
 
 /// How many bytes a capture has at most, which is more than any has.
@@ -69,7 +70,7 @@ impl Capture {
         self.status = self.status.both(status);
     }
 
-    fn tell_fault(&mut self, text: &mut String, fault: &str) -> Result<(), AllocError>
+    fn tell_fault(&mut self, text: &mut String, fault: &str) -> Pushed
         requires { self.old.number + 1 < 2 ^ 64 }
         ensures { OnOk result (string_bytes text.new ≡ string_bytes text.old ++ fault_text self.old.how.json self.old.number fault.now
             × Passes self.old Unknown Refused self.new) }
@@ -85,7 +86,7 @@ impl Capture {
         mark: Option<Direction>,
         bytes: &[u8],
         text: &mut String,
-    ) -> Result<(), AllocError>
+    ) -> Pushed
         requires { self.old.number + 1 < 2 ^ 64 }
         ensures { OnOk result (Tells (Frame mark bytes.now) self.old self.new (AddedTo (string_bytes text.old) (string_bytes text.new))) }
     {
@@ -102,7 +103,7 @@ impl Capture {
         Ok(())
     }
 
-    fn tell(&mut self, alloc: Global, line: &Line, text: &mut String) -> Result<(), AllocError>
+    fn tell(&mut self, alloc: Global, line: &Line, text: &mut String) -> Pushed
         requires { self.old.number + 1 < 2 ^ 64 }
         ensures { OnOk result (Tells (read_as line.now) self.old self.new (AddedTo (string_bytes text.old) (string_bytes text.new))) }
     {
@@ -131,7 +132,7 @@ impl Capture {
     }
 
     // Tells the present line.
-    fn end_line(&mut self, alloc: Global, text: &mut String) -> Result<(), AllocError>
+    fn end_line(&mut self, alloc: Global, text: &mut String) -> Pushed
         requires { self.old.number + 1 < 2 ^ 64 }
         ensures { OnOk result (EndsLine (told_in self.old.line.items) self.old self.new (AddedTo (string_bytes text.old) (string_bytes text.new))) }
     {
@@ -142,7 +143,7 @@ impl Capture {
     }
 
     // Takes the next byte.
-    fn take(&mut self, alloc: Global, byte: u8, text: &mut String) -> Result<(), AllocError>
+    fn take(&mut self, alloc: Global, byte: u8, text: &mut String) -> Pushed
         requires { self.old.number + 1 < 2 ^ 64 }
         ensures { OnOk result (Takes (byte ∷ []) self.old self.new (AddedTo (string_bytes text.old) (string_bytes text.new))) }
     {
@@ -160,7 +161,7 @@ impl Capture {
     }
 
     // Takes the next bytes.
-    fn feed(&mut self, alloc: Global, piece: &[u8], text: &mut String) -> Result<(), AllocError>
+    fn feed(&mut self, alloc: Global, piece: &[u8], text: &mut String) -> Pushed
         requires { self.old.number + length piece.now < 2 ^ 64 }
         ensures { OnOk result (Takes piece.now self.old self.new (AddedTo (string_bytes text.old) (string_bytes text.new))) }
     {

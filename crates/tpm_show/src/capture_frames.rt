@@ -19,6 +19,7 @@ use std::alloc::{AllocError, Global};
 use tpm_buffer::{CommandCode, decode_command};
 use tpm_text::answer::Answer;
 use tpm_text::status::Status;
+use tpm_text::text::Pushed;
 
 /// Which reply may come next.
 #[derive(Clone, Copy, Debug, PartialEq, Eq)]
@@ -114,7 +115,7 @@ fn answer_to_a_reply(
     }
 }
 
-fn push_sentence(text: &mut String, json: bool, sentence: &str) -> Result<(), AllocError>
+fn push_sentence(text: &mut String, json: bool, sentence: &str) -> Pushed
     ensures { OnOk result (string_bytes text.new ≡ string_bytes text.old ++ sentence_text json sentence.now) }
 {
     if json {
@@ -161,7 +162,7 @@ pub(crate) fn answer_to_frame(
 }
 
 // Adds the number of a frame, and which way it went.
-fn push_front(text: &mut String, number: u64, direction: Direction) -> Result<(), AllocError>
+fn push_front(text: &mut String, number: u64, direction: Direction) -> Pushed
     ensures { OnOk result (string_bytes text.new ≡ string_bytes text.old ++ front number direction) }
 {
     match direction {
@@ -185,7 +186,7 @@ fn push_object(
     number: u64,
     direction: Direction,
     members: &str,
-) -> Result<(), AllocError>
+) -> Pushed
     ensures { OnOk result (string_bytes text.new ≡ string_bytes text.old ++ frame_object number direction members.now) }
 {
     let kind = kind_of(direction);
@@ -199,7 +200,7 @@ pub(crate) fn push_numbered(
     number: u64,
     direction: Direction,
     told: &str,
-) -> Result<(), AllocError>
+) -> Pushed
     ensures { OnOk result (string_bytes text.new ≡ string_bytes text.old ++ numbered json number direction told.now) }
 {
     if json {
@@ -211,19 +212,14 @@ pub(crate) fn push_numbered(
 }
 
 #[tactic(auto, unfolding(crate::specs::Capture::fault_line))]
-fn push_fault_line(text: &mut String, number: u64, fault: &str) -> Result<(), AllocError>
+fn push_fault_line(text: &mut String, number: u64, fault: &str) -> Pushed
     ensures { OnOk result (string_bytes text.new ≡ string_bytes text.old ++ fault_line number fault.now) }
 {
     writeln!(text, "{number} {fault}")
 }
 
 /// Adds the line or the object of a line that has no frame.
-pub(crate) fn push_fault(
-    text: &mut String,
-    json: bool,
-    number: u64,
-    fault: &str,
-) -> Result<(), AllocError>
+pub(crate) fn push_fault(text: &mut String, json: bool, number: u64, fault: &str) -> Pushed
     ensures { OnOk result (string_bytes text.new ≡ string_bytes text.old ++ fault_text json number fault.now) }
 {
     if json {

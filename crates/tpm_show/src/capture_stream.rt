@@ -13,29 +13,24 @@ ghost use Rattle.tpm_show.specs.Stream.{stop_line, stop_text, TellsRead};
 use crate::capture::{Capture, MOST_BYTES};
 use crate::frame_json::push_stop_object;
 use crate::telling::Telling;
-use std::alloc::{AllocError, Global};
+use std::alloc::Global;
 use std::io::Write;
 use tpm_buffer::{ReadFault, read_frame_into};
 use tpm_text::answer::write;
 use tpm_text::fault::ToolFault;
 use tpm_text::status::Status;
+use tpm_text::text::Pushed;
 use tpm_wire::{Buffer, Source};
 
 #[tactic(auto, unfolding(crate::specs::Stream::stop_line))]
-fn push_stop_line(text: &mut String, number: u64, fault: &str, at: usize) -> Result<(), AllocError>
+fn push_stop_line(text: &mut String, number: u64, fault: &str, at: usize) -> Pushed
     ensures { OnOk result (string_bytes text.new ≡ string_bytes text.old ++ stop_line number fault.now at) }
 {
     writeln!(text, "{number} {fault} at {at}")
 }
 
 // Adds the line or the object of a frame that does not come.
-fn push_stop(
-    text: &mut String,
-    json: bool,
-    number: u64,
-    fault: &str,
-    at: usize,
-) -> Result<(), AllocError>
+fn push_stop(text: &mut String, json: bool, number: u64, fault: &str, at: usize) -> Pushed
     ensures { OnOk result (string_bytes text.new ≡ string_bytes text.old ++ stop_text json number fault.now at) }
 {
     if json {

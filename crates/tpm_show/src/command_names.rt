@@ -9,6 +9,7 @@ use crate::frame_json::answer_to_refusal;
 use std::alloc::{AllocError, Global};
 use tpm_text::answer::Answer;
 use tpm_text::named::{Named, look_up};
+use tpm_text::text::Pushed;
 use tpm_wire::Refusal;
 use tpm_wire::response_code::COMMAND_CODE;
 
@@ -503,20 +504,20 @@ const UNSUPPORTED: Refusal = Refusal {
 };
 
 #[tactic(auto, unfolding(crate::specs::CommandNames::absent_line))]
-fn push_absent_line(text: &mut String, name: &str) -> Result<(), AllocError>
+fn push_absent_line(text: &mut String, name: &str) -> Pushed
     ensures { OnOk result (string_bytes text.new ≡ string_bytes text.old ++ absent_line name.now) }
 {
     writeln!(text, "TPM2_{name} is not in this profile")
 }
 
 #[tactic(auto, unfolding(crate::specs::CommandNames::absent_member))]
-fn push_absent_member(text: &mut String, name: &str) -> Result<(), AllocError>
+fn push_absent_member(text: &mut String, name: &str) -> Pushed
     ensures { OnOk result (string_bytes text.new ≡ string_bytes text.old ++ absent_member name.now) }
 {
     write!(text, ",\"name\":\"TPM2_{name}\"")
 }
 
-fn push_absent_name(text: &mut String, json: bool, name: &str) -> Result<(), AllocError>
+fn push_absent_name(text: &mut String, json: bool, name: &str) -> Pushed
     ensures { OnOk result (string_bytes text.new ≡ string_bytes text.old ++ absent_named json name.now) }
 {
     if json {
@@ -527,7 +528,7 @@ fn push_absent_name(text: &mut String, json: bool, name: &str) -> Result<(), All
 }
 
 // Adds that the command with this code isn't in the profile, if it has a name.
-fn push_absent(text: &mut String, json: bool, code: u32) -> Result<(), AllocError>
+fn push_absent(text: &mut String, json: bool, code: u32) -> Pushed
     ensures { OnOk result (string_bytes text.new ≡ string_bytes text.old ++ absent_text json code) }
 {
     match look_up(&COMMANDS, code) {

@@ -16,6 +16,7 @@ use std::io::Write;
 use tpm_text::answer::Answer;
 use tpm_text::fault::ToolFault;
 use tpm_text::status::Status;
+use tpm_text::text::Pushed;
 
 /// Set in a code with the number of a handle, session or parameter (Part 2, 6.6.2).
 const FORMAT_ONE: u32 = 0x80;
@@ -565,7 +566,7 @@ fn number(code: u32) -> u32
 }
 
 // Adds what the code is about, if it has a number.
-fn push_subject(text: &mut String, code: u32) -> Result<(), AllocError>
+fn push_subject(text: &mut String, code: u32) -> Pushed
     ensures { OnOk result (string_bytes text.new ≡ string_bytes text.old ++ subject_text code) }
 {
     if code & FORMAT_ONE == 0 {
@@ -580,7 +581,7 @@ fn push_subject(text: &mut String, code: u32) -> Result<(), AllocError>
 }
 
 #[tactic(auto, unfolding(crate::specs::Explain::meaning_line))]
-fn push_meaning(text: &mut String, code: u32, meaning: &Meaning) -> Result<(), AllocError>
+fn push_meaning(text: &mut String, code: u32, meaning: &Meaning) -> Pushed
     ensures { OnOk result (string_bytes text.new ≡ string_bytes text.old ++ meaning_line code (meaning_as meaning.now)) }
 {
     let name = meaning.name;
@@ -590,7 +591,7 @@ fn push_meaning(text: &mut String, code: u32, meaning: &Meaning) -> Result<(), A
     writeln!(text, ": {words}")
 }
 
-fn push_base(text: &mut String, meaning: &Meaning) -> Result<(), AllocError>
+fn push_base(text: &mut String, meaning: &Meaning) -> Pushed
     ensures { OnOk result (string_bytes text.new ≡ string_bytes text.old ++ base_line (meaning_as meaning.now)) }
 {
     let name = meaning.name;
@@ -599,7 +600,7 @@ fn push_base(text: &mut String, meaning: &Meaning) -> Result<(), AllocError>
 }
 
 #[tactic(auto, unfolding(crate::specs::Explain::layer_line))]
-fn push_layer(text: &mut String, layer: &Layer) -> Result<(), AllocError>
+fn push_layer(text: &mut String, layer: &Layer) -> Pushed
     ensures { OnOk result (string_bytes text.new ≡ string_bytes text.old ++ layer_line (layer_as layer.now)) }
 {
     let name = layer.name;

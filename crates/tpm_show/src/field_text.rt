@@ -4,9 +4,9 @@ ghost use Rattle.std.specs.Prelude.{◌≡◌, ◌++◌, ◌≤◌, OnOk, length
 ghost use Rattle.tpm_wire.specs.Spelling.{spelling};
 ghost use Rattle.tpm_show.specs.FieldText.{field_line, field_members, field_head, field_end, field_text, number_text, parts_begin, parts_end};
 
-use std::alloc::{AllocError, Global};
+use std::alloc::Global;
 use tpm_text::hexadecimal::shown_bytes;
-use tpm_text::text::push_comma;
+use tpm_text::text::{Pushed, push_comma};
 use tpm_wire::{Buffer, Wire};
 
 #[tactic(auto, unfolding(crate::specs::FieldText::field_line))]
@@ -17,7 +17,7 @@ fn push_line(
     name: &str,
     kind: &str,
     bytes: &[u8],
-) -> Result<(), AllocError>
+) -> Pushed
     ensures { OnOk result (string_bytes text.new ≡ string_bytes text.old ++ field_line indent.now name.now kind.now bytes.now) }
 {
     let bytes = shown_bytes(alloc, bytes)?;
@@ -25,13 +25,7 @@ fn push_line(
 }
 
 #[tactic(auto, unfolding(crate::specs::FieldText::field_members))]
-fn push_members(
-    alloc: Global,
-    text: &mut String,
-    name: &str,
-    kind: &str,
-    bytes: &[u8],
-) -> Result<(), AllocError>
+fn push_members(alloc: Global, text: &mut String, name: &str, kind: &str, bytes: &[u8]) -> Pushed
     ensures { OnOk result (string_bytes text.new ≡ string_bytes text.old ++ field_members name.now kind.now bytes.now) }
 {
     let value = hex::encode(alloc, bytes)?;
@@ -51,7 +45,7 @@ fn push_head(
     name: &str,
     kind: &str,
     bytes: &[u8],
-) -> Result<(), AllocError>
+) -> Pushed
     ensures { OnOk result (string_bytes text.new ≡ string_bytes text.old ++ field_head json indent.now i name.now kind.now bytes.now) }
 {
     if !json {
@@ -61,7 +55,7 @@ fn push_head(
     push_members(alloc, text, name, kind, bytes)
 }
 
-fn push_end(text: &mut String, json: bool) -> Result<(), AllocError>
+fn push_end(text: &mut String, json: bool) -> Pushed
     ensures { OnOk result (string_bytes text.new ≡ string_bytes text.old ++ field_end json) }
 {
     if !json {
@@ -90,7 +84,7 @@ pub(crate) fn push_bytes(
     name: &str,
     kind: &str,
     bytes: &[u8],
-) -> Result<(), AllocError>
+) -> Pushed
     ensures { OnOk result (string_bytes text.new ≡ string_bytes text.old ++ field_text json indent.now i name.now kind.now bytes.now) }
 {
     push_head(alloc, text, json, indent, i, name, kind, bytes)?;
@@ -107,7 +101,7 @@ pub(crate) fn push_field<T: Wire>(
     name: &str,
     kind: &str,
     value: &T,
-) -> Result<(), AllocError>
+) -> Pushed
     requires { length (spelling T.layout value.now) ≤ 4096 }
     ensures { OnOk result (string_bytes text.new ≡ string_bytes text.old ++ field_text json indent.now i name.now kind.now (spelling T.layout value.now)) }
 {
@@ -123,7 +117,7 @@ pub(crate) fn push_field<T: Wire>(
     )
 }
 
-fn push_parts_begin(text: &mut String, json: bool) -> Result<(), AllocError>
+fn push_parts_begin(text: &mut String, json: bool) -> Pushed
     ensures { OnOk result (string_bytes text.new ≡ string_bytes text.old ++ parts_begin json) }
 {
     if !json {
@@ -142,7 +136,7 @@ pub(crate) fn begin_bytes(
     name: &str,
     kind: &str,
     bytes: &[u8],
-) -> Result<(), AllocError>
+) -> Pushed
     ensures { OnOk result (string_bytes text.new ≡ string_bytes text.old ++ (field_head json indent.now i name.now kind.now bytes.now ++ parts_begin json)) }
 {
     push_head(alloc, text, json, indent, i, name, kind, bytes)?;
@@ -159,7 +153,7 @@ pub(crate) fn begin_structure<T: Wire>(
     name: &str,
     kind: &str,
     value: &T,
-) -> Result<(), AllocError>
+) -> Pushed
     requires { length (spelling T.layout value.now) ≤ 4096 }
     ensures { OnOk result (string_bytes text.new ≡ string_bytes text.old ++ (field_head json indent.now i name.now kind.now (spelling T.layout value.now) ++ parts_begin json)) }
 {
@@ -176,7 +170,7 @@ pub(crate) fn begin_structure<T: Wire>(
 }
 
 /// Adds what comes behind the parts of a structure.
-pub(crate) fn end_structure(text: &mut String, json: bool) -> Result<(), AllocError>
+pub(crate) fn end_structure(text: &mut String, json: bool) -> Pushed
     ensures { OnOk result (string_bytes text.new ≡ string_bytes text.old ++ parts_end json) }
 {
     if !json {
@@ -194,7 +188,7 @@ pub(crate) fn push_number(
     i: usize,
     name: &str,
     n: u32,
-) -> Result<(), AllocError>
+) -> Pushed
     ensures { OnOk result (string_bytes text.new ≡ string_bytes text.old ++ number_text json indent.now i name.now n) }
 {
     if !json {

@@ -17,9 +17,10 @@ ghost use Rattle.tpm_show.specs.Parts.{attribute_names, attribute_parts, bits_of
 use crate::field_text::{
     begin_bytes, begin_structure, end_structure, push_bytes, push_field, push_number,
 };
-use std::alloc::{AllocError, Global};
+use std::alloc::Global;
 use tpm_text::named::Named;
 use tpm_text::registers::register;
+use tpm_text::text::Pushed;
 use tpm_types::{
     Digest, DigestValues, HashedDigest, MOST_DIGESTS, NvAttrs, NvPublic, SELECT_BYTES, Selection,
     Selections, SymDef,
@@ -124,12 +125,7 @@ fn is_set(attrs: u32, bit: u32) -> bool
 }
 
 // Adds an entry for each bit of the table that is set.
-fn push_bits_of(
-    text: &mut String,
-    json: bool,
-    table: &'static [Named],
-    attrs: u32,
-) -> Result<(), AllocError>
+fn push_bits_of(text: &mut String, json: bool, table: &'static [Named], attrs: u32) -> Pushed
     requires within { AllByRecursion (λ bit. bit.number < 32) table.now }
     requires few { length table.now ≤ 32 }
     ensures { OnOk result (string_bytes text.new ≡ string_bytes text.old ++ bits_of (map named_as table.now) json attrs) }
@@ -145,7 +141,7 @@ fn push_bits_of(
 }
 
 // Adds an entry for each bit that is set.
-fn push_bits(text: &mut String, json: bool, attrs: u32) -> Result<(), AllocError>
+fn push_bits(text: &mut String, json: bool, attrs: u32) -> Pushed
     ensures { OnOk result (string_bytes text.new ≡ string_bytes text.old ++ bits_of attribute_names json attrs) }
 {
     push_bits_of(text, json, &ATTRIBUTES, attrs)
@@ -159,7 +155,7 @@ fn kind(attrs: u32) -> u32
 }
 
 // Adds an entry for the field TPM_NT, and one for each bit that is set.
-fn push_attribute_parts(text: &mut String, json: bool, attrs: NvAttrs) -> Result<(), AllocError>
+fn push_attribute_parts(text: &mut String, json: bool, attrs: NvAttrs) -> Pushed
     ensures { OnOk result (string_bytes text.new ≡ string_bytes text.old ++ attribute_parts json attrs) }
 {
     let attrs = attrs.number();
@@ -168,12 +164,7 @@ fn push_attribute_parts(text: &mut String, json: bool, attrs: NvAttrs) -> Result
 }
 
 #[tactic(auto, unfolding(crate::specs::FieldText::structure_text))]
-fn push_attributes(
-    alloc: Global,
-    text: &mut String,
-    json: bool,
-    attrs: NvAttrs,
-) -> Result<(), AllocError>
+fn push_attributes(alloc: Global, text: &mut String, json: bool, attrs: NvAttrs) -> Pushed
     ensures { OnOk result (string_bytes text.new ≡ string_bytes text.old ++ structure_text json (codes "    ") 3 (codes "attributes") (codes "TPMA_NV") (spelling nv_attrs attrs) (attribute_parts json attrs)) }
 {
     prove!(attrs.len() <= 4096);
@@ -194,12 +185,7 @@ fn push_attributes(
 // ---- TPMS_NV_PUBLIC (Part 2, 13.5)
 
 #[tactic(auto, unfolding(tpm_types::specs::Tpms::nv_public_area))]
-fn push_public_parts(
-    alloc: Global,
-    text: &mut String,
-    json: bool,
-    public: &NvPublic,
-) -> Result<(), AllocError>
+fn push_public_parts(alloc: Global, text: &mut String, json: bool, public: &NvPublic) -> Pushed
     ensures { OnOk result (string_bytes text.new ≡ string_bytes text.old ++ public_parts json public.now) }
 {
     prove!(public.index.len() + public.alg.len() + public.policy.len() <= 4096);
@@ -255,7 +241,7 @@ pub(crate) fn push_public(
     i: usize,
     name: &str,
     public: &NvPublic,
-) -> Result<(), AllocError>
+) -> Pushed
     ensures { OnOk result (string_bytes text.new ≡ string_bytes text.old ++ structure_text json (codes "  ") i name.now (codes "TPM2B_NV_PUBLIC") (spelling nv_public public.now) (public_parts json public.now)) }
 {
     prove!(public.len() <= 4096);
@@ -267,7 +253,7 @@ pub(crate) fn push_public(
 // ---- TPML_PCR_SELECTION (Part 2, 10.9.7)
 
 // Adds an entry for each register that is selected.
-fn push_registers(text: &mut String, json: bool, selection: &Selection) -> Result<(), AllocError>
+fn push_registers(text: &mut String, json: bool, selection: &Selection) -> Pushed
     ensures { OnOk result (string_bytes text.new ≡ string_bytes text.old ++ register_parts json selection.now.select) }
 {
     let mut i = 1;
@@ -281,12 +267,7 @@ fn push_registers(text: &mut String, json: bool, selection: &Selection) -> Resul
 }
 
 #[tactic(auto, unfolding(crate::specs::FieldText::structure_text))]
-fn push_select(
-    alloc: Global,
-    text: &mut String,
-    json: bool,
-    selection: &Selection,
-) -> Result<(), AllocError>
+fn push_select(alloc: Global, text: &mut String, json: bool, selection: &Selection) -> Pushed
     ensures { OnOk result (string_bytes text.new ≡ string_bytes text.old ++ structure_text json (codes "      ") 3 (codes "pcrSelect") (codes "BYTE") selection.now.select (register_parts json selection.now.select)) }
 {
     begin_bytes(
@@ -309,7 +290,7 @@ fn push_selection_members(
     text: &mut String,
     json: bool,
     selection: &Selection,
-) -> Result<(), AllocError>
+) -> Pushed
     ensures { OnOk result (string_bytes text.new ≡ string_bytes text.old ++ selection_members json selection.now) }
 {
     prove!(selection.hash.len() <= 4096);
@@ -343,7 +324,7 @@ fn push_selection(
     json: bool,
     i: usize,
     selection: &Selection,
-) -> Result<(), AllocError>
+) -> Pushed
     ensures { OnOk result (string_bytes text.new ≡ string_bytes text.old ++ selection_entry json i selection.now) }
 {
     prove!(selection.len() <= 4096);
@@ -366,7 +347,7 @@ fn push_selection_parts(
     text: &mut String,
     json: bool,
     selections: &[Selection],
-) -> Result<(), AllocError>
+) -> Pushed
     ensures { OnOk result (string_bytes text.new ≡ string_bytes text.old ++ selection_parts json selections.now) }
 {
     for (before, selection) in selections.iter().enumerate() {
@@ -384,7 +365,7 @@ pub(crate) fn push_selections(
     i: usize,
     name: &str,
     selections: &Selections,
-) -> Result<(), AllocError>
+) -> Pushed
     ensures { OnOk result (string_bytes text.new ≡ string_bytes text.old ++ structure_text json (codes "  ") i name.now (codes "TPML_PCR_SELECTION") (spelling selections_layout selections.now) (selection_parts json selections.now)) }
 {
     prove!(selections.len() <= 4096);
@@ -404,13 +385,7 @@ pub(crate) fn push_selections(
 
 // ---- TPML_DIGEST (Part 2, 10.9.5)
 
-fn push_digest(
-    alloc: Global,
-    text: &mut String,
-    json: bool,
-    i: usize,
-    digest: &Digest,
-) -> Result<(), AllocError>
+fn push_digest(alloc: Global, text: &mut String, json: bool, i: usize, digest: &Digest) -> Pushed
     ensures { OnOk result (string_bytes text.new ≡ string_bytes text.old ++ digest_entry json i digest.now) }
 {
     prove!(digest.len() <= 4096);
@@ -426,12 +401,7 @@ fn push_digest(
     )
 }
 
-fn push_digest_parts(
-    alloc: Global,
-    text: &mut String,
-    json: bool,
-    digests: &[Digest],
-) -> Result<(), AllocError>
+fn push_digest_parts(alloc: Global, text: &mut String, json: bool, digests: &[Digest]) -> Pushed
     ensures { OnOk result (string_bytes text.new ≡ string_bytes text.old ++ digest_parts json digests.now) }
 {
     for (before, digest) in digests.iter().enumerate() {
@@ -449,7 +419,7 @@ pub(crate) fn push_digests<const LEAST: usize>(
     i: usize,
     name: &str,
     digests: &Counted<Digest, LEAST, MOST_DIGESTS>,
-) -> Result<(), AllocError>
+) -> Pushed
     ensures { OnOk result (string_bytes text.new ≡ string_bytes text.old ++ structure_text json (codes "  ") i name.now (codes "TPML_DIGEST") (spelling (counted LEAST most_digests digest_layout) digests.now) (digest_parts json digests.now)) }
 {
     prove!(digests.len() <= 4096);
@@ -466,7 +436,7 @@ fn push_digest_value_members(
     text: &mut String,
     json: bool,
     digest: &HashedDigest,
-) -> Result<(), AllocError>
+) -> Pushed
     ensures { OnOk result (string_bytes text.new ≡ string_bytes text.old ++ digest_value_members json digest.now) }
 {
     let hash = digest.hash();
@@ -500,7 +470,7 @@ fn push_digest_value(
     json: bool,
     i: usize,
     digest: &HashedDigest,
-) -> Result<(), AllocError>
+) -> Pushed
     ensures { OnOk result (string_bytes text.new ≡ string_bytes text.old ++ digest_value_entry json i digest.now) }
 {
     prove!(digest.len() <= 4096);
@@ -514,7 +484,7 @@ fn push_digest_value_parts(
     text: &mut String,
     json: bool,
     digests: &[HashedDigest],
-) -> Result<(), AllocError>
+) -> Pushed
     ensures { OnOk result (string_bytes text.new ≡ string_bytes text.old ++ digest_value_parts json digests.now) }
 {
     for (before, digest) in digests.iter().enumerate() {
@@ -532,7 +502,7 @@ pub(crate) fn push_digest_values(
     i: usize,
     name: &str,
     digests: &DigestValues,
-) -> Result<(), AllocError>
+) -> Pushed
     ensures { OnOk result (string_bytes text.new ≡ string_bytes text.old ++ structure_text json (codes "  ") i name.now (codes "TPML_DIGEST_VALUES") (spelling digest_values digests.now) (digest_value_parts json digests.now)) }
 {
     prove!(digests.len() <= 4096);
@@ -561,7 +531,7 @@ const NULL: u16 = 0x0010;
 
 const CFB: u16 = 0x0043;
 
-fn push_algorithm(alloc: Global, text: &mut String, json: bool, n: u16) -> Result<(), AllocError>
+fn push_algorithm(alloc: Global, text: &mut String, json: bool, n: u16) -> Pushed
     ensures { OnOk result (string_bytes text.new ≡ string_bytes text.old ++ field_text json (codes "    ") 1 (codes "algorithm") (codes "TPMI_ALG_SYM") (bytes_high_first 2 n)) }
 {
     push_field(
@@ -577,12 +547,7 @@ fn push_algorithm(alloc: Global, text: &mut String, json: bool, n: u16) -> Resul
 }
 
 #[tactic(auto, unfolding(tpm_types::specs::Tpmt::sym_def, tpm_types::specs::Tpmt::algorithm, tpm_types::specs::Tpmt::mode))]
-fn push_symmetric_parts(
-    alloc: Global,
-    text: &mut String,
-    json: bool,
-    symmetric: &SymDef,
-) -> Result<(), AllocError>
+fn push_symmetric_parts(alloc: Global, text: &mut String, json: bool, symmetric: &SymDef) -> Pushed
     ensures { OnOk result (string_bytes text.new ≡ string_bytes text.old ++ symmetric_parts json symmetric.now) }
 {
     match symmetric {
@@ -626,7 +591,7 @@ pub(crate) fn push_symmetric(
     text: &mut String,
     json: bool,
     symmetric: &SymDef,
-) -> Result<(), AllocError>
+) -> Pushed
     ensures { OnOk result (string_bytes text.new ≡ string_bytes text.old ++ structure_text json (codes "  ") 4 (codes "symmetric") (codes "TPMT_SYM_DEF") (spelling sym_def symmetric.now) (symmetric_parts json symmetric.now)) }
 {
     prove!(symmetric.len() <= 4096);

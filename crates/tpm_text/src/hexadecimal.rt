@@ -2,8 +2,9 @@
 
 ghost use Rattle.std.specs.Prelude.{◌≡◌, ◌++◌, IfOk, OnOk, option_map, string_bytes};
 ghost use Rattle.hex.specs.Hex.{encode_lower};
-ghost use Rattle.tpm_text.specs.Text.{bytes_in, bytes_text};
+ghost use Rattle.tpm_text.specs.Text.{bytes_in, bytes_text, hex_member};
 
+use crate::text::Pushed;
 use hex::FromHexError;
 use std::alloc::{AllocError, Global};
 use std::convert::AsSlice;
@@ -30,9 +31,18 @@ pub fn shown_bytes(alloc: Global, bytes: &[u8]) -> Result<String, AllocError>
 }
 
 /// Adds bytes in hexadecimal.
-pub fn push_hex(alloc: Global, text: &mut String, bytes: &[u8]) -> Result<(), AllocError>
+pub fn push_hex(alloc: Global, text: &mut String, bytes: &[u8]) -> Pushed
     ensures { OnOk result (string_bytes text.new ≡ string_bytes text.old ++ encode_lower bytes.now) }
 {
     let bytes = hex::encode(alloc, bytes)?;
     write!(text, "{bytes}")
+}
+
+/// Adds bytes in hexadecimal as a member of an object of JSON, behind another.
+#[tactic(auto, unfolding(crate::specs::Text::hex_member))]
+pub fn push_hex_member(alloc: Global, text: &mut String, name: &str, bytes: &[u8]) -> Pushed
+    ensures { OnOk result (string_bytes text.new ≡ string_bytes text.old ++ hex_member name.now bytes.now) }
+{
+    let bytes = hex::encode(alloc, bytes)?;
+    write!(text, ",\"{name}\":\"{bytes}\"")
 }

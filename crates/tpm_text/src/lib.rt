@@ -6,5 +6,6 @@ pub mod fault;
 pub mod hexadecimal;
 pub mod named;
 pub mod registers;
+pub mod sessions;
 pub mod status;
 pub mod text;
