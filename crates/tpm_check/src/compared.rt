@@ -19,6 +19,7 @@ use tpm_store::Registers;
 use tpm_text::answer::write;
 use tpm_text::fault::ToolFault;
 use tpm_text::status::Status;
+use tpm_text::text::Pushed;
 use tpm_wire::Source;
 
 /// How many bytes a list has at most.
@@ -70,12 +71,7 @@ impl Comparing {
     }
 
     // Compares the register that the present line states.
-    fn end_stated(
-        &mut self,
-        found: &Registers,
-        stated: &Stated,
-        text: &mut String,
-    ) -> Result<(), AllocError>
+    fn end_stated(&mut self, found: &Registers, stated: &Stated, text: &mut String) -> Pushed
         requires { self.old.number + 1 < 2 ^ 64 }
         ensures { OnOk result (EndsStated (value_in found.now.banks) (place self.old) (stated_as stated.now) (place self.new)
             (AddedTo (string_bytes text.old) (string_bytes text.new))) }

@@ -16,6 +16,7 @@ use tpm_store::Registers;
 use tpm_text::answer::Answer;
 use tpm_text::hexadecimal::decoded;
 use tpm_text::status::Status;
+use tpm_text::text::Pushed;
 use tpm_types::{Alg, Attest, QuoteInfo, Selections};
 
 /// A quote as it was signed, and what is expected of it.
@@ -66,7 +67,7 @@ fn push_nonce(
 }
 
 #[tactic(auto, unfolding(crate::specs::CheckAttest::lacks_line))]
-fn push_lacks(text: &mut String, missing: NotSelected) -> Result<(), AllocError>
+fn push_lacks(text: &mut String, missing: NotSelected) -> Pushed
     ensures { OnOk result (string_bytes text.new ≡ string_bytes text.old ++ lacks_line missing) }
 {
     let bank = bank_name(missing.bank);

@@ -5,13 +5,14 @@ ghost use Rattle.tpm_types.specs.Tpms.{is_selected};
 ghost use Rattle.tpm_check.specs.CheckAttest.{attest_text, clock_lines, entry_words, firmware_line, nonce_line, number_line, register_word, register_words, safe_line, selection_line, signer_line};
 
 use crate::register_text::bank_name;
-use std::alloc::{AllocError, Global};
+use std::alloc::Global;
 use tpm_text::hexadecimal::shown_bytes;
 use tpm_text::registers::register;
+use tpm_text::text::Pushed;
 use tpm_types::{Attest, ClockInfo, REGISTERS, Selection};
 
 #[tactic(auto, unfolding(crate::specs::CheckAttest::signer_line))]
-fn push_signer(alloc: Global, text: &mut String, signer: &[u8]) -> Result<(), AllocError>
+fn push_signer(alloc: Global, text: &mut String, signer: &[u8]) -> Pushed
     ensures { OnOk result (string_bytes text.new ≡ string_bytes text.old ++ signer_line signer.now) }
 {
     let signer = shown_bytes(alloc, signer)?;
@@ -19,7 +20,7 @@ fn push_signer(alloc: Global, text: &mut String, signer: &[u8]) -> Result<(), Al
 }
 
 #[tactic(auto, unfolding(crate::specs::CheckAttest::nonce_line))]
-fn push_nonce(alloc: Global, text: &mut String, nonce: &[u8]) -> Result<(), AllocError>
+fn push_nonce(alloc: Global, text: &mut String, nonce: &[u8]) -> Pushed
     ensures { OnOk result (string_bytes text.new ≡ string_bytes text.old ++ nonce_line nonce.now) }
 {
     let nonce = shown_bytes(alloc, nonce)?;
@@ -27,20 +28,20 @@ fn push_nonce(alloc: Global, text: &mut String, nonce: &[u8]) -> Result<(), Allo
 }
 
 #[tactic(auto, unfolding(crate::specs::CheckAttest::number_line))]
-fn push_number(text: &mut String, word: &str, number: u64) -> Result<(), AllocError>
+fn push_number(text: &mut String, word: &str, number: u64) -> Pushed
     ensures { OnOk result (string_bytes text.new ≡ string_bytes text.old ++ number_line word.now number) }
 {
     writeln!(text, "{word} {number}")
 }
 
 #[tactic(auto, unfolding(crate::specs::CheckAttest::safe_line))]
-fn push_safe(text: &mut String, safe: bool) -> Result<(), AllocError>
+fn push_safe(text: &mut String, safe: bool) -> Pushed
     ensures { OnOk result (string_bytes text.new ≡ string_bytes text.old ++ safe_line safe) }
 {
     text.push_str(if safe { "safe yes\n" } else { "safe no\n" })
 }
 
-fn push_clock(text: &mut String, clock: &ClockInfo) -> Result<(), AllocError>
+fn push_clock(text: &mut String, clock: &ClockInfo) -> Pushed
     ensures { OnOk result (string_bytes text.new ≡ string_bytes text.old ++ clock_lines clock.now) }
 {
     push_number(text, "clock", clock.clock)?;
@@ -50,21 +51,21 @@ fn push_clock(text: &mut String, clock: &ClockInfo) -> Result<(), AllocError>
 }
 
 #[tactic(auto, unfolding(crate::specs::CheckAttest::firmware_line))]
-fn push_firmware(text: &mut String, version: u64) -> Result<(), AllocError>
+fn push_firmware(text: &mut String, version: u64) -> Pushed
     ensures { OnOk result (string_bytes text.new ≡ string_bytes text.old ++ firmware_line version) }
 {
     writeln!(text, "firmware {version:016x}")
 }
 
 #[tactic(auto, unfolding(crate::specs::CheckAttest::register_word))]
-fn push_word(text: &mut String, register: u32) -> Result<(), AllocError>
+fn push_word(text: &mut String, register: u32) -> Pushed
     ensures { OnOk result (string_bytes text.new ≡ string_bytes text.old ++ register_word register) }
 {
     write!(text, " {register}")
 }
 
 // Adds a register where an entry selects it.
-fn push_if_selected(text: &mut String, entry: &Selection, number: u32) -> Result<(), AllocError>
+fn push_if_selected(text: &mut String, entry: &Selection, number: u32) -> Pushed
     requires { number < 24 }
     ensures { OnOk result (string_bytes text.new ≡ string_bytes text.old ++ (if is_selected entry.now.select number then register_word number else [])) }
 {
@@ -75,7 +76,7 @@ fn push_if_selected(text: &mut String, entry: &Selection, number: u32) -> Result
 }
 
 // Adds the registers that an entry selects.
-fn push_words(text: &mut String, entry: &Selection) -> Result<(), AllocError>
+fn push_words(text: &mut String, entry: &Selection) -> Pushed
     ensures { OnOk result (string_bytes text.new ≡ string_bytes text.old ++ register_words entry.now.select 24) }
 {
     for number in 0..REGISTERS {
@@ -84,7 +85,7 @@ fn push_words(text: &mut String, entry: &Selection) -> Result<(), AllocError>
     Ok(())
 }
 
-fn push_entry(text: &mut String, entry: &Selection) -> Result<(), AllocError>
+fn push_entry(text: &mut String, entry: &Selection) -> Pushed
     ensures { OnOk result (string_bytes text.new ≡ string_bytes text.old ++ entry_words entry.now) }
 {
     text.push_str(" ")?;
@@ -92,7 +93,7 @@ fn push_entry(text: &mut String, entry: &Selection) -> Result<(), AllocError>
     push_words(text, entry)
 }
 
-fn push_entries(text: &mut String, entries: &[Selection]) -> Result<(), AllocError>
+fn push_entries(text: &mut String, entries: &[Selection]) -> Pushed
     ensures { OnOk result (string_bytes text.new ≡ string_bytes text.old ++ flat_map entry_words entries.now) }
 {
     for entry in entries {
@@ -101,7 +102,7 @@ fn push_entries(text: &mut String, entries: &[Selection]) -> Result<(), AllocErr
     Ok(())
 }
 
-fn push_selection(text: &mut String, entries: &[Selection]) -> Result<(), AllocError>
+fn push_selection(text: &mut String, entries: &[Selection]) -> Pushed
     ensures { OnOk result (string_bytes text.new ≡ string_bytes text.old ++ selection_line entries.now) }
 {
     text.push_str("selection")?;
@@ -110,11 +111,7 @@ fn push_selection(text: &mut String, entries: &[Selection]) -> Result<(), AllocE
 }
 
 /// Adds the lines of what a quote says.
-pub(crate) fn push_attest(
-    alloc: Global,
-    text: &mut String,
-    attest: &Attest<'_>,
-) -> Result<(), AllocError>
+pub(crate) fn push_attest(alloc: Global, text: &mut String, attest: &Attest<'_>) -> Pushed
     ensures { OnOk result (string_bytes text.new ≡ string_bytes text.old ++ attest_text attest.now) }
 {
     push_signer(alloc, text, attest.signer.as_slice())?;
