@@ -119,14 +119,12 @@ fn events_task<'a>(alloc: Global, words: &ArgMatches<'a>) -> Result<Option<Task<
     }))
 }
 
-fn asked<'a>(alloc: Global, matches: &ArgMatches<'a>) -> Result<Option<Task<'a>>, Stop>
+// What the words of the subcommand of this name ask for.
+fn asked_of<'a>(alloc: Global, name: &str, words: &ArgMatches<'a>) -> Result<Option<Task<'a>>, Stop>
     ensures { MatchResult result
-        (λ asked. MatchOption asked (AsksNothing (subcommand_rows_of matches.now)) (λ t. Asks (subcommand_rows_of matches.now) t))
-        (λ stop. IsMemoryOr (AsksNothing (subcommand_rows_of matches.now)) stop) }
+        (λ asked. MatchOption asked (AsksNothingWith name.now (first_value (found_of words.now))) (λ t. AsksWith name.now (first_value (found_of words.now)) t))
+        (IsMemoryOr (AsksNothingWith name.now (first_value (found_of words.now)))) }
 {
-    let Some((name, words)) = matches.subcommand() else {
-        return Ok(None);
-    };
     match name {
         "show" => Ok(show_task(words)),
         "build" => Ok(build_task(words)),
@@ -136,6 +134,17 @@ fn asked<'a>(alloc: Global, matches: &ArgMatches<'a>) -> Result<Option<Task<'a>>
         "events" => events_task(alloc, words),
         _ => Ok(None),
     }
+}
+
+fn asked<'a>(alloc: Global, matches: &ArgMatches<'a>) -> Result<Option<Task<'a>>, Stop>
+    ensures { MatchResult result
+        (λ asked. MatchOption asked (AsksNothing (subcommand_rows_of matches.now)) (λ t. Asks (subcommand_rows_of matches.now) t))
+        (λ stop. IsMemoryOr (AsksNothing (subcommand_rows_of matches.now)) stop) }
+{
+    let Some((name, words)) = matches.subcommand() else {
+        return Ok(None);
+    };
+    asked_of(alloc, name, words)
 }
 
 fn not_text(alloc: Global) -> Result<Error, AllocError>

@@ -1,5 +1,5 @@
 -- What `check` prints of a quote as it was signed (this profile).
-use Rattle.std.specs.Prelude.{◌≡◌, ◌⊎◌, ℕ, zero, suc, Bool, true, false, List, [], ◌∷◌, ◌++◌, codes, Option, Some, None, option_map, Result, if◌then◌else◌}
+use Rattle.std.specs.Prelude.{◌≡◌, ◌⊎◌, ℕ, zero, suc, Bool, true, false, List, [], ◌∷◌, ◌++◌, codes, Option, Some, None, Result, Ok, Err, if◌then◌else◌}
 use Rattle.std.specs.Str.{bytes_eq}
 use Rattle.std.specs.Fmt.{decimal}
 use Rattle.std.specs.List.{flat_map}
@@ -12,17 +12,17 @@ use Rattle.tpm_types.specs.declared.attest.ClockInfo.{ClockInfo}
 use Rattle.tpm_types.specs.declared.attest.Attest.{Attest}
 use Rattle.tpm_types.specs.Attest.{attest}
 use Rattle.tpm_types.specs.Tpms.{is_selected}
-use Rattle.tpm_model.specs.Registers.{Registers, composite}
+use Rattle.tpm_model.specs.Registers.{Registers, composite, value_in}
 use Rattle.tpm_log.specs.declared.fault.LogFault.{LogFault}
 use Rattle.tpm_log.specs.declared.attest.NotSelected.{NotSelected}
 use Rattle.tpm_log.specs.Attests.{first_not_selected, registers_of}
+use Rattle.tpm_log.specs.Takes.{IsOfBytes}
 use Rattle.tpm_text.specs.declared.status.Status.{Status}
 use Rattle.tpm_text.specs.declared.status.Status.TheVariants.{Done, Refused}
 use Rattle.tpm_text.specs.Status.{both}
 use Rattle.tpm_text.specs.Text.{bytes_in, bytes_text, hexadecimal, line, refusal_line, not_hexadecimal_line}
-use Rattle.tpm_check.specs.Compare.{Values, bank_name}
-use Rattle.tpm_check.specs.Check.{ChecksFound, ChecksValues}
-use Rattle.tpm_check.specs.declared.judged.Signed.{Signed}
+use Rattle.tpm_check.specs.Compare.{Values, bank_name, status_if}
+use Rattle.tpm_check.specs.Check.{ChecksValues, ReadsIfList, log_fault_line}
 
 -- ---- what the quote says: TPMS_ATTEST (Part 2, 10.12)
 
@@ -147,12 +147,9 @@ ChecksAll value hash sent required bytes list quote status text = (first second 
     × ChecksGiven value hash sent required bytes first said × ChecksBesides value hash list quote second more
     × (status ≡ both first second) × (text ≡ said ++ more)
 
--- what is asked of registers: with a quote as it was signed, or without
-abbrev pub ChecksAsked : Option Signed → Values → Alg → (list quote : Option (List ℕ)) → Status → List ℕ → Type 0
-ChecksAsked None value hash list quote status text = ChecksValues value hash list quote status text
-ChecksAsked (Some s) value hash list quote status text = ChecksAll value hash (option_map (λ n. n.now) s.nonce) s.required s.attest.now list quote status text
-
+-- For what the log gives this is the status and the text; a list is not read behind a fault.
 abbrev pub ChecksSigned : {F : Type 0} → Result Registers LogFault → Alg → (sent : Option (List ℕ)) → (required : Option (List Selection)) → (bytes : List ℕ)
     → (coming : F → Option (List ℕ)) → (old new : Option F) → (quote : Option (List ℕ)) → Status → List ℕ → Type 0
-ChecksSigned found hash sent required bytes coming old new quote status text =
-    ChecksFound (λ value list quote status text. ChecksAll value hash sent required bytes list quote status text) found coming old new quote status text
+ChecksSigned (Ok found) hash sent required bytes coming old new quote status text =
+    (list : Option (List ℕ)) × ReadsIfList (value_in found.banks) coming old new list × ChecksAll (value_in found.banks) hash sent required bytes list quote status text
+ChecksSigned (Err fault) hash sent required bytes coming old new quote status text = (new ≡ old) × IsOfBytes fault.kind × (status ≡ Refused) × (text ≡ log_fault_line fault)

@@ -1,58 +1,124 @@
 //! The subcommand `check`.
 
-ghost use Rattle.std.specs.Prelude.{ℕ, List, IfOk, IsErrOf, option_map, Result};
+ghost use Rattle.std.specs.Prelude.{◌≡◌, ℕ, List, Some, None, IfOk, IsErrOf, option_map, Result};
 ghost use Rattle.std.specs.Io.KnownBytes.{Appends};
+ghost use Rattle.tpm_model.specs.Registers.{value_in};
+ghost use Rattle.tpm_text.specs.declared.status.Status.TheVariants.{Done, Refused};
+ghost use Rattle.tpm_text.specs.Faults.{FailsByMemoryOrWrite};
+ghost use Rattle.tpm_text.specs.Text.{bytes_in};
+ghost use Rattle.tpm_check.specs.Compare.{registers_text, ReadsList, ReadsTooMuchList};
 ghost use Rattle.tpm_model.specs.Registers.{Registers as RegistersValue};
 ghost use Rattle.tpm_log.specs.Changes.{AreAfter};
 ghost use Rattle.tpm_log.specs.Replays.{ReplaysFrom, ReadsFrom};
 ghost use Rattle.tpm_log.specs.declared.fault.LogFault.{LogFault as LogFaultValue};
+ghost use Rattle.tpm_wire.specs.Sources.{IsWhereItFailed};
 ghost use Rattle.tpm_text.specs.declared.fault.ToolFault.TheVariants.{InputTooLong, Read};
-ghost use Rattle.tpm_check.specs.Check.{ChecksFound, ChecksLog, CountsReads, FailsLast, ReadsTooMuchIfList, list_before, list_after};
-ghost use Rattle.tpm_check.specs.CheckAttest.{ChecksAsked, ChecksSigned};
+ghost use Rattle.tpm_text.specs.InputLines.{CountsRead};
+ghost use Rattle.tpm_check.specs.Check.{ChecksQuote, ChecksValues, ChecksLog, CountsReads, FailsLast, ReadsTooMuchIfList, list_before, list_after, log_fault_line};
 
-use crate::judged::Signed;
-use crate::printed::{check_asked_alone, check_asked_stated, print_fault};
+use crate::compared::check_list;
+use crate::quoted::answer_to_quote;
+use crate::register_text::{push_log_fault, push_registers};
 use std::alloc::Global;
 use std::io::Write;
 use tpm_log::{LogFault, LogFaultKind, replay_from};
+use tpm_store::Registers;
+use tpm_text::answer::write;
 use tpm_text::fault::ToolFault;
 use tpm_text::status::Status;
 use tpm_types::Alg;
 use tpm_wire::Source;
 
-// Replays a log, and prints its fault, or what is asked of the registers that it gives.
-fn check_asked<L: Source, F: Source, W: Write>(
+/// Prints the fault of a log.
+pub(crate) fn print_fault<W: Write>(
     alloc: Global,
-    log: &mut L,
-    signed: Option<&Signed<'_>>,
-    registers: Option<&mut F>,
+    fault: &LogFault,
+    out: &mut W,
+) -> Result<Status, ToolFault>
+    ensures ok { IfOk result (λ status. (status ≡ Refused)
+        × Appends (W.contents out.old) (W.contents out.new) (log_fault_line fault.now)) }
+    ensures err { FailsByMemoryOrWrite result }
+{
+    let mut text = String::new(alloc);
+    push_log_fault(&mut text, fault)?;
+    write(out, &text)?;
+    Ok(Status::Refused)
+}
+
+fn print_registers<W: Write>(
+    alloc: Global,
+    found: &Registers,
+    out: &mut W,
+) -> Result<Status, ToolFault>
+    ensures ok { IfOk result (λ status. (status ≡ Done)
+        × Appends (W.contents out.old) (W.contents out.new) (registers_text (value_in found.now.banks))) }
+    ensures err { FailsByMemoryOrWrite result }
+{
+    let mut text = String::new(alloc);
+    push_registers(alloc, &mut text, found)?;
+    write(out, &text)?;
+    Ok(Status::Done)
+}
+
+/// Prints what a quote's information in hexadecimal says of registers.
+pub(crate) fn print_quote<W: Write>(
+    alloc: Global,
+    found: &Registers,
+    hash: Alg,
+    quote: &str,
+    out: &mut W,
+) -> Result<Status, ToolFault>
+    ensures ok { IfOk result (λ status. (text : List ℕ) × ChecksQuote (value_in found.now.banks) hash (bytes_in quote.now) status text
+        × Appends (W.contents out.old) (W.contents out.new) text) }
+    ensures err { FailsByMemoryOrWrite result }
+{
+    answer_to_quote(alloc, found, hash, quote)?.print(out)
+}
+
+// Prints registers without a list: what the quote says of them, or the registers.
+fn check_alone<W: Write>(
+    alloc: Global,
+    found: &Registers,
     quote: Option<&str>,
     hash: Alg,
     out: &mut W,
 ) -> Result<Status, ToolFault>
-    ensures failures { CountsReads F.failed (L.failed log.old) (L.failed log.new) (list_before registers.entry) (list_after registers.exit) result }
-    ensures stop { IsErrOf result Read → FailsLast F.failed F.stopped (L.failed log.old) (L.failed log.new) (L.stopped log.new) (list_before registers.entry) (list_after registers.exit) }
-    ensures ok { IfOk result (λ status. (found : Result RegistersValue LogFaultValue) × (text : List ℕ)
-        × ReplaysFrom AreAfter (L.coming log.old) (L.failed log.old) (L.failed log.new) found
-        × ReadsFrom AreAfter (L.coming log.old) (L.coming log.new) found
-        × ChecksFound (λ value list quote status text. ChecksAsked (option_map (λ s. s.now) signed.entry) value hash list quote status text) found F.coming (list_before registers.entry) (list_after registers.exit) (option_map (λ q. q.now) quote.entry) status text
+    ensures ok { IfOk result (λ status. (text : List ℕ)
+        × ChecksValues (value_in found.now.banks) hash None (option_map (λ q. q.now) quote.entry) status text
         × Appends (W.contents out.old) (W.contents out.new) text) }
-    ensures too_long { IsErrOf result InputTooLong → ReadsTooMuchIfList F.coming (list_before registers.entry) (list_after registers.exit) }
+    ensures err { FailsByMemoryOrWrite result }
 {
-    let found = match replay_from(log) {
-        Ok(found) => found,
-        Err(
-            LogFault {
-                kind: LogFaultKind::Device,
-                ..
-            },
-        ) => return Err(ToolFault::Read),
-        Err(fault) => return print_fault(alloc, &fault, out),
-    };
-    match registers {
-        Some(list) => check_asked_stated(alloc, &found, signed, list, quote, hash, out),
-        None => check_asked_alone(alloc, &found, signed, quote, hash, out),
+    match quote {
+        Some(quote) => print_quote(alloc, found, hash, quote, out),
+        None => print_registers(alloc, found, out),
     }
+}
+
+/// Prints each line of a list beside registers, and then what the quote says of them.
+pub(crate) fn check_stated<F: Source, W: Write>(
+    alloc: Global,
+    found: &Registers,
+    list: &mut F,
+    quote: Option<&str>,
+    hash: Alg,
+    out: &mut W,
+) -> Result<Status, ToolFault>
+    ensures failures { CountsRead (F.failed list.old) (F.failed list.new) result }
+    ensures stop { IsErrOf result Read → IsWhereItFailed (F.stopped list.new) }
+    ensures ok { IfOk result (λ status. (bytes : List ℕ) × (text : List ℕ)
+        × ReadsList (value_in found.now.banks) (F.coming list.old) (F.coming list.new) bytes
+        × ChecksValues (value_in found.now.banks) hash (Some bytes) (option_map (λ q. q.now) quote.entry) status text
+        × Appends (W.contents out.old) (W.contents out.new) text) }
+    ensures too_long { IsErrOf result InputTooLong → ReadsTooMuchList (F.coming list.old) (F.coming list.new) }
+{
+    let Some(first) = check_list(alloc, found, list, out)? else {
+        return Ok(Status::Refused);
+    };
+    let Some(quote) = quote else {
+        return Ok(first);
+    };
+    let second = print_quote(alloc, found, hash, quote, out)?;
+    Ok(first.both(second))
 }
 
 /// Replays a log of a measured boot, and prints the registers that it gives, or compares them with a list and with a quote.
@@ -86,42 +152,18 @@ pub fn check_log<L: Source, F: Source, W: Write>(
         × Appends (W.contents out.old) (W.contents out.new) text) }
     ensures too_long { IsErrOf result InputTooLong → ReadsTooMuchIfList F.coming (list_before registers.entry) (list_after registers.exit) }
 {
-    check_asked(alloc, log, None, registers, quote, hash, out)
-}
-
-/// Replays a log of a measured boot, and prints what a quote as it was signed says, and whether it is the one that was asked for.
-///
-/// A fault of the log is `log KIND at N`, the kind and how many bytes precede it, and ends the output. Where the nonce is not
-/// hexadecimal `not hexadecimal` is printed, and where the bytes spell no quote `refused XXX at N`. Else a line each says what the
-/// quote does (TPMS_ATTEST; Part 2, 10.12): `signer`, `nonce`, `clock`, `resets`, `restarts`, `safe`, `firmware`, and
-/// `selection` with each bank and its registers. Then come the verdicts: `nonce matches`, `nonce differs`, or without a nonce
-/// `nonce not compared`; `selection covers`, or `selection lacks BANK I` for the first register that is required and not selected,
-/// or where none is required `selection not compared`, and `selection empty` for a quote that selects none; and `quote matches` or
-/// `quote differs`, by its digest under this hash. The signature is not looked at.
-///
-/// Behind them comes what `check_log` prints of a list and of a quote's information, where they are given. The status is `Refused`
-/// for a fault, for what differs, for what is lacking and for what is refused.
-///
-/// Where a request for memory is refused the answer is `Memory`, where a read of the log or of the list fails `Read`, where the
-/// writer fails `Write`, and where more than 16,777,216 bytes of a list come before its output has ended `InputTooLong`. What was
-/// written before is then left open, and a failed read isn't tried again.
-pub fn check_signed<L: Source, F: Source, W: Write>(
-    alloc: Global,
-    log: &mut L,
-    signed: &Signed<'_>,
-    registers: Option<&mut F>,
-    quote: Option<&str>,
-    hash: Alg,
-    out: &mut W,
-) -> Result<Status, ToolFault>
-    ensures failures { CountsReads F.failed (L.failed log.old) (L.failed log.new) (list_before registers.entry) (list_after registers.exit) result }
-    ensures stop { IsErrOf result Read → FailsLast F.failed F.stopped (L.failed log.old) (L.failed log.new) (L.stopped log.new) (list_before registers.entry) (list_after registers.exit) }
-    ensures ok { IfOk result (λ status. (found : Result RegistersValue LogFaultValue) × (text : List ℕ)
-        × ReplaysFrom AreAfter (L.coming log.old) (L.failed log.old) (L.failed log.new) found
-        × ReadsFrom AreAfter (L.coming log.old) (L.coming log.new) found
-        × ChecksSigned found hash (option_map (λ n. n.now) signed.now.nonce) signed.now.required signed.now.attest.now F.coming (list_before registers.entry) (list_after registers.exit) (option_map (λ q. q.now) quote.entry) status text
-        × Appends (W.contents out.old) (W.contents out.new) text) }
-    ensures too_long { IsErrOf result InputTooLong → ReadsTooMuchIfList F.coming (list_before registers.entry) (list_after registers.exit) }
-{
-    check_asked(alloc, log, Some(signed), registers, quote, hash, out)
+    let found = match replay_from(log) {
+        Ok(found) => found,
+        Err(
+            LogFault {
+                kind: LogFaultKind::Device,
+                ..
+            },
+        ) => return Err(ToolFault::Read),
+        Err(fault) => return print_fault(alloc, &fault, out),
+    };
+    match registers {
+        Some(list) => check_stated(alloc, &found, list, quote, hash, out),
+        None => check_alone(alloc, &found, quote, hash, out),
+    }
 }

@@ -2,6 +2,7 @@
 #![tactic(auto)]
 
 mod checked;
+mod checked_signed;
 mod compared;
 mod event_json;
 mod event_lines;
@@ -11,14 +12,14 @@ mod held_lines;
 mod judged;
 mod list_lines;
 mod listed_events;
-mod printed;
 mod quoted;
 mod reads;
 mod register_text;
 mod signed_text;
 mod stated;
 
-pub use checked::{check_log, check_signed};
+pub use checked::check_log;
+pub use checked_signed::check_signed;
 pub use held_lines::HeldLines;
 pub use judged::Signed;
 pub use listed_events::{Listing, list_events};

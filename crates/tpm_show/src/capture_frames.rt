@@ -181,12 +181,7 @@ fn kind_of(direction: Direction) -> &'static str
 }
 
 #[tactic(auto, unfolding(crate::specs::Capture::frame_object))]
-fn push_object(
-    text: &mut String,
-    number: u64,
-    direction: Direction,
-    members: &str,
-) -> Pushed
+fn push_object(text: &mut String, number: u64, direction: Direction, members: &str) -> Pushed
     ensures { OnOk result (string_bytes text.new ≡ string_bytes text.old ++ frame_object number direction members.now) }
 {
     let kind = kind_of(direction);

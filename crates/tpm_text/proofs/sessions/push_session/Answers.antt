@@ -8,11 +8,13 @@ unfolding session_text
 returns-then-not-json c =
     let written = simp (c.in_ok-push_begin.ensures, c.in_ok-push_session_handle.ensures, c.in_radix.ensures, c.laid_out.ensures, padded_integral-zeros, c.in_ok-nonce.ensures, c.in_ok-hmac.ensures, append_assoc) at c.writeln.ensures.bytes in
     let told = rw c.if-not-json.true at written in
-    rw c.if-not-json.true (simp append_assoc told)
+    let joined = simp append_assoc at told in
+    rw (← c.session.view_is) (rw c.if-not-json.true (simp append_assoc joined))
 
 pub returns : goal.returns
 unfolding session_text
 returns c =
     let written = simp (c.in_ok-push_begin.ensures, c.in_ok-push_session_handle.ensures, c.in_radix-2.ensures, c.laid_out-2.ensures, padded_integral-zeros, c.in_ok-nonce.ensures, c.in_ok-hmac.ensures, append_assoc) at c.write.ensures.bytes in
     let told = rw c.if-not-json.false at written in
-    rw c.if-not-json.false (simp append_assoc told)
+    let joined = simp append_assoc at told in
+    rw (← c.session.view_is) (rw c.if-not-json.false (simp append_assoc joined))

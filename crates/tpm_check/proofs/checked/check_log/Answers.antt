@@ -6,7 +6,7 @@ use Rattle.tpm_log.specs.Takes.{IsOfBytes}
 use Rattle.tpm_text.specs.declared.status.Status.{Status}
 use Rattle.tpm_check.specs.Check.{log_fault_line}
 use Rattle.tpm_check.proofs.Checks.{by_list, not_too_long, counts_alone, counts_stated, counts_log, not_read, log_last, stated_last, replayed, of_bytes, read_failed, no_read_failed}
-use Rattle.tpm_check.proofs.checked.check_asked.Goals as goal
+use Rattle.tpm_check.proofs.checked.check_log.Goals as goal
 
 pub returns-in-Err-Device-clause-failures : goal.returns-in-Err-Device-clause-failures
 returns-in-Err-Device-clause-failures g c =
@@ -32,8 +32,8 @@ returns-in-Err-clause-ok g c =
     let fault = c.in-Err.fault in
     let other : IsOfBytes fault.kind = of_bytes fault.kind (search rules) in
     by_list c.args.registers
-    (λ e. rw e (IfOk-weaker c.print_fault.result _ _ (λ status printed. (Err fault, log_fault_line fault, c.in-Err.ensures.replays, c.in-Err.ensures.reads, (refl, other, printed.0, refl), printed.1)) c.print_fault.ensures.ok))
-    (λ list e. rw e (IfOk-weaker c.print_fault.result _ _ (λ status printed. (Err fault, log_fault_line fault, c.in-Err.ensures.replays, c.in-Err.ensures.reads, (refl, other, printed.0, refl), printed.1)) c.print_fault.ensures.ok))
+    (λ e. rw e (IfOk-weaker c.print_fault.result _ _ (λ status printed. (Err fault, log_fault_line fault, c.in-Err.ensures.replays, c.in-Err.ensures.reads, (refl, other, (printed.0, refl)), printed.1)) c.print_fault.ensures.ok))
+    (λ list e. rw e (IfOk-weaker c.print_fault.result _ _ (λ status printed. (Err fault, log_fault_line fault, c.in-Err.ensures.replays, c.in-Err.ensures.reads, (refl, other, (printed.0, refl)), printed.1)) c.print_fault.ensures.ok))
 
 pub returns-in-Err-clause-too_long : goal.returns-in-Err-clause-too_long
 returns-in-Err-clause-too_long g c = λ is. absurd (not_too_long c.print_fault.result c.print_fault.ensures.err is)
@@ -43,15 +43,15 @@ returns-in-Some-clause-failures g c =
     let old = g.L.Source.failed c.args.log.now in
     let new = g.L.Source.failed c.replay_from.new.source in
     let same = replayed AreAfter (g.L.Source.coming c.args.log.now) old new c.in-Ok.found c.in-Ok.ensures.replays in
-    rw c.in-Some.is (counts_stated g.F.Source.failed old new c.in-Some.list.now c.check_asked_stated.new.list c.check_asked_stated.result c.check_asked_stated.ensures.failures same)
+    rw c.in-Some.is (counts_stated g.F.Source.failed old new c.in-Some.list.now c.check_stated.new.list c.check_stated.result c.check_stated.ensures.failures same)
 
 pub returns-in-Some-clause-ok : goal.returns-in-Some-clause-ok
 returns-in-Some-clause-ok g c =
-    rw c.in-Some.is (IfOk-weaker c.check_asked_stated.result _ _ (λ status checked.
-    (Ok c.in-Ok.found, checked.1, c.in-Ok.ensures.replays, c.in-Ok.ensures.reads, (Some checked.0, checked.2, checked.3), checked.4)) c.check_asked_stated.ensures.ok)
+    rw c.in-Some.is (IfOk-weaker c.check_stated.result _ _ (λ status checked.
+    (Ok c.in-Ok.found, checked.1, c.in-Ok.ensures.replays, c.in-Ok.ensures.reads, (Some checked.0, checked.2, checked.3), checked.4)) c.check_stated.ensures.ok)
 
 pub returns-in-Some-clause-too_long : goal.returns-in-Some-clause-too_long
-returns-in-Some-clause-too_long g c = rw c.in-Some.is c.check_asked_stated.ensures.too_long
+returns-in-Some-clause-too_long g c = rw c.in-Some.is c.check_stated.ensures.too_long
 
 pub returns-in-Err-Device-clause-stop : goal.returns-in-Err-Device-clause-stop
 returns-in-Err-Device-clause-stop g c =
@@ -74,4 +74,4 @@ returns-in-Some-clause-stop g c =
     let new = g.L.Source.failed c.replay_from.new.source in
     let last = g.L.Source.stopped c.replay_from.new.source in
     let same = replayed AreAfter (g.L.Source.coming c.args.log.now) old new c.in-Ok.found c.in-Ok.ensures.replays in
-    rw c.in-Some.is (stated_last g.F.Source.failed g.F.Source.stopped old new last c.in-Some.list.now c.check_asked_stated.new.list c.check_asked_stated.result c.check_asked_stated.ensures.failures c.check_asked_stated.ensures.stop same)
+    rw c.in-Some.is (stated_last g.F.Source.failed g.F.Source.stopped old new last c.in-Some.list.now c.check_stated.new.list c.check_stated.result c.check_stated.ensures.failures c.check_stated.ensures.stop same)
