@@ -24,7 +24,7 @@ use Rattle.tpm_buffer.specs.Commands.{sessions, authorization_size, authorizatio
 use Rattle.tpm_model.specs.Sessions.{Session, loaded}
 use Rattle.tpm_model.specs.Present.{Present}
 use Rattle.tpm_model.specs.Entities.{Entity, entity_of, names_of}
-use Rattle.tpm_model.specs.Authorization.{refuse as test, Evidence, Authorizer, Password, by_session, check_session, check_entity, evidence_by, check_evidence, authorize, reply_auths, password_reply}
+use Rattle.tpm_model.specs.Authorization.{refuse as test, Evidence, NotAsked, Authorizer, Password, by_session, check_session, check_entity, evidence_by, check_evidence, authorize, reply_auths, password_reply}
 use Rattle.tpm_model.specs.Answers.{check_tag, evidence_in}
 use Rattle.tpm_model.proofs.Sealing.{okay_is}
 use Rattle.tpm_device.specs.Stands.{evidence_for, sessions_checked, owner_authorizes}
@@ -157,3 +157,9 @@ password_replies p x a others e code params nonce is are gives =
     let by = password_gives (a.session == rs_pw) (loaded p.sessions a.session) (entity_of p (first x.handles)) x.header.code (names_of p x.handles) x.params p.registers.update_counter a others e is
     (ap (λ (auths : List Auth). evidence_in p x.header.code x.handles x.params auths) (sym are) ∙ gives) in
     subst (λ (y : Evidence). reply_auths y code params nonce ≡ password_reply ∷ []) by refl
+
+-- No session replies to none.
+pub none_replied : (p : Present) (x : Cut) (e : Evidence) (code : CommandCode) (params nonce : List ℕ) → x.auths ≡ [] → evidence_for p x ≡ Ok e → reply_auths e code params nonce ≡ []
+none_replied p x e code params nonce none gives =
+    let is = okay_is {E = ℕ} NotAsked e (ap (λ (auths : List Auth). evidence_in p x.header.code x.handles x.params auths) (sym none) ∙ gives) in
+    subst (λ (y : Evidence). reply_auths y code params nonce ≡ []) is refl

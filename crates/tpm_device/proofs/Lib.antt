@@ -1,4 +1,5 @@
 pub mod Alike
+pub mod WithoutParameters
 pub mod Checked
 pub mod Further
 pub mod Own

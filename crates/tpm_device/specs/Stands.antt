@@ -8,6 +8,7 @@ use Rattle.tpm_commands.specs.declared.code.CommandCode.{CommandCode}
 use Rattle.tpm_commands.specs.declared.code.CommandCode.TheVariants as codes
 use Rattle.tpm_commands.specs.declared.command.CommandBody.{CommandBody}
 use Rattle.tpm_commands.specs.declared.response.ReplyBody.{ReplyBody}
+use Rattle.tpm_commands.specs.declared.response.ReplyBody.TheVariants as replies
 use Rattle.tpm_buffer.specs.CommandAreas.{Cut}
 use Rattle.tpm_buffer.specs.Commands.{with_auths}
 use Rattle.tpm_commands.specs.Handles.{first, needs_authorization}
@@ -125,6 +126,20 @@ Steps old new body reply nonce = (o : Origin) (h : History) → Stands o h old �
 -- the bytes of a reply
 abbrev pub reply_bytes : Reply → List ℕ
 reply_bytes r = spelling (response (code_for_reply r.body)) (done_with r)
+
+-- the replies that have neither a handle nor parameters
+abbrev pub is_bare : ReplyBody → Bool
+is_bare (replies.PcrEvent values) = false
+is_bare (replies.PcrRead counter selected values) = false
+is_bare (replies.StartAuthSession reply) = false
+is_bare (replies.PolicyGetDigest value) = false
+is_bare (replies.NvRead bytes) = false
+is_bare (replies.NvReadPublic public its_name) = false
+is_bare _ = true
+
+-- one of them: all have the same bytes
+abbrev pub any_bare : ReplyBody
+any_bare = replies.Startup
 
 -- what a call adds to an empty buffer where it succeeds, or its code
 abbrev pub given : List ℕ → Result (Unit {0}) ℕ → Result (List ℕ) ℕ

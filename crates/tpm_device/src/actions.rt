@@ -29,7 +29,10 @@ impl Device {
     {
         match params {
             Params::Startup(kind) => self.start(*kind, body),
-            Params::PcrExtend(digests) => self.extend(register_or_null(handles), digests, body),
+            Params::PcrExtend(digests) => {
+                *body = ReplyBody::PcrExtend;
+                self.extend(register_or_null(handles), digests)
+            }
             Params::PcrEvent(event) => self.event(register_or_null(handles), event, body),
             Params::PcrReset => self.reset(register(handles), body),
             Params::PcrRead(selections) => {

@@ -10,13 +10,13 @@ ghost use Rattle.tpm_model.specs.Answers.{Presented, presented as presented_of, 
 ghost use Rattle.tpm_model.specs.Premises.{code_in};
 ghost use Rattle.tpm_device.specs.Stands.{none_loaded, Stands, holds, evidence_for, HasEvidence, presented_with, IsAdmitted, IsRead, done_of, given, told};
 
-use crate::brief::brief;
+use crate::bare::bare;
 use crate::checks::{check_started, check_tag};
 use crate::reply::put_refusal;
 use tpm_buffer::{Areas, AuthRef, CommandCode, Params, ReplyBody, decode_params_into, header};
 use tpm_session::Sessions;
 use tpm_store::{Counters, Registers};
-use tpm_types::{AuthValue, DigestValues};
+use tpm_types::AuthValue;
 use tpm_wire::{Buffer, Duplicate};
 
 /// A device of this profile.
@@ -45,7 +45,6 @@ fn begun(code: CommandCode) -> ReplyBody {
         CommandCode::NvDefineSpace => ReplyBody::NvDefineSpace,
         CommandCode::NvIncrement => ReplyBody::NvIncrement,
         CommandCode::PcrReset => ReplyBody::PcrReset,
-        CommandCode::PcrExtend => ReplyBody::PcrExtend,
         CommandCode::FlushContext => ReplyBody::FlushContext,
         _ => ReplyBody::Startup,
     }
@@ -147,14 +146,44 @@ impl Device {
         ensures done { OnOk result (code_in out.new.items ≡ 0) }
         ensures none { OnErr result (out.new ≡ out.old) }
     {
-        let mut params = Params::PcrExtend(DigestValues::default());
+        let mut params = Params::PolicyRestart;
         match decode_params_into(areas.code(), areas.params(), &mut params) {
             Ok(()) => self.done(areas, auth, &params, nonce, out),
             Err(refusal) => Err(refusal.code),
         }
     }
 
+    // As `performed`, where the command is another than TPM2_PCR_Extend.
+    #[inline(never)]
+    fn performed_otherwise(
+        &mut self,
+        areas: &Areas<'_>,
+        auth: &Option<AuthRef<'_>>,
+        nonce: &[u8; 64],
+        out: &mut Buffer,
+    ) -> Result<(), u32>
+        requires first { auth.now ≡ slice_get areas.now.auths 0 }
+        requires admitted { IsAdmitted areas.now }
+        requires evidence { HasEvidence (holds self.old) areas.now }
+        requires empty { length out.old.items ≡ 0 }
+        ensures answer { (e : Evidence) (o : Origin) (h : History) → evidence_for (holds self.old) areas.now ≡ Ok e → Stands o h self.old →
+            given out.new.items result ≡ told (performed_of (holds self.old) nonce.now (presented_with (holds self.old) areas.now e)) }
+        ensures stands { (e : Evidence) (o : Origin) (h : History) → evidence_for (holds self.old) areas.now ≡ Ok e → Stands o h self.old →
+            Stands o (with_outcome h nonce.now (performed_of (holds self.old) nonce.now (presented_with (holds self.old) areas.now e))) self.new }
+        ensures refuses { IfErr result (λ code. (x : Presented) → x.code ≡ areas.now.header.code → x.handles ≡ areas.now.handles → x.params ≡ areas.now.params →
+            performed_of (holds self.old) nonce.now x ≡ Err code) }
+        ensures refused { OnErr result (self.new ≡ self.old) }
+        ensures done { OnOk result (code_in out.new.items ≡ 0) }
+        ensures none { OnErr result (out.new ≡ out.old) }
+    {
+        match bare(areas.code(), areas.params()) {
+            Some(params) => self.done(areas, auth, &params, nonce, out),
+            None => self.performed_at_length(areas, auth, nonce, out),
+        }
+    }
+
     // The parameters, and then the rest. The session is the command's first.
+    #[inline(always)]
     fn performed(
         &mut self,
         areas: &Areas<'_>,
@@ -176,9 +205,10 @@ impl Device {
         ensures done { OnOk result (code_in out.new.items ≡ 0) }
         ensures none { OnErr result (out.new ≡ out.old) }
     {
-        match brief(areas.code(), areas.params()) {
-            Some(params) => self.done(areas, auth, &params, nonce, out),
-            None => self.performed_at_length(areas, auth, nonce, out),
+        if areas.code() == CommandCode::PcrExtend {
+            self.performed_extending(areas, auth, nonce, out)
+        } else {
+            self.performed_otherwise(areas, auth, nonce, out)
         }
     }
 

@@ -3,9 +3,10 @@
 
 mod actions;
 mod authorization;
-mod brief;
+mod bare;
 mod checks;
 mod device;
+mod extending;
 mod handles;
 mod laws;
 mod nv;

@@ -2,6 +2,7 @@
 
 ghost use Rattle.std.specs.Prelude.{◌≡◌, ℕ, List, Ok, OnOk, OnErr};
 ghost use Rattle.tpm_commands.specs.declared.command.CommandBody.TheVariants as bodies;
+ghost use Rattle.tpm_commands.specs.declared.response.ReplyBody.TheVariants as replies;
 ghost use Rattle.tpm_model.specs.Actions.{action};
 ghost use Rattle.tpm_device.specs.Stands.{holds, acted, Steps};
 
@@ -33,20 +34,12 @@ impl Device {
     }
 
     // TPM2_PCR_Extend (Part 3, 22.2).
-    pub(crate) fn extend(
-        &mut self,
-        register: PcrOrNull,
-        digests: &DigestValues,
-        body: &mut ReplyBody,
-    ) -> Result<(), u32>
-        ensures answer { (n : List ℕ) → acted body.new result ≡ action (holds self.old) (bodies.PcrExtend register digests.now) n }
-        ensures stands { OnOk result ((n : List ℕ) → Steps self.old self.new (bodies.PcrExtend register digests.now) body.new n) }
+    pub(crate) fn extend(&mut self, register: PcrOrNull, digests: &DigestValues) -> Result<(), u32>
+        ensures answer { (n : List ℕ) → acted replies.PcrExtend result ≡ action (holds self.old) (bodies.PcrExtend register digests.now) n }
+        ensures stands { OnOk result ((n : List ℕ) → Steps self.old self.new (bodies.PcrExtend register digests.now) replies.PcrExtend n) }
         ensures sessions { self.new.sessions ≡ self.old.sessions }
         ensures refused { OnErr result (self.new ≡ self.old) }
     {
-        if !matches!(body, ReplyBody::PcrExtend) {
-            *body = ReplyBody::PcrExtend;
-        }
         match register {
             PcrOrNull::Pcr(register) => self.registers.extend(register, digests),
             PcrOrNull::Null => Ok(()),

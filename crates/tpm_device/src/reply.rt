@@ -11,17 +11,19 @@ ghost use Rattle.tpm_buffer.specs.Commands.{code_for, with_auths};
 ghost use Rattle.tpm_model.specs.Steps.{History, Origin, Accepted};
 ghost use Rattle.tpm_model.specs.Present.{Present};
 ghost use Rattle.tpm_model.specs.Sessions.{loaded};
-ghost use Rattle.tpm_model.specs.Authorization.{Evidence, reply_auths};
+ghost use Rattle.tpm_model.specs.Authorization.{Evidence, reply_auths, password_reply as password_reply_of};
 ghost use Rattle.tpm_model.specs.Answers.{answered, reply_params};
 ghost use Rattle.tpm_model.specs.Premises.{code_in};
-ghost use Rattle.tpm_device.specs.Stands.{Stands, step_of, evidence_for, IsAlike, reply_bytes};
+ghost use Rattle.tpm_device.specs.Stands.{Stands, step_of, evidence_for, IsAlike, any_bare, is_bare, reply_bytes};
 
 use crate::device::Device;
 use crate::handles::first;
-use tpm_buffer::{Areas, AuthRef, ErrorCode, ReplyBody, put_code, put_reply, put_reply_params};
+use tpm_buffer::{
+    Areas, AuthRef, ErrorCode, ReplyBody, SESSIONS, put_code, put_reply, put_reply_params,
+};
 use tpm_session::password_reply;
 use tpm_types::{AuthReply, RS_PW, SessionHandle};
-use tpm_wire::Buffer;
+use tpm_wire::{Buffer, Wire, put_bytes};
 
 /// Adds the response that is this code.
 pub(crate) fn put_refusal(code: u32, out: &mut Buffer)
@@ -33,6 +35,41 @@ pub(crate) fn put_refusal(code: u32, out: &mut Buffer)
         Some(error) => put_code(error, out),
         None => unreachable!(),
     }
+}
+
+// Adds the reply without parameters to a command that has no session.
+fn put_bare_alone(out: &mut Buffer)
+    requires { length out.old.items ≡ 0 }
+    ensures { out.new.items ≡ reply_bytes (record { body = any_bare; auths = [] }) }
+{
+    put_bytes(out, &[0x80, 0x01, 0, 0, 0, 10, 0, 0, 0, 0]);
+}
+
+// That to a command that a password authorized.
+fn put_bare_passed(out: &mut Buffer)
+    requires { length out.old.items ≡ 0 }
+    ensures { out.new.items ≡ reply_bytes (record { body = any_bare; auths = password_reply_of ∷ [] }) }
+{
+    put_bytes(
+        out,
+        &[
+            0x80, 0x02, 0, 0, 0, 19, 0, 0, 0, 0, 0, 0, 0, 0, 0, 0, 0x01, 0, 0,
+        ],
+    );
+}
+
+// That with this session.
+#[tactic(auto, unfolding(tpm_buffer::specs::Responses::response, tpm_buffer::specs::Responses::response_front, tpm_buffer::specs::Responses::response_tag, tpm_buffer::specs::Responses::response_code, tpm_buffer::specs::Commands::command_size, tpm_buffer::specs::Responses::with_sessions, tpm_buffer::specs::Responses::parameter_size, tpm_buffer::specs::Responses::reply_sessions, tpm_buffer::specs::Responses::further_sessions))]
+#[inline(never)]
+fn put_bare_sealed(session: &AuthReply, out: &mut Buffer)
+    requires { length out.old.items ≡ 0 }
+    ensures { out.new.items ≡ reply_bytes (record { body = any_bare; auths = session.now ∷ [] }) }
+{
+    SESSIONS.put(out);
+    (14 + session.len() as u32).put(out);
+    0u32.put(out);
+    0u32.put(out);
+    session.put(out);
 }
 
 // The handle of a session that authorizes, where it is no password.
@@ -102,6 +139,33 @@ impl Device {
                 } else {
                     let session = self.sealed(auth, areas, body, nonce, out);
                     put_reply(body, &[session], out);
+                }
+            }
+        }
+    }
+
+    /// As `put_done`, for a reply without parameters. Nothing is made of its body.
+    pub(crate) fn put_bare(
+        &self,
+        areas: &Areas<'_>,
+        auth: &Option<AuthRef<'_>>,
+        nonce: &[u8; 64],
+        out: &mut Buffer,
+    )
+        requires own { auth.now ≡ slice_get areas.now.auths 0 }
+        requires empty { length out.old.items ≡ 0 }
+        ensures bytes { (body : BodyOf) → is_bare body ≡ true → (p : Present) (e : Evidence) → ((a : Auth) (others : List Auth) → areas.now.auths ≡ a ∷ others → IsAlike p self.now (first_of areas.now.handles)) → evidence_for p areas.now ≡ Ok e →
+            out.new.items ≡ reply_bytes (record { body = body; auths = reply_auths e areas.now.header.code (reply_params body) nonce.now }) }
+        ensures done { code_in out.new.items ≡ 0 }
+    {
+        match auth {
+            None => put_bare_alone(out),
+            Some(auth) => {
+                if auth.session().number() == RS_PW {
+                    put_bare_passed(out);
+                } else {
+                    let session = self.reply_session(auth, areas, &[], nonce);
+                    put_bare_sealed(&session, out);
                 }
             }
         }

@@ -5,6 +5,7 @@ use Rattle.tpm_types.specs.declared.handle_sets.NvAuthHandle.{NvAuthHandle}
 use Rattle.tpm_types.specs.declared.handle_sets.BindHandle.{BindHandle}
 use Rattle.tpm_commands.specs.declared.command.CommandBody.{CommandBody}
 use Rattle.tpm_commands.specs.declared.command.CommandBody.TheVariants as bodies
+use Rattle.tpm_commands.specs.declared.response.ReplyBody.TheVariants as replies
 use Rattle.tpm_commands.specs.Handles.{first, second}
 use Rattle.tpm_buffer.specs.Commands.{body_from, bind_in, nv_auth_in}
 use Rattle.tpm_model.specs.Actions.{action}
@@ -25,12 +26,12 @@ returns-in-Startup-clause-stands c =
 pub returns-in-PcrExtend-clause-answer : goal.returns-in-PcrExtend-clause-answer
 returns-in-PcrExtend-clause-answer c =
     let is : bodies.PcrExtend c.register_or_null.result c.in-PcrExtend.digests ≡ body_from c.args.handles.now c.args.params.now = rw c.in-PcrExtend.is (ap (λ (q : PcrOrNull). bodies.PcrExtend q c.in-PcrExtend.digests) c.register_or_null.ensures) in
-    subst (λ (b : CommandBody). acted c.extend.new.body c.extend.result ≡ action (holds c.args.self.now) b c.args.nonce.now) is (c.extend.ensures.answer c.args.nonce.now)
+    subst (λ (b : CommandBody). acted replies.PcrExtend c.extend.result ≡ action (holds c.args.self.now) b c.args.nonce.now) is (c.extend.ensures.answer c.args.nonce.now)
 
 pub returns-in-PcrExtend-clause-stands : goal.returns-in-PcrExtend-clause-stands
 returns-in-PcrExtend-clause-stands c =
     let is : bodies.PcrExtend c.register_or_null.result c.in-PcrExtend.digests ≡ body_from c.args.handles.now c.args.params.now = rw c.in-PcrExtend.is (ap (λ (q : PcrOrNull). bodies.PcrExtend q c.in-PcrExtend.digests) c.register_or_null.ensures) in
-    subst (λ (b : CommandBody). OnOk c.extend.result (Steps c.args.self.now c.extend.new.self b c.extend.new.body c.args.nonce.now)) is (for_nonce (λ (m : List ℕ). Steps c.args.self.now c.extend.new.self (bodies.PcrExtend c.register_or_null.result c.in-PcrExtend.digests) c.extend.new.body m) c.extend.result c.args.nonce.now c.extend.ensures.stands)
+    subst (λ (b : CommandBody). OnOk c.extend.result (Steps c.args.self.now c.extend.new.self b replies.PcrExtend c.args.nonce.now)) is (for_nonce (λ (m : List ℕ). Steps c.args.self.now c.extend.new.self (bodies.PcrExtend c.register_or_null.result c.in-PcrExtend.digests) replies.PcrExtend m) c.extend.result c.args.nonce.now c.extend.ensures.stands)
 
 pub returns-in-PcrEvent-clause-answer : goal.returns-in-PcrEvent-clause-answer
 returns-in-PcrEvent-clause-answer c =

@@ -5,7 +5,7 @@ use Rattle.tpm_model.specs.Steps.{History}
 use Rattle.tpm_model.specs.Answers.{with_outcome}
 use Rattle.tpm_device.specs.Stands.{Stands, holds, presented_with, told}
 use Rattle.tpm_device.proofs.Passing.{performed_is}
-use Rattle.tpm_device.proofs.device.Device.performed.Goals as goal
+use Rattle.tpm_device.proofs.device.Device.performed_otherwise.Goals as goal
 
 pub returns-in-Some-clause-answer : goal.returns-in-Some-clause-answer
 returns-in-Some-clause-answer c = λ e o h gives st.

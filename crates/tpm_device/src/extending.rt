@@ -1,0 +1,110 @@
+//! TPM2_PCR_Extend from its parameters to its reply. Neither goes through the room of the longest.
+
+ghost use Rattle.std.specs.Prelude.{◌≡◌, ◌≤◌, length, slice_get, Ok, Err, IfErr, OnOk, OnErr};
+ghost use Rattle.tpm_wire.specs.Reading.{read_all, Gives};
+ghost use Rattle.tpm_wire.specs.Buffers.{TakesNumbered};
+ghost use Rattle.tpm_commands.specs.declared.code.CommandCode.TheVariants as codes;
+ghost use Rattle.tpm_commands.specs.declared.command_parameters.Params.TheVariants as of_command;
+ghost use Rattle.tpm_commands.specs.Parameters.{parameters, pcr_extend};
+ghost use Rattle.tpm_buffer.specs.Commands.{body_from};
+ghost use Rattle.tpm_model.specs.Steps.{History, Origin};
+ghost use Rattle.tpm_model.specs.Authorization.{Evidence};
+ghost use Rattle.tpm_model.specs.Actions.{action};
+ghost use Rattle.tpm_model.specs.Answers.{Presented, performed as performed_of, with_outcome};
+ghost use Rattle.tpm_model.specs.Premises.{code_in};
+ghost use Rattle.tpm_device.specs.Stands.{Stands, holds, evidence_for, HasEvidence, presented_with, IsAdmitted, done_of, given, told};
+
+use crate::device::Device;
+use crate::handles::register_or_null;
+use tpm_buffer::{Areas, AuthRef};
+use tpm_types::DigestValues;
+use tpm_wire::response_code::{SIZE, of_parameter};
+use tpm_wire::{Buffer, Cursor, Refusal, Wire};
+
+#[tactic(auto, unfolding(tpm_commands::specs::Parameters::pcr_extend))]
+#[inline(always)]
+fn read_digests(cursor: &mut Cursor<'_>, digests: &mut DigestValues) -> Result<(), Refusal>
+    ensures { TakesNumbered (λ _. of_command.PcrExtend digests.new) pcr_extend cursor.old cursor.new result }
+{
+    cursor.number(of_parameter(1));
+    digests.read(cursor)
+}
+
+// Reads the digests, or answers their first fault.
+fn decode_digests(bytes: &[u8], digests: &mut DigestValues) -> Result<(), Refusal>
+    requires { length bytes.now ≤ 4096 }
+    ensures { Gives (λ _. of_command.PcrExtend digests.new) (read_all (parameters codes.PcrExtend) bytes.now) result }
+{
+    let mut cursor = Cursor::new(bytes);
+    read_digests(&mut cursor, digests)?;
+    if cursor.left() > 0 {
+        return Err(Refusal {
+            code: SIZE,
+            at: cursor.at(),
+        });
+    }
+    Ok(())
+}
+
+impl Device {
+    // As `done`, of these digests.
+    #[inline(always)]
+    fn done_extending(
+        &mut self,
+        areas: &Areas<'_>,
+        auth: &Option<AuthRef<'_>>,
+        digests: &DigestValues,
+        nonce: &[u8; 64],
+        out: &mut Buffer,
+    ) -> Result<(), u32>
+        requires extends { areas.now.header.code ≡ codes.PcrExtend }
+        requires first { auth.now ≡ slice_get areas.now.auths 0 }
+        requires admitted { IsAdmitted areas.now }
+        requires evidence { HasEvidence (holds self.old) areas.now }
+        requires empty { length out.old.items ≡ 0 }
+        ensures answer { (e : Evidence) (o : Origin) (h : History) → evidence_for (holds self.old) areas.now ≡ Ok e → Stands o h self.old →
+            given out.new.items result ≡ told (done_of (holds self.old) nonce.now (presented_with (holds self.old) areas.now e) (body_from areas.now.handles (of_command.PcrExtend digests.now))) }
+        ensures stands { (e : Evidence) (o : Origin) (h : History) → evidence_for (holds self.old) areas.now ≡ Ok e → Stands o h self.old →
+            Stands o (with_outcome h nonce.now (done_of (holds self.old) nonce.now (presented_with (holds self.old) areas.now e) (body_from areas.now.handles (of_command.PcrExtend digests.now)))) self.new }
+        ensures refuses { IfErr result (λ code. action (holds self.old) (body_from areas.now.handles (of_command.PcrExtend digests.now)) nonce.now ≡ Err code) }
+        ensures refused { OnErr result (self.new ≡ self.old) }
+        ensures done { OnOk result (code_in out.new.items ≡ 0) }
+        ensures none { OnErr result (out.new ≡ out.old) }
+    {
+        self.extend(register_or_null(areas.handles()), digests)?;
+        self.put_bare(areas, auth, nonce, out);
+        self.roll(areas, auth, nonce);
+        Ok(())
+    }
+
+    /// As `performed`, where the command is TPM2_PCR_Extend.
+    #[inline(never)]
+    pub(crate) fn performed_extending(
+        &mut self,
+        areas: &Areas<'_>,
+        auth: &Option<AuthRef<'_>>,
+        nonce: &[u8; 64],
+        out: &mut Buffer,
+    ) -> Result<(), u32>
+        requires extends { areas.now.header.code ≡ codes.PcrExtend }
+        requires first { auth.now ≡ slice_get areas.now.auths 0 }
+        requires admitted { IsAdmitted areas.now }
+        requires evidence { HasEvidence (holds self.old) areas.now }
+        requires empty { length out.old.items ≡ 0 }
+        ensures answer { (e : Evidence) (o : Origin) (h : History) → evidence_for (holds self.old) areas.now ≡ Ok e → Stands o h self.old →
+            given out.new.items result ≡ told (performed_of (holds self.old) nonce.now (presented_with (holds self.old) areas.now e)) }
+        ensures stands { (e : Evidence) (o : Origin) (h : History) → evidence_for (holds self.old) areas.now ≡ Ok e → Stands o h self.old →
+            Stands o (with_outcome h nonce.now (performed_of (holds self.old) nonce.now (presented_with (holds self.old) areas.now e))) self.new }
+        ensures refuses { IfErr result (λ code. (x : Presented) → x.code ≡ areas.now.header.code → x.handles ≡ areas.now.handles → x.params ≡ areas.now.params →
+            performed_of (holds self.old) nonce.now x ≡ Err code) }
+        ensures refused { OnErr result (self.new ≡ self.old) }
+        ensures done { OnOk result (code_in out.new.items ≡ 0) }
+        ensures none { OnErr result (out.new ≡ out.old) }
+    {
+        let mut digests = DigestValues::default();
+        match decode_digests(areas.params(), &mut digests) {
+            Ok(()) => self.done_extending(areas, auth, &digests, nonce, out),
+            Err(refusal) => Err(refusal.code),
+        }
+    }
+}
