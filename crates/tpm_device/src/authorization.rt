@@ -64,15 +64,34 @@ impl Device {
         names
     }
 
-    // The Names that a session's HMAC covers: a password covers none.
-    fn names_for(&self, auth: &AuthRef<'_>, handles: &[u32]) -> ArrayVec<Name, 2>
-        requires { length handles.now ≤ 2 }
-        ensures { (auth.now.session == rs_pw) ≡ false → result.items ≡ names_of (holds self.now) handles.now }
+    // All checks of the sessions, of which this is the first, with the Names that its HMAC covers.
+    #[inline(always)]
+    fn check_with(&self, auth: &AuthRef<'_>, areas: &Areas<'_>, names: &[Name]) -> Result<(), u32>
+        requires own { Some auth.now ≡ slice_get areas.now.auths 0 }
+        requires names { (auth.now.session == rs_pw) ≡ false → names.now ≡ names_of (holds self.now) areas.now.handles }
+        ensures { result ≡ sessions_checked (holds self.now) areas.now areas.now.auths }
     {
-        if auth.session().number() == RS_PW {
-            return ArrayVec::new();
-        }
-        self.names(handles)
+        let entity = self.entity(first(areas.handles()));
+        self.sessions.authorize_first(
+            auth,
+            areas.auth_count(),
+            &entity,
+            areas.code(),
+            names,
+            areas.params(),
+            self.registers.counter(),
+        )
+    }
+
+    // The same where it is no password, which would cover no Names.
+    #[inline(never)]
+    fn check_named(&self, auth: &AuthRef<'_>, areas: &Areas<'_>) -> Result<(), u32>
+        requires few { length areas.now.handles ≤ 2 }
+        requires own { Some auth.now ≡ slice_get areas.now.auths 0 }
+        ensures { result ≡ sessions_checked (holds self.now) areas.now areas.now.auths }
+    {
+        let names = self.names(areas.handles());
+        self.check_with(auth, areas, names.as_slice())
     }
 
     // All checks of the sessions, of which this is the first.
@@ -81,17 +100,11 @@ impl Device {
         requires own { Some auth.now ≡ slice_get areas.now.auths 0 }
         ensures { result ≡ sessions_checked (holds self.now) areas.now areas.now.auths }
     {
-        let entity = self.entity(first(areas.handles()));
-        let names = self.names_for(auth, areas.handles());
-        self.sessions.authorize_first(
-            auth,
-            areas.auth_count(),
-            &entity,
-            areas.code(),
-            names.as_slice(),
-            areas.params(),
-            self.registers.counter(),
-        )
+        if auth.session().number() == RS_PW {
+            self.check_with(auth, areas, &[])
+        } else {
+            self.check_named(auth, areas)
+        }
     }
 
     /// All checks of the sessions, of which this is the first: they are the last checks before the parameters. A third session is
