@@ -17,6 +17,11 @@ pub record Came (stream held left out : List ℕ) (written : ℕ) : Type 0 where
 pub none_yet : (stream out : List ℕ) → Came stream [] stream out 0
 none_yet stream out = record { frames = []; whole = refl; each = All-nil IsFrame; count = refl; bytes = refl }
 
+-- Frames were read of the stream and written, nothing is held, and the room is as long as it was.
+pub record Reading (stream left out began : List ℕ) (written : ℕ) : Type 0 where
+  pub came : Came stream [] left out written
+  pub room : length out ≡ length began
+
 -- some of what was left is held
 pub more : (stream held left new rest out : List ℕ) (written : ℕ) → Came stream held left out written → held ++ left ≡ new ++ rest → Came stream new rest out written
 more stream held left new rest out written came e = record {
@@ -27,12 +32,16 @@ more stream held left new rest out written came e = record {
   bytes = came.bytes;
 }
 
-pub pushed : (held left new piece rest : List ℕ) (n k : ℕ) → piece ≡ take n left → length piece ≡ n → rest ≡ drop k left → k ≤ length piece → new ≡ held ++ take k piece → held ++ left ≡ new ++ rest
+pushed : (held left new piece rest : List ℕ) (n k : ℕ) → piece ≡ take n left → length piece ≡ n → rest ≡ drop k left → k ≤ length piece → new ≡ held ++ take k piece → held ++ left ≡ new ++ rest
 pushed held left new piece rest n k front count back within e =
     let le : k ≤ n = omega (arith, within, count) in
     let taken : take k piece ≡ take k left = ap (λ (r : List ℕ). take k r) front ∙ take-take k n left le in
     ap (λ (r : List ℕ). held ++ r) (sym (take-append-drop k left)) ∙ sym (append_assoc held (take k left) (drop k left))
     ∙ ap (λ (r : List ℕ). r ++ drop k left) (sym (e ∙ ap (λ (r : List ℕ). held ++ r) taken)) ∙ ap (λ (r : List ℕ). new ++ r) (sym back)
+
+pub pushes : (stream held left out : List ℕ) (written : ℕ) → Came stream held left out written → (new piece rest : List ℕ) (n k : ℕ) → piece ≡ take n left → length piece ≡ n → rest ≡ drop k left → k ≤ length piece
+    → new ≡ held ++ take k piece → Came stream new rest out written
+pushes stream held left out written came new piece rest n k front count back within e = more stream held left new rest out written came (pushed held left new piece rest n k front count back within e)
 
 -- there is room for what is held
 pub room : (stream held left out : List ℕ) (written : ℕ) → Came stream held left out written → length stream ≤ length out → written + length held ≤ length out
