@@ -326,6 +326,17 @@ freestanding() {
     "$room/freestanding" >"$room/out" && cmp "$room/out" "$room/out.wanted"
 }
 
+# readme: the lines of C in README.md print what it says.
+readme() {
+    {
+        printf '#include "vinjakwe.h"\n#include <inttypes.h>\n#include <stdio.h>\nint main(void) {\n'
+        awk '/^```c$/ { inside = 1; next } /^```$/ { inside = 0 } inside' README.md
+        echo 'return 0; }'
+    } >"$room/readme.c"
+    "$compiler" -std=c99 -O2 -Wall -Wextra -Werror -Iinclude -o "$room/readme" "$room/readme.c" "$archive" || return 1
+    grep -q "This prints \`$("$room/readme")\`" README.md
+}
+
 if [ -z "$compiler" ]; then
     skip "the library for C" "no C compiler was found"
 elif ! command -v nm >/dev/null 2>&1 || ! command -v xxd >/dev/null 2>&1; then
@@ -341,6 +352,7 @@ else
         skip "the header as C++" "no C++ compiler was found"
     fi
     holds "C programs with the C library are built" hosted
+    holds "the lines of C in README.md print what it says" readme
     holds "the hundred commands through C give the bytes of tpmtool" same_script
     holds "a stream of frames through C gives the bytes of tpmtool" same_stream
     holds "rows of commands and of responses through C" same_first_lines

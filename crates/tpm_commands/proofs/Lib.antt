@@ -1,3 +1,2 @@
-pub mod Longer
 pub mod Short
 pub mod EachCommand

@@ -19,7 +19,8 @@ use Rattle.tpm_types.specs.Handles.{is_auth_session, auth_session}
 use Rattle.tpm_types.specs.Tpma.{is_session_attrs, session_attrs}
 use Rattle.tpm_types.specs.Tpms.{select_bytes, selection, auth_command}
 use Rattle.tpm_types.specs.declared.tpmt.SymDef.TheVariants.{Null, Aes, Xor}
-use Rattle.tpm_types.specs.Tpmt.{digest_value, bits_of, hash_of, alg_cfb, alg_null, alg_aes, key_bits_of, key_bits_number, key_bits, algorithm, mode, sym_def}
+use Rattle.tpm_types.specs.Constants.{key_bits_of, key_bits_number, key_bits}
+use Rattle.tpm_types.specs.Tpmt.{digest_value, bits_of, hash_of, alg_cfb, alg_null, alg_aes, algorithm, mode, sym_def}
 
 -- a part, and what follows it
 pub and : {A B : Type 0} (j k : ℕ) (get : A → B) (l : Layout B) (f : B → Layout A) → TakesAtMost j l → ((y : B) → TakesAtMost k (f y)) → TakesAtMost (j + k) (Form.field get l f)

@@ -5,14 +5,14 @@ use Rattle.tpm_wire.specs.Buffers.{Layout}
 use Rattle.tpm_wire.specs.Layout.{either}
 use Rattle.tpm_wire.specs.ResponseCodes.{rc_reserved_bits, rc_value}
 use Rattle.tpm_types.specs.Alg.{hash}
-use Rattle.tpm_types.specs.Constants.{session_type}
+use Rattle.tpm_types.specs.Constants.{session_type, key_bits}
 use Rattle.tpm_types.specs.Handles.{auth_session, nv_index, is_auth_session, is_nv_index}
 use Rattle.tpm_types.specs.Limits.{digest_bytes, banks, public_bytes}
 use Rattle.tpm_types.specs.Tpma.{session_attrs, nv_attrs, is_session_attrs, is_nv_attrs}
 use Rattle.tpm_types.specs.Tpm2b.{encrypted_salt}
 use Rattle.tpm_types.specs.Tpml.{selections}
 use Rattle.tpm_types.specs.Tpms.{selection, auth_command, nv_public_area, nv_public}
-use Rattle.tpm_types.specs.Tpmt.{digest_value, algorithm, key_bits, mode, sym_def}
+use Rattle.tpm_types.specs.Tpmt.{digest_value, algorithm, mode, sym_def}
 use Rattle.tpm_commands.specs.declared.command_handles.HandleKind.{HandleKind}
 use Rattle.tpm_commands.specs.declared.code.CommandCode.{CommandCode}
 use Rattle.tpm_commands.specs.declared.code.CommandCode.TheVariants as codes

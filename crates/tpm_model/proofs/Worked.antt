@@ -2,12 +2,12 @@
 use Rattle.std.proofs.Common.{refl}
 use Rattle.tpm_wire.specs.Structures.{sized_bytes, sized, counted}
 use Rattle.tpm_types.specs.Alg.{hash}
-use Rattle.tpm_types.specs.Constants.{startup_type, session_type}
+use Rattle.tpm_types.specs.Constants.{startup_type, session_type, key_bits}
 use Rattle.tpm_types.specs.Handles.{session, auth_session, nv_index}
 use Rattle.tpm_types.specs.Tpma.{session_attrs, nv_attrs}
 use Rattle.tpm_types.specs.Tpm2b.{encrypted_salt}
 use Rattle.tpm_types.specs.Tpms.{selection, auth_command, auth_response, nv_public_area, nv_public}
-use Rattle.tpm_types.specs.Tpmt.{digest_value, algorithm, key_bits, mode, sym_def}
+use Rattle.tpm_types.specs.Tpmt.{digest_value, algorithm, mode, sym_def}
 use Rattle.tpm_commands.specs.Codes.{command_code}
 use Rattle.tpm_commands.specs.Parameters.{nv_define_space, startup, nv_read, flush_context, policy_command_code, policy_or, start_auth_session, pcr_read, policy_pcr, pcr_extend, pcr_event}
 use Rattle.tpm_buffer.specs.Commands.{tag, command_size, header, sessions, authorization_size, authorization}
