@@ -5,8 +5,17 @@ use Rattle.tpm_commands.specs.declared.command_handles.HandleKind.{HandleKind}
 use Rattle.tpm_commands.specs.declared.command_parameters.Params.{Params}
 use Rattle.tpm_commands.specs.declared.response.ReplyBody.{ReplyBody}
 
+-- a parameter of a command or of its reply, or a member of a structure, by its name and its type
+pub record Field : Type 0 where
+  pub name : List ℕ
+  pub type : List ℕ
+
+abbrev pub named : List ℕ → List ℕ → Field
+named name type = record { name = name; type = type }
+
 -- TPM_CC (Part 2, 6.5.2); the name in Part 3 without its TPM2_; what the handles may be; whether the first needs authorization; the
--- parameters; and those of the reply with these handles
+-- parameters, and those of the reply with these handles; and how Part 3 names either, where a plus behind a type, as of TPMT_SYM_DEF+,
+-- is no part of its name
 pub record Row : Type 1 where
   pub number : ℕ
   pub name : List ℕ
@@ -14,6 +23,8 @@ pub record Row : Type 1 where
   pub authorized : Bool
   pub parameters : Layout Params
   pub reply : List ℕ → Layout ReplyBody
+  pub parameter_names : List Field
+  pub reply_names : List Field
 
 abbrev pub first : List ℕ → ℕ
 first [] = 0

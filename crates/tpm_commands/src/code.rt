@@ -27,6 +27,28 @@ pub enum CommandCode {
 }
 
 impl CommandCode {
+    /// The commands of the profile, in the order of their numbers.
+    pub const ALL: [CommandCode; 18] = [
+        CommandCode::NvUndefineSpace,
+        CommandCode::NvDefineSpace,
+        CommandCode::NvIncrement,
+        CommandCode::PcrEvent,
+        CommandCode::PcrReset,
+        CommandCode::Startup,
+        CommandCode::NvRead,
+        CommandCode::FlushContext,
+        CommandCode::NvReadPublic,
+        CommandCode::PolicyAuthValue,
+        CommandCode::PolicyCommandCode,
+        CommandCode::PolicyOr,
+        CommandCode::StartAuthSession,
+        CommandCode::PcrRead,
+        CommandCode::PolicyPcr,
+        CommandCode::PolicyRestart,
+        CommandCode::PcrExtend,
+        CommandCode::PolicyGetDigest,
+    ];
+
     /// The command with this number, if the profile has it.
     pub fn from_number(number: u32) -> Option<Self>
         ensures { result ≡ code_of number }

@@ -5,15 +5,8 @@ use Rattle.hex.specs.Hex.{encode_lower}
 use Rattle.tpm_wire.specs.Buffers.{Layout}
 use Rattle.tpm_wire.specs.Layout.Form.{field}
 use Rattle.tpm_wire.specs.Spelling.{spelling}
+pub use Rattle.tpm_commands.specs.Row.{Field, named}
 use Rattle.tpm_text.specs.Text.{comma, line, bytes_text}
-
--- a parameter, or a member of a structure
-pub record Field : Type 0 where
-  pub name : List ℕ
-  pub type : List ℕ
-
-abbrev pub named : List ℕ → List ℕ → Field
-named name type = record { name = name; type = type }
 
 -- the spelling of each part of a value, in the order of its layout: joined they are the spelling of the value
 abbrev pub parts : {A : Type 0} → Layout A → A → List (List ℕ)

@@ -3,7 +3,6 @@ use Rattle.std.specs.Prelude.{◌≡◌, ℕ, Bool, false, List, [], ◌∷◌, 
 use Rattle.tpm_wire.specs.declared.refusal.Refusal.{Refusal}
 use Rattle.tpm_wire.specs.Path.{Spells, Fault}
 use Rattle.tpm_commands.specs.declared.code.CommandCode.{CommandCode}
-use Rattle.tpm_commands.specs.declared.code.CommandCode.TheVariants as codes
 use Rattle.tpm_commands.specs.declared.command.Command.{Command}
 use Rattle.tpm_commands.specs.declared.command.CommandBody.{CommandBody}
 use Rattle.tpm_commands.specs.declared.command.CommandBody.TheVariants as bodies
@@ -11,6 +10,7 @@ use Rattle.tpm_commands.specs.declared.response.ReplyBody.{ReplyBody}
 use Rattle.tpm_commands.specs.declared.response.ReplyBody.TheVariants as replies
 use Rattle.tpm_commands.specs.declared.response.Response.{Response}
 use Rattle.tpm_commands.specs.declared.response.Response.TheVariants as responses
+use Rattle.tpm_commands.specs.Table.{row}
 use Rattle.tpm_commands.specs.Parameters.{parameters}
 use Rattle.tpm_buffer.specs.Commands.{command, code_for, params_of}
 use Rattle.tpm_buffer.specs.CommandAreas.{Cut, HasCut}
@@ -20,63 +20,10 @@ use Rattle.tpm_buffer.specs.Responses.{ReplyCut, reply_cut, response}
 use Rattle.tpm_text.specs.declared.status.Status.{Status}
 use Rattle.tpm_text.specs.declared.status.Status.TheVariants.{Done, Refused}
 use Rattle.tpm_text.specs.Text.{lines_from, bytes_in, command_text, parameters_line, refusal_line}
-use Rattle.tpm_show.specs.FieldText.{Field, named, parts, fields_from}
+use Rattle.tpm_show.specs.FieldText.{parts, fields_from}
 use Rattle.tpm_show.specs.Parts.{public_parts, selection_parts, digest_parts, digest_value_parts, symmetric_parts}
 use Rattle.tpm_show.specs.Show.{ShowsDecoded}
 use Rattle.tpm_show.specs.ReplyText.{reply_line, reply_handle_line, reply_session_line, reply_code_line}
-
--- ---- the parameters by their names and their types (Part 3, the command table and the response table of each command), where a
--- plus behind a type, as of TPMT_SYM_DEF+, is no part of its name
-
-abbrev pub command_names : CommandCode → List Field
-command_names codes.NvUndefineSpace = []
-command_names codes.NvDefineSpace = named (text "auth") (text "TPM2B_AUTH") ∷ named (text "publicInfo") (text "TPM2B_NV_PUBLIC") ∷ []
-command_names codes.NvIncrement = []
-command_names codes.PcrEvent = named (text "eventData") (text "TPM2B_EVENT") ∷ []
-command_names codes.PcrReset = []
-command_names codes.Startup = named (text "startupType") (text "TPM_SU") ∷ []
-command_names codes.NvRead = named (text "size") (text "UINT16") ∷ named (text "offset") (text "UINT16") ∷ []
-command_names codes.FlushContext = named (text "flushHandle") (text "TPMI_DH_CONTEXT") ∷ []
-command_names codes.NvReadPublic = []
-command_names codes.PolicyAuthValue = []
-command_names codes.PolicyCommandCode = named (text "code") (text "TPM_CC") ∷ []
-command_names codes.PolicyOr = named (text "pHashList") (text "TPML_DIGEST") ∷ []
-command_names codes.StartAuthSession =
-    named (text "nonceCaller") (text "TPM2B_NONCE") ∷
-    named (text "encryptedSalt") (text "TPM2B_ENCRYPTED_SECRET") ∷
-    named (text "sessionType") (text "TPM_SE") ∷
-    named (text "symmetric") (text "TPMT_SYM_DEF") ∷
-    named (text "authHash") (text "TPMI_ALG_HASH") ∷
-    []
-command_names codes.PcrRead = named (text "pcrSelectionIn") (text "TPML_PCR_SELECTION") ∷ []
-command_names codes.PolicyPcr = named (text "pcrDigest") (text "TPM2B_DIGEST") ∷ named (text "pcrs") (text "TPML_PCR_SELECTION") ∷ []
-command_names codes.PolicyRestart = []
-command_names codes.PcrExtend = named (text "digests") (text "TPML_DIGEST_VALUES") ∷ []
-command_names codes.PolicyGetDigest = []
-
-abbrev pub reply_names : CommandCode → List Field
-reply_names codes.NvUndefineSpace = []
-reply_names codes.NvDefineSpace = []
-reply_names codes.NvIncrement = []
-reply_names codes.PcrEvent = named (text "digests") (text "TPML_DIGEST_VALUES") ∷ []
-reply_names codes.PcrReset = []
-reply_names codes.Startup = []
-reply_names codes.NvRead = named (text "data") (text "TPM2B_MAX_NV_BUFFER") ∷ []
-reply_names codes.FlushContext = []
-reply_names codes.NvReadPublic = named (text "nvPublic") (text "TPM2B_NV_PUBLIC") ∷ named (text "nvName") (text "TPM2B_NAME") ∷ []
-reply_names codes.PolicyAuthValue = []
-reply_names codes.PolicyCommandCode = []
-reply_names codes.PolicyOr = []
-reply_names codes.StartAuthSession = named (text "nonceTPM") (text "TPM2B_NONCE") ∷ []
-reply_names codes.PcrRead =
-    named (text "pcrUpdateCounter") (text "UINT32") ∷
-    named (text "pcrSelectionOut") (text "TPML_PCR_SELECTION") ∷
-    named (text "pcrValues") (text "TPML_DIGEST") ∷
-    []
-reply_names codes.PolicyPcr = []
-reply_names codes.PolicyRestart = []
-reply_names codes.PcrExtend = []
-reply_names codes.PolicyGetDigest = named (text "policyDigest") (text "TPM2B_DIGEST") ∷ []
 
 -- ---- what stands in them
 
@@ -101,11 +48,11 @@ reply_insides json _ = []
 
 -- a line or an object for each parameter of a command, with its parts
 abbrev pub command_fields : (json : Bool) → CommandBody → List ℕ
-command_fields json body = fields_from json (text "  ") 1 (command_names (code_for body)) (parts (parameters (code_for body)) (params_of body)) (command_insides json body)
+command_fields json body = fields_from json (text "  ") 1 (row (code_for body)).parameter_names (parts (parameters (code_for body)) (params_of body)) (command_insides json body)
 
 -- a line or an object for each parameter of a reply, with its parts
 abbrev pub reply_fields : (json : Bool) → ReplyBody → List ℕ
-reply_fields json body = fields_from json (text "  ") 1 (reply_names (code_for_reply body)) (parts (parameters_of_reply body) body) (reply_insides json body)
+reply_fields json body = fields_from json (text "  ") 1 (row (code_for_reply body)).reply_names (parts (parameters_of_reply body) body) (reply_insides json body)
 
 -- ---- the text
 

@@ -1,5 +1,5 @@
 -- The commands of context management (Part 3, 28).
-use Rattle.std.specs.Prelude.{ℕ, [], false, codes}
+use Rattle.std.specs.Prelude.{ℕ, [], ◌∷◌, false, codes}
 use Rattle.tpm_wire.specs.Buffers.{Layout, numbered}
 use Rattle.tpm_wire.specs.ResponseCodes.{of_parameter}
 use Rattle.tpm_wire.specs.Layout.Form.{done, field}
@@ -7,7 +7,7 @@ use Rattle.tpm_types.specs.Handles.{session}
 use Rattle.tpm_commands.specs.declared.command_parameters.Params.{Params}
 use Rattle.tpm_commands.specs.declared.command_parameters.Params.TheVariants as params
 use Rattle.tpm_commands.specs.declared.response.ReplyBody.TheVariants as replies
-use Rattle.tpm_commands.specs.Row.{Row}
+use Rattle.tpm_commands.specs.Row.{Row, named}
 
 -- ---- TPM2_FlushContext (28.4), whose handle is a parameter
 
@@ -21,4 +21,4 @@ flush_context =
     done (params.FlushContext handle))
 
 abbrev pub flush_context_row : Row
-flush_context_row = record { number = 0x165; name = codes "FlushContext"; handles = []; authorized = false; parameters = flush_context; reply = λ hs. done replies.FlushContext }
+flush_context_row = record { number = 0x165; name = codes "FlushContext"; handles = []; authorized = false; parameters = flush_context; reply = λ hs. done replies.FlushContext; parameter_names = named (codes "flushHandle") (codes "TPMI_DH_CONTEXT") ∷ []; reply_names = [] }

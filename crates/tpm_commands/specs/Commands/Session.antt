@@ -20,7 +20,7 @@ use Rattle.tpm_commands.specs.declared.command_parameters.Params.{Params}
 use Rattle.tpm_commands.specs.declared.command_parameters.Params.TheVariants as params
 use Rattle.tpm_commands.specs.declared.response.ReplyBody.{ReplyBody}
 use Rattle.tpm_commands.specs.declared.response.ReplyBody.TheVariants as replies
-use Rattle.tpm_commands.specs.Row.{Row, first}
+use Rattle.tpm_commands.specs.Row.{Row, Field, named, first}
 
 -- ---- TPM2_StartAuthSession (11.1)
 
@@ -66,10 +66,15 @@ start_auth_session_reply hs =
     field nonce_tpm_of (numbered (of_parameter 1) nonce) (λ nonce_tpm.
     done (replies.StartAuthSession (record { session = session_in (first hs); nonce_tpm = nonce_tpm })))
 
+abbrev pub start_auth_session_names : List Field
+start_auth_session_names =
+    named (codes "nonceCaller") (codes "TPM2B_NONCE") ∷ named (codes "encryptedSalt") (codes "TPM2B_ENCRYPTED_SECRET") ∷ named (codes "sessionType") (codes "TPM_SE")
+    ∷ named (codes "symmetric") (codes "TPMT_SYM_DEF") ∷ named (codes "authHash") (codes "TPMI_ALG_HASH") ∷ []
+
 abbrev pub start_auth_session_row : Row
-start_auth_session_row = record { number = 0x176; name = codes "StartAuthSession"; handles = Null ∷ OwnerOrNull ∷ []; authorized = false; parameters = start_auth_session; reply = λ hs. start_auth_session_reply hs }
+start_auth_session_row = record { number = 0x176; name = codes "StartAuthSession"; handles = Null ∷ OwnerOrNull ∷ []; authorized = false; parameters = start_auth_session; reply = λ hs. start_auth_session_reply hs; parameter_names = start_auth_session_names; reply_names = named (codes "nonceTPM") (codes "TPM2B_NONCE") ∷ [] }
 
 -- ---- TPM2_PolicyRestart (11.2)
 
 abbrev pub policy_restart_row : Row
-policy_restart_row = record { number = 0x180; name = codes "PolicyRestart"; handles = Policy ∷ []; authorized = false; parameters = done params.PolicyRestart; reply = λ hs. done replies.PolicyRestart }
+policy_restart_row = record { number = 0x180; name = codes "PolicyRestart"; handles = Policy ∷ []; authorized = false; parameters = done params.PolicyRestart; reply = λ hs. done replies.PolicyRestart; parameter_names = []; reply_names = [] }

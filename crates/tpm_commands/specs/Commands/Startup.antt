@@ -1,5 +1,5 @@
 -- The commands of start-up (Part 3, 9).
-use Rattle.std.specs.Prelude.{[], false, codes}
+use Rattle.std.specs.Prelude.{[], ◌∷◌, false, codes}
 use Rattle.tpm_wire.specs.Buffers.{Layout, numbered}
 use Rattle.tpm_wire.specs.ResponseCodes.{of_parameter}
 use Rattle.tpm_wire.specs.Layout.Form.{done, field}
@@ -9,7 +9,7 @@ use Rattle.tpm_types.specs.Constants.{startup_type}
 use Rattle.tpm_commands.specs.declared.command_parameters.Params.{Params}
 use Rattle.tpm_commands.specs.declared.command_parameters.Params.TheVariants as params
 use Rattle.tpm_commands.specs.declared.response.ReplyBody.TheVariants as replies
-use Rattle.tpm_commands.specs.Row.{Row}
+use Rattle.tpm_commands.specs.Row.{Row, named}
 
 -- ---- TPM2_Startup (9.3)
 
@@ -23,4 +23,4 @@ startup =
     done (params.Startup kind))
 
 abbrev pub startup_row : Row
-startup_row = record { number = 0x144; name = codes "Startup"; handles = []; authorized = false; parameters = startup; reply = λ hs. done replies.Startup }
+startup_row = record { number = 0x144; name = codes "Startup"; handles = []; authorized = false; parameters = startup; reply = λ hs. done replies.Startup; parameter_names = named (codes "startupType") (codes "TPM_SU") ∷ []; reply_names = [] }

@@ -1,6 +1,6 @@
 use Rattle.std.proofs.Common.{append_assoc}
 use Rattle.std.proofs.lemmas.List.{append-nil}
-use Rattle.tpm_commands.specs.Parameters.{startup, nv_define_space, flush_context, policy_or, start_auth_session, pcr_read, policy_pcr, pcr_extend}
+use Rattle.tpm_commands.specs.Parameters.{startup, nv_define_space, nv_read, flush_context, policy_or, start_auth_session, pcr_read, policy_pcr, pcr_extend}
 use Rattle.tpm_show.proofs.fields.push_command_fields.Goals as goal
 
 pub returns-in_ok-push_field-in-NvDefineSpace : goal.returns-in_ok-push_field-in-NvDefineSpace
@@ -12,6 +12,12 @@ returns-in_ok-push_field-in-NvDefineSpace c =
 pub returns-in-Startup : goal.returns-in-Startup
 unfolding startup
 returns-in-Startup c = rw c.in-Startup.is (simp append-nil c.push_field-in-Startup.ensures)
+
+pub returns-in_ok-push_field-in-NvRead : goal.returns-in_ok-push_field-in-NvRead
+unfolding nv_read
+returns-in_ok-push_field-in-NvRead c =
+    let written = simp (c.in_ok-push_field-in-NvRead.ensures, append_assoc) at c.push_field-in-NvRead-2.ensures in
+    rw c.in-NvRead.is (simp append-nil written)
 
 pub returns-in-FlushContext : goal.returns-in-FlushContext
 unfolding flush_context
