@@ -4,3 +4,4 @@ pub mod Filling
 pub mod Differences
 pub mod KdfaBlocks
 pub mod Kept
+pub mod Joined

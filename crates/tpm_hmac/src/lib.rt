@@ -11,7 +11,7 @@ mod mac;
 mod session;
 
 pub use bytes::{same, trim};
-pub use hashing::hash;
+pub use hashing::{extend, hash};
 pub use kdf::kdfa;
 pub use key::SessionKey;
 pub use laws::{lengths, trimmed};

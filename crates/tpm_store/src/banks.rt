@@ -9,7 +9,6 @@ ghost use Rattle.tpm_model.specs.Registers.{start_value, Change};
 ghost use Rattle.tpm_model.specs.Registers.Change.{Extend};
 ghost use Rattle.tpm_store.specs.Banks.{registers, all_bytes, place_of, value_at, with_value, with_values, filled_but_last, Holds, changed};
 
-use tpm_hmac::hash;
 use tpm_types::{Alg, DIGEST_BYTES, DigestValues, REGISTERS};
 
 /// How many bytes the registers of all banks have.
@@ -89,10 +88,11 @@ pub(crate) fn start(bytes: &mut [u8; BANKS_BYTES])
 fn extend_one(bytes: &mut [u8], alg: Alg, register: u32, digest: &[u8])
     requires bytes { length bytes.old ≡ all_bytes }
     requires register { register < registers }
+    requires digest { length digest.now ≡ digest_len alg }
     ensures { Holds bytes.new (with_value alg register (digest_of alg (value_at bytes.old alg register ++ digest.now)) (value_at bytes.old)) }
 {
-    let extended = hash(alg, &[value(bytes, alg, register), digest]);
-    write(bytes, alg, register, extended.as_slice());
+    let at = place(alg, register);
+    tpm_hmac::extend(alg, &mut bytes[at..at + alg.digest_len()], digest);
 }
 
 /// Extends a register with each of the digests, in their order, in the bank of the digest's hash.

@@ -1,4 +1,4 @@
-use Rattle.std.proofs.Common.{◌≡◌, length, ◌∙◌, arith, refl}
+use Rattle.std.proofs.Common.{◌∙◌, arith, refl}
 use Rattle.tpm_types.proofs.Algs.{bank_at}
 use Rattle.tpm_store.specs.Banks.{filled_but_last}
 use Rattle.tpm_store.proofs.Values.{first_none, first_more, first_all}
