@@ -3,14 +3,4 @@
 #![tactic(auto)]
 
 #[cfg(test)]
-mod checks;
-#[cfg(test)]
-mod numbers;
-#[cfg(test)]
-mod rows;
-#[cfg(test)]
-mod sources;
-#[cfg(test)]
-mod values;
-#[cfg(test)]
-mod wire;
+mod tests;

@@ -1,6 +1,6 @@
 //! Values that are made, and what they answer.
 
-use crate::checks::{bytes_of, goes_both_ways, is_spelled};
+use crate::tests::checks::{bytes_of, goes_both_ways, is_spelled};
 use std::process::Abort;
 use std::test::*;
 use tpm_types::{

@@ -5,8 +5,8 @@ use arrayvec::ArrayVec;
 use std::process::Abort;
 use std::test::*;
 use tpm_types::{
-    Alg, Digest, Digests, HashedDigest, Name, NvAttrs, OrDigests, PcrIndex, SessionAttrs,
-    StartupType,
+    Alg, BindHandle, Digest, Digests, HashedDigest, Name, NvAttrs, NvAuthHandle, OrDigests,
+    PcrIndex, PcrOrNull, SessionAttrs, StartupType,
 };
 use tpm_wire::Counted;
 use tpm_wire::response_code::{of_handle, of_parameter, of_session};
@@ -34,6 +34,9 @@ fn asked(word: &str, number: u32) -> Option<u64> {
         "nv" => Some(bits(&nv_queries(NvAttrs::from_number(number)?))),
         "written" => Some(NvAttrs::from_number(number)?.with_written().number() as u64),
         "pcr" => Some(PcrIndex::from_number(number)?.number() as u64),
+        "pcr-or-null" => Some(PcrOrNull::from_number(number)?.number() as u64),
+        "nv-auth" => Some(NvAuthHandle::from_number(number)?.number() as u64),
+        "bind" => Some(BindHandle::from_number(number)?.number() as u64),
         _ => asked_short(word, u16::try_from(number).ok()?),
     }
 }
@@ -163,6 +166,28 @@ fn numbers_and_sizes_of_hashes_and_numbers_of_others(rt: HostRuntime) {
         startup 0001 0001
         pcr 17 17
         pcr 18 -
+        ",
+    );
+}
+
+#[test]
+fn handles_of_one_kind_or_another(rt: HostRuntime) {
+    answers(
+        &rt,
+        "
+        pcr-or-null 00000010 10
+        pcr-or-null 40000007 40000007
+        pcr-or-null 00000018 -
+        pcr-or-null 40000001 -
+        nv-auth 40000001 40000001
+        nv-auth 01800001 1800001
+        nv-auth 4000000c -
+        nv-auth 40000007 -
+        nv-auth 02000000 -
+        bind 40000001 40000001
+        bind 40000007 40000007
+        bind 01800001 -
+        bind 40000009 -
         ",
     );
 }

@@ -8,15 +8,7 @@ use tpm_wire::{
 
 /// The bytes of hexadecimal words, one behind the other.
 pub fn bytes_of(rt: &impl Abort, text: &str) -> Buffer {
-    let mut all = Buffer::new();
-    for word in text.split_ascii_whitespace() {
-        let mut room = [0; 256];
-        assert!(rt; word.len() <= 512);
-        let bytes = &mut room[..word.len() / 2];
-        assert!(rt; hex::decode_to_slice(word, bytes).is_ok(), "{word}");
-        let _ = all.try_extend_from_slice(bytes);
-    }
-    all
+    tpm_testing::bytes(text).expect(rt, text)
 }
 
 /// These bytes are a value, all of them, whose spelling they are, and the laws hold of its type.
@@ -72,19 +64,16 @@ fn refuses<T: Wire + Drop>(rt: &impl Abort, bytes: &[u8], code: u32, at: u32) {
     assert!(rt; faults == expected, "{bytes:?}");
 }
 
-/// Each line is a row. In `BYTES = PLACES` the bytes are a value, and each beginning of them is too short, at the place that
-/// stands for its length: one byte a place, or none where the beginnings are not tried. In `BYTES ! CODE PLACE` the bytes are
-/// refused with this code of two bytes at this place of one byte. A line that begins with `#` says what the next is about.
-pub fn rows<T: Wire + Drop>(rt: &impl Abort, lines: &str) {
-    for line in lines.lines() {
-        if let Some((bytes, refusal)) = line.split_once('!') {
-            is_refused::<T>(rt, bytes, refusal);
-        } else if let Some((bytes, places)) = line.split_once('=') {
-            is_taken::<T>(rt, bytes, places);
-        } else {
-            let line = line.trim();
-            assert!(rt; line.is_empty() || line.starts_with('#'), "{line}");
-        }
+/// In `BYTES taken PLACES` the bytes are a value, and each beginning of them is too short, at the place that stands for its length: one
+/// byte a place, or none where the beginnings are not tried. In `BYTES refused CODE PLACE` they have a fault with this code of two bytes
+/// at this place of one byte.
+pub fn row<T: Wire + Drop>(rt: &impl Abort, line: &str) {
+    if let Some((bytes, refusal)) = line.split_once(" refused ") {
+        is_refused::<T>(rt, bytes, refusal);
+    } else if let Some((bytes, places)) = line.split_once(" taken") {
+        is_taken::<T>(rt, bytes, places);
+    } else {
+        panic!(rt; "{line}");
     }
 }
 
