@@ -3,12 +3,4 @@
 #![tactic(auto)]
 
 #[cfg(test)]
-mod both_ends;
-#[cfg(test)]
-mod commands;
-#[cfg(test)]
-mod replies;
-#[cfg(test)]
-mod sessions;
-#[cfg(test)]
-mod tpm;
+mod tests;

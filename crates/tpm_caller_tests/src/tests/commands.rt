@@ -1,6 +1,6 @@
 //! What is sealed.
 
-use crate::sessions::{bound, bound_by_sha1, bytes, nonce, unbound};
+use crate::tests::sessions::{bound, bound_by_sha1, bytes, nonce, unbound};
 use arrayvec::ArrayVec;
 use std::process::Abort;
 use std::test::*;

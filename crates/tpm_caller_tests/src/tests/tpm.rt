@@ -1,6 +1,6 @@
 //! A device with which callers have sessions.
 
-use crate::sessions::{OWNER, bytes, nonce};
+use crate::tests::sessions::{OWNER, bytes, nonce};
 use arrayvec::ArrayVec;
 use std::process::Abort;
 use std::test::*;

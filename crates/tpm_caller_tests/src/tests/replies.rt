@@ -1,7 +1,7 @@
 //! What is opened, and what is given up.
 
-use crate::commands::{EXTEND, FIRST, SECOND, extend, reset};
-use crate::sessions::{bound, bytes, nonce};
+use crate::tests::commands::{EXTEND, FIRST, SECOND, extend, reset};
+use crate::tests::sessions::{bound, bytes, nonce};
 use std::process::Abort;
 use std::test::*;
 use tpm_buffer::{ReplyBody, Response};

@@ -1,12 +1,12 @@
 //! A device and its callers in one process: which buffers are accepted, and which replies are opened.
 
-use crate::commands::{
+use crate::tests::commands::{
     COUNTED_NAME, COUNTER, COUNTER_NAME, FIRST, SECOND, WRITTEN_NAME, define, event, extend,
     increment, reset,
 };
-use crate::replies::{fault, given_up, kept, opened};
-use crate::sessions::{OWNER, bytes, nonce};
-use crate::tpm::{FLUSH, ONCE, TWICE, Tpm};
+use crate::tests::replies::{fault, given_up, kept, opened};
+use crate::tests::sessions::{OWNER, bytes, nonce};
+use crate::tests::tpm::{FLUSH, ONCE, TWICE, Tpm};
 use std::process::Abort;
 use std::test::*;
 use tpm_caller::{Caller, CallerFault, Waiting};
@@ -35,6 +35,11 @@ fn refused(rt: &impl Abort, tpm: &mut Tpm, waiting: Waiting, code: u32) -> Calle
     given_up(rt, waiting, refusal.as_slice(), code)
 }
 
+// An extend of register 0 in a session of its own, with this nonce.
+fn extends(rt: &impl Abort, tpm: &mut Tpm, bind: BindHandle, by: &str) -> Waiting {
+    extend(rt, tpm.session(rt, bind), 0, nonce(rt, by))
+}
+
 // The Waiting of a reply to another command.
 fn mixed(rt: &impl Abort, waiting: Waiting, reply: &[u8]) -> Waiting {
     let (waiting, fault) = fault(rt, waiting, reply);
@@ -45,12 +50,7 @@ fn mixed(rt: &impl Abort, waiting: Waiting, reply: &[u8]) -> Waiting {
 #[test]
 fn a_buffer_is_accepted_once(rt: HostRuntime) {
     let mut tpm = Tpm::started(&rt);
-    let first = extend(
-        &rt,
-        tpm.session(&rt, BindHandle::Null),
-        0,
-        nonce(&rt, FIRST),
-    );
+    let first = extends(&rt, &mut tpm, BindHandle::Null, FIRST);
     let reply = tpm.answer(first.bytes());
     let again = tpm.answer(first.bytes());
     tpm.reads(&rt, ONCE);
@@ -135,18 +135,8 @@ fn a_wrong_value_is_counted_without_no_da(rt: HostRuntime) {
 #[test]
 fn buffers_of_two_sessions_are_accepted_once_each(rt: HostRuntime) {
     let mut tpm = Tpm::started(&rt);
-    let a = extend(
-        &rt,
-        tpm.session(&rt, BindHandle::Owner),
-        0,
-        nonce(&rt, FIRST),
-    );
-    let b = extend(
-        &rt,
-        tpm.session(&rt, BindHandle::Owner),
-        0,
-        nonce(&rt, SECOND),
-    );
+    let a = extends(&rt, &mut tpm, BindHandle::Owner, FIRST);
+    let b = extends(&rt, &mut tpm, BindHandle::Owner, SECOND);
     let reply = tpm.answer(a.bytes());
     tpm.has_code(&rt, b.bytes(), 0);
     tpm.has_code(&rt, a.bytes(), 0x9A2);
@@ -159,20 +149,10 @@ fn buffers_of_two_sessions_are_accepted_once_each(rt: HostRuntime) {
 #[test]
 fn a_lost_reply_is_not_replaced(rt: HostRuntime) {
     let mut tpm = Tpm::started(&rt);
-    let a = extend(
-        &rt,
-        tpm.session(&rt, BindHandle::Owner),
-        0,
-        nonce(&rt, FIRST),
-    );
+    let a = extends(&rt, &mut tpm, BindHandle::Owner, FIRST);
     let _lost = tpm.answer(a.bytes());
     tpm.answers(&rt, FLUSH, "80010000000a00000000");
-    let b = extend(
-        &rt,
-        tpm.session(&rt, BindHandle::Owner),
-        0,
-        nonce(&rt, SECOND),
-    );
+    let b = extends(&rt, &mut tpm, BindHandle::Owner, SECOND);
     tpm.has_code(&rt, a.bytes(), 0x9A2);
     let reply = tpm.answer(b.bytes());
     mixed(&rt, a, reply.as_slice());

@@ -12,13 +12,7 @@ pub const OWNER: &[u8] = b"owner\0";
 
 /// Bytes in hexadecimal, at most 128.
 pub fn bytes(rt: &impl Abort, text: &str) -> Buffer {
-    let mut room = [0; 128];
-    let len = text.len() / 2;
-    assert!(rt; len <= room.len());
-    assert!(rt; hex::decode_to_slice(text, &mut room[..len]).is_ok());
-    let mut all = Buffer::new();
-    assert!(rt; all.try_extend_from_slice(&room[..len]).is_ok());
-    all
+    tpm_testing::bytes(text).expect(rt, text)
 }
 
 /// A nonce in hexadecimal.

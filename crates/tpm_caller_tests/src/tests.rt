@@ -1,0 +1,7 @@
+//! Callers alone, and with a device.
+
+mod both_ends;
+mod commands;
+mod replies;
+mod sessions;
+mod tpm;
