@@ -60,7 +60,6 @@ fn put_bare_passed(out: &mut Buffer)
 
 // That with this session.
 #[tactic(auto, unfolding(tpm_buffer::specs::Responses::response, tpm_buffer::specs::Responses::response_front, tpm_buffer::specs::Responses::response_tag, tpm_buffer::specs::Responses::response_code, tpm_buffer::specs::Commands::command_size, tpm_buffer::specs::Responses::with_sessions, tpm_buffer::specs::Responses::parameter_size, tpm_buffer::specs::Responses::reply_sessions, tpm_buffer::specs::Responses::further_sessions))]
-#[inline(never)]
 fn put_bare_sealed(session: &AuthReply, out: &mut Buffer)
     requires { length out.old.items ≡ 0 }
     ensures { out.new.items ≡ reply_bytes (record { body = any_bare; auths = session.now ∷ [] }) }
@@ -144,6 +143,24 @@ impl Device {
         }
     }
 
+    // Adds the reply without parameters to a command that a session authorized. It is out of line, since it makes that of the reply.
+    #[inline(never)]
+    fn put_bare_signed(
+        &self,
+        auth: &AuthRef<'_>,
+        areas: &Areas<'_>,
+        nonce: &[u8; 64],
+        out: &mut Buffer,
+    )
+        requires empty { length out.old.items ≡ 0 }
+        ensures bytes { (p : Present) (e : Evidence) (others : List Auth) → IsAlike p self.now (first_of areas.now.handles) → areas.now.auths ≡ auth.now ∷ others →
+            evidence_for p areas.now ≡ Ok e → out.new.items ≡ reply_bytes (record { body = any_bare; auths = reply_auths e areas.now.header.code [] nonce.now }) }
+        ensures done { code_in out.new.items ≡ 0 }
+    {
+        let session = self.reply_session(auth, areas, &[], nonce);
+        put_bare_sealed(&session, out);
+    }
+
     /// As `put_done`, for a reply without parameters. Nothing is made of its body.
     pub(crate) fn put_bare(
         &self,
@@ -164,8 +181,7 @@ impl Device {
                 if auth.session().number() == RS_PW {
                     put_bare_passed(out);
                 } else {
-                    let session = self.reply_session(auth, areas, &[], nonce);
-                    put_bare_sealed(&session, out);
+                    self.put_bare_signed(auth, areas, nonce, out);
                 }
             }
         }

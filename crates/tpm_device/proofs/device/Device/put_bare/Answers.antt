@@ -23,7 +23,7 @@ pub returns-then-number-eq-RS_PW-clause-done : goal.returns-then-number-eq-RS_PW
 returns-then-number-eq-RS_PW-clause-done c = ap code_in c.put_bare_passed.ensures ∙ reply_is_done any_bare _
 
 pub returns-else-number-eq-RS_PW-clause-done : goal.returns-else-number-eq-RS_PW-clause-done
-returns-else-number-eq-RS_PW-clause-done c = ap code_in c.put_bare_sealed.ensures ∙ reply_is_done any_bare _
+returns-else-number-eq-RS_PW-clause-done c = c.put_bare_signed.ensures.done
 
 pub returns-then-number-eq-RS_PW-clause-bytes : goal.returns-then-number-eq-RS_PW-clause-bytes
 returns-then-number-eq-RS_PW-clause-bytes c = λ body bare p e alike gives.
@@ -37,6 +37,5 @@ pub returns-else-number-eq-RS_PW-clause-bytes : goal.returns-else-number-eq-RS_P
 returns-else-number-eq-RS_PW-clause-bytes c = λ body bare p e alike gives.
     let a = c.in-Some.auth in
     let split = first_auth c.args.areas.now.auths a (sym c.in-Some.is ∙ c.requires.own) in
-    c.put_bare_sealed.ensures ∙ bare_bytes body _ bare ∙ ap (λ (auths : List AuthReply). reply_bytes (record { body = body; auths = auths }))
-    (sym (ap (λ (params : List ℕ). reply_auths e c.args.areas.now.header.code params c.args.nonce.now) (sym (bare_params body bare))
-    ∙ c.reply_session-session.ensures p e split.0 (alike a split.0 split.1) split.1 gives))
+    c.put_bare_signed.ensures.bytes p e split.0 (alike a split.0 split.1) split.1 gives ∙ bare_bytes body _ bare
+    ∙ ap (λ (params : List ℕ). reply_bytes (record { body = body; auths = reply_auths e c.args.areas.now.header.code params c.args.nonce.now })) (bare_params body bare)
