@@ -3,20 +3,4 @@
 #![tactic(auto)]
 
 #[cfg(test)]
-mod authorize;
-#[cfg(test)]
-mod calls;
-#[cfg(test)]
-mod hashes;
-#[cfg(test)]
-mod macs;
-#[cfg(test)]
-mod policies;
-#[cfg(test)]
-mod scripts;
-#[cfg(test)]
-mod sessions;
-#[cfg(test)]
-mod stores;
-#[cfg(test)]
-mod texts;
+mod tests;

@@ -1,13 +1,14 @@
 //! Which sessions authorize a command, and what they add to its reply. The expected MACs are those of Python's hmac module over the
 //! texts of Part 1, "HMAC Computation". A script's line is told in `scripts`.
 
-use crate::calls::{OWNER, session};
-use crate::scripts::{Bench, run};
-use crate::texts::{bytes, number, word};
+use crate::tests::calls::{OWNER, session};
+use crate::tests::scripts::{Bench, run};
+use crate::tests::texts::{bytes, number};
 use std::process::Abort;
 use std::test::*;
 use tpm_buffer::{Areas, AuthRef, areas};
 use tpm_session::{Entity, NONCE_BYTES};
+use tpm_testing::word;
 use tpm_types::Name;
 
 // For the session of a reply: 40 to 4f, as long as the session's nonces, and zeros.

@@ -1,10 +1,11 @@
 //! Hashes, HMACs and derived keys. A line is a word and what it is about, in hexadecimal: `hash HASH MESSAGE DIGEST`,
 //! `hmac HASH KEY TEXT MAC`, `kdfa HASH KEY LABEL CONTEXT_U CONTEXT_V DERIVED`.
 
-use crate::texts::{alg, bytes, word};
+use crate::tests::texts::{alg, bytes};
 use std::process::Abort;
 use std::test::*;
 use tpm_hmac::{hash, hmac, kdfa, same, trim};
+use tpm_testing::word;
 use tpm_types::Alg;
 use tpm_wire::Buffer;
 

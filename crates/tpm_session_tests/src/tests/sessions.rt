@@ -1,7 +1,10 @@
 //! The slots of sessions, and what each of them is started with. A script's line is told in `scripts`.
 
-use crate::scripts::run;
+use crate::tests::calls::{FRESH, session, starts};
+use crate::tests::scripts::run;
+use crate::tests::texts::{bytes, number};
 use std::mem::size_of;
+use std::process::Abort;
 use std::test::*;
 use tpm_session::Sessions;
 
@@ -43,7 +46,7 @@ fn three_sessions_are_started_flushed_once_and_go_on_or_end(rt: HostRuntime) {
 }
 
 #[test]
-fn nonces_and_keys_that_sessions_are_started_with(rt: HostRuntime) {
+fn nonces_that_sessions_are_started_with(rt: HostRuntime) {
     run(
         &rt,
         "
@@ -56,31 +59,55 @@ fn nonces_and_keys_that_sessions_are_started_with(rt: HostRuntime) {
         command 0 8001 0000003b 00000176 40000007 40000007 0020 0000000000000000000000000000000000000000000000000000000000000000 0000 00 0010 000b
         new
         command 0 8001 0000004b 00000176 40000007 40000007 0030 000000000000000000000000000000000000000000000000000000000000000000000000000000000000000000000000 0000 00 0010 000c
-        # A bound session has a key of the trimmed value. The keys are those of Python's hmac module: KDFa of the owner's value, which
-        # the trailing zeros of the value are no part of.
-        new
-        started 02000000 8001 0000002b 00000176 40000007 40000001 0010 a0a1a2a3a4a5a6a7a8a9aaabacadaeaf 0000 00 0010 0004
-        started 02000001 8001 0000002b 00000176 40000007 40000007 0010 a0a1a2a3a4a5a6a7a8a9aaabacadaeaf 0000 00 0010 0004
-        key 02000000 0004 c6103ca8e8b8172b2019aa95b7019d8a2a2706e0
-        nonce 02000000 000102030405060708090a0b0c0d0e0f
-        key 02000001 0004 -
-        nonce 02000001 000102030405060708090a0b0c0d0e0f
-        new
-        started 02000000 8001 0000002b 00000176 40000007 40000001 0010 a0a1a2a3a4a5a6a7a8a9aaabacadaeaf 0000 00 0010 000b
-        started 02000001 8001 0000002b 00000176 40000007 40000007 0010 a0a1a2a3a4a5a6a7a8a9aaabacadaeaf 0000 00 0010 000b
-        key 02000000 000b d683350f651cf750805521c488f3158619d9f0c51477fc08c55f950486759120
-        nonce 02000000 000102030405060708090a0b0c0d0e0f
-        key 02000001 000b -
-        nonce 02000001 000102030405060708090a0b0c0d0e0f
-        new
-        started 02000000 8001 0000002b 00000176 40000007 40000001 0010 a0a1a2a3a4a5a6a7a8a9aaabacadaeaf 0000 00 0010 000c
-        started 02000001 8001 0000002b 00000176 40000007 40000007 0010 a0a1a2a3a4a5a6a7a8a9aaabacadaeaf 0000 00 0010 000c
-        key 02000000 000c b898a9e3754a084ba63c6b822e2fa9e986a82d8bcb3bf78ec74505edec0a0adb795f040a48760dca483b0255b5b6b637
-        nonce 02000000 000102030405060708090a0b0c0d0e0f
-        key 02000001 000c -
-        nonce 02000001 000102030405060708090a0b0c0d0e0f
         ",
     );
+}
+
+// A hash, and the key under it of a session that is bound to the owner. The keys are those of Python's hmac module: KDFa of the owner's
+// value, which the trailing zeros of the value are no part of.
+const KEYS: &str = "\
+0004 c6103ca8e8b8172b2019aa95b7019d8a2a2706e0
+000b d683350f651cf750805521c488f3158619d9f0c51477fc08c55f950486759120
+000c b898a9e3754a084ba63c6b822e2fa9e986a82d8bcb3bf78ec74505edec0a0adb795f040a48760dca483b0255b5b6b637";
+
+// Whether the session has this hash and key, and for its nonce the first bytes of what is handed in.
+fn has(rt: &impl Abort, sessions: &Sessions, handle: &str, hash: u32, key: &[u8]) -> bool {
+    match sessions.get(session(rt, handle)) {
+        Some(held) => {
+            held.hash().number() as u32 == hash && held.key() == key && held.nonce() == &FRESH[..16]
+        }
+        None => false,
+    }
+}
+
+// TPM2_StartAuthSession of an HMAC session that is bound to this entity, under this hash.
+fn start(rt: &impl Abort, sessions: &mut Sessions, bind: &str, hash: &str) -> bool {
+    let mut command = bytes(rt, "8001 0000002b 00000176 40000007");
+    let nonce = "0010 a0a1a2a3a4a5a6a7a8a9aaabacadaeaf 0000 00 0010";
+    for part in [bind, nonce, hash] {
+        assert!(rt;
+            command
+                .try_extend_from_slice(bytes(rt, part).as_slice())
+                .is_ok()
+        );
+    }
+    starts(sessions, command.as_slice())
+}
+
+#[test]
+fn bound_session_has_a_key_of_the_trimmed_value(rt: HostRuntime) {
+    for line in KEYS.lines() {
+        let (hash, key) = line.split_once(' ').expect(&rt, line);
+        let mut sessions = Sessions::new();
+        assert!(rt; start(&rt, &mut sessions, "40000001", hash), "{line}");
+        assert!(rt; start(&rt, &mut sessions, "40000007", hash), "{line}");
+        let (hash, key) = (number(&rt, hash), bytes(&rt, key));
+        assert!(rt;
+            has(&rt, &sessions, "02000000", hash, key.as_slice()),
+            "{line}"
+        );
+        assert!(rt; has(&rt, &sessions, "02000001", hash, &[]), "{line}");
+    }
 }
 
 // Three sessions, all of them in place.

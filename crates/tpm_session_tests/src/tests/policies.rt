@@ -1,7 +1,8 @@
 //! What policy sessions assert, and what they refuse. A script's line is told in `scripts`.
 
-use crate::scripts::run;
-use crate::texts::bytes;
+use crate::tests::calls::{answer, has_digest};
+use crate::tests::scripts::{Bench, run};
+use crate::tests::texts::bytes;
 use std::process::Abort;
 use std::test::*;
 use tpm_session::{Assertion, empty_policy, extend_policy};
@@ -63,82 +64,55 @@ fn a_digest_is_extended_without_a_session(rt: HostRuntime) {
     );
 }
 
+// TPM2_StartAuthSession of a policy session, and of a trial, by SHA-256.
+const POLICY: &str =
+    "command 0 8001 0000002b 00000176 40000007 40000007 0010 a0a1a2a3a4a5a6a7a8a9aaabacadaeaf 0000 01 0010 000b";
+
+const TRIAL: &str =
+    "command 0 8001 0000002b 00000176 40000007 40000007 0010 a0a1a2a3a4a5a6a7a8a9aaabacadaeaf 0000 03 0010 000b";
+
+// The commands of a policy, and the digest after them, as another implementation of the library gave it.
+const POLICIES: &str = "\
+8001 0000003a 0000017f 03000000 0020f5a5fd42d16a20302798ef6ed309979b43003d2320d9f0e8ea9831a92759fb4b00000001000b03000081 -> 599a9cca81c171e404e4afc462e7415ee799c498b00ff6edb68d07de1dc47a20
+8001 0000003a 0000017f 03000000 0020f5a5fd42d16a20302798ef6ed309979b43003d2320d9f0e8ea9831a92759fb4b00000001000b03000081, 8001 0000000e 00000180 03000000, 8001 0000003a 0000017f 03000000 0020f5a5fd42d16a20302798ef6ed309979b43003d2320d9f0e8ea9831a92759fb4b00000001000b03000081 -> 599a9cca81c171e404e4afc462e7415ee799c498b00ff6edb68d07de1dc47a20
+8001 0000003a 0000017f 03000000 0020f5a5fd42d16a20302798ef6ed309979b43003d2320d9f0e8ea9831a92759fb4b00000001000b03000081, 8001 0000000e 00000180 03000000, 8001 0000003a 0000017f 03000000 0020f5a5fd42d16a20302798ef6ed309979b43003d2320d9f0e8ea9831a92759fb4b00000001000b03000081, 8001 0000000e 00000180 03000000, 8001 0000003a 0000017f 03000000 0020f5a5fd42d16a20302798ef6ed309979b43003d2320d9f0e8ea9831a92759fb4b00000001000b03000081 -> 599a9cca81c171e404e4afc462e7415ee799c498b00ff6edb68d07de1dc47a20
+8001 0000000e 0000016b 03000000 -> 8fcd2169ab92694e0c633f1ab772842b8241bbc20288981fc7ac1eddc1fddb0e
+8001 00000012 0000016c 03000000 00000134 -> e8c02d3c5e701670cbaa327db1a2e9f3f41b2c22793e5c669a6e7f44b912f6c0
+8001 00000012 0000016c 03000000 00000134, 8001 00000056 00000171 03000000 0000000200208fcd2169ab92694e0c633f1ab772842b8241bbc20288981fc7ac1eddc1fddb0e0020e8c02d3c5e701670cbaa327db1a2e9f3f41b2c22793e5c669a6e7f44b912f6c0 -> cfd7952867f0335963f7c257f10de088258bdf1d89410ad3e0cf03583b0d9c3d";
+
+// A choice, which a trial asserts whatever its policy is.
+const CHOICE: &str =
+    "8001 00000056 00000171 03000000 0000000200208fcd2169ab92694e0c633f1ab772842b8241bbc20288981fc7ac1eddc1fddb0e0020e8c02d3c5e701670cbaa327db1a2e9f3f41b2c22793e5c669a6e7f44b912f6c0 -> cfd7952867f0335963f7c257f10de088258bdf1d89410ad3e0cf03583b0d9c3d";
+
+// What the line says comes of its commands behind this start.
+fn come_to(rt: &impl Abort, start: &str, line: &str) {
+    let (commands, expected) = line.split_once(" -> ").expect(rt, line);
+    let mut bench = Bench::new();
+    bench.goes_through(rt, start);
+    for command in commands.split(", ") {
+        assert!(rt;
+            answer(rt, &mut bench.sessions, &bench.registers, command) == 0,
+            "{line}"
+        );
+    }
+    assert!(rt; has_digest(rt, &bench.sessions, expected), "{line}");
+}
+
 #[test]
 fn policies_come_to_the_digests_of_another_implementation(rt: HostRuntime) {
+    for line in POLICIES.lines() {
+        come_to(&rt, POLICY, line);
+        come_to(&rt, TRIAL, line);
+    }
+    come_to(&rt, TRIAL, CHOICE);
+}
+
+#[test]
+fn an_authorized_command_ends_the_policy(rt: HostRuntime) {
     run(
         &rt,
         "
-        # In a trial: Policy commands in a trial, and the digest after them, as another implementation of the library gave
-        # it.
-        new
-        command 0 8001 0000002b 00000176 40000007 40000007 0010 a0a1a2a3a4a5a6a7a8a9aaabacadaeaf 0000 03 0010 000b
-        command 0 8001 0000003a 0000017f 03000000 0020f5a5fd42d16a20302798ef6ed309979b43003d2320d9f0e8ea9831a92759fb4b00000001000b03000081
-        digest 599a9cca81c171e404e4afc462e7415ee799c498b00ff6edb68d07de1dc47a20
-        new
-        command 0 8001 0000002b 00000176 40000007 40000007 0010 a0a1a2a3a4a5a6a7a8a9aaabacadaeaf 0000 03 0010 000b
-        command 0 8001 0000003a 0000017f 03000000 0020f5a5fd42d16a20302798ef6ed309979b43003d2320d9f0e8ea9831a92759fb4b00000001000b03000081
-        command 0 8001 0000000e 00000180 03000000
-        command 0 8001 0000003a 0000017f 03000000 0020f5a5fd42d16a20302798ef6ed309979b43003d2320d9f0e8ea9831a92759fb4b00000001000b03000081
-        digest 599a9cca81c171e404e4afc462e7415ee799c498b00ff6edb68d07de1dc47a20
-        new
-        command 0 8001 0000002b 00000176 40000007 40000007 0010 a0a1a2a3a4a5a6a7a8a9aaabacadaeaf 0000 03 0010 000b
-        command 0 8001 0000003a 0000017f 03000000 0020f5a5fd42d16a20302798ef6ed309979b43003d2320d9f0e8ea9831a92759fb4b00000001000b03000081
-        command 0 8001 0000000e 00000180 03000000
-        command 0 8001 0000003a 0000017f 03000000 0020f5a5fd42d16a20302798ef6ed309979b43003d2320d9f0e8ea9831a92759fb4b00000001000b03000081
-        command 0 8001 0000000e 00000180 03000000
-        command 0 8001 0000003a 0000017f 03000000 0020f5a5fd42d16a20302798ef6ed309979b43003d2320d9f0e8ea9831a92759fb4b00000001000b03000081
-        digest 599a9cca81c171e404e4afc462e7415ee799c498b00ff6edb68d07de1dc47a20
-        new
-        command 0 8001 0000002b 00000176 40000007 40000007 0010 a0a1a2a3a4a5a6a7a8a9aaabacadaeaf 0000 03 0010 000b
-        command 0 8001 0000000e 0000016b 03000000
-        digest 8fcd2169ab92694e0c633f1ab772842b8241bbc20288981fc7ac1eddc1fddb0e
-        new
-        command 0 8001 0000002b 00000176 40000007 40000007 0010 a0a1a2a3a4a5a6a7a8a9aaabacadaeaf 0000 03 0010 000b
-        command 0 8001 00000012 0000016c 03000000 00000134
-        digest e8c02d3c5e701670cbaa327db1a2e9f3f41b2c22793e5c669a6e7f44b912f6c0
-        new
-        command 0 8001 0000002b 00000176 40000007 40000007 0010 a0a1a2a3a4a5a6a7a8a9aaabacadaeaf 0000 03 0010 000b
-        command 0 8001 00000056 00000171 03000000 0000000200208fcd2169ab92694e0c633f1ab772842b8241bbc20288981fc7ac1eddc1fddb0e0020e8c02d3c5e701670cbaa327db1a2e9f3f41b2c22793e5c669a6e7f44b912f6c0
-        digest cfd7952867f0335963f7c257f10de088258bdf1d89410ad3e0cf03583b0d9c3d
-        new
-        command 0 8001 0000002b 00000176 40000007 40000007 0010 a0a1a2a3a4a5a6a7a8a9aaabacadaeaf 0000 03 0010 000b
-        command 0 8001 00000012 0000016c 03000000 00000134
-        command 0 8001 00000056 00000171 03000000 0000000200208fcd2169ab92694e0c633f1ab772842b8241bbc20288981fc7ac1eddc1fddb0e0020e8c02d3c5e701670cbaa327db1a2e9f3f41b2c22793e5c669a6e7f44b912f6c0
-        digest cfd7952867f0335963f7c257f10de088258bdf1d89410ad3e0cf03583b0d9c3d
-        # In a policy session: The same in a policy session, but for the one that asserts a choice that a policy session does
-        # not have.
-        new
-        command 0 8001 0000002b 00000176 40000007 40000007 0010 a0a1a2a3a4a5a6a7a8a9aaabacadaeaf 0000 01 0010 000b
-        command 0 8001 0000003a 0000017f 03000000 0020f5a5fd42d16a20302798ef6ed309979b43003d2320d9f0e8ea9831a92759fb4b00000001000b03000081
-        digest 599a9cca81c171e404e4afc462e7415ee799c498b00ff6edb68d07de1dc47a20
-        new
-        command 0 8001 0000002b 00000176 40000007 40000007 0010 a0a1a2a3a4a5a6a7a8a9aaabacadaeaf 0000 01 0010 000b
-        command 0 8001 0000003a 0000017f 03000000 0020f5a5fd42d16a20302798ef6ed309979b43003d2320d9f0e8ea9831a92759fb4b00000001000b03000081
-        command 0 8001 0000000e 00000180 03000000
-        command 0 8001 0000003a 0000017f 03000000 0020f5a5fd42d16a20302798ef6ed309979b43003d2320d9f0e8ea9831a92759fb4b00000001000b03000081
-        digest 599a9cca81c171e404e4afc462e7415ee799c498b00ff6edb68d07de1dc47a20
-        new
-        command 0 8001 0000002b 00000176 40000007 40000007 0010 a0a1a2a3a4a5a6a7a8a9aaabacadaeaf 0000 01 0010 000b
-        command 0 8001 0000003a 0000017f 03000000 0020f5a5fd42d16a20302798ef6ed309979b43003d2320d9f0e8ea9831a92759fb4b00000001000b03000081
-        command 0 8001 0000000e 00000180 03000000
-        command 0 8001 0000003a 0000017f 03000000 0020f5a5fd42d16a20302798ef6ed309979b43003d2320d9f0e8ea9831a92759fb4b00000001000b03000081
-        command 0 8001 0000000e 00000180 03000000
-        command 0 8001 0000003a 0000017f 03000000 0020f5a5fd42d16a20302798ef6ed309979b43003d2320d9f0e8ea9831a92759fb4b00000001000b03000081
-        digest 599a9cca81c171e404e4afc462e7415ee799c498b00ff6edb68d07de1dc47a20
-        new
-        command 0 8001 0000002b 00000176 40000007 40000007 0010 a0a1a2a3a4a5a6a7a8a9aaabacadaeaf 0000 01 0010 000b
-        command 0 8001 0000000e 0000016b 03000000
-        digest 8fcd2169ab92694e0c633f1ab772842b8241bbc20288981fc7ac1eddc1fddb0e
-        new
-        command 0 8001 0000002b 00000176 40000007 40000007 0010 a0a1a2a3a4a5a6a7a8a9aaabacadaeaf 0000 01 0010 000b
-        command 0 8001 00000012 0000016c 03000000 00000134
-        digest e8c02d3c5e701670cbaa327db1a2e9f3f41b2c22793e5c669a6e7f44b912f6c0
-        new
-        command 0 8001 0000002b 00000176 40000007 40000007 0010 a0a1a2a3a4a5a6a7a8a9aaabacadaeaf 0000 01 0010 000b
-        command 0 8001 00000012 0000016c 03000000 00000134
-        command 0 8001 00000056 00000171 03000000 0000000200208fcd2169ab92694e0c633f1ab772842b8241bbc20288981fc7ac1eddc1fddb0e0020e8c02d3c5e701670cbaa327db1a2e9f3f41b2c22793e5c669a6e7f44b912f6c0
-        digest cfd7952867f0335963f7c257f10de088258bdf1d89410ad3e0cf03583b0d9c3d
-        # An authorized command ends the policy. The first digest is that of Python's hashlib. The second is the one that is
+        # The first digest is that of Python's hashlib. The second is the one that is
         # recorded of the other implementation for these three commands. They can't give it by Part 3, 23.11, but the last of
         # them gives it on a policy that begins again.
         new
@@ -159,6 +133,25 @@ fn policies_come_to_the_digests_of_another_implementation(rt: HostRuntime) {
     );
 }
 
+// Another command code is refused. The same code may be set twice, and gives another digest each time: those of Python's hashlib.
+const CODES: &str = "
+    command 0 8001 00000012 0000016c 03000000 00000134
+    digest e8c02d3c5e701670cbaa327db1a2e9f3f41b2c22793e5c669a6e7f44b912f6c0
+    command 0 8001 00000012 0000016c 03000000 00000134
+    digest 569cbe1eec74df3ceac1fca774fc7fb50a95af60aea2fb06c835c5dd45fec337
+    command 1c4 8001 00000012 0000016c 03000000 00000135
+    digest 569cbe1eec74df3ceac1fca774fc7fb50a95af60aea2fb06c835c5dd45fec337
+";
+
+#[test]
+fn a_code_is_set_again_and_no_other(rt: HostRuntime) {
+    for start in [POLICY, TRIAL] {
+        let mut bench = Bench::new();
+        bench.goes_through(&rt, start);
+        bench.goes_through(&rt, CODES);
+    }
+}
+
 #[test]
 fn codes_and_choices_are_asserted_or_refused(rt: HostRuntime) {
     run(
@@ -176,24 +169,6 @@ fn codes_and_choices_are_asserted_or_refused(rt: HostRuntime) {
         command 910 8001 00000012 0000016c 03000000 00000134
         command 910 8001 00000056 00000171 03000000 00000002 0020 8fcd2169ab92694e0c633f1ab772842b8241bbc20288981fc7ac1eddc1fddb0e 0020 e8c02d3c5e701670cbaa327db1a2e9f3f41b2c22793e5c669a6e7f44b912f6c0
         command 910 8001 0000000e 0000016b 03000000
-        # Another command code is refused. The same code may be set twice, and gives another digest each time: those of
-        # Python's hashlib.
-        new
-        command 0 8001 0000002b 00000176 40000007 40000007 0010 a0a1a2a3a4a5a6a7a8a9aaabacadaeaf 0000 01 0010 000b
-        command 0 8001 00000012 0000016c 03000000 00000134
-        digest e8c02d3c5e701670cbaa327db1a2e9f3f41b2c22793e5c669a6e7f44b912f6c0
-        command 0 8001 00000012 0000016c 03000000 00000134
-        digest 569cbe1eec74df3ceac1fca774fc7fb50a95af60aea2fb06c835c5dd45fec337
-        command 1c4 8001 00000012 0000016c 03000000 00000135
-        digest 569cbe1eec74df3ceac1fca774fc7fb50a95af60aea2fb06c835c5dd45fec337
-        new
-        command 0 8001 0000002b 00000176 40000007 40000007 0010 a0a1a2a3a4a5a6a7a8a9aaabacadaeaf 0000 03 0010 000b
-        command 0 8001 00000012 0000016c 03000000 00000134
-        digest e8c02d3c5e701670cbaa327db1a2e9f3f41b2c22793e5c669a6e7f44b912f6c0
-        command 0 8001 00000012 0000016c 03000000 00000134
-        digest 569cbe1eec74df3ceac1fca774fc7fb50a95af60aea2fb06c835c5dd45fec337
-        command 1c4 8001 00000012 0000016c 03000000 00000135
-        digest 569cbe1eec74df3ceac1fca774fc7fb50a95af60aea2fb06c835c5dd45fec337
         # Any command code is set.
         new
         command 0 8001 0000002b 00000176 40000007 40000007 0010 a0a1a2a3a4a5a6a7a8a9aaabacadaeaf 0000 01 0010 000b

@@ -1,10 +1,11 @@
 //! The MACs of commands and responses between tpm2-tss 3.2.1 and libtpms 0.9.2, as they went between them.
 
-use crate::texts::{alg, bytes, number, word};
+use crate::tests::texts::{alg, bytes, number};
 use std::process::Abort;
 use std::test::*;
 use tpm_buffer::CommandCode;
 use tpm_hmac::{SessionKey, command_mac, cp_hash, response_mac, rp_hash};
+use tpm_testing::word;
 use tpm_types::{Alg, Digest, Name, SessionAttrs};
 
 // A command or a response a line: its hash, the session key, the authorization value, the code, the Names of the handles (two at

@@ -10,7 +10,7 @@
 //! - `kept HANDLE` and `ended HANDLE`: after a command that the session authorized, with continueSession and without. The next
 //!   nonce is made of zeros.
 //! - `loaded HANDLE` and `absent HANDLE`: whether there is such a session.
-//! - `key HANDLE HASH BYTES` and `nonce HANDLE BYTES`: what the session has.
+//! - `nonce HANDLE BYTES`: what nonce the session has.
 //! - `digest BYTES` and `no-digest HANDLE CODE`: the policy digest of the session in slot 0, and a refusal to tell one.
 //! - `index AUTH BYTES`: from here on, the index is one with this authorization value and this TPM2B_NV_PUBLIC.
 //! - `follows HANDLE ENTITY BYTES`: what follows the session key where the session authorizes a command of `owner`, `register`,
@@ -19,15 +19,16 @@
 //!   this code, 0 for a yes.
 //! - `reply ENTITY PARAMETERS NONCE ATTRIBUTES HMAC BYTES`: the session of the reply to this command with these parameters.
 
-use crate::authorize::{answers, follows, replies};
-use crate::calls::{
-    answer, extend, has_digest, has_key, has_no_digest, has_nonce, is_started, rolls, session,
+use crate::tests::authorize::{answers, follows, replies};
+use crate::tests::calls::{
+    answer, extend, has_digest, has_no_digest, has_nonce, is_started, rolls, session,
 };
-use crate::texts::{bytes, number, word};
+use crate::tests::texts::{bytes, number};
 use std::process::Abort;
 use std::test::*;
 use tpm_session::Sessions;
 use tpm_store::Registers;
+use tpm_testing::word;
 use tpm_types::NvPublic;
 use tpm_wire::{Buffer, Cursor, Wire};
 
@@ -40,20 +41,31 @@ pub struct Bench {
     pub auth: Buffer,
 }
 
-/// Goes through a script.
-pub fn run(rt: &impl Abort, script: &str) {
-    let mut bench = Bench {
-        sessions: Sessions::new(),
-        registers: Registers::new(),
-        index: None,
-        auth: Buffer::new(),
-    };
-    for line in script.lines() {
-        let line = line.trim();
-        if !line.is_empty() && !line.starts_with('#') {
-            assert!(rt; step(rt, &mut bench, line), "{line}");
+impl Bench {
+    /// Nothing has been done.
+    pub fn new() -> Self {
+        Bench {
+            sessions: Sessions::new(),
+            registers: Registers::new(),
+            index: None,
+            auth: Buffer::new(),
         }
     }
+
+    /// Goes through a script.
+    pub fn goes_through(&mut self, rt: &impl Abort, script: &str) {
+        for line in script.lines() {
+            let line = line.trim();
+            if !line.is_empty() && !line.starts_with('#') {
+                assert!(rt; step(rt, self, line), "{line}");
+            }
+        }
+    }
+}
+
+/// Goes through a script.
+pub fn run(rt: &impl Abort, script: &str) {
+    Bench::new().goes_through(rt, script);
 }
 
 // Does what the line says, and answers whether all of it is so.
@@ -91,7 +103,6 @@ fn is_so(rt: &impl Abort, bench: &Bench, asked: &str, rest: &str) -> bool {
     match asked {
         "loaded" => bench.sessions.get(session(rt, rest)).is_some(),
         "absent" => bench.sessions.get(session(rt, rest)).is_none(),
-        "key" => has_key(rt, &bench.sessions, rest),
         "nonce" => has_nonce(rt, &bench.sessions, rest),
         "digest" => has_digest(rt, &bench.sessions, rest),
         "no-digest" => has_no_digest(rt, &bench.sessions, rest),

@@ -1,6 +1,6 @@
 //! What registers and counters hold.
 
-use crate::texts::bytes;
+use crate::tests::texts::bytes;
 use std::process::Abort;
 use std::test::*;
 use tpm_store::{By, Counters, Locality, Registers};

@@ -1,11 +1,12 @@
 //! Commands on sessions, and what sessions are asked for.
 
-use crate::texts::{bytes, number, word};
+use crate::tests::texts::{bytes, number};
 use std::process::Abort;
 use std::test::*;
 use tpm_buffer::{CommandBody, decode_command};
 use tpm_session::{NONCE_BYTES, Sessions};
 use tpm_store::Registers;
+use tpm_testing::word;
 use tpm_types::{PcrOrNull, PolicyHandle, SessionHandle};
 
 /// The owner's authorization value, with zeros that are no part of it.
@@ -80,6 +81,14 @@ pub fn is_started(rt: &impl Abort, sessions: &mut Sessions, handle: u32, text: &
     }
 }
 
+/// Whether these bytes are a TPM2_StartAuthSession that is done.
+pub fn starts(sessions: &mut Sessions, bytes: &[u8]) -> bool {
+    match decode_command(bytes) {
+        Ok(command) => done(sessions, &Registers::new(), &command.body).is_ok(),
+        Err(_) => false,
+    }
+}
+
 /// Whether this TPM2_PCR_Extend is done.
 pub fn extend(rt: &impl Abort, registers: &mut Registers, text: &str) -> bool {
     let bytes = bytes(rt, text);
@@ -115,18 +124,6 @@ pub fn has_no_digest(rt: &impl Abort, sessions: &Sessions, rest: &str) -> bool {
     let mut rest = rest;
     let session = policy(rt, word(&mut rest));
     sessions.policy_digest(session).err() == Some(number(rt, rest))
-}
-
-/// Whether the session of this handle has this hash and this key.
-pub fn has_key(rt: &impl Abort, sessions: &Sessions, rest: &str) -> bool {
-    let mut rest = rest;
-    let session = session(rt, word(&mut rest));
-    let hash = number(rt, word(&mut rest));
-    let key = bytes(rt, rest);
-    match sessions.get(session) {
-        Some(held) => held.hash().number() as u32 == hash && held.key() == key.as_slice(),
-        None => false,
-    }
 }
 
 /// Whether the session of this handle has this nonce.

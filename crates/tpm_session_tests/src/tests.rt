@@ -1,0 +1,11 @@
+//! Hashes and MACs, stores, sessions, policies and authorization.
+
+mod authorize;
+mod calls;
+mod hashes;
+mod macs;
+mod policies;
+mod scripts;
+mod sessions;
+mod stores;
+mod texts;
