@@ -3,14 +3,4 @@
 #![tactic(auto)]
 
 #[cfg(test)]
-mod areas;
-#[cfg(test)]
-mod checks;
-#[cfg(test)]
-mod commands;
-#[cfg(test)]
-mod frames;
-#[cfg(test)]
-mod responses;
-#[cfg(test)]
-mod sources;
+mod tests;

@@ -1,6 +1,6 @@
 //! The values of responses.
 
-use crate::checks::{bytes, put, put_number};
+use crate::tests::checks::{bytes, put, put_number};
 use std::process::Abort;
 use std::test::*;
 use tpm_buffer::{CommandCode, ReplyBody, Response, decode_response, encode_response};

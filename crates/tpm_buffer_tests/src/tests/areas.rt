@@ -1,6 +1,6 @@
 //! Commands and responses in their areas, and parameters alone.
 
-use crate::checks::{bytes, put, put_number};
+use crate::tests::checks::{bytes, put, put_number};
 use std::process::Abort;
 use std::test::*;
 use tpm_buffer::{

@@ -1,10 +1,10 @@
 //! Frames of pieces, and of readers.
 
-use crate::checks::bytes;
-use crate::sources::{Odd, OneByOne};
+use crate::tests::checks::bytes;
 use std::process::Abort;
 use std::test::*;
 use tpm_buffer::{Framer, ReadFault, Status, read_frame, read_frame_into};
+use tpm_testing::Pieces;
 use tpm_wire::{Buffer, Reads, Refusal, SliceSource, Source};
 
 /// PCR_Read of register 0 in SHA-256, of 20 bytes.
@@ -13,8 +13,8 @@ const READ: &str = "8001 00000014 0000017e 00000001 000b 03 010000";
 const BAD_SIZE: Refusal = Refusal { code: 0x142, at: 2 };
 
 // What comes of a framer: a piece, how many of its bytes are taken, and the status; the frame that is held; `next`; and
-// `new` for another framer. A frame comes byte by byte; no byte behind it is taken; a size outside of the bounds breaks the
-// framer for ever; the size is judged with its last byte; the tag is not looked at; part of a frame wants more.
+// `new` for another framer. A frame comes byte by byte; no byte behind it is taken; the size is judged with its last byte; the tag is
+// not looked at; part of a frame wants more.
 const STEPS: &str = "\
 new
 80 -> 1 more
@@ -50,46 +50,6 @@ next
 - -> 0 more
 000000 -> 3 broken
 new
-8001 00000009 -> 6 broken
-8001 00000014 0000017e 00000001 000b 03 010000 -> 0 broken
-frame -> -
-next
-- -> 0 broken
-next
-80 -> 0 broken
-next
-8001 00000014 0000017e 00000001 000b 03 010000 -> 0 broken
-new
-8001 00001001 -> 6 broken
-8001 00000014 0000017e 00000001 000b 03 010000 -> 0 broken
-frame -> -
-next
-- -> 0 broken
-next
-80 -> 0 broken
-next
-8001 00000014 0000017e 00000001 000b 03 010000 -> 0 broken
-new
-0000 00000000 -> 6 broken
-8001 00000014 0000017e 00000001 000b 03 010000 -> 0 broken
-frame -> -
-next
-- -> 0 broken
-next
-80 -> 0 broken
-next
-8001 00000014 0000017e 00000001 000b 03 010000 -> 0 broken
-new
-ffff ffffffff -> 6 broken
-8001 00000014 0000017e 00000001 000b 03 010000 -> 0 broken
-frame -> -
-next
-- -> 0 broken
-next
-80 -> 0 broken
-next
-8001 00000014 0000017e 00000001 000b 03 010000 -> 0 broken
-new
 8001 ffffff -> 5 more
 8001 00000014 0000017e 00000001 000b 03 010000 -> 1 broken
 new
@@ -106,6 +66,25 @@ frame -> -
 new
 8001 0000000a 000001 -> 9 more
 frame -> -";
+
+// Beginnings with a size outside of the bounds.
+const BROKEN: [&str; 4] = [
+    "8001 00000009",
+    "8001 00001001",
+    "0000 00000000",
+    "ffff ffffffff",
+];
+
+// What comes of a framer behind each of them.
+const BEHIND: &str = "\
+8001 00000014 0000017e 00000001 000b 03 010000 -> 0 broken
+frame -> -
+next
+- -> 0 broken
+next
+80 -> 0 broken
+next
+8001 00000014 0000017e 00000001 000b 03 010000 -> 0 broken";
 
 fn status(text: &str) -> Status {
     match text {
@@ -134,11 +113,24 @@ fn step(rt: &impl Abort, framer: &mut Framer, line: &str) -> bool {
     }
 }
 
+fn takes_steps(rt: &impl Abort, framer: &mut Framer, steps: &str) {
+    for line in steps.lines() {
+        assert!(rt; step(rt, framer, line), "{line}");
+    }
+}
+
 #[test]
 fn frames_come_in_pieces(rt: HostRuntime) {
-    let mut framer = Framer::new();
-    for line in STEPS.lines() {
-        assert!(&rt; step(&rt, &mut framer, line), "{line}");
+    takes_steps(&rt, &mut Framer::new(), STEPS);
+}
+
+#[test]
+fn a_bad_size_breaks_the_framer_for_ever(rt: HostRuntime) {
+    for text in BROKEN {
+        let mut framer = Framer::new();
+        let pushed = framer.push(bytes(&rt, text).as_slice());
+        assert!(&rt; pushed == (6, Status::Broken(BAD_SIZE)), "{text}");
+        takes_steps(&rt, &mut framer, BEHIND);
     }
 }
 
@@ -166,7 +158,7 @@ fn gives<R: Source>(rt: &impl Abort, source: &mut R, wanted: Result<&[u8], ReadF
 /// The same of these bytes: from a source that tells them, from one that gives one byte a read, and from a reader.
 fn all_give(rt: &impl Abort, bytes: &[u8], wanted: Result<&[u8], ReadFault>) {
     gives(rt, &mut SliceSource::new(bytes), wanted);
-    gives(rt, &mut OneByOne::new(bytes, Odd::Never), wanted);
+    gives(rt, &mut Pieces::new(bytes, 1), wanted);
     gives(rt, &mut Reads::new(bytes), wanted);
 }
 
@@ -218,8 +210,8 @@ fn frames_are_read_into_one_buffer(rt: HostRuntime) {
 }
 
 // What comes first of a source that gives one byte a read, and how often it is read.
-fn reads(rt: &impl Abort, bytes: &[u8], odd: Odd, wanted: Result<&[u8], ReadFault>, reads: usize) {
-    let mut source = OneByOne::new(bytes, odd);
+fn reads(rt: &impl Abort, source: Pieces<'_>, wanted: Result<&[u8], ReadFault>, reads: usize) {
+    let mut source = source;
     gives(rt, &mut source, wanted);
     assert!(rt; source.reads == reads);
 }
@@ -229,24 +221,29 @@ fn no_read_is_tried_again(rt: HostRuntime) {
     let whole = bytes(&rt, READ);
     let frame = whole.as_slice();
     for k in 1..21 {
-        reads(&rt, frame, Odd::Fails(k), Err(ReadFault::Device), k);
+        reads(&rt, Pieces::failing(frame, 1, k), Err(ReadFault::Device), k);
     }
-    reads(&rt, frame, Odd::Fails(21), Ok(frame), 20);
+    reads(&rt, Pieces::failing(frame, 1, 21), Ok(frame), 20);
     // No bytes are the end, though more would come.
-    reads(&rt, frame, Odd::Pauses(1), Ok(&[]), 1);
+    reads(&rt, Pieces::pausing(frame, 1, 1), Ok(&[]), 1);
     for k in 2..21 {
-        reads(&rt, frame, Odd::Pauses(k), Err(ReadFault::EndInside), k);
+        reads(
+            &rt,
+            Pieces::pausing(frame, 1, k),
+            Err(ReadFault::EndInside),
+            k,
+        );
     }
-    reads(&rt, frame, Odd::Pauses(21), Ok(frame), 20);
+    reads(&rt, Pieces::pausing(frame, 1, 21), Ok(frame), 20);
 }
 
 #[test]
 fn there_are_as_many_reads_as_bytes_at_most(rt: HostRuntime) {
     let mut most = [0; 4100];
     most[4] = 0x10;
-    reads(&rt, &most, Odd::Never, Ok(&most[..4096]), 4096);
+    reads(&rt, Pieces::new(&most, 1), Ok(&most[..4096]), 4096);
     // A bad size is refused after six, whatever follows.
     let fault = ReadFault::Broken(BAD_SIZE);
-    reads(&rt, &[0x00; 100], Odd::Never, Err(fault), 6);
-    reads(&rt, &[0xFF; 100], Odd::Never, Err(fault), 6);
+    reads(&rt, Pieces::new(&[0x00; 100], 1), Err(fault), 6);
+    reads(&rt, Pieces::new(&[0xFF; 100], 1), Err(fault), 6);
 }

@@ -1,6 +1,6 @@
 //! The table of commands, and the values of commands.
 
-use crate::checks::{bytes, put, put_number};
+use crate::tests::checks::{bytes, put, put_number};
 use std::process::Abort;
 use std::test::*;
 use tpm_buffer::{CommandBody, CommandCode, decode_command, encode_command};

@@ -1,0 +1,7 @@
+//! Commands, responses and frames.
+
+mod areas;
+mod checks;
+mod commands;
+mod frames;
+mod responses;
