@@ -6,75 +6,14 @@ use crate::logs::{HEADER, WORKED, bytes_of};
 use std::process::Abort;
 use std::test::*;
 use tpm_log::{LogFault, LogFaultKind, replay_from};
+use tpm_testing::Pieces;
 use tpm_types::{Alg, PcrIndex};
-use tpm_wire::{ReadFailed, Source};
+use tpm_wire::{ReadFailed, SliceSource, Source};
 
 // What register 7 of SHA-1 is behind the worked log.
 const SEPARATED: &str = "b2a83b0ebf2f8374299a5b2bdfc31ea955ad7236";
 
-// Gives its bytes, at most so many a read, and where it is endless zeros behind them. Fails at the read with this number.
-#[derive(Drop)]
-pub(crate) struct Reader<'a> {
-    bytes: &'a [u8],
-    most: usize,
-    is_endless: bool,
-    fails_at: usize,
-    reads: usize,
-    failures: u64,
-}
-
-impl<'a> Reader<'a> {
-    pub(crate) fn new(bytes: &'a [u8], most: usize) -> Self {
-        Reader {
-            bytes,
-            most,
-            is_endless: false,
-            fails_at: 0,
-            reads: 0,
-            failures: 0,
-        }
-    }
-
-    fn endless(bytes: &'a [u8]) -> Self {
-        Reader {
-            bytes,
-            most: 4096,
-            is_endless: true,
-            fails_at: 0,
-            reads: 0,
-            failures: 0,
-        }
-    }
-}
-
-impl Source for Reader<'_> {
-    ghost coming = { λ _. None };
-
-    ghost failed = { λ s. s.failures };
-
-    fn read(&mut self, room: &mut [u8]) -> Result<usize, ReadFailed> {
-        self.reads = self.reads.saturating_add(1);
-        if self.reads == self.fails_at {
-            self.failures = self.failures.saturating_add(1);
-            return Err(ReadFailed);
-        }
-        if self.bytes.is_empty() && self.is_endless {
-            room.fill(0);
-            return Ok(room.len());
-        }
-        let count = self.bytes.len().min(room.len()).min(self.most);
-        let (front, rest) = self.bytes.split_at(count);
-        room[..count].copy_from_slice(front);
-        self.bytes = rest;
-        Ok(count)
-    }
-
-    fn failures(&self) -> u64 {
-        self.failures
-    }
-}
-
-fn is_replayed(rt: &impl Abort, reader: &mut Reader<'_>) {
+fn is_replayed(rt: &impl Abort, reader: &mut Pieces<'_>) {
     let value = bytes_of(SEPARATED);
     let register = PcrIndex::from_number(7).expect(rt, "a register");
     match replay_from(reader) {
@@ -85,7 +24,7 @@ fn is_replayed(rt: &impl Abort, reader: &mut Reader<'_>) {
     }
 }
 
-fn has_fault(rt: &impl Abort, reader: &mut Reader<'_>, kind: LogFaultKind, at: u32) {
+fn has_fault(rt: &impl Abort, reader: &mut Pieces<'_>, kind: LogFaultKind, at: u32) {
     match replay_from(reader) {
         Ok(_) => panic!(rt; "{kind:?} at {at}"),
         Err(fault) => assert_eq!(rt; fault, LogFault { kind, at }),
@@ -96,17 +35,17 @@ fn has_fault(rt: &impl Abort, reader: &mut Reader<'_>, kind: LogFaultKind, at: u
 fn a_log_is_the_same_in_any_pieces(rt: HostRuntime) {
     let log = bytes_of(WORKED);
     for most in [1, 7, 64, 215] {
-        is_replayed(&rt, &mut Reader::new(log.as_slice(), most));
+        is_replayed(&rt, &mut Pieces::new(log.as_slice(), most));
         // without its last byte
         let cut = &log.as_slice()[..log.len().saturating_sub(1)];
         has_fault(
             &rt,
-            &mut Reader::new(cut, most),
+            &mut Pieces::new(cut, most),
             LogFaultKind::Truncated,
             211,
         );
     }
-    has_fault(&rt, &mut Reader::new(&[], 1), LogFaultKind::Truncated, 0);
+    has_fault(&rt, &mut Pieces::new(&[], 1), LogFaultKind::Truncated, 0);
 }
 
 // Never registers, and never another fault; and no read is tried again.
@@ -114,14 +53,12 @@ fn a_log_is_the_same_in_any_pieces(rt: HostRuntime) {
 fn a_read_that_fails_is_answered(rt: HostRuntime) {
     let log = bytes_of(WORKED);
     for k in 1..log.len().saturating_add(2) {
-        let mut reader = Reader::new(log.as_slice(), 1);
-        reader.fails_at = k;
+        let mut reader = Pieces::failing(log.as_slice(), 1, k);
         let given = k.saturating_sub(1) as u32;
         has_fault(&rt, &mut reader, LogFaultKind::Device, given);
         assert_eq!(rt; reader.reads, k);
     }
-    let mut reader = Reader::new(log.as_slice(), 1);
-    reader.fails_at = log.len().saturating_add(2);
+    let mut reader = Pieces::failing(log.as_slice(), 1, log.len().saturating_add(2));
     is_replayed(&rt, &mut reader);
 }
 
@@ -129,7 +66,7 @@ fn a_read_that_fails_is_answered(rt: HostRuntime) {
 fn a_reader_that_never_ends_is_refused(rt: HostRuntime) {
     has_fault(
         &rt,
-        &mut Reader::endless(&[]),
+        &mut Pieces::before_zeros(&[], 4096),
         LogFaultKind::NotCryptoAgile,
         4,
     );
@@ -137,7 +74,7 @@ fn a_reader_that_never_ends_is_refused(rt: HostRuntime) {
     let header = bytes_of(HEADER);
     has_fault(
         &rt,
-        &mut Reader::endless(header.as_slice()),
+        &mut Pieces::before_zeros(header.as_slice(), 4096),
         LogFaultKind::TooLong,
         16_777_209,
     );
@@ -153,10 +90,10 @@ const SEPARATOR: &str =
 // Makes the bytes of an event, which count from 0 to 250 again and again, between a front and a back.
 #[derive(Drop)]
 struct Large<'a> {
-    front: &'a [u8],
+    front: SliceSource<'a>,
     made: u32,
     size: u32,
-    back: &'a [u8],
+    back: SliceSource<'a>,
 }
 
 impl Source for Large<'_> {
@@ -165,22 +102,18 @@ impl Source for Large<'_> {
     ghost failed = { λ _. 0 };
 
     fn read(&mut self, room: &mut [u8]) -> Result<usize, ReadFailed> {
-        if self.front.is_empty() && self.made < self.size {
-            let count = room.len().min((self.size - self.made) as usize);
-            for byte in &mut room[..count] {
-                *byte = (self.made % 251) as u8;
-                self.made = self.made.saturating_add(1);
-            }
-            return Ok(count);
+        let given = self.front.read(room)?;
+        if given > 0 {
+            return Ok(given);
         }
-        if self.front.is_empty() {
-            self.front = self.back;
-            self.back = &[];
+        if self.made >= self.size {
+            return self.back.read(room);
         }
-        let count = self.front.len().min(room.len());
-        let (next, rest) = self.front.split_at(count);
-        room[..count].copy_from_slice(next);
-        self.front = rest;
+        let count = room.len().min((self.size - self.made) as usize);
+        for byte in &mut room[..count] {
+            *byte = (self.made % 251) as u8;
+            self.made = self.made.saturating_add(1);
+        }
         Ok(count)
     }
 
@@ -194,10 +127,10 @@ fn an_event_of_4_mib_is_stepped_over(rt: HostRuntime) {
     let front = bytes_of(FRONT);
     let back = bytes_of(SEPARATOR);
     let mut source = Large {
-        front: front.as_slice(),
+        front: SliceSource::new(front.as_slice()),
         made: 0,
         size: 4_194_304,
-        back: back.as_slice(),
+        back: SliceSource::new(back.as_slice()),
     };
     let registers = match replay_from(&mut source) {
         Ok(registers) => registers,

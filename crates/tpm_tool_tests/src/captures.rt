@@ -1,9 +1,9 @@
 //! Captures that come in pieces, and reads that fail.
 
-use crate::pieces::Pieces;
 use std::alloc::Global;
 use std::process::Abort;
 use std::test::Fail;
+use tpm_testing::Pieces;
 use tpm_tool::{Status, Telling, ToolFault, show_lines, show_stream};
 use tpm_wire::Source;
 

@@ -1,12 +1,12 @@
 //! The records of logs that come in pieces, and reads that fail.
 
 use crate::logs::LOG;
-use crate::pieces::Pieces;
 use std::alloc::Global;
 use std::io;
 use std::io::Write;
 use std::process::Abort;
 use std::test::Fail;
+use tpm_testing::Pieces;
 use tpm_tool::{Listing, Status, ToolFault, list_events};
 use tpm_wire::Source;
 

@@ -17,6 +17,4 @@ mod logs;
 #[cfg(test)]
 mod nonces;
 #[cfg(test)]
-mod pieces;
-#[cfg(test)]
 mod scripts;

@@ -1,9 +1,9 @@
 //! Logs and lists of registers that come in pieces, and reads that fail.
 
-use crate::pieces::Pieces;
 use std::alloc::Global;
 use std::process::Abort;
 use std::test::Fail;
+use tpm_testing::Pieces;
 use tpm_tool::{Status, ToolFault, check_log};
 use tpm_types::Alg;
 use tpm_wire::Source;

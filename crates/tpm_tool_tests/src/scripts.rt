@@ -1,10 +1,10 @@
 //! Scripts that come in pieces, and reads that fail.
 
-use crate::pieces::Pieces;
 use std::alloc::Global;
 use std::process::Abort;
 use std::test::Fail;
 use tpm_device::Device;
+use tpm_testing::Pieces;
 use tpm_tool::{Status, ToolFault, run_script};
 use tpm_types::AuthValue;
 use tpm_wire::Source;
