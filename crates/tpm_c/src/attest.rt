@@ -10,31 +10,11 @@ ghost use Rattle.tpm_c.specs.Attests.{attest_view as attest_view_of, ViewsAttest
 
 use crate::log::kind_number;
 use crate::part::{DONE, TpmPart, TpmRefusal, refuse, whole};
+use crate::quote::{DIFFERS, NO_BANK, REFUSED};
 use tpm_log::{AttestFault, LogFault, check_attest, decode_attest, replay, selects_none};
 use tpm_store::Registers;
 use tpm_types::{Alg, Attest, Selections};
 use tpm_wire::{Refusal, Wire};
-
-/// The digest is another one.
-const DIFFERS: u32 = 16;
-
-/// The bytes are no quote.
-const REFUSED: u32 = 17;
-
-/// The hash has no bank.
-const NO_BANK: u32 = 18;
-
-/// extraData is another nonce.
-const NONCE: u32 = 19;
-
-/// A required register is not selected.
-const LACKS: u32 = 20;
-
-/// No register is selected.
-const EMPTY: u32 = 21;
-
-/// What is required is no selection.
-const REQUIREMENT: u32 = 22;
 
 /// A quote as it was signed: what has a length of its own lies in its bytes.
 #[repr(C)]
@@ -145,6 +125,18 @@ fn tell_log(fault: &mut TpmAttestFault, found: LogFault) -> u32
     };
     kind_number(found.kind)
 }
+
+/// extraData is another nonce.
+const NONCE: u32 = 19;
+
+/// A required register is not selected.
+const LACKS: u32 = 20;
+
+/// No register is selected.
+const EMPTY: u32 = 21;
+
+/// What is required is no selection.
+const REQUIREMENT: u32 = 22;
 
 fn tell(found: Result<(), AttestFault>, quoted: &Selections, fault: &mut TpmAttestFault) -> u32
     ensures { IsTold quoted.now found fault.old fault.new result }

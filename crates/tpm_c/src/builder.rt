@@ -28,25 +28,9 @@ pub extern "C" fn tpm_command_build(
         (record { out = out.old; count = count.old; refusal = refusal.old })
         (record { out = out.new; count = count.new; refusal = refusal.new }) }
 {
-    match CommandCode::from_number(command) {
-        Some(code) => build(code, handles, sessions, parameters, out, count, refusal),
-        None => NO_COMMAND,
-    }
-}
-
-fn build(
-    code: CommandCode,
-    handles: &[u8],
-    sessions: &[u8],
-    parameters: &[u8],
-    out: &mut [u8],
-    count: &mut usize,
-    refusal: &mut TpmRefusal,
-) -> u32
-    ensures { BuildsBytes (joined code handles.now sessions.now parameters.now) result
-        (record { out = out.old; count = count.old; refusal = refusal.old })
-        (record { out = out.new; count = count.new; refusal = refusal.new }) }
-{
+    let Some(code) = CommandCode::from_number(command) else {
+        return NO_COMMAND;
+    };
     match join_command(code, handles, sessions, parameters) {
         Some(buffer) => judge(buffer.as_slice(), out, count, refusal),
         None => {

@@ -13,7 +13,6 @@ ghost use Rattle.tpm_caller.specs.Sent.{sent};
 ghost use Rattle.tpm_c.specs.declared.caller.Held.{Held as HeldOf};
 ghost use Rattle.tpm_c.specs.declared.caller.Held.TheVariants.{Spent};
 ghost use Rattle.tpm_c.specs.contracts.caller.Held.{the_row};
-ghost use Rattle.tpm_c.specs.Rooms.{room_size, room_align};
 ghost use Rattle.tpm_c.specs.Written.{IsIn};
 ghost use Rattle.tpm_c.specs.Callers.{held_at, request_in, start_reply_in, started_by, start_code, after_start, fault_number, open_code, kept, after_open, give_up_code, after_give_up, names_of, body_in, are_short, do_fit, seal_of, sealing, sealed_bytes, after_seal};
 
@@ -38,22 +37,6 @@ pub(crate) enum Held {
     Free(Caller),
     /// A sealed command, which waits for its reply.
     Sealed(Waiting),
-}
-
-/// How many bytes a caller takes.
-#[unsafe(no_mangle)]
-pub extern "C" fn tpm_caller_size() -> usize
-    ensures { result ≡ room_size the_row }
-{
-    size_of::<Held>()
-}
-
-/// At a multiple of which number of bytes it lies.
-#[unsafe(no_mangle)]
-pub extern "C" fn tpm_caller_align() -> usize
-    ensures { result ≡ room_align the_row }
-{
-    align_of::<Held>()
 }
 
 fn nothing() -> Held

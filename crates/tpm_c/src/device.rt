@@ -4,8 +4,6 @@ ghost use Rattle.std.specs.Prelude.{◌≡◌, ◌≤◌, [], ◌∷◌, length}
 ghost use Rattle.std.specs.Borrow.{sem};
 ghost use Rattle.tpm_types.specs.Limits.{digest_bytes};
 ghost use Rattle.tpm_model.specs.Steps.{History, Origin, PowerCycle};
-ghost use Rattle.tpm_device.specs.contracts.device.Device.{the_row};
-ghost use Rattle.tpm_c.specs.Rooms.{room_size, room_align};
 ghost use Rattle.tpm_device.specs.Stands.{Stands};
 ghost use Rattle.tpm_c.specs.Written.{IsIn};
 ghost use Rattle.tpm_c.specs.Devices.{device_at, room_for, made_at, whether_fits, after, written, IsAnswered};
@@ -14,22 +12,6 @@ use crate::out::{BUFFER_BYTES, put};
 use tpm_device::Device;
 use tpm_types::{AuthValue, DIGEST_BYTES};
 use tpm_wire::Buffer;
-
-/// How many bytes a device takes.
-#[unsafe(no_mangle)]
-pub extern "C" fn tpm_device_size() -> usize
-    ensures { result ≡ room_size the_row }
-{
-    size_of::<Device>()
-}
-
-/// At a multiple of which number of bytes it lies.
-#[unsafe(no_mangle)]
-pub extern "C" fn tpm_device_align() -> usize
-    ensures { result ≡ room_align the_row }
-{
-    align_of::<Device>()
-}
 
 /// Makes a device in the room, which is not started, and answers 1. The owner has this authorization value, and no counter of the
 /// device has had a greater value than this. It answers 0, and nothing is written, where the value has more than 48 bytes.

@@ -6,27 +6,10 @@ ghost use denote.RawPtr.{room_at};
 ghost use Rattle.tpm_stream.specs.Frames.{Pushes, Advances};
 ghost use Rattle.tpm_stream.specs.declared.framer.Status.{Status as StatusOf};
 ghost use Rattle.tpm_stream.specs.contracts.framer.Framer.{the_row};
-ghost use Rattle.tpm_c.specs.Rooms.{room_size, room_align};
 ghost use Rattle.tpm_c.specs.Framers.{framer_at, next_at, pushed_at, status_number, FrameIn};
 
 use crate::out::put;
 use tpm_buffer::{Framer, Status};
-
-/// How many bytes a framer takes.
-#[unsafe(no_mangle)]
-pub extern "C" fn tpm_framer_size() -> usize
-    ensures { result ≡ room_size the_row }
-{
-    size_of::<Framer>()
-}
-
-/// At a multiple of which number of bytes it lies.
-#[unsafe(no_mangle)]
-pub extern "C" fn tpm_framer_align() -> usize
-    ensures { result ≡ room_align the_row }
-{
-    align_of::<Framer>()
-}
 
 /// Makes a framer in the room, which holds nothing.
 #[unsafe(no_mangle)]

@@ -15,27 +15,19 @@ mod part;
 mod policy;
 mod quote;
 mod response;
+mod rooms;
 
 pub use attest::{TpmAttest, TpmAttestFault, tpm_attest_decode, tpm_log_check_attest};
 pub use builder::tpm_command_build;
 pub use caller::{
-    tpm_caller_align, tpm_caller_give_up, tpm_caller_init, tpm_caller_open, tpm_caller_seal,
-    tpm_caller_size, tpm_caller_start,
+    tpm_caller_give_up, tpm_caller_init, tpm_caller_open, tpm_caller_seal, tpm_caller_start,
 };
 pub use command::{TpmCommandAreas, TpmCommandSession, tpm_command_cut, tpm_command_decode};
-pub use device::{
-    tpm_device_align, tpm_device_execute, tpm_device_init, tpm_device_power_cycle, tpm_device_size,
-};
-pub use framer::{
-    tpm_framer_align, tpm_framer_frame, tpm_framer_init, tpm_framer_next, tpm_framer_push,
-    tpm_framer_size,
-};
+pub use device::{tpm_device_execute, tpm_device_init, tpm_device_power_cycle};
+pub use framer::{tpm_framer_frame, tpm_framer_init, tpm_framer_next, tpm_framer_push};
 pub use log::tpm_log_replay;
 pub use log_event::{TpmLogDigest, TpmLogEvent, TpmLogPlace, tpm_log_event};
-pub use log_pieces::{
-    tpm_log_replay_align, tpm_log_replay_end, tpm_log_replay_feed, tpm_log_replay_init,
-    tpm_log_replay_size,
-};
+pub use log_pieces::{tpm_log_replay_end, tpm_log_replay_feed, tpm_log_replay_init};
 pub use part::{TpmPart, TpmRefusal};
 pub use policy::{
     TpmPolicy, tpm_policy_auth_value, tpm_policy_command_code, tpm_policy_or, tpm_policy_pcr,
@@ -43,3 +35,7 @@ pub use policy::{
 };
 pub use quote::tpm_log_check_quote;
 pub use response::{TpmResponseAreas, TpmResponseSession, tpm_response_cut, tpm_response_decode};
+pub use rooms::{
+    tpm_caller_align, tpm_caller_size, tpm_device_align, tpm_device_size, tpm_framer_align,
+    tpm_framer_size, tpm_log_replay_align, tpm_log_replay_size,
+};

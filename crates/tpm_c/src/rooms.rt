@@ -1,0 +1,77 @@
+//! The room of what lies in the caller's memory.
+
+ghost use Rattle.std.specs.Prelude.{◌≡◌};
+ghost use Rattle.tpm_device.specs.contracts.device.Device.{the_row as device};
+ghost use Rattle.tpm_stream.specs.contracts.framer.Framer.{the_row as framer};
+ghost use Rattle.tpm_log.specs.contracts.part.LogReplay.{the_row as replay};
+ghost use Rattle.tpm_c.specs.contracts.caller.Held.{the_row as held};
+ghost use Rattle.tpm_c.specs.Rooms.{room_size, room_align};
+
+use crate::caller::Held;
+use tpm_buffer::Framer;
+use tpm_device::Device;
+use tpm_log::LogReplay;
+
+/// How many bytes a device takes.
+#[unsafe(no_mangle)]
+pub extern "C" fn tpm_device_size() -> usize
+    ensures { result ≡ room_size device }
+{
+    size_of::<Device>()
+}
+
+/// At a multiple of which number of bytes a device lies.
+#[unsafe(no_mangle)]
+pub extern "C" fn tpm_device_align() -> usize
+    ensures { result ≡ room_align device }
+{
+    align_of::<Device>()
+}
+
+/// How many bytes a framer takes.
+#[unsafe(no_mangle)]
+pub extern "C" fn tpm_framer_size() -> usize
+    ensures { result ≡ room_size framer }
+{
+    size_of::<Framer>()
+}
+
+/// At a multiple of which number of bytes a framer lies.
+#[unsafe(no_mangle)]
+pub extern "C" fn tpm_framer_align() -> usize
+    ensures { result ≡ room_align framer }
+{
+    align_of::<Framer>()
+}
+
+/// How many bytes a caller takes.
+#[unsafe(no_mangle)]
+pub extern "C" fn tpm_caller_size() -> usize
+    ensures { result ≡ room_size held }
+{
+    size_of::<Held>()
+}
+
+/// At a multiple of which number of bytes a caller lies.
+#[unsafe(no_mangle)]
+pub extern "C" fn tpm_caller_align() -> usize
+    ensures { result ≡ room_align held }
+{
+    align_of::<Held>()
+}
+
+/// How many bytes a replay takes.
+#[unsafe(no_mangle)]
+pub extern "C" fn tpm_log_replay_size() -> usize
+    ensures { result ≡ room_size replay }
+{
+    size_of::<LogReplay>()
+}
+
+/// At a multiple of which number of bytes a replay lies.
+#[unsafe(no_mangle)]
+pub extern "C" fn tpm_log_replay_align() -> usize
+    ensures { result ≡ room_align replay }
+{
+    align_of::<LogReplay>()
+}
