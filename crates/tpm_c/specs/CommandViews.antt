@@ -11,7 +11,7 @@ use Rattle.tpm_buffer.specs.CommandAreas.{Cut, HasCut}
 use Rattle.tpm_c.specs.declared.part.TpmRefusal.{TpmRefusal}
 use Rattle.tpm_c.specs.declared.command.TpmCommandSession.{TpmCommandSession}
 use Rattle.tpm_c.specs.declared.command.TpmCommandAreas.{TpmCommandAreas}
-use Rattle.tpm_c.specs.Parts.{part, bytes_in, refusal_of}
+use Rattle.tpm_c.specs.Parts.{part, bytes_in, OfThree, refusal_of}
 
 -- A session that begins at this place: its handle, the number of the nonce's bytes, the nonce, the attributes, the number of the
 -- HMAC's bytes, and the HMAC (Part 2, 10.13.2).
@@ -55,9 +55,7 @@ HoldsSession bytes at (Some a) = (bytes_in bytes (session_view at (Some a)).nonc
 
 -- What the view says lies in the bytes is there.
 abbrev pub HoldsParts : List ℕ → Cut → Type 0
-HoldsParts bytes c =
-    HoldsSession bytes (place c 0) (slice_get c.auths 0) × HoldsSession bytes (place c 1) (slice_get c.auths 1) × HoldsSession bytes (place c 2) (slice_get c.auths 2)
-    × (bytes_in bytes (command_view c).parameters ≡ c.params)
+HoldsParts bytes c = OfThree (λ i. HoldsSession bytes (place c i) (slice_get c.auths i)) (bytes_in bytes (command_view c).parameters ≡ c.params)
 
 -- The answer is 0 with the view of the bytes' cut, or 1 with their first fault before the parameters; the other place is as it was.
 abbrev pub ViewsCommand : List ℕ → (answer : ℕ) → (old new : TpmCommandAreas) → (was refusal : TpmRefusal) → Type 0

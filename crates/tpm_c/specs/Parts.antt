@@ -15,6 +15,10 @@ part at len = record { at = at; len = len }
 abbrev pub bytes_in : List ℕ → TpmPart → List ℕ
 bytes_in bytes p = take p.len (drop p.at bytes)
 
+-- this holds of each of three sessions, counted from 0, and that besides
+abbrev pub OfThree : (ℕ → Type 0) → Type 0 → Type 0
+OfThree Holds More = Holds 0 × Holds 1 × Holds 2 × More
+
 abbrev pub refusal_of : TpmRefusal → Refusal
 refusal_of r = record { code = r.code; at = r.at }
 

@@ -10,7 +10,7 @@ use Rattle.tpm_buffer.specs.ResponseAreas.{handle_of, place_of_params}
 use Rattle.tpm_c.specs.declared.part.TpmRefusal.{TpmRefusal}
 use Rattle.tpm_c.specs.declared.response.TpmResponseSession.{TpmResponseSession}
 use Rattle.tpm_c.specs.declared.response.TpmResponseAreas.{TpmResponseAreas}
-use Rattle.tpm_c.specs.Parts.{part, bytes_in, refusal_of}
+use Rattle.tpm_c.specs.Parts.{part, bytes_in, OfThree, refusal_of}
 
 -- A session that begins at this place: the number of the nonce's bytes, the nonce, the attributes, the number of the HMAC's bytes,
 -- and the HMAC (Part 2, 10.13.3).
@@ -57,9 +57,7 @@ HoldsSession bytes at (Some a) = (bytes_in bytes (session_view at (Some a)).nonc
 
 -- What the view says lies in the bytes is there.
 abbrev pub HoldsParts : List ℕ → ReplyCut → Type 0
-HoldsParts bytes c =
-    HoldsSession bytes (place c 0) (slice_get c.auths 0) × HoldsSession bytes (place c 1) (slice_get c.auths 1) × HoldsSession bytes (place c 2) (slice_get c.auths 2)
-    × (bytes_in bytes (response_view c).parameters ≡ c.params)
+HoldsParts bytes c = OfThree (λ i. HoldsSession bytes (place c i) (slice_get c.auths i)) (bytes_in bytes (response_view c).parameters ≡ c.params)
 
 -- For the command of this number the answer is 0 with the view of the response's cut, or 1 with its first fault beside the parameters;
 -- it is 3 where no command has the number. What is not written so is as it was.

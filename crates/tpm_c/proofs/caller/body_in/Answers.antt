@@ -1,24 +1,14 @@
-use Rattle.std.proofs.Common.{◌≡◌, Ok, true, false, refl, sym, ap, ◌∙◌, rules}
-use Rattle.tpm_wire.specs.Reading.{read_all}
-use Rattle.tpm_commands.specs.Handles.{needs_authorization}
-use Rattle.tpm_buffer.specs.Commands.{command, code_for}
+use Rattle.std.proofs.Common.{true, false, sym, ap, rules}
+use Rattle.tpm_buffer.specs.Commands.{command}
 use Rattle.tpm_c.specs.Callers.{body_in}
-use Rattle.tpm_c.proofs.Decoding.{is_read, is_refused}
+use Rattle.tpm_c.proofs.Decoding.{is_refused, body_is}
 use Rattle.tpm_c.proofs.caller.body_in.Goals as goal
 
 pub returns-then-needs_authorization : goal.returns-then-needs_authorization
-returns-then-needs_authorization c =
-    let bytes = c.args.command.now in
-    let read : read_all command bytes ≡ Ok c.in-Ok.field-0 = is_read command bytes c.in-Ok.field-0 ((c.decode_command.ensures.ok c.in-Ok.field-0).0 c.in-Ok.is) in
-    let needs : needs_authorization (code_for c.in-Ok.field-0.body) ≡ true = search rules in
-    sym (ap body_in read ∙ rw needs refl)
+returns-then-needs_authorization c = sym (body_is c.args.command.now c.in-Ok.field-0 true ((c.decode_command.ensures.ok c.in-Ok.field-0).0 c.in-Ok.is) (search rules))
 
 pub returns-else-needs_authorization : goal.returns-else-needs_authorization
-returns-else-needs_authorization c =
-    let bytes = c.args.command.now in
-    let read : read_all command bytes ≡ Ok c.in-Ok.field-0 = is_read command bytes c.in-Ok.field-0 ((c.decode_command.ensures.ok c.in-Ok.field-0).0 c.in-Ok.is) in
-    let needs : needs_authorization (code_for c.in-Ok.field-0.body) ≡ false = search rules in
-    sym (ap body_in read ∙ rw needs refl)
+returns-else-needs_authorization c = sym (body_is c.args.command.now c.in-Ok.field-0 false ((c.decode_command.ensures.ok c.in-Ok.field-0).0 c.in-Ok.is) (search rules))
 
 pub returns-in-Err : goal.returns-in-Err
 returns-in-Err c =
