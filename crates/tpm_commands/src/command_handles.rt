@@ -86,10 +86,7 @@ fn take_kinds(cursor: &mut Cursor<'_>, kinds: &[HandleKind]) -> Result<ArrayVec<
 /// The numbers of the handles that a command with this code has, in their order, each of its kind; or the first fault: INSUFFICIENT
 /// or VALUE with the handle's number (Part 3, the command table of each).
 #[inline(always)]
-pub fn take_handles(
-    cursor: &mut Cursor<'_>,
-    code: CommandCode,
-) -> Result<ArrayVec<u32, 2>, Refusal>
+pub fn take_handles(cursor: &mut Cursor<'_>, code: CommandCode) -> Result<ArrayVec<u32, 2>, Refusal>
     ensures reads { TakesNumbered (λ v. v.items) (handles_layout code) cursor.old cursor.new result }
     ensures spelled { IfOk result (λ x. cursor.old.here.rest ≡ spelling (handles_layout code) x.items ++ cursor.new.here.rest) }
     ensures admitted { IfOk result (λ x. AreAdmitted (handle_kinds code) x.items) }

@@ -11,21 +11,12 @@ use Rattle.tpm_device.specs.Stands.{any_bare, is_bare, reply_bytes}
 -- All have the same bytes.
 pub bare_bytes : (body : ReplyBody) (auths : List AuthReply) → is_bare body ≡ true → reply_bytes (record { body = any_bare; auths = auths }) ≡ reply_bytes (record { body = body; auths = auths })
 unfolding response response_front response_tag response_code command_size with_sessions without_sessions parameter_size
-bare_bytes (replies.PcrEvent values) auths is = absurd (cc)
-bare_bytes (replies.PcrRead counter selected values) auths is = absurd (cc)
-bare_bytes (replies.StartAuthSession reply) auths is = absurd (cc)
-bare_bytes (replies.PolicyGetDigest value) auths is = absurd (cc)
-bare_bytes (replies.NvRead bytes) auths is = absurd (cc)
-bare_bytes (replies.NvReadPublic public its_name) auths is = absurd (cc)
-bare_bytes _ [] is = refl
-bare_bytes _ (a ∷ others) is = refl
+bare_bytes replies.Startup [] is = refl
+bare_bytes replies.Startup (a ∷ others) is = refl
+bare_bytes _ [] is = cc
+bare_bytes _ (a ∷ others) is = cc
 
 -- what is hashed of their parameters
 pub bare_params : (body : ReplyBody) → is_bare body ≡ true → [] ≡ reply_params body
-bare_params (replies.PcrEvent values) is = absurd (cc)
-bare_params (replies.PcrRead counter selected values) is = absurd (cc)
-bare_params (replies.StartAuthSession reply) is = absurd (cc)
-bare_params (replies.PolicyGetDigest value) is = absurd (cc)
-bare_params (replies.NvRead bytes) is = absurd (cc)
-bare_params (replies.NvReadPublic public its_name) is = absurd (cc)
-bare_params _ is = refl
+bare_params replies.Startup is = refl
+bare_params _ is = cc

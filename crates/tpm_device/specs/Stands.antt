@@ -12,13 +12,14 @@ use Rattle.tpm_commands.specs.declared.response.ReplyBody.TheVariants as replies
 use Rattle.tpm_buffer.specs.CommandAreas.{Cut}
 use Rattle.tpm_buffer.specs.Commands.{with_auths}
 use Rattle.tpm_commands.specs.Handles.{first, needs_authorization}
+use Rattle.tpm_commands.specs.Table.{row}
 use Rattle.tpm_commands.specs.Replies.{code_for_reply}
 use Rattle.tpm_buffer.specs.Responses.{Reply, response, done_with}
 use Rattle.tpm_model.specs.Steps.{History, Origin, Step, Accepted}
 use Rattle.tpm_model.specs.Present.{Present, present}
 use Rattle.tpm_model.specs.Entities.{entity_of, names_of, auth_value, is_owner_entity}
 use Rattle.tpm_model.specs.Sessions.{Session, loaded}
-use Rattle.tpm_model.specs.Authorization.{Evidence, first_loaded, authorize, reply_auths}
+use Rattle.tpm_model.specs.Authorization.{Evidence, first_loaded, authorize, reply_auths, is_empty}
 use Rattle.tpm_model.specs.Actions.{action}
 use Rattle.tpm_model.specs.Answers.{Presented, Done, evidence_in, reply_params}
 use Rattle.tpm_device.specs.declared.device.Device.{Device}
@@ -127,15 +128,9 @@ Steps old new body reply nonce = (o : Origin) (h : History) → Stands o h old �
 abbrev pub reply_bytes : Reply → List ℕ
 reply_bytes r = spelling (response (code_for_reply r.body)) (done_with r)
 
--- the replies that have neither a handle nor parameters
+-- the replies that have no parameters; none of them has a handle
 abbrev pub is_bare : ReplyBody → Bool
-is_bare (replies.PcrEvent values) = false
-is_bare (replies.PcrRead counter selected values) = false
-is_bare (replies.StartAuthSession reply) = false
-is_bare (replies.PolicyGetDigest value) = false
-is_bare (replies.NvRead bytes) = false
-is_bare (replies.NvReadPublic public its_name) = false
-is_bare _ = true
+is_bare body = is_empty (row (code_for_reply body)).reply_names
 
 -- one of them: all have the same bytes
 abbrev pub any_bare : ReplyBody
