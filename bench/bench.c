@@ -107,6 +107,55 @@ static size_t encode_command(size_t which, uint8_t *out) {
     return tpm_bench_encode_command(buffers[which].bytes, buffers[which].len, TIMES, out, OUT);
 }
 
+// What a framer cannot do without, in C: the size of a frame is read, and not checked; pieces are copied into a room, and each frame
+// out of it.
+static size_t stated(const uint8_t *frame) { return (size_t)frame[4] << 8 | frame[5]; }
+
+static size_t push_in_c(size_t most, uint8_t *out) {
+    static uint8_t room[4096];
+    size_t held = 0, written = 0;
+    for (size_t at = 0; at < stream_len; at += most) {
+        const uint8_t *piece = stream + at;
+        size_t len = stream_len - at < most ? stream_len - at : most;
+        while (len > 0) {
+            size_t end = held >= 6 ? stated(room) : held == 0 && len >= 6 ? stated(piece) : 6;
+            size_t count = end - held < len ? end - held : len;
+            memcpy(room + held, piece, count);
+            held += count, piece += count, len -= count;
+            if (held >= 6 && held == stated(room)) {
+                memcpy(out + written, room, held);
+                written += held, held = 0;
+            }
+        }
+    }
+    return written;
+}
+
+// The same of a reader, whose source is a call that gives as much as it is asked for, and at most a piece.
+static size_t read_at;
+static __attribute__((noinline)) size_t read_source(uint8_t *to, size_t len, size_t most) {
+    size_t left = stream_len - read_at, count = len < most ? len : most;
+    count = count < left ? count : left;
+    memcpy(to, stream + read_at, count);
+    read_at += count;
+    return count;
+}
+
+static size_t read_in_c(size_t most, uint8_t *out) {
+    static uint8_t room[4096];
+    size_t written = 0;
+    for (read_at = 0; read_at < stream_len;) {
+        size_t held = 0;
+        while (held < 6)
+            held += read_source(room + held, 6 - held, most);
+        while (held < stated(room))
+            held += read_source(room + held, stated(room) - held, most);
+        memcpy(out + written, room, held);
+        written += held;
+    }
+    return written;
+}
+
 static size_t push_frames(size_t most, uint8_t *out) { return tpm_bench_push_frames(stream, stream_len, most, out, OUT); }
 static size_t read_frames(size_t most, uint8_t *out) { return tpm_bench_read_frames(stream, stream_len, most, out, OUT); }
 static size_t read_frames_into(size_t most, uint8_t *out) { return tpm_bench_read_frames_into(stream, stream_len, most, out, OUT); }
@@ -286,6 +335,10 @@ static struct row rows[] = {
     {"read_frame_into, pieces of 1", 1, {read_frames_into}, {copy_stream}},
     {"read_frame_into, pieces of 64", 64, {read_frames_into}, {copy_stream}},
     {"read_frame_into, pieces of 4,096", 4096, {read_frames_into}, {copy_stream}},
+    {"Framer, in C, pieces of 64", 64, {push_in_c}, {copy_stream}},
+    {"Framer, in C, pieces of 4,096", 4096, {push_in_c}, {copy_stream}},
+    {"read_frame_into, in C, pieces of 64", 64, {read_in_c}, {copy_stream}},
+    {"read_frame_into, in C, pieces of 4,096", 4096, {read_in_c}, {copy_stream}},
 };
 enum { ROWS = sizeof rows / sizeof rows[0] };
 

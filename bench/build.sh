@@ -29,11 +29,24 @@ need_compiler() {
     need_header openssl/evp.h libssl-dev
 }
 
-# need_program: $program, tpmtool, is built, and no source is newer.
+# need_program: $program, tpmtool, is built for $processor, and no source is newer. For another one than the default it is built anew
+# from what is proved, and stands in $kept.
 need_program() {
-    program=crates/tpmtool/out/tpmtool
+    plain_program=crates/tpmtool/out/tpmtool program=crates/tpmtool/out/tpmtool
     [ "$build_alone" = no ] || ./tpmtool --build || missing "the program isn't built"
     [ -x "$program" ] || missing "the program isn't built: build it by ./tpmtool --build"
+    [ "${processor:-x86-64-v2}" != x86-64-v2 ] || return 0
+    kept=$out/$processor
+    program=$kept/tpmtool
+    [ -z "$(find "$plain_program" -newer "$program" 2>&1)" ] && return
+    mkdir -p "$kept" && mv "$plain_program" "$kept/plain"
+    trap 'mv -f "$kept/plain" "$plain_program"' EXIT
+    trap 'exit 1' HUP INT TERM
+    (cd crates/tpmtool && rt run --cpu="$processor" -- --help) </dev/null >"$kept/tpmtool.log" 2>&1 ||
+        missing "the program isn't built: see $kept/tpmtool.log"
+    mv "$plain_program" "$program" && mv "$kept/plain" "$plain_program"
+    touch "$program"
+    trap - EXIT HUP INT TERM
 }
 
 # archive CRATE: the static library of this crate for $processor, in $kept. It is proved and built where there is none or a source is
