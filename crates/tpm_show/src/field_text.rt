@@ -1,58 +1,40 @@
 //! A field of a buffer by its name and its type, as a line or as an object of JSON.
 
-ghost use Rattle.std.specs.Prelude.{◌≡◌, ◌++◌, ◌≤◌, OnOk, length, string_bytes};
+ghost use Rattle.std.specs.Prelude.{◌≡◌, ◌++◌, ◌≤◌, ℕ, Bool, List, OnOk, length, string_bytes};
 ghost use Rattle.tpm_wire.specs.Spelling.{spelling};
-ghost use Rattle.tpm_show.specs.FieldText.{field_line, field_members, field_head, field_end, field_text, number_text, parts_begin, parts_end};
+ghost use Rattle.tpm_show.specs.FieldText.{field_line, field_members, field_head, field_end, field_text, number_text, parts_begin, parts_end, structure_text};
 
 use std::alloc::Global;
 use tpm_text::hexadecimal::shown_bytes;
 use tpm_text::text::{Pushed, push_comma};
 use tpm_wire::{Buffer, Wire};
 
-#[tactic(auto, unfolding(crate::specs::FieldText::field_line))]
-fn push_line(
-    alloc: Global,
-    text: &mut String,
-    indent: &str,
-    name: &str,
-    kind: &str,
-    bytes: &[u8],
-) -> Pushed
-    ensures { OnOk result (string_bytes text.new ≡ string_bytes text.old ++ field_line indent.now name.now kind.now bytes.now) }
-{
-    let bytes = shown_bytes(alloc, bytes)?;
-    writeln!(text, "{indent}{name} {kind} {bytes}")
+/// A value of which the parts are told under it.
+pub(crate) trait HasParts: Wire {
+    /// What is told of them.
+    ghost told_parts: { (json : Bool) → Self → List ℕ };
+
+    /// Adds what is told of them.
+    fn push_parts(&self, alloc: Global, text: &mut String, json: bool) -> Pushed
+        ensures { OnOk result (string_bytes text.new ≡ string_bytes text.old ++ told_parts json self.now) };
 }
 
-#[tactic(auto, unfolding(crate::specs::FieldText::field_members))]
-fn push_members(alloc: Global, text: &mut String, name: &str, kind: &str, bytes: &[u8]) -> Pushed
-    ensures { OnOk result (string_bytes text.new ≡ string_bytes text.old ++ field_members name.now kind.now bytes.now) }
-{
-    let value = hex::encode(alloc, bytes)?;
-    write!(
-        text,
-        "{{\"name\":\"{name}\",\"type\":\"{kind}\",\"value\":\"{value}\""
-    )
-}
+/// A field: how far in its line stands, its number in its list, its name and its type.
+#[derive(Clone, Copy)]
+pub(crate) struct Field(
+    pub(crate) &'static str,
+    pub(crate) usize,
+    pub(crate) &'static str,
+    pub(crate) &'static str,
+);
 
-#[tactic(auto, unfolding(crate::specs::FieldText::field_head))]
-fn push_head(
-    alloc: Global,
-    text: &mut String,
-    json: bool,
-    indent: &str,
-    i: usize,
-    name: &str,
-    kind: &str,
-    bytes: &[u8],
-) -> Pushed
-    ensures { OnOk result (string_bytes text.new ≡ string_bytes text.old ++ field_head json indent.now i name.now kind.now bytes.now) }
+fn spelled<T: Wire>(value: &T) -> Buffer
+    requires { length (spelling T.layout value.now) ≤ 4096 }
+    ensures { result.items ≡ spelling T.layout value.now }
 {
-    if !json {
-        return push_line(alloc, text, indent, name, kind, bytes);
-    }
-    push_comma(text, i)?;
-    push_members(alloc, text, name, kind, bytes)
+    let mut bytes = Buffer::new();
+    value.put(&mut bytes);
+    bytes
 }
 
 fn push_end(text: &mut String, json: bool) -> Pushed
@@ -64,59 +46,6 @@ fn push_end(text: &mut String, json: bool) -> Pushed
     text.push_str("}")
 }
 
-fn spelled<T: Wire>(value: &T) -> Buffer
-    requires { length (spelling T.layout value.now) ≤ 4096 }
-    ensures { result.items ≡ spelling T.layout value.now }
-{
-    let mut bytes = Buffer::new();
-    value.put(&mut bytes);
-    bytes
-}
-
-/// Adds the line, so far in, or the object of a field with this number, this name and this type, of these bytes.
-#[tactic(auto, unfolding(crate::specs::FieldText::field_text))]
-pub(crate) fn push_bytes(
-    alloc: Global,
-    text: &mut String,
-    json: bool,
-    indent: &str,
-    i: usize,
-    name: &str,
-    kind: &str,
-    bytes: &[u8],
-) -> Pushed
-    ensures { OnOk result (string_bytes text.new ≡ string_bytes text.old ++ field_text json indent.now i name.now kind.now bytes.now) }
-{
-    push_head(alloc, text, json, indent, i, name, kind, bytes)?;
-    push_end(text, json)
-}
-
-/// Adds the line, so far in, or the object of a field with this number, this name and this type, of this value.
-pub(crate) fn push_field<T: Wire>(
-    alloc: Global,
-    text: &mut String,
-    json: bool,
-    indent: &str,
-    i: usize,
-    name: &str,
-    kind: &str,
-    value: &T,
-) -> Pushed
-    requires { length (spelling T.layout value.now) ≤ 4096 }
-    ensures { OnOk result (string_bytes text.new ≡ string_bytes text.old ++ field_text json indent.now i name.now kind.now (spelling T.layout value.now)) }
-{
-    push_bytes(
-        alloc,
-        text,
-        json,
-        indent,
-        i,
-        name,
-        kind,
-        spelled(value).as_slice(),
-    )
-}
-
 fn push_parts_begin(text: &mut String, json: bool) -> Pushed
     ensures { OnOk result (string_bytes text.new ≡ string_bytes text.old ++ parts_begin json) }
 {
@@ -124,49 +53,6 @@ fn push_parts_begin(text: &mut String, json: bool) -> Pushed
         return Ok(());
     }
     text.push_str(",\"fields\":[")
-}
-
-/// Adds what comes before the parts of a structure with this number, this name and this type, of these bytes.
-pub(crate) fn begin_bytes(
-    alloc: Global,
-    text: &mut String,
-    json: bool,
-    indent: &str,
-    i: usize,
-    name: &str,
-    kind: &str,
-    bytes: &[u8],
-) -> Pushed
-    ensures { OnOk result (string_bytes text.new ≡ string_bytes text.old ++ (field_head json indent.now i name.now kind.now bytes.now ++ parts_begin json)) }
-{
-    push_head(alloc, text, json, indent, i, name, kind, bytes)?;
-    push_parts_begin(text, json)
-}
-
-/// Adds what comes before the parts of a structure with this number, this name and this type, of this value.
-pub(crate) fn begin_structure<T: Wire>(
-    alloc: Global,
-    text: &mut String,
-    json: bool,
-    indent: &str,
-    i: usize,
-    name: &str,
-    kind: &str,
-    value: &T,
-) -> Pushed
-    requires { length (spelling T.layout value.now) ≤ 4096 }
-    ensures { OnOk result (string_bytes text.new ≡ string_bytes text.old ++ (field_head json indent.now i name.now kind.now (spelling T.layout value.now) ++ parts_begin json)) }
-{
-    begin_bytes(
-        alloc,
-        text,
-        json,
-        indent,
-        i,
-        name,
-        kind,
-        spelled(value).as_slice(),
-    )
 }
 
 /// Adds what comes behind the parts of a structure.
@@ -177,6 +63,94 @@ pub(crate) fn end_structure(text: &mut String, json: bool) -> Pushed
         return Ok(());
     }
     text.push_str("]}")
+}
+
+impl Field {
+    #[tactic(auto, unfolding(crate::specs::FieldText::field_line))]
+    fn push_line(self, alloc: Global, text: &mut String, bytes: &[u8]) -> Pushed
+        ensures { OnOk result (string_bytes text.new ≡ string_bytes text.old ++ field_line self.0.now self.2.now self.3.now bytes.now) }
+    {
+        let Field(indent, _, name, kind) = self;
+        let bytes = shown_bytes(alloc, bytes)?;
+        writeln!(text, "{indent}{name} {kind} {bytes}")
+    }
+
+    #[tactic(auto, unfolding(crate::specs::FieldText::field_members))]
+    fn push_members(self, alloc: Global, text: &mut String, bytes: &[u8]) -> Pushed
+        ensures { OnOk result (string_bytes text.new ≡ string_bytes text.old ++ field_members self.2.now self.3.now bytes.now) }
+    {
+        let Field(_, _, name, kind) = self;
+        let value = hex::encode(alloc, bytes)?;
+        write!(
+            text,
+            "{{\"name\":\"{name}\",\"type\":\"{kind}\",\"value\":\"{value}\""
+        )
+    }
+
+    #[tactic(auto, unfolding(crate::specs::FieldText::field_head))]
+    fn push_head(self, alloc: Global, text: &mut String, json: bool, bytes: &[u8]) -> Pushed
+        ensures { OnOk result (string_bytes text.new ≡ string_bytes text.old ++ field_head json self.0.now self.1 self.2.now self.3.now bytes.now) }
+    {
+        if !json {
+            return self.push_line(alloc, text, bytes);
+        }
+        push_comma(text, self.1)?;
+        self.push_members(alloc, text, bytes)
+    }
+
+    /// Adds its line or its object, of these bytes.
+    #[tactic(auto, unfolding(crate::specs::FieldText::field_text))]
+    pub(crate) fn push_bytes(
+        self,
+        alloc: Global,
+        text: &mut String,
+        json: bool,
+        bytes: &[u8],
+    ) -> Pushed
+        ensures { OnOk result (string_bytes text.new ≡ string_bytes text.old ++ field_text json self.0.now self.1 self.2.now self.3.now bytes.now) }
+    {
+        self.push_head(alloc, text, json, bytes)?;
+        push_end(text, json)
+    }
+
+    /// Adds its line or its object, of this value.
+    pub(crate) fn push<T: Wire>(
+        self,
+        alloc: Global,
+        text: &mut String,
+        json: bool,
+        value: &T,
+    ) -> Pushed
+        requires { length (spelling T.layout value.now) ≤ 4096 }
+        ensures { OnOk result (string_bytes text.new ≡ string_bytes text.old ++ field_text json self.0.now self.1 self.2.now self.3.now (spelling T.layout value.now)) }
+    {
+        self.push_bytes(alloc, text, json, spelled(value).as_slice())
+    }
+
+    /// Adds what comes before the parts of a structure of these bytes.
+    pub(crate) fn begin(self, alloc: Global, text: &mut String, json: bool, bytes: &[u8]) -> Pushed
+        ensures { OnOk result (string_bytes text.new ≡ string_bytes text.old ++ (field_head json self.0.now self.1 self.2.now self.3.now bytes.now ++ parts_begin json)) }
+    {
+        self.push_head(alloc, text, json, bytes)?;
+        push_parts_begin(text, json)
+    }
+
+    /// Adds its line or its object, of this value, with its parts.
+    #[tactic(auto, unfolding(crate::specs::FieldText::structure_text))]
+    pub(crate) fn push_structure<T: HasParts>(
+        self,
+        alloc: Global,
+        text: &mut String,
+        json: bool,
+        value: &T,
+    ) -> Pushed
+        requires { length (spelling T.layout value.now) ≤ 4096 }
+        ensures { OnOk result (string_bytes text.new ≡ string_bytes text.old ++ structure_text json self.0.now self.1 self.2.now self.3.now (spelling T.layout value.now) (T.told_parts json value.now)) }
+    {
+        self.begin(alloc, text, json, spelled(value).as_slice())?;
+        value.push_parts(alloc, text, json)?;
+        end_structure(text, json)
+    }
 }
 
 /// Adds the line, so far in, or the object of a number by its name.

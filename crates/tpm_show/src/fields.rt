@@ -7,10 +7,7 @@ ghost use Rattle.tpm_commands.specs.Events.{event_bytes};
 ghost use Rattle.tpm_show.specs.FieldText.{field_text};
 ghost use Rattle.tpm_show.specs.Fields.{command_fields, reply_fields};
 
-use crate::field_text::{push_bytes, push_field};
-use crate::parts::{
-    push_digest_values, push_digests, push_public, push_selections, push_symmetric,
-};
+use crate::field_text::Field;
 use std::alloc::{AllocError, Global};
 use tpm_buffer::{CommandBody, Event, ReplyBody, StartAuth};
 use tpm_types::EncryptedSalt;
@@ -30,16 +27,7 @@ fn push_event(
     let mut bytes = Buffer::new();
     (event.len() as u16).put(&mut bytes);
     put_bytes(&mut bytes, event);
-    push_bytes(
-        alloc,
-        text,
-        json,
-        "  ",
-        1,
-        "eventData",
-        "TPM2B_EVENT",
-        bytes.as_slice(),
-    )
+    Field("  ", 1, "eventData", "TPM2B_EVENT").push_bytes(alloc, text, json, bytes.as_slice())
 }
 
 /// Adds a line, or an object of JSON, for each parameter of a command: its name, its type and its bytes (Part 3, the table of the
@@ -55,45 +43,30 @@ pub(crate) fn push_command_fields(
 {
     match body {
         CommandBody::NvDefineSpace { auth, public } => {
-            prove!(auth.len() <= 4096);
-            push_field(alloc, text, json, "  ", 1, "auth", "TPM2B_AUTH", auth)?;
-            push_public(alloc, text, json, 2, "publicInfo", public)
+            prove!(auth.len() + public.len() <= 4096);
+            Field("  ", 1, "auth", "TPM2B_AUTH").push(alloc, text, json, auth)?;
+            Field("  ", 2, "publicInfo", "TPM2B_NV_PUBLIC").push_structure(
+                alloc, text, json, public,
+            )
         }
         CommandBody::PcrEvent { event, .. } => push_event(alloc, text, json, event),
         CommandBody::Startup(startup_type) => {
-            push_field(
-                alloc,
-                text,
-                json,
-                "  ",
-                1,
-                "startupType",
-                "TPM_SU",
-                startup_type,
-            )
+            Field("  ", 1, "startupType", "TPM_SU").push(alloc, text, json, startup_type)
         }
         CommandBody::NvRead { size, offset, .. } => {
-            push_field(alloc, text, json, "  ", 1, "size", "UINT16", size)?;
-            push_field(alloc, text, json, "  ", 2, "offset", "UINT16", offset)
+            Field("  ", 1, "size", "UINT16").push(alloc, text, json, size)?;
+            Field("  ", 2, "offset", "UINT16").push(alloc, text, json, offset)
         }
         CommandBody::FlushContext(session) => {
             prove!(session.len() <= 4096);
-            push_field(
-                alloc,
-                text,
-                json,
-                "  ",
-                1,
-                "flushHandle",
-                "TPMI_DH_CONTEXT",
-                session,
-            )
+            Field("  ", 1, "flushHandle", "TPMI_DH_CONTEXT").push(alloc, text, json, session)
         }
         CommandBody::PolicyCommandCode { code, .. } => {
-            push_field(alloc, text, json, "  ", 1, "code", "TPM_CC", code)
+            Field("  ", 1, "code", "TPM_CC").push(alloc, text, json, code)
         }
         CommandBody::PolicyOr { digests, .. } => {
-            push_digests(alloc, text, json, 1, "pHashList", digests)
+            prove!(digests.len() <= 4096);
+            Field("  ", 1, "pHashList", "TPML_DIGEST").push_structure(alloc, text, json, digests)
         }
         CommandBody::StartAuthSession(start) => {
             let StartAuth {
@@ -103,72 +76,42 @@ pub(crate) fn push_command_fields(
                 auth_hash,
                 ..
             } = start;
-            prove!(nonce_caller.len() + auth_hash.len() <= 4096);
-            push_field(
+            prove!(nonce_caller.len() + symmetric.len() + auth_hash.len() <= 4096);
+            Field("  ", 1, "nonceCaller", "TPM2B_NONCE").push(alloc, text, json, nonce_caller)?;
+            Field("  ", 2, "encryptedSalt", "TPM2B_ENCRYPTED_SECRET").push(
                 alloc,
                 text,
                 json,
-                "  ",
-                1,
-                "nonceCaller",
-                "TPM2B_NONCE",
-                nonce_caller,
-            )?;
-            push_field(
-                alloc,
-                text,
-                json,
-                "  ",
-                2,
-                "encryptedSalt",
-                "TPM2B_ENCRYPTED_SECRET",
                 &EncryptedSalt::Empty,
             )?;
-            push_field(
-                alloc,
-                text,
-                json,
-                "  ",
-                3,
-                "sessionType",
-                "TPM_SE",
-                session_type,
+            Field("  ", 3, "sessionType", "TPM_SE").push(alloc, text, json, session_type)?;
+            Field("  ", 4, "symmetric", "TPMT_SYM_DEF").push_structure(
+                alloc, text, json, symmetric,
             )?;
-            push_symmetric(alloc, text, json, symmetric)?;
-            push_field(
-                alloc,
-                text,
-                json,
-                "  ",
-                5,
-                "authHash",
-                "TPMI_ALG_HASH",
-                auth_hash,
-            )
+            Field("  ", 5, "authHash", "TPMI_ALG_HASH").push(alloc, text, json, auth_hash)
         }
         CommandBody::PcrRead(selections) => {
-            push_selections(alloc, text, json, 1, "pcrSelectionIn", selections)
+            prove!(selections.len() <= 4096);
+            Field("  ", 1, "pcrSelectionIn", "TPML_PCR_SELECTION").push_structure(
+                alloc, text, json, selections,
+            )
         }
         CommandBody::PolicyPcr {
             pcr_digest,
             selections,
             ..
         } => {
-            prove!(pcr_digest.len() <= 4096);
-            push_field(
-                alloc,
-                text,
-                json,
-                "  ",
-                1,
-                "pcrDigest",
-                "TPM2B_DIGEST",
-                pcr_digest,
-            )?;
-            push_selections(alloc, text, json, 2, "pcrs", selections)
+            prove!(pcr_digest.len() + selections.len() <= 4096);
+            Field("  ", 1, "pcrDigest", "TPM2B_DIGEST").push(alloc, text, json, pcr_digest)?;
+            Field("  ", 2, "pcrs", "TPML_PCR_SELECTION").push_structure(
+                alloc, text, json, selections,
+            )
         }
         CommandBody::PcrExtend { digests, .. } => {
-            push_digest_values(alloc, text, json, 1, "digests", digests)
+            prove!(digests.len() <= 4096);
+            Field("  ", 1, "digests", "TPML_DIGEST_VALUES").push_structure(
+                alloc, text, json, digests,
+            )
         }
         CommandBody::NvUndefineSpace { .. }
         | CommandBody::NvIncrement { .. }
@@ -193,69 +136,41 @@ pub(crate) fn push_reply_fields(
 {
     match body {
         ReplyBody::PcrEvent(digests) => {
-            push_digest_values(alloc, text, json, 1, "digests", digests)
+            prove!(digests.len() <= 4096);
+            Field("  ", 1, "digests", "TPML_DIGEST_VALUES").push_structure(
+                alloc, text, json, digests,
+            )
         }
         ReplyBody::NvRead(data) => {
             prove!(data.len() <= 4096);
-            push_field(
-                alloc,
-                text,
-                json,
-                "  ",
-                1,
-                "data",
-                "TPM2B_MAX_NV_BUFFER",
-                data,
-            )
+            Field("  ", 1, "data", "TPM2B_MAX_NV_BUFFER").push(alloc, text, json, data)
         }
         ReplyBody::NvReadPublic { public, name } => {
-            prove!(name.len() <= 4096);
-            push_public(alloc, text, json, 1, "nvPublic", public)?;
-            push_field(alloc, text, json, "  ", 2, "nvName", "TPM2B_NAME", name)
+            prove!(public.len() + name.len() <= 4096);
+            Field("  ", 1, "nvPublic", "TPM2B_NV_PUBLIC").push_structure(
+                alloc, text, json, public,
+            )?;
+            Field("  ", 2, "nvName", "TPM2B_NAME").push(alloc, text, json, name)
         }
         ReplyBody::StartAuthSession(reply) => {
             prove!(reply.nonce_tpm.len() <= 4096);
-            push_field(
-                alloc,
-                text,
-                json,
-                "  ",
-                1,
-                "nonceTPM",
-                "TPM2B_NONCE",
-                &reply.nonce_tpm,
-            )
+            Field("  ", 1, "nonceTPM", "TPM2B_NONCE").push(alloc, text, json, &reply.nonce_tpm)
         }
         ReplyBody::PcrRead {
             update_counter,
             selections,
             digests,
         } => {
-            push_field(
-                alloc,
-                text,
-                json,
-                "  ",
-                1,
-                "pcrUpdateCounter",
-                "UINT32",
-                update_counter,
+            prove!(selections.len() + digests.len() <= 4096);
+            Field("  ", 1, "pcrUpdateCounter", "UINT32").push(alloc, text, json, update_counter)?;
+            Field("  ", 2, "pcrSelectionOut", "TPML_PCR_SELECTION").push_structure(
+                alloc, text, json, selections,
             )?;
-            push_selections(alloc, text, json, 2, "pcrSelectionOut", selections)?;
-            push_digests(alloc, text, json, 3, "pcrValues", digests)
+            Field("  ", 3, "pcrValues", "TPML_DIGEST").push_structure(alloc, text, json, digests)
         }
         ReplyBody::PolicyGetDigest(digest) => {
             prove!(digest.len() <= 4096);
-            push_field(
-                alloc,
-                text,
-                json,
-                "  ",
-                1,
-                "policyDigest",
-                "TPM2B_DIGEST",
-                digest,
-            )
+            Field("  ", 1, "policyDigest", "TPM2B_DIGEST").push(alloc, text, json, digest)
         }
         ReplyBody::NvUndefineSpace
         | ReplyBody::NvDefineSpace

@@ -1,5 +1,5 @@
 use Rattle.tpm_show.specs.FieldText.{field_line}
-use Rattle.tpm_show.proofs.field_text.push_line.Goals as goal
+use Rattle.tpm_show.proofs.field_text.Field.push_line.Goals as goal
 
 pub returns : goal.returns
 unfolding field_line
