@@ -3,7 +3,7 @@
 ghost use Rattle.std.specs.Prelude.{◌≡◌, ◌++◌, ℕ, List, true, IfOk, OnOk, string_bytes};
 ghost use Rattle.tpm_text.specs.declared.status.Status.TheVariants.{Refused};
 ghost use Rattle.tpm_show.specs.Fields.{command_fields, reply_fields};
-ghost use Rattle.tpm_show.specs.FrameJson.{code_member, command_members, fault_object, fields_member, handles_member, handles_of, head_members, refusal_members, reply_members, response_members, sessions_member, stop_object, HasCommandMembers, HasReplyMembers};
+ghost use Rattle.tpm_show.specs.FrameJson.{code_member, command_members, fault_object, fields_member, handles_member, handles_of, head_members, refusal_members, response_members, sessions_member, stop_object, HasCommandMembers, HasReplyMembers};
 
 use crate::fields::{push_command_fields, push_reply_fields};
 use crate::shown_fields::{command_and_areas, response_and_areas};
@@ -190,25 +190,6 @@ fn push_reply_handle(text: &mut String, handle: Option<u32>) -> Pushed
 }
 
 #[tactic(auto, unfolding(crate::specs::FrameJson::reply_members))]
-fn push_reply_members(
-    alloc: Global,
-    text: &mut String,
-    fields: bool,
-    command: CommandCode,
-    size: usize,
-    areas: &ReplyAreas<'_>,
-    body: &ReplyBody,
-) -> Pushed
-    ensures { OnOk result (string_bytes text.new ≡ string_bytes text.old ++ reply_members fields command size areas.now body.now) }
-{
-    push_head(text, command, size)?;
-    push_reply_handle(text, areas.handle())?;
-    push_hex_member(alloc, text, "parameters", areas.params())?;
-    push_fields_member(alloc, text, fields, body)?;
-    push_sessions_member(alloc, text, areas)?;
-    Ok(())
-}
-
 fn push_response_members(
     alloc: Global,
     text: &mut String,
@@ -223,7 +204,11 @@ fn push_response_members(
     match response {
         Response::Code(code) => push_code_member(text, code.number()),
         Response::Done { body, .. } => {
-            push_reply_members(alloc, text, fields, command, size, areas, body)
+            push_head(text, command, size)?;
+            push_reply_handle(text, areas.handle())?;
+            push_hex_member(alloc, text, "parameters", areas.params())?;
+            push_fields_member(alloc, text, fields, body)?;
+            push_sessions_member(alloc, text, areas)
         }
     }
 }

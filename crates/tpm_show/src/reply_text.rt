@@ -2,7 +2,7 @@
 
 ghost use Rattle.std.specs.Prelude.{◌≡◌, ◌++◌, OnOk, string_bytes};
 ghost use Rattle.tpm_text.specs.Text.{lines_from};
-ghost use Rattle.tpm_show.specs.ReplyText.{reply_code_line, reply_line, reply_handle_line, reply_session_line, reply_text, response_text};
+ghost use Rattle.tpm_show.specs.ReplyText.{reply_code_line, reply_line, reply_handle_line, reply_session_line, response_text};
 
 use std::alloc::Global;
 use tpm_buffer::{CommandCode, ReplyAreas};
@@ -43,24 +43,8 @@ pub(crate) fn push_sessions(alloc: Global, text: &mut String, areas: &ReplyAreas
     sessions::push_sessions(alloc, text, false, areas)
 }
 
-#[tactic(auto, unfolding(crate::specs::ReplyText::reply_text))]
-fn push_reply(
-    alloc: Global,
-    text: &mut String,
-    command: CommandCode,
-    size: usize,
-    areas: &ReplyAreas<'_>,
-) -> Pushed
-    ensures { OnOk result (string_bytes text.new ≡ string_bytes text.old ++ reply_text command size areas.now) }
-{
-    push_name(text, command, size)?;
-    push_first_handle(text, areas.handle())?;
-    push_parameters(alloc, text, areas.params())?;
-    push_sessions(alloc, text, areas)?;
-    Ok(())
-}
-
 /// Adds the lines of a response to this command, of so many bytes.
+#[tactic(auto, unfolding(crate::specs::ReplyText::reply_text))]
 pub(crate) fn push_response(
     alloc: Global,
     text: &mut String,
@@ -71,9 +55,11 @@ pub(crate) fn push_response(
     ensures { OnOk result (string_bytes text.new ≡ string_bytes text.old ++ response_text command size areas.now) }
 {
     let code = areas.code();
-    if code == 0 {
-        push_reply(alloc, text, command, size, areas)
-    } else {
-        push_code(text, code)
+    if code != 0 {
+        return push_code(text, code);
     }
+    push_name(text, command, size)?;
+    push_first_handle(text, areas.handle())?;
+    push_parameters(alloc, text, areas.params())?;
+    push_sessions(alloc, text, areas)
 }

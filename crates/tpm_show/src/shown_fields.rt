@@ -7,15 +7,15 @@ ghost use Rattle.tpm_buffer.specs.Commands.{command};
 ghost use Rattle.tpm_buffer.specs.CommandAreas.{HasCut};
 ghost use Rattle.tpm_buffer.specs.Responses.{reply_cut, response};
 ghost use Rattle.tpm_text.specs.Faults.{FailsByMemoryOrWrite};
-ghost use Rattle.tpm_show.specs.Fields.{command_fields_text, reply_fields_text, response_fields_text, ShowsCommand, ShowsReply, ShowsFields};
+ghost use Rattle.tpm_show.specs.Fields.{command_fields_text, response_fields_text, ShowsCommand, ShowsReply, ShowsFields};
 
 use crate::fields::{push_command_fields, push_reply_fields};
 use crate::reply_text::{push_code, push_first_handle, push_name, push_sessions};
 use std::alloc::{AllocError, Global};
 use std::io::Write;
 use tpm_buffer::{
-    Areas, Command, CommandBody, CommandCode, ReplyAreas, ReplyBody, Response, areas,
-    areas_of_a_response, decode_command, decode_response, fault_before_params, reply_areas,
+    Areas, Command, CommandBody, CommandCode, ReplyAreas, Response, areas, areas_of_a_response,
+    decode_command, decode_response, fault_before_params, reply_areas,
 };
 use tpm_text::answer::Answer;
 use tpm_text::fault::ToolFault;
@@ -82,23 +82,6 @@ pub(crate) fn response_and_areas(
 }
 
 #[tactic(auto, unfolding(crate::specs::Fields::reply_fields_text))]
-fn push_reply_text(
-    alloc: Global,
-    text: &mut String,
-    command: CommandCode,
-    size: usize,
-    areas: &ReplyAreas<'_>,
-    body: &ReplyBody,
-) -> Result<(), AllocError>
-    ensures { OnOk result (string_bytes text.new ≡ string_bytes text.old ++ reply_fields_text command size areas.now body.now) }
-{
-    push_name(text, command, size)?;
-    push_first_handle(text, areas.handle())?;
-    push_parameters(alloc, text, areas.params())?;
-    push_reply_fields(alloc, text, false, body)?;
-    push_sessions(alloc, text, areas)
-}
-
 fn push_response_text(
     alloc: Global,
     text: &mut String,
@@ -111,7 +94,13 @@ fn push_response_text(
 {
     match response {
         Response::Code(code) => push_code(text, code.number()),
-        Response::Done { body, .. } => push_reply_text(alloc, text, command, size, areas, body),
+        Response::Done { body, .. } => {
+            push_name(text, command, size)?;
+            push_first_handle(text, areas.handle())?;
+            push_parameters(alloc, text, areas.params())?;
+            push_reply_fields(alloc, text, false, body)?;
+            push_sessions(alloc, text, areas)
+        }
     }
 }
 
