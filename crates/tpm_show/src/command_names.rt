@@ -6,6 +6,7 @@ ghost use Rattle.tpm_show.specs.Capture.{refusal_text};
 ghost use Rattle.tpm_show.specs.CommandNames.{absent_line, absent_member, absent_named, absent_text, absent_behind};
 
 use crate::frame_json::answer_to_refusal;
+use crate::tables::names;
 use std::alloc::{AllocError, Global};
 use tpm_text::answer::Answer;
 use tpm_text::named::{Named, look_up};
@@ -14,487 +15,127 @@ use tpm_wire::Refusal;
 use tpm_wire::response_code::COMMAND_CODE;
 
 // All commands (Part 2, 6.5.2, TPM_CC), without the TPM2_ of their names.
-const COMMANDS: [Named; 120] = [
-    Named {
-        number: 0x11f,
-        name: "NV_UndefineSpaceSpecial",
-    },
-    Named {
-        number: 0x120,
-        name: "EvictControl",
-    },
-    Named {
-        number: 0x121,
-        name: "HierarchyControl",
-    },
-    Named {
-        number: 0x122,
-        name: "NV_UndefineSpace",
-    },
-    Named {
-        number: 0x124,
-        name: "ChangeEPS",
-    },
-    Named {
-        number: 0x125,
-        name: "ChangePPS",
-    },
-    Named {
-        number: 0x126,
-        name: "Clear",
-    },
-    Named {
-        number: 0x127,
-        name: "ClearControl",
-    },
-    Named {
-        number: 0x128,
-        name: "ClockSet",
-    },
-    Named {
-        number: 0x129,
-        name: "HierarchyChangeAuth",
-    },
-    Named {
-        number: 0x12a,
-        name: "NV_DefineSpace",
-    },
-    Named {
-        number: 0x12b,
-        name: "PCR_Allocate",
-    },
-    Named {
-        number: 0x12c,
-        name: "PCR_SetAuthPolicy",
-    },
-    Named {
-        number: 0x12d,
-        name: "PP_Commands",
-    },
-    Named {
-        number: 0x12e,
-        name: "SetPrimaryPolicy",
-    },
-    Named {
-        number: 0x12f,
-        name: "FieldUpgradeStart",
-    },
-    Named {
-        number: 0x130,
-        name: "ClockRateAdjust",
-    },
-    Named {
-        number: 0x131,
-        name: "CreatePrimary",
-    },
-    Named {
-        number: 0x132,
-        name: "NV_GlobalWriteLock",
-    },
-    Named {
-        number: 0x133,
-        name: "GetCommandAuditDigest",
-    },
-    Named {
-        number: 0x134,
-        name: "NV_Increment",
-    },
-    Named {
-        number: 0x135,
-        name: "NV_SetBits",
-    },
-    Named {
-        number: 0x136,
-        name: "NV_Extend",
-    },
-    Named {
-        number: 0x137,
-        name: "NV_Write",
-    },
-    Named {
-        number: 0x138,
-        name: "NV_WriteLock",
-    },
-    Named {
-        number: 0x139,
-        name: "DictionaryAttackLockReset",
-    },
-    Named {
-        number: 0x13a,
-        name: "DictionaryAttackParameters",
-    },
-    Named {
-        number: 0x13b,
-        name: "NV_ChangeAuth",
-    },
-    Named {
-        number: 0x13c,
-        name: "PCR_Event",
-    },
-    Named {
-        number: 0x13d,
-        name: "PCR_Reset",
-    },
-    Named {
-        number: 0x13e,
-        name: "SequenceComplete",
-    },
-    Named {
-        number: 0x13f,
-        name: "SetAlgorithmSet",
-    },
-    Named {
-        number: 0x140,
-        name: "SetCommandCodeAuditStatus",
-    },
-    Named {
-        number: 0x141,
-        name: "FieldUpgradeData",
-    },
-    Named {
-        number: 0x142,
-        name: "IncrementalSelfTest",
-    },
-    Named {
-        number: 0x143,
-        name: "SelfTest",
-    },
-    Named {
-        number: 0x144,
-        name: "Startup",
-    },
-    Named {
-        number: 0x145,
-        name: "Shutdown",
-    },
-    Named {
-        number: 0x146,
-        name: "StirRandom",
-    },
-    Named {
-        number: 0x147,
-        name: "ActivateCredential",
-    },
-    Named {
-        number: 0x148,
-        name: "Certify",
-    },
-    Named {
-        number: 0x149,
-        name: "PolicyNV",
-    },
-    Named {
-        number: 0x14a,
-        name: "CertifyCreation",
-    },
-    Named {
-        number: 0x14b,
-        name: "Duplicate",
-    },
-    Named {
-        number: 0x14c,
-        name: "GetTime",
-    },
-    Named {
-        number: 0x14d,
-        name: "GetSessionAuditDigest",
-    },
-    Named {
-        number: 0x14e,
-        name: "NV_Read",
-    },
-    Named {
-        number: 0x14f,
-        name: "NV_ReadLock",
-    },
-    Named {
-        number: 0x150,
-        name: "ObjectChangeAuth",
-    },
-    Named {
-        number: 0x151,
-        name: "PolicySecret",
-    },
-    Named {
-        number: 0x152,
-        name: "Rewrap",
-    },
-    Named {
-        number: 0x153,
-        name: "Create",
-    },
-    Named {
-        number: 0x154,
-        name: "ECDH_ZGen",
-    },
-    Named {
-        number: 0x155,
-        name: "HMAC",
-    },
-    Named {
-        number: 0x156,
-        name: "Import",
-    },
-    Named {
-        number: 0x157,
-        name: "Load",
-    },
-    Named {
-        number: 0x158,
-        name: "Quote",
-    },
-    Named {
-        number: 0x159,
-        name: "RSA_Decrypt",
-    },
-    Named {
-        number: 0x15b,
-        name: "HMAC_Start",
-    },
-    Named {
-        number: 0x15c,
-        name: "SequenceUpdate",
-    },
-    Named {
-        number: 0x15d,
-        name: "Sign",
-    },
-    Named {
-        number: 0x15e,
-        name: "Unseal",
-    },
-    Named {
-        number: 0x160,
-        name: "PolicySigned",
-    },
-    Named {
-        number: 0x161,
-        name: "ContextLoad",
-    },
-    Named {
-        number: 0x162,
-        name: "ContextSave",
-    },
-    Named {
-        number: 0x163,
-        name: "ECDH_KeyGen",
-    },
-    Named {
-        number: 0x164,
-        name: "EncryptDecrypt",
-    },
-    Named {
-        number: 0x165,
-        name: "FlushContext",
-    },
-    Named {
-        number: 0x167,
-        name: "LoadExternal",
-    },
-    Named {
-        number: 0x168,
-        name: "MakeCredential",
-    },
-    Named {
-        number: 0x169,
-        name: "NV_ReadPublic",
-    },
-    Named {
-        number: 0x16a,
-        name: "PolicyAuthorize",
-    },
-    Named {
-        number: 0x16b,
-        name: "PolicyAuthValue",
-    },
-    Named {
-        number: 0x16c,
-        name: "PolicyCommandCode",
-    },
-    Named {
-        number: 0x16d,
-        name: "PolicyCounterTimer",
-    },
-    Named {
-        number: 0x16e,
-        name: "PolicyCpHash",
-    },
-    Named {
-        number: 0x16f,
-        name: "PolicyLocality",
-    },
-    Named {
-        number: 0x170,
-        name: "PolicyNameHash",
-    },
-    Named {
-        number: 0x171,
-        name: "PolicyOR",
-    },
-    Named {
-        number: 0x172,
-        name: "PolicyTicket",
-    },
-    Named {
-        number: 0x173,
-        name: "ReadPublic",
-    },
-    Named {
-        number: 0x174,
-        name: "RSA_Encrypt",
-    },
-    Named {
-        number: 0x176,
-        name: "StartAuthSession",
-    },
-    Named {
-        number: 0x177,
-        name: "VerifySignature",
-    },
-    Named {
-        number: 0x178,
-        name: "ECC_Parameters",
-    },
-    Named {
-        number: 0x179,
-        name: "FirmwareRead",
-    },
-    Named {
-        number: 0x17a,
-        name: "GetCapability",
-    },
-    Named {
-        number: 0x17b,
-        name: "GetRandom",
-    },
-    Named {
-        number: 0x17c,
-        name: "GetTestResult",
-    },
-    Named {
-        number: 0x17d,
-        name: "Hash",
-    },
-    Named {
-        number: 0x17e,
-        name: "PCR_Read",
-    },
-    Named {
-        number: 0x17f,
-        name: "PolicyPCR",
-    },
-    Named {
-        number: 0x180,
-        name: "PolicyRestart",
-    },
-    Named {
-        number: 0x181,
-        name: "ReadClock",
-    },
-    Named {
-        number: 0x182,
-        name: "PCR_Extend",
-    },
-    Named {
-        number: 0x183,
-        name: "PCR_SetAuthValue",
-    },
-    Named {
-        number: 0x184,
-        name: "NV_Certify",
-    },
-    Named {
-        number: 0x185,
-        name: "EventSequenceComplete",
-    },
-    Named {
-        number: 0x186,
-        name: "HashSequenceStart",
-    },
-    Named {
-        number: 0x187,
-        name: "PolicyPhysicalPresence",
-    },
-    Named {
-        number: 0x188,
-        name: "PolicyDuplicationSelect",
-    },
-    Named {
-        number: 0x189,
-        name: "PolicyGetDigest",
-    },
-    Named {
-        number: 0x18a,
-        name: "TestParms",
-    },
-    Named {
-        number: 0x18b,
-        name: "Commit",
-    },
-    Named {
-        number: 0x18c,
-        name: "PolicyPassword",
-    },
-    Named {
-        number: 0x18d,
-        name: "ZGen_2Phase",
-    },
-    Named {
-        number: 0x18e,
-        name: "EC_Ephemeral",
-    },
-    Named {
-        number: 0x18f,
-        name: "PolicyNvWritten",
-    },
-    Named {
-        number: 0x190,
-        name: "PolicyTemplate",
-    },
-    Named {
-        number: 0x191,
-        name: "CreateLoaded",
-    },
-    Named {
-        number: 0x192,
-        name: "PolicyAuthorizeNV",
-    },
-    Named {
-        number: 0x193,
-        name: "EncryptDecrypt2",
-    },
-    Named {
-        number: 0x194,
-        name: "AC_GetCapability",
-    },
-    Named {
-        number: 0x195,
-        name: "AC_Send",
-    },
-    Named {
-        number: 0x196,
-        name: "Policy_AC_SendSelect",
-    },
-    Named {
-        number: 0x197,
-        name: "CertifyX509",
-    },
-    Named {
-        number: 0x198,
-        name: "ACT_SetTimeout",
-    },
-    Named {
-        number: 0x199,
-        name: "ECC_Encrypt",
-    },
-    Named {
-        number: 0x19a,
-        name: "ECC_Decrypt",
-    },
-    Named {
-        number: 0x20000000,
-        name: "Vendor_TCG_Test",
-    },
+const COMMANDS: [Named; 120] = names![
+    0x11f "NV_UndefineSpaceSpecial",
+    0x120 "EvictControl",
+    0x121 "HierarchyControl",
+    0x122 "NV_UndefineSpace",
+    0x124 "ChangeEPS",
+    0x125 "ChangePPS",
+    0x126 "Clear",
+    0x127 "ClearControl",
+    0x128 "ClockSet",
+    0x129 "HierarchyChangeAuth",
+    0x12a "NV_DefineSpace",
+    0x12b "PCR_Allocate",
+    0x12c "PCR_SetAuthPolicy",
+    0x12d "PP_Commands",
+    0x12e "SetPrimaryPolicy",
+    0x12f "FieldUpgradeStart",
+    0x130 "ClockRateAdjust",
+    0x131 "CreatePrimary",
+    0x132 "NV_GlobalWriteLock",
+    0x133 "GetCommandAuditDigest",
+    0x134 "NV_Increment",
+    0x135 "NV_SetBits",
+    0x136 "NV_Extend",
+    0x137 "NV_Write",
+    0x138 "NV_WriteLock",
+    0x139 "DictionaryAttackLockReset",
+    0x13a "DictionaryAttackParameters",
+    0x13b "NV_ChangeAuth",
+    0x13c "PCR_Event",
+    0x13d "PCR_Reset",
+    0x13e "SequenceComplete",
+    0x13f "SetAlgorithmSet",
+    0x140 "SetCommandCodeAuditStatus",
+    0x141 "FieldUpgradeData",
+    0x142 "IncrementalSelfTest",
+    0x143 "SelfTest",
+    0x144 "Startup",
+    0x145 "Shutdown",
+    0x146 "StirRandom",
+    0x147 "ActivateCredential",
+    0x148 "Certify",
+    0x149 "PolicyNV",
+    0x14a "CertifyCreation",
+    0x14b "Duplicate",
+    0x14c "GetTime",
+    0x14d "GetSessionAuditDigest",
+    0x14e "NV_Read",
+    0x14f "NV_ReadLock",
+    0x150 "ObjectChangeAuth",
+    0x151 "PolicySecret",
+    0x152 "Rewrap",
+    0x153 "Create",
+    0x154 "ECDH_ZGen",
+    0x155 "HMAC",
+    0x156 "Import",
+    0x157 "Load",
+    0x158 "Quote",
+    0x159 "RSA_Decrypt",
+    0x15b "HMAC_Start",
+    0x15c "SequenceUpdate",
+    0x15d "Sign",
+    0x15e "Unseal",
+    0x160 "PolicySigned",
+    0x161 "ContextLoad",
+    0x162 "ContextSave",
+    0x163 "ECDH_KeyGen",
+    0x164 "EncryptDecrypt",
+    0x165 "FlushContext",
+    0x167 "LoadExternal",
+    0x168 "MakeCredential",
+    0x169 "NV_ReadPublic",
+    0x16a "PolicyAuthorize",
+    0x16b "PolicyAuthValue",
+    0x16c "PolicyCommandCode",
+    0x16d "PolicyCounterTimer",
+    0x16e "PolicyCpHash",
+    0x16f "PolicyLocality",
+    0x170 "PolicyNameHash",
+    0x171 "PolicyOR",
+    0x172 "PolicyTicket",
+    0x173 "ReadPublic",
+    0x174 "RSA_Encrypt",
+    0x176 "StartAuthSession",
+    0x177 "VerifySignature",
+    0x178 "ECC_Parameters",
+    0x179 "FirmwareRead",
+    0x17a "GetCapability",
+    0x17b "GetRandom",
+    0x17c "GetTestResult",
+    0x17d "Hash",
+    0x17e "PCR_Read",
+    0x17f "PolicyPCR",
+    0x180 "PolicyRestart",
+    0x181 "ReadClock",
+    0x182 "PCR_Extend",
+    0x183 "PCR_SetAuthValue",
+    0x184 "NV_Certify",
+    0x185 "EventSequenceComplete",
+    0x186 "HashSequenceStart",
+    0x187 "PolicyPhysicalPresence",
+    0x188 "PolicyDuplicationSelect",
+    0x189 "PolicyGetDigest",
+    0x18a "TestParms",
+    0x18b "Commit",
+    0x18c "PolicyPassword",
+    0x18d "ZGen_2Phase",
+    0x18e "EC_Ephemeral",
+    0x18f "PolicyNvWritten",
+    0x190 "PolicyTemplate",
+    0x191 "CreateLoaded",
+    0x192 "PolicyAuthorizeNV",
+    0x193 "EncryptDecrypt2",
+    0x194 "AC_GetCapability",
+    0x195 "AC_Send",
+    0x196 "Policy_AC_SendSelect",
+    0x197 "CertifyX509",
+    0x198 "ACT_SetTimeout",
+    0x199 "ECC_Encrypt",
+    0x19a "ECC_Decrypt",
+    0x20000000 "Vendor_TCG_Test",
 ];
 
 // The refusal of a command whose code is none of this profile.

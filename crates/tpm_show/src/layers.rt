@@ -5,6 +5,7 @@ ghost use Rattle.tpm_show.specs.Layers.{layer_as, layer_in, layer_of, base_of};
 ghost use Rattle.tpm_show.specs.Meanings.{meaning_as};
 
 use crate::meaning::{Meaning, look_up};
+use crate::tables::meanings;
 
 /// Which codes a layer answers.
 #[derive(Clone, Copy)]
@@ -75,272 +76,60 @@ const LAYERS: [Layer; 7] = [
 ];
 
 // The base codes, by their names in tss2_common.h.
-const BASE_CODES: [Meaning; 53] = [
-    Meaning {
-        code: 1,
-        name: "GENERAL_FAILURE",
-        words: "a failure that has no code of its own",
-    },
-    Meaning {
-        code: 2,
-        name: "NOT_IMPLEMENTED",
-        words: "the function is not implemented",
-    },
-    Meaning {
-        code: 3,
-        name: "BAD_CONTEXT",
-        words: "the context is bad",
-    },
-    Meaning {
-        code: 4,
-        name: "ABI_MISMATCH",
-        words: "the version of the interface is not that of the module that was called",
-    },
-    Meaning {
-        code: 5,
-        name: "BAD_REFERENCE",
-        words: "a pointer is null where it must not be",
-    },
-    Meaning {
-        code: 6,
-        name: "INSUFFICIENT_BUFFER",
-        words: "the buffer is too small",
-    },
-    Meaning {
-        code: 7,
-        name: "BAD_SEQUENCE",
-        words: "the function was called in the wrong order",
-    },
-    Meaning {
-        code: 8,
-        name: "NO_CONNECTION",
-        words: "the next lower layer cannot be reached",
-    },
-    Meaning {
-        code: 9,
-        name: "TRY_AGAIN",
-        words: "the operation has not ended, and the function must be called again",
-    },
-    Meaning {
-        code: 10,
-        name: "IO_ERROR",
-        words: "reading or writing failed",
-    },
-    Meaning {
-        code: 11,
-        name: "BAD_VALUE",
-        words: "a parameter has a bad value",
-    },
-    Meaning {
-        code: 12,
-        name: "NOT_PERMITTED",
-        words: "the operation is not permitted",
-    },
-    Meaning {
-        code: 13,
-        name: "INVALID_SESSIONS",
-        words: "there are sessions that the command does not use, or the wrong number of them",
-    },
-    Meaning {
-        code: 14,
-        name: "NO_DECRYPT_PARAM",
-        words: "the command has no parameter to decrypt",
-    },
-    Meaning {
-        code: 15,
-        name: "NO_ENCRYPT_PARAM",
-        words: "the command has no parameter to encrypt",
-    },
-    Meaning {
-        code: 16,
-        name: "BAD_SIZE",
-        words: "a parameter has the wrong size",
-    },
-    Meaning {
-        code: 17,
-        name: "MALFORMED_RESPONSE",
-        words: "the response is malformed",
-    },
-    Meaning {
-        code: 18,
-        name: "INSUFFICIENT_CONTEXT",
-        words: "the context is too small",
-    },
-    Meaning {
-        code: 19,
-        name: "INSUFFICIENT_RESPONSE",
-        words: "the response is too short",
-    },
-    Meaning {
-        code: 20,
-        name: "INCOMPATIBLE_TCTI",
-        words: "the transmission interface is of an unknown or unusable version",
-    },
-    Meaning {
-        code: 21,
-        name: "NOT_SUPPORTED",
-        words: "the function is not supported",
-    },
-    Meaning {
-        code: 22,
-        name: "BAD_TCTI_STRUCTURE",
-        words: "the context of the transmission interface is bad",
-    },
-    Meaning {
-        code: 23,
-        name: "MEMORY",
-        words: "there is not enough memory",
-    },
-    Meaning {
-        code: 24,
-        name: "BAD_TR",
-        words: "the handle of an ESYS_TR is not valid",
-    },
-    Meaning {
-        code: 25,
-        name: "MULTIPLE_DECRYPT_SESSIONS",
-        words: "more than one session decrypts",
-    },
-    Meaning {
-        code: 26,
-        name: "MULTIPLE_ENCRYPT_SESSIONS",
-        words: "more than one session encrypts",
-    },
-    Meaning {
-        code: 27,
-        name: "RSP_AUTH_FAILED",
-        words: "the HMAC of the TPM's response is not right",
-    },
-    Meaning {
-        code: 28,
-        name: "NO_CONFIG",
-        words: "there is no configuration",
-    },
-    Meaning {
-        code: 29,
-        name: "BAD_PATH",
-        words: "the path is bad",
-    },
-    Meaning {
-        code: 30,
-        name: "NOT_DELETABLE",
-        words: "the object cannot be deleted",
-    },
-    Meaning {
-        code: 31,
-        name: "PATH_ALREADY_EXISTS",
-        words: "the path exists already",
-    },
-    Meaning {
-        code: 32,
-        name: "KEY_NOT_FOUND",
-        words: "the key was not found",
-    },
-    Meaning {
-        code: 33,
-        name: "SIGNATURE_VERIFICATION_FAILED",
-        words: "the signature is not right",
-    },
-    Meaning {
-        code: 34,
-        name: "HASH_MISMATCH",
-        words: "the hash is another",
-    },
-    Meaning {
-        code: 35,
-        name: "KEY_NOT_DUPLICABLE",
-        words: "the key cannot be duplicated",
-    },
-    Meaning {
-        code: 36,
-        name: "PATH_NOT_FOUND",
-        words: "the path was not found",
-    },
-    Meaning {
-        code: 37,
-        name: "NO_CERT",
-        words: "there is no certificate",
-    },
-    Meaning {
-        code: 38,
-        name: "NO_PCR",
-        words: "there is no register",
-    },
-    Meaning {
-        code: 39,
-        name: "PCR_NOT_RESETTABLE",
-        words: "the register cannot be reset",
-    },
-    Meaning {
-        code: 40,
-        name: "BAD_TEMPLATE",
-        words: "the template is bad",
-    },
-    Meaning {
-        code: 41,
-        name: "AUTHORIZATION_FAILED",
-        words: "the authorization failed",
-    },
-    Meaning {
-        code: 42,
-        name: "AUTHORIZATION_UNKNOWN",
-        words: "the authorization is not known",
-    },
-    Meaning {
-        code: 43,
-        name: "NV_NOT_READABLE",
-        words: "the index cannot be read",
-    },
-    Meaning {
-        code: 44,
-        name: "NV_TOO_SMALL",
-        words: "the index is too small",
-    },
-    Meaning {
-        code: 45,
-        name: "NV_NOT_WRITEABLE",
-        words: "the index cannot be written",
-    },
-    Meaning {
-        code: 46,
-        name: "POLICY_UNKNOWN",
-        words: "the policy is not known",
-    },
-    Meaning {
-        code: 47,
-        name: "NV_WRONG_TYPE",
-        words: "the index has the wrong type",
-    },
-    Meaning {
-        code: 48,
-        name: "NAME_ALREADY_EXISTS",
-        words: "the name exists already",
-    },
-    Meaning {
-        code: 49,
-        name: "NO_TPM",
-        words: "there is no TPM",
-    },
-    Meaning {
-        code: 50,
-        name: "BAD_KEY",
-        words: "the key is bad",
-    },
-    Meaning {
-        code: 51,
-        name: "NO_HANDLE",
-        words: "there is no handle",
-    },
-    Meaning {
-        code: 52,
-        name: "NOT_PROVISIONED",
-        words: "the TPM is not provisioned",
-    },
-    Meaning {
-        code: 53,
-        name: "ALREADY_PROVISIONED",
-        words: "the TPM is provisioned already",
-    },
+const BASE_CODES: [Meaning; 53] = meanings![
+    1 "GENERAL_FAILURE" "a failure that has no code of its own",
+    2 "NOT_IMPLEMENTED" "the function is not implemented",
+    3 "BAD_CONTEXT" "the context is bad",
+    4 "ABI_MISMATCH" "the version of the interface is not that of the module that was called",
+    5 "BAD_REFERENCE" "a pointer is null where it must not be",
+    6 "INSUFFICIENT_BUFFER" "the buffer is too small",
+    7 "BAD_SEQUENCE" "the function was called in the wrong order",
+    8 "NO_CONNECTION" "the next lower layer cannot be reached",
+    9 "TRY_AGAIN" "the operation has not ended, and the function must be called again",
+    10 "IO_ERROR" "reading or writing failed",
+    11 "BAD_VALUE" "a parameter has a bad value",
+    12 "NOT_PERMITTED" "the operation is not permitted",
+    13 "INVALID_SESSIONS" "there are sessions that the command does not use, or the wrong number of them",
+    14 "NO_DECRYPT_PARAM" "the command has no parameter to decrypt",
+    15 "NO_ENCRYPT_PARAM" "the command has no parameter to encrypt",
+    16 "BAD_SIZE" "a parameter has the wrong size",
+    17 "MALFORMED_RESPONSE" "the response is malformed",
+    18 "INSUFFICIENT_CONTEXT" "the context is too small",
+    19 "INSUFFICIENT_RESPONSE" "the response is too short",
+    20 "INCOMPATIBLE_TCTI" "the transmission interface is of an unknown or unusable version",
+    21 "NOT_SUPPORTED" "the function is not supported",
+    22 "BAD_TCTI_STRUCTURE" "the context of the transmission interface is bad",
+    23 "MEMORY" "there is not enough memory",
+    24 "BAD_TR" "the handle of an ESYS_TR is not valid",
+    25 "MULTIPLE_DECRYPT_SESSIONS" "more than one session decrypts",
+    26 "MULTIPLE_ENCRYPT_SESSIONS" "more than one session encrypts",
+    27 "RSP_AUTH_FAILED" "the HMAC of the TPM's response is not right",
+    28 "NO_CONFIG" "there is no configuration",
+    29 "BAD_PATH" "the path is bad",
+    30 "NOT_DELETABLE" "the object cannot be deleted",
+    31 "PATH_ALREADY_EXISTS" "the path exists already",
+    32 "KEY_NOT_FOUND" "the key was not found",
+    33 "SIGNATURE_VERIFICATION_FAILED" "the signature is not right",
+    34 "HASH_MISMATCH" "the hash is another",
+    35 "KEY_NOT_DUPLICABLE" "the key cannot be duplicated",
+    36 "PATH_NOT_FOUND" "the path was not found",
+    37 "NO_CERT" "there is no certificate",
+    38 "NO_PCR" "there is no register",
+    39 "PCR_NOT_RESETTABLE" "the register cannot be reset",
+    40 "BAD_TEMPLATE" "the template is bad",
+    41 "AUTHORIZATION_FAILED" "the authorization failed",
+    42 "AUTHORIZATION_UNKNOWN" "the authorization is not known",
+    43 "NV_NOT_READABLE" "the index cannot be read",
+    44 "NV_TOO_SMALL" "the index is too small",
+    45 "NV_NOT_WRITEABLE" "the index cannot be written",
+    46 "POLICY_UNKNOWN" "the policy is not known",
+    47 "NV_WRONG_TYPE" "the index has the wrong type",
+    48 "NAME_ALREADY_EXISTS" "the name exists already",
+    49 "NO_TPM" "there is no TPM",
+    50 "BAD_KEY" "the key is bad",
+    51 "NO_HANDLE" "there is no handle",
+    52 "NOT_PROVISIONED" "the TPM is not provisioned",
+    53 "ALREADY_PROVISIONED" "the TPM is provisioned already",
 ];
 
 // What the table says of the layer with this number.

@@ -10,6 +10,7 @@ ghost use Rattle.tpm_show.specs.FieldText.{field_text, structure_text};
 ghost use Rattle.tpm_show.specs.Parts.{attribute_names, attribute_parts, bits_of, digest_entry, digest_value_entry, digest_value_members, public_parts, register_parts, selection_entry, selection_members, symmetric_parts};
 
 use crate::field_text::{Field, HasParts, end_structure, push_number};
+use crate::tables::names;
 use std::alloc::Global;
 use tpm_text::named::Named;
 use tpm_text::registers::register;
@@ -20,91 +21,28 @@ use tpm_wire::{Counted, Duplicate, Wire};
 // ---- TPMA_NV (Part 2, 13.4)
 
 // Its bits by their numbers.
-const ATTRIBUTES: [Named; 21] = [
-    Named {
-        number: 0,
-        name: "TPMA_NV_PPWRITE",
-    },
-    Named {
-        number: 1,
-        name: "TPMA_NV_OWNERWRITE",
-    },
-    Named {
-        number: 2,
-        name: "TPMA_NV_AUTHWRITE",
-    },
-    Named {
-        number: 3,
-        name: "TPMA_NV_POLICYWRITE",
-    },
-    Named {
-        number: 10,
-        name: "TPMA_NV_POLICY_DELETE",
-    },
-    Named {
-        number: 11,
-        name: "TPMA_NV_WRITELOCKED",
-    },
-    Named {
-        number: 12,
-        name: "TPMA_NV_WRITEALL",
-    },
-    Named {
-        number: 13,
-        name: "TPMA_NV_WRITEDEFINE",
-    },
-    Named {
-        number: 14,
-        name: "TPMA_NV_WRITE_STCLEAR",
-    },
-    Named {
-        number: 15,
-        name: "TPMA_NV_GLOBALLOCK",
-    },
-    Named {
-        number: 16,
-        name: "TPMA_NV_PPREAD",
-    },
-    Named {
-        number: 17,
-        name: "TPMA_NV_OWNERREAD",
-    },
-    Named {
-        number: 18,
-        name: "TPMA_NV_AUTHREAD",
-    },
-    Named {
-        number: 19,
-        name: "TPMA_NV_POLICYREAD",
-    },
-    Named {
-        number: 25,
-        name: "TPMA_NV_NO_DA",
-    },
-    Named {
-        number: 26,
-        name: "TPMA_NV_ORDERLY",
-    },
-    Named {
-        number: 27,
-        name: "TPMA_NV_CLEAR_STCLEAR",
-    },
-    Named {
-        number: 28,
-        name: "TPMA_NV_READLOCKED",
-    },
-    Named {
-        number: 29,
-        name: "TPMA_NV_WRITTEN",
-    },
-    Named {
-        number: 30,
-        name: "TPMA_NV_PLATFORMCREATE",
-    },
-    Named {
-        number: 31,
-        name: "TPMA_NV_READ_STCLEAR",
-    },
+const ATTRIBUTES: [Named; 21] = names![
+    0 "TPMA_NV_PPWRITE",
+    1 "TPMA_NV_OWNERWRITE",
+    2 "TPMA_NV_AUTHWRITE",
+    3 "TPMA_NV_POLICYWRITE",
+    10 "TPMA_NV_POLICY_DELETE",
+    11 "TPMA_NV_WRITELOCKED",
+    12 "TPMA_NV_WRITEALL",
+    13 "TPMA_NV_WRITEDEFINE",
+    14 "TPMA_NV_WRITE_STCLEAR",
+    15 "TPMA_NV_GLOBALLOCK",
+    16 "TPMA_NV_PPREAD",
+    17 "TPMA_NV_OWNERREAD",
+    18 "TPMA_NV_AUTHREAD",
+    19 "TPMA_NV_POLICYREAD",
+    25 "TPMA_NV_NO_DA",
+    26 "TPMA_NV_ORDERLY",
+    27 "TPMA_NV_CLEAR_STCLEAR",
+    28 "TPMA_NV_READLOCKED",
+    29 "TPMA_NV_WRITTEN",
+    30 "TPMA_NV_PLATFORMCREATE",
+    31 "TPMA_NV_READ_STCLEAR",
 ];
 
 fn is_set(attrs: u32, bit: u32) -> bool
