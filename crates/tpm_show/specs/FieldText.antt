@@ -26,25 +26,19 @@ unfoldable pub field_head : (json : Bool) → (indent : List ℕ) → ℕ → Li
 field_head false indent i name type bytes = field_line indent name type bytes
 field_head true indent i name type bytes = comma i ++ field_members name type bytes
 
-abbrev pub field_end : (json : Bool) → List ℕ
-field_end false = []
-field_end true = text "}"
+-- what its object has, and its line has not
+abbrev pub in_object : (json : Bool) → List ℕ → List ℕ
+in_object false mark = []
+in_object true mark = mark
 
 -- a field of which no parts are told
 unfoldable pub field_text : (json : Bool) → (indent : List ℕ) → ℕ → List ℕ → List ℕ → List ℕ → List ℕ
-field_text json indent i name type bytes = field_head json indent i name type bytes ++ field_end json
-
-abbrev pub parts_begin : (json : Bool) → List ℕ
-parts_begin false = []
-parts_begin true = text ",\"fields\":["
-
-abbrev pub parts_end : (json : Bool) → List ℕ
-parts_end false = []
-parts_end true = text "]}"
+field_text json indent i name type bytes = field_head json indent i name type bytes ++ in_object json (text "}")
 
 -- a field with its parts: their lines stand under its own, their objects are a member of its own
 unfoldable pub structure_text : (json : Bool) → (indent : List ℕ) → ℕ → List ℕ → List ℕ → List ℕ → (parts : List ℕ) → List ℕ
-structure_text json indent i name type bytes parts = field_head json indent i name type bytes ++ (parts_begin json ++ (parts ++ parts_end json))
+structure_text json indent i name type bytes parts =
+    field_head json indent i name type bytes ++ (in_object json (text ",\"fields\":[") ++ (parts ++ in_object json (text "]}")))
 
 -- a number by its name: a bit that is set, a field of bits, or a register that is selected
 unfoldable pub number_text : (json : Bool) → (indent : List ℕ) → ℕ → List ℕ → ℕ → List ℕ

@@ -1,8 +1,8 @@
 //! A field of a buffer by its name and its type, as a line or as an object of JSON.
 
-ghost use Rattle.std.specs.Prelude.{◌≡◌, ◌++◌, ◌≤◌, ℕ, Bool, List, OnOk, length, string_bytes};
+ghost use Rattle.std.specs.Prelude.{◌≡◌, ◌++◌, ◌≤◌, ℕ, Bool, List, OnOk, codes, length, string_bytes};
 ghost use Rattle.tpm_wire.specs.Spelling.{spelling};
-ghost use Rattle.tpm_show.specs.FieldText.{field_line, field_members, field_head, field_end, field_text, number_text, parts_begin, parts_end, structure_text};
+ghost use Rattle.tpm_show.specs.FieldText.{field_line, field_members, field_head, field_text, in_object, number_text, structure_text};
 
 use std::alloc::Global;
 use tpm_text::hexadecimal::shown_bytes;
@@ -37,32 +37,21 @@ fn spelled<T: Wire>(value: &T) -> Buffer
     bytes
 }
 
-fn push_end(text: &mut String, json: bool) -> Pushed
-    ensures { OnOk result (string_bytes text.new ≡ string_bytes text.old ++ field_end json) }
+// Adds what an object has, and no line.
+fn push_in_object(text: &mut String, json: bool, mark: &str) -> Pushed
+    ensures { OnOk result (string_bytes text.new ≡ string_bytes text.old ++ in_object json mark.now) }
 {
     if !json {
         return Ok(());
     }
-    text.push_str("}")
-}
-
-fn push_parts_begin(text: &mut String, json: bool) -> Pushed
-    ensures { OnOk result (string_bytes text.new ≡ string_bytes text.old ++ parts_begin json) }
-{
-    if !json {
-        return Ok(());
-    }
-    text.push_str(",\"fields\":[")
+    text.push_str(mark)
 }
 
 /// Adds what comes behind the parts of a structure.
 pub(crate) fn end_structure(text: &mut String, json: bool) -> Pushed
-    ensures { OnOk result (string_bytes text.new ≡ string_bytes text.old ++ parts_end json) }
+    ensures { OnOk result (string_bytes text.new ≡ string_bytes text.old ++ in_object json (codes "]}")) }
 {
-    if !json {
-        return Ok(());
-    }
-    text.push_str("]}")
+    push_in_object(text, json, "]}")
 }
 
 impl Field {
@@ -110,7 +99,7 @@ impl Field {
         ensures { OnOk result (string_bytes text.new ≡ string_bytes text.old ++ field_text json self.0.now self.1 self.2.now self.3.now bytes.now) }
     {
         self.push_head(alloc, text, json, bytes)?;
-        push_end(text, json)
+        push_in_object(text, json, "}")
     }
 
     /// Adds its line or its object, of this value.
@@ -129,10 +118,10 @@ impl Field {
 
     /// Adds what comes before the parts of a structure of these bytes.
     pub(crate) fn begin(self, alloc: Global, text: &mut String, json: bool, bytes: &[u8]) -> Pushed
-        ensures { OnOk result (string_bytes text.new ≡ string_bytes text.old ++ (field_head json self.0.now self.1 self.2.now self.3.now bytes.now ++ parts_begin json)) }
+        ensures { OnOk result (string_bytes text.new ≡ string_bytes text.old ++ (field_head json self.0.now self.1 self.2.now self.3.now bytes.now ++ in_object json (codes ",\"fields\":["))) }
     {
         self.push_head(alloc, text, json, bytes)?;
-        push_parts_begin(text, json)
+        push_in_object(text, json, ",\"fields\":[")
     }
 
     /// Adds its line or its object, of this value, with its parts.
