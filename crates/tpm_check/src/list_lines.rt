@@ -1,9 +1,9 @@
 //! The lines of a list of registers.
 
-ghost use Rattle.std.specs.Prelude.{◌≡◌, ◌≤◌, true, IfOk, Some, length};
+ghost use Rattle.std.specs.Prelude.{◌≡◌, ◌≤◌, true, IfOk, length, option_map};
 ghost use Rattle.tpm_text.specs.Text.{bytes_in};
-ghost use Rattle.tpm_check.specs.Compare.{bank_name, heading_line, bank_headed, other_headed, heading_in, is_numbered, number_in, numbered_under, passing, stating, stated_of, line_under};
-ghost use Rattle.tpm_check.specs.Comparing.{line_as};
+ghost use Rattle.tpm_check.specs.Compare.{bank_name, heading_line, bank_headed, other_headed, heading_in, is_numbered, number_in, numbered_under, stating, line_under};
+ghost use Rattle.tpm_check.specs.Comparing.{line_as, stated_as};
 
 use crate::stated::{Stated, cut, read_stated, read_value, register_named};
 use std::alloc::{AllocError, Global};
@@ -105,39 +105,13 @@ fn number_in(text: &[u8]) -> Option<PcrIndex>
     register_named(number)
 }
 
-// A value of another bank, whose digests have so many bytes.
-fn read_passed(
-    alloc: Global,
-    size: usize,
-    register: Option<PcrIndex>,
-    value: &[u8],
-) -> Result<Line, AllocError>
-    ensures { IfOk result (λ line. line_as line ≡ passing size register (bytes_in value.now)) }
+// What a line says that has the form of a register's, by what it states.
+fn stating(stated: Option<Stated>) -> Line
+    ensures { line_as result ≡ stating (option_map stated_as stated) }
 {
-    if register.is_none() {
-        return Ok(Line::Wrong);
-    }
-    match decoded(alloc, value)? {
-        Some(value) if value.len() == size => Ok(Line::Passed),
-        _ => Ok(Line::Wrong),
-    }
-}
-
-// The value of a register of a bank.
-fn read_bank(
-    alloc: Global,
-    bank: Alg,
-    register: Option<PcrIndex>,
-    value: &[u8],
-) -> Result<Line, AllocError>
-    ensures { IfOk result (λ line. line_as line ≡ stating (stated_of (Some bank) register (bytes_in value.now))) }
-{
-    let Some(register) = register else {
-        return Ok(Line::Wrong);
-    };
-    match read_value(alloc, bank, register, value)? {
-        Some(stated) => Ok(Line::Stated(stated)),
-        None => Ok(Line::Wrong),
+    match stated {
+        Some(stated) => Line::Stated(stated),
+        None => Line::Wrong,
     }
 }
 
@@ -150,10 +124,15 @@ fn read_numbered(
 ) -> Result<Line, AllocError>
     ensures { IfOk result (λ line. line_as line ≡ numbered_under heading register (bytes_in value.now)) }
 {
-    match heading {
-        Heading::NoBank => Ok(Line::Wrong),
-        Heading::Bank(bank) => read_bank(alloc, bank, register, value),
-        Heading::OtherBank(size) => read_passed(alloc, size, register, value),
+    match (heading, register) {
+        (Heading::Bank(bank), Some(register)) => {
+            Ok(stating(read_value(alloc, bank, register, value)?))
+        }
+        (Heading::OtherBank(size), Some(_)) => match decoded(alloc, value)? {
+            Some(value) if value.len() == size => Ok(Line::Passed),
+            _ => Ok(Line::Wrong),
+        },
+        _ => Ok(Line::Wrong),
     }
 }
 
@@ -172,8 +151,5 @@ pub(crate) fn read_line(alloc: Global, heading: Heading, text: &[u8]) -> Result<
     if is_numbered(text) {
         return read_numbered(alloc, heading, number_in(text), &text[10..]);
     }
-    match read_stated(alloc, text)? {
-        Some(stated) => Ok(Line::Stated(stated)),
-        None => Ok(Line::Wrong),
-    }
+    Ok(stating(read_stated(alloc, text)?))
 }
