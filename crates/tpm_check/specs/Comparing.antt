@@ -86,10 +86,6 @@ Takes value p bytes false q text = Stops value p bytes text
 abbrev pub place : Comparing → Place
 place c = record { line = c.line.items; number = c.number; heading = c.heading; status = c.status }
 
--- to a text
-abbrev pub AddedTo : (old new : List ℕ) → List ℕ → Type 0
-AddedTo old new added = new ≡ old ++ added
-
 -- the status behind a line that has the register's value, or has not
 abbrev pub status_behind : Status → Bool → Status
 status_behind status true = status

@@ -154,12 +154,7 @@ pub fn check_log<L: Source, F: Source, W: Write>(
 {
     let found = match replay_from(log) {
         Ok(found) => found,
-        Err(
-            LogFault {
-                kind: LogFaultKind::Device,
-                ..
-            },
-        ) => return Err(ToolFault::Read),
+        Err(fault) if fault.kind == LogFaultKind::Device => return Err(ToolFault::Read),
         Err(fault) => return print_fault(alloc, &fault, out),
     };
     match registers {

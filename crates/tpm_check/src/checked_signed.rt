@@ -19,7 +19,7 @@ use crate::checked::{check_stated, print_fault, print_quote};
 use crate::judged::{Signed, answer_to_given};
 use std::alloc::Global;
 use std::io::Write;
-use tpm_log::{LogFault, LogFaultKind, replay_from};
+use tpm_log::{LogFaultKind, replay_from};
 use tpm_store::Registers;
 use tpm_text::fault::ToolFault;
 use tpm_text::status::Status;
@@ -122,12 +122,7 @@ pub fn check_signed<L: Source, F: Source, W: Write>(
 {
     let found = match replay_from(log) {
         Ok(found) => found,
-        Err(
-            LogFault {
-                kind: LogFaultKind::Device,
-                ..
-            },
-        ) => return Err(ToolFault::Read),
+        Err(fault) if fault.kind == LogFaultKind::Device => return Err(ToolFault::Read),
         Err(fault) => return print_fault(alloc, &fault, out),
     };
     match registers {

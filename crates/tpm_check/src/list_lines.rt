@@ -105,7 +105,7 @@ fn number_in(text: &[u8]) -> Option<PcrIndex>
     register_named(number)
 }
 
-// What a line says that has the form of a register's, by what it states.
+// That a register has the value that is stated, or that the line is wrong.
 fn stating(stated: Option<Stated>) -> Line
     ensures { line_as result ≡ stating (option_map stated_as stated) }
 {

@@ -8,35 +8,35 @@ use Rattle.tpm_check.specs.Check.{log_fault_line}
 use Rattle.tpm_check.proofs.Checks.{by_list, not_too_long, counts_alone, counts_stated, counts_log, not_read, log_last, stated_last, replayed, of_bytes, read_failed, no_read_failed}
 use Rattle.tpm_check.proofs.checked.check_log.Goals as goal
 
-pub returns-in-Err-Device-clause-failures : goal.returns-in-Err-Device-clause-failures
-returns-in-Err-Device-clause-failures g c =
-    let coming = g.L.Source.coming c.args.log.now in
-    let old = g.L.Source.failed c.args.log.now in
-    let new = g.L.Source.failed c.replay_from.new.source in
-    let is : c.in-Err-Device.field-0.kind ≡ kinds.Device = search rules in
-    let more = read_failed AreAfter coming old new c.in-Err-Device.field-0 is c.in-Err-Device.ensures.replays in
-    by_list c.args.registers (λ e. rw e (counts_log Status g.F.Source.failed old new None more)) (λ list e. rw e (counts_log Status g.F.Source.failed old new (Some list.now) more))
-
 pub returns-in-Err-clause-failures : goal.returns-in-Err-clause-failures
 returns-in-Err-clause-failures g c =
     let coming = g.L.Source.coming c.args.log.now in
     let old = g.L.Source.failed c.args.log.now in
     let new = g.L.Source.failed c.replay_from.new.source in
-    let other : IsOfBytes c.in-Err.fault.kind = of_bytes c.in-Err.fault.kind (search rules) in
-    let same = no_read_failed AreAfter coming old new c.in-Err.fault other c.in-Err.ensures.replays in
+    let is : c.in-Err.fault.kind ≡ kinds.Device = search rules in
+    let more = read_failed AreAfter coming old new c.in-Err.fault is c.in-Err.ensures.replays in
+    by_list c.args.registers (λ e. rw e (counts_log Status g.F.Source.failed old new None more)) (λ list e. rw e (counts_log Status g.F.Source.failed old new (Some list.now) more))
+
+pub returns-in-Err-2-clause-failures : goal.returns-in-Err-2-clause-failures
+returns-in-Err-2-clause-failures g c =
+    let coming = g.L.Source.coming c.args.log.now in
+    let old = g.L.Source.failed c.args.log.now in
+    let new = g.L.Source.failed c.replay_from.new.source in
+    let other : IsOfBytes c.in-Err-2.fault.kind = of_bytes c.in-Err-2.fault.kind (search rules) in
+    let same = no_read_failed AreAfter coming old new c.in-Err-2.fault other c.in-Err-2.ensures.replays in
     by_list c.args.registers (λ e. rw e (counts_alone g.F.Source.failed old new None c.print_fault.result c.print_fault.ensures.err same))
     (λ list e. rw e (counts_alone g.F.Source.failed old new (Some list.now) c.print_fault.result c.print_fault.ensures.err same))
 
-pub returns-in-Err-clause-ok : goal.returns-in-Err-clause-ok
-returns-in-Err-clause-ok g c =
+pub returns-in-Err-2-clause-ok : goal.returns-in-Err-2-clause-ok
+returns-in-Err-2-clause-ok g c =
     let fault = c.in-Err.fault in
     let other : IsOfBytes fault.kind = of_bytes fault.kind (search rules) in
     by_list c.args.registers
     (λ e. rw e (IfOk-weaker c.print_fault.result _ _ (λ status printed. (Err fault, log_fault_line fault, c.in-Err.ensures.replays, c.in-Err.ensures.reads, (refl, other, (printed.0, refl)), printed.1)) c.print_fault.ensures.ok))
     (λ list e. rw e (IfOk-weaker c.print_fault.result _ _ (λ status printed. (Err fault, log_fault_line fault, c.in-Err.ensures.replays, c.in-Err.ensures.reads, (refl, other, (printed.0, refl)), printed.1)) c.print_fault.ensures.ok))
 
-pub returns-in-Err-clause-too_long : goal.returns-in-Err-clause-too_long
-returns-in-Err-clause-too_long g c = λ is. absurd (not_too_long c.print_fault.result c.print_fault.ensures.err is)
+pub returns-in-Err-2-clause-too_long : goal.returns-in-Err-2-clause-too_long
+returns-in-Err-2-clause-too_long g c = λ is. absurd (not_too_long c.print_fault.result c.print_fault.ensures.err is)
 
 pub returns-in-Some-clause-failures : goal.returns-in-Some-clause-failures
 returns-in-Some-clause-failures g c =
@@ -53,20 +53,20 @@ returns-in-Some-clause-ok g c =
 pub returns-in-Some-clause-too_long : goal.returns-in-Some-clause-too_long
 returns-in-Some-clause-too_long g c = rw c.in-Some.is c.check_stated.ensures.too_long
 
-pub returns-in-Err-Device-clause-stop : goal.returns-in-Err-Device-clause-stop
-returns-in-Err-Device-clause-stop g c =
+pub returns-in-Err-clause-stop : goal.returns-in-Err-clause-stop
+returns-in-Err-clause-stop g c =
     let coming = g.L.Source.coming c.args.log.now in
     let old = g.L.Source.failed c.args.log.now in
     let new = g.L.Source.failed c.replay_from.new.source in
     let last = g.L.Source.stopped c.replay_from.new.source in
-    let is : c.in-Err-Device.field-0.kind ≡ kinds.Device = search rules in
-    let more = read_failed AreAfter coming old new c.in-Err-Device.field-0 is c.in-Err-Device.ensures.replays in
-    let ends = c.in-Err-Device.ensures.stop is in
+    let is : c.in-Err.fault.kind ≡ kinds.Device = search rules in
+    let more = read_failed AreAfter coming old new c.in-Err.fault is c.in-Err.ensures.replays in
+    let ends = c.in-Err.ensures.stop is in
     by_list c.args.registers (λ e. rw e (λ fails. log_last g.F.Source.failed g.F.Source.stopped old new last None more ends))
     (λ list e. rw e (λ fails. log_last g.F.Source.failed g.F.Source.stopped old new last (Some list.now) more ends))
 
-pub returns-in-Err-clause-stop : goal.returns-in-Err-clause-stop
-returns-in-Err-clause-stop g c = λ is. absurd (not_read c.print_fault.result c.print_fault.ensures.err is)
+pub returns-in-Err-2-clause-stop : goal.returns-in-Err-2-clause-stop
+returns-in-Err-2-clause-stop g c = λ is. absurd (not_read c.print_fault.result c.print_fault.ensures.err is)
 
 pub returns-in-Some-clause-stop : goal.returns-in-Some-clause-stop
 returns-in-Some-clause-stop g c =
