@@ -22,12 +22,12 @@ pub use denote.RattleType.{owns, Valss}
 pub use denote.Memory.{mem, part_at}
 pub use denote.Plain.{uint_Lawful, uint_vals, uint_Tells, uint_Makes}
 pub use denote.Builtin.{u8, u32}
-pub use denote.Laws.{Is, shows}
+pub use denote.Laws.{Is, Spells, shows}
 pub use denote.Ref.{MutBor, MutRef, shr_vals, shr_Tells, mut_vals, mut_Tells}
 pub use denote.Slice.{shr_slice_vals, shr_slice_Tells, mut_slice_vals, mut_slice_Tells}
 pub use denote.Signature.{Slot, types_at}
 pub use denote.Lend.{lends_ref, ref_back}
-pub use denote.RawPtr.{Ptr, block_ptr, null_ptr, rawptr_vals, rawptr_Tells, room_at, rawptr_Lawful}
+pub use denote.RawPtr.{Ptr, lies_at, block_ptr, null_ptr, rawptr_vals, rawptr_Tells, room_at, rawptr_Lawful}
 pub use denote.Steps.{peeks, heard, nothing, only}
 pub use denote.Triple.Statement.{Contract, Triple}
 pub use denote.Triple.Call.{calls_at}

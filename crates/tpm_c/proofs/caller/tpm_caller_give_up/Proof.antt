@@ -1,6 +1,6 @@
 -- `tpm_caller_give_up` meets its contract: what is held is lent to `give_up`.
-use Rattle.tpm_c.proofs.Steps.{◌≡◌, [], ◌∷◌, refl, w32, full_share, named, id⊢, Valss, ‵, ◌$◌, ◌∵◌, !, qed, done, addr, stop, of_opd, and_then, no_more, returns, enter, alloc_all, pass_all, free_all, look_at, through, get, sets, lands_as, WpFn, uint_Lawful, u8, mut_vals, shr_slice_vals, shr_slice_Tells, Ptr, block_ptr, rawptr_vals, rawptr_Tells, types_at, triple_of, walk_of, lasts_of, tables, proved, framed}
-use Rattle.tpm_c.proofs.Lending.{stayed, goes, others, entry, in_block, becomes, lent}
+use Rattle.tpm_c.proofs.Steps.{◌≡◌, refl, w32, full_share, named, id⊢, ◌$◌, !, done, addr, stop, of_opd, and_then, no_more, returns, enter, alloc_all, pass_all, free_all, look_at, through, get, sets, lands_as, uint_Lawful, u8, mut_vals, shr_slice_vals, shr_slice_Tells, triple_of}
+use Rattle.tpm_c.proofs.Lending.{Spelled, there, points, becomes, lent}
 use Rattle.tpm_c.specs.contracts.caller.Held.{the_row}
 use Rattle.tpm_c.specs.Callers.{held_at, give_up_code, after_give_up}
 use Rattle.tpm_c.specs.contracts.caller.give_up as of
@@ -11,24 +11,15 @@ use Rattle.tpm_c.proofs.caller.tpm_caller_give_up.Code as code
 
 pub tpm_caller_give_up_spec : {M : Type 1} → stated.statement M
 tpm_caller_give_up_spec 𝓤 𝓛 𝓜 𝓡 wired =
-    let c = f.clauses 𝓛 𝓜.mem 𝓡.returns in let 𝓣 = tables 𝓤 𝓛.H 𝓜 𝓡 𝓡.env in
-    proved 𝓛 f.ended (stayed f.ended) c 𝓜 𝓡 (goes 𝓛 f.ended) f.Key.name code.function (code.unfolded 𝓤 𝓛.H 𝓜 𝓡 wired)
-    (λ κs. (rawptr_vals, (shr_slice_vals, tt)))
-    (λ κs. (rawptr_Tells, (shr_slice_Tells (named 0) κs.0 u8, tt)))
-    (λ κs qs bounds a held are.
-    let vals : Valss (types_at (others f.signature.params) κs) = (shr_slice_vals a.1.0, tt) in
-    let refusal = a.1.0.now in
-    let y : Ptr → (walk_of 𝓛 f.ended (stayed f.ended) c).Ghost = λ p. ((κs, qs, bounds, (p, a.1), (rawptr_vals p, vals)), held) in
-    in_block 𝓛 f.ended c (WpFn 𝓤 𝓛.H 𝓣.C 𝓣.Λ code.function) y (held_at held) (id⊢ 𝓤 _) (λ b o.
-    qed 𝓛 (‵ (held_at held (block_ptr b o)) ∷ entry 𝓛 f.ended c (y (block_ptr b o)) ∷ []) ∵ enter ! _ _ _ _ _ $
-    alloc_all ! (λ l. pass_all ! refl ((tt, tt), ((tt, (tt, (record { fits = are.1.0.0.1.0 }, tt))), tt)) $
+    let c = f.clauses 𝓛 𝓜.mem 𝓡.returns in let sp : Spelled f.ended = λ κs. (shr_slice_vals, tt) in
+    points 𝓛 𝓜 𝓡 f.ended c sp f.Key.name code.function (code.unfolded 𝓤 𝓛.H 𝓜 𝓡 wired) (λ κs. (shr_slice_Tells (named 0) κs.0 u8, tt))
+    (λ p w. Unit {0}) (λ p w x. held_at w.4 p) (λ w x. id⊢ 𝓤 _) (λ p w. there 𝓛 (held_at w.4 p)) (λ b o w are x.
+    let a = w.3 in let held = w.4 in let refusal = a.0.now in
+    enter ! _ _ _ _ _ $ alloc_all ! (λ l. pass_all ! refl ((tt, tt), ((tt, (tt, (record { fits = are.0.0.1.0 }, tt))), tt)) $
     -- &mut *(place as *mut Held)
-    sets ! (of_opd ! (get ! refl)) refl (tt, tt) $
-    sets ! (addr ! (through ! refl (stop !))) refl (tt, tt) $
-    lent ! (framed 𝓤 𝓛.H 𝓜 𝓣) f.ended c (y (block_ptr b o)) the_row held b o (λ us. (tt, us)) (lasts_of κs (others f.signature.params) (f.ended).kept.1 a.1) (λ us. refl)
-    (λ r w us. (r ≡ give_up_code held refusal) × (w ≡ after_give_up held refusal))
+    sets ! (of_opd ! (get ! refl)) refl (tt, tt) $ sets ! (addr ! (through ! refl (stop !))) refl (tt, tt) $
+    lent 𝓛 𝓜 𝓡 f.ended c sp ! the_row held b o w (λ r new us. (r ≡ give_up_code held refusal) × (new ≡ after_give_up held refusal))
     (triple_of 𝓛 of.signature (of.spec 𝓛 𝓜.mem 𝓡.returns)) (met 𝓤 𝓛 𝓜 𝓡 (code.calls-tpm_c::caller::give_up 𝓡.env wired))
-    (λ κ x. (((κ, κs), (full_share, qs), tt, (x, a.1), (mut_vals x, vals)), tt)) (λ κ δ. id⊢ 𝓤 _) (λ κ δ v. id⊢ 𝓤 _)
-    (λ r w us e. becomes 𝓛 the_row b o e.1 e.0)
-    (λ κ δ. and_then ! (get ! refl) (and_then ! (get ! refl) (no_more !)))
-    (λ v r is. lands_as ! refl refl ((uint_Lawful 𝓛 w32).typed r _ is).0 $ returns ! (look_at ! 0 refl) $ free_all ! refl $ done !))) a.0)
+    (λ κ x vals. (((κ, w.0), (full_share, w.1), tt, (x, a), (mut_vals x, vals)), tt)) (λ κ δ. id⊢ 𝓤 _) (λ κ δ v. id⊢ 𝓤 _)
+    (λ r new us e. becomes 𝓛 the_row b o e.1 e.0) (λ κ δ. and_then ! (get ! refl) (and_then ! (get ! refl) (no_more !)))
+    (λ v r is. lands_as ! refl refl ((uint_Lawful 𝓛 w32).typed r _ is).0 $ returns ! (look_at ! 0 refl) $ free_all ! refl $ done !)))

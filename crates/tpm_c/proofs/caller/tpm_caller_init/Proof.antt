@@ -1,6 +1,6 @@
 -- `tpm_caller_init` meets its contract: the room is written, and what lies there is a caller that holds no session.
-use Rattle.tpm_c.proofs.Steps.{◌≡◌, [], ◌∷◌, refl, vunit, id⊢, emp, emp∗, ftrue, ‵, ◌$◌, ◌∵◌, !, qed, by, move, done, feq_i, alive, init, stop, of_opd, unit_lit, assigns, no_more, returns, enter, alloc_all, pass_all, free_all, look_at, through, get, sets, lands_as, WpFn, Ptr, block_ptr, room_at, rawptr_vals, rawptr_Tells, triple_of, walk_of, tables, proved, framed}
-use Rattle.tpm_c.proofs.Lending.{stayed, goes, entry, in_block, is_this, made, makes}
+use Rattle.tpm_c.proofs.Steps.{◌≡◌, refl, id⊢, room_at}
+use Rattle.tpm_c.proofs.Lending.{there, is_this, inits}
 use Rattle.tpm_c.specs.declared.caller.Held.TheVariants.{Spent}
 use Rattle.tpm_c.specs.contracts.caller.Held.{the_row}
 use Rattle.tpm_c.proofs.caller.Held.TheLaws.{the_row_laws}
@@ -12,17 +12,6 @@ use Rattle.tpm_c.proofs.caller.tpm_caller_init.Code as code
 
 pub tpm_caller_init_spec : {M : Type 1} → stated.statement M
 tpm_caller_init_spec 𝓤 𝓛 𝓜 𝓡 wired =
-    let c = f.clauses 𝓛 𝓜.mem 𝓡.returns in let 𝓣 = tables 𝓤 𝓛.H 𝓜 𝓡 𝓡.env in
-    proved 𝓛 f.ended (stayed f.ended) c 𝓜 𝓡 (goes 𝓛 f.ended) f.Key.name code.function (code.unfolded 𝓤 𝓛.H 𝓜 𝓡 wired) (λ κs. (rawptr_vals, tt)) (λ κs. (rawptr_Tells, tt))
-    (λ κs qs bounds a g are.
-    let y : Ptr → (walk_of 𝓛 f.ended (stayed f.ended) c).Ghost = λ p. ((κs, qs, bounds, (p, tt), (rawptr_vals p, tt)), g) in
-    in_block 𝓛 f.ended c (WpFn 𝓤 𝓛.H 𝓣.C 𝓣.Λ code.function) y (room_at the_row) (id⊢ 𝓤 _) (λ b o.
-    qed 𝓛 (‵ (room_at the_row (block_ptr b o)) ∷ entry 𝓛 f.ended c (y (block_ptr b o)) ∷ []) ∵ enter ! _ _ _ _ _ $
-    alloc_all ! (λ l. pass_all ! refl ((tt, tt), tt) $
-    -- place as *mut Held
-    sets ! (of_opd ! (get ! refl)) refl (tt, tt) $ move ! (1 ∷ []) $
-    made ! (framed 𝓤 𝓛.H 𝓜 𝓣) the_row (the_row_laws.lawful 𝓛) (alive 𝓛 f.signature κs qs) (λ (us : Unit {0}). ftrue) (λ x. x ≡ Spent)
-    (triple_of 𝓛 of.signature (of.spec 𝓛 𝓜.mem 𝓡.returns)) (met 𝓤 𝓛 𝓜 𝓡 (code.calls-tpm_c::caller::nothing 𝓡.env wired)) ((tt, tt, tt, tt, tt), tt) (id⊢ 𝓤 _) (λ v. id⊢ 𝓤 _) (no_more !)
-    (λ v x e wt. lands_as ! refl refl wt.0 $ assigns ! (of_opd ! (get ! refl)) (through ! refl (stop !)) (init ! 2 refl wt.0) $
-    sets ! (of_opd ! (unit_lit !)) refl (tt, tt) $ returns ! (look_at ! 0 refl) $ free_all ! refl $
-    by ! (makes 𝓛 f.ended c (y (block_ptr b o)) vunit tt (tt, tt) the_row refl x b o v (emp∗ 𝓤 (emp 𝓤)) (qed 𝓛 [] ∵ feq_i ! _ (vunit ∷ []) _ refl $ done !) (is_this 𝓛 the_row b o e))))) a.0)
+    inits 𝓛 𝓜 𝓡 the_row refl (the_row_laws.lawful 𝓛) (f.clauses 𝓛 𝓜.mem 𝓡.returns) f.Key.name (code.unfolded 𝓤 𝓛.H 𝓜 𝓡 wired) (λ x. x ≡ Spent)
+    (of.spec 𝓛 𝓜.mem 𝓡.returns) (met 𝓤 𝓛 𝓜 𝓡 (code.calls-tpm_c::caller::nothing 𝓡.env wired)) ((tt, tt, tt, tt, tt), tt) (id⊢ 𝓤 _) (λ v. id⊢ 𝓤 _)
+    (λ p g. there 𝓛 (room_at the_row p)) (λ b o g x. is_this 𝓛 the_row b o)

@@ -1,6 +1,6 @@
 -- `tpm_caller_seal` meets its contract: what is held is lent to `seal`, with the room.
-use Rattle.tpm_c.proofs.Steps.{◌≡◌, [], ◌∷◌, length, refl, w32, w64, full_share, named, id⊢, Valss, ‵, ◌$◌, ◌∵◌, !, qed, done, whole, sub, agg, addr, stop, of_opd, fld, hop, from, and_then, no_more, returns, enter, alloc_all, pass_all, free_all, look_at, look_in_at, through, get, get_in, sets, lands_as, WpFn, uint_Lawful, uint_vals, uint_Tells, u8, mut_vals, shr_slice_vals, shr_slice_Tells, mut_slice_vals, mut_slice_Tells, Ptr, block_ptr, rawptr_vals, rawptr_Tells, types_at, triple_of, walk_of, lasts_of, tables, proved, framed}
-use Rattle.tpm_c.proofs.Lending.{stayed, goes, others, entry, in_block, becomes, lent}
+use Rattle.tpm_c.proofs.Steps.{◌≡◌, length, refl, w32, w64, full_share, named, id⊢, ◌$◌, !, done, addr, stop, of_opd, and_then, no_more, returns, enter, fld, hop, from, alloc_all, pass_all, free_all, look_at, through, get, sets, lands_as, look_in_at, get_in, uint_Lawful, uint_vals, uint_Tells, u8, mut_vals, shr_slice_vals, shr_slice_Tells, mut_slice_vals, mut_slice_Tells, triple_of, whole, sub, agg}
+use Rattle.tpm_c.proofs.Lending.{Spelled, there, points, becomes, lent}
 use Rattle.tpm_c.specs.contracts.caller.Held.{the_row}
 use Rattle.tpm_c.specs.Callers.{held_at, sealing, sealed_bytes, after_seal}
 use Rattle.tpm_c.specs.Written.{IsIn}
@@ -12,27 +12,17 @@ use Rattle.tpm_c.proofs.caller.tpm_caller_seal.Code as code
 
 pub tpm_caller_seal_spec : {M : Type 1} → stated.statement M
 tpm_caller_seal_spec 𝓤 𝓛 𝓜 𝓡 wired =
-    let c = f.clauses 𝓛 𝓜.mem 𝓡.returns in let 𝓣 = tables 𝓤 𝓛.H 𝓜 𝓡 𝓡.env in
-    proved 𝓛 f.ended (stayed f.ended) c 𝓜 𝓡 (goes 𝓛 f.ended) f.Key.name code.function (code.unfolded 𝓤 𝓛.H 𝓜 𝓡 wired)
-    (λ κs. (rawptr_vals, (shr_slice_vals, (shr_slice_vals, (shr_slice_vals, (shr_slice_vals, (shr_slice_vals, (uint_vals w32, (mut_slice_vals, tt)))))))))
-    (λ κs. (rawptr_Tells, (shr_slice_Tells (named 0) κs.0 u8, (shr_slice_Tells (named 1) κs.1.0 u8, (shr_slice_Tells (named 2) κs.1.1.0 u8, (shr_slice_Tells (named 3) κs.1.1.1.0 u8, (shr_slice_Tells (named 4) κs.1.1.1.1.0 u8, (uint_Tells w32, (mut_slice_Tells (named 5) κs.1.1.1.1.1.0 u8, tt)))))))))
-    (λ κs qs bounds a held are.
-    let vals : Valss (types_at (others f.signature.params) κs) = (shr_slice_vals a.1.0, (shr_slice_vals a.1.1.0, (shr_slice_vals a.1.1.1.0, (shr_slice_vals a.1.1.1.1.0, (shr_slice_vals a.1.1.1.1.1.0, (uint_vals w32 a.1.1.1.1.1.1.0, (mut_slice_vals a.1.1.1.1.1.1.1.0, tt))))))) in
-    let out = a.1.1.1.1.1.1.1.0.now in
-    let seal = sealing held a.1.0.now a.1.1.0.now a.1.1.1.0.now a.1.1.1.1.0.now a.1.1.1.1.1.0.now a.1.1.1.1.1.1.0 (length out) in
-    let y : Ptr → (walk_of 𝓛 f.ended (stayed f.ended) c).Ghost = λ p. ((κs, qs, bounds, (p, a.1), (rawptr_vals p, vals)), held) in
-    in_block 𝓛 f.ended c (WpFn 𝓤 𝓛.H 𝓣.C 𝓣.Λ code.function) y (held_at held) (id⊢ 𝓤 _) (λ b o.
-    qed 𝓛 (‵ (held_at held (block_ptr b o)) ∷ entry 𝓛 f.ended c (y (block_ptr b o)) ∷ []) ∵ enter ! _ _ _ _ _ $
-    alloc_all ! (λ l. pass_all ! refl ((tt, tt), ((tt, (tt, (record { fits = are.1.0.0.1.0 }, tt))), ((tt, (tt, (record { fits = are.1.1.0.0.1.0 }, tt))), ((tt, (tt, (record { fits = are.1.1.1.0.0.1.0 }, tt))), ((tt, (tt, (record { fits = are.1.1.1.1.0.0.1.0 }, tt))), ((tt, (tt, (record { fits = are.1.1.1.1.1.0.0.1.0 }, tt))), ((tt, record { fits = are.1.1.1.1.1.1.0.1 }), ((tt, (tt, (record { fits = are.1.1.1.1.1.1.1.0.0.1.0 }, tt))), tt)))))))) $
+    let c = f.clauses 𝓛 𝓜.mem 𝓡.returns in let sp : Spelled f.ended = λ κs. (shr_slice_vals, (shr_slice_vals, (shr_slice_vals, (shr_slice_vals, (shr_slice_vals, (uint_vals w32, (mut_slice_vals, tt))))))) in
+    points 𝓛 𝓜 𝓡 f.ended c sp f.Key.name code.function (code.unfolded 𝓤 𝓛.H 𝓜 𝓡 wired) (λ κs. (shr_slice_Tells (named 0) κs.0 u8, (shr_slice_Tells (named 1) κs.1.0 u8, (shr_slice_Tells (named 2) κs.1.1.0 u8, (shr_slice_Tells (named 3) κs.1.1.1.0 u8, (shr_slice_Tells (named 4) κs.1.1.1.1.0 u8, (uint_Tells w32, (mut_slice_Tells (named 5) κs.1.1.1.1.1.0 u8, tt))))))))
+    (λ p w. Unit {0}) (λ p w x. held_at w.4 p) (λ w x. id⊢ 𝓤 _) (λ p w. there 𝓛 (held_at w.4 p)) (λ b o w are x.
+    let a = w.3 in let held = w.4 in let out = a.1.1.1.1.1.1.0.now in let seal = sealing held a.0.now a.1.0.now a.1.1.0.now a.1.1.1.0.now a.1.1.1.1.0.now a.1.1.1.1.1.0 (length out) in
+    enter ! _ _ _ _ _ $ alloc_all ! (λ l. pass_all ! refl ((tt, tt), ((tt, (tt, (record { fits = are.0.0.1.0 }, tt))), ((tt, (tt, (record { fits = are.1.0.0.1.0 }, tt))), ((tt, (tt, (record { fits = are.1.1.0.0.1.0 }, tt))), ((tt, (tt, (record { fits = are.1.1.1.0.0.1.0 }, tt))), ((tt, (tt, (record { fits = are.1.1.1.1.0.0.1.0 }, tt))), ((tt, record { fits = are.1.1.1.1.1.0.1 }), ((tt, (tt, (record { fits = are.1.1.1.1.1.1.0.0.1.0 }, tt))), tt)))))))) $
     -- &mut *(place as *mut Held), and the slice again
-    sets ! (of_opd ! (get ! refl)) refl (tt, tt) $
-    sets ! (addr ! (through ! refl (stop !))) refl (tt, tt) $
+    sets ! (of_opd ! (get ! refl)) refl (tt, tt) $ sets ! (addr ! (through ! refl (stop !))) refl (tt, tt) $
     sets ! (addr ! (from ! (fld ! refl (hop ! (look_in_at ! 8 (sub ! 0 refl (whole !))) (stop !))))) refl (tt, tt) $
-    sets ! (agg ! (and_then ! (get ! refl) (and_then ! (get_in ! (fld ! refl (stop !)) (sub ! 1 refl (whole !))) (no_more !)))) refl (tt, (tt, (record { fits = are.1.1.1.1.1.1.1.0.0.1.0 }, tt))) $
-    lent ! (framed 𝓤 𝓛.H 𝓜 𝓣) f.ended c (y (block_ptr b o)) the_row held b o (λ us. (tt, us)) (lasts_of κs (others f.signature.params) (f.ended).kept.1 a.1) (λ us. refl)
-    (λ r w us. IsIn (sealed_bytes seal) out us.1.1.1.1.1.1.0 r × (w ≡ after_seal held seal))
+    sets ! (agg ! (and_then ! (get ! refl) (and_then ! (get_in ! (fld ! refl (stop !)) (sub ! 1 refl (whole !))) (no_more !)))) refl (tt, (tt, (record { fits = are.1.1.1.1.1.1.0.0.1.0 }, tt))) $
+    lent 𝓛 𝓜 𝓡 f.ended c sp ! the_row held b o w (λ r new us. IsIn (sealed_bytes seal) out us.1.1.1.1.1.1.0 r × (new ≡ after_seal held seal))
     (triple_of 𝓛 of.signature (of.spec 𝓛 𝓜.mem 𝓡.returns)) (met 𝓤 𝓛 𝓜 𝓡 (code.calls-tpm_c::caller::seal 𝓡.env wired))
-    (λ κ x. (((κ, κs), (full_share, qs), tt, (x, a.1), (mut_vals x, vals)), tt)) (λ κ δ. id⊢ 𝓤 _) (λ κ δ v. id⊢ 𝓤 _)
-    (λ r w us e. becomes 𝓛 the_row b o e.1 e.0)
-    (λ κ δ. and_then ! (get ! refl) (and_then ! (get ! refl) (and_then ! (get ! refl) (and_then ! (get ! refl) (and_then ! (get ! refl) (and_then ! (get ! refl) (and_then ! (get ! refl) (and_then ! (get ! refl) (no_more !)))))))))
-    (λ v r is. lands_as ! refl refl ((uint_Lawful 𝓛 w64).typed r _ is).0 $ returns ! (look_at ! 0 refl) $ free_all ! refl $ done !))) a.0)
+    (λ κ x vals. (((κ, w.0), (full_share, w.1), tt, (x, a), (mut_vals x, vals)), tt)) (λ κ δ. id⊢ 𝓤 _) (λ κ δ v. id⊢ 𝓤 _)
+    (λ r new us e. becomes 𝓛 the_row b o e.1 e.0) (λ κ δ. and_then ! (get ! refl) (and_then ! (get ! refl) (and_then ! (get ! refl) (and_then ! (get ! refl) (and_then ! (get ! refl) (and_then ! (get ! refl) (and_then ! (get ! refl) (and_then ! (get ! refl) (no_more !)))))))))
+    (λ v r is. lands_as ! refl refl ((uint_Lawful 𝓛 w64).typed r _ is).0 $ returns ! (look_at ! 0 refl) $ free_all ! refl $ done !)))
