@@ -1,6 +1,6 @@
 -- How an export meets its contract that holds state in C's memory. The value there is lent, for a lifetime that is made for the call, to a private function or a method, and comes back as that function says. An export's own proof has the steps of its MIR, and what the function's contract gives of its own.
-use mathlib.Core.Path.{subst, ap, sym}
-use mir.Syntax.{Ty, ty_unit, ty_ptr, Callee, Place, place, deref, Opd as Operand, copy, opd_unit, rv_opd, Body as Code, seq, call, assign, return, Fn, Local, local, value_local}
+use mathlib.Core.Path.{subst, ap}
+use mir.Syntax.{Ty, ty_unit, ty_ptr, Callee, Place, place, deref, Opd as Operand, copy, opd_unit, rv_opd, Body as Code, seq, call, assign, return, Fn, local, value_local}
 use prog.Wp.{Env, Closed}
 use prog.Model.{Model}
 use base.Logic.{comm∗, mono_r, ex_i}
@@ -185,26 +185,28 @@ module _ {M : Type 1} {𝓤 : Ura M} (𝓛 : Logic 𝓤) (𝓜 : Model 𝓤 𝓛
     abbrev pub after : (b o : ℕ) → Choice (block_ptr b o) → Val → Item 𝓤
     after b o w v = raw (Walk.post (chosen (block_ptr b o) w) v)
 
+    -- the code does so
     abbrev Goes : Fn → (p : Ptr) → Choice p → SProp 𝓤
     Goes e p w = WpFn 𝓤 H 𝓣.C 𝓣.Λ e (Walk.args (chosen p w)) (Walk.post (chosen p w))
 
-    abbrev Tell : (p : Ptr) → Choice p → Type 0
-    Tell p w = Are (Rest w.0) (Ises (Rest w.0)) w.3 (valss (Rest w.0) (sp w.0) w.3)
+    -- the machine stores the other arguments as their types say
+    abbrev Stored : (p : Ptr) → Choice p → Type 0
+    Stored p w = Are (Rest w.0) (Ises (Rest w.0)) w.3 (valss (Rest w.0) (sp w.0) w.3)
 
     -- it meets its contract by a walk from what lies in a block, since nothing lies at null
     pub points : (name : Callee) (e : Fn) → Closed 𝓤 H 𝓣.C 𝓣.Λ name e → ((κs : Lfts T.signature.lifetimes) → Tellss (Rest κs) (Ises (Rest κs)) (sp κs))
         → (X : (p : Ptr) → Choice p → Type 0) (F : (p : Ptr) (w : Choice p) → X p w → Fml) → ((w : Choice null_ptr) (x : X null_ptr w) → ent 𝓤 (sem 𝓛 (F null_ptr w x)) (never 𝓤))
         → ((p : Ptr) (w : Choice p) → ent 𝓤 ((c w.0 (p, w.3)).requires w.4) (sem 𝓛 (fex (X p w) (F p w))))
-        → ((b o : ℕ) (w : Choice (block_ptr b o)) → Tell (block_ptr b o) w → (x : X (block_ptr b o) w) → Sq 𝓛 (‵ (F (block_ptr b o) w x) ∷ entry 𝓛 (pointing T) c (chosen (block_ptr b o) w) ∷ []) (prop (Goes e (block_ptr b o) w)))
+        → ((b o : ℕ) (w : Choice (block_ptr b o)) → Stored (block_ptr b o) w → (x : X (block_ptr b o) w) → Sq 𝓛 (‵ (F (block_ptr b o) w x) ∷ entry 𝓛 (pointing T) c (chosen (block_ptr b o) w) ∷ []) (prop (Goes e (block_ptr b o) w)))
         → Meets 𝓛 (pointing T).signature (𝓣.C name) (closing 𝓛 (pointing T) c)
     points name e closed tells X F none asks walk =
         proved 𝓛 (pointing T) (stayed (pointing T)) c 𝓜 𝓡 (goes 𝓛 (pointing T)) name e closed (λ κs. (rawptr_vals, sp κs)) (λ κs. (rawptr_Tells, tells κs)) (λ κs qs bounds a g are. go a.0 (κs, qs, bounds, a.1, g) are.1)
       where
-        each : (p : Ptr) (w : Choice p) → Tell p w → (x : X p w) → Sq 𝓛 (‵ (F p w x) ∷ entry 𝓛 (pointing T) c (chosen p w) ∷ []) (prop (Goes e p w))
+        each : (p : Ptr) (w : Choice p) → Stored p w → (x : X p w) → Sq 𝓛 (‵ (F p w x) ∷ entry 𝓛 (pointing T) c (chosen p w) ∷ []) (prop (Goes e p w))
         each (block_ptr b o) w are x = walk b o w are x
         each null_ptr w are x = use1 𝓛 (raw (never 𝓤)) (none w x) $ move ! (1 ∷ []) $ drop ! $ by ! (never_e 𝓤 (Goes e null_ptr w))
 
-        go : (p : Ptr) (w : Choice p) → Tell p w → ent 𝓤 (sep 𝓤 (mean 𝓛 (entry 𝓛 (pointing T) c (chosen p w))) ((c w.0 (p, w.3)).requires w.4)) (Goes e p w)
+        go : (p : Ptr) (w : Choice p) → Stored p w → ent 𝓤 (sep 𝓤 (mean 𝓛 (entry 𝓛 (pointing T) c (chosen p w))) ((c w.0 (p, w.3)).requires w.4)) (Goes e p w)
         go p w are = qed 𝓛 (entry 𝓛 (pointing T) c (chosen p w) ∷ raw ((c w.0 (p, w.3)).requires w.4) ∷ []) ∵ move ! (1 ∷ []) $ use1 𝓛 (‵ (fex (X p w) (F p w))) (asks p w) $ fpick ! (λ x. each p w are x)
 
     module _ {K : Type 0} {Γ : List (Item 𝓤)} {E : Env 𝓤 H} {q : Post 𝓤 H} {dest : Place} {fn : Callee} {xs : List Operand} {rest : Code} where
