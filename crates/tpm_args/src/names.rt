@@ -4,7 +4,7 @@ ghost use Rattle.std.specs.Prelude.{◌≡◌, IfOk};
 ghost use Rattle.tpm_args.specs.Names.{AreAllNames, command_of_name};
 
 use std::alloc::{AllocError, Global};
-use tpm_buffer::CommandCode;
+use tpm_commands::CommandCode;
 
 /// The command of the profile with this name, in this letter case.
 pub(crate) fn command_named(name: &str) -> Option<CommandCode>

@@ -1,6 +1,6 @@
 //! What the words ask for.
 
-use tpm_buffer::CommandCode;
+use tpm_commands::CommandCode;
 use tpm_types::{Alg, AuthValue, Selections};
 
 /// What the words ask for.
