@@ -2,7 +2,7 @@
 use Rattle.std.proofs.Common.{◌≡◌, ◌≢◌, ℕ, ◌+◌, ◌*◌, ◌/◌, ◌%◌, ◌<◌, ◌≤◌, ◌^◌, ◌==◌, [], ◌∷◌, slice_index, Bool, true, false, not, bit_and, bit_or, w8, inl, inr, refl, sym, subst, ap, ◌∙◌, arith}
 use Rattle.std.specs.Int.{bit_at}
 use Rattle.std.proofs.lemmas.Nat.{pow_pos}
-use Rattle.std.proofs.lemmas.Nat.Bits.{and_pow, bit_at-zero, bit_at_set_same, bit_at_set_other}
+use Rattle.std.proofs.lemmas.Nat.Bits.{and_pow, bit_at_set_same, bit_at_set_other}
 use Rattle.std.proofs.lemmas.Bool.{cases_lt}
 use Rattle.std.proofs.lemmas.Bool.Decides.{nat_tests}
 use Rattle.tpm_types.specs.Tpma.{is_set}
@@ -10,9 +10,6 @@ use Rattle.tpm_types.specs.Tpms.{is_selected}
 
 tests_bit : (i n : ℕ) → is_set i n ≡ not (bit_at n i * 2 ^ i == 0)
 tests_bit i n = ap (λ m. not (bit_and n m == 0)) (let k : 2 ^ i + 0 ≡ 2 ^ i = omega arith in k) ∙ ap (λ x. not (x == 0)) (and_pow n i)
-
-pub none_set : (i : ℕ) → is_set i 0 ≡ false
-none_set i = tests_bit i 0 ∙ ap (λ x. not (x * 2 ^ i == 0)) (bit_at-zero i) ∙ ap (λ x. not (x == 0)) (let k : 0 * 2 ^ i ≡ 0 = omega arith in k)
 
 pub set_same : (n bit : ℕ) → bit < 8 → is_set bit (bit_or n (1 * 2 ^ bit % 256)) ≡ true
 set_same n bit h = tests_bit bit (bit_or n (1 * 2 ^ bit % 256)) ∙ ap (λ x. not (x * 2 ^ bit == 0)) (bit_at_set_same w8 n bit h) ∙ grind (arith, nat_tests, pow_pos bit)

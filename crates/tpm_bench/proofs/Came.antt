@@ -1,8 +1,8 @@
 -- The frames that came of the front of a stream.
-use Rattle.std.proofs.Common.{◌≡◌, ℕ, ◌+◌, ◌≤◌, List, [], ◌∷◌, ◌++◌, length, take, drop, All, refl, sym, ap, subst, ◌∙◌, append_assoc, arith, length-append, take-append-drop, append-nil}
+use Rattle.std.proofs.Common.{◌≡◌, ℕ, ◌+◌, ◌≤◌, List, [], ◌∷◌, ◌++◌, length, take, drop, All, sym, ap, subst, ◌∙◌, append_assoc, arith, length-append, take-append-drop, append-nil}
 use Rattle.std.specs.List.{concat}
 use Rattle.std.proofs.lemmas.List.{take-take, nil_from_length}
-use Rattle.std.proofs.lemmas.List.Elements.{All-nil, All-push}
+use Rattle.std.proofs.lemmas.List.Elements.{All-push}
 use Rattle.std.proofs.lemmas.List.Folds.{concat-append}
 use Rattle.tpm_stream.specs.Frames.{IsFrame, IsPart, BeginsNoFrame, Frames}
 
@@ -13,9 +13,6 @@ pub record Came (stream held left out : List ℕ) (written : ℕ) : Type 0 where
   pub each : All IsFrame frames
   pub count : written ≡ length (concat frames)
   pub bytes : take written out ≡ concat frames
-
-pub none_yet : (stream out : List ℕ) → Came stream [] stream out 0
-none_yet stream out = record { frames = []; whole = refl; each = All-nil IsFrame; count = refl; bytes = refl }
 
 -- Frames were read of the stream and written, nothing is held, and the room is as long as it was.
 pub record Reading (stream left out began : List ℕ) (written : ℕ) : Type 0 where

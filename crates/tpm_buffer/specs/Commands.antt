@@ -1,5 +1,5 @@
 -- A command: a header, handles, sessions and parameters (Part 1, "Command/Response Structure"; Part 2, 6.9).
-use Rattle.std.specs.Prelude.{ℕ, ◌+◌, Bool, true, List, [], ◌∷◌, length, Option, Some, None, nat_le, ◌==◌, ◌&&◌, ◌||◌, if◌then◌else◌}
+use Rattle.std.specs.Prelude.{ℕ, ◌+◌, Bool, true, List, [], length, Some, None, nat_le, ◌==◌, ◌&&◌, ◌||◌, if◌then◌else◌}
 use Rattle.tpm_wire.specs.Buffers.{Layout, number_in, numbered}
 use Rattle.tpm_wire.specs.Layout.{either}
 use Rattle.tpm_wire.specs.Layout.Form.{done, number, field, area, list}

@@ -24,7 +24,7 @@ use Rattle.tpm_hmac.specs.Sessions.{whole_key, rp_hash, mac_text}
 use Rattle.tpm_model.specs.Answers.{reply_params}
 use Rattle.tpm_model.specs.InStep.{CallerSession}
 use Rattle.tpm_model.specs.Callers as model
-use Rattle.tpm_model.specs.Callers.{Refused, Code, NotExpected, WrongMac, Waiting, Opened, awaited_text, caller_after, opened_session, opened_response, opened, caller_of_refusal, given_up}
+use Rattle.tpm_model.specs.Callers.{Refused, NotExpected, WrongMac, Waiting, Opened, awaited_text, caller_after, opened_session, opened_response, opened, caller_of_refusal, given_up}
 use Rattle.tpm_caller.specs.declared.waiting.CallerFault.{CallerFault}
 use Rattle.tpm_caller.specs.declared.waiting.CallerFault.TheVariants as faults
 use Rattle.tpm_caller.specs.Sent.{caller_with, IsSpelledBy}

@@ -219,9 +219,6 @@ takes_feed value p q false Text present ended = (not_a_register_line p.number, e
 
 -- ---- the end
 
-pub at_end_none : (value : Values) (p : Place) → p.line ≡ [] → comparison_at value p [] ≡ record { text = []; status = Some p.status }
-at_end_none value p none = rw none (ap (λ (status : Status). record { text = []; status = Some status }) (both_done p.status))
-
 alone : (line : List ℕ) → 0 < length line → HasNoFeed line → lines_of line ≡ line ∷ []
 alone [] some f = absurd (omega arith)
 alone (x ∷ line) some f = last_line x line f

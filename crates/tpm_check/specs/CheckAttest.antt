@@ -21,7 +21,7 @@ use Rattle.tpm_text.specs.declared.status.Status.{Status}
 use Rattle.tpm_text.specs.declared.status.Status.TheVariants.{Done, Refused}
 use Rattle.tpm_text.specs.Status.{both}
 use Rattle.tpm_text.specs.Text.{bytes_in, bytes_text, hexadecimal, line, refusal_line, not_hexadecimal_line}
-use Rattle.tpm_check.specs.Compare.{Values, bank_name, status_if}
+use Rattle.tpm_check.specs.Compare.{Values, bank_name}
 use Rattle.tpm_check.specs.Check.{ChecksValues, ReadsIfList, log_fault_line}
 
 -- ---- what the quote says: TPMS_ATTEST (Part 2, 10.12)

@@ -100,9 +100,6 @@ sessions_permit p bytes x read met =
 pub performed_is : (p : Present) (n : List ℕ) (x : Presented) (params : Params) → read_all (parameters x.code) x.params ≡ Ok params → performed p n x ≡ done_of p n x (body_from x.handles params)
 performed_is p n x params reads = rw reads refl
 
-pub performed_refused : (p : Present) (n : List ℕ) (x : Presented) (e : Refusal) → read_all (parameters x.code) x.params ≡ Err e → performed p n x ≡ Err e.code
-performed_refused p n x e reads = rw reads refl
-
 -- ---- the action
 
 pub done_told : (p : Present) (n : List ℕ) (x : Presented) (body : CommandBody) (reply : ReplyBody) (items : List ℕ) → Ok reply ≡ action p body n

@@ -30,7 +30,7 @@ use Rattle.tpm_commands.specs.Codes.{code_number}
 use Rattle.tpm_commands.specs.Handles.{first, needs_authorization}
 use Rattle.tpm_buffer.specs.Commands.{command, command_size, code_for}
 use Rattle.tpm_commands.specs.Replies.{code_for_reply, reply_handles, reply_handles_of}
-use Rattle.tpm_buffer.specs.Responses.{Reply, response, response_front, response_tag, response_code, with_sessions, parameter_size, reply_sessions, further_sessions, size_of_response, done_with}
+use Rattle.tpm_buffer.specs.Responses.{response, response_front, response_tag, response_code, with_sessions, parameter_size, reply_sessions, further_sessions, size_of_response, done_with}
 use Rattle.tpm_hmac.specs.Hashes.{digest}
 use Rattle.tpm_hmac.specs.Hmac.{hmac}
 use Rattle.tpm_hmac.specs.Sessions.{trim, cp_hash}
@@ -236,9 +236,6 @@ record Step (o : Origin) (h : History) (bytes n : List ℕ) (s : Seal) (d : Done
   is : outcome (present o h) bytes n ≡ Ok d
   needs : needs_authorization (code_for s.body) ≡ true
   opening : WasOpened (waiting s) (read_all (response (code_for s.body)) (answer o h bytes n))
-
-abbrev made_of : ReplyBody → List AuthReply → Reply
-made_of body auths = record { body = body; auths = auths }
 
 -- its session as it was read, from bytes with these sessions
 step_lists : (o : Origin) (h : History) (bytes n : List ℕ) (s : Seal) (d : Done) (t : Step o h bytes n s d) (auths : List AuthReply) → d.reply.auths ≡ auths

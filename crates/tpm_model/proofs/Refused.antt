@@ -26,7 +26,7 @@ use Rattle.tpm_model.specs.Answers.{code_only, by_grammar, check_started, check_
 use Rattle.tpm_model.proofs.Accepted.{ok_is}
 use Rattle.tpm_model.proofs.Nonzero.{IsAnswered, IfRefused, IsCoded, read_coded, read_all_coded}
 use Rattle.tpm_model.proofs.Coded.{coded_header, coded_handles, coded_authorization}
-use Rattle.tpm_model.proofs.EachCommand.{IfErr, not_refused, with_code, its_code, next_too, afterwards, tested, test_first, looked_up, one_of, coded_parameters, acted}
+use Rattle.tpm_model.proofs.EachCommand.{IfErr, not_refused, with_code, its_code, next_too, afterwards, tested, test_first, one_of, coded_parameters, acted}
 
 of_code : {A : Type 0} (r : Result A Refusal) → IfRefused r → IfErr (code_only r)
 of_code (Ok x) c = not_refused

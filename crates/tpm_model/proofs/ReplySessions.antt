@@ -35,9 +35,6 @@ session_list bytes = read 0 response_front (at_start bytes) >>= λ f. read 0 (re
 abbrev pub Lists : Result (List AuthReply × Here) Refusal → List AuthReply → Type 0
 Lists r auths = (g : Here) × (r ≡ Ok (auths, g))
 
-pub one_list : (r : Result (List AuthReply × Here) Refusal) (xs ys : List AuthReply) → Lists r xs → Lists r ys → xs ≡ ys
-one_list r xs ys a b = ap (λ (x : List AuthReply × Here). x.0) (okay_is {E = Refusal} (xs, a.0) (ys, b.0) (sym a.1 ∙ b.1))
-
 -- what comes after a success
 goes_on : {A B : Type 0} (r : Result A Refusal) (f : A → Result B Refusal) (x : A) (y : Result B Refusal) → r ≡ Ok x → f x ≡ y → (r >>= f) ≡ y
 goes_on r f x y e g = ap (λ z. z >>= f) e ∙ g

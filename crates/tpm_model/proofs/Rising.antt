@@ -19,12 +19,6 @@ use Rattle.tpm_model.specs.Actions.{defined_counter, increment, then_reply, acti
 use Rattle.tpm_model.proofs.Accepted.{passed, along, next_is, ok_is}
 use Rattle.tpm_model.proofs.Runs.{after-append}
 
-same_number : (a b : ℕ) → (a == b) ≡ true → a ≡ b
-same_number a b e = grind (arith, nat_tests)
-
-other_number : (a b c : ℕ) → (a == b) ≡ true → (a == c) ≡ false → (b == c) ≡ false
-other_number a b c e f = grind (arith, nat_tests)
-
 -- ---- the value of an index after each change of NV memory
 
 abbrev value_in : List Counter → ℕ → Option ℕ

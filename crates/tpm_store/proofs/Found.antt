@@ -2,7 +2,7 @@
 use Rattle.std.proofs.Common.{◌≡◌, ℕ, ◌+◌, ◌<◌, List, [], ◌∷◌, ◌++◌, length, take, drop, get_or, set, Option, Some, None, true, false, sym, refl, ap, ◌∙◌, arith}
 use Rattle.std.specs.Prelude.{◌^◌, nat_le, if◌then◌else◌}
 use Rattle.std.proofs.lemmas.Option.{same_Some}
-use Rattle.std.proofs.lemmas.List.{get_or_at, set_at, take_more, drop_more, take-append-drop, length-take-le, length-append}
+use Rattle.std.proofs.lemmas.List.{get_or_at, set_at, take_more, drop_more, take-append-drop, length-take-le}
 use Rattle.tpm_model.specs.Counters.{Counter, has_index, counter_in, next_value, written, incremented, with_increment, NvMemory}
 use Rattle.tpm_store.specs.Places.{IsPlace}
 
@@ -22,9 +22,6 @@ split_at xs k d lt = sym (take-append-drop k xs) ∙ ap (λ (r : List Counter). 
 
 pub at_place : (i k : ℕ) (xs : List Counter) (p : IsPlace i k xs) (d : Counter) → get_or xs k d ≡ p.counter
 at_place i k xs p d = ap (λ (l : List Counter). get_or l k d) p.split ∙ get_or_at p.front p.counter p.back d k p.at
-
-pub in_range : (i k : ℕ) (xs : List Counter) → IsPlace i k xs → k < length xs
-in_range i k xs p = omega (arith, ap length p.split, length-append p.front (p.counter ∷ p.back), p.at)
 
 pub found_at : (i k : ℕ) (xs : List Counter) (p : IsPlace i k xs) → counter_in xs i ≡ Some p.counter
 found_at i k xs p = ap (λ (l : List Counter). counter_in l i) p.split ∙ found_after i p.front (p.counter ∷ p.back) p.none ∙ rw p.same refl

@@ -36,18 +36,6 @@ starting_start a q = elim (nat_le 17 q) as (λ t. nat_le 17 q ≡ t → zeros a 
   | false ↦ λ t. refl
 ] refl
 
-pub starting_more : (done : ℕ) (old new : List ℕ) → 17 ≤ done → Holds old (starting done) → Holds new (with_values done (filled_but_last 0xFF 0xFF) (value_at old)) → Holds new (starting (done + 1))
-starting_more done old new from before more a q lt =
-    more a q lt ∙ elim (done == q) as (λ t. (done == q) ≡ t → (if t then filled_but_last 0xFF 0xFF a else value_at old a q) ≡ starting (done + 1) a q) [
-      | true ↦ λ t.
-          let low : nat_le 17 q ≡ true = grind (arith, nat_tests) in
-          let high : nat_lt q (done + 1) ≡ true = grind (arith, nat_tests) in
-          filled_all 0xFF a ∙ rw (low, high) refl
-      | false ↦ λ t.
-          let same : nat_lt q (done + 1) ≡ nat_lt q done = grind (arith, nat_tests) in
-          before a q lt ∙ rw same refl
-    ] refl
-
 -- ---- each bank
 
 -- these values, but for one register in each of the first banks, so many of them

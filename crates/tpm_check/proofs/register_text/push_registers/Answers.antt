@@ -1,4 +1,4 @@
-use Rattle.std.proofs.Common.{◌≡◌, ◌<◌, ◌+◌, List, ℕ, ◌∷◌, [], ◌++◌, length, take, get_or, flat_map, ap, sym, ◌∙◌, string_bytes}
+use Rattle.std.proofs.Common.{◌≡◌, ◌<◌, ◌+◌, List, ℕ, ◌++◌, length, take, get_or, flat_map, ap, sym, ◌∙◌, string_bytes}
 use Rattle.std.proofs.lemmas.List.{flat_map_more, take_more}
 use Rattle.tpm_types.specs.declared.alg.Alg.{Alg}
 use Rattle.tpm_types.specs.Alg.{all_algs}

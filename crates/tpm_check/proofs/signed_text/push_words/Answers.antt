@@ -1,4 +1,4 @@
-use Rattle.std.proofs.Common.{◌≡◌, List, ℕ, ◌++◌, [], cond, ap, sym, ◌∙◌, append_assoc, string_bytes}
+use Rattle.std.proofs.Common.{List, ℕ, ◌++◌, [], cond, ap, sym, ◌∙◌, append_assoc, string_bytes}
 use Rattle.tpm_types.specs.Tpms.{is_selected}
 use Rattle.tpm_check.specs.CheckAttest.{register_word, register_words}
 use Rattle.tpm_check.proofs.Verdicts.{words-more}
