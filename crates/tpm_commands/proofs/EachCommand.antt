@@ -32,7 +32,7 @@ use Rattle.tpm_commands.specs.declared.response.ReplyBody.{ReplyBody}
 use Rattle.tpm_commands.specs.Events.{event_bytes}
 use Rattle.tpm_commands.specs.Handles.{admits, AreAdmitted, handle_kinds, first, second}
 use Rattle.tpm_commands.specs.Parameters.{params_code, parameters, nv_define_space, pcr_event, startup, nv_read, flush_context, policy_command_code, policy_or, start_auth_session, pcr_read, policy_pcr, pcr_extend}
-use Rattle.tpm_commands.specs.Table.{register_in, index_in, policy_in, pcr_or_null_in, nv_auth_in, bind_in, body_from, handles_of, params_of}
+use Rattle.tpm_commands.specs.Table.{register_in, index_in, policy_in, pcr_or_null_in, nv_auth_in, bind_in, or_else, body_from, handles_of, params_of}
 use Rattle.tpm_commands.specs.Replies.{code_for_reply, session_handle, session_in, reply_handles, reply_handles_of, reply_parameters, pcr_event_reply, nv_read_reply, nv_read_public_reply, start_auth_session_reply, pcr_read_reply, policy_get_digest_reply}
 use Rattle.tpm_commands.proofs.Short.{next, only, of_hash, of_selection, of_digest_value, of_sym_def}
 
@@ -50,35 +50,21 @@ owner_again n t = sym (eqb-true n rh_owner t)
 null_again : (n : ℕ) → is_null n ≡ true → rh_null ≡ n
 null_again n t = sym (eqb-true n rh_null t)
 
+-- of two kinds, where a number is of the second only if it isn't of the first
+either_again : {A : Type 0} (a b : Bool) (x y other : A) (number : A → ℕ) (n : ℕ) → (a ≡ true → number x ≡ n) → (b ≡ true → number y ≡ n)
+    → is_some (cond a (Some x) (cond b (Some y) None)) ≡ true → number (or_else (cond a (Some x) (cond b (Some y) None)) other) ≡ n
+either_again true b x y other number n first second t = first refl
+either_again false true x y other number n first second t = second refl
+either_again false false x y other number n first second t = absurd cc
+
 pcr_or_null_again : (n : ℕ) → is_some (pcr_or_null_of n) ≡ true → pcr_or_null_number (pcr_or_null_in n) ≡ n
-pcr_or_null_again n t =
-    elim (is_null n) as (λ a. is_null n ≡ a → is_some (cond a (Some pcrs.Null) (cond (is_pcr n) (Some (pcrs.Pcr n)) None)) ≡ true → pcr_or_null_number (pcr_or_null_in n) ≡ n) [
-      | true ↦ λ e s. rw e (null_again n e)
-      | false ↦ λ e. elim (is_pcr n) as (λ b. is_pcr n ≡ b → is_some (cond b (Some (pcrs.Pcr n)) None) ≡ true → pcr_or_null_number (pcr_or_null_in n) ≡ n) [
-        | true ↦ λ f s. rw (e, f) refl
-        | false ↦ λ f s. absurd (let z : ⊥ = cc in z)
-      ] refl
-    ] refl t
+pcr_or_null_again n = either_again (is_null n) (is_pcr n) pcrs.Null (pcrs.Pcr n) pcrs.Null pcr_or_null_number n (null_again n) (λ _. refl)
 
 nv_auth_again : (n : ℕ) → is_some (nv_auth_of n) ≡ true → nv_auth_number (nv_auth_in n) ≡ n
-nv_auth_again n t =
-    elim (is_owner n) as (λ a. is_owner n ≡ a → is_some (cond a (Some nv.Owner) (cond (is_nv_index n) (Some (nv.Index n)) None)) ≡ true → nv_auth_number (nv_auth_in n) ≡ n) [
-      | true ↦ λ e s. rw e (owner_again n e)
-      | false ↦ λ e. elim (is_nv_index n) as (λ b. is_nv_index n ≡ b → is_some (cond b (Some (nv.Index n)) None) ≡ true → nv_auth_number (nv_auth_in n) ≡ n) [
-        | true ↦ λ f s. rw (e, f) refl
-        | false ↦ λ f s. absurd (let z : ⊥ = cc in z)
-      ] refl
-    ] refl t
+nv_auth_again n = either_again (is_owner n) (is_nv_index n) nv.Owner (nv.Index n) nv.Owner nv_auth_number n (owner_again n) (λ _. refl)
 
 bind_again : (n : ℕ) → is_some (bind_of n) ≡ true → bind_number (bind_in n) ≡ n
-bind_again n t =
-    elim (is_owner n) as (λ a. is_owner n ≡ a → is_some (cond a (Some binds.Owner) (cond (is_null n) (Some binds.Null) None)) ≡ true → bind_number (bind_in n) ≡ n) [
-      | true ↦ λ e s. rw e (owner_again n e)
-      | false ↦ λ e. elim (is_null n) as (λ b. is_null n ≡ b → is_some (cond b (Some binds.Null) None) ≡ true → bind_number (bind_in n) ≡ n) [
-        | true ↦ λ f s. rw (e, f) (null_again n f)
-        | false ↦ λ f s. absurd (let z : ⊥ = cc in z)
-      ] refl
-    ] refl t
+bind_again n = either_again (is_owner n) (is_null n) binds.Owner binds.Null binds.Null bind_number n (owner_again n) (null_again n)
 
 register_again : (n : ℕ) → is_pcr n ≡ true → register_in n ≡ n
 register_again n t = rw t refl
