@@ -1,16 +1,15 @@
 -- What holds of each command, a line for each.
-use Rattle.std.proofs.Common.{◌≡◌, ℕ, ◌≤◌, Bool, true, false, cond, List, [], ◌∷◌, take, Some, None, Result, Ok, refl, sym, subst, ap, arith}
+use Rattle.std.proofs.Common.{◌≡◌, ℕ, ◌≤◌, Bool, true, false, cond, List, [], ◌∷◌, Some, None, Result, Ok, refl, sym, subst, ap, arith}
 use Rattle.std.specs.Prelude.{is_some}
 use Rattle.std.proofs.lemmas.Bool.{eqb-true}
 use Rattle.tpm_wire.specs.declared.refusal.Refusal.{Refusal}
 use Rattle.tpm_wire.specs.ResponseCodes.{rc_value, of_parameter}
-use Rattle.tpm_wire.specs.Token.{number_of, Here, or_fault}
+use Rattle.tpm_wire.specs.Token.{Here}
 use Rattle.tpm_wire.specs.Layout.{Form}
 use Rattle.tpm_wire.specs.Reading.{read}
 use Rattle.tpm_wire.specs.Buffers.{buffer, Layout}
-use Rattle.tpm_wire.proofs.Agreement.{bind_ok, number_ok}
-use Rattle.tpm_wire.proofs.Buffers.{buffer_sound}
-use Rattle.tpm_wire.proofs.Longer.{TakesAtMost, at_most_more, at_most_done, at_most_number, at_most_number_in, at_most_sized_bytes, at_most_sized, at_most_counted}
+use Rattle.tpm_wire.proofs.Agreement.{bind_ok}
+use Rattle.tpm_wire.proofs.Longer.{TakesAtMost, at_most_more, at_most_done, at_most_number, at_most_number_in, in_set, at_most_sized_bytes, at_most_sized, at_most_counted}
 use Rattle.tpm_types.specs.declared.handle_sets.PcrOrNull.TheVariants as pcrs
 use Rattle.tpm_types.specs.declared.handle_sets.NvAuthHandle.TheVariants as nv
 use Rattle.tpm_types.specs.declared.handle_sets.BindHandle.TheVariants as binds
@@ -34,10 +33,7 @@ use Rattle.tpm_commands.specs.Handles.{admits, AreAdmitted, handle_kinds, first,
 use Rattle.tpm_commands.specs.Parameters.{params_code, parameters, nv_define_space, pcr_event, startup, nv_read, flush_context, policy_command_code, policy_or, start_auth_session, pcr_read, policy_pcr, pcr_extend}
 use Rattle.tpm_commands.specs.Table.{register_in, index_in, policy_in, pcr_or_null_in, nv_auth_in, bind_in, or_else, body_from, handles_of, params_of}
 use Rattle.tpm_commands.specs.Replies.{code_for_reply, session_handle, session_in, reply_handles, reply_handles_of, reply_parameters, pcr_event_reply, nv_read_reply, nv_read_public_reply, start_auth_session_reply, pcr_read_reply, policy_get_digest_reply}
-use Rattle.tpm_commands.proofs.Short.{next, only, of_hash, of_selection, of_digest_value, of_sym_def}
-
-abbrev ok : {A : Type 0} → A → Result A Refusal
-ok x = Ok x
+use Rattle.tpm_commands.proofs.Short.{ok, next, only, of_hash, of_selection, of_digest_value, of_sym_def}
 
 ok_is : {A : Type 0} (x y : A) → ok x ≡ ok y → x ≡ y
 ok_is x y e = cc
@@ -196,16 +192,11 @@ AreRead _ hs = hs ≡ []
 none_read : (h g : Here) (hs : List ℕ) → (let o : Result (List ℕ × Here) Refusal = Ok ([], h) in o) ≡ Ok (hs, g) → hs ≡ []
 none_read h g hs e = sym (ap (λ (p : List ℕ × Here). p.0) (ok_is ([], h) (hs, g) e))
 
-was_session : (m n code : ℕ) (b : Bool) → is_session m ≡ b → or_fault {F = ℕ} (cond b (Some m) None) code ≡ Ok n → is_session n ≡ true
-was_session m n code true is e = let same : m ≡ n = cc in rw (← same) is
-was_session m n code false is e = absurd (let z : ⊥ = cc in z)
-
 session_read : (h g : Here) (hs : List ℕ) → read 0 session_handle h ≡ Ok (hs, g) → (n : ℕ) × (hs ≡ n ∷ []) × (session_in n ≡ n)
 unfolding session_handle session
 session_read h g hs e =
     let b = bind_ok (read 0x100 session h) (λ n. ok (n.0 ∷ [], n.1)) (hs, g) e in
-    let n = number_ok buffer buffer_sound 0x100 4 (λ left n. cond (is_session n) (Some n) None) (λ n. n) rc_value h b.0 b.1 in
-    let good : is_session b.0.0 ≡ true = was_session (number_of (take 4 h.rest)) b.0.0 rc_value (is_session (number_of (take 4 h.rest))) refl n.1 in
+    let good : is_session b.0.0 ≡ true = in_set 4 is_session rc_value 0x100 h b.0 b.1 in
     (b.0.0, sym (ap (λ z. z.0) (ok_is (b.0.0 ∷ [], b.0.1) (hs, g) b.2)), rw good refl)
 
 pub are_read : (code : CommandCode) (h g : Here) (hs : List ℕ) → read 0 (reply_handles code) h ≡ Ok (hs, g) → AreRead code hs
