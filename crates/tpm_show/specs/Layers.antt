@@ -1,35 +1,24 @@
 -- The software layers of response codes, and their base codes (TCG TSS 2.0 Overview and Common Structures, response codes), by
 -- their numbers and names in tss2_common.h.
-use Rattle.std.specs.Prelude.{ℕ, ◌/◌, ◌^◌, ◌==◌, List, [], ◌∷◌, codes, Option, find}
-use Rattle.tpm_show.specs.declared.layers.Layer.{Layer as RustLayer}
+use Rattle.std.specs.Prelude.{ℕ, ◌/◌, ◌^◌, ◌==◌, List, [], ◌∷◌, codes, Option, if◌then◌else◌}
 use Rattle.tpm_show.specs.declared.layers.Codes.{Codes}
 use Rattle.tpm_show.specs.declared.layers.Codes.TheVariants.{Base, BaseOrTpm, Tpm}
 use Rattle.tpm_show.specs.Meanings.{Meaning, means, meaning_in}
 
--- a layer: its number, its name between TSS2_ and _RC_LAYER, what it is, and which codes it answers
-pub record Layer : Type 0 where
-  pub number : ℕ
-  pub name : List ℕ
-  pub words : List ℕ
-  pub answers : Codes
-
-abbrev pub is_layer : ℕ → List ℕ → List ℕ → Codes → Layer
-is_layer number name words answers = record { number = number; name = name; words = words; answers = answers }
-
-abbrev pub layer_as : RustLayer → Layer
-layer_as l = is_layer l.number l.name.now l.words.now l.codes
+abbrev pub layers : List Meaning
+layers =
+    means 6 (codes "FEATURE") (codes "the feature interface") ∷
+    means 7 (codes "ESAPI") (codes "the enhanced system interface") ∷
+    means 8 (codes "SYS") (codes "the system interface") ∷
+    means 9 (codes "MU") (codes "the spelling and reading of structures") ∷
+    means 10 (codes "TCTI") (codes "the transmission to the TPM") ∷
+    means 11 (codes "RESMGR") (codes "the resource manager") ∷
+    means 12 (codes "RESMGR_TPM") (codes "the resource manager, in the place of the TPM") ∷
+    []
 
 -- Under the number of RESMGR the resource manager of Linux answers in the place of the TPM (drivers/char/tpm/tpm.h).
-abbrev pub layers : List Layer
-layers =
-    is_layer 6 (codes "FEATURE") (codes "the feature interface") Base ∷
-    is_layer 7 (codes "ESAPI") (codes "the enhanced system interface") Base ∷
-    is_layer 8 (codes "SYS") (codes "the system interface") Base ∷
-    is_layer 9 (codes "MU") (codes "the spelling and reading of structures") Base ∷
-    is_layer 10 (codes "TCTI") (codes "the transmission to the TPM") Base ∷
-    is_layer 11 (codes "RESMGR") (codes "the resource manager") BaseOrTpm ∷
-    is_layer 12 (codes "RESMGR_TPM") (codes "the resource manager, in the place of the TPM") Tpm ∷
-    []
+abbrev pub codes_of : ℕ → Codes
+codes_of layer = if layer == 11 then BaseOrTpm else if layer == 12 then Tpm else Base
 
 abbrev pub base_codes : List Meaning
 base_codes =
@@ -88,12 +77,9 @@ base_codes =
     means 53 (codes "ALREADY_PROVISIONED") (codes "the TPM is provisioned already") ∷
     []
 
-unfoldable pub layer_in : List Layer → ℕ → Option Layer
-layer_in table number = find (λ l. l.number == number) table
-
 -- The number of the layer stands above the sixteen bits of its code.
-abbrev pub layer_of : ℕ → Option Layer
-layer_of code = layer_in layers (code / 2 ^ 16)
+abbrev pub layer_of : ℕ → Option Meaning
+layer_of code = meaning_in layers (code / 2 ^ 16)
 
 abbrev pub base_of : ℕ → Option Meaning
 base_of code = meaning_in base_codes code

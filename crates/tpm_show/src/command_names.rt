@@ -6,10 +6,10 @@ ghost use Rattle.tpm_show.specs.Capture.{refusal_text};
 ghost use Rattle.tpm_show.specs.CommandNames.{absent_line, absent_member, absent_named, absent_text, absent_behind};
 
 use crate::frame_json::answer_to_refusal;
-use crate::tables::names;
 use std::alloc::{AllocError, Global};
 use tpm_text::answer::Answer;
 use tpm_text::named::{Named, look_up};
+use tpm_text::names;
 use tpm_text::text::Pushed;
 use tpm_wire::Refusal;
 use tpm_wire::response_code::COMMAND_CODE;

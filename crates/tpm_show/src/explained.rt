@@ -3,15 +3,12 @@
 ghost use Rattle.std.specs.Prelude.{◌≡◌, ◌++◌, IfOk, OnOk, option_map, string_bytes};
 ghost use Rattle.std.specs.Io.KnownBytes.{Appends};
 ghost use Rattle.tpm_text.specs.Faults.{FailsByMemoryOrWrite};
-ghost use Rattle.tpm_show.specs.Explain.{meaning_of, meaning_line, base_line, layer_line, subject_of, subject_number, subject_text, unknown_line, tpm_line, base_code_line, line_within, line_or_unknown, status_of_line, explanation, explain_status};
-ghost use Rattle.tpm_show.specs.Layers.{layer_as};
+ghost use Rattle.tpm_show.specs.Explain.{meaning_of, meaning_line, base_line, layer_line, subject_of, subject_number, subject_text, unknown_line, line_among, line_or_unknown, status_of_line, explanation, explain_status};
 ghost use Rattle.tpm_show.specs.Meanings.{meaning_as};
-ghost use Rattle.tpm_show.specs.declared.layers.Codes.TheVariants.{BaseOrTpm};
-ghost use Rattle.tpm_text.specs.declared.status.Status.TheVariants.{Refused};
+ghost use Rattle.tpm_text.specs.declared.status.Status.TheVariants.{Done, Refused};
 
-use crate::layers::{Codes, Layer, base_meaning, layer_of};
-use crate::meaning::{Meaning, look_up};
-use crate::tables::meanings;
+use crate::layers::{Codes, base_meaning, codes_of, layer_of};
+use crate::meaning::{Meaning, look_up, meanings};
 use std::alloc::{AllocError, Global};
 use std::io::Write;
 use tpm_text::answer::Answer;
@@ -190,31 +187,24 @@ fn push_subject(text: &mut String, code: u32) -> Pushed
 }
 
 #[tactic(auto, unfolding(crate::specs::Explain::meaning_line))]
-fn push_meaning(text: &mut String, code: u32, meaning: &Meaning) -> Pushed
-    ensures { OnOk result (string_bytes text.new ≡ string_bytes text.old ++ meaning_line code (meaning_as meaning.now)) }
+fn push_meaning(text: &mut String, code: u32, meaning: &Meaning) -> Result<Status, AllocError>
+    ensures { IfOk result (λ status. (status ≡ Done) × (string_bytes text.new ≡ string_bytes text.old ++ meaning_line code (meaning_as meaning.now))) }
 {
     let name = meaning.name;
     write!(text, "TPM_RC_{name}")?;
     push_subject(text, code)?;
     let words = meaning.words;
-    writeln!(text, ": {words}")
+    writeln!(text, ": {words}")?;
+    Ok(Status::Done)
 }
 
-fn push_base(text: &mut String, meaning: &Meaning) -> Pushed
-    ensures { OnOk result (string_bytes text.new ≡ string_bytes text.old ++ base_line (meaning_as meaning.now)) }
+fn push_base(text: &mut String, meaning: &Meaning) -> Result<Status, AllocError>
+    ensures { IfOk result (λ status. (status ≡ Done) × (string_bytes text.new ≡ string_bytes text.old ++ base_line (meaning_as meaning.now))) }
 {
     let name = meaning.name;
     let words = meaning.words;
-    writeln!(text, "TSS2_BASE_RC_{name}: {words}")
-}
-
-#[tactic(auto, unfolding(crate::specs::Explain::layer_line))]
-fn push_layer(text: &mut String, layer: &Layer) -> Pushed
-    ensures { OnOk result (string_bytes text.new ≡ string_bytes text.old ++ layer_line (layer_as layer.now)) }
-{
-    let name = layer.name;
-    let words = layer.words;
-    writeln!(text, "TSS2_{name}_RC_LAYER: {words}")
+    writeln!(text, "TSS2_BASE_RC_{name}: {words}")?;
+    Ok(Status::Done)
 }
 
 fn push_unknown(text: &mut String) -> Result<Status, AllocError>
@@ -224,62 +214,35 @@ fn push_unknown(text: &mut String) -> Result<Status, AllocError>
     Ok(Status::Refused)
 }
 
-// Adds what a TPM's code says.
-fn push_tpm_code(text: &mut String, code: u32) -> Result<Status, AllocError>
-    ensures { IfOk result (λ status. (status ≡ status_of_line (tpm_line code))
-        × (string_bytes text.new ≡ string_bytes text.old ++ line_or_unknown (tpm_line code))) }
+// Adds what a code says among these.
+fn push_code_among(text: &mut String, codes: Codes, code: u32) -> Result<Status, AllocError>
+    ensures { IfOk result (λ status. (status ≡ status_of_line (line_among codes code))
+        × (string_bytes text.new ≡ string_bytes text.old ++ line_or_unknown (line_among codes code))) }
 {
-    let Some(meaning) = code_meaning(code) else {
-        return push_unknown(text);
-    };
-    push_meaning(text, code, meaning)?;
-    Ok(Status::Done)
-}
-
-// Adds what a base code says.
-fn push_base_code(text: &mut String, code: u32) -> Result<Status, AllocError>
-    ensures { IfOk result (λ status. (status ≡ status_of_line (base_code_line code))
-        × (string_bytes text.new ≡ string_bytes text.old ++ line_or_unknown (base_code_line code))) }
-{
-    let Some(meaning) = base_meaning(code) else {
-        return push_unknown(text);
-    };
-    push_base(text, meaning)?;
-    Ok(Status::Done)
-}
-
-// Adds what a code says in a layer that is no TPM's alone.
-fn push_base_or_tpm_code(text: &mut String, code: u32) -> Result<Status, AllocError>
-    ensures { IfOk result (λ status. (status ≡ status_of_line (line_within BaseOrTpm code))
-        × (string_bytes text.new ≡ string_bytes text.old ++ line_or_unknown (line_within BaseOrTpm code))) }
-{
-    let Some(meaning) = base_meaning(code) else {
-        return push_tpm_code(text, code);
-    };
-    push_base(text, meaning)?;
-    Ok(Status::Done)
-}
-
-// Adds what a code says within its layer.
-fn push_code_within(text: &mut String, codes: Codes, code: u32) -> Result<Status, AllocError>
-    ensures { IfOk result (λ status. (status ≡ status_of_line (line_within codes code))
-        × (string_bytes text.new ≡ string_bytes text.old ++ line_or_unknown (line_within codes code))) }
-{
-    match codes {
-        Codes::Base => push_base_code(text, code),
-        Codes::BaseOrTpm => push_base_or_tpm_code(text, code),
-        Codes::Tpm => push_tpm_code(text, code),
+    match (codes, base_meaning(code), code_meaning(code)) {
+        (Codes::Base | Codes::BaseOrTpm, Some(meaning), _) => push_base(text, meaning),
+        (Codes::BaseOrTpm | Codes::Tpm, _, Some(meaning)) => push_meaning(text, code, meaning),
+        _ => push_unknown(text),
     }
+}
+
+#[tactic(auto, unfolding(crate::specs::Explain::layer_line))]
+fn push_layer(text: &mut String, layer: &Meaning) -> Pushed
+    ensures { OnOk result (string_bytes text.new ≡ string_bytes text.old ++ layer_line (meaning_as layer.now)) }
+{
+    let name = layer.name;
+    let words = layer.words;
+    writeln!(text, "TSS2_{name}_RC_LAYER: {words}")
 }
 
 fn push_code(text: &mut String, code: u32) -> Result<Status, AllocError>
     ensures { IfOk result (λ status. (status ≡ explain_status code) × (string_bytes text.new ≡ string_bytes text.old ++ explanation code)) }
 {
     let Some(layer) = layer_of(code) else {
-        return push_tpm_code(text, code);
+        return push_code_among(text, Codes::Tpm, code);
     };
     push_layer(text, layer)?;
-    push_code_within(text, layer.codes, code & CODE)
+    push_code_among(text, codes_of(layer.number), code & CODE)
 }
 
 fn answer(alloc: Global, code: u32) -> Result<Answer, AllocError>

@@ -1,11 +1,10 @@
 //! The software layers of response codes, and their base codes.
 
-ghost use Rattle.std.specs.Prelude.{◌≡◌, map, option_map};
-ghost use Rattle.tpm_show.specs.Layers.{layer_as, layer_in, layer_of, base_of};
+ghost use Rattle.std.specs.Prelude.{◌≡◌, option_map};
+ghost use Rattle.tpm_show.specs.Layers.{codes_of, layer_of, base_of};
 ghost use Rattle.tpm_show.specs.Meanings.{meaning_as};
 
-use crate::meaning::{Meaning, look_up};
-use crate::tables::meanings;
+use crate::meaning::{Meaning, look_up, meanings};
 
 /// Which codes a layer answers.
 #[derive(Clone, Copy)]
@@ -18,61 +17,15 @@ pub(crate) enum Codes {
     Tpm,
 }
 
-/// A layer of software that answers response codes.
-#[derive(Clone, Copy)]
-pub(crate) struct Layer {
-    number: u32,
-    // between TSS2_ and _RC_LAYER
-    pub(crate) name: &'static str,
-    pub(crate) words: &'static str,
-    pub(crate) codes: Codes,
-}
-
-// The layers, by their names in tss2_common.h (TCG TSS 2.0 Overview and Common Structures, response codes). Under the number
-// of RESMGR the resource manager of Linux answers in the place of the TPM, with a code of a TPM (drivers/char/tpm/tpm.h).
-const LAYERS: [Layer; 7] = [
-    Layer {
-        number: 6,
-        name: "FEATURE",
-        words: "the feature interface",
-        codes: Codes::Base,
-    },
-    Layer {
-        number: 7,
-        name: "ESAPI",
-        words: "the enhanced system interface",
-        codes: Codes::Base,
-    },
-    Layer {
-        number: 8,
-        name: "SYS",
-        words: "the system interface",
-        codes: Codes::Base,
-    },
-    Layer {
-        number: 9,
-        name: "MU",
-        words: "the spelling and reading of structures",
-        codes: Codes::Base,
-    },
-    Layer {
-        number: 10,
-        name: "TCTI",
-        words: "the transmission to the TPM",
-        codes: Codes::Base,
-    },
-    Layer {
-        number: 11,
-        name: "RESMGR",
-        words: "the resource manager",
-        codes: Codes::BaseOrTpm,
-    },
-    Layer {
-        number: 12,
-        name: "RESMGR_TPM",
-        words: "the resource manager, in the place of the TPM",
-        codes: Codes::Tpm,
-    },
+// The layers, by their names in tss2_common.h (TCG TSS 2.0 Overview and Common Structures, response codes).
+const LAYERS: [Meaning; 7] = meanings![
+    6 "FEATURE" "the feature interface",
+    7 "ESAPI" "the enhanced system interface",
+    8 "SYS" "the system interface",
+    9 "MU" "the spelling and reading of structures",
+    10 "TCTI" "the transmission to the TPM",
+    11 "RESMGR" "the resource manager",
+    12 "RESMGR_TPM" "the resource manager, in the place of the TPM",
 ];
 
 // The base codes, by their names in tss2_common.h.
@@ -132,18 +85,23 @@ const BASE_CODES: [Meaning; 53] = meanings![
     53 "ALREADY_PROVISIONED" "the TPM is provisioned already",
 ];
 
-// What the table says of the layer with this number.
-fn look_up_layer(table: &'static [Layer], number: u32) -> Option<&'static Layer>
-    ensures { option_map (λ l. layer_as l.now) result ≡ layer_in (map layer_as table.now) number }
+/// The software layer of a response code, or none for a TPM's code and for a layer that isn't listed.
+pub(crate) fn layer_of(code: u32) -> Option<&'static Meaning>
+    ensures { option_map (λ m. meaning_as m.now) result ≡ layer_of code }
 {
-    table.iter().find(|layer| layer.number == number)
+    look_up(&LAYERS, code >> 16)
 }
 
-/// The software layer of a response code, or none for a TPM's code and for a layer that isn't listed.
-pub(crate) fn layer_of(code: u32) -> Option<&'static Layer>
-    ensures { option_map (λ l. layer_as l.now) result ≡ layer_of code }
+/// Which codes the layer with this number answers. Under the number of RESMGR the resource manager of Linux answers in the place
+/// of the TPM, with a code of a TPM (drivers/char/tpm/tpm.h).
+pub(crate) fn codes_of(layer: u32) -> Codes
+    ensures { result ≡ codes_of layer }
 {
-    look_up_layer(&LAYERS, code >> 16)
+    match layer {
+        11 => Codes::BaseOrTpm,
+        12 => Codes::Tpm,
+        _ => Codes::Base,
+    }
 }
 
 /// What a base code says, if it is listed.

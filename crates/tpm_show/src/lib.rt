@@ -18,7 +18,6 @@ mod reply_text;
 mod shown;
 mod shown_fields;
 mod shown_reply;
-mod tables;
 mod telling;
 
 pub use built::build;

@@ -10,9 +10,9 @@ ghost use Rattle.tpm_show.specs.FieldText.{field_text, structure_text};
 ghost use Rattle.tpm_show.specs.Parts.{attribute_names, attribute_parts, bits_of, digest_entry, digest_value_entry, digest_value_members, public_parts, register_parts, selection_entry, selection_members, symmetric_parts};
 
 use crate::field_text::{Field, HasParts, end_structure, push_number};
-use crate::tables::names;
 use std::alloc::Global;
 use tpm_text::named::Named;
+use tpm_text::names;
 use tpm_text::registers::register;
 use tpm_text::text::Pushed;
 use tpm_types::{Digest, HashedDigest, NvAttrs, NvPublic, SELECT_BYTES, Selection, SymDef};

@@ -6,11 +6,11 @@ use Rattle.tpm_show.specs.Meanings.{meaning_as, meaning_in}
 use Rattle.tpm_text.proofs.Tables.{found_as}
 use Rattle.tpm_show.proofs.meaning.look_up.Goals as goal
 
-found : (table : List Meaning) (n : ℕ) (o : Option (Bor Meaning)) → option_map (λ m. m.now) o ≡ find (λ m. m.code == n) table
+found : (table : List Meaning) (n : ℕ) (o : Option (Bor Meaning)) → option_map (λ m. m.now) o ≡ find (λ m. m.number == n) table
     → option_map (λ m. meaning_as m.now) o ≡ meaning_in (map meaning_as table) n
 unfolding meaning_in
-found table n o is = found_as meaning_as (λ m. m.code == n) table o is
+found table n o is = found_as meaning_as (λ m. m.number == n) table o is
 
 pub returns : goal.returns
-returns c = found c.args.table.now c.args.code c.find.result
-    (find_from_yields_List (λ m. m.code == c.args.code) _ _ _ c.find.ensures.ran (YieldsList-from_slice c.args.table.now c.iter.ensures.rest) (λ x b q k. search rules))
+returns c = found c.args.table.now c.args.number c.find.result
+    (find_from_yields_List (λ m. m.number == c.args.number) _ _ _ c.find.ensures.ran (YieldsList-from_slice c.args.table.now c.iter.ensures.rest) (λ x b q k. search rules))
