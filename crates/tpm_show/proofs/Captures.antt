@@ -1,17 +1,11 @@
 -- Captures that are told one part after the other.
-use Rattle.std.proofs.Common.{◌≡◌, ℕ, Bool, true, ◌+◌, ◌<◌, ◌≤◌, false, List, [], ◌∷◌, ◌++◌, length, map, take, not, Option, refl, sym, ap, ◌∙◌, ◌⊎◌, inl, inr, arith, append_assoc, length-append, length-take-le}
+use Rattle.std.proofs.Common.{◌≡◌, ℕ, true, ◌+◌, ◌<◌, ◌≤◌, false, List, [], ◌∷◌, ◌++◌, length, map, take, not, Option, refl, sym, ap, ◌∙◌, inl, inr, arith, append_assoc, length-append, length-take-le}
 use Rattle.std.specs.Prelude.{nat_eq}
 use Rattle.std.specs.Io.KnownBytes.{Consumes, IsAtEnd}
-use Rattle.std.proofs.lemmas.Bool.{cases_order, lt-ltb}
+use Rattle.std.proofs.lemmas.Bool.{cases_lt, lt-ltb}
 use Rattle.std.proofs.lemmas.List.{append-nil, map-append, take_all, take-append-le}
 use Rattle.std.proofs.lemmas.List.Elements.{filter-append}
 use Rattle.tpm_stream.proofs.Filled.{consumes_both}
-use Rattle.tpm_wire.specs.Buffers.{buffer}
-use Rattle.tpm_wire.specs.Path.{Spells}
-use Rattle.tpm_wire.proofs.Buffers.{buffer_sound}
-use Rattle.tpm_wire.proofs.Whole.{exactly_one}
-use Rattle.tpm_commands.specs.declared.command.Command.{Command}
-use Rattle.tpm_buffer.specs.Commands.{command}
 use Rattle.tpm_text.specs.declared.status.Status.{Status}
 use Rattle.tpm_show.specs.declared.telling.Telling.{Telling}
 use Rattle.tpm_text.specs.declared.status.Status.TheVariants.{Done, Refused}
@@ -19,42 +13,25 @@ use Rattle.tpm_show.specs.declared.capture.Capture.{Capture}
 use Rattle.tpm_text.specs.Status.{both}
 use Rattle.tpm_text.specs.InputLines.{lines_of, HasNoFeed}
 use Rattle.tpm_show.specs.Capture as specs
-use Rattle.tpm_show.specs.Capture.{Line, Place, start, is_blank, without_blanks, told_in, line_of, most_line, behind, ShowsCommandBy, TellsCommand, TellsLine, TellsFrom, TellsCapture, ReadsAll}
-use Rattle.tpm_show.specs.Capturing.{place, EndsLine, behind_all, Taken, Takes, Reaches}
+use Rattle.tpm_show.specs.Capture.{Line, Place, start, is_blank, without_blanks, told_in, line_of, most_line, behind, TellsLine, TellsFrom, TellsCapture, ReadsAll}
+use Rattle.tpm_show.specs.Capturing.{place, EndsLine, behind_all, Takes, Reaches}
 use Rattle.tpm_text.proofs.InputLines.{no_feed-more, ended_line, last_line, lines_of-append, ended_both}
 use Rattle.tpm_text.proofs.Joins.{Joins}
 
 -- ---- a line of which no more is kept than one byte too many
-
-by_order : (n m : ℕ) → (n ≡ m) ⊎ ((n < m) ⊎ (m < n)) → (n ≤ m) ⊎ (m < n)
-by_order n m (inl same) = inl (omega (arith, same))
-by_order n m (inr (inl less)) = inl (omega (arith, less))
-by_order n m (inr (inr more)) = inr more
-
-by_length : (n m : ℕ) → (n ≤ m) ⊎ (m < n)
-by_length n m = by_order n m (cases_order n m)
 
 told_long : (first : ℕ) (rest others : List ℕ) → most_line < length (first ∷ rest) → most_line < length (first ∷ others) → told_in (first ∷ rest) ≡ told_in (first ∷ others)
 told_long first rest others f g = rw (lt-ltb most_line (length (first ∷ rest)) f, lt-ltb most_line (length (first ∷ others)) g) refl
 
 -- ---- statuses
 
-pub both_assoc : (a b c : Status) → both (both a b) c ≡ both a (both b c)
+both_assoc : (a b c : Status) → both (both a b) c ≡ both a (both b c)
 both_assoc Done b c = refl
 both_assoc Refused b c = refl
 
 both_done : (a : Status) → both a Done ≡ a
 both_done Done = refl
 both_done Refused = refl
-
--- ---- commands that are told
-
--- What is shown of bytes that spell a command is told of them.
-pub told_command : (json fields : Bool) (c : Command) (bytes : List ℕ) (status : Status) (text : List ℕ) → Spells command c bytes → ShowsCommandBy json fields bytes status text → TellsCommand json fields bytes status text
-told_command json fields c bytes Done text spelled shown = shown
-told_command false false c bytes Refused text spelled shown = absurd ((exactly_one buffer buffer_sound command bytes).not_both c shown.0 spelled shown.1)
-told_command false true c bytes Refused text spelled shown = absurd ((exactly_one buffer buffer_sound command bytes).not_both c shown.0 spelled shown.1)
-told_command true fields c bytes Refused text spelled shown = absurd ((exactly_one buffer buffer_sound command bytes).not_both c shown.0 spelled shown.1)
 
 -- ---- lines that are told
 
@@ -89,34 +66,30 @@ tells_last how p (x ∷ line) s a f g = rw (last_line x line f) (tells_one how p
 -- Of a line that has one byte too many, more makes no difference.
 told_kept : (kept : List ℕ) → told_in (take (most_line + 1) kept) ≡ told_in kept
 told_kept [] = refl
-told_kept (first ∷ rest) = by (by_length (length (first ∷ rest)) (most_line + 1))
-  where
-    by : (length (first ∷ rest) ≤ most_line + 1) ⊎ (most_line + 1 < length (first ∷ rest)) → told_in (take (most_line + 1) (first ∷ rest)) ≡ told_in (first ∷ rest)
-    by (inl le) = ap told_in (take_all (most_line + 1) (first ∷ rest) le)
-    by (inr lt) = told_long first (take most_line rest) rest (omega (arith, length-take-le most_line rest (omega (arith, lt)))) (omega (arith, lt))
+told_kept (first ∷ rest) = elim (cases_lt (most_line + 1) (length (first ∷ rest))) [
+  | inl many ↦ told_long first (take most_line rest) rest (omega (arith, length-take-le most_line rest (omega (arith, many)))) (omega (arith, many))
+  | inr few ↦ ap told_in (take_all (most_line + 1) (first ∷ rest) few)
+]
 
 -- a byte that counts, of a line that is not too long
 kept_more : (kept held : List ℕ) (byte : ℕ) → held ≡ take (most_line + 1) kept → length held ≤ most_line → held ++ byte ∷ [] ≡ take (most_line + 1) (kept ++ byte ∷ [])
-kept_more kept held byte is le = by (by_length (length kept) (most_line + 1))
-  where
-    by : (length kept ≤ most_line + 1) ⊎ (most_line + 1 < length kept) → held ++ byte ∷ [] ≡ take (most_line + 1) (kept ++ byte ∷ [])
-    by (inl few) =
-        let same : held ≡ kept = is ∙ take_all (most_line + 1) kept few in
-        let counted : length held ≡ length kept = ap length same in
-        ap (λ (bytes : List ℕ). bytes ++ byte ∷ []) same ∙ sym (take_all (most_line + 1) (kept ++ byte ∷ []) (omega (arith, le, counted, length-append kept (byte ∷ []))))
-    by (inr many) =
-        let counted : length held ≡ most_line + 1 = ap length is ∙ length-take-le (most_line + 1) kept (omega (arith, many)) in
-        absurd (omega (arith, counted, le))
+kept_more kept held byte is le = elim (cases_lt (most_line + 1) (length kept)) [
+  | inl many ↦
+      let counted : length held ≡ most_line + 1 = ap length is ∙ length-take-le (most_line + 1) kept (omega (arith, many)) in
+      absurd (omega (arith, counted, le))
+  | inr few ↦
+      let same : held ≡ kept = is ∙ take_all (most_line + 1) kept few in
+      ap (λ (bytes : List ℕ). bytes ++ byte ∷ []) same ∙ sym (take_all (most_line + 1) (kept ++ byte ∷ []) (omega (arith, le, ap length same, length-append kept (byte ∷ []))))
+]
 
 -- a byte that counts, of one that is
 kept_same : (kept held : List ℕ) (more : List ℕ) → held ≡ take (most_line + 1) kept → most_line < length held → held ≡ take (most_line + 1) (kept ++ more)
-kept_same kept held more is lt = by (by_length (length kept) most_line)
-  where
-    by : (length kept ≤ most_line) ⊎ (most_line < length kept) → held ≡ take (most_line + 1) (kept ++ more)
-    by (inl few) =
-        let counted : length held ≡ length kept = ap length (is ∙ take_all (most_line + 1) kept (omega (arith, few))) in
-        absurd (omega (arith, counted, lt, few))
-    by (inr many) = is ∙ sym (take-append-le (most_line + 1) kept more (omega (arith, many)))
+kept_same kept held more is lt = elim (cases_lt most_line (length kept)) [
+  | inl many ↦ is ∙ sym (take-append-le (most_line + 1) kept more (omega (arith, many)))
+  | inr few ↦
+      let counted : length held ≡ length kept = ap length (is ∙ take_all (most_line + 1) kept (omega (arith, few))) in
+      absurd (omega (arith, counted, lt, few))
+]
 
 -- ---- bytes that are taken
 
@@ -205,19 +178,6 @@ takes_both xs ys c d e A B C joins f g = record {
 }
 
 -- ---- the input
-
-pub taken_none : (how : Telling) (c : Capture) → c.how ≡ how → c.line.items ≡ [] → place c ≡ start → c.status ≡ Done → Taken how [] [] c
-taken_none how c same none first done = record {
-  lines = [];
-  line = [];
-  are = refl;
-  ended = inl refl;
-  one = tt;
-  held = none;
-  tells = (done, refl);
-  place = first;
-  same = same;
-}
 
 pub reaches_more : (how : Telling) (old mid new : Option (List ℕ)) (read count : ℕ) (bytes : List ℕ) (c d : Capture) (A B C : List ℕ → Type 0) → Joins A B C
     → Reaches how old mid read c A → Consumes mid new bytes → count ≡ length bytes → Takes bytes c d B → Reaches how old new (read + count) d C

@@ -17,12 +17,11 @@ use Rattle.tpm_show.specs.declared.capture_frames.Awaited.{Awaited}
 use Rattle.tpm_show.specs.declared.capture_frames.Awaited.TheVariants as awaits
 use Rattle.tpm_show.specs.declared.telling.Telling.{Telling}
 use Rattle.tpm_text.specs.Status.{both}
-use Rattle.tpm_text.specs.Text.{line, bytes_in, refusal_line}
+use Rattle.tpm_text.specs.Text.{line, bytes_in}
 use Rattle.tpm_show.specs.CommandNames.{absent_behind}
 use Rattle.tpm_text.specs.InputLines.{lines_of}
-use Rattle.tpm_show.specs.Show.{ShowsBytes, ShowsReplyBytes}
-use Rattle.tpm_show.specs.Fields.{ShowsCommand, ShowsReply}
-use Rattle.tpm_show.specs.FrameJson.{HasCommandMembers, HasReplyMembers, fault_member, fault_object, refusal_members}
+use Rattle.tpm_show.specs.Show.{refusal_told, ShowsCommand, ShowsReply}
+use Rattle.tpm_show.specs.FrameJson.{fault_member, fault_object}
 
 -- ---- what a line has
 
@@ -102,33 +101,18 @@ awaited_behind Reply bytes = awaits.Nothing
 
 -- ---- what is told of a frame
 
--- as `show` has it, or `show --fields`, or as members of an object
-abbrev pub ShowsCommandBy : (json fields : Bool) → List ℕ → Status → List ℕ → Type 0
-ShowsCommandBy false false bytes status text = ShowsBytes bytes status text
-ShowsCommandBy false true bytes status text = ShowsCommand bytes status text
-ShowsCommandBy true fields bytes status text = HasCommandMembers fields bytes status text
-
-abbrev pub refusal_text : (json : Bool) → Refusal → List ℕ
-refusal_text false refusal = refusal_line refusal
-refusal_text true refusal = refusal_members refusal
-
 -- Behind the refusal of its code alone stands which command it is.
 abbrev pub TellsCommand : (json fields : Bool) → List ℕ → Status → List ℕ → Type 0
-TellsCommand json fields bytes Done text = ShowsCommandBy json fields bytes Done text
+TellsCommand json fields bytes Done text = ShowsCommand json fields bytes Done text
 TellsCommand json fields bytes Refused text = (refusal : Refusal) × Fault command bytes refusal
-    × (text ≡ refusal_text json refusal ++ absent_behind json refusal (code_number_in bytes))
-
-abbrev pub ShowsReplyBy : (json fields : Bool) → CommandCode → List ℕ → Status → List ℕ → Type 0
-ShowsReplyBy false false command bytes status text = ShowsReplyBytes command bytes status text
-ShowsReplyBy false true command bytes status text = ShowsReply command bytes status text
-ShowsReplyBy true fields command bytes status text = HasReplyMembers fields command bytes status text
+    × (text ≡ refusal_told json refusal ++ absent_behind json refusal (code_number_in bytes))
 
 abbrev pub sentence_text : (json : Bool) → List ℕ → List ℕ
 sentence_text false sentence = sentence ++ codes "\n"
 sentence_text true sentence = fault_member sentence
 
 abbrev pub TellsReply : (json fields : Bool) → Awaited → List ℕ → Status → List ℕ → Type 0
-TellsReply json fields (awaits.Reply command) bytes status text = ShowsReplyBy json fields command bytes status text
+TellsReply json fields (awaits.Reply command) bytes status text = ShowsReply json fields command bytes status text
 TellsReply json fields awaits.Unknown bytes status text = (status ≡ Refused) × (text ≡ sentence_text json (codes "its command is not known"))
 TellsReply json fields awaits.Nothing bytes status text = (status ≡ Refused) × (text ≡ sentence_text json (codes "no command is before it"))
 

@@ -1,21 +1,14 @@
--- What `show --json` prints of a frame of a capture (this profile; RFC 8259).
-use Rattle.std.specs.Prelude.{◌≡◌, ℕ, ◌==◌, Bool, true, false, List, [], ◌∷◌, ◌++◌, length, map, codes, Option, Some, None, if◌then◌else◌}
+-- The members of an object of `show --json` (this profile; RFC 8259).
+use Rattle.std.specs.Prelude.{ℕ, Bool, true, false, List, [], ◌∷◌, ◌++◌, map, codes, Option, Some, None}
 use Rattle.std.specs.Fmt.{decimal}
 use Rattle.tpm_wire.specs.declared.refusal.Refusal.{Refusal}
-use Rattle.tpm_wire.specs.Path.{Spells, Fault}
 use Rattle.tpm_commands.specs.declared.code.CommandCode.{CommandCode}
-use Rattle.tpm_commands.specs.declared.command.Command.{Command}
 use Rattle.tpm_commands.specs.declared.command.CommandBody.{CommandBody}
 use Rattle.tpm_commands.specs.declared.response.ReplyBody.{ReplyBody}
-use Rattle.tpm_commands.specs.declared.response.Response.{Response}
-use Rattle.tpm_commands.specs.declared.response.Response.TheVariants as responses
 use Rattle.tpm_commands.specs.Codes.{code_name}
-use Rattle.tpm_buffer.specs.Commands.{command}
-use Rattle.tpm_buffer.specs.CommandAreas.{Cut, HasCut}
+use Rattle.tpm_buffer.specs.CommandAreas.{Cut}
 use Rattle.tpm_buffer.specs.ResponseAreas.{handle_of}
-use Rattle.tpm_buffer.specs.Responses.{ReplyCut, reply_cut, response}
-use Rattle.tpm_text.specs.declared.status.Status.{Status}
-use Rattle.tpm_text.specs.declared.status.Status.TheVariants.{Done, Refused}
+use Rattle.tpm_buffer.specs.Responses.{ReplyCut}
 use Rattle.tpm_text.specs.Text.{Session, handle_text, hex_member, hexadecimal, lines_from, of_command, of_reply, session_text}
 use Rattle.tpm_show.specs.Fields.{command_fields, reply_fields}
 
@@ -74,20 +67,3 @@ handles_of (Some handle) = handle ∷ []
 unfoldable pub reply_members : (fields : Bool) → CommandCode → ℕ → ReplyCut → ReplyBody → List ℕ
 reply_members fields code size r body = head_members code size
     ++ (handles_member (handles_of (handle_of r)) ++ (parameters_member r.params ++ (fields_member fields (reply_fields true body) ++ sessions_member (map of_reply r.auths))))
-
-abbrev pub response_members : (fields : Bool) → CommandCode → ℕ → ReplyCut → Response → List ℕ
-response_members fields code size areas (responses.Code n) = code_member n
-response_members fields code size areas (responses.Done body auths) = reply_members fields code size areas body
-
--- ---- what is told of a frame
-
--- a command that the bytes spell, and else their fault
-abbrev pub HasCommandMembers : (fields : Bool) → List ℕ → Status → List ℕ → Type 0
-HasCommandMembers fields bytes Done text = (c : Command) × (areas : Cut) × Spells command c bytes × HasCut bytes areas × (text ≡ command_members fields (length bytes) areas c.body)
-HasCommandMembers fields bytes Refused text = (refusal : Refusal) × Fault command bytes refusal × (text ≡ refusal_members refusal)
-
--- a response to this command that the bytes spell, and else their fault
-abbrev pub HasReplyMembers : (fields : Bool) → CommandCode → List ℕ → Status → List ℕ → Type 0
-HasReplyMembers fields code bytes Done text = (r : Response) × (areas : ReplyCut) × Spells (response code) r bytes × Spells (reply_cut code) areas bytes
-    × (text ≡ response_members fields code (length bytes) areas r)
-HasReplyMembers fields code bytes Refused text = (refusal : Refusal) × Fault (response code) bytes refusal × (text ≡ refusal_members refusal)

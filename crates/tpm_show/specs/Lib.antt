@@ -1,9 +1,9 @@
 pub mod ReplyText
-pub mod Show
 pub mod FieldText
 pub mod Parts
 pub mod Fields
 pub mod FrameJson
+pub mod Show
 pub mod Capture
 pub mod Stream
 pub mod Capturing

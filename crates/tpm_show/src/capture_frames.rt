@@ -1,24 +1,17 @@
 //! The frames of a capture.
 
 ghost use Rattle.std.specs.Prelude.{◌≡◌, ◌++◌, List, ℕ, IfOk, OnOk, string_bytes};
-ghost use Rattle.tpm_show.specs.Capture.{code_number_in, awaited_behind, direction_of, is_response, front, frame_object, kind_of, numbered, fault_line, fault_text, sentence_text, ShowsCommandBy, TellsCommand, ShowsReplyBy, TellsFrame};
+ghost use Rattle.tpm_show.specs.Capture.{code_number_in, awaited_behind, direction_of, is_response, front, frame_object, kind_of, numbered, fault_line, fault_text, sentence_text, TellsCommand, TellsFrame};
 ghost use Rattle.tpm_text.specs.declared.status.Status.TheVariants.{Refused};
 
 use crate::capture_lines::Direction;
 use crate::command_names::answer_to_refused;
-use crate::frame_json::{
-    answer_to_command as command_members, answer_to_reply as reply_members, push_fault_object,
-};
-use crate::shown::answer_to_bytes;
-use crate::shown_fields::{
-    answer_to_command as command_by_fields, answer_to_reply as reply_by_fields,
-};
-use crate::shown_reply::answer_to_reply;
+use crate::frame_json::push_fault_object;
 use crate::telling::Telling;
+use crate::told::{answer_of_command, answer_to_reply, command_and_areas};
 use std::alloc::{AllocError, Global};
-use tpm_buffer::{CommandCode, decode_command};
+use tpm_buffer::CommandCode;
 use tpm_text::answer::Answer;
-use tpm_text::status::Status;
 use tpm_text::text::Pushed;
 
 /// Which reply may come next.
@@ -77,41 +70,12 @@ pub(crate) fn awaited_behind(direction: Direction, bytes: &[u8]) -> Awaited
 
 // ---- what is told of it
 
-fn answer_to_known_command(alloc: Global, how: Telling, bytes: &[u8]) -> Result<Answer, AllocError>
-    ensures { IfOk result (λ a. ShowsCommandBy how.json how.fields bytes.now a.status (string_bytes a.text)) }
-{
-    if how.json {
-        command_members(alloc, how.fields, bytes)
-    } else if how.fields {
-        command_by_fields(alloc, bytes)
-    } else {
-        answer_to_bytes(alloc, bytes)
-    }
-}
-
 fn answer_to_a_command(alloc: Global, how: Telling, bytes: &[u8]) -> Result<Answer, AllocError>
     ensures { IfOk result (λ a. TellsCommand how.json how.fields bytes.now a.status (string_bytes a.text)) }
 {
-    match decode_command(bytes) {
+    match command_and_areas(bytes) {
+        Ok((command, areas)) => answer_of_command(alloc, how, bytes.len(), &areas, &command.body),
         Err(refusal) => answer_to_refused(alloc, how.json, &refusal, code_number(bytes)),
-        Ok(_) => answer_to_known_command(alloc, how, bytes),
-    }
-}
-
-fn answer_to_a_reply(
-    alloc: Global,
-    how: Telling,
-    command: CommandCode,
-    bytes: &[u8],
-) -> Result<Answer, AllocError>
-    ensures { IfOk result (λ a. ShowsReplyBy how.json how.fields command bytes.now a.status (string_bytes a.text)) }
-{
-    if how.json {
-        reply_members(alloc, how.fields, command, bytes)
-    } else if how.fields {
-        reply_by_fields(alloc, command, bytes)
-    } else {
-        answer_to_reply(alloc, command, bytes)
     }
 }
 
@@ -131,10 +95,7 @@ fn answer_by_sentence(alloc: Global, json: bool, sentence: &str) -> Result<Answe
 {
     let mut text = String::new(alloc);
     push_sentence(&mut text, json, sentence)?;
-    Ok(Answer {
-        status: Status::Refused,
-        text,
-    })
+    Ok(Answer::refused(text))
 }
 
 /// What is told of a frame.
@@ -150,7 +111,7 @@ pub(crate) fn answer_to_frame(
     match (direction, awaited) {
         (Direction::Command, _) => answer_to_a_command(alloc, how, bytes),
         (Direction::Reply, Awaited::Reply(command)) => {
-            answer_to_a_reply(alloc, how, command, bytes)
+            answer_to_reply(alloc, how, command, bytes)
         }
         (Direction::Reply, Awaited::Unknown) => {
             answer_by_sentence(alloc, how.json, "its command is not known")

@@ -2,10 +2,10 @@
 
 ghost use Rattle.std.specs.Prelude.{◌≡◌, ◌++◌, Option, IfOk, OnOk, string_bytes};
 ghost use Rattle.tpm_text.specs.declared.status.Status.TheVariants.{Refused};
-ghost use Rattle.tpm_show.specs.Capture.{refusal_text};
+ghost use Rattle.tpm_show.specs.Show.{refusal_told};
 ghost use Rattle.tpm_show.specs.CommandNames.{absent_line, absent_member, absent_named, absent_text, absent_behind};
 
-use crate::frame_json::answer_to_refusal;
+use crate::told::answer_to_refusal;
 use std::alloc::{AllocError, Global};
 use tpm_text::answer::Answer;
 use tpm_text::named::{Named, look_up};
@@ -178,16 +178,6 @@ fn push_absent(text: &mut String, json: bool, code: u32) -> Pushed
     }
 }
 
-fn answer_to_a_refusal(alloc: Global, json: bool, refusal: &Refusal) -> Result<Answer, AllocError>
-    ensures { IfOk result (λ a. (a.status ≡ Refused) × (string_bytes a.text ≡ refusal_text json refusal.now)) }
-{
-    if json {
-        answer_to_refusal(alloc, refusal)
-    } else {
-        Answer::refusal(alloc, refusal)
-    }
-}
-
 /// The line of a refusal or its members, and behind that of a command's code which command it is.
 pub(crate) fn answer_to_refused(
     alloc: Global,
@@ -196,9 +186,9 @@ pub(crate) fn answer_to_refused(
     code: Option<u32>,
 ) -> Result<Answer, AllocError>
     ensures { IfOk result (λ a. (a.status ≡ Refused)
-        × (string_bytes a.text ≡ refusal_text json refusal.now ++ absent_behind json refusal.now code)) }
+        × (string_bytes a.text ≡ refusal_told json refusal.now ++ absent_behind json refusal.now code)) }
 {
-    let mut answer = answer_to_a_refusal(alloc, json, refusal)?;
+    let mut answer = answer_to_refusal(alloc, json, refusal)?;
     if *refusal == UNSUPPORTED
         && let Some(code) = code
     {

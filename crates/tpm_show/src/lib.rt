@@ -16,14 +16,12 @@ mod meaning;
 mod parts;
 mod reply_text;
 mod shown;
-mod shown_fields;
-mod shown_reply;
 mod telling;
+mod told;
 
 pub use built::build;
 pub use capture::show_lines;
 pub use capture_stream::show_stream;
 pub use explained::explain;
-pub use shown::show;
-pub use shown_fields::show_fields;
+pub use shown::{show, show_fields};
 pub use telling::Telling;

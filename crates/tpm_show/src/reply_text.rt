@@ -1,17 +1,17 @@
 //! The program's lines of a response.
 
 ghost use Rattle.std.specs.Prelude.{◌≡◌, ◌++◌, OnOk, string_bytes};
-ghost use Rattle.tpm_text.specs.Text.{lines_from};
-ghost use Rattle.tpm_show.specs.ReplyText.{reply_code_line, reply_line, reply_handle_line, reply_session_line, response_text};
+ghost use Rattle.tpm_show.specs.ReplyText.{reply_code_line, reply_line, reply_handle_line};
+ghost use Rattle.tpm_show.specs.Show.{named_fields};
 
+use crate::fields::push_reply_fields;
 use std::alloc::Global;
-use tpm_buffer::{CommandCode, ReplyAreas};
-use tpm_text::sessions;
-use tpm_text::text::{Pushed, push_handle, push_parameters};
+use tpm_buffer::{CommandCode, ReplyBody};
+use tpm_text::text::{Pushed, push_handle};
 
 /// Adds the line of a response code.
 #[tactic(auto, unfolding(crate::specs::ReplyText::reply_code_line))]
-pub(crate) fn push_code(text: &mut String, code: u32) -> Pushed
+pub(crate) fn push_code_line(text: &mut String, code: u32) -> Pushed
     ensures { OnOk result (string_bytes text.new ≡ string_bytes text.old ++ reply_code_line code) }
 {
     writeln!(text, "reply code {code:03x}")
@@ -36,30 +36,17 @@ pub(crate) fn push_first_handle(text: &mut String, handle: Option<u32>) -> Pushe
     }
 }
 
-/// Adds a line for each session of a reply.
-pub(crate) fn push_sessions(alloc: Global, text: &mut String, areas: &ReplyAreas<'_>) -> Pushed
-    ensures { OnOk result (string_bytes text.new ≡ string_bytes text.old ++ lines_from reply_session_line 1 areas.now.auths) }
-{
-    sessions::push_sessions(alloc, text, false, areas)
-}
-
-/// Adds the lines of a response to this command, of so many bytes.
-#[tactic(auto, unfolding(crate::specs::ReplyText::reply_text))]
-pub(crate) fn push_response(
+/// Adds the lines of a reply's parameters by their names, where these are asked for.
+pub(crate) fn push_named_fields(
     alloc: Global,
     text: &mut String,
-    command: CommandCode,
-    size: usize,
-    areas: &ReplyAreas<'_>,
+    fields: bool,
+    body: &ReplyBody,
 ) -> Pushed
-    ensures { OnOk result (string_bytes text.new ≡ string_bytes text.old ++ response_text command size areas.now) }
+    ensures { OnOk result (string_bytes text.new ≡ string_bytes text.old ++ named_fields fields body.now) }
 {
-    let code = areas.code();
-    if code != 0 {
-        return push_code(text, code);
+    if !fields {
+        return Ok(());
     }
-    push_name(text, command, size)?;
-    push_first_handle(text, areas.handle())?;
-    push_parameters(alloc, text, areas.params())?;
-    push_sessions(alloc, text, areas)
+    push_reply_fields(alloc, text, false, body)
 }

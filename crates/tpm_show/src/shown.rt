@@ -1,12 +1,13 @@
-//! The subcommand `show`.
+//! The subcommand `show` of a buffer.
 
 ghost use Rattle.std.specs.Prelude.{ℕ, List, IfOk, string_bytes};
 ghost use Rattle.std.specs.Io.KnownBytes.{Appends};
 ghost use Rattle.tpm_text.specs.Faults.{FailsByMemoryOrWrite};
-ghost use Rattle.tpm_show.specs.Show.{Shows, ShowsBytes};
+ghost use Rattle.tpm_text.specs.Text.{bytes_in};
+ghost use Rattle.tpm_show.specs.Show.{Shows, ShowsDecoded, ShowsFields};
 
-use crate::shown_fields::command_and_areas;
-use crate::shown_reply::answer_to_reply;
+use crate::telling::Telling;
+use crate::told::{answer_to_command, answer_to_reply};
 use std::alloc::{AllocError, Global};
 use std::io::Write;
 use tpm_buffer::CommandCode;
@@ -14,31 +15,25 @@ use tpm_text::answer::Answer;
 use tpm_text::fault::ToolFault;
 use tpm_text::hexadecimal::decoded;
 use tpm_text::status::Status;
-use tpm_text::text::push_command;
 
-/// What `show` answers to bytes that are taken for a command.
-pub(crate) fn answer_to_bytes(alloc: Global, bytes: &[u8]) -> Result<Answer, AllocError>
-    ensures { IfOk result (λ a. ShowsBytes bytes.now a.status (string_bytes a.text)) }
-{
-    match command_and_areas(bytes) {
-        Ok((_, areas)) => {
-            let mut text = String::new(alloc);
-            push_command(alloc, &mut text, bytes.len(), &areas)?;
-            Ok(Answer::done(text))
-        }
-        Err(refusal) => Answer::refusal(alloc, &refusal),
-    }
-}
-
-fn answer(alloc: Global, reply: Option<CommandCode>, hex: &str) -> Result<Answer, AllocError>
-    ensures { IfOk result (λ a. Shows reply hex.now a.status (string_bytes a.text)) }
+fn answer(
+    alloc: Global,
+    fields: bool,
+    reply: Option<CommandCode>,
+    hex: &str,
+) -> Result<Answer, AllocError>
+    ensures { IfOk result (λ a. ShowsDecoded fields reply (bytes_in hex.now) a.status (string_bytes a.text)) }
 {
     let Some(bytes) = decoded(alloc, hex)? else {
         return Answer::not_hexadecimal(alloc);
     };
+    let how = Telling {
+        fields,
+        json: false,
+    };
     match reply {
-        Some(command) => answer_to_reply(alloc, command, bytes.as_slice()),
-        None => answer_to_bytes(alloc, bytes.as_slice()),
+        Some(command) => answer_to_reply(alloc, how, command, bytes.as_slice()),
+        None => answer_to_command(alloc, how, bytes.as_slice()),
     }
 }
 
@@ -65,5 +60,27 @@ pub fn show<W: Write>(
         × Appends (W.contents out.old) (W.contents out.new) text) }
     ensures err { FailsByMemoryOrWrite result }
 {
-    answer(alloc, reply, hex)?.print(out)
+    answer(alloc, false, reply, hex)?.print(out)
+}
+
+/// Prints what `show` prints, and under the line of the parameters a line `  NAME TYPE X` for each of them, by its
+/// name and its type in the tables of the command (Part 3), with the bytes that spell it.
+///
+/// Under the line of a structure its members or entries follow likewise, two more spaces in, by their names and types in Part 2:
+/// those of TPM2B_NV_PUBLIC, TPML_PCR_SELECTION, TPML_DIGEST, TPML_DIGEST_VALUES and TPMT_SYM_DEF. Under TPMA_NV stands
+/// `TPM_NT N`, and `NAME 1` for each bit that is set; under pcrSelect `PCR N` for each register that is selected. N is decimal.
+///
+/// Where a request for memory is refused the answer is `Memory`, and where the writer fails it is
+/// `Write`. What was written before is then left open.
+pub fn show_fields<W: Write>(
+    alloc: Global,
+    out: &mut W,
+    reply: Option<CommandCode>,
+    hex: &str,
+) -> Result<Status, ToolFault>
+    ensures ok { IfOk result (λ status. (text : List ℕ) × ShowsFields reply hex.now status text
+        × Appends (W.contents out.old) (W.contents out.new) text) }
+    ensures err { FailsByMemoryOrWrite result }
+{
+    answer(alloc, true, reply, hex)?.print(out)
 }

@@ -1,5 +1,5 @@
 -- A line for each entry of a list.
-use Rattle.std.proofs.Common.{◌≡◌, ◌<◌, ◌+◌, ◌++◌, [], ◌∷◌, ℕ, suc, List, Bool, true, false, cond, filter, Some, None, length, drop, map, refl, sym, ap, subst, ◌∙◌, append_assoc, inl, inr, arith}
+use Rattle.std.proofs.Common.{◌≡◌, ◌<◌, ◌+◌, ◌++◌, ◌∷◌, ℕ, suc, List, Bool, true, false, cond, filter, Some, None, length, drop, sym, ap, subst, ◌∙◌, append_assoc, inl, inr, arith}
 use Rattle.std.specs.List.{slice_get}
 use Rattle.std.proofs.Math.Seq.{drop-cons}
 use Rattle.std.proofs.lemmas.Option.{get_or_from_slice_get, slice_get_within, slice_get_cases, none-some}
@@ -44,8 +44,3 @@ pub filtered_over : {A : Type 0} (one : ℕ → A → List ℕ) (passes : A → 
     → old ++ lines_from one i (filter passes (x ∷ xs)) ≡ all → old ++ lines_from one i (filter passes xs) ≡ all
 filtered_over one passes x xs i old all failing so_far =
     ap (λ (b : Bool). old ++ lines_from one i (cond b (x ∷ filter passes xs) (filter passes xs))) (sym failing) ∙ so_far
-
--- lines of entries that are told as something else
-pub lines_from-map : {A B : Type 0} (f : A → B) (one : ℕ → B → List ℕ) (i : ℕ) (xs : List A) → lines_from one i (map f xs) ≡ lines_from (λ i x. one i (f x)) i xs
-lines_from-map f one i [] = refl
-lines_from-map f one i (x ∷ xs) = ap (λ (text : List ℕ). one i (f x) ++ text) (lines_from-map f one (i + 1) xs)

@@ -34,16 +34,23 @@ impl Answer {
         }
     }
 
+    /// A text of what was refused.
+    pub fn refused(text: String) -> Self
+        ensures { (result.status ≡ Refused) × (result.text ≡ text) }
+    {
+        Answer {
+            status: Status::Refused,
+            text,
+        }
+    }
+
     /// The line of a refusal.
     pub fn refusal(alloc: Global, refusal: &Refusal) -> Result<Self, AllocError>
         ensures { IfOk result (λ a. (a.status ≡ Refused) × (string_bytes a.text ≡ refusal_line refusal.now)) }
     {
         let mut text = String::new(alloc);
         push_refusal(&mut text, refusal)?;
-        Ok(Answer {
-            status: Status::Refused,
-            text,
-        })
+        Ok(Answer::refused(text))
     }
 
     /// This text, line feeds and all, with this status.

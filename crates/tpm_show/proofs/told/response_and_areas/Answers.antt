@@ -4,7 +4,7 @@ use Rattle.tpm_wire.specs.Buffers.{buffer}
 use Rattle.tpm_wire.proofs.Buffers.{buffer_sound}
 use Rattle.tpm_wire.proofs.Whole.{exactly_one}
 use Rattle.tpm_buffer.specs.Responses.{reply_cut}
-use Rattle.tpm_show.proofs.shown_fields.response_and_areas.Goals as goal
+use Rattle.tpm_show.proofs.told.response_and_areas.Goals as goal
 
 pub returns-in_err-response-clause-err : goal.returns-in_err-response-clause-err
 returns-in_err-response-clause-err c =
