@@ -1,11 +1,11 @@
 -- Streams of frames that are told one frame after the other.
-use Rattle.std.proofs.Common.{◌≡◌, ℕ, ◌+◌, ◌<◌, ◌≤◌, List, [], ◌∷◌, ◌++◌, length, map, All, Option, Some, None, refl, sym, ap, subst, ◌∙◌, ◌⊎◌, inl, inr, arith, append_assoc, length-append}
+use Rattle.std.proofs.Common.{◌≡◌, ℕ, ◌+◌, List, [], ◌∷◌, ◌++◌, length, map, Option, Some, None, refl, sym, ap, subst, ◌∙◌, inl, inr, arith, append_assoc, length-append}
 use Rattle.std.specs.List.{concat}
 use Rattle.std.specs.Io.KnownBytes.{Appends, Consumes, IsAtEnd}
 use Rattle.std.proofs.lemmas.List.{append-nil, map-append}
 use Rattle.std.proofs.lemmas.List.Elements.{All-nil, All-push}
 use Rattle.std.proofs.lemmas.List.Folds.{concat-append}
-use Rattle.tpm_stream.specs.Frames.{IsFrame, IsBroken, BeginsNoFrame, Frames}
+use Rattle.tpm_stream.specs.Frames.{IsFrame, IsBroken, BeginsNoFrame}
 use Rattle.tpm_stream.proofs.Filled.{consumes_both}
 use Rattle.tpm_stream.proofs.Framed.{stated_more}
 use Rattle.tpm_stream.proofs.Streamed.{broken_begins}
@@ -14,9 +14,9 @@ use Rattle.tpm_show.specs.declared.telling.Telling.{Telling}
 use Rattle.tpm_text.specs.declared.status.Status.TheVariants.{Done, Refused}
 use Rattle.tpm_show.specs.declared.capture.Capture.{Capture}
 use Rattle.tpm_text.specs.Status.{both}
-use Rattle.tpm_show.specs.Capture.{Line, Frame, Place, start, behind, TellsFrom}
+use Rattle.tpm_show.specs.Capture.{Frame, Place, start, behind}
 use Rattle.tpm_show.specs.Capturing.{place, behind_all, Tells, Streams}
-use Rattle.tpm_show.specs.Stream.{Ending, AtEnd, Inside, BadSize, IsEnding, unmarked_frame, ending_text, ending_status, TellsStream, TellsRead}
+use Rattle.tpm_show.specs.Stream.{Ending, Inside, BadSize, IsEnding, unmarked_frame, ending_text, ending_status, TellsStream, TellsRead}
 use Rattle.tpm_show.proofs.Captures.{tells_both, tells_one, behind_all-append}
 use Rattle.tpm_text.proofs.Joins.{Joins}
 
@@ -68,10 +68,6 @@ streams_more how old mid new read frame c d A B C joins f consumed is g =
 
 -- ---- the end
 
-both_done : (a : Status) → both a Done ≡ a
-both_done Done = refl
-both_done Refused = refl
-
 both_refused : (a : Status) → both a Refused ≡ Refused
 both_refused Done = refl
 both_refused Refused = refl
@@ -100,21 +96,6 @@ tells_stream how old mid read c A f rest ending over ends = record {
 
 abbrev pub StreamAnswers : (how : Telling) → (old new : Option (List ℕ)) → (C : List ℕ → Type 0) → Status → Type 0
 StreamAnswers how old new C status = (text : List ℕ) × TellsRead how old new status text × C text
-
--- behind the last frame
-pub stream_ends : (how : Telling) (old mid new : Option (List ℕ)) (read : ℕ) (c : Capture) (A : List ℕ → Type 0) → Streams how old mid read c A → Consumes mid new [] → IsAtEnd new
-    → BeginsNoFrame [] → StreamAnswers how old new A c.status
-stream_ends how old mid new read c A f consumed end over = (
-  f.text,
-  record {
-    bytes = concat f.frames ++ [];
-    read = consumes_both old mid new (concat f.frames) [] f.consumed consumed;
-    tells = subst (λ (s : Status). TellsStream how (concat f.frames ++ []) s f.text) (both_done c.status)
-        (subst (TellsStream how (concat f.frames ++ []) (both c.status Done)) (append-nil f.text) (tells_stream how old mid read c A f [] AtEnd over refl));
-    whole = inl end;
-  },
-  f.added,
-)
 
 -- inside a frame
 pub stream_cut : (how : Telling) (old mid new : Option (List ℕ)) (read : ℕ) (rest : List ℕ) (c : Capture) (A B C : List ℕ → Type 0) → Joins A B C → Streams how old mid read c A → Consumes mid new rest

@@ -25,10 +25,6 @@ read_as rust.TooLong = capture.TooLong
 abbrev pub place : Capture → Place
 place c = record { number = c.number; awaited = c.awaited }
 
--- to a text
-abbrev pub AddedTo : (old new : List ℕ) → List ℕ → Type 0
-AddedTo old new added = new ≡ old ++ added
-
 -- ---- a line
 
 -- Behind a frame, with the status of it, the next has the next number.

@@ -7,9 +7,9 @@ ghost use Rattle.tpm_text.specs.declared.fault.ToolFault.TheVariants.{InputTooLo
 ghost use Rattle.tpm_show.specs.declared.capture_frames.Awaited.TheVariants.{Unknown};
 ghost use Rattle.tpm_text.specs.declared.status.Status.TheVariants.{Done, Refused};
 ghost use Rattle.tpm_text.specs.Faults.{FailsByMemoryOrWrite};
-ghost use Rattle.tpm_text.specs.InputLines.{CountsRead};
+ghost use Rattle.tpm_text.specs.InputLines.{AddedTo, CountsRead};
 ghost use Rattle.tpm_show.specs.Capture.{Frame, start, told_in, fault_text, TellsCapture, ReadsAll, ReadsTooMuchCapture};
-ghost use Rattle.tpm_show.specs.Capturing.{read_as, place, AddedTo, Passes, Tells, EndsLine, Takes};
+ghost use Rattle.tpm_show.specs.Capturing.{read_as, place, Passes, Tells, EndsLine, Takes};
 
 use crate::capture_frames::{
     Awaited, answer_to_frame, awaited_behind, direction_of, push_fault, push_numbered,

@@ -1,12 +1,8 @@
-use Rattle.std.proofs.Common.{ℕ, List, Bool, length, ◌+◌, ◌++◌, Ok, Err, None, sym, subst, refl, ◌∙◌, arith, length-append}
+use Rattle.std.proofs.Common.{◌++◌, refl, ◌∙◌, arith, length-append}
 use Rattle.std.specs.List.{concat}
 use Rattle.std.specs.Io.KnownBytes.{Appends}
 use Rattle.std.proofs.lemmas.Result.{IfOk-weaker}
-use Rattle.tpm_stream.specs.declared.reader.ReadFault.{ReadFault}
-use Rattle.tpm_stream.specs.Reads.{ReadsInto}
 use Rattle.tpm_stream.proofs.Filled.{consumes_both, consumes_none}
-use Rattle.tpm_show.specs.Capture.{Frame}
-use Rattle.tpm_show.specs.Capturing.{Streams, Tells}
 use Rattle.tpm_text.proofs.Joins.{joins_appends}
 use Rattle.tpm_show.proofs.Streams.{appends_nothing, streams_none, streams_more, stream_cut, stream_breaks}
 use Rattle.tpm_show.proofs.capture_stream.show_stream.Goals as goal
@@ -25,50 +21,40 @@ loop-capture-init g c =
 pub returns-in-Err-EndInside-clause-ok : goal.returns-in-Err-EndInside-clause-ok
 returns-in-Err-EndInside-clause-ok g c =
     let contents = g.W.Write.contents in
-    let coming = g.R.Source.coming in
-    let is = subst (λ (e : ReadFault). ReadsInto (coming c.loop-capture.input) (coming c.read_frame_into.new.source) c.read_frame_into.new.frame.items (Err e)) c.in-Err-EndInside.field-0-is c.in-Err-EndInside.ensures.frame in
+    let is = rw c.in-Err-EndInside.field-0-is at c.in-Err-EndInside.ensures.frame in
     IfOk-weaker c.print_stop.result _ _ (λ status told.
-    rw told.0 (stream_cut c.args.how (coming c.args.input.now) (coming c.loop-capture.input) (coming c.read_frame_into.new.source) c.loop-capture.read is.0 c.loop-capture.capture
-    (Appends (contents c.args.out.now) (contents c.loop-capture.out)) (Appends (contents c.loop-capture.out) (contents c.print_stop.new.out)) (Appends (contents c.args.out.now) (contents c.print_stop.new.out))
+    rw told.0 (stream_cut c.args.how _ _ _ c.loop-capture.read is.0 c.loop-capture.capture _ _ (Appends (contents c.args.out.now) (contents c.print_stop.new.out))
     (joins_appends (contents c.args.out.now) (contents c.loop-capture.out) (contents c.print_stop.new.out))
     c.loop-capture.invariant.streams is.1 (is.2.0, is.2.1) is.2.2 told.1)) c.print_stop.ensures.ok
 
 pub returns-in-Err-Broken-clause-ok : goal.returns-in-Err-Broken-clause-ok
 returns-in-Err-Broken-clause-ok g c =
     let contents = g.W.Write.contents in
-    let coming = g.R.Source.coming in
-    let is = subst (λ (e : ReadFault). ReadsInto (coming c.loop-capture.input) (coming c.read_frame_into.new.source) c.read_frame_into.new.frame.items (Err e)) c.in-Err-Broken.field-0-is c.in-Err-Broken.ensures.frame in
+    let is = rw c.in-Err-Broken.field-0-is at c.in-Err-Broken.ensures.frame in
     IfOk-weaker c.print_stop-in-Err-Broken.result _ _ (λ status told.
-    rw told.0 (stream_breaks c.args.how (coming c.args.input.now) (coming c.loop-capture.input) (coming c.read_frame_into.new.source) c.loop-capture.read is.0 c.loop-capture.capture
-    (Appends (contents c.args.out.now) (contents c.loop-capture.out)) (Appends (contents c.loop-capture.out) (contents c.print_stop-in-Err-Broken.new.out)) (Appends (contents c.args.out.now) (contents c.print_stop-in-Err-Broken.new.out))
+    rw told.0 (stream_breaks c.args.how _ _ _ c.loop-capture.read is.0 c.loop-capture.capture _ _ (Appends (contents c.args.out.now) (contents c.print_stop-in-Err-Broken.new.out))
     (joins_appends (contents c.args.out.now) (contents c.loop-capture.out) (contents c.print_stop-in-Err-Broken.new.out))
     c.loop-capture.invariant.streams is.1 is.2.0 told.1)) c.print_stop-in-Err-Broken.ensures.ok
 
 pub returns-then-read-gt-MOST_BYTES-clause-too_long : goal.returns-then-read-gt-MOST_BYTES-clause-too_long
 returns-then-read-gt-MOST_BYTES-clause-too_long g c = λ _.
-    let coming = g.R.Source.coming in
     let frame = c.read_frame_into.new.frame.items in
     let f = c.loop-capture.invariant.streams in
-    let is = subst (λ (b : Bool). ReadsInto (coming c.loop-capture.input) (coming c.read_frame_into.new.source) frame (Ok b)) c.in-Ok-true.field-0-test c.in-Ok-true.ensures.frame in
+    let is = rw c.in-Ok-true.field-0-test at c.in-Ok-true.ensures.frame in
     record {
       bytes = concat f.frames ++ frame;
-      read = consumes_both (coming c.args.input.now) (coming c.loop-capture.input) (coming c.read_frame_into.new.source) (concat f.frames) frame f.consumed is.0;
+      read = consumes_both _ _ _ (concat f.frames) frame f.consumed is.0;
       more = omega (arith, f.count, c.len-read.ensures.value, length-append (concat f.frames) frame);
     }
 
 pub loop-capture-preserved : goal.loop-capture-preserved
 loop-capture-preserved g c =
     let contents = g.W.Write.contents in
-    let coming = g.R.Source.coming in
-    let frame = c.read_frame_into.new.frame.items in
-    let is = subst (λ (b : Bool). ReadsInto (coming c.loop-capture.input) (coming c.read_frame_into.new.source) frame (Ok b)) c.in-Ok-true.field-0-test c.in-Ok-true.ensures.frame in
-    let told = subst (λ (s : List ℕ). Tells (Frame None s) c.loop-capture.capture c.print_frame.new.self (Appends (contents c.loop-capture.out) (contents c.print_frame.new.out)))
-    c.as_slice.ensures.value c.in_ok-print_frame.ensures.ok in
+    let is = rw c.in-Ok-true.field-0-test at c.in-Ok-true.ensures.frame in
+    let told = rw c.as_slice.ensures.value at c.in_ok-print_frame.ensures.ok in
     record {
-      streams = subst (λ (n : ℕ). Streams c.args.how (coming c.args.input.now) (coming c.read_frame_into.new.source) (c.loop-capture.read + n) c.print_frame.new.self
-          (Appends (contents c.args.out.now) (contents c.print_frame.new.out))) (sym c.len-read.ensures.value)
-          (streams_more c.args.how (coming c.args.input.now) (coming c.loop-capture.input) (coming c.read_frame_into.new.source) c.loop-capture.read frame c.loop-capture.capture c.print_frame.new.self
-          (Appends (contents c.args.out.now) (contents c.loop-capture.out)) (Appends (contents c.loop-capture.out) (contents c.print_frame.new.out)) (Appends (contents c.args.out.now) (contents c.print_frame.new.out))
+      streams = rw c.len-read.ensures.value
+          (streams_more c.args.how _ _ _ c.loop-capture.read c.read_frame_into.new.frame.items c.loop-capture.capture c.print_frame.new.self _ _ (Appends (contents c.args.out.now) (contents c.print_frame.new.out))
           (joins_appends (contents c.args.out.now) (contents c.loop-capture.out) (contents c.print_frame.new.out))
           c.loop-capture.invariant.streams is.0 is.1 told);
       bound = omega arith;
