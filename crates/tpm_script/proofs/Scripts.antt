@@ -2,7 +2,7 @@
 use Rattle.std.proofs.Common.{◌≡◌, ◌≢◌, ℕ, ◌+◌, ◌<◌, ◌≤◌, false, List, [], ◌∷◌, ◌++◌, length, map, Option, Some, None, refl, sym, ap, ◌∙◌, subst, inl, inr, arith, append_assoc, length-append}
 use Rattle.std.specs.Prelude.{codes, nat_eq}
 use Rattle.std.specs.List.{AllByRecursion}
-use Rattle.std.specs.Io.KnownBytes.{Keeps, Consumes, IsAtEnd, Appends}
+use Rattle.std.specs.Io.KnownBytes.{Keeps, Consumes, IsAtEnd}
 use Rattle.std.proofs.lemmas.Bool.{lt-ltb}
 use Rattle.std.proofs.lemmas.List.{append-nil}
 use Rattle.std.proofs.lemmas.Option.{none-some}
@@ -18,7 +18,6 @@ use Rattle.tpm_text.specs.declared.status.Status.TheVariants.{Done, Refused}
 use Rattle.tpm_text.specs.Text.{bytes_line, line}
 use Rattle.tpm_text.specs.InputLines.{lines_of, HasNoFeed, AreEnded, most_bytes, most_piece}
 use Rattle.tpm_script.specs.Script.{Line, Blank, Power, Command, NotHexadecimal, Script, line_of, most_digits, AreAccepted, IsRefusedLine, IsRefusedIn, IsUnrefused, events_from, refused_from, script_from, script, events_text, refused_text, script_text, status_for, ReadsNoFurther, ReadsScript}
-use Rattle.tpm_text.specs.InputLines.{AddedTo}
 use Rattle.tpm_script.specs.Progress.{Place, start, script_at, IsOpen, behind, Leads, Ends, refused_at, StandsAt, Performs, place, next_command, EndsLine, Takes, Reaches}
 use Rattle.tpm_text.proofs.InputLines.{no_feed-more, ended_line, last_line, first_line, other_lines, longer_line, lines_of-append, ended_both}
 use Rattle.tpm_text.proofs.Joins.{Joins}
@@ -45,9 +44,6 @@ behind-behind es fs s = ap (λ (gs : List Event). record { events = gs; refused 
 
 -- ---- bytes that are taken
 
-pub leads_none : (p : Place) → Leads p [] [] Done p
-leads_none p = λ more. refl
-
 -- a byte of a line
 pub leads_longer : (p : Place) (byte : ℕ) → Leads p (byte ∷ []) [] Done (record { line = p.line ++ byte ∷ []; number = p.number; command = p.command })
 leads_longer p byte = λ more. ap (λ (bytes : List ℕ). script_from p.number p.command (map line_of (lines_of bytes))) (sym (append_assoc p.line (byte ∷ []) more))
@@ -62,14 +58,14 @@ leads_too_long p q byte f g le same = λ more.
     ∙ ap (λ (n : ℕ). record { events = []; refused = Some n }) (sym same)
 
 -- the line feed of a line that is accepted
-pub leads_next : (p q : Place) → HasNoFeed p.line → refused_from p.number (line_of p.line ∷ []) ≡ None
+leads_next : (p q : Place) → HasNoFeed p.line → refused_from p.number (line_of p.line ∷ []) ≡ None
     → q ≡ record { line = []; number = p.number + 1; command = next_command p.command (line_of p.line) } → Leads p (10 ∷ []) (events_from p.command (line_of p.line ∷ [])) Done q
 leads_next p q f accepted there = rw there (λ more.
     ap (λ (lines : List (List ℕ)). script_from p.number p.command (map line_of lines)) (ended_line p.line more f)
     ∙ script_from-more p.number p.command (line_of p.line) (map line_of (lines_of more)) accepted)
 
 -- the line feed of a line that is refused
-pub leads_refused : (p q : Place) → HasNoFeed p.line → line_of p.line ≡ NotHexadecimal → q.number ≡ p.number → Leads p (10 ∷ []) [] Refused q
+leads_refused : (p q : Place) → HasNoFeed p.line → line_of p.line ≡ NotHexadecimal → q.number ≡ p.number → Leads p (10 ∷ []) [] Refused q
 leads_refused p q f refused same = λ more.
     ap (λ (lines : List (List ℕ)). script_from p.number p.command (map line_of lines)) (ended_line p.line more f)
     ∙ script_from-refused p.number p.command (line_of p.line) (map line_of (lines_of more)) refused
@@ -119,7 +115,7 @@ script_text-append o h es s =
 
 -- ---- the device
 
-pub performs_both : (es : List Event) (s : Script) (d e f : Device) (A B C : List ℕ → Type 0) → Joins A B C
+performs_both : (es : List Event) (s : Script) (d e f : Device) (A B C : List ℕ → Type 0) → Joins A B C
     → Performs (record { events = es; refused = None }) d e A → Performs s e f B → Performs (behind es s) d f C
 performs_both es s d e f A B C joins first second = λ o h stands.
     let one = first o h stands in
@@ -129,11 +125,16 @@ performs_both es s d e f A B C joins first second = λ o h stands.
       text = rw (← script_text-append o h es s) (joins _ _ one.text two.text);
     }
 
+-- what a line is with some bytes, and then with others
+joined : (l xs ys lines m others : List ℕ) → l ++ xs ≡ lines ++ m → m ++ ys ≡ others → l ++ (xs ++ ys) ≡ lines ++ others
+joined l xs ys lines m others f g =
+    sym (append_assoc l xs ys) ∙ ap (λ (bytes : List ℕ). bytes ++ ys) f ∙ append_assoc lines m ys ∙ ap (λ (bytes : List ℕ). lines ++ bytes) g
+
 -- what comes of a line by some bytes, and then by others
 ends_both : (l xs ys m n : List ℕ) (status : Status) → Ends l xs Done m → Ends m ys status n → Ends l (xs ++ ys) status n
 ends_both l xs ys m n Done f g = (
   f.0 ++ g.0,
-  sym (append_assoc l xs ys) ∙ ap (λ (bytes : List ℕ). bytes ++ ys) f.1 ∙ append_assoc f.0 m ys ∙ ap (λ (bytes : List ℕ). f.0 ++ bytes) g.1 ∙ sym (append_assoc f.0 g.0 n),
+  joined l xs ys f.0 m (g.0 ++ n) f.1 g.1 ∙ sym (append_assoc f.0 g.0 n),
   ended_both f.0 g.0 f.2 g.2,
   accepted_both f.0 g.0 f.2 f.3 g.3,
 )
@@ -141,12 +142,7 @@ ends_both l xs ys m n Refused f g = record {
   lines = f.0 ++ g.lines;
   line = g.line;
   rest = g.rest;
-  are =
-      sym (append_assoc l xs ys)
-      ∙ ap (λ (bytes : List ℕ). bytes ++ ys) f.1
-      ∙ append_assoc f.0 m ys
-      ∙ ap (λ (bytes : List ℕ). f.0 ++ bytes) g.are
-      ∙ sym (append_assoc f.0 g.lines (g.line ++ g.rest));
+  are = joined l xs ys f.0 m (g.lines ++ (g.line ++ g.rest)) f.1 g.are ∙ sym (append_assoc f.0 g.lines (g.line ++ g.rest));
   ended = ended_both f.0 g.lines f.2 g.ended;
   accepted = accepted_both f.0 g.lines f.2 f.3 g.accepted;
   one = g.one;
@@ -163,11 +159,7 @@ ends_further l xs ys m f = record {
   lines = f.lines;
   line = f.line;
   rest = f.rest ++ ys;
-  are =
-      sym (append_assoc l xs ys)
-      ∙ ap (λ (bytes : List ℕ). bytes ++ ys) f.are
-      ∙ append_assoc f.lines (f.line ++ f.rest) ys
-      ∙ ap (λ (bytes : List ℕ). f.lines ++ bytes) (append_assoc f.line f.rest ys);
+  are = joined l xs ys f.lines (f.line ++ f.rest) (f.line ++ (f.rest ++ ys)) f.are (append_assoc f.line f.rest ys);
   ended = f.ended;
   accepted = f.accepted;
   one = f.one;
@@ -176,10 +168,7 @@ ends_further l xs ys m f = record {
 
 -- the line feed of a line that is accepted
 accepts_feed : (n : ℕ) (l : Line) → refused_from n (l ∷ []) ≡ None → l ≢ NotHexadecimal
-accepts_feed n Blank f = λ is. let z : ⊥ = cc in z
-accepts_feed n Power f = λ is. let z : ⊥ = cc in z
-accepts_feed n (Command bytes) f = λ is. let z : ⊥ = cc in z
-accepts_feed n NotHexadecimal f = absurd (none-some n (sym f))
+accepts_feed n l f = λ is. none-some n (sym (rw is at f))
 
 ends_feed : (l m : List ℕ) (n : ℕ) → HasNoFeed l → refused_from n (line_of l ∷ []) ≡ None → m ≡ [] → Ends l (10 ∷ []) Done m
 ends_feed l m n f accepted none = (
@@ -320,7 +309,7 @@ over bytes first r A is takes = λ more.
 pub takes_none : (r : Run) (A : List ℕ → Type 0) → A [] → IsOpen (place r) → Takes [] r r A Done
 takes_none r A none present = record {
   events = [];
-  leads = leads_none (place r);
+  leads = λ more. refl;
   ends = ends_none r.line.items;
   performs = λ o h stands. record { stands = stands; text = none };
   number = omega arith;

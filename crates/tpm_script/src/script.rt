@@ -8,9 +8,8 @@ ghost use Rattle.tpm_device.specs.Stands.{Stands};
 ghost use Rattle.tpm_wire.specs.Sources.{IsWhereItFailed};
 ghost use Rattle.tpm_text.specs.declared.fault.ToolFault.TheVariants.{InputTooLong, Read};
 ghost use Rattle.tpm_text.specs.Faults.{FailsByMemoryOrWrite};
-ghost use Rattle.tpm_text.specs.InputLines.{CountsRead};
+ghost use Rattle.tpm_text.specs.InputLines.{AddedTo, CountsRead};
 ghost use Rattle.tpm_script.specs.Script.{nonce_of, line_of, refused_line, script, script_text, status_for, ReadsNoFurther, ReadsScript, ReadsTooMuch};
-ghost use Rattle.tpm_text.specs.InputLines.{AddedTo};
 ghost use Rattle.tpm_script.specs.Progress.{place, start, IsOpen, EndsLine, Takes, Performs};
 
 use crate::lines::{Line, MOST_DIGITS, nonce, read_line};
