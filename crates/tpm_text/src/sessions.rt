@@ -99,6 +99,7 @@ fn push_begin(text: &mut String, json: bool, i: usize) -> Pushed
     text.push_str("{")
 }
 
+#[tactic(auto, using(crate::proofs::Padded::padded))]
 fn push_session_handle(text: &mut String, json: bool, handle: Option<u32>) -> Pushed
     ensures { OnOk result (string_bytes text.new ≡ string_bytes text.old ++ session_handle json handle) }
 {
@@ -121,7 +122,7 @@ fn told_bytes(alloc: Global, json: bool, bytes: &[u8]) -> Result<String, AllocEr
     }
 }
 
-#[tactic(auto, unfolding(crate::specs::Text::session_text))]
+#[tactic(auto, using(crate::proofs::Padded::padded), unfolding(crate::specs::Text::session_text))]
 fn push_session(
     alloc: Global,
     text: &mut String,

@@ -23,7 +23,7 @@ pub fn push_comma(text: &mut String, i: usize) -> Pushed
 }
 
 /// Adds the line of a refusal.
-#[tactic(auto, unfolding(crate::specs::Text::refusal_line))]
+#[tactic(auto, using(crate::proofs::Padded::padded), unfolding(crate::specs::Text::refusal_line))]
 pub fn push_refusal(text: &mut String, refusal: &Refusal) -> Pushed
     ensures { OnOk result (string_bytes text.new ≡ string_bytes text.old ++ refusal_line refusal.now) }
 {
@@ -49,7 +49,7 @@ fn push_name(text: &mut String, code: CommandCode, size: usize) -> Pushed
 }
 
 /// Adds the line of a handle, or its entry of a list.
-#[tactic(auto, unfolding(crate::specs::Text::handle_text))]
+#[tactic(auto, using(crate::proofs::Padded::padded), unfolding(crate::specs::Text::handle_text))]
 pub fn push_handle(text: &mut String, json: bool, i: usize, handle: u32) -> Pushed
     ensures { OnOk result (string_bytes text.new ≡ string_bytes text.old ++ handle_text json i handle) }
 {

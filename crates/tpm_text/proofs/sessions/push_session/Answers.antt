@@ -3,14 +3,6 @@ use Rattle.tpm_text.specs.Text.{session_text}
 use Rattle.tpm_text.proofs.Padded.{padded_integral-zeros}
 use Rattle.tpm_text.proofs.sessions.push_session.Goals as goal
 
-pub returns-then-not-json : goal.returns-then-not-json
-unfolding session_text
-returns-then-not-json c =
-    let written = simp (c.in_ok-push_begin.ensures, c.in_ok-push_session_handle.ensures, c.in_radix.ensures, c.laid_out.ensures, padded_integral-zeros, c.in_ok-nonce.ensures, c.in_ok-hmac.ensures, append_assoc) at c.writeln.ensures.bytes in
-    let told = rw c.if-not-json.true at written in
-    let joined = simp append_assoc at told in
-    rw (← c.session.view_is) (rw c.if-not-json.true (simp append_assoc joined))
-
 pub returns : goal.returns
 unfolding session_text
 returns c =

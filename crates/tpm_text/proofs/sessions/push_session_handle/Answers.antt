@@ -2,11 +2,6 @@ use Rattle.std.proofs.Common.{append_assoc}
 use Rattle.tpm_text.proofs.Padded.{padded_integral-zeros}
 use Rattle.tpm_text.proofs.sessions.push_session_handle.Goals as goal
 
-pub returns-then-not-json : goal.returns-then-not-json
-returns-then-not-json c =
-    let written = simp (c.in_radix.ensures, c.laid_out.ensures, padded_integral-zeros, append_assoc) at c.write.ensures.bytes in
-    rw (c.if-not-json.true, c.in-Some.is) (simp append_assoc written)
-
 pub returns : goal.returns
 returns c =
     let written = simp (c.in_radix-2.ensures, c.laid_out-2.ensures, padded_integral-zeros, append_assoc) at c.write-2.ensures.bytes in
