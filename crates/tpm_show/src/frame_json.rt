@@ -125,7 +125,7 @@ pub(crate) fn push_fields_member<B: HasFields>(
 // ---- a response
 
 /// Adds the member of a response code.
-#[tactic(auto, unfolding(crate::specs::FrameJson::code_member))]
+#[tactic(auto, using(tpm_text::proofs::Padded::padded), unfolding(crate::specs::FrameJson::code_member))]
 pub(crate) fn push_code_member(text: &mut String, code: u32) -> Pushed
     ensures { OnOk result (string_bytes text.new ≡ string_bytes text.old ++ code_member code) }
 {
