@@ -125,7 +125,7 @@ impl Field {
     }
 
     /// Adds its line or its object, of this value, with its parts.
-    #[tactic(auto, unfolding(crate::specs::FieldText::structure_text))]
+    #[tactic(auto, using(std::proofs::Common::append_assoc), unfolding(crate::specs::FieldText::structure_text))]
     pub(crate) fn push_structure<T: HasParts>(
         self,
         alloc: Global,
