@@ -1,6 +1,5 @@
 use Rattle.std.proofs.Common.{arith}
 use Rattle.tpm_commands.specs.Replies.{reply_handles, handle_list}
-use Rattle.tpm_buffer.specs.ResponseAreas.{Stands}
 use Rattle.tpm_buffer.proofs.Places.{stands_behind}
 use Rattle.tpm_buffer.proofs.response_areas.take_behind_code.Goals as goal
 
@@ -10,9 +9,7 @@ take_with_sessions-requires-clause-stands c =
 
 pub take_with_sessions-requires-clause-place : goal.take_with_sessions-requires-clause-place
 take_with_sessions-requires-clause-place c =
-    let stands : Stands c.args.bytes.now c.take_reply_handle.new.cursor.here =
-    stands_behind c.args.bytes.now 0 (reply_handles c.args.code) c.args.cursor.now.here c.take_reply_handle.new.cursor.here (handle_list c.in_ok-handle.handle) c.requires.stands c.in_ok-handle.ensures.reads in
-    omega (arith, c.requires.stands.whole, stands.whole, c.requires.place, c.in_ok-handle.ensures.length)
+    omega (arith, c.requires.stands.whole, (take_with_sessions-requires-clause-stands c).whole, c.requires.place, c.in_ok-handle.ensures.length)
 
 pub take_without_sessions-requires-clause-stands : goal.take_without_sessions-requires-clause-stands
 take_without_sessions-requires-clause-stands c =
@@ -20,6 +17,4 @@ take_without_sessions-requires-clause-stands c =
 
 pub take_without_sessions-requires-clause-place : goal.take_without_sessions-requires-clause-place
 take_without_sessions-requires-clause-place c =
-    let stands : Stands c.args.bytes.now c.take_reply_handle.new.cursor.here =
-    stands_behind c.args.bytes.now 0 (reply_handles c.args.code) c.args.cursor.now.here c.take_reply_handle.new.cursor.here (handle_list c.in_ok-handle.handle) c.requires.stands c.in_ok-handle.ensures.reads in
-    omega (arith, c.requires.stands.whole, stands.whole, c.requires.place, c.in_ok-handle.ensures.length)
+    omega (arith, c.requires.stands.whole, (take_without_sessions-requires-clause-stands c).whole, c.requires.place, c.in_ok-handle.ensures.length)
