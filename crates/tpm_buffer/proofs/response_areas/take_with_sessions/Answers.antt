@@ -49,13 +49,5 @@ returns-clause-reads c =
 
 pub returns-clause-place : goal.returns-clause-place
 returns-clause-place c =
-    let bytes = c.args.bytes.now in
-    let before = c.take_parameter_size.new.cursor in
-    let size_is = at_place parameter_size c.number.new.self c.args.cursor.now.here 0 0 _ c.number.ensures refl c.in_ok-params_size.ensures.reads.0 in
-    let stands : Stands bytes before.here = stands_behind bytes 0 parameter_size c.args.cursor.now.here before.here c.in_ok-params_size.field-0 c.requires.stands size_is in
-    let four : length c.args.cursor.now.here.rest ≡ 4 + length before.here.rest = ap (λ (p : Place). length p.here.rest) (sym c.number.ensures) ∙ c.in_ok-params_size.ensures.length in
-    let sessions = sessions_at bytes c.in_ok-sessions.sessions.items in
-    let some : 0 < length sessions = omega (arith, c.in_ok-sessions.ensures.some, length-map c.in_ok-sessions.sessions.items (session_at bytes)) in
-    has_params bytes c.in_ok-params_size.field-0 c.at-params_at.result _
-    (omega (arith, c.at-params_at.ensures, stands.whole, c.requires.stands.whole, four, c.requires.place, place_before_sessions (handle_list c.args.handle) sessions some))
-    (omega (arith, c.at-params_at.ensures, stands.whole, c.in_ok-params_size.ensures.fits))
+    let fits = invariant_of-result c in
+    has_params c.args.bytes.now c.in_ok-params_size.field-0 c.at-params_at.result _ fits.2 fits.1
