@@ -1,5 +1,5 @@
 -- What the cut of a reply tells of the whole response.
-use Rattle.std.proofs.Common.{◌≡◌, ◌≢◌, ℕ, Bool, true, false, List, [], ◌∷◌, length, take, Result, Ok, Some, None, Option, refl, sym, ap, ◌∙◌, subst}
+use Rattle.std.proofs.Common.{◌≡◌, ◌≢◌, ℕ, Bool, true, false, List, [], ◌∷◌, length, take, Ok, Some, None, Option, refl, sym, ap, ◌∙◌, subst}
 use Rattle.std.specs.Prelude.{◌==◌, if◌then◌else◌}
 use Rattle.std.proofs.lemmas.Bool.{eqb-true, eq-eqb}
 use Rattle.std.proofs.lemmas.List.{nil_from_length}
@@ -28,15 +28,11 @@ use Rattle.tpm_hmac.specs.Hmac.{hmac}
 use Rattle.tpm_model.specs.Answers.{reply_params}
 use Rattle.tpm_model.specs.Callers.{WrongMac, Waiting, awaited_text, opened_response}
 use Rattle.tpm_model.proofs.Sealing.{okay, okay_is}
-use Rattle.tpm_model.proofs.ReplySessions.{finished}
+use Rattle.tpm_model.proofs.ReplySessions.{goes_on, no_handles, finished}
 use Rattle.tpm_caller.specs.declared.waiting.CallerFault.TheVariants as faults
 use Rattle.tpm_caller.specs.Sent.{has_no_params}
 use Rattle.tpm_caller.proofs.Opening.{HasOne, FirstFault, only, other_mac}
-use Rattle.tpm_caller.proofs.ReplyParams.{no_handles, without_auths, raw_behind}
-
--- what comes after a success
-goes_on : {A B : Type 0} (r : Result A Refusal) (f : A → Result B Refusal) (x : A) (y : Result B Refusal) → r ≡ Ok x → f x ≡ y → (r >>= f) ≡ y
-goes_on r f x y e g = ap (λ z. z >>= f) e ∙ g
+use Rattle.tpm_caller.proofs.ReplyParams.{without_auths, raw_behind}
 
 nothing_left : {A : Type 0} (x y : A × Here) → finish buffer x ≡ Ok y → length x.1.rest ≡ 0
 nothing_left x y e = go (length x.1.rest == 0) refl e

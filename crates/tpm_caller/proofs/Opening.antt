@@ -24,7 +24,8 @@ use Rattle.tpm_hmac.specs.Sessions.{whole_key, rp_hash, mac_text}
 use Rattle.tpm_model.specs.Answers.{reply_params}
 use Rattle.tpm_model.specs.InStep.{CallerSession}
 use Rattle.tpm_model.specs.Callers as model
-use Rattle.tpm_model.specs.Callers.{Refused, NotExpected, WrongMac, Waiting, Opened, awaited_text, caller_after, opened_session, opened_response, opened, caller_of_refusal, given_up}
+use Rattle.tpm_model.specs.Callers.{Refused, NotExpected, WrongMac, Waiting, Opened, awaited_text, opened_session, opened_response, opened, caller_of_refusal, given_up}
+use Rattle.tpm_model.proofs.RoundTrip.{open_is}
 use Rattle.tpm_caller.specs.declared.waiting.CallerFault.{CallerFault}
 use Rattle.tpm_caller.specs.declared.waiting.CallerFault.TheVariants as faults
 use Rattle.tpm_caller.specs.Sent.{caller_with, IsSpelledBy}
@@ -83,10 +84,6 @@ other_mac w body a long differ = go (bytes_eq a.hmac mac) refl
     go true t = absurd (differ ((bytes_eq-Decides a.hmac (hmac w.caller.hash w.key (awaited_text w body a))).0 t))
     go false t = rw (eq-eqb (length a.nonce) (length w.caller.nonce) long, t) refl
 
-pub is_open : (w : Waiting) (body : ReplyBody) (a : AuthReply) → length a.nonce ≡ length w.caller.nonce → a.hmac ≡ hmac w.caller.hash w.key (awaited_text w body a)
-    → opened_session w body (a ∷ []) ≡ Ok (record { caller = caller_after w a; response = done_with (record { body = body; auths = a ∷ [] }) })
-is_open w body a long mac = rw (eq-eqb (length a.nonce) (length w.caller.nonce) long, (bytes_eq-Decides a.hmac (hmac w.caller.hash w.key (awaited_text w body a))).1 mac) refl
-
 pub mac_is : (w : Waiting) (body : ReplyBody) (a : AuthReply) (alg : Alg) (key p rp params nonce own mac : List ℕ) (attrs : ℕ) → alg ≡ w.caller.hash → key ≡ w.key → p ≡ rp → rp ≡ rp_hash alg (code_number w.code) params
     → params ≡ reply_params body → nonce ≡ a.nonce → own ≡ w.nonce → attrs ≡ a.attrs → mac ≡ hmac alg (whole_key key []) (mac_text p nonce own attrs) → mac ≡ hmac w.caller.hash w.key (awaited_text w body a)
 mac_is w body a alg key p rp params nonce own mac attrs same_alg same_key same_p rp_is same_params same_nonce same_own same_attrs is =
@@ -120,7 +117,7 @@ pub open_for : (bytes nonce : List ℕ) (z : Waiting) (cut : ReplyCut) (a : Auth
 open_for bytes nonce z cut a h long same needs is body auths s =
     let one = one_auth z bytes cut a body auths h s in
     let made : List ℕ → List AuthReply → Result Opened model.CallerFault = λ n l. Ok (record { caller = caller_with z n; response = done_with (record { body = body; auths = l }) }) in
-    ap (opened_session z body) one ∙ is_open z body a long (same body (params_of_one z bytes cut a body auths needs h s))
+    ap (opened_session z body) one ∙ open_is z body a long (same body (params_of_one z bytes cut a body auths needs h s))
     ∙ ap (λ (n : List ℕ). made n (a ∷ [])) (sym is) ∙ ap (made nonce) (sym one)
 
 -- ---- what opening answers

@@ -17,7 +17,6 @@ use Rattle.tpm_wire.proofs.Numbers.{number_of-bytes}
 use Rattle.tpm_wire.proofs.Whole.{spells_read}
 use Rattle.tpm_types.specs.declared.tpms.AuthReply.{AuthReply}
 use Rattle.tpm_commands.specs.declared.code.CommandCode.{CommandCode}
-use Rattle.tpm_commands.specs.declared.code.CommandCode.TheVariants as codes
 use Rattle.tpm_commands.specs.declared.response.ReplyBody.{ReplyBody}
 use Rattle.tpm_commands.specs.declared.response.ReplyBody.TheVariants as replies
 use Rattle.tpm_commands.specs.Handles.{needs_authorization}
@@ -28,7 +27,7 @@ use Rattle.tpm_buffer.proofs.Places.{raw_is}
 use Rattle.tpm_buffer.proofs.Parted.{answers}
 use Rattle.tpm_model.specs.Answers.{reply_params}
 use Rattle.tpm_model.proofs.Sealing.{okay, okay_is}
-use Rattle.tpm_model.proofs.ReplySessions.{finished}
+use Rattle.tpm_model.proofs.ReplySessions.{no_handles, finished}
 use Rattle.tpm_model.proofs.ReplyBytes.{session_text, reply_bytes, front_place, code_place, size_place}
 use Rattle.tpm_model.proofs.Mixed.{one_reply}
 use Rattle.tpm_caller.specs.Sent.{IsSpelledBy}
@@ -41,10 +40,6 @@ by_size rest = take (number_of (take 4 rest)) (drop 4 rest)
 
 abbrev pub none : Layout (List ℕ)
 none = done []
-
-pub no_handles : (code : CommandCode) → needs_authorization code ≡ true → reply_handles code ≡ none
-no_handles codes.StartAuthSession e = absurd (let z : ⊥ = cc in z)
-no_handles _ e = refl
 
 with_params : (n : ℕ) (hs : List ℕ) (h : Here) (x : ReplyCut × Here) → read 0 (raw_with_sessions n hs) h ≡ Ok x → x.0.params ≡ by_size h.rest
 unfolding raw_with_sessions

@@ -18,7 +18,8 @@ use Rattle.tpm_hmac.specs.Hmac.{hmac}
 use Rattle.tpm_model.specs.InStep.{CallerSession}
 use Rattle.tpm_model.specs.Callers.{CallerFault, Refused, Code, NotExpected, WrongMac, Waiting, Opened, awaited_text, has_mac, caller_after, unless, opened_session, opened_response, opened, caller_of_refusal, given_up}
 use Rattle.tpm_caller.specs.Opens.{IsOpened, IsNotExpected, HasWrongMac, IsGivenUp}
-use Rattle.tpm_caller.proofs.Opening.{other_length, other_mac, is_open}
+use Rattle.tpm_model.proofs.RoundTrip.{open_is}
+use Rattle.tpm_caller.proofs.Opening.{other_length, other_mac}
 
 -- ---- two tests in turn
 
@@ -129,7 +130,7 @@ not_expected_by w body (a ∷ b ∷ others) differs = refl
 pub what_opens : (w : Waiting) (bytes : List ℕ) (x : Opened) → (opened w bytes ≡ Ok x) ↔ IsOpened w bytes x
 what_opens w bytes x = (
   λ e. (told w bytes (read_all (response w.code) bytes) refl).ok x e,
-  λ o. read_as w bytes (done_as o.body o.auth) o.expected.spells ∙ is_open w o.body o.auth o.expected.nonce o.mac ∙ ap (λ (y : Opened). let z : Result Opened CallerFault = Ok y in z) (sym o.is),
+  λ o. read_as w bytes (done_as o.body o.auth) o.expected.spells ∙ open_is w o.body o.auth o.expected.nonce o.mac ∙ ap (λ (y : Opened). let z : Result Opened CallerFault = Ok y in z) (sym o.is),
 )
 
 pub what_is_refused : (w : Waiting) (bytes : List ℕ) (e : Refusal) → (opened w bytes ≡ Err (Refused e)) ↔ Fault (response w.code) bytes e

@@ -1,15 +1,10 @@
 -- What is known of a command that was read, and of the checks of its sessions.
-use Rattle.std.proofs.Common.{◌≡◌, ℕ, Bool, true, false, List, [], ◌∷◌, length, Option, Some, None, Result, Ok, refl, sym, ap, subst, ◌∙◌, arith}
+use Rattle.std.proofs.Common.{◌≡◌, ℕ, Bool, true, false, List, [], ◌∷◌, Option, Some, None, Result, Ok, refl, sym, ap, subst, ◌∙◌}
 use Rattle.std.specs.Prelude.{◌==◌, if◌then◌else◌, slice_get, IsSome}
-use Rattle.std.proofs.lemmas.Bool.Decides.{nat_tests}
-use Rattle.tpm_wire.specs.declared.refusal.Refusal.{Refusal}
-use Rattle.tpm_wire.specs.Buffers.{Layout, number_in, numbered}
-use Rattle.tpm_wire.specs.Layout.{either}
-use Rattle.tpm_wire.specs.Layout.Form.{done, field, area}
+use Rattle.tpm_wire.specs.Buffers.{number_in, numbered}
 use Rattle.tpm_wire.specs.Token.{Here}
 use Rattle.tpm_wire.specs.Reading.{read, ◌>>=◌}
-use Rattle.tpm_wire.specs.ResponseCodes.{rc_auth_context, rc_auth_missing, rc_value, of_handle}
-use Rattle.tpm_wire.specs.Spelling.{spelling}
+use Rattle.tpm_wire.specs.ResponseCodes.{rc_value, of_handle}
 use Rattle.tpm_wire.proofs.Agreement.{bind_ok}
 use Rattle.tpm_wire.proofs.Longer.{in_set}
 use Rattle.tpm_types.specs.declared.tpms.Auth.{Auth}
@@ -19,23 +14,19 @@ use Rattle.tpm_commands.specs.declared.code.CommandCode.TheVariants as codes
 use Rattle.tpm_commands.specs.declared.command_handles.HandleKind.{HandleKind}
 use Rattle.tpm_commands.specs.declared.command_handles.HandleKind.TheVariants.{Owner, Index}
 use Rattle.tpm_buffer.specs.CommandAreas.{Cut}
-use Rattle.tpm_commands.specs.Handles.{admits, first, handles, handles_from, needs_authorization}
-use Rattle.tpm_buffer.specs.Commands.{sessions, authorization_size, authorization}
+use Rattle.tpm_commands.specs.Handles.{admits, first, handles, handles_from}
+use Rattle.tpm_buffer.specs.Commands.{sessions}
 use Rattle.tpm_model.specs.Sessions.{Session, loaded}
 use Rattle.tpm_model.specs.Present.{Present}
 use Rattle.tpm_model.specs.Entities.{Entity, entity_of, names_of}
-use Rattle.tpm_model.specs.Authorization.{refuse as test, Evidence, NotAsked, Authorizer, Password, by_session, check_session, check_entity, evidence_by, check_evidence, authorize, reply_auths, password_reply}
-use Rattle.tpm_model.specs.Answers.{check_tag, evidence_in}
+use Rattle.tpm_model.specs.Authorization.{Evidence, NotAsked, Authorizer, Password, by_session, check_session, check_entity, evidence_by, check_evidence, authorize, reply_auths, password_reply}
+use Rattle.tpm_model.specs.Answers.{evidence_in}
 use Rattle.tpm_model.proofs.Sealing.{okay_is}
+use Rattle.tpm_model.proofs.Refused.{handles_read, same_list}
+use Rattle.tpm_model.proofs.Replay.{no_password}
 use Rattle.tpm_device.specs.Stands.{evidence_for, sessions_checked, owner_authorizes}
 
 -- ---- the handles
-
-abbrev handles_read : List ℕ → Here → Result (List ℕ × Here) Refusal
-handles_read ns h = Ok (ns, h)
-
-same_list : (ns ms : List ℕ) (g h : Here) → handles_read ns g ≡ handles_read ms h → ns ≡ ms
-same_list ns ms g h e = let both : (ns, g) ≡ (ms, h) = cc in ap (λ (x : List ℕ × Here). x.0) both
 
 owner_first : (kinds : List HandleKind) (h : Here) (x : List ℕ × Here) → read 0 (handles_from 1 (Owner ∷ kinds)) h ≡ Ok x → is_owner (first x.0) ≡ true
 owner_first kinds h x e =
@@ -49,29 +40,6 @@ pub owner_read : (code : CommandCode) (h : Here) (ns : List ℕ) (g : Here) → 
 owner_read codes.NvDefineSpace h ns g e is = owner_first [] h (ns, g) e
 owner_read codes.NvUndefineSpace h ns g e is = owner_first (Index ∷ []) h (ns, g) e
 owner_read _ h ns g e is = absurd (cc)
-
--- ---- the sessions
-
-without : (two : Bool) (l : Layout (List Auth)) (h : Here) (x : List Auth × Here) → two ≡ false → read 0 (either two l (done [])) h ≡ Ok x → x.0 ≡ []
-without true l h x e r = absurd (let z : ⊥ = cc in z)
-without false l h x e r = sym (ap (λ (z : List Auth × Here). z.0) (okay_is {E = Refusal} ([], h) x r))
-
-no_area : (t : ℕ) (h : Here) (x : List Auth × Here) → (t == 0x8002) ≡ false → read 0 (authorization t) h ≡ Ok x → x.0 ≡ []
-unfolding authorization
-no_area t h x e r = without (t == 0x8002) (field (λ auths. length (spelling sessions auths)) authorization_size (λ n. area n 0x144 sessions)) h x e r
-
-passed_not : (b : Bool) (code : ℕ) → test b code ≡ Ok tt → b ≡ false
-passed_not true code e = absurd (let z : ⊥ = cc in z)
-passed_not false code e = refl
-
-none_needed : (needs : Bool) (t : ℕ) → (if needs then test (t == 0x8001) rc_auth_missing else test (t == 0x8002) rc_auth_context) ≡ Ok tt → needs ≡ false → (t == 0x8002) ≡ false
-none_needed true t c not = absurd (let z : ⊥ = cc in z)
-none_needed false t c not = passed_not (t == 0x8002) rc_auth_context c
-
--- A command that needs no authorization has no session.
-pub no_session_read : (code : CommandCode) (t : ℕ) (h : Here) (auths : List Auth) (g : Here) → check_tag code t ≡ Ok tt → read 0 (authorization t) h ≡ Ok (auths, g)
-    → needs_authorization code ≡ false → auths ≡ []
-no_session_read code t h auths g tag reads not = no_area t h (auths, g) (none_needed (needs_authorization code) t tag not) reads
 
 -- ---- the checks of the sessions
 
@@ -125,10 +93,6 @@ pub named_none : (n : ℕ) → None ≡ (if is_session n then Some n else None) 
 named_none n is = none_by (is_session n) n is
 
 -- A session that gives evidence is loaded.
-no_password : (n : ℕ) → is_session n ≡ true → (n == rs_pw) ≡ false
-no_password n s = elim (n == rs_pw) as (λ b. (n == rs_pw) ≡ b → b ≡ false)
-    [ true ↦ λ e. let same : n ≡ rs_pw = grind (arith, nat_tests) in absurd (let bad : is_session rs_pw ≡ true = subst (λ m. is_session m ≡ true) same s in let z : ⊥ = cc in z) | false ↦ λ e. refl ] refl
-
 it_is : (is : Bool) (s : Option Session) (next : Authorizer → Result Evidence ℕ) (e : Evidence) → is ≡ false → ((if is then Ok Password else by_session s) >>= next) ≡ Ok e → IsSome s
 it_is true s next e not is = absurd (let z : ⊥ = cc in z)
 it_is false None next e not is = absurd (let z : ⊥ = cc in z)

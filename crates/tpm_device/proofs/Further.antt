@@ -83,11 +83,6 @@ pub by_a_password : (o : Origin) (h : History) (d : Device) (body : CommandBody)
 by_a_password o h d body reply a others replied n none st =
     with_sessions o h d d body reply (a ∷ others) replied n st refl refl refl refl (rw none (its_sessions o (step_of body reply n ∷ h) d st))
 
--- what a session leaves that authorized the command
-pub needs_it : (needs : Bool) (auths : List Auth) (a : Auth) (others : List Auth) → (needs ≡ false → auths ≡ []) → auths ≡ a ∷ others → needs ≡ true
-needs_it true auths a others none is = refl
-needs_it false auths a others none is = let e : [] ≡ a ∷ others = sym (none refl) ∙ is in absurd (cc)
-
 -- ---- words
 
 -- What always holds, holds where a call succeeds.

@@ -11,11 +11,10 @@ use Rattle.tpm_commands.specs.declared.code.CommandCode.{CommandCode}
 use Rattle.tpm_commands.specs.declared.command.CommandBody.{CommandBody}
 use Rattle.tpm_commands.specs.declared.command.Header.{Header}
 use Rattle.tpm_commands.specs.declared.command_parameters.Params.{Params}
-use Rattle.tpm_commands.specs.declared.command_parameters.Params.TheVariants as params
 use Rattle.tpm_commands.specs.declared.response.ReplyBody.{ReplyBody}
 use Rattle.tpm_buffer.specs.CommandAreas.{HeaderCut, HandlesCut, Cut, head_and_rest, params_here, IsHandled, IsAreas}
 use Rattle.tpm_commands.specs.Handles.{first, needs_authorization}
-use Rattle.tpm_commands.specs.Parameters.{parameters, params_code}
+use Rattle.tpm_commands.specs.Parameters.{parameters}
 use Rattle.tpm_buffer.specs.Commands.{authorization, command_size, header, body_from, with_auths, code_for}
 use Rattle.tpm_commands.specs.Replies.{code_for_reply}
 use Rattle.tpm_buffer.specs.Responses.{response_tag, response_front, response_code, response, done_with}
@@ -31,7 +30,8 @@ use Rattle.tpm_model.proofs.Accepted.{ok_is}
 use Rattle.tpm_model.proofs.Refused.{refused_with}
 use Rattle.tpm_device.specs.declared.device.Device.{Device}
 use Rattle.tpm_device.specs.Stands.{Stands, evidence_for, sessions_checked, owner_authorizes, IsAdmitted, IsRead, IsPermittedBy, presented_with, done_by, done_of, reply_bytes, told}
-use Rattle.tpm_device.proofs.Checked.{owner_read, no_session_read}
+use Rattle.tpm_model.proofs.OwnCode.{no_session_read}
+use Rattle.tpm_device.proofs.Checked.{owner_read}
 use Rattle.tpm_session.proofs.Authorized.{authorized}
 
 -- ---- before the parameters
@@ -141,11 +141,6 @@ at_presented p n y x (Err e) code handles params refuses = refuses x code handle
 pub some_codes : (p : Present) (bytes n : List ℕ) (r : Result (Unit {0}) ℕ) → IfErr r (λ code. outcome p bytes n ≡ Err code) → IfErr r (λ code. 0 < code)
 some_codes p bytes n (Ok u) is = tt
 some_codes p bytes n (Err code) is = some_code p bytes n code is
-
--- the code of a command by its handles and parameters
-pub code_again : (p : Params) (hs : List ℕ) → code_for (body_from hs p) ≡ params_code p
-code_again params.PolicyGetDigest hs = refl
-code_again _ hs = refl
 
 -- ---- the bytes
 

@@ -8,17 +8,13 @@ use Rattle.tpm_wire.proofs.Buffers.{buffer_sound}
 use Rattle.tpm_wire.proofs.Whole.{spells_read, read_spells, fault_read, read_fault, reads_its_path}
 use Rattle.tpm_model.specs.Answers.{code_only}
 use Rattle.tpm_model.specs.Premises.{IsByGrammar, IsWholeByGrammar}
-use Rattle.tpm_model.proofs.Accepted.{ok_is}
+use Rattle.tpm_model.proofs.Spelled.{code_ok}
 
 abbrev okay : {A : Type 0} → A → Result A Refusal
 okay x = Ok x
 
 code_is : {A : Type 0} (e : Refusal) (code : ℕ) → code_only {A = A} (Err e) ≡ Err code → e.code ≡ code
 code_is e code is = cc
-
-by_value : {A : Type 0} (r : Result A Refusal) (x : A) → code_only r ≡ Ok x → r ≡ Ok x
-by_value (Ok y) x is = ap okay (ok_is y x is)
-by_value (Err e) x is = absurd (let z : ⊥ = cc in z)
 
 by_fault : {A : Type 0} (r : Result A Refusal) (code : ℕ) → code_only r ≡ Err code → (e : Refusal) × (r ≡ Err e) × (e.code ≡ code)
 by_fault (Ok y) code is = absurd (let z : ⊥ = cc in z)
@@ -31,7 +27,7 @@ pub cut : {A : Type 0} (l : Layout A) (h : Here) → IsByGrammar l h
 cut {A = A} l h =
     let reads = reads_its_path buffer buffer_sound 0 l h in
     record {
-      value = λ x behind. (λ is. (reads.value x behind).0 (by_value (read 0 l h) (x, behind) is), λ begins. ap code_only ((reads.value x behind).1 begins));
+      value = λ x behind. (λ is. (reads.value x behind).0 (code_ok (read 0 l h) (x, behind) is), λ begins. ap code_only ((reads.value x behind).1 begins));
       fault = λ code. (
         λ is. (let f = by_fault (read 0 l h) code is in (f.0, (reads.fault f.0).0 f.1, f.2)),
         λ f. ap code_only ((reads.fault f.0).1 f.1) ∙ ap err f.2,
@@ -40,7 +36,7 @@ cut {A = A} l h =
 
 pub whole : {A : Type 0} (l : Layout A) (bytes : List ℕ) → IsWholeByGrammar l bytes
 whole {A = A} l bytes = record {
-  value = λ x. (λ is. read_spells buffer buffer_sound l bytes x (by_value (read_all l bytes) x is), λ spells. ap code_only (spells_read buffer buffer_sound l bytes x spells));
+  value = λ x. (λ is. read_spells buffer buffer_sound l bytes x (code_ok (read_all l bytes) x is), λ spells. ap code_only (spells_read buffer buffer_sound l bytes x spells));
   fault = λ code. (
     λ is. (let f = by_fault (read_all l bytes) code is in (f.0, read_fault buffer buffer_sound l bytes f.0 f.1, f.2)),
     λ f. ap code_only (fault_read buffer buffer_sound l bytes f.0 f.1) ∙ ap err f.2,

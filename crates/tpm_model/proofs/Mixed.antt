@@ -47,9 +47,9 @@ use Rattle.tpm_model.specs.Runs.Event.{Given, Cycled}
 use Rattle.tpm_model.specs.Premises.{IsAccepted, HasSessionMac, NoncesDiffer, most_nonce, Keyed, mac_of, IsAmong, texts_checked, NoCollision, IsSealedBy, AreSealed, IsOther, SealsDiffer, keyed_reply, text_by, text_replied, texts_replied, Opening, keyed_awaited, text_awaited, text_opened, texts_opened, NoCollisionWith, IsOfCallers}
 use Rattle.tpm_model.proofs.Accepted.{Passed, passed, ok_is}
 use Rattle.tpm_model.proofs.Spelled.{was_read, spelled_by}
-use Rattle.tpm_model.proofs.Nonces.{HasStart, sound_along}
+use Rattle.tpm_model.proofs.Nonces.{among_later, HasStart, sound_along}
 use Rattle.tpm_model.proofs.StillInStep.{held as still_held}
-use Rattle.tpm_model.proofs.Replay.{refused_not, among_later, cut_front, twice_as}
+use Rattle.tpm_model.proofs.Replay.{refused_not, cut_front, twice_as}
 use Rattle.tpm_model.proofs.Sealing.{loaded_handle, hmac_some}
 use Rattle.tpm_model.proofs.Replies.{own_reply}
 use Rattle.tpm_model.proofs.RoundTrip.{refused_read}

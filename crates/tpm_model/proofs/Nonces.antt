@@ -38,14 +38,14 @@ apart_from n [] m a i = absurd i
 apart_from n (k ∷ ns) m a (inl e) = λ s. a.0 (s ∙ ap (take least_nonce) e)
 apart_from n (k ∷ ns) m a (inr i) = apart_from n ns m a.1 i
 
-among_right : {A : Type 0} (m : A) (xs ys : List A) → IsAmong m ys → IsAmong m (xs ++ ys)
-among_right m [] ys i = i
-among_right m (x ∷ xs) ys i = inr (among_right m xs ys i)
+pub among_later : {A : Type 0} (m : A) (xs ys : List A) → IsAmong m ys → IsAmong m (xs ++ ys)
+among_later m [] ys i = i
+among_later m (x ∷ xs) ys i = inr (among_later m xs ys i)
 
 -- a nonce before and a nonce after
 pub apart_across : (xs ys : List (List ℕ)) (n m : List ℕ) → AreApart (xs ++ ys) → IsAmong n xs → IsAmong m ys → take least_nonce n ≢ take least_nonce m
 apart_across [] ys n m a i j = absurd i
-apart_across (x ∷ xs) ys n m a (inl e) j = λ s. apart_from x (xs ++ ys) m a.0 (among_right m xs ys j) (sym (ap (take least_nonce) e) ∙ s)
+apart_across (x ∷ xs) ys n m a (inl e) j = λ s. apart_from x (xs ++ ys) m a.0 (among_later m xs ys j) (sym (ap (take least_nonce) e) ∙ s)
 apart_across (x ∷ xs) ys n m a (inr i) j = apart_across xs ys n m a.1 i j
 
 from_front : (x : List ℕ) (xs ys : List (List ℕ)) → IsApart x (xs ++ ys) → IsApart x xs

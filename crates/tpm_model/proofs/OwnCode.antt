@@ -19,7 +19,7 @@ use Rattle.tpm_commands.specs.Parameters.{parameters, params_code}
 use Rattle.tpm_buffer.specs.Commands.{sessions, authorization_size, authorization, body_from, code_for}
 use Rattle.tpm_model.specs.Present.{Present}
 use Rattle.tpm_model.specs.Authorization.{refuse as test}
-use Rattle.tpm_model.specs.Answers.{Done}
+use Rattle.tpm_model.specs.Answers.{check_tag, Done}
 use Rattle.tpm_model.proofs.Accepted.{Passed}
 use Rattle.tpm_model.proofs.Spelled.{was_read, code_ok}
 use Rattle.tpm_model.proofs.Sealing.{okay, okay_is}
@@ -49,13 +49,13 @@ params_are code bytes p e =
     let first = ends (λ q. params_code q ≡ code) 0 (parameters code) (at_start bytes) b.0 (own_params code) b.1 in
     subst (λ q. params_code q ≡ code) (ap (λ (z : Params × Here). z.0) (finished b.0 a.0 b.2) ∙ same) first
 
-again : (p : Params) (hs : List ℕ) → code_for (body_from hs p) ≡ params_code p
-again params.PolicyGetDigest hs = refl
-again _ hs = refl
+pub code_again : (p : Params) (hs : List ℕ) → code_for (body_from hs p) ≡ params_code p
+code_again params.PolicyGetDigest hs = refl
+code_again _ hs = refl
 
 -- What was done is a command of the code that was read.
 pub own_code : (p : Present) (bytes n : List ℕ) (d : Done) (s : Passed p bytes n d) → code_for d.command.body ≡ s.x.code
-own_code p bytes n d s = ap code_for s.body ∙ again s.params s.x.handles ∙ params_are s.x.code s.x.params s.params (code_ok _ s.params s.read)
+own_code p bytes n d s = ap code_for s.body ∙ code_again s.params s.x.handles ∙ params_are s.x.code s.x.params s.params (code_ok _ s.params s.read)
 
 -- ---- a session is there
 
@@ -71,14 +71,21 @@ passed_not : (b : Bool) (code : ℕ) → test b code ≡ Ok tt → b ≡ false
 passed_not true code e = absurd (let z : ⊥ = cc in z)
 passed_not false code e = refl
 
-needed : (needs : Bool) (t : ℕ) (h : Here) (a : Auth) (x : List Auth × Here) → (if needs then test (t == 0x8001) rc_auth_missing else test (t == 0x8002) rc_auth_context) ≡ Ok tt
-    → read 0 (authorization t) h ≡ Ok x → x.0 ≡ a ∷ [] → needs ≡ true
-needed true t h a x c r one = refl
-needed false t h a x c r one =
-    let none : [] ≡ a ∷ [] = sym (no_area t h x (passed_not (t == 0x8002) rc_auth_context c) r) ∙ one in absurd (let z : ⊥ = cc in z)
+none_needed : (needs : Bool) (t : ℕ) → (if needs then test (t == 0x8001) rc_auth_missing else test (t == 0x8002) rc_auth_context) ≡ Ok tt → needs ≡ false → (t == 0x8002) ≡ false
+none_needed true t c not = absurd (let z : ⊥ = cc in z)
+none_needed false t c not = passed_not (t == 0x8002) rc_auth_context c
+
+-- A command that needs no authorization has no session.
+pub no_session_read : (code : CommandCode) (t : ℕ) (h : Here) (auths : List Auth) (g : Here) → check_tag code t ≡ Ok tt → read 0 (authorization t) h ≡ Ok (auths, g)
+    → needs_authorization code ≡ false → auths ≡ []
+no_session_read code t h auths g tag reads not = no_area t h (auths, g) (none_needed (needs_authorization code) t tag not) reads
+
+pub needs_it : (needs : Bool) (auths : List Auth) (a : Auth) (others : List Auth) → (needs ≡ false → auths ≡ []) → auths ≡ a ∷ others → needs ≡ true
+needs_it true auths a others none is = refl
+needs_it false auths a others none is = let e : [] ≡ a ∷ others = sym (none refl) ∙ is in absurd (cc)
 
 pub by_session_needs : (p : Present) (bytes n : List ℕ) (d : Done) (s : Passed p bytes n d) (a : Auth) → s.x.auths ≡ a ∷ [] → needs_authorization (code_for d.command.body) ≡ true
 by_session_needs p bytes n d s a one =
     let r = was_read p bytes s.x s.asked in
     ap needs_authorization (own_code p bytes n d s ∙ r.code)
-    ∙ needed (needs_authorization r.before.header.code) r.before.header.tag r.area a (r.before.auths, r.place) r.tag r.listed (sym r.auths ∙ one)
+    ∙ needs_it (needs_authorization r.before.header.code) r.before.auths a [] (no_session_read r.before.header.code r.before.header.tag r.area r.before.auths r.place r.tag r.listed) (sym r.auths ∙ one)

@@ -23,9 +23,9 @@ use Rattle.tpm_model.specs.Entities.{Entity, Register, Index, entity_of, names_o
 use Rattle.tpm_model.specs.Authorization.{is_empty, differs, has_policy, Authorizer, Password, BySession, by_session, check_loaded, check_no_trial, check_no_nonce, check_session, check_auth, check_policy_allowed, check_policy, check_entity, evidence_of, Evidence, NotAsked, ByPassword, ByMac, failure, check_evidence, first_loaded}
 use Rattle.tpm_model.specs.Actions.{action}
 use Rattle.tpm_model.specs.Answers.{code_only, by_grammar, check_started, check_handle, check_handles, check_tag, Presented, evidence_in, presented, permitted, performed, outcome}
-use Rattle.tpm_model.proofs.Accepted.{ok_is}
 use Rattle.tpm_model.proofs.Nonzero.{IsAnswered, IfRefused, IsCoded, read_coded, read_all_coded}
 use Rattle.tpm_model.proofs.Coded.{coded_header, coded_handles, coded_authorization}
+use Rattle.tpm_model.proofs.Spelled.{code_ok}
 use Rattle.tpm_model.proofs.EachCommand.{IfErr, not_refused, with_code, its_code, next_too, afterwards, tested, test_first, one_of, coded_parameters, acted}
 
 of_code : {A : Type 0} (r : Result A Refusal) → IfRefused r → IfErr (code_only r)
@@ -51,10 +51,10 @@ handles_checked p i [] some small = not_refused
 handles_checked p i (n ∷ ns) some small =
     next_too (check_handle p i n) _ (handle_checked p i n some (omega (arith, small))) (λ _. handles_checked p (i + 1) ns (omega arith) (omega (arith, small)))
 
-abbrev handles_read : List ℕ → Here → Result (List ℕ × Here) Refusal
+abbrev pub handles_read : List ℕ → Here → Result (List ℕ × Here) Refusal
 handles_read ns h = Ok (ns, h)
 
-same_list : (ns ms : List ℕ) (g h : Here) → handles_read ns g ≡ handles_read ms h → ns ≡ ms
+pub same_list : (ns ms : List ℕ) (g h : Here) → handles_read ns g ≡ handles_read ms h → ns ≡ ms
 same_list ns ms g h e = let both : (ns, g) ≡ (ms, h) = cc in ap (λ (x : List ℕ × Here). x.0) both
 
 as_many_kinds : (i : ℕ) (kinds : List HandleKind) (h : Here) (x : List ℕ × Here) → read 0 (handles_from i kinds) h ≡ Ok x → length x.0 ≡ length kinds
@@ -69,10 +69,6 @@ few_kinds : (code : CommandCode) → length (handle_kinds code) < 250
 few_kinds codes.NvUndefineSpace = omega arith
 few_kinds codes.NvIncrement = omega arith
 few_kinds _ = omega arith
-
-code_ok : {A : Type 0} (r : Result A Refusal) (x : A) → code_only r ≡ Ok x → r ≡ Ok x
-code_ok (Ok y) x e = let same : y ≡ x = ok_is y x e in ap (λ (z : _). let k : Result _ Refusal = Ok z in k) same
-code_ok (Err e) x c = absurd (let k : ⊥ = cc in k)
 
 few_handles : (code : CommandCode) (h : Here) (x : List ℕ × Here) → by_grammar (handles code) h ≡ Ok x → 1 + length x.0 < 256
 few_handles code h x e = omega (arith, as_many_kinds 1 (handle_kinds code) h x (code_ok _ x e), few_kinds code)

@@ -34,11 +34,11 @@ use Rattle.tpm_model.specs.Premises.{IsAccepted, HasSessionMac, nonces, IsAmong,
 use Rattle.tpm_model.proofs.Accepted.{Passed, passed, ok_is, next_is}
 use Rattle.tpm_model.proofs.Runs.{after-append}
 use Rattle.tpm_model.proofs.Spelled.{was_read, spelled_by}
-use Rattle.tpm_model.proofs.Nonces.{held, fresh, sound_along, apart_across, apart_front, nonces-append}
+use Rattle.tpm_model.proofs.Nonces.{among_later, held, fresh, sound_along, apart_across, apart_front, nonces-append}
 
 -- ---- what the checks of a session let through
 
-no_password : (n : ℕ) → is_session n ≡ true → (n == rs_pw) ≡ false
+pub no_password : (n : ℕ) → is_session n ≡ true → (n == rs_pw) ≡ false
 no_password n s = elim (n == rs_pw) as (λ b. (n == rs_pw) ≡ b → b ≡ false)
     [ true ↦ λ e. let same : n ≡ rs_pw = grind (arith, nat_tests) in absurd (let bad : is_session rs_pw ≡ true = subst (λ m. is_session m ≡ true) same s in let z : ⊥ = cc in z) | false ↦ λ e. refl ] refl
 
@@ -108,10 +108,6 @@ was_signed p bytes n d a s one is some =
     }
 
 -- ---- its text is among those that are checked
-
-pub among_later : {A : Type 0} (x : A) (xs ys : List A) → IsAmong x ys → IsAmong x (xs ++ ys)
-among_later x [] ys i = i
-among_later x (y ∷ xs) ys i = inr (among_later x xs ys i)
 
 pub among_here : (o : Origin) (h : History) (es fs : List Event) (bytes n : List ℕ) (x : Keyed)
     → text_checked (presented (present o (after o h es)) bytes) ≡ x ∷ [] → IsAmong x (texts_checked o h (es ++ Given bytes n ∷ fs))

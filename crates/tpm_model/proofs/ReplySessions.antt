@@ -36,7 +36,7 @@ abbrev pub Lists : Result (List AuthReply × Here) Refusal → List AuthReply �
 Lists r auths = (g : Here) × (r ≡ Ok (auths, g))
 
 -- what comes after a success
-goes_on : {A B : Type 0} (r : Result A Refusal) (f : A → Result B Refusal) (x : A) (y : Result B Refusal) → r ≡ Ok x → f x ≡ y → (r >>= f) ≡ y
+pub goes_on : {A B : Type 0} (r : Result A Refusal) (f : A → Result B Refusal) (x : A) (y : Result B Refusal) → r ≡ Ok x → f x ≡ y → (r >>= f) ≡ y
 goes_on r f x y e g = ap (λ z. z >>= f) e ∙ g
 
 -- ---- in a response to a command
@@ -83,7 +83,7 @@ either_listed false l h x e = without_listed l h x e
 abbrev none : Layout (List ℕ)
 none = Form.done []
 
-no_handles : (code : CommandCode) → needs_authorization code ≡ true → reply_handles code ≡ none
+pub no_handles : (code : CommandCode) → needs_authorization code ≡ true → reply_handles code ≡ none
 no_handles codes.StartAuthSession e = absurd (let z : ⊥ = cc in z)
 no_handles _ e = refl
 

@@ -87,7 +87,7 @@ keep_attrs : (keep : Bool) → is_session_attrs (attrs_for keep) ≡ true
 keep_attrs true = refl
 keep_attrs false = refl
 
-open_is : (w : Waiting) (body : ReplyBody) (a : AuthReply) → length a.nonce ≡ length w.caller.nonce → a.hmac ≡ hmac w.caller.hash w.key (awaited_text w body a)
+pub open_is : (w : Waiting) (body : ReplyBody) (a : AuthReply) → length a.nonce ≡ length w.caller.nonce → a.hmac ≡ hmac w.caller.hash w.key (awaited_text w body a)
     → opened_session w body (a ∷ []) ≡ Ok (record { caller = caller_after w a; response = done_with (record { body = body; auths = a ∷ [] }) })
 open_is w body a l m =
     let long = eq-eqb (length a.nonce) (length w.caller.nonce) l in

@@ -3,11 +3,11 @@ use Rattle.tpm_commands.specs.Handles.{needs_authorization}
 use Rattle.tpm_buffer.specs.Commands.{body_from}
 use Rattle.tpm_model.specs.Authorization.{reply_auths}
 use Rattle.tpm_model.specs.Answers.{reply_params}
+use Rattle.tpm_model.proofs.OwnCode.{code_again, needs_it}
 use Rattle.tpm_device.specs.Stands.{holds, presented_with}
 use Rattle.tpm_device.proofs.Alike.{alike}
 use Rattle.tpm_device.proofs.Checked.{is_loaded}
-use Rattle.tpm_device.proofs.Further.{needs_it}
-use Rattle.tpm_device.proofs.Passing.{code_again, done_told, done_stands}
+use Rattle.tpm_device.proofs.Passing.{done_told, done_stands}
 use Rattle.tpm_device.proofs.device.Device.done.Goals as goal
 
 pub roll-requires-clause-loaded : goal.roll-requires-clause-loaded

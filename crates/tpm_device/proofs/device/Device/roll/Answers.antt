@@ -4,7 +4,7 @@ use Rattle.tpm_commands.specs.Handles.{needs_authorization}
 use Rattle.tpm_buffer.specs.Commands.{code_for, with_auths}
 use Rattle.tpm_model.specs.Steps.{Accepted}
 use Rattle.tpm_device.specs.Stands.{Stands}
-use Rattle.tpm_device.proofs.Further.{needs_it}
+use Rattle.tpm_model.proofs.OwnCode.{needs_it}
 use Rattle.tpm_device.proofs.Checked.{first_auth, no_auths}
 use Rattle.tpm_device.proofs.device.Device.roll.Goals as goal
 
