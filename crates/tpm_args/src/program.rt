@@ -86,32 +86,28 @@ fn buffer_words<'a>(alloc: Global, names: &'a [&'a str]) -> Result<Command<'a>, 
 fn show_words<'a>(alloc: Global, names: &'a [&'a str]) -> Result<Command<'a>, AllocError>
     ensures { IfOk result (λ c. IsApp (show_app (Names names.entry)) c) }
 {
-    let file = option(
-        alloc,
-        "file",
-        "FILE",
-        "Reads a capture: a command or a reply a line, in hexadecimal",
-    );
-    let binary = flag(
-        alloc,
-        "binary",
-        "Reads the capture as frames one after the other, in place of lines",
-    );
-    let json = flag(
-        alloc,
-        "json",
-        "Prints each frame of the capture as an object of JSON, in a line",
-    );
-    let buffer = optional(
-        alloc,
-        "HEX",
-        "The buffer, in hexadecimal, or - for a capture on standard input",
-    );
     buffer_words(alloc, names)?
-        .arg(file)?
-        .arg(binary)?
-        .arg(json)?
-        .arg(buffer)
+        .arg(option(
+            alloc,
+            "file",
+            "FILE",
+            "Reads a capture: a command or a reply a line, in hexadecimal",
+        ))?
+        .arg(flag(
+            alloc,
+            "binary",
+            "Reads the capture as frames one after the other, in place of lines",
+        ))?
+        .arg(flag(
+            alloc,
+            "json",
+            "Prints each frame of the capture as an object of JSON, in a line",
+        ))?
+        .arg(optional(
+            alloc,
+            "HEX",
+            "The buffer, in hexadecimal, or - for a capture on standard input",
+        ))
 }
 
 fn name_word<'a>(alloc: Global, names: &'a [&'a str]) -> Arg<'a>
@@ -124,27 +120,24 @@ fn name_word<'a>(alloc: Global, names: &'a [&'a str]) -> Arg<'a>
 fn build_words<'a>(alloc: Global, names: &'a [&'a str]) -> Result<Command<'a>, AllocError>
     ensures { IfOk result (λ c. IsApp (build_app (Names names.entry)) c) }
 {
-    let handles = required(
-        alloc,
-        "HANDLES",
-        "Its handles, in hexadecimal or - for none",
-    );
-    let sessions = required(
-        alloc,
-        "SESSIONS",
-        "The sessions of its authorization area, in hexadecimal or - for none",
-    );
-    let parameters = required(
-        alloc,
-        "PARAMETERS",
-        "Its parameters, in hexadecimal or - for none",
-    );
     Command::new(alloc, "build")
         .about("Prints the buffer of a command, joined from its parts")
         .arg(name_word(alloc, names))?
-        .arg(handles)?
-        .arg(sessions)?
-        .arg(parameters)
+        .arg(required(
+            alloc,
+            "HANDLES",
+            "Its handles, in hexadecimal or - for none",
+        ))?
+        .arg(required(
+            alloc,
+            "SESSIONS",
+            "The sessions of its authorization area, in hexadecimal or - for none",
+        ))?
+        .arg(required(
+            alloc,
+            "PARAMETERS",
+            "Its parameters, in hexadecimal or - for none",
+        ))
 }
 
 fn option<'a>(alloc: Global, name: &'a str, value: &'a str, help: &'a str) -> Arg<'a>
@@ -202,57 +195,56 @@ fn log_words<'a>(alloc: Global) -> Result<Command<'a>, AllocError>
 fn compare_words<'a>(alloc: Global) -> Result<Command<'a>, AllocError>
     ensures { IfOk result (λ c. IsApp compare_app c) }
 {
-    let registers = option(
-        alloc,
-        "registers",
-        "FILE",
-        "Compares them with a list of registers, as they are printed here or by tpm2_pcrread",
-    );
-    let quote = option(
-        alloc,
-        "quote",
-        "HEX",
-        "Compares them with a quote, its TPMS_QUOTE_INFO in hexadecimal",
-    );
-    log_words(alloc)?.arg(registers)?.arg(quote)
+    log_words(alloc)?
+        .arg(option(
+            alloc,
+            "registers",
+            "FILE",
+            "Compares them with a list of registers, as they are printed here or by tpm2_pcrread",
+        ))?
+        .arg(option(
+            alloc,
+            "quote",
+            "HEX",
+            "Compares them with a quote, its TPMS_QUOTE_INFO in hexadecimal",
+        ))
 }
 
 // The subcommand `check`, without the hash.
 fn attest_words<'a>(alloc: Global) -> Result<Command<'a>, AllocError>
     ensures { IfOk result (λ c. IsApp attest_app c) }
 {
-    let attest = option(
-        alloc,
-        "attest",
-        "FILE",
-        "Compares them with a quote as it was signed, a TPMS_ATTEST, and prints what it says",
-    );
-    let nonce = option(
-        alloc,
-        "nonce",
-        "HEX",
-        "The nonce that was sent for that quote; it is not compared if it is not given",
-    );
-    let require = option(
-        alloc,
-        "require",
-        "LIST",
-        "The registers that it has to select, as sha1:7+sha256:0,1,2 or sha256:all",
-    );
-    compare_words(alloc)?.arg(attest)?.arg(nonce)?.arg(require)
+    compare_words(alloc)?
+        .arg(option(
+            alloc,
+            "attest",
+            "FILE",
+            "Compares them with a quote as it was signed, a TPMS_ATTEST, and prints what it says",
+        ))?
+        .arg(option(
+            alloc,
+            "nonce",
+            "HEX",
+            "The nonce that was sent for that quote; it is not compared if it is not given",
+        ))?
+        .arg(option(
+            alloc,
+            "require",
+            "LIST",
+            "The registers that it has to select, as sha1:7+sha256:0,1,2 or sha256:all",
+        ))
 }
 
 /// The subcommand `check`.
 pub(crate) fn check_words<'a>(alloc: Global) -> Result<Command<'a>, AllocError>
     ensures { IfOk result (λ c. IsApp check_app c) }
 {
-    let hash = option(
+    attest_words(alloc)?.arg(option(
         alloc,
         "hash",
         "NAME",
         "The hash of the quote's digest: sha1, sha256 or sha384; sha256 if it is not given",
-    );
-    attest_words(alloc)?.arg(hash)
+    ))
 }
 
 // The subcommand `events`, with which records are listed.
@@ -275,18 +267,18 @@ fn records_words<'a>(alloc: Global) -> Result<Command<'a>, AllocError>
 pub(crate) fn events_words<'a>(alloc: Global) -> Result<Command<'a>, AllocError>
     ensures { IfOk result (λ c. IsApp events_app c) }
 {
-    let places = flag(
-        alloc,
-        "places",
-        "Prints how many bytes of the log precede each record, too",
-    );
-    let digests = flag(alloc, "digests", "Prints the digests of each record, too");
-    let json = flag(
-        alloc,
-        "json",
-        "Prints each record as an object of JSON, with all that it holds",
-    );
-    records_words(alloc)?.arg(places)?.arg(digests)?.arg(json)
+    records_words(alloc)?
+        .arg(flag(
+            alloc,
+            "places",
+            "Prints how many bytes of the log precede each record, too",
+        ))?
+        .arg(flag(alloc, "digests", "Prints the digests of each record, too"))?
+        .arg(flag(
+            alloc,
+            "json",
+            "Prints each record as an object of JSON, with all that it holds",
+        ))
 }
 
 // The program, without its subcommands.
