@@ -10,6 +10,18 @@ use Rattle.tpm_wire.specs.Reading.{refuse, unless, found, entries, read, ◌>>=�
 use Rattle.tpm_wire.specs.Path.{Next, each, steps}
 use Rattle.tpm_wire.proofs.Runs.{meant, run}
 
+abbrev pub ok : {A E : Type 0} → A → Result A E
+ok x = Ok x
+
+pub ok_is : {A E : Type 0} (x y : A) → ok {E = E} x ≡ ok y → x ≡ y
+ok_is x y e = cc
+
+abbrev pub err : {A E : Type 0} → E → Result A E
+err e = Err e
+
+pub err_is : {A E : Type 0} (d e : E) → err {A = A} d ≡ err e → d ≡ e
+err_is d e is = cc
+
 pub bind_same : {A B E : Type 0} (r : Result A E) (f g : A → Result B E) → ((x : A) → f x ≡ g x) → (r >>= f) ≡ (r >>= g)
 bind_same (Ok x) f g e = e x
 bind_same (Err d) f g e = refl
@@ -52,15 +64,15 @@ here_of {A = A} x y h g e =
 past_end : (n : ℕ) (h : Here) → n ≤ length h.rest → end_of (past n h) ≡ end_of h
 past_end n h le = omega (arith, le, length-drop n h.rest)
 
-test_end : {A E : Type 0} (b : Bool) (r : A) (d : E) (y : A) → cond b (Ok r) (Err d) ≡ Ok y → (b ≡ true) × (r ≡ y)
+pub test_end : {A E : Type 0} (b : Bool) (r : A) (d : E) (y : A) → cond b (Ok r) (Err d) ≡ Ok y → (b ≡ true) × (r ≡ y)
 test_end true r d y e = (refl, cc)
 test_end false r d y e = absurd cc
 
-unless_ok : {A : Type 0} (r : Rules) (o : Option r.Fault) (mark : r.Mark) (h : Here) (next : Result A r.Answer) (y : A) → unless r o mark h next ≡ Ok y → (o ≡ None) × (next ≡ Ok y)
+pub unless_ok : {A : Type 0} (r : Rules) (o : Option r.Fault) (mark : r.Mark) (h : Here) (next : Result A r.Answer) (y : A) → unless r o mark h next ≡ Ok y → (o ≡ None) × (next ≡ Ok y)
 unless_ok r None mark h next y e = (refl, e)
 unless_ok r (Some f) mark h next y e = absurd cc
 
-was_found : {A : Type 0} (r : Rules) (o : Result A r.Fault) (n : ℕ) (mark : r.Mark) (h : Here) (x : A × Here) → found r o n mark h ≡ Ok x → (o ≡ Ok x.0) × (past n h ≡ x.1)
+pub was_found : {A : Type 0} (r : Rules) (o : Result A r.Fault) (n : ℕ) (mark : r.Mark) (h : Here) (x : A × Here) → found r o n mark h ≡ Ok x → (o ≡ Ok x.0) × (past n h ≡ x.1)
 was_found r (Err f) n mark h x e = absurd cc
 was_found r (Ok y) n mark h x e =
     let pairs : pair_at y (past n h) ≡ pair_at x.0 x.1 = cc in

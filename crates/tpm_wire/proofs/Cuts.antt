@@ -7,11 +7,9 @@ use Rattle.tpm_wire.specs.Layout.{remaining, cut}
 use Rattle.tpm_wire.specs.Reading.{read, read_all, finish, Gives, ◌>>=◌}
 use Rattle.tpm_wire.specs.Path.{Decodes}
 use Rattle.tpm_wire.specs.Buffers.{buffer, Layout}
+use Rattle.tpm_wire.proofs.Agreement.{ok}
 use Rattle.tpm_wire.proofs.Buffers.{buffer_sound, buffer_roomy}
 use Rattle.tpm_wire.proofs.Whole.{read_spells, read_fault}
-
-abbrev ok : {A E : Type 0} → A → Result A E
-ok x = Ok x
 
 abbrev pub parted : {A : Type 0} → A × Here → Result (A × List ℕ) Refusal
 parted x = Ok (x.0, x.1.rest)

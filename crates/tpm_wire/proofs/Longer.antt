@@ -1,7 +1,7 @@
 -- Reading the begin of longer bytes gives what reading all of them gives, where a layout takes so many bytes at most.
 use Rattle.std.proofs.Common.{◌≡◌, ℕ, zero, suc, ◌+◌, ◌-◌, ◌*◌, ◌≤◌, Bool, true, false, cond, eqb, leb, List, [], ◌∷◌, ◌++◌, length, take, Option, Some, None, Result, Ok, Err, refl, sym, ap, ◌∙◌, arith}
 use Rattle.std.specs.Prelude.{◌&&◌}
-use Rattle.std.proofs.lemmas.Bool.{leb-true}
+use Rattle.std.proofs.lemmas.Bool.{leb-true, and_parts}
 use Rattle.std.proofs.lemmas.List.{length-append, length-drop, take-append-le, drop-append-le}
 use Rattle.std.proofs.Math.Nat.{mul-le-mul_right}
 use Rattle.tpm_wire.specs.Rules.{Rules, IsSound}
@@ -13,16 +13,13 @@ use Rattle.tpm_wire.specs.Buffers.{buffer, Layout, number_in}
 use Rattle.tpm_wire.specs.ResponseCodes.{rc_size}
 use Rattle.tpm_wire.specs.Spelling.{spelling}
 use Rattle.tpm_wire.specs.Structures.{sized_bytes, sized, counted}
-use Rattle.tpm_wire.proofs.Agreement.{bind_ok, number_ok}
+use Rattle.tpm_wire.proofs.Agreement.{ok, ok_is, bind_ok, test_end, unless_ok, was_found, number_ok}
 use Rattle.tpm_wire.proofs.Buffers.{buffer_sound, buffer_roomy}
 
 -- the same, read of longer bytes
 abbrev pub longer : {A E : Type 0} → List ℕ → Result (A × Here) E → Result (A × Here) E
 longer more (Ok x) = Ok (x.0, with_more more x.1)
 longer more (Err e) = Err e
-
-abbrev ok : {A E : Type 0} → A → Result A E
-ok x = Ok x
 
 abbrev ok_at : {A E : Type 0} → A → ℕ → List ℕ → Result (A × Here) E
 ok_at x at rest = Ok (x, record { rest = rest; at = at })
@@ -46,20 +43,9 @@ unless_longer : {A : Type 0} (r : Rules) (o : Option r.Fault) (m : r.Mark) (h : 
 unless_longer r (Some f) m h more a b is = refl
 unless_longer r None m h more a b is = is
 
-unless_ok : {A : Type 0} (r : Rules) (o : Option r.Fault) (m : r.Mark) (h : Here) (next : Result A r.Answer) (x : A) → unless r o m h next ≡ Ok x → (o ≡ None) × (next ≡ Ok x)
-unless_ok r (Some f) m h next x e = absurd cc
-unless_ok r None m h next x e = (refl, e)
-
 found_longer : {A : Type 0} (r : Rules) (p : Result A r.Fault) (n : ℕ) (m : r.Mark) (h : Here) (more : List ℕ) → n ≤ length h.rest → found r p n m (with_more more h) ≡ longer more (found r p n m h)
 found_longer r (Err f) n m h more le = refl
 found_longer r (Ok x) n m h more le = ap (ok_at x (h.at + n)) (drop-append-le n h.rest more le)
-
-here_of : {A E : Type 0} (x : A × Here) (y : A × Here) → ok {E = E} x ≡ ok y → x.1 ≡ y.1
-here_of {A = A} x y e = let same : x ≡ y = cc in ap (λ (z : A × Here). z.1) same
-
-found_ends : {A : Type 0} (r : Rules) (p : Result A r.Fault) (n : ℕ) (m : r.Mark) (h : Here) (x : A × Here) → found r p n m h ≡ Ok x → past n h ≡ x.1
-found_ends r (Err f) n m h x e = absurd cc
-found_ends r (Ok y) n m h x e = here_of (y, past n h) x e
 
 -- what is made of the bytes of an area
 abbrev closed : {A : Type 0} → (r : Rules) → r.Mark → r.Fault → Here → A × Here → Result (A × Here) r.Answer
@@ -86,11 +72,7 @@ area_longer {r = r} {A = A} m n fault l h more le = rw (take-append-le n h.rest 
 area_ends : {r : Rules} {A : Type 0} (m : r.Mark) (n : ℕ) (fault : r.Fault) (l : Form r A) (h : Here) (x : A × Here) → inside m n fault l h ≡ Ok x → past n h ≡ x.1
 area_ends {r = r} {A = A} m n fault l h x e =
     let b = bind_ok (read m l (record { rest = take n h.rest; at = h.at })) (closed r m fault (past n h)) x e in
-    go (eqb (length b.0.1.rest) 0) b.0 b.2
-  where
-    go : (b : Bool) (y : A × Here) → cond b (ok (y.0, past n h)) (refuse r m fault y.1) ≡ Ok x → past n h ≡ x.1
-    go true y is = here_of (y.0, past n h) x is
-    go false y is = absurd cc
+    ap (λ (y : A × Here). y.1) (test_end (eqb (length b.0.1.rest) 0) (b.0.0, past n h) _ x b.2).1
 
 there : (n : ℕ) (h : Here) (more : List ℕ) → n ≤ length h.rest → n ≤ length (h.rest ++ more)
 there n h more le = omega (arith, le, length-append h.rest more)
@@ -118,17 +100,9 @@ module _ (r : Rules) (sound : IsSound r) (alike : IsAlike r) where
           ∙ unless_longer r (r.lacks m h.at n (length h.rest)) m h more (made m h) (made m (with_more more h)) (flat m h more le)
           ∙ ap (longer more) (sym (is m h))
 
-  pub number_at_most : {A : Type 0} (width : ℕ) (meaning : ℕ → Option A) (number_for : A → ℕ) (fault : r.Fault) → TakesAtMost {r = r} width (Form.number width (λ left. meaning) number_for fault)
-  number_at_most {A = A} width meaning number_for fault =
-      taken_at_most width (Form.number width (λ left. meaning) number_for fault) (λ m h. found r (of_bytes (take width h.rest)) width m h) (λ m h. refl) (λ m h. text_longer r of_bytes width m h)
-      (λ m h. found_ends r (of_bytes (take width h.rest)) width m h)
-    where
-      of_bytes : List ℕ → Result A r.Fault
-      of_bytes bytes = or_fault (meaning (number_of bytes)) fault
-
   pub text_at_most : {A : Type 0} (n : ℕ) (judge : List ℕ → Result A r.Fault) (text_for : A → List ℕ) → TakesAtMost {r = r} n (Form.text n judge text_for)
   text_at_most n judge text_for =
-      taken_at_most n (Form.text n judge text_for) (λ m h. found r (judge (take n h.rest)) n m h) (λ m h. refl) (λ m h. text_longer r judge n m h) (λ m h. found_ends r (judge (take n h.rest)) n m h)
+      taken_at_most n (Form.text n judge text_for) (λ m h. found r (judge (take n h.rest)) n m h) (λ m h. refl) (λ m h. text_longer r judge n m h) (λ m h x e. (was_found r (judge (take n h.rest)) n m h x e).1)
 
   -- an area, which is the same whatever is behind it
   pub area_at_most : {A : Type 0} (n : ℕ) (fault : r.Fault) (l : Form r A) → TakesAtMost n (Form.area n fault l)
@@ -136,18 +110,14 @@ module _ (r : Rules) (sound : IsSound r) (alike : IsAlike r) where
 
 -- ---- what is made of tokens
 
-abbrev left_of : {A E : Type 0} → Result (A × Here) E → ℕ
-left_of (Ok y) = length y.1.rest
-left_of (Err e) = 0
-
 pub at_most_done : {r : Rules} {A : Type 0} (x : A) → TakesAtMost {r = r} 0 (Form.done x)
-at_most_done x = record {
+at_most_done {A = A} x = record {
   same = λ m h more y e. ap (longer more) e;
   fault = λ m h more e room is. absurd cc;
-  most = λ m h y e. omega (arith, ap left_of e);
+  most = λ m h y e. omega (arith, ap (λ (z : A × Here). length z.1.rest) (ok_is (x, h) y e));
 }
 
-pub then_same : {A B E : Type 0} (o p : Result (B × Here) E) (f : B × Here → Result (A × Here) E) (more : List ℕ) (x : A × Here)
+then_same : {A B E : Type 0} (o p : Result (B × Here) E) (f : B × Here → Result (A × Here) E) (more : List ℕ) (x : A × Here)
     → ((y : B × Here) → o ≡ Ok y → p ≡ Ok (y.0, with_more more y.1)) → ((y : B × Here) → o ≡ Ok y → f y ≡ Ok x → f (y.0, with_more more y.1) ≡ Ok (x.0, with_more more x.1))
     → (o >>= f) ≡ Ok x → (p >>= f) ≡ Ok (x.0, with_more more x.1)
 then_same (Ok y) p f more x one two e = rw (one y refl) (two y refl e)
@@ -205,7 +175,7 @@ at_most_list {r = r} {A = A} n k l one = record {
 }
   where
     all_most : (m : r.Mark) (n : ℕ) (before : List A) (h : Here) (x : List A × Here) → entries n before false (λ b. read m (l b)) h ≡ Ok x → length h.rest ≤ length x.1.rest + n * k
-    all_most m zero before h x e = omega (arith, ap left_of e)
+    all_most m zero before h x e = omega (arith, ap (λ (z : List A × Here). length z.1.rest) (ok_is (before, h) x e))
     all_most m (suc n) before h x e =
         let a = bind_ok (read m (l before) h) (λ y. entries n (before ++ y.0 ∷ []) false (λ b. read m (l b)) y.1) x e in
         omega (arith, (one before).most m h a.0 a.1, all_most m n (before ++ a.0.0 ∷ []) a.0.1 x a.2)
@@ -278,7 +248,12 @@ buffer_alike : IsAlike buffer
 buffer_alike m at n left more le wide = buffer_roomy m at n more wide ∙ sym (buffer_roomy m at n left le)
 
 pub at_most_number : {A : Type 0} (width : ℕ) (meaning : ℕ → Option A) (number_for : A → ℕ) (fault : ℕ) → TakesAtMost {r = buffer} width (Form.number width (λ left. meaning) number_for fault)
-at_most_number width meaning number_for fault = number_at_most buffer buffer_sound buffer_alike width meaning number_for fault
+at_most_number {A = A} width meaning number_for fault =
+    taken_at_most buffer buffer_sound buffer_alike width (Form.number width (λ left. meaning) number_for fault) (λ m h. found buffer (of_bytes (take width h.rest)) width m h) (λ m h. refl)
+    (λ m h. text_longer buffer of_bytes width m h) (λ m h x e. (was_found buffer (of_bytes (take width h.rest)) width m h x e).1)
+  where
+    of_bytes : List ℕ → Result A ℕ
+    of_bytes bytes = or_fault (meaning (number_of bytes)) fault
 
 pub at_most_text : {A : Type 0} (n : ℕ) (judge : List ℕ → Result A ℕ) (text_for : A → List ℕ) → TakesAtMost {r = buffer} n (Form.text n judge text_for)
 at_most_text n judge text_for = text_at_most buffer buffer_sound buffer_alike n judge text_for
@@ -310,14 +285,10 @@ at_most_sized n l =
     (λ m h y is.
     at_most_more y.0 n (Form.area y.0 rc_size l) (leb-true y.0 n (in_set 2 (λ k. leb k n) rc_size m h y is)) (area_at_most buffer buffer_sound buffer_alike y.0 rc_size l))
 
-right_of : (a b : Bool) → (a && b) ≡ true → b ≡ true
-right_of true b e = e
-right_of false b e = absurd cc
-
 pub at_most_counted : {A : Type 0} (least most k : ℕ) (l : Layout A) → TakesAtMost k l → TakesAtMost (4 + most * k) (counted least most l)
 unfolding counted
 at_most_counted least most k l t =
     at_most_field 4 (most * k) length (number_in 4 (λ n. leb least n && leb n most) rc_size) (λ n. Form.list n false (λ _. l)) (at_most_number_in 4 (λ n. leb least n && leb n most) rc_size)
     (λ m h y is.
-    let le : y.0 ≤ most = leb-true y.0 most (right_of (leb least y.0) (leb y.0 most) (in_set 4 (λ n. leb least n && leb n most) rc_size m h y is)) in
+    let le : y.0 ≤ most = leb-true y.0 most (and_parts _ _ (in_set 4 (λ n. leb least n && leb n most) rc_size m h y is)).1 in
     at_most_more (y.0 * k) (most * k) (Form.list y.0 false (λ _. l)) (mul-le-mul_right k le) (at_most_list y.0 k (λ _. l) (λ before. t)))

@@ -72,7 +72,7 @@ rc_hash = 0x083
 abbrev pub rc_value : ℕ
 rc_value = 0x084
 
--- a mode of a symmetric algorithm
+-- a mode of a symmetric algorithm that isn't CFB
 abbrev pub rc_mode : ℕ
 rc_mode = 0x089
 
