@@ -8,7 +8,7 @@ use Rattle.tpm_wire.specs.Token.{Here}
 use Rattle.tpm_wire.specs.Layout.{Form}
 use Rattle.tpm_wire.specs.Reading.{read}
 use Rattle.tpm_wire.specs.Buffers.{buffer, Layout}
-use Rattle.tpm_wire.proofs.Agreement.{bind_ok}
+use Rattle.tpm_wire.proofs.Agreement.{ok_is, bind_ok}
 use Rattle.tpm_wire.proofs.Longer.{TakesAtMost, at_most_more, at_most_done, at_most_number, at_most_number_in, in_set, at_most_sized_bytes, at_most_sized, at_most_counted}
 use Rattle.tpm_types.specs.declared.handle_sets.PcrOrNull.TheVariants as pcrs
 use Rattle.tpm_types.specs.declared.handle_sets.NvAuthHandle.TheVariants as nv
@@ -34,9 +34,6 @@ use Rattle.tpm_commands.specs.Parameters.{params_code, parameters, nv_define_spa
 use Rattle.tpm_commands.specs.Table.{register_in, index_in, policy_in, pcr_or_null_in, nv_auth_in, bind_in, or_else, body_from, handles_of, params_of}
 use Rattle.tpm_commands.specs.Replies.{code_for_reply, session_handle, session_in, reply_handles, reply_handles_of, reply_parameters, pcr_event_reply, nv_read_reply, nv_read_public_reply, start_auth_session_reply, pcr_read_reply, policy_get_digest_reply}
 use Rattle.tpm_commands.proofs.Short.{ok, next, only, of_hash, of_selection, of_digest_value, of_sym_def}
-
-ok_is : {A : Type 0} (x y : A) → ok x ≡ ok y → x ≡ y
-ok_is x y e = cc
 
 -- ---- a number that is of its kind is that of the handle made from it
 
@@ -101,35 +98,14 @@ handles_again (params.Startup kind) hs t = sym t
 handles_again (params.NvRead size offset) hs t = index hs t
 handles_again (params.FlushContext handle) hs t = sym t
 handles_again params.NvReadPublic hs t = one kinds.Index _ hs t (index_again (first hs))
-handles_again params.PolicyAuthValue hs t = policy hs t
-handles_again (params.PolicyCommandCode code) hs t = policy hs t
-handles_again (params.PolicyOr digests) hs t = policy hs t
 handles_again (params.StartAuthSession nonce_caller kind symmetric alg) hs t = two kinds.Null kinds.OwnerOrNull _ _ hs t (null_again (first hs)) (bind_again (second hs))
 handles_again (params.PcrRead selected) hs t = sym t
-handles_again (params.PolicyPcr pcr_digest selected) hs t = policy hs t
-handles_again params.PolicyRestart hs t = policy hs t
 handles_again (params.PcrExtend digests) hs t = register hs t
-handles_again params.PolicyGetDigest hs t = policy hs t
+handles_again _ hs t = policy hs t
 
 pub params_again : (p : Params) (hs : List ℕ) → params_of (body_from hs p) ≡ p
 params_again params.NvUndefineSpace hs = refl
-params_again (params.NvDefineSpace auth public) hs = refl
-params_again params.NvIncrement hs = refl
-params_again (params.PcrEvent event) hs = refl
-params_again params.PcrReset hs = refl
-params_again (params.Startup kind) hs = refl
-params_again (params.NvRead size offset) hs = refl
-params_again (params.FlushContext handle) hs = refl
-params_again params.NvReadPublic hs = refl
-params_again params.PolicyAuthValue hs = refl
-params_again (params.PolicyCommandCode code) hs = refl
-params_again (params.PolicyOr digests) hs = refl
-params_again (params.StartAuthSession nonce_caller kind symmetric alg) hs = refl
-params_again (params.PcrRead selected) hs = refl
-params_again (params.PolicyPcr pcr_digest selected) hs = refl
-params_again params.PolicyRestart hs = refl
-params_again (params.PcrExtend digests) hs = refl
-params_again params.PolicyGetDigest hs = refl
+params_again _ hs = refl
 
 -- ---- the parameters of each command
 
@@ -141,16 +117,11 @@ none x = few 0 (Form.done x) (omega arith) (at_most_done x)
 
 pub of_parameters : (code : CommandCode) → TakesAtMost 1100 (parameters code)
 unfolding nv_define_space pcr_event startup nv_read flush_context policy_command_code policy_or start_auth_session pcr_read policy_pcr pcr_extend startup_type session_type session encrypted_salt nv_public
-of_parameters codes.NvUndefineSpace = none _
 of_parameters codes.NvDefineSpace = few 114 _ (omega arith) (next 50 64 (of_parameter 1) _ _ _ (at_most_sized_bytes digest_bytes) (λ auth. only 64 (of_parameter 2) _ _ _ (at_most_sized public_bytes nv_public_area)))
-of_parameters codes.NvIncrement = none _
 of_parameters codes.PcrEvent = few 1026 _ (omega arith) (only 1026 (of_parameter 1) _ _ _ (at_most_sized_bytes event_bytes))
-of_parameters codes.PcrReset = none _
 of_parameters codes.Startup = few 2 _ (omega arith) (only 2 (of_parameter 1) _ _ _ (at_most_number 2 startup_of startup_number rc_value))
 of_parameters codes.NvRead = few 4 _ (omega arith) (next 2 2 (of_parameter 1) _ _ _ (at_most_number 2 _ _ _) (λ size. only 2 (of_parameter 2) _ _ _ (at_most_number 2 _ _ _)))
 of_parameters codes.FlushContext = few 4 _ (omega arith) (only 4 (of_parameter 1) _ _ _ (at_most_number_in 4 is_session rc_value))
-of_parameters codes.NvReadPublic = none _
-of_parameters codes.PolicyAuthValue = none _
 of_parameters codes.PolicyCommandCode = few 4 _ (omega arith) (only 4 (of_parameter 1) _ _ _ (at_most_number 4 _ _ _))
 of_parameters codes.PolicyOr = few 404 _ (omega arith) (only 404 (of_parameter 1) _ _ _ (at_most_counted 2 most_digests 50 digest (at_most_sized_bytes digest_bytes)))
 of_parameters codes.StartAuthSession = few 61 _ (omega arith) (
@@ -161,9 +132,8 @@ of_parameters codes.StartAuthSession = few 61 _ (omega arith) (
     only 2 (of_parameter 5) _ _ _ of_hash)))))
 of_parameters codes.PcrRead = few 22 _ (omega arith) (only 22 (of_parameter 1) _ _ _ (at_most_counted 0 banks 6 selection of_selection))
 of_parameters codes.PolicyPcr = few 72 _ (omega arith) (next 50 22 (of_parameter 1) _ _ _ (at_most_sized_bytes digest_bytes) (λ pcr_digest. only 22 (of_parameter 2) _ _ _ (at_most_counted 0 banks 6 selection of_selection)))
-of_parameters codes.PolicyRestart = none _
 of_parameters codes.PcrExtend = few 154 _ (omega arith) (only 154 (of_parameter 1) _ _ _ (at_most_counted 0 banks 50 digest_value of_digest_value))
-of_parameters codes.PolicyGetDigest = none _
+of_parameters _ = none _
 
 -- ---- the handle of a reply is that which was read, and its body is the command's
 
@@ -200,24 +170,8 @@ session_read h g hs e =
     (b.0.0, sym (ap (λ z. z.0) (ok_is (b.0.0 ∷ [], b.0.1) (hs, g) b.2)), rw good refl)
 
 pub are_read : (code : CommandCode) (h g : Here) (hs : List ℕ) → read 0 (reply_handles code) h ≡ Ok (hs, g) → AreRead code hs
-are_read codes.NvUndefineSpace h g hs e = none_read h g hs e
-are_read codes.NvDefineSpace h g hs e = none_read h g hs e
-are_read codes.NvIncrement h g hs e = none_read h g hs e
-are_read codes.PcrEvent h g hs e = none_read h g hs e
-are_read codes.PcrReset h g hs e = none_read h g hs e
-are_read codes.Startup h g hs e = none_read h g hs e
-are_read codes.NvRead h g hs e = none_read h g hs e
-are_read codes.FlushContext h g hs e = none_read h g hs e
-are_read codes.NvReadPublic h g hs e = none_read h g hs e
-are_read codes.PolicyAuthValue h g hs e = none_read h g hs e
-are_read codes.PolicyCommandCode h g hs e = none_read h g hs e
-are_read codes.PolicyOr h g hs e = none_read h g hs e
 are_read codes.StartAuthSession h g hs e = session_read h g hs e
-are_read codes.PcrRead h g hs e = none_read h g hs e
-are_read codes.PolicyPcr h g hs e = none_read h g hs e
-are_read codes.PolicyRestart h g hs e = none_read h g hs e
-are_read codes.PcrExtend h g hs e = none_read h g hs e
-are_read codes.PolicyGetDigest h g hs e = none_read h g hs e
+are_read _ h g hs e = none_read h g hs e
 
 -- the body is that of the command, with this handle
 abbrev pub IsBodyOf : CommandCode → List ℕ → ReplyBody → Type 0
@@ -225,21 +179,10 @@ IsBodyOf code hs body = (code_for_reply body ≡ code) × (reply_handles_of body
 
 pub bodies : (code : CommandCode) (hs : List ℕ) → AreRead code hs → Ends (IsBodyOf code hs) (reply_parameters code hs)
 unfolding pcr_event_reply nv_read_reply nv_read_public_reply start_auth_session_reply pcr_read_reply policy_get_digest_reply
-bodies codes.NvUndefineSpace hs are = (refl, sym are)
-bodies codes.NvDefineSpace hs are = (refl, sym are)
-bodies codes.NvIncrement hs are = (refl, sym are)
 bodies codes.PcrEvent hs are = λ a. (refl, sym are)
-bodies codes.PcrReset hs are = (refl, sym are)
-bodies codes.Startup hs are = (refl, sym are)
 bodies codes.NvRead hs are = λ a. (refl, sym are)
-bodies codes.FlushContext hs are = (refl, sym are)
 bodies codes.NvReadPublic hs are = λ a b. (refl, sym are)
-bodies codes.PolicyAuthValue hs are = (refl, sym are)
-bodies codes.PolicyCommandCode hs are = (refl, sym are)
-bodies codes.PolicyOr hs are = (refl, sym are)
 bodies codes.StartAuthSession hs are = λ nonce. (refl, rw (are.1, are.2) refl)
 bodies codes.PcrRead hs are = λ a b c. (refl, sym are)
-bodies codes.PolicyPcr hs are = (refl, sym are)
-bodies codes.PolicyRestart hs are = (refl, sym are)
-bodies codes.PcrExtend hs are = (refl, sym are)
 bodies codes.PolicyGetDigest hs are = λ a. (refl, sym are)
+bodies _ hs are = (refl, sym are)

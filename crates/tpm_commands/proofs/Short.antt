@@ -1,12 +1,12 @@
 -- The parts of sessions and parameters take few bytes, and are read alike whatever is behind them.
-use Rattle.std.proofs.Common.{◌≡◌, ℕ, ◌+◌, ◌≤◌, ◌<◌, Bool, true, false, eqb, List, ◌++◌, length, Result, Ok, Err, refl, arith}
+use Rattle.std.proofs.Common.{◌≡◌, ℕ, ◌+◌, ◌≤◌, ◌<◌, Bool, true, false, eqb, List, ◌++◌, length, take, drop, Result, Ok, Err, refl, ap, ◌∙◌, arith}
 use Rattle.std.proofs.lemmas.Bool.{ne_eqb, eqb-true}
-use Rattle.std.proofs.lemmas.List.{length-append}
+use Rattle.std.proofs.lemmas.List.{take-append-drop, length-append, length-take, length-drop}
 use Rattle.tpm_wire.specs.declared.refusal.Refusal.{Refusal}
 use Rattle.tpm_wire.specs.ResponseCodes.{rc_size, rc_hash, rc_value}
-use Rattle.tpm_wire.specs.Token.{Here}
+use Rattle.tpm_wire.specs.Token.{Here, at_start}
 use Rattle.tpm_wire.specs.Layout.{Form, raw, either}
-use Rattle.tpm_wire.specs.Reading.{finish, ◌>>=◌}
+use Rattle.tpm_wire.specs.Reading.{read, read_all, finish, ◌>>=◌}
 use Rattle.tpm_wire.specs.Buffers.{buffer, Layout, number_in, numbered}
 use Rattle.tpm_wire.specs.Longer.{with_more}
 use Rattle.tpm_wire.proofs.Longer.{TakesAtMost, in_set, at_most_more, at_most_done, at_most_number, at_most_number_in, at_most_text, at_most_field, at_most_marked, at_most_sized_bytes}
@@ -95,3 +95,16 @@ pub over : {A : Type 0} (more : List ℕ) → 0 < length more → (x : A) (g : H
 over more some x g =
     let n : eqb (length (g.rest ++ more)) 0 ≡ false = ne_eqb (length (g.rest ++ more)) 0 (λ e. omega (arith, some, e, length-append g.rest more)) in
     rw n refl
+
+-- Of bytes that are more than any value has, the begin has their fault,
+module _ {A : Type 0} (k : ℕ) (l : Layout A) (short : TakesAtMost k l) (few : k ≤ 4096) (bytes : List ℕ) (long : 4096 < length bytes) where
+  pub fault_of_long : (e : Refusal) → read 0 l (at_start (take 4096 bytes)) ≡ Err e → read_all l bytes ≡ Err e
+  fault_of_long e is =
+      let all = rw (take-append-drop 4096 bytes) at (short.fault 0 (at_start (take 4096 bytes)) (drop 4096 bytes) e (omega (arith, long, few, length-take 4096 bytes)) is) in
+      ap (λ o. (o >>= finish buffer) >>= λ x. ok x.0) all
+
+  -- or the bytes behind what is read are it.
+  pub left_of_long : (x : A) (g : Here) → read 0 l (at_start (take 4096 bytes)) ≡ Ok (x, g) → read_all l bytes ≡ Err (record { code = rc_size; at = g.at })
+  left_of_long x g is =
+      let all = rw (take-append-drop 4096 bytes) at (short.same 0 (at_start (take 4096 bytes)) (drop 4096 bytes) (x, g) is) in
+      ap (λ o. (o >>= finish buffer) >>= λ x. ok x.0) all ∙ over (drop 4096 bytes) (omega (arith, long, length-drop 4096 bytes)) x g
