@@ -5,12 +5,9 @@ use Rattle.std.specs.Int.{bytes_high_first}
 use Rattle.std.proofs.lemmas.Bool.{le-leb, ne_eqb}
 use Rattle.std.proofs.lemmas.List.{length-append, append-nil}
 use Rattle.tpm_wire.specs.Spelling.{spelling, Fits, IsSpelled, joined}
-use Rattle.tpm_wire.specs.Reading.{read_all}
-use Rattle.tpm_wire.specs.Buffers.{buffer, Layout}
+use Rattle.tpm_wire.specs.Buffers.{Layout}
 use Rattle.tpm_wire.specs.Path.{Spells}
-use Rattle.tpm_wire.proofs.Buffers.{buffer_sound, buffer_roomy}
-use Rattle.tpm_wire.proofs.Again.{fit_list, read_again}
-use Rattle.tpm_wire.proofs.Whole.{read_spells}
+use Rattle.tpm_wire.proofs.Again.{fit_list}
 use Rattle.tpm_types.specs.declared.tpms.AuthReply.{AuthReply}
 use Rattle.tpm_types.specs.Tpms.{auth_response}
 use Rattle.tpm_commands.specs.declared.code.CommandCode.{CommandCode}
@@ -18,7 +15,7 @@ use Rattle.tpm_commands.specs.declared.response.ReplyBody.{ReplyBody}
 use Rattle.tpm_commands.specs.declared.response.Response.TheVariants as responses
 use Rattle.tpm_buffer.specs.Commands.{command_size}
 use Rattle.tpm_commands.specs.Replies.{code_for_reply, reply_handles, reply_handles_of, parameters_of_reply}
-use Rattle.tpm_buffer.proofs.Spelled.{size_meant}
+use Rattle.tpm_buffer.proofs.Spelled.{size_meant, encoded}
 use Rattle.tpm_buffer.specs.Responses.{response_front, response_tag, code_tag, reply_tag, goes_with, response_code, further_sessions, reply_sessions, parameter_size, with_sessions, without_sessions, reply_behind, Reply, reply, done_with, behind_code, response}
 
 pub fits_sessions : (a : AuthReply) (others : List AuthReply) → length others ≤ 2 → IsSpelled auth_response a → All (IsSpelled auth_response) others
@@ -68,7 +65,7 @@ pub code_spelled : (code : CommandCode) (n : ℕ) (bytes : List ℕ) → 0 < n �
 code_spelled code n bytes some small is =
     let text = code_text code n some in
     let ten : length (spelling (response code) (responses.Code n)) ≡ 10 = rw text refl in
-    read_spells buffer buffer_sound (response code) bytes (responses.Code n) (ap (read_all (response code)) (is ∙ sym text) ∙ read_again buffer buffer_roomy (response code) (responses.Code n) (rw ten (fits_code code n some small)))
+    encoded (response code) (responses.Code n) bytes (is ∙ sym text) (rw (is ∙ sym text, ten) (fits_code code n some small))
 
 -- ---- a reply
 
@@ -82,7 +79,7 @@ at_left l x k m fits is = subst (λ (j : ℕ). Fits j l x) (sym is) fits
 room_meant : (n left : ℕ) → n ≤ left → cond (leb n left) (Some n) None ≡ Some n
 room_meant n left le = rw (le-leb n left le) refl
 
-pub fits_with : (l : Layout ReplyBody) (body : ReplyBody) (auths : List AuthReply) → ((left : ℕ) → Fits left l body) → length (spelling l body) ≤ 3500
+fits_with : (l : Layout ReplyBody) (body : ReplyBody) (auths : List AuthReply) → ((left : ℕ) → Fits left l body) → length (spelling l body) ≤ 3500
     → Fits (length (spelling reply_sessions auths)) reply_sessions auths → Fits (length (spelling (with_sessions l) (record { body = body; auths = auths }))) (with_sessions l) (record { body = body; auths = auths })
 unfolding with_sessions parameter_size
 fits_with l body auths params short sessions =
@@ -128,5 +125,4 @@ pub done_spelled : (body : ReplyBody) (auths : List AuthReply) (bytes : List ℕ
     → Fits (length (spelling (reply_behind (reply_tag auths) (parameters_of_reply body)) (made body auths))) (reply_behind (reply_tag auths) (parameters_of_reply body)) (made body auths)
     → Spells (response (code_for_reply body)) (done_with (made body auths)) bytes
 done_spelled body auths bytes is short handles behind =
-    let l = response (code_for_reply body) in
-    read_spells buffer buffer_sound l bytes (done_with (made body auths)) (ap (read_all l) is ∙ read_again buffer buffer_roomy l (done_with (made body auths)) (fits_done body auths short (fits_reply body auths handles behind)))
+    encoded (response (code_for_reply body)) (done_with (made body auths)) bytes is (rw is (fits_done body auths short (fits_reply body auths handles behind)))

@@ -1,7 +1,6 @@
 -- A command that was read is spelled by the bytes that it was read from.
-use Rattle.std.proofs.Common.{◌≡◌, ◌≢◌, ℕ, ◌<◌, Bool, true, false, cond, eqb, List, ◌++◌, length, refl, sym, subst, ap, ◌∙◌, arith}
-use Rattle.std.specs.Prelude.{◌||◌}
-use Rattle.std.proofs.lemmas.Bool.{eqb-true, eq-eqb, ne_eqb}
+use Rattle.std.proofs.Common.{◌≡◌, ◌≢◌, ℕ, ◌<◌, true, false, cond, eqb, List, ◌++◌, length, refl, sym, subst, ap, ◌∙◌, arith, inl, inr}
+use Rattle.std.proofs.lemmas.Bool.{or_cases, eqb-true, ne_eqb}
 use Rattle.std.proofs.lemmas.List.{length-append, append-nil}
 use Rattle.tpm_wire.specs.Spelling.{spelling}
 use Rattle.tpm_types.specs.declared.tpms.Auth.{Auth}
@@ -14,19 +13,12 @@ use Rattle.tpm_commands.specs.Parameters.{params_code, parameters}
 use Rattle.tpm_buffer.specs.Commands.{is_tag, tag, command_size, header, authorization, body_from, code_for, handles_of, with_auths, tag_of, size_of, header_of, rest_of, command}
 use Rattle.tpm_commands.proofs.EachCommand.{handles_again, params_again}
 
-left_of : (a b : Bool) → (a || b) ≡ true → b ≡ false → a ≡ true
-left_of true b t f = refl
-left_of false b t f = absurd (let z : true ≡ false = sym t ∙ f in let w : ⊥ = cc in w)
-
 tag_again : (t : ℕ) (auths : List Auth) → is_tag t ≡ true → (t ≢ 0x8002 → length auths ≡ 0) → (t ≡ 0x8002 → 0 < length auths) → cond (eqb (length auths) 0) 0x8001 0x8002 ≡ t
 tag_again t auths is none some =
-    elim (eqb t 0x8002) as (λ b. eqb t 0x8002 ≡ b → cond (eqb (length auths) 0) 0x8001 0x8002 ≡ t) [
-      | true ↦ λ e. let e' = eqb-true t 0x8002 e in let n : eqb (length auths) 0 ≡ false = ne_eqb (length auths) 0 (λ z. omega (arith, some e', z)) in rw (n, e') refl
-      | false ↦ λ e.
-          let n : length auths ≡ 0 = none (λ f. let z : eqb t 0x8002 ≡ true = eq-eqb t 0x8002 f in absurd (let w : true ≡ false = sym z ∙ e in let v : ⊥ = cc in v)) in
-          let one : eqb t 0x8001 ≡ true = left_of (eqb t 0x8001) (eqb t 0x8002) is e in
-          rw n (sym (eqb-true t 0x8001 one))
-    ] refl
+    elim (or_cases (eqb t 0x8001) (eqb t 0x8002) is) [
+      | inl one ↦ let e = eqb-true t 0x8001 one in let n : length auths ≡ 0 = none (λ f. omega (arith, e, f)) in rw n (sym e)
+      | inr two ↦ let e = eqb-true t 0x8002 two in let n : eqb (length auths) 0 ≡ false = ne_eqb (length auths) 0 (λ z. omega (arith, some e, z)) in rw n (sym e)
+    ]
 
 header_is : (t u n m : ℕ) (c d : CommandCode) → t ≡ u → n ≡ m → c ≡ d → (let h : Header = record { tag = t; size = n; code = c } in h) ≡ record { tag = u; size = m; code = d }
 header_is t u n m c d e f g = rw (e, f, g) refl

@@ -5,10 +5,10 @@ use Rattle.std.proofs.lemmas.List.{length-drop, take_all}
 use Rattle.tpm_wire.specs.declared.refusal.Refusal.{Refusal}
 use Rattle.tpm_wire.specs.Token.{Here, past, at_start}
 use Rattle.tpm_wire.specs.Layout.{Form, raw, either}
-use Rattle.tpm_wire.specs.Reading.{read, read_all, finish, unless, refuse, ◌>>=◌}
+use Rattle.tpm_wire.specs.Reading.{read, read_all, unless, refuse, ◌>>=◌}
 use Rattle.tpm_wire.specs.Buffers.{buffer, Layout, too_few}
 use Rattle.tpm_wire.specs.Path.{Spells}
-use Rattle.tpm_wire.proofs.Agreement.{bind_ok}
+use Rattle.tpm_wire.proofs.Agreement.{ok_is, bind_ok}
 use Rattle.tpm_wire.proofs.Buffers.{buffer_sound, buffer_roomy}
 use Rattle.tpm_wire.proofs.Whole.{spells_read, read_spells}
 use Rattle.tpm_wire.specs.ResponseCodes.{rc_size}
@@ -19,31 +19,9 @@ use Rattle.tpm_commands.specs.declared.response.Response.TheVariants as response
 use Rattle.tpm_commands.specs.Replies.{reply_handles, reply_parameters, parameters_of_reply}
 use Rattle.tpm_buffer.specs.Responses.{response_front, response_code, parameter_size, reply_sessions, with_sessions, without_sessions, Reply, reply, reply_of, done_with, behind_code, response, ReplyCut, raw_with_sessions, raw_without_sessions, cut_behind_code, reply_cut, Answers}
 use Rattle.tpm_buffer.specs.ResponseAreas.{IsCutOf}
-use Rattle.tpm_buffer.proofs.Places.{alone}
+use Rattle.tpm_buffer.proofs.Places.{alone, all_read}
+use Rattle.tpm_commands.proofs.Short.{ok, err}
 use Rattle.tpm_commands.proofs.EachCommand.{ends_read, AreRead, are_read, IsBodyOf, bodies}
-
-abbrev ok : {A : Type 0} → A → Result A Refusal
-ok x = Ok x
-
-abbrev err : {A : Type 0} → Refusal → Result A Refusal
-err e = Err e
-
-ok_is : {A : Type 0} (x y : A) → ok x ≡ ok y → x ≡ y
-ok_is x y e = cc
-
-nothing_left : {A : Type 0} (x y : A × Here) → finish buffer x ≡ Ok y → length x.1.rest ≡ 0
-nothing_left {A = A} x y e = go (eqb (length x.1.rest) 0) refl e
-  where
-    go : (b : Bool) → eqb (length x.1.rest) 0 ≡ b → cond b (ok x) (refuse buffer 0 rc_size x.1) ≡ ok y → length x.1.rest ≡ 0
-    go true t e = eqb-true _ _ t
-    go false t e = absurd cc
-
-finish_is : {A : Type 0} (x y : A × Here) → finish buffer x ≡ Ok y → x ≡ y
-finish_is {A = A} x y e = go (eqb (length x.1.rest) 0) e
-  where
-    go : (b : Bool) → cond b (ok x) (refuse buffer 0 rc_size x.1) ≡ ok y → x ≡ y
-    go true e = ok_is x y e
-    go false e = absurd (let z : ⊥ = cc in z)
 
 -- what is read at a place with nothing left behind it, is all that its bytes spell
 read_whole : {A : Type 0} (l : Layout A) (h : Here) (x : A × Here) → read 0 l h ≡ Ok x → length x.1.rest ≡ 0 → read_all l h.rest ≡ Ok x.0
@@ -58,7 +36,7 @@ abbrev Follows : {A B : Type 0} → (A → B → Type 0) → Result (A × Here) 
 Follows {A = A} {B = B} R o p = (x : A × Here) → o ≡ Ok x → length x.1.rest ≡ 0 → (y : B × Here) × (p ≡ Ok y) × (length y.1.rest ≡ 0) × R x.0 y.0
 
 never : {A B : Type 0} (R : A → B → Type 0) (e : Refusal) (p : Result (B × Here) Refusal) → Follows R (err {A = A × Here} e) p
-never R e p x is none = absurd (let z : ⊥ = cc in z)
+never R e p x is none = absurd cc
 
 ends : {A B : Type 0} (R : A → B → Type 0) (a : A) (b : B) (h : Here) → R a b → Follows R (ok (a, h)) (ok (b, h))
 ends R a b h both x is none =
@@ -98,13 +76,6 @@ area_or_raw {A = A} {B = B} {C = C} R n l h f g next = room (too_few 0 h.at n (l
         (unless buffer t 0 h (ok (take n h.rest, past n h)) >>= g)
     room (Some fault) = never R _ _
     room None = inside (read 0 l within) refl
-
-all_read : {A : Type 0} (l : Layout A) (bytes : List ℕ) (x : A) → read_all l bytes ≡ Ok x → (h : Here) × (read 0 l (at_start bytes) ≡ Ok (x, h))
-all_read l bytes x e =
-    let done = bind_ok (read 0 l (at_start bytes) >>= finish buffer) (λ y. ok y.0) x e in
-    let whole = bind_ok (read 0 l (at_start bytes)) (finish buffer) done.0 done.1 in
-    let same = finish_is whole.0 done.0 whole.2 in
-    (whole.0.1, whole.1 ∙ ap (λ z. ok (z, whole.0.1)) (ap (λ z. z.0) same ∙ ok_is done.0.0 x done.2))
 
 -- ---- a reply and its cut
 
@@ -204,11 +175,9 @@ has_read code h = alike (IsOwnCut code) (read 0 response_front h) _ _ (λ f _.
 
 has_own_areas : (code : CommandCode) (bytes : List ℕ) (r : Response) → Spells (response code) r bytes → (c : ReplyCut) × Spells (reply_cut code) c bytes × IsOwnCut code r c
 has_own_areas code bytes r s =
-    let done = bind_ok (read 0 (response code) (at_start bytes) >>= finish buffer) (λ x. ok x.0) r (spells_read buffer buffer_sound (response code) bytes r s) in
-    let whole = bind_ok (read 0 (response code) (at_start bytes)) (finish buffer) done.0 done.1 in
-    let same = finish_is whole.0 done.0 whole.2 in
-    let c = has_read code (at_start bytes) whole.0 whole.1 (nothing_left whole.0 done.0 whole.2) in
-    (c.0.0, read_spells buffer buffer_sound (reply_cut code) bytes c.0.0 (rw (c.1, c.2) refl), subst (λ q. IsOwnCut code q c.0.0) (ap (λ z. z.0) same ∙ ok_is done.0.0 r done.2) c.3)
+    let all = all_read (response code) bytes r (spells_read buffer buffer_sound (response code) bytes r s) in
+    let c = has_read code (at_start bytes) (r, all.0) all.1 all.2 in
+    (c.0.0, read_spells buffer buffer_sound (reply_cut code) bytes c.0.0 (rw (c.1, c.2) refl), c.3)
 
 pub has_areas : (code : CommandCode) (bytes : List ℕ) (r : Response) → Spells (response code) r bytes → (c : ReplyCut) × Spells (reply_cut code) c bytes × IsCutOf r c
 has_areas code bytes r s = let x = has_own_areas code bytes r s in (x.0, x.1, x.2.0)

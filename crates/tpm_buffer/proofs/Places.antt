@@ -1,24 +1,23 @@
 -- What is read of bytes is there again: under another number, and from its place alone.
-use Rattle.std.proofs.Common.{◌≡◌, ℕ, zero, suc, ◌+◌, ◌-◌, ◌≤◌, Bool, true, false, cond, eqb, List, [], ◌∷◌, ◌++◌, length, take, drop, Option, Some, None, Result, Ok, Err, refl, sym, ap, ◌∙◌, arith, length-drop}
+use Rattle.std.proofs.Common.{◌≡◌, ℕ, zero, suc, ◌+◌, ◌-◌, ◌≤◌, Bool, true, false, cond, eqb, List, [], ◌∷◌, ◌++◌, length, take, drop, map, Option, Some, None, Result, Ok, Err, refl, sym, subst, ap, ◌∙◌, arith, length-drop}
 use Rattle.std.specs.Prelude.{◌&&◌}
-use Rattle.std.proofs.lemmas.List.{drop-drop}
+use Rattle.std.proofs.lemmas.Bool.{eqb-true}
+use Rattle.std.proofs.lemmas.List.{drop-drop, map-append}
 use Rattle.tpm_wire.specs.declared.refusal.Refusal.{Refusal}
 use Rattle.tpm_wire.specs.Token.{number_of, Here, past, at_start, or_fault, spelled_all}
 use Rattle.tpm_wire.specs.Layout.{Form, raw}
-use Rattle.tpm_wire.specs.Reading.{read, unless, found, refuse, entries, ◌>>=◌}
-use Rattle.tpm_wire.specs.Buffers.{buffer, Layout, later_place, too_few}
-use Rattle.tpm_wire.proofs.Agreement.{bind_ok, ends_same}
+use Rattle.tpm_wire.specs.Reading.{read, read_all, finish, unless, found, refuse, entries, ◌>>=◌}
+use Rattle.tpm_wire.specs.Buffers.{buffer, Layout, Place, later_place, too_few}
+use Rattle.tpm_wire.proofs.Agreement.{ok_is, bind_ok, test_end, ends_same}
 use Rattle.tpm_wire.proofs.Buffers.{buffer_sound}
 use Rattle.tpm_wire.proofs.Whole.{reads_its_path}
 use Rattle.tpm_wire.proofs.Elsewhere.{read_later, later}
+use Rattle.tpm_commands.proofs.Short.{ok}
 use Rattle.tpm_buffer.specs.ResponseAreas.{Stands}
 
-abbrev ok : {A : Type 0} → A → Result A Refusal
-ok x = Ok x
-
 token_mark : {A : Type 0} (o : Option ℕ) (p : Result A ℕ) (n m k : ℕ) (h : Here) (x : A × Here) → unless buffer o m h (found buffer p n m h) ≡ Ok x → unless buffer o k h (found buffer p n k h) ≡ Ok x
-token_mark (Some f) p n m k h x e = absurd (let z : ⊥ = cc in z)
-token_mark None (Err f) n m k h x e = absurd (let z : ⊥ = cc in z)
+token_mark (Some f) p n m k h x e = absurd cc
+token_mark None (Err f) n m k h x e = absurd cc
 token_mark None (Ok y) n m k h x e = e
 
 bind_mark : {A B : Type 0} (o p : Result (A × Here) Refusal) (f g : A × Here → Result (B × Here) Refusal) (x : B × Here) → ((y : A × Here) → o ≡ Ok y → p ≡ Ok y) → ((y : A × Here) → f y ≡ Ok x → g y ≡ Ok x)
@@ -39,10 +38,10 @@ each_mark {A = A} rd other one (suc n) before stops h x = go (stops && eqb (leng
 
 end_mark : {A : Type 0} (b : Bool) (m k fault : ℕ) (y : A × Here) (g : Here) (x : A × Here) → cond b (ok (y.0, g)) (refuse buffer m fault y.1) ≡ Ok x → cond b (ok (y.0, g)) (refuse buffer k fault y.1) ≡ Ok x
 end_mark true m k fault y g x e = e
-end_mark false m k fault y g x e = absurd (let z : ⊥ = cc in z)
+end_mark false m k fault y g x e = absurd cc
 
 room_mark : {A : Type 0} (o : Option ℕ) (m k : ℕ) (h : Here) (one two : Result A Refusal) (x : A) → (one ≡ Ok x → two ≡ Ok x) → unless buffer o m h one ≡ Ok x → unless buffer o k h two ≡ Ok x
-room_mark (Some f) m k h one two x same e = absurd (let z : ⊥ = cc in z)
+room_mark (Some f) m k h one two x same e = absurd cc
 room_mark None m k h one two x same e = same e
 
 -- what is read under one number is read under any other
@@ -67,7 +66,7 @@ later_ok : {A : Type 0} (k : ℕ) (o : Result (A × Here) Refusal) (x : A) (g : 
 later_ok {A = A} k (Ok y) x g e =
     let same : pair (y.0) (later_place k y.1) ≡ pair x g = cc in
     (y.1, ap (λ (z : A). ok (z, y.1)) (ap (λ (p : A × Here). p.0) same), ap (λ (p : A × Here). p.1.rest) same)
-later_ok k (Err d) x g e = absurd (let z : ⊥ = cc in z)
+later_ok k (Err d) x g e = absurd cc
 
 -- what is read at a place is read of its bytes alone
 pub alone : {A : Type 0} (m k : ℕ) (l : Layout A) (h g : Here) (x : A) → read m l h ≡ Ok (x, g) → (f : Here) × (read k l (at_start h.rest) ≡ Ok (x, f)) × (f.rest ≡ g.rest)
@@ -77,25 +76,47 @@ alone m k l h g x e =
     ap (λ n. read k l (let p : Here = record { rest = h.rest; at = n } in p)) (let zero : 0 + h.at ≡ h.at = omega arith in zero) in
     later_ok h.at (read k l (at_start h.rest)) x g (sym (read_later h.at k l (at_start h.rest)) ∙ same ∙ marked)
 
+finished : {A : Type 0} (x y : A × Here) → finish buffer x ≡ Ok y → (length x.1.rest ≡ 0) × (x ≡ y)
+finished x y e = let t = test_end (eqb (length x.1.rest) 0) x _ y e in (eqb-true _ _ t.0, t.1)
+
+-- what is read of all bytes leaves none
+pub all_read : {A : Type 0} (l : Layout A) (bytes : List ℕ) (x : A) → read_all l bytes ≡ Ok x → (h : Here) × (read 0 l (at_start bytes) ≡ Ok (x, h)) × (length h.rest ≡ 0)
+all_read l bytes x e =
+    let done = bind_ok (read 0 l (at_start bytes) >>= finish buffer) (λ y. ok y.0) x e in
+    let whole = bind_ok (read 0 l (at_start bytes)) (finish buffer) done.0 done.1 in
+    let last = finished whole.0 done.0 whole.2 in
+    (whole.0.1, whole.1 ∙ ap (λ z. ok (z, whole.0.1)) (ap (λ z. z.0) last.1 ∙ ok_is done.0.0 x done.2), last.0)
+
+-- one value more, of those at these positions
+pub one_more : {A : Type 0} (at : ℕ → A) (ns : List ℕ) (n : ℕ) (x : A) → at n ≡ x → map at (ns ++ n ∷ []) ≡ map at ns ++ x ∷ []
+one_more {A = A} at ns n x is = map-append at ns (n ∷ []) ∙ ap (λ (y : A). map at ns ++ y ∷ []) is
+
 -- ---- the places on the way through bytes
 
-pub stands_past : (bytes : List ℕ) (h : Here) (n : ℕ) → Stands bytes h → n ≤ length h.rest → Stands bytes (past n h)
+-- what is read leads some bytes further on
+pub read_past : {A : Type 0} (m : ℕ) (l : Layout A) (h g : Here) (x : A) → read m l h ≡ Ok (x, g) → (n : ℕ) × (n ≤ length h.rest) × (g ≡ past n h)
+read_past m l h g x e =
+    let b = ((reads_its_path buffer buffer_sound m l h).value x g).0 e in
+    let n = length (spelled_all b.0) in
+    let there : g ≡ past n h = b.2 in
+    let ends = ends_same buffer buffer_sound m l h (x, g) e in
+    (n, omega (arith, ends, ap (λ (p : Here). p.at) there, ap (λ (p : Here). length p.rest) there, length-drop n h.rest), there)
+
+stands_past : (bytes : List ℕ) (h : Here) (n : ℕ) → Stands bytes h → n ≤ length h.rest → Stands bytes (past n h)
 stands_past bytes h n s le = record {
   rest = ap (drop n) s.rest ∙ drop-drop n h.at bytes;
   whole = omega (arith, s.whole, le, length-drop n h.rest);
 }
 
 pub stands_behind : {A : Type 0} (bytes : List ℕ) (m : ℕ) (l : Layout A) (h g : Here) (x : A) → Stands bytes h → read m l h ≡ Ok (x, g) → Stands bytes g
-stands_behind bytes m l h g x s e =
-    let b = ((reads_its_path buffer buffer_sound m l h).value x g).0 e in
-    let n = length (spelled_all b.0) in
-    let there : g ≡ past n h = b.2 in
-    let ends = ends_same buffer buffer_sound m l h (x, g) e in
-    let le : n ≤ length h.rest = omega (arith, ends, ap (λ (p : Here). p.at) there, ap (λ (p : Here). length p.rest) there, length-drop n h.rest) in
-    rw there (stands_past bytes h n s le)
+stands_behind bytes m l h g x s e = let p = read_past m l h g x e in rw p.2 (stands_past bytes h p.0 s p.1)
 
 pub stands_first : (bytes : List ℕ) → Stands bytes (at_start bytes)
 stands_first bytes = record { rest = refl; whole = omega arith }
+
+-- the place of a cursor that was not moved yet
+pub stands_new : (bytes : List ℕ) (p : Place) → p ≡ record { here = at_start bytes; number = 0 } → Stands bytes p.here
+stands_new bytes p new = subst (λ (q : Place). Stands bytes q.here) (sym new) (stands_first bytes)
 
 -- so many bytes that were read are those at the place
 pub raw_is : (m n : ℕ) (h g : Here) (x : List ℕ) → read {r = buffer} m (raw n) h ≡ Ok (x, g) → x ≡ take n h.rest
@@ -103,4 +124,4 @@ raw_is m n h g x e = go (too_few m h.at n (length h.rest)) e
   where
     go : (o : Option ℕ) → unless buffer o m h (ok (pair (take n h.rest) (past n h))) ≡ Ok (x, g) → x ≡ take n h.rest
     go None e = ap (λ (p : List ℕ × Here). p.0) (let z : pair x g ≡ pair (take n h.rest) (past n h) = cc in z)
-    go (Some f) e = absurd (let z : ⊥ = cc in z)
+    go (Some f) e = absurd cc

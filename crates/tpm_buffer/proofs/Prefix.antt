@@ -4,7 +4,7 @@ use Rattle.std.specs.Prelude.{◌&&◌}
 use Rattle.std.proofs.lemmas.Bool.{eqb-true}
 use Rattle.std.proofs.lemmas.List.{length-append, length-drop, nil_from_length, take-append-le, drop-append-le}
 use Rattle.tpm_wire.specs.Token.{number_of, Here, past, at_start, or_fault}
-use Rattle.tpm_wire.specs.Reading.{read, finish, ◌>>=◌}
+use Rattle.tpm_wire.specs.Reading.{read, ◌>>=◌}
 use Rattle.tpm_wire.specs.Buffers.{buffer, number_in}
 use Rattle.tpm_wire.specs.Path.{Spells}
 use Rattle.tpm_wire.proofs.Buffers.{buffer_sound}
@@ -16,6 +16,7 @@ use Rattle.tpm_commands.specs.declared.command.Header.{Header}
 use Rattle.tpm_commands.specs.declared.response.Response.{Response}
 use Rattle.tpm_commands.specs.Codes.{command_code}
 use Rattle.tpm_buffer.specs.Commands.{is_tag, tag, command_size, header, rest_of, command}
+use Rattle.tpm_buffer.proofs.Places.{all_read}
 use Rattle.tpm_buffer.specs.Responses.{is_response_tag, response_tag, response_front, response_code, behind_code, response}
 
 was_equal : (n m : ℕ) (a b : Bool) (x : ℕ) → or_fault {F = ℕ} (cond (eqb n m && a && b) (Some n) None) 0x142 ≡ Ok x → n ≡ m
@@ -67,9 +68,8 @@ stated_by_header bytes x e =
 stated_command : (bytes : List ℕ) (c : Command) → Spells command c bytes → IsStated bytes
 unfolding command
 stated_command bytes c s =
-    let done = bind_ok (read 0 command (at_start bytes) >>= finish buffer) (λ x. Ok x.0) c (spells_read buffer buffer_sound command bytes c s) in
-    let whole = bind_ok (read 0 command (at_start bytes)) (finish buffer) done.0 done.1 in
-    let head = bind_ok (read 0 header (at_start bytes)) (λ x. read 0 (rest_of x.0.code x.0.tag) x.1) whole.0 whole.1 in
+    let all = all_read command bytes c (spells_read buffer buffer_sound command bytes c s) in
+    let head = bind_ok (read 0 header (at_start bytes)) (λ x. read 0 (rest_of x.0.code x.0.tag) x.1) (c, all.0) all.1 in
     stated_by_header bytes head.0 head.1
 
 pub no_prefix : (bytes more : List ℕ) (c d : Command) → Spells command c bytes → Spells command d (bytes ++ more) → more ≡ []
@@ -87,9 +87,8 @@ stated_by_front bytes x e =
 stated_response : (code : CommandCode) (bytes : List ℕ) (r : Response) → Spells (response code) r bytes → IsStated bytes
 unfolding response
 stated_response code bytes r s =
-    let done = bind_ok (read 0 (response code) (at_start bytes) >>= finish buffer) (λ x. Ok x.0) r (spells_read buffer buffer_sound (response code) bytes r s) in
-    let whole = bind_ok (read 0 (response code) (at_start bytes)) (finish buffer) done.0 done.1 in
-    let front = bind_ok (read 0 response_front (at_start bytes)) (λ f. read 0 (response_code f.0.0) f.1 >>= λ n. read 0 (behind_code code f.0.0 n.0) n.1) whole.0 whole.1 in
+    let all = all_read (response code) bytes r (spells_read buffer buffer_sound (response code) bytes r s) in
+    let front = bind_ok (read 0 response_front (at_start bytes)) (λ f. read 0 (response_code f.0.0) f.1 >>= λ n. read 0 (behind_code code f.0.0 n.0) n.1) (r, all.0) all.1 in
     stated_by_front bytes front.0 front.1
 
 pub no_response_prefix : (code : CommandCode) (bytes more : List ℕ) (r q : Response) → Spells (response code) r bytes → Spells (response code) q (bytes ++ more) → more ≡ []

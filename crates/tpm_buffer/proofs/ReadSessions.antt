@@ -1,13 +1,15 @@
 -- The sessions of a response, by their positions.
-use Rattle.std.proofs.Common.{◌≡◌, ℕ, ◌+◌, ◌*◌, ◌≤◌, ◌<◌, List, [], ◌∷◌, ◌++◌, length, take, drop, Result, Ok, refl, sym, ap, ◌∙◌, arith, length-take-le, length-drop}
+use Rattle.std.proofs.Common.{◌≡◌, ℕ, ◌+◌, ◌*◌, ◌≤◌, ◌<◌, List, ◌∷◌, ◌++◌, length, take, drop, Result, Ok, refl, sym, ap, ◌∙◌, append_assoc, arith, length-take-le, length-drop}
 use Rattle.std.proofs.lemmas.Bool.{ne_eqb}
-use Rattle.std.proofs.lemmas.List.{map-append}
+use Rattle.std.proofs.lemmas.List.{append-nil}
 use Rattle.tpm_wire.specs.declared.refusal.Refusal.{Refusal}
 use Rattle.tpm_wire.specs.Token.{Here, at_start}
 use Rattle.tpm_wire.specs.Reading.{read}
+use Rattle.tpm_wire.specs.Spelling.{spelling, joined_all}
 use Rattle.tpm_types.specs.declared.tpms.AuthReply.{AuthReply}
 use Rattle.tpm_types.specs.Tpms.{auth_response}
-use Rattle.tpm_buffer.specs.ResponseAreas.{Stands, IsSession, session_of, session_at, sessions_at, place_behind}
+use Rattle.tpm_buffer.specs.Responses.{further_sessions, reply_sessions}
+use Rattle.tpm_buffer.specs.ResponseAreas.{Stands, IsSession, session_of, session_at, place_behind}
 use Rattle.tpm_buffer.proofs.Places.{alone}
 
 abbrev ok_at : AuthReply → Here → Result (AuthReply × Here) Refusal
@@ -28,9 +30,10 @@ begins_there bytes m h g a s e =
           ap (λ (r : List ℕ). read 0 auth_response (at_start r)) (sym s.rest) ∙ there.1 ∙ ap (λ (x : AuthReply). ok_at x there.0) (sym (is_there bytes m h g a s e));
     }
 
--- one session more
-pub one_more : (bytes ns : List ℕ) (n : ℕ) (a : AuthReply) → session_at bytes n ≡ a → sessions_at bytes (ns ++ n ∷ []) ≡ sessions_at bytes ns ++ a ∷ []
-one_more bytes ns n a is = map-append (session_at bytes) ns (n ∷ []) ∙ ap (λ (x : AuthReply). sessions_at bytes ns ++ x ∷ []) is
+-- the first session and the others are all of them
+pub text_of : (a : AuthReply) (others : List AuthReply) (all rest after : List ℕ) → all ≡ spelling auth_response a ++ rest → rest ≡ joined_all auth_response others ++ after → all ≡ spelling reply_sessions (a ∷ others) ++ after
+unfolding reply_sessions further_sessions
+text_of a others all rest after one more = rw (one, more, append-nil (joined_all auth_response others), append_assoc (spelling auth_response a) (joined_all auth_response others) after) refl
 
 -- ---- the place of the parameters
 

@@ -1,19 +1,15 @@
 -- Sessions by their positions, and the places on the way through an area.
-use Rattle.std.proofs.Common.{◌≡◌, ℕ, ◌+◌, ◌≤◌, List, [], ◌∷◌, ◌++◌, length, take, drop, Result, Ok, sym, ap, ◌∙◌, arith}
+use Rattle.std.proofs.Common.{◌≡◌, ℕ, ◌+◌, ◌≤◌, List, ◌++◌, length, take, drop, Result, Ok, sym, ap, ◌∙◌, arith}
 use Rattle.std.proofs.lemmas.List.{length-drop, length-take, drop-append-le, drop-drop, take-append-drop}
 use Rattle.tpm_wire.specs.declared.refusal.Refusal.{Refusal}
-use Rattle.tpm_wire.specs.Token.{Here, past, at_start, spelled_all}
+use Rattle.tpm_wire.specs.Token.{Here, past, at_start}
 use Rattle.tpm_wire.specs.Reading.{read}
-use Rattle.tpm_wire.specs.Buffers.{buffer, Layout}
-use Rattle.tpm_wire.proofs.Agreement.{ends_same}
-use Rattle.tpm_wire.proofs.Buffers.{buffer_sound}
-use Rattle.tpm_wire.proofs.Whole.{reads_its_path}
 use Rattle.tpm_wire.specs.Longer.{with_more}
 use Rattle.tpm_types.specs.declared.tpms.Auth.{Auth}
 use Rattle.tpm_types.specs.Tpms.{auth_command}
 use Rattle.tpm_buffer.specs.ResponseAreas.{Stands}
-use Rattle.tpm_buffer.specs.CommandAreas.{LiesIn, session_of, session_at, IsSession, sessions_at}
-use Rattle.tpm_buffer.proofs.Places.{alone}
+use Rattle.tpm_buffer.specs.CommandAreas.{LiesIn, session_of, session_at, IsSession}
+use Rattle.tpm_buffer.proofs.Places.{alone, read_past}
 use Rattle.tpm_commands.proofs.Short.{of_session}
 
 -- ---- places in an area
@@ -29,15 +25,6 @@ lies_past bytes h n s le =
           ∙ ap (λ (k : ℕ). drop n h.rest ++ drop k bytes) end;
       within = omega (arith, s.within, end);
     }
-
-lies_behind : {A : Type 0} (bytes : List ℕ) (m : ℕ) (l : Layout A) (h g : Here) (x : A) → LiesIn bytes h → read m l h ≡ Ok (x, g) → LiesIn bytes g
-lies_behind bytes m l h g x s e =
-    let b = ((reads_its_path buffer buffer_sound m l h).value x g).0 e in
-    let n = length (spelled_all b.0) in
-    let there : g ≡ past n h = b.2 in
-    let ends = ends_same buffer buffer_sound m l h (x, g) e in
-    let le : n ≤ length h.rest = omega (arith, ends, ap (λ (p : Here). p.at) there, ap (λ (p : Here). length p.rest) there, length-drop n h.rest) in
-    rw there (lies_past bytes h n s le)
 
 -- the area of n bytes that begins at a place
 pub lies_inside : (bytes : List ℕ) (h : Here) (n : ℕ) → Stands bytes h → n ≤ length h.rest → LiesIn bytes (record { rest = take n h.rest; at = h.at })
@@ -78,10 +65,5 @@ step bytes m h g x s e =
     record {
       there = record { within = omega (arith, s.within); behind = with_more more one.0; reads = here ∙ ap (λ (y : Auth). ok_at y (with_more more one.0)) (sym is) };
       is = is;
-      lies = lies_behind bytes m auth_command h g x s e;
+      lies = let p = read_past m auth_command h g x e in rw p.2 (lies_past bytes h p.0 s p.1);
     }
-
--- one session more
-pub one_more : (bytes ns : List ℕ) (n : ℕ) (x : Auth) → session_at bytes n ≡ x → sessions_at bytes (ns ++ n ∷ []) ≡ sessions_at bytes ns ++ x ∷ []
-one_more bytes [] n x is = ap (λ (y : Auth). y ∷ []) is
-one_more bytes (k ∷ ns) n x is = ap (λ (ys : List Auth). session_at bytes k ∷ ys) (one_more bytes ns n x is)

@@ -6,7 +6,7 @@ use Rattle.std.proofs.lemmas.List.{length-append, nil_from_length}
 use Rattle.tpm_wire.specs.Structures.{sized_bytes}
 use Rattle.tpm_wire.specs.Spelling.{spelling, Fits, IsSpelled, joined, joined_all}
 use Rattle.tpm_wire.specs.Reading.{read_all}
-use Rattle.tpm_wire.specs.Buffers.{buffer}
+use Rattle.tpm_wire.specs.Buffers.{buffer, Layout}
 use Rattle.tpm_wire.specs.Path.{Spells}
 use Rattle.tpm_wire.proofs.Buffers.{buffer_sound, buffer_roomy}
 use Rattle.tpm_wire.proofs.Again.{fit_list, read_again}
@@ -73,10 +73,9 @@ fits_command c code short rest =
     let tags = two_tags (eqb (length c.auths.items) 0) in
     (((omega arith, tag_meant (tag_of c) tags), ((omega arith, size_meant (10 + n) _ (omega arith) (omega arith) (omega arith)), ((code.0, code.1), refl))), rest _ (omega arith))
 
--- bytes that are the spelling of a command spell it
-pub encoded : (c : Command) (bytes : List ℕ) → bytes ≡ spelling command c → IsCode (code_for c.body) → length (spelling (rest_of (code_for c.body) (tag_of c)) c) ≤ 4000
-    → ((left : ℕ) → length (spelling (rest_of (code_for c.body) (tag_of c)) c) ≤ left → Fits left (rest_of (code_for c.body) (tag_of c)) c) → Spells command c bytes
-encoded c bytes is code short rest = read_spells buffer buffer_sound command bytes c (ap (read_all command) is ∙ read_again buffer buffer_roomy command c (fits_command c code short rest))
+-- bytes that are the spelling of a value spell it
+pub encoded : {A : Type 0} (l : Layout A) (x : A) (bytes : List ℕ) → bytes ≡ spelling l x → Fits (length bytes) l x → Spells l x bytes
+encoded l x bytes is fits = read_spells buffer buffer_sound l bytes x (ap (read_all l) is ∙ read_again buffer buffer_roomy l x (rw is at fits))
 
 tag_cases : (auths : List Auth) → ((tag_by (eqb (length auths) 0) ≡ 0x8001) × (length auths ≡ 0)) ⊎ ((tag_by (eqb (length auths) 0) ≡ 0x8002) × (0 < length auths))
 tag_cases [] = inl (refl, refl)

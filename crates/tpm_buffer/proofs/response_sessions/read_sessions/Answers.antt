@@ -1,15 +1,14 @@
-use Rattle.std.proofs.Common.{◌≡◌, ◌∷◌, ◌++◌, [], append_assoc, List, ℕ, length, drop, ap, sym, subst, ◌∙◌}
-use Rattle.std.proofs.lemmas.List.{append-nil}
-use Rattle.tpm_wire.specs.Spelling.{spelling, joined_all}
+use Rattle.std.proofs.Common.{◌≡◌, ◌∷◌, ◌++◌, [], List, length, drop, ap, sym, subst, ◌∙◌}
+use Rattle.tpm_wire.specs.Spelling.{spelling}
 use Rattle.tpm_wire.specs.Buffers.{Place}
 use Rattle.tpm_wire.proofs.Loop.{written_last}
 use Rattle.tpm_types.specs.declared.tpms.AuthReply.{AuthReply}
 use Rattle.tpm_types.specs.Tpms.{auth_response}
-use Rattle.tpm_buffer.specs.Responses.{further_sessions, reply_sessions}
+use Rattle.tpm_buffer.specs.Responses.{reply_sessions}
+use Rattle.tpm_buffer.proofs.ReadSessions.{text_of}
 use Rattle.tpm_buffer.proofs.response_sessions.read_sessions.Goals as goal
 
 pub returns-clause-spelled : goal.returns-clause-spelled
-unfolding reply_sessions further_sessions
 returns-clause-spelled c =
     let here = c.args.cursor.now.here in
     let a = c.read.new.self in
@@ -21,8 +20,4 @@ returns-clause-spelled c =
     ∙ ap (λ (xs : List AuthReply). xs ++ a ∷ []) c.clear.ensures in
     let list : all ≡ a ∷ others = c.in_ok-read_further_sessions.ensures.first ∙ ap (λ (xs : List AuthReply). xs ++ others) alone in
     let first : here.rest ≡ spelling auth_response a ++ c.read.new.cursor.here.rest = sym (ap (λ (p : Place). p.here.rest) c.number.ensures) ∙ c.in_ok-read.ensures.spelled in
-    let text : here.rest ≡ spelling reply_sessions (a ∷ others) ++ after =
-    first ∙ ap (λ (r : List ℕ). spelling auth_response a ++ r) c.in_ok-read_further_sessions.ensures.spelled
-    ∙ sym (append_assoc (spelling auth_response a) (joined_all auth_response others) after)
-    ∙ ap (λ (r : List ℕ). (spelling auth_response a ++ r) ++ after) (sym (append-nil (joined_all auth_response others))) in
-    subst (λ (xs : List AuthReply). here.rest ≡ spelling reply_sessions xs ++ after) (sym list) text
+    subst (λ (xs : List AuthReply). here.rest ≡ spelling reply_sessions xs ++ after) (sym list) (text_of a others _ _ after first c.in_ok-read_further_sessions.ensures.spelled)

@@ -10,8 +10,8 @@ use Rattle.tpm_buffer.specs.Responses.{further_sessions}
 use Rattle.tpm_wire.proofs.Loop.{at_place, goes_on, ends, is_done, joined_push}
 use Rattle.tpm_types.specs.Tpms.{auth_response}
 use Rattle.tpm_buffer.specs.ResponseAreas.{Stands, IsSession, session_at, sessions_at}
-use Rattle.tpm_buffer.proofs.Places.{stands_behind}
-use Rattle.tpm_buffer.proofs.ReadSessions.{is_there, begins_there, one_more}
+use Rattle.tpm_buffer.proofs.Places.{one_more, stands_behind}
+use Rattle.tpm_buffer.proofs.ReadSessions.{is_there, begins_there}
 use Rattle.tpm_buffer.proofs.response_sessions.take_further_sessions.Goals as goal
 use Rattle.tpm_buffer.proofs.response_sessions.take_further_sessions.Goals.{then-loop-positions-test+else-len-lt2, else-loop-positions-test}
 
@@ -33,11 +33,11 @@ loop-positions-preserved c =
     let all : c.push.new.self.items ≡ positions ++ here.at ∷ [] = c.push.ensures.items ∙ ap (λ n. positions ++ n ∷ []) at in
     let len : length (positions ++ here.at ∷ []) ≡ length positions + 1 = length-append positions (here.at ∷ []) in
     record {
-      so_far = rw (all, len, one_more bytes positions here.at a there) (goes_on (λ before. read (of_session (2 + length before)) auth_response) true (sessions_at bytes positions) 2 (length positions) here after a _
+      so_far = rw (all, len, one_more (session_at bytes) positions here.at a there) (goes_on (λ before. read (of_session (2 + length before)) auth_response) true (sessions_at bytes positions) 2 (length positions) here after a _
           (omega arith) more is c.loop-positions.invariant.so_far);
       stands = stands_behind bytes _ auth_response here after a stands is;
       sessions = rw all (All-push (IsSession bytes) positions here.at c.loop-positions.invariant.sessions begins);
-      spelled = rw (all, one_more bytes positions here.at a there) (joined_push auth_response c.args.cursor.now.here.rest here.rest after.rest (sessions_at bytes positions) a c.loop-positions.invariant.spelled
+      spelled = rw (all, one_more (session_at bytes) positions here.at a there) (joined_push auth_response c.args.cursor.now.here.rest here.rest after.rest (sessions_at bytes positions) a c.loop-positions.invariant.spelled
           (sym (ap (λ (p : Place). p.here.rest) c.number.ensures) ∙ c.in_ok-take_session.ensures.spelled));
       few = rw all (omega (arith, len));
     }
