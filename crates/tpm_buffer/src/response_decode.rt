@@ -10,7 +10,7 @@ ghost use Rattle.tpm_commands.specs.declared.response.Response.{Response as Resp
 ghost use Rattle.tpm_commands.specs.declared.response.Response.TheVariants as responses;
 ghost use Rattle.tpm_commands.specs.declared.response.ReplyBody.TheVariants as replies;
 ghost use Rattle.tpm_commands.specs.Replies.{reply_parameters, handle_list, HasHandle, IsReplyTo};
-ghost use Rattle.tpm_buffer.specs.Responses.{is_response_tag, goes_with, with_sessions, without_sessions, reply, code_or_done, tag_of_response, code_of_response, behind_code, response};
+ghost use Rattle.tpm_buffer.specs.Responses.{is_response_tag, goes_with, with_sessions, reply, code_or_done, tag_of_response, code_of_response, behind_code, response};
 
 use crate::command_header::SESSIONS;
 use crate::response_header::{long_fault, take_code, take_front};
@@ -47,23 +47,6 @@ fn read_with_sessions(
 }
 
 #[tactic(auto, unfolding(crate::specs::Responses::without_sessions))]
-fn read_without_sessions(
-    cursor: &mut Cursor<'_>,
-    code: CommandCode,
-    handle: Option<SessionHandle>,
-    body: &mut ReplyBody,
-    auths: &mut ArrayVec<AuthReply, 3>,
-) -> Result<(), Refusal>
-    requires { HasHandle code handle }
-    ensures reads { TakesNumbered (λ _. record { body = body.new; auths = auths.new.items }) (without_sessions (reply_parameters code (handle_list handle))) cursor.old cursor.new result }
-    ensures spelled { OnOk result (cursor.old.here.rest ≡ spelling (without_sessions (reply_parameters code (handle_list handle))) (record { body = body.new; auths = auths.new.items }) ++ cursor.new.here.rest) }
-    ensures own { OnOk result (IsReplyTo code handle body.new) }
-    ensures none { OnOk result (length auths.new.items ≡ 0) }
-{
-    auths.clear();
-    read_reply_params(cursor, code, handle, body)
-}
-
 fn read_reply(
     cursor: &mut Cursor<'_>,
     tag: u16,
@@ -78,10 +61,10 @@ fn read_reply(
 {
     let handle = take_reply_handle(cursor, code)?;
     if tag == SESSIONS {
-        read_with_sessions(cursor, code, handle, body, auths)
-    } else {
-        read_without_sessions(cursor, code, handle, body, auths)
+        return read_with_sessions(cursor, code, handle, body, auths);
     }
+    auths.clear();
+    read_reply_params(cursor, code, handle, body)
 }
 
 // A nonzero code is answered, and for a code of 0 the reply is read.
