@@ -8,7 +8,7 @@ use Rattle.tpm_wire.specs.Token.{number_of, Here, past, at_start, or_fault, spel
 use Rattle.tpm_wire.specs.Layout.{Form, raw}
 use Rattle.tpm_wire.specs.Reading.{read, read_all, finish, unless, found, refuse, entries, ◌>>=◌}
 use Rattle.tpm_wire.specs.Buffers.{buffer, Layout, Place, later_place, too_few}
-use Rattle.tpm_wire.proofs.Agreement.{ok_is, bind_ok, test_end, ends_same}
+use Rattle.tpm_wire.proofs.Agreement.{ok_is, bind_ok, test_end, unless_ok, ends_same}
 use Rattle.tpm_wire.proofs.Buffers.{buffer_sound}
 use Rattle.tpm_wire.proofs.Whole.{reads_its_path}
 use Rattle.tpm_wire.proofs.Elsewhere.{read_later, later}
@@ -120,8 +120,6 @@ stands_new bytes p new = subst (λ (q : Place). Stands bytes q.here) (sym new) (
 
 -- so many bytes that were read are those at the place
 pub raw_is : (m n : ℕ) (h g : Here) (x : List ℕ) → read {r = buffer} m (raw n) h ≡ Ok (x, g) → x ≡ take n h.rest
-raw_is m n h g x e = go (too_few m h.at n (length h.rest)) e
-  where
-    go : (o : Option ℕ) → unless buffer o m h (ok (pair (take n h.rest) (past n h))) ≡ Ok (x, g) → x ≡ take n h.rest
-    go None e = ap (λ (p : List ℕ × Here). p.0) (let z : pair x g ≡ pair (take n h.rest) (past n h) = cc in z)
-    go (Some f) e = absurd cc
+raw_is m n h g x e =
+    let t = unless_ok buffer (too_few m h.at n (length h.rest)) m h (ok (take n h.rest, past n h)) (x, g) e in
+    ap (λ (p : List ℕ × Here). p.0) (sym (ok_is (take n h.rest, past n h) (x, g) t.1))

@@ -48,13 +48,9 @@ fits_authorization t auths left (inr some) three each small room =
 abbrev tag_by : Bool → ℕ
 tag_by b = cond b 0x8001 0x8002
 
-two_tags : (b : Bool) → (tag_by b ≡ 0x8001) ⊎ (tag_by b ≡ 0x8002)
-two_tags true = inl refl
-two_tags false = inr refl
-
-tag_meant : (t : ℕ) → (t ≡ 0x8001) ⊎ (t ≡ 0x8002) → cond (eqb t 0x8001 || eqb t 0x8002) (Some t) None ≡ Some t
-tag_meant t (inl e) = rw e refl
-tag_meant t (inr e) = rw e refl
+tag_meant : (b : Bool) → (tag_by b < 2 ^ 16) × (cond (eqb (tag_by b) 0x8001 || eqb (tag_by b) 0x8002) (Some (tag_by b)) None ≡ Some (tag_by b))
+tag_meant true = (omega arith, refl)
+tag_meant false = (omega arith, refl)
 
 pub size_meant : (n left : ℕ) → n ≡ left + 6 → 10 ≤ n → n ≤ 4096 → cond ((eqb n (left + 6)) && leb 10 n && leb n 4096) (Some n) None ≡ Some n
 size_meant n left e least most = rw (eq-eqb n (left + 6) e, le-leb 10 n least, le-leb n 4096 most) refl
@@ -70,8 +66,7 @@ unfolding command header tag command_size command_code
 fits_command c code short rest =
     let n = length (spelling (rest_of (code_for c.body) (tag_of c)) c) in
     let total = 10 + n in
-    let tags = two_tags (eqb (length c.auths.items) 0) in
-    (((omega arith, tag_meant (tag_of c) tags), ((omega arith, size_meant (10 + n) _ (omega arith) (omega arith) (omega arith)), ((code.0, code.1), refl))), rest _ (omega arith))
+    ((tag_meant (eqb (length c.auths.items) 0), ((omega arith, size_meant (10 + n) _ (omega arith) (omega arith) (omega arith)), ((code.0, code.1), refl))), rest _ (omega arith))
 
 -- bytes that are the spelling of a value spell it
 pub encoded : {A : Type 0} (l : Layout A) (x : A) (bytes : List ℕ) → bytes ≡ spelling l x → Fits (length bytes) l x → Spells l x bytes
