@@ -196,10 +196,7 @@ impl<'a> Areas<'a> {
     pub fn auth(&self, index: usize) -> Option<AuthRef<'a>>
         ensures { result ≡ slice_get self.now.auths index }
     {
-        if index >= self.sessions.len() {
-            return None;
-        }
-        Some(session_at(self.bytes, self.sessions.as_slice()[index]))
+        Some(session_at(self.bytes, *self.sessions.as_slice().get(index)?))
     }
 
     /// The parameters as they came, a part of the input: they are not judged yet.

@@ -83,10 +83,7 @@ impl<'a> ReplyAreas<'a> {
     pub fn auth(&self, index: usize) -> Option<ReplyRef<'a>>
         ensures { result ≡ slice_get self.now.auths index }
     {
-        if index >= self.sessions.len() {
-            return None;
-        }
-        Some(session_at(self.bytes, self.sessions.as_slice()[index]))
+        Some(session_at(self.bytes, *self.sessions.as_slice().get(index)?))
     }
 
     /// The parameters as they came, a part of the input: they are not judged yet.
@@ -136,31 +133,6 @@ fn take_with_sessions<'a>(
 }
 
 #[tactic(auto, unfolding(crate::specs::Responses::raw_without_sessions))]
-fn take_without_sessions<'a>(
-    cursor: &mut Cursor<'a>,
-    bytes: &'a [u8],
-    code: u32,
-    handle: Option<SessionHandle>,
-) -> Result<ReplyAreas<'a>, Refusal>
-    requires short { length bytes.now ≤ 4096 }
-    requires stands { Stands bytes.now cursor.old.here }
-    requires place { cursor.old.here.at ≡ 10 + 4 * length (handle_list handle) }
-    ensures reads { TakesNumbered (λ c. c) (raw_without_sessions code (handle_list handle)) cursor.old cursor.new result }
-    ensures place { IfOk result (HasItsParams bytes.now) }
-{
-    cursor.number(0);
-    let params_at = cursor.at();
-    let params_size = cursor.remaining().len();
-    Ok(ReplyAreas {
-        bytes,
-        code,
-        handle,
-        params_at,
-        params_size,
-        sessions: ArrayVec::new(),
-    })
-}
-
 fn take_behind_code<'a>(
     cursor: &mut Cursor<'a>,
     bytes: &'a [u8],
@@ -186,10 +158,19 @@ fn take_behind_code<'a>(
     }
     let handle = take_reply_handle(cursor, code)?;
     if tag == SESSIONS {
-        take_with_sessions(cursor, bytes, number, handle)
-    } else {
-        take_without_sessions(cursor, bytes, number, handle)
+        return take_with_sessions(cursor, bytes, number, handle);
     }
+    cursor.number(0);
+    let params_at = cursor.at();
+    let params_size = cursor.remaining().len();
+    Ok(ReplyAreas {
+        bytes,
+        code: number,
+        handle,
+        params_at,
+        params_size,
+        sessions: ArrayVec::new(),
+    })
 }
 
 #[tactic(auto, unfolding(crate::specs::Responses::reply_cut))]
