@@ -59,12 +59,9 @@ any_mark m k (Form.list most stops l) h x e = each_mark (λ before. read m (l be
 any_mark m k (Form.by_left f) h x e = any_mark m k (f (length h.rest)) h x e
 any_mark m k (Form.marked n l) h x e = e
 
-abbrev pair : {A : Type 0} → A → Here → A × Here
-pair x h = (x, h)
-
 later_ok : {A : Type 0} (k : ℕ) (o : Result (A × Here) Refusal) (x : A) (g : Here) → later k o ≡ Ok (x, g) → (f : Here) × (o ≡ Ok (x, f)) × (f.rest ≡ g.rest)
 later_ok {A = A} k (Ok y) x g e =
-    let same : pair (y.0) (later_place k y.1) ≡ pair x g = cc in
+    let same = ok_is (y.0, later_place k y.1) (x, g) e in
     (y.1, ap (λ (z : A). ok (z, y.1)) (ap (λ (p : A × Here). p.0) same), ap (λ (p : A × Here). p.1.rest) same)
 later_ok k (Err d) x g e = absurd cc
 
@@ -92,6 +89,9 @@ pub one_more : {A : Type 0} (at : ℕ → A) (ns : List ℕ) (n : ℕ) (x : A) �
 one_more {A = A} at ns n x is = map-append at ns (n ∷ []) ∙ ap (λ (y : A). map at ns ++ y ∷ []) is
 
 -- ---- the places on the way through bytes
+
+pub here_is : (g : Here) (rest : List ℕ) (at : ℕ) → g.rest ≡ rest → g.at ≡ at → g ≡ record { rest = rest; at = at }
+here_is g rest at e f = rw (← e, ← f) refl
 
 -- what is read leads some bytes further on
 pub read_past : {A : Type 0} (m : ℕ) (l : Layout A) (h g : Here) (x : A) → read m l h ≡ Ok (x, g) → (n : ℕ) × (n ≤ length h.rest) × (g ≡ past n h)

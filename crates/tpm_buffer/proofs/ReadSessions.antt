@@ -1,19 +1,16 @@
 -- The sessions of a response, by their positions.
-use Rattle.std.proofs.Common.{◌≡◌, ℕ, ◌+◌, ◌*◌, ◌≤◌, ◌<◌, List, ◌∷◌, ◌++◌, length, take, drop, Result, Ok, refl, sym, ap, ◌∙◌, append_assoc, arith, length-take-le, length-drop}
+use Rattle.std.proofs.Common.{◌≡◌, ℕ, ◌+◌, ◌*◌, ◌≤◌, ◌<◌, List, ◌∷◌, ◌++◌, length, take, drop, Ok, refl, sym, ap, ◌∙◌, append_assoc, arith, length-take-le, length-drop}
 use Rattle.std.proofs.lemmas.Bool.{ne_eqb}
 use Rattle.std.proofs.lemmas.List.{append-nil}
-use Rattle.tpm_wire.specs.declared.refusal.Refusal.{Refusal}
 use Rattle.tpm_wire.specs.Token.{Here, at_start}
 use Rattle.tpm_wire.specs.Reading.{read}
 use Rattle.tpm_wire.specs.Spelling.{spelling, joined_all}
 use Rattle.tpm_types.specs.declared.tpms.AuthReply.{AuthReply}
 use Rattle.tpm_types.specs.Tpms.{auth_response}
+use Rattle.tpm_commands.proofs.Short.{ok}
 use Rattle.tpm_buffer.specs.Responses.{further_sessions, reply_sessions}
 use Rattle.tpm_buffer.specs.ResponseAreas.{Stands, IsSession, session_of, session_at, place_behind}
 use Rattle.tpm_buffer.proofs.Places.{alone}
-
-abbrev ok_at : AuthReply → Here → Result (AuthReply × Here) Refusal
-ok_at a h = Ok (a, h)
 
 -- the session that was read is that at its position
 pub is_there : (bytes : List ℕ) (m : ℕ) (h g : Here) (a : AuthReply) → Stands bytes h → read m auth_response h ≡ Ok (a, g) → session_at bytes h.at ≡ a
@@ -27,7 +24,7 @@ begins_there bytes m h g a s e =
       within = omega (arith, s.whole);
       behind = there.0;
       reads =
-          ap (λ (r : List ℕ). read 0 auth_response (at_start r)) (sym s.rest) ∙ there.1 ∙ ap (λ (x : AuthReply). ok_at x there.0) (sym (is_there bytes m h g a s e));
+          ap (λ (r : List ℕ). read 0 auth_response (at_start r)) (sym s.rest) ∙ there.1 ∙ ap (λ (x : AuthReply). ok (x, there.0)) (sym (is_there bytes m h g a s e));
     }
 
 -- the first session and the others are all of them

@@ -1,7 +1,6 @@
 -- Sessions by their positions, and the places on the way through an area.
-use Rattle.std.proofs.Common.{◌≡◌, ℕ, ◌+◌, ◌≤◌, List, ◌++◌, length, take, drop, Result, Ok, sym, ap, ◌∙◌, arith}
+use Rattle.std.proofs.Common.{◌≡◌, ℕ, ◌+◌, ◌≤◌, List, ◌++◌, length, take, drop, Ok, sym, ap, ◌∙◌, arith}
 use Rattle.std.proofs.lemmas.List.{length-drop, length-take, drop-append-le, drop-drop, take-append-drop}
-use Rattle.tpm_wire.specs.declared.refusal.Refusal.{Refusal}
 use Rattle.tpm_wire.specs.Token.{Here, past, at_start}
 use Rattle.tpm_wire.specs.Reading.{read}
 use Rattle.tpm_wire.specs.Longer.{with_more}
@@ -9,13 +8,10 @@ use Rattle.tpm_types.specs.declared.tpms.Auth.{Auth}
 use Rattle.tpm_types.specs.Tpms.{auth_command}
 use Rattle.tpm_buffer.specs.ResponseAreas.{Stands}
 use Rattle.tpm_buffer.specs.CommandAreas.{LiesIn, session_of, session_at, IsSession}
-use Rattle.tpm_buffer.proofs.Places.{alone, read_past}
-use Rattle.tpm_commands.proofs.Short.{of_session}
+use Rattle.tpm_buffer.proofs.Places.{alone, here_is, read_past}
+use Rattle.tpm_commands.proofs.Short.{of_session, ok}
 
 -- ---- places in an area
-
-abbrev place : List ℕ → ℕ → Here
-place rest at = record { rest = rest; at = at }
 
 lies_past : (bytes : List ℕ) (h : Here) (n : ℕ) → LiesIn bytes h → n ≤ length h.rest → LiesIn bytes (past n h)
 lies_past bytes h n s le =
@@ -37,14 +33,9 @@ lies_inside bytes h n s le =
 
 -- a place on the way through bytes, by how many of them are before it
 pub place_is : (bytes : List ℕ) (h : Here) (n : ℕ) → Stands bytes h → n ≡ h.at → h ≡ record { rest = drop n bytes; at = n }
-place_is bytes h n s e =
-    let there : h.rest ≡ drop n bytes = s.rest ∙ ap (λ (k : ℕ). drop k bytes) (sym e) in
-    ap (λ (r : List ℕ). place r h.at) there ∙ ap (λ (k : ℕ). place (drop n bytes) k) (sym e)
+place_is bytes h n s e = here_is h (drop n bytes) n (s.rest ∙ ap (λ (k : ℕ). drop k bytes) (sym e)) (sym e)
 
 -- ---- a session that is read is there by its position
-
-abbrev ok_at : Auth → Here → Result (Auth × Here) Refusal
-ok_at y g = Ok (y, g)
 
 session_is : (bytes : List ℕ) (n : ℕ) (x : Auth) (f : Here) → read 0 auth_command (at_start (drop n bytes)) ≡ Ok (x, f) → session_at bytes n ≡ x
 unfolding session_at
@@ -63,7 +54,7 @@ step bytes m h g x s e =
     let here : read 0 auth_command (at_start (drop h.at bytes)) ≡ Ok (x, with_more more one.0) = ap (λ (b : List ℕ). read 0 auth_command (at_start b)) s.rest ∙ all in
     let is = session_is bytes h.at x (with_more more one.0) here in
     record {
-      there = record { within = omega (arith, s.within); behind = with_more more one.0; reads = here ∙ ap (λ (y : Auth). ok_at y (with_more more one.0)) (sym is) };
+      there = record { within = omega (arith, s.within); behind = with_more more one.0; reads = here ∙ ap (λ (y : Auth). ok (y, with_more more one.0)) (sym is) };
       is = is;
       lies = let p = read_past m auth_command h g x e in rw p.2 (lies_past bytes h p.0 s p.1);
     }

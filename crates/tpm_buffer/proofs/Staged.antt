@@ -16,6 +16,7 @@ use Rattle.tpm_commands.specs.declared.command_parameters.Params.{Params}
 use Rattle.tpm_commands.specs.Handles.{handles}
 use Rattle.tpm_commands.specs.Parameters.{parameters}
 use Rattle.tpm_commands.proofs.Short.{ok, err}
+use Rattle.tpm_buffer.proofs.Places.{here_is}
 use Rattle.tpm_buffer.specs.Commands.{header, authorization, body_from, with_auths, front, Checked, before_params, command}
 
 -- what fails in one chain fails in another that begins so
@@ -98,7 +99,7 @@ before bytes rest x s =
     let c = cut_value bytes rest x s in
     let ends = ends_same buffer buffer_sound 0 before_params (at_start bytes) (x, c.0) c.1 in
     let k : c.0.at ≡ 0 + (length bytes - length rest) = omega (arith, ends, ap length c.2) in
-    record { place = c.0; is = c.1; at = ap (λ (r : List ℕ). let g : Here = record { rest = r; at = c.0.at } in g) c.2 ∙ ap (λ (n : ℕ). let g : Here = record { rest = rest; at = n } in g) k }
+    record { place = c.0; is = c.1; at = here_is c.0 rest (0 + (length bytes - length rest)) c.2 k }
 
 -- ---- a command by what stands before its parameters, and them
 

@@ -1,5 +1,5 @@
 -- What is read from a stage on is what the bytes begin with there.
-use Rattle.std.proofs.Common.{arith, ◌≡◌, List, ℕ, length, Result, Ok, Err, sym, ap, subst, ◌∙◌, refl}
+use Rattle.std.proofs.Common.{arith, ◌≡◌, List, ℕ, length, Result, Ok, Err, sym, ap, subst, ◌∙◌}
 use Rattle.std.specs.Prelude.{◌↔◌}
 use Rattle.tpm_wire.specs.declared.refusal.Refusal.{Refusal}
 use Rattle.tpm_wire.specs.Token.{Here, at_start}
@@ -15,6 +15,7 @@ use Rattle.tpm_commands.specs.Handles.{handles}
 use Rattle.tpm_commands.proofs.Short.{ok, err}
 use Rattle.tpm_buffer.specs.Commands.{authorization, Checked, before_params}
 use Rattle.tpm_buffer.specs.CommandAreas.{HeaderCut, HandlesCut, Cut, IsHandled, HasHandles, checked, params_here, areas_view, HasCut, IsAreas, HasAreas}
+use Rattle.tpm_buffer.proofs.Places.{here_is}
 use Rattle.tpm_buffer.proofs.Staged.{cut_fault, cut_value}
 
 pub has_handles : (x : HeaderCut) (r : Result HandlesCut Refusal) → IsHandled x r → HasHandles x r
@@ -29,9 +30,6 @@ has_areas x (Err e) is = ((reads_its_path buffer buffer_sound 0 (authorization x
 
 abbrev of_parts : Checked → Here → Cut
 of_parts x g = record { header = x.header; handles = x.handles; auths = x.auths; params = g.rest; params_at = g.at }
-
-here_is : (g : Here) (rest : List ℕ) (at : ℕ) → g.rest ≡ rest → g.at ≡ at → g ≡ record { rest = rest; at = at }
-here_is g rest at e f = rw (← e, ← f) refl
 
 pub cut_ok : (bytes : List ℕ) (r : Result Cut Refusal) → Gives areas_view (read 0 before_params (at_start bytes)) r → (c : Cut) → (r ≡ Ok c) ↔ HasCut bytes c
 cut_ok bytes r is c = (to r is, from r is)

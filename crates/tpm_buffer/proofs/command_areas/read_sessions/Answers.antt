@@ -1,7 +1,6 @@
-use Rattle.std.proofs.Common.{List, Result, Ok, refl, ap, ◌∙◌, arith}
-use Rattle.tpm_wire.specs.declared.refusal.Refusal.{Refusal}
+use Rattle.std.proofs.Common.{refl, ap, ◌∙◌, arith}
 use Rattle.tpm_wire.specs.Token.{Here}
-use Rattle.tpm_types.specs.declared.tpms.Auth.{Auth}
+use Rattle.tpm_commands.proofs.Short.{ok}
 use Rattle.tpm_buffer.specs.Commands.{authorization}
 use Rattle.tpm_buffer.specs.CommandAreas.{sessions_at}
 use Rattle.tpm_buffer.proofs.Places.{stands_behind}
@@ -14,12 +13,9 @@ invariant_of-result c =
     let behind = stands_behind inside.bytes.now 0 (authorization inside.header.tag) inside.cursor.here c.take_authorization.new.cursor.here _ c.handled.invariant.1 c.in_ok-sessions.ensures.reads in
     (c.handled.invariant.0, omega (arith, c.at.ensures, behind.whole), c.in_ok-sessions.ensures.sessions)
 
-abbrev ok : List Auth → Here → Result (List Auth × Here) Refusal
-ok auths h = Ok (auths, h)
-
 pub returns : goal.returns
 returns c =
     let inside = c.handled.inside in
     let behind = stands_behind inside.bytes.now 0 (authorization inside.header.tag) inside.cursor.here c.take_authorization.new.cursor.here _ c.handled.invariant.1 c.in_ok-sessions.ensures.reads in
     let place = place_is inside.bytes.now c.take_authorization.new.cursor.here c.at.result behind c.at.ensures in
-    rw (← c.handled.view_is) (c.in_ok-sessions.ensures.reads ∙ ap (λ (h : Here). ok (sessions_at inside.bytes.now c.in_ok-sessions.sessions.items) h) place, refl, refl)
+    rw (← c.handled.view_is) (c.in_ok-sessions.ensures.reads ∙ ap (λ (h : Here). ok (sessions_at inside.bytes.now c.in_ok-sessions.sessions.items, h)) place, refl, refl)
