@@ -5,9 +5,9 @@ use Rattle.tpm_commands.specs.declared.code.CommandCode.{CommandCode}
 use Rattle.tpm_commands.specs.Codes.{code_number}
 
 -- with sessions or without
-abbrev pub tag_for : List ℕ → ℕ
+abbrev pub tag_for : {A : Type 0} → List A → ℕ
 tag_for [] = 0x8001
-tag_for (byte ∷ sessions) = 0x8002
+tag_for (first ∷ others) = 0x8002
 
 -- the number of the sessions' bytes, and the bytes; nothing where there are none
 abbrev pub authorization_of : List ℕ → List ℕ

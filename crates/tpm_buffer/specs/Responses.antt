@@ -13,6 +13,7 @@ use Rattle.tpm_commands.specs.declared.response.ReplyBody.TheVariants.{Startup}
 use Rattle.tpm_commands.specs.declared.response.Response.{Response}
 use Rattle.tpm_commands.specs.declared.response.Response.TheVariants as responses
 use Rattle.tpm_buffer.specs.Commands.{command_size}
+use Rattle.tpm_buffer.specs.Parts.{tag_for}
 use Rattle.tpm_commands.specs.Replies.{code_for_reply, reply_handles, reply_handles_of, reply_parameters}
 
 -- ---- the header
@@ -92,8 +93,7 @@ code_of_response (responses.Done body auths) = 0
 
 -- with sessions or without
 abbrev pub reply_tag : List AuthReply → ℕ
-reply_tag [] = 0x8001
-reply_tag (a ∷ others) = 0x8002
+reply_tag auths = tag_for auths
 
 abbrev pub code_tag : ℕ → ℕ
 code_tag n = if n == rc_bad_tag then 0x00C4 else 0x8001

@@ -7,6 +7,7 @@ ghost use Rattle.tpm_wire.specs.Reading.{read};
 ghost use Rattle.tpm_wire.specs.Buffers.{Takes, TakesNumbered};
 ghost use Rattle.tpm_commands.specs.Codes.{command_code};
 ghost use Rattle.tpm_buffer.specs.Commands.{is_tag, tag, command_size, header};
+ghost use Rattle.tpm_buffer.specs.Parts.{tag_for};
 
 use tpm_commands::{CommandCode, Header};
 use tpm_wire::response_code::{BAD_TAG, COMMAND_CODE, COMMAND_SIZE};
@@ -17,6 +18,17 @@ pub const NO_SESSIONS: u16 = 0x8001;
 
 /// The tag of a buffer with sessions, TPM_ST_SESSIONS.
 pub const SESSIONS: u16 = 0x8002;
+
+/// The tag of a buffer with these sessions, or without where there are none.
+pub(crate) fn tag_with<T>(sessions: &[T]) -> u16
+    ensures { result ≡ tag_for sessions.now }
+{
+    if sessions.is_empty() {
+        NO_SESSIONS
+    } else {
+        SESSIONS
+    }
+}
 
 #[tactic(auto, unfolding(crate::specs::Commands::tag))]
 fn take_tag(cursor: &mut Cursor<'_>) -> Result<u16, Refusal>

@@ -1,21 +1,11 @@
 //! A command joined from the bytes of its parts.
 
 ghost use Rattle.std.specs.Prelude.{◌≡◌, ◌+◌, ◌<◌, ◌≤◌, ◌++◌, MatchOption, length};
-ghost use Rattle.tpm_buffer.specs.Parts.{authorization_of, joined, tag_for};
+ghost use Rattle.tpm_buffer.specs.Parts.{authorization_of, joined};
 
-use crate::command_header::{NO_SESSIONS, SESSIONS};
+use crate::command_header::tag_with;
 use tpm_commands::CommandCode;
 use tpm_wire::{Buffer, put_bytes};
-
-fn tag(sessions: &[u8]) -> u16
-    ensures { result ≡ tag_for sessions.now }
-{
-    if sessions.is_empty() {
-        NO_SESSIONS
-    } else {
-        SESSIONS
-    }
-}
 
 // How many bytes the joined parts have, or None where a number can't say it.
 fn joined_len(handles: &[u8], sessions: &[u8], parameters: &[u8]) -> Option<usize>
@@ -60,7 +50,7 @@ pub fn join_command(
         return None;
     }
     let mut out = Buffer::new();
-    put_bytes(&mut out, &tag(sessions).to_be_bytes());
+    put_bytes(&mut out, &tag_with(sessions).to_be_bytes());
     put_bytes(&mut out, &(size as u32).to_be_bytes());
     put_bytes(&mut out, &code.number().to_be_bytes());
     put_bytes(&mut out, handles);

@@ -9,7 +9,7 @@ ghost use Rattle.tpm_commands.specs.declared.response.Response.TheVariants as re
 ghost use Rattle.tpm_commands.specs.Replies.{code_for_reply, parameters_of_reply};
 ghost use Rattle.tpm_buffer.specs.Responses.{code_tag, reply_sessions, reply_tag, reply_behind, reply, response as response_layout, Answers};
 
-use crate::command_header::{NO_SESSIONS, SESSIONS};
+use crate::command_header::{NO_SESSIONS, tag_with};
 use crate::response_header::RSP_COMMAND;
 use arrayvec::ArrayVec;
 use tpm_commands::{ErrorCode, ReplyBody, Response};
@@ -74,16 +74,6 @@ fn known_sessions(auths: &[AuthReply])
 }
 
 // ---- the reply
-
-fn tag_for(auths: &[AuthReply]) -> u16
-    ensures { result ≡ reply_tag auths.now }
-{
-    if auths.is_empty() {
-        NO_SESSIONS
-    } else {
-        SESSIONS
-    }
-}
 
 #[tactic(auto, unfolding(crate::specs::Responses::with_sessions, crate::specs::Responses::without_sessions, crate::specs::Responses::parameter_size))]
 fn reply_len(body: &ReplyBody, auths: &[AuthReply]) -> usize
@@ -169,7 +159,7 @@ fn put_done(body: &ReplyBody, auths: &[AuthReply], out: &mut Buffer)
     ensures short { length (spelling (reply (code_for_reply body.now) (reply_tag auths.now)) (record { body = body.now; auths = auths.now })) ≤ 4000 }
     ensures params { length (spelling (parameters_of_reply body.now) body.now) ≤ 3500 }
 {
-    tag_for(auths).put(out);
+    tag_with(auths).put(out);
     (10 + reply_len(body, auths) as u32).put(out);
     0u32.put(out);
     put_parts(body, auths, out);
