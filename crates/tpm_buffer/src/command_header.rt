@@ -50,6 +50,7 @@ pub(crate) fn take_size(cursor: &mut Cursor<'_>) -> Result<u32, Refusal>
     ensures reads { Takes command_size cursor.old cursor.new result }
     ensures spelled { IfOk result (λ x. cursor.old.here.rest ≡ spelling command_size x ++ cursor.new.here.rest) }
     ensures size { IfOk result (λ x. x ≡ length cursor.old.here.rest + 2) }
+    ensures four { IfOk result (λ x. length cursor.old.here.rest ≡ 4 + length cursor.new.here.rest) }
 {
     let refusal = cursor.refusal(COMMAND_SIZE);
     let size = u32::take(cursor)?;
