@@ -1,6 +1,7 @@
 -- Bytes that are compared by their XOR.
-use Rattle.std.proofs.Common.{◌≡◌, ℕ, List, [], ◌∷◌, length, bit_or, bit_xor, refl, sym, ap, ◌∙◌, arith}
+use Rattle.std.proofs.Common.{◌≡◌, ℕ, List, ◌∷◌, length, bit_or, bit_xor, refl, sym, ap, ◌∙◌, arith}
 use Rattle.std.specs.Int.Bits.{xor_assoc, xor_self, xor_zero_l, xor_zero_r}
+use Rattle.std.proofs.lemmas.List.{nil_from_length}
 use Rattle.std.proofs.lemmas.Nat.{le_or_l, le_or_r}
 
 xor_none : (x y : ℕ) → bit_xor x y ≡ 0 → x ≡ y
@@ -20,6 +21,4 @@ none_before d x y xs ys none same =
     (omega (arith, le_or_l d (bit_xor x y)), cc)
 
 pub both_nothing : (xs ys : List ℕ) → length xs ≡ length ys → length xs ≡ 0 → xs ≡ ys
-both_nothing [] [] long none = refl
-both_nothing [] (y ∷ ys) long none = absurd (omega arith)
-both_nothing (x ∷ xs) ys long none = absurd (omega arith)
+both_nothing xs ys long none = nil_from_length xs none ∙ sym (nil_from_length ys (sym long ∙ none))

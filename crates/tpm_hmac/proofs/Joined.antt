@@ -1,6 +1,6 @@
 -- Two parts, written one behind the other.
 use Rattle.std.proofs.Common.{◌≡◌, ℕ, ◌+◌, ◌-◌, List, ◌++◌, length, take, drop, replicate, length-append, ◌∙◌, arith}
-use Rattle.std.proofs.lemmas.List.{append-nil, take_all}
+use Rattle.std.proofs.lemmas.List.{append-nil}
 use Rattle.tpm_hmac.proofs.Filling.{fill_both}
 
 -- parts that fill a list are all of it
@@ -9,6 +9,3 @@ pub both_fill : (n : ℕ) (front back one both : List ℕ) → length front + le
 both_fill n front back one both fits first second =
     let none : n - length (front ++ back) ≡ 0 = rw (length-append front back) (omega (arith, fits)) in
     fill_both n front back one both (omega (arith, fits)) first second ∙ rw none (append-nil (front ++ back))
-
-pub whole : (n : ℕ) (xs : List ℕ) → length xs ≡ n → take n xs ≡ xs
-whole n xs len = take_all n xs (omega (arith, len))

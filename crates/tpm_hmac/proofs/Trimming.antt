@@ -37,8 +37,7 @@ trim-nothing bytes n none = rw none refl
 
 zeros_before : (b : ℕ) (rest trimmed : List ℕ) (count : ℕ) → rest ≡ trimmed ++ replicate count 0 → (n : ℕ) × (b ∷ rest ≡ before_trimmed b trimmed ++ replicate n 0)
 zeros_before zero rest [] count is = (suc count, ap (◌∷◌ 0) is)
-zeros_before zero rest (x ∷ xs) count is = (count, ap (◌∷◌ 0) is)
-zeros_before (suc b) rest trimmed count is = (count, ap (◌∷◌ (suc b)) is)
+zeros_before b rest trimmed count is = (count, ap (◌∷◌ b) is)
 
 pub trim-zeros : (bytes : List ℕ) → (count : ℕ) × (bytes ≡ trim bytes ++ replicate count 0)
 trim-zeros [] = (0, refl)
