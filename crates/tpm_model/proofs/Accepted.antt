@@ -1,5 +1,6 @@
 -- What an accepted buffer has passed, and what holds along runs.
-use Rattle.std.proofs.Common.{◌≡◌, ℕ, List, [], ◌∷◌, Result, Ok, Err, refl, ap, subst}
+use Rattle.std.proofs.Common.{◌≡◌, ℕ, List, [], ◌∷◌, Result, Ok, Err, Option, Some, None, refl, ap, subst}
+use Rattle.std.specs.Prelude.{ok_or}
 use Rattle.tpm_wire.specs.Reading.{read_all}
 use Rattle.tpm_wire.proofs.Agreement.{bind_ok}
 use Rattle.tpm_commands.specs.declared.command_parameters.Params.{Params}
@@ -18,6 +19,16 @@ ok x = Ok x
 
 pub ok_is : {A : Type 0} (x y : A) → ok x ≡ ok y → x ≡ y
 ok_is x y e = cc
+
+abbrev pub some : {A : Type 0} → A → Option A
+some x = Some x
+
+pub some_is : {A : Type 0} (x y : A) → some x ≡ some y → x ≡ y
+some_is x y e = cc
+
+pub was_some : {A : Type 0} (x : Option A) (code : ℕ) (y : A) → ok_or x code ≡ Ok y → x ≡ Some y
+was_some None code y e = absurd (let z : ⊥ = cc in z)
+was_some (Some x) code y e = ap some (ok_is x y e)
 
 -- what an accepted buffer has passed
 pub record Passed (p : Present) (bytes n : List ℕ) (d : Done) : Type 0 where

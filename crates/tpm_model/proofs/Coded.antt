@@ -18,7 +18,7 @@ use Rattle.tpm_commands.specs.declared.code.CommandCode.{CommandCode}
 use Rattle.tpm_commands.specs.declared.code.CommandCode.TheVariants as codes
 use Rattle.tpm_commands.specs.Codes.{command_code}
 use Rattle.tpm_commands.specs.Handles.{admits, handles_from, handles, handle_kinds}
-use Rattle.tpm_commands.specs.Parameters.{parameters, start_auth_session}
+use Rattle.tpm_commands.specs.Parameters.{start_auth_session}
 use Rattle.tpm_buffer.specs.Commands.{tag, command_size, header, sessions, authorization_size, authorization}
 use Rattle.tpm_model.proofs.Nonzero.{IsCoded, coded_in, coded_number, coded_sized_bytes, coded_sized, coded_counted}
 
@@ -37,7 +37,7 @@ coded_handles_from i [] small = tt
 coded_handles_from i (kind ∷ kinds) small =
     ((omega (arith, small), coded_in 4 (admits kind) rc_value (omega arith, omega arith)), λ n. (coded_handles_from (i + 1) kinds (omega (arith, small)), λ ns. tt))
 
-few_kinds : (code : CommandCode) → 1 + length (handle_kinds code) < 256
+pub few_kinds : (code : CommandCode) → 1 + length (handle_kinds code) < 256
 few_kinds codes.NvUndefineSpace = omega arith
 few_kinds codes.NvIncrement = omega arith
 few_kinds _ = omega arith

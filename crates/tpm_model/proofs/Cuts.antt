@@ -10,15 +10,9 @@ use Rattle.tpm_model.specs.Answers.{code_only}
 use Rattle.tpm_model.specs.Premises.{IsByGrammar, IsWholeByGrammar}
 use Rattle.tpm_model.proofs.Spelled.{code_ok}
 
-abbrev okay : {A : Type 0} → A → Result A Refusal
-okay x = Ok x
-
-code_is : {A : Type 0} (e : Refusal) (code : ℕ) → code_only {A = A} (Err e) ≡ Err code → e.code ≡ code
-code_is e code is = cc
-
 by_fault : {A : Type 0} (r : Result A Refusal) (code : ℕ) → code_only r ≡ Err code → (e : Refusal) × (r ≡ Err e) × (e.code ≡ code)
 by_fault (Ok y) code is = absurd (let z : ⊥ = cc in z)
-by_fault {A = A} (Err e) code is = (e, refl, code_is {A = A} e code is)
+by_fault (Err e) code is = (e, refl, let same : e.code ≡ code = cc in same)
 
 abbrev err : {A : Type 0} → ℕ → Result A ℕ
 err code = Err code

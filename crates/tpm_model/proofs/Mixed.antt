@@ -36,26 +36,26 @@ use Rattle.tpm_hmac.specs.Hmac.{hmac}
 use Rattle.tpm_hmac.specs.Sessions.{trim, cp_hash}
 use Rattle.tpm_hmac.proofs.DigestLengths.{length-digest, length-hmac}
 use Rattle.tpm_model.specs.Steps.{History, PowerCycle, Origin}
-use Rattle.tpm_model.specs.Sessions.{Session, loaded, sessions_at, slot_of}
-use Rattle.tpm_model.specs.Present.{Present, present}
+use Rattle.tpm_model.specs.Sessions.{Session, loaded, sessions_at}
+use Rattle.tpm_model.specs.Present.{present}
 use Rattle.tpm_model.specs.Entities.{Entity, entity_of, names_of, auth_value}
 use Rattle.tpm_model.specs.Authorization.{refuse, is_empty, Authorizer, Password, BySession, by_session, check_loaded, check_session, check_no_trial, check_no_nonce, check_entity, evidence_by, evidence_of, check_evidence, first_loaded, failure, Signed, command_text, needs_none, is_signed, key_for, Evidence, NotAsked, ByPassword, ByMac, nonce_next, reply_mac, reply_auths, password_reply}
-use Rattle.tpm_model.specs.Answers.{Presented, presented, Done, outcome, answered, answer, next, reply_params}
+use Rattle.tpm_model.specs.Answers.{presented, Done, outcome, answered, answer, next, reply_params}
 use Rattle.tpm_model.specs.Callers.{Seal, seal_key, seal_text, seal_auth, sealed_command, Waiting, waiting, CallerFault, NotExpected, WrongMac, Opened, awaited_text, has_mac, unless, opened_session, opened_response, opened}
 use Rattle.tpm_model.specs.Runs.{Event, after}
 use Rattle.tpm_model.specs.Runs.Event.{Given, Cycled}
 use Rattle.tpm_model.specs.Premises.{IsAccepted, HasSessionMac, NoncesDiffer, most_nonce, Keyed, mac_of, IsAmong, texts_checked, NoCollision, IsSealedBy, AreSealed, IsOther, SealsDiffer, keyed_reply, text_by, text_replied, texts_replied, Opening, keyed_awaited, text_awaited, text_opened, texts_opened, NoCollisionWith, IsOfCallers}
 use Rattle.tpm_model.proofs.Accepted.{Passed, passed, ok_is}
 use Rattle.tpm_model.proofs.Spelled.{was_read, spelled_by}
-use Rattle.tpm_model.proofs.Nonces.{among_later, HasStart, sound_along}
-use Rattle.tpm_model.proofs.StillInStep.{held as still_held}
+use Rattle.tpm_model.proofs.Slots.{held}
+use Rattle.tpm_model.proofs.Nonces.{among_later, has_length}
 use Rattle.tpm_model.proofs.Replay.{refused_not, cut_front, twice_as}
 use Rattle.tpm_model.proofs.Sealing.{loaded_handle, hmac_some}
 use Rattle.tpm_model.proofs.Replies.{own_reply}
 use Rattle.tpm_model.proofs.RoundTrip.{refused_read}
 use Rattle.tpm_model.proofs.ReplySessions.{session_list, Lists, listed, none_listed}
 use Rattle.tpm_model.proofs.OwnCode.{by_session_needs}
-use Rattle.tpm_model.proofs.ReplyBytes.{session_text, reply_bytes, one_session}
+use Rattle.tpm_model.proofs.ReplyBytes.{session_text, reply_bytes, head_is, one_session}
 
 -- ---- what was opened
 
@@ -78,17 +78,14 @@ holds false fault u e = absurd (let z : ⊥ = cc in z)
 
 session_opened : (w : Waiting) (body : ReplyBody) (auths : List AuthReply) (x : Opened) → opened_session w body auths ≡ Ok x
     → (a : AuthReply) × (auths ≡ a ∷ []) × (a.hmac ≡ mac_of (keyed_awaited w body a)) × (text_awaited w body (a ∷ []) ≡ keyed_awaited w body a ∷ [])
-session_opened w body [] x e = absurd (let z : ⊥ = cc in z)
-session_opened w body (a ∷ b ∷ others) x e = absurd (let z : ⊥ = cc in z)
 session_opened w body (a ∷ []) x e =
     let b = bind_ok (unless (length a.nonce == length w.caller.nonce) NotExpected) _ x e in
     let c = bind_ok (unless (has_mac w body a) WrongMac) _ x b.2 in
     let long = holds (length a.nonce == length w.caller.nonce) NotExpected b.0 b.1 in
     (a, refl, (bytes_eq-Decides a.hmac (mac_of (keyed_awaited w body a))).0 (holds (has_mac w body a) WrongMac c.0 c.1), ap (λ t. if t then keyed_awaited w body a ∷ [] else []) long)
+session_opened w body _ x e = absurd (let z : ⊥ = cc in z)
 
 was_opened : (w : Waiting) (r : Result Response Refusal) (x : Opened) → opened_response w r ≡ Ok x → WasOpened w r
-was_opened w (Err e) x is = absurd (let z : ⊥ = cc in z)
-was_opened w (Ok (responses.Code code)) x is = absurd (let z : ⊥ = cc in z)
 was_opened w (Ok (responses.Done body auths)) x is =
     let s = session_opened w body auths.items x is in
     record {
@@ -98,21 +95,9 @@ was_opened w (Ok (responses.Done body auths)) x is =
       mac = s.2;
       text = ap (text_awaited w body) s.1 ∙ s.3;
     }
+was_opened w _ x is = absurd (let z : ⊥ = cc in z)
 
 -- ---- how a command was authorized
-
--- by an HMAC or policy session
-pub record BySigned (p : Present) (x : Presented) : Type 0 where
-  pub signed : Signed
-  pub evidence : x.evidence ≡ ByMac signed
-  pub is : loaded p.sessions signed.auth.session ≡ Some signed.session
-  pub one : x.auths ≡ signed.auth ∷ []
-
-pub record ByWord (x : Presented) : Type 0 where
-  pub auth : Auth
-  pub wanted : List ℕ
-  pub evidence : x.evidence ≡ ByPassword (trim auth.hmac) wanted
-  pub one : x.auths ≡ auth ∷ []
 
 loaded_by : (is_word : Bool) (s : Option Session) (by : Authorizer) → (if is_word then Ok Password else by_session s) ≡ Ok by → (by ≡ Password) ⊎ ((y : Session) × (s ≡ Some y) × (by ≡ BySession y))
 loaded_by true s by e = inl (sym (ok_is Password by e))
@@ -273,9 +258,6 @@ never_word o h bytes n s d t done auth a one is few none =
     let r = step_read o h bytes n s d t done auth a one is few (omega (arith, ap length none)) in
     let z : ⊥ = absurd (omega (arith, open_some (waiting s) (read_all (response (code_for s.body)) (answer o h bytes n)) t.opening, ap length r.1, ap length none)) in z
 
-head_auth : (a b : Auth) → a ∷ [] ≡ b ∷ [] → a ≡ b
-head_auth a b e = cc
-
 -- The HMAC of a command that passed is there.
 mac_there : (e : Entity) (y : Signed) → check_evidence e (ByMac y) ≡ Ok tt → needs_none y ≡ false → 0 < length y.auth.hmac
 mac_there e y c signs =
@@ -325,7 +307,7 @@ module _ (o : Origin) (seals : List Seal) (xs : List Opening) (es fs : List Even
       let spelled = spelled_by p bytes n d done in
       let seal = sealed_here o seals [] es fs bytes n g.run.sealed (d, t.is) (d.command, y.auth, spelled, done.auths ∙ one, loaded_handle p.sessions y.auth.session y.session is, there) in
       let same : d.command ≡ sealed_command seal.0 = (exactly_one buffer buffer_sound command bytes).one_value d.command (sealed_command seal.0) spelled seal.2 in
-      let auth : y.auth ≡ seal_auth seal.0 = head_auth y.auth (seal_auth seal.0) (sym (done.auths ∙ one) ∙ ap (λ (c : Command). c.auths.items) same) in
+      let auth : y.auth ≡ seal_auth seal.0 = head_is y.auth (seal_auth seal.0) [] (sym (done.auths ∙ one) ∙ ap (λ (c : Command). c.auths.items) same) in
       let its = same_seal seals s seal.0 g.run.differ g.given seal.1 (nonce ∙ ap (λ (b : Auth). b.nonce) auth) in
       let session = loaded_handle p.sessions y.auth.session y.session is in
       (subst (λ (z : Seal). Spells command (sealed_command z) bytes) (sym its) seal.2, subst (λ (z : Seal). is_session z.caller.handle ≡ true) (sym its) (ap (λ (b : Auth). is_session b.session) (sym auth) ∙ session))
@@ -335,10 +317,8 @@ module _ (o : Origin) (seals : List Seal) (xs : List Opening) (es fs : List Even
   by_signed d g t done y one evidence is =
       let x = done.x in
       let params = reply_params d.reply.body in
-      let k = slot_of y.auth.session in
-      let session = still_held o before y.auth.session y.session is in
-      let sound = subst HasStart session.there (sound_along o k es session.live) in
-      let few : length (nonce_next y.session n) ≤ most_nonce = omega (arith, length-take y.session.nonce_length n, ap (λ (z : Session). z.nonce_length) session.is, sound.1) in
+      let session = held o before y.auth.session y.session is in
+      let few : length (nonce_next y.session n) ≤ most_nonce = omega (arith, length-take y.session.nonce_length n, ap (λ (z : Session). z.nonce_length) session.is, (has_length o es y.auth.session y.session session).1) in
       elim (needs_none y) as (λ b. needs_none y ≡ b → Own) [
         | true ↦ λ none. absurd (never_word o before bytes n s d t done y.auth (record { nonce = nonce_next y.session n; attrs = y.auth.attrs; hmac = [] }) one
             (done.replied ∙ ap (λ z. reply_auths z x.code params n) evidence

@@ -1,6 +1,6 @@
 -- The nonces of sessions along runs.
 use Rattle.std.proofs.Common.{◌≡◌, ◌≢◌, ℕ, ◌+◌, ◌≤◌, List, [], ◌∷◌, ◌++◌, length, take, Ok, Some, None, Option, Bool, true, false, ◌||◌, refl, sym, ap, ◌∙◌, subst, arith, inl, inr}
-use Rattle.std.specs.Prelude.{if◌then◌else◌, ◌==◌, ◌⊎◌, nat_lt, is_some, option_map}
+use Rattle.std.specs.Prelude.{if◌then◌else◌, ◌==◌, ◌⊎◌, nat_lt, is_some}
 use Rattle.std.proofs.lemmas.Bool.Decides.{nat_tests}
 use Rattle.tpm_wire.specs.ResponseCodes.{rc_size, of_parameter}
 use Rattle.tpm_wire.proofs.Agreement.{bind_ok}
@@ -14,8 +14,7 @@ use Rattle.tpm_commands.specs.declared.response.ReplyBody.{ReplyBody}
 use Rattle.tpm_commands.specs.declared.response.ReplyBody.TheVariants as replies
 use Rattle.tpm_buffer.specs.Responses.{Reply}
 use Rattle.tpm_model.specs.Steps.{History, Accepted, PowerCycle, Origin}
-use Rattle.tpm_model.specs.Policies.{Assertion}
-use Rattle.tpm_model.specs.Sessions.{Session, slot_of, lives, begins, clears, closes, authorizes, Start, start_of, begun, begun_with, started_by, last_nonce, assertions_of, as_session, session_in, sessions_at, loaded, if_of_kind, is_handle_of}
+use Rattle.tpm_model.specs.Sessions.{Session, slot_of, lives, begins, clears, closes, authorizes, Start, start_of, begun, begun_with, started_by, last_nonce}
 use Rattle.tpm_model.specs.Present.{present}
 use Rattle.tpm_model.specs.Authorization.{refuse}
 use Rattle.tpm_model.specs.Actions.{action}
@@ -24,7 +23,7 @@ use Rattle.tpm_model.specs.Runs.{Event, after}
 use Rattle.tpm_model.specs.Runs.Event.{Given, Cycled}
 use Rattle.tpm_model.specs.Premises.{nonces, IsAmong, IsApart, AreApart, least_nonce, most_nonce}
 use Rattle.tpm_model.proofs.Accepted.{along, after_next}
-use Rattle.tpm_model.proofs.Slots.{slot_of_session}
+use Rattle.tpm_model.proofs.Slots.{Held}
 
 -- ---- lists of nonces
 
@@ -89,15 +88,15 @@ fresh S o k (Cycled ∷ es) h f l = fresh S o k es (PowerCycle ∷ h) (λ p. abs
 
 -- ---- Each live session was started with a nonce of enough bytes, and not too many.
 
-abbrev pub HasStart : Option Start → Type 0
-HasStart None = ⊥
-HasStart (Some s) = (least_nonce ≤ length s.request.nonce_caller) × (length s.request.nonce_caller ≤ most_nonce)
-
-abbrev pub IsSound : ℕ → History → Type 0
-IsSound k h = lives k h ≡ true → HasStart (start_of k h)
-
-abbrev HasLength : StartAuth → Type 0
+abbrev pub HasLength : StartAuth → Type 0
 HasLength q = (least_nonce ≤ length q.nonce_caller) × (length q.nonce_caller ≤ most_nonce)
+
+abbrev HasStart : Option Start → Type 0
+HasStart None = ⊥
+HasStart (Some s) = HasLength s.request
+
+abbrev IsSound : ℕ → History → Type 0
+IsSound k h = lives k h ≡ true → HasStart (start_of k h)
 
 sound_by : (begin : Option StartAuth) (live gone : Bool) (n : List ℕ) (old : Option Start) → ((q : StartAuth) → begin ≡ Some q → HasLength q) → (live ≡ true → HasStart old)
     → (is_some begin || (if gone then false else live)) ≡ true → HasStart (started_by begin n old)
@@ -105,16 +104,12 @@ sound_by (Some q) live gone n old f g l = f q refl
 sound_by None live true n old f g l = absurd (let k : ⊥ = cc in k)
 sound_by None live false n old f g l = g l
 
-pub both_passed : (a b : Bool) (code : ℕ) → refuse (a || b) code ≡ Ok tt → (a ≡ false) × (b ≡ false)
-both_passed true b code e = absurd (let z : ⊥ = cc in z)
-both_passed false true code e = absurd (let z : ⊥ = cc in z)
-both_passed false false code e = (refl, refl)
-
-enough_and_few : (n m : ℕ) → nat_lt n 16 ≡ false → nat_lt m n ≡ false → m ≤ most_nonce → (least_nonce ≤ n) × (n ≤ most_nonce)
-enough_and_few n m a b le =
-    let enough : 16 ≤ n = grind (arith, nat_tests) in
-    let few : n ≤ m = grind (arith, nat_tests) in
-    (enough, omega (arith, few, le))
+pub bounds : (n m code : ℕ) → refuse (nat_lt n 16 || nat_lt m n) code ≡ Ok tt → (16 ≤ n) × (n ≤ m)
+bounds n m code e = go (nat_lt n 16) (nat_lt m n) refl refl e
+  where
+    go : (a b : Bool) → nat_lt n 16 ≡ a → nat_lt m n ≡ b → refuse (a || b) code ≡ Ok tt → (16 ≤ n) × (n ≤ m)
+    go false false s t e = (let enough : 16 ≤ n = grind (arith, nat_tests) in enough, let few : n ≤ m = grind (arith, nat_tests) in few)
+    go _ _ s t e = absurd (let z : ⊥ = cc in z)
 
 begun_same : (k : ℕ) (s q : StartAuth) (reply : ReplyBody) → begun_with k s reply ≡ Some q → s ≡ q
 begun_same k s q (replies.StartAuthSession r) e = go (slot_of r.session == k) e
@@ -127,43 +122,17 @@ begun_same k s q _ e = absurd (let z : ⊥ = cc in z)
 start_by : (o : Origin) (h : History) (k : ℕ) (body : CommandBody) (n : List ℕ) (reply : ReplyBody) (q : StartAuth)
     → action (present o h) body n ≡ Ok reply → begun k body reply ≡ Some q → HasLength q
 start_by o h k (bodies.StartAuthSession s) n reply q e b =
-    let short = nat_lt (length s.nonce_caller) 16 in
-    let f = bind_ok (refuse (short || nat_lt (digest_len s.auth_hash) (length s.nonce_caller)) (rc_size + of_parameter 1)) _ reply e in
-    let g = both_passed short (nat_lt (digest_len s.auth_hash) (length s.nonce_caller)) (rc_size + of_parameter 1) f.1 in
-    subst HasLength (begun_same k s q reply b) (enough_and_few (length s.nonce_caller) (digest_len s.auth_hash) g.0 g.1 (digest_most s.auth_hash))
+    let f = bind_ok (refuse (nat_lt (length s.nonce_caller) 16 || nat_lt (digest_len s.auth_hash) (length s.nonce_caller)) (rc_size + of_parameter 1)) _ reply e in
+    let g = bounds (length s.nonce_caller) (digest_len s.auth_hash) (rc_size + of_parameter 1) f.1 in
+    subst HasLength (begun_same k s q reply b) (g.0, omega (arith, g.1, digest_most s.auth_hash))
 start_by o h k _ n reply q e b = absurd (let z : ⊥ = cc in z)
 
-pub sound_along : (o : Origin) (k : ℕ) (es : List Event) → IsSound k (after o [] es)
+sound_along : (o : Origin) (k : ℕ) (es : List Event) → IsSound k (after o [] es)
 sound_along o k es = along (IsSound k) o
     (λ h bytes n d s f. sound_by (begun k d.command.body d.reply.body) (lives k h) (clears k d.command.body || closes k d.command.auths.items)
     n (start_of k h) (λ q b. start_by o h k d.command.body n d.reply.body q s.act b) f)
     (λ h f l. absurd (let z : ⊥ = cc in z)) es [] (λ l. absurd (let z : ⊥ = cc in z))
 
--- what a session that is loaded tells
-pub record Held (k : ℕ) (h : History) (nonce : List ℕ) : Type 0 where
-  pub live : lives k h ≡ true
-  pub long : ℕ
-  pub enough : least_nonce ≤ long
-  pub few : long ≤ most_nonce
-  pub is : nonce ≡ take long (last_nonce k h)
-
-held_by : (o : Origin) (live : Bool) (start : Option Start) (n : List ℕ) (made : List Assertion) (s : Session) → (live ≡ true → HasStart start)
-    → (if live then option_map (as_session o n made) start else None) ≡ Some s
-    → (live ≡ true) × (x : Start) × ((least_nonce ≤ length x.request.nonce_caller) × (length x.request.nonce_caller ≤ most_nonce)) × (s.nonce ≡ take (length x.request.nonce_caller) n)
-held_by o true None n made s f e = absurd (f refl)
-held_by o true (Some x) n made s f e = let same : as_session o n made x ≡ s = cc in (refl, x, f refl, ap (λ (y : Session). y.nonce) (sym same))
-held_by o false start n made s f e = absurd (let z : ⊥ = cc in z)
-
-of_kind : (handle : ℕ) (x : Option Session) (s : Session) → if_of_kind handle x ≡ Some s → x ≡ Some s
-of_kind handle None s e = absurd (let z : ⊥ = cc in z)
-of_kind handle (Some y) s e = go (is_handle_of handle y) e
-  where
-    go : (b : Bool) → (if b then Some y else None) ≡ Some s → Some y ≡ Some s
-    go true e = e
-    go false e = absurd (let z : ⊥ = cc in z)
-
-pub held : (o : Origin) (handle : ℕ) (h : History) (s : Session) → IsSound (slot_of handle) h → loaded (sessions_at o h) handle ≡ Some s → Held (slot_of handle) h s.nonce
-held o handle h s f e =
-    let k = slot_of handle in
-    let x = held_by o (lives k h) (start_of k h) (last_nonce k h) (assertions_of k h) s f (slot_of_session o h k s (of_kind handle (session_in (sessions_at o h) k) s e)).0 in
-    record { live = x.0; long = length x.1.request.nonce_caller; enough = x.2.0; few = x.2.1; is = x.3 }
+-- a session that is loaded has such a start
+pub has_length : (o : Origin) (es : List Event) (handle : ℕ) (y : Session) (x : Held o (after o [] es) handle y) → HasLength x.start.request
+has_length o es handle y x = subst HasStart x.there (sound_along o (slot_of handle) es x.live)

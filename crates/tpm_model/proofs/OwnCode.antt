@@ -2,11 +2,11 @@
 use Rattle.std.proofs.Common.{◌≡◌, ℕ, List, [], ◌∷◌, length, Ok, Bool, true, false, refl, sym, ap, ◌∙◌, subst}
 use Rattle.std.specs.Prelude.{◌==◌, if◌then◌else◌}
 use Rattle.tpm_wire.specs.declared.refusal.Refusal.{Refusal}
-use Rattle.tpm_wire.specs.Buffers.{buffer, Layout}
+use Rattle.tpm_wire.specs.Buffers.{Layout}
 use Rattle.tpm_wire.specs.Layout.{either}
-use Rattle.tpm_wire.specs.Layout.Form.{done, number, text, field, area, list, by_left, marked}
+use Rattle.tpm_wire.specs.Layout.Form.{done, field, area}
 use Rattle.tpm_wire.specs.Token.{Here, at_start}
-use Rattle.tpm_wire.specs.Reading.{read, read_all, finish, ◌>>=◌}
+use Rattle.tpm_wire.specs.Reading.{read, read_all}
 use Rattle.tpm_wire.specs.Spelling.{spelling}
 use Rattle.tpm_wire.specs.ResponseCodes.{rc_auth_context, rc_auth_missing}
 use Rattle.tpm_wire.proofs.Agreement.{bind_ok}
@@ -22,8 +22,8 @@ use Rattle.tpm_model.specs.Authorization.{refuse as test}
 use Rattle.tpm_model.specs.Answers.{check_tag, Done}
 use Rattle.tpm_model.proofs.Accepted.{Passed}
 use Rattle.tpm_model.proofs.Spelled.{was_read, code_ok}
-use Rattle.tpm_model.proofs.Sealing.{okay, okay_is}
-use Rattle.tpm_model.proofs.ReplySessions.{finished}
+use Rattle.tpm_model.proofs.Sealing.{okay_is}
+use Rattle.tpm_model.proofs.ReplySessions.{from_start}
 use Rattle.tpm_model.proofs.EachCommand.{Ends, own_params}
 
 -- ---- what a layout ends with
@@ -34,20 +34,12 @@ ends P mark (done y) h x p e = subst P (ap (λ (z : _ × Here). z.0) (okay_is {E
 ends P mark (field get l f) h x p e =
     let a = bind_ok (read mark l h) _ x e in
     ends P mark (f a.0.0) a.0.1 x (p a.0.0) a.2
-ends P mark (number width meaning number_for fault) h x p e = absurd p
-ends P mark (text n judge text_for) h x p e = absurd p
-ends P mark (area n fault l) h x p e = absurd p
-ends P mark (list most stops l) h x p e = absurd p
-ends P mark (by_left f) h x p e = absurd p
-ends P mark (marked n l) h x p e = absurd p
+ends P mark _ h x p e = absurd p
 
 params_are : (code : CommandCode) (bytes : List ℕ) (p : Params) → read_all (parameters code) bytes ≡ Ok p → params_code p ≡ code
 params_are code bytes p e =
-    let a = bind_ok (read 0 (parameters code) (at_start bytes) >>= finish buffer) (λ x. okay {E = Refusal} x.0) p e in
-    let b = bind_ok (read 0 (parameters code) (at_start bytes)) (finish buffer) a.0 a.1 in
-    let same : a.0.0 ≡ p = okay_is {E = Refusal} a.0.0 p a.2 in
-    let first = ends (λ q. params_code q ≡ code) 0 (parameters code) (at_start bytes) b.0 (own_params code) b.1 in
-    subst (λ q. params_code q ≡ code) (ap (λ (z : Params × Here). z.0) (finished b.0 a.0 b.2) ∙ same) first
+    let whole = from_start (read 0 (parameters code) (at_start bytes)) p e in
+    ends (λ q. params_code q ≡ code) 0 (parameters code) (at_start bytes) (p, whole.0) (own_params code) whole.1
 
 pub code_again : (p : Params) (hs : List ℕ) → code_for (body_from hs p) ≡ params_code p
 code_again params.PolicyGetDigest hs = refl

@@ -24,7 +24,7 @@ use Rattle.tpm_model.specs.Authorization.{is_empty, differs, has_policy, Authori
 use Rattle.tpm_model.specs.Actions.{action}
 use Rattle.tpm_model.specs.Answers.{code_only, by_grammar, check_started, check_handle, check_handles, check_tag, Presented, evidence_in, presented, permitted, performed, outcome}
 use Rattle.tpm_model.proofs.Nonzero.{IsAnswered, IfRefused, IsCoded, read_coded, read_all_coded}
-use Rattle.tpm_model.proofs.Coded.{coded_header, coded_handles, coded_authorization}
+use Rattle.tpm_model.proofs.Coded.{coded_header, few_kinds, coded_handles, coded_authorization}
 use Rattle.tpm_model.proofs.Spelled.{code_ok}
 use Rattle.tpm_model.proofs.EachCommand.{IfErr, not_refused, with_code, its_code, next_too, afterwards, tested, test_first, one_of, coded_parameters, acted}
 
@@ -64,11 +64,6 @@ as_many_kinds i (kind ∷ kinds) h x e =
     let b = bind_ok (read 0 (handles_from (i + 1) kinds) a.0.1) (λ z. handles_read (a.0.0 ∷ z.0) z.1) x a.2 in
     let rest = as_many_kinds (i + 1) kinds a.0.1 b.0 b.1 in
     ap length (sym (same_list (a.0.0 ∷ b.0.0) x.0 b.0.1 x.1 b.2)) ∙ ap suc rest
-
-few_kinds : (code : CommandCode) → length (handle_kinds code) < 250
-few_kinds codes.NvUndefineSpace = omega arith
-few_kinds codes.NvIncrement = omega arith
-few_kinds _ = omega arith
 
 few_handles : (code : CommandCode) (h : Here) (x : List ℕ × Here) → by_grammar (handles code) h ≡ Ok x → 1 + length x.0 < 256
 few_handles code h x e = omega (arith, as_many_kinds 1 (handle_kinds code) h x (code_ok _ x e), few_kinds code)

@@ -34,7 +34,8 @@ use Rattle.tpm_model.specs.Premises.{IsAccepted, HasSessionMac, nonces, IsAmong,
 use Rattle.tpm_model.proofs.Accepted.{Passed, passed, ok_is, next_is}
 use Rattle.tpm_model.proofs.Runs.{after-append}
 use Rattle.tpm_model.proofs.Spelled.{was_read, spelled_by}
-use Rattle.tpm_model.proofs.Nonces.{among_later, held, fresh, sound_along, apart_across, apart_front, nonces-append}
+use Rattle.tpm_model.proofs.Slots.{held}
+use Rattle.tpm_model.proofs.Nonces.{among_later, has_length, fresh, apart_across, apart_front, nonces-append}
 
 -- ---- what the checks of a session let through
 
@@ -131,7 +132,7 @@ same_front j k x y a b e = sym (take-take least_nonce j x a) ∙ ap (take least_
 
 -- ---- the two nonces
 
-chosen : (b a : Bool) (n old : List ℕ) → a ≡ true → (if b || a then n else old) ≡ n
+pub chosen : {A : Type 0} (b a : Bool) (n old : A) → a ≡ true → (if b || a then n else old) ≡ n
 chosen true a n old e = refl
 chosen false true n old e = refl
 chosen false false n old e = absurd (let z : ⊥ = cc in z)
@@ -187,9 +188,10 @@ twice_as o es fs gs bytes other n m c a differ apart spells others one is some (
     let one_text = apart (keyed v.signed) (keyed w.signed) among_v among_w (sym v.mac ∙ w.mac) in
     let older = one_nonce (present o h) (present o j) bytes other s.x t.x a v w one_text in
     let k = slot_of a.session in
-    let x = held o a.session h v.signed.session (sound_along o k es) v.is in
-    let y = held o a.session j w.signed.session (sound_along o k (es ++ Given bytes n ∷ fs)) w.is in
-    let front = same_front x.long y.long (last_nonce k h) (last_nonce k j) x.enough y.enough (sym x.is ∙ older ∙ y.is) in
+    let x = held o h a.session v.signed.session v.is in
+    let y = held o j a.session w.signed.session w.is in
+    let front = same_front (length x.start.request.nonce_caller) (length y.start.request.nonce_caller) (last_nonce k h) (last_nonce k j) (has_length o es a.session v.signed.session x).0
+    (has_length o (es ++ Given bytes n ∷ fs) a.session w.signed.session y).0 (sym (ap (λ (s : Session). s.nonce) x.is) ∙ older ∙ ap (λ (s : Session). s.nonce) y.is) in
     let there : j ≡ after o g fs = after-append o [] es (Given bytes n ∷ fs) ∙ ap (λ (l : History). after o l fs) (next_is o h bytes n d first) in
     let by_it = ap (authorizes k) d_auths ∙ its_slot a is in
     uses_apart o es fs k n g x.live (λ _. chosen (begins k d.command.body d.reply.body) (authorizes k d.command.auths.items) n (last_nonce k h) by_it)

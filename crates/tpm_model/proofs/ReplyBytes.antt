@@ -1,12 +1,12 @@
 -- The session of a reply as it is read from its bytes: its nonce and its HMAC, whichever command it is read as the reply to.
-use Rattle.std.proofs.Common.{◌≡◌, ℕ, ◌+◌, ◌-◌, ◌≤◌, ◌<◌, ◌^◌, List, [], ◌∷◌, ◌++◌, length, take, drop, Ok, Some, None, Option, Bool, true, false, refl, sym, ap, ◌∙◌, subst, arith}
+use Rattle.std.proofs.Common.{◌≡◌, ℕ, ◌+◌, ◌-◌, ◌≤◌, ◌<◌, ◌^◌, List, [], ◌∷◌, ◌++◌, length, take, drop, Result, Ok, Some, None, Option, refl, sym, ap, ◌∙◌, subst, arith}
 use Rattle.std.specs.Prelude.{◌==◌, ◌&&◌, nat_le, if◌then◌else◌}
 use Rattle.std.specs.Int.{bytes_high_first}
 use Rattle.std.proofs.lemmas.List.{take_at, drop_at}
 use Rattle.tpm_wire.specs.declared.refusal.Refusal.{Refusal}
 use Rattle.tpm_wire.specs.Buffers.{buffer, number_in}
 use Rattle.tpm_wire.specs.Structures.{sized_bytes}
-use Rattle.tpm_wire.specs.Token.{Here, past, at_start, number_of, or_fault}
+use Rattle.tpm_wire.specs.Token.{Here, past, at_start, number_of}
 use Rattle.tpm_wire.specs.Reading.{read, unless, found}
 use Rattle.tpm_wire.specs.ResponseCodes.{rc_reserved_bits, rc_size, rc_value}
 use Rattle.tpm_wire.proofs.Agreement.{bind_ok, number_ok}
@@ -20,18 +20,9 @@ use Rattle.tpm_buffer.specs.Commands.{command_size}
 use Rattle.tpm_buffer.specs.Responses.{is_response_tag, goes_with, response_tag, response_front, response_code, parameter_size, reply_sessions, further_sessions}
 use Rattle.tpm_model.specs.Premises.{most_nonce}
 use Rattle.tpm_model.proofs.Sealing.{okay_is}
-use Rattle.tpm_model.proofs.ReplySessions.{session_list, auths_at, Lists, front_tag}
+use Rattle.tpm_model.proofs.ReplySessions.{session_list, auths_at, auths_behind, Lists, Fronted, fronted, meant, in_place, front_tag}
 
 -- ---- places behind numbers
-
-meant : (b : Bool) (n y fault : ℕ) → or_fault {F = ℕ} (if b then Some n else None) fault ≡ Ok y → n ≡ y
-meant true n y fault e = okay_is {E = ℕ} n y e
-meant false n y fault e = absurd (let z : ⊥ = cc in z)
-
-in_place : (mark width : ℕ) (set : ℕ → Bool) (code : ℕ) (h : Here) (x : ℕ × Here) → read mark (number_in width set code) h ≡ Ok x → (number_of (take width h.rest) ≡ x.0) × (x.1 ≡ past width h)
-in_place mark width set code h x e =
-    let n = number_ok buffer buffer_sound mark width (λ left n. if set n then Some n else None) (λ n. n) code h x e in
-    (meant (set (number_of (take width h.rest))) (number_of (take width h.rest)) x.0 code n.1, sym n.2)
 
 total_place : (h : Here) (x : ℕ × Here) → read 0 command_size h ≡ Ok x → x.1 ≡ past 4 h
 unfolding command_size
@@ -53,6 +44,10 @@ unfolding parameter_size
 size_place h x e =
     let n = number_ok buffer buffer_sound 0 4 (λ left n. if nat_le n left then Some n else None) (λ n. n) rc_size h x e in
     (meant (nat_le (number_of (take 4 h.rest)) (length h.rest - 4)) (number_of (take 4 h.rest)) x.0 rc_size n.1, sym n.2)
+
+-- where the code ends
+pub code_at : {A : Type 0} (next : ℕ → ℕ → Here → Result A Refusal) (bytes : List ℕ) (x : A) (p : Fronted next bytes x) → p.code.1 ≡ past 4 (past 4 (past 2 (at_start bytes)))
+code_at next bytes x p = code_place p.front.0.0 p.front.1 p.code p.follows ∙ ap (past 4) (front_place (at_start bytes) p.front p.begins)
 
 taken : (o : Option ℕ) (mark n : ℕ) (h : Here) (x : List ℕ × Here) → unless buffer o mark h (found buffer (Ok (take n h.rest)) n mark h) ≡ Ok x → (take n h.rest ≡ x.0) × (past n h ≡ x.1)
 taken None mark n h x e =
@@ -110,7 +105,7 @@ session_read mark h x n f m more few_n few_m is e =
     let same = okay_is {E = Refusal} (auth_at a.0.0 b.0.0 c.0.0 c.0.1) x c.2 in
     (sym (ap (λ (z : AuthReply × Here). z.0.nonce) same) ∙ first.0, sym (ap (λ (z : AuthReply × Here). z.0.hmac) same) ∙ last.0)
 
-head_is : (a b : AuthReply) (others : List AuthReply) → a ∷ others ≡ b ∷ [] → a ≡ b
+pub head_is : {A : Type 0} (a b : A) (others : List A) → a ∷ others ≡ b ∷ [] → a ≡ b
 head_is a b others e = cc
 
 sessions_read : (h g : Here) (a : AuthReply) (n : List ℕ) (f : ℕ) (m more : List ℕ) → length n ≤ most_nonce → length m ≤ most_nonce → Rest h (session_text n f m more) → read 0 reply_sessions h ≡ Ok (a ∷ [], g)
@@ -133,13 +128,11 @@ pub one_session : (size : ℕ) (params n : List ℕ) (f : ℕ) (m more : List �
     → Lists (session_list (reply_bytes size params n f m more)) (a ∷ []) → (a.nonce ≡ n) × (a.hmac ≡ m)
 one_session size params n f m more a short few_n few_m l =
     let bytes = reply_bytes size params n f m more in
-    let x = bind_ok (read 0 response_front (at_start bytes)) _ (a ∷ [], l.0) l.1 in
-    let y = bind_ok (read 0 (response_code x.0.0.0) x.0.1) _ (a ∷ [], l.0) x.2 in
-    let t : x.0.0.0 ≡ 0x8002 = sym (front_tag bytes x.0 x.1) in
-    let z = bind_ok (read 0 parameter_size y.0.1) _ (a ∷ [], l.0) (subst (λ (t : ℕ). auths_at (t == 0x8002) y.0.1 ≡ Ok (a ∷ [], l.0)) t y.2) in
-    let at : y.0.1 ≡ past 4 (past 4 (past 2 (at_start bytes))) = code_place x.0.0.0 x.0.1 y.0 y.1 ∙ ap (past 4) (front_place (at_start bytes) x.0 x.1) in
-    let rest : Rest y.0.1 (bytes_high_first 4 (length params) ++ (params ++ session_text n f m more)) = ap (λ (g : Here). g.rest) at in
-    let s = size_place y.0.1 z.0 z.1 in
+    let p = fronted auths_behind bytes (a ∷ [], l.0) l.1 in
+    let t : p.front.0.0 ≡ 0x8002 = sym (front_tag bytes p.front p.begins) in
+    let z = bind_ok (read 0 parameter_size p.code.1) _ (a ∷ [], l.0) (subst (λ (t : ℕ). auths_at (t == 0x8002) p.code.1 ≡ Ok (a ∷ [], l.0)) t p.last) in
+    let rest : Rest p.code.1 (bytes_high_first 4 (length params) ++ (params ++ session_text n f m more)) = ap (λ (g : Here). g.rest) (code_at auths_behind bytes (a ∷ [], l.0) p) in
+    let s = size_place p.code.1 z.0 z.1 in
     let k : z.0.0 ≡ length params = sym s.0 ∙ ap (λ (r : List ℕ). number_of (take 4 r)) rest ∙ number_of-bytes 4 (length params) (omega (arith, short)) in
     let there : Rest (past z.0.0 z.0.1) (session_text n f m more) =
     ap (λ (i : ℕ). drop i z.0.1.rest) k ∙ ap (λ (g : Here). drop (length params) g.rest) s.1 ∙ ap (λ (r : List ℕ). drop (length params) (drop 4 r)) rest ∙ drop_at params (session_text n f m more) (length params) refl in

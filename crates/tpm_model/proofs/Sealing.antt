@@ -1,5 +1,5 @@
 -- What the device reads of a sealed command, and what it checks there.
-use Rattle.std.proofs.Common.{◌≡◌, ℕ, ◌+◌, ◌-◌, ◌<◌, List, [], ◌∷◌, ◌++◌, length, Result, Ok, Some, None, Option, Bool, true, false, not, ◌||◌, refl, sym, ap, ◌∙◌, subst, arith, length-append}
+use Rattle.std.proofs.Common.{◌≡◌, ℕ, ◌+◌, ◌-◌, ◌<◌, List, [], ◌∷◌, ◌++◌, length, Result, Ok, Some, Option, Bool, true, false, not, ◌||◌, refl, sym, ap, ◌∙◌, subst, arith, length-append}
 use Rattle.std.specs.Prelude.{if◌then◌else◌, bytes_eq}
 use Rattle.std.proofs.lemmas.List.{append-nil}
 use Rattle.std.proofs.lemmas.Slice.Eq.{bytes_eq-Decides}
@@ -26,7 +26,7 @@ use Rattle.tpm_types.proofs.Algs.{digest_some}
 use Rattle.tpm_hmac.specs.Hmac.{hmac}
 use Rattle.tpm_hmac.specs.Sessions.{trim, whole_key, cp_hash, mac_text}
 use Rattle.tpm_hmac.proofs.DigestLengths.{length-hmac}
-use Rattle.tpm_model.specs.Sessions.{Session, session_in, loaded, slot_of, if_of_kind, is_handle_of, is_hmac}
+use Rattle.tpm_model.specs.Sessions.{Session, session_in, loaded, slot_of, is_hmac}
 use Rattle.tpm_model.specs.Present.{Present}
 use Rattle.tpm_model.specs.Entities.{Entity, entity_of, names_of}
 use Rattle.tpm_model.specs.Authorization.{refuse, is_empty, evidence_of, check_evidence, first_loaded, failure, Signed, command_text, needs_none, is_signed, follows, key_for, ByMac}
@@ -34,6 +34,8 @@ use Rattle.tpm_model.specs.Answers.{Presented, presented, check_tag}
 use Rattle.tpm_model.specs.InStep.{CallerSession, Agrees}
 use Rattle.tpm_model.specs.Callers.{Seal, attrs_for, command_params, seal_key, seal_text, seal_auth, sealed_command, sealed}
 use Rattle.tpm_model.specs.Premises.{HasSpelling, asked_for, IsPresent}
+use Rattle.tpm_model.proofs.Accepted.{some_is}
+use Rattle.tpm_model.proofs.Slots.{of_kind}
 use Rattle.tpm_model.proofs.Spelled.{was_read, read_in_turn}
 use Rattle.tpm_model.proofs.Replay.{by_its_session, both_false, some_bytes}
 
@@ -86,27 +88,13 @@ okay_is x y e = cc
 
 session_by : (by_hmac hmac policy : Bool) → (if by_hmac then hmac else policy) ≡ true → (hmac || policy) ≡ true
 session_by true true policy e = refl
-session_by true false policy e = absurd (let z : ⊥ = cc in z)
 session_by false true policy e = refl
 session_by false false policy e = e
-
-of_handle : (handle : ℕ) (x : Option Session) (s : Session) → if_of_kind handle x ≡ Some s → is_session handle ≡ true
-of_handle handle None s e = absurd (let z : ⊥ = cc in z)
-of_handle handle (Some y) s e = go (is_handle_of handle y) refl e
-  where
-    go : (b : Bool) → is_handle_of handle y ≡ b → (if b then Some y else None) ≡ Some s → is_session handle ≡ true
-    go true t e = session_by (is_hmac y.session_type) (is_hmac_session handle) (is_policy handle) t
-    go false t e = absurd (let z : ⊥ = cc in z)
+session_by _ _ policy e = absurd (let z : ⊥ = cc in z)
 
 -- The handle of a session that is loaded is a session's.
 pub loaded_handle : (sessions : List (Option Session)) (handle : ℕ) (s : Session) → loaded sessions handle ≡ Some s → is_session handle ≡ true
-loaded_handle sessions handle s e = of_handle handle (session_in sessions (slot_of handle)) s e
-
-abbrev pub some : Session → Option Session
-some s = Some s
-
-pub some_is : (s t : Session) → some s ≡ some t → s ≡ t
-some_is s t e = cc
+loaded_handle sessions handle s e = session_by (is_hmac s.session_type) (is_hmac_session handle) (is_policy handle) (of_kind handle (session_in sessions (slot_of handle)) s e).1
 
 -- ---- the HMAC of a sealed command
 

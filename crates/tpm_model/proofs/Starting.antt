@@ -26,10 +26,9 @@ use Rattle.tpm_model.specs.Answers.{Done, outcome, next}
 use Rattle.tpm_model.specs.InStep.{CallerSession, InStep}
 use Rattle.tpm_model.specs.Callers.{nonces_fit, bound_to, started_with}
 use Rattle.tpm_model.specs.Premises.{nonce_bytes}
-use Rattle.tpm_model.proofs.Accepted.{passed, next_is, ok_is}
-use Rattle.tpm_model.proofs.Slots.{IsSlot, in_slot}
-use Rattle.tpm_model.proofs.Nonces.{both_passed}
-use Rattle.tpm_model.proofs.Sealing.{some}
+use Rattle.tpm_model.proofs.Accepted.{passed, next_is, ok_is, some, some_is, was_some}
+use Rattle.tpm_model.proofs.Slots.{IsSlot, each_slot, in_slot}
+use Rattle.tpm_model.proofs.Nonces.{bounds}
 
 -- ---- what was answered
 
@@ -39,38 +38,23 @@ start_reply r = replies.StartAuthSession r
 reply_is : (r t : StartReply) → start_reply r ≡ start_reply t → r ≡ t
 reply_is r t e = cc
 
-was_some : (x : Option ℕ) (code k : ℕ) → ok_or x code ≡ Ok k → x ≡ Some k
-was_some None code k e = absurd (let z : ⊥ = cc in z)
-was_some (Some j) code k e = ap (λ (i : ℕ). let y : Option ℕ = Some i in y) (ok_is j k e)
-
-one_slot : (j k : ℕ) → (let x : Option ℕ = Some j in x) ≡ Some k → j ≡ k
-one_slot j k e = cc
-
 slot_is : (sessions : List (Option Session)) (k : ℕ) → free_slot sessions ≡ Some k → IsSlot k
 slot_is sessions k e = go (is_none (session_in sessions 0)) (is_none (session_in sessions 1)) (is_none (session_in sessions 2)) e
   where
     go : (a b c : Bool) → (if a then Some 0 else if b then Some 1 else if c then Some 2 else None) ≡ Some k → IsSlot k
-    go true b c e = inl (one_slot 0 k e)
-    go false true c e = inr (inl (one_slot 1 k e))
-    go false false true e = inr (inr (one_slot 2 k e))
+    go true b c e = inl (some_is 0 k e)
+    go false true c e = inr (inl (some_is 1 k e))
+    go false false true e = inr (inr (some_is 2 k e))
     go false false false e = absurd (let z : ⊥ = cc in z)
 
 kind_by : (by_hmac : Bool) (k : ℕ) → IsSlot k → (if by_hmac then is_hmac_session ((if by_hmac then 0x02000000 else 0x03000000) + k) else is_policy ((if by_hmac then 0x02000000 else 0x03000000) + k)) ≡ true
-kind_by true k (inl e) = subst (λ (i : ℕ). is_hmac_session (0x02000000 + i) ≡ true) e refl
-kind_by true k (inr (inl e)) = subst (λ (i : ℕ). is_hmac_session (0x02000000 + i) ≡ true) e refl
-kind_by true k (inr (inr e)) = subst (λ (i : ℕ). is_hmac_session (0x02000000 + i) ≡ true) e refl
-kind_by false k (inl e) = subst (λ (i : ℕ). is_policy (0x03000000 + i) ≡ true) e refl
-kind_by false k (inr (inl e)) = subst (λ (i : ℕ). is_policy (0x03000000 + i) ≡ true) e refl
-kind_by false k (inr (inr e)) = subst (λ (i : ℕ). is_policy (0x03000000 + i) ≡ true) e refl
+kind_by true = each_slot (λ i. is_hmac_session (0x02000000 + i) ≡ true) refl refl refl
+kind_by false = each_slot (λ i. is_policy (0x03000000 + i) ≡ true) refl refl refl
 
 -- the handle is of its slot
 slot_by : (by_hmac : Bool) (k : ℕ) → IsSlot k → IsSlot (slot_of ((if by_hmac then 0x02000000 else 0x03000000) + k))
-slot_by true k (inl e) = subst (λ (i : ℕ). IsSlot (slot_of (0x02000000 + i))) e (inl refl)
-slot_by true k (inr (inl e)) = subst (λ (i : ℕ). IsSlot (slot_of (0x02000000 + i))) e (inr (inl refl))
-slot_by true k (inr (inr e)) = subst (λ (i : ℕ). IsSlot (slot_of (0x02000000 + i))) e (inr (inr refl))
-slot_by false k (inl e) = subst (λ (i : ℕ). IsSlot (slot_of (0x03000000 + i))) e (inl refl)
-slot_by false k (inr (inl e)) = subst (λ (i : ℕ). IsSlot (slot_of (0x03000000 + i))) e (inr (inl refl))
-slot_by false k (inr (inr e)) = subst (λ (i : ℕ). IsSlot (slot_of (0x03000000 + i))) e (inr (inr refl))
+slot_by true = each_slot (λ i. IsSlot (slot_of (0x02000000 + i))) (inl refl) (inr (inl refl)) (inr (inr refl))
+slot_by false = each_slot (λ i. IsSlot (slot_of (0x03000000 + i))) (inl refl) (inr (inl refl)) (inr (inr refl))
 
 -- what an accepted start has passed
 record Answered (q : StartAuth) (n : List ℕ) (r : StartReply) : Type 0 where
@@ -80,26 +64,13 @@ record Answered (q : StartAuth) (n : List ℕ) (r : StartReply) : Type 0 where
   free : IsSlot slot
   is : r ≡ record { session = handle_for q.session_type slot; nonce_tpm = nonce_from q n }
 
-bounds : (n m : ℕ) → nat_lt n 16 ≡ false → nat_lt m n ≡ false → (16 ≤ n) × (n ≤ m)
-bounds n m a b =
-    let enough : 16 ≤ n = grind (arith, nat_tests) in
-    let few : n ≤ m = grind (arith, nat_tests) in
-    (enough, few)
-
 answered_start : (sessions : List (Option Session)) (q : StartAuth) (n : List ℕ) (r : StartReply) → start_session sessions q n ≡ Ok (replies.StartAuthSession r) → Answered q n r
 answered_start sessions q n r e =
     let a = bind_ok (refuse (nat_lt (length q.nonce_caller) 16 || nat_lt (digest_len q.auth_hash) (length q.nonce_caller)) (rc_size + of_parameter 1)) _ (start_reply r) e in
     let b = bind_ok (ok_or (free_slot sessions) rc_session_memory) _ (start_reply r) a.2 in
-    let g = both_passed (nat_lt (length q.nonce_caller) 16) (nat_lt (digest_len q.auth_hash) (length q.nonce_caller)) (rc_size + of_parameter 1) a.1 in
-    let both = bounds (length q.nonce_caller) (digest_len q.auth_hash) g.0 g.1 in
+    let both = bounds (length q.nonce_caller) (digest_len q.auth_hash) (rc_size + of_parameter 1) a.1 in
     let made : StartReply = record { session = handle_for q.session_type b.0; nonce_tpm = nonce_from q n } in
     record { least = both.0; most = both.1; slot = b.0; free = slot_is sessions b.0 (was_some (free_slot sessions) rc_session_memory b.0 b.1); is = sym (reply_is made r (ok_is (start_reply made) (start_reply r) b.2)) }
-
-abbrev some_start : StartAuth → Option StartAuth
-some_start q = Some q
-
-abbrev some_caller : CallerSession → Option CallerSession
-some_caller c = Some c
 
 -- ---- the session
 
@@ -122,7 +93,7 @@ starts o h bytes n d q r auth e body reply whole same =
     let c : CallerSession = record { handle = r.session; hash = q.auth_hash; key = session_key q.auth_hash (bound_to q.bind auth) r.nonce_tpm q.nonce_caller; nonce = r.nonce_tpm } in
     let by : begun k d.command.body d.reply.body ≡ Some q =
     ap (λ b. begun k b d.reply.body) body ∙ ap (begun k (bodies.StartAuthSession q)) reply
-    ∙ ap (λ (b : Bool). if b then some_start q else None) (let it : (slot_of r.session == slot_of r.session) ≡ true = grind (arith, nat_tests) in it) in
+    ∙ ap (λ (b : Bool). if b then some q else None) (let it : (slot_of r.session == slot_of r.session) ≡ true = grind (arith, nat_tests) in it) in
     let start : Start = record { request = q; nonce = n } in
     let z = as_session o n (assertions_of k g) start in
     let there : session_at o g k ≡ Some z = rw by refl in
@@ -139,4 +110,4 @@ starts o h bytes n d q r auth e body reply whole same =
         length = sym long;
       },
     ) in
-    (c, ap (λ b. if b then some_caller c else None) fit, subst (λ l. InStep o l c) (sym (next_is o h bytes n d e)) step)
+    (c, ap (λ b. if b then some c else None) fit, subst (λ l. InStep o l c) (sym (next_is o h bytes n d e)) step)

@@ -1,6 +1,6 @@
 -- After an accepted step of a session that is kept, its caller is in step with the new nonce.
-use Rattle.std.proofs.Common.{◌≡◌, ℕ, ◌≤◌, List, [], ◌∷◌, length, take, Some, None, Option, Bool, true, false, not, ◌&&◌, ◌||◌, refl, sym, ap, ◌∙◌, subst, arith, length-take}
-use Rattle.std.specs.Prelude.{if◌then◌else◌, option_map}
+use Rattle.std.proofs.Common.{◌≡◌, ℕ, ◌≤◌, List, [], ◌∷◌, length, take, Some, None, Bool, true, false, not, ◌&&◌, refl, sym, ap, ◌∙◌, subst, arith, length-take}
+use Rattle.std.specs.Prelude.{if◌then◌else◌}
 use Rattle.tpm_types.specs.declared.tpms.Auth.{Auth}
 use Rattle.tpm_types.specs.Handles.{is_session}
 use Rattle.tpm_types.specs.Tpma.{continues}
@@ -12,46 +12,13 @@ use Rattle.tpm_commands.specs.Handles.{needs_authorization}
 use Rattle.tpm_buffer.specs.Commands.{code_for}
 use Rattle.tpm_buffer.specs.Responses.{Reply}
 use Rattle.tpm_model.specs.Steps.{History, Accepted, Origin}
-use Rattle.tpm_model.specs.Policies.{Assertion}
-use Rattle.tpm_model.specs.Sessions.{Session, slot_of, lives, begins, begun, clears, closes, is_of_slot, authorizes, Start, start_of, last_nonce, assertions_of, as_session, session_at, session_in, sessions_at, loaded, if_of_kind, is_handle_of}
+use Rattle.tpm_model.specs.Sessions.{Session, slot_of, lives, begins, begun, clears, closes, is_of_slot, authorizes, start_of, last_nonce, assertions_of, as_session, session_at, sessions_at, loaded, if_of_kind, is_handle_of}
 use Rattle.tpm_model.specs.InStep.{CallerSession, Agrees, InStep}
 use Rattle.tpm_model.specs.Callers.{attrs_for}
 use Rattle.tpm_model.specs.Premises.{nonce_bytes, most_nonce, rolled}
-use Rattle.tpm_model.proofs.Replay.{its_slot}
-use Rattle.tpm_model.proofs.Slots.{IsSlot, in_slot, slot_of_session}
-use Rattle.tpm_model.proofs.Sealing.{some, some_is}
-
--- ---- a session that is loaded, by its start
-
-pub record Held (o : Origin) (h : History) (handle : ℕ) (y : Session) : Type 0 where
-  pub live : lives (slot_of handle) h ≡ true
-  pub start : Start
-  pub there : start_of (slot_of handle) h ≡ Some start
-  pub is : y ≡ as_session o (last_nonce (slot_of handle) h) (assertions_of (slot_of handle) h) start
-  pub kind : is_handle_of handle y ≡ true
-  pub slot : IsSlot (slot_of handle)
-
-of_kind : (handle : ℕ) (x : Option Session) (y : Session) → if_of_kind handle x ≡ Some y → (x ≡ Some y) × (is_handle_of handle y ≡ true)
-of_kind handle None y e = absurd (let z : ⊥ = cc in z)
-of_kind handle (Some x) y e = go (is_handle_of handle x) refl e
-  where
-    go : (b : Bool) → is_handle_of handle x ≡ b → (if b then Some x else None) ≡ Some y → (some x ≡ Some y) × (is_handle_of handle y ≡ true)
-    go true t e = (e, subst (λ z. is_handle_of handle z ≡ true) (some_is x y e) t)
-    go false t e = absurd (let z : ⊥ = cc in z)
-
-by_start : (o : Origin) (live : Bool) (start : Option Start) (n : List ℕ) (made : List Assertion) (y : Session) → (if live then option_map (as_session o n made) start else None) ≡ Some y
-    → (live ≡ true) × (x : Start) × (start ≡ Some x) × (y ≡ as_session o n made x)
-by_start o true None n made y e = absurd (let z : ⊥ = cc in z)
-by_start o true (Some x) n made y e = (refl, x, refl, sym (some_is (as_session o n made x) y e))
-by_start o false start n made y e = absurd (let z : ⊥ = cc in z)
-
-pub held : (o : Origin) (h : History) (handle : ℕ) (y : Session) → loaded (sessions_at o h) handle ≡ Some y → Held o h handle y
-held o h handle y e =
-    let k = slot_of handle in
-    let a = of_kind handle (session_in (sessions_at o h) k) y e in
-    let at = slot_of_session o h k y a.0 in
-    let b = by_start o (lives k h) (start_of k h) (last_nonce k h) (assertions_of k h) y at.0 in
-    record { live = b.0; start = b.1; there = b.2; is = b.3; kind = a.1; slot = at.1 }
+use Rattle.tpm_model.proofs.Accepted.{some}
+use Rattle.tpm_model.proofs.Slots.{in_slot, held}
+use Rattle.tpm_model.proofs.Replay.{its_slot, chosen}
 
 -- ---- the step
 
@@ -78,14 +45,6 @@ lives_on k c r n h a needs one keep l =
 start_on : (k : ℕ) (c : Command) (r : Reply) (n : List ℕ) (h : History) → needs_authorization (code_for c.body) ≡ true → start_of k (Accepted c r n ∷ h) ≡ start_of k h
 start_on k c r n h needs = rw (no_begin k c.body r.body needs) refl
 
-nonce_on : (k : ℕ) (c : Command) (r : Reply) (n : List ℕ) (h : History) → authorizes k c.auths.items ≡ true → last_nonce k (Accepted c r n ∷ h) ≡ n
-nonce_on k c r n h by = go (begins k c.body r.body) (authorizes k c.auths.items) by
-  where
-    go : (b a : Bool) → a ≡ true → (if b || a then n else last_nonce k h) ≡ n
-    go true a e = refl
-    go false true e = refl
-    go false false e = absurd (let z : ⊥ = cc in z)
-
 -- A caller that keeps its session is in step after the step.
 pub still : (o : Origin) (h : History) (c : CallerSession) (y : Session) (d : Command) (r : Reply) (n : List ℕ) (a : Auth)
     → loaded (sessions_at o h) c.handle ≡ Some y → Agrees c y → is_session c.handle ≡ true → length n ≡ nonce_bytes → length c.nonce ≤ most_nonce
@@ -97,7 +56,7 @@ still o h c y d r n a is agrees session whole short needs one handle keep =
     let by : authorizes k d.auths.items ≡ true = ap (authorizes k) one ∙ subst (λ (i : ℕ). authorizes (slot_of i) (a ∷ []) ≡ true) handle (its_slot a (subst (λ (i : ℕ). is_session i ≡ true) (sym handle) session)) in
     let live = lives_on k d r n h a needs one keep x.live in
     let start : start_of k g ≡ Some x.start = start_on k d r n h needs ∙ x.there in
-    let nonce = nonce_on k d r n h by in
+    let nonce : last_nonce k g ≡ n = chosen (begins k d.body r.body) (authorizes k d.auths.items) n (last_nonce k h) by in
     let z = as_session o n (assertions_of k g) x.start in
     let there : session_at o g k ≡ Some z = rw (live, start, nonce) refl in
     let kind : is_handle_of c.handle z ≡ true = subst (λ s. is_handle_of c.handle s ≡ true) x.is x.kind in
