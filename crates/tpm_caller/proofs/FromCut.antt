@@ -1,14 +1,14 @@
 -- What the cut of a reply tells of the whole response.
 use Rattle.std.proofs.Common.{◌≡◌, ◌≢◌, ℕ, Bool, true, false, List, [], ◌∷◌, length, take, Ok, Some, None, Option, refl, sym, ap, ◌∙◌, subst}
 use Rattle.std.specs.Prelude.{◌==◌, if◌then◌else◌}
-use Rattle.std.proofs.lemmas.Bool.{eqb-true, eq-eqb}
+use Rattle.std.proofs.lemmas.Bool.{eq-eqb}
 use Rattle.std.proofs.lemmas.List.{nil_from_length}
 use Rattle.tpm_wire.specs.declared.refusal.Refusal.{Refusal}
 use Rattle.tpm_wire.specs.Buffers.{buffer, Layout}
 use Rattle.tpm_wire.specs.Layout.{either, raw}
 use Rattle.tpm_wire.specs.Layout.Form.{done, field, area}
 use Rattle.tpm_wire.specs.Token.{Here, past, at_start}
-use Rattle.tpm_wire.specs.Reading.{read, read_all, finish, refuse, unless, ◌>>=◌}
+use Rattle.tpm_wire.specs.Reading.{read, read_all, refuse, unless, ◌>>=◌}
 use Rattle.tpm_wire.specs.ResponseCodes.{rc_size}
 use Rattle.tpm_wire.specs.Path.{Spells}
 use Rattle.tpm_wire.proofs.Agreement.{bind_ok}
@@ -23,23 +23,16 @@ use Rattle.tpm_commands.specs.declared.response.Response.{Response}
 use Rattle.tpm_commands.specs.declared.response.Response.TheVariants as responses
 use Rattle.tpm_commands.specs.Handles.{needs_authorization}
 use Rattle.tpm_commands.specs.Replies.{reply_handles, reply_parameters}
-use Rattle.tpm_buffer.specs.Responses.{response_front, response_code, parameter_size, reply_sessions, Reply, with_sessions, without_sessions, reply_behind, reply, reply_of, done_with, behind_code, response, ReplyCut, raw_with_sessions, cut_behind_code, reply_cut}
+use Rattle.tpm_buffer.specs.Responses.{parameter_size, reply_sessions, Reply, with_sessions, without_sessions, reply_behind, reply, reply_of, done_with, behind_code, response, ReplyCut, raw_with_sessions, cut_behind_code, reply_cut}
 use Rattle.tpm_hmac.specs.Hmac.{hmac}
 use Rattle.tpm_model.specs.Answers.{reply_params}
 use Rattle.tpm_model.specs.Callers.{WrongMac, Waiting, awaited_text, opened_response}
 use Rattle.tpm_model.proofs.Sealing.{okay, okay_is}
-use Rattle.tpm_model.proofs.ReplySessions.{goes_on, no_handles, finished}
+use Rattle.tpm_model.proofs.ReplySessions.{goes_on, no_handles, from_start, fronted, fronted_too}
 use Rattle.tpm_caller.specs.declared.waiting.CallerFault.TheVariants as faults
 use Rattle.tpm_caller.specs.Sent.{has_no_params}
 use Rattle.tpm_caller.proofs.Opening.{HasOne, FirstFault, only, other_mac}
 use Rattle.tpm_caller.proofs.ReplyParams.{without_auths, raw_behind}
-
-nothing_left : {A : Type 0} (x y : A × Here) → finish buffer x ≡ Ok y → length x.1.rest ≡ 0
-nothing_left x y e = go (length x.1.rest == 0) refl e
-  where
-    go : (b : Bool) → (length x.1.rest == 0) ≡ b → (if b then okay {E = Refusal} x else refuse buffer 0 rc_size x.1) ≡ Ok y → length x.1.rest ≡ 0
-    go true t e = eqb-true _ _ t
-    go false t e = absurd (let z : ⊥ = cc in z)
 
 -- ---- a reply without parameters
 
@@ -95,28 +88,21 @@ plain_behind code t n body h x a needs none empty one e = go (n == 0) e
 -- ---- the whole
 
 abbrev Tells : CommandCode → ReplyCut → Response → Type 0
-Tells code c r = (t n : ℕ) (h : Here) (x : ReplyCut × Here) → x.0 ≡ c → read 0 (cut_behind_code code t n) h ≡ Ok x → read 0 (behind_code code t n) h ≡ Ok (r, x.1)
+Tells code c r = (t n : ℕ) (h g : Here) → read 0 (cut_behind_code code t n) h ≡ Ok (c, g) → read 0 (behind_code code t n) h ≡ Ok (r, g)
 
 whole_told : (code : CommandCode) (bytes : List ℕ) (c : ReplyCut) (r : Response) → Tells code c r → read_all (reply_cut code) bytes ≡ Ok c → read_all (response code) bytes ≡ Ok r
 unfolding reply_cut response
 whole_told code bytes c r tells e =
-    let all = bind_ok (read 0 (reply_cut code) (at_start bytes) >>= finish buffer) (λ x. okay {E = Refusal} x.0) c e in
-    let whole = bind_ok (read 0 (reply_cut code) (at_start bytes)) (finish buffer) all.0 all.1 in
-    let value : whole.0.0 ≡ c = ap (λ (z : ReplyCut × Here). z.0) (finished whole.0 all.0 whole.2) ∙ okay_is {E = Refusal} all.0.0 c all.2 in
-    let left : length whole.0.1.rest ≡ 0 = nothing_left whole.0 all.0 whole.2 in
-    let f = bind_ok (read 0 response_front (at_start bytes)) _ whole.0 whole.1 in
-    let n = bind_ok (read 0 (response_code f.0.0.0) f.0.1) _ whole.0 f.2 in
-    let there = tells f.0.0.0 n.0.0 n.0.1 whole.0 value n.2 in
-    let read_it : read 0 (response code) (at_start bytes) ≡ Ok (r, whole.0.1) =
-    goes_on (read 0 response_front (at_start bytes)) (λ f. read 0 (response_code f.0.0) f.1 >>= λ n. read 0 (behind_code code f.0.0 n.0) n.1) f.0 _ f.1
-    (goes_on (read 0 (response_code f.0.0.0) f.0.1) (λ n. read 0 (behind_code code f.0.0.0 n.0) n.1) n.0 _ n.1 there) in
-    rw (read_it, left) refl
+    let whole = from_start (read 0 (reply_cut code) (at_start bytes)) c e in
+    let p = fronted (λ t n. read 0 (cut_behind_code code t n)) bytes (c, whole.0) whole.1 in
+    let read_it : read 0 (response code) (at_start bytes) ≡ Ok (r, whole.0) =
+    fronted_too (λ t n. read 0 (cut_behind_code code t n)) (λ t n. read 0 (behind_code code t n)) bytes (c, whole.0) (Ok (r, whole.0)) p (tells p.front.0.0 p.code.0 p.code.1 whole.0 p.last) in
+    rw (read_it, whole.2) refl
 
 pub plain_read : (code : CommandCode) (bytes : List ℕ) (c : ReplyCut) (body : ReplyBody) (a : AuthReply) → needs_authorization code ≡ true → reply_parameters code [] ≡ done body → length c.params ≡ 0 → c.auths ≡ a ∷ [] → Spells (reply_cut code) c bytes
     → read_all (response code) bytes ≡ Ok (done_with (plain body (a ∷ [])))
 plain_read code bytes c body a needs none empty one s = whole_told code bytes c (done_with (plain body (a ∷ [])))
-    (λ t n h x is e. plain_behind code t n body h x a needs none (ap (λ (d : ReplyCut). length d.params) is ∙ empty) (ap (λ (d : ReplyCut). d.auths) is ∙ one) e
-    ∙ ap (λ (l : List AuthReply). okay {E = Refusal} (done_with (plain body l), x.1)) (ap (λ (d : ReplyCut). d.auths) is ∙ one))
+    (λ t n h g e. plain_behind code t n body h (c, g) a needs none empty one e ∙ ap (λ (l : List AuthReply). okay {E = Refusal} (done_with (plain body l), g)) one)
     (spells_read buffer buffer_sound (reply_cut code) bytes c s)
 
 -- ---- what is opened

@@ -7,8 +7,8 @@ use Rattle.tpm_wire.specs.declared.refusal.Refusal.{Refusal}
 use Rattle.tpm_wire.specs.Buffers.{buffer, Layout}
 use Rattle.tpm_wire.specs.Layout.{either, raw, remaining}
 use Rattle.tpm_wire.specs.Layout.Form.{done, field}
-use Rattle.tpm_wire.specs.Token.{Here, past, at_start, number_of, or_fault}
-use Rattle.tpm_wire.specs.Reading.{read, read_all, finish, ◌>>=◌}
+use Rattle.tpm_wire.specs.Token.{Here, at_start, number_of, or_fault}
+use Rattle.tpm_wire.specs.Reading.{read, read_all, ◌>>=◌}
 use Rattle.tpm_wire.specs.Path.{Spells}
 use Rattle.tpm_wire.specs.Spelling.{spelling}
 use Rattle.tpm_wire.proofs.Agreement.{bind_ok, number_ok}
@@ -22,13 +22,13 @@ use Rattle.tpm_commands.specs.declared.response.ReplyBody.TheVariants as replies
 use Rattle.tpm_commands.specs.Handles.{needs_authorization}
 use Rattle.tpm_buffer.specs.Commands.{command_size}
 use Rattle.tpm_commands.specs.Replies.{code_for_reply, reply_handles, reply_handles_of}
-use Rattle.tpm_buffer.specs.Responses.{is_response_tag, response_tag, response_front, response_code, parameter_size, reply_sessions, size_of_response, response, done_with, ReplyCut, raw_with_sessions, raw_without_sessions, cut_behind_code, reply_cut}
+use Rattle.tpm_buffer.specs.Responses.{is_response_tag, response_tag, response_front, parameter_size, reply_sessions, size_of_response, response, done_with, ReplyCut, raw_with_sessions, raw_without_sessions, cut_behind_code, reply_cut}
 use Rattle.tpm_buffer.proofs.Places.{raw_is}
 use Rattle.tpm_buffer.proofs.Parted.{answers}
 use Rattle.tpm_model.specs.Answers.{reply_params}
-use Rattle.tpm_model.proofs.Sealing.{okay, okay_is}
-use Rattle.tpm_model.proofs.ReplySessions.{no_handles, finished}
-use Rattle.tpm_model.proofs.ReplyBytes.{session_text, reply_bytes, front_place, code_place, size_place}
+use Rattle.tpm_model.proofs.Sealing.{okay_is}
+use Rattle.tpm_model.proofs.ReplySessions.{no_handles, from_start, fronted}
+use Rattle.tpm_model.proofs.ReplyBytes.{session_text, reply_bytes, code_at, size_place}
 use Rattle.tpm_model.proofs.Mixed.{one_reply}
 use Rattle.tpm_caller.specs.Sent.{IsSpelledBy}
 
@@ -83,9 +83,7 @@ code_params code t n h x a needs one e = go (n == 0) e
 
 small_size : (b c d : Bool) (n k : ℕ) → b ≡ (n == k + 6) → d ≡ nat_le n 4096 → (y : ℕ) → or_fault {F = ℕ} (if b && c && d then Some n else None) 0x142 ≡ Ok y → k + 6 ≤ 4096
 small_size true true true n k e f y is = omega (arith, eqb-true n (k + 6) (sym e), leb-true n 4096 (sym f))
-small_size false c d n k e f y is = absurd (let z : ⊥ = cc in z)
-small_size true false d n k e f y is = absurd (let z : ⊥ = cc in z)
-small_size true true false n k e f y is = absurd (let z : ⊥ = cc in z)
+small_size _ _ _ n k e f y is = absurd (let z : ⊥ = cc in z)
 
 size_short : (h : Here) (x : ℕ × Here) → read 0 command_size h ≡ Ok x → length h.rest - 4 + 6 ≤ 4096
 unfolding command_size
@@ -113,18 +111,11 @@ record CutPlaces (bytes : List ℕ) (c : ReplyCut) : Type 0 where
 cut_places : (code : CommandCode) (bytes : List ℕ) (c : ReplyCut) (a : AuthReply) → needs_authorization code ≡ true → c.auths ≡ a ∷ [] → read_all (reply_cut code) bytes ≡ Ok c → CutPlaces bytes c
 unfolding reply_cut
 cut_places code bytes c a needs one e =
-    let all = bind_ok (read 0 (reply_cut code) (at_start bytes) >>= finish buffer) (λ x. okay {E = Refusal} x.0) c e in
-    let whole = bind_ok (read 0 (reply_cut code) (at_start bytes)) (finish buffer) all.0 all.1 in
-    let value : whole.0.0 ≡ c = ap (λ (z : ReplyCut × Here). z.0) (finished whole.0 all.0 whole.2) ∙ okay_is {E = Refusal} all.0.0 c all.2 in
-    let f = bind_ok (read 0 response_front (at_start bytes)) _ whole.0 whole.1 in
-    let n = bind_ok (read 0 (response_code f.0.0.0) f.0.1) _ whole.0 f.2 in
-    let at : n.0.1 ≡ past 4 (past 4 (past 2 (at_start bytes))) = code_place f.0.0.0 f.0.1 n.0 n.1 ∙ ap (past 4) (front_place (at_start bytes) f.0 f.1) in
+    let whole = from_start (read 0 (reply_cut code) (at_start bytes)) c e in
+    let p = fronted (λ t n. read 0 (cut_behind_code code t n)) bytes (c, whole.0) whole.1 in
     record {
-      short = front_short bytes f.0 f.1;
-      params =
-          ap (λ (z : ReplyCut). z.params) (sym value)
-          ∙ code_params code f.0.0.0 n.0.0 n.0.1 whole.0 a needs (ap (λ (z : ReplyCut). z.auths) value ∙ one) n.2
-          ∙ ap (λ (g : Here). by_size g.rest) at;
+      short = front_short bytes p.front p.begins;
+      params = code_params code p.front.0.0 p.code.0 p.code.1 (c, whole.0) a needs one p.last ∙ ap (λ (g : Here). by_size g.rest) (code_at (λ t n. read 0 (cut_behind_code code t n)) bytes (c, whole.0) p);
     }
 
 none_spelled : (body : ReplyBody) → needs_authorization (code_for_reply body) ≡ true → spelling (reply_handles (code_for_reply body)) (reply_handles_of body) ≡ []
