@@ -26,12 +26,12 @@ use Rattle.tpm_commands.specs.Replies.{reply_handles, reply_parameters}
 use Rattle.tpm_buffer.specs.Responses.{parameter_size, reply_sessions, Reply, with_sessions, without_sessions, reply_behind, reply, reply_of, done_with, behind_code, response, ReplyCut, raw_with_sessions, cut_behind_code, reply_cut}
 use Rattle.tpm_hmac.specs.Hmac.{hmac}
 use Rattle.tpm_model.specs.Answers.{reply_params}
-use Rattle.tpm_model.specs.Callers.{WrongMac, Waiting, awaited_text, opened_response}
+use Rattle.tpm_model.specs.Callers.{WrongMac, Waiting, opened_response}
 use Rattle.tpm_model.proofs.Sealing.{okay, okay_is}
 use Rattle.tpm_model.proofs.ReplySessions.{goes_on, no_handles, from_start, fronted, fronted_too}
 use Rattle.tpm_caller.specs.declared.waiting.CallerFault.TheVariants as faults
 use Rattle.tpm_caller.specs.Sent.{has_no_params}
-use Rattle.tpm_caller.proofs.Opening.{HasOne, FirstFault, only, other_mac}
+use Rattle.tpm_caller.proofs.Opening.{HasMac, FirstFault, only, other_mac}
 use Rattle.tpm_caller.proofs.ReplyParams.{without_auths, raw_behind}
 
 -- ---- a reply without parameters
@@ -121,8 +121,7 @@ is_plain codes.PcrReset bytes c a is empty one s = record { body = replies.PcrRe
 is_plain codes.PcrExtend bytes c a is empty one s = record { body = replies.PcrExtend; read_as = plain_read codes.PcrExtend bytes c replies.PcrExtend a refl refl empty one s; none = refl }
 is_plain _ bytes c a is empty one s = absurd (let z : ⊥ = cc in z)
 
-pub plain_wrong_mac : (z : Waiting) (bytes : List ℕ) (cut : ReplyCut) (a : AuthReply) → HasOne z bytes cut a → length a.nonce ≡ length z.caller.nonce
-    → ((body : ReplyBody) → cut.params ≡ reply_params body → a.hmac ≢ hmac z.caller.hash z.key (awaited_text z body a)) → has_no_params z.code ≡ true → length cut.params ≡ 0 → FirstFault bytes faults.WrongMac z
-plain_wrong_mac z bytes cut a h long differ is empty =
-    let p = is_plain z.code bytes cut a is empty (only cut.auths a h.count h.first) h.spells in
-    (WrongMac, ap (opened_response z) p.read_as ∙ other_mac z p.body a long (differ p.body (nil_from_length cut.params empty ∙ sym p.none)), refl)
+pub plain_wrong_mac : (z : Waiting) (bytes : List ℕ) (cut : ReplyCut) (a : AuthReply) (mac : List ℕ) → HasMac z bytes cut a mac → a.hmac ≢ mac → has_no_params z.code ≡ true → length cut.params ≡ 0 → FirstFault bytes faults.WrongMac z
+plain_wrong_mac z bytes cut a mac h differ is empty =
+    let p = is_plain z.code bytes cut a is empty (only cut.auths a h.one.count h.one.first) h.one.spells in
+    (WrongMac, ap (opened_response z) p.read_as ∙ other_mac z p.body a h.long (λ e. differ (e ∙ sym (h.is p.body (nil_from_length cut.params empty ∙ sym p.none)))), refl)

@@ -1,5 +1,5 @@
 -- What a caller finds in the bytes of a reply.
-use Rattle.std.proofs.Common.{◌≡◌, ◌≢◌, ℕ, Bool, List, [], ◌∷◌, length, Result, Ok, Err, Some, None, Option, true, false, refl, sym, ap, ◌∙◌, subst, arith}
+use Rattle.std.proofs.Common.{◌≡◌, ◌≢◌, ◌↔◌, ℕ, Bool, List, [], ◌∷◌, length, Result, Ok, Err, Some, Option, true, false, refl, sym, ap, ◌∙◌, subst, arith}
 use Rattle.std.specs.Prelude.{slice_get, bytes_eq}
 use Rattle.std.proofs.lemmas.Bool.{eq-eqb, ne_eqb}
 use Rattle.std.proofs.lemmas.List.{append-nil}
@@ -7,6 +7,7 @@ use Rattle.std.proofs.lemmas.Slice.Eq.{bytes_eq-Decides}
 use Rattle.tpm_wire.specs.declared.refusal.Refusal.{Refusal}
 use Rattle.tpm_wire.specs.Buffers.{buffer}
 use Rattle.tpm_wire.specs.Path.{Spells, Fault}
+use Rattle.tpm_wire.specs.Reading.{read_all}
 use Rattle.tpm_wire.specs.Spelling.{spelling}
 use Rattle.tpm_wire.proofs.Buffers.{buffer_sound}
 use Rattle.tpm_wire.proofs.Whole.{exactly_one, spells_read, fault_read}
@@ -24,7 +25,7 @@ use Rattle.tpm_hmac.specs.Sessions.{whole_key, rp_hash, mac_text}
 use Rattle.tpm_model.specs.Answers.{reply_params}
 use Rattle.tpm_model.specs.InStep.{CallerSession}
 use Rattle.tpm_model.specs.Callers as model
-use Rattle.tpm_model.specs.Callers.{Refused, NotExpected, WrongMac, Waiting, Opened, awaited_text, opened_session, opened_response, opened, caller_of_refusal, given_up}
+use Rattle.tpm_model.specs.Callers.{Refused, NotExpected, WrongMac, Waiting, Opened, awaited_text, opened_session, opened_response, opened}
 use Rattle.tpm_model.proofs.RoundTrip.{open_is}
 use Rattle.tpm_caller.specs.declared.waiting.CallerFault.{CallerFault}
 use Rattle.tpm_caller.specs.declared.waiting.CallerFault.TheVariants as faults
@@ -107,17 +108,21 @@ not_one_for bytes z cut spells more body auths s = (NotExpected, not_one z body 
 pub other_length_for : (bytes : List ℕ) (z : Waiting) (cut : ReplyCut) (a : AuthReply) → HasOne z bytes cut a → length a.nonce ≢ length z.caller.nonce → FaultFor bytes faults.NotExpected z
 other_length_for bytes z cut a h differ body auths s = (NotExpected, ap (opened_session z body) (one_auth z bytes cut a body auths h s) ∙ other_length z body a differ, refl)
 
-pub other_mac_for : (bytes : List ℕ) (z : Waiting) (cut : ReplyCut) (a : AuthReply) → HasOne z bytes cut a → length a.nonce ≡ length z.caller.nonce
-    → ((body : ReplyBody) → cut.params ≡ reply_params body → a.hmac ≢ hmac z.caller.hash z.key (awaited_text z body a)) → needs_authorization z.code ≡ true → FaultFor bytes faults.WrongMac z
-other_mac_for bytes z cut a h long differ needs body auths s =
-    (WrongMac, ap (opened_session z body) (one_auth z bytes cut a body auths h s) ∙ other_mac z body a long (differ body (params_of_one z bytes cut a body auths needs h s)), refl)
+-- a cut with one session, whose nonceTPM has the session's length, and the HMAC that it should have
+pub record HasMac (z : Waiting) (bytes : List ℕ) (cut : ReplyCut) (a : AuthReply) (mac : List ℕ) : Type 0 where
+  pub one : HasOne z bytes cut a
+  pub long : length a.nonce ≡ length z.caller.nonce
+  pub is : (body : ReplyBody) → cut.params ≡ reply_params body → mac ≡ hmac z.caller.hash z.key (awaited_text z body a)
 
-pub open_for : (bytes nonce : List ℕ) (z : Waiting) (cut : ReplyCut) (a : AuthReply) → HasOne z bytes cut a → length a.nonce ≡ length z.caller.nonce
-    → ((body : ReplyBody) → cut.params ≡ reply_params body → a.hmac ≡ hmac z.caller.hash z.key (awaited_text z body a)) → needs_authorization z.code ≡ true → nonce ≡ a.nonce → OpenFor bytes nonce z
-open_for bytes nonce z cut a h long same needs is body auths s =
-    let one = one_auth z bytes cut a body auths h s in
+pub other_mac_for : (bytes : List ℕ) (z : Waiting) (cut : ReplyCut) (a : AuthReply) (mac : List ℕ) → HasMac z bytes cut a mac → a.hmac ≢ mac → needs_authorization z.code ≡ true → FaultFor bytes faults.WrongMac z
+other_mac_for bytes z cut a mac h differ needs body auths s =
+    (WrongMac, ap (opened_session z body) (one_auth z bytes cut a body auths h.one s) ∙ other_mac z body a h.long (λ e. differ (e ∙ sym (h.is body (params_of_one z bytes cut a body auths needs h.one s)))), refl)
+
+pub open_for : (bytes nonce : List ℕ) (z : Waiting) (cut : ReplyCut) (a : AuthReply) (mac : List ℕ) → HasMac z bytes cut a mac → a.hmac ≡ mac → needs_authorization z.code ≡ true → nonce ≡ a.nonce → OpenFor bytes nonce z
+open_for bytes nonce z cut a mac h same needs is body auths s =
+    let one = one_auth z bytes cut a body auths h.one s in
     let made : List ℕ → List AuthReply → Result Opened model.CallerFault = λ n l. Ok (record { caller = caller_with z n; response = done_with (record { body = body; auths = l }) }) in
-    ap (opened_session z body) one ∙ open_is z body a long (same body (params_of_one z bytes cut a body auths needs h s))
+    ap (opened_session z body) one ∙ open_is z body a h.long (same ∙ h.is body (params_of_one z bytes cut a body auths needs h.one s))
     ∙ ap (λ (n : List ℕ). made n (a ∷ [])) (sym is) ∙ ap (made nonce) (sym one)
 
 -- ---- what opening answers
@@ -161,10 +166,9 @@ first_is z code bytes r body auths fault same s is made faulty =
 pub wrong_is : (z : Waiting) (bytes : List ℕ) (fault : CallerFault) → FirstFault bytes fault z → wrong (z, fault) ≡ opening_of z (opened z bytes)
 wrong_is z bytes fault f = ap (λ (x : CallerFault). wrong (z, x)) f.2 ∙ sym (ap (opening_of z) f.1)
 
--- ---- what giving up answers
+-- ---- what decoding answers
 
-pub given_up_is : (z : Waiting) (code : CommandCode) (bytes : List ℕ) (r : Response) → code ≡ z.code → Spells (response code) r bytes → given_up z bytes ≡ caller_of_refusal z (Ok r)
-given_up_is z code bytes r same s = ap (caller_of_refusal z) (spells_read buffer buffer_sound (response z.code) bytes r (subst (λ (k : CommandCode). Spells (response k) r bytes) same s))
-
-pub not_given_up : (z : Waiting) (code : CommandCode) (bytes : List ℕ) (e : Refusal) → code ≡ z.code → Fault (response code) bytes e → given_up z bytes ≡ None
-not_given_up z code bytes e same f = ap (caller_of_refusal z) (fault_read buffer buffer_sound (response z.code) bytes e (subst (λ (k : CommandCode). Fault (response k) bytes e) same f))
+pub decoded : (z : Waiting) (code : CommandCode) (bytes : List ℕ) (o : Result Response Refusal) → code ≡ z.code → ((r : Response) → (o ≡ Ok r) ↔ Spells (response code) r bytes) → ((e : Refusal) → (o ≡ Err e) ↔ Fault (response code) bytes e)
+    → read_all (response z.code) bytes ≡ o
+decoded z code bytes (Ok r) same ok err = ap (λ (k : CommandCode). read_all (response k) bytes) (sym same) ∙ spells_read buffer buffer_sound (response code) bytes r ((ok r).0 refl)
+decoded z code bytes (Err e) same ok err = ap (λ (k : CommandCode). read_all (response k) bytes) (sym same) ∙ fault_read buffer buffer_sound (response code) bytes e ((err e).0 refl)

@@ -1,24 +1,18 @@
-use Rattle.std.proofs.Common.{◌≡◌, Ok, ap, ◌∙◌}
+use Rattle.std.proofs.Common.{Result, Ok, ap, ◌∙◌}
+use Rattle.tpm_wire.specs.declared.refusal.Refusal.{Refusal}
+use Rattle.tpm_commands.specs.declared.response.Response.{Response}
 use Rattle.tpm_model.specs.Callers.{Waiting, caller_of_refusal}
-use Rattle.tpm_caller.proofs.Opening.{given_up_is, not_given_up}
+use Rattle.tpm_caller.proofs.Opening.{decoded}
 use Rattle.tpm_caller.proofs.pending.Pending.is_refused.Goals as goal
 
+abbrev okay : Response → Result Response Refusal
+okay r = Ok r
+
 pub returns-in-Ok-Code : goal.returns-in-Ok-Code
-returns-in-Ok-Code c =
-    let z = c.args.self.now in
-    let code : c.self.inside.code ≡ z.code = ap (λ (s : Waiting). s.code) c.self.view_is in
-    let spells = (c.decode_response.ensures.ok c.in-Ok-Code.field-0).0 c.in-Ok-Code.is in
-    given_up_is z c.self.inside.code c.args.bytes.now c.in-Ok-Code.field-0 code spells ∙ ap (λ r. caller_of_refusal z (Ok r)) c.in-Ok-Code.field-0-is
+returns-in-Ok-Code c = ap (caller_of_refusal c.args.self.now) (decoded c.args.self.now c.self.inside.code c.args.bytes.now c.decode_response.result (ap (λ (s : Waiting). s.code) c.self.view_is) c.decode_response.ensures.ok c.decode_response.ensures.err ∙ c.in-Ok-Code.is ∙ ap okay c.in-Ok-Code.field-0-is)
 
 pub returns-in-Ok-Done : goal.returns-in-Ok-Done
-returns-in-Ok-Done c =
-    let z = c.args.self.now in
-    let code : c.self.inside.code ≡ z.code = ap (λ (s : Waiting). s.code) c.self.view_is in
-    let spells = (c.decode_response.ensures.ok c.in-Ok-Done.field-0).0 c.in-Ok-Done.is in
-    given_up_is z c.self.inside.code c.args.bytes.now c.in-Ok-Done.field-0 code spells ∙ ap (λ r. caller_of_refusal z (Ok r)) c.in-Ok-Done.field-0-is
+returns-in-Ok-Done c = ap (caller_of_refusal c.args.self.now) (decoded c.args.self.now c.self.inside.code c.args.bytes.now c.decode_response.result (ap (λ (s : Waiting). s.code) c.self.view_is) c.decode_response.ensures.ok c.decode_response.ensures.err ∙ c.in-Ok-Done.is ∙ ap okay c.in-Ok-Done.field-0-is)
 
 pub returns-in-Err : goal.returns-in-Err
-returns-in-Err c =
-    let z = c.args.self.now in
-    let code : c.self.inside.code ≡ z.code = ap (λ (s : Waiting). s.code) c.self.view_is in
-    not_given_up z c.self.inside.code c.args.bytes.now c.in-Err.field-0 code ((c.decode_response.ensures.err c.in-Err.field-0).0 c.in-Err.is)
+returns-in-Err c = ap (caller_of_refusal c.args.self.now) (decoded c.args.self.now c.self.inside.code c.args.bytes.now c.decode_response.result (ap (λ (s : Waiting). s.code) c.self.view_is) c.decode_response.ensures.ok c.decode_response.ensures.err ∙ c.in-Err.is)
