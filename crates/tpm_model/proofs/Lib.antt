@@ -21,4 +21,3 @@ pub mod OwnCode
 pub mod ReplyBytes
 pub mod Mixed
 pub mod Starting
-pub mod Worked
