@@ -25,7 +25,7 @@ use Rattle.tpm_hmac.specs.Sessions.{whole_key, rp_hash, mac_text}
 use Rattle.tpm_model.specs.Answers.{reply_params}
 use Rattle.tpm_model.specs.InStep.{CallerSession}
 use Rattle.tpm_model.specs.Callers as model
-use Rattle.tpm_model.specs.Callers.{Refused, NotExpected, WrongMac, Waiting, Opened, awaited_text, opened_session, opened_response, opened}
+use Rattle.tpm_model.specs.Callers.{NotExpected, WrongMac, Waiting, Opened, awaited_text, opened_session, opened_response, opened}
 use Rattle.tpm_model.proofs.RoundTrip.{open_is}
 use Rattle.tpm_caller.specs.declared.waiting.CallerFault.{CallerFault}
 use Rattle.tpm_caller.specs.declared.waiting.CallerFault.TheVariants as faults
@@ -133,9 +133,6 @@ okay x = Ok x
 abbrev wrong : Waiting × CallerFault → Result (Option CallerSession × Response) (Waiting × CallerFault)
 wrong x = Err x
 
-pub refused_is : (z : Waiting) (code : CommandCode) (bytes : List ℕ) (e : Refusal) → code ≡ z.code → Fault (response code) bytes e → opened z bytes ≡ Err (Refused e)
-refused_is z code bytes e same f = ap (opened_response z) (fault_read buffer buffer_sound (response z.code) bytes e (subst (λ (k : CommandCode). Fault (response k) bytes e) same f))
-
 pub opened_is : (z : Waiting) (code : CommandCode) (bytes : List ℕ) (r : Response) → code ≡ z.code → Spells (response code) r bytes → opened z bytes ≡ opened_response z (Ok r)
 opened_is z code bytes r same s = ap (opened_response z) (spells_read buffer buffer_sound (response z.code) bytes r (subst (λ (k : CommandCode). Spells (response k) r bytes) same s))
 
@@ -167,6 +164,9 @@ pub wrong_is : (z : Waiting) (bytes : List ℕ) (fault : CallerFault) → FirstF
 wrong_is z bytes fault f = ap (λ (x : CallerFault). wrong (z, x)) f.2 ∙ sym (ap (opening_of z) f.1)
 
 -- ---- what decoding answers
+
+abbrev pub response_ok : Response → Result Response Refusal
+response_ok r = Ok r
 
 pub decoded : (z : Waiting) (code : CommandCode) (bytes : List ℕ) (o : Result Response Refusal) → code ≡ z.code → ((r : Response) → (o ≡ Ok r) ↔ Spells (response code) r bytes) → ((e : Refusal) → (o ≡ Err e) ↔ Fault (response code) bytes e)
     → read_all (response z.code) bytes ≡ o

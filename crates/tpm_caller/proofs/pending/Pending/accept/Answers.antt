@@ -1,21 +1,14 @@
-use Rattle.std.proofs.Common.{◌≡◌, Ok, sym, ap, ◌∙◌}
+use Rattle.std.proofs.Common.{◌≡◌, sym, ap, ◌∙◌}
 use Rattle.tpm_model.specs.Callers.{Waiting, opened_response}
 use Rattle.tpm_caller.specs.Faults.{opening_of}
-use Rattle.tpm_caller.proofs.Opening.{refused_is, opened_is, open_done}
+use Rattle.tpm_caller.proofs.Opening.{open_done, response_ok, decoded}
 use Rattle.tpm_caller.proofs.pending.Pending.accept.Goals as goal
 
 pub returns-in-Err : goal.returns-in-Err
-returns-in-Err c =
-    let z = c.args.self in
-    let code : c.self.inside.code ≡ z.code = ap (λ (s : Waiting). s.code) c.self.view_is in
-    sym (ap (opening_of z) (refused_is z c.self.inside.code c.args.bytes.now c.in-Err.refusal code ((c.decode_response.ensures.err c.in-Err.refusal).0 c.in-Err.is)))
+returns-in-Err c = sym (ap (λ o. opening_of c.args.self (opened_response c.args.self o)) (decoded c.args.self c.self.inside.code c.args.bytes.now c.decode_response.result (ap (λ (s : Waiting). s.code) c.self.view_is) c.decode_response.ensures.ok c.decode_response.ensures.err ∙ c.in-Err.is))
 
 pub returns-in-Code : goal.returns-in-Code
-returns-in-Code c =
-    let z = c.args.self in
-    let code : c.self.inside.code ≡ z.code = ap (λ (s : Waiting). s.code) c.self.view_is in
-    let spells = (c.decode_response.ensures.ok c.in-Ok.response).0 c.in-Ok.is in
-    sym (ap (opening_of z) (opened_is z c.self.inside.code c.args.bytes.now c.in-Ok.response code spells ∙ ap (λ r. opened_response z (Ok r)) c.in-Code.is))
+returns-in-Code c = sym (ap (λ o. opening_of c.args.self (opened_response c.args.self o)) (decoded c.args.self c.self.inside.code c.args.bytes.now c.decode_response.result (ap (λ (s : Waiting). s.code) c.self.view_is) c.decode_response.ensures.ok c.decode_response.ensures.err ∙ c.in-Ok.is ∙ ap response_ok c.in-Code.is))
 
 pub returns : goal.returns
 returns c =
