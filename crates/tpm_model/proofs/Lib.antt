@@ -6,7 +6,6 @@ pub mod Spelled
 pub mod Slots
 pub mod Nonces
 pub mod Replay
-pub mod Again
 pub mod Nonzero
 pub mod Coded
 pub mod EachCommand
