@@ -12,7 +12,7 @@ use Rattle.tpm_types.specs.Tpms.{auth_command}
 use Rattle.tpm_commands.specs.declared.command.CommandBody.{CommandBody}
 use Rattle.tpm_commands.specs.declared.command.CommandBody.TheVariants as bodies
 use Rattle.tpm_commands.specs.declared.command.Header.{Header}
-use Rattle.tpm_commands.specs.Codes.{command_code}
+use Rattle.tpm_commands.specs.Codes.{command_code, code_number}
 use Rattle.tpm_commands.specs.declared.command.Command.{Command}
 use Rattle.tpm_commands.specs.Handles.{handles}
 use Rattle.tpm_commands.specs.Parameters.{parameters}
@@ -20,7 +20,6 @@ use Rattle.tpm_buffer.specs.Commands.{tag, command_size, header, sessions, autho
 use Rattle.tpm_types.specs.Limits.{digest_bytes}
 use Rattle.tpm_types.specs.Alg.{digest_len}
 use Rattle.tpm_commands.specs.declared.code.CommandCode.{CommandCode}
-use Rattle.tpm_commands.specs.Codes.{code_number}
 use Rattle.tpm_hmac.specs.Hmac.{hmac}
 use Rattle.tpm_hmac.specs.Sessions.{whole_key, cp_hash, mac_text}
 use Rattle.tpm_hmac.proofs.DigestLengths.{length-hmac}
