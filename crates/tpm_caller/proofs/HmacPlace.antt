@@ -85,19 +85,8 @@ header_long : (h : Header) → length (spelling header h) ≡ 10
 unfolding header tag command_size command_code
 header_long h = refl
 
-before_length : (head hs size session nonce attrs k : List ℕ) → length (head ++ (hs ++ (size ++ (session ++ (nonce ++ (attrs ++ k)))))) ≡ length head + (length hs + (length size + (length session + (length nonce + (length attrs + length k)))))
-before_length head hs size session nonce attrs k = simp length-append refl
-
 pub before_long : (body : CommandBody) (names : List (List ℕ)) (session : ℕ) (nonce : List ℕ) (attrs k : ℕ) → length names ≡ length (handles_of body) → length (before body session nonce attrs k) ≡ hmac_at names nonce
-before_long body names session nonce attrs k same =
-    let head = spelling header (header_for body (total body nonce k)) in
-    omega (
-      arith,
-      same,
-      handles_long body,
-      header_long (header_for body (total body nonce k)),
-      before_length head (handle_bytes body) (bytes_high_first 4 (session_len nonce k)) (bytes_high_first 4 session) (bytes_high_first 2 (length nonce) ++ nonce) (bytes_high_first 1 attrs) (bytes_high_first 2 k),
-    )
+before_long body names session nonce attrs k same = simp length-append (omega (arith, same, handles_long body, header_long (header_for body (total body nonce k))))
 
 -- ---- another HMAC in its place
 
