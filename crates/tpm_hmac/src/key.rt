@@ -1,4 +1,5 @@
 //! A key that is hashed once for many HMACs (RFC 2104, section 4).
+#![tactic(auto, using(crate::proofs::Kept::changed))]
 
 ghost use Rattle.std.specs.Prelude.{◌≡◌, ℕ, List, ◌++◌, length, take};
 ghost use Rattle.std.specs.List.{flat_map};
@@ -45,7 +46,6 @@ impl Model for SessionKey {
 }
 
 // A hasher that has taken in the block, changed by the pad.
-#[tactic(auto, using(crate::proofs::Kept::changed))]
 fn begun_sha1(block: &[u8; BLOCK_BYTES], pad: u8) -> sha1::Sha1
     ensures { Holds result (xored_bytes pad (take (block_len algs.Sha1) block.now)) }
 {
@@ -54,7 +54,6 @@ fn begun_sha1(block: &[u8; BLOCK_BYTES], pad: u8) -> sha1::Sha1
     hasher
 }
 
-#[tactic(auto, using(crate::proofs::Kept::changed))]
 fn begun_sha256(block: &[u8; BLOCK_BYTES], pad: u8) -> sha2::Sha256
     ensures { Holds256 result (xored_bytes pad (take (block_len algs.Sha256) block.now)) }
 {
