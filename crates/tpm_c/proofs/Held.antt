@@ -1,6 +1,5 @@
 -- The parts of a command's view are those bytes of the command.
-use Rattle.std.proofs.Common.{◌≡◌, ◌≢◌, ℕ, ◌+◌, ◌*◌, ◌<◌, true, false, eqb, List, [], ◌∷◌, ◌++◌, length, take, drop, Some, refl, ap, subst, ◌∙◌, arith, append_assoc, append-nil, length-append}
-use Rattle.std.specs.Prelude.{slice_get}
+use Rattle.std.proofs.Common.{◌≡◌, ◌≢◌, ℕ, ◌+◌, ◌*◌, ◌<◌, true, false, eqb, List, [], ◌∷◌, ◌++◌, length, take, drop, Some, refl, ap, ◌∙◌, arith, append_assoc, append-nil, length-append}
 use Rattle.std.specs.Int.{bytes_high_first}
 use Rattle.tpm_wire.specs.Spelling.{spelling, joined}
 use Rattle.tpm_wire.specs.Structures.{sized_bytes}
@@ -14,8 +13,8 @@ use Rattle.tpm_commands.specs.Codes.{command_code}
 use Rattle.tpm_commands.specs.Handles.{handles, handles_from, handle_kinds, others}
 use Rattle.tpm_buffer.specs.Commands.{header, tag, command_size, authorization, authorization_size, sessions}
 use Rattle.tpm_buffer.specs.CommandAreas.{Cut, IsSpelledBy}
-use Rattle.tpm_c.specs.CommandViews.{HoldsSession, HoldsParts, behind, first_place, place}
-use Rattle.tpm_c.proofs.Parts.{part_is}
+use Rattle.tpm_c.specs.CommandViews.{HoldsSession, HoldsParts, behind, first_place}
+use Rattle.tpm_c.proofs.Parts.{part_is, AreHeld, first_three}
 
 session_long : (a : Auth) → length (spelling auth_command a) ≡ 9 + length a.nonce + length a.hmac
 unfolding auth_command auth_session session_attrs sized_bytes
@@ -44,41 +43,15 @@ session_is before after bytes a n is count =
 abbrev text : List Auth → List Auth → List ℕ
 text seen auths = joined (λ _. spelling auth_command) seen auths
 
--- the bytes go on with these sessions behind so many bytes
-record GoesOn (bytes after : List ℕ) (seen auths : List Auth) (n : ℕ) : Type 0 where
-  before : List ℕ
-  is : bytes ≡ before ++ (text seen auths ++ after)
-  count : length before ≡ n
-
-holds_first : (bytes after : List ℕ) (seen auths : List Auth) (n : ℕ) → GoesOn bytes after seen auths n → HoldsSession bytes n (slice_get auths 0)
-holds_first bytes after seen [] n g = tt
-holds_first bytes after seen (a ∷ auths) n g =
-    session_is g.before (text (seen ++ a ∷ []) auths ++ after) bytes a n (g.is ∙ ap (λ (r : List ℕ). g.before ++ r) (append_assoc (spelling auth_command a) (text (seen ++ a ∷ []) auths) after)) g.count
-
-abbrev tail : List Auth → List Auth
-tail [] = []
-tail (a ∷ auths) = auths
-
-abbrev seen_then : List Auth → List Auth → List Auth
-seen_then seen [] = seen
-seen_then seen (a ∷ auths) = seen ++ a ∷ []
-
-goes_on : (bytes after : List ℕ) (seen auths : List Auth) (n : ℕ) → GoesOn bytes after seen auths n → GoesOn bytes after (seen_then seen auths) (tail auths) (behind n (slice_get auths 0))
-goes_on bytes after seen [] n g = g
-goes_on bytes after seen (a ∷ auths) n g = record {
-  before = g.before ++ spelling auth_command a;
-  is = g.is ∙ simp append_assoc;
-  count = omega (arith, g.count, session_long a, length-append g.before (spelling auth_command a));
-}
-
-second_is : (auths : List Auth) → slice_get (tail auths) 0 ≡ slice_get auths 1
-second_is [] = refl
-second_is (a ∷ auths) = refl
-
-third_is : (auths : List Auth) → slice_get (tail (tail auths)) 0 ≡ slice_get auths 2
-third_is [] = refl
-third_is (a ∷ []) = refl
-third_is (a ∷ b ∷ auths) = refl
+-- these sessions behind so many bytes
+are_held : (before after bytes : List ℕ) (seen auths : List Auth) (n : ℕ) → bytes ≡ before ++ (text seen auths ++ after) → length before ≡ n → AreHeld (HoldsSession bytes) behind n auths
+are_held before after bytes seen [] n is count = tt
+are_held before after bytes seen (a ∷ auths) n is count =
+    let one = spelling auth_command a in
+    let others = text (seen ++ a ∷ []) auths in (
+      session_is before (others ++ after) bytes a n (is ∙ ap (λ (r : List ℕ). before ++ r) (append_assoc one others after)) count,
+      are_held (before ++ one) after bytes (seen ++ a ∷ []) auths (behind n (Some a)) (is ∙ simp append_assoc) (omega (arith, count, session_long a, length-append before one)),
+    )
 
 header_long : (h : Header) → length (spelling header h) ≡ 10
 unfolding header tag command_size command_code
@@ -102,13 +75,11 @@ authorization_is t auths e = rw e refl
 front : (c : Cut) → List ℕ
 front c = spelling header c.header ++ (spelling (handles c.header.code) c.handles ++ bytes_high_first 4 (length (text [] c.auths)))
 
-begins : (bytes : List ℕ) (c : Cut) → IsSpelledBy bytes c → eqb c.header.tag 0x8002 ≡ true → GoesOn bytes c.params [] c.auths (first_place c)
+sessions_are : (bytes : List ℕ) (c : Cut) → IsSpelledBy bytes c → eqb c.header.tag 0x8002 ≡ true → AreHeld (HoldsSession bytes) behind (first_place c) c.auths
 unfolding front
-begins bytes c s tagged = record {
-  before = front c;
-  is = s.text ∙ rw (authorization_is c.header.tag c.auths tagged) (simp append_assoc);
-  count = simp length-append (omega (arith, header_long c.header, handles_long 1 (handle_kinds c.header.code) c.handles));
-}
+sessions_are bytes c s tagged =
+    are_held (front c) c.params bytes [] c.auths (first_place c) (s.text ∙ rw (authorization_is c.header.tag c.auths tagged) (simp append_assoc))
+    (simp length-append (omega (arith, header_long c.header, handles_long 1 (handle_kinds c.header.code) c.handles)))
 
 -- the parameters stand at the end
 params_are : (bytes : List ℕ) (c : Cut) → IsSpelledBy bytes c → c.params_at + length c.params ≡ length bytes → take (length c.params) (drop c.params_at bytes) ≡ c.params
@@ -117,21 +88,11 @@ params_are bytes c s whole =
     let is : bytes ≡ before ++ (c.params ++ []) = s.text ∙ simp (append_assoc, append-nil) in
     part_is before c.params [] bytes c.params_at is (omega (arith, whole, ap length is, length-append before (c.params ++ []), length-append c.params []))
 
-sessions_are : (bytes : List ℕ) (c : Cut) → GoesOn bytes c.params [] c.auths (first_place c)
-    → HoldsSession bytes (place c 0) (slice_get c.auths 0) × HoldsSession bytes (place c 1) (slice_get c.auths 1) × HoldsSession bytes (place c 2) (slice_get c.auths 2)
-sessions_are bytes c one =
-    let two = goes_on bytes c.params [] c.auths (place c 0) one in
-    let three = goes_on bytes c.params _ (tail c.auths) (place c 1) two in (
-      holds_first bytes c.params [] c.auths (place c 0) one,
-      subst (HoldsSession bytes (place c 1)) (second_is c.auths) (holds_first bytes c.params _ (tail c.auths) (place c 1) two),
-      subst (λ o. HoldsSession bytes (place c 2) o) (third_is c.auths) (holds_first bytes c.params _ (tail (tail c.auths)) (place c 2) (subst (λ o. GoesOn bytes c.params (seen_then (seen_then [] c.auths) (tail c.auths)) (tail (tail c.auths)) (behind (place c 1) o)) (second_is c.auths) three)),
-    )
-
 pub holds_parts : (bytes : List ℕ) (c : Cut) → IsSpelledBy bytes c → c.params_at + length c.params ≡ length bytes → HoldsParts bytes c
 holds_parts bytes c s whole = go c.auths refl
   where
     go : (auths : List Auth) → c.auths ≡ auths → HoldsParts bytes c
     go [] e = rw e (tt, tt, tt, params_are bytes c s whole)
     go (a ∷ auths) e =
-        let h = sessions_are bytes c (begins bytes c s (is_tagged c.header.tag c.auths (rw e (omega arith)) s.none)) in
+        let h = first_three (HoldsSession bytes) behind (λ n. tt) (first_place c) c.auths (sessions_are bytes c s (is_tagged c.header.tag c.auths (rw e (omega arith)) s.none)) in
         (h.0, h.1, h.2, params_are bytes c s whole)

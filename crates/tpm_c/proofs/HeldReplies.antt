@@ -1,6 +1,6 @@
 -- The sessions of a response's view are those bytes of the response.
 use Rattle.std.proofs.Common.{◌≡◌, ℕ, zero, suc, ◌+◌, ◌*◌, List, [], ◌∷◌, ◌++◌, length, take, drop, Option, Some, None, Result, Ok, Bool, true, false, refl, sym, ap, ◌∙◌, subst, arith, append_assoc, append-nil, length-take-le}
-use Rattle.std.specs.Prelude.{◌==◌, nat_le, if◌then◌else◌, slice_get}
+use Rattle.std.specs.Prelude.{◌==◌, nat_le, if◌then◌else◌}
 use Rattle.tpm_wire.specs.declared.refusal.Refusal.{Refusal}
 use Rattle.tpm_wire.specs.Buffers.{buffer, number_in, too_few}
 use Rattle.tpm_wire.specs.Layout.{Form, raw, remaining, either}
@@ -29,6 +29,7 @@ use Rattle.tpm_model.proofs.Sealing.{okay, okay_is}
 use Rattle.tpm_model.proofs.ReplySessions.{finished}
 use Rattle.tpm_model.proofs.ReplyBytes.{front_place, code_place, size_place}
 use Rattle.tpm_c.specs.ResponseViews.{HoldsSession, HoldsParts, behind, place}
+use Rattle.tpm_c.proofs.Parts.{AreHeld, first_three}
 
 abbrev pair : List ℕ → Here → List ℕ × Here
 pair x h = (x, h)
@@ -90,9 +91,8 @@ session_held bytes m h x s e =
 
 -- ---- sessions, one behind the other
 
-abbrev AreHeld : List ℕ → ℕ → List AuthReply → Type 0
-AreHeld bytes n [] = Unit {0}
-AreHeld bytes n (a ∷ auths) = HoldsSession bytes n (Some a) × AreHeld bytes (behind n (Some a)) auths
+abbrev AreIn : List ℕ → ℕ → List AuthReply → Type 0
+AreIn bytes = AreHeld (HoldsSession bytes) behind
 
 abbrev one : List AuthReply → Here → Result (AuthReply × Here) Refusal
 one before h = read (of_session (2 + length before)) auth_response h
@@ -104,7 +104,7 @@ listed auths h = (auths, h)
 record GoOn (bytes : List ℕ) (before auths : List AuthReply) (n : ℕ) : Type 0 where
   more : List AuthReply
   is : auths ≡ before ++ more
-  held : AreHeld bytes n more
+  held : AreIn bytes n more
 
 ended : (bytes : List ℕ) (before : List AuthReply) (h : Here) (x : List AuthReply × Here) → okay {E = Refusal} (listed before h) ≡ Ok x → GoOn bytes before x.0 h.at
 ended bytes before h x e =
@@ -127,10 +127,10 @@ more_held bytes (suc n) before h x s e = go (length h.rest == 0) (λ b g. more_h
         record {
           more = a.0.0 ∷ rest.more;
           is = rest.is ∙ append_assoc before (a.0.0 ∷ []) rest.more;
-          held = (first.0, subst (λ (k : ℕ). AreHeld bytes k rest.more) first.1 rest.held);
+          held = (first.0, subst (λ (k : ℕ). AreIn bytes k rest.more) first.1 rest.held);
         }
 
-sessions_held : (bytes : List ℕ) (h : Here) (x : List AuthReply × Here) → Stands bytes h → read 0 reply_sessions h ≡ Ok x → AreHeld bytes h.at x.0
+sessions_held : (bytes : List ℕ) (h : Here) (x : List AuthReply × Here) → Stands bytes h → read 0 reply_sessions h ≡ Ok x → AreIn bytes h.at x.0
 unfolding reply_sessions further_sessions
 sessions_held bytes h x s e =
     let mark = of_session 1 in
@@ -140,22 +140,22 @@ sessions_held bytes h x s e =
     let first = session_held bytes mark h a.0 s a.1 in
     let there : Stands bytes a.0.1 = stands_behind bytes mark auth_response h a.0.1 a.0.0 s a.1 in
     let rest = more_held bytes 2 [] a.0.1 b.0 there b.1 in
-    let others : AreHeld bytes (behind h.at (Some a.0.0)) b.0.0 =
-    subst (AreHeld bytes (behind h.at (Some a.0.0))) (sym rest.is) (subst (λ (k : ℕ). AreHeld bytes k rest.more) first.1 rest.held) in
-    subst (λ (p : List AuthReply × Here). AreHeld bytes h.at p.0) same (first.0, others)
+    let others : AreIn bytes (behind h.at (Some a.0.0)) b.0.0 =
+    subst (AreIn bytes (behind h.at (Some a.0.0))) (sym rest.is) (subst (λ (k : ℕ). AreIn bytes k rest.more) first.1 rest.held) in
+    subst (λ (p : List AuthReply × Here). AreIn bytes h.at p.0) same (first.0, others)
 
 -- ---- the whole
 
 -- where there are sessions, the size of the parameters stands before these
-to_place : (bytes hs : List ℕ) (m : ℕ) (auths : List AuthReply) → AreHeld bytes (10 + 4 * length hs + 4 + m) auths → AreHeld bytes (place_behind hs auths + m) auths
+to_place : (bytes hs : List ℕ) (m : ℕ) (auths : List AuthReply) → AreIn bytes (10 + 4 * length hs + 4 + m) auths → AreIn bytes (place_behind hs auths + m) auths
 to_place bytes hs m [] h = tt
-to_place bytes hs m (a ∷ auths) h = subst (λ (k : ℕ). AreHeld bytes (k + m) (a ∷ auths)) (sym (place_before_sessions hs (a ∷ auths) (omega arith))) h
+to_place bytes hs m (a ∷ auths) h = subst (λ (k : ℕ). AreIn bytes (k + m) (a ∷ auths)) (sym (place_before_sessions hs (a ∷ auths) (omega arith))) h
 
 abbrev cut_at : ℕ → List ℕ → List ℕ → List AuthReply → Here → ReplyCut × Here
 cut_at n hs params auths g = (record { code = n; handles = hs; params = params; auths = auths }, g)
 
 abbrev InPlace : List ℕ → ReplyCut × Here → Type 0
-InPlace bytes x = AreHeld bytes (place x.0 0) x.0.auths
+InPlace bytes x = AreIn bytes (place x.0 0) x.0.auths
 
 with_held : (bytes : List ℕ) (n : ℕ) (hs : List ℕ) (h : Here) (x : ReplyCut × Here) → Stands bytes h → h.at ≡ 10 + 4 * length hs → read 0 (raw_with_sessions n hs) h ≡ Ok x → InPlace bytes x
 unfolding raw_with_sessions
@@ -169,7 +169,7 @@ with_held bytes n hs h x s at e =
     let params = raw_there bytes 0 a.0.0 a.0.1 b.0.1 b.0.0 behind_size b.1 in
     let behind_params : Stands bytes b.0.1 = stands_behind bytes 0 (raw a.0.0) a.0.1 b.0.1 b.0.0 behind_size b.1 in
     let there : b.0.1.at ≡ 10 + 4 * length hs + 4 + length b.0.0 = omega (arith, params.at, at, ap (λ (p : Here). p.at) size.1) in
-    let held : AreHeld bytes (10 + 4 * length hs + 4 + length b.0.0) c.0.0 = subst (λ (k : ℕ). AreHeld bytes k c.0.0) there (sessions_held bytes b.0.1 c.0 behind_params c.1) in
+    let held : AreIn bytes (10 + 4 * length hs + 4 + length b.0.0) c.0.0 = subst (λ (k : ℕ). AreIn bytes k c.0.0) there (sessions_held bytes b.0.1 c.0 behind_params c.1) in
     subst (InPlace bytes) same (to_place bytes hs (length b.0.0) c.0.0 held)
 
 without_held : (bytes : List ℕ) (n : ℕ) (hs : List ℕ) (h : Here) (x : ReplyCut × Here) → read 0 (raw_without_sessions n hs) h ≡ Ok x → InPlace bytes x
@@ -205,7 +205,7 @@ code_held bytes code t n h x s ten e = go (n == 0) e
         either_held bytes (t == 0x8002) n a.0.0 a.0.1 x there (handles_at code h a.0 a.1 ∙ ap (λ (k : ℕ). k + 4 * length a.0.0) ten) a.2
     go false e = subst (InPlace bytes) (okay_is {E = Refusal} (cut_at n [] [] [] h) x e) tt
 
-in_place : (code : CommandCode) (bytes : List ℕ) (c : ReplyCut) → read_all (reply_cut code) bytes ≡ Ok c → AreHeld bytes (place c 0) c.auths
+in_place : (code : CommandCode) (bytes : List ℕ) (c : ReplyCut) → read_all (reply_cut code) bytes ≡ Ok c → AreIn bytes (place c 0) c.auths
 unfolding reply_cut
 in_place code bytes c e =
     let all = bind_ok (read 0 (reply_cut code) (at_start bytes) >>= finish buffer) (λ x. okay {E = Refusal} x.0) c e in
@@ -213,20 +213,11 @@ in_place code bytes c e =
     let value : whole.0.0 ≡ c = ap (λ (z : ReplyCut × Here). z.0) (finished whole.0 all.0 whole.2) ∙ okay_is {E = Refusal} all.0.0 c all.2 in
     let f = bind_ok (read 0 response_front (at_start bytes)) _ whole.0 whole.1 in
     let n = bind_ok (read 0 (response_code f.0.0.0) f.0.1) _ whole.0 f.2 in
-    let at : n.0.1 ≡ past 4 (past 4 (past 2 (at_start bytes))) = code_place f.0.0.0 f.0.1 n.0 n.1 ∙ ap (past 4) (front_place (at_start bytes) f.0 f.1) in
     let front : Stands bytes f.0.1 = stands_behind bytes 0 response_front (at_start bytes) f.0.1 f.0.0 (stands_first bytes) f.1 in
     let there : Stands bytes n.0.1 = stands_behind bytes 0 (response_code f.0.0.0) f.0.1 n.0.1 n.0.0 front n.1 in
-    subst (λ (z : ReplyCut). AreHeld bytes (place z 0) z.auths) value (code_held bytes code f.0.0.0 n.0.0 n.0.1 whole.0 there (ap (λ (p : Here). p.at) at) n.2)
-
-sessions_are : (bytes : List ℕ) (n : ℕ) (auths : List AuthReply) → AreHeld bytes n auths
-    → HoldsSession bytes n (slice_get auths 0) × HoldsSession bytes (behind n (slice_get auths 0)) (slice_get auths 1)
-    × HoldsSession bytes (behind (behind n (slice_get auths 0)) (slice_get auths 1)) (slice_get auths 2)
-sessions_are bytes n [] h = (tt, tt, tt)
-sessions_are bytes n (a ∷ []) h = (h.0, tt, tt)
-sessions_are bytes n (a ∷ b ∷ []) h = (h.0, h.1.0, tt)
-sessions_are bytes n (a ∷ b ∷ c ∷ auths) h = (h.0, h.1.0, h.1.1.0)
+    subst (λ (z : ReplyCut). AreIn bytes (place z 0) z.auths) value (code_held bytes code f.0.0.0 n.0.0 n.0.1 whole.0 there (ap (λ (p : Here). p.at) (code_place f.0.0.0 f.0.1 n.0 n.1 ∙ ap (past 4) (front_place (at_start bytes) f.0 f.1))) n.2)
 
 pub holds_parts : (code : CommandCode) (bytes : List ℕ) (c : ReplyCut) → Spells (reply_cut code) c bytes → HasItsParams bytes c → HoldsParts bytes c
 holds_parts code bytes c s params =
-    let held = sessions_are bytes (place c 0) c.auths (in_place code bytes c (spells_read buffer buffer_sound (reply_cut code) bytes c s)) in
+    let held = first_three (HoldsSession bytes) behind (λ n. tt) (place c 0) c.auths (in_place code bytes c (spells_read buffer buffer_sound (reply_cut code) bytes c s)) in
     (held.0, held.1, held.2, sym params)

@@ -19,6 +19,11 @@ abbrev pub session_view : ℕ → Option Auth → TpmCommandSession
 session_view at None = record { handle = 0; attributes = 0; nonce = part 0 0; hmac = part 0 0 }
 session_view at (Some a) = record { handle = a.session; attributes = a.attrs; nonce = part (at + 6) (length a.nonce); hmac = part (at + 9 + length a.nonce) (length a.hmac) }
 
+-- The nonce and the HMAC of a session that begins at this place are the bytes of their parts.
+abbrev pub HoldsSession : List ℕ → ℕ → Option Auth → Type 0
+HoldsSession bytes at None = Unit {0}
+HoldsSession bytes at (Some a) = (bytes_in bytes (session_view at (Some a)).nonce ≡ a.nonce) × (bytes_in bytes (session_view at (Some a)).hmac ≡ a.hmac)
+
 -- the place behind it
 abbrev pub behind : ℕ → Option Auth → ℕ
 behind at None = at
@@ -47,11 +52,6 @@ command_view c = record {
   sessions = session_views c;
   parameters = part c.params_at (length c.params);
 }
-
--- The nonce and the HMAC of a session that begins at this place are the bytes of their parts.
-abbrev pub HoldsSession : List ℕ → ℕ → Option Auth → Type 0
-HoldsSession bytes at None = Unit {0}
-HoldsSession bytes at (Some a) = (bytes_in bytes (session_view at (Some a)).nonce ≡ a.nonce) × (bytes_in bytes (session_view at (Some a)).hmac ≡ a.hmac)
 
 -- What the view says lies in the bytes is there.
 abbrev pub HoldsParts : List ℕ → Cut → Type 0

@@ -1,10 +1,10 @@
 -- Parts of a buffer by their places in it, and its fault.
-use Rattle.std.specs.Prelude.{ℕ, nat_le, List, length, take, drop, Result, Ok, Err, if◌then◌else◌}
+use Rattle.std.specs.Prelude.{ℕ, nat_le, List, length, take, drop, Result, Err, if◌then◌else◌}
 use Rattle.tpm_wire.specs.declared.refusal.Refusal.{Refusal}
 use Rattle.tpm_wire.specs.Buffers.{Layout}
-use Rattle.tpm_wire.specs.Token.{Here, at_start}
+use Rattle.tpm_wire.specs.Token.{at_start}
 use Rattle.tpm_wire.specs.Reading.{read, read_all}
-use Rattle.tpm_wire.specs.ResponseCodes.{rc_size}
+use Rattle.tpm_log.specs.Quotes.{left_over}
 use Rattle.tpm_c.specs.declared.part.TpmPart.{TpmPart}
 use Rattle.tpm_c.specs.declared.part.TpmRefusal.{TpmRefusal}
 
@@ -21,11 +21,6 @@ OfThree Holds More = Holds 0 × Holds 1 × Holds 2 × More
 
 abbrev pub refusal_of : TpmRefusal → Refusal
 refusal_of r = record { code = r.code; at = r.at }
-
--- the fault of bytes that are left over behind a value, or the fault before
-abbrev pub left_over : {A : Type 0} → Result (A × Here) Refusal → Refusal
-left_over (Ok x) = record { code = rc_size; at = x.1.at }
-left_over (Err e) = e
 
 -- What is answered where no value has more than 4,096 bytes: what all of the bytes spell, or the first fault, for which these are enough.
 abbrev pub whole_in : {A : Type 0} → Layout A → List ℕ → Result A Refusal

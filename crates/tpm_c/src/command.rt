@@ -90,17 +90,10 @@ fn two(handles: &[u32]) -> [u32; 2]
 fn sessions(areas: &Areas<'_>) -> [TpmCommandSession; 3]
     ensures { result ≡ session_views areas.now }
 {
-    let first = first_place(areas);
-    let one = areas.auth(0);
-    let second = behind(&one, first);
-    let two = areas.auth(1);
-    let third = behind(&two, second);
-    let three = areas.auth(2);
-    [
-        session(&one, first),
-        session(&two, second),
-        session(&three, third),
-    ]
+    let (one, second) = session(&areas.auth(0), first_place(areas));
+    let (two, third) = session(&areas.auth(1), second);
+    let (three, _) = session(&areas.auth(2), third);
+    [one, two, three]
 }
 
 // Where the sessions begin: behind the header, the handles, and authorizationSize.
@@ -111,41 +104,39 @@ fn first_place(areas: &Areas<'_>) -> usize
     14 + 4 * areas.code().handles()
 }
 
-// What a session says that begins at this place.
-fn session(auth: &Option<AuthRef<'_>>, at: usize) -> TpmCommandSession
+// What a session says that begins at this place, and the place behind it.
+fn session(auth: &Option<AuthRef<'_>>, at: usize) -> (TpmCommandSession, usize)
     requires { at ≤ 1000 }
-    ensures { result ≡ session_view at auth.now }
+    ensures view { result.0 ≡ session_view at auth.now }
+    ensures behind { result.1 ≡ behind_of at auth.now }
+    ensures near { result.1 ≤ at + 105 }
 {
     match auth {
-        Some(auth) => TpmCommandSession {
-            handle: auth.session().number(),
-            attributes: auth.attrs().number(),
-            nonce: TpmPart {
+        Some(auth) => {
+            let nonce = TpmPart {
                 at: at + 6,
                 len: auth.nonce().len(),
-            },
-            hmac: TpmPart {
-                at: at + 9 + auth.nonce().len(),
+            };
+            let hmac = TpmPart {
+                at: at + 9 + nonce.len,
                 len: auth.hmac().len(),
-            },
-        },
-        None => TpmCommandSession {
-            handle: 0,
-            attributes: 0,
-            nonce: NO_PART,
-            hmac: NO_PART,
-        },
-    }
-}
-
-// The place behind it.
-fn behind(auth: &Option<AuthRef<'_>>, at: usize) -> usize
-    requires { at ≤ 1000 }
-    ensures value { result ≡ behind_of at auth.now }
-    ensures near { result ≤ at + 105 }
-{
-    match auth {
-        Some(auth) => at + 9 + auth.nonce().len() + auth.hmac().len(),
-        None => at,
+            };
+            let view = TpmCommandSession {
+                handle: auth.session().number(),
+                attributes: auth.attrs().number(),
+                nonce,
+                hmac,
+            };
+            (view, hmac.at + hmac.len)
+        }
+        None => {
+            let view = TpmCommandSession {
+                handle: 0,
+                attributes: 0,
+                nonce: NO_PART,
+                hmac: NO_PART,
+            };
+            (view, at)
+        }
     }
 }

@@ -103,17 +103,10 @@ fn number(handle: Option<u32>) -> u32
 fn sessions(areas: &ReplyAreas<'_>) -> [TpmResponseSession; 3]
     ensures { result ≡ session_views areas.now }
 {
-    let first = first_place(areas);
-    let one = areas.auth(0);
-    let second = behind(&one, first);
-    let two = areas.auth(1);
-    let third = behind(&two, second);
-    let three = areas.auth(2);
-    [
-        session(&one, first),
-        session(&two, second),
-        session(&three, third),
-    ]
+    let (one, second) = session(&areas.auth(0), first_place(areas));
+    let (two, third) = session(&areas.auth(1), second);
+    let (three, _) = session(&areas.auth(2), third);
+    [one, two, three]
 }
 
 // Where the sessions begin: behind the parameters.
@@ -124,39 +117,37 @@ fn first_place(areas: &ReplyAreas<'_>) -> usize
     areas.params_at() as usize + areas.params().len()
 }
 
-// What a session says that begins at this place.
-fn session(auth: &Option<ReplyRef<'_>>, at: usize) -> TpmResponseSession
+// What a session says that begins at this place, and the place behind it.
+fn session(auth: &Option<ReplyRef<'_>>, at: usize) -> (TpmResponseSession, usize)
     requires { at ≤ 9000 }
-    ensures { result ≡ session_view at auth.now }
+    ensures view { result.0 ≡ session_view at auth.now }
+    ensures behind { result.1 ≡ behind_of at auth.now }
+    ensures near { result.1 ≤ at + 101 }
 {
     match auth {
-        Some(auth) => TpmResponseSession {
-            attributes: auth.attrs().number(),
-            nonce: TpmPart {
+        Some(auth) => {
+            let nonce = TpmPart {
                 at: at + 2,
                 len: auth.nonce().len(),
-            },
-            hmac: TpmPart {
-                at: at + 5 + auth.nonce().len(),
+            };
+            let hmac = TpmPart {
+                at: at + 5 + nonce.len,
                 len: auth.hmac().len(),
-            },
-        },
-        None => TpmResponseSession {
-            attributes: 0,
-            nonce: NO_PART,
-            hmac: NO_PART,
-        },
-    }
-}
-
-// The place behind it.
-fn behind(auth: &Option<ReplyRef<'_>>, at: usize) -> usize
-    requires { at ≤ 9000 }
-    ensures value { result ≡ behind_of at auth.now }
-    ensures near { result ≤ at + 101 }
-{
-    match auth {
-        Some(auth) => at + 5 + auth.nonce().len() + auth.hmac().len(),
-        None => at,
+            };
+            let view = TpmResponseSession {
+                attributes: auth.attrs().number(),
+                nonce,
+                hmac,
+            };
+            (view, hmac.at + hmac.len)
+        }
+        None => {
+            let view = TpmResponseSession {
+                attributes: 0,
+                nonce: NO_PART,
+                hmac: NO_PART,
+            };
+            (view, at)
+        }
     }
 }
