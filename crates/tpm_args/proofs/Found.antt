@@ -1,5 +1,5 @@
 -- What was found in the words, by the getters and by the matches.
-use Rattle.std.proofs.Common.{◌≡◌, ℕ, ap, sym, subst, refl, ◌∙◌, Bool, true, false, Bor, inl, inr, codes, List, Option, Some, None, option_map, unwrap_or}
+use Rattle.std.proofs.Common.{◌≡◌, ℕ, ap, sym, subst, refl, ◌∙◌, Bool, true, false, Bor, inl, inr, codes, List, map, Option, Some, None, option_map, unwrap_or}
 use Rattle.std.specs.Prelude.{Box}
 use Rattle.std.specs.Box.{box_value}
 use Rattle.std.specs.Option.{MatchOption}
@@ -141,11 +141,12 @@ pub simple : (names : ValueParser) → is_simple (program_app names) ≡ true
 unfolding clap_on_literals
 simple names = refl
 
--- what clap met in these words is what the program says
-pub met_is : (m : ArgMatches) (program : Command) (names : Bor (List (Bor (List ℕ)))) (given words : List Text) → app_of program ≡ program_app (Names names) → HasMatchesOf (app_of program) given m → given ≡ words
-    → subcommand_rows_of m ≡ subcommand_of (program_app (Names names)) words
-met_is m program names given words same has is =
-    (has (ap is_simple same ∙ simple (Names names))).1 ∙ ap (λ (a : App). subcommand_of a given) same ∙ ap (subcommand_of (program_app (Names names))) is
+-- what clap met in the words of these texts is what the program says
+pub met_is : {S : Type 0} (bytes : S → Text) (m : ArgMatches) (program : Command) (names : Bor (List (Bor (List ℕ)))) (texts all : List S) (words : List Text) → app_of program ≡ program_app (Names names)
+    → HasMatchesOf (app_of program) (map bytes texts) m → texts ≡ all → map bytes all ≡ words → subcommand_rows_of m ≡ subcommand_of (program_app (Names names)) words
+met_is bytes m program names texts all words same has are is =
+    (has (ap is_simple same ∙ simple (Names names))).1 ∙ ap (λ (a : App). subcommand_of a (map bytes texts)) same
+    ∙ ap (subcommand_of (program_app (Names names))) (ap (map bytes) are ∙ is)
 
 -- ---- words that are refused
 

@@ -52,29 +52,23 @@ run_app = with_rule (with_rule (new_app (codes "run")) (option_rule (codes "owne
 abbrev pub explain_app : App
 explain_app = with_rule (new_app (codes "explain")) (required_rule (codes "CODE"))
 
--- check LOG, without its options
-abbrev pub log_app : App
-log_app = with_rule (new_app (codes "check")) (required_rule (codes "LOG"))
+-- a subcommand on an event log, as check LOG, without its options
+abbrev pub log_app : Text → App
+log_app name = with_rule (new_app name) (required_rule (codes "LOG"))
 
 -- check LOG [--registers FILE] [--quote HEX]
 abbrev pub compare_app : App
-compare_app = with_rule (with_rule log_app (option_rule (codes "registers"))) (option_rule (codes "quote"))
-
--- check LOG [--registers FILE] [--quote HEX] [--attest FILE] [--nonce HEX] [--require LIST]
-abbrev pub attest_app : App
-attest_app = with_rule (with_rule (with_rule compare_app (option_rule (codes "attest"))) (option_rule (codes "nonce"))) (option_rule (codes "require"))
+compare_app = with_rule (with_rule (log_app (codes "check")) (option_rule (codes "registers"))) (option_rule (codes "quote"))
 
 -- check LOG [--registers FILE] [--quote HEX] [--attest FILE] [--nonce HEX] [--require LIST] [--hash NAME]
 abbrev pub check_app : App
-check_app = with_rule attest_app (option_rule (codes "hash"))
-
--- events LOG [--register N]
-abbrev pub records_app : App
-records_app = with_rule (with_rule (new_app (codes "events")) (required_rule (codes "LOG"))) (option_rule (codes "register"))
+check_app = with_rule (with_rule (with_rule (with_rule compare_app (option_rule (codes "attest"))) (option_rule (codes "nonce"))) (option_rule (codes "require")))
+    (option_rule (codes "hash"))
 
 -- events LOG [--register N] [--places] [--digests] [--json]
 abbrev pub events_app : App
-events_app = with_rule (with_rule (with_rule records_app (flag_rule (codes "places"))) (flag_rule (codes "digests"))) (flag_rule (codes "json"))
+events_app = with_rule (with_rule (with_rule (with_rule (log_app (codes "events")) (option_rule (codes "register"))) (flag_rule (codes "places"))) (flag_rule (codes "digests")))
+    (flag_rule (codes "json"))
 
 -- one of the subcommands, or a version
 abbrev pub above_subcommands : App

@@ -1,7 +1,8 @@
 -- What becomes of the words that are refused.
-use Rattle.std.specs.Prelude.{◌≡◌, ◌≢◌, ◌⊎◌, ℕ, List, true, false}
+use Rattle.std.specs.Prelude.{◌≡◌, ◌≢◌, ◌⊎◌, ℕ, List, Option, Result, MatchOption, MatchResult, true, false}
 use Rattle.std.specs.Borrow.{Bor}
-use Rattle.clap.specs.Words.{Text, subcommand_of, takes}
+use Rattle.clap.specs.Words.{Text, first_value, found_of, subcommand_of, takes}
+use Rattle.clap.specs.declared.parser.matches.ArgMatches.{ArgMatches}
 use Rattle.clap.specs.declared.builder.value_parser.ValueParser.TheVariants.{Names}
 use Rattle.clap.specs.declared.error.kind.ErrorKind.{ErrorKind}
 use Rattle.clap.specs.declared.error.kind.ErrorKind.TheVariants.{DisplayHelp, DisplayVersion, OutOfMemory}
@@ -9,7 +10,8 @@ use Rattle.tpm_args.specs.declared.stop.Stop.{Stop}
 use Rattle.tpm_args.specs.declared.stop.Stop.TheVariants.{Help, Usage, Memory}
 use Rattle.tpm_args.specs.Names.{AreAllNames}
 use Rattle.tpm_args.specs.Program.{program_app}
-use Rattle.tpm_args.specs.Task.{AsksNothing}
+use Rattle.tpm_args.specs.declared.task.Task.{Task}
+use Rattle.tpm_args.specs.Task.{AsksNothing, AsksNothingWith, AsksWith}
 
 -- a text that was asked for
 abbrev pub IsHelp : ErrorKind → Type 0
@@ -26,6 +28,12 @@ abbrev pub IsMemoryOr : Type 0 → Stop → Type 0
 IsMemoryOr Reason (Help text) = ⊥
 IsMemoryOr Reason (Usage text) = Reason
 IsMemoryOr Reason Memory = Unit {0}
+
+-- what the words of a subcommand of this name ask for, if anything, or the end for that reason
+abbrev pub IsAsked : Text → ArgMatches → Result (Option Task) Stop → Type 0
+IsAsked name words asked = MatchResult asked
+    (λ task. MatchOption task (AsksNothingWith name (first_value (found_of words))) (AsksWith name (first_value (found_of words))))
+    (IsMemoryOr (AsksNothingWith name (first_value (found_of words))))
 
 -- Help is answered only where clap doesn't take the words, and a usage fault only there and where they ask for nothing.
 abbrev pub Refuses : List Text → Stop → Type 0

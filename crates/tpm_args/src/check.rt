@@ -1,29 +1,23 @@
 //! The words of the subcommand `check`.
 
-ghost use Rattle.std.specs.Prelude.{List, Option, MatchOption, MatchResult, codes, option_map};
-ghost use Rattle.clap.specs.Words.{first_value, found_of};
+ghost use Rattle.std.specs.Prelude.{List, Option, MatchResult, codes, option_map};
 ghost use Rattle.tpm_types.specs.declared.alg.Alg.{Alg as AlgValue};
-ghost use Rattle.tpm_args.specs.Stop.{IsMemoryOr};
+ghost use Rattle.tpm_args.specs.Stop.{IsAsked, IsMemoryOr};
 ghost use Rattle.tpm_types.specs.declared.tpms.Selection.{Selection as SelectionValue};
-ghost use Rattle.tpm_args.specs.Task.{AsksNothingWith, AsksWith, IsHash, IsWith, IsWithEither, Requires};
+ghost use Rattle.tpm_args.specs.Task.{IsHash, IsWith, IsWithEither, Requires};
 
 use crate::invalid::invalid_value;
 use crate::program::check_words;
 use crate::stop::Stop;
-use crate::task::Task;
+use crate::task::{Asked, Task};
 use clap::ArgMatches;
 use std::alloc::Global;
 use tpm_arg_values::selections;
 use tpm_types::{Alg, Selections};
 
 /// The task of the words of `check`.
-pub(crate) fn check_task<'a>(
-    alloc: Global,
-    words: &ArgMatches<'a>,
-) -> Result<Option<Task<'a>>, Stop>
-    ensures { MatchResult result
-        (λ asked. MatchOption asked (AsksNothingWith (codes "check") (first_value (found_of words.now))) (λ t. AsksWith (codes "check") (first_value (found_of words.now)) t))
-        (IsMemoryOr (AsksNothingWith (codes "check") (first_value (found_of words.now)))) }
+pub(crate) fn check_task<'a>(alloc: Global, words: &ArgMatches<'a>) -> Asked<'a>
+    ensures { IsAsked (codes "check") words.now result }
 {
     let Some(log) = words.get_str("LOG") else {
         return Ok(None);

@@ -1,27 +1,21 @@
 //! The words of the subcommand `explain`.
 
 ghost use Rattle.std.specs.Prelude.{◌≡◌, ℕ, MatchOption, MatchResult, codes};
-ghost use Rattle.clap.specs.Words.{first_value, found_of};
 ghost use Rattle.tpm_arg_values.specs.Numbers.{IsHexadecimal};
-ghost use Rattle.tpm_args.specs.Stop.{IsMemoryOr};
-ghost use Rattle.tpm_args.specs.Task.{AsksNothingWith, AsksWith, digits_in};
+ghost use Rattle.tpm_args.specs.Stop.{IsAsked, IsMemoryOr};
+ghost use Rattle.tpm_args.specs.Task.{digits_in};
 
 use crate::invalid::invalid_value;
 use crate::program::explain_words;
 use crate::stop::Stop;
-use crate::task::Task;
+use crate::task::{Asked, Task};
 use clap::ArgMatches;
 use std::alloc::Global;
 use tpm_arg_values::hexadecimal;
 
 /// The task of the words of `explain`.
-pub(crate) fn explain_task<'a>(
-    alloc: Global,
-    words: &ArgMatches<'a>,
-) -> Result<Option<Task<'a>>, Stop>
-    ensures { MatchResult result
-        (λ asked. MatchOption asked (AsksNothingWith (codes "explain") (first_value (found_of words.now))) (λ t. AsksWith (codes "explain") (first_value (found_of words.now)) t))
-        (IsMemoryOr (AsksNothingWith (codes "explain") (first_value (found_of words.now)))) }
+pub(crate) fn explain_task<'a>(alloc: Global, words: &ArgMatches<'a>) -> Asked<'a>
+    ensures { IsAsked (codes "explain") words.now result }
 {
     let Some(text) = words.get_str("CODE") else {
         return Ok(None);

@@ -7,7 +7,7 @@ ghost use Rattle.clap.specs.declared.error.kind.ErrorKind.TheVariants.{InvalidVa
 ghost use Rattle.clap.specs.declared.builder.value_parser.ValueParser.TheVariants.{Names};
 ghost use Rattle.tpm_args.specs.Names.{AreAllNames};
 ghost use Rattle.tpm_args.specs.Program.{program_app};
-ghost use Rattle.tpm_args.specs.Stop.{StopsFor, IsMemoryOr, Refuses};
+ghost use Rattle.tpm_args.specs.Stop.{StopsFor, IsAsked, IsMemoryOr, Refuses};
 ghost use Rattle.tpm_args.specs.Task.{is_given as is_given_by, Asks, AsksNothing, AsksNothingWith, AsksWith};
 
 use crate::check::check_task;
@@ -18,7 +18,7 @@ use crate::program::program;
 use crate::run::run_task;
 use crate::show::show_task;
 use crate::stop::Stop;
-use crate::task::Task;
+use crate::task::{Asked, Task};
 use clap::error::ErrorKind;
 use clap::{ArgMatches, Error};
 use std::alloc::{AllocError, Global};
@@ -101,10 +101,8 @@ fn build_task<'a>(words: &ArgMatches<'a>) -> Option<Task<'a>>
     })
 }
 
-fn events_task<'a>(alloc: Global, words: &ArgMatches<'a>) -> Result<Option<Task<'a>>, Stop>
-    ensures { MatchResult result
-        (λ asked. MatchOption asked (AsksNothingWith (codes "events") (first_value (found_of words.now))) (λ t. AsksWith (codes "events") (first_value (found_of words.now)) t))
-        (IsMemoryOr (AsksNothingWith (codes "events") (first_value (found_of words.now)))) }
+fn events_task<'a>(alloc: Global, words: &ArgMatches<'a>) -> Asked<'a>
+    ensures { IsAsked (codes "events") words.now result }
 {
     let Some(log) = words.get_str("LOG") else {
         return Ok(None);
@@ -120,10 +118,8 @@ fn events_task<'a>(alloc: Global, words: &ArgMatches<'a>) -> Result<Option<Task<
 }
 
 // What the words of the subcommand of this name ask for.
-fn asked_of<'a>(alloc: Global, name: &str, words: &ArgMatches<'a>) -> Result<Option<Task<'a>>, Stop>
-    ensures { MatchResult result
-        (λ asked. MatchOption asked (AsksNothingWith name.now (first_value (found_of words.now))) (λ t. AsksWith name.now (first_value (found_of words.now)) t))
-        (IsMemoryOr (AsksNothingWith name.now (first_value (found_of words.now)))) }
+fn asked_of<'a>(alloc: Global, name: &str, words: &ArgMatches<'a>) -> Asked<'a>
+    ensures { IsAsked name.now words.now result }
 {
     match name {
         "show" => Ok(show_task(words)),
@@ -136,7 +132,7 @@ fn asked_of<'a>(alloc: Global, name: &str, words: &ArgMatches<'a>) -> Result<Opt
     }
 }
 
-fn asked<'a>(alloc: Global, matches: &ArgMatches<'a>) -> Result<Option<Task<'a>>, Stop>
+fn asked<'a>(alloc: Global, matches: &ArgMatches<'a>) -> Asked<'a>
     ensures { MatchResult result
         (λ asked. MatchOption asked (AsksNothing (subcommand_rows_of matches.now)) (λ t. Asks (subcommand_rows_of matches.now) t))
         (λ stop. IsMemoryOr (AsksNothing (subcommand_rows_of matches.now)) stop) }

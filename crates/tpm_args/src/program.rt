@@ -3,7 +3,7 @@
 ghost use Rattle.std.specs.Prelude.{◌≡◌, IfOk, false};
 ghost use Rattle.clap.specs.Words.{rule_of};
 ghost use Rattle.clap.specs.declared.builder.value_parser.ValueParser.TheVariants.{Names};
-ghost use Rattle.tpm_args.specs.Program.{required_rule, name_rule, reply_rule, flag_rule, option_rule, buffer_app, show_app, build_app, run_app, explain_app, log_app, compare_app, check_app, records_app, events_app, above_subcommands, program_app, IsApp, attest_app, optional_rule};
+ghost use Rattle.tpm_args.specs.Program.{required_rule, name_rule, reply_rule, flag_rule, option_rule, buffer_app, show_app, build_app, run_app, explain_app, log_app, compare_app, check_app, events_app, above_subcommands, program_app, IsApp, optional_rule};
 
 use clap::{Arg, ArgAction, Command};
 use std::alloc::{AllocError, Global};
@@ -33,6 +33,16 @@ Exit status:
   1  refused, or a mismatch
   2  the words are at fault
   3  a reading or writing fault, want of memory, or input too long";
+
+// A command with these words behind its own, a word in a line: what makes it, its name, its value's name if it has one, and its help.
+macro_rules! with_words {
+    ($alloc:ident, $command:expr; $kind:ident $($word:literal)+;) => {
+        $command.arg($kind($alloc, $($word),+))
+    };
+    ($alloc:ident, $command:expr; $kind:ident $($word:literal)+; $($more:tt)+) => {
+        with_words! { $alloc, $command.arg($kind($alloc, $($word),+))?; $($more)+ }
+    };
+}
 
 fn required<'a>(alloc: Global, name: &'a str, help: &'a str) -> Arg<'a>
     ensures rule { rule_of result ≡ required_rule name.entry.now }
@@ -86,28 +96,12 @@ fn buffer_words<'a>(alloc: Global, names: &'a [&'a str]) -> Result<Command<'a>, 
 fn show_words<'a>(alloc: Global, names: &'a [&'a str]) -> Result<Command<'a>, AllocError>
     ensures { IfOk result (λ c. IsApp (show_app (Names names.entry)) c) }
 {
-    buffer_words(alloc, names)?
-        .arg(option(
-            alloc,
-            "file",
-            "FILE",
-            "Reads a capture: a command or a reply a line, in hexadecimal",
-        ))?
-        .arg(flag(
-            alloc,
-            "binary",
-            "Reads the capture as frames one after the other, in place of lines",
-        ))?
-        .arg(flag(
-            alloc,
-            "json",
-            "Prints each frame of the capture as an object of JSON, in a line",
-        ))?
-        .arg(optional(
-            alloc,
-            "HEX",
-            "The buffer, in hexadecimal, or - for a capture on standard input",
-        ))
+    with_words! { alloc, buffer_words(alloc, names)?;
+        option "file" "FILE" "Reads a capture: a command or a reply a line, in hexadecimal";
+        flag "binary" "Reads the capture as frames one after the other, in place of lines";
+        flag "json" "Prints each frame of the capture as an object of JSON, in a line";
+        optional "HEX" "The buffer, in hexadecimal, or - for a capture on standard input";
+    }
 }
 
 fn name_word<'a>(alloc: Global, names: &'a [&'a str]) -> Arg<'a>
@@ -120,24 +114,13 @@ fn name_word<'a>(alloc: Global, names: &'a [&'a str]) -> Arg<'a>
 fn build_words<'a>(alloc: Global, names: &'a [&'a str]) -> Result<Command<'a>, AllocError>
     ensures { IfOk result (λ c. IsApp (build_app (Names names.entry)) c) }
 {
-    Command::new(alloc, "build")
+    with_words! { alloc, Command::new(alloc, "build")
         .about("Prints the buffer of a command, joined from its parts")
-        .arg(name_word(alloc, names))?
-        .arg(required(
-            alloc,
-            "HANDLES",
-            "Its handles, in hexadecimal or - for none",
-        ))?
-        .arg(required(
-            alloc,
-            "SESSIONS",
-            "The sessions of its authorization area, in hexadecimal or - for none",
-        ))?
-        .arg(required(
-            alloc,
-            "PARAMETERS",
-            "Its parameters, in hexadecimal or - for none",
-        ))
+        .arg(name_word(alloc, names))?;
+        required "HANDLES" "Its handles, in hexadecimal or - for none";
+        required "SESSIONS" "The sessions of its authorization area, in hexadecimal or - for none";
+        required "PARAMETERS" "Its parameters, in hexadecimal or - for none";
+    }
 }
 
 fn option<'a>(alloc: Global, name: &'a str, value: &'a str, help: &'a str) -> Arg<'a>
@@ -154,21 +137,12 @@ fn option<'a>(alloc: Global, name: &'a str, value: &'a str, help: &'a str) -> Ar
 pub(crate) fn run_words<'a>(alloc: Global) -> Result<Command<'a>, AllocError>
     ensures { IfOk result (λ c. IsApp run_app c) }
 {
-    Command::new(alloc, "run")
+    with_words! { alloc, Command::new(alloc, "run")
         .bin_name("tpmtool run")?
-        .about("Runs the commands on standard input, one a line, on a new device")
-        .arg(option(
-            alloc,
-            "owner",
-            "HEX",
-            "The owner's authorization value, in hexadecimal; empty if it is not given",
-        ))?
-        .arg(option(
-            alloc,
-            "greatest",
-            "N",
-            "The greatest value that a counter has had; 0 if it is not given",
-        ))
+        .about("Runs the commands on standard input, one a line, on a new device");
+        option "owner" "HEX" "The owner's authorization value, in hexadecimal; empty if it is not given";
+        option "greatest" "N" "The greatest value that a counter has had; 0 if it is not given";
+    }
 }
 
 /// The subcommand `explain`.
@@ -181,13 +155,18 @@ pub(crate) fn explain_words<'a>(alloc: Global) -> Result<Command<'a>, AllocError
         .arg(required(alloc, "CODE", "The code, in hexadecimal"))
 }
 
-// The subcommand `check`, without what it compares.
-fn log_words<'a>(alloc: Global) -> Result<Command<'a>, AllocError>
-    ensures { IfOk result (λ c. IsApp log_app c) }
+// A subcommand on an event log, without its options.
+fn log_words<'a>(
+    alloc: Global,
+    name: &'a str,
+    bin_name: &'a str,
+    about: &'a str,
+) -> Result<Command<'a>, AllocError>
+    ensures { IfOk result (λ c. IsApp (log_app name.entry.now) c) }
 {
-    Command::new(alloc, "check")
-        .bin_name("tpmtool check")?
-        .about("Prints the registers that an event log gives, or compares them")
+    Command::new(alloc, name)
+        .bin_name(bin_name)?
+        .about(about)
         .arg(required(alloc, "LOG", "The event log, a file"))
 }
 
@@ -195,90 +174,36 @@ fn log_words<'a>(alloc: Global) -> Result<Command<'a>, AllocError>
 fn compare_words<'a>(alloc: Global) -> Result<Command<'a>, AllocError>
     ensures { IfOk result (λ c. IsApp compare_app c) }
 {
-    log_words(alloc)?
-        .arg(option(
-            alloc,
-            "registers",
-            "FILE",
-            "Compares them with a list of registers, as they are printed here or by tpm2_pcrread",
-        ))?
-        .arg(option(
-            alloc,
-            "quote",
-            "HEX",
-            "Compares them with a quote, its TPMS_QUOTE_INFO in hexadecimal",
-        ))
-}
-
-// The subcommand `check`, without the hash.
-fn attest_words<'a>(alloc: Global) -> Result<Command<'a>, AllocError>
-    ensures { IfOk result (λ c. IsApp attest_app c) }
-{
-    compare_words(alloc)?
-        .arg(option(
-            alloc,
-            "attest",
-            "FILE",
-            "Compares them with a quote as it was signed, a TPMS_ATTEST, and prints what it says",
-        ))?
-        .arg(option(
-            alloc,
-            "nonce",
-            "HEX",
-            "The nonce that was sent for that quote; it is not compared if it is not given",
-        ))?
-        .arg(option(
-            alloc,
-            "require",
-            "LIST",
-            "The registers that it has to select, as sha1:7+sha256:0,1,2 or sha256:all",
-        ))
+    let about = "Prints the registers that an event log gives, or compares them";
+    with_words! { alloc, log_words(alloc, "check", "tpmtool check", about)?;
+        option "registers" "FILE" "Compares them with a list of registers, as they are printed here or by tpm2_pcrread";
+        option "quote" "HEX" "Compares them with a quote, its TPMS_QUOTE_INFO in hexadecimal";
+    }
 }
 
 /// The subcommand `check`.
 pub(crate) fn check_words<'a>(alloc: Global) -> Result<Command<'a>, AllocError>
     ensures { IfOk result (λ c. IsApp check_app c) }
 {
-    attest_words(alloc)?.arg(option(
-        alloc,
-        "hash",
-        "NAME",
-        "The hash of the quote's digest: sha1, sha256 or sha384; sha256 if it is not given",
-    ))
-}
-
-// The subcommand `events`, with which records are listed.
-fn records_words<'a>(alloc: Global) -> Result<Command<'a>, AllocError>
-    ensures { IfOk result (λ c. IsApp records_app c) }
-{
-    Command::new(alloc, "events")
-        .bin_name("tpmtool events")?
-        .about("Prints the records of an event log, a line each")
-        .arg(required(alloc, "LOG", "The event log, a file"))?
-        .arg(option(
-            alloc,
-            "register",
-            "N",
-            "Prints the records of this register alone",
-        ))
+    with_words! { alloc, compare_words(alloc)?;
+        option "attest" "FILE" "Compares them with a quote as it was signed, a TPMS_ATTEST, and prints what it says";
+        option "nonce" "HEX" "The nonce that was sent for that quote; it is not compared if it is not given";
+        option "require" "LIST" "The registers that it has to select, as sha1:7+sha256:0,1,2 or sha256:all";
+        option "hash" "NAME" "The hash of the quote's digest: sha1, sha256 or sha384; sha256 if it is not given";
+    }
 }
 
 /// The subcommand `events`.
 pub(crate) fn events_words<'a>(alloc: Global) -> Result<Command<'a>, AllocError>
     ensures { IfOk result (λ c. IsApp events_app c) }
 {
-    records_words(alloc)?
-        .arg(flag(
-            alloc,
-            "places",
-            "Prints how many bytes of the log precede each record, too",
-        ))?
-        .arg(flag(alloc, "digests", "Prints the digests of each record, too"))?
-        .arg(flag(
-            alloc,
-            "json",
-            "Prints each record as an object of JSON, with all that it holds",
-        ))
+    let about = "Prints the records of an event log, a line each";
+    with_words! { alloc, log_words(alloc, "events", "tpmtool events", about)?;
+        option "register" "N" "Prints the records of this register alone";
+        flag "places" "Prints how many bytes of the log precede each record, too";
+        flag "digests" "Prints the digests of each record, too";
+        flag "json" "Prints each record as an object of JSON, with all that it holds";
+    }
 }
 
 // The program, without its subcommands.

@@ -1,7 +1,11 @@
 //! What the words ask for.
 
+use crate::stop::Stop;
 use tpm_commands::CommandCode;
 use tpm_types::{Alg, AuthValue, Selections};
+
+/// What the words of a subcommand ask for, if anything.
+pub(crate) type Asked<'a> = Result<Option<Task<'a>>, Stop>;
 
 /// What the words ask for.
 #[derive(Drop)]
