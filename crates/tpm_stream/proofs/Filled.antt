@@ -53,10 +53,17 @@ module _ (front part : List ℕ) (size : ℕ) (six : length front ≡ 6) (states
     states_it = omega (arith, both n le, says n, is);
   }
 
--- a first read of six bytes, and the next one of the rest
-module _ (old mid new : Option (List ℕ)) (front part : List ℕ) (count size : ℕ) (six : length front ≡ 6)
+-- where the rest stands in the buffer, which was made as long as the frame
+pub part_length : (held part : List ℕ) (size : ℕ) → length part ≡ length (take (size - 6) (drop 6 held)) → length held ≡ size → 10 ≤ size → 6 + length part ≡ size
+part_length held part size is whole least = omega (arith, is, length-take (size - 6) (drop 6 held), length-drop 6 held, whole, least)
+
+-- a first read of six bytes, and the next one of the rest into that buffer
+module _ (old mid new : Option (List ℕ)) (front part held : List ℕ) (count size : ℕ) (six : length front ≡ 6)
     (first : Consumes old mid (take count front)) (filled : 6 ≤ count)
-    (says : size ≡ stated front) (least : 10 ≤ size) (most : size ≤ 4096) (rest : 6 + length part ≡ size) where
+    (says : size ≡ stated front) (least : 10 ≤ size) (most : size ≤ 4096) (room : length part ≡ length (take (size - 6) (drop 6 held))) (long : length held ≡ size) where
+  rest : 6 + length part ≡ size
+  rest = part_length held part size room long least
+
   all_first : Consumes old mid front
   all_first = rw (← take_all count front (omega (arith, six, filled))) first
 
@@ -77,10 +84,6 @@ module _ (old mid new : Option (List ℕ)) (front part : List ℕ) (count size :
       let whole : front ++ take n part ≡ front ++ part = ap (λ (r : List ℕ). front ++ r) (take_all n part (omega (arith, rest, all))) in
       subst (λ (bs : List ℕ). Consumes old new bs × IsFrame bs) whole
       (consumes_both old mid new front (take n part) all_first more, read_whole front part size six says least most n le (omega (arith, rest, le, all)))
-
--- where the two stand in the buffer, which was made as long as the frame
-pub part_length : (held part : List ℕ) (size : ℕ) → length part ≡ length (take (size - 6) (drop 6 held)) → length held ≡ size → 10 ≤ size → 6 + length part ≡ size
-part_length held part size is whole least = omega (arith, is, length-take (size - 6) (drop 6 held), length-drop 6 held, whole, least)
 
 pub whole_buffer : (xs held part front more : List ℕ) (n size : ℕ) → n ≡ size → held ≡ front ++ more → length held ≡ size → length front ≡ 6 → 6 + length part ≡ size
     → refill n xs (put_mid 6 (size - 6) held part) ≡ front ++ part
