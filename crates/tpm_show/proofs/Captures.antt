@@ -191,6 +191,10 @@ reaches_more how old mid new read count bytes c d A B C joins f consumed is take
   number = omega (arith, f.number, takes.number, is);
 }
 
+-- What came so far is told, and is not too much, and no read of it failed.
+abbrev pub GoesOn : (Told : Type 0) → (read failed failed_before : ℕ) → Type 0
+GoesOn Told read failed failed_before = record { told : Told; bound : read ≤ specs.most_bytes; failures : failed ≡ failed_before }
+
 abbrev pub Answers : (how : Telling) → (old new : Option (List ℕ)) → (A : List ℕ → Type 0) → Status → Type 0
 Answers how old new A status = (bytes : List ℕ) × (text : List ℕ) × ReadsAll old new bytes × TellsCapture how bytes status text × A text
 

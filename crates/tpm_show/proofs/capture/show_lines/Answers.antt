@@ -8,7 +8,7 @@ use Rattle.tpm_show.proofs.capture.show_lines.Goals as goal
 
 pub returns-then-read-gt-MOST_BYTES-clause-too_long : goal.returns-then-read-gt-MOST_BYTES-clause-too_long
 returns-then-read-gt-MOST_BYTES-clause-too_long g c = λ _.
-    let f = c.loop-capture.invariant.reaches in
+    let f = c.loop-capture.invariant.told in
     let count = c.in_ok-count.count in
     let piece = c.read.new.room in
     let all = consumes_both _ _ _ f.bytes (take count piece) f.consumed c.in_ok-count.ensures.bytes.0 in
@@ -25,7 +25,7 @@ returns-then-count-eq0-clause-ok g c =
     IfOk-weaker c.print_end.result _ _ (λ status ended.
     rw ended.0 (answers_at_end c.args.how _ _ _ c.loop-capture.read c.loop-capture.capture c.print_end.new.self _ _ (Appends (contents c.args.out.now) (contents c.print_end.new.out))
     (joins_appends (contents c.args.out.now) (contents c.loop-capture.out) (contents c.print_end.new.out))
-    c.loop-capture.invariant.reaches bytes.0 (bytes.1 refl (omega arith)) ended.1)) c.print_end.ensures.ok
+    c.loop-capture.invariant.told bytes.0 (bytes.1 refl (omega arith)) ended.1)) c.print_end.ensures.ok
 
 pub loop-capture-preserved : goal.loop-capture-preserved
 loop-capture-preserved g c =
@@ -33,9 +33,9 @@ loop-capture-preserved g c =
     let piece = c.read.new.room in
     let contents = g.W.Write.contents in
     record {
-      reaches = reaches_more c.args.how _ _ _ c.loop-capture.read count (take count piece) c.loop-capture.capture c.print.new.self _ _ (Appends (contents c.args.out.now) (contents c.print.new.out))
+      told = reaches_more c.args.how _ _ _ c.loop-capture.read count (take count piece) c.loop-capture.capture c.print.new.self _ _ (Appends (contents c.args.out.now) (contents c.print.new.out))
           (joins_appends (contents c.args.out.now) (contents c.loop-capture.out) (contents c.print.new.out))
-          c.loop-capture.invariant.reaches c.in_ok-count.ensures.bytes.0 (sym (length-take-le count piece c.in_ok-count.ensures.bound.0)) c.in_ok-print.ensures.ok;
+          c.loop-capture.invariant.told c.in_ok-count.ensures.bytes.0 (sym (length-take-le count piece c.in_ok-count.ensures.bound.0)) c.in_ok-print.ensures.ok;
       bound = omega arith;
       failures = c.in_ok-count.ensures.count ∙ c.loop-capture.invariant.failures;
     }

@@ -12,7 +12,7 @@ loop-capture-init g c =
     let contents = g.W.Write.contents in
     let coming = g.R.Source.coming in
     record {
-      streams = streams_none c.args.how (coming c.args.input.now) c.new-capture.result (Appends (contents c.args.out.now) (contents c.args.out.now)) (consumes_none (coming c.args.input.now))
+      told = streams_none c.args.how (coming c.args.input.now) c.new-capture.result (Appends (contents c.args.out.now) (contents c.args.out.now)) (consumes_none (coming c.args.input.now))
           (appends_nothing (contents c.args.out.now)) c.new-capture.ensures.how c.new-capture.ensures.place c.new-capture.ensures.status;
       bound = omega arith;
       failures = refl;
@@ -25,7 +25,7 @@ returns-in-Err-EndInside-clause-ok g c =
     IfOk-weaker c.print_stop.result _ _ (λ status told.
     rw told.0 (stream_cut c.args.how _ _ _ c.loop-capture.read is.0 c.loop-capture.capture _ _ (Appends (contents c.args.out.now) (contents c.print_stop.new.out))
     (joins_appends (contents c.args.out.now) (contents c.loop-capture.out) (contents c.print_stop.new.out))
-    c.loop-capture.invariant.streams is.1 (is.2.0, is.2.1) is.2.2 told.1)) c.print_stop.ensures.ok
+    c.loop-capture.invariant.told is.1 (is.2.0, is.2.1) is.2.2 told.1)) c.print_stop.ensures.ok
 
 pub returns-in-Err-Broken-clause-ok : goal.returns-in-Err-Broken-clause-ok
 returns-in-Err-Broken-clause-ok g c =
@@ -34,12 +34,12 @@ returns-in-Err-Broken-clause-ok g c =
     IfOk-weaker c.print_stop-in-Err-Broken.result _ _ (λ status told.
     rw told.0 (stream_breaks c.args.how _ _ _ c.loop-capture.read is.0 c.loop-capture.capture _ _ (Appends (contents c.args.out.now) (contents c.print_stop-in-Err-Broken.new.out))
     (joins_appends (contents c.args.out.now) (contents c.loop-capture.out) (contents c.print_stop-in-Err-Broken.new.out))
-    c.loop-capture.invariant.streams is.1 is.2.0 told.1)) c.print_stop-in-Err-Broken.ensures.ok
+    c.loop-capture.invariant.told is.1 is.2.0 told.1)) c.print_stop-in-Err-Broken.ensures.ok
 
 pub returns-then-read-gt-MOST_BYTES-clause-too_long : goal.returns-then-read-gt-MOST_BYTES-clause-too_long
 returns-then-read-gt-MOST_BYTES-clause-too_long g c = λ _.
     let frame = c.read_frame_into.new.frame.items in
-    let f = c.loop-capture.invariant.streams in
+    let f = c.loop-capture.invariant.told in
     let is = rw c.in-Ok-true.field-0-test at c.in-Ok-true.ensures.frame in
     record {
       bytes = concat f.frames ++ frame;
@@ -53,10 +53,10 @@ loop-capture-preserved g c =
     let is = rw c.in-Ok-true.field-0-test at c.in-Ok-true.ensures.frame in
     let told = rw c.as_slice.ensures.value at c.in_ok-print_frame.ensures.ok in
     record {
-      streams = rw c.len-read.ensures.value
+      told = rw c.len-read.ensures.value
           (streams_more c.args.how _ _ _ c.loop-capture.read c.read_frame_into.new.frame.items c.loop-capture.capture c.print_frame.new.self _ _ (Appends (contents c.args.out.now) (contents c.print_frame.new.out))
           (joins_appends (contents c.args.out.now) (contents c.loop-capture.out) (contents c.print_frame.new.out))
-          c.loop-capture.invariant.streams is.0 is.1 told);
+          c.loop-capture.invariant.told is.0 is.1 told);
       bound = omega arith;
       failures = c.in-Ok-true.ensures.failures ∙ c.loop-capture.invariant.failures;
     }

@@ -1,16 +1,12 @@
-use Rattle.std.proofs.Common.{◌≡◌, ◌+◌, ◌-◌, ◌≤◌}
+use Rattle.std.proofs.Common.{◌+◌, ◌-◌}
 use Rattle.std.specs.Io.KnownBytes.{Appends}
 use Rattle.tpm_show.specs.Capture.{most_bytes}
 use Rattle.tpm_show.specs.Capturing.{Streams}
+use Rattle.tpm_show.proofs.Captures.{GoesOn}
 use Rattle.tpm_show.proofs.capture_stream.show_stream.Given as goal
 
--- the frames so far are told, and have not too many bytes
 abbrev pub invariant-loop-capture : goal.invariant-loop-capture
-invariant-loop-capture g l = record {
-  streams : Streams l.fn.how (g.R.Source.coming l.fn.input) (g.R.Source.coming l.input) l.read l.capture (Appends (g.W.Write.contents l.fn.out) (g.W.Write.contents l.out));
-  bound : l.read ≤ most_bytes;
-  failures : g.R.Source.failed l.input ≡ g.R.Source.failed l.fn.input;
-}
+invariant-loop-capture g l = GoesOn (Streams l.fn.how (g.R.Source.coming l.fn.input) (g.R.Source.coming l.input) l.read l.capture (Appends (g.W.Write.contents l.fn.out) (g.W.Write.contents l.out))) l.read (g.R.Source.failed l.input) (g.R.Source.failed l.fn.input)
 
 abbrev pub decreases-loop-capture : goal.decreases-loop-capture
 decreases-loop-capture g l = most_bytes + 1 - l.read
