@@ -2,14 +2,4 @@
 #![tactic(auto)]
 
 #[cfg(test)]
-mod attests;
-#[cfg(test)]
-mod event_data;
-#[cfg(test)]
-mod logs;
-#[cfg(test)]
-mod pieces;
-#[cfg(test)]
-mod quotes;
-#[cfg(test)]
-mod sources;
+mod tests;

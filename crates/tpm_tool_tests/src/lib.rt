@@ -3,18 +3,4 @@
 #![tactic(auto)]
 
 #[cfg(test)]
-mod captures;
-#[cfg(test)]
-mod device;
-#[cfg(test)]
-mod events;
-#[cfg(test)]
-mod faults;
-#[cfg(test)]
-mod laws;
-#[cfg(test)]
-mod logs;
-#[cfg(test)]
-mod nonces;
-#[cfg(test)]
-mod scripts;
+mod tests;

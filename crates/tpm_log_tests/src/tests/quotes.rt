@@ -1,6 +1,6 @@
 //! Quotes from their bytes, beside the registers after a log.
 
-use crate::logs::{ORDER, bytes_of};
+use crate::tests::logs::{ORDER, bytes_of};
 use std::process::Abort;
 use std::test::*;
 use tpm_log::{check_quote, decode_quote, replay};

@@ -1,7 +1,7 @@
 //! Quotes that a software TPM signed, beside the logs whose records it was extended with: what `tpm2_quote -m` wrote of them. Their
 //! signatures are those of the keys in checks/quotes.
 
-use crate::logs::bytes_of;
+use crate::tests::logs::bytes_of;
 use arrayvec::ArrayVec;
 use std::process::Abort;
 use std::test::*;
@@ -15,30 +15,12 @@ use tpm_types::{Alg, Attest, ClockInfo, Lent, PcrIndex, Selection, Selections};
 use tpm_wire::response_code::{INSUFFICIENT, SIZE, VALUE};
 use tpm_wire::{Buffer, Refusal};
 
+// The nonce that was sent for each quote.
+const SENT: &str = "c0ffee0000000000000000000000000000000000";
+
 // A quote of registers 10 to 12, which no record of its log extends, signed under SHA-256.
 const NOT_MEASURED: &str =
     "ff54434780180022000beea405b3af96d6844c54bb6d07db02e11983f95002ae2af9f1a807fd8e86bcc90014c0ffee00000000000000000000000000000000000000000000000357000000010000000001201910230016363600000001000b03001c0000202ea9ab9198d1638007400cd2c3bef1cc745b864b76011a0e1bc52180ac6452d4";
-
-// A quote of registers 0 to 7 of SHA-1, signed under SHA-1.
-const RSA_SHA1: &str =
-    "ff54434780180022000b1a73441ad0cbefa9a585c9eecf45b0a659474b922f3262efa20710e2e1e998250014c0ffee0000000000000000000000000000000000000000000000049c000000010000000001201910230016363600000001000403ff00000014e215d07ab7586c5886cb9f004151306057d0de8f";
-
-// A quote of registers 0 and 7 of SHA-1 and of SHA-256, and one of registers 0 to 7 of SHA-256, both signed under SHA-256.
-const TWO_BANKS: &str =
-    "ff54434780180022000b8843e5f582d9d3270cfac1e4ba6d2343d12b3afca836e17262c53012042188590014c0ffee000000000000000000000000000000000000000000000003b8000000010000000001201910230016363600000002000403810000000b038100000020aafede955a1083bbe3492ef7a86ee56e9c872986902e2cd056ccc7e16324e03b";
-
-const SHA256: &str =
-    "ff54434780180022000bf13d66293d389a25a9c91bdf5cfe2bb12962333d51ae35a4cd562bab57d2b4aa0014c0ffee00000000000000000000000000000000000000000000000362000000010000000001201910230016363600000001000b03ff000000207b0bcb625c0390650432b56a226a82bf2ecef3fd09b3f73564f5b721e201827b";
-
-// The nonce that was sent for each.
-const SENT: &str = "c0ffee0000000000000000000000000000000000";
-
-// Where the tokens of RSA_SHA1 begin, by the tables of Part 2, 10.12 and 10.11.1, and how many bytes it has.
-const TOKENS: [u32; 17] = [
-    0, 4, 6, 8, 42, 44, 64, 72, 76, 80, 81, 89, 93, 95, 96, 99, 101,
-];
-
-const END: usize = 121;
 
 // The log of NOT_MEASURED.
 const SEABIOS: &str = "
@@ -89,6 +71,17 @@ const SEABIOS: &str = "
     f480590cfa3a4a6b12c622d6ac366feb03cd17004ed004cb3f0d5273162694667904000000ffffffff
 ";
 
+// A quote of registers 0 to 7 of SHA-1, signed under SHA-1.
+const RSA_SHA1: &str =
+    "ff54434780180022000b1a73441ad0cbefa9a585c9eecf45b0a659474b922f3262efa20710e2e1e998250014c0ffee0000000000000000000000000000000000000000000000049c000000010000000001201910230016363600000001000403ff00000014e215d07ab7586c5886cb9f004151306057d0de8f";
+
+// Where the tokens of RSA_SHA1 begin, by the tables of Part 2, 10.12 and 10.11.1, and how many bytes it has.
+const TOKENS: [u32; 17] = [
+    0, 4, 6, 8, 42, 44, 64, 72, 76, 80, 81, 89, 93, 95, 96, 99, 101,
+];
+
+const END: usize = 121;
+
 // The log of RSA_SHA1.
 const OVMF: &str = "
     000000000300000000000000000000000000000000000000000000002500000053706563204944204576656e74303300000000000002000202000000
@@ -138,6 +131,13 @@ const OVMF: &str = "
     b1b803c9084c00000018e0210e0000000080600d000000000000000000000000002c0000000000000004071400c9bdb87cebf8344faaea3ee4af6516
     a10406140083a5047c3e9e1c4fad65e05268d0b4d17fff0400
 ";
+
+// A quote of registers 0 and 7 of SHA-1 and of SHA-256, and one of registers 0 to 7 of SHA-256, both signed under SHA-256.
+const TWO_BANKS: &str =
+    "ff54434780180022000b8843e5f582d9d3270cfac1e4ba6d2343d12b3afca836e17262c53012042188590014c0ffee000000000000000000000000000000000000000000000003b8000000010000000001201910230016363600000002000403810000000b038100000020aafede955a1083bbe3492ef7a86ee56e9c872986902e2cd056ccc7e16324e03b";
+
+const SHA256: &str =
+    "ff54434780180022000bf13d66293d389a25a9c91bdf5cfe2bb12962333d51ae35a4cd562bab57d2b4aa0014c0ffee00000000000000000000000000000000000000000000000362000000010000000001201910230016363600000001000b03ff000000207b0bcb625c0390650432b56a226a82bf2ecef3fd09b3f73564f5b721e201827b";
 
 // The bytes of words of digits.
 fn log_of(text: &str) -> ArrayVec<u8, 4096> {

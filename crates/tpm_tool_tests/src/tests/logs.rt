@@ -1,12 +1,13 @@
 //! Logs and lists of registers that come in pieces, and reads that fail.
 
+use crate::tests::reads::{Answered, each_read_may_fail, is_answered};
 use std::alloc::Global;
 use std::process::Abort;
 use std::test::Fail;
-use tpm_testing::Pieces;
+use tpm_testing::{Pieces, bytes};
 use tpm_tool::{Status, ToolFault, check_log};
 use tpm_types::Alg;
-use tpm_wire::Source;
+use tpm_wire::Buffer;
 
 // The header, a record that extends nothing, and a separator at register 7.
 pub(crate) const LOG: &str =
@@ -22,12 +23,12 @@ pub(crate) const QUOTE: &str =
 
 pub(crate) const TEXT: &str = "match sha1 7\ndiffers sha1 0\nquote matches\n";
 
+fn log(rt: &impl Abort) -> Buffer {
+    bytes(LOG).expect(rt, "a log")
+}
+
 // What a log, a list and the quote answer, and what was written.
-fn checked(
-    alloc: Global,
-    log: &mut Pieces<'_>,
-    list: &mut Pieces<'_>,
-) -> (Result<Status, ToolFault>, Vec<u8>) {
+fn checked(alloc: Global, log: &mut Pieces<'_>, list: &mut Pieces<'_>) -> Answered {
     let mut out = Vec::new(alloc);
     let status = check_log(alloc, log, Some(list), Some(QUOTE), Alg::Sha256, &mut out);
     (status, out)
@@ -40,32 +41,28 @@ fn answers(
     answer: Result<Status, ToolFault>,
     text: &str,
 ) {
-    let (status, out) = checked(rt.alloc(), log, list);
-    assert_eq!(rt; status, answer);
-    assert_eq!(rt; out.as_slice(), text.as_bytes());
+    is_answered(rt, checked(rt.alloc(), log, list), answer, text);
 }
 
 #[test]
-fn a_log_is_checked_alike_in_any_pieces(rt: HostRuntime) -> Result<(), Fail> {
-    let log = hex::decode(rt.alloc(), LOG)?;
+fn a_log_is_checked_alike_in_any_pieces(rt: HostRuntime) {
+    let log = log(&rt);
     for most in [1, 7, 64, 215] {
         let log = &mut Pieces::new(log.as_slice(), most);
         let list = &mut Pieces::new(LIST.as_bytes(), most);
         answers(&rt, log, list, Ok(Status::Refused), TEXT);
     }
-    Ok(())
 }
 
 #[test]
-fn a_read_of_a_log_that_fails_is_answered(rt: HostRuntime) -> Result<(), Fail> {
-    let log = hex::decode(rt.alloc(), LOG)?;
-    for fails_at in 1..log.len() + 2 {
-        let mut log = Pieces::failing(log.as_slice(), 1, fails_at);
+fn a_read_of_a_log_that_fails_is_answered(rt: HostRuntime) {
+    let log = log(&rt);
+    each_read_may_fail(&rt, log.as_slice(), log.len() + 1, "", |log| {
         let mut list = Pieces::new(LIST.as_bytes(), 1);
-        answers(&rt, &mut log, &mut list, Err(ToolFault::Read), "");
-        assert_eq!(rt; (log.reads, log.failures(), list.reads), (fails_at, 1, 0));
-    }
-    Ok(())
+        let answered = checked(rt.alloc(), log, &mut list);
+        assert_eq!(rt; list.reads, 0);
+        answered
+    });
 }
 
 // What `tpm2_pcrread sha1:0,7+sha256:7+sha512:7` printed of swtpm, whose registers the records of the log had extended.
@@ -79,33 +76,22 @@ const PRINTED: &str = "  sha1:
 ";
 
 #[test]
-fn printed_registers_are_compared_alike_in_any_pieces(rt: HostRuntime) -> Result<(), Fail> {
-    let log = hex::decode(rt.alloc(), LOG)?;
+fn printed_registers_are_compared_alike_in_any_pieces(rt: HostRuntime) {
+    let log = log(&rt);
     for most in [1, 2, 7, 64, 4096] {
         let log = &mut Pieces::new(log.as_slice(), 215);
         let list = &mut Pieces::new(PRINTED.as_bytes(), most);
         let text = "match sha1 0\nmatch sha1 7\nmatch sha256 7\nquote matches\n";
         answers(&rt, log, list, Ok(Status::Done), text);
     }
-    Ok(())
-}
-
-// A list of which a read fails: the answer is that, and what was written is the beginning of the text.
-fn fails(rt: &(impl AllocGlobal + Abort), log: &[u8], list: &mut Pieces<'_>) {
-    let (status, out) = checked(rt.alloc(), &mut Pieces::new(log, 64), list);
-    assert_eq!(rt; status, Err(ToolFault::Read));
-    assert!(rt; TEXT.as_bytes().starts_with(out.as_slice()));
 }
 
 #[test]
-fn a_read_of_a_list_that_fails_is_answered(rt: HostRuntime) -> Result<(), Fail> {
-    let log = hex::decode(rt.alloc(), LOG)?;
-    for fails_at in 1..LIST.len() + 2 {
-        let mut list = Pieces::failing(LIST.as_bytes(), 1, fails_at);
-        fails(&rt, log.as_slice(), &mut list);
-        assert_eq!(rt; (list.reads, list.failures()), (fails_at, 1));
-    }
-    Ok(())
+fn a_read_of_a_list_that_fails_is_answered(rt: HostRuntime) {
+    let log = log(&rt);
+    each_read_may_fail(&rt, LIST.as_bytes(), LIST.len() + 1, TEXT, |list| {
+        checked(rt.alloc(), &mut Pieces::new(log.as_slice(), 64), list)
+    });
 }
 
 #[test]
@@ -123,8 +109,8 @@ fn an_endless_log_has_a_fault(rt: HostRuntime) {
 
 // An endless list ends with its first line that is wrong, and an endless line when it is too long for one.
 #[test]
-fn an_endless_list_ends(rt: HostRuntime) -> Result<(), Fail> {
-    let log = hex::decode(rt.alloc(), LOG)?;
+fn an_endless_list_ends(rt: HostRuntime) {
+    let log = log(&rt);
     for byte in [b'\n', b'a'] {
         let log = &mut Pieces::new(log.as_slice(), 215);
         let list = &mut Pieces::endless(byte);
@@ -132,7 +118,6 @@ fn an_endless_list_ends(rt: HostRuntime) -> Result<(), Fail> {
         answers(&rt, log, list, Ok(Status::Refused), text);
         assert_eq!(rt; list.reads, 1);
     }
-    Ok(())
 }
 
 // What the log leaves as it was, in a line of 48 bytes and in one of 49.
@@ -143,7 +128,7 @@ const LONGER_LINE: &str = "sha1 10 0000000000000000000000000000000000000000\n";
 // 349,509 of the one and 16 of the other are 16,777,216 bytes, which are all answered; a line feed behind them is one too many.
 #[test]
 fn a_list_with_a_byte_too_many_is_answered_to_it(rt: HostRuntime) -> Result<(), Fail> {
-    let log = hex::decode(rt.alloc(), LOG)?;
+    let log = log(&rt);
     let mut lines = LINE.repeat(rt.alloc(), 349_509)?;
     lines.push_str(LONGER_LINE.repeat(rt.alloc(), 16)?.as_str())?;
     lines.push_str("\n")?;

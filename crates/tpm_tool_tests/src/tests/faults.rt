@@ -1,6 +1,6 @@
 //! Writes that fail, and want of memory.
 
-use crate::{events, logs};
+use crate::tests::{events, logs};
 use std::alloc::Global;
 use std::io;
 use std::io::{ErrorKind, Write};

@@ -1,13 +1,13 @@
 //! Scripts that come in pieces, and reads that fail.
 
+use crate::tests::reads::{Answered, each_read_may_fail, is_answered};
 use std::alloc::Global;
 use std::process::Abort;
-use std::test::Fail;
+use std::test::*;
 use tpm_device::Device;
 use tpm_testing::Pieces;
 use tpm_tool::{Status, ToolFault, run_script};
 use tpm_types::AuthValue;
-use tpm_wire::Source;
 
 // Startup, a power cycle, PCR_Read before a Startup, and a line that is refused.
 const SCRIPT: &str =
@@ -15,13 +15,10 @@ const SCRIPT: &str =
 
 const TEXT: &str = "80010000000a00000000\npower\n80010000000a00000100\nline 5: not hexadecimal\n";
 
-fn ran(
-    alloc: Global,
-    input: &mut Pieces<'_>,
-) -> Result<(Result<Status, ToolFault>, Vec<u8>), Fail> {
+fn ran(alloc: Global, input: &mut Pieces<'_>) -> Answered {
     let mut out = Vec::new(alloc);
     let device = Device::new(&AuthValue::default(), 0);
-    Ok((run_script(alloc, input, &mut out, device), out))
+    (run_script(alloc, input, &mut out, device), out)
 }
 
 fn check(
@@ -31,26 +28,22 @@ fn check(
     most: usize,
     answer: Result<Status, ToolFault>,
     text: &str,
-) -> Result<(), Fail> {
+) {
     let mut input = Pieces::behind(b'\n', feeds, script.as_bytes(), most);
-    let (status, out) = ran(rt.alloc(), &mut input)?;
-    assert_eq!(rt; status, answer, "{script} by {most}");
-    assert_eq!(rt; out.as_slice(), text.as_bytes(), "{script} by {most}");
-    Ok(())
+    is_answered(rt, ran(rt.alloc(), &mut input), answer, text);
 }
 
 #[test]
-fn a_script_is_the_same_in_any_pieces(rt: HostRuntime) -> Result<(), Fail> {
+fn a_script_is_the_same_in_any_pieces(rt: HostRuntime) {
     for most in [1, 2, 3, 5, 25, 4096] {
-        check(&rt, 0, SCRIPT, most, Ok(Status::Refused), TEXT)?;
-        check(&rt, 0, "power", most, Ok(Status::Done), "power\n")?;
+        check(&rt, 0, SCRIPT, most, Ok(Status::Refused), TEXT);
+        check(&rt, 0, "power", most, Ok(Status::Done), "power\n");
     }
-    Ok(())
 }
 
 // A line that ends with byte 16,777,216 counts, whatever was read together with it, and one that ends behind it does not.
 #[test]
-fn the_limit_is_the_same_in_any_pieces(rt: HostRuntime) -> Result<(), Fail> {
+fn the_limit_is_the_same_in_any_pieces(rt: HostRuntime) {
     let refused = "line 16777214: not hexadecimal\n";
     for most in [1, 4096] {
         check(
@@ -60,7 +53,7 @@ fn the_limit_is_the_same_in_any_pieces(rt: HostRuntime) -> Result<(), Fail> {
             most,
             Ok(Status::Refused),
             refused,
-        )?;
+        );
         check(
             &rt,
             16_777_214,
@@ -68,37 +61,32 @@ fn the_limit_is_the_same_in_any_pieces(rt: HostRuntime) -> Result<(), Fail> {
             most,
             Err(ToolFault::InputTooLong),
             "",
-        )?;
+        );
     }
-    Ok(())
 }
 
 #[test]
-fn a_read_that_fails_is_answered_and_not_tried_again(rt: HostRuntime) -> Result<(), Fail> {
+fn a_read_that_fails_is_answered_and_not_tried_again(rt: HostRuntime) {
     let script = "power\n80010000000c000001440000\n";
     let text = "power\n80010000000a00000000\n";
     let reads = script.len() + 1;
-    for fails_at in 1..reads + 1 {
-        let mut input = Pieces::failing(script.as_bytes(), 1, fails_at);
-        let (status, out) = ran(rt.alloc(), &mut input)?;
-        assert_eq!(rt; status, Err(ToolFault::Read));
-        assert_eq!(rt; input.reads, fails_at);
-        assert_eq!(rt; input.failures(), 1);
-        assert!(rt; text.as_bytes().starts_with(out.as_slice()));
-    }
+    each_read_may_fail(
+        &rt,
+        script.as_bytes(),
+        reads,
+        text,
+        |input| ran(rt.alloc(), input),
+    );
     let mut input = Pieces::failing(script.as_bytes(), 1, reads + 1);
-    let (status, _) = ran(rt.alloc(), &mut input)?;
-    assert_eq!(rt; status, Ok(Status::Done));
+    is_answered(&rt, ran(rt.alloc(), &mut input), Ok(Status::Done), text);
     assert_eq!(rt; input.reads, reads);
-    Ok(())
 }
 
 // Nothing is read behind a line that is refused.
 #[test]
-fn a_script_is_read_no_further_than_it_runs(rt: HostRuntime) -> Result<(), Fail> {
+fn a_script_is_read_no_further_than_it_runs(rt: HostRuntime) {
     let mut input = Pieces::new(b"power\nno\npower\n", 3);
-    let (status, _) = ran(rt.alloc(), &mut input)?;
+    let (status, _) = ran(rt.alloc(), &mut input);
     assert_eq!(rt; status, Ok(Status::Refused));
     assert_eq!(rt; input.reads, 3);
-    Ok(())
 }

@@ -1,14 +1,13 @@
 //! The records of logs that come in pieces, and reads that fail.
 
-use crate::logs::LOG;
+use crate::tests::logs::LOG;
+use crate::tests::reads::{Answered, each_read_may_fail, is_answered};
 use std::alloc::Global;
 use std::io;
 use std::io::Write;
-use std::process::Abort;
 use std::test::Fail;
 use tpm_testing::Pieces;
-use tpm_tool::{Listing, Status, ToolFault, list_events};
-use tpm_wire::Source;
+use tpm_tool::{Listing, Status, list_events};
 
 // The records of the log, by a reading of its bytes in Python.
 pub(crate) const TEXT: &str =
@@ -29,16 +28,9 @@ pub(crate) const ALL: Listing = Listing {
     json: false,
 };
 
-fn lists(
-    rt: &(impl AllocGlobal + Abort),
-    log: &mut Pieces<'_>,
-    answer: Result<Status, ToolFault>,
-    text: &str,
-) {
-    let mut out = Vec::new(rt.alloc());
-    let status = list_events(rt.alloc(), log, ALL, &mut out);
-    assert_eq!(rt; status, answer);
-    assert_eq!(rt; out.as_slice(), text.as_bytes());
+fn listed(alloc: Global, log: &mut Pieces<'_>) -> Answered {
+    let mut out = Vec::new(alloc);
+    (list_events(alloc, log, ALL, &mut out), out)
 }
 
 #[test]
@@ -47,7 +39,7 @@ fn a_log_is_listed_alike_in_any_pieces(rt: HostRuntime) -> Result<(), Fail> {
         let log = hex::decode(rt.alloc(), log)?;
         for most in [1, 7, 64, 215] {
             let log = &mut Pieces::new(log.as_slice(), most);
-            lists(&rt, log, Ok(Status::Done), text);
+            is_answered(&rt, listed(rt.alloc(), log), Ok(Status::Done), text);
         }
     }
     Ok(())
@@ -61,18 +53,22 @@ fn a_log_with_a_fault_is_not_listed(rt: HostRuntime) -> Result<(), Fail> {
         None => &[],
     };
     let log = &mut Pieces::new(cut, 64);
-    lists(&rt, log, Ok(Status::Refused), "log Truncated at 211\n");
+    let text = "log Truncated at 211\n";
+    is_answered(&rt, listed(rt.alloc(), log), Ok(Status::Refused), text);
     Ok(())
 }
 
 #[test]
 fn a_read_of_events_that_fails_is_answered(rt: HostRuntime) -> Result<(), Fail> {
     let log = hex::decode(rt.alloc(), LOG)?;
-    for fails_at in 1..log.len() + 2 {
-        let mut log = Pieces::failing(log.as_slice(), 1, fails_at);
-        lists(&rt, &mut log, Err(ToolFault::Read), "");
-        assert_eq!(rt; (log.reads, log.failures()), (fails_at, 1));
-    }
+    let reads = log.len() + 1;
+    each_read_may_fail(
+        &rt,
+        log.as_slice(),
+        reads,
+        "",
+        |log| listed(rt.alloc(), log),
+    );
     Ok(())
 }
 
@@ -80,12 +76,8 @@ fn a_read_of_events_that_fails_is_answered(rt: HostRuntime) -> Result<(), Fail> 
 #[test]
 fn of_an_endless_log_one_byte_too_many_is_read(rt: HostRuntime) {
     let mut log = Pieces::endless(0);
-    lists(
-        &rt,
-        &mut log,
-        Ok(Status::Refused),
-        "log NotCryptoAgile at 4\n",
-    );
+    let text = "log NotCryptoAgile at 4\n";
+    is_answered(&rt, listed(rt.alloc(), &mut log), Ok(Status::Refused), text);
     assert_eq!(rt; log.reads, 4097);
 }
 

@@ -2,7 +2,7 @@
 
 ghost use Rattle.std.specs.Prelude.{None};
 
-use crate::logs::{HEADER, WORKED, bytes_of};
+use crate::tests::logs::{HEADER, WORKED, bytes_of};
 use std::process::Abort;
 use std::test::*;
 use tpm_log::{LogFault, LogFaultKind, replay_from};

@@ -1,0 +1,8 @@
+//! Logs, quotes and event data.
+
+mod attests;
+mod event_data;
+mod logs;
+mod pieces;
+mod quotes;
+mod sources;

@@ -1,0 +1,42 @@
+//! What is answered by a reader, and where a read of it fails.
+
+use std::process::Abort;
+use std::test::*;
+use tpm_testing::Pieces;
+use tpm_tool::{Status, ToolFault};
+use tpm_wire::Source;
+
+/// The status or the fault, and what was written.
+pub type Answered = (Result<Status, ToolFault>, Vec<u8>);
+
+/// This is answered, and this text is written.
+pub fn is_answered(
+    rt: &impl Abort,
+    answered: Answered,
+    answer: Result<Status, ToolFault>,
+    text: &str,
+) {
+    let (status, out) = answered;
+    assert_eq!(rt; status, answer, "{text}");
+    assert_eq!(rt; out.as_slice(), text.as_bytes());
+}
+
+/// Whichever read of the bytes fails, of so many, that is answered and not tried again, and what was written is the beginning of
+/// the text.
+pub fn each_read_may_fail<F: Fn(&mut Pieces<'_>) -> Answered>(
+    rt: &impl Abort,
+    bytes: &[u8],
+    reads: usize,
+    text: &str,
+    run: F,
+)
+    requires { F.IsAlwaysCallable run }
+{
+    for done in 0..reads {
+        let mut input = Pieces::failing(bytes, 1, done + 1);
+        let (status, out) = run(&mut input);
+        assert_eq!(rt; status, Err(ToolFault::Read));
+        assert_eq!(rt; (input.reads, input.failures()), (done + 1, 1));
+        assert!(rt; text.as_bytes().starts_with(out.as_slice()));
+    }
+}
