@@ -15,7 +15,6 @@ use Rattle.tpm_commands.specs.declared.command_handles.HandleKind.{HandleKind}
 use Rattle.tpm_commands.specs.declared.command_handles.HandleKind.TheVariants.{Owner, Index}
 use Rattle.tpm_buffer.specs.CommandAreas.{Cut}
 use Rattle.tpm_commands.specs.Handles.{admits, first, handles, handles_from}
-use Rattle.tpm_buffer.specs.Commands.{sessions}
 use Rattle.tpm_model.specs.Sessions.{Session, loaded}
 use Rattle.tpm_model.specs.Present.{Present}
 use Rattle.tpm_model.specs.Entities.{Entity, entity_of, names_of}

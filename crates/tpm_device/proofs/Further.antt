@@ -4,18 +4,20 @@ use Rattle.std.specs.Prelude.{◌||◌, ◌++◌, OnOk}
 use Rattle.tpm_types.specs.declared.tpms.Auth.{Auth}
 use Rattle.tpm_types.specs.declared.tpms.AuthReply.{AuthReply}
 use Rattle.tpm_types.specs.Handles.{is_session}
+use Rattle.tpm_commands.specs.declared.command.Command.{Command}
 use Rattle.tpm_commands.specs.declared.command.CommandBody.{CommandBody}
 use Rattle.tpm_commands.specs.declared.command.CommandBody.TheVariants as bodies
 use Rattle.tpm_commands.specs.declared.response.ReplyBody.{ReplyBody}
 use Rattle.tpm_commands.specs.Handles.{needs_authorization}
 use Rattle.tpm_buffer.specs.Commands.{code_for, with_auths}
+use Rattle.tpm_buffer.specs.Responses.{Reply}
 use Rattle.tpm_model.specs.Steps.{History, Accepted, Origin, starts, started as started_of}
 use Rattle.tpm_model.specs.Registers.{Registers, changes, changes_by, registers_after}
 use Rattle.tpm_model.specs.Sessions.{Session, sessions_at}
 use Rattle.tpm_model.specs.Counters.{NvMemory, nv_by, nv_memory}
 use Rattle.tpm_model.specs.Present.{Present}
 use Rattle.tpm_device.specs.declared.device.Device.{Device}
-use Rattle.tpm_device.specs.Stands.{Stands, step_of}
+use Rattle.tpm_device.specs.Stands.{Stands, Steps, step_of}
 
 abbrev made : Bool → List ℕ → Registers → List (Option Session) → NvMemory → Present
 made started owner registers sessions nv = record { started = started; owner = owner; registers = registers; sessions = sessions; nv = nv }
@@ -90,12 +92,17 @@ pub always : {P : Type 0} (r : Result (Unit {0}) ℕ) → P → OnOk r P
 always (Ok u) p = p
 always (Err code) p = tt
 
-pub for_nonce : (P : List ℕ → Type 0) (r : Result (Unit {0}) ℕ) (n : List ℕ) → OnOk r ((m : List ℕ) → P m) → OnOk r (P n)
-for_nonce P (Ok u) n p = p n
-for_nonce P (Err code) n p = tt
+-- A command that changes no more than the sessions takes the device one step further.
+pub sessions_change : (o : Origin) (h : History) (d : Device) (body : CommandBody) (reply : ReplyBody) (n : List ℕ) (sessions : List (Option Session)) → Stands o h d
+    → starts body ≡ false → changes_by body ≡ [] → ((nv : NvMemory) → nv_by body nv ≡ nv)
+    → ((c : Command) (r : Reply) (m : List ℕ) → c.body ≡ body → c.auths.items ≡ [] → d.sessions ≡ sessions_at o h → sessions ≡ sessions_at o (Accepted c r m ∷ h))
+    → Stands o (step_of body reply n ∷ h) (record d { sessions = sessions })
+sessions_change o h d body reply n sessions st starts_none changes_none nv after =
+    one_more o h d (record d { sessions = sessions }) body reply n st refl (rw starts_none refl) (rw changes_none (its_registers o h d st))
+    (after (with_auths body []) (record { body = reply; auths = [] }) n refl refl (its_sessions o h d st)) (sym (nv d.counters))
 
 -- A command that changes nothing takes the device one step further.
-pub unchanged : (o : Origin) (h : History) (d : Device) (body : CommandBody) (reply : ReplyBody) (n : List ℕ) → Stands o h d → starts body ≡ false → changes_by body ≡ []
-    → sessions_at o (step_of body reply n ∷ h) ≡ sessions_at o h → ((nv : NvMemory) → nv_by body nv ≡ nv) → Stands o (step_of body reply n ∷ h) d
-unchanged o h d body reply n st starts_none changes_none sessions nv =
-    one_more o h d d body reply n st refl (rw starts_none refl) (rw changes_none (its_registers o h d st)) (its_sessions o h d st ∙ sym sessions) (sym (nv d.counters))
+pub unchanged : (d : Device) (body : CommandBody) (reply : ReplyBody) (n : List ℕ) → starts body ≡ false → changes_by body ≡ []
+    → ((o : Origin) (h : History) → sessions_at o (step_of body reply n ∷ h) ≡ sessions_at o h) → ((nv : NvMemory) → nv_by body nv ≡ nv) → Steps d d body reply n
+unchanged d body reply n starts_none changes_none sessions nv = λ o h st.
+    one_more o h d d body reply n st refl (rw starts_none refl) (rw changes_none (its_registers o h d st)) (its_sessions o h d st ∙ sym (sessions o h)) (sym (nv d.counters))

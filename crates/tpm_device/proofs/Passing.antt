@@ -1,10 +1,12 @@
 -- What was permitted and performed is the answer.
-use Rattle.std.proofs.Common.{◌≡◌, ℕ, ◌<◌, List, ◌∷◌, Result, Ok, Err, refl, sym, ap, subst, ◌∙◌}
+use Rattle.std.proofs.Common.{◌≡◌, ℕ, ◌<◌, List, Option, Result, Ok, Err, refl, sym, ap, ◌∙◌}
 use Rattle.std.specs.Prelude.{IfOk, IfErr}
+use Rattle.arrayvec.specs.ArrayVec.{ArrayVec}
 use Rattle.tpm_wire.specs.declared.refusal.Refusal.{Refusal}
 use Rattle.tpm_wire.specs.Token.{at_start}
 use Rattle.tpm_wire.specs.Reading.{read, read_all, ◌>>=◌}
 use Rattle.tpm_wire.specs.Spelling.{spelling}
+use Rattle.tpm_types.specs.declared.tpms.Auth.{Auth}
 use Rattle.tpm_types.specs.declared.tpms.AuthReply.{AuthReply}
 use Rattle.tpm_types.specs.Handles.{is_owner}
 use Rattle.tpm_commands.specs.declared.code.CommandCode.{CommandCode}
@@ -15,22 +17,22 @@ use Rattle.tpm_commands.specs.declared.response.ReplyBody.{ReplyBody}
 use Rattle.tpm_buffer.specs.CommandAreas.{HeaderCut, HandlesCut, Cut, head_and_rest, params_here, IsHandled, IsAreas}
 use Rattle.tpm_commands.specs.Handles.{first, needs_authorization}
 use Rattle.tpm_commands.specs.Parameters.{parameters}
-use Rattle.tpm_buffer.specs.Commands.{authorization, command_size, header, body_from, with_auths, code_for}
+use Rattle.tpm_buffer.specs.Commands.{authorization, command_size, header, body_from, code_for}
 use Rattle.tpm_commands.specs.Replies.{code_for_reply}
 use Rattle.tpm_buffer.specs.Responses.{response_tag, response_front, response_code, response, done_with}
-use Rattle.tpm_model.specs.Steps.{History, Accepted, Origin}
 use Rattle.tpm_model.specs.Present.{Present}
 use Rattle.tpm_model.specs.Sessions.{loaded}
 use Rattle.tpm_model.specs.Entities.{entity_of, names_of}
 use Rattle.tpm_model.specs.Authorization.{Evidence, first_loaded, reply_auths, check_evidence}
 use Rattle.tpm_model.specs.Actions.{action}
-use Rattle.tpm_model.specs.Answers.{Presented, Done, check_started, check_handles, check_tag, presented, permitted, performed, outcome, answered, with_outcome, reply_params}
+use Rattle.tpm_model.specs.Answers.{Presented, Done, check_started, check_handles, check_tag, presented, permitted, performed, outcome, answered, reply_params}
 use Rattle.tpm_model.specs.Premises.{code_in}
 use Rattle.tpm_model.proofs.Accepted.{ok_is}
 use Rattle.tpm_model.proofs.Refused.{refused_with}
 use Rattle.tpm_device.specs.declared.device.Device.{Device}
-use Rattle.tpm_device.specs.Stands.{Stands, evidence_for, sessions_checked, owner_authorizes, IsAdmitted, IsRead, IsPermittedBy, presented_with, done_by, done_of, reply_bytes, told}
-use Rattle.tpm_model.proofs.OwnCode.{no_session_read}
+use Rattle.tpm_device.specs.Stands.{holds, evidence_for, sessions_checked, owner_authorizes, IsAdmitted, IsRead, IsPermittedBy, presented_with, done_of, Steps, Replies, Rolls, IsReady, Performs, reply_bytes, told}
+use Rattle.tpm_model.proofs.OwnCode.{no_session_read, needs_it}
+use Rattle.tpm_device.proofs.Alike.{alike}
 use Rattle.tpm_device.proofs.Checked.{owner_read}
 use Rattle.tpm_session.proofs.Authorized.{authorized}
 
@@ -80,10 +82,6 @@ refused_by : (p : Present) (x : Cut) (r : Result Evidence ℕ) (code : ℕ) → 
 refused_by p x (Ok e) code is = kept p x (check_evidence (entity_of p (first x.handles)) e) e code is
 refused_by p x (Err other) code is = cc
 
--- What is refused before its sessions is refused.
-pub presented_refused : (p : Present) (bytes : List ℕ) (code : ℕ) → presented p bytes ≡ Err code → permitted p bytes ≡ Err code
-presented_refused p bytes code is = rw is refl
-
 -- What was read is refused by the checks of its sessions, or has evidence that is right.
 pub sessions_refuse : (p : Present) (bytes : List ℕ) (x : Cut) (code : ℕ) → IsRead p (presented p bytes) (Ok x)
     → sessions_checked p x x.auths ≡ Err code → permitted p bytes ≡ Err code
@@ -97,46 +95,78 @@ sessions_permit p bytes x read met =
 
 -- ---- the parameters
 
-pub performed_is : (p : Present) (n : List ℕ) (x : Presented) (params : Params) → read_all (parameters x.code) x.params ≡ Ok params → performed p n x ≡ done_of p n x (body_from x.handles params)
+performed_is : (p : Present) (n : List ℕ) (x : Presented) (params : Params) → read_all (parameters x.code) x.params ≡ Ok params → performed p n x ≡ done_of p n x (body_from x.handles params)
 performed_is p n x params reads = rw reads refl
+
+params_refuse : (p : Present) (n : List ℕ) (x : Cut) (params : Params) (r : Result (Unit {0}) ℕ) → read_all (parameters x.header.code) x.params ≡ Ok params
+    → IfErr r (λ code. (y : Presented) → y.code ≡ x.header.code → y.handles ≡ x.handles → y.params ≡ x.params → done_of p n y (body_from x.handles params) ≡ Err code)
+    → IfErr r (λ code. (y : Presented) → y.code ≡ x.header.code → y.handles ≡ x.handles → y.params ≡ x.params → performed p n y ≡ Err code)
+params_refuse p n x params (Ok u) reads refuses = tt
+params_refuse p n x params (Err code) reads refuses = λ y own handles is.
+    performed_is p n y params (rw (own, is) reads) ∙ ap (λ (hs : List ℕ). done_of p n y (body_from hs params)) handles ∙ refuses y own handles is
+
+-- What is done with the parameters that were read is performed.
+pub with_params : {old new : Device} {n : List ℕ} {before after : ArrayVec ℕ} {r : Result (Unit {0}) ℕ} (x : Cut) (params : Params) → read_all (parameters x.header.code) x.params ≡ Ok params
+    → Performs old x n (λ y. done_of (holds old) n y (body_from x.handles params)) before r new after → Performs old x n (performed (holds old) n) before r new after
+with_params {old} {new} {n} {before} {after} {r} x params reads did = record {
+  answer = λ e o h gives st. rw reads (did.answer e o h gives st);
+  stands = λ e o h gives st. rw reads (did.stands e o h gives st);
+  refuses = params_refuse (holds old) n x params r reads did.refuses;
+  refused = did.refused;
+  done = did.done;
+  none = did.none;
+}
+
+-- Parameters that cannot be read refuse the command.
+pub without_params : (old : Device) (x : Cut) (n : List ℕ) (out : ArrayVec ℕ) (fault : Refusal) → read_all (parameters x.header.code) x.params ≡ Err fault
+    → Performs old x n (performed (holds old) n) out (Err fault.code) old out
+without_params old x n out fault reads = record {
+  answer = λ e o h gives st. rw reads refl;
+  stands = λ e o h gives st. rw reads st;
+  refuses = λ y own handles is. rw (own, is, reads) refl;
+  refused = refl;
+  done = tt;
+  none = refl;
+}
 
 -- ---- the action
 
-pub done_told : (p : Present) (n : List ℕ) (x : Presented) (body : CommandBody) (reply : ReplyBody) (items : List ℕ) → Ok reply ≡ action p body n
-    → items ≡ reply_bytes (record { body = reply; auths = reply_auths x.evidence x.code (reply_params reply) n }) → Ok items ≡ told (done_of p n x body)
-done_told p n x body reply items is bytes = ap (λ (b : List ℕ). let r : Result (List ℕ) ℕ = Ok b in r) bytes ∙ ap (λ (r : Result ReplyBody ℕ). told (r >>= λ y. Ok (done_by x body n y))) is
+-- A command that acted, was answered and rolled its session is done.
+pub was_done : (old mid new : Device) (x : Cut) (auth : Option Auth) (n : List ℕ) (body : CommandBody) (reply : ReplyBody) (before after : ArrayVec ℕ) → IsReady old x auth before → code_for body ≡ x.header.code
+    → Ok reply ≡ action (holds old) body n → Steps old mid body reply n → Replies mid x n reply after.items → code_in after.items ≡ 0 → Rolls mid x.auths n new
+    → Performs old x n (λ y. done_of (holds old) n y body) before (Ok tt) new after
+was_done old mid new x auth n body reply before after ready code is steps replies done rolls = record {
+  answer = λ e o h gives st. rw (← is) (ap (λ (b : List ℕ). let r : Result (List ℕ) ℕ = Ok b in r) (replies (holds old) e (λ a others are. alike o h old mid body reply n (first x.handles) st (steps o h st)
+      (ap needs_authorization code ∙ needs_it (needs_authorization x.header.code) x.auths a others ready.admitted.sessions are) (λ own. ready.admitted.owner (rw (← code) own))) gives));
+  stands = λ e o h gives st. rw (← is) (rolls o h body reply (reply_auths e x.header.code (reply_params reply) n) (λ not. ready.admitted.sessions (rw (← code) not)) (steps o h st));
+  refuses = tt;
+  refused = tt;
+  done = done;
+  none = tt;
+}
 
-pub refused_told : (p : Present) (n : List ℕ) (x : Presented) (body : CommandBody) (code : ℕ) → Err code ≡ action p body n → Err code ≡ told (done_of p n x body)
-refused_told p n x body code is = ap (λ (r : Result ReplyBody ℕ). told (r >>= λ y. Ok (done_by x body n y))) is
-
-pub done_stands : (o : Origin) (h : History) (p : Present) (n : List ℕ) (x : Presented) (body : CommandBody) (reply : ReplyBody) (d : Device) → Ok reply ≡ action p body n
-    → Stands o (Accepted (with_auths body x.auths) (record { body = reply; auths = reply_auths x.evidence x.code (reply_params reply) n }) n ∷ h) d → Stands o (with_outcome h n (done_of p n x body)) d
-done_stands o h p n x body reply d is st = subst (λ (r : Result ReplyBody ℕ). Stands o (with_outcome h n (r >>= λ y. Ok (done_by x body n y))) d) is st
-
-pub refused_stands : (o : Origin) (h : History) (p : Present) (n : List ℕ) (x : Presented) (body : CommandBody) (code : ℕ) (d : Device) → Err code ≡ action p body n
-    → Stands o h d → Stands o (with_outcome h n (done_of p n x body)) d
-refused_stands o h p n x body code d is st = subst (λ (r : Result ReplyBody ℕ). Stands o (with_outcome h n (r >>= λ y. Ok (done_by x body n y))) d) is st
+-- What the action refuses is refused.
+pub was_refused : (old new : Device) (x : Cut) (n : List ℕ) (body : CommandBody) (out : ArrayVec ℕ) (code : ℕ) → Err code ≡ action (holds old) body n → new ≡ old
+    → Performs old x n (λ y. done_of (holds old) n y body) out (Err code) new out
+was_refused old new x n body out code is same = record {
+  answer = λ e o h gives st. rw (← is) refl;
+  stands = λ e o h gives st. rw (← is, same) st;
+  refuses = λ y own handles params. rw (← is) refl;
+  refused = same;
+  done = tt;
+  none = refl;
+}
 
 -- ---- the outcome
-
-pub outcome_is : (p : Present) (bytes n : List ℕ) (x : Presented) → permitted p bytes ≡ Ok x → outcome p bytes n ≡ performed p n x
-outcome_is p bytes n x is = rw is refl
-
-pub outcome_refused : (p : Present) (bytes n : List ℕ) (code : ℕ) → permitted p bytes ≡ Err code → outcome p bytes n ≡ Err code
-outcome_refused p bytes n code is = rw is refl
 
 pub some_code : (p : Present) (bytes n : List ℕ) (code : ℕ) → outcome p bytes n ≡ Err code → 0 < code
 some_code p bytes n code is = (refused_with p bytes n code is).0
 
 -- what refuses the parameters or the action refuses the command
-pub outcome_refuses : (p : Present) (bytes n : List ℕ) (x : Presented) (r : Result (Unit {0}) ℕ) → permitted p bytes ≡ Ok x → IfErr r (λ code. performed p n x ≡ Err code) → IfErr r (λ code. outcome p bytes n ≡ Err code)
-outcome_refuses p bytes n x (Ok u) is refuses = tt
-outcome_refuses p bytes n x (Err code) is refuses = outcome_is p bytes n x is ∙ refuses
-
-pub at_presented : (p : Present) (n : List ℕ) (y : Cut) (x : Presented) (r : Result (Unit {0}) ℕ) → x.code ≡ y.header.code → x.handles ≡ y.handles → x.params ≡ y.params
-    → IfErr r (λ code. (z : Presented) → z.code ≡ y.header.code → z.handles ≡ y.handles → z.params ≡ y.params → performed p n z ≡ Err code) → IfErr r (λ code. performed p n x ≡ Err code)
-at_presented p n y x (Ok u) code handles params refuses = tt
-at_presented p n y x (Err e) code handles params refuses = refuses x code handles params
+pub outcome_refuses : (p : Present) (bytes n : List ℕ) (x : Cut) (r : Result (Unit {0}) ℕ) → IsPermittedBy p (permitted p bytes) x
+    → IfErr r (λ code. (y : Presented) → y.code ≡ x.header.code → y.handles ≡ x.handles → y.params ≡ x.params → performed p n y ≡ Err code) → IfErr r (λ code. outcome p bytes n ≡ Err code)
+outcome_refuses p bytes n x (Ok u) by refuses = tt
+outcome_refuses p bytes n x (Err code) by refuses = rw by.is (refuses (presented_with p x by.evidence) refl refl refl)
 
 pub some_codes : (p : Present) (bytes n : List ℕ) (r : Result (Unit {0}) ℕ) → IfErr r (λ code. outcome p bytes n ≡ Err code) → IfErr r (λ code. 0 < code)
 some_codes p bytes n (Ok u) is = tt

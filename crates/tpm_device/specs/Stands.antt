@@ -1,8 +1,10 @@
 -- A device that holds what is present at a history.
-use Rattle.std.specs.Prelude.{◌≡◌, ℕ, Bool, true, false, List, [], ◌∷◌, Option, None, Result, Ok, Err}
+use Rattle.std.specs.Prelude.{◌≡◌, ℕ, Bool, true, false, List, [], ◌∷◌, length, slice_get, Option, None, Result, Ok, Err, IfErr, OnOk, OnErr}
+use Rattle.arrayvec.specs.ArrayVec.{ArrayVec}
 use Rattle.tpm_wire.specs.Reading.{◌>>=◌}
 use Rattle.tpm_wire.specs.Spelling.{spelling}
 use Rattle.tpm_types.specs.declared.tpms.Auth.{Auth}
+use Rattle.tpm_types.specs.declared.tpms.AuthReply.{AuthReply}
 use Rattle.tpm_types.specs.Handles.{is_owner}
 use Rattle.tpm_commands.specs.declared.code.CommandCode.{CommandCode}
 use Rattle.tpm_commands.specs.declared.code.CommandCode.TheVariants as codes
@@ -10,7 +12,7 @@ use Rattle.tpm_commands.specs.declared.command.CommandBody.{CommandBody}
 use Rattle.tpm_commands.specs.declared.response.ReplyBody.{ReplyBody}
 use Rattle.tpm_commands.specs.declared.response.ReplyBody.TheVariants as replies
 use Rattle.tpm_buffer.specs.CommandAreas.{Cut}
-use Rattle.tpm_buffer.specs.Commands.{with_auths}
+use Rattle.tpm_buffer.specs.Commands.{code_for, with_auths}
 use Rattle.tpm_commands.specs.Handles.{first, needs_authorization}
 use Rattle.tpm_commands.specs.Table.{row}
 use Rattle.tpm_commands.specs.Replies.{code_for_reply}
@@ -21,7 +23,8 @@ use Rattle.tpm_model.specs.Entities.{entity_of, names_of, auth_value, is_owner_e
 use Rattle.tpm_model.specs.Sessions.{Session, loaded}
 use Rattle.tpm_model.specs.Authorization.{Evidence, first_loaded, authorize, reply_auths, is_empty}
 use Rattle.tpm_model.specs.Actions.{action}
-use Rattle.tpm_model.specs.Answers.{Presented, Done, evidence_in, reply_params}
+use Rattle.tpm_model.specs.Answers.{Presented, Done, evidence_in, reply_params, with_outcome}
+use Rattle.tpm_model.specs.Premises.{code_in}
 use Rattle.tpm_device.specs.declared.device.Device.{Device}
 
 -- the slots where no session is loaded
@@ -145,3 +148,31 @@ given bytes (Err code) = Err code
 abbrev pub told : Result Done ℕ → Result (List ℕ) ℕ
 told (Ok d) = Ok (reply_bytes d.reply)
 told (Err code) = Err code
+
+-- These bytes are this reply to a command that was read, with the session of the device that has acted.
+abbrev pub Replies : Device → Cut → List ℕ → ReplyBody → List ℕ → Type 0
+Replies d x nonce reply bytes = (p : Present) (e : Evidence) → ((a : Auth) (others : List Auth) → x.auths ≡ a ∷ others → IsAlike p d (first x.handles)) → evidence_for p x ≡ Ok e
+    → bytes ≡ reply_bytes (record { body = reply; auths = reply_auths e x.header.code (reply_params reply) nonce })
+
+-- After a command with these sessions the other device stands where this one stood without them.
+abbrev pub Rolls : Device → List Auth → List ℕ → Device → Type 0
+Rolls old auths nonce new = (o : Origin) (h : History) (body : CommandBody) (reply : ReplyBody) (replied : List AuthReply) → (needs_authorization (code_for body) ≡ false → auths ≡ [])
+    → Stands o (step_of body reply nonce ∷ h) old → Stands o (Accepted (with_auths body auths) (record { body = reply; auths = replied }) nonce ∷ h) new
+
+-- ---- performing
+
+-- What a command that was read has before it is performed: this is its first session, its sessions give evidence, and the buffer is empty.
+pub record IsReady (d : Device) (x : Cut) (auth : Option Auth) (out : ArrayVec ℕ) : Type 0 where
+  pub first : auth ≡ slice_get x.auths 0
+  pub admitted : IsAdmitted x
+  pub evidence : HasEvidence (holds d) x
+  pub empty : length out.items ≡ 0
+
+-- What becomes of a device and a buffer where this is done of a command that was read.
+pub record Performs (old : Device) (x : Cut) (nonce : List ℕ) (does : Presented → Result Done ℕ) (before : ArrayVec ℕ) (r : Result (Unit {0}) ℕ) (new : Device) (after : ArrayVec ℕ) : Type 0 where
+  pub answer : (e : Evidence) (o : Origin) (h : History) → evidence_for (holds old) x ≡ Ok e → Stands o h old → given after.items r ≡ told (does (presented_with (holds old) x e))
+  pub stands : (e : Evidence) (o : Origin) (h : History) → evidence_for (holds old) x ≡ Ok e → Stands o h old → Stands o (with_outcome h nonce (does (presented_with (holds old) x e))) new
+  pub refuses : IfErr r (λ code. (y : Presented) → y.code ≡ x.header.code → y.handles ≡ x.handles → y.params ≡ x.params → does y ≡ Err code)
+  pub refused : OnErr r (new ≡ old)
+  pub done : OnOk r (code_in after.items ≡ 0)
+  pub none : OnErr r (after ≡ before)

@@ -2,7 +2,6 @@
 
 ghost use Rattle.std.specs.Prelude.{◌≡◌, ◌==◌, ◌≤◌, false, length, slice_get, Some};
 ghost use Rattle.tpm_types.specs.Handles.{rs_pw};
-ghost use Rattle.tpm_commands.specs.Handles.{first as first_of};
 ghost use Rattle.tpm_model.specs.Entities.{entity_of, name_of, names_of};
 ghost use Rattle.tpm_session.specs.Entities.{entity_in};
 ghost use Rattle.tpm_device.specs.Stands.{holds, sessions_checked};

@@ -1,14 +1,12 @@
 //! A device: the order of its checks.
 
-ghost use Rattle.std.specs.Prelude.{◌≡◌, ℕ, ◌<◌, List, [], ◌∷◌, length, slice_get, Ok, Err, IfOk, IfErr, OnOk, OnErr};
+ghost use Rattle.std.specs.Prelude.{◌≡◌, ◌<◌, [], ◌∷◌, length, Ok, Err, IfOk, IfErr, OnOk, OnErr};
 ghost use Rattle.tpm_commands.specs.Parameters.{params_code};
 ghost use Rattle.tpm_buffer.specs.Commands.{body_from};
 ghost use Rattle.tpm_model.specs.Steps.{History, PowerCycle, Origin};
-ghost use Rattle.tpm_model.specs.Authorization.{Evidence};
-ghost use Rattle.tpm_model.specs.Actions.{action};
-ghost use Rattle.tpm_model.specs.Answers.{Presented, presented as presented_of, performed as performed_of, outcome as outcome_of, answered, answer, next, with_outcome};
+ghost use Rattle.tpm_model.specs.Answers.{presented as presented_of, performed as performed_of, outcome as outcome_of, answered, answer, next, with_outcome};
 ghost use Rattle.tpm_model.specs.Premises.{code_in};
-ghost use Rattle.tpm_device.specs.Stands.{none_loaded, Stands, holds, evidence_for, HasEvidence, presented_with, IsAdmitted, IsRead, done_of, given, told};
+ghost use Rattle.tpm_device.specs.Stands.{none_loaded, Stands, holds, IsAdmitted, IsRead, IsReady, Performs, done_of, given, told};
 
 use crate::bare::bare;
 use crate::checks::{check_started, check_tag};
@@ -104,18 +102,8 @@ impl Device {
         out: &mut Buffer,
     ) -> Result<(), u32>
         requires own { params_code params.now ≡ areas.now.header.code }
-        requires first { auth.now ≡ slice_get areas.now.auths 0 }
-        requires admitted { IsAdmitted areas.now }
-        requires evidence { HasEvidence (holds self.old) areas.now }
-        requires empty { length out.old.items ≡ 0 }
-        ensures answer { (e : Evidence) (o : Origin) (h : History) → evidence_for (holds self.old) areas.now ≡ Ok e → Stands o h self.old →
-            given out.new.items result ≡ told (done_of (holds self.old) nonce.now (presented_with (holds self.old) areas.now e) (body_from areas.now.handles params.now)) }
-        ensures stands { (e : Evidence) (o : Origin) (h : History) → evidence_for (holds self.old) areas.now ≡ Ok e → Stands o h self.old →
-            Stands o (with_outcome h nonce.now (done_of (holds self.old) nonce.now (presented_with (holds self.old) areas.now e) (body_from areas.now.handles params.now))) self.new }
-        ensures refuses { IfErr result (λ code. action (holds self.old) (body_from areas.now.handles params.now) nonce.now ≡ Err code) }
-        ensures refused { OnErr result (self.new ≡ self.old) }
-        ensures done { OnOk result (code_in out.new.items ≡ 0) }
-        ensures none { OnErr result (out.new ≡ out.old) }
+        requires ready { IsReady self.old areas.now auth.now out.old }
+        ensures { Performs self.old areas.now nonce.now (λ x. done_of (holds self.old) nonce.now x (body_from areas.now.handles params.now)) out.old result self.new out.new }
     {
         let mut body = begun(areas.code());
         self.act(areas.handles(), params, nonce, &mut body)?;
@@ -132,19 +120,8 @@ impl Device {
         nonce: &[u8; 64],
         out: &mut Buffer,
     ) -> Result<(), u32>
-        requires first { auth.now ≡ slice_get areas.now.auths 0 }
-        requires admitted { IsAdmitted areas.now }
-        requires evidence { HasEvidence (holds self.old) areas.now }
-        requires empty { length out.old.items ≡ 0 }
-        ensures answer { (e : Evidence) (o : Origin) (h : History) → evidence_for (holds self.old) areas.now ≡ Ok e → Stands o h self.old →
-            given out.new.items result ≡ told (performed_of (holds self.old) nonce.now (presented_with (holds self.old) areas.now e)) }
-        ensures stands { (e : Evidence) (o : Origin) (h : History) → evidence_for (holds self.old) areas.now ≡ Ok e → Stands o h self.old →
-            Stands o (with_outcome h nonce.now (performed_of (holds self.old) nonce.now (presented_with (holds self.old) areas.now e))) self.new }
-        ensures refuses { IfErr result (λ code. (x : Presented) → x.code ≡ areas.now.header.code → x.handles ≡ areas.now.handles → x.params ≡ areas.now.params →
-            performed_of (holds self.old) nonce.now x ≡ Err code) }
-        ensures refused { OnErr result (self.new ≡ self.old) }
-        ensures done { OnOk result (code_in out.new.items ≡ 0) }
-        ensures none { OnErr result (out.new ≡ out.old) }
+        requires { IsReady self.old areas.now auth.now out.old }
+        ensures { Performs self.old areas.now nonce.now (performed_of (holds self.old) nonce.now) out.old result self.new out.new }
     {
         let mut params = Params::PolicyRestart;
         match decode_params_into(areas.code(), areas.params(), &mut params) {
@@ -162,19 +139,8 @@ impl Device {
         nonce: &[u8; 64],
         out: &mut Buffer,
     ) -> Result<(), u32>
-        requires first { auth.now ≡ slice_get areas.now.auths 0 }
-        requires admitted { IsAdmitted areas.now }
-        requires evidence { HasEvidence (holds self.old) areas.now }
-        requires empty { length out.old.items ≡ 0 }
-        ensures answer { (e : Evidence) (o : Origin) (h : History) → evidence_for (holds self.old) areas.now ≡ Ok e → Stands o h self.old →
-            given out.new.items result ≡ told (performed_of (holds self.old) nonce.now (presented_with (holds self.old) areas.now e)) }
-        ensures stands { (e : Evidence) (o : Origin) (h : History) → evidence_for (holds self.old) areas.now ≡ Ok e → Stands o h self.old →
-            Stands o (with_outcome h nonce.now (performed_of (holds self.old) nonce.now (presented_with (holds self.old) areas.now e))) self.new }
-        ensures refuses { IfErr result (λ code. (x : Presented) → x.code ≡ areas.now.header.code → x.handles ≡ areas.now.handles → x.params ≡ areas.now.params →
-            performed_of (holds self.old) nonce.now x ≡ Err code) }
-        ensures refused { OnErr result (self.new ≡ self.old) }
-        ensures done { OnOk result (code_in out.new.items ≡ 0) }
-        ensures none { OnErr result (out.new ≡ out.old) }
+        requires { IsReady self.old areas.now auth.now out.old }
+        ensures { Performs self.old areas.now nonce.now (performed_of (holds self.old) nonce.now) out.old result self.new out.new }
     {
         match bare(areas.code(), areas.params()) {
             Some(params) => self.done(areas, auth, &params, nonce, out),
@@ -191,19 +157,8 @@ impl Device {
         nonce: &[u8; 64],
         out: &mut Buffer,
     ) -> Result<(), u32>
-        requires first { auth.now ≡ slice_get areas.now.auths 0 }
-        requires admitted { IsAdmitted areas.now }
-        requires evidence { HasEvidence (holds self.old) areas.now }
-        requires empty { length out.old.items ≡ 0 }
-        ensures answer { (e : Evidence) (o : Origin) (h : History) → evidence_for (holds self.old) areas.now ≡ Ok e → Stands o h self.old →
-            given out.new.items result ≡ told (performed_of (holds self.old) nonce.now (presented_with (holds self.old) areas.now e)) }
-        ensures stands { (e : Evidence) (o : Origin) (h : History) → evidence_for (holds self.old) areas.now ≡ Ok e → Stands o h self.old →
-            Stands o (with_outcome h nonce.now (performed_of (holds self.old) nonce.now (presented_with (holds self.old) areas.now e))) self.new }
-        ensures refuses { IfErr result (λ code. (x : Presented) → x.code ≡ areas.now.header.code → x.handles ≡ areas.now.handles → x.params ≡ areas.now.params →
-            performed_of (holds self.old) nonce.now x ≡ Err code) }
-        ensures refused { OnErr result (self.new ≡ self.old) }
-        ensures done { OnOk result (code_in out.new.items ≡ 0) }
-        ensures none { OnErr result (out.new ≡ out.old) }
+        requires { IsReady self.old areas.now auth.now out.old }
+        ensures { Performs self.old areas.now nonce.now (performed_of (holds self.old) nonce.now) out.old result self.new out.new }
     {
         if areas.code() == CommandCode::PcrExtend {
             self.performed_extending(areas, auth, nonce, out)

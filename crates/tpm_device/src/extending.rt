@@ -1,18 +1,14 @@
 //! TPM2_PCR_Extend from its parameters to its reply. Neither goes through the room of the longest.
 
-ghost use Rattle.std.specs.Prelude.{◌≡◌, ◌≤◌, length, slice_get, Ok, Err, IfErr, OnOk, OnErr};
+ghost use Rattle.std.specs.Prelude.{◌≡◌, ◌≤◌, length, Ok, Err};
 ghost use Rattle.tpm_wire.specs.Reading.{read_all, Gives};
 ghost use Rattle.tpm_wire.specs.Buffers.{TakesNumbered};
 ghost use Rattle.tpm_commands.specs.declared.code.CommandCode.TheVariants as codes;
 ghost use Rattle.tpm_commands.specs.declared.command_parameters.Params.TheVariants as of_command;
 ghost use Rattle.tpm_commands.specs.Parameters.{parameters, pcr_extend};
 ghost use Rattle.tpm_buffer.specs.Commands.{body_from};
-ghost use Rattle.tpm_model.specs.Steps.{History, Origin};
-ghost use Rattle.tpm_model.specs.Authorization.{Evidence};
-ghost use Rattle.tpm_model.specs.Actions.{action};
-ghost use Rattle.tpm_model.specs.Answers.{Presented, performed as performed_of, with_outcome};
-ghost use Rattle.tpm_model.specs.Premises.{code_in};
-ghost use Rattle.tpm_device.specs.Stands.{Stands, holds, evidence_for, HasEvidence, presented_with, IsAdmitted, done_of, given, told};
+ghost use Rattle.tpm_model.specs.Answers.{performed as performed_of};
+ghost use Rattle.tpm_device.specs.Stands.{holds, IsReady, Performs, done_of};
 
 use crate::device::Device;
 use crate::handles::register_or_null;
@@ -58,18 +54,8 @@ impl Device {
         out: &mut Buffer,
     ) -> Result<(), u32>
         requires extends { areas.now.header.code ≡ codes.PcrExtend }
-        requires first { auth.now ≡ slice_get areas.now.auths 0 }
-        requires admitted { IsAdmitted areas.now }
-        requires evidence { HasEvidence (holds self.old) areas.now }
-        requires empty { length out.old.items ≡ 0 }
-        ensures answer { (e : Evidence) (o : Origin) (h : History) → evidence_for (holds self.old) areas.now ≡ Ok e → Stands o h self.old →
-            given out.new.items result ≡ told (done_of (holds self.old) nonce.now (presented_with (holds self.old) areas.now e) (body_from areas.now.handles (of_command.PcrExtend digests.now))) }
-        ensures stands { (e : Evidence) (o : Origin) (h : History) → evidence_for (holds self.old) areas.now ≡ Ok e → Stands o h self.old →
-            Stands o (with_outcome h nonce.now (done_of (holds self.old) nonce.now (presented_with (holds self.old) areas.now e) (body_from areas.now.handles (of_command.PcrExtend digests.now)))) self.new }
-        ensures refuses { IfErr result (λ code. action (holds self.old) (body_from areas.now.handles (of_command.PcrExtend digests.now)) nonce.now ≡ Err code) }
-        ensures refused { OnErr result (self.new ≡ self.old) }
-        ensures done { OnOk result (code_in out.new.items ≡ 0) }
-        ensures none { OnErr result (out.new ≡ out.old) }
+        requires ready { IsReady self.old areas.now auth.now out.old }
+        ensures { Performs self.old areas.now nonce.now (λ x. done_of (holds self.old) nonce.now x (body_from areas.now.handles (of_command.PcrExtend digests.now))) out.old result self.new out.new }
     {
         self.extend(register_or_null(areas.handles()), digests)?;
         self.put_bare(areas, auth, nonce, out);
@@ -87,19 +73,8 @@ impl Device {
         out: &mut Buffer,
     ) -> Result<(), u32>
         requires extends { areas.now.header.code ≡ codes.PcrExtend }
-        requires first { auth.now ≡ slice_get areas.now.auths 0 }
-        requires admitted { IsAdmitted areas.now }
-        requires evidence { HasEvidence (holds self.old) areas.now }
-        requires empty { length out.old.items ≡ 0 }
-        ensures answer { (e : Evidence) (o : Origin) (h : History) → evidence_for (holds self.old) areas.now ≡ Ok e → Stands o h self.old →
-            given out.new.items result ≡ told (performed_of (holds self.old) nonce.now (presented_with (holds self.old) areas.now e)) }
-        ensures stands { (e : Evidence) (o : Origin) (h : History) → evidence_for (holds self.old) areas.now ≡ Ok e → Stands o h self.old →
-            Stands o (with_outcome h nonce.now (performed_of (holds self.old) nonce.now (presented_with (holds self.old) areas.now e))) self.new }
-        ensures refuses { IfErr result (λ code. (x : Presented) → x.code ≡ areas.now.header.code → x.handles ≡ areas.now.handles → x.params ≡ areas.now.params →
-            performed_of (holds self.old) nonce.now x ≡ Err code) }
-        ensures refused { OnErr result (self.new ≡ self.old) }
-        ensures done { OnOk result (code_in out.new.items ≡ 0) }
-        ensures none { OnErr result (out.new ≡ out.old) }
+        requires ready { IsReady self.old areas.now auth.now out.old }
+        ensures { Performs self.old areas.now nonce.now (performed_of (holds self.old) nonce.now) out.old result self.new out.new }
     {
         let mut digests = DigestValues::default();
         match decode_digests(areas.params(), &mut digests) {

@@ -47,12 +47,9 @@ pub(crate) fn register_or_null(handles: &[u32]) -> PcrOrNull
 fn index_of(handle: u32) -> NvIndex
     ensures { result ≡ index_in handle }
 {
-    match NvIndex::from_number(handle) {
+    match NvIndex::from_number(handle).or(NvIndex::from_number(0x0100_0000)) {
         Some(index) => index,
-        None => match NvIndex::from_number(0x0100_0000) {
-            Some(index) => index,
-            None => unreachable!(),
-        },
+        None => unreachable!(),
     }
 }
 
@@ -81,12 +78,9 @@ pub(crate) fn by(handles: &[u32]) -> NvAuthHandle
 pub(crate) fn policy(handles: &[u32]) -> PolicyHandle
     ensures { result ≡ policy_in (first_of handles.now) }
 {
-    match PolicyHandle::from_number(first(handles)) {
+    match PolicyHandle::from_number(first(handles)).or(PolicyHandle::from_number(0x0300_0000)) {
         Some(session) => session,
-        None => match PolicyHandle::from_number(0x0300_0000) {
-            Some(session) => session,
-            None => unreachable!(),
-        },
+        None => unreachable!(),
     }
 }
 

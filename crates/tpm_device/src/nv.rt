@@ -20,7 +20,7 @@ impl Device {
         body: &mut ReplyBody,
     ) -> Result<(), u32>
         ensures answer { (n : List ℕ) → acted body.new result ≡ action (holds self.old) (bodies.NvDefineSpace auth.now public.now) n }
-        ensures stands { OnOk result ((n : List ℕ) → Steps self.old self.new (bodies.NvDefineSpace auth.now public.now) body.new n) }
+        ensures stands { (n : List ℕ) → OnOk result (Steps self.old self.new (bodies.NvDefineSpace auth.now public.now) body.new n) }
         ensures sessions { self.new.sessions ≡ self.old.sessions }
         ensures refused { OnErr result (self.new ≡ self.old) }
     {
@@ -33,7 +33,7 @@ impl Device {
     // TPM2_NV_UndefineSpace (Part 3, 31.4).
     pub(crate) fn undefine(&mut self, index: NvIndex, body: &mut ReplyBody) -> Result<(), u32>
         ensures answer { (n : List ℕ) → acted body.new result ≡ action (holds self.old) (bodies.NvUndefineSpace index) n }
-        ensures stands { OnOk result ((n : List ℕ) → Steps self.old self.new (bodies.NvUndefineSpace index) body.new n) }
+        ensures stands { (n : List ℕ) → OnOk result (Steps self.old self.new (bodies.NvUndefineSpace index) body.new n) }
         ensures sessions { self.new.sessions ≡ self.old.sessions }
         ensures refused { OnErr result (self.new ≡ self.old) }
     {
@@ -51,7 +51,7 @@ impl Device {
         body: &mut ReplyBody,
     ) -> Result<(), u32>
         ensures answer { (n : List ℕ) → acted body.new result ≡ action (holds self.old) (bodies.NvIncrement by index) n }
-        ensures stands { OnOk result ((n : List ℕ) → Steps self.old self.new (bodies.NvIncrement by index) body.new n) }
+        ensures stands { (n : List ℕ) → OnOk result (Steps self.old self.new (bodies.NvIncrement by index) body.new n) }
         ensures sessions { self.new.sessions ≡ self.old.sessions }
         ensures refused { OnErr result (self.new ≡ self.old) }
     {

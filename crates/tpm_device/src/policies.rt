@@ -19,7 +19,7 @@ impl Device {
         body: &mut ReplyBody,
     ) -> Result<(), u32>
         ensures answer { (n : List ℕ) → acted body.new result ≡ action (holds self.old) (bodies.PolicyPcr session pcr_digest.now selections.now) n }
-        ensures stands { OnOk result ((n : List ℕ) → Steps self.old self.new (bodies.PolicyPcr session pcr_digest.now selections.now) body.new n) }
+        ensures stands { (n : List ℕ) → OnOk result (Steps self.old self.new (bodies.PolicyPcr session pcr_digest.now selections.now) body.new n) }
         ensures refused { OnErr result (self.new ≡ self.old) }
     {
         *body = ReplyBody::PolicyPcr;
@@ -36,7 +36,7 @@ impl Device {
         body: &mut ReplyBody,
     ) -> Result<(), u32>
         ensures answer { (n : List ℕ) → acted body.new result ≡ action (holds self.old) (bodies.PolicyOr session digests.now) n }
-        ensures stands { OnOk result ((n : List ℕ) → Steps self.old self.new (bodies.PolicyOr session digests.now) body.new n) }
+        ensures stands { (n : List ℕ) → OnOk result (Steps self.old self.new (bodies.PolicyOr session digests.now) body.new n) }
         ensures refused { OnErr result (self.new ≡ self.old) }
     {
         *body = ReplyBody::PolicyOr;
@@ -52,7 +52,7 @@ impl Device {
         body: &mut ReplyBody,
     ) -> Result<(), u32>
         ensures answer { (n : List ℕ) → acted body.new result ≡ action (holds self.old) (bodies.PolicyCommandCode session code) n }
-        ensures stands { OnOk result ((n : List ℕ) → Steps self.old self.new (bodies.PolicyCommandCode session code) body.new n) }
+        ensures stands { (n : List ℕ) → OnOk result (Steps self.old self.new (bodies.PolicyCommandCode session code) body.new n) }
         ensures refused { OnErr result (self.new ≡ self.old) }
     {
         *body = ReplyBody::PolicyCommandCode;
@@ -67,7 +67,7 @@ impl Device {
         body: &mut ReplyBody,
     ) -> Result<(), u32>
         ensures answer { (n : List ℕ) → acted body.new result ≡ action (holds self.old) (bodies.PolicyAuthValue session) n }
-        ensures stands { OnOk result ((n : List ℕ) → Steps self.old self.new (bodies.PolicyAuthValue session) body.new n) }
+        ensures stands { (n : List ℕ) → OnOk result (Steps self.old self.new (bodies.PolicyAuthValue session) body.new n) }
         ensures refused { OnErr result (self.new ≡ self.old) }
     {
         *body = ReplyBody::PolicyAuthValue;
@@ -82,7 +82,7 @@ impl Device {
         body: &mut ReplyBody,
     ) -> Result<(), u32>
         ensures answer { (n : List ℕ) → acted body.new result ≡ action (holds self.old) (bodies.PolicyRestart session) n }
-        ensures stands { OnOk result ((n : List ℕ) → Steps self.old self.new (bodies.PolicyRestart session) body.new n) }
+        ensures stands { (n : List ℕ) → OnOk result (Steps self.old self.new (bodies.PolicyRestart session) body.new n) }
         ensures refused { OnErr result (self.new ≡ self.old) }
     {
         *body = ReplyBody::PolicyRestart;

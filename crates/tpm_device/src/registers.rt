@@ -16,7 +16,7 @@ impl Device {
     // TPM2_Startup (Part 3, 9.3).
     pub(crate) fn start(&mut self, kind: StartupType, body: &mut ReplyBody) -> Result<(), u32>
         ensures answer { (n : List ℕ) → acted body.new result ≡ action (holds self.old) (bodies.Startup kind) n }
-        ensures stands { OnOk result ((n : List ℕ) → Steps self.old self.new (bodies.Startup kind) body.new n) }
+        ensures stands { (n : List ℕ) → OnOk result (Steps self.old self.new (bodies.Startup kind) body.new n) }
         ensures refused { OnErr result (self.new ≡ self.old) }
     {
         if !matches!(body, ReplyBody::Startup) {
@@ -36,7 +36,7 @@ impl Device {
     // TPM2_PCR_Extend (Part 3, 22.2).
     pub(crate) fn extend(&mut self, register: PcrOrNull, digests: &DigestValues) -> Result<(), u32>
         ensures answer { (n : List ℕ) → acted replies.PcrExtend result ≡ action (holds self.old) (bodies.PcrExtend register digests.now) n }
-        ensures stands { OnOk result ((n : List ℕ) → Steps self.old self.new (bodies.PcrExtend register digests.now) replies.PcrExtend n) }
+        ensures stands { (n : List ℕ) → OnOk result (Steps self.old self.new (bodies.PcrExtend register digests.now) replies.PcrExtend n) }
         ensures sessions { self.new.sessions ≡ self.old.sessions }
         ensures refused { OnErr result (self.new ≡ self.old) }
     {
@@ -54,7 +54,7 @@ impl Device {
         body: &mut ReplyBody,
     ) -> Result<(), u32>
         ensures answer { (n : List ℕ) → acted body.new result ≡ action (holds self.old) (bodies.PcrEvent register event.now) n }
-        ensures stands { OnOk result ((n : List ℕ) → Steps self.old self.new (bodies.PcrEvent register event.now) body.new n) }
+        ensures stands { (n : List ℕ) → OnOk result (Steps self.old self.new (bodies.PcrEvent register event.now) body.new n) }
         ensures sessions { self.new.sessions ≡ self.old.sessions }
         ensures refused { OnErr result (self.new ≡ self.old) }
     {
@@ -74,7 +74,7 @@ impl Device {
     // TPM2_PCR_Reset (Part 3, 22.8).
     pub(crate) fn reset(&mut self, register: PcrIndex, body: &mut ReplyBody) -> Result<(), u32>
         ensures answer { (n : List ℕ) → acted body.new result ≡ action (holds self.old) (bodies.PcrReset register) n }
-        ensures stands { OnOk result ((n : List ℕ) → Steps self.old self.new (bodies.PcrReset register) body.new n) }
+        ensures stands { (n : List ℕ) → OnOk result (Steps self.old self.new (bodies.PcrReset register) body.new n) }
         ensures sessions { self.new.sessions ≡ self.old.sessions }
         ensures refused { OnErr result (self.new ≡ self.old) }
     {

@@ -1,6 +1,6 @@
 //! The response.
 
-ghost use Rattle.std.specs.Prelude.{◌≡◌, ◌<◌, true, false, List, [], ◌∷◌, length, Some, None, Ok, Err, IsSome, slice_get, if◌then◌else◌};
+ghost use Rattle.std.specs.Prelude.{◌≡◌, ◌<◌, true, List, [], ◌∷◌, length, Some, None, Ok, Err, IsSome, slice_get, if◌then◌else◌};
 ghost use Rattle.tpm_types.specs.declared.tpms.Auth.{Auth};
 ghost use Rattle.tpm_types.specs.declared.tpms.AuthReply.{AuthReply as ReplyOf};
 ghost use Rattle.tpm_types.specs.Handles.{is_session};
@@ -14,7 +14,7 @@ ghost use Rattle.tpm_model.specs.Sessions.{loaded};
 ghost use Rattle.tpm_model.specs.Authorization.{Evidence, reply_auths, password_reply as password_reply_of};
 ghost use Rattle.tpm_model.specs.Answers.{answered, reply_params};
 ghost use Rattle.tpm_model.specs.Premises.{code_in};
-ghost use Rattle.tpm_device.specs.Stands.{Stands, step_of, evidence_for, IsAlike, any_bare, is_bare, reply_bytes};
+ghost use Rattle.tpm_device.specs.Stands.{Stands, step_of, evidence_for, IsAlike, Replies, Rolls, any_bare, is_bare, reply_bytes};
 
 use crate::device::Device;
 use crate::handles::first;
@@ -126,8 +126,7 @@ impl Device {
     )
         requires own { auth.now ≡ slice_get areas.now.auths 0 }
         requires empty { length out.old.items ≡ 0 }
-        ensures bytes { (p : Present) (e : Evidence) → ((a : Auth) (others : List Auth) → areas.now.auths ≡ a ∷ others → IsAlike p self.now (first_of areas.now.handles)) → evidence_for p areas.now ≡ Ok e →
-            out.new.items ≡ reply_bytes (record { body = body.now; auths = reply_auths e areas.now.header.code (reply_params body.now) nonce.now }) }
+        ensures bytes { Replies self.now areas.now nonce.now body.now out.new.items }
         ensures done { code_in out.new.items ≡ 0 }
     {
         match auth {
@@ -171,8 +170,7 @@ impl Device {
     )
         requires own { auth.now ≡ slice_get areas.now.auths 0 }
         requires empty { length out.old.items ≡ 0 }
-        ensures bytes { (body : BodyOf) → is_bare body ≡ true → (p : Present) (e : Evidence) → ((a : Auth) (others : List Auth) → areas.now.auths ≡ a ∷ others → IsAlike p self.now (first_of areas.now.handles)) → evidence_for p areas.now ≡ Ok e →
-            out.new.items ≡ reply_bytes (record { body = body; auths = reply_auths e areas.now.header.code (reply_params body) nonce.now }) }
+        ensures bytes { (body : BodyOf) → is_bare body ≡ true → Replies self.now areas.now nonce.now body out.new.items }
         ensures done { code_in out.new.items ≡ 0 }
     {
         match auth {
@@ -203,8 +201,7 @@ impl Device {
     pub(crate) fn roll(&mut self, areas: &Areas<'_>, auth: &Option<AuthRef<'_>>, nonce: &[u8; 64])
         requires own { auth.now ≡ slice_get areas.now.auths 0 }
         requires loaded { (a : Auth) (others : List Auth) → areas.now.auths ≡ a ∷ others → is_session a.session ≡ true → IsSome (loaded self.old.sessions a.session) }
-        ensures { (o : Origin) (h : History) (body : CommandBody) (reply : BodyOf) (replied : List ReplyOf) → (needs_authorization (code_for body) ≡ false → areas.now.auths ≡ []) →
-            Stands o (step_of body reply nonce.now ∷ h) self.old → Stands o (Accepted (with_auths body areas.now.auths) (record { body = reply; auths = replied }) nonce.now ∷ h) self.new }
+        ensures { Rolls self.old areas.now.auths nonce.now self.new }
     {
         match auth {
             Some(auth) => self.roll_session(auth, nonce),

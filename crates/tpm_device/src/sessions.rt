@@ -29,7 +29,7 @@ impl Device {
     // TPM2_FlushContext (Part 3, 28.4).
     pub(crate) fn flush(&mut self, session: SessionHandle, body: &mut ReplyBody) -> Result<(), u32>
         ensures answer { (n : List ℕ) → acted body.new result ≡ action (holds self.old) (bodies.FlushContext session) n }
-        ensures stands { OnOk result ((n : List ℕ) → Steps self.old self.new (bodies.FlushContext session) body.new n) }
+        ensures stands { (n : List ℕ) → OnOk result (Steps self.old self.new (bodies.FlushContext session) body.new n) }
         ensures refused { OnErr result (self.new ≡ self.old) }
     {
         if !matches!(body, ReplyBody::FlushContext) {

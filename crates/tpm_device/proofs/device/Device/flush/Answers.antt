@@ -1,13 +1,9 @@
-use Rattle.std.proofs.Common.{[], refl}
+use Rattle.std.proofs.Common.{refl}
 use Rattle.tpm_commands.specs.declared.command.CommandBody.TheVariants as bodies
 use Rattle.tpm_commands.specs.declared.response.ReplyBody.TheVariants as replies
-use Rattle.tpm_buffer.specs.Commands.{with_auths}
-use Rattle.tpm_device.proofs.Further.{one_more, its_registers, its_sessions}
+use Rattle.tpm_device.proofs.Further.{sessions_change}
 use Rattle.tpm_device.proofs.device.Device.flush.Goals as goal
 
 pub returns-clause-stands : goal.returns-clause-stands
 returns-clause-stands c = λ n o h st.
-    let d = c.args.self.now in
-    let body = bodies.FlushContext c.args.session in
-    one_more o h d (record d { sessions = c.flush.new.self }) body replies.FlushContext n st refl refl (its_registers o h d st)
-    (c.in_ok-flush.ensures.flushed o h (with_auths body []) (record { body = replies.FlushContext; auths = [] }) n refl refl (its_sessions o h d st)) refl
+    sessions_change o h c.args.self.now (bodies.FlushContext c.args.session) replies.FlushContext n c.flush.new.self st refl refl (λ nv. refl) (c.in_ok-flush.ensures.flushed o h)

@@ -1,26 +1,14 @@
-use Rattle.std.proofs.Common.{◌≡◌, ◌∙◌, Ok, sym, ap, subst}
-use Rattle.tpm_wire.specs.Reading.{read_all}
+use Rattle.std.proofs.Common.{◌∙◌, sym, ap}
 use Rattle.tpm_commands.specs.Parameters.{placed}
-use Rattle.tpm_commands.specs.Parameters.{parameters}
-use Rattle.tpm_model.specs.Steps.{History}
-use Rattle.tpm_model.specs.Answers.{with_outcome}
-use Rattle.tpm_device.specs.Stands.{Stands, holds, presented_with, told}
-use Rattle.tpm_device.proofs.Passing.{performed_is}
+use Rattle.tpm_device.proofs.Passing.{with_params, without_params}
 use Rattle.tpm_device.proofs.device.Device.performed_at_length.Goals as goal
 
-pub returns-in-Ok-clause-answer : goal.returns-in-Ok-clause-answer
-returns-in-Ok-clause-answer c = λ e o h gives st.
-    let p = holds c.args.self.now in
-    let x = c.args.areas.now in
+pub returns-in-Ok : goal.returns-in-Ok
+returns-in-Ok c =
     let params = c.decode_params_into.new.params in
-    let reads : read_all (parameters x.header.code) x.params ≡ Ok params = rw (← c.code.ensures, ← c.params.ensures.value) (sym c.decode_params_into.ensures.reads ∙ ap (placed params) c.in-Ok.is) in
-    c.done.ensures.answer e o h gives st ∙ sym (ap told (performed_is p c.args.nonce.now (presented_with p x e) params reads))
+    with_params c.args.areas.now params (rw (← c.code.ensures, ← c.params.ensures.value) (sym c.decode_params_into.ensures.reads ∙ ap (placed params) c.in-Ok.is)) c.done.ensures
 
-pub returns-in-Ok-clause-stands : goal.returns-in-Ok-clause-stands
-returns-in-Ok-clause-stands c = λ e o h gives st.
-    let p = holds c.args.self.now in
-    let x = c.args.areas.now in
-    let params = c.decode_params_into.new.params in
-    let reads : read_all (parameters x.header.code) x.params ≡ Ok params = rw (← c.code.ensures, ← c.params.ensures.value) (sym c.decode_params_into.ensures.reads ∙ ap (placed params) c.in-Ok.is) in
-    subst (λ (g : History). Stands o g c.done.new.self) (sym (ap (with_outcome h c.args.nonce.now) (performed_is p c.args.nonce.now (presented_with p x e) params reads)))
-    (c.done.ensures.stands e o h gives st)
+pub returns-in-Err : goal.returns-in-Err
+returns-in-Err c =
+    without_params c.args.self.now c.args.areas.now c.args.nonce.now c.args.out.now c.in-Err.refusal
+    (rw (← c.code.ensures, ← c.params.ensures.value) (sym c.decode_params_into.ensures.reads ∙ ap (placed c.decode_params_into.new.params) c.in-Err.is))
