@@ -10,7 +10,7 @@ use Rattle.tpm_log.specs.Records.{LogRecord}
 use Rattle.tpm_log.specs.Replays.{ReplaysFrom, OnDevice}
 use Rattle.tpm_log.specs.Takes.{IsOfBytes}
 use Rattle.tpm_text.specs.declared.fault.ToolFault.{ToolFault}
-use Rattle.tpm_text.specs.declared.fault.ToolFault.TheVariants.{Memory, Read, Write, InputTooLong}
+use Rattle.tpm_text.specs.declared.fault.ToolFault.TheVariants.{Read, InputTooLong}
 use Rattle.tpm_text.specs.declared.status.Status.{Status}
 use Rattle.tpm_text.specs.declared.status.Status.TheVariants.{Refused}
 use Rattle.tpm_text.specs.Status.{both}
@@ -51,19 +51,14 @@ counts_same failed (Some list) = refl
 
 -- nothing of a list was read
 pub counts_alone : {X F : Type 0} (failed : F → ℕ) (log log-2 : ℕ) (list : Option F) (r : Result X ToolFault) → FailsByMemoryOrWrite r → log-2 ≡ log → CountsReads failed log log-2 list list r
-counts_alone failed log log-2 list (Ok x) f same = (same, counts_same failed list)
-counts_alone failed log log-2 list (Err Memory) f same = (same, counts_same failed list)
-counts_alone failed log log-2 list (Err Write) f same = (same, counts_same failed list)
 counts_alone failed log log-2 list (Err Read) f same = absurd f
 counts_alone failed log log-2 list (Err InputTooLong) f same = absurd f
+counts_alone failed log log-2 list _ f same = (same, counts_same failed list)
 
 -- a list was read
 pub counts_stated : {X F : Type 0} (failed : F → ℕ) (log log-2 : ℕ) (old new : F) (r : Result X ToolFault) → CountsRead (failed old) (failed new) r → log-2 ≡ log → CountsReads failed log log-2 (Some old) (Some new) r
-counts_stated failed log log-2 old new (Ok x) f same = (same, f)
-counts_stated failed log log-2 old new (Err Memory) f same = (same, f)
-counts_stated failed log log-2 old new (Err Write) f same = (same, f)
 counts_stated failed log log-2 old new (Err Read) f same = inr (same, f)
-counts_stated failed log log-2 old new (Err InputTooLong) f same = (same, f)
+counts_stated failed log log-2 old new _ f same = (same, f)
 
 -- a read of the log failed
 pub counts_log : (X : Type 0) {F : Type 0} (failed : F → ℕ) (log log-2 : ℕ) (list : Option F) → log-2 ≡ one_more log → CountsReads {X = X} failed log log-2 list list (Err Read)
@@ -81,10 +76,7 @@ log_last failed stopped log log-2 last list more is = inl (more, is, refl)
 pub stated_last : {X F : Type 0} (failed : F → ℕ) (stopped : F → Bool) (log log-2 : ℕ) (last : Bool) (old new : F) (r : Result X ToolFault) → CountsRead (failed old) (failed new) r → (IsErrOf r Read → IsWhereItFailed (stopped new)) → log-2 ≡ log
     → IsErrOf r Read → FailsLast failed stopped log log-2 last (Some old) (Some new)
 stated_last failed stopped log log-2 last old new (Err Read) f ends same is = inr (same, (f, ends is))
-stated_last failed stopped log log-2 last old new (Ok x) f ends same is = absurd cc
-stated_last failed stopped log log-2 last old new (Err Memory) f ends same is = absurd cc
-stated_last failed stopped log log-2 last old new (Err Write) f ends same is = absurd cc
-stated_last failed stopped log log-2 last old new (Err InputTooLong) f ends same is = absurd cc
+stated_last failed stopped log log-2 last old new _ f ends same is = absurd cc
 
 -- ---- the log
 
@@ -93,32 +85,12 @@ module _ {X : Type 0} (P : List LogRecord → X → Type 0) (coming : Option (Li
   replayed x f = f.0
 
 pub of_bytes : (kind : LogFaultKind) → (kind ≡ kinds.Device → ⊥) → IsOfBytes kind
-of_bytes kinds.Truncated f = tt
-of_bytes kinds.TooLong f = tt
-of_bytes kinds.NotCryptoAgile f = tt
-of_bytes kinds.BadHeader f = tt
-of_bytes kinds.DuplicateAlgorithm f = tt
-of_bytes kinds.WrongDigestSize f = tt
-of_bytes kinds.UnknownAlgorithm f = tt
-of_bytes kinds.RepeatedDigest f = tt
-of_bytes kinds.BadRegister f = tt
-of_bytes kinds.BadLocality f = tt
-of_bytes kinds.LateLocality f = tt
 of_bytes kinds.Device f = f refl
+of_bytes _ f = tt
 
 other_kind : (kind : LogFaultKind) (P Q : Type 0) → IsOfBytes kind → OnDevice kind P Q → Q
-other_kind kinds.Truncated P Q f h = h
-other_kind kinds.TooLong P Q f h = h
-other_kind kinds.NotCryptoAgile P Q f h = h
-other_kind kinds.BadHeader P Q f h = h
-other_kind kinds.DuplicateAlgorithm P Q f h = h
-other_kind kinds.WrongDigestSize P Q f h = h
-other_kind kinds.UnknownAlgorithm P Q f h = h
-other_kind kinds.RepeatedDigest P Q f h = h
-other_kind kinds.BadRegister P Q f h = h
-other_kind kinds.BadLocality P Q f h = h
-other_kind kinds.LateLocality P Q f h = h
 other_kind kinds.Device P Q f h = absurd f
+other_kind _ P Q f h = h
 
 module _ {X : Type 0} (P : List LogRecord → X → Type 0) where
   pub read_failed : (coming : Option (List ℕ)) (old new : ℕ) (e : LogFault) → e.kind ≡ kinds.Device → ReplaysFrom P coming old new (Err e) → new ≡ one_more old

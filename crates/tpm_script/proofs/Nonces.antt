@@ -29,17 +29,15 @@ differs k m less few = λ same.
 -- no command from the m-th on has the nonce of an earlier one
 is_apart : (k m : ℕ) (lines : List Line) → k < m → m + length lines ≤ 256 ^ 16 → IsApart (nonce_of k) (nonces (events_from m lines))
 is_apart k m [] less few = tt
-is_apart k m (Blank ∷ lines) less few = is_apart k m lines less (omega (arith, few))
-is_apart k m (Power ∷ lines) less few = is_apart k m lines less (omega (arith, few))
 is_apart k m (Command bytes ∷ lines) less few = (differs k m less (omega (arith, few)), is_apart k (m + 1) lines (omega (arith, less)) (omega (arith, few)))
 is_apart k m (NotHexadecimal ∷ lines) less few = tt
+is_apart k m (_ ∷ lines) less few = is_apart k m lines less (omega (arith, few))
 
 are_apart : (k : ℕ) (lines : List Line) → k + length lines ≤ 256 ^ 16 → AreApart (nonces (events_from k lines))
 are_apart k [] few = tt
-are_apart k (Blank ∷ lines) few = are_apart k lines (omega (arith, few))
-are_apart k (Power ∷ lines) few = are_apart k lines (omega (arith, few))
 are_apart k (Command bytes ∷ lines) few = (is_apart k (k + 1) lines (omega arith) (omega (arith, few)), are_apart (k + 1) lines (omega (arith, few)))
 are_apart k (NotHexadecimal ∷ lines) few = tt
+are_apart k (_ ∷ lines) few = are_apart k lines (omega (arith, few))
 
 -- ---- no more lines than bytes
 

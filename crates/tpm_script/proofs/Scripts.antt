@@ -1,10 +1,10 @@
 -- Scripts that are run one part after the other.
-use Rattle.std.proofs.Common.{◌≡◌, ◌≢◌, ℕ, ◌+◌, ◌<◌, ◌≤◌, false, List, [], ◌∷◌, ◌++◌, length, map, Option, Some, None, refl, sym, ap, ◌∙◌, subst, inl, inr, arith, append_assoc, length-append}
+use Rattle.std.proofs.Common.{◌≡◌, ◌≢◌, ℕ, ◌+◌, ◌<◌, ◌≤◌, false, List, [], ◌∷◌, ◌++◌, length, map, take, get_or, Option, Some, None, refl, sym, ap, ◌∙◌, subst, inl, inr, arith, append_assoc, length-append}
 use Rattle.std.specs.Prelude.{codes, nat_eq}
 use Rattle.std.specs.List.{AllByRecursion}
 use Rattle.std.specs.Io.KnownBytes.{Keeps, Consumes, IsAtEnd}
 use Rattle.std.proofs.lemmas.Bool.{lt-ltb}
-use Rattle.std.proofs.lemmas.List.{append-nil}
+use Rattle.std.proofs.lemmas.List.{append-nil, take_more, length-take-le}
 use Rattle.std.proofs.lemmas.Option.{none-some}
 use Rattle.tpm_model.specs.Steps.{History, Origin, PowerCycle}
 use Rattle.tpm_model.specs.Answers.{answer, next}
@@ -31,10 +31,8 @@ too_long text lt = rw (lt-ltb most_digits (length text) lt) refl
 
 script_from-more : (n k : ℕ) (l : Line) (ls : List Line) → refused_from n (l ∷ []) ≡ None
     → script_from n k (l ∷ ls) ≡ behind (events_from k (l ∷ [])) (script_from (n + 1) (next_command k l) ls)
-script_from-more n k Blank ls f = refl
-script_from-more n k Power ls f = refl
-script_from-more n k (Command bytes) ls f = refl
 script_from-more n k NotHexadecimal ls f = absurd (none-some n (sym f))
+script_from-more n k _ ls f = refl
 
 script_from-refused : (n k : ℕ) (l : Line) (ls : List Line) → l ≡ NotHexadecimal → script_from n k (l ∷ ls) ≡ record { events = []; refused = Some n }
 script_from-refused n k l ls f = rw f refl
@@ -208,7 +206,7 @@ ends_longer l byte = ([], refl, inl refl, tt)
 pub ends_none : (l : List ℕ) → Ends l [] Done l
 ends_none l = ([], append-nil l, inl refl, tt)
 
-pub takes_both : (xs ys : List ℕ) (r s t : Run) (A B C : List ℕ → Type 0) (status : Status) → Joins A B C
+takes_both : (xs ys : List ℕ) (r s t : Run) (A B C : List ℕ → Type 0) (status : Status) → Joins A B C
     → Takes xs r s A Done → Takes ys s t B status → Takes (xs ++ ys) r t C status
 takes_both xs ys r s t A B C status joins f g = record {
   events = f.events ++ g.events;
@@ -218,6 +216,11 @@ takes_both xs ys r s t A B C status joins f g = record {
   number = omega (arith, f.number, g.number, length-append xs ys);
   open_again = g.open_again;
 }
+
+-- a byte more of a piece
+pub takes_more : (piece : List ℕ) (i : ℕ) (r s t : Run) (A B C : List ℕ → Type 0) (status : Status) → Joins A B C → i < length piece
+    → Takes (take i piece) r s A Done → Takes (get_or piece i 0 ∷ []) s t B status → Takes (take (i + 1) piece) r t C status
+takes_more piece i r s t A B C status joins within f g = rw (take_more piece i 0) (takes_both (take i piece) (get_or piece i 0 ∷ []) r s t A B C status joins f g)
 
 -- A script that has come to a line that is refused is over.
 pub takes_further : (xs ys : List ℕ) (r s : Run) (A : List ℕ → Type 0) → Takes xs r s A Refused → Takes (xs ++ ys) r s A Refused
@@ -231,10 +234,8 @@ takes_further xs ys r s A f = record {
 }
 
 next_command-le : (k : ℕ) (l : Line) → next_command k l ≤ k + 1
-next_command-le k Blank = omega arith
-next_command-le k Power = omega arith
 next_command-le k (Command bytes) = omega arith
-next_command-le k NotHexadecimal = omega arith
+next_command-le k _ = omega arith
 
 -- the line feed of the present line
 pub takes_feed : (r s : Run) (A : List ℕ → Type 0) (status : Status) → IsOpen (place r) → EndsLine (line_of r.line.items) r s A status → Takes (10 ∷ []) r s A status
@@ -349,6 +350,12 @@ no_further old mid new read count bytes first r A is f consumed counted few le =
   piece = rw counted at few;
   most = omega (arith, f.count, counted, le);
 }
+
+-- the same of a read into this room
+pub no_further_in : (old mid new : Option (List ℕ)) (read count : ℕ) (room : List ℕ) (first r : Run) (A : List ℕ → Type 0) → place first ≡ start → Reaches old mid read first r A
+    → Consumes mid new (take count room) → count ≤ length room → length room ≤ most_piece → read + count ≤ most_bytes → ReadsNoFurther old new
+no_further_in old mid new read count room first r A is f consumed within few le =
+    no_further old mid new read count (take count room) first r A is f consumed (sym (length-take-le count room within)) (omega arith) le
 
 pub reaches_more : (old mid new : Option (List ℕ)) (read count : ℕ) (bytes : List ℕ) (first r s : Run) (A B C : List ℕ → Type 0) → Joins A B C
     → Reaches old mid read first r A → Consumes mid new bytes → count ≡ length bytes → Takes bytes r s B Done → Reaches old new (read + count) first s C

@@ -6,7 +6,7 @@ use Rattle.tpm_stream.proofs.Filled.{consumes_both}
 use Rattle.tpm_text.specs.declared.status.Status.TheVariants.{Done, Refused}
 use Rattle.tpm_script.specs.Progress.{StandsAt, IsOpen, place}
 use Rattle.tpm_text.proofs.Joins.{joins_appends}
-use Rattle.tpm_script.proofs.Scripts.{reaches_more, takes_none, unrefused, answers_at_end, answers_refused, keeps_none, no_further}
+use Rattle.tpm_script.proofs.Scripts.{reaches_more, takes_none, unrefused, answers_at_end, answers_refused, keeps_none, no_further, no_further_in}
 use Rattle.tpm_script.proofs.script.run_script.Goals as goal
 
 pub returns-then-read-gt-MOST_BYTES-clause-too_long : goal.returns-then-read-gt-MOST_BYTES-clause-too_long
@@ -39,19 +39,15 @@ returns-then-count-eq0-clause-further g c = λ _.
 
 pub returns-in_err-print-clause-further : goal.returns-in_err-print-clause-further
 returns-in_err-print-clause-further g c = λ _.
-    let count = c.in_ok-count.count in
-    let room = c.read.new.room in
-    let len : length room ≡ c.clamp-room.result = search rules in
-    no_further _ _ _ c.loop-run.read count (take count room) c.new-run.result c.loop-run.run _ c.new-run.ensures.place c.loop-run.invariant.reaches c.in_ok-count.ensures.bytes.0
-    (sym (length-take-le count room c.in_ok-count.ensures.bound.0)) (omega (arith, len, c.in_ok-count.ensures.bound.0)) (omega arith)
+    let len : length c.read.new.room ≡ c.clamp-room.result = search rules in
+    no_further_in _ _ _ c.loop-run.read c.in_ok-count.count c.read.new.room c.new-run.result c.loop-run.run _ c.new-run.ensures.place c.loop-run.invariant.reaches c.in_ok-count.ensures.bytes.0
+    c.in_ok-count.ensures.bound.0 (omega (arith, len)) (omega arith)
 
 pub returns-then-eq-clause-further : goal.returns-then-eq-clause-further
 returns-then-eq-clause-further g c = λ _.
-    let count = c.in_ok-count.count in
-    let room = c.read.new.room in
-    let len : length room ≡ c.clamp-room.result = search rules in
-    no_further _ _ _ c.loop-run.read count (take count room) c.new-run.result c.loop-run.run _ c.new-run.ensures.place c.loop-run.invariant.reaches c.in_ok-count.ensures.bytes.0
-    (sym (length-take-le count room c.in_ok-count.ensures.bound.0)) (omega (arith, len, c.in_ok-count.ensures.bound.0)) (omega arith)
+    let len : length c.read.new.room ≡ c.clamp-room.result = search rules in
+    no_further_in _ _ _ c.loop-run.read c.in_ok-count.count c.read.new.room c.new-run.result c.loop-run.run _ c.new-run.ensures.place c.loop-run.invariant.reaches c.in_ok-count.ensures.bytes.0
+    c.in_ok-count.ensures.bound.0 (omega (arith, len)) (omega arith)
 
 pub returns-then-count-eq0-clause-ok : goal.returns-then-count-eq0-clause-ok
 unfolding StandsAt
