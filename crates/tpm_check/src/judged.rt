@@ -1,7 +1,6 @@
 //! A quote as it was signed, in the subcommand `check`.
 
-ghost use Rattle.std.specs.Prelude.{◌≡◌, ◌++◌, IfOk, OnOk, option_map, string_bytes};
-ghost use Rattle.std.specs.Str.{bytes_eq};
+ghost use Rattle.std.specs.{Prelude.{◌≡◌, ◌++◌, IfOk, OnOk, option_map, string_bytes}, Str.{bytes_eq}};
 ghost use Rattle.tpm_model.specs.Registers.{composite, value_in};
 ghost use Rattle.tpm_log.specs.Attests.{registers_of};
 ghost use Rattle.tpm_check.specs.CheckAttest.{Adds, whether, lacks_line, on_nonce, on_missing, on_registers, on_selection, on_quote, on_attest, Says, ChecksAttest, ChecksGiven};

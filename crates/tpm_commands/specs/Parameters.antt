@@ -1,16 +1,13 @@
 -- The parameters of the commands (Part 3, the command table of each).
 use Rattle.std.specs.Prelude.{Result, Ok, Err}
-use Rattle.tpm_wire.specs.declared.refusal.Refusal.{Refusal}
-use Rattle.tpm_wire.specs.Buffers.{Layout}
-use Rattle.tpm_commands.specs.declared.code.CommandCode.{CommandCode}
-use Rattle.tpm_commands.specs.declared.command_parameters.Params.{Params}
+use Rattle.tpm_wire.specs.{declared.refusal.Refusal.{Refusal}, Buffers.{Layout}}
+use Rattle.tpm_commands.specs.{declared.{code.CommandCode.{CommandCode}, command_parameters.Params.{Params}}, Table.{row}}
 unfoldable pub use Rattle.tpm_commands.specs.Commands.Startup.{startup}
 unfoldable pub use Rattle.tpm_commands.specs.Commands.Session.{start_auth_session}
 unfoldable pub use Rattle.tpm_commands.specs.Commands.Pcr.{pcr_extend, pcr_event, pcr_read}
 unfoldable pub use Rattle.tpm_commands.specs.Commands.Policy.{policy_or, policy_pcr, policy_command_code}
 unfoldable pub use Rattle.tpm_commands.specs.Commands.Context.{flush_context}
 unfoldable pub use Rattle.tpm_commands.specs.Commands.Nv.{nv_define_space, nv_read}
-use Rattle.tpm_commands.specs.Table.{row}
 pub use Rattle.tpm_commands.specs.Table.{params_code}
 
 abbrev pub parameters : CommandCode → Layout Params

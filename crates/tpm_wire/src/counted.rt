@@ -1,10 +1,7 @@
 //! Counted lists: TPML structures (Part 2, 10.9).
 
 ghost use Rattle.std.specs.Prelude.{◌≡◌, ◌==◌, ◌+◌, ◌*◌, ◌≤◌, ◌<◌, ◌^◌, ◌⊎◌, [], ◌∷◌, ◌++◌, length, nat_le, ◌&&◌, IfOk, MatchOption};
-ghost use Rattle.tpm_wire.specs.ResponseCodes.{rc_size};
-ghost use Rattle.tpm_wire.specs.Buffers.{number_in, Takes};
-ghost use Rattle.tpm_wire.specs.Spelling.{spelling, joined_all};
-ghost use Rattle.tpm_wire.specs.Structures.{counted};
+ghost use Rattle.tpm_wire.specs.{ResponseCodes.{rc_size}, Buffers.{number_in, Takes}, Spelling.{spelling, joined_all}, Structures.{counted}};
 
 use crate::cursor::Cursor;
 use crate::duplicate::Duplicate;

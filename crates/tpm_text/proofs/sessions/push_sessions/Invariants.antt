@@ -1,6 +1,5 @@
 use Rattle.std.proofs.Common.{◌≡◌, ◌++◌, ◌+◌, string_bytes, drop}
-use Rattle.tpm_text.specs.Text.{lines_from}
-use Rattle.tpm_text.specs.Text.{session_text}
+use Rattle.tpm_text.specs.Text.{lines_from, session_text}
 use Rattle.tpm_text.proofs.sessions.push_sessions.Given as goal
 
 -- the text so far and that of what is left are that of all
