@@ -4,7 +4,7 @@ use Rattle.tpm_wire.{specs.Token.{number_of}, proofs.Numbers.{number_of-bytes}}
 use Rattle.tpm_model.{specs.{Steps.{Origin}, Answers.{answer}, Runs.{Event, Given, after}, Premises.{code_in, HasSessionMac, least_nonce, nonces, IsApart, AreApart, NoncesDiffer, NoCollision}}, proofs.Replay.{twice}}
 use Rattle.tpm_device.proofs.Ran.{accepted}
 use Rattle.tpm_text.specs.InputLines.{onto_first, lines_of, most_bytes}
-use Rattle.tpm_script.specs.Script.{Line, Blank, Power, Command, NotHexadecimal, line_of, nonce_of, events_from, script}
+use Rattle.tpm_script.specs.Script.{Line, Command, NotHexadecimal, line_of, nonce_of, events_from, script}
 
 -- A nonce begins with its number.
 begins : (k : ℕ) → take least_nonce (nonce_of k) ≡ to_be_bytes w128 k

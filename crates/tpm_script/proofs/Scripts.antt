@@ -3,7 +3,7 @@ use Rattle.std.{proofs.{Common.{◌≡◌, ◌≢◌, ℕ, ◌+◌, ◌<◌, ◌
 use Rattle.tpm_model.{specs.{Steps.{History, Origin, PowerCycle}, Answers.{answer, next}, Runs.{Event, Given, Cycled, after, run}}, proofs.Runs.{after-append}}
 use Rattle.tpm_stream.proofs.Filled.{consumes_both}
 use Rattle.tpm_device.specs.declared.device.Device.{Device}
-use Rattle.tpm_script.specs.{declared.script.Run.{Run}, Script.{Line, Blank, Power, Command, NotHexadecimal, Script, line_of, most_digits, AreAccepted, IsRefusedLine, IsRefusedIn, IsUnrefused, events_from, refused_from, script_from, script, events_text, refused_text, script_text, status_for, ReadsNoFurther, ReadsScript}, Progress.{Place, start, script_at, IsOpen, behind, Leads, Ends, refused_at, StandsAt, Performs, place, next_command, EndsLine, Takes, Reaches}}
+use Rattle.tpm_script.specs.{declared.script.Run.{Run}, Script.{Line, Command, NotHexadecimal, Script, line_of, most_digits, AreAccepted, IsRefusedLine, IsRefusedIn, IsUnrefused, events_from, refused_from, script_from, script, events_text, refused_text, script_text, status_for, ReadsNoFurther, ReadsScript}, Progress.{Place, start, script_at, IsOpen, behind, Leads, Ends, refused_at, StandsAt, Performs, place, next_command, EndsLine, Takes, Reaches}}
 use Rattle.tpm_text.{specs.{declared.status.Status.{Status, TheVariants.{Done, Refused}}, Text.{bytes_line, line}, InputLines.{lines_of, HasNoFeed, AreEnded, most_bytes, most_piece}}, proofs.{InputLines.{no_feed-more, ended_line, last_line, first_line, other_lines, longer_line, lines_of-append, ended_both}, Joins.{Joins}}}
 
 -- ---- lines
