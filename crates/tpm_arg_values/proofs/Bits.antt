@@ -1,6 +1,13 @@
 -- A bit that is set, and those beside it.
-use Rattle.std.{proofs.{Common.{◌≡◌, ◌≢◌, ℕ, ◌+◌, ◌*◌, ◌/◌, ◌%◌, ◌<◌, ◌≤◌, ◌^◌, ◌==◌, [], ◌∷◌, slice_index, Bool, true, false, not, bit_and, bit_or, w8, inl, inr, refl, sym, subst, ap, ◌∙◌, arith}, lemmas.{Nat.{pow_pos, Bits.{and_pow, bit_at_set_same, bit_at_set_other}}, Bool.{cases_lt, Decides.{nat_tests}}}}, specs.Int.{bit_at}}
-use Rattle.tpm_types.specs.{Tpma.{is_set}, Tpms.{is_selected}}
+use Rattle.std.proofs.Common.{◌≡◌, ◌≢◌, ℕ, ◌+◌, ◌*◌, ◌/◌, ◌%◌, ◌<◌, ◌≤◌, ◌^◌, ◌==◌, [], ◌∷◌, slice_index, Bool, true}
+use Rattle.std.proofs.Common.{false, not, bit_and, bit_or, w8, inl, inr, refl, sym, subst, ap, ◌∙◌, arith}
+use Rattle.std.proofs.lemmas.Nat.Bits.{and_pow, bit_at_set_same, bit_at_set_other}
+use Rattle.std.proofs.lemmas.Nat.{pow_pos}
+use Rattle.std.proofs.lemmas.Bool.Decides.{nat_tests}
+use Rattle.std.proofs.lemmas.Bool.{cases_lt}
+use Rattle.std.specs.Int.{bit_at}
+use Rattle.tpm_types.specs.Tpma.{is_set}
+use Rattle.tpm_types.specs.Tpms.{is_selected}
 
 tests_bit : (i n : ℕ) → is_set i n ≡ not (bit_at n i * 2 ^ i == 0)
 tests_bit i n = ap (λ m. not (bit_and n m == 0)) (let k : 2 ^ i + 0 ≡ 2 ^ i = omega arith in k) ∙ ap (λ x. not (x == 0)) (and_pow n i)

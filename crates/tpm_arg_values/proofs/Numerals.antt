@@ -1,6 +1,12 @@
 -- The test of decimal digits, and what `parse` says of them.
-use Rattle.std.{proofs.{Common.{rules, ◌≡◌, ◌<◌, ◌^◌, ◌&&◌, nat_lt, ℕ, Bool, true, false, List, [], ◌∷◌, length, refl, sym, arith}, lemmas.{Bool.Decides.{nat_tests}, Str.Parse.{tells_digits, tells_all_ascii_digits}}}, specs.Str.{all_ascii_digits, Parse.{AllDigits, IsNumeral, digits_value}}}
-use Rattle.tpm_arg_values.specs.{Numbers.{IsDecimal}, Selections.{is_numeral}}
+use Rattle.std.proofs.Common.{rules, ◌≡◌, ◌<◌, ◌^◌, ◌&&◌, nat_lt, ℕ, Bool, true, false, List, [], ◌∷◌, length, refl}
+use Rattle.std.proofs.Common.{sym, arith}
+use Rattle.std.proofs.lemmas.Bool.Decides.{nat_tests}
+use Rattle.std.proofs.lemmas.Str.Parse.{tells_digits, tells_all_ascii_digits}
+use Rattle.std.specs.Str.Parse.{AllDigits, IsNumeral, digits_value}
+use Rattle.std.specs.Str.{all_ascii_digits}
+use Rattle.tpm_arg_values.specs.Numbers.{IsDecimal}
+use Rattle.tpm_arg_values.specs.Selections.{is_numeral}
 
 digits_pass : (ds : List ℕ) → AllDigits 10 ds → all_ascii_digits ds ≡ true
 digits_pass [] h = refl

@@ -1,5 +1,6 @@
 -- Numbers by their digits (this profile).
-use Rattle.std.specs.{Prelude.{◌≡◌, ◌<◌, ◌^◌, ℕ, List}, Str.Parse.{IsNumeral, digits_value}}
+use Rattle.std.specs.Prelude.{◌≡◌, ◌<◌, ◌^◌, ℕ, List}
+use Rattle.std.specs.Str.Parse.{IsNumeral, digits_value}
 
 -- a number below a bound by its digits in a radix, one or more, with no sign
 abbrev pub IsNumber : ℕ → ℕ → List ℕ → ℕ → Type 0

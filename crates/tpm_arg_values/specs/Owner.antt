@@ -1,8 +1,10 @@
 -- An owner's authorization value by its text (this profile).
-use Rattle.std.specs.{Prelude.{◌≡◌, ◌<◌, ◌≤◌, ℕ, List, Option, Some, None, IfSome, length}, Result.{result_ok}}
+use Rattle.std.specs.Prelude.{◌≡◌, ◌<◌, ◌≤◌, ℕ, List, Option, Some, None, IfSome, length}
+use Rattle.std.specs.Result.{result_ok}
 use Rattle.hex.specs.Hex.{decode_of}
 use Rattle.tpm_types.specs.Limits.{digest_bytes}
-use Rattle.tpm_arg_values.specs.declared.owner.OwnerFault.{OwnerFault, TheVariants.{NotHexadecimal, TooLong, OutOfMemory}}
+use Rattle.tpm_arg_values.specs.declared.owner.OwnerFault.TheVariants.{NotHexadecimal, TooLong, OutOfMemory}
+use Rattle.tpm_arg_values.specs.declared.owner.OwnerFault.{OwnerFault}
 
 -- the bytes of hexadecimal digits, or none for any other text
 abbrev pub bytes_in : List ℕ → Option (List ℕ)

@@ -1,6 +1,14 @@
 -- Registers of banks by their text, as tpm2-tools spell a selection: sha1:7+sha256:0,1,2 or sha256:all (this profile).
-use Rattle.std.specs.{Prelude.{◌≡◌, ◌<◌, ◌==◌, ◌&&◌, ◌||◌, nat_lt, ℕ, Bool, true, List, codes, length, map}, List.{AllByRecursion, list_all, list_any, slice_split, before_first, after_first}, Str.{bytes_eq, all_ascii_digits, Parse.{digits_value}}}
-use Rattle.tpm_types.specs.{declared.{alg.Alg.{Alg, TheVariants.{Sha1, Sha256, Sha384}}, tpms.Selection.{Selection}}, Alg.{all_algs}, Handles.{is_pcr}, Tpms.{is_selected}}
+use Rattle.std.specs.Prelude.{◌≡◌, ◌<◌, ◌==◌, ◌&&◌, ◌||◌, nat_lt, ℕ, Bool, true, List, codes, length, map}
+use Rattle.std.specs.List.{AllByRecursion, list_all, list_any, slice_split, before_first, after_first}
+use Rattle.std.specs.Str.Parse.{digits_value}
+use Rattle.std.specs.Str.{bytes_eq, all_ascii_digits}
+use Rattle.tpm_types.specs.declared.alg.Alg.TheVariants.{Sha1, Sha256, Sha384}
+use Rattle.tpm_types.specs.declared.alg.Alg.{Alg}
+use Rattle.tpm_types.specs.declared.tpms.Selection.{Selection}
+use Rattle.tpm_types.specs.Alg.{all_algs}
+use Rattle.tpm_types.specs.Handles.{is_pcr}
+use Rattle.tpm_types.specs.Tpms.{is_selected}
 
 -- the name of a hash, and of its bank
 abbrev pub hash_word : Alg → List ℕ

@@ -1,8 +1,17 @@
 //! Registers of banks by their text.
 
-ghost use Rattle.std.specs.{Prelude.{◌≡◌, ◌<◌, ◌+◌, ◌*◌, ◌||◌, ◌&&◌, ◌==◌, ℕ, List, MatchOption}, List.{list_any}, Str.{bytes_eq, Parse.{digits_value}}};
-ghost use Rattle.tpm_types.specs.{declared.tpms.Selection.{Selection as SelectionValue}, Alg.{all_algs}, Handles.{is_pcr}, Tpma.{is_set}, Tpms.{is_selected}};
-ghost use Rattle.tpm_arg_values.specs.Selections.{hash_word, is_numeral, are_registers as are_registers_of, name_register as name_register_of, is_part as is_part_of, part_names as part_names_of, names as names_of, AreSelections};
+ghost use Rattle.std.specs.Prelude.{◌≡◌, ◌<◌, ◌+◌, ◌*◌, ◌||◌, ◌&&◌, ◌==◌, ℕ, List, MatchOption};
+ghost use Rattle.std.specs.List.{list_any};
+ghost use Rattle.std.specs.Str.Parse.{digits_value};
+ghost use Rattle.std.specs.Str.{bytes_eq};
+ghost use Rattle.tpm_types.specs.declared.tpms.Selection.{Selection as SelectionValue};
+ghost use Rattle.tpm_types.specs.Alg.{all_algs};
+ghost use Rattle.tpm_types.specs.Handles.{is_pcr};
+ghost use Rattle.tpm_types.specs.Tpma.{is_set};
+ghost use Rattle.tpm_types.specs.Tpms.{is_selected};
+ghost use Rattle.tpm_arg_values.specs.Selections.{hash_word, is_numeral, are_registers as are_registers_of};
+ghost use Rattle.tpm_arg_values.specs.Selections.{name_register as name_register_of, is_part as is_part_of};
+ghost use Rattle.tpm_arg_values.specs.Selections.{part_names as part_names_of, names as names_of, AreSelections};
 
 use crate::number::decimal;
 use tpm_types::{Alg, REGISTERS, Selection, Selections};

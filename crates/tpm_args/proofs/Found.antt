@@ -1,8 +1,35 @@
 -- What was found in the words, by the getters and by the matches.
-use Rattle.std.{proofs.Common.{◌≡◌, ℕ, ap, sym, subst, refl, ◌∙◌, Bool, true, false, Bor, inl, inr, codes, List, map, Option, Some, None, option_map, unwrap_or}, specs.{Prelude.{Box, Result, Ok, Err, MatchResult}, Box.{box_value}, Option.{MatchOption}}}
-use Rattle.clap.{specs.{Matches.{subcommand_name_of, first_value}, Walk.{Row, Text, first_of, rows_of}, Simple.{App, HasMatchesOf, app_of, is_simple, subcommand_of, subcommand_rows, subcommand_rows_of}, declared.{parser.matches.{Found.{Found}, ArgMatches.{ArgMatches, TheViews.{out-ArgMatches, out-SubCommand}}, SubCommand.{SubCommand}}, builder.{command.Command.{Command}, value_parser.ValueParser.{ValueParser, TheVariants.{Names}}}, error.kind.ErrorKind.{ErrorKind, TheVariants.{OutOfMemory}}}, Takes.{takes}}, proofs.{OnLiterals.{clap_on_literals}, WalkLemmas.{first_value-rows}}}
-use Rattle.tpm_arg_values.specs.{Numbers.{IsDecimal}, Owner.{IsOwner}}
-use Rattle.tpm_args.specs.{declared.{task.Task.{Task, TheVariants.{Show, ShowCapture, Build, Run, Explain, Check, Events}}, stop.Stop.{Stop, TheVariants.{Help, Usage, Memory}}}, Program.{program_app}, Task.{Asks, AsksNothing, AsksNothingWith, AsksWith, IsCode, IsHash, IsRegister, Replies, is_given, IsWith, IsWithEither, Requires, IsInput}, Stop.{IsHelp, IsMemoryOr, Refuses, StopsFor}, Names.{AreAllNames}}
+use Rattle.std.proofs.Common.{◌≡◌, ℕ, ap, sym, subst, refl, ◌∙◌, Bool, true, false, Bor, inl, inr, codes, List, map}
+use Rattle.std.proofs.Common.{Option, Some, None, option_map, unwrap_or}
+use Rattle.std.specs.Prelude.{Box, Result, Ok, Err, MatchResult}
+use Rattle.std.specs.Box.{box_value}
+use Rattle.std.specs.Option.{MatchOption}
+use Rattle.clap.specs.Matches.{subcommand_name_of, first_value}
+use Rattle.clap.specs.Walk.{Row, Text, first_of, rows_of}
+use Rattle.clap.specs.Simple.{App, HasMatchesOf, app_of, is_simple, subcommand_of, subcommand_rows, subcommand_rows_of}
+use Rattle.clap.specs.declared.parser.matches.Found.{Found}
+use Rattle.clap.specs.declared.parser.matches.ArgMatches.TheViews.{out-ArgMatches, out-SubCommand}
+use Rattle.clap.specs.declared.parser.matches.ArgMatches.{ArgMatches}
+use Rattle.clap.specs.declared.parser.matches.SubCommand.{SubCommand}
+use Rattle.clap.specs.declared.builder.command.Command.{Command}
+use Rattle.clap.specs.declared.builder.value_parser.ValueParser.TheVariants.{Names}
+use Rattle.clap.specs.declared.builder.value_parser.ValueParser.{ValueParser}
+use Rattle.clap.specs.declared.error.kind.ErrorKind.TheVariants.{OutOfMemory}
+use Rattle.clap.specs.declared.error.kind.ErrorKind.{ErrorKind}
+use Rattle.clap.specs.Takes.{takes}
+use Rattle.clap.proofs.OnLiterals.{clap_on_literals}
+use Rattle.clap.proofs.WalkLemmas.{first_value-rows}
+use Rattle.tpm_arg_values.specs.Numbers.{IsDecimal}
+use Rattle.tpm_arg_values.specs.Owner.{IsOwner}
+use Rattle.tpm_args.specs.declared.task.Task.TheVariants.{Show, ShowCapture, Build, Run, Explain, Check, Events}
+use Rattle.tpm_args.specs.declared.task.Task.{Task}
+use Rattle.tpm_args.specs.declared.stop.Stop.TheVariants.{Help, Usage, Memory}
+use Rattle.tpm_args.specs.declared.stop.Stop.{Stop}
+use Rattle.tpm_args.specs.Program.{program_app}
+use Rattle.tpm_args.specs.Task.{Asks, AsksNothing, AsksNothingWith, AsksWith, IsCode, IsHash, IsRegister, Replies}
+use Rattle.tpm_args.specs.Task.{is_given, IsWith, IsWithEither, Requires, IsInput}
+use Rattle.tpm_args.specs.Stop.{IsHelp, IsMemoryOr, Refuses, StopsFor}
+use Rattle.tpm_args.specs.Names.{AreAllNames}
 
 some : {A : Type 0} (x y : A) → (let a : Option A = Some x in a) ≡ Some y → x ≡ y
 some x y e = cc

@@ -1,6 +1,10 @@
 -- The program's subcommands and their words, as clap reads them (this profile).
 use Rattle.std.specs.Prelude.{◌≡◌, true, false, Some, codes}
-use Rattle.clap.specs.{declared.builder.{action.ArgAction.TheVariants.{SetTrue}, command.Command.{Command, TheViews.{out-Command}}, value_parser.ValueParser.{ValueParser}}, Words.{App, Rule, Text, app_of, new_app, new_rule, with_rule, with_subcommand}}
+use Rattle.clap.specs.declared.builder.action.ArgAction.TheVariants.{SetTrue}
+use Rattle.clap.specs.declared.builder.command.Command.TheViews.{out-Command}
+use Rattle.clap.specs.declared.builder.command.Command.{Command}
+use Rattle.clap.specs.declared.builder.value_parser.ValueParser.{ValueParser}
+use Rattle.clap.specs.Words.{App, Rule, Text, app_of, new_app, new_rule, with_rule, with_subcommand}
 
 -- a word that has to be there
 abbrev pub required_rule : Text → Rule

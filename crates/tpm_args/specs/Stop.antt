@@ -1,7 +1,17 @@
 -- What becomes of the words that are refused.
-use Rattle.std.specs.{Prelude.{◌≡◌, ◌≢◌, ◌⊎◌, ℕ, List, Option, Result, MatchOption, MatchResult, true, false}, Borrow.{Bor}}
-use Rattle.clap.specs.{Words.{Text, first_value, found_of, subcommand_of, takes}, declared.{parser.matches.ArgMatches.{ArgMatches}, builder.value_parser.ValueParser.TheVariants.{Names}, error.kind.ErrorKind.{ErrorKind, TheVariants.{DisplayHelp, DisplayVersion, OutOfMemory}}}}
-use Rattle.tpm_args.specs.{declared.{stop.Stop.{Stop, TheVariants.{Help, Usage, Memory}}, task.Task.{Task}}, Names.{AreAllNames}, Program.{program_app}, Task.{AsksNothing, AsksNothingWith, AsksWith}}
+use Rattle.std.specs.Prelude.{◌≡◌, ◌≢◌, ◌⊎◌, ℕ, List, Option, Result, MatchOption, MatchResult, true, false}
+use Rattle.std.specs.Borrow.{Bor}
+use Rattle.clap.specs.Words.{Text, first_value, found_of, subcommand_of, takes}
+use Rattle.clap.specs.declared.parser.matches.ArgMatches.{ArgMatches}
+use Rattle.clap.specs.declared.builder.value_parser.ValueParser.TheVariants.{Names}
+use Rattle.clap.specs.declared.error.kind.ErrorKind.TheVariants.{DisplayHelp, DisplayVersion, OutOfMemory}
+use Rattle.clap.specs.declared.error.kind.ErrorKind.{ErrorKind}
+use Rattle.tpm_args.specs.declared.stop.Stop.TheVariants.{Help, Usage, Memory}
+use Rattle.tpm_args.specs.declared.stop.Stop.{Stop}
+use Rattle.tpm_args.specs.declared.task.Task.{Task}
+use Rattle.tpm_args.specs.Names.{AreAllNames}
+use Rattle.tpm_args.specs.Program.{program_app}
+use Rattle.tpm_args.specs.Task.{AsksNothing, AsksNothingWith, AsksWith}
 
 -- a text that was asked for
 abbrev pub IsHelp : ErrorKind → Type 0

@@ -1,10 +1,17 @@
 -- What the words ask for, by what clap finds in them.
-use Rattle.std.specs.{Prelude.{◌≡◌, ℕ, List, take, drop, Option, Some, None, codes, option_and_then, option_map, is_some, Bool, true, false, unwrap_or, if◌then◌else◌, IsSomeAnd, ◌≢◌}, Str.{bytes_eq}}
+use Rattle.std.specs.Prelude.{◌≡◌, ℕ, List, take, drop, Option, Some, None, codes, option_and_then, option_map, is_some}
+use Rattle.std.specs.Prelude.{Bool, true, false, unwrap_or, if◌then◌else◌, IsSomeAnd, ◌≢◌}
+use Rattle.std.specs.Str.{bytes_eq}
 use Rattle.clap.specs.Words.{Row, Text, first_of}
-use Rattle.tpm_types.specs.declared.{alg.Alg.{Alg}, tpms.Selection.{Selection}}
+use Rattle.tpm_types.specs.declared.alg.Alg.{Alg}
+use Rattle.tpm_types.specs.declared.tpms.Selection.{Selection}
 use Rattle.tpm_commands.specs.declared.code.CommandCode.{CommandCode}
-use Rattle.tpm_arg_values.specs.{Numbers.{IsDecimal, IsHexadecimal}, Owner.{IsOwner}, Selections.{hash_word, AreSelections}}
-use Rattle.tpm_args.specs.{declared.task.Task.{Task, TheVariants.{Show, ShowCapture, Build, Run, Explain, Check, Events}}, Names.{command_of_name}}
+use Rattle.tpm_arg_values.specs.Numbers.{IsDecimal, IsHexadecimal}
+use Rattle.tpm_arg_values.specs.Owner.{IsOwner}
+use Rattle.tpm_arg_values.specs.Selections.{hash_word, AreSelections}
+use Rattle.tpm_args.specs.declared.task.Task.TheVariants.{Show, ShowCapture, Build, Run, Explain, Check, Events}
+use Rattle.tpm_args.specs.declared.task.Task.{Task}
+use Rattle.tpm_args.specs.Names.{command_of_name}
 
 -- the command of the option, where the option is given
 abbrev pub Replies : Option Text → Option CommandCode → Type 0

@@ -1,8 +1,10 @@
 //! The words of the subcommand `check`.
 
 ghost use Rattle.std.specs.Prelude.{List, Option, MatchResult, codes, option_map};
-ghost use Rattle.tpm_types.specs.declared.{alg.Alg.{Alg as AlgValue}, tpms.Selection.{Selection as SelectionValue}};
-ghost use Rattle.tpm_args.specs.{Stop.{IsAsked, IsMemoryOr}, Task.{IsHash, IsWith, IsWithEither, Requires}};
+ghost use Rattle.tpm_types.specs.declared.alg.Alg.{Alg as AlgValue};
+ghost use Rattle.tpm_types.specs.declared.tpms.Selection.{Selection as SelectionValue};
+ghost use Rattle.tpm_args.specs.Stop.{IsAsked, IsMemoryOr};
+ghost use Rattle.tpm_args.specs.Task.{IsHash, IsWith, IsWithEither, Requires};
 
 use crate::invalid::invalid_value;
 use crate::program::check_words;

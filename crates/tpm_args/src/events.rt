@@ -1,7 +1,8 @@
 //! The words of the subcommand `events`.
 
 ghost use Rattle.std.specs.Prelude.{ℕ, Option, MatchResult, option_map};
-ghost use Rattle.tpm_args.specs.{Stop.{IsMemoryOr}, Task.{IsRegister}};
+ghost use Rattle.tpm_args.specs.Stop.{IsMemoryOr};
+ghost use Rattle.tpm_args.specs.Task.{IsRegister};
 
 use crate::invalid::invalid_value;
 use crate::program::events_words;

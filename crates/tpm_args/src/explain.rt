@@ -2,7 +2,8 @@
 
 ghost use Rattle.std.specs.Prelude.{◌≡◌, ℕ, MatchOption, MatchResult, codes};
 ghost use Rattle.tpm_arg_values.specs.Numbers.{IsHexadecimal};
-ghost use Rattle.tpm_args.specs.{Stop.{IsAsked, IsMemoryOr}, Task.{digits_in}};
+ghost use Rattle.tpm_args.specs.Stop.{IsAsked, IsMemoryOr};
+ghost use Rattle.tpm_args.specs.Task.{digits_in};
 
 use crate::invalid::invalid_value;
 use crate::program::explain_words;

@@ -1,8 +1,15 @@
 //! The words that a run was given.
 
-ghost use Rattle.std.specs.{Prelude.{◌≡◌, ℕ, List, IfOk, IfErr, IfSome, MatchOption, MatchResult, codes, map, string_bytes}, Borrow.{Bor}};
-ghost use Rattle.clap.specs.{Words.{first_value, found_of, kind_of, subcommand_of, subcommand_rows_of}, declared.{error.kind.ErrorKind.TheVariants.{InvalidValue}, builder.value_parser.ValueParser.TheVariants.{Names}}};
-ghost use Rattle.tpm_args.specs.{Names.{AreAllNames}, Program.{program_app}, Stop.{StopsFor, IsAsked, IsMemoryOr, Refuses}, Task.{is_given as is_given_by, Asks, AsksNothing, AsksNothingWith, AsksWith}};
+ghost use Rattle.std.specs.Prelude.{◌≡◌, ℕ, List, IfOk, IfErr, IfSome, MatchOption, MatchResult, codes, map};
+ghost use Rattle.std.specs.Prelude.{string_bytes};
+ghost use Rattle.std.specs.Borrow.{Bor};
+ghost use Rattle.clap.specs.Words.{first_value, found_of, kind_of, subcommand_of, subcommand_rows_of};
+ghost use Rattle.clap.specs.declared.error.kind.ErrorKind.TheVariants.{InvalidValue};
+ghost use Rattle.clap.specs.declared.builder.value_parser.ValueParser.TheVariants.{Names};
+ghost use Rattle.tpm_args.specs.Names.{AreAllNames};
+ghost use Rattle.tpm_args.specs.Program.{program_app};
+ghost use Rattle.tpm_args.specs.Stop.{StopsFor, IsAsked, IsMemoryOr, Refuses};
+ghost use Rattle.tpm_args.specs.Task.{is_given as is_given_by, Asks, AsksNothing, AsksNothingWith, AsksWith};
 
 use crate::check::check_task;
 use crate::events::register;

@@ -1,7 +1,8 @@
 //! The usage fault of a word's value.
 
 ghost use Rattle.std.specs.Prelude.{◌≡◌, IfOk};
-ghost use Rattle.clap.specs.{Words.{kind_of}, declared.error.kind.ErrorKind.TheVariants.{ValueValidation}};
+ghost use Rattle.clap.specs.Words.{kind_of};
+ghost use Rattle.clap.specs.declared.error.kind.ErrorKind.TheVariants.{ValueValidation};
 ghost use Rattle.tpm_args.specs.Stop.{IsMemoryOr};
 
 use crate::stop::Stop;

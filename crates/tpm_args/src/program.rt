@@ -1,8 +1,11 @@
 //! The program's subcommands and their words.
 
 ghost use Rattle.std.specs.Prelude.{◌≡◌, IfOk, false};
-ghost use Rattle.clap.specs.{Words.{rule_of}, declared.builder.value_parser.ValueParser.TheVariants.{Names}};
-ghost use Rattle.tpm_args.specs.Program.{required_rule, name_rule, reply_rule, flag_rule, option_rule, buffer_app, show_app, build_app, run_app, explain_app, log_app, compare_app, check_app, events_app, above_subcommands, program_app, IsApp, optional_rule};
+ghost use Rattle.clap.specs.Words.{rule_of};
+ghost use Rattle.clap.specs.declared.builder.value_parser.ValueParser.TheVariants.{Names};
+ghost use Rattle.tpm_args.specs.Program.{required_rule, name_rule, reply_rule, flag_rule, option_rule, buffer_app};
+ghost use Rattle.tpm_args.specs.Program.{show_app, build_app, run_app, explain_app, log_app, compare_app, check_app};
+ghost use Rattle.tpm_args.specs.Program.{events_app, above_subcommands, program_app, IsApp, optional_rule};
 
 use clap::{Arg, ArgAction, Command};
 use std::alloc::{AllocError, Global};

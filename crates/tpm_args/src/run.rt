@@ -2,8 +2,10 @@
 
 ghost use Rattle.std.specs.Prelude.{ℕ, List, Option, MatchResult, codes};
 ghost use Rattle.clap.specs.Words.{first_value, found_of};
-ghost use Rattle.tpm_arg_values.specs.{Numbers.{IsDecimal}, Owner.{IsOwner}};
-ghost use Rattle.tpm_args.specs.{Stop.{IsMemoryOr}, Task.{AsksNothingWith, AsksWith}};
+ghost use Rattle.tpm_arg_values.specs.Numbers.{IsDecimal};
+ghost use Rattle.tpm_arg_values.specs.Owner.{IsOwner};
+ghost use Rattle.tpm_args.specs.Stop.{IsMemoryOr};
+ghost use Rattle.tpm_args.specs.Task.{AsksNothingWith, AsksWith};
 
 use crate::invalid::invalid_value;
 use crate::program::run_words;

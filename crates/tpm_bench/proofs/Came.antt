@@ -1,5 +1,10 @@
 -- The frames that came of the front of a stream.
-use Rattle.std.{proofs.{Common.{◌≡◌, ℕ, ◌+◌, ◌≤◌, List, [], ◌∷◌, ◌++◌, length, take, drop, All, sym, ap, subst, ◌∙◌, append_assoc, arith, length-append, take-append-drop, append-nil}, lemmas.List.{take-take, nil_from_length, Elements.{All-push}, Folds.{concat-append}}}, specs.List.{concat}}
+use Rattle.std.proofs.Common.{◌≡◌, ℕ, ◌+◌, ◌≤◌, List, [], ◌∷◌, ◌++◌, length, take, drop, All, sym, ap, subst, ◌∙◌}
+use Rattle.std.proofs.Common.{append_assoc, arith, length-append, take-append-drop, append-nil}
+use Rattle.std.proofs.lemmas.List.Elements.{All-push}
+use Rattle.std.proofs.lemmas.List.Folds.{concat-append}
+use Rattle.std.proofs.lemmas.List.{take-take, nil_from_length}
+use Rattle.std.specs.List.{concat}
 use Rattle.tpm_stream.specs.Frames.{IsFrame, IsPart, BeginsNoFrame, Frames}
 
 -- They are written one after the other. Behind them in the stream is what is held, and then what is left.

@@ -1,10 +1,13 @@
 //! Commands and responses.
 
 ghost use Rattle.std.specs.Prelude.{◌≡◌, ◌≤◌, ◌⊎◌, length, take};
-ghost use Rattle.tpm_wire.specs.{Path.{Spells, Fault}, declared.refusal.Refusal.{Refusal as RefusalOf}};
+ghost use Rattle.tpm_wire.specs.Path.{Spells, Fault};
+ghost use Rattle.tpm_wire.specs.declared.refusal.Refusal.{Refusal as RefusalOf};
 ghost use Rattle.tpm_commands.specs.declared.code.CommandCode.TheVariants as codes;
-ghost use Rattle.tpm_commands.specs.declared.{command.Command.{Command as CommandOf}, response.Response.{Response as ResponseOf}};
-ghost use Rattle.tpm_buffer.specs.{Commands.{command as command_layout}, Responses.{response as response_layout}};
+ghost use Rattle.tpm_commands.specs.declared.command.Command.{Command as CommandOf};
+ghost use Rattle.tpm_commands.specs.declared.response.Response.{Response as ResponseOf};
+ghost use Rattle.tpm_buffer.specs.Commands.{command as command_layout};
+ghost use Rattle.tpm_buffer.specs.Responses.{response as response_layout};
 
 use crate::out::append;
 use tpm_buffer::{Command, CommandCode, decode_command, decode_response, encode_command};

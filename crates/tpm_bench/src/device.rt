@@ -1,7 +1,8 @@
 //! A device.
 
 ghost use Rattle.std.specs.Prelude.{◌≡◌, ℕ, List, ◌≤◌, length, take};
-ghost use Rattle.tpm_model.specs.{Steps.{History, Origin}, Answers.{answer}};
+ghost use Rattle.tpm_model.specs.Steps.{History, Origin};
+ghost use Rattle.tpm_model.specs.Answers.{answer};
 ghost use Rattle.tpm_device.specs.Stands.{Stands};
 
 use crate::out::append;

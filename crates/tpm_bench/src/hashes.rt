@@ -1,7 +1,9 @@
 //! Hashes and HMACs.
 ghost use Rattle.std.specs.Prelude.{◌≡◌, ℕ, ◌≤◌, length, take, MatchOption};
-ghost use Rattle.tpm_types.specs.{Alg.{alg_of, digest_len}, Limits.{digest_bytes}};
-ghost use Rattle.tpm_hmac.specs.{Hashes.{digest}, Hmac.{hmac as hmac_of}};
+ghost use Rattle.tpm_types.specs.Alg.{alg_of, digest_len};
+ghost use Rattle.tpm_types.specs.Limits.{digest_bytes};
+ghost use Rattle.tpm_hmac.specs.Hashes.{digest};
+ghost use Rattle.tpm_hmac.specs.Hmac.{hmac as hmac_of};
 
 use tpm_hmac::{SessionKey, hash, hmac, same};
 use tpm_types::{Alg, Digest};

@@ -1,7 +1,9 @@
 //! Sessions.
 
 ghost use Rattle.std.specs.Prelude.{◌≡◌, ◌<◌, ◌≤◌, length, is_ok};
-ghost use Rattle.tpm_model.specs.{Sessions.{loaded}, Entities.Entity.{Register}, Authorization.{authorize, first_loaded}};
+ghost use Rattle.tpm_model.specs.Sessions.{loaded};
+ghost use Rattle.tpm_model.specs.Entities.Entity.{Register};
+ghost use Rattle.tpm_model.specs.Authorization.{authorize, first_loaded};
 
 use tpm_buffer::{Areas, AuthRef, StartAuth, areas};
 use tpm_session::{Entity, Sessions};

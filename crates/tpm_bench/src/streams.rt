@@ -1,6 +1,9 @@
 //! Frames of a stream.
 
-ghost use Rattle.std.specs.{Prelude.{◌≡◌, ◌≤◌, ◌+◌, ◌++◌, ℕ, List, [], true, Some, IsOk, IfErr, length, take}, List.{concat}, Io.{ReadsAtMost, KnownBytes.{ReadConsumes}}};
+ghost use Rattle.std.specs.Prelude.{◌≡◌, ◌≤◌, ◌+◌, ◌++◌, ℕ, List, [], true, Some, IsOk, IfErr, length, take};
+ghost use Rattle.std.specs.List.{concat};
+ghost use Rattle.std.specs.Io.KnownBytes.{ReadConsumes};
+ghost use Rattle.std.specs.Io.{ReadsAtMost};
 ghost use Rattle.tpm_wire.specs.Sources.{CountsFailures, IsWhereItFailed};
 ghost use Rattle.tpm_stream.specs.Frames.{IsFrame, Frames};
 

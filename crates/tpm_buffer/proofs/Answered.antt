@@ -1,10 +1,25 @@
 -- Every response has a spelling.
-use Rattle.std.{proofs.{Common.{◌≡◌, ℕ, ◌+◌, ◌-◌, ◌^◌, ◌<◌, ◌≤◌, Bool, true, false, cond, eqb, leb, List, [], ◌∷◌, ◌++◌, length, All, Some, None, refl, sym, subst, ap, ◌∙◌, arith, inr}, lemmas.{Bool.{le-leb, ne_eqb}, List.{length-append, append-nil}}}, specs.{Prelude.{◌||◌}, Int.{bytes_high_first}}}
-use Rattle.tpm_wire.{specs.{Spelling.{spelling, Fits, IsSpelled, joined}, Buffers.{Layout}, Path.{Spells}}, proofs.Again.{fit_list}}
-use Rattle.tpm_types.specs.{declared.tpms.AuthReply.{AuthReply}, Tpms.{auth_response}}
-use Rattle.tpm_commands.specs.{declared.{code.CommandCode.{CommandCode}, response.ReplyBody.{ReplyBody}}, Replies.{code_for_reply, reply_handles, reply_handles_of, parameters_of_reply}}
+use Rattle.std.proofs.Common.{◌≡◌, ℕ, ◌+◌, ◌-◌, ◌^◌, ◌<◌, ◌≤◌, Bool, true, false, cond, eqb, leb, List, [], ◌∷◌, ◌++◌}
+use Rattle.std.proofs.Common.{length, All, Some, None, refl, sym, subst, ap, ◌∙◌, arith, inr}
+use Rattle.std.proofs.lemmas.Bool.{le-leb, ne_eqb}
+use Rattle.std.proofs.lemmas.List.{length-append, append-nil}
+use Rattle.std.specs.Prelude.{◌||◌}
+use Rattle.std.specs.Int.{bytes_high_first}
+use Rattle.tpm_wire.specs.Spelling.{spelling, Fits, IsSpelled, joined}
+use Rattle.tpm_wire.specs.Buffers.{Layout}
+use Rattle.tpm_wire.specs.Path.{Spells}
+use Rattle.tpm_wire.proofs.Again.{fit_list}
+use Rattle.tpm_types.specs.declared.tpms.AuthReply.{AuthReply}
+use Rattle.tpm_types.specs.Tpms.{auth_response}
+use Rattle.tpm_commands.specs.declared.code.CommandCode.{CommandCode}
+use Rattle.tpm_commands.specs.declared.response.ReplyBody.{ReplyBody}
+use Rattle.tpm_commands.specs.Replies.{code_for_reply, reply_handles, reply_handles_of, parameters_of_reply}
 use Rattle.tpm_commands.specs.declared.response.Response.TheVariants as responses
-use Rattle.tpm_buffer.{specs.{Commands.{command_size}, Responses.{response_front, response_tag, code_tag, reply_tag, goes_with, response_code, further_sessions, reply_sessions, parameter_size, with_sessions, without_sessions, reply_behind, Reply, reply, done_with, behind_code, response}}, proofs.Spelled.{size_meant, encoded}}
+use Rattle.tpm_buffer.specs.Commands.{command_size}
+use Rattle.tpm_buffer.specs.Responses.{response_front, response_tag, code_tag, reply_tag, goes_with, response_code}
+use Rattle.tpm_buffer.specs.Responses.{further_sessions, reply_sessions, parameter_size, with_sessions}
+use Rattle.tpm_buffer.specs.Responses.{without_sessions, reply_behind, Reply, reply, done_with, behind_code, response}
+use Rattle.tpm_buffer.proofs.Spelled.{size_meant, encoded}
 
 pub fits_sessions : (a : AuthReply) (others : List AuthReply) → length others ≤ 2 → IsSpelled auth_response a → All (IsSpelled auth_response) others
     → Fits (length (spelling reply_sessions (a ∷ others))) reply_sessions (a ∷ others)

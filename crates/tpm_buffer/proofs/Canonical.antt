@@ -1,9 +1,19 @@
 -- A command that was read is spelled by the bytes that it was read from.
-use Rattle.std.proofs.{Common.{◌≡◌, ◌≢◌, ℕ, ◌<◌, true, false, cond, eqb, List, ◌++◌, length, refl, sym, subst, ap, ◌∙◌, arith, inl, inr}, lemmas.{Bool.{or_cases, eqb-true, ne_eqb}, List.{length-append, append-nil}}}
+use Rattle.std.proofs.Common.{◌≡◌, ◌≢◌, ℕ, ◌<◌, true, false, cond, eqb, List, ◌++◌, length, refl, sym, subst, ap, ◌∙◌}
+use Rattle.std.proofs.Common.{arith, inl, inr}
+use Rattle.std.proofs.lemmas.Bool.{or_cases, eqb-true, ne_eqb}
+use Rattle.std.proofs.lemmas.List.{length-append, append-nil}
 use Rattle.tpm_wire.specs.Spelling.{spelling}
 use Rattle.tpm_types.specs.declared.tpms.Auth.{Auth}
-use Rattle.tpm_commands.{specs.{declared.{code.CommandCode.{CommandCode}, command.Header.{Header}, command_parameters.Params.{Params}}, Codes.{command_code}, Handles.{AreAdmitted, handle_kinds, handles}, Parameters.{params_code, parameters}}, proofs.EachCommand.{handles_again, params_again}}
-use Rattle.tpm_buffer.specs.Commands.{is_tag, tag, command_size, header, authorization, body_from, code_for, handles_of, with_auths, tag_of, size_of, header_of, rest_of, command}
+use Rattle.tpm_commands.specs.declared.code.CommandCode.{CommandCode}
+use Rattle.tpm_commands.specs.declared.command.Header.{Header}
+use Rattle.tpm_commands.specs.declared.command_parameters.Params.{Params}
+use Rattle.tpm_commands.specs.Codes.{command_code}
+use Rattle.tpm_commands.specs.Handles.{AreAdmitted, handle_kinds, handles}
+use Rattle.tpm_commands.specs.Parameters.{params_code, parameters}
+use Rattle.tpm_commands.proofs.EachCommand.{handles_again, params_again}
+use Rattle.tpm_buffer.specs.Commands.{is_tag, tag, command_size, header, authorization, body_from, code_for, handles_of}
+use Rattle.tpm_buffer.specs.Commands.{with_auths, tag_of, size_of, header_of, rest_of, command}
 
 tag_again : (t : ℕ) (auths : List Auth) → is_tag t ≡ true → (t ≢ 0x8002 → length auths ≡ 0) → (t ≡ 0x8002 → 0 < length auths) → cond (eqb (length auths) 0) 0x8001 0x8002 ≡ t
 tag_again t auths is none some =

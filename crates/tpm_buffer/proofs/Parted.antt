@@ -1,9 +1,31 @@
 -- A response that is read, is read with its parameters as they came too.
-use Rattle.std.proofs.{Common.{◌≡◌, ℕ, Bool, true, false, cond, eqb, List, [], length, take, drop, Option, Some, None, Result, Ok, Err, refl, sym, subst, ap, ◌∙◌, arith}, lemmas.{Bool.{eqb-true}, List.{length-drop, take_all}}}
-use Rattle.tpm_wire.{specs.{declared.refusal.Refusal.{Refusal}, Token.{Here, past, at_start}, Layout.{Form, raw, either}, Reading.{read, read_all, unless, refuse, ◌>>=◌}, Buffers.{buffer, Layout, too_few}, Path.{Spells}, ResponseCodes.{rc_size}}, proofs.{Agreement.{ok_is, bind_ok}, Buffers.{buffer_sound, buffer_roomy}, Whole.{spells_read, read_spells}}}
-use Rattle.tpm_commands.{specs.{declared.{code.CommandCode.{CommandCode}, response.{ReplyBody.{ReplyBody}, Response.{Response}}}, Replies.{reply_handles, reply_parameters, parameters_of_reply}}, proofs.{Short.{ok, err}, EachCommand.{ends_read, AreRead, are_read, IsBodyOf, bodies}}}
+use Rattle.std.proofs.Common.{◌≡◌, ℕ, Bool, true, false, cond, eqb, List, [], length, take, drop, Option, Some, None}
+use Rattle.std.proofs.Common.{Result, Ok, Err, refl, sym, subst, ap, ◌∙◌, arith}
+use Rattle.std.proofs.lemmas.Bool.{eqb-true}
+use Rattle.std.proofs.lemmas.List.{length-drop, take_all}
+use Rattle.tpm_wire.specs.declared.refusal.Refusal.{Refusal}
+use Rattle.tpm_wire.specs.Token.{Here, past, at_start}
+use Rattle.tpm_wire.specs.Layout.{Form, raw, either}
+use Rattle.tpm_wire.specs.Reading.{read, read_all, unless, refuse, ◌>>=◌}
+use Rattle.tpm_wire.specs.Buffers.{buffer, Layout, too_few}
+use Rattle.tpm_wire.specs.Path.{Spells}
+use Rattle.tpm_wire.specs.ResponseCodes.{rc_size}
+use Rattle.tpm_wire.proofs.Agreement.{ok_is, bind_ok}
+use Rattle.tpm_wire.proofs.Buffers.{buffer_sound, buffer_roomy}
+use Rattle.tpm_wire.proofs.Whole.{spells_read, read_spells}
+use Rattle.tpm_commands.specs.declared.code.CommandCode.{CommandCode}
+use Rattle.tpm_commands.specs.declared.response.ReplyBody.{ReplyBody}
+use Rattle.tpm_commands.specs.declared.response.Response.{Response}
+use Rattle.tpm_commands.specs.Replies.{reply_handles, reply_parameters, parameters_of_reply}
+use Rattle.tpm_commands.proofs.Short.{ok, err}
+use Rattle.tpm_commands.proofs.EachCommand.{ends_read, AreRead, are_read, IsBodyOf, bodies}
 use Rattle.tpm_commands.specs.declared.response.Response.TheVariants as responses
-use Rattle.tpm_buffer.{specs.{Responses.{response_front, response_code, parameter_size, reply_sessions, with_sessions, without_sessions, Reply, reply, reply_of, done_with, behind_code, response, ReplyCut, raw_with_sessions, raw_without_sessions, cut_behind_code, reply_cut, Answers}, ResponseAreas.{IsCutOf}}, proofs.Places.{alone, all_read}}
+use Rattle.tpm_buffer.specs.Responses.{response_front, response_code, parameter_size, reply_sessions, with_sessions}
+use Rattle.tpm_buffer.specs.Responses.{without_sessions, Reply, reply, reply_of, done_with, behind_code, response}
+use Rattle.tpm_buffer.specs.Responses.{ReplyCut, raw_with_sessions, raw_without_sessions, cut_behind_code, reply_cut}
+use Rattle.tpm_buffer.specs.Responses.{Answers}
+use Rattle.tpm_buffer.specs.ResponseAreas.{IsCutOf}
+use Rattle.tpm_buffer.proofs.Places.{alone, all_read}
 
 -- what is read at a place with nothing left behind it, is all that its bytes spell
 read_whole : {A : Type 0} (l : Layout A) (h : Here) (x : A × Here) → read 0 l h ≡ Ok x → length x.1.rest ≡ 0 → read_all l h.rest ≡ Ok x.0

@@ -1,6 +1,19 @@
 -- What is read of bytes is there again: under another number, and from its place alone.
-use Rattle.std.{proofs.{Common.{◌≡◌, ℕ, zero, suc, ◌+◌, ◌-◌, ◌≤◌, Bool, true, false, cond, eqb, List, [], ◌∷◌, ◌++◌, length, take, drop, map, Option, Some, None, Result, Ok, Err, refl, sym, subst, ap, ◌∙◌, arith, length-drop}, lemmas.{Bool.{eqb-true}, List.{drop-drop, map-append}}}, specs.Prelude.{◌&&◌}}
-use Rattle.tpm_wire.{specs.{declared.refusal.Refusal.{Refusal}, Token.{number_of, Here, past, at_start, or_fault, spelled_all}, Layout.{Form, raw}, Reading.{read, read_all, finish, unless, found, refuse, entries, ◌>>=◌}, Buffers.{buffer, Layout, Place, later_place, too_few}}, proofs.{Agreement.{ok_is, bind_ok, test_end, unless_ok, ends_same}, Buffers.{buffer_sound}, Whole.{reads_its_path}, Elsewhere.{read_later, later}}}
+use Rattle.std.proofs.Common.{◌≡◌, ℕ, zero, suc, ◌+◌, ◌-◌, ◌≤◌, Bool, true, false, cond, eqb, List, [], ◌∷◌, ◌++◌}
+use Rattle.std.proofs.Common.{length, take, drop, map, Option, Some, None, Result, Ok, Err, refl, sym, subst, ap, ◌∙◌}
+use Rattle.std.proofs.Common.{arith, length-drop}
+use Rattle.std.proofs.lemmas.Bool.{eqb-true}
+use Rattle.std.proofs.lemmas.List.{drop-drop, map-append}
+use Rattle.std.specs.Prelude.{◌&&◌}
+use Rattle.tpm_wire.specs.declared.refusal.Refusal.{Refusal}
+use Rattle.tpm_wire.specs.Token.{number_of, Here, past, at_start, or_fault, spelled_all}
+use Rattle.tpm_wire.specs.Layout.{Form, raw}
+use Rattle.tpm_wire.specs.Reading.{read, read_all, finish, unless, found, refuse, entries, ◌>>=◌}
+use Rattle.tpm_wire.specs.Buffers.{buffer, Layout, Place, later_place, too_few}
+use Rattle.tpm_wire.proofs.Agreement.{ok_is, bind_ok, test_end, unless_ok, ends_same}
+use Rattle.tpm_wire.proofs.Buffers.{buffer_sound}
+use Rattle.tpm_wire.proofs.Whole.{reads_its_path}
+use Rattle.tpm_wire.proofs.Elsewhere.{read_later, later}
 use Rattle.tpm_commands.proofs.Short.{ok}
 use Rattle.tpm_buffer.specs.ResponseAreas.{Stands}
 

@@ -1,8 +1,25 @@
 -- A command and a response state how many bytes they have, so none begins another.
-use Rattle.std.{proofs.{Common.{◌≡◌, ℕ, ◌+◌, ◌-◌, ◌≤◌, Bool, true, false, cond, eqb, leb, List, [], ◌++◌, length, take, drop, Some, None, Ok, refl, sym, ap, ◌∙◌, arith}, lemmas.{Bool.{eqb-true}, List.{length-append, length-drop, nil_from_length, take-append-le, drop-append-le}}}, specs.Prelude.{◌&&◌}}
-use Rattle.tpm_wire.{specs.{Token.{number_of, Here, past, at_start, or_fault}, Reading.{read, ◌>>=◌}, Buffers.{buffer, number_in}, Path.{Spells}}, proofs.{Buffers.{buffer_sound}, Agreement.{bind_ok, number_ok}, Whole.{spells_read}}}
-use Rattle.tpm_commands.specs.{declared.{code.CommandCode.{CommandCode}, command.{Command.{Command}, Header.{Header}}, response.Response.{Response}}, Codes.{command_code}}
-use Rattle.tpm_buffer.{specs.{Commands.{is_tag, tag, command_size, header, rest_of, command}, Responses.{is_response_tag, response_tag, response_front, response_code, behind_code, response}}, proofs.Places.{all_read}}
+use Rattle.std.proofs.Common.{◌≡◌, ℕ, ◌+◌, ◌-◌, ◌≤◌, Bool, true, false, cond, eqb, leb, List, [], ◌++◌, length, take}
+use Rattle.std.proofs.Common.{drop, Some, None, Ok, refl, sym, ap, ◌∙◌, arith}
+use Rattle.std.proofs.lemmas.Bool.{eqb-true}
+use Rattle.std.proofs.lemmas.List.{length-append, length-drop, nil_from_length, take-append-le, drop-append-le}
+use Rattle.std.specs.Prelude.{◌&&◌}
+use Rattle.tpm_wire.specs.Token.{number_of, Here, past, at_start, or_fault}
+use Rattle.tpm_wire.specs.Reading.{read, ◌>>=◌}
+use Rattle.tpm_wire.specs.Buffers.{buffer, number_in}
+use Rattle.tpm_wire.specs.Path.{Spells}
+use Rattle.tpm_wire.proofs.Buffers.{buffer_sound}
+use Rattle.tpm_wire.proofs.Agreement.{bind_ok, number_ok}
+use Rattle.tpm_wire.proofs.Whole.{spells_read}
+use Rattle.tpm_commands.specs.declared.code.CommandCode.{CommandCode}
+use Rattle.tpm_commands.specs.declared.command.Command.{Command}
+use Rattle.tpm_commands.specs.declared.command.Header.{Header}
+use Rattle.tpm_commands.specs.declared.response.Response.{Response}
+use Rattle.tpm_commands.specs.Codes.{command_code}
+use Rattle.tpm_buffer.specs.Commands.{is_tag, tag, command_size, header, rest_of, command}
+use Rattle.tpm_buffer.specs.Responses.{is_response_tag, response_tag, response_front, response_code, behind_code}
+use Rattle.tpm_buffer.specs.Responses.{response}
+use Rattle.tpm_buffer.proofs.Places.{all_read}
 
 was_equal : (n m : ℕ) (a b : Bool) (x : ℕ) → or_fault {F = ℕ} (cond (eqb n m && a && b) (Some n) None) 0x142 ≡ Ok x → n ≡ m
 was_equal n m a b x e = eqb-true n m (go (eqb n m) e)

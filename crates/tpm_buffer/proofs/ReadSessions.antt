@@ -1,9 +1,17 @@
 -- The sessions of a response, by their positions.
-use Rattle.std.proofs.{Common.{◌≡◌, ℕ, ◌+◌, ◌*◌, ◌≤◌, ◌<◌, List, ◌∷◌, ◌++◌, length, take, drop, Ok, refl, sym, ap, ◌∙◌, append_assoc, arith, length-take-le, length-drop}, lemmas.{Bool.{ne_eqb}, List.{append-nil}}}
-use Rattle.tpm_wire.specs.{Token.{Here, at_start}, Reading.{read}, Spelling.{spelling, joined_all}}
-use Rattle.tpm_types.specs.{declared.tpms.AuthReply.{AuthReply}, Tpms.{auth_response}}
+use Rattle.std.proofs.Common.{◌≡◌, ℕ, ◌+◌, ◌*◌, ◌≤◌, ◌<◌, List, ◌∷◌, ◌++◌, length, take, drop, Ok, refl, sym, ap, ◌∙◌}
+use Rattle.std.proofs.Common.{append_assoc, arith, length-take-le, length-drop}
+use Rattle.std.proofs.lemmas.Bool.{ne_eqb}
+use Rattle.std.proofs.lemmas.List.{append-nil}
+use Rattle.tpm_wire.specs.Token.{Here, at_start}
+use Rattle.tpm_wire.specs.Reading.{read}
+use Rattle.tpm_wire.specs.Spelling.{spelling, joined_all}
+use Rattle.tpm_types.specs.declared.tpms.AuthReply.{AuthReply}
+use Rattle.tpm_types.specs.Tpms.{auth_response}
 use Rattle.tpm_commands.proofs.Short.{ok}
-use Rattle.tpm_buffer.{specs.{Responses.{further_sessions, reply_sessions}, ResponseAreas.{Stands, IsSession, session_of, session_at, place_behind}}, proofs.Places.{alone}}
+use Rattle.tpm_buffer.specs.Responses.{further_sessions, reply_sessions}
+use Rattle.tpm_buffer.specs.ResponseAreas.{Stands, IsSession, session_of, session_at, place_behind}
+use Rattle.tpm_buffer.proofs.Places.{alone}
 
 -- the session that was read is that at its position
 pub is_there : (bytes : List ℕ) (m : ℕ) (h g : Here) (a : AuthReply) → Stands bytes h → read m auth_response h ≡ Ok (a, g) → session_at bytes h.at ≡ a

@@ -1,8 +1,14 @@
 -- Sessions by their positions, and the places on the way through an area.
-use Rattle.std.proofs.{Common.{◌≡◌, ℕ, ◌+◌, ◌≤◌, List, ◌++◌, length, take, drop, Ok, sym, ap, ◌∙◌, arith}, lemmas.List.{length-drop, length-take, drop-append-le, drop-drop, take-append-drop}}
-use Rattle.tpm_wire.specs.{Token.{Here, past, at_start}, Reading.{read}, Longer.{with_more}}
-use Rattle.tpm_types.specs.{declared.tpms.Auth.{Auth}, Tpms.{auth_command}}
-use Rattle.tpm_buffer.{specs.{ResponseAreas.{Stands}, CommandAreas.{LiesIn, session_of, session_at, IsSession}}, proofs.Places.{alone, here_is, read_past}}
+use Rattle.std.proofs.Common.{◌≡◌, ℕ, ◌+◌, ◌≤◌, List, ◌++◌, length, take, drop, Ok, sym, ap, ◌∙◌, arith}
+use Rattle.std.proofs.lemmas.List.{length-drop, length-take, drop-append-le, drop-drop, take-append-drop}
+use Rattle.tpm_wire.specs.Token.{Here, past, at_start}
+use Rattle.tpm_wire.specs.Reading.{read}
+use Rattle.tpm_wire.specs.Longer.{with_more}
+use Rattle.tpm_types.specs.declared.tpms.Auth.{Auth}
+use Rattle.tpm_types.specs.Tpms.{auth_command}
+use Rattle.tpm_buffer.specs.ResponseAreas.{Stands}
+use Rattle.tpm_buffer.specs.CommandAreas.{LiesIn, session_of, session_at, IsSession}
+use Rattle.tpm_buffer.proofs.Places.{alone, here_is, read_past}
 use Rattle.tpm_commands.proofs.Short.{of_session, ok}
 
 -- ---- places in an area

@@ -1,9 +1,29 @@
 -- Every command has a spelling.
-use Rattle.std.{proofs.{Common.{◌≡◌, ℕ, ◌+◌, ◌-◌, ◌^◌, ◌<◌, ◌≤◌, ◌⊎◌, Bool, true, false, eqb, leb, List, [], ◌∷◌, ◌++◌, length, All, Some, refl, sym, ap, ◌∙◌, arith, inl, inr, subst, cond, None}, lemmas.{Bool.{le-leb, eq-eqb, ne_eqb}, List.{length-append, nil_from_length}}}, specs.Prelude.{◌||◌, ◌&&◌}}
-use Rattle.tpm_wire.{specs.{Structures.{sized_bytes}, Spelling.{spelling, Fits, IsSpelled, joined, joined_all}, Reading.{read_all}, Buffers.{buffer, Layout}, Path.{Spells}}, proofs.{Buffers.{buffer_sound, buffer_roomy}, Again.{fit_list, read_again}, Whole.{read_spells}}}
-use Rattle.tpm_types.specs.{declared.tpms.Auth.{Auth}, Tpma.{session_attrs}, Handles.{auth_session}, Tpms.{auth_command}}
-use Rattle.tpm_commands.specs.{declared.{code.CommandCode.{CommandCode}, command.{Command.{Command}, CommandBody.{CommandBody}}}, Codes.{code_of, code_number, command_code}, Handles.{handles}, Parameters.{parameters}}
-use Rattle.tpm_buffer.specs.Commands.{sessions, authorization_size, authorization, tag, tag_of, command_size, code_for, handles_of, params_of, body_from, with_auths, rest_of, header, command}
+use Rattle.std.proofs.Common.{◌≡◌, ℕ, ◌+◌, ◌-◌, ◌^◌, ◌<◌, ◌≤◌, ◌⊎◌, Bool, true, false, eqb, leb, List, [], ◌∷◌, ◌++◌}
+use Rattle.std.proofs.Common.{length, All, Some, refl, sym, ap, ◌∙◌, arith, inl, inr, subst, cond, None}
+use Rattle.std.proofs.lemmas.Bool.{le-leb, eq-eqb, ne_eqb}
+use Rattle.std.proofs.lemmas.List.{length-append, nil_from_length}
+use Rattle.std.specs.Prelude.{◌||◌, ◌&&◌}
+use Rattle.tpm_wire.specs.Structures.{sized_bytes}
+use Rattle.tpm_wire.specs.Spelling.{spelling, Fits, IsSpelled, joined, joined_all}
+use Rattle.tpm_wire.specs.Reading.{read_all}
+use Rattle.tpm_wire.specs.Buffers.{buffer, Layout}
+use Rattle.tpm_wire.specs.Path.{Spells}
+use Rattle.tpm_wire.proofs.Buffers.{buffer_sound, buffer_roomy}
+use Rattle.tpm_wire.proofs.Again.{fit_list, read_again}
+use Rattle.tpm_wire.proofs.Whole.{read_spells}
+use Rattle.tpm_types.specs.declared.tpms.Auth.{Auth}
+use Rattle.tpm_types.specs.Tpma.{session_attrs}
+use Rattle.tpm_types.specs.Handles.{auth_session}
+use Rattle.tpm_types.specs.Tpms.{auth_command}
+use Rattle.tpm_commands.specs.declared.code.CommandCode.{CommandCode}
+use Rattle.tpm_commands.specs.declared.command.Command.{Command}
+use Rattle.tpm_commands.specs.declared.command.CommandBody.{CommandBody}
+use Rattle.tpm_commands.specs.Codes.{code_of, code_number, command_code}
+use Rattle.tpm_commands.specs.Handles.{handles}
+use Rattle.tpm_commands.specs.Parameters.{parameters}
+use Rattle.tpm_buffer.specs.Commands.{sessions, authorization_size, authorization, tag, tag_of, command_size, code_for}
+use Rattle.tpm_buffer.specs.Commands.{handles_of, params_of, body_from, with_auths, rest_of, header, command}
 
 -- a session has at least nine bytes
 auth_long : (a : Auth) → 9 ≤ length (spelling auth_command a)

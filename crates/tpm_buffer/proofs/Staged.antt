@@ -1,8 +1,25 @@
 -- A fault of a cut is the whole command's.
-use Rattle.std.proofs.Common.{◌≡◌, ℕ, ◌+◌, ◌-◌, Bool, true, false, cond, eqb, List, length, Result, Ok, Err, refl, sym, ap, ◌∙◌, arith}
-use Rattle.tpm_wire.{specs.{declared.refusal.Refusal.{Refusal}, Token.{Here, at_start}, Layout.{cut}, Reading.{read, read_all, finish, ◌>>=◌}, Buffers.{buffer, Layout, later_place, later_refusal}, Path.{Fault, Spells}}, proofs.{Buffers.{buffer_sound}, Whole.{fault_read, read_fault, spells_read, read_spells}, Agreement.{ok_is, err_is, ends_same}, Cuts.{cut_read, parted}, Elsewhere.{read_later, later}}}
-use Rattle.tpm_commands.{specs.{declared.{command.Command.{Command}, command_parameters.Params.{Params}}, Handles.{handles}, Parameters.{parameters}}, proofs.Short.{ok, err}}
-use Rattle.tpm_buffer.{proofs.Places.{here_is}, specs.Commands.{header, authorization, body_from, with_auths, front, Checked, before_params, command}}
+use Rattle.std.proofs.Common.{◌≡◌, ℕ, ◌+◌, ◌-◌, Bool, true, false, cond, eqb, List, length, Result, Ok, Err, refl, sym}
+use Rattle.std.proofs.Common.{ap, ◌∙◌, arith}
+use Rattle.tpm_wire.specs.declared.refusal.Refusal.{Refusal}
+use Rattle.tpm_wire.specs.Token.{Here, at_start}
+use Rattle.tpm_wire.specs.Layout.{cut}
+use Rattle.tpm_wire.specs.Reading.{read, read_all, finish, ◌>>=◌}
+use Rattle.tpm_wire.specs.Buffers.{buffer, Layout, later_place, later_refusal}
+use Rattle.tpm_wire.specs.Path.{Fault, Spells}
+use Rattle.tpm_wire.proofs.Buffers.{buffer_sound}
+use Rattle.tpm_wire.proofs.Whole.{fault_read, read_fault, spells_read, read_spells}
+use Rattle.tpm_wire.proofs.Agreement.{ok_is, err_is, ends_same}
+use Rattle.tpm_wire.proofs.Cuts.{cut_read, parted}
+use Rattle.tpm_wire.proofs.Elsewhere.{read_later, later}
+use Rattle.tpm_commands.specs.declared.command.Command.{Command}
+use Rattle.tpm_commands.specs.declared.command_parameters.Params.{Params}
+use Rattle.tpm_commands.specs.Handles.{handles}
+use Rattle.tpm_commands.specs.Parameters.{parameters}
+use Rattle.tpm_commands.proofs.Short.{ok, err}
+use Rattle.tpm_buffer.proofs.Places.{here_is}
+use Rattle.tpm_buffer.specs.Commands.{header, authorization, body_from, with_auths, front, Checked, before_params}
+use Rattle.tpm_buffer.specs.Commands.{command}
 
 -- what fails in one chain fails in another that begins so
 fails : {A B C : Type 0} (r : Result A Refusal) (f : A → Result B Refusal) (g : A → Result C Refusal) (d : Refusal) → ((x : A) → f x ≡ Err d → g x ≡ Err d) → (r >>= f) ≡ Err d → (r >>= g) ≡ Err d

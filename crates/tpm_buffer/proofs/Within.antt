@@ -1,8 +1,23 @@
 -- What is read from a stage on is what the bytes begin with there.
-use Rattle.std.{proofs.Common.{arith, ◌≡◌, List, ℕ, length, Result, Ok, Err, sym, ap, subst, ◌∙◌}, specs.Prelude.{◌↔◌}}
-use Rattle.tpm_wire.{specs.{declared.refusal.Refusal.{Refusal}, Token.{Here, at_start}, Layout.{cut}, Reading.{read, Gives}, Path.{Fault}, Buffers.{buffer}}, proofs.{Buffers.{buffer_sound}, Agreement.{ok_is, err_is, ends_same}, Whole.{reads_its_path}, Cuts.{cut_decodes}}}
-use Rattle.tpm_commands.{specs.Handles.{handles}, proofs.Short.{ok, err}}
-use Rattle.tpm_buffer.{specs.{Commands.{authorization, Checked, before_params}, CommandAreas.{HeaderCut, HandlesCut, Cut, IsHandled, HasHandles, checked, params_here, areas_view, HasCut, IsAreas, HasAreas}}, proofs.{Places.{here_is}, Staged.{cut_fault, cut_value}}}
+use Rattle.std.proofs.Common.{arith, ◌≡◌, List, ℕ, length, Result, Ok, Err, sym, ap, subst, ◌∙◌}
+use Rattle.std.specs.Prelude.{◌↔◌}
+use Rattle.tpm_wire.specs.declared.refusal.Refusal.{Refusal}
+use Rattle.tpm_wire.specs.Token.{Here, at_start}
+use Rattle.tpm_wire.specs.Layout.{cut}
+use Rattle.tpm_wire.specs.Reading.{read, Gives}
+use Rattle.tpm_wire.specs.Path.{Fault}
+use Rattle.tpm_wire.specs.Buffers.{buffer}
+use Rattle.tpm_wire.proofs.Buffers.{buffer_sound}
+use Rattle.tpm_wire.proofs.Agreement.{ok_is, err_is, ends_same}
+use Rattle.tpm_wire.proofs.Whole.{reads_its_path}
+use Rattle.tpm_wire.proofs.Cuts.{cut_decodes}
+use Rattle.tpm_commands.specs.Handles.{handles}
+use Rattle.tpm_commands.proofs.Short.{ok, err}
+use Rattle.tpm_buffer.specs.Commands.{authorization, Checked, before_params}
+use Rattle.tpm_buffer.specs.CommandAreas.{HeaderCut, HandlesCut, Cut, IsHandled, HasHandles, checked, params_here}
+use Rattle.tpm_buffer.specs.CommandAreas.{areas_view, HasCut, IsAreas, HasAreas}
+use Rattle.tpm_buffer.proofs.Places.{here_is}
+use Rattle.tpm_buffer.proofs.Staged.{cut_fault, cut_value}
 
 pub has_handles : (x : HeaderCut) (r : Result HandlesCut Refusal) → IsHandled x r → HasHandles x r
 has_handles x (Ok y) is = ((reads_its_path buffer buffer_sound 0 (handles x.header.code) x.here).value y.handles y.here).0 is.0

@@ -1,8 +1,16 @@
 -- What contracts see of a command that is read in steps.
 use Rattle.std.specs.Prelude.{◌≡◌, ◌≢◌, ℕ, ◌+◌, ◌<◌, ◌≤◌, true, List, [], ◌++◌, length, drop, map, Result, Ok, Err}
-use Rattle.tpm_wire.specs.{declared.refusal.Refusal.{Refusal}, Spelling.{spelling}, Token.{Here, at_start}, Layout.{cut}, Reading.{read}, Path.{Spells, Begins, FaultFrom}}
-use Rattle.tpm_types.specs.{declared.tpms.Auth.{Auth}, Handles.{rs_pw}, Tpms.{auth_command}}
-use Rattle.tpm_commands.specs.{declared.command.Header.{Header}, Handles.{handles, handle_kinds, AreAdmitted}}
+use Rattle.tpm_wire.specs.declared.refusal.Refusal.{Refusal}
+use Rattle.tpm_wire.specs.Spelling.{spelling}
+use Rattle.tpm_wire.specs.Token.{Here, at_start}
+use Rattle.tpm_wire.specs.Layout.{cut}
+use Rattle.tpm_wire.specs.Reading.{read}
+use Rattle.tpm_wire.specs.Path.{Spells, Begins, FaultFrom}
+use Rattle.tpm_types.specs.declared.tpms.Auth.{Auth}
+use Rattle.tpm_types.specs.Handles.{rs_pw}
+use Rattle.tpm_types.specs.Tpms.{auth_command}
+use Rattle.tpm_commands.specs.declared.command.Header.{Header}
+use Rattle.tpm_commands.specs.Handles.{handles, handle_kinds, AreAdmitted}
 use Rattle.tpm_buffer.specs.Commands.{is_tag, header, authorization, Checked, before_params}
 
 -- ---- a command whose header was read, and the place behind it

@@ -1,9 +1,21 @@
 -- A command: a header, handles, sessions and parameters (Part 1, "Command/Response Structure"; Part 2, 6.9).
 use Rattle.std.specs.Prelude.{ℕ, ◌+◌, Bool, true, List, [], length, Some, None, nat_le, ◌==◌, ◌&&◌, ◌||◌, if◌then◌else◌}
-use Rattle.tpm_wire.specs.{Buffers.{Layout, number_in, numbered}, Layout.{either, Form.{done, number, field, area, list}}, ResponseCodes.{rc_bad_tag, rc_command_size, rc_authsize, of_session}, Spelling.{spelling}}
-use Rattle.tpm_types.specs.{declared.tpms.Auth.{Auth}, Tpms.{auth_command}}
-use Rattle.tpm_commands.specs.{declared.{code.CommandCode.{CommandCode}, command.{Command.{Command}, CommandBody.{CommandBody}, Header.{Header}}}, Codes.{command_code}, Handles.{handles}, Parameters.{parameters}}
-pub use Rattle.tpm_commands.specs.Table.{register_in, index_in, policy_in, pcr_or_null_in, nv_auth_in, bind_in, body_from, params_of, code_for, handles_of}
+use Rattle.tpm_wire.specs.Buffers.{Layout, number_in, numbered}
+use Rattle.tpm_wire.specs.Layout.Form.{done, number, field, area, list}
+use Rattle.tpm_wire.specs.Layout.{either}
+use Rattle.tpm_wire.specs.ResponseCodes.{rc_bad_tag, rc_command_size, rc_authsize, of_session}
+use Rattle.tpm_wire.specs.Spelling.{spelling}
+use Rattle.tpm_types.specs.declared.tpms.Auth.{Auth}
+use Rattle.tpm_types.specs.Tpms.{auth_command}
+use Rattle.tpm_commands.specs.declared.code.CommandCode.{CommandCode}
+use Rattle.tpm_commands.specs.declared.command.Command.{Command}
+use Rattle.tpm_commands.specs.declared.command.CommandBody.{CommandBody}
+use Rattle.tpm_commands.specs.declared.command.Header.{Header}
+use Rattle.tpm_commands.specs.Codes.{command_code}
+use Rattle.tpm_commands.specs.Handles.{handles}
+use Rattle.tpm_commands.specs.Parameters.{parameters}
+pub use Rattle.tpm_commands.specs.Table.{register_in, index_in, policy_in, pcr_or_null_in, nv_auth_in, bind_in}
+pub use Rattle.tpm_commands.specs.Table.{body_from, params_of, code_for, handles_of}
 
 -- ---- the header
 

@@ -1,8 +1,15 @@
 -- What contracts see of a response whose parameters are not judged.
-use Rattle.std.specs.Prelude.{◌≡◌, ℕ, ◌+◌, ◌*◌, ◌≤◌, List, [], length, take, drop, map, Option, slice_get, ◌==◌, if◌then◌else◌, Result, Ok, Err}
-use Rattle.tpm_wire.specs.{declared.refusal.Refusal.{Refusal}, Token.{Here, at_start}, Reading.{read}, Path.{Spells}}
-use Rattle.tpm_types.specs.{declared.tpms.AuthReply.{AuthReply}, Tpms.{auth_response}}
-use Rattle.tpm_commands.specs.{declared.response.{ReplyBody.{ReplyBody}, Response.{Response}}, Replies.{reply_handles_of, parameters_of_reply}}
+use Rattle.std.specs.Prelude.{◌≡◌, ℕ, ◌+◌, ◌*◌, ◌≤◌, List, [], length, take, drop, map, Option, slice_get, ◌==◌}
+use Rattle.std.specs.Prelude.{if◌then◌else◌, Result, Ok, Err}
+use Rattle.tpm_wire.specs.declared.refusal.Refusal.{Refusal}
+use Rattle.tpm_wire.specs.Token.{Here, at_start}
+use Rattle.tpm_wire.specs.Reading.{read}
+use Rattle.tpm_wire.specs.Path.{Spells}
+use Rattle.tpm_types.specs.declared.tpms.AuthReply.{AuthReply}
+use Rattle.tpm_types.specs.Tpms.{auth_response}
+use Rattle.tpm_commands.specs.declared.response.ReplyBody.{ReplyBody}
+use Rattle.tpm_commands.specs.declared.response.Response.{Response}
+use Rattle.tpm_commands.specs.Replies.{reply_handles_of, parameters_of_reply}
 use Rattle.tpm_commands.specs.declared.response.Response.TheVariants as responses
 use Rattle.tpm_buffer.specs.Responses.{ReplyCut}
 

@@ -1,10 +1,21 @@
 -- A response to a given command: a header, and where its code is 0 a handle, parameters and sessions (Part 1, "Command/Response Structure"; Part 2, 6.9).
-use Rattle.std.specs.Prelude.{◌≡◌, ℕ, ◌+◌, Bool, true, not, List, [], ◌∷◌, length, Option, Some, None, nat_le, ◌==◌, ◌||◌, if◌then◌else◌}
-use Rattle.tpm_wire.specs.{Buffers.{Layout, number_in, numbered}, Layout.{raw, remaining, either, Form.{done, number, field, area, list}}, ResponseCodes.{rc_bad_tag, rc_size, rc_value, of_session}, Spelling.{spelling}}
-use Rattle.tpm_types.specs.{declared.tpms.AuthReply.{AuthReply}, Tpms.{auth_response}}
-use Rattle.tpm_commands.specs.{declared.{code.CommandCode.{CommandCode}, response.{ReplyBody.{ReplyBody, TheVariants.{Startup}}, Response.{Response}}}, Replies.{code_for_reply, reply_handles, reply_handles_of, reply_parameters}}
+use Rattle.std.specs.Prelude.{◌≡◌, ℕ, ◌+◌, Bool, true, not, List, [], ◌∷◌, length, Option, Some, None, nat_le, ◌==◌}
+use Rattle.std.specs.Prelude.{◌||◌, if◌then◌else◌}
+use Rattle.tpm_wire.specs.Buffers.{Layout, number_in, numbered}
+use Rattle.tpm_wire.specs.Layout.Form.{done, number, field, area, list}
+use Rattle.tpm_wire.specs.Layout.{raw, remaining, either}
+use Rattle.tpm_wire.specs.ResponseCodes.{rc_bad_tag, rc_size, rc_value, of_session}
+use Rattle.tpm_wire.specs.Spelling.{spelling}
+use Rattle.tpm_types.specs.declared.tpms.AuthReply.{AuthReply}
+use Rattle.tpm_types.specs.Tpms.{auth_response}
+use Rattle.tpm_commands.specs.declared.code.CommandCode.{CommandCode}
+use Rattle.tpm_commands.specs.declared.response.ReplyBody.TheVariants.{Startup}
+use Rattle.tpm_commands.specs.declared.response.ReplyBody.{ReplyBody}
+use Rattle.tpm_commands.specs.declared.response.Response.{Response}
+use Rattle.tpm_commands.specs.Replies.{code_for_reply, reply_handles, reply_handles_of, reply_parameters}
 use Rattle.tpm_commands.specs.declared.response.Response.TheVariants as responses
-use Rattle.tpm_buffer.specs.{Commands.{command_size}, Parts.{tag_for}}
+use Rattle.tpm_buffer.specs.Commands.{command_size}
+use Rattle.tpm_buffer.specs.Parts.{tag_for}
 
 -- ---- the header
 

@@ -1,8 +1,14 @@
 //! A command cut where its checks begin: the header, the handles, the sessions, and the parameters as they came.
 
 ghost use Rattle.std.specs.Prelude.{◌≡◌, ◌≤◌, ◌<◌, IfOk, length, slice_get};
-ghost use Rattle.tpm_wire.specs.{Token.{at_start}, Layout.{cut}, Reading.{read, Gives}, Buffers.{TakesNumbered}, Path.{Decodes}};
-ghost use Rattle.tpm_buffer.specs.{Commands.{header as header_layout, before_params}, CommandAreas.{head_and_rest, IsHandled, HasHandles, checked, params_here, areas_view, cut_of, IsAreas, HasAreas, IsSpelledBy}};
+ghost use Rattle.tpm_wire.specs.Token.{at_start};
+ghost use Rattle.tpm_wire.specs.Layout.{cut};
+ghost use Rattle.tpm_wire.specs.Reading.{read, Gives};
+ghost use Rattle.tpm_wire.specs.Buffers.{TakesNumbered};
+ghost use Rattle.tpm_wire.specs.Path.{Decodes};
+ghost use Rattle.tpm_buffer.specs.Commands.{header as header_layout, before_params};
+ghost use Rattle.tpm_buffer.specs.CommandAreas.{head_and_rest, IsHandled, HasHandles, checked, params_here, areas_view};
+ghost use Rattle.tpm_buffer.specs.CommandAreas.{cut_of, IsAreas, HasAreas, IsSpelledBy};
 
 use crate::command_header::{long_fault, take_header};
 use crate::command_sessions::{AuthRef, read_authorization, session_at, take_authorization};
@@ -22,7 +28,8 @@ pub struct Headed<'a> {
 
 impl<'a> Model for Headed<'a> {
     ghost use Rattle.std.specs.Prelude.{◌≤◌, length};
-    ghost use Rattle.tpm_buffer.specs.{ResponseAreas.{Stands}, CommandAreas.{HeaderCut}};
+    ghost use Rattle.tpm_buffer.specs.ResponseAreas.{Stands};
+    ghost use Rattle.tpm_buffer.specs.CommandAreas.{HeaderCut};
 
     ghost Value = { HeaderCut };
 
@@ -42,7 +49,8 @@ pub struct Handled<'a> {
 
 impl<'a> Model for Handled<'a> {
     ghost use Rattle.std.specs.Prelude.{◌≤◌, length};
-    ghost use Rattle.tpm_buffer.specs.{ResponseAreas.{Stands}, CommandAreas.{HandlesCut}};
+    ghost use Rattle.tpm_buffer.specs.ResponseAreas.{Stands};
+    ghost use Rattle.tpm_buffer.specs.CommandAreas.{HandlesCut};
 
     ghost Value = { HandlesCut };
 
@@ -62,7 +70,8 @@ pub struct Areas<'a> {
 }
 
 impl<'a> Model for Areas<'a> {
-    ghost use Rattle.std.specs.{Prelude.{◌≤◌, length, drop}, List.{All}};
+    ghost use Rattle.std.specs.Prelude.{◌≤◌, length, drop};
+    ghost use Rattle.std.specs.List.{All};
     ghost use Rattle.tpm_buffer.specs.CommandAreas.{Cut, IsSession, sessions_at};
 
     ghost Value = { Cut };

@@ -1,9 +1,14 @@
 //! From bytes to a command, or to its areas.
 
 ghost use Rattle.std.specs.Prelude.{◌≡◌, ◌≤◌, ◌<◌, ◌↔◌, IsOk, IfOk, OnOk, Ok, Err, length};
-ghost use Rattle.tpm_wire.specs.{Spelling.{spelling}, declared.refusal.Refusal.{Refusal as RefusalOf}, Reading.{read_all, Gives}, Layout.{cut}, Path.{Spells, Fault}};
+ghost use Rattle.tpm_wire.specs.Spelling.{spelling};
+ghost use Rattle.tpm_wire.specs.declared.refusal.Refusal.{Refusal as RefusalOf};
+ghost use Rattle.tpm_wire.specs.Reading.{read_all, Gives};
+ghost use Rattle.tpm_wire.specs.Layout.{cut};
+ghost use Rattle.tpm_wire.specs.Path.{Spells, Fault};
 ghost use Rattle.tpm_commands.specs.declared.command.Command.{Command as CommandOf};
-ghost use Rattle.tpm_buffer.specs.{Commands.{before_params, command}, CommandAreas.{Cut, HasCut, IsSpelledBy}};
+ghost use Rattle.tpm_buffer.specs.Commands.{before_params, command};
+ghost use Rattle.tpm_buffer.specs.CommandAreas.{Cut, HasCut, IsSpelledBy};
 
 use crate::command_areas::{Areas, any_areas, read_before_params};
 use crate::command_header::long_fault;

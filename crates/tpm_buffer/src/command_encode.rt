@@ -1,9 +1,12 @@
 //! From a command to its bytes.
 
 ghost use Rattle.std.specs.Prelude.{◌≡◌, ◌≤◌, ◌+◌, ◌++◌, length, ℕ};
-ghost use Rattle.tpm_wire.specs.{Spelling.{spelling, Fits}, Path.{Spells}};
-ghost use Rattle.tpm_commands.specs.{Handles.{handles as handles_layout}, Parameters.{parameters}};
-ghost use Rattle.tpm_buffer.specs.Commands.{authorization, tag_of, code_for, handles_of, params_of, body_from, rest_of, command as command_layout};
+ghost use Rattle.tpm_wire.specs.Spelling.{spelling, Fits};
+ghost use Rattle.tpm_wire.specs.Path.{Spells};
+ghost use Rattle.tpm_commands.specs.Handles.{handles as handles_layout};
+ghost use Rattle.tpm_commands.specs.Parameters.{parameters};
+ghost use Rattle.tpm_buffer.specs.Commands.{authorization, tag_of, code_for, handles_of, params_of, body_from, rest_of};
+ghost use Rattle.tpm_buffer.specs.Commands.{command as command_layout};
 
 use crate::command_header::{NO_SESSIONS, SESSIONS};
 use arrayvec::ArrayVec;

@@ -1,9 +1,13 @@
 //! A command's header (Part 1, "Command/Response Structure").
 
 ghost use Rattle.std.specs.Prelude.{◌≡◌, ◌<◌, ◌+◌, true, ◌++◌, IfOk, length};
-ghost use Rattle.tpm_wire.specs.{Spelling.{spelling}, Token.{at_start}, Reading.{read}, Buffers.{Takes, TakesNumbered}};
+ghost use Rattle.tpm_wire.specs.Spelling.{spelling};
+ghost use Rattle.tpm_wire.specs.Token.{at_start};
+ghost use Rattle.tpm_wire.specs.Reading.{read};
+ghost use Rattle.tpm_wire.specs.Buffers.{Takes, TakesNumbered};
 ghost use Rattle.tpm_commands.specs.Codes.{command_code};
-ghost use Rattle.tpm_buffer.specs.{Commands.{is_tag, tag, command_size, header}, Parts.{tag_for}};
+ghost use Rattle.tpm_buffer.specs.Commands.{is_tag, tag, command_size, header};
+ghost use Rattle.tpm_buffer.specs.Parts.{tag_for};
 
 use tpm_commands::{CommandCode, Header};
 use tpm_wire::response_code::{BAD_TAG, COMMAND_CODE, COMMAND_SIZE};

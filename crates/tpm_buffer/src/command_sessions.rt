@@ -1,9 +1,15 @@
 //! A command's authorization area (Part 1, "Command/Response Structure"): its sessions, by their positions in the command.
 
-ghost use Rattle.std.specs.{Prelude.{◌≡◌, ◌≢◌, ◌<◌, ◌≤◌, ◌^◌, [], ◌∷◌, ◌++◌, IfOk, OnOk, length}, List.{All}};
-ghost use Rattle.tpm_types.specs.{declared.tpms.Auth.{Auth as AuthOf}, Limits.{digest_bytes}, Tpms.{auth_command}};
-ghost use Rattle.tpm_wire.specs.{Spelling.{spelling}, Buffers.{Takes, TakesNumbered}};
-ghost use Rattle.tpm_buffer.specs.{Commands.{sessions, authorization_size, authorization}, ResponseAreas.{Stands}, CommandAreas.{LiesIn, IsSession, session_at as the_session_at, sessions_at}};
+ghost use Rattle.std.specs.Prelude.{◌≡◌, ◌≢◌, ◌<◌, ◌≤◌, ◌^◌, [], ◌∷◌, ◌++◌, IfOk, OnOk, length};
+ghost use Rattle.std.specs.List.{All};
+ghost use Rattle.tpm_types.specs.declared.tpms.Auth.{Auth as AuthOf};
+ghost use Rattle.tpm_types.specs.Limits.{digest_bytes};
+ghost use Rattle.tpm_types.specs.Tpms.{auth_command};
+ghost use Rattle.tpm_wire.specs.Spelling.{spelling};
+ghost use Rattle.tpm_wire.specs.Buffers.{Takes, TakesNumbered};
+ghost use Rattle.tpm_buffer.specs.Commands.{sessions, authorization_size, authorization};
+ghost use Rattle.tpm_buffer.specs.ResponseAreas.{Stands};
+ghost use Rattle.tpm_buffer.specs.CommandAreas.{LiesIn, IsSession, session_at as the_session_at, sessions_at};
 
 use crate::command_header::SESSIONS;
 use arrayvec::ArrayVec;
@@ -24,7 +30,8 @@ pub struct AuthRef<'a> {
 
 impl<'a> Model for AuthRef<'a> {
     ghost use Rattle.std.specs.Prelude.{◌≤◌, length};
-    ghost use Rattle.tpm_types.specs.{Limits.{digest_bytes}, declared.tpms.Auth.{Auth}};
+    ghost use Rattle.tpm_types.specs.Limits.{digest_bytes};
+    ghost use Rattle.tpm_types.specs.declared.tpms.Auth.{Auth};
 
     ghost Value = { Auth };
 

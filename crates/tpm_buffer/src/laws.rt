@@ -1,9 +1,18 @@
 //! What holds of commands and responses in bytes.
 
 ghost use Rattle.std.specs.Prelude.{◌≡◌, ◌-◌, List, [], ◌++◌, ℕ, length};
-ghost use Rattle.tpm_wire.specs.{declared.refusal.Refusal.{Refusal}, Layout.{cut}, Buffers.{later_refusal}, Path.{ExactlyOne, Fault, Spells}};
-ghost use Rattle.tpm_commands.specs.{declared.{code.CommandCode.{CommandCode}, command.Command.{Command}, response.Response.{Response}, command_parameters.Params.{Params}}, Parameters.{parameters}};
-ghost use Rattle.tpm_buffer.specs.{Commands.{body_from, with_auths, header, front, Checked, before_params, command}, Responses.{response, ReplyCut, reply_cut}, ResponseAreas.{IsCutOf}};
+ghost use Rattle.tpm_wire.specs.declared.refusal.Refusal.{Refusal};
+ghost use Rattle.tpm_wire.specs.Layout.{cut};
+ghost use Rattle.tpm_wire.specs.Buffers.{later_refusal};
+ghost use Rattle.tpm_wire.specs.Path.{ExactlyOne, Fault, Spells};
+ghost use Rattle.tpm_commands.specs.declared.code.CommandCode.{CommandCode};
+ghost use Rattle.tpm_commands.specs.declared.command.Command.{Command};
+ghost use Rattle.tpm_commands.specs.declared.response.Response.{Response};
+ghost use Rattle.tpm_commands.specs.declared.command_parameters.Params.{Params};
+ghost use Rattle.tpm_commands.specs.Parameters.{parameters};
+ghost use Rattle.tpm_buffer.specs.Commands.{body_from, with_auths, header, front, Checked, before_params, command};
+ghost use Rattle.tpm_buffer.specs.Responses.{response, ReplyCut, reply_cut};
+ghost use Rattle.tpm_buffer.specs.ResponseAreas.{IsCutOf};
 
 /// One reading: bytes spell one command, all of them, or have one fault.
 pub fn command_or_fault()

@@ -1,8 +1,14 @@
 //! A response cut at its parameters, which are not judged.
 
 ghost use Rattle.std.specs.Prelude.{◌≡◌, ◌≤◌, ◌<◌, ◌↔◌, ◌+◌, ◌*◌, Ok, Err, IfOk, length, slice_get};
-ghost use Rattle.tpm_wire.specs.{declared.refusal.Refusal.{Refusal as RefusalOf}, Token.{at_start}, Reading.{read_all}, Buffers.{TakesNumbered}, Path.{Spells, Fault}};
-ghost use Rattle.tpm_buffer.specs.{Responses.{ReplyCut, raw_with_sessions, raw_without_sessions, cut_behind_code, reply_cut}, ResponseAreas.{Stands, handle_of, place_of_params, HasItsParams}};
+ghost use Rattle.tpm_wire.specs.declared.refusal.Refusal.{Refusal as RefusalOf};
+ghost use Rattle.tpm_wire.specs.Token.{at_start};
+ghost use Rattle.tpm_wire.specs.Reading.{read_all};
+ghost use Rattle.tpm_wire.specs.Buffers.{TakesNumbered};
+ghost use Rattle.tpm_wire.specs.Path.{Spells, Fault};
+ghost use Rattle.tpm_buffer.specs.Responses.{ReplyCut, raw_with_sessions, raw_without_sessions, cut_behind_code};
+ghost use Rattle.tpm_buffer.specs.Responses.{reply_cut};
+ghost use Rattle.tpm_buffer.specs.ResponseAreas.{Stands, handle_of, place_of_params, HasItsParams};
 ghost use Rattle.tpm_commands.specs.Replies.{handle_list};
 
 use crate::command_header::SESSIONS;
@@ -28,8 +34,10 @@ pub struct ReplyAreas<'a> {
 }
 
 impl<'a> Model for ReplyAreas<'a> {
-    ghost use Rattle.std.specs.{Prelude.{◌≡◌, ◌≤◌, ◌+◌, length, take, drop}, List.{All}};
-    ghost use Rattle.tpm_buffer.specs.{Responses.{ReplyCut}, ResponseAreas.{IsSession, sessions_at, place_behind}};
+    ghost use Rattle.std.specs.Prelude.{◌≡◌, ◌≤◌, ◌+◌, length, take, drop};
+    ghost use Rattle.std.specs.List.{All};
+    ghost use Rattle.tpm_buffer.specs.Responses.{ReplyCut};
+    ghost use Rattle.tpm_buffer.specs.ResponseAreas.{IsSession, sessions_at, place_behind};
     ghost use Rattle.tpm_commands.specs.Replies.{handle_list};
 
     ghost Value = { ReplyCut };

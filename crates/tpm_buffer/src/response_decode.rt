@@ -1,11 +1,17 @@
 //! From bytes to a response.
 
 ghost use Rattle.std.specs.Prelude.{◌≡◌, ◌<◌, ◌↔◌, ◌≢◌, ◌++◌, true, Ok, Err, IfOk, OnOk, [], length};
-ghost use Rattle.tpm_wire.specs.{declared.refusal.Refusal.{Refusal as RefusalOf}, Spelling.{spelling}, Reading.{read_all, Gives}, Buffers.{TakesNumbered}, Path.{Spells, Fault}};
-ghost use Rattle.tpm_commands.specs.{declared.response.Response.{Response as ResponseOf}, Replies.{reply_parameters, handle_list, HasHandle, IsReplyTo}};
+ghost use Rattle.tpm_wire.specs.declared.refusal.Refusal.{Refusal as RefusalOf};
+ghost use Rattle.tpm_wire.specs.Spelling.{spelling};
+ghost use Rattle.tpm_wire.specs.Reading.{read_all, Gives};
+ghost use Rattle.tpm_wire.specs.Buffers.{TakesNumbered};
+ghost use Rattle.tpm_wire.specs.Path.{Spells, Fault};
+ghost use Rattle.tpm_commands.specs.declared.response.Response.{Response as ResponseOf};
+ghost use Rattle.tpm_commands.specs.Replies.{reply_parameters, handle_list, HasHandle, IsReplyTo};
 ghost use Rattle.tpm_commands.specs.declared.response.Response.TheVariants as responses;
 ghost use Rattle.tpm_commands.specs.declared.response.ReplyBody.TheVariants as replies;
-ghost use Rattle.tpm_buffer.specs.Responses.{is_response_tag, goes_with, with_sessions, reply, code_or_done, tag_of_response, code_of_response, behind_code, response};
+ghost use Rattle.tpm_buffer.specs.Responses.{is_response_tag, goes_with, with_sessions, reply, code_or_done};
+ghost use Rattle.tpm_buffer.specs.Responses.{tag_of_response, code_of_response, behind_code, response};
 
 use crate::command_header::SESSIONS;
 use crate::response_header::{long_fault, take_code, take_front};

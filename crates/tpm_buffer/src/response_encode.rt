@@ -1,10 +1,14 @@
 //! From a response to its bytes.
 
-ghost use Rattle.std.specs.{Prelude.{◌≡◌, ◌≤◌, ◌<◌, ◌^◌, ◌+◌, ◌++◌, ◌∷◌, length}, Int.{bytes_high_first}};
-ghost use Rattle.tpm_wire.specs.{Spelling.{spelling, Fits}, Path.{Spells}};
-ghost use Rattle.tpm_commands.specs.{declared.code.CommandCode.{CommandCode as CodeOf}, Replies.{code_for_reply, parameters_of_reply}};
+ghost use Rattle.std.specs.Prelude.{◌≡◌, ◌≤◌, ◌<◌, ◌^◌, ◌+◌, ◌++◌, ◌∷◌, length};
+ghost use Rattle.std.specs.Int.{bytes_high_first};
+ghost use Rattle.tpm_wire.specs.Spelling.{spelling, Fits};
+ghost use Rattle.tpm_wire.specs.Path.{Spells};
+ghost use Rattle.tpm_commands.specs.declared.code.CommandCode.{CommandCode as CodeOf};
+ghost use Rattle.tpm_commands.specs.Replies.{code_for_reply, parameters_of_reply};
 ghost use Rattle.tpm_commands.specs.declared.response.Response.TheVariants as responses;
-ghost use Rattle.tpm_buffer.specs.Responses.{code_tag, reply_sessions, reply_tag, reply_behind, reply, response as response_layout, Answers};
+ghost use Rattle.tpm_buffer.specs.Responses.{code_tag, reply_sessions, reply_tag, reply_behind, reply};
+ghost use Rattle.tpm_buffer.specs.Responses.{response as response_layout, Answers};
 
 use crate::command_header::{NO_SESSIONS, tag_with};
 use crate::response_header::RSP_COMMAND;

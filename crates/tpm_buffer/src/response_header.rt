@@ -1,7 +1,10 @@
 //! A response's header: its tag, its size and its code (Part 1, "Response header").
 
 ghost use Rattle.std.specs.Prelude.{◌≡◌, ◌<◌, ◌+◌, ◌++◌, true, Err, IfOk, length};
-ghost use Rattle.tpm_wire.specs.{Token.{at_start}, Reading.{read}, Buffers.{Takes, TakesNumbered}, Spelling.{spelling}};
+ghost use Rattle.tpm_wire.specs.Token.{at_start};
+ghost use Rattle.tpm_wire.specs.Reading.{read};
+ghost use Rattle.tpm_wire.specs.Buffers.{Takes, TakesNumbered};
+ghost use Rattle.tpm_wire.specs.Spelling.{spelling};
 ghost use Rattle.tpm_buffer.specs.Responses.{is_response_tag, goes_with, response_front, response_tag, response_code};
 
 use crate::command_header::{NO_SESSIONS, SESSIONS, take_size};

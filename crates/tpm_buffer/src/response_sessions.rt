@@ -1,9 +1,13 @@
 //! The sessions of a response, by their positions in its bytes, and the size that stands before them.
 
-ghost use Rattle.std.specs.{Prelude.{◌≡◌, ◌≤◌, ◌<◌, ◌+◌, ◌^◌, ◌++◌, IfOk, OnOk, drop, length}, List.{All}};
-ghost use Rattle.tpm_wire.specs.{Spelling.{spelling, joined_all}, Buffers.{Takes, TakesNumbered}};
-ghost use Rattle.tpm_types.specs.{Limits.{digest_bytes}, Tpms.{auth_response}};
-ghost use Rattle.tpm_buffer.specs.{Responses.{further_sessions, parameter_size, reply_sessions}, ResponseAreas.{Stands, IsSession, session_at as the_session_at, sessions_at}};
+ghost use Rattle.std.specs.Prelude.{◌≡◌, ◌≤◌, ◌<◌, ◌+◌, ◌^◌, ◌++◌, IfOk, OnOk, drop, length};
+ghost use Rattle.std.specs.List.{All};
+ghost use Rattle.tpm_wire.specs.Spelling.{spelling, joined_all};
+ghost use Rattle.tpm_wire.specs.Buffers.{Takes, TakesNumbered};
+ghost use Rattle.tpm_types.specs.Limits.{digest_bytes};
+ghost use Rattle.tpm_types.specs.Tpms.{auth_response};
+ghost use Rattle.tpm_buffer.specs.Responses.{further_sessions, parameter_size, reply_sessions};
+ghost use Rattle.tpm_buffer.specs.ResponseAreas.{Stands, IsSession, session_at as the_session_at, sessions_at};
 
 use arrayvec::ArrayVec;
 use std::marker::Model;
@@ -22,7 +26,8 @@ pub struct ReplyRef<'a> {
 
 impl<'a> Model for ReplyRef<'a> {
     ghost use Rattle.std.specs.Prelude.{◌≤◌, length};
-    ghost use Rattle.tpm_types.specs.{Limits.{digest_bytes}, declared.tpms.AuthReply.{AuthReply}};
+    ghost use Rattle.tpm_types.specs.Limits.{digest_bytes};
+    ghost use Rattle.tpm_types.specs.declared.tpms.AuthReply.{AuthReply};
 
     ghost Value = { AuthReply };
 

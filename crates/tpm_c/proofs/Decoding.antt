@@ -1,7 +1,18 @@
 -- What is decoded is what the bytes are read as.
-use Rattle.std.{proofs.Common.{◌≡◌, List, ℕ, Bool, Ok, Err, Some, None, refl, ap, ◌∙◌}, specs.Prelude.{if◌then◌else◌}}
-use Rattle.tpm_wire.{specs.{declared.refusal.Refusal.{Refusal}, Buffers.{buffer, Layout}, Path.{Spells, Fault}, Reading.{read_all}}, proofs.{Buffers.{buffer_sound}, Whole.{spells_read, fault_read}}}
-use Rattle.tpm_commands.specs.{declared.{command.{Command.{Command}, CommandBody.{CommandBody}, StartAuth.{StartAuth}}, response.{ReplyBody.{ReplyBody}, StartReply.{StartReply}}}, Handles.{needs_authorization}}
+use Rattle.std.proofs.Common.{◌≡◌, List, ℕ, Bool, Ok, Err, Some, None, refl, ap, ◌∙◌}
+use Rattle.std.specs.Prelude.{if◌then◌else◌}
+use Rattle.tpm_wire.specs.declared.refusal.Refusal.{Refusal}
+use Rattle.tpm_wire.specs.Buffers.{buffer, Layout}
+use Rattle.tpm_wire.specs.Path.{Spells, Fault}
+use Rattle.tpm_wire.specs.Reading.{read_all}
+use Rattle.tpm_wire.proofs.Buffers.{buffer_sound}
+use Rattle.tpm_wire.proofs.Whole.{spells_read, fault_read}
+use Rattle.tpm_commands.specs.declared.command.Command.{Command}
+use Rattle.tpm_commands.specs.declared.command.CommandBody.{CommandBody}
+use Rattle.tpm_commands.specs.declared.command.StartAuth.{StartAuth}
+use Rattle.tpm_commands.specs.declared.response.ReplyBody.{ReplyBody}
+use Rattle.tpm_commands.specs.declared.response.StartReply.{StartReply}
+use Rattle.tpm_commands.specs.Handles.{needs_authorization}
 use Rattle.tpm_commands.specs.declared.command.CommandBody.TheVariants as bodies
 use Rattle.tpm_commands.specs.declared.response.ReplyBody.TheVariants as replies
 use Rattle.tpm_buffer.specs.Commands.{command, code_for}

@@ -1,10 +1,21 @@
 -- The parts of a command's view are those bytes of the command.
-use Rattle.std.{proofs.Common.{◌≡◌, ◌≢◌, ℕ, ◌+◌, ◌*◌, ◌<◌, true, false, eqb, List, [], ◌∷◌, ◌++◌, length, take, drop, Some, refl, ap, ◌∙◌, arith, append_assoc, append-nil, length-append}, specs.Int.{bytes_high_first}}
-use Rattle.tpm_wire.specs.{Spelling.{spelling, joined}, Structures.{sized_bytes}}
-use Rattle.tpm_types.specs.{declared.tpms.Auth.{Auth}, Handles.{auth_session}, Tpma.{session_attrs}, Tpms.{auth_command}}
-use Rattle.tpm_commands.specs.{declared.{command_handles.HandleKind.{HandleKind}, command.Header.{Header}}, Codes.{command_code}, Handles.{handles, handles_from, handle_kinds, others}}
-use Rattle.tpm_buffer.specs.{Commands.{header, tag, command_size, authorization, authorization_size, sessions}, CommandAreas.{Cut, IsSpelledBy}}
-use Rattle.tpm_c.{specs.CommandViews.{HoldsSession, HoldsParts, behind, first_place}, proofs.Parts.{part_is, AreHeld, first_three}}
+use Rattle.std.proofs.Common.{◌≡◌, ◌≢◌, ℕ, ◌+◌, ◌*◌, ◌<◌, true, false, eqb, List, [], ◌∷◌, ◌++◌, length, take, drop}
+use Rattle.std.proofs.Common.{Some, refl, ap, ◌∙◌, arith, append_assoc, append-nil, length-append}
+use Rattle.std.specs.Int.{bytes_high_first}
+use Rattle.tpm_wire.specs.Spelling.{spelling, joined}
+use Rattle.tpm_wire.specs.Structures.{sized_bytes}
+use Rattle.tpm_types.specs.declared.tpms.Auth.{Auth}
+use Rattle.tpm_types.specs.Handles.{auth_session}
+use Rattle.tpm_types.specs.Tpma.{session_attrs}
+use Rattle.tpm_types.specs.Tpms.{auth_command}
+use Rattle.tpm_commands.specs.declared.command_handles.HandleKind.{HandleKind}
+use Rattle.tpm_commands.specs.declared.command.Header.{Header}
+use Rattle.tpm_commands.specs.Codes.{command_code}
+use Rattle.tpm_commands.specs.Handles.{handles, handles_from, handle_kinds, others}
+use Rattle.tpm_buffer.specs.Commands.{header, tag, command_size, authorization, authorization_size, sessions}
+use Rattle.tpm_buffer.specs.CommandAreas.{Cut, IsSpelledBy}
+use Rattle.tpm_c.specs.CommandViews.{HoldsSession, HoldsParts, behind, first_place}
+use Rattle.tpm_c.proofs.Parts.{part_is, AreHeld, first_three}
 
 session_long : (a : Auth) → length (spelling auth_command a) ≡ 9 + length a.nonce + length a.hmac
 unfolding auth_command auth_session session_attrs sized_bytes

@@ -1,12 +1,38 @@
 -- The sessions of a response's view are those bytes of the response.
-use Rattle.std.{proofs.Common.{◌≡◌, ℕ, zero, suc, ◌+◌, ◌*◌, List, [], ◌∷◌, ◌++◌, length, take, drop, Option, Some, None, Result, Ok, Bool, true, false, refl, sym, ap, ◌∙◌, subst, arith, append_assoc, append-nil, length-take-le}, specs.Prelude.{◌==◌, nat_le, if◌then◌else◌}}
-use Rattle.tpm_wire.{specs.{declared.refusal.Refusal.{Refusal}, Buffers.{buffer, number_in, too_few}, Layout.{Form, raw, remaining, either}, ResponseCodes.{rc_reserved_bits, rc_size, rc_value, of_handle, of_session}, Structures.{sized_bytes}, Token.{Here, past, at_start}, Reading.{read, read_all, finish, unless, entries, ◌>>=◌}, Path.{Spells}}, proofs.{Agreement.{bind_ok, number_ok}, Buffers.{buffer_sound}, Whole.{spells_read}}}
-use Rattle.tpm_types.specs.{declared.tpms.AuthReply.{AuthReply}, Handles.{is_session, session}, Limits.{digest_bytes}, Tpm2b.{nonce, auth_value}, Tpma.{is_session_attrs, session_attrs}, Tpms.{auth_response}}
-use Rattle.tpm_commands.specs.{declared.code.CommandCode.{CommandCode}, Replies.{session_handle, reply_handles}}
+use Rattle.std.proofs.Common.{◌≡◌, ℕ, zero, suc, ◌+◌, ◌*◌, List, [], ◌∷◌, ◌++◌, length, take, drop, Option, Some, None}
+use Rattle.std.proofs.Common.{Result, Ok, Bool, true, false, refl, sym, ap, ◌∙◌, subst, arith, append_assoc, append-nil}
+use Rattle.std.proofs.Common.{length-take-le}
+use Rattle.std.specs.Prelude.{◌==◌, nat_le, if◌then◌else◌}
+use Rattle.tpm_wire.specs.declared.refusal.Refusal.{Refusal}
+use Rattle.tpm_wire.specs.Buffers.{buffer, number_in, too_few}
+use Rattle.tpm_wire.specs.Layout.{Form, raw, remaining, either}
+use Rattle.tpm_wire.specs.ResponseCodes.{rc_reserved_bits, rc_size, rc_value, of_handle, of_session}
+use Rattle.tpm_wire.specs.Structures.{sized_bytes}
+use Rattle.tpm_wire.specs.Token.{Here, past, at_start}
+use Rattle.tpm_wire.specs.Reading.{read, read_all, finish, unless, entries, ◌>>=◌}
+use Rattle.tpm_wire.specs.Path.{Spells}
+use Rattle.tpm_wire.proofs.Agreement.{bind_ok, number_ok}
+use Rattle.tpm_wire.proofs.Buffers.{buffer_sound}
+use Rattle.tpm_wire.proofs.Whole.{spells_read}
+use Rattle.tpm_types.specs.declared.tpms.AuthReply.{AuthReply}
+use Rattle.tpm_types.specs.Handles.{is_session, session}
+use Rattle.tpm_types.specs.Limits.{digest_bytes}
+use Rattle.tpm_types.specs.Tpm2b.{nonce, auth_value}
+use Rattle.tpm_types.specs.Tpma.{is_session_attrs, session_attrs}
+use Rattle.tpm_types.specs.Tpms.{auth_response}
+use Rattle.tpm_commands.specs.declared.code.CommandCode.{CommandCode}
+use Rattle.tpm_commands.specs.Replies.{session_handle, reply_handles}
 use Rattle.tpm_commands.specs.declared.code.CommandCode.TheVariants as codes
-use Rattle.tpm_buffer.{specs.{Responses.{response_front, response_code, parameter_size, further_sessions, reply_sessions, ReplyCut, raw_with_sessions, raw_without_sessions, cut_behind_code, reply_cut}, ResponseAreas.{Stands, HasItsParams, place_behind}}, proofs.{Places.{stands_first, stands_behind}, ReadSessions.{place_before_sessions}}}
-use Rattle.tpm_model.proofs.{Sealing.{okay, okay_is}, ReplySessions.{finished}, ReplyBytes.{front_place, code_place, size_place}}
-use Rattle.tpm_c.{specs.ResponseViews.{HoldsSession, HoldsParts, behind, place}, proofs.Parts.{AreHeld, first_three}}
+use Rattle.tpm_buffer.specs.Responses.{response_front, response_code, parameter_size, further_sessions, reply_sessions}
+use Rattle.tpm_buffer.specs.Responses.{ReplyCut, raw_with_sessions, raw_without_sessions, cut_behind_code, reply_cut}
+use Rattle.tpm_buffer.specs.ResponseAreas.{Stands, HasItsParams, place_behind}
+use Rattle.tpm_buffer.proofs.Places.{stands_first, stands_behind}
+use Rattle.tpm_buffer.proofs.ReadSessions.{place_before_sessions}
+use Rattle.tpm_model.proofs.Sealing.{okay, okay_is}
+use Rattle.tpm_model.proofs.ReplySessions.{finished}
+use Rattle.tpm_model.proofs.ReplyBytes.{front_place, code_place, size_place}
+use Rattle.tpm_c.specs.ResponseViews.{HoldsSession, HoldsParts, behind, place}
+use Rattle.tpm_c.proofs.Parts.{AreHeld, first_three}
 
 abbrev pair : List ℕ → Here → List ℕ × Here
 pair x h = (x, h)

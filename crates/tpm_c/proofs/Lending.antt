@@ -4,11 +4,30 @@ use mir.Syntax.{Ty, ty_unit, ty_ptr, Callee, Place, place, deref, Opd as Operand
 use prog.{Wp.{Env, Closed}, Model.{Model}}
 use base.{Logic.{comm∗, mono_r, ex_i}, Fml.{fsep, fbor, fex, fat}}
 use borrow.Table.OneValue.{One, part_in}
-use denote.{Memory.{lone}, Exit.{Kept, yes, left}, Builtin.{RawPtr, unit}, RattleType.{RattleType, Denots, Valss}, Laws.{Lawful, Typed, Are, Ises, Spells, valss, Tellss}, Signature.{Signature, plain, type_at}, Triple.{End.{Kepts, Fins, lasts_of}, Clauses.{Ended, Clauses, Lasts, at_exit, closing}, Entry.{Res}, Spec.{Spec, Meets}, Walked.{Stay, fits_of, has_of, AllGo, says}}}
+use denote.Memory.{lone}
+use denote.Exit.{Kept, yes, left}
+use denote.Builtin.{RawPtr, unit}
+use denote.RattleType.{RattleType, Denots, Valss}
+use denote.Laws.{Lawful, Typed, Are, Ises, Spells, valss, Tellss}
+use denote.Signature.{Signature, plain, type_at}
+use denote.Triple.End.{Kepts, Fins, lasts_of}
+use denote.Triple.Clauses.{Ended, Clauses, Lasts, at_exit, closing}
+use denote.Triple.Entry.{Res}
+use denote.Triple.Spec.{Spec, Meets}
+use denote.Triple.Walked.{Stay, fits_of, has_of, AllGo, says}
 use types.{Kit.{Post, Seq, Sq, Item, mean, lands, runs, prop, group, use2}, Run.{Opds}}
 use contract.{Lifetimes.{Shares, AllOutlive}, Monad.{Fun}, Running.{Running, MachineTables}}
 use Rattle.std.proofs.raw_atomic.Walks.{leaves}
-use Rattle.tpm_c.proofs.Steps.{◌≡◌, ℕ, List, [], ◌∷◌, refl, Ura, full_share, named, Val, vptr, vunit, SProp, ent, sep, via, snd∗, never, never_e, id⊢, emp, emp∗, Lft, GName, Fml, flft, flent, ftrue, fres, Calls, Loops, WpFn, Logic, sem, Body, fact, Lfts, tables, ‵, raw, ◌⊛◌, some, later, ◌$◌, ◌∵◌, !, qed, by, move, drop, use0, use1, use3, split, join, pick, fsplit, fjoin, rewrite, await, done, feq_i, fpick, fpack, lft_new, lft_end, stop, of_opd, no_more, returns, enter, init, unit_lit, assigns, alloc_all, pass_all, free_all, look_at, through, get, sets, lands_as, FmC, owns, mem, part_at, Is, shows, MutBor, MutRef, mut_vals, Slot, types_at, lends_ref, ref_back, Ptr, block_ptr, null_ptr, rawptr_vals, rawptr_Tells, room_at, peeks, heard, nothing, Contract, Triple, calls_at, lasts, alive, triple_of, Stays, walk_of, proved, framed}
+use Rattle.tpm_c.proofs.Steps.{◌≡◌, ℕ, List, [], ◌∷◌, refl, Ura, full_share, named, Val, vptr, vunit, SProp, ent, sep}
+use Rattle.tpm_c.proofs.Steps.{via, snd∗, never, never_e, id⊢, emp, emp∗, Lft, GName, Fml, flft, flent, ftrue, fres}
+use Rattle.tpm_c.proofs.Steps.{Calls, Loops, WpFn, Logic, sem, Body, fact, Lfts, tables, ‵, raw, ◌⊛◌, some, later, ◌$◌}
+use Rattle.tpm_c.proofs.Steps.{◌∵◌, !, qed, by, move, drop, use0, use1, use3, split, join, pick, fsplit, fjoin, rewrite}
+use Rattle.tpm_c.proofs.Steps.{await, done, feq_i, fpick, fpack, lft_new, lft_end, stop, of_opd, no_more, returns}
+use Rattle.tpm_c.proofs.Steps.{enter, init, unit_lit, assigns, alloc_all, pass_all, free_all, look_at, through, get}
+use Rattle.tpm_c.proofs.Steps.{sets, lands_as, FmC, owns, mem, part_at, Is, shows, MutBor, MutRef, mut_vals, Slot}
+use Rattle.tpm_c.proofs.Steps.{types_at, lends_ref, ref_back, Ptr, block_ptr, null_ptr, rawptr_vals, rawptr_Tells}
+use Rattle.tpm_c.proofs.Steps.{room_at, peeks, heard, nothing, Contract, Triple, calls_at, lasts, alive, triple_of}
+use Rattle.tpm_c.proofs.Steps.{Stays, walk_of, proved, framed}
 
 -- ---- what an export has of its parameters at exit: what is said of their last values, and nothing more
 module _ {n : ℕ} where

@@ -1,9 +1,18 @@
 -- A list of registers or of digests takes few bytes, and is read alike whatever is behind it.
-use Rattle.std.{proofs.{Common.{◌≡◌, ℕ, List, length, take, Bool, true, false, Err, refl, sym, arith}, lemmas.Bool.{leb-false}}, specs.Prelude.{nat_le, if◌then◌else◌}}
-use Rattle.tpm_wire.{specs.{Token.{at_start}, Reading.{read, read_all}, Buffers.{Layout}}, proofs.Longer.{TakesAtMost, at_most_more, at_most_sized_bytes, at_most_counted}}
-use Rattle.tpm_types.specs.{Limits.{digest_bytes, banks}, Tpms.{selection}, Tpm2b.{digest}, Tpml.{most_digests, selections, or_digests}}
+use Rattle.std.proofs.Common.{◌≡◌, ℕ, List, length, take, Bool, true, false, Err, refl, sym, arith}
+use Rattle.std.proofs.lemmas.Bool.{leb-false}
+use Rattle.std.specs.Prelude.{nat_le, if◌then◌else◌}
+use Rattle.tpm_wire.specs.Token.{at_start}
+use Rattle.tpm_wire.specs.Reading.{read, read_all}
+use Rattle.tpm_wire.specs.Buffers.{Layout}
+use Rattle.tpm_wire.proofs.Longer.{TakesAtMost, at_most_more, at_most_sized_bytes, at_most_counted}
+use Rattle.tpm_types.specs.Limits.{digest_bytes, banks}
+use Rattle.tpm_types.specs.Tpms.{selection}
+use Rattle.tpm_types.specs.Tpm2b.{digest}
+use Rattle.tpm_types.specs.Tpml.{most_digests, selections, or_digests}
 use Rattle.tpm_commands.proofs.Short.{of_selection}
-use Rattle.tpm_log.{specs.Quotes.{left_over}, proofs.Quotes.{long_is}}
+use Rattle.tpm_log.specs.Quotes.{left_over}
+use Rattle.tpm_log.proofs.Quotes.{long_is}
 use Rattle.tpm_c.specs.Parts.{whole_in}
 
 pub of_selections : TakesAtMost 4096 selections

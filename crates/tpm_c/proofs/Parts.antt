@@ -1,5 +1,7 @@
 -- The parts of bytes by their places.
-use Rattle.std.{proofs.{Common.{◌≡◌, ℕ, List, [], ◌∷◌, ◌++◌, length, take, drop, Option, Some, None, ap, ◌∙◌}, Math.Seq.{drop-append_seam, take-append_seam}}, specs.Prelude.{slice_get}}
+use Rattle.std.proofs.Common.{◌≡◌, ℕ, List, [], ◌∷◌, ◌++◌, length, take, drop, Option, Some, None, ap, ◌∙◌}
+use Rattle.std.proofs.Math.Seq.{drop-append_seam, take-append_seam}
+use Rattle.std.specs.Prelude.{slice_get}
 
 -- a part behind so many bytes
 pub part_is : (before xs after bytes : List ℕ) (n : ℕ) → bytes ≡ before ++ (xs ++ after) → length before ≡ n → take (length xs) (drop n bytes) ≡ xs

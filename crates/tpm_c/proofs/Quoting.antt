@@ -1,8 +1,14 @@
 -- The parts of a quote's view are those bytes of the quote.
-use Rattle.std.{proofs.Common.{◌≡◌, ℕ, ◌+◌, List, [], ◌++◌, length, ◌∙◌, arith, append_assoc, append-nil, length-append}, specs.Int.{bytes_high_first}}
-use Rattle.tpm_wire.specs.{Spelling.{spelling}, Structures.{sized_bytes}}
-use Rattle.tpm_types.specs.{declared.attest.Attest.{Attest}, Tpml.{selections}, Attest.{generated_value, generated, attest_quote, attest_type, yes_no, clock_info, quote_info, attest}}
-use Rattle.tpm_c.{specs.Attests.{HoldsAttest}, proofs.Parts.{part_is}}
+use Rattle.std.proofs.Common.{◌≡◌, ℕ, ◌+◌, List, [], ◌++◌, length, ◌∙◌, arith, append_assoc, append-nil, length-append}
+use Rattle.std.specs.Int.{bytes_high_first}
+use Rattle.tpm_wire.specs.Spelling.{spelling}
+use Rattle.tpm_wire.specs.Structures.{sized_bytes}
+use Rattle.tpm_types.specs.declared.attest.Attest.{Attest}
+use Rattle.tpm_types.specs.Tpml.{selections}
+use Rattle.tpm_types.specs.Attest.{generated_value, generated, attest_quote, attest_type, yes_no, clock_info}
+use Rattle.tpm_types.specs.Attest.{quote_info, attest}
+use Rattle.tpm_c.specs.Attests.{HoldsAttest}
+use Rattle.tpm_c.proofs.Parts.{part_is}
 
 clock_long : (a : Attest) → length (spelling clock_info a.clock_info) ≡ 17
 unfolding clock_info yes_no

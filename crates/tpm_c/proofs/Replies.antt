@@ -1,12 +1,19 @@
 -- What a device answers has a header at least.
-use Rattle.std.{proofs.{Common.{◌≡◌, ℕ, ◌≤◌, List, length, Result, Ok, Err, true, refl, ap, arith, length-append}, lemmas.Bool.{le-leb}}, specs.Prelude.{nat_le}}
+use Rattle.std.proofs.Common.{◌≡◌, ℕ, ◌≤◌, List, length, Result, Ok, Err, true, refl, ap, arith, length-append}
+use Rattle.std.proofs.lemmas.Bool.{le-leb}
+use Rattle.std.specs.Prelude.{nat_le}
 use Rattle.tpm_wire.specs.Spelling.{spelling}
-use Rattle.tpm_commands.specs.declared.{code.CommandCode.{CommandCode}, response.Response.{Response}}
+use Rattle.tpm_commands.specs.declared.code.CommandCode.{CommandCode}
+use Rattle.tpm_commands.specs.declared.response.Response.{Response}
 use Rattle.tpm_commands.specs.declared.code.CommandCode.TheVariants as codes
 use Rattle.tpm_commands.specs.declared.response.Response.TheVariants as responses
-use Rattle.tpm_buffer.specs.{Commands.{command_size, code_for}, Responses.{response_tag, response_front, response_code, response, done_with}}
-use Rattle.tpm_model.specs.{Steps.{History, Origin}, Present.{present}, Answers.{Done, outcome, answered, answer}}
-use Rattle.tpm_c.specs.{Devices.{written, IsAnswered}, Written.{IsIn}}
+use Rattle.tpm_buffer.specs.Commands.{command_size, code_for}
+use Rattle.tpm_buffer.specs.Responses.{response_tag, response_front, response_code, response, done_with}
+use Rattle.tpm_model.specs.Steps.{History, Origin}
+use Rattle.tpm_model.specs.Present.{present}
+use Rattle.tpm_model.specs.Answers.{Done, outcome, answered, answer}
+use Rattle.tpm_c.specs.Devices.{written, IsAnswered}
+use Rattle.tpm_c.specs.Written.{IsIn}
 
 response_long : (code : CommandCode) (r : Response) → 10 ≤ length (spelling (response code) r)
 unfolding response response_front response_tag command_size response_code

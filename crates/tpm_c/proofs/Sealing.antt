@@ -1,8 +1,12 @@
 -- A command that has a Name or a nonce which is too long is not sealed.
 use Rattle.std.proofs.Common.{◌≡◌, ℕ, List, [], ◌∷◌, length, take, Bool, false, Some, refl, sym, ap, ◌∙◌, arith}
-use Rattle.tpm_commands.specs.{declared.command.CommandBody.{CommandBody}, Handles.{handle_kinds}}
+use Rattle.tpm_commands.specs.declared.command.CommandBody.{CommandBody}
+use Rattle.tpm_commands.specs.Handles.{handle_kinds}
 use Rattle.tpm_buffer.specs.Commands.{code_for, handles_of}
-use Rattle.tpm_c.specs.{declared.caller.Held.{Held, TheVariants.{Spent, Free, Sealed}}, Written.{IsIn}, Callers.{names_of, do_fit, seal_by, sealed_bytes, after_seal}}
+use Rattle.tpm_c.specs.declared.caller.Held.TheVariants.{Spent, Free, Sealed}
+use Rattle.tpm_c.specs.declared.caller.Held.{Held}
+use Rattle.tpm_c.specs.Written.{IsIn}
+use Rattle.tpm_c.specs.Callers.{names_of, do_fit, seal_by, sealed_bytes, after_seal}
 
 -- a command has as many handles as its row has kinds
 same_count : (b : CommandBody) → length (handle_kinds (code_for b)) ≡ length (handles_of b)

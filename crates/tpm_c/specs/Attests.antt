@@ -1,11 +1,26 @@
 -- What C is told of a quote as it was signed.
-use Rattle.std.specs.Prelude.{◌≡◌, ◌⊎◌, ℕ, ◌+◌, ◌==◌, List, [], length, Option, Some, None, Result, Ok, Err, if◌then◌else◌}
-use Rattle.tpm_wire.specs.{declared.refusal.Refusal.{Refusal}, Path.{Spells, Fault}, Spelling.{spelling}}
-use Rattle.tpm_types.specs.{declared.{alg.Alg.{Alg}, tpms.Selection.{Selection}, attest.Attest.{Attest}}, Alg.{alg_number}, Tpml.{selections}, Attest.{yes_no_number, attest}}
+use Rattle.std.specs.Prelude.{◌≡◌, ◌⊎◌, ℕ, ◌+◌, ◌==◌, List, [], length, Option, Some, None, Result, Ok, Err}
+use Rattle.std.specs.Prelude.{if◌then◌else◌}
+use Rattle.tpm_wire.specs.declared.refusal.Refusal.{Refusal}
+use Rattle.tpm_wire.specs.Path.{Spells, Fault}
+use Rattle.tpm_wire.specs.Spelling.{spelling}
+use Rattle.tpm_types.specs.declared.alg.Alg.{Alg}
+use Rattle.tpm_types.specs.declared.tpms.Selection.{Selection}
+use Rattle.tpm_types.specs.declared.attest.Attest.{Attest}
+use Rattle.tpm_types.specs.Alg.{alg_number}
+use Rattle.tpm_types.specs.Tpml.{selections}
+use Rattle.tpm_types.specs.Attest.{yes_no_number, attest}
 use Rattle.tpm_model.specs.Registers.{Registers, value_in}
-use Rattle.tpm_log.specs.{declared.{fault.LogFault.{LogFault}, attest.AttestFault.{AttestFault}}, Attests.{SelectsNone, IsJudged}}
+use Rattle.tpm_log.specs.declared.fault.LogFault.{LogFault}
+use Rattle.tpm_log.specs.declared.attest.AttestFault.{AttestFault}
+use Rattle.tpm_log.specs.Attests.{SelectsNone, IsJudged}
 use Rattle.tpm_log.specs.declared.attest.AttestFault.TheVariants as faults
-use Rattle.tpm_c.specs.{declared.{part.{TpmPart.{TpmPart}, TpmRefusal.{TpmRefusal}}, attest.{TpmAttest.{TpmAttest}, TpmAttestFault.{TpmAttestFault}}}, Parts.{part, bytes_in, refusal_of, whole_in}, Logs.{kind_number}}
+use Rattle.tpm_c.specs.declared.part.TpmPart.{TpmPart}
+use Rattle.tpm_c.specs.declared.part.TpmRefusal.{TpmRefusal}
+use Rattle.tpm_c.specs.declared.attest.TpmAttest.{TpmAttest}
+use Rattle.tpm_c.specs.declared.attest.TpmAttestFault.{TpmAttestFault}
+use Rattle.tpm_c.specs.Parts.{part, bytes_in, refusal_of, whole_in}
+use Rattle.tpm_c.specs.Logs.{kind_number}
 
 -- ---- the parts of a quote (Part 2, 10.12): the magic and the type have 6 bytes, the size of each sized buffer 2, the clock 17 and
 -- the firmware's version 8

@@ -1,9 +1,16 @@
 -- What is made of a command's parts.
 use Rattle.std.specs.Prelude.{◌≡◌, ◌⊎◌, ℕ, ◌<◌, ◌≤◌, List, length, Option, Some, None}
-use Rattle.tpm_wire.specs.{declared.refusal.Refusal.{Refusal}, ResponseCodes.{rc_command_size}, Path.{Spells, Fault}}
-use Rattle.tpm_commands.specs.{declared.{code.CommandCode.{CommandCode}, command.Command.{Command}}, Codes.{code_of}}
-use Rattle.tpm_buffer.specs.{Commands.{command}, Parts.{joined}}
-use Rattle.tpm_c.specs.{declared.part.TpmRefusal.{TpmRefusal}, Parts.{refusal_of}, Written.{IsIn}}
+use Rattle.tpm_wire.specs.declared.refusal.Refusal.{Refusal}
+use Rattle.tpm_wire.specs.ResponseCodes.{rc_command_size}
+use Rattle.tpm_wire.specs.Path.{Spells, Fault}
+use Rattle.tpm_commands.specs.declared.code.CommandCode.{CommandCode}
+use Rattle.tpm_commands.specs.declared.command.Command.{Command}
+use Rattle.tpm_commands.specs.Codes.{code_of}
+use Rattle.tpm_buffer.specs.Commands.{command}
+use Rattle.tpm_buffer.specs.Parts.{joined}
+use Rattle.tpm_c.specs.declared.part.TpmRefusal.{TpmRefusal}
+use Rattle.tpm_c.specs.Parts.{refusal_of}
+use Rattle.tpm_c.specs.Written.{IsIn}
 
 -- what a call has written to: the room, the number of the bytes in it, and the refusal
 pub record Told : Type 0 where

@@ -1,20 +1,34 @@
 -- A caller's session in memory of C's.
-use Rattle.std.specs.Prelude.{ℕ, ◌==◌, nat_le, Bool, true, not, ◌&&◌, List, [], ◌∷◌, length, take, Option, Some, None, Result, Ok, Err, if◌then◌else◌}
+use Rattle.std.specs.Prelude.{ℕ, ◌==◌, nat_le, Bool, true, not, ◌&&◌, List, [], ◌∷◌, length, take, Option, Some, None}
+use Rattle.std.specs.Prelude.{Result, Ok, Err, if◌then◌else◌}
 use base.{Fraction.{full_share}, Fml.{Fml}}
 use denote.RawPtr.{Ptr, lies_at}
-use Rattle.tpm_wire.specs.{declared.refusal.Refusal.{Refusal}, Reading.{read_all}}
+use Rattle.tpm_wire.specs.declared.refusal.Refusal.{Refusal}
+use Rattle.tpm_wire.specs.Reading.{read_all}
 use Rattle.tpm_types.specs.Limits.{digest_bytes, name_bytes}
 use Rattle.tpm_commands.specs.declared.code.CommandCode.TheVariants as codes
-use Rattle.tpm_commands.specs.{declared.{command.{Command.{Command}, CommandBody.{CommandBody}, StartAuth.{StartAuth}}, response.{Response.{Response}, ReplyBody.{ReplyBody}, StartReply.{StartReply}}}, Handles.{needs_authorization}}
+use Rattle.tpm_commands.specs.declared.command.Command.{Command}
+use Rattle.tpm_commands.specs.declared.command.CommandBody.{CommandBody}
+use Rattle.tpm_commands.specs.declared.command.StartAuth.{StartAuth}
+use Rattle.tpm_commands.specs.declared.response.Response.{Response}
+use Rattle.tpm_commands.specs.declared.response.ReplyBody.{ReplyBody}
+use Rattle.tpm_commands.specs.declared.response.StartReply.{StartReply}
+use Rattle.tpm_commands.specs.Handles.{needs_authorization}
 use Rattle.tpm_commands.specs.declared.command.CommandBody.TheVariants as bodies
 use Rattle.tpm_commands.specs.declared.response.Response.TheVariants as responses
 use Rattle.tpm_commands.specs.declared.response.ReplyBody.TheVariants as replies
-use Rattle.tpm_buffer.specs.{Commands.{command, code_for, handles_of}, Responses.{response}}
-use Rattle.tpm_model.specs.{InStep.{CallerSession}, Callers.{started_with, Seal, sealed, Opened, opened, given_up}}
+use Rattle.tpm_buffer.specs.Commands.{command, code_for, handles_of}
+use Rattle.tpm_buffer.specs.Responses.{response}
+use Rattle.tpm_model.specs.InStep.{CallerSession}
+use Rattle.tpm_model.specs.Callers.{started_with, Seal, sealed, Opened, opened, given_up}
 use Rattle.tpm_model.specs.Callers as model
-use Rattle.tpm_caller.specs.{declared.waiting.CallerFault.{CallerFault}, Faults.{fault_of}, Sent.{Sent, sent}}
+use Rattle.tpm_caller.specs.declared.waiting.CallerFault.{CallerFault}
+use Rattle.tpm_caller.specs.Faults.{fault_of}
+use Rattle.tpm_caller.specs.Sent.{Sent, sent}
 use Rattle.tpm_caller.specs.declared.waiting.CallerFault.TheVariants as faults
-use Rattle.tpm_c.specs.{declared.caller.Held.{Held, TheVariants.{Spent, Free, Sealed}}, contracts.caller.Held.{the_row}}
+use Rattle.tpm_c.specs.declared.caller.Held.TheVariants.{Spent, Free, Sealed}
+use Rattle.tpm_c.specs.declared.caller.Held.{Held}
+use Rattle.tpm_c.specs.contracts.caller.Held.{the_row}
 
 -- This lies there.
 abbrev pub held_at : Held → Ptr → Fml

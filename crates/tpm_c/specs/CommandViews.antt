@@ -1,10 +1,17 @@
 -- A command's areas by their places in its bytes.
 use Rattle.std.specs.Prelude.{◌≡◌, ◌⊎◌, ℕ, zero, suc, ◌+◌, ◌*◌, List, [], ◌∷◌, length, Option, Some, None, slice_get}
-use Rattle.tpm_wire.specs.{Layout.{cut}, Path.{Spells, Fault}}
+use Rattle.tpm_wire.specs.Layout.{cut}
+use Rattle.tpm_wire.specs.Path.{Spells, Fault}
 use Rattle.tpm_types.specs.declared.tpms.Auth.{Auth}
-use Rattle.tpm_commands.specs.{declared.command.Command.{Command}, Codes.{code_number}, Handles.{first, second, handle_kinds}}
-use Rattle.tpm_buffer.specs.{Commands.{before_params, command}, CommandAreas.{Cut, HasCut}}
-use Rattle.tpm_c.specs.{declared.{part.TpmRefusal.{TpmRefusal}, command.{TpmCommandSession.{TpmCommandSession}, TpmCommandAreas.{TpmCommandAreas}}}, Parts.{part, bytes_in, OfThree, refusal_of}}
+use Rattle.tpm_commands.specs.declared.command.Command.{Command}
+use Rattle.tpm_commands.specs.Codes.{code_number}
+use Rattle.tpm_commands.specs.Handles.{first, second, handle_kinds}
+use Rattle.tpm_buffer.specs.Commands.{before_params, command}
+use Rattle.tpm_buffer.specs.CommandAreas.{Cut, HasCut}
+use Rattle.tpm_c.specs.declared.part.TpmRefusal.{TpmRefusal}
+use Rattle.tpm_c.specs.declared.command.TpmCommandSession.{TpmCommandSession}
+use Rattle.tpm_c.specs.declared.command.TpmCommandAreas.{TpmCommandAreas}
+use Rattle.tpm_c.specs.Parts.{part, bytes_in, OfThree, refusal_of}
 
 -- A session that begins at this place: its handle, the number of the nonce's bytes, the nonce, the attributes, the number of the
 -- HMAC's bytes, and the HMAC (Part 2, 10.13.2).

@@ -3,8 +3,11 @@ use Rattle.std.specs.Prelude.{ℕ, ◌≤◌, Bool, true, false, List, [], lengt
 use base.{Fraction.{full_share}, Fml.{Fml, ftrue, fex}}
 use denote.RawPtr.{Ptr, lies_at, room_at}
 use Rattle.tpm_types.specs.Limits.{digest_bytes}
-use Rattle.tpm_model.specs.{Steps.{History, Origin}, Answers.{answer, next}}
-use Rattle.tpm_device.specs.{declared.device.Device.{Device}, contracts.device.Device.{the_row}, Stands.{Stands}}
+use Rattle.tpm_model.specs.Steps.{History, Origin}
+use Rattle.tpm_model.specs.Answers.{answer, next}
+use Rattle.tpm_device.specs.declared.device.Device.{Device}
+use Rattle.tpm_device.specs.contracts.device.Device.{the_row}
+use Rattle.tpm_device.specs.Stands.{Stands}
 use Rattle.tpm_c.specs.Written.{IsIn}
 
 -- A device that stands at the history lies there.

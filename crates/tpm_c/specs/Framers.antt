@@ -2,7 +2,10 @@
 use Rattle.std.specs.Prelude.{◌≡◌, ℕ, ◌≤◌, ◌⊎◌, List, length}
 use base.{Fraction.{full_share}, Fml.{Fml, fex}}
 use denote.RawPtr.{Ptr, lies_at}
-use Rattle.tpm_stream.specs.{Frames.{IsFrame, Pushes, Advances}, declared.framer.Status.{Status, TheVariants.{More, Ready, Broken}}, contracts.framer.Framer.{the_row}}
+use Rattle.tpm_stream.specs.Frames.{IsFrame, Pushes, Advances}
+use Rattle.tpm_stream.specs.declared.framer.Status.TheVariants.{More, Ready, Broken}
+use Rattle.tpm_stream.specs.declared.framer.Status.{Status}
+use Rattle.tpm_stream.specs.contracts.framer.Framer.{the_row}
 use Rattle.tpm_c.specs.Written.{IsIn}
 
 -- the numbers of what a framer holds

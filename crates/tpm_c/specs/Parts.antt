@@ -1,8 +1,12 @@
 -- Parts of a buffer by their places in it, and its fault.
 use Rattle.std.specs.Prelude.{ℕ, nat_le, List, length, take, drop, Result, Err, if◌then◌else◌}
-use Rattle.tpm_wire.specs.{declared.refusal.Refusal.{Refusal}, Buffers.{Layout}, Token.{at_start}, Reading.{read, read_all}}
+use Rattle.tpm_wire.specs.declared.refusal.Refusal.{Refusal}
+use Rattle.tpm_wire.specs.Buffers.{Layout}
+use Rattle.tpm_wire.specs.Token.{at_start}
+use Rattle.tpm_wire.specs.Reading.{read, read_all}
 use Rattle.tpm_log.specs.Quotes.{left_over}
-use Rattle.tpm_c.specs.declared.part.{TpmPart.{TpmPart}, TpmRefusal.{TpmRefusal}}
+use Rattle.tpm_c.specs.declared.part.TpmPart.{TpmPart}
+use Rattle.tpm_c.specs.declared.part.TpmRefusal.{TpmRefusal}
 
 abbrev pub part : (at len : ℕ) → TpmPart
 part at len = record { at = at; len = len }

@@ -1,9 +1,15 @@
 -- The digest of a policy in C's memory.
-use Rattle.std.specs.Prelude.{◌≡◌, ℕ, Bool, true, false, ◌==◌, List, [], ◌++◌, length, take, drop, replicate, Option, Some, None, Result, Ok, Err}
+use Rattle.std.specs.Prelude.{◌≡◌, ℕ, Bool, true, false, ◌==◌, List, [], ◌++◌, length, take, drop, replicate, Option}
+use Rattle.std.specs.Prelude.{Some, None, Result, Ok, Err}
 use Rattle.tpm_wire.specs.declared.refusal.Refusal.{Refusal}
-use Rattle.tpm_types.specs.{declared.{alg.Alg.{Alg}, tpms.Selection.{Selection}}, Alg.{alg_of, digest_len}}
-use Rattle.tpm_model.specs.Policies.{Assertion, asserted, policy_digest, Assertion.{PcrAsserted}}
-use Rattle.tpm_c.specs.{declared.{part.TpmRefusal.{TpmRefusal}, policy.TpmPolicy.{TpmPolicy}}, Parts.{refusal_of}}
+use Rattle.tpm_types.specs.declared.alg.Alg.{Alg}
+use Rattle.tpm_types.specs.declared.tpms.Selection.{Selection}
+use Rattle.tpm_types.specs.Alg.{alg_of, digest_len}
+use Rattle.tpm_model.specs.Policies.Assertion.{PcrAsserted}
+use Rattle.tpm_model.specs.Policies.{Assertion, asserted, policy_digest}
+use Rattle.tpm_c.specs.declared.part.TpmRefusal.{TpmRefusal}
+use Rattle.tpm_c.specs.declared.policy.TpmPolicy.{TpmPolicy}
+use Rattle.tpm_c.specs.Parts.{refusal_of}
 
 -- the bytes of it that are the digest
 abbrev pub digest_in : Alg → TpmPolicy → List ℕ

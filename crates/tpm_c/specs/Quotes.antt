@@ -1,7 +1,10 @@
 -- What C is told of a quote.
 use Rattle.std.specs.Prelude.{◌≡◌, ◌≢◌, ◌⊎◌, ℕ, List, Option, Some, None, Result, Ok, Err}
-use Rattle.tpm_wire.specs.{declared.refusal.Refusal.{Refusal}, Path.{Spells, Fault}}
-use Rattle.tpm_types.specs.{declared.{alg.Alg.{Alg}, attest.QuoteInfo.{QuoteInfo}}, Attest.{quote_info}}
+use Rattle.tpm_wire.specs.declared.refusal.Refusal.{Refusal}
+use Rattle.tpm_wire.specs.Path.{Spells, Fault}
+use Rattle.tpm_types.specs.declared.alg.Alg.{Alg}
+use Rattle.tpm_types.specs.declared.attest.QuoteInfo.{QuoteInfo}
+use Rattle.tpm_types.specs.Attest.{quote_info}
 use Rattle.tpm_model.specs.Registers.{Registers, composite, value_in}
 use Rattle.tpm_log.specs.declared.fault.LogFault.{LogFault}
 use Rattle.tpm_c.specs.Logs.{IsFault}

@@ -2,9 +2,15 @@
 use Rattle.std.specs.Prelude.{◌≡◌, ◌⊎◌, ℕ, zero, suc, ◌+◌, List, [], ◌∷◌, length, Option, Some, None, slice_get}
 use Rattle.tpm_wire.specs.Path.{Spells, Fault}
 use Rattle.tpm_types.specs.declared.tpms.AuthReply.{AuthReply}
-use Rattle.tpm_commands.specs.{declared.{code.CommandCode.{CommandCode}, response.Response.{Response}}, Codes.{code_of}}
-use Rattle.tpm_buffer.specs.{Responses.{ReplyCut, reply_cut, response}, ResponseAreas.{handle_of, place_of_params}}
-use Rattle.tpm_c.specs.{declared.{part.TpmRefusal.{TpmRefusal}, response.{TpmResponseSession.{TpmResponseSession}, TpmResponseAreas.{TpmResponseAreas}}}, Parts.{part, bytes_in, OfThree, refusal_of}}
+use Rattle.tpm_commands.specs.declared.code.CommandCode.{CommandCode}
+use Rattle.tpm_commands.specs.declared.response.Response.{Response}
+use Rattle.tpm_commands.specs.Codes.{code_of}
+use Rattle.tpm_buffer.specs.Responses.{ReplyCut, reply_cut, response}
+use Rattle.tpm_buffer.specs.ResponseAreas.{handle_of, place_of_params}
+use Rattle.tpm_c.specs.declared.part.TpmRefusal.{TpmRefusal}
+use Rattle.tpm_c.specs.declared.response.TpmResponseSession.{TpmResponseSession}
+use Rattle.tpm_c.specs.declared.response.TpmResponseAreas.{TpmResponseAreas}
+use Rattle.tpm_c.specs.Parts.{part, bytes_in, OfThree, refusal_of}
 
 -- A session that begins at this place: the number of the nonce's bytes, the nonce, the attributes, the number of the HMAC's bytes,
 -- and the HMAC (Part 2, 10.13.3).

@@ -1,7 +1,8 @@
 -- The room that a value takes in memory of C's.
 use Rattle.std.specs.Prelude.{ℕ}
 use prog.Memory.{size, align, capped}
-use denote.{RattleType.{RattleType}, Param.{layout}}
+use denote.RattleType.{RattleType}
+use denote.Param.{layout}
 
 -- how many bytes a value of the type takes
 abbrev pub room_size : RattleType → ℕ

@@ -3,8 +3,11 @@
 ghost use Rattle.std.specs.Prelude.{◌≡◌, ◌==◌, ◌≤◌, length, Result};
 ghost use Rattle.tpm_types.specs.Alg.{alg_of};
 ghost use Rattle.tpm_model.specs.Registers.{value_in};
-ghost use Rattle.tpm_log.specs.{Changes.{AreAfter}, Replays.{Replays}};
-ghost use Rattle.tpm_c.specs.{Logs.{kind_number as kind_number_of}, Attests.{attest_view as attest_view_of, ViewsAttest, fault_at, IsTold, IsAttestCompared, required_in, IsRequired, IsAttestChecked}};
+ghost use Rattle.tpm_log.specs.Changes.{AreAfter};
+ghost use Rattle.tpm_log.specs.Replays.{Replays};
+ghost use Rattle.tpm_c.specs.Logs.{kind_number as kind_number_of};
+ghost use Rattle.tpm_c.specs.Attests.{attest_view as attest_view_of, ViewsAttest, fault_at, IsTold, IsAttestCompared};
+ghost use Rattle.tpm_c.specs.Attests.{required_in, IsRequired, IsAttestChecked};
 
 use crate::log::kind_number;
 use crate::part::{DONE, TpmPart, TpmRefusal, refuse, whole};

@@ -1,13 +1,22 @@
 //! A caller's session in the caller's memory (Part 1, "Session-Based Authorizations").
 
-ghost use Rattle.std.specs.{Prelude.{◌≡◌, ◌≤◌, true, length, take, [], ◌∷◌, Option, Some, None}, Borrow.{sem}};
+ghost use Rattle.std.specs.Prelude.{◌≡◌, ◌≤◌, true, length, take, [], ◌∷◌, Option, Some, None};
+ghost use Rattle.std.specs.Borrow.{sem};
 ghost use denote.RawPtr.{room_at};
 ghost use Rattle.tpm_wire.specs.Reading.{read_all};
 ghost use Rattle.tpm_types.specs.Limits.{digest_bytes, name_bytes};
-ghost use Rattle.tpm_commands.specs.{Codes.{code_number}, Handles.{needs_authorization}};
-ghost use Rattle.tpm_buffer.specs.{Commands.{command as command_layout, code_for, handles_of}, Responses.{response}};
+ghost use Rattle.tpm_commands.specs.Codes.{code_number};
+ghost use Rattle.tpm_commands.specs.Handles.{needs_authorization};
+ghost use Rattle.tpm_buffer.specs.Commands.{command as command_layout, code_for, handles_of};
+ghost use Rattle.tpm_buffer.specs.Responses.{response};
 ghost use Rattle.tpm_caller.specs.Sent.{sent};
-ghost use Rattle.tpm_c.specs.{declared.caller.Held.{Held as HeldOf, TheVariants.{Spent}}, contracts.caller.Held.{the_row}, Written.{IsIn}, Callers.{held_at, request_in, start_reply_in, started_by, start_code, after_start, fault_number, open_code, kept, after_open, give_up_code, after_give_up, names_of, body_in, are_short, do_fit, seal_of, sealing, sealed_bytes, after_seal}};
+ghost use Rattle.tpm_c.specs.declared.caller.Held.TheVariants.{Spent};
+ghost use Rattle.tpm_c.specs.declared.caller.Held.{Held as HeldOf};
+ghost use Rattle.tpm_c.specs.contracts.caller.Held.{the_row};
+ghost use Rattle.tpm_c.specs.Written.{IsIn};
+ghost use Rattle.tpm_c.specs.Callers.{held_at, request_in, start_reply_in, started_by, start_code, after_start};
+ghost use Rattle.tpm_c.specs.Callers.{fault_number, open_code, kept, after_open, give_up_code, after_give_up, names_of};
+ghost use Rattle.tpm_c.specs.Callers.{body_in, are_short, do_fit, seal_of, sealing, sealed_bytes, after_seal};
 
 use crate::out::{BUFFER_BYTES, put};
 use arrayvec::ArrayVec;

@@ -2,7 +2,8 @@
 
 ghost use Rattle.std.specs.Prelude.{◌≡◌, ◌≤◌, ◌+◌, ◌∷◌, [], option_map};
 ghost use Rattle.tpm_commands.specs.Handles.{first, second};
-ghost use Rattle.tpm_c.specs.CommandViews.{session_view, behind as behind_of, first_place as first_place_of, session_views, command_view, ViewsCommand, JudgesCommand};
+ghost use Rattle.tpm_c.specs.CommandViews.{session_view, behind as behind_of, first_place as first_place_of};
+ghost use Rattle.tpm_c.specs.CommandViews.{session_views, command_view, ViewsCommand, JudgesCommand};
 
 use crate::part::{DONE, NO_PART, TpmPart, TpmRefusal, refuse};
 use tpm_buffer::{Areas, AuthRef, areas, decode_command};

@@ -1,10 +1,12 @@
 //! A device in the caller's memory.
 
-ghost use Rattle.std.specs.{Prelude.{◌≡◌, ◌≤◌, [], ◌∷◌, length}, Borrow.{sem}};
+ghost use Rattle.std.specs.Prelude.{◌≡◌, ◌≤◌, [], ◌∷◌, length};
+ghost use Rattle.std.specs.Borrow.{sem};
 ghost use Rattle.tpm_types.specs.Limits.{digest_bytes};
 ghost use Rattle.tpm_model.specs.Steps.{History, Origin, PowerCycle};
 ghost use Rattle.tpm_device.specs.Stands.{Stands};
-ghost use Rattle.tpm_c.specs.{Written.{IsIn}, Devices.{device_at, room_for, made_at, whether_fits, after, written, IsAnswered}};
+ghost use Rattle.tpm_c.specs.Written.{IsIn};
+ghost use Rattle.tpm_c.specs.Devices.{device_at, room_for, made_at, whether_fits, after, written, IsAnswered};
 
 use crate::out::{BUFFER_BYTES, put};
 use tpm_device::Device;

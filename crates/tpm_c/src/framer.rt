@@ -1,8 +1,11 @@
 //! A framer in the caller's memory (Part 1, "Command/Response Structure": a buffer states its size).
 
-ghost use Rattle.std.specs.{Prelude.{◌≡◌, ℕ, List, []}, Borrow.{sem}};
+ghost use Rattle.std.specs.Prelude.{◌≡◌, ℕ, List, []};
+ghost use Rattle.std.specs.Borrow.{sem};
 ghost use denote.RawPtr.{room_at};
-ghost use Rattle.tpm_stream.specs.{Frames.{Pushes, Advances}, declared.framer.Status.{Status as StatusOf}, contracts.framer.Framer.{the_row}};
+ghost use Rattle.tpm_stream.specs.Frames.{Pushes, Advances};
+ghost use Rattle.tpm_stream.specs.declared.framer.Status.{Status as StatusOf};
+ghost use Rattle.tpm_stream.specs.contracts.framer.Framer.{the_row};
 ghost use Rattle.tpm_c.specs.Framers.{framer_at, next_at, pushed_at, status_number, FrameIn};
 
 use crate::out::put;

@@ -2,7 +2,8 @@
 
 ghost use Rattle.std.specs.Prelude.{◌≡◌, List};
 ghost use Rattle.tpm_wire.specs.Reading.{read_all};
-ghost use Rattle.tpm_types.specs.{Alg.{alg_of, digest_len}, Tpml.{selections as selections_layout, or_digests}};
+ghost use Rattle.tpm_types.specs.Alg.{alg_of, digest_len};
+ghost use Rattle.tpm_types.specs.Tpml.{selections as selections_layout, or_digests};
 ghost use Rattle.tpm_model.specs.Policies.Assertion.{OrAsserted, CodeAsserted, AuthValueAsserted};
 ghost use Rattle.tpm_session.specs.Policies.{as_assertion};
 ghost use Rattle.tpm_c.specs.Policies.{IsEmpty, IsAsserted, IsSpelled, IsPcrAsserted, of_registers, with_digest};

@@ -1,7 +1,8 @@
 //! A response's verdict, and its areas by their places in its bytes.
 
 ghost use Rattle.std.specs.Prelude.{◌≡◌, ◌≤◌, ◌+◌};
-ghost use Rattle.tpm_c.specs.ResponseViews.{session_view, behind as behind_of, place, session_views, count_of, number_of, response_view, ViewsResponse, JudgesResponse};
+ghost use Rattle.tpm_c.specs.ResponseViews.{session_view, behind as behind_of, place, session_views, count_of};
+ghost use Rattle.tpm_c.specs.ResponseViews.{number_of, response_view, ViewsResponse, JudgesResponse};
 
 use crate::part::{DONE, NO_COMMAND, NO_PART, TpmPart, TpmRefusal, refuse};
 use tpm_buffer::{CommandCode, ReplyAreas, ReplyRef, decode_response, reply_areas};

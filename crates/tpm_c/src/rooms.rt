@@ -4,7 +4,8 @@ ghost use Rattle.std.specs.Prelude.{◌≡◌};
 ghost use Rattle.tpm_device.specs.contracts.device.Device.{the_row as device};
 ghost use Rattle.tpm_stream.specs.contracts.framer.Framer.{the_row as framer};
 ghost use Rattle.tpm_log.specs.contracts.pieces.LogReplay.{the_row as replay};
-ghost use Rattle.tpm_c.specs.{contracts.caller.Held.{the_row as held}, Rooms.{room_size, room_align}};
+ghost use Rattle.tpm_c.specs.contracts.caller.Held.{the_row as held};
+ghost use Rattle.tpm_c.specs.Rooms.{room_size, room_align};
 
 use crate::caller::Held;
 use tpm_buffer::Framer;

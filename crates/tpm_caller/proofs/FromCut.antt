@@ -1,16 +1,41 @@
 -- What the cut of a reply tells of the whole response.
-use Rattle.std.{proofs.{Common.{◌≡◌, ◌≢◌, ℕ, Bool, true, false, List, [], ◌∷◌, length, take, Ok, Some, None, Option, refl, sym, ap, ◌∙◌, subst}, lemmas.{Bool.{eq-eqb}, List.{nil_from_length}}}, specs.Prelude.{◌==◌, if◌then◌else◌}}
-use Rattle.tpm_wire.{specs.{declared.refusal.Refusal.{Refusal}, Buffers.{buffer, Layout}, Layout.{either, raw, Form.{done, field, area}}, Token.{Here, past, at_start}, Reading.{read, read_all, refuse, unless, ◌>>=◌}, ResponseCodes.{rc_size}, Path.{Spells}}, proofs.{Agreement.{bind_ok}, Buffers.{buffer_sound}, Whole.{spells_read}}}
+use Rattle.std.proofs.Common.{◌≡◌, ◌≢◌, ℕ, Bool, true, false, List, [], ◌∷◌, length, take, Ok, Some, None, Option, refl}
+use Rattle.std.proofs.Common.{sym, ap, ◌∙◌, subst}
+use Rattle.std.proofs.lemmas.Bool.{eq-eqb}
+use Rattle.std.proofs.lemmas.List.{nil_from_length}
+use Rattle.std.specs.Prelude.{◌==◌, if◌then◌else◌}
+use Rattle.tpm_wire.specs.declared.refusal.Refusal.{Refusal}
+use Rattle.tpm_wire.specs.Buffers.{buffer, Layout}
+use Rattle.tpm_wire.specs.Layout.Form.{done, field, area}
+use Rattle.tpm_wire.specs.Layout.{either, raw}
+use Rattle.tpm_wire.specs.Token.{Here, past, at_start}
+use Rattle.tpm_wire.specs.Reading.{read, read_all, refuse, unless, ◌>>=◌}
+use Rattle.tpm_wire.specs.ResponseCodes.{rc_size}
+use Rattle.tpm_wire.specs.Path.{Spells}
+use Rattle.tpm_wire.proofs.Agreement.{bind_ok}
+use Rattle.tpm_wire.proofs.Buffers.{buffer_sound}
+use Rattle.tpm_wire.proofs.Whole.{spells_read}
 use Rattle.tpm_types.specs.declared.tpms.AuthReply.{AuthReply}
-use Rattle.tpm_commands.specs.{declared.{code.CommandCode.{CommandCode}, response.{ReplyBody.{ReplyBody}, Response.{Response}}}, Handles.{needs_authorization}, Replies.{reply_handles, reply_parameters}}
+use Rattle.tpm_commands.specs.declared.code.CommandCode.{CommandCode}
+use Rattle.tpm_commands.specs.declared.response.ReplyBody.{ReplyBody}
+use Rattle.tpm_commands.specs.declared.response.Response.{Response}
+use Rattle.tpm_commands.specs.Handles.{needs_authorization}
+use Rattle.tpm_commands.specs.Replies.{reply_handles, reply_parameters}
 use Rattle.tpm_commands.specs.declared.code.CommandCode.TheVariants as codes
 use Rattle.tpm_commands.specs.declared.response.ReplyBody.TheVariants as replies
 use Rattle.tpm_commands.specs.declared.response.Response.TheVariants as responses
-use Rattle.tpm_buffer.specs.Responses.{parameter_size, reply_sessions, Reply, with_sessions, without_sessions, reply_behind, reply, reply_of, done_with, behind_code, response, ReplyCut, raw_with_sessions, cut_behind_code, reply_cut}
+use Rattle.tpm_buffer.specs.Responses.{parameter_size, reply_sessions, Reply, with_sessions, without_sessions}
+use Rattle.tpm_buffer.specs.Responses.{reply_behind, reply, reply_of, done_with, behind_code, response, ReplyCut}
+use Rattle.tpm_buffer.specs.Responses.{raw_with_sessions, cut_behind_code, reply_cut}
 use Rattle.tpm_hmac.specs.Hmac.{hmac}
-use Rattle.tpm_model.{specs.{Answers.{reply_params}, Callers.{WrongMac, Waiting, opened_response}}, proofs.{Sealing.{okay, okay_is}, ReplySessions.{goes_on, no_handles, from_start, fronted, fronted_too}}}
+use Rattle.tpm_model.specs.Answers.{reply_params}
+use Rattle.tpm_model.specs.Callers.{WrongMac, Waiting, opened_response}
+use Rattle.tpm_model.proofs.Sealing.{okay, okay_is}
+use Rattle.tpm_model.proofs.ReplySessions.{goes_on, no_handles, from_start, fronted, fronted_too}
 use Rattle.tpm_caller.specs.declared.waiting.CallerFault.TheVariants as faults
-use Rattle.tpm_caller.{specs.Sent.{has_no_params}, proofs.{Opening.{HasMac, FirstFault, only, other_mac}, ReplyParams.{without_auths, raw_behind}}}
+use Rattle.tpm_caller.specs.Sent.{has_no_params}
+use Rattle.tpm_caller.proofs.Opening.{HasMac, FirstFault, only, other_mac}
+use Rattle.tpm_caller.proofs.ReplyParams.{without_auths, raw_behind}
 
 -- ---- a reply without parameters
 

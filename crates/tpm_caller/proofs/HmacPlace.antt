@@ -1,13 +1,34 @@
 -- Where the HMAC of a sealed command lies: right before the parameters.
-use Rattle.std.{proofs.{Common.{◌≡◌, ◌⊎◌, ℕ, ◌+◌, ◌-◌, ◌*◌, ◌^◌, ◌≤◌, ◌<◌, true, Some, None, List, [], ◌∷◌, ◌++◌, length, take, drop, refl, sym, ap, ◌∙◌, subst, arith, append_assoc, length-append}, lemmas.List.{append-nil, take_at, drop_at}}, specs.{Prelude.{nat_le, if◌then◌else◌}, Int.{bytes_high_first}}}
-use Rattle.tpm_wire.specs.{Spelling.{spelling, Fits}, Structures.{sized_bytes}}
-use Rattle.tpm_types.specs.{declared.tpms.Auth.{Auth}, Handles.{auth_session}, Tpma.{session_attrs}, Tpms.{auth_command}, Limits.{digest_bytes}, Alg.{digest_len}}
-use Rattle.tpm_commands.specs.{declared.{command.{CommandBody.{CommandBody}, Header.{Header}, Command.{Command}}, code.CommandCode.{CommandCode}}, Codes.{command_code, code_number}, Handles.{handles}, Parameters.{parameters}}
+use Rattle.std.proofs.Common.{◌≡◌, ◌⊎◌, ℕ, ◌+◌, ◌-◌, ◌*◌, ◌^◌, ◌≤◌, ◌<◌, true, Some, None, List, [], ◌∷◌, ◌++◌, length}
+use Rattle.std.proofs.Common.{take, drop, refl, sym, ap, ◌∙◌, subst, arith, append_assoc, length-append}
+use Rattle.std.proofs.lemmas.List.{append-nil, take_at, drop_at}
+use Rattle.std.specs.Prelude.{nat_le, if◌then◌else◌}
+use Rattle.std.specs.Int.{bytes_high_first}
+use Rattle.tpm_wire.specs.Spelling.{spelling, Fits}
+use Rattle.tpm_wire.specs.Structures.{sized_bytes}
+use Rattle.tpm_types.specs.declared.tpms.Auth.{Auth}
+use Rattle.tpm_types.specs.Handles.{auth_session}
+use Rattle.tpm_types.specs.Tpma.{session_attrs}
+use Rattle.tpm_types.specs.Tpms.{auth_command}
+use Rattle.tpm_types.specs.Limits.{digest_bytes}
+use Rattle.tpm_types.specs.Alg.{digest_len}
+use Rattle.tpm_commands.specs.declared.command.CommandBody.{CommandBody}
+use Rattle.tpm_commands.specs.declared.command.Header.{Header}
+use Rattle.tpm_commands.specs.declared.command.Command.{Command}
+use Rattle.tpm_commands.specs.declared.code.CommandCode.{CommandCode}
+use Rattle.tpm_commands.specs.Codes.{command_code, code_number}
+use Rattle.tpm_commands.specs.Handles.{handles}
+use Rattle.tpm_commands.specs.Parameters.{parameters}
 use Rattle.tpm_commands.specs.declared.command.CommandBody.TheVariants as bodies
-use Rattle.tpm_buffer.specs.Commands.{tag, command_size, header, sessions, authorization_size, authorization, code_for, handles_of, params_of, with_auths, rest_of, size_of, header_of, command}
-use Rattle.tpm_hmac.{specs.{Hmac.{hmac}, Sessions.{whole_key, cp_hash, mac_text}}, proofs.DigestLengths.{length-hmac}}
-use Rattle.tpm_model.specs.{Callers.{Seal, attrs_for, command_params, seal_key, seal_text, seal_auth, sealed}, Premises.{HasSpelling}}
-use Rattle.tpm_caller.{specs.Sent.{hmac_key, hmac_at, with_hmac}, proofs.Keys.{one_hmac}}
+use Rattle.tpm_buffer.specs.Commands.{tag, command_size, header, sessions, authorization_size, authorization, code_for}
+use Rattle.tpm_buffer.specs.Commands.{handles_of, params_of, with_auths, rest_of, size_of, header_of, command}
+use Rattle.tpm_hmac.specs.Hmac.{hmac}
+use Rattle.tpm_hmac.specs.Sessions.{whole_key, cp_hash, mac_text}
+use Rattle.tpm_hmac.proofs.DigestLengths.{length-hmac}
+use Rattle.tpm_model.specs.Callers.{Seal, attrs_for, command_params, seal_key, seal_text, seal_auth, sealed}
+use Rattle.tpm_model.specs.Premises.{HasSpelling}
+use Rattle.tpm_caller.specs.Sent.{hmac_key, hmac_at, with_hmac}
+use Rattle.tpm_caller.proofs.Keys.{one_hmac}
 
 -- ---- the parts of a command with one session
 

@@ -1,12 +1,16 @@
 -- A key that is kept as its digest opens what the key itself would open.
 use Rattle.std.proofs.Common.{◌≡◌, ℕ, List, [], ◌∷◌, Result, Ok, Err, refl}
-use Rattle.tpm_wire.specs.{declared.refusal.Refusal.{Refusal}, Reading.{read_all}}
+use Rattle.tpm_wire.specs.declared.refusal.Refusal.{Refusal}
+use Rattle.tpm_wire.specs.Reading.{read_all}
 use Rattle.tpm_types.specs.declared.tpms.AuthReply.{AuthReply}
-use Rattle.tpm_commands.specs.declared.response.{ReplyBody.{ReplyBody}, Response.{Response}}
+use Rattle.tpm_commands.specs.declared.response.ReplyBody.{ReplyBody}
+use Rattle.tpm_commands.specs.declared.response.Response.{Response}
 use Rattle.tpm_commands.specs.declared.response.Response.TheVariants as responses
 use Rattle.tpm_buffer.specs.Responses.{response}
-use Rattle.tpm_model.specs.Callers.{Waiting, awaited_text, opened_session, opened_response, opened, caller_of_refusal, given_up}
-use Rattle.tpm_caller.{specs.Sent.{with_hmac_key}, proofs.Keys.{one_hmac}}
+use Rattle.tpm_model.specs.Callers.{Waiting, awaited_text, opened_session, opened_response, opened, caller_of_refusal}
+use Rattle.tpm_model.specs.Callers.{given_up}
+use Rattle.tpm_caller.specs.Sent.{with_hmac_key}
+use Rattle.tpm_caller.proofs.Keys.{one_hmac}
 
 one_session : (w : Waiting) (body : ReplyBody) (auths : List AuthReply) → opened_session (with_hmac_key w) body auths ≡ opened_session w body auths
 one_session w body [] = refl

@@ -1,7 +1,13 @@
 -- A key that is longer than a block may be hashed first.
-use Rattle.std.{proofs.{Common.{◌≡◌, ℕ, ◌≤◌, Bool, true, false, List, length, refl, arith}, lemmas.Bool.Decides.{nat_tests}}, specs.Prelude.{nat_lt, if◌then◌else◌}}
-use Rattle.tpm_types.{specs.{declared.alg.Alg.{Alg}, Alg.{block_len}}, proofs.Algs.{digest_fits}}
-use Rattle.tpm_hmac.{specs.{Hashes.{digest}, Hmac.{filled, block_key, hmac}}, proofs.DigestLengths.{length-digest}}
+use Rattle.std.proofs.Common.{◌≡◌, ℕ, ◌≤◌, Bool, true, false, List, length, refl, arith}
+use Rattle.std.proofs.lemmas.Bool.Decides.{nat_tests}
+use Rattle.std.specs.Prelude.{nat_lt, if◌then◌else◌}
+use Rattle.tpm_types.specs.declared.alg.Alg.{Alg}
+use Rattle.tpm_types.specs.Alg.{block_len}
+use Rattle.tpm_types.proofs.Algs.{digest_fits}
+use Rattle.tpm_hmac.specs.Hashes.{digest}
+use Rattle.tpm_hmac.specs.Hmac.{filled, block_key, hmac}
+use Rattle.tpm_hmac.proofs.DigestLengths.{length-digest}
 use Rattle.tpm_caller.specs.Sent.{hmac_key}
 
 not_longer : (a : Alg) (key : List ℕ) → nat_lt (block_len a) (length (digest a key)) ≡ false

@@ -1,13 +1,38 @@
 -- What a caller finds in the bytes of a reply.
-use Rattle.std.{proofs.{Common.{◌≡◌, ◌≢◌, ◌↔◌, ℕ, Bool, List, [], ◌∷◌, length, Result, Ok, Err, Some, Option, true, false, refl, sym, ap, ◌∙◌, subst, arith}, lemmas.{Bool.{eq-eqb, ne_eqb}, List.{append-nil}, Slice.Eq.{bytes_eq-Decides}}}, specs.Prelude.{slice_get, bytes_eq}}
-use Rattle.tpm_wire.{specs.{declared.refusal.Refusal.{Refusal}, Buffers.{buffer}, Path.{Spells, Fault}, Reading.{read_all}, Spelling.{spelling}}, proofs.{Buffers.{buffer_sound}, Whole.{exactly_one, spells_read, fault_read}}}
-use Rattle.tpm_types.specs.declared.{alg.Alg.{Alg}, tpms.AuthReply.{AuthReply}}
-use Rattle.tpm_commands.specs.{declared.{code.CommandCode.{CommandCode}, response.{ReplyBody.{ReplyBody}, Response.{Response}}}, Codes.{code_number}, Handles.{needs_authorization}}
-use Rattle.tpm_buffer.{specs.Responses.{response, done_with, ReplyCut, reply_cut}, proofs.Parted.{has_areas}}
-use Rattle.tpm_hmac.specs.{Hmac.{hmac}, Sessions.{whole_key, rp_hash, mac_text}}
-use Rattle.tpm_model.{specs.{Answers.{reply_params}, InStep.{CallerSession}, Callers.{NotExpected, WrongMac, Waiting, Opened, awaited_text, opened_session, opened_response, opened}}, proofs.RoundTrip.{open_is}}
+use Rattle.std.proofs.Common.{◌≡◌, ◌≢◌, ◌↔◌, ℕ, Bool, List, [], ◌∷◌, length, Result, Ok, Err, Some, Option, true, false}
+use Rattle.std.proofs.Common.{refl, sym, ap, ◌∙◌, subst, arith}
+use Rattle.std.proofs.lemmas.Bool.{eq-eqb, ne_eqb}
+use Rattle.std.proofs.lemmas.List.{append-nil}
+use Rattle.std.proofs.lemmas.Slice.Eq.{bytes_eq-Decides}
+use Rattle.std.specs.Prelude.{slice_get, bytes_eq}
+use Rattle.tpm_wire.specs.declared.refusal.Refusal.{Refusal}
+use Rattle.tpm_wire.specs.Buffers.{buffer}
+use Rattle.tpm_wire.specs.Path.{Spells, Fault}
+use Rattle.tpm_wire.specs.Reading.{read_all}
+use Rattle.tpm_wire.specs.Spelling.{spelling}
+use Rattle.tpm_wire.proofs.Buffers.{buffer_sound}
+use Rattle.tpm_wire.proofs.Whole.{exactly_one, spells_read, fault_read}
+use Rattle.tpm_types.specs.declared.alg.Alg.{Alg}
+use Rattle.tpm_types.specs.declared.tpms.AuthReply.{AuthReply}
+use Rattle.tpm_commands.specs.declared.code.CommandCode.{CommandCode}
+use Rattle.tpm_commands.specs.declared.response.ReplyBody.{ReplyBody}
+use Rattle.tpm_commands.specs.declared.response.Response.{Response}
+use Rattle.tpm_commands.specs.Codes.{code_number}
+use Rattle.tpm_commands.specs.Handles.{needs_authorization}
+use Rattle.tpm_buffer.specs.Responses.{response, done_with, ReplyCut, reply_cut}
+use Rattle.tpm_buffer.proofs.Parted.{has_areas}
+use Rattle.tpm_hmac.specs.Hmac.{hmac}
+use Rattle.tpm_hmac.specs.Sessions.{whole_key, rp_hash, mac_text}
+use Rattle.tpm_model.specs.Answers.{reply_params}
+use Rattle.tpm_model.specs.InStep.{CallerSession}
+use Rattle.tpm_model.specs.Callers.{NotExpected, WrongMac, Waiting, Opened, awaited_text, opened_session}
+use Rattle.tpm_model.specs.Callers.{opened_response, opened}
+use Rattle.tpm_model.proofs.RoundTrip.{open_is}
 use Rattle.tpm_model.specs.Callers as model
-use Rattle.tpm_caller.{specs.{declared.waiting.CallerFault.{CallerFault}, Sent.{caller_with, IsSpelledBy}, Faults.{fault_of, opening_of}}, proofs.ReplyParams.{params_are}}
+use Rattle.tpm_caller.specs.declared.waiting.CallerFault.{CallerFault}
+use Rattle.tpm_caller.specs.Sent.{caller_with, IsSpelledBy}
+use Rattle.tpm_caller.specs.Faults.{fault_of, opening_of}
+use Rattle.tpm_caller.proofs.ReplyParams.{params_are}
 use Rattle.tpm_caller.specs.declared.waiting.CallerFault.TheVariants as faults
 
 -- ---- the cut of a reply

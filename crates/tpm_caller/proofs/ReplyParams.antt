@@ -1,11 +1,38 @@
 -- The parameters of a reply as they came are the spelling of those that were read.
-use Rattle.std.{proofs.{Common.{◌≡◌, ℕ, ◌+◌, ◌-◌, ◌≤◌, ◌<◌, ◌^◌, List, [], ◌∷◌, ◌++◌, length, take, drop, Ok, Some, None, Bool, true, false, refl, sym, ap, ◌∙◌, subst, arith, length-append, length-drop}, lemmas.{Bool.{eqb-true, leb-true}, List.{take_at}}}, specs.Prelude.{◌==◌, ◌&&◌, nat_le, if◌then◌else◌}}
-use Rattle.tpm_wire.{specs.{declared.refusal.Refusal.{Refusal}, Buffers.{buffer, Layout}, Layout.{either, raw, remaining, Form.{done, field}}, Token.{Here, at_start, number_of, or_fault}, Reading.{read, read_all, ◌>>=◌}, Path.{Spells}, Spelling.{spelling}}, proofs.{Agreement.{bind_ok, number_ok}, Buffers.{buffer_sound}, Numbers.{number_of-bytes}, Whole.{spells_read}}}
+use Rattle.std.proofs.Common.{◌≡◌, ℕ, ◌+◌, ◌-◌, ◌≤◌, ◌<◌, ◌^◌, List, [], ◌∷◌, ◌++◌, length, take, drop, Ok, Some, None}
+use Rattle.std.proofs.Common.{Bool, true, false, refl, sym, ap, ◌∙◌, subst, arith, length-append, length-drop}
+use Rattle.std.proofs.lemmas.Bool.{eqb-true, leb-true}
+use Rattle.std.proofs.lemmas.List.{take_at}
+use Rattle.std.specs.Prelude.{◌==◌, ◌&&◌, nat_le, if◌then◌else◌}
+use Rattle.tpm_wire.specs.declared.refusal.Refusal.{Refusal}
+use Rattle.tpm_wire.specs.Buffers.{buffer, Layout}
+use Rattle.tpm_wire.specs.Layout.Form.{done, field}
+use Rattle.tpm_wire.specs.Layout.{either, raw, remaining}
+use Rattle.tpm_wire.specs.Token.{Here, at_start, number_of, or_fault}
+use Rattle.tpm_wire.specs.Reading.{read, read_all, ◌>>=◌}
+use Rattle.tpm_wire.specs.Path.{Spells}
+use Rattle.tpm_wire.specs.Spelling.{spelling}
+use Rattle.tpm_wire.proofs.Agreement.{bind_ok, number_ok}
+use Rattle.tpm_wire.proofs.Buffers.{buffer_sound}
+use Rattle.tpm_wire.proofs.Numbers.{number_of-bytes}
+use Rattle.tpm_wire.proofs.Whole.{spells_read}
 use Rattle.tpm_types.specs.declared.tpms.AuthReply.{AuthReply}
-use Rattle.tpm_commands.specs.{declared.{code.CommandCode.{CommandCode}, response.ReplyBody.{ReplyBody}}, Handles.{needs_authorization}, Replies.{code_for_reply, reply_handles, reply_handles_of}}
+use Rattle.tpm_commands.specs.declared.code.CommandCode.{CommandCode}
+use Rattle.tpm_commands.specs.declared.response.ReplyBody.{ReplyBody}
+use Rattle.tpm_commands.specs.Handles.{needs_authorization}
+use Rattle.tpm_commands.specs.Replies.{code_for_reply, reply_handles, reply_handles_of}
 use Rattle.tpm_commands.specs.declared.response.ReplyBody.TheVariants as replies
-use Rattle.tpm_buffer.{specs.{Commands.{command_size}, Responses.{is_response_tag, response_tag, response_front, parameter_size, reply_sessions, size_of_response, response, done_with, ReplyCut, raw_with_sessions, raw_without_sessions, cut_behind_code, reply_cut}}, proofs.{Places.{raw_is}, Parted.{answers}}}
-use Rattle.tpm_model.{specs.Answers.{reply_params}, proofs.{Sealing.{okay_is}, ReplySessions.{no_handles, from_start, fronted}, ReplyBytes.{session_text, reply_bytes, code_at, size_place}, Mixed.{one_reply}}}
+use Rattle.tpm_buffer.specs.Commands.{command_size}
+use Rattle.tpm_buffer.specs.Responses.{is_response_tag, response_tag, response_front, parameter_size, reply_sessions}
+use Rattle.tpm_buffer.specs.Responses.{size_of_response, response, done_with, ReplyCut, raw_with_sessions}
+use Rattle.tpm_buffer.specs.Responses.{raw_without_sessions, cut_behind_code, reply_cut}
+use Rattle.tpm_buffer.proofs.Places.{raw_is}
+use Rattle.tpm_buffer.proofs.Parted.{answers}
+use Rattle.tpm_model.specs.Answers.{reply_params}
+use Rattle.tpm_model.proofs.Sealing.{okay_is}
+use Rattle.tpm_model.proofs.ReplySessions.{no_handles, from_start, fronted}
+use Rattle.tpm_model.proofs.ReplyBytes.{session_text, reply_bytes, code_at, size_place}
+use Rattle.tpm_model.proofs.Mixed.{one_reply}
 use Rattle.tpm_caller.specs.Sent.{IsSpelledBy}
 
 -- ---- the parameters of a cut

@@ -1,13 +1,28 @@
 -- What is opened and what is not, by what the bytes spell.
-use Rattle.std.{proofs.{Common.{◌≡◌, ◌≢◌, ◌↔◌, ℕ, Bool, true, false, List, [], ◌∷◌, length, Result, Ok, Err, Some, Option, refl, sym, ap, ◌∙◌, subst}, lemmas.{Bool.{eqb-true, eq-eqb, both_ways}, Slice.Eq.{bytes_eq-Decides}}}, specs.Prelude.{◌==◌}}
-use Rattle.tpm_wire.{specs.{declared.refusal.Refusal.{Refusal}, Buffers.{buffer}, Path.{Spells, Fault}, Reading.{read_all, ◌>>=◌}}, proofs.{Buffers.{buffer_sound}, Whole.{spells_read, read_spells, fault_read, read_fault}}}
+use Rattle.std.proofs.Common.{◌≡◌, ◌≢◌, ◌↔◌, ℕ, Bool, true, false, List, [], ◌∷◌, length, Result, Ok, Err, Some, Option}
+use Rattle.std.proofs.Common.{refl, sym, ap, ◌∙◌, subst}
+use Rattle.std.proofs.lemmas.Bool.{eqb-true, eq-eqb, both_ways}
+use Rattle.std.proofs.lemmas.Slice.Eq.{bytes_eq-Decides}
+use Rattle.std.specs.Prelude.{◌==◌}
+use Rattle.tpm_wire.specs.declared.refusal.Refusal.{Refusal}
+use Rattle.tpm_wire.specs.Buffers.{buffer}
+use Rattle.tpm_wire.specs.Path.{Spells, Fault}
+use Rattle.tpm_wire.specs.Reading.{read_all, ◌>>=◌}
+use Rattle.tpm_wire.proofs.Buffers.{buffer_sound}
+use Rattle.tpm_wire.proofs.Whole.{spells_read, read_spells, fault_read, read_fault}
 use Rattle.tpm_types.specs.declared.tpms.AuthReply.{AuthReply}
-use Rattle.tpm_commands.specs.declared.response.{ReplyBody.{ReplyBody}, Response.{Response}}
+use Rattle.tpm_commands.specs.declared.response.ReplyBody.{ReplyBody}
+use Rattle.tpm_commands.specs.declared.response.Response.{Response}
 use Rattle.tpm_commands.specs.declared.response.Response.TheVariants as responses
 use Rattle.tpm_buffer.specs.Responses.{response, done_with}
 use Rattle.tpm_hmac.specs.Hmac.{hmac}
-use Rattle.tpm_model.{specs.{InStep.{CallerSession}, Callers.{CallerFault, Refused, Code, NotExpected, WrongMac, Waiting, Opened, awaited_text, has_mac, caller_after, unless, opened_session, opened_response, opened, caller_of_refusal, given_up}}, proofs.RoundTrip.{open_is}}
-use Rattle.tpm_caller.{specs.Opens.{IsOpened, IsNotExpected, HasWrongMac, IsGivenUp}, proofs.Opening.{other_length, other_mac, opened_is}}
+use Rattle.tpm_model.specs.InStep.{CallerSession}
+use Rattle.tpm_model.specs.Callers.{CallerFault, Refused, Code, NotExpected, WrongMac, Waiting, Opened, awaited_text}
+use Rattle.tpm_model.specs.Callers.{has_mac, caller_after, unless, opened_session, opened_response, opened}
+use Rattle.tpm_model.specs.Callers.{caller_of_refusal, given_up}
+use Rattle.tpm_model.proofs.RoundTrip.{open_is}
+use Rattle.tpm_caller.specs.Opens.{IsOpened, IsNotExpected, HasWrongMac, IsGivenUp}
+use Rattle.tpm_caller.proofs.Opening.{other_length, other_mac, opened_is}
 
 -- ---- what the bytes are, by what was answered
 

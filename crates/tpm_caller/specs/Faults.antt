@@ -1,7 +1,8 @@
 -- What opening and giving up answer.
 use Rattle.std.specs.Prelude.{Option, Some, None, Result, Ok, Err}
 use Rattle.tpm_commands.specs.declared.response.Response.{Response}
-use Rattle.tpm_model.specs.{InStep.{CallerSession}, Callers.{Opened, Refused, Code, NotExpected, WrongMac}}
+use Rattle.tpm_model.specs.InStep.{CallerSession}
+use Rattle.tpm_model.specs.Callers.{Opened, Refused, Code, NotExpected, WrongMac}
 use Rattle.tpm_model.specs.Callers as model
 use Rattle.tpm_caller.specs.declared.waiting.CallerFault.{CallerFault}
 use Rattle.tpm_caller.specs.declared.waiting.CallerFault.TheVariants as faults

@@ -6,7 +6,8 @@ use Rattle.tpm_commands.specs.declared.response.ReplyBody.{ReplyBody}
 use Rattle.tpm_commands.specs.declared.response.Response.TheVariants as responses
 use Rattle.tpm_buffer.specs.Responses.{response, done_with}
 use Rattle.tpm_hmac.specs.Hmac.{hmac}
-use Rattle.tpm_model.specs.{InStep.{CallerSession}, Callers.{Waiting, Opened, awaited_text, caller_after}}
+use Rattle.tpm_model.specs.InStep.{CallerSession}
+use Rattle.tpm_model.specs.Callers.{Waiting, Opened, awaited_text, caller_after}
 
 -- The bytes spell a response of code 0 to the command, with these sessions.
 abbrev pub SpellsReply : Waiting → List ℕ → ReplyBody → List AuthReply → Type 0

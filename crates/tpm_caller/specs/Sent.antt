@@ -1,12 +1,18 @@
 -- What is kept of a sealed command until its reply comes.
-use Rattle.std.specs.Prelude.{◌≡◌, ℕ, Bool, true, false, ◌+◌, ◌*◌, List, ◌++◌, length, take, drop, nat_lt, Option, Some, None, if◌then◌else◌}
-use Rattle.tpm_wire.specs.{Path.{Spells}, Spelling.{spelling}}
-use Rattle.tpm_types.specs.{declared.{tpms.AuthReply.{AuthReply}, alg.Alg.{Alg}}, Alg.{block_len}}
-use Rattle.tpm_commands.specs.declared.{code.CommandCode.{CommandCode}, response.ReplyBody.{ReplyBody}}
+use Rattle.std.specs.Prelude.{◌≡◌, ℕ, Bool, true, false, ◌+◌, ◌*◌, List, ◌++◌, length, take, drop, nat_lt, Option, Some}
+use Rattle.std.specs.Prelude.{None, if◌then◌else◌}
+use Rattle.tpm_wire.specs.Path.{Spells}
+use Rattle.tpm_wire.specs.Spelling.{spelling}
+use Rattle.tpm_types.specs.declared.tpms.AuthReply.{AuthReply}
+use Rattle.tpm_types.specs.declared.alg.Alg.{Alg}
+use Rattle.tpm_types.specs.Alg.{block_len}
+use Rattle.tpm_commands.specs.declared.code.CommandCode.{CommandCode}
+use Rattle.tpm_commands.specs.declared.response.ReplyBody.{ReplyBody}
 use Rattle.tpm_commands.specs.declared.code.CommandCode.TheVariants as codes
 use Rattle.tpm_buffer.specs.Responses.{response, done_with}
 use Rattle.tpm_hmac.specs.Hashes.{digest}
-use Rattle.tpm_model.specs.{InStep.{CallerSession}, Callers.{Seal, sealed, Waiting, waiting, with_nonce}}
+use Rattle.tpm_model.specs.InStep.{CallerSession}
+use Rattle.tpm_model.specs.Callers.{Seal, sealed, Waiting, waiting, with_nonce}
 
 -- a sealed command: its bytes, and what waits for the reply
 pub record Sent : Type 0 where

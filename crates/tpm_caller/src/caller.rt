@@ -1,11 +1,16 @@
 //! A session, as its caller holds it.
 
 ghost use Rattle.std.specs.Prelude.{◌≡◌, ◌∷◌, [], ◌+◌, ◌*◌, ◌≤◌, ◌++◌, true, length, take, drop};
-ghost use Rattle.tpm_types.specs.{declared.tpms.Auth.{Auth as AuthOf}, Alg.{digest_len}, Limits.{block_bytes, digest_bytes}};
-ghost use Rattle.tpm_commands.specs.{Codes.{code_number}, Handles.{needs_authorization}};
+ghost use Rattle.tpm_types.specs.declared.tpms.Auth.{Auth as AuthOf};
+ghost use Rattle.tpm_types.specs.Alg.{digest_len};
+ghost use Rattle.tpm_types.specs.Limits.{block_bytes, digest_bytes};
+ghost use Rattle.tpm_commands.specs.Codes.{code_number};
+ghost use Rattle.tpm_commands.specs.Handles.{needs_authorization};
 ghost use Rattle.tpm_buffer.specs.Commands.{code_for, handles_of};
-ghost use Rattle.tpm_hmac.specs.{Hmac.{hmac}, Sessions.{session_key as session_key_of, whole_key, cp_hash as cp_hash_of, mac_text}};
-ghost use Rattle.tpm_model.specs.{Callers.{started_with, bound_to, attrs_for as attrs_of, with_nonce}, Premises.{HasSpelling}};
+ghost use Rattle.tpm_hmac.specs.Hmac.{hmac};
+ghost use Rattle.tpm_hmac.specs.Sessions.{session_key as session_key_of, whole_key, cp_hash as cp_hash_of, mac_text};
+ghost use Rattle.tpm_model.specs.Callers.{started_with, bound_to, attrs_for as attrs_of, with_nonce};
+ghost use Rattle.tpm_model.specs.Premises.{HasSpelling};
 ghost use Rattle.tpm_caller.specs.Sent.{sent, hmac_key, hmac_at, with_hmac};
 
 use crate::pending::Pending;

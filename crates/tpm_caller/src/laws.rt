@@ -2,16 +2,31 @@
 //! is what is sent.
 
 ghost use Rattle.std.specs.Prelude.{◌≡◌, ◌≢◌, ◌↔◌, ◌≤◌, true, ℕ, List, [], ◌∷◌, ◌++◌, length, Some, Ok, Err};
-ghost use Rattle.tpm_wire.specs.{declared.refusal.Refusal.{Refusal}, Path.{Spells, Fault}};
+ghost use Rattle.tpm_wire.specs.declared.refusal.Refusal.{Refusal};
+ghost use Rattle.tpm_wire.specs.Path.{Spells, Fault};
 ghost use Rattle.tpm_types.specs.declared.handle_sets.BindHandle.TheVariants.{Owner};
 ghost use Rattle.tpm_commands.specs.declared.command.CommandBody.TheVariants as bodies;
-ghost use Rattle.tpm_commands.specs.{declared.{command.StartAuth.{StartAuth}, response.StartReply.{StartReply}}, Handles.{needs_authorization}};
+ghost use Rattle.tpm_commands.specs.declared.command.StartAuth.{StartAuth};
+ghost use Rattle.tpm_commands.specs.declared.response.StartReply.{StartReply};
+ghost use Rattle.tpm_commands.specs.Handles.{needs_authorization};
 ghost use Rattle.tpm_commands.specs.declared.response.ReplyBody.TheVariants as replies;
 ghost use Rattle.tpm_commands.specs.declared.response.Response.TheVariants as responses;
-ghost use Rattle.tpm_buffer.specs.{Commands.{command, code_for}, Responses.{response}};
+ghost use Rattle.tpm_buffer.specs.Commands.{command, code_for};
+ghost use Rattle.tpm_buffer.specs.Responses.{response};
 ghost use Rattle.tpm_hmac.specs.Sessions.{trim};
-ghost use Rattle.tpm_model.specs.{Steps.{History, Origin}, Present.{present}, Authorization.{check_evidence}, Answers.{Presented, presented, Done, outcome, answer, next}, InStep.{CallerSession, InStep}, Callers.{started_with, Seal, sealed_command, Waiting, Refused, Code, NotExpected, WrongMac, Opened, opened, given_up}, Runs.{Event, after, Event.{Given}}, Premises.{IsAccepted, NoncesDiffer, nonce_bytes, most_nonce, IsReady, rolled, opened_as, IsAmong, Opening, IsOfCallers}};
-ghost use Rattle.tpm_caller.specs.{Sent.{with_hmac_key, sent}, Opens.{IsOpened, IsNotExpected, HasWrongMac, IsGivenUp}};
+ghost use Rattle.tpm_model.specs.Steps.{History, Origin};
+ghost use Rattle.tpm_model.specs.Present.{present};
+ghost use Rattle.tpm_model.specs.Authorization.{check_evidence};
+ghost use Rattle.tpm_model.specs.Answers.{Presented, presented, Done, outcome, answer, next};
+ghost use Rattle.tpm_model.specs.InStep.{CallerSession, InStep};
+ghost use Rattle.tpm_model.specs.Callers.{started_with, Seal, sealed_command, Waiting, Refused, Code, NotExpected};
+ghost use Rattle.tpm_model.specs.Callers.{WrongMac, Opened, opened, given_up};
+ghost use Rattle.tpm_model.specs.Runs.Event.{Given};
+ghost use Rattle.tpm_model.specs.Runs.{Event, after};
+ghost use Rattle.tpm_model.specs.Premises.{IsAccepted, NoncesDiffer, nonce_bytes, most_nonce, IsReady, rolled};
+ghost use Rattle.tpm_model.specs.Premises.{opened_as, IsAmong, Opening, IsOfCallers};
+ghost use Rattle.tpm_caller.specs.Sent.{with_hmac_key, sent};
+ghost use Rattle.tpm_caller.specs.Opens.{IsOpened, IsNotExpected, HasWrongMac, IsGivenUp};
 
 /// What is opened, in the words of tokens: the one session of a response of code 0 has a nonceTPM of the session's length and the
 /// HMAC of that nonceTPM, the command's nonceCaller and the response's attributes. What is not is the first of the four faults.

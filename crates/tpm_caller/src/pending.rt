@@ -1,11 +1,15 @@
 //! What is kept of a sealed command until its reply comes.
 
-ghost use Rattle.std.specs.{Prelude.{◌≡◌, ◌≤◌, ◌<◌, ◌^◌, ◌++◌, ℕ, true, List, length, Some, None, Ok, Err, IfOk, IfErr, if◌then◌else◌}, Int.{bytes_high_first}};
-ghost use Rattle.tpm_types.specs.{Limits.{digest_bytes}, declared.tpms.AuthReply.{AuthReply}};
+ghost use Rattle.std.specs.Prelude.{◌≡◌, ◌≤◌, ◌<◌, ◌^◌, ◌++◌, ℕ, true, List, length, Some, None, Ok, Err, IfOk, IfErr};
+ghost use Rattle.std.specs.Prelude.{if◌then◌else◌};
+ghost use Rattle.std.specs.Int.{bytes_high_first};
+ghost use Rattle.tpm_types.specs.Limits.{digest_bytes};
+ghost use Rattle.tpm_types.specs.declared.tpms.AuthReply.{AuthReply};
 ghost use Rattle.tpm_commands.specs.declared.response.ReplyBody.{ReplyBody};
 ghost use Rattle.tpm_buffer.specs.Responses.{code_tag, done_with};
 ghost use Rattle.tpm_model.specs.Callers.{CallerFault as Fault, opened, opened_session, given_up};
-ghost use Rattle.tpm_caller.specs.{Faults.{fault_of, opening_of, giving_up_of}, Sent.{caller_with, has_no_params as has_no_params_of, IsSpelledBy}};
+ghost use Rattle.tpm_caller.specs.Faults.{fault_of, opening_of, giving_up_of};
+ghost use Rattle.tpm_caller.specs.Sent.{caller_with, has_no_params as has_no_params_of, IsSpelledBy};
 
 use crate::caller::Caller;
 use crate::waiting::CallerFault;

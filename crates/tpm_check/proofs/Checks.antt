@@ -1,11 +1,24 @@
 -- What is printed of a log, a list of registers and a quote.
-use Rattle.std.{proofs.Common.{◌≡◌, ℕ, Bool, List, ◌++◌, Option, Some, None, Result, Ok, Err, refl, subst, inl, inr}, specs.Prelude.{IsErrOf}}
+use Rattle.std.proofs.Common.{◌≡◌, ℕ, Bool, List, ◌++◌, Option, Some, None, Result, Ok, Err, refl, subst, inl, inr}
+use Rattle.std.specs.Prelude.{IsErrOf}
 use Rattle.tpm_wire.specs.Sources.{one_more, IsWhereItFailed}
 use Rattle.tpm_types.specs.declared.alg.Alg.{Alg}
-use Rattle.tpm_log.specs.{declared.fault.{LogFault.{LogFault}, LogFaultKind.{LogFaultKind}}, Records.{LogRecord}, Replays.{ReplaysFrom, OnDevice}, Takes.{IsOfBytes}}
+use Rattle.tpm_log.specs.declared.fault.LogFault.{LogFault}
+use Rattle.tpm_log.specs.declared.fault.LogFaultKind.{LogFaultKind}
+use Rattle.tpm_log.specs.Records.{LogRecord}
+use Rattle.tpm_log.specs.Replays.{ReplaysFrom, OnDevice}
+use Rattle.tpm_log.specs.Takes.{IsOfBytes}
 use Rattle.tpm_log.specs.declared.fault.LogFaultKind.TheVariants as kinds
-use Rattle.tpm_text.specs.{declared.{fault.ToolFault.{ToolFault, TheVariants.{Read, InputTooLong}}, status.Status.{Status, TheVariants.{Refused}}}, Status.{both}, Faults.{FailsByMemoryOrWrite}, InputLines.{CountsRead}, Text.{bytes_in}}
-use Rattle.tpm_check.specs.{Compare.{Values, comparison}, Check.{ChecksQuote, ChecksBehind, ChecksValues, CountsList, CountsReads, FailsLast, IsSame}}
+use Rattle.tpm_text.specs.declared.fault.ToolFault.TheVariants.{Read, InputTooLong}
+use Rattle.tpm_text.specs.declared.fault.ToolFault.{ToolFault}
+use Rattle.tpm_text.specs.declared.status.Status.TheVariants.{Refused}
+use Rattle.tpm_text.specs.declared.status.Status.{Status}
+use Rattle.tpm_text.specs.Status.{both}
+use Rattle.tpm_text.specs.Faults.{FailsByMemoryOrWrite}
+use Rattle.tpm_text.specs.InputLines.{CountsRead}
+use Rattle.tpm_text.specs.Text.{bytes_in}
+use Rattle.tpm_check.specs.Compare.{Values, comparison}
+use Rattle.tpm_check.specs.Check.{ChecksQuote, ChecksBehind, ChecksValues, CountsList, CountsReads, FailsLast, IsSame}
 
 -- ---- a list
 

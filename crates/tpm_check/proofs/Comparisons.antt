@@ -1,9 +1,35 @@
 -- Lists of registers that are compared one part after the other.
-use Rattle.std.{proofs.{Common.{◌≡◌, ℕ, Bool, true, ◌+◌, ◌<◌, ◌≤◌, false, List, [], ◌∷◌, ◌++◌, length, Option, Some, None, option_map, refl, sym, ap, subst, ◌∙◌, inl, inr, arith, append_assoc, length-append, position}, lemmas.{List.{append-nil, Quantifiers.{position-Some}}, Bool.{lt-ltb}}}, specs.{Prelude.{suc, nat_eq, IfSome, ◌≢◌}, Str.{bytes_eq}, Fmt.{digits}, List.{AllByRecursion}, Io.KnownBytes.{Consumes, IsAtEnd, Appends}}}
+use Rattle.std.proofs.Common.{◌≡◌, ℕ, Bool, true, ◌+◌, ◌<◌, ◌≤◌, false, List, [], ◌∷◌, ◌++◌, length, Option, Some, None}
+use Rattle.std.proofs.Common.{option_map, refl, sym, ap, subst, ◌∙◌, inl, inr, arith, append_assoc, length-append}
+use Rattle.std.proofs.Common.{position}
+use Rattle.std.proofs.lemmas.List.Quantifiers.{position-Some}
+use Rattle.std.proofs.lemmas.List.{append-nil}
+use Rattle.std.proofs.lemmas.Bool.{lt-ltb}
+use Rattle.std.specs.Prelude.{suc, nat_eq, IfSome, ◌≢◌}
+use Rattle.std.specs.Str.{bytes_eq}
+use Rattle.std.specs.Fmt.{digits}
+use Rattle.std.specs.List.{AllByRecursion}
+use Rattle.std.specs.Io.KnownBytes.{Consumes, IsAtEnd, Appends}
 use Rattle.tpm_types.specs.declared.alg.Alg.{Alg}
-use Rattle.tpm_check.specs.{declared.{stated.TheConstants.{REGISTERS}, list_lines.Heading.{Heading}}, Compare.{Values, Stated, Comparison, ListLine, States, Heads, Passes, Wrong, line_under, heading_behind, lines_under, is_value, compared_line, not_a_register_line, bank_lines, register_line, register_names, register_named, comparison_of, comparison_from, comparison, status_if, most_line, AreRegisters, IsStated, ReadsList, ReadsTooMuchList}, Comparing.{Place, next_line, heading_after, start, behind, with_status, comparison_at, IsOpen, Leads, Stops, Ends, GoesOn, Takes, status_behind, EndsAs, EndsLine, Reaches}}
+use Rattle.tpm_check.specs.declared.stated.TheConstants.{REGISTERS}
+use Rattle.tpm_check.specs.declared.list_lines.Heading.{Heading}
+use Rattle.tpm_check.specs.Compare.{Values, Stated, Comparison, ListLine, States, Heads, Passes, Wrong, line_under}
+use Rattle.tpm_check.specs.Compare.{heading_behind, lines_under, is_value, compared_line, not_a_register_line}
+use Rattle.tpm_check.specs.Compare.{bank_lines, register_line, register_names, register_named, comparison_of}
+use Rattle.tpm_check.specs.Compare.{comparison_from, comparison, status_if, most_line, AreRegisters, IsStated}
+use Rattle.tpm_check.specs.Compare.{ReadsList, ReadsTooMuchList}
+use Rattle.tpm_check.specs.Comparing.{Place, next_line, heading_after, start, behind, with_status, comparison_at}
+use Rattle.tpm_check.specs.Comparing.{IsOpen, Leads, Stops, Ends, GoesOn, Takes, status_behind, EndsAs, EndsLine}
+use Rattle.tpm_check.specs.Comparing.{Reaches}
 use Rattle.tpm_stream.proofs.Filled.{consumes_both}
-use Rattle.tpm_text.{specs.{declared.status.Status.{Status, TheVariants.{Done, Refused}}, InputLines.{lines_of, HasNoFeed, AreEnded, most_bytes, most_piece}, Status.{both}}, proofs.{InputLines.{ended_line, last_line, first_line, other_lines, longer_line, lines_of-append, ended_both}, Tables.{position-map}, Joins.{joins_appends}}}
+use Rattle.tpm_text.specs.declared.status.Status.TheVariants.{Done, Refused}
+use Rattle.tpm_text.specs.declared.status.Status.{Status}
+use Rattle.tpm_text.specs.InputLines.{lines_of, HasNoFeed, AreEnded, most_bytes, most_piece}
+use Rattle.tpm_text.specs.Status.{both}
+use Rattle.tpm_text.proofs.InputLines.{ended_line, last_line, first_line, other_lines, longer_line, lines_of-append}
+use Rattle.tpm_text.proofs.InputLines.{ended_both}
+use Rattle.tpm_text.proofs.Tables.{position-map}
+use Rattle.tpm_text.proofs.Joins.{joins_appends}
 
 -- ---- registers
 

@@ -1,8 +1,17 @@
 -- A quote as it was signed.
-use Rattle.std.{proofs.{Common.{◌≡◌, ℕ, ◌+◌, List, [], ◌++◌, cond, Option, Some, None, refl, sym, arith}, lemmas.List.{append-nil}}, specs.Prelude.{suc}}
-use Rattle.tpm_types.specs.{declared.{alg.Alg.{Alg}, tpms.Selection.{Selection}}, Tpms.{is_selected}}
-use Rattle.tpm_text.specs.{declared.status.Status.{Status, TheVariants.{Done, Refused}}, Status.{both}, Text.{bytes_in}}
-use Rattle.tpm_check.specs.{Compare.{Values}, Check.{ChecksQuote, ChecksValues}, CheckAttest.{register_word, register_words, ChecksGiven, ChecksAll}}
+use Rattle.std.proofs.Common.{◌≡◌, ℕ, ◌+◌, List, [], ◌++◌, cond, Option, Some, None, refl, sym, arith}
+use Rattle.std.proofs.lemmas.List.{append-nil}
+use Rattle.std.specs.Prelude.{suc}
+use Rattle.tpm_types.specs.declared.alg.Alg.{Alg}
+use Rattle.tpm_types.specs.declared.tpms.Selection.{Selection}
+use Rattle.tpm_types.specs.Tpms.{is_selected}
+use Rattle.tpm_text.specs.declared.status.Status.TheVariants.{Done, Refused}
+use Rattle.tpm_text.specs.declared.status.Status.{Status}
+use Rattle.tpm_text.specs.Status.{both}
+use Rattle.tpm_text.specs.Text.{bytes_in}
+use Rattle.tpm_check.specs.Compare.{Values}
+use Rattle.tpm_check.specs.Check.{ChecksQuote, ChecksValues}
+use Rattle.tpm_check.specs.CheckAttest.{register_word, register_words, ChecksGiven, ChecksAll}
 
 pub words-more : (select : List ℕ) (n : ℕ) → register_words select (n + 1) ≡ register_words select n ++ cond (is_selected select n) (register_word n) []
 words-more select n = let e : n + 1 ≡ suc n = omega arith in rw e refl

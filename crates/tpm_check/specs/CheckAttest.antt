@@ -1,11 +1,29 @@
 -- What `check` prints of a quote as it was signed (this profile).
-use Rattle.std.specs.{Prelude.{◌≡◌, ◌⊎◌, ℕ, zero, suc, Bool, true, false, List, [], ◌∷◌, ◌++◌, codes, Option, Some, None, Result, Ok, Err, if◌then◌else◌}, Str.{bytes_eq}, Fmt.{decimal}, List.{flat_map}}
-use Rattle.tpm_wire.specs.{declared.refusal.Refusal.{Refusal}, Path.{Spells, Fault}}
-use Rattle.tpm_types.specs.{declared.{alg.Alg.{Alg}, tpms.Selection.{Selection}, attest.{QuoteInfo.{QuoteInfo}, ClockInfo.{ClockInfo}, Attest.{Attest}}}, Attest.{attest}, Tpms.{is_selected}}
+use Rattle.std.specs.Prelude.{◌≡◌, ◌⊎◌, ℕ, zero, suc, Bool, true, false, List, [], ◌∷◌, ◌++◌, codes, Option, Some, None}
+use Rattle.std.specs.Prelude.{Result, Ok, Err, if◌then◌else◌}
+use Rattle.std.specs.Str.{bytes_eq}
+use Rattle.std.specs.Fmt.{decimal}
+use Rattle.std.specs.List.{flat_map}
+use Rattle.tpm_wire.specs.declared.refusal.Refusal.{Refusal}
+use Rattle.tpm_wire.specs.Path.{Spells, Fault}
+use Rattle.tpm_types.specs.declared.alg.Alg.{Alg}
+use Rattle.tpm_types.specs.declared.tpms.Selection.{Selection}
+use Rattle.tpm_types.specs.declared.attest.QuoteInfo.{QuoteInfo}
+use Rattle.tpm_types.specs.declared.attest.ClockInfo.{ClockInfo}
+use Rattle.tpm_types.specs.declared.attest.Attest.{Attest}
+use Rattle.tpm_types.specs.Attest.{attest}
+use Rattle.tpm_types.specs.Tpms.{is_selected}
 use Rattle.tpm_model.specs.Registers.{Registers, composite, value_in}
-use Rattle.tpm_log.specs.{declared.{fault.LogFault.{LogFault}, attest.NotSelected.{NotSelected}}, Attests.{first_not_selected, registers_of}, Takes.{IsOfBytes}}
-use Rattle.tpm_text.specs.{declared.status.Status.{Status, TheVariants.{Done, Refused}}, Status.{both}, Text.{bytes_in, bytes_text, hexadecimal, line, refusal_line, not_hexadecimal_line}}
-use Rattle.tpm_check.specs.{Compare.{Values, bank_name}, Check.{ChecksValues, ReadsIfList, log_fault_line}}
+use Rattle.tpm_log.specs.declared.fault.LogFault.{LogFault}
+use Rattle.tpm_log.specs.declared.attest.NotSelected.{NotSelected}
+use Rattle.tpm_log.specs.Attests.{first_not_selected, registers_of}
+use Rattle.tpm_log.specs.Takes.{IsOfBytes}
+use Rattle.tpm_text.specs.declared.status.Status.TheVariants.{Done, Refused}
+use Rattle.tpm_text.specs.declared.status.Status.{Status}
+use Rattle.tpm_text.specs.Status.{both}
+use Rattle.tpm_text.specs.Text.{bytes_in, bytes_text, hexadecimal, line, refusal_line, not_hexadecimal_line}
+use Rattle.tpm_check.specs.Compare.{Values, bank_name}
+use Rattle.tpm_check.specs.Check.{ChecksValues, ReadsIfList, log_fault_line}
 
 -- ---- what the quote says: TPMS_ATTEST (Part 2, 10.12)
 

@@ -1,9 +1,22 @@
 -- What `check` prints of registers and of a list of them (this profile).
-use Rattle.std.specs.{Prelude.{◌≡◌, ◌≢◌, ◌⊎◌, ℕ, zero, suc, ◌+◌, ◌≤◌, ◌==◌, nat_lt, Bool, true, false, List, [], ◌∷◌, ◌++◌, length, map, position, find, flat_map, codes, Option, Some, None, option_map, if◌then◌else◌, ◌&&◌, take, drop}, Str.{bytes_eq}, Fmt.{decimal}, List.{AllByRecursion, before_first, after_first, range_with_len}, Io.KnownBytes.{Consumes, IsAtEnd}}
+use Rattle.std.specs.Prelude.{◌≡◌, ◌≢◌, ◌⊎◌, ℕ, zero, suc, ◌+◌, ◌≤◌, ◌==◌, nat_lt, Bool, true, false, List, [], ◌∷◌}
+use Rattle.std.specs.Prelude.{◌++◌, length, map, position, find, flat_map, codes, Option, Some, None, option_map}
+use Rattle.std.specs.Prelude.{if◌then◌else◌, ◌&&◌, take, drop}
+use Rattle.std.specs.Str.{bytes_eq}
+use Rattle.std.specs.Fmt.{decimal}
+use Rattle.std.specs.List.{AllByRecursion, before_first, after_first, range_with_len}
+use Rattle.std.specs.Io.KnownBytes.{Consumes, IsAtEnd}
 use Rattle.hex.specs.Hex.{encode_lower}
-use Rattle.tpm_types.specs.{declared.alg.Alg.{Alg, TheVariants.{Sha1, Sha256, Sha384}}, Alg.{all_algs, digest_len}}
-use Rattle.tpm_check.specs.declared.list_lines.Heading.{Heading, TheVariants.{NoBank, Bank, OtherBank}}
-use Rattle.tpm_text.specs.{declared.status.Status.{Status, TheVariants.{Done, Refused}}, Status.{both}, Text.{bytes_in, line}, InputLines.{lines_of, HasNoFeed, AreEnded, most_bytes, most_piece}}
+use Rattle.tpm_types.specs.declared.alg.Alg.TheVariants.{Sha1, Sha256, Sha384}
+use Rattle.tpm_types.specs.declared.alg.Alg.{Alg}
+use Rattle.tpm_types.specs.Alg.{all_algs, digest_len}
+use Rattle.tpm_check.specs.declared.list_lines.Heading.TheVariants.{NoBank, Bank, OtherBank}
+use Rattle.tpm_check.specs.declared.list_lines.Heading.{Heading}
+use Rattle.tpm_text.specs.declared.status.Status.TheVariants.{Done, Refused}
+use Rattle.tpm_text.specs.declared.status.Status.{Status}
+use Rattle.tpm_text.specs.Status.{both}
+use Rattle.tpm_text.specs.Text.{bytes_in, line}
+use Rattle.tpm_text.specs.InputLines.{lines_of, HasNoFeed, AreEnded, most_bytes, most_piece}
 
 -- ---- registers
 

@@ -1,8 +1,20 @@
 -- How far a list of registers has been compared.
-use Rattle.std.specs.{Prelude.{◌≡◌, ℕ, ◌+◌, ◌≤◌, Bool, true, false, List, [], ◌∷◌, ◌++◌, length, Option, None, option_map}, Io.KnownBytes.{Consumes}}
-use Rattle.tpm_check.specs.{declared.{compared.Comparing.{Comparing}, list_lines.{Heading.{Heading, TheVariants.{NoBank}}, Line.{Line}}, stated.Stated.{Stated as RustStated}}, Compare.{Values, Stated, ListLine, States, Heads, Passes, Wrong, Comparison, line_under, heading_behind, lines_under, is_value, compared_line, not_a_register_line, comparison_from, most_line, AreRegisters}}
+use Rattle.std.specs.Prelude.{◌≡◌, ℕ, ◌+◌, ◌≤◌, Bool, true, false, List, [], ◌∷◌, ◌++◌, length, Option, None}
+use Rattle.std.specs.Prelude.{option_map}
+use Rattle.std.specs.Io.KnownBytes.{Consumes}
+use Rattle.tpm_check.specs.declared.compared.Comparing.{Comparing}
+use Rattle.tpm_check.specs.declared.list_lines.Heading.TheVariants.{NoBank}
+use Rattle.tpm_check.specs.declared.list_lines.Heading.{Heading}
+use Rattle.tpm_check.specs.declared.list_lines.Line.{Line}
+use Rattle.tpm_check.specs.declared.stated.Stated.{Stated as RustStated}
+use Rattle.tpm_check.specs.Compare.{Values, Stated, ListLine, States, Heads, Passes, Wrong, Comparison, line_under}
+use Rattle.tpm_check.specs.Compare.{heading_behind, lines_under, is_value, compared_line, not_a_register_line}
+use Rattle.tpm_check.specs.Compare.{comparison_from, most_line, AreRegisters}
 use Rattle.tpm_check.specs.declared.list_lines.Line.TheVariants as listed
-use Rattle.tpm_text.specs.{declared.status.Status.{Status, TheVariants.{Done, Refused}}, InputLines.{lines_of, HasNoFeed, AreEnded}, Status.{both}}
+use Rattle.tpm_text.specs.declared.status.Status.TheVariants.{Done, Refused}
+use Rattle.tpm_text.specs.declared.status.Status.{Status}
+use Rattle.tpm_text.specs.InputLines.{lines_of, HasNoFeed, AreEnded}
+use Rattle.tpm_text.specs.Status.{both}
 
 -- what was read of a line
 abbrev pub stated_as : RustStated → Stated

@@ -1,10 +1,19 @@
 //! The subcommand `check`.
 
-ghost use Rattle.std.specs.{Prelude.{◌≡◌, ℕ, List, Some, None, IfOk, IsErrOf, option_map, Result}, Io.KnownBytes.{Appends}};
+ghost use Rattle.std.specs.Prelude.{◌≡◌, ℕ, List, Some, None, IfOk, IsErrOf, option_map, Result};
+ghost use Rattle.std.specs.Io.KnownBytes.{Appends};
 ghost use Rattle.tpm_model.specs.Registers.{value_in, Registers as RegistersValue};
-ghost use Rattle.tpm_text.specs.{declared.{status.Status.TheVariants.{Done, Refused}, fault.ToolFault.TheVariants.{InputTooLong, Read}}, Faults.{FailsByMemoryOrWrite}, Text.{bytes_in}, InputLines.{CountsRead}};
-ghost use Rattle.tpm_check.specs.{Compare.{registers_text, ReadsList, ReadsTooMuchList}, Check.{ChecksQuote, ChecksValues, ChecksLog, CountsReads, FailsLast, ReadsTooMuchIfList, list_before, list_after, log_fault_line}};
-ghost use Rattle.tpm_log.specs.{Changes.{AreAfter}, Replays.{ReplaysFrom, ReadsFrom}, declared.fault.LogFault.{LogFault as LogFaultValue}};
+ghost use Rattle.tpm_text.specs.declared.status.Status.TheVariants.{Done, Refused};
+ghost use Rattle.tpm_text.specs.declared.fault.ToolFault.TheVariants.{InputTooLong, Read};
+ghost use Rattle.tpm_text.specs.Faults.{FailsByMemoryOrWrite};
+ghost use Rattle.tpm_text.specs.Text.{bytes_in};
+ghost use Rattle.tpm_text.specs.InputLines.{CountsRead};
+ghost use Rattle.tpm_check.specs.Compare.{registers_text, ReadsList, ReadsTooMuchList};
+ghost use Rattle.tpm_check.specs.Check.{ChecksQuote, ChecksValues, ChecksLog, CountsReads, FailsLast};
+ghost use Rattle.tpm_check.specs.Check.{ReadsTooMuchIfList, list_before, list_after, log_fault_line};
+ghost use Rattle.tpm_log.specs.Changes.{AreAfter};
+ghost use Rattle.tpm_log.specs.Replays.{ReplaysFrom, ReadsFrom};
+ghost use Rattle.tpm_log.specs.declared.fault.LogFault.{LogFault as LogFaultValue};
 ghost use Rattle.tpm_wire.specs.Sources.{IsWhereItFailed};
 
 use crate::compared::check_list;

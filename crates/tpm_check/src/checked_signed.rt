@@ -1,11 +1,18 @@
 //! The subcommand `check` of a quote as it was signed.
 
-ghost use Rattle.std.specs.{Prelude.{◌≡◌, ℕ, List, None, Some, IfOk, IsErrOf, option_map, Result}, Io.KnownBytes.{Appends}};
+ghost use Rattle.std.specs.Prelude.{◌≡◌, ℕ, List, None, Some, IfOk, IsErrOf, option_map, Result};
+ghost use Rattle.std.specs.Io.KnownBytes.{Appends};
 ghost use Rattle.tpm_wire.specs.Sources.{IsWhereItFailed};
 ghost use Rattle.tpm_model.specs.Registers.{value_in, Registers as RegistersValue};
-ghost use Rattle.tpm_log.specs.{Changes.{AreAfter}, Replays.{ReplaysFrom, ReadsFrom}, declared.fault.LogFault.{LogFault as LogFaultValue}};
-ghost use Rattle.tpm_text.specs.{declared.fault.ToolFault.TheVariants.{InputTooLong, Read}, Faults.{FailsByMemoryOrWrite}, InputLines.{CountsRead}};
-ghost use Rattle.tpm_check.specs.{Compare.{ReadsList, ReadsTooMuchList}, Check.{CountsReads, FailsLast, ReadsTooMuchIfList, list_before, list_after}, CheckAttest.{ChecksGiven, ChecksAll, ChecksSigned}};
+ghost use Rattle.tpm_log.specs.Changes.{AreAfter};
+ghost use Rattle.tpm_log.specs.Replays.{ReplaysFrom, ReadsFrom};
+ghost use Rattle.tpm_log.specs.declared.fault.LogFault.{LogFault as LogFaultValue};
+ghost use Rattle.tpm_text.specs.declared.fault.ToolFault.TheVariants.{InputTooLong, Read};
+ghost use Rattle.tpm_text.specs.Faults.{FailsByMemoryOrWrite};
+ghost use Rattle.tpm_text.specs.InputLines.{CountsRead};
+ghost use Rattle.tpm_check.specs.Compare.{ReadsList, ReadsTooMuchList};
+ghost use Rattle.tpm_check.specs.Check.{CountsReads, FailsLast, ReadsTooMuchIfList, list_before, list_after};
+ghost use Rattle.tpm_check.specs.CheckAttest.{ChecksGiven, ChecksAll, ChecksSigned};
 
 use crate::checked::{check_stated, print_fault, print_quote};
 use crate::judged::{Signed, answer_to_given};

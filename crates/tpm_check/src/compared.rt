@@ -1,10 +1,16 @@
 //! A list of registers in the subcommand `check`.
 
-ghost use Rattle.std.specs.{Prelude.{◌≡◌, ◌+◌, ◌^◌, ◌<◌, ◌++◌, ℕ, List, [], ◌∷◌, IfOk, OnOk, IsErrOf, length, string_bytes}, Io.KnownBytes.{Appends}};
+ghost use Rattle.std.specs.Prelude.{◌≡◌, ◌+◌, ◌^◌, ◌<◌, ◌++◌, ℕ, List, [], ◌∷◌, IfOk, OnOk, IsErrOf, length};
+ghost use Rattle.std.specs.Prelude.{string_bytes};
+ghost use Rattle.std.specs.Io.KnownBytes.{Appends};
 ghost use Rattle.tpm_model.specs.Registers.{value_in};
 ghost use Rattle.tpm_wire.specs.Sources.{IsWhereItFailed};
-ghost use Rattle.tpm_text.specs.{declared.fault.ToolFault.TheVariants.{InputTooLong, Read}, Faults.{FailsByMemoryOrWrite}, InputLines.{AddedTo, CountsRead}};
-ghost use Rattle.tpm_check.specs.{Compare.{comparison, compared_line, is_value, ReadsList, ReadsTooMuchList}, Comparing.{stated_as, place, start, comparison_at, IsOpen, Takes, EndsLine, EndsStated, next_line, status_behind}};
+ghost use Rattle.tpm_text.specs.declared.fault.ToolFault.TheVariants.{InputTooLong, Read};
+ghost use Rattle.tpm_text.specs.Faults.{FailsByMemoryOrWrite};
+ghost use Rattle.tpm_text.specs.InputLines.{AddedTo, CountsRead};
+ghost use Rattle.tpm_check.specs.Compare.{comparison, compared_line, is_value, ReadsList, ReadsTooMuchList};
+ghost use Rattle.tpm_check.specs.Comparing.{stated_as, place, start, comparison_at, IsOpen, Takes, EndsLine};
+ghost use Rattle.tpm_check.specs.Comparing.{EndsStated, next_line, status_behind};
 
 use crate::list_lines::{Heading, Line, MOST_LINE, read_line};
 use crate::register_text::{push_compared, push_not_a_register};

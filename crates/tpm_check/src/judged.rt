@@ -1,9 +1,11 @@
 //! A quote as it was signed, in the subcommand `check`.
 
-ghost use Rattle.std.specs.{Prelude.{◌≡◌, ◌++◌, IfOk, OnOk, option_map, string_bytes}, Str.{bytes_eq}};
+ghost use Rattle.std.specs.Prelude.{◌≡◌, ◌++◌, IfOk, OnOk, option_map, string_bytes};
+ghost use Rattle.std.specs.Str.{bytes_eq};
 ghost use Rattle.tpm_model.specs.Registers.{composite, value_in};
 ghost use Rattle.tpm_log.specs.Attests.{registers_of};
-ghost use Rattle.tpm_check.specs.CheckAttest.{Adds, whether, lacks_line, on_nonce, on_missing, on_registers, on_selection, on_quote, on_attest, Says, ChecksAttest, ChecksGiven};
+ghost use Rattle.tpm_check.specs.CheckAttest.{Adds, whether, lacks_line, on_nonce, on_missing, on_registers};
+ghost use Rattle.tpm_check.specs.CheckAttest.{on_selection, on_quote, on_attest, Says, ChecksAttest, ChecksGiven};
 
 use crate::register_text::bank_name;
 use crate::signed_text::push_attest;

@@ -2,7 +2,9 @@
 
 ghost use Rattle.std.specs.Prelude.{◌≡◌, ◌<◌, ◌++◌, [], OnOk, flat_map, if◌then◌else◌, string_bytes};
 ghost use Rattle.tpm_types.specs.Tpms.{is_selected};
-ghost use Rattle.tpm_check.specs.CheckAttest.{attest_text, clock_lines, entry_words, firmware_line, nonce_line, number_line, register_word, register_words, safe_line, selection_line, signer_line};
+ghost use Rattle.tpm_check.specs.CheckAttest.{attest_text, clock_lines, entry_words, firmware_line, nonce_line};
+ghost use Rattle.tpm_check.specs.CheckAttest.{number_line, register_word, register_words, safe_line, selection_line};
+ghost use Rattle.tpm_check.specs.CheckAttest.{signer_line};
 
 use crate::register_text::bank_name;
 use std::alloc::Global;

@@ -2,7 +2,9 @@
 
 ghost use Rattle.std.specs.Prelude.{◌≡◌, ◌<◌, IfOk, IfSome, Some, position, option_map};
 ghost use Rattle.tpm_text.specs.Text.{bytes_in};
-ghost use Rattle.tpm_check.specs.{Compare.{is_space, first_word, behind_word, bank_named, register_named, stated_of, stated_in}, Comparing.{stated_as}};
+ghost use Rattle.tpm_check.specs.Compare.{is_space, first_word, behind_word, bank_named, register_named, stated_of};
+ghost use Rattle.tpm_check.specs.Compare.{stated_in};
+ghost use Rattle.tpm_check.specs.Comparing.{stated_as};
 
 use crate::register_text::bank_name;
 use std::alloc::{AllocError, Global};

@@ -1,11 +1,46 @@
 -- What holds of each command, a line for each.
-use Rattle.std.{proofs.{Common.{◌≡◌, ℕ, ◌≤◌, Bool, true, false, cond, List, [], ◌∷◌, Some, None, Result, Ok, refl, sym, subst, ap, arith}, lemmas.Bool.{eqb-true}}, specs.Prelude.{is_some}}
-use Rattle.tpm_wire.{specs.{declared.refusal.Refusal.{Refusal}, ResponseCodes.{rc_value, of_parameter}, Token.{Here}, Layout.{Form}, Reading.{read}, Buffers.{buffer, Layout}}, proofs.{Agreement.{ok_is, bind_ok}, Longer.{TakesAtMost, at_most_more, at_most_done, at_most_number, at_most_number_in, in_set, at_most_sized_bytes, at_most_sized, at_most_counted}}}
+use Rattle.std.proofs.Common.{◌≡◌, ℕ, ◌≤◌, Bool, true, false, cond, List, [], ◌∷◌, Some, None, Result, Ok, refl, sym}
+use Rattle.std.proofs.Common.{subst, ap, arith}
+use Rattle.std.proofs.lemmas.Bool.{eqb-true}
+use Rattle.std.specs.Prelude.{is_some}
+use Rattle.tpm_wire.specs.declared.refusal.Refusal.{Refusal}
+use Rattle.tpm_wire.specs.ResponseCodes.{rc_value, of_parameter}
+use Rattle.tpm_wire.specs.Token.{Here}
+use Rattle.tpm_wire.specs.Layout.{Form}
+use Rattle.tpm_wire.specs.Reading.{read}
+use Rattle.tpm_wire.specs.Buffers.{buffer, Layout}
+use Rattle.tpm_wire.proofs.Agreement.{ok_is, bind_ok}
+use Rattle.tpm_wire.proofs.Longer.{TakesAtMost, at_most_more, at_most_done, at_most_number, at_most_number_in, in_set}
+use Rattle.tpm_wire.proofs.Longer.{at_most_sized_bytes, at_most_sized, at_most_counted}
 use Rattle.tpm_types.specs.declared.handle_sets.PcrOrNull.TheVariants as pcrs
 use Rattle.tpm_types.specs.declared.handle_sets.NvAuthHandle.TheVariants as nv
 use Rattle.tpm_types.specs.declared.handle_sets.BindHandle.TheVariants as binds
-use Rattle.tpm_types.specs.{Limits.{digest_bytes, public_bytes, banks}, Constants.{startup_of, startup_number, startup_type, session_type_of, session_type_number, session_type}, Handles.{rh_owner, rh_null, is_owner, is_null, is_pcr, is_nv_index, is_policy, session, is_session}, HandleSets.{pcr_or_null_of, pcr_or_null_number, nv_auth_of, nv_auth_number, bind_of, bind_number}, Tpm2b.{digest, salt_of, salt_size, encrypted_salt}, Tpml.{most_digests}, Tpms.{selection, nv_public_area, nv_public}, Tpmt.{digest_value}}
-use Rattle.tpm_commands.{specs.{declared.{code.CommandCode.{CommandCode}, command_handles.HandleKind.{HandleKind}, command_parameters.Params.{Params}, response.ReplyBody.{ReplyBody}}, Events.{event_bytes}, Handles.{admits, AreAdmitted, handle_kinds, first, second}, Parameters.{params_code, parameters, nv_define_space, pcr_event, startup, nv_read, flush_context, policy_command_code, policy_or, start_auth_session, pcr_read, policy_pcr, pcr_extend}, Table.{register_in, index_in, policy_in, pcr_or_null_in, nv_auth_in, bind_in, or_else, body_from, handles_of, params_of}, Replies.{code_for_reply, session_handle, session_in, reply_handles, reply_handles_of, reply_parameters, pcr_event_reply, nv_read_reply, nv_read_public_reply, start_auth_session_reply, pcr_read_reply, policy_get_digest_reply}}, proofs.Short.{ok, next, only, of_hash, of_selection, of_digest_value, of_sym_def}}
+use Rattle.tpm_types.specs.Limits.{digest_bytes, public_bytes, banks}
+use Rattle.tpm_types.specs.Constants.{startup_of, startup_number, startup_type, session_type_of, session_type_number}
+use Rattle.tpm_types.specs.Constants.{session_type}
+use Rattle.tpm_types.specs.Handles.{rh_owner, rh_null, is_owner, is_null, is_pcr, is_nv_index, is_policy, session}
+use Rattle.tpm_types.specs.Handles.{is_session}
+use Rattle.tpm_types.specs.HandleSets.{pcr_or_null_of, pcr_or_null_number, nv_auth_of, nv_auth_number, bind_of}
+use Rattle.tpm_types.specs.HandleSets.{bind_number}
+use Rattle.tpm_types.specs.Tpm2b.{digest, salt_of, salt_size, encrypted_salt}
+use Rattle.tpm_types.specs.Tpml.{most_digests}
+use Rattle.tpm_types.specs.Tpms.{selection, nv_public_area, nv_public}
+use Rattle.tpm_types.specs.Tpmt.{digest_value}
+use Rattle.tpm_commands.specs.declared.code.CommandCode.{CommandCode}
+use Rattle.tpm_commands.specs.declared.command_handles.HandleKind.{HandleKind}
+use Rattle.tpm_commands.specs.declared.command_parameters.Params.{Params}
+use Rattle.tpm_commands.specs.declared.response.ReplyBody.{ReplyBody}
+use Rattle.tpm_commands.specs.Events.{event_bytes}
+use Rattle.tpm_commands.specs.Handles.{admits, AreAdmitted, handle_kinds, first, second}
+use Rattle.tpm_commands.specs.Parameters.{params_code, parameters, nv_define_space, pcr_event, startup, nv_read}
+use Rattle.tpm_commands.specs.Parameters.{flush_context, policy_command_code, policy_or, start_auth_session, pcr_read}
+use Rattle.tpm_commands.specs.Parameters.{policy_pcr, pcr_extend}
+use Rattle.tpm_commands.specs.Table.{register_in, index_in, policy_in, pcr_or_null_in, nv_auth_in, bind_in, or_else}
+use Rattle.tpm_commands.specs.Table.{body_from, handles_of, params_of}
+use Rattle.tpm_commands.specs.Replies.{code_for_reply, session_handle, session_in, reply_handles, reply_handles_of}
+use Rattle.tpm_commands.specs.Replies.{reply_parameters, pcr_event_reply, nv_read_reply, nv_read_public_reply}
+use Rattle.tpm_commands.specs.Replies.{start_auth_session_reply, pcr_read_reply, policy_get_digest_reply}
+use Rattle.tpm_commands.proofs.Short.{ok, next, only, of_hash, of_selection, of_digest_value, of_sym_def}
 use Rattle.tpm_commands.specs.declared.code.CommandCode.TheVariants as codes
 use Rattle.tpm_commands.specs.declared.command_handles.HandleKind.TheVariants as kinds
 use Rattle.tpm_commands.specs.declared.command_parameters.Params.TheVariants as params

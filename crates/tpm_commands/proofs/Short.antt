@@ -1,7 +1,28 @@
 -- The parts of sessions and parameters take few bytes, and are read alike whatever is behind them.
-use Rattle.std.proofs.{Common.{◌≡◌, ℕ, ◌+◌, ◌≤◌, ◌<◌, Bool, true, false, eqb, List, ◌++◌, length, take, drop, Result, Ok, Err, refl, ap, ◌∙◌, arith}, lemmas.{Bool.{ne_eqb, eqb-true}, List.{take-append-drop, length-append, length-take, length-drop}}}
-use Rattle.tpm_wire.{specs.{declared.refusal.Refusal.{Refusal}, ResponseCodes.{rc_size, rc_hash, rc_value}, Token.{Here, at_start}, Layout.{Form, raw, either}, Reading.{read, read_all, finish, ◌>>=◌}, Buffers.{buffer, Layout, number_in, numbered}, Longer.{with_more}}, proofs.Longer.{TakesAtMost, in_set, at_most_more, at_most_done, at_most_number, at_most_number_in, at_most_text, at_most_field, at_most_marked, at_most_sized_bytes}}
-use Rattle.tpm_types.specs.{declared.{alg.Alg.{Alg, TheVariants.{Sha1, Sha256, Sha384}}, tpms.Selection.{Selection}, tpmt.SymDef.TheVariants.{Null, Aes, Xor}}, Limits.{digest_bytes}, Alg.{alg_of, alg_number, digest_len, hash}, Handles.{is_auth_session, auth_session}, Tpma.{is_session_attrs, session_attrs}, Tpms.{select_bytes, selection, auth_command}, Constants.{key_bits_of, key_bits_number, key_bits}, Tpmt.{digest_value, bits_of, hash_of, alg_cfb, alg_null, alg_aes, algorithm, mode, sym_def}}
+use Rattle.std.proofs.Common.{◌≡◌, ℕ, ◌+◌, ◌≤◌, ◌<◌, Bool, true, false, eqb, List, ◌++◌, length, take, drop, Result, Ok}
+use Rattle.std.proofs.Common.{Err, refl, ap, ◌∙◌, arith}
+use Rattle.std.proofs.lemmas.Bool.{ne_eqb, eqb-true}
+use Rattle.std.proofs.lemmas.List.{take-append-drop, length-append, length-take, length-drop}
+use Rattle.tpm_wire.specs.declared.refusal.Refusal.{Refusal}
+use Rattle.tpm_wire.specs.ResponseCodes.{rc_size, rc_hash, rc_value}
+use Rattle.tpm_wire.specs.Token.{Here, at_start}
+use Rattle.tpm_wire.specs.Layout.{Form, raw, either}
+use Rattle.tpm_wire.specs.Reading.{read, read_all, finish, ◌>>=◌}
+use Rattle.tpm_wire.specs.Buffers.{buffer, Layout, number_in, numbered}
+use Rattle.tpm_wire.specs.Longer.{with_more}
+use Rattle.tpm_wire.proofs.Longer.{TakesAtMost, in_set, at_most_more, at_most_done, at_most_number, at_most_number_in}
+use Rattle.tpm_wire.proofs.Longer.{at_most_text, at_most_field, at_most_marked, at_most_sized_bytes}
+use Rattle.tpm_types.specs.declared.alg.Alg.TheVariants.{Sha1, Sha256, Sha384}
+use Rattle.tpm_types.specs.declared.alg.Alg.{Alg}
+use Rattle.tpm_types.specs.declared.tpms.Selection.{Selection}
+use Rattle.tpm_types.specs.declared.tpmt.SymDef.TheVariants.{Null, Aes, Xor}
+use Rattle.tpm_types.specs.Limits.{digest_bytes}
+use Rattle.tpm_types.specs.Alg.{alg_of, alg_number, digest_len, hash}
+use Rattle.tpm_types.specs.Handles.{is_auth_session, auth_session}
+use Rattle.tpm_types.specs.Tpma.{is_session_attrs, session_attrs}
+use Rattle.tpm_types.specs.Tpms.{select_bytes, selection, auth_command}
+use Rattle.tpm_types.specs.Constants.{key_bits_of, key_bits_number, key_bits}
+use Rattle.tpm_types.specs.Tpmt.{digest_value, bits_of, hash_of, alg_cfb, alg_null, alg_aes, algorithm, mode, sym_def}
 
 -- a part, and what follows it
 pub and : {A B : Type 0} (j k : ℕ) (get : A → B) (l : Layout B) (f : B → Layout A) → TakesAtMost j l → ((y : B) → TakesAtMost k (f y)) → TakesAtMost (j + k) (Form.field get l f)

@@ -1,7 +1,10 @@
 -- The commands' numbers and names (Part 2, 6.5.2, TPM_CC).
 use Rattle.std.specs.Prelude.{ℕ, List, [], ◌∷◌, Option, Some, None, ◌==◌, if◌then◌else◌}
-use Rattle.tpm_wire.specs.{Buffers.{Layout}, Layout.Form.{number}, ResponseCodes.{rc_command_code}}
-use Rattle.tpm_commands.specs.{declared.code.CommandCode.{CommandCode}, Table.{row}}
+use Rattle.tpm_wire.specs.Buffers.{Layout}
+use Rattle.tpm_wire.specs.Layout.Form.{number}
+use Rattle.tpm_wire.specs.ResponseCodes.{rc_command_code}
+use Rattle.tpm_commands.specs.declared.code.CommandCode.{CommandCode}
+use Rattle.tpm_commands.specs.Table.{row}
 pub use Rattle.tpm_commands.specs.Table.{all_commands}
 
 abbrev pub code_number : CommandCode → ℕ

@@ -1,8 +1,15 @@
 -- The handles of the commands (Part 3, the command table of each).
 use Rattle.std.specs.Prelude.{◌≡◌, ℕ, ◌+◌, Bool, true, is_some, List, [], ◌∷◌}
-use Rattle.tpm_wire.specs.{Buffers.{Layout, number_in, numbered}, Layout.Form.{done, field}, ResponseCodes.{rc_value, of_handle}}
-use Rattle.tpm_types.specs.{Handles.{is_pcr, is_owner, is_null, is_nv_index, is_policy}, HandleSets.{pcr_or_null_of, nv_auth_of, bind_of}}
-use Rattle.tpm_commands.specs.{declared.{command_handles.HandleKind.{HandleKind, TheVariants.{Pcr, PcrOrNull, Owner, Null, OwnerOrNull, Index, OwnerOrIndex, Policy}}, code.CommandCode.{CommandCode}}, Table.{row}}
+use Rattle.tpm_wire.specs.Buffers.{Layout, number_in, numbered}
+use Rattle.tpm_wire.specs.Layout.Form.{done, field}
+use Rattle.tpm_wire.specs.ResponseCodes.{rc_value, of_handle}
+use Rattle.tpm_types.specs.Handles.{is_pcr, is_owner, is_null, is_nv_index, is_policy}
+use Rattle.tpm_types.specs.HandleSets.{pcr_or_null_of, nv_auth_of, bind_of}
+use Rattle.tpm_commands.specs.declared.command_handles.HandleKind.TheVariants.{Pcr, PcrOrNull, Owner, Null, OwnerOrNull}
+use Rattle.tpm_commands.specs.declared.command_handles.HandleKind.TheVariants.{Index, OwnerOrIndex, Policy}
+use Rattle.tpm_commands.specs.declared.command_handles.HandleKind.{HandleKind}
+use Rattle.tpm_commands.specs.declared.code.CommandCode.{CommandCode}
+use Rattle.tpm_commands.specs.Table.{row}
 pub use Rattle.tpm_commands.specs.Row.{first, others, second}
 
 abbrev pub admits : HandleKind → ℕ → Bool

@@ -1,7 +1,10 @@
 -- The parameters of the commands (Part 3, the command table of each).
 use Rattle.std.specs.Prelude.{Result, Ok, Err}
-use Rattle.tpm_wire.specs.{declared.refusal.Refusal.{Refusal}, Buffers.{Layout}}
-use Rattle.tpm_commands.specs.{declared.{code.CommandCode.{CommandCode}, command_parameters.Params.{Params}}, Table.{row}}
+use Rattle.tpm_wire.specs.declared.refusal.Refusal.{Refusal}
+use Rattle.tpm_wire.specs.Buffers.{Layout}
+use Rattle.tpm_commands.specs.declared.code.CommandCode.{CommandCode}
+use Rattle.tpm_commands.specs.declared.command_parameters.Params.{Params}
+use Rattle.tpm_commands.specs.Table.{row}
 unfoldable pub use Rattle.tpm_commands.specs.Commands.Startup.{startup}
 unfoldable pub use Rattle.tpm_commands.specs.Commands.Session.{start_auth_session}
 unfoldable pub use Rattle.tpm_commands.specs.Commands.Pcr.{pcr_extend, pcr_event, pcr_read}

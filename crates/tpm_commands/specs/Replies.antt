@@ -1,7 +1,10 @@
 -- What the commands answer (Part 3, the response table of each).
 use Rattle.std.specs.Prelude.{◌≡◌, ℕ, List, [], ◌∷◌, Option, Some, None}
-use Rattle.tpm_wire.specs.{Buffers.{Layout}, Layout.Form.{done}}
-use Rattle.tpm_commands.specs.{declared.{code.CommandCode.{CommandCode}, response.ReplyBody.{ReplyBody}}, Table.{row}}
+use Rattle.tpm_wire.specs.Buffers.{Layout}
+use Rattle.tpm_wire.specs.Layout.Form.{done}
+use Rattle.tpm_commands.specs.declared.code.CommandCode.{CommandCode}
+use Rattle.tpm_commands.specs.declared.response.ReplyBody.{ReplyBody}
+use Rattle.tpm_commands.specs.Table.{row}
 use Rattle.tpm_commands.specs.declared.code.CommandCode.TheVariants as codes
 use Rattle.tpm_commands.specs.declared.response.ReplyBody.TheVariants as replies
 unfoldable pub use Rattle.tpm_commands.specs.Commands.Session.{session_handle, start_auth_session_reply}

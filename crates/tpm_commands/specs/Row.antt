@@ -1,7 +1,9 @@
 -- What the table says of one command (Part 3, the command table and the response table of each).
 use Rattle.std.specs.Prelude.{ℕ, Bool, List, [], ◌∷◌}
 use Rattle.tpm_wire.specs.Buffers.{Layout}
-use Rattle.tpm_commands.specs.declared.{command_handles.HandleKind.{HandleKind}, command_parameters.Params.{Params}, response.ReplyBody.{ReplyBody}}
+use Rattle.tpm_commands.specs.declared.command_handles.HandleKind.{HandleKind}
+use Rattle.tpm_commands.specs.declared.command_parameters.Params.{Params}
+use Rattle.tpm_commands.specs.declared.response.ReplyBody.{ReplyBody}
 
 -- a parameter of a command or of its reply, or a member of a structure, by its name and its type
 pub record Field : Type 0 where

@@ -1,10 +1,27 @@
 -- The list of all commands: each with its row, and what a command is made of.
 use Rattle.std.specs.Prelude.{ℕ, List, [], ◌∷◌, Option, Some, None, if◌then◌else◌}
-use Rattle.tpm_types.specs.{declared.handle_sets.{PcrOrNull.{PcrOrNull}, NvAuthHandle.{NvAuthHandle}, BindHandle.{BindHandle}}, Handles.{rh_owner, rh_null, is_pcr, is_nv_index, is_policy}, HandleSets.{pcr_or_null_number, pcr_or_null_of, nv_auth_number, nv_auth_of, bind_number, bind_of}}
+use Rattle.tpm_types.specs.declared.handle_sets.PcrOrNull.{PcrOrNull}
+use Rattle.tpm_types.specs.declared.handle_sets.NvAuthHandle.{NvAuthHandle}
+use Rattle.tpm_types.specs.declared.handle_sets.BindHandle.{BindHandle}
+use Rattle.tpm_types.specs.Handles.{rh_owner, rh_null, is_pcr, is_nv_index, is_policy}
+use Rattle.tpm_types.specs.HandleSets.{pcr_or_null_number, pcr_or_null_of, nv_auth_number, nv_auth_of, bind_number}
+use Rattle.tpm_types.specs.HandleSets.{bind_of}
 use Rattle.tpm_types.specs.declared.handle_sets.PcrOrNull.TheVariants as pcrs
 use Rattle.tpm_types.specs.declared.handle_sets.NvAuthHandle.TheVariants as nv
 use Rattle.tpm_types.specs.declared.handle_sets.BindHandle.TheVariants as binds
-use Rattle.tpm_commands.specs.{declared.{code.CommandCode.{CommandCode}, command.CommandBody.{CommandBody}, command_parameters.Params.{Params}, response.ReplyBody.{ReplyBody}}, Row.{Row, first, second}, Commands.{Startup.{startup_row}, Session.{start_auth_session_row, policy_restart_row}, Pcr.{pcr_event_row, pcr_reset_row, pcr_read_row, pcr_extend_row}, Policy.{policy_auth_value_row, policy_command_code_row, policy_or_row, policy_pcr_row, policy_get_digest_row}, Context.{flush_context_row}, Nv.{nv_undefine_space_row, nv_define_space_row, nv_increment_row, nv_read_row, nv_read_public_row}}}
+use Rattle.tpm_commands.specs.declared.code.CommandCode.{CommandCode}
+use Rattle.tpm_commands.specs.declared.command.CommandBody.{CommandBody}
+use Rattle.tpm_commands.specs.declared.command_parameters.Params.{Params}
+use Rattle.tpm_commands.specs.declared.response.ReplyBody.{ReplyBody}
+use Rattle.tpm_commands.specs.Row.{Row, first, second}
+use Rattle.tpm_commands.specs.Commands.Startup.{startup_row}
+use Rattle.tpm_commands.specs.Commands.Session.{start_auth_session_row, policy_restart_row}
+use Rattle.tpm_commands.specs.Commands.Pcr.{pcr_event_row, pcr_reset_row, pcr_read_row, pcr_extend_row}
+use Rattle.tpm_commands.specs.Commands.Policy.{policy_auth_value_row, policy_command_code_row, policy_or_row}
+use Rattle.tpm_commands.specs.Commands.Policy.{policy_pcr_row, policy_get_digest_row}
+use Rattle.tpm_commands.specs.Commands.Context.{flush_context_row}
+use Rattle.tpm_commands.specs.Commands.Nv.{nv_undefine_space_row, nv_define_space_row, nv_increment_row, nv_read_row}
+use Rattle.tpm_commands.specs.Commands.Nv.{nv_read_public_row}
 use Rattle.tpm_commands.specs.declared.code.CommandCode.TheVariants as codes
 use Rattle.tpm_commands.specs.declared.command.CommandBody.TheVariants as bodies
 use Rattle.tpm_commands.specs.declared.command_parameters.Params.TheVariants as params

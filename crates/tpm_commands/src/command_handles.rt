@@ -1,8 +1,15 @@
 //! What the handles of a command may be, and their reading.
 
 ghost use Rattle.std.specs.Prelude.{◌≡◌, true, ◌+◌, ◌≤◌, ◌*◌, length, ◌++◌, IfOk};
-ghost use Rattle.tpm_wire.specs.{Spelling.{spelling}, Buffers.{TakesNumbered, number_in, numbered}, ResponseCodes.{rc_value, of_handle as the_number}};
-ghost use Rattle.tpm_commands.specs.{Table.{register_in as the_register, index_in as the_index, policy_in as the_policy, pcr_or_null_in as the_pcr_or_null, nv_auth_in as the_nv_auth, bind_in as the_bind}, Handles.{first as first_of, second as second_of, admits as is_admitted, handle_kinds, needs_authorization as does_need, handles as handles_layout, handles_from, AreAdmitted}};
+ghost use Rattle.tpm_wire.specs.Spelling.{spelling};
+ghost use Rattle.tpm_wire.specs.Buffers.{TakesNumbered, number_in, numbered};
+ghost use Rattle.tpm_wire.specs.ResponseCodes.{rc_value, of_handle as the_number};
+ghost use Rattle.tpm_commands.specs.Table.{register_in as the_register, index_in as the_index, policy_in as the_policy};
+ghost use Rattle.tpm_commands.specs.Table.{pcr_or_null_in as the_pcr_or_null, nv_auth_in as the_nv_auth};
+ghost use Rattle.tpm_commands.specs.Table.{bind_in as the_bind};
+ghost use Rattle.tpm_commands.specs.Handles.{first as first_of, second as second_of, admits as is_admitted};
+ghost use Rattle.tpm_commands.specs.Handles.{handle_kinds, needs_authorization as does_need, handles as handles_layout};
+ghost use Rattle.tpm_commands.specs.Handles.{handles_from, AreAdmitted};
 
 use crate::code::CommandCode;
 use arrayvec::ArrayVec;

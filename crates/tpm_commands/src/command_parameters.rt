@@ -1,7 +1,10 @@
 //! A command's parameters alone (Part 3).
 
 ghost use Rattle.std.specs.Prelude.{◌≡◌, ◌≤◌, ◌<◌, length, ◌++◌, IfOk, OnOk, Err};
-ghost use Rattle.tpm_wire.specs.{Spelling.{spelling}, Path.{Decodes}, Reading.{read_all, Gives}, Buffers.{TakesNumbered}};
+ghost use Rattle.tpm_wire.specs.Spelling.{spelling};
+ghost use Rattle.tpm_wire.specs.Path.{Decodes};
+ghost use Rattle.tpm_wire.specs.Reading.{read_all, Gives};
+ghost use Rattle.tpm_wire.specs.Buffers.{TakesNumbered};
 ghost use Rattle.tpm_commands.specs.Parameters.{parameters, params_code, placed};
 
 use crate::code::CommandCode;

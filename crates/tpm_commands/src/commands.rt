@@ -1,8 +1,14 @@
 //! The list of all commands: what each family of Part 3 says of them, by their code, their body or their reply.
 
 ghost use Rattle.std.specs.Prelude.{◌≡◌, ◌≤◌, ◌+◌, ◌*◌, ◌++◌, length, ℕ, IfOk, OnOk};
-ghost use Rattle.tpm_wire.specs.{Spelling.{spelling, Fits}, Buffers.{TakesNumbered}};
-ghost use Rattle.tpm_commands.specs.{Codes.{code_name}, Handles.{handle_kinds, needs_authorization as does_need, handles as handles_layout}, Parameters.{params_code, parameters}, Table.{body_from, params_of, code_for, handles_of}, Replies.{code_for_reply, reply_handles, reply_handles_of, reply_parameters, parameters_of_reply, handle_list, HasHandle, IsReplyTo}};
+ghost use Rattle.tpm_wire.specs.Spelling.{spelling, Fits};
+ghost use Rattle.tpm_wire.specs.Buffers.{TakesNumbered};
+ghost use Rattle.tpm_commands.specs.Codes.{code_name};
+ghost use Rattle.tpm_commands.specs.Handles.{handle_kinds, needs_authorization as does_need, handles as handles_layout};
+ghost use Rattle.tpm_commands.specs.Parameters.{params_code, parameters};
+ghost use Rattle.tpm_commands.specs.Table.{body_from, params_of, code_for, handles_of};
+ghost use Rattle.tpm_commands.specs.Replies.{code_for_reply, reply_handles, reply_handles_of, reply_parameters};
+ghost use Rattle.tpm_commands.specs.Replies.{parameters_of_reply, handle_list, HasHandle, IsReplyTo};
 
 mod context;
 mod nv;

@@ -1,7 +1,9 @@
 //! Parts of a buffer that are lent from it.
 
 ghost use Rattle.std.specs.Prelude.{◌≡◌, ◌≤◌, ◌<◌, ◌+◌, ◌^◌, ◌++◌, ℕ, IfOk, MatchOption, length};
-ghost use Rattle.tpm_wire.specs.{Spelling.{spelling, Fits}, Structures.{sized_bytes}, Buffers.{Takes, TakesAs}};
+ghost use Rattle.tpm_wire.specs.Spelling.{spelling, Fits};
+ghost use Rattle.tpm_wire.specs.Structures.{sized_bytes};
+ghost use Rattle.tpm_wire.specs.Buffers.{Takes, TakesAs};
 ghost use Rattle.tpm_commands.specs.Events.{event_bytes};
 
 use std::marker::Model;

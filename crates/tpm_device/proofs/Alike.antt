@@ -1,11 +1,20 @@
 -- What a command leaves of what authorized it.
-use Rattle.std.{proofs.Common.{◌≡◌, ℕ, Bool, true, false, List, [], ◌∷◌, Option, Some, None, refl, sym, ap, ◌∙◌}, specs.Prelude.{if◌then◌else◌}}
+use Rattle.std.proofs.Common.{◌≡◌, ℕ, Bool, true, false, List, [], ◌∷◌, Option, Some, None, refl, sym, ap, ◌∙◌}
+use Rattle.std.specs.Prelude.{if◌then◌else◌}
 use Rattle.tpm_types.specs.Handles.{is_owner, is_pcr, is_nv_index}
-use Rattle.tpm_commands.specs.{declared.{command.CommandBody.{CommandBody}, response.ReplyBody.{ReplyBody}}, Handles.{needs_authorization}}
+use Rattle.tpm_commands.specs.declared.command.CommandBody.{CommandBody}
+use Rattle.tpm_commands.specs.declared.response.ReplyBody.{ReplyBody}
+use Rattle.tpm_commands.specs.Handles.{needs_authorization}
 use Rattle.tpm_commands.specs.declared.command.CommandBody.TheVariants as bodies
 use Rattle.tpm_buffer.specs.Commands.{code_for}
-use Rattle.tpm_model.specs.{Steps.{History, Origin}, Counters.{Counter, has_index, counter_in, incremented, with_increment, nv_memory}, Present.{Present, present}, Entities.{Entity, Register, Null, Owner, entity_of, index_entity, auth_value, is_owner_entity}}
-use Rattle.tpm_device.{specs.{declared.device.Device.{Device}, Stands.{holds, Stands, step_of, owner_authorizes, IsAlike}}, proofs.Further.{its_sessions, sessions_stay}}
+use Rattle.tpm_model.specs.Steps.{History, Origin}
+use Rattle.tpm_model.specs.Counters.{Counter, has_index, counter_in, incremented, with_increment, nv_memory}
+use Rattle.tpm_model.specs.Present.{Present, present}
+use Rattle.tpm_model.specs.Entities.{Entity, Register, Null, Owner, entity_of, index_entity, auth_value}
+use Rattle.tpm_model.specs.Entities.{is_owner_entity}
+use Rattle.tpm_device.specs.declared.device.Device.{Device}
+use Rattle.tpm_device.specs.Stands.{holds, Stands, step_of, owner_authorizes, IsAlike}
+use Rattle.tpm_device.proofs.Further.{its_sessions, sessions_stay}
 
 -- the entity of a handle, by what it is tested for
 abbrev named : (pcr owner index : Bool) → List ℕ → Option Counter → Entity

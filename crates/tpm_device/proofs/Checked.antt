@@ -1,11 +1,31 @@
 -- What is known of a command that was read, and of the checks of its sessions.
-use Rattle.std.{proofs.Common.{◌≡◌, ℕ, Bool, true, false, List, [], ◌∷◌, Option, Some, None, Result, Ok, refl, sym, ap, subst, ◌∙◌}, specs.Prelude.{◌==◌, if◌then◌else◌, slice_get, IsSome}}
-use Rattle.tpm_wire.{specs.{Buffers.{number_in, numbered}, Token.{Here}, Reading.{read, ◌>>=◌}, ResponseCodes.{rc_value, of_handle}}, proofs.{Agreement.{bind_ok}, Longer.{in_set}}}
-use Rattle.tpm_types.specs.{declared.tpms.Auth.{Auth}, Handles.{is_owner, is_session, rs_pw}}
-use Rattle.tpm_commands.specs.{declared.{code.CommandCode.{CommandCode}, command_handles.HandleKind.{HandleKind, TheVariants.{Owner, Index}}}, Handles.{admits, first, handles, handles_from}}
+use Rattle.std.proofs.Common.{◌≡◌, ℕ, Bool, true, false, List, [], ◌∷◌, Option, Some, None, Result, Ok, refl, sym, ap}
+use Rattle.std.proofs.Common.{subst, ◌∙◌}
+use Rattle.std.specs.Prelude.{◌==◌, if◌then◌else◌, slice_get, IsSome}
+use Rattle.tpm_wire.specs.Buffers.{number_in, numbered}
+use Rattle.tpm_wire.specs.Token.{Here}
+use Rattle.tpm_wire.specs.Reading.{read, ◌>>=◌}
+use Rattle.tpm_wire.specs.ResponseCodes.{rc_value, of_handle}
+use Rattle.tpm_wire.proofs.Agreement.{bind_ok}
+use Rattle.tpm_wire.proofs.Longer.{in_set}
+use Rattle.tpm_types.specs.declared.tpms.Auth.{Auth}
+use Rattle.tpm_types.specs.Handles.{is_owner, is_session, rs_pw}
+use Rattle.tpm_commands.specs.declared.code.CommandCode.{CommandCode}
+use Rattle.tpm_commands.specs.declared.command_handles.HandleKind.TheVariants.{Owner, Index}
+use Rattle.tpm_commands.specs.declared.command_handles.HandleKind.{HandleKind}
+use Rattle.tpm_commands.specs.Handles.{admits, first, handles, handles_from}
 use Rattle.tpm_commands.specs.declared.code.CommandCode.TheVariants as codes
 use Rattle.tpm_buffer.specs.CommandAreas.{Cut}
-use Rattle.tpm_model.{specs.{Sessions.{Session, loaded}, Present.{Present}, Entities.{Entity, entity_of, names_of}, Authorization.{Evidence, NotAsked, Authorizer, Password, by_session, check_session, check_entity, evidence_by, check_evidence, authorize, reply_auths, password_reply}, Answers.{evidence_in}}, proofs.{Sealing.{okay_is}, Refused.{handles_read, same_list}, Replay.{no_password}}}
+use Rattle.tpm_model.specs.Sessions.{Session, loaded}
+use Rattle.tpm_model.specs.Present.{Present}
+use Rattle.tpm_model.specs.Entities.{Entity, entity_of, names_of}
+use Rattle.tpm_model.specs.Authorization.{Evidence, NotAsked, Authorizer, Password, by_session, check_session}
+use Rattle.tpm_model.specs.Authorization.{check_entity, evidence_by, check_evidence, authorize, reply_auths}
+use Rattle.tpm_model.specs.Authorization.{password_reply}
+use Rattle.tpm_model.specs.Answers.{evidence_in}
+use Rattle.tpm_model.proofs.Sealing.{okay_is}
+use Rattle.tpm_model.proofs.Refused.{handles_read, same_list}
+use Rattle.tpm_model.proofs.Replay.{no_password}
 use Rattle.tpm_device.specs.Stands.{evidence_for, sessions_checked, owner_authorizes}
 
 -- ---- the handles

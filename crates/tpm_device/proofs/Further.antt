@@ -1,11 +1,23 @@
 -- A device that stands one step further.
-use Rattle.std.{proofs.Common.{◌≡◌, ℕ, Bool, true, false, List, [], ◌∷◌, Option, Result, Ok, Err, refl, sym, ap, ◌∙◌}, specs.Prelude.{◌||◌, ◌++◌, OnOk}}
-use Rattle.tpm_types.specs.{declared.tpms.{Auth.{Auth}, AuthReply.{AuthReply}}, Handles.{is_session}}
-use Rattle.tpm_commands.specs.{declared.{command.{Command.{Command}, CommandBody.{CommandBody}}, response.ReplyBody.{ReplyBody}}, Handles.{needs_authorization}}
+use Rattle.std.proofs.Common.{◌≡◌, ℕ, Bool, true, false, List, [], ◌∷◌, Option, Result, Ok, Err, refl, sym, ap, ◌∙◌}
+use Rattle.std.specs.Prelude.{◌||◌, ◌++◌, OnOk}
+use Rattle.tpm_types.specs.declared.tpms.Auth.{Auth}
+use Rattle.tpm_types.specs.declared.tpms.AuthReply.{AuthReply}
+use Rattle.tpm_types.specs.Handles.{is_session}
+use Rattle.tpm_commands.specs.declared.command.Command.{Command}
+use Rattle.tpm_commands.specs.declared.command.CommandBody.{CommandBody}
+use Rattle.tpm_commands.specs.declared.response.ReplyBody.{ReplyBody}
+use Rattle.tpm_commands.specs.Handles.{needs_authorization}
 use Rattle.tpm_commands.specs.declared.command.CommandBody.TheVariants as bodies
-use Rattle.tpm_buffer.specs.{Commands.{code_for, with_auths}, Responses.{Reply}}
-use Rattle.tpm_model.specs.{Steps.{History, Accepted, Origin, starts, started as started_of}, Registers.{Registers, changes, changes_by, registers_after}, Sessions.{Session, sessions_at}, Counters.{NvMemory, nv_by, nv_memory}, Present.{Present}}
-use Rattle.tpm_device.specs.{declared.device.Device.{Device}, Stands.{Stands, Steps, step_of}}
+use Rattle.tpm_buffer.specs.Commands.{code_for, with_auths}
+use Rattle.tpm_buffer.specs.Responses.{Reply}
+use Rattle.tpm_model.specs.Steps.{History, Accepted, Origin, starts, started as started_of}
+use Rattle.tpm_model.specs.Registers.{Registers, changes, changes_by, registers_after}
+use Rattle.tpm_model.specs.Sessions.{Session, sessions_at}
+use Rattle.tpm_model.specs.Counters.{NvMemory, nv_by, nv_memory}
+use Rattle.tpm_model.specs.Present.{Present}
+use Rattle.tpm_device.specs.declared.device.Device.{Device}
+use Rattle.tpm_device.specs.Stands.{Stands, Steps, step_of}
 
 abbrev made : Bool → List ℕ → Registers → List (Option Session) → NvMemory → Present
 made started owner registers sessions nv = record { started = started; owner = owner; registers = registers; sessions = sessions; nv = nv }

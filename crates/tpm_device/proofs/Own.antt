@@ -1,9 +1,16 @@
 -- What a command answers is its own reply.
-use Rattle.std.{proofs.Common.{◌≡◌, ℕ, List, Result, Ok, Err}, specs.Prelude.{IfOk}}
+use Rattle.std.proofs.Common.{◌≡◌, ℕ, List, Result, Ok, Err}
+use Rattle.std.specs.Prelude.{IfOk}
 use Rattle.tpm_wire.specs.Reading.{read_all, ◌>>=◌}
-use Rattle.tpm_commands.specs.{declared.{command.CommandBody.{CommandBody}, response.ReplyBody.{ReplyBody}}, Parameters.{parameters}, Replies.{code_for_reply}}
+use Rattle.tpm_commands.specs.declared.command.CommandBody.{CommandBody}
+use Rattle.tpm_commands.specs.declared.response.ReplyBody.{ReplyBody}
+use Rattle.tpm_commands.specs.Parameters.{parameters}
+use Rattle.tpm_commands.specs.Replies.{code_for_reply}
 use Rattle.tpm_buffer.specs.Commands.{body_from, code_for}
-use Rattle.tpm_model.{specs.{Present.{Present}, Actions.{action}, Answers.{Presented, Done, code_only, permitted, performed, outcome}}, proofs.EachCommand.{own_reply}}
+use Rattle.tpm_model.specs.Present.{Present}
+use Rattle.tpm_model.specs.Actions.{action}
+use Rattle.tpm_model.specs.Answers.{Presented, Done, code_only, permitted, performed, outcome}
+use Rattle.tpm_model.proofs.EachCommand.{own_reply}
 
 -- where it succeeds, with the command's own reply
 abbrev IsOwn : CommandBody → ReplyBody → Type 0

@@ -1,12 +1,42 @@
 -- What was permitted and performed is the answer.
-use Rattle.std.{proofs.Common.{◌≡◌, ℕ, ◌<◌, List, Option, Result, Ok, Err, refl, sym, ap, ◌∙◌}, specs.Prelude.{IfOk, IfErr}}
+use Rattle.std.proofs.Common.{◌≡◌, ℕ, ◌<◌, List, Option, Result, Ok, Err, refl, sym, ap, ◌∙◌}
+use Rattle.std.specs.Prelude.{IfOk, IfErr}
 use Rattle.arrayvec.specs.ArrayVec.{ArrayVec}
-use Rattle.tpm_wire.specs.{declared.refusal.Refusal.{Refusal}, Token.{at_start}, Reading.{read, read_all, ◌>>=◌}, Spelling.{spelling}}
-use Rattle.tpm_types.specs.{declared.tpms.{Auth.{Auth}, AuthReply.{AuthReply}}, Handles.{is_owner}}
-use Rattle.tpm_commands.specs.{declared.{code.CommandCode.{CommandCode}, command.{CommandBody.{CommandBody}, Header.{Header}}, command_parameters.Params.{Params}, response.ReplyBody.{ReplyBody}}, Handles.{first, needs_authorization}, Parameters.{parameters}, Replies.{code_for_reply}}
-use Rattle.tpm_buffer.specs.{CommandAreas.{HeaderCut, HandlesCut, Cut, head_and_rest, params_here, IsHandled, IsAreas}, Commands.{authorization, command_size, header, body_from, code_for}, Responses.{response_tag, response_front, response_code, response, done_with}}
-use Rattle.tpm_model.{specs.{Present.{Present}, Sessions.{loaded}, Entities.{entity_of, names_of}, Authorization.{Evidence, first_loaded, reply_auths, check_evidence}, Actions.{action}, Answers.{Presented, Done, check_started, check_handles, check_tag, presented, permitted, performed, outcome, answered, reply_params}, Premises.{code_in}}, proofs.{Accepted.{ok_is}, Refused.{refused_with}, OwnCode.{no_session_read, needs_it}}}
-use Rattle.tpm_device.{specs.{declared.device.Device.{Device}, Stands.{holds, evidence_for, sessions_checked, owner_authorizes, IsAdmitted, IsRead, IsPermittedBy, presented_with, done_of, Steps, Replies, Rolls, IsReady, Performs, reply_bytes, told}}, proofs.{Alike.{alike}, Checked.{owner_read}}}
+use Rattle.tpm_wire.specs.declared.refusal.Refusal.{Refusal}
+use Rattle.tpm_wire.specs.Token.{at_start}
+use Rattle.tpm_wire.specs.Reading.{read, read_all, ◌>>=◌}
+use Rattle.tpm_wire.specs.Spelling.{spelling}
+use Rattle.tpm_types.specs.declared.tpms.Auth.{Auth}
+use Rattle.tpm_types.specs.declared.tpms.AuthReply.{AuthReply}
+use Rattle.tpm_types.specs.Handles.{is_owner}
+use Rattle.tpm_commands.specs.declared.code.CommandCode.{CommandCode}
+use Rattle.tpm_commands.specs.declared.command.CommandBody.{CommandBody}
+use Rattle.tpm_commands.specs.declared.command.Header.{Header}
+use Rattle.tpm_commands.specs.declared.command_parameters.Params.{Params}
+use Rattle.tpm_commands.specs.declared.response.ReplyBody.{ReplyBody}
+use Rattle.tpm_commands.specs.Handles.{first, needs_authorization}
+use Rattle.tpm_commands.specs.Parameters.{parameters}
+use Rattle.tpm_commands.specs.Replies.{code_for_reply}
+use Rattle.tpm_buffer.specs.CommandAreas.{HeaderCut, HandlesCut, Cut, head_and_rest, params_here, IsHandled, IsAreas}
+use Rattle.tpm_buffer.specs.Commands.{authorization, command_size, header, body_from, code_for}
+use Rattle.tpm_buffer.specs.Responses.{response_tag, response_front, response_code, response, done_with}
+use Rattle.tpm_model.specs.Present.{Present}
+use Rattle.tpm_model.specs.Sessions.{loaded}
+use Rattle.tpm_model.specs.Entities.{entity_of, names_of}
+use Rattle.tpm_model.specs.Authorization.{Evidence, first_loaded, reply_auths, check_evidence}
+use Rattle.tpm_model.specs.Actions.{action}
+use Rattle.tpm_model.specs.Answers.{Presented, Done, check_started, check_handles, check_tag, presented, permitted}
+use Rattle.tpm_model.specs.Answers.{performed, outcome, answered, reply_params}
+use Rattle.tpm_model.specs.Premises.{code_in}
+use Rattle.tpm_model.proofs.Accepted.{ok_is}
+use Rattle.tpm_model.proofs.Refused.{refused_with}
+use Rattle.tpm_model.proofs.OwnCode.{no_session_read, needs_it}
+use Rattle.tpm_device.specs.declared.device.Device.{Device}
+use Rattle.tpm_device.specs.Stands.{holds, evidence_for, sessions_checked, owner_authorizes, IsAdmitted, IsRead}
+use Rattle.tpm_device.specs.Stands.{IsPermittedBy, presented_with, done_of, Steps, Replies, Rolls, IsReady, Performs}
+use Rattle.tpm_device.specs.Stands.{reply_bytes, told}
+use Rattle.tpm_device.proofs.Alike.{alike}
+use Rattle.tpm_device.proofs.Checked.{owner_read}
 use Rattle.tpm_session.proofs.Authorized.{authorized}
 
 -- ---- before the parameters

@@ -2,8 +2,20 @@
 use Rattle.std.proofs.Common.{◌≡◌, ℕ, ◌<◌, List, [], ◌∷◌, ◌++◌, Some, Result, Ok, Err, refl, sym, ap, subst, ◌∙◌, arith}
 use Rattle.tpm_types.specs.declared.handle_sets.NvAuthHandle.{NvAuthHandle}
 use Rattle.tpm_commands.specs.declared.command.CommandBody.TheVariants.{NvIncrement}
-use Rattle.tpm_model.{specs.{Steps.{History, Origin, PowerCycle}, Counters.{counter_in, value_of, value_at}, Present.{Present, present}, Answers.{Done, outcome, answer, next}, Runs.{Event, Given, Cycled, after, run}, Premises.{code_in, IsAccepted, HasSessionMac, NoncesDiffer, NoCollision}}, proofs.{Refused.{refused_with}, Replay.{twice}, Rising.{more_than_had, more_than_made}, Runs.{after-append}, Told.{told_refused}}}
-use Rattle.tpm_device.specs.{declared.device.Device.{Device}, Stands.{holds, Stands}, Runs.{Executes, Answers, value_on}}
+use Rattle.tpm_model.specs.Steps.{History, Origin, PowerCycle}
+use Rattle.tpm_model.specs.Counters.{counter_in, value_of, value_at}
+use Rattle.tpm_model.specs.Present.{Present, present}
+use Rattle.tpm_model.specs.Answers.{Done, outcome, answer, next}
+use Rattle.tpm_model.specs.Runs.{Event, Given, Cycled, after, run}
+use Rattle.tpm_model.specs.Premises.{code_in, IsAccepted, HasSessionMac, NoncesDiffer, NoCollision}
+use Rattle.tpm_model.proofs.Refused.{refused_with}
+use Rattle.tpm_model.proofs.Replay.{twice}
+use Rattle.tpm_model.proofs.Rising.{more_than_had, more_than_made}
+use Rattle.tpm_model.proofs.Runs.{after-append}
+use Rattle.tpm_model.proofs.Told.{told_refused}
+use Rattle.tpm_device.specs.declared.device.Device.{Device}
+use Rattle.tpm_device.specs.Stands.{holds, Stands}
+use Rattle.tpm_device.specs.Runs.{Executes, Answers, value_on}
 
 pub as_the_model : (o : Origin) (h : History) (old new : Device) (es : List Event) (responses : List (List ℕ)) → Stands o h old → Answers old es responses new
     → (responses ≡ run o h es) × Stands o (after o h es) new

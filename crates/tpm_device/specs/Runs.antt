@@ -1,7 +1,11 @@
 -- What a device answers to events, one after the other.
 use Rattle.std.specs.Prelude.{◌≡◌, ℕ, List, [], ◌∷◌, Option}
-use Rattle.tpm_model.specs.{Steps.{History, Origin, PowerCycle}, Counters.{counter_in, value_of}, Answers.{answer, next}, Runs.{Event, Given, Cycled}}
-use Rattle.tpm_device.specs.{declared.device.Device.{Device}, Stands.{holds, Stands}}
+use Rattle.tpm_model.specs.Steps.{History, Origin, PowerCycle}
+use Rattle.tpm_model.specs.Counters.{counter_in, value_of}
+use Rattle.tpm_model.specs.Answers.{answer, next}
+use Rattle.tpm_model.specs.Runs.{Event, Given, Cycled}
+use Rattle.tpm_device.specs.declared.device.Device.{Device}
+use Rattle.tpm_device.specs.Stands.{holds, Stands}
 
 -- what a call of `execute` promises: from one device to the other, with this response
 pub record Executes (old : Device) (bytes nonce response : List ℕ) (new : Device) : Type 0 where

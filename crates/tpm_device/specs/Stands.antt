@@ -1,13 +1,31 @@
 -- A device that holds what is present at a history.
-use Rattle.std.specs.Prelude.{◌≡◌, ℕ, Bool, true, false, List, [], ◌∷◌, length, slice_get, Option, None, Result, Ok, Err, IfErr, OnOk, OnErr}
+use Rattle.std.specs.Prelude.{◌≡◌, ℕ, Bool, true, false, List, [], ◌∷◌, length, slice_get, Option, None, Result, Ok}
+use Rattle.std.specs.Prelude.{Err, IfErr, OnOk, OnErr}
 use Rattle.arrayvec.specs.ArrayVec.{ArrayVec}
-use Rattle.tpm_wire.specs.{Reading.{◌>>=◌}, Spelling.{spelling}}
-use Rattle.tpm_types.specs.{declared.tpms.{Auth.{Auth}, AuthReply.{AuthReply}}, Handles.{is_owner}}
-use Rattle.tpm_commands.specs.{declared.{code.CommandCode.{CommandCode}, command.CommandBody.{CommandBody}, response.ReplyBody.{ReplyBody}}, Handles.{first, needs_authorization}, Table.{row}, Replies.{code_for_reply}}
+use Rattle.tpm_wire.specs.Reading.{◌>>=◌}
+use Rattle.tpm_wire.specs.Spelling.{spelling}
+use Rattle.tpm_types.specs.declared.tpms.Auth.{Auth}
+use Rattle.tpm_types.specs.declared.tpms.AuthReply.{AuthReply}
+use Rattle.tpm_types.specs.Handles.{is_owner}
+use Rattle.tpm_commands.specs.declared.code.CommandCode.{CommandCode}
+use Rattle.tpm_commands.specs.declared.command.CommandBody.{CommandBody}
+use Rattle.tpm_commands.specs.declared.response.ReplyBody.{ReplyBody}
+use Rattle.tpm_commands.specs.Handles.{first, needs_authorization}
+use Rattle.tpm_commands.specs.Table.{row}
+use Rattle.tpm_commands.specs.Replies.{code_for_reply}
 use Rattle.tpm_commands.specs.declared.code.CommandCode.TheVariants as codes
 use Rattle.tpm_commands.specs.declared.response.ReplyBody.TheVariants as replies
-use Rattle.tpm_buffer.specs.{CommandAreas.{Cut}, Commands.{code_for, with_auths}, Responses.{Reply, response, done_with}}
-use Rattle.tpm_model.specs.{Steps.{History, Origin, Step, Accepted}, Present.{Present, present}, Entities.{entity_of, names_of, auth_value, is_owner_entity}, Sessions.{Session, loaded}, Authorization.{Evidence, first_loaded, authorize, reply_auths, is_empty}, Actions.{action}, Answers.{Presented, Done, evidence_in, reply_params, with_outcome}, Premises.{code_in}}
+use Rattle.tpm_buffer.specs.CommandAreas.{Cut}
+use Rattle.tpm_buffer.specs.Commands.{code_for, with_auths}
+use Rattle.tpm_buffer.specs.Responses.{Reply, response, done_with}
+use Rattle.tpm_model.specs.Steps.{History, Origin, Step, Accepted}
+use Rattle.tpm_model.specs.Present.{Present, present}
+use Rattle.tpm_model.specs.Entities.{entity_of, names_of, auth_value, is_owner_entity}
+use Rattle.tpm_model.specs.Sessions.{Session, loaded}
+use Rattle.tpm_model.specs.Authorization.{Evidence, first_loaded, authorize, reply_auths, is_empty}
+use Rattle.tpm_model.specs.Actions.{action}
+use Rattle.tpm_model.specs.Answers.{Presented, Done, evidence_in, reply_params, with_outcome}
+use Rattle.tpm_model.specs.Premises.{code_in}
 use Rattle.tpm_device.specs.declared.device.Device.{Device}
 
 -- the slots where no session is loaded

@@ -1,7 +1,8 @@
 //! The actions of the commands.
 
 ghost use Rattle.std.specs.Prelude.{◌≡◌, true, OnOk, OnErr};
-ghost use Rattle.tpm_commands.specs.{Handles.{needs_authorization}, Parameters.{params_code}};
+ghost use Rattle.tpm_commands.specs.Handles.{needs_authorization};
+ghost use Rattle.tpm_commands.specs.Parameters.{params_code};
 ghost use Rattle.tpm_buffer.specs.Commands.{body_from};
 ghost use Rattle.tpm_model.specs.Actions.{action};
 ghost use Rattle.tpm_device.specs.Stands.{holds, acted, Steps};

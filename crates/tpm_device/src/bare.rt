@@ -4,7 +4,8 @@
 //! in registers.
 
 ghost use Rattle.std.specs.Prelude.{◌≡◌, ◌≤◌, length, Ok, IfSome};
-ghost use Rattle.tpm_wire.specs.{Reading.{read_all}, Buffers.{TakesNumbered}};
+ghost use Rattle.tpm_wire.specs.Reading.{read_all};
+ghost use Rattle.tpm_wire.specs.Buffers.{TakesNumbered};
 ghost use Rattle.tpm_commands.specs.declared.code.CommandCode.TheVariants as codes;
 ghost use Rattle.tpm_commands.specs.declared.command_parameters.Params.TheVariants as of_command;
 ghost use Rattle.tpm_commands.specs.Parameters.{parameters, params_code, startup, nv_read};

@@ -1,7 +1,9 @@
 //! The checks before a command's authorization, but those by the grammar.
 
 ghost use Rattle.std.specs.Prelude.{◌≡◌, ◌≤◌, length, is_some};
-ghost use Rattle.tpm_model.specs.{Sessions.{loaded}, Answers.{check_started as started_of, check_handle as handle_of, check_handles as handles_of, check_tag as tag_of}};
+ghost use Rattle.tpm_model.specs.Sessions.{loaded};
+ghost use Rattle.tpm_model.specs.Answers.{check_started as started_of, check_handle as handle_of};
+ghost use Rattle.tpm_model.specs.Answers.{check_handles as handles_of, check_tag as tag_of};
 ghost use Rattle.tpm_device.specs.Stands.{holds};
 
 use crate::device::Device;

@@ -3,8 +3,12 @@
 ghost use Rattle.std.specs.Prelude.{◌≡◌, ◌<◌, [], ◌∷◌, length, Ok, Err, IfOk, IfErr, OnOk, OnErr};
 ghost use Rattle.tpm_commands.specs.Parameters.{params_code};
 ghost use Rattle.tpm_buffer.specs.Commands.{body_from};
-ghost use Rattle.tpm_model.specs.{Steps.{History, PowerCycle, Origin}, Answers.{presented as presented_of, performed as performed_of, outcome as outcome_of, answered, answer, next, with_outcome}, Premises.{code_in}};
-ghost use Rattle.tpm_device.specs.Stands.{none_loaded, Stands, holds, IsAdmitted, IsRead, IsReady, Performs, done_of, given, told};
+ghost use Rattle.tpm_model.specs.Steps.{History, PowerCycle, Origin};
+ghost use Rattle.tpm_model.specs.Answers.{presented as presented_of, performed as performed_of, outcome as outcome_of};
+ghost use Rattle.tpm_model.specs.Answers.{answered, answer, next, with_outcome};
+ghost use Rattle.tpm_model.specs.Premises.{code_in};
+ghost use Rattle.tpm_device.specs.Stands.{none_loaded, Stands, holds, IsAdmitted, IsRead, IsReady, Performs, done_of};
+ghost use Rattle.tpm_device.specs.Stands.{given, told};
 
 use crate::bare::bare;
 use crate::checks::{check_started, check_tag};

@@ -1,7 +1,8 @@
 //! TPM2_PCR_Extend from its parameters to its reply. Neither goes through the room of the longest.
 
 ghost use Rattle.std.specs.Prelude.{◌≡◌, ◌≤◌, length, Ok, Err};
-ghost use Rattle.tpm_wire.specs.{Reading.{read_all, Gives}, Buffers.{TakesNumbered}};
+ghost use Rattle.tpm_wire.specs.Reading.{read_all, Gives};
+ghost use Rattle.tpm_wire.specs.Buffers.{TakesNumbered};
 ghost use Rattle.tpm_commands.specs.declared.code.CommandCode.TheVariants as codes;
 ghost use Rattle.tpm_commands.specs.declared.command_parameters.Params.TheVariants as of_command;
 ghost use Rattle.tpm_commands.specs.Parameters.{parameters, pcr_extend};

@@ -3,8 +3,14 @@
 ghost use Rattle.std.specs.Prelude.{◌≡◌, ◌<◌, ℕ, List, [], ◌∷◌, ◌++◌, Some, Ok};
 ghost use Rattle.tpm_types.specs.declared.handle_sets.NvAuthHandle.{NvAuthHandle};
 ghost use Rattle.tpm_commands.specs.declared.command.CommandBody.TheVariants.{NvIncrement};
-ghost use Rattle.tpm_model.specs.{Steps.{History, Origin}, Answers.{Done, outcome}, Runs.{Event, after, run, Event.{Given}}, Premises.{code_in, HasSessionMac, NoncesDiffer, NoCollision}};
-ghost use Rattle.tpm_device.specs.{declared.device.Device.{Device}, Stands.{holds, Stands}, Runs.{Executes, Answers, value_on}};
+ghost use Rattle.tpm_model.specs.Steps.{History, Origin};
+ghost use Rattle.tpm_model.specs.Answers.{Done, outcome};
+ghost use Rattle.tpm_model.specs.Runs.Event.{Given};
+ghost use Rattle.tpm_model.specs.Runs.{Event, after, run};
+ghost use Rattle.tpm_model.specs.Premises.{code_in, HasSessionMac, NoncesDiffer, NoCollision};
+ghost use Rattle.tpm_device.specs.declared.device.Device.{Device};
+ghost use Rattle.tpm_device.specs.Stands.{holds, Stands};
+ghost use Rattle.tpm_device.specs.Runs.{Executes, Answers, value_on};
 
 /// The responses of a device to buffers, nonces and power cycles, whatever they are, are the model's run, and the device stands
 /// at the history after them.

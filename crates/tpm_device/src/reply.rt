@@ -1,11 +1,22 @@
 //! The response.
 
-ghost use Rattle.std.specs.Prelude.{◌≡◌, ◌<◌, true, List, [], ◌∷◌, length, Some, None, Ok, Err, IsSome, slice_get, if◌then◌else◌};
-ghost use Rattle.tpm_types.specs.{declared.tpms.{Auth.{Auth}, AuthReply.{AuthReply as ReplyOf}}, Handles.{is_session}};
-ghost use Rattle.tpm_commands.specs.{declared.{response.ReplyBody.{ReplyBody as BodyOf}, command.CommandBody.{CommandBody}}, Handles.{first as first_of, needs_authorization}};
+ghost use Rattle.std.specs.Prelude.{◌≡◌, ◌<◌, true, List, [], ◌∷◌, length, Some, None, Ok, Err, IsSome, slice_get};
+ghost use Rattle.std.specs.Prelude.{if◌then◌else◌};
+ghost use Rattle.tpm_types.specs.declared.tpms.Auth.{Auth};
+ghost use Rattle.tpm_types.specs.declared.tpms.AuthReply.{AuthReply as ReplyOf};
+ghost use Rattle.tpm_types.specs.Handles.{is_session};
+ghost use Rattle.tpm_commands.specs.declared.response.ReplyBody.{ReplyBody as BodyOf};
+ghost use Rattle.tpm_commands.specs.declared.command.CommandBody.{CommandBody};
+ghost use Rattle.tpm_commands.specs.Handles.{first as first_of, needs_authorization};
 ghost use Rattle.tpm_buffer.specs.Commands.{code_for, with_auths};
-ghost use Rattle.tpm_model.specs.{Steps.{History, Origin, Accepted}, Present.{Present}, Sessions.{loaded}, Authorization.{Evidence, reply_auths, password_reply as password_reply_of}, Answers.{answered, reply_params}, Premises.{code_in}};
-ghost use Rattle.tpm_device.specs.Stands.{Stands, step_of, evidence_for, IsAlike, Replies, Rolls, any_bare, is_bare, reply_bytes};
+ghost use Rattle.tpm_model.specs.Steps.{History, Origin, Accepted};
+ghost use Rattle.tpm_model.specs.Present.{Present};
+ghost use Rattle.tpm_model.specs.Sessions.{loaded};
+ghost use Rattle.tpm_model.specs.Authorization.{Evidence, reply_auths, password_reply as password_reply_of};
+ghost use Rattle.tpm_model.specs.Answers.{answered, reply_params};
+ghost use Rattle.tpm_model.specs.Premises.{code_in};
+ghost use Rattle.tpm_device.specs.Stands.{Stands, step_of, evidence_for, IsAlike, Replies, Rolls, any_bare, is_bare};
+ghost use Rattle.tpm_device.specs.Stands.{reply_bytes};
 
 use crate::device::Device;
 use crate::handles::first;

@@ -1,5 +1,8 @@
 -- Bytes that are compared by their XOR.
-use Rattle.std.{proofs.{Common.{◌≡◌, ℕ, List, ◌∷◌, length, bit_or, bit_xor, refl, sym, ap, ◌∙◌, arith}, lemmas.{List.{nil_from_length}, Nat.{le_or_l, le_or_r}}}, specs.Int.Bits.{xor_assoc, xor_self, xor_zero_l, xor_zero_r}}
+use Rattle.std.proofs.Common.{◌≡◌, ℕ, List, ◌∷◌, length, bit_or, bit_xor, refl, sym, ap, ◌∙◌, arith}
+use Rattle.std.proofs.lemmas.List.{nil_from_length}
+use Rattle.std.proofs.lemmas.Nat.{le_or_l, le_or_r}
+use Rattle.std.specs.Int.Bits.{xor_assoc, xor_self, xor_zero_l, xor_zero_r}
 
 xor_none : (x y : ℕ) → bit_xor x y ≡ 0 → x ≡ y
 xor_none x y none = sym (xor_zero_r x) ∙ ap (bit_xor x) (sym (xor_self y)) ∙ sym (xor_assoc x y y) ∙ ap (λ (n : ℕ). bit_xor n y) none ∙ xor_zero_l y

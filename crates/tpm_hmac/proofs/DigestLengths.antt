@@ -1,10 +1,14 @@
 -- The lengths of digests and MACs.
-use Rattle.std.{proofs.Common.{◌≡◌, ℕ, zero, suc, ◌*◌, length, slice_index, arith, length-append, length-take-le, List, refl, ◌∙◌}, specs.Int.{w32, w64, to_be_bytes}}
+use Rattle.std.proofs.Common.{◌≡◌, ℕ, zero, suc, ◌*◌, length, slice_index, arith, length-append, length-take-le, List}
+use Rattle.std.proofs.Common.{refl, ◌∙◌}
+use Rattle.std.specs.Int.{w32, w64, to_be_bytes}
 use Rattle.sha1.specs.Sha1 as S1
 use Rattle.sha2.specs.Sha256 as S2
 use Rattle.sha2.specs.Sha512 as S3
-use Rattle.tpm_types.specs.{declared.alg.Alg.{Alg}, Alg.{digest_len}}
-use Rattle.tpm_hmac.specs.{Hashes.{digest}, Hmac.{hmac}}
+use Rattle.tpm_types.specs.declared.alg.Alg.{Alg}
+use Rattle.tpm_types.specs.Alg.{digest_len}
+use Rattle.tpm_hmac.specs.Hashes.{digest}
+use Rattle.tpm_hmac.specs.Hmac.{hmac}
 
 length-sha1_bytes : (h : List ℕ) (n : ℕ) → length (S1.digest_bytes h n) ≡ 4 * n
 unfolding S1.digest_bytes

@@ -1,5 +1,8 @@
 -- A key in a block.
-use Rattle.std.proofs.{Common.{◌≡◌, ℕ, ◌+◌, ◌-◌, ◌≤◌, List, ◌++◌, length, take, drop, replicate, length-append, append_assoc, refl, sym, ap, ◌∙◌, arith}, Math.Seq.{take-append-add}, lemmas.List.{take_at, drop_at, drop-drop, drop-replicate, take-replicate}}
+use Rattle.std.proofs.Common.{◌≡◌, ℕ, ◌+◌, ◌-◌, ◌≤◌, List, ◌++◌, length, take, drop, replicate, length-append}
+use Rattle.std.proofs.Common.{append_assoc, refl, sym, ap, ◌∙◌, arith}
+use Rattle.std.proofs.Math.Seq.{take-append-add}
+use Rattle.std.proofs.lemmas.List.{take_at, drop_at, drop-drop, drop-replicate, take-replicate}
 use Rattle.tpm_hmac.specs.Hmac.{filled}
 
 -- what is left of the zeros behind two parts that were written one after the other

@@ -1,5 +1,6 @@
 -- Two parts, written one behind the other.
-use Rattle.std.proofs.{Common.{◌≡◌, ℕ, ◌+◌, ◌-◌, List, ◌++◌, length, take, drop, replicate, length-append, ◌∙◌, arith}, lemmas.List.{append-nil}}
+use Rattle.std.proofs.Common.{◌≡◌, ℕ, ◌+◌, ◌-◌, List, ◌++◌, length, take, drop, replicate, length-append, ◌∙◌, arith}
+use Rattle.std.proofs.lemmas.List.{append-nil}
 use Rattle.tpm_hmac.proofs.Filling.{fill_both}
 
 -- parts that fill a list are all of it

@@ -1,7 +1,12 @@
 -- The blocks of KDFa.
-use Rattle.std.{proofs.{Common.{◌≡◌, ℕ, zero, suc, ◌+◌, ◌*◌, ◌<◌, ◌≤◌, List, [], ◌++◌, length, take, drop, refl, sym, ap, ◌∙◌, arith, add-one, length-append, length-take-le, append_assoc}, lemmas.List.{take_all, take_at, take-append-drop}}, specs.Int.{w32, to_be_bytes}}
-use Rattle.tpm_types.specs.{declared.alg.Alg.{Alg}, Alg.{digest_len}}
-use Rattle.tpm_hmac.{specs.Hmac.{kdfa, kdfa_block, kdfa_blocks, kdfa_text, block_count}, proofs.DigestLengths.{length-hmac}}
+use Rattle.std.proofs.Common.{◌≡◌, ℕ, zero, suc, ◌+◌, ◌*◌, ◌<◌, ◌≤◌, List, [], ◌++◌, length, take, drop, refl, sym, ap}
+use Rattle.std.proofs.Common.{◌∙◌, arith, add-one, length-append, length-take-le, append_assoc}
+use Rattle.std.proofs.lemmas.List.{take_all, take_at, take-append-drop}
+use Rattle.std.specs.Int.{w32, to_be_bytes}
+use Rattle.tpm_types.specs.declared.alg.Alg.{Alg}
+use Rattle.tpm_types.specs.Alg.{digest_len}
+use Rattle.tpm_hmac.specs.Hmac.{kdfa, kdfa_block, kdfa_blocks, kdfa_text, block_count}
+use Rattle.tpm_hmac.proofs.DigestLengths.{length-hmac}
 
 -- where the next block ends
 pub next_end : (alg : Alg) (k : ℕ) → (k + 1) * digest_len alg ≡ k * digest_len alg + digest_len alg

@@ -1,7 +1,10 @@
 -- What is kept of a key makes its HMACs.
-use Rattle.std.proofs.{Common.{◌≡◌, ℕ, List, ◌++◌, refl, ◌∙◌}, lemmas.List.{take-map}}
-use Rattle.tpm_types.specs.declared.alg.Alg.{Alg, TheVariants.{Sha1, Sha256}}
-use Rattle.tpm_hmac.specs.{Hashes.{digest}, Hmac.{hmac, block_key, xored}}
+use Rattle.std.proofs.Common.{◌≡◌, ℕ, List, ◌++◌, refl, ◌∙◌}
+use Rattle.std.proofs.lemmas.List.{take-map}
+use Rattle.tpm_types.specs.declared.alg.Alg.TheVariants.{Sha1, Sha256}
+use Rattle.tpm_types.specs.declared.alg.Alg.{Alg}
+use Rattle.tpm_hmac.specs.Hashes.{digest}
+use Rattle.tpm_hmac.specs.Hmac.{hmac, block_key, xored}
 use Rattle.sha1.specs.Sha1.{sha1}
 use Rattle.sha2.specs.Sha256.{sha256}
 

@@ -1,5 +1,7 @@
 -- Trailing zeros.
-use Rattle.std.proofs.{Common.{◌≡◌, ℕ, zero, suc, ◌+◌, ◌<◌, List, [], ◌∷◌, ◌++◌, length, take, replicate, slice_index_or, refl, ap, sym, ◌∙◌, arith}, lemmas.List.{take_more}}
+use Rattle.std.proofs.Common.{◌≡◌, ℕ, zero, suc, ◌+◌, ◌<◌, List, [], ◌∷◌, ◌++◌, length, take, replicate, slice_index_or}
+use Rattle.std.proofs.Common.{refl, ap, sym, ◌∙◌, arith}
+use Rattle.std.proofs.lemmas.List.{take_more}
 use Rattle.tpm_hmac.specs.Sessions.{trim, before_trimmed}
 
 -- a zero at the end is left out

@@ -1,7 +1,10 @@
 -- What a hasher and an HMAC hold of a message that comes piece by piece.
 use Rattle.std.specs.Prelude.{◌≡◌, ℕ, List, ◌++◌}
-use Rattle.tpm_types.specs.declared.alg.Alg.{Alg, TheVariants.{Sha1, Sha256, Sha384}}
-use Rattle.tpm_hmac.specs.{declared.{hashing.Hasher.{Hasher}, mac.Mac.{Mac}}, Hmac.{block_key, xored}}
+use Rattle.tpm_types.specs.declared.alg.Alg.TheVariants.{Sha1, Sha256, Sha384}
+use Rattle.tpm_types.specs.declared.alg.Alg.{Alg}
+use Rattle.tpm_hmac.specs.declared.hashing.Hasher.{Hasher}
+use Rattle.tpm_hmac.specs.declared.mac.Mac.{Mac}
+use Rattle.tpm_hmac.specs.Hmac.{block_key, xored}
 use Rattle.tpm_hmac.specs.declared.hashing.Hasher.TheVariants as the
 use Rattle.sha1.specs.Sha1 as S1
 use Rattle.sha2.specs.Hashers.{Holds256, Holds384}

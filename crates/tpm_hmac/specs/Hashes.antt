@@ -1,8 +1,10 @@
 -- The hashes by name (FIPS 180-4, over the definitions of the crates sha1 and sha2).
 use Rattle.std.specs.Prelude.{ℕ, List}
-use Rattle.tpm_types.specs.declared.alg.Alg.{Alg, TheVariants.{Sha1, Sha256, Sha384}}
+use Rattle.tpm_types.specs.declared.alg.Alg.TheVariants.{Sha1, Sha256, Sha384}
+use Rattle.tpm_types.specs.declared.alg.Alg.{Alg}
 use Rattle.sha1.specs.Sha1.{sha1}
-use Rattle.sha2.specs.{Sha256.{sha256}, Sha512.{sha384}}
+use Rattle.sha2.specs.Sha256.{sha256}
+use Rattle.sha2.specs.Sha512.{sha384}
 
 -- the digest of a message
 unfoldable pub digest : Alg → List ℕ → List ℕ

@@ -1,6 +1,9 @@
 -- HMAC (RFC 2104) and KDFa (Part 1, "KDFa()": SP 800-108 in counter mode, with HMAC).
-use Rattle.std.specs.{Prelude.{ℕ, zero, suc, ◌+◌, ◌-◌, ◌*◌, ◌/◌, nat_lt, List, [], ◌∷◌, ◌++◌, length, map, take, replicate, bit_xor, if◌then◌else◌}, Int.{w32, to_be_bytes}}
-use Rattle.tpm_types.specs.{declared.alg.Alg.{Alg}, Alg.{block_len, digest_len}}
+use Rattle.std.specs.Prelude.{ℕ, zero, suc, ◌+◌, ◌-◌, ◌*◌, ◌/◌, nat_lt, List, [], ◌∷◌, ◌++◌, length, map, take}
+use Rattle.std.specs.Prelude.{replicate, bit_xor, if◌then◌else◌}
+use Rattle.std.specs.Int.{w32, to_be_bytes}
+use Rattle.tpm_types.specs.declared.alg.Alg.{Alg}
+use Rattle.tpm_types.specs.Alg.{block_len, digest_len}
 use Rattle.tpm_hmac.specs.Hashes.{digest}
 
 -- ---- HMAC (RFC 2104, section 2)

@@ -1,7 +1,9 @@
 -- A key of HMACs, and what is kept of it (RFC 2104, section 4).
 use Rattle.std.specs.Prelude.{◌≡◌, ⊤, ℕ, List}
-use Rattle.tpm_types.specs.declared.alg.Alg.{Alg, TheVariants.{Sha1, Sha256}}
-use Rattle.tpm_hmac.specs.{declared.key.Kept.{Kept}, Hmac.{block_key, xored}}
+use Rattle.tpm_types.specs.declared.alg.Alg.TheVariants.{Sha1, Sha256}
+use Rattle.tpm_types.specs.declared.alg.Alg.{Alg}
+use Rattle.tpm_hmac.specs.declared.key.Kept.{Kept}
+use Rattle.tpm_hmac.specs.Hmac.{block_key, xored}
 use Rattle.tpm_hmac.specs.declared.key.Kept.TheVariants as the
 use Rattle.sha1.specs.Sha1 as S1
 use Rattle.sha2.specs.Hashers.{Holds256}

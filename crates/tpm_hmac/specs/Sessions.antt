@@ -1,7 +1,11 @@
 -- What the HMAC of a session is made of (Part 1, "Session-Based Authorizations" and "Command Parameter Hash").
-use Rattle.std.specs.{Prelude.{ℕ, zero, Bool, true, false, List, [], ◌∷◌, ◌++◌, Option, Some, None}, List.{flat_map}, Int.{w32, to_be_bytes}}
-use Rattle.tpm_types.specs.{declared.alg.Alg.{Alg}, Alg.{digest_len}}
-use Rattle.tpm_hmac.specs.{Hashes.{digest}, Hmac.{kdfa}}
+use Rattle.std.specs.Prelude.{ℕ, zero, Bool, true, false, List, [], ◌∷◌, ◌++◌, Option, Some, None}
+use Rattle.std.specs.List.{flat_map}
+use Rattle.std.specs.Int.{w32, to_be_bytes}
+use Rattle.tpm_types.specs.declared.alg.Alg.{Alg}
+use Rattle.tpm_types.specs.Alg.{digest_len}
+use Rattle.tpm_hmac.specs.Hashes.{digest}
+use Rattle.tpm_hmac.specs.Hmac.{kdfa}
 
 -- ---- authorization values
 

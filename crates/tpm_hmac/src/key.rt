@@ -1,12 +1,16 @@
 //! A key that is hashed once for many HMACs (RFC 2104, section 4).
 #![tactic(auto, using(crate::proofs::Kept::changed))]
 
-ghost use Rattle.std.specs.{Prelude.{◌≡◌, ℕ, List, ◌++◌, length, take}, List.{flat_map}};
+ghost use Rattle.std.specs.Prelude.{◌≡◌, ℕ, List, ◌++◌, length, take};
+ghost use Rattle.std.specs.List.{flat_map};
 ghost use Rattle.tpm_types.specs.Alg.{digest_len, block_len};
 ghost use Rattle.tpm_types.specs.declared.alg.Alg.TheVariants as algs;
-ghost use Rattle.tpm_hmac.specs.{Hashes.{digest}, Hmac.{hmac as hmac_of, block_key, xored as xored_bytes}, Keys.{IsKept}};
+ghost use Rattle.tpm_hmac.specs.Hashes.{digest};
+ghost use Rattle.tpm_hmac.specs.Hmac.{hmac as hmac_of, block_key, xored as xored_bytes};
+ghost use Rattle.tpm_hmac.specs.Keys.{IsKept};
 ghost use Rattle.sha1.specs.Sha1.{Holds, sha1};
-ghost use Rattle.sha2.specs.{Hashers.{Holds256}, Sha256.{sha256}};
+ghost use Rattle.sha2.specs.Hashers.{Holds256};
+ghost use Rattle.sha2.specs.Sha256.{sha256};
 
 use crate::hashing::digest_of;
 use crate::mac::{INNER_PAD, OUTER_PAD, hmac, key_block, xored};

@@ -1,8 +1,11 @@
 //! What holds of every digest, every MAC, every derived key and every trimmed value.
 
 ghost use Rattle.std.specs.Prelude.{◌≡◌, ◌≢◌, ℕ, List, [], ◌∷◌, ◌++◌, length, replicate};
-ghost use Rattle.tpm_types.specs.{declared.alg.Alg.{Alg}, Alg.{digest_len}};
-ghost use Rattle.tpm_hmac.specs.{Hashes.{digest}, Hmac.{hmac, kdfa}, Sessions.{trim}};
+ghost use Rattle.tpm_types.specs.declared.alg.Alg.{Alg};
+ghost use Rattle.tpm_types.specs.Alg.{digest_len};
+ghost use Rattle.tpm_hmac.specs.Hashes.{digest};
+ghost use Rattle.tpm_hmac.specs.Hmac.{hmac, kdfa};
+ghost use Rattle.tpm_hmac.specs.Sessions.{trim};
 
 /// Each digest and each MAC has its hash's length, and a derived key the length that is asked for.
 pub fn lengths()

@@ -1,8 +1,12 @@
 //! HMAC (RFC 2104).
 
-ghost use Rattle.std.specs.{Prelude.{◌≡◌, ℕ, ◌+◌, ◌<◌, ◌≤◌, List, [], ◌++◌, length, take}, List.{flat_map}};
-ghost use Rattle.tpm_types.specs.{declared.alg.Alg.{Alg}, Alg.{digest_len, block_len}, Limits.{block_bytes}};
-ghost use Rattle.tpm_hmac.specs.{Hmac.{filled, block_key, xored as xored_bytes, hmac as hmac_of}, Hashers.{Holding, MacHolds}};
+ghost use Rattle.std.specs.Prelude.{◌≡◌, ℕ, ◌+◌, ◌<◌, ◌≤◌, List, [], ◌++◌, length, take};
+ghost use Rattle.std.specs.List.{flat_map};
+ghost use Rattle.tpm_types.specs.declared.alg.Alg.{Alg};
+ghost use Rattle.tpm_types.specs.Alg.{digest_len, block_len};
+ghost use Rattle.tpm_types.specs.Limits.{block_bytes};
+ghost use Rattle.tpm_hmac.specs.Hmac.{filled, block_key, xored as xored_bytes, hmac as hmac_of};
+ghost use Rattle.tpm_hmac.specs.Hashers.{Holding, MacHolds};
 
 use crate::bytes::put;
 use crate::hashing::Hasher;

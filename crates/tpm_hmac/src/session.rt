@@ -1,9 +1,13 @@
 //! What the HMACs of sessions are made of (Part 1, "Session-Based Authorizations").
 
-ghost use Rattle.std.specs.{Prelude.{◌≡◌, ℕ, List, Some, ◌++◌, length}, List.{flat_map}};
+ghost use Rattle.std.specs.Prelude.{◌≡◌, ℕ, List, Some, ◌++◌, length};
+ghost use Rattle.std.specs.List.{flat_map};
 ghost use Rattle.tpm_types.specs.Alg.{digest_len};
 ghost use Rattle.tpm_commands.specs.Codes.{code_number};
-ghost use Rattle.tpm_hmac.specs.{Hashes.{digest}, Hmac.{hmac as hmac_of}, Sessions.{session_key as session_key_of, whole_key, mac_text, cp_hash as cp_hash_of, rp_hash as rp_hash_of}};
+ghost use Rattle.tpm_hmac.specs.Hashes.{digest};
+ghost use Rattle.tpm_hmac.specs.Hmac.{hmac as hmac_of};
+ghost use Rattle.tpm_hmac.specs.Sessions.{session_key as session_key_of, whole_key, mac_text, cp_hash as cp_hash_of};
+ghost use Rattle.tpm_hmac.specs.Sessions.{rp_hash as rp_hash_of};
 
 use crate::bytes::trim;
 use crate::hashing::{Hasher, digest_of, hash};

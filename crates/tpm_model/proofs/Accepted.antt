@@ -1,9 +1,19 @@
 -- What an accepted buffer has passed, and what holds along runs.
-use Rattle.std.{proofs.Common.{◌≡◌, ℕ, List, [], ◌∷◌, Result, Ok, Err, Option, Some, None, refl, ap, subst}, specs.Prelude.{ok_or}}
-use Rattle.tpm_wire.{specs.Reading.{read_all}, proofs.Agreement.{bind_ok}}
-use Rattle.tpm_commands.specs.{declared.command_parameters.Params.{Params}, Parameters.{parameters}}
+use Rattle.std.proofs.Common.{◌≡◌, ℕ, List, [], ◌∷◌, Result, Ok, Err, Option, Some, None, refl, ap, subst}
+use Rattle.std.specs.Prelude.{ok_or}
+use Rattle.tpm_wire.specs.Reading.{read_all}
+use Rattle.tpm_wire.proofs.Agreement.{bind_ok}
+use Rattle.tpm_commands.specs.declared.command_parameters.Params.{Params}
+use Rattle.tpm_commands.specs.Parameters.{parameters}
 use Rattle.tpm_buffer.specs.Commands.{body_from}
-use Rattle.tpm_model.specs.{Steps.{History, Accepted, PowerCycle, Origin}, Present.{Present, present}, Authorization.{check_evidence, reply_auths}, Actions.{action}, Answers.{Presented, presented, permitted, Done, reply_params, performed, outcome, code_only, with_outcome, next}, Runs.{Event, after, Event.{Given, Cycled}}}
+use Rattle.tpm_model.specs.Steps.{History, Accepted, PowerCycle, Origin}
+use Rattle.tpm_model.specs.Present.{Present, present}
+use Rattle.tpm_model.specs.Authorization.{check_evidence, reply_auths}
+use Rattle.tpm_model.specs.Actions.{action}
+use Rattle.tpm_model.specs.Answers.{Presented, presented, permitted, Done, reply_params, performed, outcome, code_only}
+use Rattle.tpm_model.specs.Answers.{with_outcome, next}
+use Rattle.tpm_model.specs.Runs.Event.{Given, Cycled}
+use Rattle.tpm_model.specs.Runs.{Event, after}
 
 abbrev ok : {A : Type 0} → A → Result A ℕ
 ok x = Ok x

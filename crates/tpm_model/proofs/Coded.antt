@@ -1,8 +1,23 @@
 -- The layouts of a command refuse with codes.
-use Rattle.std.{proofs.Common.{ℕ, ◌+◌, ◌<◌, Bool, true, false, List, [], ◌∷◌, length, arith}, specs.Prelude.{◌==◌}}
-use Rattle.tpm_wire.specs.{Buffers.{Layout}, Layout.{either}, ResponseCodes.{rc_reserved_bits, rc_value}}
-use Rattle.tpm_types.specs.{Alg.{hash}, Constants.{session_type, key_bits}, Handles.{auth_session, nv_index, is_auth_session, is_nv_index}, Limits.{digest_bytes, banks, public_bytes}, Tpma.{session_attrs, nv_attrs, is_session_attrs, is_nv_attrs}, Tpm2b.{encrypted_salt}, Tpml.{selections}, Tpms.{selection, auth_command, nv_public_area, nv_public}, Tpmt.{digest_value, algorithm, mode, sym_def}}
-use Rattle.tpm_commands.specs.{declared.{command_handles.HandleKind.{HandleKind}, code.CommandCode.{CommandCode}}, Codes.{command_code}, Handles.{admits, handles_from, handles, handle_kinds}, Parameters.{start_auth_session}}
+use Rattle.std.proofs.Common.{ℕ, ◌+◌, ◌<◌, Bool, true, false, List, [], ◌∷◌, length, arith}
+use Rattle.std.specs.Prelude.{◌==◌}
+use Rattle.tpm_wire.specs.Buffers.{Layout}
+use Rattle.tpm_wire.specs.Layout.{either}
+use Rattle.tpm_wire.specs.ResponseCodes.{rc_reserved_bits, rc_value}
+use Rattle.tpm_types.specs.Alg.{hash}
+use Rattle.tpm_types.specs.Constants.{session_type, key_bits}
+use Rattle.tpm_types.specs.Handles.{auth_session, nv_index, is_auth_session, is_nv_index}
+use Rattle.tpm_types.specs.Limits.{digest_bytes, banks, public_bytes}
+use Rattle.tpm_types.specs.Tpma.{session_attrs, nv_attrs, is_session_attrs, is_nv_attrs}
+use Rattle.tpm_types.specs.Tpm2b.{encrypted_salt}
+use Rattle.tpm_types.specs.Tpml.{selections}
+use Rattle.tpm_types.specs.Tpms.{selection, auth_command, nv_public_area, nv_public}
+use Rattle.tpm_types.specs.Tpmt.{digest_value, algorithm, mode, sym_def}
+use Rattle.tpm_commands.specs.declared.command_handles.HandleKind.{HandleKind}
+use Rattle.tpm_commands.specs.declared.code.CommandCode.{CommandCode}
+use Rattle.tpm_commands.specs.Codes.{command_code}
+use Rattle.tpm_commands.specs.Handles.{admits, handles_from, handles, handle_kinds}
+use Rattle.tpm_commands.specs.Parameters.{start_auth_session}
 use Rattle.tpm_commands.specs.declared.code.CommandCode.TheVariants as codes
 use Rattle.tpm_buffer.specs.Commands.{tag, command_size, header, sessions, authorization_size, authorization}
 use Rattle.tpm_model.proofs.Nonzero.{IsCoded, coded_in, coded_number, coded_sized_bytes, coded_sized, coded_counted}

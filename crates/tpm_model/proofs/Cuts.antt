@@ -1,7 +1,14 @@
 -- A command is cut by the grammar.
 use Rattle.std.proofs.Common.{◌≡◌, ℕ, List, Result, Ok, Err, refl, ap, ◌∙◌}
-use Rattle.tpm_wire.{specs.{declared.refusal.Refusal.{Refusal}, Buffers.{buffer, Layout}, Token.{Here}, Reading.{read, read_all}}, proofs.{Buffers.{buffer_sound}, Whole.{spells_read, read_spells, fault_read, read_fault, reads_its_path}}}
-use Rattle.tpm_model.{specs.{Answers.{code_only}, Premises.{IsByGrammar, IsWholeByGrammar}}, proofs.Spelled.{code_ok}}
+use Rattle.tpm_wire.specs.declared.refusal.Refusal.{Refusal}
+use Rattle.tpm_wire.specs.Buffers.{buffer, Layout}
+use Rattle.tpm_wire.specs.Token.{Here}
+use Rattle.tpm_wire.specs.Reading.{read, read_all}
+use Rattle.tpm_wire.proofs.Buffers.{buffer_sound}
+use Rattle.tpm_wire.proofs.Whole.{spells_read, read_spells, fault_read, read_fault, reads_its_path}
+use Rattle.tpm_model.specs.Answers.{code_only}
+use Rattle.tpm_model.specs.Premises.{IsByGrammar, IsWholeByGrammar}
+use Rattle.tpm_model.proofs.Spelled.{code_ok}
 
 by_fault : {A : Type 0} (r : Result A Refusal) (code : ℕ) → code_only r ≡ Err code → (e : Refusal) × (r ≡ Err e) × (e.code ≡ code)
 by_fault (Ok y) code is = absurd (let z : ⊥ = cc in z)

@@ -1,14 +1,49 @@
 -- What holds of each command in the model, a line for each.
-use Rattle.std.{proofs.Common.{ℕ, ◌+◌, Bool, true, false, List, length, arith, ◌≡◌, Ok, refl, Result, Err, Option, Some, None, not}, specs.{Prelude.{◌==◌, if◌then◌else◌, ◌^◌, ◌&&◌, ◌||◌, ok_or, is_some, nat_lt, nat_le, bytes_eq, take, drop, IfOk}, Int.{w64, to_be_bytes}}}
-use Rattle.tpm_wire.specs.{Buffers.{Layout}, ResponseCodes.{rc_value}, Layout.Form.{done, field}, Reading.{◌>>=◌}}
-use Rattle.tpm_types.specs.{declared.{constants.StartupType.{StartupType, TheVariants.{Clear, State}}, handle_sets.{PcrOrNull.{PcrOrNull}, NvAuthHandle.{NvAuthHandle}}, tpms.NvPublic.{NvPublic}}, Alg.{digest_len}, Constants.{startup_type}, Handles.{session, is_session}, Limits.{digest_bytes, banks}, Tpma.{owner_writes, owner_reads}, Tpm2b.{digest}, Tpml.{most_digests}, Tpmt.{digest_value}}
+use Rattle.std.proofs.Common.{ℕ, ◌+◌, Bool, true, false, List, length, arith, ◌≡◌, Ok, refl, Result, Err, Option, Some}
+use Rattle.std.proofs.Common.{None, not}
+use Rattle.std.specs.Prelude.{◌==◌, if◌then◌else◌, ◌^◌, ◌&&◌, ◌||◌, ok_or, is_some, nat_lt, nat_le, bytes_eq, take}
+use Rattle.std.specs.Prelude.{drop, IfOk}
+use Rattle.std.specs.Int.{w64, to_be_bytes}
+use Rattle.tpm_wire.specs.Buffers.{Layout}
+use Rattle.tpm_wire.specs.ResponseCodes.{rc_value}
+use Rattle.tpm_wire.specs.Layout.Form.{done, field}
+use Rattle.tpm_wire.specs.Reading.{◌>>=◌}
+use Rattle.tpm_types.specs.declared.constants.StartupType.TheVariants.{Clear, State}
+use Rattle.tpm_types.specs.declared.constants.StartupType.{StartupType}
+use Rattle.tpm_types.specs.declared.handle_sets.PcrOrNull.{PcrOrNull}
+use Rattle.tpm_types.specs.declared.handle_sets.NvAuthHandle.{NvAuthHandle}
+use Rattle.tpm_types.specs.declared.tpms.NvPublic.{NvPublic}
+use Rattle.tpm_types.specs.Alg.{digest_len}
+use Rattle.tpm_types.specs.Constants.{startup_type}
+use Rattle.tpm_types.specs.Handles.{session, is_session}
+use Rattle.tpm_types.specs.Limits.{digest_bytes, banks}
+use Rattle.tpm_types.specs.Tpma.{owner_writes, owner_reads}
+use Rattle.tpm_types.specs.Tpm2b.{digest}
+use Rattle.tpm_types.specs.Tpml.{most_digests}
+use Rattle.tpm_types.specs.Tpmt.{digest_value}
 use Rattle.tpm_types.specs.declared.handle_sets.PcrOrNull.TheVariants as registers
-use Rattle.tpm_commands.specs.{declared.{code.CommandCode.{CommandCode}, command.{CommandBody.{CommandBody}, StartAuth.{StartAuth}}, response.ReplyBody.{ReplyBody}}, Parameters.{parameters, nv_define_space, startup, nv_read, flush_context, policy_command_code, policy_or, start_auth_session, pcr_read, policy_pcr, pcr_extend, pcr_event, params_code}, Events.{event_bytes}, Replies.{code_for_reply}}
+use Rattle.tpm_commands.specs.declared.code.CommandCode.{CommandCode}
+use Rattle.tpm_commands.specs.declared.command.CommandBody.{CommandBody}
+use Rattle.tpm_commands.specs.declared.command.StartAuth.{StartAuth}
+use Rattle.tpm_commands.specs.declared.response.ReplyBody.{ReplyBody}
+use Rattle.tpm_commands.specs.Parameters.{parameters, nv_define_space, startup, nv_read, flush_context}
+use Rattle.tpm_commands.specs.Parameters.{policy_command_code, policy_or, start_auth_session, pcr_read, policy_pcr}
+use Rattle.tpm_commands.specs.Parameters.{pcr_extend, pcr_event, params_code}
+use Rattle.tpm_commands.specs.Events.{event_bytes}
+use Rattle.tpm_commands.specs.Replies.{code_for_reply}
 use Rattle.tpm_commands.specs.declared.code.CommandCode.TheVariants as codes
 use Rattle.tpm_commands.specs.declared.command.CommandBody.TheVariants as bodies
 use Rattle.tpm_buffer.specs.Commands.{code_for}
 use Rattle.tpm_hmac.specs.Sessions.{trim}
-use Rattle.tpm_model.{specs.{Present.{Present}, Authorization.{refuse, is_empty, differs}, Sessions.{Session, is_trial, loaded, free_slot}, Counters.{Counter, counter_in, next_value}, Actions.{check_startup, check_extend, start_session, check_policy_pcr, is_definable, most_counters, counter_size, check_define, defined_counter, may, increment, read_counter, then_reply, action, policy_session}}, proofs.{Nonzero.{IsCoded, coded_in, coded_number, coded_sized_bytes, coded_counted, IsAnswered}, Coded.{coded_selections, coded_digest_value, coded_public, coded_start}}}
+use Rattle.tpm_model.specs.Present.{Present}
+use Rattle.tpm_model.specs.Authorization.{refuse, is_empty, differs}
+use Rattle.tpm_model.specs.Sessions.{Session, is_trial, loaded, free_slot}
+use Rattle.tpm_model.specs.Counters.{Counter, counter_in, next_value}
+use Rattle.tpm_model.specs.Actions.{check_startup, check_extend, start_session, check_policy_pcr, is_definable}
+use Rattle.tpm_model.specs.Actions.{most_counters, counter_size, check_define, defined_counter, may, increment}
+use Rattle.tpm_model.specs.Actions.{read_counter, then_reply, action, policy_session}
+use Rattle.tpm_model.proofs.Nonzero.{IsCoded, coded_in, coded_number, coded_sized_bytes, coded_counted, IsAnswered}
+use Rattle.tpm_model.proofs.Coded.{coded_selections, coded_digest_value, coded_public, coded_start}
 
 -- ---- its parameters are refused with codes
 

@@ -1,12 +1,73 @@
 -- A reply of a run that a Waiting opens is the reply to its own buffer.
-use Rattle.std.{proofs.{Common.{◌≡◌, ◌≢◌, ℕ, ◌+◌, ◌≤◌, ◌<◌, List, [], ◌∷◌, ◌++◌, length, take, Result, Ok, Err, Some, None, Option, Bool, true, false, refl, sym, ap, ◌∙◌, subst, arith, inl, inr, length-take, length-append, append_assoc}, lemmas.{Slice.Eq.{bytes_eq-Decides}, List.{append-nil, append_cancel_left, take_at}}}, specs.{Prelude.{◌==◌, ◌⊎◌, if◌then◌else◌, bytes_eq}, Int.{w32, to_be_bytes, bytes_high_first}}}
-use Rattle.tpm_wire.{specs.{declared.refusal.Refusal.{Refusal}, Buffers.{buffer}, Token.{number_of}, Path.{Spells}, Reading.{read_all}, Spelling.{spelling}, ResponseCodes.{rc_attributes, of_session}, Structures.{sized_bytes}}, proofs.{Agreement.{bind_ok}, Buffers.{buffer_sound}, Whole.{exactly_one}}}
-use Rattle.tpm_types.{specs.{declared.tpms.{Auth.{Auth}, AuthReply.{AuthReply}}, Handles.{rs_pw, is_session}, Tpma.{session_attrs, audits_or_encrypts}, Tpms.{auth_response}}, proofs.Algs.{digest_most}}
-use Rattle.tpm_commands.specs.{declared.{code.CommandCode.{CommandCode}, command.Command.{Command}, response.{ReplyBody.{ReplyBody}, Response.{Response}}}, Codes.{code_number}, Handles.{first, needs_authorization}, Replies.{code_for_reply, reply_handles, reply_handles_of}}
+use Rattle.std.proofs.Common.{◌≡◌, ◌≢◌, ℕ, ◌+◌, ◌≤◌, ◌<◌, List, [], ◌∷◌, ◌++◌, length, take, Result, Ok, Err, Some}
+use Rattle.std.proofs.Common.{None, Option, Bool, true, false, refl, sym, ap, ◌∙◌, subst, arith, inl, inr, length-take}
+use Rattle.std.proofs.Common.{length-append, append_assoc}
+use Rattle.std.proofs.lemmas.Slice.Eq.{bytes_eq-Decides}
+use Rattle.std.proofs.lemmas.List.{append-nil, append_cancel_left, take_at}
+use Rattle.std.specs.Prelude.{◌==◌, ◌⊎◌, if◌then◌else◌, bytes_eq}
+use Rattle.std.specs.Int.{w32, to_be_bytes, bytes_high_first}
+use Rattle.tpm_wire.specs.declared.refusal.Refusal.{Refusal}
+use Rattle.tpm_wire.specs.Buffers.{buffer}
+use Rattle.tpm_wire.specs.Token.{number_of}
+use Rattle.tpm_wire.specs.Path.{Spells}
+use Rattle.tpm_wire.specs.Reading.{read_all}
+use Rattle.tpm_wire.specs.Spelling.{spelling}
+use Rattle.tpm_wire.specs.ResponseCodes.{rc_attributes, of_session}
+use Rattle.tpm_wire.specs.Structures.{sized_bytes}
+use Rattle.tpm_wire.proofs.Agreement.{bind_ok}
+use Rattle.tpm_wire.proofs.Buffers.{buffer_sound}
+use Rattle.tpm_wire.proofs.Whole.{exactly_one}
+use Rattle.tpm_types.specs.declared.tpms.Auth.{Auth}
+use Rattle.tpm_types.specs.declared.tpms.AuthReply.{AuthReply}
+use Rattle.tpm_types.specs.Handles.{rs_pw, is_session}
+use Rattle.tpm_types.specs.Tpma.{session_attrs, audits_or_encrypts}
+use Rattle.tpm_types.specs.Tpms.{auth_response}
+use Rattle.tpm_types.proofs.Algs.{digest_most}
+use Rattle.tpm_commands.specs.declared.code.CommandCode.{CommandCode}
+use Rattle.tpm_commands.specs.declared.command.Command.{Command}
+use Rattle.tpm_commands.specs.declared.response.ReplyBody.{ReplyBody}
+use Rattle.tpm_commands.specs.declared.response.Response.{Response}
+use Rattle.tpm_commands.specs.Codes.{code_number}
+use Rattle.tpm_commands.specs.Handles.{first, needs_authorization}
+use Rattle.tpm_commands.specs.Replies.{code_for_reply, reply_handles, reply_handles_of}
 use Rattle.tpm_commands.specs.declared.response.Response.TheVariants as responses
-use Rattle.tpm_buffer.specs.{Commands.{command, command_size, code_for}, Responses.{response, response_front, response_tag, response_code, with_sessions, parameter_size, reply_sessions, further_sessions, size_of_response, done_with}}
-use Rattle.tpm_hmac.{specs.{Hashes.{digest}, Hmac.{hmac}, Sessions.{trim, cp_hash}}, proofs.DigestLengths.{length-digest, length-hmac}}
-use Rattle.tpm_model.{specs.{Steps.{History, PowerCycle, Origin}, Sessions.{Session, loaded, sessions_at}, Present.{present}, Entities.{Entity, entity_of, names_of, auth_value}, Authorization.{refuse, is_empty, Authorizer, Password, BySession, by_session, check_loaded, check_session, check_no_trial, check_no_nonce, check_entity, evidence_by, evidence_of, check_evidence, first_loaded, failure, Signed, command_text, needs_none, is_signed, key_for, Evidence, NotAsked, ByPassword, ByMac, nonce_next, reply_mac, reply_auths, password_reply}, Answers.{presented, Done, outcome, answered, answer, next, reply_params}, Callers.{Seal, seal_key, seal_text, seal_auth, sealed_command, Waiting, waiting, CallerFault, NotExpected, WrongMac, Opened, awaited_text, has_mac, unless, opened_session, opened_response, opened}, Runs.{Event, after, Event.{Given, Cycled}}, Premises.{IsAccepted, HasSessionMac, NoncesDiffer, most_nonce, Keyed, mac_of, IsAmong, texts_checked, NoCollision, IsSealedBy, AreSealed, IsOther, SealsDiffer, keyed_reply, text_by, text_replied, texts_replied, Opening, keyed_awaited, text_awaited, text_opened, texts_opened, NoCollisionWith, IsOfCallers}}, proofs.{Accepted.{Passed, passed, ok_is}, Spelled.{was_read, spelled_by}, Slots.{held}, Nonces.{among_later, has_length}, Replay.{refused_not, cut_front, twice_as}, Sealing.{loaded_handle, hmac_some}, Replies.{own_reply}, RoundTrip.{refused_read}, ReplySessions.{session_list, Lists, listed, none_listed}, OwnCode.{by_session_needs}, ReplyBytes.{session_text, reply_bytes, head_is, one_session}}}
+use Rattle.tpm_buffer.specs.Commands.{command, command_size, code_for}
+use Rattle.tpm_buffer.specs.Responses.{response, response_front, response_tag, response_code, with_sessions}
+use Rattle.tpm_buffer.specs.Responses.{parameter_size, reply_sessions, further_sessions, size_of_response, done_with}
+use Rattle.tpm_hmac.specs.Hashes.{digest}
+use Rattle.tpm_hmac.specs.Hmac.{hmac}
+use Rattle.tpm_hmac.specs.Sessions.{trim, cp_hash}
+use Rattle.tpm_hmac.proofs.DigestLengths.{length-digest, length-hmac}
+use Rattle.tpm_model.specs.Steps.{History, PowerCycle, Origin}
+use Rattle.tpm_model.specs.Sessions.{Session, loaded, sessions_at}
+use Rattle.tpm_model.specs.Present.{present}
+use Rattle.tpm_model.specs.Entities.{Entity, entity_of, names_of, auth_value}
+use Rattle.tpm_model.specs.Authorization.{refuse, is_empty, Authorizer, Password, BySession, by_session, check_loaded}
+use Rattle.tpm_model.specs.Authorization.{check_session, check_no_trial, check_no_nonce, check_entity, evidence_by}
+use Rattle.tpm_model.specs.Authorization.{evidence_of, check_evidence, first_loaded, failure, Signed, command_text}
+use Rattle.tpm_model.specs.Authorization.{needs_none, is_signed, key_for, Evidence, NotAsked, ByPassword, ByMac}
+use Rattle.tpm_model.specs.Authorization.{nonce_next, reply_mac, reply_auths, password_reply}
+use Rattle.tpm_model.specs.Answers.{presented, Done, outcome, answered, answer, next, reply_params}
+use Rattle.tpm_model.specs.Callers.{Seal, seal_key, seal_text, seal_auth, sealed_command, Waiting, waiting, CallerFault}
+use Rattle.tpm_model.specs.Callers.{NotExpected, WrongMac, Opened, awaited_text, has_mac, unless, opened_session}
+use Rattle.tpm_model.specs.Callers.{opened_response, opened}
+use Rattle.tpm_model.specs.Runs.Event.{Given, Cycled}
+use Rattle.tpm_model.specs.Runs.{Event, after}
+use Rattle.tpm_model.specs.Premises.{IsAccepted, HasSessionMac, NoncesDiffer, most_nonce, Keyed, mac_of, IsAmong}
+use Rattle.tpm_model.specs.Premises.{texts_checked, NoCollision, IsSealedBy, AreSealed, IsOther, SealsDiffer}
+use Rattle.tpm_model.specs.Premises.{keyed_reply, text_by, text_replied, texts_replied, Opening, keyed_awaited}
+use Rattle.tpm_model.specs.Premises.{text_awaited, text_opened, texts_opened, NoCollisionWith, IsOfCallers}
+use Rattle.tpm_model.proofs.Accepted.{Passed, passed, ok_is}
+use Rattle.tpm_model.proofs.Spelled.{was_read, spelled_by}
+use Rattle.tpm_model.proofs.Slots.{held}
+use Rattle.tpm_model.proofs.Nonces.{among_later, has_length}
+use Rattle.tpm_model.proofs.Replay.{refused_not, cut_front, twice_as}
+use Rattle.tpm_model.proofs.Sealing.{loaded_handle, hmac_some}
+use Rattle.tpm_model.proofs.Replies.{own_reply}
+use Rattle.tpm_model.proofs.RoundTrip.{refused_read}
+use Rattle.tpm_model.proofs.ReplySessions.{session_list, Lists, listed, none_listed}
+use Rattle.tpm_model.proofs.OwnCode.{by_session_needs}
+use Rattle.tpm_model.proofs.ReplyBytes.{session_text, reply_bytes, head_is, one_session}
 
 -- ---- what was opened
 

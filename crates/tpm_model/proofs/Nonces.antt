@@ -1,12 +1,31 @@
 -- The nonces of sessions along runs.
-use Rattle.std.{proofs.{Common.{◌≡◌, ◌≢◌, ℕ, ◌+◌, ◌≤◌, List, [], ◌∷◌, ◌++◌, length, take, Ok, Some, None, Option, Bool, true, false, ◌||◌, refl, sym, ap, ◌∙◌, subst, arith, inl, inr}, lemmas.Bool.Decides.{nat_tests}}, specs.Prelude.{if◌then◌else◌, ◌==◌, ◌⊎◌, nat_lt, is_some}}
-use Rattle.tpm_wire.{specs.ResponseCodes.{rc_size, of_parameter}, proofs.Agreement.{bind_ok}}
-use Rattle.tpm_types.{specs.Alg.{digest_len}, proofs.Algs.{digest_most}}
-use Rattle.tpm_commands.specs.declared.{command.{Command.{Command}, CommandBody.{CommandBody}, StartAuth.{StartAuth}}, response.ReplyBody.{ReplyBody}}
+use Rattle.std.proofs.Common.{◌≡◌, ◌≢◌, ℕ, ◌+◌, ◌≤◌, List, [], ◌∷◌, ◌++◌, length, take, Ok, Some, None, Option, Bool}
+use Rattle.std.proofs.Common.{true, false, ◌||◌, refl, sym, ap, ◌∙◌, subst, arith, inl, inr}
+use Rattle.std.proofs.lemmas.Bool.Decides.{nat_tests}
+use Rattle.std.specs.Prelude.{if◌then◌else◌, ◌==◌, ◌⊎◌, nat_lt, is_some}
+use Rattle.tpm_wire.specs.ResponseCodes.{rc_size, of_parameter}
+use Rattle.tpm_wire.proofs.Agreement.{bind_ok}
+use Rattle.tpm_types.specs.Alg.{digest_len}
+use Rattle.tpm_types.proofs.Algs.{digest_most}
+use Rattle.tpm_commands.specs.declared.command.Command.{Command}
+use Rattle.tpm_commands.specs.declared.command.CommandBody.{CommandBody}
+use Rattle.tpm_commands.specs.declared.command.StartAuth.{StartAuth}
+use Rattle.tpm_commands.specs.declared.response.ReplyBody.{ReplyBody}
 use Rattle.tpm_commands.specs.declared.command.CommandBody.TheVariants as bodies
 use Rattle.tpm_commands.specs.declared.response.ReplyBody.TheVariants as replies
 use Rattle.tpm_buffer.specs.Responses.{Reply}
-use Rattle.tpm_model.{specs.{Steps.{History, Accepted, PowerCycle, Origin}, Sessions.{Session, slot_of, lives, begins, clears, closes, authorizes, Start, start_of, begun, begun_with, started_by, last_nonce}, Present.{present}, Authorization.{refuse}, Actions.{action}, Answers.{next}, Runs.{Event, after, Event.{Given, Cycled}}, Premises.{nonces, IsAmong, IsApart, AreApart, least_nonce, most_nonce}}, proofs.{Accepted.{along, after_next}, Slots.{Held}}}
+use Rattle.tpm_model.specs.Steps.{History, Accepted, PowerCycle, Origin}
+use Rattle.tpm_model.specs.Sessions.{Session, slot_of, lives, begins, clears, closes, authorizes, Start, start_of}
+use Rattle.tpm_model.specs.Sessions.{begun, begun_with, started_by, last_nonce}
+use Rattle.tpm_model.specs.Present.{present}
+use Rattle.tpm_model.specs.Authorization.{refuse}
+use Rattle.tpm_model.specs.Actions.{action}
+use Rattle.tpm_model.specs.Answers.{next}
+use Rattle.tpm_model.specs.Runs.Event.{Given, Cycled}
+use Rattle.tpm_model.specs.Runs.{Event, after}
+use Rattle.tpm_model.specs.Premises.{nonces, IsAmong, IsApart, AreApart, least_nonce, most_nonce}
+use Rattle.tpm_model.proofs.Accepted.{along, after_next}
+use Rattle.tpm_model.proofs.Slots.{Held}
 
 -- ---- lists of nonces
 

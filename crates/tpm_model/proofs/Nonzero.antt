@@ -1,6 +1,14 @@
 -- Every refusal has a code that is not 0, and that four bytes spell.
-use Rattle.std.{proofs.Common.{◌≡◌, ℕ, zero, suc, ◌+◌, ◌-◌, ◌<◌, ◌^◌, List, [], ◌∷◌, ◌++◌, length, take, Result, Ok, Err, Option, Some, None, Bool, true, false, ◌&&◌, arith, length-append}, specs.Prelude.{◌==◌, nat_lt, nat_le, if◌then◌else◌}}
-use Rattle.tpm_wire.specs.{declared.refusal.Refusal.{Refusal}, Token.{Here, past, at_start, number_of, or_fault}, Layout.Form.{done, number, text, field, area, list, by_left, marked}, Reading.{read, read_all, finish, refuse, unless, found, entries, ◌>>=◌}, Buffers.{buffer, Layout, number_in, too_few}, ResponseCodes.{rc_insufficient, rc_size}, Structures.{sized_bytes, sized, counted}}
+use Rattle.std.proofs.Common.{◌≡◌, ℕ, zero, suc, ◌+◌, ◌-◌, ◌<◌, ◌^◌, List, [], ◌∷◌, ◌++◌, length, take, Result, Ok, Err}
+use Rattle.std.proofs.Common.{Option, Some, None, Bool, true, false, ◌&&◌, arith, length-append}
+use Rattle.std.specs.Prelude.{◌==◌, nat_lt, nat_le, if◌then◌else◌}
+use Rattle.tpm_wire.specs.declared.refusal.Refusal.{Refusal}
+use Rattle.tpm_wire.specs.Token.{Here, past, at_start, number_of, or_fault}
+use Rattle.tpm_wire.specs.Layout.Form.{done, number, text, field, area, list, by_left, marked}
+use Rattle.tpm_wire.specs.Reading.{read, read_all, finish, refuse, unless, found, entries, ◌>>=◌}
+use Rattle.tpm_wire.specs.Buffers.{buffer, Layout, number_in, too_few}
+use Rattle.tpm_wire.specs.ResponseCodes.{rc_insufficient, rc_size}
+use Rattle.tpm_wire.specs.Structures.{sized_bytes, sized, counted}
 
 -- a fault, before a number is added
 abbrev pub IsCode : ℕ → Type 0

@@ -1,11 +1,30 @@
 -- A command that was done is one of the code that was read, and one with a session is one that needs authorization.
-use Rattle.std.{proofs.Common.{◌≡◌, ℕ, List, [], ◌∷◌, length, Ok, Bool, true, false, refl, sym, ap, ◌∙◌, subst}, specs.Prelude.{◌==◌, if◌then◌else◌}}
-use Rattle.tpm_wire.{specs.{declared.refusal.Refusal.{Refusal}, Buffers.{Layout}, Layout.{either, Form.{done, field, area}}, Token.{Here, at_start}, Reading.{read, read_all}, Spelling.{spelling}, ResponseCodes.{rc_auth_context, rc_auth_missing}}, proofs.Agreement.{bind_ok}}
+use Rattle.std.proofs.Common.{◌≡◌, ℕ, List, [], ◌∷◌, length, Ok, Bool, true, false, refl, sym, ap, ◌∙◌, subst}
+use Rattle.std.specs.Prelude.{◌==◌, if◌then◌else◌}
+use Rattle.tpm_wire.specs.declared.refusal.Refusal.{Refusal}
+use Rattle.tpm_wire.specs.Buffers.{Layout}
+use Rattle.tpm_wire.specs.Layout.Form.{done, field, area}
+use Rattle.tpm_wire.specs.Layout.{either}
+use Rattle.tpm_wire.specs.Token.{Here, at_start}
+use Rattle.tpm_wire.specs.Reading.{read, read_all}
+use Rattle.tpm_wire.specs.Spelling.{spelling}
+use Rattle.tpm_wire.specs.ResponseCodes.{rc_auth_context, rc_auth_missing}
+use Rattle.tpm_wire.proofs.Agreement.{bind_ok}
 use Rattle.tpm_types.specs.declared.tpms.Auth.{Auth}
-use Rattle.tpm_commands.specs.{declared.{code.CommandCode.{CommandCode}, command_parameters.Params.{Params}}, Handles.{needs_authorization}, Parameters.{parameters, params_code}}
+use Rattle.tpm_commands.specs.declared.code.CommandCode.{CommandCode}
+use Rattle.tpm_commands.specs.declared.command_parameters.Params.{Params}
+use Rattle.tpm_commands.specs.Handles.{needs_authorization}
+use Rattle.tpm_commands.specs.Parameters.{parameters, params_code}
 use Rattle.tpm_commands.specs.declared.command_parameters.Params.TheVariants as params
 use Rattle.tpm_buffer.specs.Commands.{sessions, authorization_size, authorization, body_from, code_for}
-use Rattle.tpm_model.{specs.{Present.{Present}, Authorization.{refuse as test}, Answers.{check_tag, Done}}, proofs.{Accepted.{Passed}, Spelled.{was_read, code_ok}, Sealing.{okay_is}, ReplySessions.{from_start}, EachCommand.{Ends, own_params}}}
+use Rattle.tpm_model.specs.Present.{Present}
+use Rattle.tpm_model.specs.Authorization.{refuse as test}
+use Rattle.tpm_model.specs.Answers.{check_tag, Done}
+use Rattle.tpm_model.proofs.Accepted.{Passed}
+use Rattle.tpm_model.proofs.Spelled.{was_read, code_ok}
+use Rattle.tpm_model.proofs.Sealing.{okay_is}
+use Rattle.tpm_model.proofs.ReplySessions.{from_start}
+use Rattle.tpm_model.proofs.EachCommand.{Ends, own_params}
 
 -- ---- what a layout ends with
 

@@ -1,11 +1,38 @@
 -- What is not done is refused with a code.
-use Rattle.std.{proofs.Common.{◌≡◌, ℕ, suc, ◌+◌, ◌<◌, List, [], ◌∷◌, length, Result, Ok, Err, Option, Some, None, Bool, true, false, not, sym, ap, ◌∙◌, subst, arith}, specs.Prelude.{if◌then◌else◌, ◌==◌}}
-use Rattle.tpm_wire.{specs.{declared.refusal.Refusal.{Refusal}, Buffers.{Layout, number_in, numbered}, Token.{Here, at_start}, Reading.{read, read_all, ◌>>=◌}, ResponseCodes.{rc_value, of_handle}}, proofs.Agreement.{bind_ok}}
-use Rattle.tpm_types.specs.{declared.tpms.Auth.{Auth}, Handles.{rs_pw, is_policy, is_nv_index}, Tpma.{no_da, audits_or_encrypts}}
-use Rattle.tpm_commands.specs.{declared.{command_handles.HandleKind.{HandleKind}, code.CommandCode.{CommandCode}}, Codes.{code_number}, Handles.{admits, first, handle_kinds, handles_from, handles, needs_authorization}, Parameters.{parameters}}
+use Rattle.std.proofs.Common.{◌≡◌, ℕ, suc, ◌+◌, ◌<◌, List, [], ◌∷◌, length, Result, Ok, Err, Option, Some, None, Bool}
+use Rattle.std.proofs.Common.{true, false, not, sym, ap, ◌∙◌, subst, arith}
+use Rattle.std.specs.Prelude.{if◌then◌else◌, ◌==◌}
+use Rattle.tpm_wire.specs.declared.refusal.Refusal.{Refusal}
+use Rattle.tpm_wire.specs.Buffers.{Layout, number_in, numbered}
+use Rattle.tpm_wire.specs.Token.{Here, at_start}
+use Rattle.tpm_wire.specs.Reading.{read, read_all, ◌>>=◌}
+use Rattle.tpm_wire.specs.ResponseCodes.{rc_value, of_handle}
+use Rattle.tpm_wire.proofs.Agreement.{bind_ok}
+use Rattle.tpm_types.specs.declared.tpms.Auth.{Auth}
+use Rattle.tpm_types.specs.Handles.{rs_pw, is_policy, is_nv_index}
+use Rattle.tpm_types.specs.Tpma.{no_da, audits_or_encrypts}
+use Rattle.tpm_commands.specs.declared.command_handles.HandleKind.{HandleKind}
+use Rattle.tpm_commands.specs.declared.code.CommandCode.{CommandCode}
+use Rattle.tpm_commands.specs.Codes.{code_number}
+use Rattle.tpm_commands.specs.Handles.{admits, first, handle_kinds, handles_from, handles, needs_authorization}
+use Rattle.tpm_commands.specs.Parameters.{parameters}
 use Rattle.tpm_commands.specs.declared.code.CommandCode.TheVariants as codes
 use Rattle.tpm_buffer.specs.Commands.{header, authorization, body_from}
-use Rattle.tpm_model.{specs.{Sessions.{Session, is_hmac, loaded}, Present.{Present}, Entities.{Entity, Register, Index, entity_of, names_of}, Authorization.{is_empty, differs, has_policy, Authorizer, Password, BySession, by_session, check_loaded, check_no_trial, check_no_nonce, check_session, check_auth, check_policy_allowed, check_policy, check_entity, evidence_of, Evidence, NotAsked, ByPassword, ByMac, failure, check_evidence, first_loaded}, Actions.{action}, Answers.{code_only, by_grammar, check_started, check_handle, check_handles, check_tag, Presented, evidence_in, presented, permitted, performed, outcome}}, proofs.{Nonzero.{IsAnswered, IfRefused, IsCoded, read_coded, read_all_coded}, Coded.{coded_header, few_kinds, coded_handles, coded_authorization}, Spelled.{code_ok}, EachCommand.{IfErr, not_refused, with_code, its_code, next_too, afterwards, tested, test_first, one_of, coded_parameters, acted}}}
+use Rattle.tpm_model.specs.Sessions.{Session, is_hmac, loaded}
+use Rattle.tpm_model.specs.Present.{Present}
+use Rattle.tpm_model.specs.Entities.{Entity, Register, Index, entity_of, names_of}
+use Rattle.tpm_model.specs.Authorization.{is_empty, differs, has_policy, Authorizer, Password, BySession, by_session}
+use Rattle.tpm_model.specs.Authorization.{check_loaded, check_no_trial, check_no_nonce, check_session, check_auth}
+use Rattle.tpm_model.specs.Authorization.{check_policy_allowed, check_policy, check_entity, evidence_of, Evidence}
+use Rattle.tpm_model.specs.Authorization.{NotAsked, ByPassword, ByMac, failure, check_evidence, first_loaded}
+use Rattle.tpm_model.specs.Actions.{action}
+use Rattle.tpm_model.specs.Answers.{code_only, by_grammar, check_started, check_handle, check_handles, check_tag}
+use Rattle.tpm_model.specs.Answers.{Presented, evidence_in, presented, permitted, performed, outcome}
+use Rattle.tpm_model.proofs.Nonzero.{IsAnswered, IfRefused, IsCoded, read_coded, read_all_coded}
+use Rattle.tpm_model.proofs.Coded.{coded_header, few_kinds, coded_handles, coded_authorization}
+use Rattle.tpm_model.proofs.Spelled.{code_ok}
+use Rattle.tpm_model.proofs.EachCommand.{IfErr, not_refused, with_code, its_code, next_too, afterwards, tested}
+use Rattle.tpm_model.proofs.EachCommand.{test_first, one_of, coded_parameters, acted}
 
 of_code : {A : Type 0} (r : Result A Refusal) → IfRefused r → IfErr (code_only r)
 of_code (Ok x) c = not_refused

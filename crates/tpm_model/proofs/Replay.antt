@@ -1,11 +1,47 @@
 -- A sealed buffer that is accepted twice has one text, and so one nonce.
-use Rattle.std.{proofs.{Common.{◌≡◌, ◌≢◌, ℕ, ◌<◌, ◌≤◌, List, [], ◌∷◌, ◌++◌, length, take, drop, Ok, Some, None, Option, Bool, true, false, not, ◌&&◌, ◌||◌, refl, sym, ap, ◌∙◌, subst, arith, inl, inr, append_assoc}, lemmas.{List.{drop_at, append_cancel_left, append_cancel_right, take-take}, Bool.Decides.{nat_tests}, Slice.Eq.{bytes_eq-Decides}}}, specs.{Prelude.{◌==◌, if◌then◌else◌, bytes_eq}, List.{flat_map}, Int.{w32, to_be_bytes}}}
-use Rattle.tpm_wire.{specs.{Buffers.{buffer}, Path.{Spells}}, proofs.{Agreement.{bind_ok}, Buffers.{buffer_sound}, Whole.{exactly_one}}}
-use Rattle.tpm_types.specs.{declared.tpms.Auth.{Auth}, Handles.{rs_pw, is_session}}
-use Rattle.tpm_commands.specs.{declared.{code.CommandCode.{CommandCode}, command.Command.{Command}}, Codes.{code_number}, Handles.{first}}
+use Rattle.std.proofs.Common.{◌≡◌, ◌≢◌, ℕ, ◌<◌, ◌≤◌, List, [], ◌∷◌, ◌++◌, length, take, drop, Ok, Some, None, Option}
+use Rattle.std.proofs.Common.{Bool, true, false, not, ◌&&◌, ◌||◌, refl, sym, ap, ◌∙◌, subst, arith, inl, inr}
+use Rattle.std.proofs.Common.{append_assoc}
+use Rattle.std.proofs.lemmas.List.{drop_at, append_cancel_left, append_cancel_right, take-take}
+use Rattle.std.proofs.lemmas.Bool.Decides.{nat_tests}
+use Rattle.std.proofs.lemmas.Slice.Eq.{bytes_eq-Decides}
+use Rattle.std.specs.Prelude.{◌==◌, if◌then◌else◌, bytes_eq}
+use Rattle.std.specs.List.{flat_map}
+use Rattle.std.specs.Int.{w32, to_be_bytes}
+use Rattle.tpm_wire.specs.Buffers.{buffer}
+use Rattle.tpm_wire.specs.Path.{Spells}
+use Rattle.tpm_wire.proofs.Agreement.{bind_ok}
+use Rattle.tpm_wire.proofs.Buffers.{buffer_sound}
+use Rattle.tpm_wire.proofs.Whole.{exactly_one}
+use Rattle.tpm_types.specs.declared.tpms.Auth.{Auth}
+use Rattle.tpm_types.specs.Handles.{rs_pw, is_session}
+use Rattle.tpm_commands.specs.declared.code.CommandCode.{CommandCode}
+use Rattle.tpm_commands.specs.declared.command.Command.{Command}
+use Rattle.tpm_commands.specs.Codes.{code_number}
+use Rattle.tpm_commands.specs.Handles.{first}
 use Rattle.tpm_buffer.specs.Commands.{command}
-use Rattle.tpm_hmac.{specs.{Hashes.{digest}, Hmac.{hmac}, Sessions.{cp_hash, mac_text}}, proofs.DigestLengths.{length-digest, length-hmac}}
-use Rattle.tpm_model.{specs.{Steps.{History, Accepted, PowerCycle, Origin}, Sessions.{Session, slot_of, loaded, lives, last_nonce, begins, authorizes}, Present.{Present, present}, Entities.{Entity, entity_of, names_of}, Authorization.{refuse, is_empty, Password, BySession, by_session, check_loaded, check_session, check_entity, evidence_by, evidence_of, check_evidence, first_loaded, failure, Signed, command_text, needs_none, is_signed, key_for, Evidence, ByMac}, Answers.{Presented, presented, Done, next}, Runs.{Event, after, Event.{Given, Cycled}}, Premises.{IsAccepted, HasSessionMac, nonces, IsAmong, AreApart, NoncesDiffer, least_nonce, Keyed, keyed, mac_of, text_in, text_checked, texts_checked, NoCollision}}, proofs.{Accepted.{Passed, passed, ok_is, next_is}, Runs.{after-append}, Spelled.{was_read, spelled_by}, Slots.{held}, Nonces.{among_later, has_length, fresh, apart_across, apart_front, nonces-append}}}
+use Rattle.tpm_hmac.specs.Hashes.{digest}
+use Rattle.tpm_hmac.specs.Hmac.{hmac}
+use Rattle.tpm_hmac.specs.Sessions.{cp_hash, mac_text}
+use Rattle.tpm_hmac.proofs.DigestLengths.{length-digest, length-hmac}
+use Rattle.tpm_model.specs.Steps.{History, Accepted, PowerCycle, Origin}
+use Rattle.tpm_model.specs.Sessions.{Session, slot_of, loaded, lives, last_nonce, begins, authorizes}
+use Rattle.tpm_model.specs.Present.{Present, present}
+use Rattle.tpm_model.specs.Entities.{Entity, entity_of, names_of}
+use Rattle.tpm_model.specs.Authorization.{refuse, is_empty, Password, BySession, by_session, check_loaded}
+use Rattle.tpm_model.specs.Authorization.{check_session, check_entity, evidence_by, evidence_of, check_evidence}
+use Rattle.tpm_model.specs.Authorization.{first_loaded, failure, Signed, command_text, needs_none, is_signed, key_for}
+use Rattle.tpm_model.specs.Authorization.{Evidence, ByMac}
+use Rattle.tpm_model.specs.Answers.{Presented, presented, Done, next}
+use Rattle.tpm_model.specs.Runs.Event.{Given, Cycled}
+use Rattle.tpm_model.specs.Runs.{Event, after}
+use Rattle.tpm_model.specs.Premises.{IsAccepted, HasSessionMac, nonces, IsAmong, AreApart, NoncesDiffer, least_nonce}
+use Rattle.tpm_model.specs.Premises.{Keyed, keyed, mac_of, text_in, text_checked, texts_checked, NoCollision}
+use Rattle.tpm_model.proofs.Accepted.{Passed, passed, ok_is, next_is}
+use Rattle.tpm_model.proofs.Runs.{after-append}
+use Rattle.tpm_model.proofs.Spelled.{was_read, spelled_by}
+use Rattle.tpm_model.proofs.Slots.{held}
+use Rattle.tpm_model.proofs.Nonces.{among_later, has_length, fresh, apart_across, apart_front, nonces-append}
 
 -- ---- what the checks of a session let through
 

@@ -1,13 +1,49 @@
 -- The reply to a command of a session is read again.
-use Rattle.std.{proofs.{Common.{◌≡◌, ℕ, ◌+◌, ◌≤◌, ◌<◌, ◌^◌, List, [], ◌∷◌, ◌++◌, length, take, drop, Result, Ok, Option, true, refl, sym, ap, subst, arith, inl, length-append, length-take, length-drop}, lemmas.{Bool.{le-leb}, List.{append-nil, Elements.{All-nil}}}}, specs.{Prelude.{nat_lt, not, ok_or}, Int.{w64, to_be_bytes}}}
-use Rattle.tpm_wire.{specs.{Buffers.{buffer}, Reading.{read_all}, Spelling.{spelling, Fits, IsSpelled}, Structures.{sized_bytes, counted}, ResponseCodes.{rc_nv_authorization, rc_nv_range, rc_nv_uninitialized}}, proofs.{Agreement.{bind_ok}, Buffers.{buffer_sound}, Whole.{spells_read}}}
-use Rattle.tpm_types.specs.{declared.{alg.Alg.{Alg, TheVariants.{Sha1, Sha256, Sha384}}, tpms.AuthReply.{AuthReply}, handle_sets.{PcrOrNull.{PcrOrNull}, NvAuthHandle.{NvAuthHandle}}}, Alg.{hash, digest_len}, Tpma.{session_attrs, is_session_attrs, owner_reads}, Tpmt.{digest_value}, Tpms.{auth_response}}
-use Rattle.tpm_commands.specs.{declared.{command.CommandBody.{CommandBody}, response.ReplyBody.{ReplyBody}}, Handles.{needs_authorization}, Replies.{code_for_reply, reply_handles, reply_handles_of, parameters_of_reply, nv_read_reply, pcr_event_reply}}
+use Rattle.std.proofs.Common.{◌≡◌, ℕ, ◌+◌, ◌≤◌, ◌<◌, ◌^◌, List, [], ◌∷◌, ◌++◌, length, take, drop, Result, Ok, Option}
+use Rattle.std.proofs.Common.{true, refl, sym, ap, subst, arith, inl, length-append, length-take, length-drop}
+use Rattle.std.proofs.lemmas.Bool.{le-leb}
+use Rattle.std.proofs.lemmas.List.Elements.{All-nil}
+use Rattle.std.proofs.lemmas.List.{append-nil}
+use Rattle.std.specs.Prelude.{nat_lt, not, ok_or}
+use Rattle.std.specs.Int.{w64, to_be_bytes}
+use Rattle.tpm_wire.specs.Buffers.{buffer}
+use Rattle.tpm_wire.specs.Reading.{read_all}
+use Rattle.tpm_wire.specs.Spelling.{spelling, Fits, IsSpelled}
+use Rattle.tpm_wire.specs.Structures.{sized_bytes, counted}
+use Rattle.tpm_wire.specs.ResponseCodes.{rc_nv_authorization, rc_nv_range, rc_nv_uninitialized}
+use Rattle.tpm_wire.proofs.Agreement.{bind_ok}
+use Rattle.tpm_wire.proofs.Buffers.{buffer_sound}
+use Rattle.tpm_wire.proofs.Whole.{spells_read}
+use Rattle.tpm_types.specs.declared.alg.Alg.TheVariants.{Sha1, Sha256, Sha384}
+use Rattle.tpm_types.specs.declared.alg.Alg.{Alg}
+use Rattle.tpm_types.specs.declared.tpms.AuthReply.{AuthReply}
+use Rattle.tpm_types.specs.declared.handle_sets.PcrOrNull.{PcrOrNull}
+use Rattle.tpm_types.specs.declared.handle_sets.NvAuthHandle.{NvAuthHandle}
+use Rattle.tpm_types.specs.Alg.{hash, digest_len}
+use Rattle.tpm_types.specs.Tpma.{session_attrs, is_session_attrs, owner_reads}
+use Rattle.tpm_types.specs.Tpmt.{digest_value}
+use Rattle.tpm_types.specs.Tpms.{auth_response}
+use Rattle.tpm_commands.specs.declared.command.CommandBody.{CommandBody}
+use Rattle.tpm_commands.specs.declared.response.ReplyBody.{ReplyBody}
+use Rattle.tpm_commands.specs.Handles.{needs_authorization}
+use Rattle.tpm_commands.specs.Replies.{code_for_reply, reply_handles, reply_handles_of, parameters_of_reply}
+use Rattle.tpm_commands.specs.Replies.{nv_read_reply, pcr_event_reply}
 use Rattle.tpm_commands.specs.declared.command.CommandBody.TheVariants as bodies
 use Rattle.tpm_commands.specs.declared.response.ReplyBody.TheVariants as replies
-use Rattle.tpm_buffer.{specs.{Commands.{code_for}, Responses.{Reply, reply_tag, reply, with_sessions, parameter_size, reply_sessions, further_sessions, response, done_with}}, proofs.Answered.{fits_sessions, fits_behind, done_spelled}}
-use Rattle.tpm_hmac.{specs.Hashes.{digest}, proofs.DigestLengths.{length-digest}}
-use Rattle.tpm_model.{specs.{Registers.{event_digests}, Counters.{Counter, counter_in}, Present.{Present}, Authorization.{refuse}, Actions.{counter_size, defined_counter, may, read_counter, then_reply, action}, Answers.{reply_params}, Premises.{most_nonce}}, proofs.Accepted.{ok_is}}
+use Rattle.tpm_buffer.specs.Commands.{code_for}
+use Rattle.tpm_buffer.specs.Responses.{Reply, reply_tag, reply, with_sessions, parameter_size, reply_sessions}
+use Rattle.tpm_buffer.specs.Responses.{further_sessions, response, done_with}
+use Rattle.tpm_buffer.proofs.Answered.{fits_sessions, fits_behind, done_spelled}
+use Rattle.tpm_hmac.specs.Hashes.{digest}
+use Rattle.tpm_hmac.proofs.DigestLengths.{length-digest}
+use Rattle.tpm_model.specs.Registers.{event_digests}
+use Rattle.tpm_model.specs.Counters.{Counter, counter_in}
+use Rattle.tpm_model.specs.Present.{Present}
+use Rattle.tpm_model.specs.Authorization.{refuse}
+use Rattle.tpm_model.specs.Actions.{counter_size, defined_counter, may, read_counter, then_reply, action}
+use Rattle.tpm_model.specs.Answers.{reply_params}
+use Rattle.tpm_model.specs.Premises.{most_nonce}
+use Rattle.tpm_model.proofs.Accepted.{ok_is}
 
 -- ---- bytes of a size
 

@@ -1,9 +1,29 @@
 -- The session of a reply as it is read from its bytes: its nonce and its HMAC, whichever command it is read as the reply to.
-use Rattle.std.{proofs.{Common.{◌≡◌, ℕ, ◌+◌, ◌-◌, ◌≤◌, ◌<◌, ◌^◌, List, [], ◌∷◌, ◌++◌, length, take, drop, Result, Ok, Some, None, Option, refl, sym, ap, ◌∙◌, subst, arith}, lemmas.List.{take_at, drop_at}}, specs.{Prelude.{◌==◌, ◌&&◌, nat_le, if◌then◌else◌}, Int.{bytes_high_first}}}
-use Rattle.tpm_wire.{specs.{declared.refusal.Refusal.{Refusal}, Buffers.{buffer, number_in}, Structures.{sized_bytes}, Token.{Here, past, at_start, number_of}, Reading.{read, unless, found}, ResponseCodes.{rc_reserved_bits, rc_size, rc_value}}, proofs.{Agreement.{bind_ok, number_ok}, Buffers.{buffer_sound}, Numbers.{number_of-bytes}}}
-use Rattle.tpm_types.specs.{declared.tpms.AuthReply.{AuthReply}, Tpm2b.{nonce, auth_value}, Tpma.{session_attrs, is_session_attrs}, Tpms.{auth_response}}
-use Rattle.tpm_buffer.specs.{Commands.{command_size}, Responses.{is_response_tag, goes_with, response_tag, response_front, response_code, parameter_size, reply_sessions, further_sessions}}
-use Rattle.tpm_model.{specs.Premises.{most_nonce}, proofs.{Sealing.{okay_is}, ReplySessions.{session_list, auths_at, auths_behind, Lists, Fronted, fronted, meant, in_place, front_tag}}}
+use Rattle.std.proofs.Common.{◌≡◌, ℕ, ◌+◌, ◌-◌, ◌≤◌, ◌<◌, ◌^◌, List, [], ◌∷◌, ◌++◌, length, take, drop, Result, Ok}
+use Rattle.std.proofs.Common.{Some, None, Option, refl, sym, ap, ◌∙◌, subst, arith}
+use Rattle.std.proofs.lemmas.List.{take_at, drop_at}
+use Rattle.std.specs.Prelude.{◌==◌, ◌&&◌, nat_le, if◌then◌else◌}
+use Rattle.std.specs.Int.{bytes_high_first}
+use Rattle.tpm_wire.specs.declared.refusal.Refusal.{Refusal}
+use Rattle.tpm_wire.specs.Buffers.{buffer, number_in}
+use Rattle.tpm_wire.specs.Structures.{sized_bytes}
+use Rattle.tpm_wire.specs.Token.{Here, past, at_start, number_of}
+use Rattle.tpm_wire.specs.Reading.{read, unless, found}
+use Rattle.tpm_wire.specs.ResponseCodes.{rc_reserved_bits, rc_size, rc_value}
+use Rattle.tpm_wire.proofs.Agreement.{bind_ok, number_ok}
+use Rattle.tpm_wire.proofs.Buffers.{buffer_sound}
+use Rattle.tpm_wire.proofs.Numbers.{number_of-bytes}
+use Rattle.tpm_types.specs.declared.tpms.AuthReply.{AuthReply}
+use Rattle.tpm_types.specs.Tpm2b.{nonce, auth_value}
+use Rattle.tpm_types.specs.Tpma.{session_attrs, is_session_attrs}
+use Rattle.tpm_types.specs.Tpms.{auth_response}
+use Rattle.tpm_buffer.specs.Commands.{command_size}
+use Rattle.tpm_buffer.specs.Responses.{is_response_tag, goes_with, response_tag, response_front, response_code}
+use Rattle.tpm_buffer.specs.Responses.{parameter_size, reply_sessions, further_sessions}
+use Rattle.tpm_model.specs.Premises.{most_nonce}
+use Rattle.tpm_model.proofs.Sealing.{okay_is}
+use Rattle.tpm_model.proofs.ReplySessions.{session_list, auths_at, auths_behind, Lists, Fronted, fronted, meant}
+use Rattle.tpm_model.proofs.ReplySessions.{in_place, front_tag}
 
 -- ---- places behind numbers
 

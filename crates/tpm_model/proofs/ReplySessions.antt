@@ -1,11 +1,29 @@
 -- The sessions of a response are read alike, whichever command it is read as the response to.
-use Rattle.std.{proofs.{Common.{◌≡◌, ℕ, List, [], length, take, Result, Ok, Err, Some, None, Option, Bool, true, false, refl, sym, ap, ◌∙◌, subst}, lemmas.Bool.{eqb-true}}, specs.Prelude.{◌==◌, if◌then◌else◌}}
-use Rattle.tpm_wire.{specs.{declared.refusal.Refusal.{Refusal}, Buffers.{buffer, Layout, number_in}, Layout.{Form, either, Form.{area}}, Token.{Here, past, at_start, number_of, or_fault}, Reading.{read, read_all, finish, refuse, unless, ◌>>=◌}, ResponseCodes.{rc_size}}, proofs.{Agreement.{bind_ok, number_ok}, Buffers.{buffer_sound}}}
+use Rattle.std.proofs.Common.{◌≡◌, ℕ, List, [], length, take, Result, Ok, Err, Some, None, Option, Bool, true, false}
+use Rattle.std.proofs.Common.{refl, sym, ap, ◌∙◌, subst}
+use Rattle.std.proofs.lemmas.Bool.{eqb-true}
+use Rattle.std.specs.Prelude.{◌==◌, if◌then◌else◌}
+use Rattle.tpm_wire.specs.declared.refusal.Refusal.{Refusal}
+use Rattle.tpm_wire.specs.Buffers.{buffer, Layout, number_in}
+use Rattle.tpm_wire.specs.Layout.Form.{area}
+use Rattle.tpm_wire.specs.Layout.{Form, either}
+use Rattle.tpm_wire.specs.Token.{Here, past, at_start, number_of, or_fault}
+use Rattle.tpm_wire.specs.Reading.{read, read_all, finish, refuse, unless, ◌>>=◌}
+use Rattle.tpm_wire.specs.ResponseCodes.{rc_size}
+use Rattle.tpm_wire.proofs.Agreement.{bind_ok, number_ok}
+use Rattle.tpm_wire.proofs.Buffers.{buffer_sound}
 use Rattle.tpm_types.specs.declared.tpms.AuthReply.{AuthReply}
-use Rattle.tpm_commands.specs.{declared.{code.CommandCode.{CommandCode}, response.{ReplyBody.{ReplyBody}, Response.{Response}}}, Handles.{needs_authorization}, Replies.{reply_handles, reply_parameters}}
+use Rattle.tpm_commands.specs.declared.code.CommandCode.{CommandCode}
+use Rattle.tpm_commands.specs.declared.response.ReplyBody.{ReplyBody}
+use Rattle.tpm_commands.specs.declared.response.Response.{Response}
+use Rattle.tpm_commands.specs.Handles.{needs_authorization}
+use Rattle.tpm_commands.specs.Replies.{reply_handles, reply_parameters}
 use Rattle.tpm_commands.specs.declared.code.CommandCode.TheVariants as codes
 use Rattle.tpm_commands.specs.declared.response.Response.TheVariants as responses
-use Rattle.tpm_buffer.specs.{Commands.{command_size}, Responses.{is_response_tag, response_tag, response_front, response_code, parameter_size, reply_sessions, Reply, with_sessions, without_sessions, reply_behind, reply, reply_of, done_with, behind_code, response}}
+use Rattle.tpm_buffer.specs.Commands.{command_size}
+use Rattle.tpm_buffer.specs.Responses.{is_response_tag, response_tag, response_front, response_code, parameter_size}
+use Rattle.tpm_buffer.specs.Responses.{reply_sessions, Reply, with_sessions, without_sessions, reply_behind, reply}
+use Rattle.tpm_buffer.specs.Responses.{reply_of, done_with, behind_code, response}
 use Rattle.tpm_model.proofs.Sealing.{okay, okay_is}
 
 -- ---- the sessions alone

@@ -1,11 +1,25 @@
 -- Counters rise.
-use Rattle.std.{proofs.{Common.{◌≡◌, ℕ, ◌<◌, ◌≤◌, max, List, [], ◌∷◌, ◌++◌, Ok, Option, Some, None, Bool, true, false, refl, sym, ap, ◌∙◌, subst, arith, inl, inr}, lemmas.Bool.Decides.{nat_tests}}, specs.Prelude.{◌==◌, ◌⊎◌, if◌then◌else◌, IfSome}}
+use Rattle.std.proofs.Common.{◌≡◌, ℕ, ◌<◌, ◌≤◌, max, List, [], ◌∷◌, ◌++◌, Ok, Option, Some, None, Bool, true, false}
+use Rattle.std.proofs.Common.{refl, sym, ap, ◌∙◌, subst, arith, inl, inr}
+use Rattle.std.proofs.lemmas.Bool.Decides.{nat_tests}
+use Rattle.std.specs.Prelude.{◌==◌, ◌⊎◌, if◌then◌else◌, IfSome}
 use Rattle.tpm_wire.proofs.Agreement.{bind_ok}
-use Rattle.tpm_types.specs.declared.{handle_sets.NvAuthHandle.{NvAuthHandle}, tpms.NvPublic.{NvPublic}}
-use Rattle.tpm_commands.specs.declared.{command.CommandBody.{CommandBody}, response.ReplyBody.{ReplyBody}}
+use Rattle.tpm_types.specs.declared.handle_sets.NvAuthHandle.{NvAuthHandle}
+use Rattle.tpm_types.specs.declared.tpms.NvPublic.{NvPublic}
+use Rattle.tpm_commands.specs.declared.command.CommandBody.{CommandBody}
+use Rattle.tpm_commands.specs.declared.response.ReplyBody.{ReplyBody}
 use Rattle.tpm_commands.specs.declared.command.CommandBody.TheVariants as bodies
 use Rattle.tpm_commands.specs.declared.response.ReplyBody.TheVariants as replies
-use Rattle.tpm_model.{specs.{Steps.{History, Accepted, Origin}, Counters.{Counter, has_index, counter_in, without, next_value, with_increment, value_of, NvMemory, defined, nv_by, nv_memory, value_at}, Present.{present}, Answers.{Done, outcome}, Runs.{Event, after, Event.{Given}}, Actions.{defined_counter, increment, then_reply, action}}, proofs.{Accepted.{passed, along, next_is, was_some}, Runs.{after-append}}}
+use Rattle.tpm_model.specs.Steps.{History, Accepted, Origin}
+use Rattle.tpm_model.specs.Counters.{Counter, has_index, counter_in, without, next_value, with_increment, value_of}
+use Rattle.tpm_model.specs.Counters.{NvMemory, defined, nv_by, nv_memory, value_at}
+use Rattle.tpm_model.specs.Present.{present}
+use Rattle.tpm_model.specs.Answers.{Done, outcome}
+use Rattle.tpm_model.specs.Runs.Event.{Given}
+use Rattle.tpm_model.specs.Runs.{Event, after}
+use Rattle.tpm_model.specs.Actions.{defined_counter, increment, then_reply, action}
+use Rattle.tpm_model.proofs.Accepted.{passed, along, next_is, was_some}
+use Rattle.tpm_model.proofs.Runs.{after-append}
 
 -- ---- the value of an index after each change of NV memory
 

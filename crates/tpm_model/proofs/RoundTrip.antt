@@ -1,13 +1,46 @@
 -- A caller in step: its command passes, the reply is opened, and the caller is in step afterwards.
-use Rattle.std.{proofs.{Common.{◌≡◌, ℕ, ◌≤◌, ◌<◌, ◌^◌, List, [], ◌∷◌, length, take, Result, Ok, Err, Some, None, Bool, true, false, refl, sym, ap, ◌∙◌, subst, arith, length-take}, lemmas.{Bool.{eq-eqb}, Slice.Eq.{bytes_eq-Decides}}}, specs.Prelude.{if◌then◌else◌}}
-use Rattle.tpm_wire.{specs.{Buffers.{buffer}, Reading.{read_all}, Spelling.{spelling}}, proofs.{Buffers.{buffer_sound}, Whole.{exactly_one, spells_read}}}
-use Rattle.tpm_types.{specs.{declared.tpms.AuthReply.{AuthReply}, Tpma.{is_session_attrs}}, proofs.Algs.{digest_most}}
-use Rattle.tpm_commands.specs.{declared.{code.CommandCode.{CommandCode}, command.Command.{Command}, response.ReplyBody.{ReplyBody}}, Handles.{needs_authorization}}
-use Rattle.tpm_buffer.{specs.{Commands.{command, code_for}, Responses.{Reply, response, done_with}}, proofs.Answered.{code_text, code_spelled}}
+use Rattle.std.proofs.Common.{◌≡◌, ℕ, ◌≤◌, ◌<◌, ◌^◌, List, [], ◌∷◌, length, take, Result, Ok, Err, Some, None, Bool}
+use Rattle.std.proofs.Common.{true, false, refl, sym, ap, ◌∙◌, subst, arith, length-take}
+use Rattle.std.proofs.lemmas.Bool.{eq-eqb}
+use Rattle.std.proofs.lemmas.Slice.Eq.{bytes_eq-Decides}
+use Rattle.std.specs.Prelude.{if◌then◌else◌}
+use Rattle.tpm_wire.specs.Buffers.{buffer}
+use Rattle.tpm_wire.specs.Reading.{read_all}
+use Rattle.tpm_wire.specs.Spelling.{spelling}
+use Rattle.tpm_wire.proofs.Buffers.{buffer_sound}
+use Rattle.tpm_wire.proofs.Whole.{exactly_one, spells_read}
+use Rattle.tpm_types.specs.declared.tpms.AuthReply.{AuthReply}
+use Rattle.tpm_types.specs.Tpma.{is_session_attrs}
+use Rattle.tpm_types.proofs.Algs.{digest_most}
+use Rattle.tpm_commands.specs.declared.code.CommandCode.{CommandCode}
+use Rattle.tpm_commands.specs.declared.command.Command.{Command}
+use Rattle.tpm_commands.specs.declared.response.ReplyBody.{ReplyBody}
+use Rattle.tpm_commands.specs.Handles.{needs_authorization}
+use Rattle.tpm_buffer.specs.Commands.{command, code_for}
+use Rattle.tpm_buffer.specs.Responses.{Reply, response, done_with}
+use Rattle.tpm_buffer.proofs.Answered.{code_text, code_spelled}
 use Rattle.tpm_commands.specs.declared.response.Response.TheVariants as responses
 use Rattle.tpm_commands.specs.declared.code.CommandCode.TheVariants as codes
-use Rattle.tpm_hmac.{specs.Hmac.{hmac}, proofs.DigestLengths.{length-hmac}}
-use Rattle.tpm_model.{specs.{Steps.{History, Origin}, Sessions.{Session, loaded, sessions_at}, Present.{Present, present}, Authorization.{check_evidence, reply_text, reply_auths}, Actions.{action}, Answers.{Presented, presented, Done, outcome, answered, answer, next, with_outcome, reply_params}, InStep.{Agrees, InStep}, Callers.{Seal, attrs_for, seal_key, seal_auth, sealed_command, sealed, Waiting, waiting, CallerFault, Code, Opened, awaited_text, caller_after, opened_session, opened_response, opened, caller_of_refusal, given_up}, Premises.{HasSpelling, IsPresent, nonce_bytes, most_nonce, IsReady, rolled, opened_as}}, proofs.{Accepted.{Passed, passed, next_is}, Spelled.{spelled_by}, Sealing.{has_spelling, loaded_handle, Met, met, met_needs, passes}, Refused.{refused_with}, StillInStep.{still}, Replies.{IsReply, own_reply, read_again_as}}}
+use Rattle.tpm_hmac.specs.Hmac.{hmac}
+use Rattle.tpm_hmac.proofs.DigestLengths.{length-hmac}
+use Rattle.tpm_model.specs.Steps.{History, Origin}
+use Rattle.tpm_model.specs.Sessions.{Session, loaded, sessions_at}
+use Rattle.tpm_model.specs.Present.{Present, present}
+use Rattle.tpm_model.specs.Authorization.{check_evidence, reply_text, reply_auths}
+use Rattle.tpm_model.specs.Actions.{action}
+use Rattle.tpm_model.specs.Answers.{Presented, presented, Done, outcome, answered, answer, next, with_outcome}
+use Rattle.tpm_model.specs.Answers.{reply_params}
+use Rattle.tpm_model.specs.InStep.{Agrees, InStep}
+use Rattle.tpm_model.specs.Callers.{Seal, attrs_for, seal_key, seal_auth, sealed_command, sealed, Waiting, waiting}
+use Rattle.tpm_model.specs.Callers.{CallerFault, Code, Opened, awaited_text, caller_after, opened_session}
+use Rattle.tpm_model.specs.Callers.{opened_response, opened, caller_of_refusal, given_up}
+use Rattle.tpm_model.specs.Premises.{HasSpelling, IsPresent, nonce_bytes, most_nonce, IsReady, rolled, opened_as}
+use Rattle.tpm_model.proofs.Accepted.{Passed, passed, next_is}
+use Rattle.tpm_model.proofs.Spelled.{spelled_by}
+use Rattle.tpm_model.proofs.Sealing.{has_spelling, loaded_handle, Met, met, met_needs, passes}
+use Rattle.tpm_model.proofs.Refused.{refused_with}
+use Rattle.tpm_model.proofs.StillInStep.{still}
+use Rattle.tpm_model.proofs.Replies.{IsReply, own_reply, read_again_as}
 
 -- ---- what was done
 

@@ -1,6 +1,7 @@
 -- Runs of joined lists.
 use Rattle.std.proofs.Common.{◌≡◌, List, [], ◌∷◌, ◌++◌, refl}
-use Rattle.tpm_model.specs.{Steps.{History, Origin}, Runs.{Event, happens, after}}
+use Rattle.tpm_model.specs.Steps.{History, Origin}
+use Rattle.tpm_model.specs.Runs.{Event, happens, after}
 
 pub after-append : (o : Origin) (h : History) (es fs : List Event) → after o h (es ++ fs) ≡ after o (after o h es) fs
 after-append o h [] fs = refl

@@ -1,11 +1,46 @@
 -- What the device reads of a sealed command, and what it checks there.
-use Rattle.std.{proofs.{Common.{◌≡◌, ℕ, ◌+◌, ◌-◌, ◌<◌, List, [], ◌∷◌, ◌++◌, length, Result, Ok, Some, Option, Bool, true, false, not, ◌||◌, refl, sym, ap, ◌∙◌, subst, arith, length-append}, lemmas.{List.{append-nil}, Slice.Eq.{bytes_eq-Decides}}}, specs.Prelude.{if◌then◌else◌, bytes_eq}}
-use Rattle.tpm_wire.{specs.{declared.refusal.Refusal.{Refusal}, Buffers.{buffer, Layout}, Token.{Here, at_start}, Reading.{read}, Spelling.{spelling, Fits}, Path.{Spells}, ResponseCodes.{rc_auth_context, rc_auth_missing}}, proofs.{Buffers.{buffer_sound, buffer_roomy}, Again.{again, read_again}, Whole.{read_spells}}}
-use Rattle.tpm_commands.specs.{declared.{command.Command.{Command}, code.CommandCode.{CommandCode}}, Handles.{handles, needs_authorization, first}, Codes.{code_number}}
-use Rattle.tpm_buffer.specs.Commands.{header, authorization, Checked, before_params, command, code_for, handles_of, header_of, rest_of}
-use Rattle.tpm_types.{specs.{declared.{tpms.Auth.{Auth}, alg.Alg.{Alg}}, Handles.{is_session, is_hmac_session, is_policy}}, proofs.Algs.{digest_some}}
-use Rattle.tpm_hmac.{specs.{Hmac.{hmac}, Sessions.{trim, whole_key, cp_hash, mac_text}}, proofs.DigestLengths.{length-hmac}}
-use Rattle.tpm_model.{specs.{Sessions.{Session, session_in, loaded, slot_of, is_hmac}, Present.{Present}, Entities.{Entity, entity_of, names_of}, Authorization.{refuse, is_empty, evidence_of, check_evidence, first_loaded, failure, Signed, command_text, needs_none, is_signed, follows, key_for, ByMac}, Answers.{Presented, presented, check_tag}, InStep.{CallerSession, Agrees}, Callers.{Seal, attrs_for, command_params, seal_key, seal_text, seal_auth, sealed_command, sealed}, Premises.{HasSpelling, asked_for, IsPresent}}, proofs.{Accepted.{some_is}, Slots.{of_kind}, Spelled.{was_read, read_in_turn}, Replay.{by_its_session, both_false, some_bytes}}}
+use Rattle.std.proofs.Common.{◌≡◌, ℕ, ◌+◌, ◌-◌, ◌<◌, List, [], ◌∷◌, ◌++◌, length, Result, Ok, Some, Option, Bool, true}
+use Rattle.std.proofs.Common.{false, not, ◌||◌, refl, sym, ap, ◌∙◌, subst, arith, length-append}
+use Rattle.std.proofs.lemmas.List.{append-nil}
+use Rattle.std.proofs.lemmas.Slice.Eq.{bytes_eq-Decides}
+use Rattle.std.specs.Prelude.{if◌then◌else◌, bytes_eq}
+use Rattle.tpm_wire.specs.declared.refusal.Refusal.{Refusal}
+use Rattle.tpm_wire.specs.Buffers.{buffer, Layout}
+use Rattle.tpm_wire.specs.Token.{Here, at_start}
+use Rattle.tpm_wire.specs.Reading.{read}
+use Rattle.tpm_wire.specs.Spelling.{spelling, Fits}
+use Rattle.tpm_wire.specs.Path.{Spells}
+use Rattle.tpm_wire.specs.ResponseCodes.{rc_auth_context, rc_auth_missing}
+use Rattle.tpm_wire.proofs.Buffers.{buffer_sound, buffer_roomy}
+use Rattle.tpm_wire.proofs.Again.{again, read_again}
+use Rattle.tpm_wire.proofs.Whole.{read_spells}
+use Rattle.tpm_commands.specs.declared.command.Command.{Command}
+use Rattle.tpm_commands.specs.declared.code.CommandCode.{CommandCode}
+use Rattle.tpm_commands.specs.Handles.{handles, needs_authorization, first}
+use Rattle.tpm_commands.specs.Codes.{code_number}
+use Rattle.tpm_buffer.specs.Commands.{header, authorization, Checked, before_params, command, code_for, handles_of}
+use Rattle.tpm_buffer.specs.Commands.{header_of, rest_of}
+use Rattle.tpm_types.specs.declared.tpms.Auth.{Auth}
+use Rattle.tpm_types.specs.declared.alg.Alg.{Alg}
+use Rattle.tpm_types.specs.Handles.{is_session, is_hmac_session, is_policy}
+use Rattle.tpm_types.proofs.Algs.{digest_some}
+use Rattle.tpm_hmac.specs.Hmac.{hmac}
+use Rattle.tpm_hmac.specs.Sessions.{trim, whole_key, cp_hash, mac_text}
+use Rattle.tpm_hmac.proofs.DigestLengths.{length-hmac}
+use Rattle.tpm_model.specs.Sessions.{Session, session_in, loaded, slot_of, is_hmac}
+use Rattle.tpm_model.specs.Present.{Present}
+use Rattle.tpm_model.specs.Entities.{Entity, entity_of, names_of}
+use Rattle.tpm_model.specs.Authorization.{refuse, is_empty, evidence_of, check_evidence, first_loaded, failure, Signed}
+use Rattle.tpm_model.specs.Authorization.{command_text, needs_none, is_signed, follows, key_for, ByMac}
+use Rattle.tpm_model.specs.Answers.{Presented, presented, check_tag}
+use Rattle.tpm_model.specs.InStep.{CallerSession, Agrees}
+use Rattle.tpm_model.specs.Callers.{Seal, attrs_for, command_params, seal_key, seal_text, seal_auth, sealed_command}
+use Rattle.tpm_model.specs.Callers.{sealed}
+use Rattle.tpm_model.specs.Premises.{HasSpelling, asked_for, IsPresent}
+use Rattle.tpm_model.proofs.Accepted.{some_is}
+use Rattle.tpm_model.proofs.Slots.{of_kind}
+use Rattle.tpm_model.proofs.Spelled.{was_read, read_in_turn}
+use Rattle.tpm_model.proofs.Replay.{by_its_session, both_false, some_bytes}
 
 -- ---- reading what is spelled
 

@@ -1,6 +1,12 @@
 -- Sessions are in slots.
-use Rattle.std.{proofs.Common.{◌≡◌, ℕ, zero, suc, List, Some, None, Option, Bool, true, false, refl, sym, subst, inl, inr}, specs.Prelude.{◌⊎◌, if◌then◌else◌, option_map}}
-use Rattle.tpm_model.{specs.{Steps.{History, Origin}, Policies.{Assertion}, Sessions.{Session, slot_of, lives, Start, start_of, last_nonce, assertions_of, as_session, session_at, session_in, sessions_at, loaded, if_of_kind, is_handle_of}}, proofs.Accepted.{some, some_is}}
+use Rattle.std.proofs.Common.{◌≡◌, ℕ, zero, suc, List, Some, None, Option, Bool, true, false, refl, sym, subst, inl}
+use Rattle.std.proofs.Common.{inr}
+use Rattle.std.specs.Prelude.{◌⊎◌, if◌then◌else◌, option_map}
+use Rattle.tpm_model.specs.Steps.{History, Origin}
+use Rattle.tpm_model.specs.Policies.{Assertion}
+use Rattle.tpm_model.specs.Sessions.{Session, slot_of, lives, Start, start_of, last_nonce, assertions_of, as_session}
+use Rattle.tpm_model.specs.Sessions.{session_at, session_in, sessions_at, loaded, if_of_kind, is_handle_of}
+use Rattle.tpm_model.proofs.Accepted.{some, some_is}
 
 abbrev pub IsSlot : ℕ → Type 0
 IsSlot k = (0 ≡ k) ⊎ ((1 ≡ k) ⊎ (2 ≡ k))

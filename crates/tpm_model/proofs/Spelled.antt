@@ -1,10 +1,25 @@
 -- What an accepted buffer spells, and how its sessions were read.
 use Rattle.std.proofs.Common.{◌≡◌, ℕ, List, Result, Ok, Err, refl, sym, ap, ◌∙◌, subst}
-use Rattle.tpm_wire.{specs.{declared.refusal.Refusal.{Refusal}, Buffers.{buffer}, Layout.{cut}, Token.{Here, at_start}, Reading.{read, read_all, ◌>>=◌}, Path.{Spells}}, proofs.{Agreement.{bind_ok}, Buffers.{buffer_sound}, Whole.{read_spells}, Cuts.{cut_read, parted}}}
+use Rattle.tpm_wire.specs.declared.refusal.Refusal.{Refusal}
+use Rattle.tpm_wire.specs.Buffers.{buffer}
+use Rattle.tpm_wire.specs.Layout.{cut}
+use Rattle.tpm_wire.specs.Token.{Here, at_start}
+use Rattle.tpm_wire.specs.Reading.{read, read_all, ◌>>=◌}
+use Rattle.tpm_wire.specs.Path.{Spells}
+use Rattle.tpm_wire.proofs.Agreement.{bind_ok}
+use Rattle.tpm_wire.proofs.Buffers.{buffer_sound}
+use Rattle.tpm_wire.proofs.Whole.{read_spells}
+use Rattle.tpm_wire.proofs.Cuts.{cut_read, parted}
 use Rattle.tpm_types.specs.declared.tpms.Auth.{Auth}
-use Rattle.tpm_commands.specs.{declared.command.Header.{Header}, Handles.{handles}, Parameters.{parameters}}
-use Rattle.tpm_buffer.{specs.Commands.{header, authorization, body_from, with_auths, Checked, before_params, command}, proofs.Staged.{of_parts}}
-use Rattle.tpm_model.{specs.{Present.{Present}, Answers.{Presented, evidence_in, presented, Done, code_only, by_grammar, check_started, check_handles, check_tag}}, proofs.Accepted.{Passed, ok_is}}
+use Rattle.tpm_commands.specs.declared.command.Header.{Header}
+use Rattle.tpm_commands.specs.Handles.{handles}
+use Rattle.tpm_commands.specs.Parameters.{parameters}
+use Rattle.tpm_buffer.specs.Commands.{header, authorization, body_from, with_auths, Checked, before_params, command}
+use Rattle.tpm_buffer.proofs.Staged.{of_parts}
+use Rattle.tpm_model.specs.Present.{Present}
+use Rattle.tpm_model.specs.Answers.{Presented, evidence_in, presented, Done, code_only, by_grammar, check_started}
+use Rattle.tpm_model.specs.Answers.{check_handles, check_tag}
+use Rattle.tpm_model.proofs.Accepted.{Passed, ok_is}
 
 -- how the areas before the parameters were read, and the evidence of authorization found
 pub record Read (p : Present) (bytes : List ℕ) (x : Presented) : Type 0 where

@@ -1,13 +1,37 @@
 -- A caller that is made from an accepted start is in step.
-use Rattle.std.{proofs.{Common.{◌≡◌, ℕ, ◌+◌, ◌≤◌, List, ◌∷◌, length, Ok, Some, None, Option, Bool, true, false, ◌||◌, refl, sym, ap, ◌∙◌, subst, arith, inl, inr, length-take}, lemmas.Bool.{le-leb, eq-eqb, Decides.{nat_tests}}}, specs.Prelude.{◌==◌, nat_lt, if◌then◌else◌, is_none, ok_or, Result}}
-use Rattle.tpm_wire.{specs.ResponseCodes.{rc_session_memory, rc_size, of_parameter}, proofs.Agreement.{bind_ok}}
-use Rattle.tpm_types.{specs.{declared.{handle_sets.BindHandle.{BindHandle}, alg.Alg.{Alg}}, Alg.{digest_len}, Handles.{is_hmac_session, is_policy}}, proofs.Algs.{digest_most}}
+use Rattle.std.proofs.Common.{◌≡◌, ℕ, ◌+◌, ◌≤◌, List, ◌∷◌, length, Ok, Some, None, Option, Bool, true, false, ◌||◌}
+use Rattle.std.proofs.Common.{refl, sym, ap, ◌∙◌, subst, arith, inl, inr, length-take}
+use Rattle.std.proofs.lemmas.Bool.Decides.{nat_tests}
+use Rattle.std.proofs.lemmas.Bool.{le-leb, eq-eqb}
+use Rattle.std.specs.Prelude.{◌==◌, nat_lt, if◌then◌else◌, is_none, ok_or, Result}
+use Rattle.tpm_wire.specs.ResponseCodes.{rc_session_memory, rc_size, of_parameter}
+use Rattle.tpm_wire.proofs.Agreement.{bind_ok}
+use Rattle.tpm_types.specs.declared.handle_sets.BindHandle.{BindHandle}
+use Rattle.tpm_types.specs.declared.alg.Alg.{Alg}
+use Rattle.tpm_types.specs.Alg.{digest_len}
+use Rattle.tpm_types.specs.Handles.{is_hmac_session, is_policy}
+use Rattle.tpm_types.proofs.Algs.{digest_most}
 use Rattle.tpm_types.specs.declared.handle_sets.BindHandle.TheVariants as binds
 use Rattle.tpm_commands.specs.declared.command.CommandBody.TheVariants as bodies
-use Rattle.tpm_commands.specs.declared.{command.StartAuth.{StartAuth}, response.{ReplyBody.{ReplyBody}, StartReply.{StartReply}}}
+use Rattle.tpm_commands.specs.declared.command.StartAuth.{StartAuth}
+use Rattle.tpm_commands.specs.declared.response.ReplyBody.{ReplyBody}
+use Rattle.tpm_commands.specs.declared.response.StartReply.{StartReply}
 use Rattle.tpm_commands.specs.declared.response.ReplyBody.TheVariants as replies
 use Rattle.tpm_hmac.specs.Sessions.{trim, session_key}
-use Rattle.tpm_model.{specs.{Steps.{History, Accepted, Origin}, Sessions.{Session, slot_of, is_hmac, handle_for, begun, Start, assertions_of, as_session, session_at, session_in, sessions_at, loaded, if_of_kind, is_handle_of, bound_value, nonce_from, free_slot}, Present.{present}, Authorization.{refuse}, Actions.{action, start_session}, Answers.{Done, outcome, next}, InStep.{CallerSession, InStep}, Callers.{nonces_fit, bound_to, started_with}, Premises.{nonce_bytes}}, proofs.{Accepted.{passed, next_is, ok_is, some, some_is, was_some}, Slots.{IsSlot, each_slot, in_slot}, Nonces.{bounds}}}
+use Rattle.tpm_model.specs.Steps.{History, Accepted, Origin}
+use Rattle.tpm_model.specs.Sessions.{Session, slot_of, is_hmac, handle_for, begun, Start, assertions_of, as_session}
+use Rattle.tpm_model.specs.Sessions.{session_at, session_in, sessions_at, loaded, if_of_kind, is_handle_of, bound_value}
+use Rattle.tpm_model.specs.Sessions.{nonce_from, free_slot}
+use Rattle.tpm_model.specs.Present.{present}
+use Rattle.tpm_model.specs.Authorization.{refuse}
+use Rattle.tpm_model.specs.Actions.{action, start_session}
+use Rattle.tpm_model.specs.Answers.{Done, outcome, next}
+use Rattle.tpm_model.specs.InStep.{CallerSession, InStep}
+use Rattle.tpm_model.specs.Callers.{nonces_fit, bound_to, started_with}
+use Rattle.tpm_model.specs.Premises.{nonce_bytes}
+use Rattle.tpm_model.proofs.Accepted.{passed, next_is, ok_is, some, some_is, was_some}
+use Rattle.tpm_model.proofs.Slots.{IsSlot, each_slot, in_slot}
+use Rattle.tpm_model.proofs.Nonces.{bounds}
 
 -- ---- what was answered
 

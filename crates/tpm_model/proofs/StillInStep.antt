@@ -1,10 +1,27 @@
 -- After an accepted step of a session that is kept, its caller is in step with the new nonce.
-use Rattle.std.{proofs.Common.{◌≡◌, ℕ, ◌≤◌, List, [], ◌∷◌, length, take, Some, None, Bool, true, false, not, ◌&&◌, refl, sym, ap, ◌∙◌, subst, arith, length-take}, specs.Prelude.{if◌then◌else◌}}
-use Rattle.tpm_types.specs.{declared.tpms.Auth.{Auth}, Handles.{is_session}, Tpma.{continues}}
-use Rattle.tpm_commands.specs.{declared.{command.{Command.{Command}, CommandBody.{CommandBody}}, response.ReplyBody.{ReplyBody}}, Handles.{needs_authorization}}
+use Rattle.std.proofs.Common.{◌≡◌, ℕ, ◌≤◌, List, [], ◌∷◌, length, take, Some, None, Bool, true, false, not, ◌&&◌, refl}
+use Rattle.std.proofs.Common.{sym, ap, ◌∙◌, subst, arith, length-take}
+use Rattle.std.specs.Prelude.{if◌then◌else◌}
+use Rattle.tpm_types.specs.declared.tpms.Auth.{Auth}
+use Rattle.tpm_types.specs.Handles.{is_session}
+use Rattle.tpm_types.specs.Tpma.{continues}
+use Rattle.tpm_commands.specs.declared.command.Command.{Command}
+use Rattle.tpm_commands.specs.declared.command.CommandBody.{CommandBody}
+use Rattle.tpm_commands.specs.declared.response.ReplyBody.{ReplyBody}
+use Rattle.tpm_commands.specs.Handles.{needs_authorization}
 use Rattle.tpm_commands.specs.declared.command.CommandBody.TheVariants as bodies
-use Rattle.tpm_buffer.specs.{Commands.{code_for}, Responses.{Reply}}
-use Rattle.tpm_model.{specs.{Steps.{History, Accepted, Origin}, Sessions.{Session, slot_of, lives, begins, begun, clears, closes, is_of_slot, authorizes, start_of, last_nonce, assertions_of, as_session, session_at, sessions_at, loaded, if_of_kind, is_handle_of}, InStep.{CallerSession, Agrees, InStep}, Callers.{attrs_for}, Premises.{nonce_bytes, most_nonce, rolled}}, proofs.{Accepted.{some}, Slots.{in_slot, held}, Replay.{its_slot, chosen}}}
+use Rattle.tpm_buffer.specs.Commands.{code_for}
+use Rattle.tpm_buffer.specs.Responses.{Reply}
+use Rattle.tpm_model.specs.Steps.{History, Accepted, Origin}
+use Rattle.tpm_model.specs.Sessions.{Session, slot_of, lives, begins, begun, clears, closes, is_of_slot, authorizes}
+use Rattle.tpm_model.specs.Sessions.{start_of, last_nonce, assertions_of, as_session, session_at, sessions_at, loaded}
+use Rattle.tpm_model.specs.Sessions.{if_of_kind, is_handle_of}
+use Rattle.tpm_model.specs.InStep.{CallerSession, Agrees, InStep}
+use Rattle.tpm_model.specs.Callers.{attrs_for}
+use Rattle.tpm_model.specs.Premises.{nonce_bytes, most_nonce, rolled}
+use Rattle.tpm_model.proofs.Accepted.{some}
+use Rattle.tpm_model.proofs.Slots.{in_slot, held}
+use Rattle.tpm_model.proofs.Replay.{its_slot, chosen}
 
 -- ---- the step
 

@@ -1,8 +1,13 @@
 -- The code of the answer.
 use Rattle.std.proofs.Common.{◌≡◌, ℕ, ◌<◌, ◌^◌, List, Ok, Err, refl, ap, ◌∙◌, arith}
 use Rattle.tpm_wire.proofs.Numbers.{number_of-bytes}
-use Rattle.tpm_buffer.specs.{Responses.{response_tag, response_front, response_code, response}, Commands.{command_size}}
-use Rattle.tpm_model.{specs.{Steps.{History, Origin}, Present.{present}, Answers.{Done, outcome, answered, answer}, Premises.{code_in}}, proofs.Refused.{refused_with}}
+use Rattle.tpm_buffer.specs.Responses.{response_tag, response_front, response_code, response}
+use Rattle.tpm_buffer.specs.Commands.{command_size}
+use Rattle.tpm_model.specs.Steps.{History, Origin}
+use Rattle.tpm_model.specs.Present.{present}
+use Rattle.tpm_model.specs.Answers.{Done, outcome, answered, answer}
+use Rattle.tpm_model.specs.Premises.{code_in}
+use Rattle.tpm_model.proofs.Refused.{refused_with}
 
 zero_told : (d : Done) → code_in (answered (Ok d)) ≡ 0
 unfolding response response_front response_tag response_code command_size

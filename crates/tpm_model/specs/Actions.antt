@@ -1,15 +1,33 @@
 -- What each command does, or refuses (Part 3, the detailed actions in the section of each; the order of refusals is this
 -- profile's).
-use Rattle.std.specs.{Prelude.{ℕ, ◌+◌, ◌^◌, Bool, false, not, ◌&&◌, ◌||◌, ◌==◌, nat_lt, nat_le, bytes_eq, List, [], ◌∷◌, length, take, drop, Option, is_some, is_none, Result, Ok, Err, ok_or, if◌then◌else◌}, Int.{w64, to_be_bytes}}
-use Rattle.tpm_wire.specs.{Reading.{◌>>=◌}, ResponseCodes.{rc_attributes, rc_handle, rc_locality, rc_nv_authorization, rc_nv_defined, rc_nv_range, rc_nv_space, rc_nv_uninitialized, rc_pcr_changed, rc_reference_h0, rc_session_memory, rc_size, rc_value, of_parameter}}
-use Rattle.tpm_types.specs.{declared.{constants.StartupType.{StartupType, TheVariants.{Clear, State}}, handle_sets.{PcrOrNull.{PcrOrNull}, NvAuthHandle.{NvAuthHandle}}, tpms.NvPublic.{NvPublic}}, Alg.{digest_len}, Tpma.{is_counter, is_undefinable, is_writable, is_readable, owner_writes, owner_reads}}
+use Rattle.std.specs.Prelude.{ℕ, ◌+◌, ◌^◌, Bool, false, not, ◌&&◌, ◌||◌, ◌==◌, nat_lt, nat_le, bytes_eq, List, [], ◌∷◌}
+use Rattle.std.specs.Prelude.{length, take, drop, Option, is_some, is_none, Result, Ok, Err, ok_or, if◌then◌else◌}
+use Rattle.std.specs.Int.{w64, to_be_bytes}
+use Rattle.tpm_wire.specs.Reading.{◌>>=◌}
+use Rattle.tpm_wire.specs.ResponseCodes.{rc_attributes, rc_handle, rc_locality, rc_nv_authorization, rc_nv_defined}
+use Rattle.tpm_wire.specs.ResponseCodes.{rc_nv_range, rc_nv_space, rc_nv_uninitialized, rc_pcr_changed, rc_reference_h0}
+use Rattle.tpm_wire.specs.ResponseCodes.{rc_session_memory, rc_size, rc_value, of_parameter}
+use Rattle.tpm_types.specs.declared.constants.StartupType.TheVariants.{Clear, State}
+use Rattle.tpm_types.specs.declared.constants.StartupType.{StartupType}
+use Rattle.tpm_types.specs.declared.handle_sets.PcrOrNull.{PcrOrNull}
+use Rattle.tpm_types.specs.declared.handle_sets.NvAuthHandle.{NvAuthHandle}
+use Rattle.tpm_types.specs.declared.tpms.NvPublic.{NvPublic}
+use Rattle.tpm_types.specs.Alg.{digest_len}
+use Rattle.tpm_types.specs.Tpma.{is_counter, is_undefinable, is_writable, is_readable, owner_writes, owner_reads}
 use Rattle.tpm_types.specs.declared.handle_sets.PcrOrNull.TheVariants as registers
 use Rattle.tpm_types.specs.declared.handle_sets.NvAuthHandle.TheVariants as nv
-use Rattle.tpm_commands.specs.declared.{command.{CommandBody.{CommandBody}, StartAuth.{StartAuth}}, response.ReplyBody.{ReplyBody}}
+use Rattle.tpm_commands.specs.declared.command.CommandBody.{CommandBody}
+use Rattle.tpm_commands.specs.declared.command.StartAuth.{StartAuth}
+use Rattle.tpm_commands.specs.declared.response.ReplyBody.{ReplyBody}
 use Rattle.tpm_commands.specs.declared.command.CommandBody.TheVariants as bodies
 use Rattle.tpm_commands.specs.declared.response.ReplyBody.TheVariants as replies
 use Rattle.tpm_hmac.specs.Sessions.{trim}
-use Rattle.tpm_model.specs.{Registers.{event_digests, is_dynamic, value_in, composite, values_read, selections_read}, Sessions.{Session, is_trial, handle_for, nonce_from, loaded, free_slot}, Counters.{Counter, counter_in, next_value}, Entities.{nv_name}, Authorization.{refuse, is_empty, differs}, Present.{Present}}
+use Rattle.tpm_model.specs.Registers.{event_digests, is_dynamic, value_in, composite, values_read, selections_read}
+use Rattle.tpm_model.specs.Sessions.{Session, is_trial, handle_for, nonce_from, loaded, free_slot}
+use Rattle.tpm_model.specs.Counters.{Counter, counter_in, next_value}
+use Rattle.tpm_model.specs.Entities.{nv_name}
+use Rattle.tpm_model.specs.Authorization.{refuse, is_empty, differs}
+use Rattle.tpm_model.specs.Present.{Present}
 
 -- ---- start and registers
 

@@ -1,12 +1,31 @@
 -- What a device answers to a buffer, by the order of its checks (this profile).
 use Rattle.std.specs.Prelude.{ℕ, ◌+◌, ◌-◌, Bool, not, ◌==◌, List, [], ◌∷◌, is_none, Result, Ok, Err, if◌then◌else◌}
-use Rattle.tpm_wire.specs.{declared.refusal.Refusal.{Refusal}, Buffers.{Layout}, Token.{Here, at_start}, Reading.{read, read_all, ◌>>=◌}, Spelling.{spelling}, ResponseCodes.{rc_auth_context, rc_auth_missing, rc_handle, rc_initialize, rc_reference_h0, of_handle}}
-use Rattle.tpm_types.specs.{declared.tpms.Auth.{Auth}, Handles.{is_nv_index, is_policy}}
-use Rattle.tpm_commands.specs.{declared.{code.CommandCode.{CommandCode}, command.Command.{Command}, response.ReplyBody.{ReplyBody}}, Handles.{first, handles, needs_authorization}, Parameters.{parameters}, Replies.{parameters_of_reply}}
+use Rattle.tpm_wire.specs.declared.refusal.Refusal.{Refusal}
+use Rattle.tpm_wire.specs.Buffers.{Layout}
+use Rattle.tpm_wire.specs.Token.{Here, at_start}
+use Rattle.tpm_wire.specs.Reading.{read, read_all, ◌>>=◌}
+use Rattle.tpm_wire.specs.Spelling.{spelling}
+use Rattle.tpm_wire.specs.ResponseCodes.{rc_auth_context, rc_auth_missing, rc_handle, rc_initialize, rc_reference_h0}
+use Rattle.tpm_wire.specs.ResponseCodes.{of_handle}
+use Rattle.tpm_types.specs.declared.tpms.Auth.{Auth}
+use Rattle.tpm_types.specs.Handles.{is_nv_index, is_policy}
+use Rattle.tpm_commands.specs.declared.code.CommandCode.{CommandCode}
+use Rattle.tpm_commands.specs.declared.command.Command.{Command}
+use Rattle.tpm_commands.specs.declared.response.ReplyBody.{ReplyBody}
+use Rattle.tpm_commands.specs.Handles.{first, handles, needs_authorization}
+use Rattle.tpm_commands.specs.Parameters.{parameters}
+use Rattle.tpm_commands.specs.Replies.{parameters_of_reply}
 use Rattle.tpm_commands.specs.declared.code.CommandCode.TheVariants as codes
 use Rattle.tpm_commands.specs.declared.response.Response.TheVariants as responses
-use Rattle.tpm_buffer.specs.{Commands.{header, authorization, body_from, with_auths, code_for}, Responses.{Reply, response, done_with}}
-use Rattle.tpm_model.specs.{Steps.{History, Accepted, Origin}, Sessions.{loaded}, Counters.{counter_in}, Present.{Present, present}, Entities.{Entity, entity_of, names_of}, Authorization.{refuse, Evidence, evidence_of, check_evidence, first_loaded, reply_auths}, Actions.{action}}
+use Rattle.tpm_buffer.specs.Commands.{header, authorization, body_from, with_auths, code_for}
+use Rattle.tpm_buffer.specs.Responses.{Reply, response, done_with}
+use Rattle.tpm_model.specs.Steps.{History, Accepted, Origin}
+use Rattle.tpm_model.specs.Sessions.{loaded}
+use Rattle.tpm_model.specs.Counters.{counter_in}
+use Rattle.tpm_model.specs.Present.{Present, present}
+use Rattle.tpm_model.specs.Entities.{Entity, entity_of, names_of}
+use Rattle.tpm_model.specs.Authorization.{refuse, Evidence, evidence_of, check_evidence, first_loaded, reply_auths}
+use Rattle.tpm_model.specs.Actions.{action}
 
 -- ---- checks by the grammar
 

@@ -1,12 +1,25 @@
 -- The checks of a command's authorization, in their order, and the session of its reply (Part 1, "Authorizations and
 -- Acknowledgments"; the order is this profile's).
-use Rattle.std.specs.Prelude.{ℕ, ◌+◌, Bool, true, false, not, ◌&&◌, ◌==◌, bytes_eq, List, [], ◌∷◌, take, Option, Some, None, Result, Ok, Err, if◌then◌else◌}
-use Rattle.tpm_wire.specs.{Reading.{◌>>=◌}, ResponseCodes.{rc_attributes, rc_auth_fail, rc_auth_unavailable, rc_bad_auth, rc_nonce, rc_pcr_changed, rc_policy_cc, rc_policy_fail, rc_reference_s0, of_session}}
-use Rattle.tpm_types.specs.{declared.{alg.Alg.{Alg}, tpms.{Auth.{Auth}, AuthReply.{AuthReply}}}, Alg.{alg_number}, Handles.{rs_pw}, Tpma.{audits_or_encrypts, auth_writes, auth_reads, policy_writes, policy_reads, no_da}}
-use Rattle.tpm_commands.specs.{declared.code.CommandCode.{CommandCode}, Codes.{code_number}}
+use Rattle.std.specs.Prelude.{ℕ, ◌+◌, Bool, true, false, not, ◌&&◌, ◌==◌, bytes_eq, List, [], ◌∷◌, take, Option, Some}
+use Rattle.std.specs.Prelude.{None, Result, Ok, Err, if◌then◌else◌}
+use Rattle.tpm_wire.specs.Reading.{◌>>=◌}
+use Rattle.tpm_wire.specs.ResponseCodes.{rc_attributes, rc_auth_fail, rc_auth_unavailable, rc_bad_auth, rc_nonce}
+use Rattle.tpm_wire.specs.ResponseCodes.{rc_pcr_changed, rc_policy_cc, rc_policy_fail, rc_reference_s0, of_session}
+use Rattle.tpm_types.specs.declared.alg.Alg.{Alg}
+use Rattle.tpm_types.specs.declared.tpms.Auth.{Auth}
+use Rattle.tpm_types.specs.declared.tpms.AuthReply.{AuthReply}
+use Rattle.tpm_types.specs.Alg.{alg_number}
+use Rattle.tpm_types.specs.Handles.{rs_pw}
+use Rattle.tpm_types.specs.Tpma.{audits_or_encrypts, auth_writes, auth_reads, policy_writes, policy_reads, no_da}
+use Rattle.tpm_commands.specs.declared.code.CommandCode.{CommandCode}
+use Rattle.tpm_commands.specs.Codes.{code_number}
 use Rattle.tpm_commands.specs.declared.code.CommandCode.TheVariants as codes
-use Rattle.tpm_hmac.specs.{Hmac.{hmac}, Sessions.{trim, AuthValueRule, included_auth_value, whole_key, cp_hash, rp_hash, mac_text, AuthValueRule.{ByHmac, ByPolicy}}}
-use Rattle.tpm_model.specs.{Sessions.{Session, is_hmac, is_trial}, Entities.{Entity, auth_value, is_owner_entity, Entity.{Index}}}
+use Rattle.tpm_hmac.specs.Hmac.{hmac}
+use Rattle.tpm_hmac.specs.Sessions.AuthValueRule.{ByHmac, ByPolicy}
+use Rattle.tpm_hmac.specs.Sessions.{trim, AuthValueRule, included_auth_value, whole_key, cp_hash, rp_hash, mac_text}
+use Rattle.tpm_model.specs.Sessions.{Session, is_hmac, is_trial}
+use Rattle.tpm_model.specs.Entities.Entity.{Index}
+use Rattle.tpm_model.specs.Entities.{Entity, auth_value, is_owner_entity}
 
 -- ---- words
 

@@ -1,13 +1,31 @@
 -- What a caller sends, and what it takes for the reply (Part 1, "Session-Based Authorizations" and "HMAC Computation").
-use Rattle.std.specs.Prelude.{ℕ, Bool, ◌&&◌, ◌==◌, nat_le, bytes_eq, List, [], ◌∷◌, length, Option, Some, None, Result, Ok, Err, if◌then◌else◌}
-use Rattle.tpm_wire.specs.{declared.refusal.Refusal.{Refusal}, Reading.{read_all, ◌>>=◌}, Spelling.{spelling}}
-use Rattle.tpm_types.specs.{declared.{tpms.{Auth.{Auth}, AuthReply.{AuthReply}}, handle_sets.BindHandle.{BindHandle}}, Alg.{digest_len}}
-use Rattle.tpm_commands.specs.{declared.{code.CommandCode.{CommandCode}, command.{Command.{Command}, CommandBody.{CommandBody}, StartAuth.{StartAuth}}, response.{StartReply.{StartReply}, ReplyBody.{ReplyBody}, Response.{Response}}}, Codes.{code_number}, Parameters.{parameters}}
+use Rattle.std.specs.Prelude.{ℕ, Bool, ◌&&◌, ◌==◌, nat_le, bytes_eq, List, [], ◌∷◌, length, Option, Some, None, Result}
+use Rattle.std.specs.Prelude.{Ok, Err, if◌then◌else◌}
+use Rattle.tpm_wire.specs.declared.refusal.Refusal.{Refusal}
+use Rattle.tpm_wire.specs.Reading.{read_all, ◌>>=◌}
+use Rattle.tpm_wire.specs.Spelling.{spelling}
+use Rattle.tpm_types.specs.declared.tpms.Auth.{Auth}
+use Rattle.tpm_types.specs.declared.tpms.AuthReply.{AuthReply}
+use Rattle.tpm_types.specs.declared.handle_sets.BindHandle.{BindHandle}
+use Rattle.tpm_types.specs.Alg.{digest_len}
+use Rattle.tpm_commands.specs.declared.code.CommandCode.{CommandCode}
+use Rattle.tpm_commands.specs.declared.command.Command.{Command}
+use Rattle.tpm_commands.specs.declared.command.CommandBody.{CommandBody}
+use Rattle.tpm_commands.specs.declared.command.StartAuth.{StartAuth}
+use Rattle.tpm_commands.specs.declared.response.StartReply.{StartReply}
+use Rattle.tpm_commands.specs.declared.response.ReplyBody.{ReplyBody}
+use Rattle.tpm_commands.specs.declared.response.Response.{Response}
+use Rattle.tpm_commands.specs.Codes.{code_number}
+use Rattle.tpm_commands.specs.Parameters.{parameters}
 use Rattle.tpm_types.specs.declared.handle_sets.BindHandle.TheVariants as binds
 use Rattle.tpm_commands.specs.declared.response.Response.TheVariants as responses
-use Rattle.tpm_buffer.specs.{Commands.{command, code_for, params_of, with_auths}, Responses.{response, done_with}}
-use Rattle.tpm_hmac.specs.{Hmac.{hmac}, Sessions.{session_key, whole_key, cp_hash, mac_text}}
-use Rattle.tpm_model.specs.{Authorization.{reply_text}, Answers.{reply_params}, InStep.{CallerSession}}
+use Rattle.tpm_buffer.specs.Commands.{command, code_for, params_of, with_auths}
+use Rattle.tpm_buffer.specs.Responses.{response, done_with}
+use Rattle.tpm_hmac.specs.Hmac.{hmac}
+use Rattle.tpm_hmac.specs.Sessions.{session_key, whole_key, cp_hash, mac_text}
+use Rattle.tpm_model.specs.Authorization.{reply_text}
+use Rattle.tpm_model.specs.Answers.{reply_params}
+use Rattle.tpm_model.specs.InStep.{CallerSession}
 
 -- ---- starting (Part 1, "sessionKey Creation")
 

@@ -1,6 +1,8 @@
 -- NV counters at a history (Part 1, "NV Memory"; Part 3, 31.3, 31.4 and 31.8).
-use Rattle.std.specs.Prelude.{ℕ, ◌+◌, max, Bool, not, ◌==◌, List, [], ◌∷◌, ◌++◌, filter, Option, Some, None, if◌then◌else◌}
-use Rattle.tpm_types.specs.{declared.tpms.NvPublic.{NvPublic}, Tpma.{with_written}}
+use Rattle.std.specs.Prelude.{ℕ, ◌+◌, max, Bool, not, ◌==◌, List, [], ◌∷◌, ◌++◌, filter, Option, Some, None}
+use Rattle.std.specs.Prelude.{if◌then◌else◌}
+use Rattle.tpm_types.specs.declared.tpms.NvPublic.{NvPublic}
+use Rattle.tpm_types.specs.Tpma.{with_written}
 use Rattle.tpm_commands.specs.declared.command.CommandBody.{CommandBody}
 use Rattle.tpm_commands.specs.declared.command.CommandBody.TheVariants as bodies
 use Rattle.tpm_hmac.specs.Sessions.{trim}

@@ -1,9 +1,15 @@
 -- What authorizes a command, and the Names of handles (Part 1, "Names" and "Authorizations and Acknowledgments").
-use Rattle.std.specs.{Prelude.{ℕ, Bool, true, false, List, [], ◌++◌, map, Option, Some, None, if◌then◌else◌}, Int.{w16, w32, to_be_bytes}}
+use Rattle.std.specs.Prelude.{ℕ, Bool, true, false, List, [], ◌++◌, map, Option, Some, None, if◌then◌else◌}
+use Rattle.std.specs.Int.{w16, w32, to_be_bytes}
 use Rattle.tpm_wire.specs.Spelling.{spelling}
-use Rattle.tpm_types.specs.{declared.tpms.NvPublic.{NvPublic}, Alg.{alg_number}, Handles.{is_owner, is_pcr, is_nv_index}, Tpms.{nv_public_area}}
-use Rattle.tpm_hmac.specs.{Hashes.{digest}, Sessions.{trim}}
-use Rattle.tpm_model.specs.{Counters.{Counter, counter_in}, Present.{Present}}
+use Rattle.tpm_types.specs.declared.tpms.NvPublic.{NvPublic}
+use Rattle.tpm_types.specs.Alg.{alg_number}
+use Rattle.tpm_types.specs.Handles.{is_owner, is_pcr, is_nv_index}
+use Rattle.tpm_types.specs.Tpms.{nv_public_area}
+use Rattle.tpm_hmac.specs.Hashes.{digest}
+use Rattle.tpm_hmac.specs.Sessions.{trim}
+use Rattle.tpm_model.specs.Counters.{Counter, counter_in}
+use Rattle.tpm_model.specs.Present.{Present}
 
 -- ---- entities
 

@@ -1,7 +1,13 @@
 -- Answers worked out from the definitions alone, byte for byte.
 use Prim.Native.String.{String}
-use Rattle.std.specs.Prelude.{◌≡◌, ℕ, ◌+◌, ◌-◌, ◌*◌, ◌^◌, not, nat_le, ◌==◌, List, [], ◌∷◌, ◌++◌, length, replicate, filter, flat_map, codes, Some, if◌then◌else◌}
-use Rattle.tpm_model.specs.{Steps.{History, Origin}, Registers.{changes, update_counter}, Counters.{value_at}, Answers.{answer}, Runs.{Event, after, Event.{Given, Cycled}}}
+use Rattle.std.specs.Prelude.{◌≡◌, ℕ, ◌+◌, ◌-◌, ◌*◌, ◌^◌, not, nat_le, ◌==◌, List, [], ◌∷◌, ◌++◌, length, replicate}
+use Rattle.std.specs.Prelude.{filter, flat_map, codes, Some, if◌then◌else◌}
+use Rattle.tpm_model.specs.Steps.{History, Origin}
+use Rattle.tpm_model.specs.Registers.{changes, update_counter}
+use Rattle.tpm_model.specs.Counters.{value_at}
+use Rattle.tpm_model.specs.Answers.{answer}
+use Rattle.tpm_model.specs.Runs.Event.{Given, Cycled}
+use Rattle.tpm_model.specs.Runs.{Event, after}
 
 -- ---- bytes in hexadecimal, with spaces for reading
 

@@ -1,7 +1,8 @@
 -- A caller and a device that agree on a session.
 use Rattle.std.specs.Prelude.{◌≡◌, ℕ, List, length, Some}
 use Rattle.tpm_types.specs.declared.alg.Alg.{Alg}
-use Rattle.tpm_model.specs.{Steps.{History, Origin}, Sessions.{Session, sessions_at, loaded}}
+use Rattle.tpm_model.specs.Steps.{History, Origin}
+use Rattle.tpm_model.specs.Sessions.{Session, sessions_at, loaded}
 
 -- what a caller holds of its session
 pub record CallerSession : Type 0 where

@@ -1,8 +1,12 @@
 -- Policies: what a session asserts, and the digest of it (Part 1, "Enhanced Authorization").
-use Rattle.std.specs.{Prelude.{ℕ, Bool, true, false, List, [], ◌∷◌, ◌++◌, Option, Some, None, flat_map}, Int.{w32, to_be_bytes}}
+use Rattle.std.specs.Prelude.{ℕ, Bool, true, false, List, [], ◌∷◌, ◌++◌, Option, Some, None, flat_map}
+use Rattle.std.specs.Int.{w32, to_be_bytes}
 use Rattle.tpm_wire.specs.Spelling.{spelling}
-use Rattle.tpm_types.specs.{declared.{alg.Alg.{Alg}, tpms.Selection.{Selection}}, Tpml.{selections}}
-use Rattle.tpm_commands.specs.{declared.code.CommandCode.{CommandCode}, Codes.{code_number}}
+use Rattle.tpm_types.specs.declared.alg.Alg.{Alg}
+use Rattle.tpm_types.specs.declared.tpms.Selection.{Selection}
+use Rattle.tpm_types.specs.Tpml.{selections}
+use Rattle.tpm_commands.specs.declared.code.CommandCode.{CommandCode}
+use Rattle.tpm_commands.specs.Codes.{code_number}
 use Rattle.tpm_commands.specs.declared.code.CommandCode.TheVariants as codes
 use Rattle.tpm_hmac.specs.Hashes.{digest}
 use Rattle.tpm_model.specs.Registers.{zeros}

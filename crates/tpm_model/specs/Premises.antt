@@ -1,12 +1,38 @@
 -- What the laws on runs speak of.
-use Rattle.std.specs.Prelude.{◌≡◌, ◌≢◌, ◌⊎◌, ◌↔◌, ℕ, ◌<◌, true, List, [], ◌∷◌, ◌++◌, length, take, drop, Option, Some, None, Result, Ok, Err, ◌==◌, if◌then◌else◌}
-use Rattle.tpm_wire.specs.{Buffers.{Layout}, Token.{number_of, Here}, declared.refusal.Refusal.{Refusal}, Reading.{read_all}, Path.{Spells, Fault, Begins, FaultFrom}, Spelling.{Fits}}
-use Rattle.tpm_types.specs.{declared.{alg.Alg.{Alg}, tpms.{Auth.{Auth}, AuthReply.{AuthReply}}}, Handles.{is_session}, Limits.{digest_bytes}}
-use Rattle.tpm_commands.specs.{declared.{code.CommandCode.{CommandCode}, command.Command.{Command}, response.{ReplyBody.{ReplyBody}, Response.{Response}}}, Handles.{first}}
-use Rattle.tpm_buffer.specs.{Commands.{command, code_for, handles_of}, Responses.{response, done_with}}
+use Rattle.std.specs.Prelude.{◌≡◌, ◌≢◌, ◌⊎◌, ◌↔◌, ℕ, ◌<◌, true, List, [], ◌∷◌, ◌++◌, length, take, drop, Option, Some}
+use Rattle.std.specs.Prelude.{None, Result, Ok, Err, ◌==◌, if◌then◌else◌}
+use Rattle.tpm_wire.specs.Buffers.{Layout}
+use Rattle.tpm_wire.specs.Token.{number_of, Here}
+use Rattle.tpm_wire.specs.declared.refusal.Refusal.{Refusal}
+use Rattle.tpm_wire.specs.Reading.{read_all}
+use Rattle.tpm_wire.specs.Path.{Spells, Fault, Begins, FaultFrom}
+use Rattle.tpm_wire.specs.Spelling.{Fits}
+use Rattle.tpm_types.specs.declared.alg.Alg.{Alg}
+use Rattle.tpm_types.specs.declared.tpms.Auth.{Auth}
+use Rattle.tpm_types.specs.declared.tpms.AuthReply.{AuthReply}
+use Rattle.tpm_types.specs.Handles.{is_session}
+use Rattle.tpm_types.specs.Limits.{digest_bytes}
+use Rattle.tpm_commands.specs.declared.code.CommandCode.{CommandCode}
+use Rattle.tpm_commands.specs.declared.command.Command.{Command}
+use Rattle.tpm_commands.specs.declared.response.ReplyBody.{ReplyBody}
+use Rattle.tpm_commands.specs.declared.response.Response.{Response}
+use Rattle.tpm_commands.specs.Handles.{first}
+use Rattle.tpm_buffer.specs.Commands.{command, code_for, handles_of}
+use Rattle.tpm_buffer.specs.Responses.{response, done_with}
 use Rattle.tpm_commands.specs.declared.response.Response.TheVariants as responses
-use Rattle.tpm_hmac.specs.{Hmac.{hmac}, Sessions.{trim}}
-use Rattle.tpm_model.specs.{Steps.{History, PowerCycle, Origin}, Sessions.{Session, loaded}, Present.{Present, present}, Entities.{Entity, entity_of, names_of}, Authorization.{Signed, command_text, needs_none, Evidence, follows, nonce_next, reply_text, Evidence.{NotAsked, ByPassword, ByMac}}, Answers.{code_only, by_grammar, Presented, presented, Done, outcome, next, reply_params}, InStep.{CallerSession, InStep}, Callers.{Seal, sealed_command, sealed, Waiting, waiting, Opened, with_nonce, awaited_text}, Runs.{Event, Event.{Given, Cycled}}}
+use Rattle.tpm_hmac.specs.Hmac.{hmac}
+use Rattle.tpm_hmac.specs.Sessions.{trim}
+use Rattle.tpm_model.specs.Steps.{History, PowerCycle, Origin}
+use Rattle.tpm_model.specs.Sessions.{Session, loaded}
+use Rattle.tpm_model.specs.Present.{Present, present}
+use Rattle.tpm_model.specs.Entities.{Entity, entity_of, names_of}
+use Rattle.tpm_model.specs.Authorization.Evidence.{NotAsked, ByPassword, ByMac}
+use Rattle.tpm_model.specs.Authorization.{Signed, command_text, needs_none, Evidence, follows, nonce_next, reply_text}
+use Rattle.tpm_model.specs.Answers.{code_only, by_grammar, Presented, presented, Done, outcome, next, reply_params}
+use Rattle.tpm_model.specs.InStep.{CallerSession, InStep}
+use Rattle.tpm_model.specs.Callers.{Seal, sealed_command, sealed, Waiting, waiting, Opened, with_nonce, awaited_text}
+use Rattle.tpm_model.specs.Runs.Event.{Given, Cycled}
+use Rattle.tpm_model.specs.Runs.{Event}
 
 -- ---- cuts
 

@@ -1,6 +1,9 @@
 -- What the checks look at.
 use Rattle.std.specs.Prelude.{ℕ, Bool, List, Option}
-use Rattle.tpm_model.specs.{Steps.{History, Origin, started}, Registers.{Registers, changes, registers_after}, Sessions.{Session, sessions_at}, Counters.{NvMemory, nv_memory}}
+use Rattle.tpm_model.specs.Steps.{History, Origin, started}
+use Rattle.tpm_model.specs.Registers.{Registers, changes, registers_after}
+use Rattle.tpm_model.specs.Sessions.{Session, sessions_at}
+use Rattle.tpm_model.specs.Counters.{NvMemory, nv_memory}
 
 -- All that an answer depends on, beside the buffer and the nonce.
 pub record Present : Type 0 where

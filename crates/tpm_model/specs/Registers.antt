@@ -1,6 +1,13 @@
 -- Platform configuration registers (Part 1, "Platform Configuration Registers (PCR)").
-use Rattle.std.specs.Prelude.{ℕ, suc, ◌-◌, ◌/◌, ◌%◌, ◌^◌, Bool, ◌&&◌, nat_le, ◌==◌, List, [], ◌∷◌, ◌++◌, length, map, take, replicate, filter, flat_map, slice_index_or, if◌then◌else◌}
-use Rattle.tpm_types.specs.{declared.{alg.Alg.{Alg}, tpms.Selection.{Selection}, handle_sets.PcrOrNull.{PcrOrNull, TheVariants.{Pcr, Null}}}, Alg.{all_algs, bank_place, alg_number, digest_len}, Tpma.{mask}, Tpms.{is_selected}}
+use Rattle.std.specs.Prelude.{ℕ, suc, ◌-◌, ◌/◌, ◌%◌, ◌^◌, Bool, ◌&&◌, nat_le, ◌==◌, List, [], ◌∷◌, ◌++◌, length, map}
+use Rattle.std.specs.Prelude.{take, replicate, filter, flat_map, slice_index_or, if◌then◌else◌}
+use Rattle.tpm_types.specs.declared.alg.Alg.{Alg}
+use Rattle.tpm_types.specs.declared.tpms.Selection.{Selection}
+use Rattle.tpm_types.specs.declared.handle_sets.PcrOrNull.TheVariants.{Pcr, Null}
+use Rattle.tpm_types.specs.declared.handle_sets.PcrOrNull.{PcrOrNull}
+use Rattle.tpm_types.specs.Alg.{all_algs, bank_place, alg_number, digest_len}
+use Rattle.tpm_types.specs.Tpma.{mask}
+use Rattle.tpm_types.specs.Tpms.{is_selected}
 use Rattle.tpm_commands.specs.declared.command.CommandBody.{CommandBody}
 use Rattle.tpm_commands.specs.declared.command.CommandBody.TheVariants as bodies
 use Rattle.tpm_hmac.specs.Hashes.{digest}

@@ -1,6 +1,7 @@
 -- Whole runs.
 use Rattle.std.specs.Prelude.{ℕ, List, [], ◌∷◌}
-use Rattle.tpm_model.specs.{Steps.{History, PowerCycle, Origin}, Answers.{answer, next}}
+use Rattle.tpm_model.specs.Steps.{History, PowerCycle, Origin}
+use Rattle.tpm_model.specs.Answers.{answer, next}
 
 -- a buffer with the nonce that is handed in, or a power cycle
 pub data Event : Type 0 where

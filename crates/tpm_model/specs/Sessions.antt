@@ -1,12 +1,26 @@
 -- Sessions at a history (Part 1, "Session-Based Authorizations"; Part 3, 11.1).
-use Rattle.std.specs.Prelude.{ℕ, ◌+◌, ◌%◌, Bool, true, false, not, ◌&&◌, ◌||◌, ◌==◌, is_some, is_none, find, slice_index_or, List, [], ◌∷◌, length, map, take, Option, Some, None, option_map, if◌then◌else◌}
-use Rattle.tpm_types.specs.{declared.{alg.Alg.{Alg}, constants.SessionType.{SessionType, TheVariants.{Hmac, Trial}}, handle_sets.BindHandle.{BindHandle}, tpms.{Auth.{Auth}, Selection.{Selection}}}, Handles.{is_session, is_hmac_session, is_policy}, Tpma.{continues}}
+use Rattle.std.specs.Prelude.{ℕ, ◌+◌, ◌%◌, Bool, true, false, not, ◌&&◌, ◌||◌, ◌==◌, is_some, is_none, find}
+use Rattle.std.specs.Prelude.{slice_index_or, List, [], ◌∷◌, length, map, take, Option, Some, None, option_map}
+use Rattle.std.specs.Prelude.{if◌then◌else◌}
+use Rattle.tpm_types.specs.declared.alg.Alg.{Alg}
+use Rattle.tpm_types.specs.declared.constants.SessionType.TheVariants.{Hmac, Trial}
+use Rattle.tpm_types.specs.declared.constants.SessionType.{SessionType}
+use Rattle.tpm_types.specs.declared.handle_sets.BindHandle.{BindHandle}
+use Rattle.tpm_types.specs.declared.tpms.Auth.{Auth}
+use Rattle.tpm_types.specs.declared.tpms.Selection.{Selection}
+use Rattle.tpm_types.specs.Handles.{is_session, is_hmac_session, is_policy}
+use Rattle.tpm_types.specs.Tpma.{continues}
 use Rattle.tpm_types.specs.declared.handle_sets.BindHandle.TheVariants as binds
-use Rattle.tpm_commands.specs.declared.{command.{CommandBody.{CommandBody}, StartAuth.{StartAuth}}, response.ReplyBody.{ReplyBody}}
+use Rattle.tpm_commands.specs.declared.command.CommandBody.{CommandBody}
+use Rattle.tpm_commands.specs.declared.command.StartAuth.{StartAuth}
+use Rattle.tpm_commands.specs.declared.response.ReplyBody.{ReplyBody}
 use Rattle.tpm_commands.specs.declared.command.CommandBody.TheVariants as bodies
 use Rattle.tpm_commands.specs.declared.response.ReplyBody.TheVariants as replies
 use Rattle.tpm_hmac.specs.Sessions.{session_key}
-use Rattle.tpm_model.specs.{Steps.{History, PowerCycle, Accepted, Origin}, Registers.{changes, Registers, registers_after, value_in, composite}, Policies.{Assertion, Policy, policy_of, Assertion.{PcrAsserted, OrAsserted, CodeAsserted, AuthValueAsserted}}}
+use Rattle.tpm_model.specs.Steps.{History, PowerCycle, Accepted, Origin}
+use Rattle.tpm_model.specs.Registers.{changes, Registers, registers_after, value_in, composite}
+use Rattle.tpm_model.specs.Policies.Assertion.{PcrAsserted, OrAsserted, CodeAsserted, AuthValueAsserted}
+use Rattle.tpm_model.specs.Policies.{Assertion, Policy, policy_of}
 
 -- ---- slots and handles (Part 2, 7.2; three slots, and the lowest free one is taken, in this profile)
 

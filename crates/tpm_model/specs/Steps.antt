@@ -1,6 +1,7 @@
 -- What a device has accepted.
 use Rattle.std.specs.Prelude.{ℕ, Bool, true, false, ◌||◌, List, [], ◌∷◌}
-use Rattle.tpm_commands.specs.declared.command.{Command.{Command}, CommandBody.{CommandBody}}
+use Rattle.tpm_commands.specs.declared.command.Command.{Command}
+use Rattle.tpm_commands.specs.declared.command.CommandBody.{CommandBody}
 use Rattle.tpm_commands.specs.declared.command.CommandBody.TheVariants as bodies
 use Rattle.tpm_buffer.specs.Responses.{Reply}
 

@@ -1,14 +1,38 @@
 //! What holds of every run. Each law stands over the definitions alone.
 
 ghost use Rattle.std.specs.Prelude.{◌≡◌, true, ℕ, ◌<◌, ◌^◌, List, [], ◌∷◌, ◌++◌, Some, Ok, Err, ◌≤◌, length};
-ghost use Rattle.tpm_wire.specs.{Token.{Here}, Path.{Spells}};
-ghost use Rattle.tpm_types.specs.{declared.{handle_sets.{NvAuthHandle.{NvAuthHandle}, BindHandle.TheVariants.{Owner}}, tpms.Auth.{Auth}}, Handles.{is_session}};
-ghost use Rattle.tpm_commands.specs.{declared.{command.{CommandBody.TheVariants.{NvIncrement}, StartAuth.{StartAuth}}, response.StartReply.{StartReply}, code.CommandCode.{CommandCode}}, Handles.{handles, needs_authorization}, Parameters.{parameters}};
+ghost use Rattle.tpm_wire.specs.Token.{Here};
+ghost use Rattle.tpm_wire.specs.Path.{Spells};
+ghost use Rattle.tpm_types.specs.declared.handle_sets.NvAuthHandle.{NvAuthHandle};
+ghost use Rattle.tpm_types.specs.declared.handle_sets.BindHandle.TheVariants.{Owner};
+ghost use Rattle.tpm_types.specs.declared.tpms.Auth.{Auth};
+ghost use Rattle.tpm_types.specs.Handles.{is_session};
+ghost use Rattle.tpm_commands.specs.declared.command.CommandBody.TheVariants.{NvIncrement};
+ghost use Rattle.tpm_commands.specs.declared.command.StartAuth.{StartAuth};
+ghost use Rattle.tpm_commands.specs.declared.response.StartReply.{StartReply};
+ghost use Rattle.tpm_commands.specs.declared.code.CommandCode.{CommandCode};
+ghost use Rattle.tpm_commands.specs.Handles.{handles, needs_authorization};
+ghost use Rattle.tpm_commands.specs.Parameters.{parameters};
 ghost use Rattle.tpm_commands.specs.declared.command.CommandBody.TheVariants as bodies;
 ghost use Rattle.tpm_commands.specs.declared.response.ReplyBody.TheVariants as replies;
 ghost use Rattle.tpm_buffer.specs.Commands.{header, authorization, command, code_for};
 ghost use Rattle.tpm_hmac.specs.Sessions.{trim};
-ghost use Rattle.tpm_model.specs.{Steps.{History, Origin}, Policies.{policy_of}, Sessions.{Session, slot_of, session_at}, Counters.{value_at}, Present.{Present, present}, Authorization.{check_evidence}, Answers.{Presented, presented, Done, outcome, answer, next}, InStep.{CallerSession, InStep}, Callers.{started_with, Seal, sealed_command, sealed, waiting, Code, Opened, opened, given_up}, Runs.{Event, after, Event.{Given}}, Examples.{Examples}, Premises.{IsByGrammar, IsWholeByGrammar, code_in, IsAccepted, HasSessionMac, NoncesDiffer, NoCollision, nonce_bytes, most_nonce, IsReady, rolled, opened_as, IsAmong, Opening, IsOfCallers}};
+ghost use Rattle.tpm_model.specs.Steps.{History, Origin};
+ghost use Rattle.tpm_model.specs.Policies.{policy_of};
+ghost use Rattle.tpm_model.specs.Sessions.{Session, slot_of, session_at};
+ghost use Rattle.tpm_model.specs.Counters.{value_at};
+ghost use Rattle.tpm_model.specs.Present.{Present, present};
+ghost use Rattle.tpm_model.specs.Authorization.{check_evidence};
+ghost use Rattle.tpm_model.specs.Answers.{Presented, presented, Done, outcome, answer, next};
+ghost use Rattle.tpm_model.specs.InStep.{CallerSession, InStep};
+ghost use Rattle.tpm_model.specs.Callers.{started_with, Seal, sealed_command, sealed, waiting, Code, Opened, opened};
+ghost use Rattle.tpm_model.specs.Callers.{given_up};
+ghost use Rattle.tpm_model.specs.Runs.Event.{Given};
+ghost use Rattle.tpm_model.specs.Runs.{Event, after};
+ghost use Rattle.tpm_model.specs.Examples.{Examples};
+ghost use Rattle.tpm_model.specs.Premises.{IsByGrammar, IsWholeByGrammar, code_in, IsAccepted, HasSessionMac};
+ghost use Rattle.tpm_model.specs.Premises.{NoncesDiffer, NoCollision, nonce_bytes, most_nonce, IsReady, rolled};
+ghost use Rattle.tpm_model.specs.Premises.{opened_as, IsAmong, Opening, IsOfCallers};
 
 /// A command is cut where its layout says: what the checks by the grammar let through is what the bytes spell, and what they
 /// refuse is refused with the code of the first fault.

@@ -1,7 +1,17 @@
 -- The nonces of a script's commands.
-use Rattle.std.{proofs.{Common.{◌≡◌, ◌≢◌, ℕ, suc, ◌+◌, ◌<◌, ◌≤◌, List, [], ◌∷◌, ◌++◌, length, Bool, true, false, refl, sym, ap, ◌∙◌, subst, arith}, lemmas.List.{length-map}}, specs.{Prelude.{◌^◌, ◌==◌, map, take, if◌then◌else◌}, Int.{to_be_bytes, w128}}}
-use Rattle.tpm_wire.{specs.Token.{number_of}, proofs.Numbers.{number_of-bytes}}
-use Rattle.tpm_model.{specs.{Steps.{Origin}, Answers.{answer}, Runs.{Event, Given, after}, Premises.{code_in, HasSessionMac, least_nonce, nonces, IsApart, AreApart, NoncesDiffer, NoCollision}}, proofs.Replay.{twice}}
+use Rattle.std.proofs.Common.{◌≡◌, ◌≢◌, ℕ, suc, ◌+◌, ◌<◌, ◌≤◌, List, [], ◌∷◌, ◌++◌, length, Bool, true, false, refl}
+use Rattle.std.proofs.Common.{sym, ap, ◌∙◌, subst, arith}
+use Rattle.std.proofs.lemmas.List.{length-map}
+use Rattle.std.specs.Prelude.{◌^◌, ◌==◌, map, take, if◌then◌else◌}
+use Rattle.std.specs.Int.{to_be_bytes, w128}
+use Rattle.tpm_wire.specs.Token.{number_of}
+use Rattle.tpm_wire.proofs.Numbers.{number_of-bytes}
+use Rattle.tpm_model.specs.Steps.{Origin}
+use Rattle.tpm_model.specs.Answers.{answer}
+use Rattle.tpm_model.specs.Runs.{Event, Given, after}
+use Rattle.tpm_model.specs.Premises.{code_in, HasSessionMac, least_nonce, nonces, IsApart, AreApart, NoncesDiffer}
+use Rattle.tpm_model.specs.Premises.{NoCollision}
+use Rattle.tpm_model.proofs.Replay.{twice}
 use Rattle.tpm_device.proofs.Ran.{accepted}
 use Rattle.tpm_text.specs.InputLines.{onto_first, lines_of, most_bytes}
 use Rattle.tpm_script.specs.Script.{Line, Command, NotHexadecimal, line_of, nonce_of, events_from, script}

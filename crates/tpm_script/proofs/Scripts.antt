@@ -1,10 +1,32 @@
 -- Scripts that are run one part after the other.
-use Rattle.std.{proofs.{Common.{◌≡◌, ◌≢◌, ℕ, ◌+◌, ◌<◌, ◌≤◌, false, List, [], ◌∷◌, ◌++◌, length, map, take, get_or, Option, Some, None, refl, sym, ap, ◌∙◌, subst, inl, inr, arith, append_assoc, length-append}, lemmas.{Bool.{lt-ltb}, List.{append-nil, take_more, length-take-le}, Option.{none-some}}}, specs.{Prelude.{codes, nat_eq}, List.{AllByRecursion}, Io.KnownBytes.{Keeps, Consumes, IsAtEnd}}}
-use Rattle.tpm_model.{specs.{Steps.{History, Origin, PowerCycle}, Answers.{answer, next}, Runs.{Event, Given, Cycled, after, run}}, proofs.Runs.{after-append}}
+use Rattle.std.proofs.Common.{◌≡◌, ◌≢◌, ℕ, ◌+◌, ◌<◌, ◌≤◌, false, List, [], ◌∷◌, ◌++◌, length, map, take, get_or, Option}
+use Rattle.std.proofs.Common.{Some, None, refl, sym, ap, ◌∙◌, subst, inl, inr, arith, append_assoc, length-append}
+use Rattle.std.proofs.lemmas.Bool.{lt-ltb}
+use Rattle.std.proofs.lemmas.List.{append-nil, take_more, length-take-le}
+use Rattle.std.proofs.lemmas.Option.{none-some}
+use Rattle.std.specs.Prelude.{codes, nat_eq}
+use Rattle.std.specs.List.{AllByRecursion}
+use Rattle.std.specs.Io.KnownBytes.{Keeps, Consumes, IsAtEnd}
+use Rattle.tpm_model.specs.Steps.{History, Origin, PowerCycle}
+use Rattle.tpm_model.specs.Answers.{answer, next}
+use Rattle.tpm_model.specs.Runs.{Event, Given, Cycled, after, run}
+use Rattle.tpm_model.proofs.Runs.{after-append}
 use Rattle.tpm_stream.proofs.Filled.{consumes_both}
 use Rattle.tpm_device.specs.declared.device.Device.{Device}
-use Rattle.tpm_script.specs.{declared.script.Run.{Run}, Script.{Line, Command, NotHexadecimal, Script, line_of, most_digits, AreAccepted, IsRefusedLine, IsRefusedIn, IsUnrefused, events_from, refused_from, script_from, script, events_text, refused_text, script_text, status_for, ReadsNoFurther, ReadsScript}, Progress.{Place, start, script_at, IsOpen, behind, Leads, Ends, refused_at, StandsAt, Performs, place, next_command, EndsLine, Takes, Reaches}}
-use Rattle.tpm_text.{specs.{declared.status.Status.{Status, TheVariants.{Done, Refused}}, Text.{bytes_line, line}, InputLines.{lines_of, HasNoFeed, AreEnded, most_bytes, most_piece}}, proofs.{InputLines.{no_feed-more, ended_line, last_line, first_line, other_lines, longer_line, lines_of-append, ended_both}, Joins.{Joins}}}
+use Rattle.tpm_script.specs.declared.script.Run.{Run}
+use Rattle.tpm_script.specs.Script.{Line, Command, NotHexadecimal, Script, line_of, most_digits, AreAccepted}
+use Rattle.tpm_script.specs.Script.{IsRefusedLine, IsRefusedIn, IsUnrefused, events_from, refused_from, script_from}
+use Rattle.tpm_script.specs.Script.{script, events_text, refused_text, script_text, status_for, ReadsNoFurther}
+use Rattle.tpm_script.specs.Script.{ReadsScript}
+use Rattle.tpm_script.specs.Progress.{Place, start, script_at, IsOpen, behind, Leads, Ends, refused_at, StandsAt}
+use Rattle.tpm_script.specs.Progress.{Performs, place, next_command, EndsLine, Takes, Reaches}
+use Rattle.tpm_text.specs.declared.status.Status.TheVariants.{Done, Refused}
+use Rattle.tpm_text.specs.declared.status.Status.{Status}
+use Rattle.tpm_text.specs.Text.{bytes_line, line}
+use Rattle.tpm_text.specs.InputLines.{lines_of, HasNoFeed, AreEnded, most_bytes, most_piece}
+use Rattle.tpm_text.proofs.InputLines.{no_feed-more, ended_line, last_line, first_line, other_lines, longer_line}
+use Rattle.tpm_text.proofs.InputLines.{lines_of-append, ended_both}
+use Rattle.tpm_text.proofs.Joins.{Joins}
 
 -- ---- lines
 

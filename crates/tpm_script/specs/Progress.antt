@@ -1,10 +1,18 @@
 -- How far a script has been run.
-use Rattle.std.specs.{Prelude.{◌≡◌, ℕ, ◌+◌, ◌≤◌, List, [], ◌∷◌, ◌++◌, length, map, Option, Some, None}, Io.KnownBytes.{Consumes}}
-use Rattle.tpm_model.specs.{Steps.{History, Origin}, Runs.{Event, after}}
-use Rattle.tpm_device.specs.{declared.device.Device.{Device}, Stands.{Stands}}
-use Rattle.tpm_script.specs.{declared.{lines.Line.{Line as RustLine}, script.Run.{Run}}, Script.{Line, Blank, Power, Command, NotHexadecimal, Script, line_of, most_digits, AreAccepted, IsRefusedIn, events_from, refused_from, script_from, script_text}}
+use Rattle.std.specs.Prelude.{◌≡◌, ℕ, ◌+◌, ◌≤◌, List, [], ◌∷◌, ◌++◌, length, map, Option, Some, None}
+use Rattle.std.specs.Io.KnownBytes.{Consumes}
+use Rattle.tpm_model.specs.Steps.{History, Origin}
+use Rattle.tpm_model.specs.Runs.{Event, after}
+use Rattle.tpm_device.specs.declared.device.Device.{Device}
+use Rattle.tpm_device.specs.Stands.{Stands}
+use Rattle.tpm_script.specs.declared.lines.Line.{Line as RustLine}
+use Rattle.tpm_script.specs.declared.script.Run.{Run}
+use Rattle.tpm_script.specs.Script.{Line, Blank, Power, Command, NotHexadecimal, Script, line_of, most_digits}
+use Rattle.tpm_script.specs.Script.{AreAccepted, IsRefusedIn, events_from, refused_from, script_from, script_text}
 use Rattle.tpm_script.specs.declared.lines.Line.TheVariants as rust
-use Rattle.tpm_text.specs.{declared.status.Status.{Status, TheVariants.{Done, Refused}}, InputLines.{lines_of, HasNoFeed, AreEnded}}
+use Rattle.tpm_text.specs.declared.status.Status.TheVariants.{Done, Refused}
+use Rattle.tpm_text.specs.declared.status.Status.{Status}
+use Rattle.tpm_text.specs.InputLines.{lines_of, HasNoFeed, AreEnded}
 
 -- what was read of a line
 abbrev pub read_as : RustLine → Line

@@ -1,7 +1,17 @@
 -- What `run` prints (this profile).
-use Rattle.std.specs.{Prelude.{◌≡◌, ◌≢◌, ◌⊎◌, ℕ, ◌+◌, ◌<◌, ◌≤◌, ◌==◌, nat_lt, List, [], ◌∷◌, ◌++◌, length, map, codes, Option, Some, None, if◌then◌else◌}, Int.{to_be_bytes, w128}, Str.{bytes_eq}, Fmt.{decimal}, List.{AllByRecursion}, Io.KnownBytes.{Consumes, IsAtEnd}}
-use Rattle.tpm_model.specs.{Steps.{History, Origin}, Runs.{Event, Given, Cycled, run}}
-use Rattle.tpm_text.specs.{declared.status.Status.{Status, TheVariants.{Done, Refused}}, Text.{bytes_in, bytes_line, line}, InputLines.{lines_of, HasNoFeed, AreEnded, most_bytes, most_piece}}
+use Rattle.std.specs.Prelude.{◌≡◌, ◌≢◌, ◌⊎◌, ℕ, ◌+◌, ◌<◌, ◌≤◌, ◌==◌, nat_lt, List, [], ◌∷◌, ◌++◌, length, map, codes}
+use Rattle.std.specs.Prelude.{Option, Some, None, if◌then◌else◌}
+use Rattle.std.specs.Int.{to_be_bytes, w128}
+use Rattle.std.specs.Str.{bytes_eq}
+use Rattle.std.specs.Fmt.{decimal}
+use Rattle.std.specs.List.{AllByRecursion}
+use Rattle.std.specs.Io.KnownBytes.{Consumes, IsAtEnd}
+use Rattle.tpm_model.specs.Steps.{History, Origin}
+use Rattle.tpm_model.specs.Runs.{Event, Given, Cycled, run}
+use Rattle.tpm_text.specs.declared.status.Status.TheVariants.{Done, Refused}
+use Rattle.tpm_text.specs.declared.status.Status.{Status}
+use Rattle.tpm_text.specs.Text.{bytes_in, bytes_line, line}
+use Rattle.tpm_text.specs.InputLines.{lines_of, HasNoFeed, AreEnded, most_bytes, most_piece}
 
 -- ---- what a line asks for
 

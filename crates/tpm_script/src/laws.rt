@@ -1,7 +1,11 @@
 //! What holds of scripts. Each law stands over the definitions alone.
 
 ghost use Rattle.std.specs.Prelude.{◌≡◌, ℕ, ◌≤◌, List, [], ◌∷◌, ◌++◌, length};
-ghost use Rattle.tpm_model.specs.{Steps.{Origin}, Answers.{answer}, Runs.{Event, after, Event.{Given}}, Premises.{code_in, HasSessionMac, NoncesDiffer, NoCollision}};
+ghost use Rattle.tpm_model.specs.Steps.{Origin};
+ghost use Rattle.tpm_model.specs.Answers.{answer};
+ghost use Rattle.tpm_model.specs.Runs.Event.{Given};
+ghost use Rattle.tpm_model.specs.Runs.{Event, after};
+ghost use Rattle.tpm_model.specs.Premises.{code_in, HasSessionMac, NoncesDiffer, NoCollision};
 ghost use Rattle.tpm_text.specs.InputLines.{most_bytes};
 ghost use Rattle.tpm_script.specs.Script.{script};
 

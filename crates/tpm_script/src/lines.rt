@@ -1,7 +1,8 @@
 //! The lines of a script.
 
 ghost use Rattle.std.specs.Prelude.{◌≡◌, IfOk};
-ghost use Rattle.tpm_script.specs.{Script.{line_of, nonce_of}, Progress.{read_as}};
+ghost use Rattle.tpm_script.specs.Script.{line_of, nonce_of};
+ghost use Rattle.tpm_script.specs.Progress.{read_as};
 
 use std::alloc::{AllocError, Global};
 use tpm_text::hexadecimal::decoded;

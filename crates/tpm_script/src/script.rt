@@ -1,11 +1,18 @@
 //! The subcommand `run`.
 
-ghost use Rattle.std.specs.{Prelude.{◌≡◌, ◌+◌, ◌^◌, ◌<◌, ◌++◌, ℕ, List, [], ◌∷◌, None, IfOk, OnOk, IsErrOf, length, string_bytes}, Io.KnownBytes.{Appends}};
-ghost use Rattle.tpm_model.specs.{Steps.{History, Origin}, Runs.{Given, Cycled}};
+ghost use Rattle.std.specs.Prelude.{◌≡◌, ◌+◌, ◌^◌, ◌<◌, ◌++◌, ℕ, List, [], ◌∷◌, None, IfOk, OnOk, IsErrOf, length};
+ghost use Rattle.std.specs.Prelude.{string_bytes};
+ghost use Rattle.std.specs.Io.KnownBytes.{Appends};
+ghost use Rattle.tpm_model.specs.Steps.{History, Origin};
+ghost use Rattle.tpm_model.specs.Runs.{Given, Cycled};
 ghost use Rattle.tpm_device.specs.Stands.{Stands};
 ghost use Rattle.tpm_wire.specs.Sources.{IsWhereItFailed};
-ghost use Rattle.tpm_text.specs.{declared.fault.ToolFault.TheVariants.{InputTooLong, Read}, Faults.{FailsByMemoryOrWrite}, InputLines.{AddedTo, CountsRead}};
-ghost use Rattle.tpm_script.specs.{Script.{nonce_of, line_of, refused_line, script, script_text, status_for, ReadsNoFurther, ReadsScript, ReadsTooMuch}, Progress.{place, start, IsOpen, EndsLine, Takes, Performs}};
+ghost use Rattle.tpm_text.specs.declared.fault.ToolFault.TheVariants.{InputTooLong, Read};
+ghost use Rattle.tpm_text.specs.Faults.{FailsByMemoryOrWrite};
+ghost use Rattle.tpm_text.specs.InputLines.{AddedTo, CountsRead};
+ghost use Rattle.tpm_script.specs.Script.{nonce_of, line_of, refused_line, script, script_text, status_for};
+ghost use Rattle.tpm_script.specs.Script.{ReadsNoFurther, ReadsScript, ReadsTooMuch};
+ghost use Rattle.tpm_script.specs.Progress.{place, start, IsOpen, EndsLine, Takes, Performs};
 
 use crate::lines::{Line, MOST_DIGITS, nonce, read_line};
 use std::alloc::{AllocError, Global};

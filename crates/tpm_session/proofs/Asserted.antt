@@ -1,11 +1,24 @@
 -- The sessions after a policy command.
-use Rattle.std.{proofs.{Common.{get_or, ◌≡◌, ℕ, zero, suc, Bool, true, false, List, [], ◌∷◌, None, Some, Option, option_map, IsSome, refl, sym, ap, ◌∙◌, arith}, lemmas.{Bool.{both_ways, Decides.{nat_tests}}, Option.{none-some, same_Some}}}, specs.Prelude.{◌==◌, slice_set, if◌then◌else◌}}
-use Rattle.tpm_commands.specs.declared.command.{Command.{Command}, CommandBody.{CommandBody}}
+use Rattle.std.proofs.Common.{get_or, ◌≡◌, ℕ, zero, suc, Bool, true, false, List, [], ◌∷◌, None, Some, Option}
+use Rattle.std.proofs.Common.{option_map, IsSome, refl, sym, ap, ◌∙◌, arith}
+use Rattle.std.proofs.lemmas.Bool.Decides.{nat_tests}
+use Rattle.std.proofs.lemmas.Bool.{both_ways}
+use Rattle.std.proofs.lemmas.Option.{none-some, same_Some}
+use Rattle.std.specs.Prelude.{◌==◌, slice_set, if◌then◌else◌}
+use Rattle.tpm_commands.specs.declared.command.Command.{Command}
+use Rattle.tpm_commands.specs.declared.command.CommandBody.{CommandBody}
 use Rattle.tpm_commands.specs.declared.command.CommandBody.TheVariants as bodies
 use Rattle.tpm_buffer.specs.Responses.{Reply}
 use Rattle.tpm_types.specs.declared.tpms.Selection.{Selection}
-use Rattle.tpm_model.specs.{Steps.{Origin, History, Accepted}, Registers.{Registers, registers_after, changes}, Policies.{Assertion, policy_digest, Assertion.{PcrAsserted, OrAsserted, CodeAsserted, AuthValueAsserted}}, Sessions.{Session, Start, slot_of, begun, clears, asserted_by, pcr_assertion, pcr_asserted, is_handle_of, if_of_kind, session_in, loaded, session_at, sessions_at, as_session, last_nonce, assertions_of, lives, start_of}}
-use Rattle.tpm_session.{specs.Policies.{asserting, restarted, with_slot}, proofs.Slots.{put_at, three, same_test, set_three}}
+use Rattle.tpm_model.specs.Steps.{Origin, History, Accepted}
+use Rattle.tpm_model.specs.Registers.{Registers, registers_after, changes}
+use Rattle.tpm_model.specs.Policies.Assertion.{PcrAsserted, OrAsserted, CodeAsserted, AuthValueAsserted}
+use Rattle.tpm_model.specs.Policies.{Assertion, policy_digest}
+use Rattle.tpm_model.specs.Sessions.{Session, Start, slot_of, begun, clears, asserted_by, pcr_assertion, pcr_asserted}
+use Rattle.tpm_model.specs.Sessions.{is_handle_of, if_of_kind, session_in, loaded, session_at, sessions_at, as_session}
+use Rattle.tpm_model.specs.Sessions.{last_nonce, assertions_of, lives, start_of}
+use Rattle.tpm_session.specs.Policies.{asserting, restarted, with_slot}
+use Rattle.tpm_session.proofs.Slots.{put_at, three, same_test, set_three}
 
 -- ---- a slot that changes
 

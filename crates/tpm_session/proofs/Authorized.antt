@@ -1,10 +1,20 @@
 -- What an authorized command says of its evidence, and the session of its reply.
-use Rattle.std.{proofs.Common.{◌≡◌, ℕ, ◌<◌, Bool, List, [], ◌∷◌, length, get_or, ◌&&◌, Option, Result, Ok, Err, refl, sym, ap, ◌∙◌, arith}, specs.Prelude.{if◌then◌else◌}}
+use Rattle.std.proofs.Common.{◌≡◌, ℕ, ◌<◌, Bool, List, [], ◌∷◌, length, get_or, ◌&&◌, Option, Result, Ok, Err, refl}
+use Rattle.std.proofs.Common.{sym, ap, ◌∙◌, arith}
+use Rattle.std.specs.Prelude.{if◌then◌else◌}
 use Rattle.tpm_wire.specs.Reading.{◌>>=◌}
-use Rattle.tpm_types.specs.declared.tpms.{Auth.{Auth}, AuthReply.{AuthReply}}
-use Rattle.tpm_commands.specs.{declared.code.CommandCode.{CommandCode}, Codes.{code_number}}
-use Rattle.tpm_hmac.specs.Sessions.{included_auth_value, whole_key, cp_hash, AuthValueRule.{ByHmac, ByPolicy}}
-use Rattle.tpm_model.specs.{Sessions.{Session, is_hmac}, Entities.{Entity, auth_value, is_owner_entity}, Authorization.{Authorizer, Evidence, check_loaded, check_session, check_entity, check_evidence, evidence_by, evidence_of, key_for, authorize, reply_auths, Authorizer.{BySession}, Evidence.{ByMac}}}
+use Rattle.tpm_types.specs.declared.tpms.Auth.{Auth}
+use Rattle.tpm_types.specs.declared.tpms.AuthReply.{AuthReply}
+use Rattle.tpm_commands.specs.declared.code.CommandCode.{CommandCode}
+use Rattle.tpm_commands.specs.Codes.{code_number}
+use Rattle.tpm_hmac.specs.Sessions.AuthValueRule.{ByHmac, ByPolicy}
+use Rattle.tpm_hmac.specs.Sessions.{included_auth_value, whole_key, cp_hash}
+use Rattle.tpm_model.specs.Sessions.{Session, is_hmac}
+use Rattle.tpm_model.specs.Entities.{Entity, auth_value, is_owner_entity}
+use Rattle.tpm_model.specs.Authorization.Authorizer.{BySession}
+use Rattle.tpm_model.specs.Authorization.Evidence.{ByMac}
+use Rattle.tpm_model.specs.Authorization.{Authorizer, Evidence, check_loaded, check_session, check_entity}
+use Rattle.tpm_model.specs.Authorization.{check_evidence, evidence_by, evidence_of, key_for, authorize, reply_auths}
 use Rattle.tpm_session.specs.Entities.{signed_by}
 
 -- ---- the evidence of a command that is authorized

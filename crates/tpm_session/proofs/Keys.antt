@@ -1,7 +1,12 @@
 -- The key of a session's HMACs: the session key and what follows it.
 use Rattle.std.proofs.Common.{◌≡◌, ℕ, true, false, List, [], ◌∷◌, ◌++◌, ◌&&◌, refl, sym, ap, ◌∙◌}
-use Rattle.tpm_hmac.{specs.Sessions.{trim, AuthValueRule, included_auth_value, AuthValueRule.{ByHmac, ByPolicy}}, proofs.Trimming.{trim-trim}}
-use Rattle.tpm_model.specs.{Sessions.{Session}, Entities.{Entity, auth_value, Entity.{Register, Null, Owner, Index}}, Authorization.{is_empty, how, follows, key_for}}
+use Rattle.tpm_hmac.specs.Sessions.AuthValueRule.{ByHmac, ByPolicy}
+use Rattle.tpm_hmac.specs.Sessions.{trim, AuthValueRule, included_auth_value}
+use Rattle.tpm_hmac.proofs.Trimming.{trim-trim}
+use Rattle.tpm_model.specs.Sessions.{Session}
+use Rattle.tpm_model.specs.Entities.Entity.{Register, Null, Owner, Index}
+use Rattle.tpm_model.specs.Entities.{Entity, auth_value}
+use Rattle.tpm_model.specs.Authorization.{is_empty, how, follows, key_for}
 
 trimmed_value : (e : Entity) → trim (auth_value e) ≡ auth_value e
 trimmed_value Register = refl

@@ -1,11 +1,27 @@
 -- The sessions after one more step.
-use Rattle.std.{proofs.{Common.{get_or, ◌≡◌, ℕ, zero, suc, Bool, true, false, List, [], ◌∷◌, ◌||◌, None, Some, Option, option_map, IsSome, refl, sym, ap, ◌∙◌, arith}, lemmas.Bool.{both_ways, Decides.{nat_tests}}}, specs.Prelude.{◌==◌, Option, Some, slice_set, if◌then◌else◌}}
-use Rattle.tpm_commands.specs.{declared.{command.{Command.{Command}, StartAuth.{StartAuth}, CommandBody.{CommandBody}}, response.{StartReply.{StartReply}, ReplyBody.{ReplyBody}}}, Handles.{needs_authorization}}
+use Rattle.std.proofs.Common.{get_or, ◌≡◌, ℕ, zero, suc, Bool, true, false, List, [], ◌∷◌, ◌||◌, None, Some, Option}
+use Rattle.std.proofs.Common.{option_map, IsSome, refl, sym, ap, ◌∙◌, arith}
+use Rattle.std.proofs.lemmas.Bool.Decides.{nat_tests}
+use Rattle.std.proofs.lemmas.Bool.{both_ways}
+use Rattle.std.specs.Prelude.{◌==◌, Option, Some, slice_set, if◌then◌else◌}
+use Rattle.tpm_commands.specs.declared.command.Command.{Command}
+use Rattle.tpm_commands.specs.declared.command.StartAuth.{StartAuth}
+use Rattle.tpm_commands.specs.declared.command.CommandBody.{CommandBody}
+use Rattle.tpm_commands.specs.declared.response.StartReply.{StartReply}
+use Rattle.tpm_commands.specs.declared.response.ReplyBody.{ReplyBody}
+use Rattle.tpm_commands.specs.Handles.{needs_authorization}
 use Rattle.tpm_commands.specs.declared.command.CommandBody.TheVariants as bodies
 use Rattle.tpm_commands.specs.declared.response.ReplyBody.TheVariants as replies
-use Rattle.tpm_buffer.specs.{Responses.{Reply}, Commands.{code_for}}
-use Rattle.tpm_model.specs.{Steps.{Origin, History, Accepted}, Registers.{Registers, registers_after, changes}, Policies.{Assertion}, Sessions.{Session, Start, slot_of, begun, clears, asserted_by, is_hmac, if_of_kind, loaded, session_at, sessions_at, as_session, last_nonce, assertions_of, lives, start_of}}
-use Rattle.tpm_types.specs.{declared.tpms.Auth.{Auth}, Handles.{is_session, is_hmac_session, is_policy}, Tpma.{continues}}
+use Rattle.tpm_buffer.specs.Responses.{Reply}
+use Rattle.tpm_buffer.specs.Commands.{code_for}
+use Rattle.tpm_model.specs.Steps.{Origin, History, Accepted}
+use Rattle.tpm_model.specs.Registers.{Registers, registers_after, changes}
+use Rattle.tpm_model.specs.Policies.{Assertion}
+use Rattle.tpm_model.specs.Sessions.{Session, Start, slot_of, begun, clears, asserted_by, is_hmac, if_of_kind, loaded}
+use Rattle.tpm_model.specs.Sessions.{session_at, sessions_at, as_session, last_nonce, assertions_of, lives, start_of}
+use Rattle.tpm_types.specs.declared.tpms.Auth.{Auth}
+use Rattle.tpm_types.specs.Handles.{is_session, is_hmac_session, is_policy}
+use Rattle.tpm_types.specs.Tpma.{continues}
 use Rattle.tpm_session.specs.Answers.{rolled, after_command}
 
 -- ---- slots

@@ -1,8 +1,10 @@
 -- What the calls answer and make of a session, beside what the commands do.
 use Rattle.std.specs.Prelude.{ℕ, List, [], Bool, true, false, take, Option, None, option_map, Result, Ok, Err}
-use Rattle.tpm_commands.specs.declared.response.{StartReply.{StartReply}, ReplyBody.{ReplyBody}}
+use Rattle.tpm_commands.specs.declared.response.StartReply.{StartReply}
+use Rattle.tpm_commands.specs.declared.response.ReplyBody.{ReplyBody}
 use Rattle.tpm_commands.specs.declared.response.ReplyBody.TheVariants as replies
-use Rattle.tpm_model.specs.{Sessions.{Session}, Policies.{policy_of}}
+use Rattle.tpm_model.specs.Sessions.{Session}
+use Rattle.tpm_model.specs.Policies.{policy_of}
 
 -- the answer of TPM2_StartAuthSession, as that of a command
 abbrev pub started_reply : Result StartReply ℕ → Result ReplyBody ℕ

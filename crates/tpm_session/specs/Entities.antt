@@ -1,12 +1,15 @@
 -- What authorizes a command, as it is handed in and as the code has it.
 use Rattle.std.specs.Prelude.{ℕ, List, [], Result, Ok, Err, if◌then◌else◌}
-use Rattle.tpm_types.specs.declared.tpms.{Auth.{Auth}, AuthReply.{AuthReply}}
+use Rattle.tpm_types.specs.declared.tpms.Auth.{Auth}
+use Rattle.tpm_types.specs.declared.tpms.AuthReply.{AuthReply}
 use Rattle.tpm_commands.specs.declared.code.CommandCode.{CommandCode}
 use Rattle.tpm_hmac.specs.Hmac.{hmac}
 use Rattle.tpm_model.specs.Sessions.{Session}
 use Rattle.tpm_model.specs.Entities as model
 use Rattle.tpm_model.specs.Authorization as authorization
-use Rattle.tpm_session.specs.declared.{entity.Entity.{Entity}, access.Access.{Access}, authorize.Authorizer.{Authorizer}}
+use Rattle.tpm_session.specs.declared.entity.Entity.{Entity}
+use Rattle.tpm_session.specs.declared.access.Access.{Access}
+use Rattle.tpm_session.specs.declared.authorize.Authorizer.{Authorizer}
 use Rattle.tpm_session.specs.declared.entity.Entity.TheVariants as entities
 use Rattle.tpm_session.specs.declared.access.Access.TheVariants as accesses
 use Rattle.tpm_session.specs.declared.authorize.Authorizer.TheVariants as authorizers

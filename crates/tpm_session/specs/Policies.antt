@@ -4,7 +4,10 @@ use Rattle.tpm_wire.specs.Reading.{◌>>=◌}
 use Rattle.tpm_types.specs.declared.alg.Alg.{Alg}
 use Rattle.tpm_session.specs.declared.policy.Assertion as declared
 use Rattle.tpm_session.specs.declared.policy.Assertion.TheVariants as the
-use Rattle.tpm_model.specs.{Policies.{Assertion, asserted, policy_of, Policy, Assertion.{PcrAsserted, OrAsserted, CodeAsserted, AuthValueAsserted}}, Sessions.{Session}, Actions.{policy_session}}
+use Rattle.tpm_model.specs.Policies.Assertion.{PcrAsserted, OrAsserted, CodeAsserted, AuthValueAsserted}
+use Rattle.tpm_model.specs.Policies.{Assertion, asserted, policy_of, Policy}
+use Rattle.tpm_model.specs.Sessions.{Session}
+use Rattle.tpm_model.specs.Actions.{policy_session}
 
 -- what a policy command answers, where its session is loaded
 abbrev pub for_policy : {A : Type 0} → Option Session → (Session → Result A ℕ) → Result A ℕ

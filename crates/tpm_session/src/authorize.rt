@@ -3,7 +3,14 @@
 
 ghost use Rattle.std.specs.Prelude.{◌≡◌, ℕ, ◌<◌, suc, List, ◌∷◌, [], length, Ok, IsErr};
 ghost use Rattle.tpm_types.specs.declared.tpms.Auth.{Auth};
-ghost use Rattle.tpm_model.specs.{Entities.{Entity as EntityOf, auth_value, is_owner_entity}, Sessions.{loaded}, Authorization.{Evidence, check_loaded as loaded_checked, check_session as session_checked, check_auth as auth_checked, check_policy_allowed as allowed_checked, has_policy, check_policy as policy_checked, check_entity as entity_checked, evidence_of as evidence_by_all, first_loaded, authorize as authorized, reply_auths}};
+ghost use Rattle.tpm_model.specs.Entities.{Entity as EntityOf, auth_value, is_owner_entity};
+ghost use Rattle.tpm_model.specs.Sessions.{loaded};
+ghost use Rattle.tpm_model.specs.Authorization.{Evidence, check_loaded as loaded_checked};
+ghost use Rattle.tpm_model.specs.Authorization.{check_session as session_checked, check_auth as auth_checked};
+ghost use Rattle.tpm_model.specs.Authorization.{check_policy_allowed as allowed_checked, has_policy};
+ghost use Rattle.tpm_model.specs.Authorization.{check_policy as policy_checked, check_entity as entity_checked};
+ghost use Rattle.tpm_model.specs.Authorization.{evidence_of as evidence_by_all, first_loaded, authorize as authorized};
+ghost use Rattle.tpm_model.specs.Authorization.{reply_auths};
 ghost use Rattle.tpm_session.specs.Entities.{entity_in, authorizer_in, found, given, no_reply};
 
 use crate::access::Access;

@@ -3,8 +3,12 @@
 
 ghost use Rattle.std.specs.Prelude.{◌≡◌, ℕ, List, [], ◌∷◌, ◌&&◌, bytes_eq};
 ghost use Rattle.tpm_commands.specs.Codes.{code_number};
-ghost use Rattle.tpm_hmac.specs.{Hmac.{hmac}, Sessions.{cp_hash as cp_hash_of}};
-ghost use Rattle.tpm_model.specs.Authorization.{follows, key_for, is_empty, command_text, is_signed as is_signed_of, failure as failure_of, Evidence, evidence_by, check_evidence as evidence_checked, nonce_next, reply_auths, password_reply as password_reply_of};
+ghost use Rattle.tpm_hmac.specs.Hmac.{hmac};
+ghost use Rattle.tpm_hmac.specs.Sessions.{cp_hash as cp_hash_of};
+ghost use Rattle.tpm_model.specs.Authorization.{follows, key_for, is_empty, command_text, is_signed as is_signed_of};
+ghost use Rattle.tpm_model.specs.Authorization.{failure as failure_of, Evidence, evidence_by};
+ghost use Rattle.tpm_model.specs.Authorization.{check_evidence as evidence_checked, nonce_next, reply_auths};
+ghost use Rattle.tpm_model.specs.Authorization.{password_reply as password_reply_of};
 ghost use Rattle.tpm_session.specs.Entities.{entity_in, authorizer_in, signed_by, reply_hmac, no_reply as no_reply_of};
 
 use crate::authorize::Authorizer;

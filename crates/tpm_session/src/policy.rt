@@ -1,7 +1,10 @@
 //! What a policy session asserts (Part 1, "Enhanced Authorization"; Part 3, 23).
 
 ghost use Rattle.std.specs.Prelude.{◌≡◌, []};
-ghost use Rattle.tpm_model.specs.{Policies.{asserted, policy_of, policy_digest, Assertion.{PcrAsserted, OrAsserted}}, Actions.{is_listed as listed}, Authorization.{differs as is_another}};
+ghost use Rattle.tpm_model.specs.Policies.Assertion.{PcrAsserted, OrAsserted};
+ghost use Rattle.tpm_model.specs.Policies.{asserted, policy_of, policy_digest};
+ghost use Rattle.tpm_model.specs.Actions.{is_listed as listed};
+ghost use Rattle.tpm_model.specs.Authorization.{differs as is_another};
 ghost use Rattle.tpm_session.specs.Policies.{as_assertion, policy_after};
 
 use arrayvec::ArrayVec;

@@ -1,16 +1,26 @@
 //! The sessions of a device, by slot.
 
 ghost use Rattle.std.specs.Prelude.{◌≡◌, ◌<◌, ℕ, true, List, [], ◌∷◌, None, option_map, IfOk, IsSome, OnOk, OnErr};
-ghost use Rattle.tpm_commands.specs.{declared.command.Command.{Command}, Handles.{needs_authorization}};
+ghost use Rattle.tpm_commands.specs.declared.command.Command.{Command};
+ghost use Rattle.tpm_commands.specs.Handles.{needs_authorization};
 ghost use Rattle.tpm_commands.specs.declared.command.CommandBody.TheVariants as bodies;
 ghost use Rattle.tpm_commands.specs.declared.response.ReplyBody.TheVariants as replies;
-ghost use Rattle.tpm_buffer.specs.{Responses.{Reply}, Commands.{code_for}};
+ghost use Rattle.tpm_buffer.specs.Responses.{Reply};
+ghost use Rattle.tpm_buffer.specs.Commands.{code_for};
 ghost use Rattle.tpm_hmac.specs.Sessions.{trim as trim_of};
-ghost use Rattle.tpm_model.specs.{Steps.{Origin, History, PowerCycle, Accepted}, Sessions.{slot_of as slot_number, handle_for as handle_of, loaded, free_slot, sessions_at, assertions_of}, Actions.{check_flush, start_session, check_policy_pcr, check_policy_or, check_policy_code}, Policies.{policy_digest as digest_of}, Registers.{value_in, composite as composite_of, registers_after, changes}};
+ghost use Rattle.tpm_model.specs.Steps.{Origin, History, PowerCycle, Accepted};
+ghost use Rattle.tpm_model.specs.Sessions.{slot_of as slot_number, handle_for as handle_of, loaded, free_slot};
+ghost use Rattle.tpm_model.specs.Sessions.{sessions_at, assertions_of};
+ghost use Rattle.tpm_model.specs.Actions.{check_flush, start_session, check_policy_pcr, check_policy_or};
+ghost use Rattle.tpm_model.specs.Actions.{check_policy_code};
+ghost use Rattle.tpm_model.specs.Policies.{policy_digest as digest_of};
+ghost use Rattle.tpm_model.specs.Registers.{value_in, composite as composite_of, registers_after, changes};
 ghost use Rattle.tpm_model.specs.Sessions as model;
-ghost use Rattle.tpm_types.specs.{declared.tpms.Auth.{Auth}, Tpma.{continues}};
+ghost use Rattle.tpm_types.specs.declared.tpms.Auth.{Auth};
+ghost use Rattle.tpm_types.specs.Tpma.{continues};
 ghost use Rattle.tpm_types.specs.declared.handle_sets.BindHandle.TheVariants as binds;
-ghost use Rattle.tpm_session.specs.{Answers.{started_reply, after_command}, Policies.{for_policy, as_assertion, asserting, restarted, with_slot}};
+ghost use Rattle.tpm_session.specs.Answers.{started_reply, after_command};
+ghost use Rattle.tpm_session.specs.Policies.{for_policy, as_assertion, asserting, restarted, with_slot};
 
 use crate::policy::Assertion;
 use crate::session::{NONCE_BYTES, Session, first_of};

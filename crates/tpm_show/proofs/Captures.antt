@@ -1,8 +1,23 @@
 -- Captures that are told one part after the other.
-use Rattle.std.{proofs.{Common.{◌≡◌, ℕ, true, ◌+◌, ◌<◌, ◌≤◌, false, List, [], ◌∷◌, ◌++◌, length, map, take, not, Option, refl, sym, ap, ◌∙◌, inl, inr, arith, append_assoc, length-append, length-take-le}, lemmas.{Bool.{cases_lt, lt-ltb}, List.{append-nil, map-append, take_all, take-append-le, Elements.{filter-append}}}}, specs.{Prelude.{nat_eq}, Io.KnownBytes.{Consumes, IsAtEnd}}}
+use Rattle.std.proofs.Common.{◌≡◌, ℕ, true, ◌+◌, ◌<◌, ◌≤◌, false, List, [], ◌∷◌, ◌++◌, length, map, take, not, Option}
+use Rattle.std.proofs.Common.{refl, sym, ap, ◌∙◌, inl, inr, arith, append_assoc, length-append, length-take-le}
+use Rattle.std.proofs.lemmas.Bool.{cases_lt, lt-ltb}
+use Rattle.std.proofs.lemmas.List.Elements.{filter-append}
+use Rattle.std.proofs.lemmas.List.{append-nil, map-append, take_all, take-append-le}
+use Rattle.std.specs.Prelude.{nat_eq}
+use Rattle.std.specs.Io.KnownBytes.{Consumes, IsAtEnd}
 use Rattle.tpm_stream.proofs.Filled.{consumes_both}
-use Rattle.tpm_text.{specs.{declared.status.Status.{Status, TheVariants.{Done, Refused}}, Status.{both}, InputLines.{lines_of, HasNoFeed}}, proofs.{InputLines.{no_feed-more, ended_line, last_line, lines_of-append, ended_both}, Joins.{Joins}}}
-use Rattle.tpm_show.specs.{declared.{telling.Telling.{Telling}, capture.Capture.{Capture}}, Capture.{Line, Place, start, is_blank, without_blanks, told_in, line_of, most_line, behind, TellsLine, TellsFrom, TellsCapture, ReadsAll}, Capturing.{place, EndsLine, behind_all, Takes, Reaches}}
+use Rattle.tpm_text.specs.declared.status.Status.TheVariants.{Done, Refused}
+use Rattle.tpm_text.specs.declared.status.Status.{Status}
+use Rattle.tpm_text.specs.Status.{both}
+use Rattle.tpm_text.specs.InputLines.{lines_of, HasNoFeed}
+use Rattle.tpm_text.proofs.InputLines.{no_feed-more, ended_line, last_line, lines_of-append, ended_both}
+use Rattle.tpm_text.proofs.Joins.{Joins}
+use Rattle.tpm_show.specs.declared.telling.Telling.{Telling}
+use Rattle.tpm_show.specs.declared.capture.Capture.{Capture}
+use Rattle.tpm_show.specs.Capture.{Line, Place, start, is_blank, without_blanks, told_in, line_of, most_line, behind}
+use Rattle.tpm_show.specs.Capture.{TellsLine, TellsFrom, TellsCapture, ReadsAll}
+use Rattle.tpm_show.specs.Capturing.{place, EndsLine, behind_all, Takes, Reaches}
 use Rattle.tpm_show.specs.Capture as specs
 
 -- ---- a line of which no more is kept than one byte too many

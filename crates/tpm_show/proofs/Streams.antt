@@ -1,8 +1,26 @@
 -- Streams of frames that are told one frame after the other.
-use Rattle.std.{proofs.{Common.{◌≡◌, ℕ, ◌+◌, List, [], ◌∷◌, ◌++◌, length, map, Option, Some, None, refl, sym, ap, subst, ◌∙◌, inl, inr, arith, append_assoc, length-append}, lemmas.List.{append-nil, map-append, Elements.{All-nil, All-push}, Folds.{concat-append}}}, specs.{List.{concat}, Io.KnownBytes.{Appends, Consumes, IsAtEnd}}}
-use Rattle.tpm_stream.{specs.Frames.{IsFrame, IsBroken, BeginsNoFrame}, proofs.{Filled.{consumes_both}, Framed.{stated_more}, Streamed.{broken_begins}}}
-use Rattle.tpm_text.{specs.{declared.status.Status.{Status, TheVariants.{Done, Refused}}, Status.{both}}, proofs.Joins.{Joins}}
-use Rattle.tpm_show.{specs.{declared.{telling.Telling.{Telling}, capture.Capture.{Capture}}, Capture.{Frame, Place, start, behind}, Capturing.{place, behind_all, Tells, Streams}, Stream.{Ending, Inside, BadSize, IsEnding, unmarked_frame, ending_text, ending_status, TellsStream, TellsRead}}, proofs.Captures.{tells_both, tells_one, behind_all-append}}
+use Rattle.std.proofs.Common.{◌≡◌, ℕ, ◌+◌, List, [], ◌∷◌, ◌++◌, length, map, Option, Some, None, refl, sym, ap, subst}
+use Rattle.std.proofs.Common.{◌∙◌, inl, inr, arith, append_assoc, length-append}
+use Rattle.std.proofs.lemmas.List.Elements.{All-nil, All-push}
+use Rattle.std.proofs.lemmas.List.Folds.{concat-append}
+use Rattle.std.proofs.lemmas.List.{append-nil, map-append}
+use Rattle.std.specs.List.{concat}
+use Rattle.std.specs.Io.KnownBytes.{Appends, Consumes, IsAtEnd}
+use Rattle.tpm_stream.specs.Frames.{IsFrame, IsBroken, BeginsNoFrame}
+use Rattle.tpm_stream.proofs.Filled.{consumes_both}
+use Rattle.tpm_stream.proofs.Framed.{stated_more}
+use Rattle.tpm_stream.proofs.Streamed.{broken_begins}
+use Rattle.tpm_text.specs.declared.status.Status.TheVariants.{Done, Refused}
+use Rattle.tpm_text.specs.declared.status.Status.{Status}
+use Rattle.tpm_text.specs.Status.{both}
+use Rattle.tpm_text.proofs.Joins.{Joins}
+use Rattle.tpm_show.specs.declared.telling.Telling.{Telling}
+use Rattle.tpm_show.specs.declared.capture.Capture.{Capture}
+use Rattle.tpm_show.specs.Capture.{Frame, Place, start, behind}
+use Rattle.tpm_show.specs.Capturing.{place, behind_all, Tells, Streams}
+use Rattle.tpm_show.specs.Stream.{Ending, Inside, BadSize, IsEnding, unmarked_frame, ending_text, ending_status}
+use Rattle.tpm_show.specs.Stream.{TellsStream, TellsRead}
+use Rattle.tpm_show.proofs.Captures.{tells_both, tells_one, behind_all-append}
 
 pub appends_nothing : (a : Option (List ℕ)) → Appends a a []
 appends_nothing None = tt

@@ -1,9 +1,16 @@
 -- What `build` prints (this profile).
-use Rattle.std.specs.{Prelude.{◌≡◌, ◌⊎◌, ℕ, ◌<◌, ◌≤◌, List, [], length, Option, Some, codes, if◌then◌else◌}, Str.{bytes_eq}}
-use Rattle.tpm_wire.specs.{declared.refusal.Refusal.{Refusal}, ResponseCodes.{rc_command_size}, Path.{Spells, Fault}}
-use Rattle.tpm_commands.specs.declared.{code.CommandCode.{CommandCode}, command.Command.{Command}}
-use Rattle.tpm_buffer.specs.{Commands.{command}, Parts.{joined}}
-use Rattle.tpm_text.specs.{declared.status.Status.{Status, TheVariants.{Done, Refused}}, Text.{bytes_in, bytes_line, refusal_line, not_hexadecimal_line}}
+use Rattle.std.specs.Prelude.{◌≡◌, ◌⊎◌, ℕ, ◌<◌, ◌≤◌, List, [], length, Option, Some, codes, if◌then◌else◌}
+use Rattle.std.specs.Str.{bytes_eq}
+use Rattle.tpm_wire.specs.declared.refusal.Refusal.{Refusal}
+use Rattle.tpm_wire.specs.ResponseCodes.{rc_command_size}
+use Rattle.tpm_wire.specs.Path.{Spells, Fault}
+use Rattle.tpm_commands.specs.declared.code.CommandCode.{CommandCode}
+use Rattle.tpm_commands.specs.declared.command.Command.{Command}
+use Rattle.tpm_buffer.specs.Commands.{command}
+use Rattle.tpm_buffer.specs.Parts.{joined}
+use Rattle.tpm_text.specs.declared.status.Status.TheVariants.{Done, Refused}
+use Rattle.tpm_text.specs.declared.status.Status.{Status}
+use Rattle.tpm_text.specs.Text.{bytes_in, bytes_line, refusal_line, not_hexadecimal_line}
 
 -- ---- what is printed
 

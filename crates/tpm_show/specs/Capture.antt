@@ -1,10 +1,27 @@
 -- What `show` prints of a capture: frames of both directions, each in a line (this profile).
-use Rattle.std.specs.{Prelude.{◌≡◌, ◌<◌, ℕ, ◌+◌, ◌==◌, ◌||◌, nat_lt, Bool, true, false, not, List, [], ◌∷◌, ◌++◌, length, take, drop, map, filter, codes, Option, Some, None, if◌then◌else◌}, Str.{bytes_eq}, Fmt.{decimal}, Io.KnownBytes.{Consumes, IsAtEnd}}
-use Rattle.tpm_wire.specs.{declared.refusal.Refusal.{Refusal}, Token.{number_of}, Path.{Fault}}
-use Rattle.tpm_commands.specs.{declared.code.CommandCode.{CommandCode}, Codes.{code_of}}
+use Rattle.std.specs.Prelude.{◌≡◌, ◌<◌, ℕ, ◌+◌, ◌==◌, ◌||◌, nat_lt, Bool, true, false, not, List, [], ◌∷◌, ◌++◌, length}
+use Rattle.std.specs.Prelude.{take, drop, map, filter, codes, Option, Some, None, if◌then◌else◌}
+use Rattle.std.specs.Str.{bytes_eq}
+use Rattle.std.specs.Fmt.{decimal}
+use Rattle.std.specs.Io.KnownBytes.{Consumes, IsAtEnd}
+use Rattle.tpm_wire.specs.declared.refusal.Refusal.{Refusal}
+use Rattle.tpm_wire.specs.Token.{number_of}
+use Rattle.tpm_wire.specs.Path.{Fault}
+use Rattle.tpm_commands.specs.declared.code.CommandCode.{CommandCode}
+use Rattle.tpm_commands.specs.Codes.{code_of}
 use Rattle.tpm_buffer.specs.Commands.{command}
-use Rattle.tpm_text.specs.{declared.status.Status.{Status, TheVariants.{Done, Refused}}, Status.{both}, Text.{line, bytes_in}, InputLines.{lines_of}}
-use Rattle.tpm_show.specs.{declared.{capture_lines.Direction.{Direction, TheVariants.{Command, Reply}}, capture_frames.Awaited.{Awaited}, telling.Telling.{Telling}}, CommandNames.{absent_behind}, Show.{refusal_told, ShowsCommand, ShowsReply}, FrameJson.{fault_member, fault_object}}
+use Rattle.tpm_text.specs.declared.status.Status.TheVariants.{Done, Refused}
+use Rattle.tpm_text.specs.declared.status.Status.{Status}
+use Rattle.tpm_text.specs.Status.{both}
+use Rattle.tpm_text.specs.Text.{line, bytes_in}
+use Rattle.tpm_text.specs.InputLines.{lines_of}
+use Rattle.tpm_show.specs.declared.capture_lines.Direction.TheVariants.{Command, Reply}
+use Rattle.tpm_show.specs.declared.capture_lines.Direction.{Direction}
+use Rattle.tpm_show.specs.declared.capture_frames.Awaited.{Awaited}
+use Rattle.tpm_show.specs.declared.telling.Telling.{Telling}
+use Rattle.tpm_show.specs.CommandNames.{absent_behind}
+use Rattle.tpm_show.specs.Show.{refusal_told, ShowsCommand, ShowsReply}
+use Rattle.tpm_show.specs.FrameJson.{fault_member, fault_object}
 use Rattle.tpm_show.specs.declared.capture_frames.Awaited.TheVariants as awaits
 
 -- ---- what a line has

@@ -1,8 +1,17 @@
 -- How far a capture has been told.
-use Rattle.std.specs.{Prelude.{◌≡◌, ℕ, ◌+◌, ◌≤◌, List, [], ◌∷◌, ◌++◌, length, take, map, All, Option}, List.{concat}, Io.KnownBytes.{Consumes}}
+use Rattle.std.specs.Prelude.{◌≡◌, ℕ, ◌+◌, ◌≤◌, List, [], ◌∷◌, ◌++◌, length, take, map, All, Option}
+use Rattle.std.specs.List.{concat}
+use Rattle.std.specs.Io.KnownBytes.{Consumes}
 use Rattle.tpm_stream.specs.Frames.{IsFrame}
-use Rattle.tpm_text.specs.{declared.status.Status.{Status}, InputLines.{lines_of, HasNoFeed, AreEnded}, Status.{both}}
-use Rattle.tpm_show.specs.{declared.{telling.Telling.{Telling}, capture.Capture.{Capture}, capture_frames.Awaited.{Awaited}, capture_lines.Line.{Line as RustLine}}, Capture.{Line, Place, start, line_of, most_line, without_blanks, behind, TellsLine, TellsFrom}, Stream.{unmarked_frame}}
+use Rattle.tpm_text.specs.declared.status.Status.{Status}
+use Rattle.tpm_text.specs.InputLines.{lines_of, HasNoFeed, AreEnded}
+use Rattle.tpm_text.specs.Status.{both}
+use Rattle.tpm_show.specs.declared.telling.Telling.{Telling}
+use Rattle.tpm_show.specs.declared.capture.Capture.{Capture}
+use Rattle.tpm_show.specs.declared.capture_frames.Awaited.{Awaited}
+use Rattle.tpm_show.specs.declared.capture_lines.Line.{Line as RustLine}
+use Rattle.tpm_show.specs.Capture.{Line, Place, start, line_of, most_line, without_blanks, behind, TellsLine, TellsFrom}
+use Rattle.tpm_show.specs.Stream.{unmarked_frame}
 use Rattle.tpm_show.specs.declared.capture_lines.Line.TheVariants as rust
 use Rattle.tpm_show.specs.Capture as capture
 

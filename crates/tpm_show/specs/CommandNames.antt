@@ -1,7 +1,10 @@
 -- The commands of the library by their names (Part 2, 6.5.2, TPM_CC).
-use Rattle.std.specs.Prelude.{ℕ, ◌==◌, ◌&&◌, Bool, true, false, List, [], ◌∷◌, ◌++◌, codes, Option, Some, None, if◌then◌else◌}
-use Rattle.tpm_wire.specs.{ResponseCodes.{rc_command_code}, declared.refusal.Refusal.{Refusal}}
-use Rattle.tpm_text.specs.{Named.{Named, named, named_in}, Text.{line}}
+use Rattle.std.specs.Prelude.{ℕ, ◌==◌, ◌&&◌, Bool, true, false, List, [], ◌∷◌, ◌++◌, codes, Option, Some, None}
+use Rattle.std.specs.Prelude.{if◌then◌else◌}
+use Rattle.tpm_wire.specs.ResponseCodes.{rc_command_code}
+use Rattle.tpm_wire.specs.declared.refusal.Refusal.{Refusal}
+use Rattle.tpm_text.specs.Named.{Named, named, named_in}
+use Rattle.tpm_text.specs.Text.{line}
 
 -- without TPM_CC_
 abbrev pub commands : List Named

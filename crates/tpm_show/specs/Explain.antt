@@ -1,7 +1,15 @@
 -- What `explain` prints (this profile), of the response codes of Part 2, 6.6, and of those of the software above a TPM.
-use Rattle.std.specs.{Prelude.{ℕ, ◌/◌, ◌^◌, ◌==◌, nat_lt, bit_and, List, [], ◌∷◌, ◌++◌, codes, Option, Some, None, option_map, if◌then◌else◌}, Option.{option_or}, Fmt.{decimal}}
-use Rattle.tpm_show.specs.{declared.layers.Codes.{Codes, TheVariants.{Base, BaseOrTpm, Tpm}}, Layers.{codes_of, layer_of, base_of}, Meanings.{Meaning, means, meaning_in}}
-use Rattle.tpm_text.specs.{declared.status.Status.{Status, TheVariants.{Done, Refused}}, Text.{line}}
+use Rattle.std.specs.Prelude.{ℕ, ◌/◌, ◌^◌, ◌==◌, nat_lt, bit_and, List, [], ◌∷◌, ◌++◌, codes, Option, Some, None}
+use Rattle.std.specs.Prelude.{option_map, if◌then◌else◌}
+use Rattle.std.specs.Option.{option_or}
+use Rattle.std.specs.Fmt.{decimal}
+use Rattle.tpm_show.specs.declared.layers.Codes.TheVariants.{Base, BaseOrTpm, Tpm}
+use Rattle.tpm_show.specs.declared.layers.Codes.{Codes}
+use Rattle.tpm_show.specs.Layers.{codes_of, layer_of, base_of}
+use Rattle.tpm_show.specs.Meanings.{Meaning, means, meaning_in}
+use Rattle.tpm_text.specs.declared.status.Status.TheVariants.{Done, Refused}
+use Rattle.tpm_text.specs.declared.status.Status.{Status}
+use Rattle.tpm_text.specs.Text.{line}
 
 -- ---- the codes (Part 2, 6.6.3)
 

@@ -1,7 +1,10 @@
 -- The text of a field of a buffer: its name, its type and its bytes, and what is told of its parts (this profile; RFC 8259).
-use Rattle.std.specs.{Prelude.{ℕ, ◌+◌, Bool, true, false, List, [], ◌∷◌, ◌++◌, codes as text, Option, Some, None}, Fmt.{decimal}}
+use Rattle.std.specs.Prelude.{ℕ, ◌+◌, Bool, true, false, List, [], ◌∷◌, ◌++◌, codes as text, Option, Some, None}
+use Rattle.std.specs.Fmt.{decimal}
 use Rattle.hex.specs.Hex.{encode_lower}
-use Rattle.tpm_wire.specs.{Buffers.{Layout}, Layout.Form.{field}, Spelling.{spelling}}
+use Rattle.tpm_wire.specs.Buffers.{Layout}
+use Rattle.tpm_wire.specs.Layout.Form.{field}
+use Rattle.tpm_wire.specs.Spelling.{spelling}
 pub use Rattle.tpm_commands.specs.Row.{Field, named}
 use Rattle.tpm_text.specs.Text.{comma, line, bytes_text}
 

@@ -1,9 +1,16 @@
 -- The members of an object of `show --json` (this profile; RFC 8259).
-use Rattle.std.specs.{Prelude.{ℕ, Bool, true, false, List, [], ◌∷◌, ◌++◌, map, codes, Option, Some, None}, Fmt.{decimal}}
+use Rattle.std.specs.Prelude.{ℕ, Bool, true, false, List, [], ◌∷◌, ◌++◌, map, codes, Option, Some, None}
+use Rattle.std.specs.Fmt.{decimal}
 use Rattle.tpm_wire.specs.declared.refusal.Refusal.{Refusal}
-use Rattle.tpm_commands.specs.{declared.{code.CommandCode.{CommandCode}, command.CommandBody.{CommandBody}, response.ReplyBody.{ReplyBody}}, Codes.{code_name}}
-use Rattle.tpm_buffer.specs.{CommandAreas.{Cut}, ResponseAreas.{handle_of}, Responses.{ReplyCut}}
-use Rattle.tpm_text.specs.Text.{Session, handle_text, hex_member, hexadecimal, lines_from, of_command, of_reply, session_text}
+use Rattle.tpm_commands.specs.declared.code.CommandCode.{CommandCode}
+use Rattle.tpm_commands.specs.declared.command.CommandBody.{CommandBody}
+use Rattle.tpm_commands.specs.declared.response.ReplyBody.{ReplyBody}
+use Rattle.tpm_commands.specs.Codes.{code_name}
+use Rattle.tpm_buffer.specs.CommandAreas.{Cut}
+use Rattle.tpm_buffer.specs.ResponseAreas.{handle_of}
+use Rattle.tpm_buffer.specs.Responses.{ReplyCut}
+use Rattle.tpm_text.specs.Text.{Session, handle_text, hex_member, hexadecimal, lines_from, of_command, of_reply}
+use Rattle.tpm_text.specs.Text.{session_text}
 use Rattle.tpm_show.specs.Fields.{command_fields, reply_fields}
 
 -- ---- refusals and faults

@@ -1,8 +1,17 @@
 -- What `show --fields` tells of the parts of structures, by the names that Part 2 gives them (this profile).
-use Rattle.std.specs.{Prelude.{ℕ, Bool, List, [], ◌∷◌, ◌++◌, filter, codes as text, Some, None}, List.{range_with_len}}
+use Rattle.std.specs.Prelude.{ℕ, Bool, List, [], ◌∷◌, ◌++◌, filter, codes as text, Some, None}
+use Rattle.std.specs.List.{range_with_len}
 use Rattle.tpm_wire.specs.Spelling.{spelling}
-use Rattle.tpm_types.specs.{declared.{alg.Alg.{Alg}, tpms.{NvPublic.{NvPublic}, Selection.{Selection}}, tpmt.SymDef.{SymDef}}, Tpm2b.{digest}, Tpma.{is_set, nv_type}, Tpms.{selection, is_selected, nv_public_area}, Tpmt.{digest_value, sym_def}}
-use Rattle.tpm_text.specs.{Named.{Named, named as numbered}, Text.{lines_from}}
+use Rattle.tpm_types.specs.declared.alg.Alg.{Alg}
+use Rattle.tpm_types.specs.declared.tpms.NvPublic.{NvPublic}
+use Rattle.tpm_types.specs.declared.tpms.Selection.{Selection}
+use Rattle.tpm_types.specs.declared.tpmt.SymDef.{SymDef}
+use Rattle.tpm_types.specs.Tpm2b.{digest}
+use Rattle.tpm_types.specs.Tpma.{is_set, nv_type}
+use Rattle.tpm_types.specs.Tpms.{selection, is_selected, nv_public_area}
+use Rattle.tpm_types.specs.Tpmt.{digest_value, sym_def}
+use Rattle.tpm_text.specs.Named.{Named, named as numbered}
+use Rattle.tpm_text.specs.Text.{lines_from}
 use Rattle.tpm_show.specs.FieldText.{Field, named, parts, fields_from, field_text, structure_text, number_text}
 
 -- ---- TPMA_NV (13.4)

@@ -1,6 +1,8 @@
 -- The program's lines of a response (this profile).
-use Rattle.std.specs.{Prelude.{ℕ, false, List, [], ◌∷◌, codes, Option, Some, None}, Fmt.{decimal}}
-use Rattle.tpm_commands.specs.{declared.code.CommandCode.{CommandCode}, Codes.{code_name}}
+use Rattle.std.specs.Prelude.{ℕ, false, List, [], ◌∷◌, codes, Option, Some, None}
+use Rattle.std.specs.Fmt.{decimal}
+use Rattle.tpm_commands.specs.declared.code.CommandCode.{CommandCode}
+use Rattle.tpm_commands.specs.Codes.{code_name}
 use Rattle.tpm_text.specs.Text.{line, hexadecimal, handle_text}
 
 unfoldable pub reply_code_line : ℕ → List ℕ

@@ -1,11 +1,24 @@
 -- What `show` prints (this profile).
 use Rattle.std.specs.Prelude.{◌≡◌, ℕ, Bool, true, false, List, [], ◌++◌, length, map, Option, Some, None}
-use Rattle.tpm_wire.specs.{declared.refusal.Refusal.{Refusal}, Path.{Spells, Fault}}
-use Rattle.tpm_commands.specs.declared.{code.CommandCode.{CommandCode}, command.{Command.{Command}, CommandBody.{CommandBody}}, response.{ReplyBody.{ReplyBody}, Response.{Response}}}
+use Rattle.tpm_wire.specs.declared.refusal.Refusal.{Refusal}
+use Rattle.tpm_wire.specs.Path.{Spells, Fault}
+use Rattle.tpm_commands.specs.declared.code.CommandCode.{CommandCode}
+use Rattle.tpm_commands.specs.declared.command.Command.{Command}
+use Rattle.tpm_commands.specs.declared.command.CommandBody.{CommandBody}
+use Rattle.tpm_commands.specs.declared.response.ReplyBody.{ReplyBody}
+use Rattle.tpm_commands.specs.declared.response.Response.{Response}
 use Rattle.tpm_commands.specs.declared.response.Response.TheVariants as responses
-use Rattle.tpm_buffer.specs.{Commands.{command}, CommandAreas.{Cut, HasCut}, ResponseAreas.{handle_of}, Responses.{ReplyCut, reply_cut, response}}
-use Rattle.tpm_text.specs.{declared.status.Status.{Status, TheVariants.{Done, Refused}}, Text.{lines_from, bytes_in, command_text, of_reply, parameters_line, refusal_line, session_text, not_hexadecimal_line}}
-use Rattle.tpm_show.specs.{ReplyText.{reply_line, reply_handle_line, reply_code_line}, Fields.{command_fields, reply_fields}, FrameJson.{code_member, command_members, refusal_members, reply_members}}
+use Rattle.tpm_buffer.specs.Commands.{command}
+use Rattle.tpm_buffer.specs.CommandAreas.{Cut, HasCut}
+use Rattle.tpm_buffer.specs.ResponseAreas.{handle_of}
+use Rattle.tpm_buffer.specs.Responses.{ReplyCut, reply_cut, response}
+use Rattle.tpm_text.specs.declared.status.Status.TheVariants.{Done, Refused}
+use Rattle.tpm_text.specs.declared.status.Status.{Status}
+use Rattle.tpm_text.specs.Text.{lines_from, bytes_in, command_text, of_reply, parameters_line, refusal_line}
+use Rattle.tpm_text.specs.Text.{session_text, not_hexadecimal_line}
+use Rattle.tpm_show.specs.ReplyText.{reply_line, reply_handle_line, reply_code_line}
+use Rattle.tpm_show.specs.Fields.{command_fields, reply_fields}
+use Rattle.tpm_show.specs.FrameJson.{code_member, command_members, refusal_members, reply_members}
 
 -- ---- lines
 

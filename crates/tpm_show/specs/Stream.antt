@@ -1,8 +1,17 @@
 -- What `show --binary` prints of a stream of frames (this profile).
-use Rattle.std.specs.{Prelude.{◌≡◌, ℕ, ◌+◌, ◌<◌, ◌⊎◌, Bool, true, false, List, [], ◌∷◌, ◌++◌, length, map, codes, Option, None}, List.{concat}, Fmt.{decimal}, Io.KnownBytes.{Consumes, IsAtEnd}}
+use Rattle.std.specs.Prelude.{◌≡◌, ℕ, ◌+◌, ◌<◌, ◌⊎◌, Bool, true, false, List, [], ◌∷◌, ◌++◌, length, map, codes, Option}
+use Rattle.std.specs.Prelude.{None}
+use Rattle.std.specs.List.{concat}
+use Rattle.std.specs.Fmt.{decimal}
+use Rattle.std.specs.Io.KnownBytes.{Consumes, IsAtEnd}
 use Rattle.tpm_stream.specs.Frames.{Frames, IsPart, IsBroken}
-use Rattle.tpm_text.specs.{declared.status.Status.{Status, TheVariants.{Done, Refused}}, Status.{both}, Text.{line}}
-use Rattle.tpm_show.specs.{declared.telling.Telling.{Telling}, FrameJson.{stop_object}, Capture.{Line, Frame, start, TellsFrom}}
+use Rattle.tpm_text.specs.declared.status.Status.TheVariants.{Done, Refused}
+use Rattle.tpm_text.specs.declared.status.Status.{Status}
+use Rattle.tpm_text.specs.Status.{both}
+use Rattle.tpm_text.specs.Text.{line}
+use Rattle.tpm_show.specs.declared.telling.Telling.{Telling}
+use Rattle.tpm_show.specs.FrameJson.{stop_object}
+use Rattle.tpm_show.specs.Capture.{Line, Frame, start, TellsFrom}
 
 -- how a stream goes on behind its last frame: not at all, with less than a frame, or with a size that no frame has
 pub data Ending : Type 0 where

@@ -1,6 +1,7 @@
 //! The subcommand `build`.
 
-ghost use Rattle.std.specs.{Prelude.{◌≡◌, ℕ, List, IfOk, option_map, string_bytes}, Io.KnownBytes.{Appends}};
+ghost use Rattle.std.specs.Prelude.{◌≡◌, ℕ, List, IfOk, option_map, string_bytes};
+ghost use Rattle.std.specs.Io.KnownBytes.{Appends};
 ghost use Rattle.tpm_text.specs.Faults.{FailsByMemoryOrWrite};
 ghost use Rattle.tpm_buffer.specs.Parts.{joined};
 ghost use Rattle.tpm_show.specs.Build.{Builds, BuildsBuffer, BuildsBytes, part_of};

@@ -1,9 +1,17 @@
 //! The subcommand `show` of a capture in lines.
 
-ghost use Rattle.std.specs.{Prelude.{◌≡◌, ◌+◌, ◌^◌, ◌<◌, ◌++◌, ℕ, List, ◌∷◌, [], None, IfOk, OnOk, IsErrOf, length, string_bytes}, Io.KnownBytes.{Appends}};
+ghost use Rattle.std.specs.Prelude.{◌≡◌, ◌+◌, ◌^◌, ◌<◌, ◌++◌, ℕ, List, ◌∷◌, [], None, IfOk, OnOk, IsErrOf, length};
+ghost use Rattle.std.specs.Prelude.{string_bytes};
+ghost use Rattle.std.specs.Io.KnownBytes.{Appends};
 ghost use Rattle.tpm_wire.specs.Sources.{IsWhereItFailed};
-ghost use Rattle.tpm_text.specs.{declared.{fault.ToolFault.TheVariants.{InputTooLong, Read}, status.Status.TheVariants.{Done, Refused}}, Faults.{FailsByMemoryOrWrite}, InputLines.{AddedTo, CountsRead}};
-ghost use Rattle.tpm_show.specs.{declared.capture_frames.Awaited.TheVariants.{Unknown}, Capture.{Frame, start, told_in, fault_text, TellsCapture, ReadsAll, ReadsTooMuchCapture}, Capturing.{read_as, place, Passes, Tells, EndsLine, Takes}};
+ghost use Rattle.tpm_text.specs.declared.fault.ToolFault.TheVariants.{InputTooLong, Read};
+ghost use Rattle.tpm_text.specs.declared.status.Status.TheVariants.{Done, Refused};
+ghost use Rattle.tpm_text.specs.Faults.{FailsByMemoryOrWrite};
+ghost use Rattle.tpm_text.specs.InputLines.{AddedTo, CountsRead};
+ghost use Rattle.tpm_show.specs.declared.capture_frames.Awaited.TheVariants.{Unknown};
+ghost use Rattle.tpm_show.specs.Capture.{Frame, start, told_in, fault_text, TellsCapture, ReadsAll};
+ghost use Rattle.tpm_show.specs.Capture.{ReadsTooMuchCapture};
+ghost use Rattle.tpm_show.specs.Capturing.{read_as, place, Passes, Tells, EndsLine, Takes};
 
 use crate::capture_frames::{
     Awaited, answer_to_frame, awaited_behind, direction_of, push_fault, push_numbered,

@@ -1,7 +1,9 @@
 //! The frames of a capture.
 
 ghost use Rattle.std.specs.Prelude.{◌≡◌, ◌++◌, List, ℕ, IfOk, OnOk, string_bytes};
-ghost use Rattle.tpm_show.specs.Capture.{code_number_in, awaited_behind, direction_of, is_response, front, frame_object, kind_of, numbered, fault_line, fault_text, sentence_text, TellsCommand, TellsFrame};
+ghost use Rattle.tpm_show.specs.Capture.{code_number_in, awaited_behind, direction_of, is_response, front};
+ghost use Rattle.tpm_show.specs.Capture.{frame_object, kind_of, numbered, fault_line, fault_text, sentence_text};
+ghost use Rattle.tpm_show.specs.Capture.{TellsCommand, TellsFrame};
 ghost use Rattle.tpm_text.specs.declared.status.Status.TheVariants.{Refused};
 
 use crate::capture_lines::Direction;

@@ -1,7 +1,8 @@
 //! The lines of a capture.
 
 ghost use Rattle.std.specs.Prelude.{◌≡◌, IfOk};
-ghost use Rattle.tpm_show.specs.{Capture.{is_blank, told_in, frame_of, without_prefix}, Capturing.{read_as}};
+ghost use Rattle.tpm_show.specs.Capture.{is_blank, told_in, frame_of, without_prefix};
+ghost use Rattle.tpm_show.specs.Capturing.{read_as};
 ghost use Rattle.tpm_text.specs.Text.{bytes_in};
 
 use std::alloc::{AllocError, Global};

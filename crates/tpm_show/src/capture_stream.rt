@@ -1,9 +1,14 @@
 //! The subcommand `show` of a stream of frames.
 
-ghost use Rattle.std.specs.{Prelude.{◌≡◌, ◌++◌, ℕ, List, IfOk, OnOk, IsErrOf, string_bytes}, Io.KnownBytes.{Appends}};
+ghost use Rattle.std.specs.Prelude.{◌≡◌, ◌++◌, ℕ, List, IfOk, OnOk, IsErrOf, string_bytes};
+ghost use Rattle.std.specs.Io.KnownBytes.{Appends};
 ghost use Rattle.tpm_wire.specs.Sources.{IsWhereItFailed};
-ghost use Rattle.tpm_text.specs.{declared.{fault.ToolFault.TheVariants.{InputTooLong, Read}, status.Status.TheVariants.{Refused}}, Faults.{FailsByMemoryOrWrite}, InputLines.{CountsRead}};
-ghost use Rattle.tpm_show.specs.{Capture.{ReadsTooMuchCapture}, Stream.{stop_line, stop_text, TellsRead}};
+ghost use Rattle.tpm_text.specs.declared.fault.ToolFault.TheVariants.{InputTooLong, Read};
+ghost use Rattle.tpm_text.specs.declared.status.Status.TheVariants.{Refused};
+ghost use Rattle.tpm_text.specs.Faults.{FailsByMemoryOrWrite};
+ghost use Rattle.tpm_text.specs.InputLines.{CountsRead};
+ghost use Rattle.tpm_show.specs.Capture.{ReadsTooMuchCapture};
+ghost use Rattle.tpm_show.specs.Stream.{stop_line, stop_text, TellsRead};
 
 use crate::capture::{Capture, MOST_BYTES};
 use crate::frame_json::push_stop_object;

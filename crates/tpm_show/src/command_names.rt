@@ -2,7 +2,8 @@
 
 ghost use Rattle.std.specs.Prelude.{◌≡◌, ◌++◌, Option, IfOk, OnOk, string_bytes};
 ghost use Rattle.tpm_text.specs.declared.status.Status.TheVariants.{Refused};
-ghost use Rattle.tpm_show.specs.{Show.{refusal_told}, CommandNames.{absent_line, absent_member, absent_named, absent_text, absent_behind}};
+ghost use Rattle.tpm_show.specs.Show.{refusal_told};
+ghost use Rattle.tpm_show.specs.CommandNames.{absent_line, absent_member, absent_named, absent_text, absent_behind};
 
 use crate::told::answer_to_refusal;
 use std::alloc::{AllocError, Global};

@@ -1,8 +1,13 @@
 //! The subcommand `explain`.
 
-ghost use Rattle.std.specs.{Prelude.{◌≡◌, ◌++◌, IfOk, OnOk, option_map, string_bytes}, Io.KnownBytes.{Appends}};
-ghost use Rattle.tpm_text.specs.{Faults.{FailsByMemoryOrWrite}, declared.status.Status.TheVariants.{Done, Refused}};
-ghost use Rattle.tpm_show.specs.{Explain.{meaning_of, meaning_line, base_line, layer_line, subject_of, subject_number, subject_text, unknown_line, line_among, line_or_unknown, status_of_line, explanation, explain_status}, Meanings.{meaning_as}};
+ghost use Rattle.std.specs.Prelude.{◌≡◌, ◌++◌, IfOk, OnOk, option_map, string_bytes};
+ghost use Rattle.std.specs.Io.KnownBytes.{Appends};
+ghost use Rattle.tpm_text.specs.Faults.{FailsByMemoryOrWrite};
+ghost use Rattle.tpm_text.specs.declared.status.Status.TheVariants.{Done, Refused};
+ghost use Rattle.tpm_show.specs.Explain.{meaning_of, meaning_line, base_line, layer_line, subject_of, subject_number};
+ghost use Rattle.tpm_show.specs.Explain.{subject_text, unknown_line, line_among, line_or_unknown, status_of_line};
+ghost use Rattle.tpm_show.specs.Explain.{explanation, explain_status};
+ghost use Rattle.tpm_show.specs.Meanings.{meaning_as};
 
 use crate::layers::{Codes, base_meaning, codes_of, layer_of};
 use crate::meaning::{Meaning, look_up, meanings};

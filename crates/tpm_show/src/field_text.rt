@@ -2,7 +2,8 @@
 
 ghost use Rattle.std.specs.Prelude.{◌≡◌, ◌++◌, ◌≤◌, ℕ, Bool, List, OnOk, codes, length, string_bytes};
 ghost use Rattle.tpm_wire.specs.Spelling.{spelling};
-ghost use Rattle.tpm_show.specs.FieldText.{field_line, field_members, field_head, field_text, in_object, number_text, structure_text};
+ghost use Rattle.tpm_show.specs.FieldText.{field_line, field_members, field_head, field_text, in_object, number_text};
+ghost use Rattle.tpm_show.specs.FieldText.{structure_text};
 
 use std::alloc::Global;
 use tpm_text::hexadecimal::shown_bytes;

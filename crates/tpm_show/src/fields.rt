@@ -1,9 +1,11 @@
 //! The parameters of commands and replies by their names and their types.
 
 ghost use Rattle.std.specs.Prelude.{◌≡◌, ◌++◌, OnOk, codes, string_bytes};
-ghost use Rattle.tpm_wire.specs.{Spelling.{spelling}, Structures.{sized_bytes}};
+ghost use Rattle.tpm_wire.specs.Spelling.{spelling};
+ghost use Rattle.tpm_wire.specs.Structures.{sized_bytes};
 ghost use Rattle.tpm_commands.specs.Events.{event_bytes};
-ghost use Rattle.tpm_show.specs.{FieldText.{field_text}, Fields.{command_fields, reply_fields}};
+ghost use Rattle.tpm_show.specs.FieldText.{field_text};
+ghost use Rattle.tpm_show.specs.Fields.{command_fields, reply_fields};
 
 use crate::field_text::Field;
 use std::alloc::{AllocError, Global};

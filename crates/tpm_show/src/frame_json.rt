@@ -1,7 +1,9 @@
 //! The frames of a capture as objects of JSON.
 
 ghost use Rattle.std.specs.Prelude.{◌≡◌, ◌++◌, ℕ, List, true, OnOk, string_bytes};
-ghost use Rattle.tpm_show.specs.{Fields.{command_fields, reply_fields}, FrameJson.{code_member, fault_object, fields_member, handles_member, handles_of, head_members, refusal_members, sessions_member, stop_object}};
+ghost use Rattle.tpm_show.specs.Fields.{command_fields, reply_fields};
+ghost use Rattle.tpm_show.specs.FrameJson.{code_member, fault_object, fields_member, handles_member, handles_of};
+ghost use Rattle.tpm_show.specs.FrameJson.{head_members, refusal_members, sessions_member, stop_object};
 
 use crate::fields::{push_command_fields, push_reply_fields};
 use std::alloc::Global;

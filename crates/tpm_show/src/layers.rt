@@ -1,7 +1,8 @@
 //! The software layers of response codes, and their base codes.
 
 ghost use Rattle.std.specs.Prelude.{◌≡◌, option_map};
-ghost use Rattle.tpm_show.specs.{Layers.{codes_of, layer_of, base_of}, Meanings.{meaning_as}};
+ghost use Rattle.tpm_show.specs.Layers.{codes_of, layer_of, base_of};
+ghost use Rattle.tpm_show.specs.Meanings.{meaning_as};
 
 use crate::meaning::{Meaning, look_up, meanings};
 

@@ -1,9 +1,15 @@
 //! The parts of structures by the names that Part 2 gives them.
 
-ghost use Rattle.std.specs.{Prelude.{◌≡◌, ◌++◌, ◌<◌, ◌≤◌, ℕ, Bool, List, OnOk, codes, length, map, string_bytes}, Int.{bytes_high_first}, List.{AllByRecursion}};
+ghost use Rattle.std.specs.Prelude.{◌≡◌, ◌++◌, ◌<◌, ◌≤◌, ℕ, Bool, List, OnOk, codes, length, map, string_bytes};
+ghost use Rattle.std.specs.Int.{bytes_high_first};
+ghost use Rattle.std.specs.List.{AllByRecursion};
 ghost use Rattle.tpm_types.specs.Tpma.{is_set, nv_type};
-ghost use Rattle.tpm_text.specs.{Named.{named_as}, Text.{lines_from}};
-ghost use Rattle.tpm_show.specs.{FieldText.{field_text, structure_text}, Parts.{attribute_names, attribute_parts, bits_of, digest_entry, digest_value_entry, digest_value_members, public_parts, register_parts, selection_entry, selection_members, symmetric_parts}};
+ghost use Rattle.tpm_text.specs.Named.{named_as};
+ghost use Rattle.tpm_text.specs.Text.{lines_from};
+ghost use Rattle.tpm_show.specs.FieldText.{field_text, structure_text};
+ghost use Rattle.tpm_show.specs.Parts.{attribute_names, attribute_parts, bits_of, digest_entry, digest_value_entry};
+ghost use Rattle.tpm_show.specs.Parts.{digest_value_members, public_parts, register_parts, selection_entry};
+ghost use Rattle.tpm_show.specs.Parts.{selection_members, symmetric_parts};
 
 use crate::field_text::{Field, HasParts, end_structure, push_number};
 use std::alloc::Global;

@@ -1,7 +1,8 @@
 //! The program's lines of a response.
 
 ghost use Rattle.std.specs.Prelude.{◌≡◌, ◌++◌, OnOk, string_bytes};
-ghost use Rattle.tpm_show.specs.{ReplyText.{reply_code_line, reply_line, reply_handle_line}, Show.{named_fields}};
+ghost use Rattle.tpm_show.specs.ReplyText.{reply_code_line, reply_line, reply_handle_line};
+ghost use Rattle.tpm_show.specs.Show.{named_fields};
 
 use crate::fields::push_reply_fields;
 use std::alloc::Global;

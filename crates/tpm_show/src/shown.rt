@@ -1,7 +1,9 @@
 //! The subcommand `show` of a buffer.
 
-ghost use Rattle.std.specs.{Prelude.{ℕ, List, IfOk, string_bytes}, Io.KnownBytes.{Appends}};
-ghost use Rattle.tpm_text.specs.{Faults.{FailsByMemoryOrWrite}, Text.{bytes_in}};
+ghost use Rattle.std.specs.Prelude.{ℕ, List, IfOk, string_bytes};
+ghost use Rattle.std.specs.Io.KnownBytes.{Appends};
+ghost use Rattle.tpm_text.specs.Faults.{FailsByMemoryOrWrite};
+ghost use Rattle.tpm_text.specs.Text.{bytes_in};
 ghost use Rattle.tpm_show.specs.Show.{Shows, ShowsDecoded, ShowsFields};
 
 use crate::telling::Telling;

@@ -2,7 +2,9 @@
 
 ghost use Rattle.std.specs.Prelude.{◌≡◌, ◌++◌, IfOk, IfErr, OnOk, string_bytes};
 ghost use Rattle.tpm_wire.specs.Path.{Fault, Spells};
-ghost use Rattle.tpm_buffer.specs.{Commands.{command}, CommandAreas.{HasCut}, Responses.{reply_cut, response}};
+ghost use Rattle.tpm_buffer.specs.Commands.{command};
+ghost use Rattle.tpm_buffer.specs.CommandAreas.{HasCut};
+ghost use Rattle.tpm_buffer.specs.Responses.{reply_cut, response};
 ghost use Rattle.tpm_text.specs.declared.status.Status.TheVariants.{Done, Refused};
 ghost use Rattle.tpm_show.specs.Show.{code_told, command_told, refusal_told, response_told, ShowsCommand, ShowsReply};
 

@@ -1,6 +1,14 @@
 -- One register more of a selection.
-use Rattle.std.{proofs.{Common.{◌≡◌, ℕ, zero, suc, List, [], ◌∷◌, ◌++◌, ◌<◌, ◌≤◌, ◌+◌, ◌-◌, ◌*◌, ◌%◌, ◌^◌, Bool, true, false, bit_or, length, take, map, get_or, refl, sym, ap, ◌∙◌, arith, length-append, append_assoc}, lemmas.{List.{take_more, map-append, length-map, append-nil, Elements.{filter-append}, FromFn.{get_or-range_with_len}}, Grind.{or_before_shift}}}, specs.Prelude.{filter}}
-use Rattle.tpm_types.specs.{Tpma.{mask}, Tpms.{is_selected}}
+use Rattle.std.proofs.Common.{◌≡◌, ℕ, zero, suc, List, [], ◌∷◌, ◌++◌, ◌<◌, ◌≤◌, ◌+◌, ◌-◌, ◌*◌, ◌%◌, ◌^◌, Bool, true}
+use Rattle.std.proofs.Common.{false, bit_or, length, take, map, get_or, refl, sym, ap, ◌∙◌, arith, length-append}
+use Rattle.std.proofs.Common.{append_assoc}
+use Rattle.std.proofs.lemmas.List.Elements.{filter-append}
+use Rattle.std.proofs.lemmas.List.FromFn.{get_or-range_with_len}
+use Rattle.std.proofs.lemmas.List.{take_more, map-append, length-map, append-nil}
+use Rattle.std.proofs.lemmas.Grind.{or_before_shift}
+use Rattle.std.specs.Prelude.{filter}
+use Rattle.tpm_types.specs.Tpma.{mask}
+use Rattle.tpm_types.specs.Tpms.{is_selected}
 use Rattle.tpm_model.specs.Registers.{all_registers}
 use Rattle.tpm_store.specs.Select.{registers_of, chosen, bits_of}
 

@@ -1,8 +1,16 @@
 -- One entry more of a selection.
-use Rattle.std.{proofs.{Common.{◌≡◌, ◌≢◌, ℕ, zero, suc, List, [], ◌∷◌, ◌++◌, ◌<◌, ◌+◌, ◌-◌, ◌/◌, Bool, true, false, length, take, map, get_or, refl, sym, ap, ◌∙◌, arith, length-append}, lemmas.{Bool.Decides.{nat_tests}, List.{take_more, map-append, length-map, append-nil, take-map, flat_map_more, Elements.{filter-append}}}}, specs.Prelude.{filter, ◌==◌}}
-use Rattle.tpm_types.specs.{declared.{alg.Alg.{Alg}, tpms.Selection.{Selection}}, Tpms.{is_selected}}
+use Rattle.std.proofs.Common.{◌≡◌, ◌≢◌, ℕ, zero, suc, List, [], ◌∷◌, ◌++◌, ◌<◌, ◌+◌, ◌-◌, ◌/◌, Bool, true, false}
+use Rattle.std.proofs.Common.{length, take, map, get_or, refl, sym, ap, ◌∙◌, arith, length-append}
+use Rattle.std.proofs.lemmas.Bool.Decides.{nat_tests}
+use Rattle.std.proofs.lemmas.List.Elements.{filter-append}
+use Rattle.std.proofs.lemmas.List.{take_more, map-append, length-map, append-nil, take-map, flat_map_more}
+use Rattle.std.specs.Prelude.{filter, ◌==◌}
+use Rattle.tpm_types.specs.declared.alg.Alg.{Alg}
+use Rattle.tpm_types.specs.declared.tpms.Selection.{Selection}
+use Rattle.tpm_types.specs.Tpms.{is_selected}
 use Rattle.tpm_model.specs.Registers.{all_registers, selected_by, selected_values, select_of, first_selected}
-use Rattle.tpm_store.{specs.Select.{registers_of, chosen, bits_of, first_of}, proofs.Stands.{AreRegisters, are_registers}}
+use Rattle.tpm_store.specs.Select.{registers_of, chosen, bits_of, first_of}
+use Rattle.tpm_store.proofs.Stands.{AreRegisters, are_registers}
 
 -- ---- lists
 

@@ -1,6 +1,11 @@
 -- What is found among counters.
-use Rattle.std.{proofs.{Common.{◌≡◌, ℕ, ◌+◌, ◌<◌, List, [], ◌∷◌, ◌++◌, length, take, drop, get_or, set, Option, Some, None, true, false, sym, refl, ap, ◌∙◌, arith}, lemmas.{Option.{same_Some}, List.{get_or_at, set_at, take_more, drop_more, take-append-drop, length-take-le}}}, specs.Prelude.{◌^◌, nat_le, if◌then◌else◌}}
-use Rattle.tpm_model.specs.Counters.{Counter, has_index, counter_in, next_value, written, incremented, with_increment, NvMemory}
+use Rattle.std.proofs.Common.{◌≡◌, ℕ, ◌+◌, ◌<◌, List, [], ◌∷◌, ◌++◌, length, take, drop, get_or, set, Option, Some}
+use Rattle.std.proofs.Common.{None, true, false, sym, refl, ap, ◌∙◌, arith}
+use Rattle.std.proofs.lemmas.Option.{same_Some}
+use Rattle.std.proofs.lemmas.List.{get_or_at, set_at, take_more, drop_more, take-append-drop, length-take-le}
+use Rattle.std.specs.Prelude.{◌^◌, nat_le, if◌then◌else◌}
+use Rattle.tpm_model.specs.Counters.{Counter, has_index, counter_in, next_value, written, incremented, with_increment}
+use Rattle.tpm_model.specs.Counters.{NvMemory}
 use Rattle.tpm_store.specs.Places.{IsPlace}
 
 -- a counter before others, of which none is of the index

@@ -1,7 +1,14 @@
 -- One register of a bank is written, and no other changes.
-use Rattle.std.{proofs.{Common.{◌≡◌, ◌≢◌, ℕ, ◌+◌, ◌-◌, ◌*◌, ◌<◌, ◌≤◌, List, length, take, drop, true, false, refl, sym, ap, ◌∙◌, arith, subst}, lemmas.{Bool.Decides.{nat_tests}, List.{drop-take}, Slice.{take-put_mid_below, drop-put_mid, between-put_mid}}}, specs.Prelude.{◌==◌, nat_lt, if◌then◌else◌}}
+use Rattle.std.proofs.Common.{◌≡◌, ◌≢◌, ℕ, ◌+◌, ◌-◌, ◌*◌, ◌<◌, ◌≤◌, List, length, take, drop, true, false, refl, sym}
+use Rattle.std.proofs.Common.{ap, ◌∙◌, arith, subst}
+use Rattle.std.proofs.lemmas.Bool.Decides.{nat_tests}
+use Rattle.std.proofs.lemmas.List.{drop-take}
+use Rattle.std.proofs.lemmas.Slice.{take-put_mid_below, drop-put_mid, between-put_mid}
+use Rattle.std.specs.Prelude.{◌==◌, nat_lt, if◌then◌else◌}
 use borrow.Rule.Slice.PartMut.{put_mid}
-use Rattle.tpm_types.{specs.{declared.alg.Alg.{Alg}, Alg.{bank_place, digest_len}}, proofs.Algs.{same_bank}}
+use Rattle.tpm_types.specs.declared.alg.Alg.{Alg}
+use Rattle.tpm_types.specs.Alg.{bank_place, digest_len}
+use Rattle.tpm_types.proofs.Algs.{same_bank}
 use Rattle.tpm_store.specs.Banks.{registers, all_bytes, place_of, value_at, with_value, Holds}
 
 -- ---- places

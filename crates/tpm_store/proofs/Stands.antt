@@ -1,7 +1,12 @@
 -- Registers that stand at a list of changes.
-use Rattle.std.proofs.{Common.{◌≡◌, ℕ, ◌+◌, ◌%◌, ◌^◌, ◌<◌, suc, List, [], ◌∷◌, length, map, refl, sym, ap, ◌∙◌, arith}, lemmas.List.FromFn.{get_or-map-range_with_len}}
-use Rattle.tpm_types.specs.{declared.alg.Alg.{Alg, TheVariants.{Sha1}}, Alg.{all_algs}}
-use Rattle.tpm_model.specs.Registers.{Change, value_by, register_value, all_registers, banks_of, value_in, updates_by, update_counter, Registers, registers_after, Change.{Extend}}
+use Rattle.std.proofs.Common.{◌≡◌, ℕ, ◌+◌, ◌%◌, ◌^◌, ◌<◌, suc, List, [], ◌∷◌, length, map, refl, sym, ap, ◌∙◌, arith}
+use Rattle.std.proofs.lemmas.List.FromFn.{get_or-map-range_with_len}
+use Rattle.tpm_types.specs.declared.alg.Alg.TheVariants.{Sha1}
+use Rattle.tpm_types.specs.declared.alg.Alg.{Alg}
+use Rattle.tpm_types.specs.Alg.{all_algs}
+use Rattle.tpm_model.specs.Registers.Change.{Extend}
+use Rattle.tpm_model.specs.Registers.{Change, value_by, register_value, all_registers, banks_of, value_in, updates_by}
+use Rattle.tpm_model.specs.Registers.{update_counter, Registers, registers_after}
 use Rattle.tpm_store.specs.Banks.{value_at, Holds, changed}
 
 -- the value of a register is the one at its place

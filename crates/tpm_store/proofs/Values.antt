@@ -1,9 +1,21 @@
 -- The values of registers after changes.
-use Rattle.std.{proofs.{Common.{◌≡◌, ℕ, ◌+◌, ◌-◌, ◌<◌, ◌≤◌, List, [], ◌∷◌, ◌++◌, map, take, replicate, true, false, refl, sym, ap, ◌∙◌, arith}, lemmas.{Bool.Decides.{nat_tests}, List.{append-nil, map-append, take-replicate, drop-replicate, Elements.{filter-append}}}}, specs.Prelude.{◌==◌, nat_le, nat_lt, ◌&&◌, filter, if◌then◌else◌}}
-use Rattle.tpm_types.{specs.{declared.alg.Alg.{Alg, TheVariants.{Sha1}}, Alg.{bank_place, digest_len}, Limits.{banks}}, proofs.Algs.{same_bank, same_test}}
+use Rattle.std.proofs.Common.{◌≡◌, ℕ, ◌+◌, ◌-◌, ◌<◌, ◌≤◌, List, [], ◌∷◌, ◌++◌, map, take, replicate, true, false, refl}
+use Rattle.std.proofs.Common.{sym, ap, ◌∙◌, arith}
+use Rattle.std.proofs.lemmas.Bool.Decides.{nat_tests}
+use Rattle.std.proofs.lemmas.List.Elements.{filter-append}
+use Rattle.std.proofs.lemmas.List.{append-nil, map-append, take-replicate, drop-replicate}
+use Rattle.std.specs.Prelude.{◌==◌, nat_le, nat_lt, ◌&&◌, filter, if◌then◌else◌}
+use Rattle.tpm_types.specs.declared.alg.Alg.TheVariants.{Sha1}
+use Rattle.tpm_types.specs.declared.alg.Alg.{Alg}
+use Rattle.tpm_types.specs.Alg.{bank_place, digest_len}
+use Rattle.tpm_types.specs.Limits.{banks}
+use Rattle.tpm_types.proofs.Algs.{same_bank, same_test}
 use Rattle.tpm_hmac.specs.Hashes.{digest}
-use Rattle.tpm_model.specs.Registers.{filled_with, zeros, extended, is_of, digests_for, Change.{StartAt, Reset, Extend}}
-use Rattle.tpm_store.{specs.Banks.{registers, all_bytes, place_of, value_at, with_value, with_values, filled_but_last, Holds, changed}, proofs.Places.{fits}}
+use Rattle.tpm_model.specs.Registers.Change.{StartAt, Reset, Extend}
+use Rattle.tpm_model.specs.Registers.{filled_with, zeros, extended, is_of, digests_for}
+use Rattle.tpm_store.specs.Banks.{registers, all_bytes, place_of, value_at, with_value, with_values, filled_but_last}
+use Rattle.tpm_store.specs.Banks.{Holds, changed}
+use Rattle.tpm_store.proofs.Places.{fits}
 
 -- ---- the start
 

@@ -1,9 +1,15 @@
 -- What the calls answer, beside what the commands do.
 use Rattle.std.specs.Prelude.{ℕ, List, Option, is_none, Result, Ok}
-use Rattle.tpm_wire.specs.{Reading.{◌>>=◌}, ResponseCodes.{rc_handle}}
-use Rattle.tpm_types.specs.declared.{alg.Alg.{Alg}, handle_sets.PcrOrNull.TheVariants.{Pcr}}
-use Rattle.tpm_model.specs.{Registers.{event_digests}, Counters.{Counter}, Authorization.{refuse}, Actions.{check_extend}}
-use Rattle.tpm_store.specs.declared.registers.Locality.{Locality, TheVariants.{Zero, Three, Four}}
+use Rattle.tpm_wire.specs.Reading.{◌>>=◌}
+use Rattle.tpm_wire.specs.ResponseCodes.{rc_handle}
+use Rattle.tpm_types.specs.declared.alg.Alg.{Alg}
+use Rattle.tpm_types.specs.declared.handle_sets.PcrOrNull.TheVariants.{Pcr}
+use Rattle.tpm_model.specs.Registers.{event_digests}
+use Rattle.tpm_model.specs.Counters.{Counter}
+use Rattle.tpm_model.specs.Authorization.{refuse}
+use Rattle.tpm_model.specs.Actions.{check_extend}
+use Rattle.tpm_store.specs.declared.registers.Locality.TheVariants.{Zero, Three, Four}
+use Rattle.tpm_store.specs.declared.registers.Locality.{Locality}
 
 abbrev pub locality_number : Locality → ℕ
 locality_number Zero = 0

@@ -1,6 +1,8 @@
 -- The banks of registers in one array.
-use Rattle.std.specs.Prelude.{◌≡◌, ℕ, ◌+◌, ◌*◌, ◌<◌, ◌-◌, ◌==◌, List, [], ◌∷◌, ◌++◌, map, sum, take, drop, replicate, if◌then◌else◌}
-use Rattle.tpm_types.specs.{declared.alg.Alg.{Alg}, Alg.{all_algs, bank_place, digest_len}}
+use Rattle.std.specs.Prelude.{◌≡◌, ℕ, ◌+◌, ◌*◌, ◌<◌, ◌-◌, ◌==◌, List, [], ◌∷◌, ◌++◌, map, sum, take, drop, replicate}
+use Rattle.std.specs.Prelude.{if◌then◌else◌}
+use Rattle.tpm_types.specs.declared.alg.Alg.{Alg}
+use Rattle.tpm_types.specs.Alg.{all_algs, bank_place, digest_len}
 use Rattle.tpm_model.specs.Registers.{Change, value_by}
 
 -- how many registers a bank has

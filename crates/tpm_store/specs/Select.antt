@@ -1,6 +1,8 @@
 -- What is read of a selection, register by register (Part 3, TPM2_PCR_Read).
 use Rattle.std.specs.Prelude.{ℕ, ◌+◌, ◌-◌, ◌*◌, ◌%◌, List, [], ◌∷◌, map, take, filter}
-use Rattle.tpm_types.specs.{Tpma.{mask}, Tpms.{is_selected}, declared.tpms.Selection.{Selection}}
+use Rattle.tpm_types.specs.Tpma.{mask}
+use Rattle.tpm_types.specs.Tpms.{is_selected}
+use Rattle.tpm_types.specs.declared.tpms.Selection.{Selection}
 use Rattle.tpm_model.specs.Registers.{most_read, selected_by}
 
 -- the registers of a byte of a selection

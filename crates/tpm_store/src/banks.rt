@@ -1,10 +1,14 @@
 //! The banks of registers in one array, which is written in place.
 
 ghost use Rattle.std.specs.Prelude.{◌≡◌, ℕ, ◌+◌, ◌<◌, ◌≤◌, ◌++◌, length};
-ghost use Rattle.tpm_types.specs.{declared.alg.Alg.{Alg}, Alg.{digest_len}, Limits.{digest_bytes}};
+ghost use Rattle.tpm_types.specs.declared.alg.Alg.{Alg};
+ghost use Rattle.tpm_types.specs.Alg.{digest_len};
+ghost use Rattle.tpm_types.specs.Limits.{digest_bytes};
 ghost use Rattle.tpm_hmac.specs.Hashes.{digest as digest_of};
-ghost use Rattle.tpm_model.specs.Registers.{start_value, Change, Change.{Extend}};
-ghost use Rattle.tpm_store.specs.Banks.{registers, all_bytes, place_of, value_at, with_value, with_values, filled_but_last, Holds, changed};
+ghost use Rattle.tpm_model.specs.Registers.Change.{Extend};
+ghost use Rattle.tpm_model.specs.Registers.{start_value, Change};
+ghost use Rattle.tpm_store.specs.Banks.{registers, all_bytes, place_of, value_at, with_value, with_values};
+ghost use Rattle.tpm_store.specs.Banks.{filled_but_last, Holds, changed};
 
 use tpm_types::{Alg, DIGEST_BYTES, DigestValues, REGISTERS};
 

@@ -1,12 +1,18 @@
 //! Counters in non-volatile memory (Part 1, "NV Memory"; Part 3, "Non-volatile Storage").
 
-ghost use Rattle.std.specs.Prelude.{◌≡◌, ℕ, ◌^◌, ◌<◌, ◌≤◌, nat_le, set, List, [], ◌++◌, length, slice_index_or, Some, None, option_map, IfSome, IfNone, OnOk, OnErr, if◌then◌else◌};
-ghost use Rattle.tpm_types.specs.{Limits.{digest_bytes}, declared.tpms.NvPublic.{NvPublic as Public}};
+ghost use Rattle.std.specs.Prelude.{◌≡◌, ℕ, ◌^◌, ◌<◌, ◌≤◌, nat_le, set, List, [], ◌++◌, length, slice_index_or, Some};
+ghost use Rattle.std.specs.Prelude.{None, option_map, IfSome, IfNone, OnOk, OnErr, if◌then◌else◌};
+ghost use Rattle.tpm_types.specs.Limits.{digest_bytes};
+ghost use Rattle.tpm_types.specs.declared.tpms.NvPublic.{NvPublic as Public};
 ghost use Rattle.tpm_commands.specs.declared.command.CommandBody.TheVariants as bodies;
 ghost use Rattle.tpm_hmac.specs.Sessions.{trim as trim_of};
-ghost use Rattle.tpm_model.specs.{Counters.{has_index, counter_in, next_value, written, nv_by}, Entities.{nv_name}, Actions.{is_definable, check_define, may as may_by, increment as increment_of, read_counter}};
+ghost use Rattle.tpm_model.specs.Counters.{has_index, counter_in, next_value, written, nv_by};
+ghost use Rattle.tpm_model.specs.Entities.{nv_name};
+ghost use Rattle.tpm_model.specs.Actions.{is_definable, check_define, may as may_by, increment as increment_of};
+ghost use Rattle.tpm_model.specs.Actions.{read_counter};
 ghost use Rattle.tpm_model.specs.Counters as model;
-ghost use Rattle.tpm_store.specs.{Answers.{check_undefine}, Places.{IsPlace}};
+ghost use Rattle.tpm_store.specs.Answers.{check_undefine};
+ghost use Rattle.tpm_store.specs.Places.{IsPlace};
 
 use arrayvec::ArrayVec;
 use std::marker::Model;

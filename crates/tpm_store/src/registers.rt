@@ -1,10 +1,18 @@
 //! Platform configuration registers, PCR (Part 1, "Platform Configuration Registers (PCR)").
 
 ghost use Rattle.std.specs.Prelude.{◌≡◌, ℕ, ◌+◌, ◌*◌, ◌≤◌, ◌<◌, map, List, [], ◌∷◌, ◌++◌, length, Ok, OnOk, OnErr};
-ghost use Rattle.tpm_types.specs.{Limits.{banks}, Tpms.{is_selected as selected}, declared.handle_sets.PcrOrNull.TheVariants.{Pcr}};
+ghost use Rattle.tpm_types.specs.Limits.{banks};
+ghost use Rattle.tpm_types.specs.Tpms.{is_selected as selected};
+ghost use Rattle.tpm_types.specs.declared.handle_sets.PcrOrNull.TheVariants.{Pcr};
 ghost use Rattle.tpm_hmac.specs.Hashes.{digest as digest_of};
-ghost use Rattle.tpm_model.specs.{Registers.{Change, event_digests as event_digests_of, is_dynamic, selected_by, select_of, selections_read, values_read, composite as composite_of, registers_after, value_in, Change.{Restart, StartAt, Reset, Extend}}, Actions.{check_extend, check_reset}};
-ghost use Rattle.tpm_store.specs.{Banks.{registers, all_bytes, value_at}, Select.{registers_of, chosen, bits_of, first_of}, Answers.{locality_number, event_answer}};
+ghost use Rattle.tpm_model.specs.Registers.Change.{Restart, StartAt, Reset, Extend};
+ghost use Rattle.tpm_model.specs.Registers.{Change, event_digests as event_digests_of, is_dynamic, selected_by};
+ghost use Rattle.tpm_model.specs.Registers.{select_of, selections_read, values_read, composite as composite_of};
+ghost use Rattle.tpm_model.specs.Registers.{registers_after, value_in};
+ghost use Rattle.tpm_model.specs.Actions.{check_extend, check_reset};
+ghost use Rattle.tpm_store.specs.Banks.{registers, all_bytes, value_at};
+ghost use Rattle.tpm_store.specs.Select.{registers_of, chosen, bits_of, first_of};
+ghost use Rattle.tpm_store.specs.Answers.{locality_number, event_answer};
 
 use crate::banks::{BANKS_BYTES, extend, fill_each, start, value};
 use arrayvec::ArrayVec;

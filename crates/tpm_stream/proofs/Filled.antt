@@ -1,6 +1,14 @@
 -- What several reads of a source give.
-use Rattle.std.{proofs.{Common.{◌≡◌, ℕ, ◌+◌, ◌-◌, ◌≤◌, ◌<◌, List, [], ◌++◌, length, take, drop, Option, Some, None, refl, sym, subst, ap, ◌∙◌, append_assoc, arith, length-take, length-take-le, length-drop, length-append}, lemmas.{List.{take-append-le, take_at, take_all}, Slice.{take-put_mid}}, Math.Seq.{take-append-add}}, specs.{List.{refill}, Io.KnownBytes.{Consumes, IsAtEnd}}}
-use Rattle.tpm_stream.{specs.Frames.{stated, IsFrame, IsPart}, proofs.Framed.{stated_more, short_part, sized_part}}
+use Rattle.std.proofs.Common.{◌≡◌, ℕ, ◌+◌, ◌-◌, ◌≤◌, ◌<◌, List, [], ◌++◌, length, take, drop, Option, Some, None, refl}
+use Rattle.std.proofs.Common.{sym, subst, ap, ◌∙◌, append_assoc, arith, length-take, length-take-le, length-drop}
+use Rattle.std.proofs.Common.{length-append}
+use Rattle.std.proofs.lemmas.List.{take-append-le, take_at, take_all}
+use Rattle.std.proofs.lemmas.Slice.{take-put_mid}
+use Rattle.std.proofs.Math.Seq.{take-append-add}
+use Rattle.std.specs.List.{refill}
+use Rattle.std.specs.Io.KnownBytes.{Consumes, IsAtEnd}
+use Rattle.tpm_stream.specs.Frames.{stated, IsFrame, IsPart}
+use Rattle.tpm_stream.proofs.Framed.{stated_more, short_part, sized_part}
 use borrow.Rule.Slice.PartMut.{put_mid, post_of}
 
 -- the bytes of one read and then of others

@@ -1,7 +1,14 @@
 -- What has come of a frame, and what a push does to it.
-use Rattle.std.proofs.{Common.{◌≡◌, ℕ, ◌+◌, ◌-◌, ◌≤◌, ◌<◌, ◌⊎◌, inl, inr, min, List, [], ◌++◌, refl, length, take, drop, sym, ap, ◌∙◌, append_assoc, arith, length-append, length-drop, length-take-le, take-append-drop, append-nil}, lemmas.{List.{take-append-le, drop-append-le, take-take}, Bool.{cases_lt}}, Math.Seq.{take-add}}
-use Rattle.tpm_wire.specs.{Token.{number_of}, declared.refusal.Refusal.{Refusal}}
-use Rattle.tpm_stream.specs.{declared.framer.Status.TheVariants.{More, Ready, Broken}, Frames.{stated, IsFrame, BeginsNoFrame, IsPart, IsHeld, Pushes, bad_size}}
+use Rattle.std.proofs.Common.{◌≡◌, ℕ, ◌+◌, ◌-◌, ◌≤◌, ◌<◌, ◌⊎◌, inl, inr, min, List, [], ◌++◌, refl, length, take, drop}
+use Rattle.std.proofs.Common.{sym, ap, ◌∙◌, append_assoc, arith, length-append, length-drop, length-take-le}
+use Rattle.std.proofs.Common.{take-append-drop, append-nil}
+use Rattle.std.proofs.lemmas.List.{take-append-le, drop-append-le, take-take}
+use Rattle.std.proofs.lemmas.Bool.{cases_lt}
+use Rattle.std.proofs.Math.Seq.{take-add}
+use Rattle.tpm_wire.specs.Token.{number_of}
+use Rattle.tpm_wire.specs.declared.refusal.Refusal.{Refusal}
+use Rattle.tpm_stream.specs.declared.framer.Status.TheVariants.{More, Ready, Broken}
+use Rattle.tpm_stream.specs.Frames.{stated, IsFrame, BeginsNoFrame, IsPart, IsHeld, Pushes, bad_size}
 
 -- what comes after the size doesn't change it
 pub stated_more : (h more : List ℕ) → 6 ≤ length h → stated (h ++ more) ≡ stated h

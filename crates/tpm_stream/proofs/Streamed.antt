@@ -1,7 +1,25 @@
 -- Frames of a stream, and what a framer and a reader give of it.
-use Rattle.std.{proofs.{Common.{◌≡◌, ◌≢◌, ℕ, zero, suc, ◌+◌, ◌-◌, ◌≤◌, ◌<◌, ◌⊎◌, inl, inr, min, List, [], ◌∷◌, ◌++◌, length, take, drop, Option, Some, None, Result, Ok, Err, refl, sym, ap, subst, ◌∙◌, append_assoc, arith, length-append, length-drop, take-append-drop, append-nil}, lemmas.{List.{take_at, drop_at, nil_from_length, Elements.{All-nil, All-cons, All-head, All-tail, All-append}, Folds.{concat-append}}, Bool.{cases_lt}}}, specs.{List.{concat}, Prelude.{All}}}
-use Rattle.tpm_wire.specs.{declared.refusal.Refusal.{Refusal}, Sources.{OfBytes}}
-use Rattle.tpm_stream.{specs.{declared.{framer.Status.{Status, TheVariants.{More, Ready, Broken}}, reader.ReadFault.{ReadFault, TheVariants.{Device, EndInside, Broken as BrokenInput}}}, Frames.{stated, IsFrame, BeginsNoFrame, IsBroken, IsPart, IsStatus, Frames, Pushes, Advances, bad_size}, Reads.{ReadsFrame, IsAnswer}, Streams.{GivenPiece, GivenPieces, ReadInTurn}}, proofs.Framed.{stated_more, front_frame, short_part, sized_part, pushes_short, pushes_broken, pushes_part, pushes_ready}}
+use Rattle.std.proofs.Common.{◌≡◌, ◌≢◌, ℕ, zero, suc, ◌+◌, ◌-◌, ◌≤◌, ◌<◌, ◌⊎◌, inl, inr, min, List, [], ◌∷◌, ◌++◌}
+use Rattle.std.proofs.Common.{length, take, drop, Option, Some, None, Result, Ok, Err, refl, sym, ap, subst, ◌∙◌}
+use Rattle.std.proofs.Common.{append_assoc, arith, length-append, length-drop, take-append-drop, append-nil}
+use Rattle.std.proofs.lemmas.List.Elements.{All-nil, All-cons, All-head, All-tail, All-append}
+use Rattle.std.proofs.lemmas.List.Folds.{concat-append}
+use Rattle.std.proofs.lemmas.List.{take_at, drop_at, nil_from_length}
+use Rattle.std.proofs.lemmas.Bool.{cases_lt}
+use Rattle.std.specs.List.{concat}
+use Rattle.std.specs.Prelude.{All}
+use Rattle.tpm_wire.specs.declared.refusal.Refusal.{Refusal}
+use Rattle.tpm_wire.specs.Sources.{OfBytes}
+use Rattle.tpm_stream.specs.declared.framer.Status.TheVariants.{More, Ready, Broken}
+use Rattle.tpm_stream.specs.declared.framer.Status.{Status}
+use Rattle.tpm_stream.specs.declared.reader.ReadFault.TheVariants.{Device, EndInside, Broken as BrokenInput}
+use Rattle.tpm_stream.specs.declared.reader.ReadFault.{ReadFault}
+use Rattle.tpm_stream.specs.Frames.{stated, IsFrame, BeginsNoFrame, IsBroken, IsPart, IsStatus, Frames, Pushes}
+use Rattle.tpm_stream.specs.Frames.{Advances, bad_size}
+use Rattle.tpm_stream.specs.Reads.{ReadsFrame, IsAnswer}
+use Rattle.tpm_stream.specs.Streams.{GivenPiece, GivenPieces, ReadInTurn}
+use Rattle.tpm_stream.proofs.Framed.{stated_more, front_frame, short_part, sized_part, pushes_short, pushes_broken}
+use Rattle.tpm_stream.proofs.Framed.{pushes_part, pushes_ready}
 use Rattle.arrayvec.specs.ArrayVec.{ArrayVec}
 
 -- ---- one way to cut a stream

@@ -1,7 +1,11 @@
 -- Buffers one after the other in a stream (Part 1, "Command/Response Structure": the third to sixth byte of a buffer are the number of its bytes).
-use Rattle.std.specs.{Prelude.{◌≡◌, ℕ, ◌<◌, ◌≤◌, ◌⊎◌, List, [], ◌++◌, length, take, drop, All}, List.{concat}}
-use Rattle.tpm_wire.specs.{declared.refusal.Refusal.{Refusal}, ResponseCodes.{rc_command_size}, Token.{number_of}}
-use Rattle.tpm_stream.specs.declared.framer.Status.{Status, TheVariants.{More, Ready, Broken}}
+use Rattle.std.specs.Prelude.{◌≡◌, ℕ, ◌<◌, ◌≤◌, ◌⊎◌, List, [], ◌++◌, length, take, drop, All}
+use Rattle.std.specs.List.{concat}
+use Rattle.tpm_wire.specs.declared.refusal.Refusal.{Refusal}
+use Rattle.tpm_wire.specs.ResponseCodes.{rc_command_size}
+use Rattle.tpm_wire.specs.Token.{number_of}
+use Rattle.tpm_stream.specs.declared.framer.Status.TheVariants.{More, Ready, Broken}
+use Rattle.tpm_stream.specs.declared.framer.Status.{Status}
 
 -- the number that the third to sixth byte spell
 abbrev pub stated : List ℕ → ℕ

@@ -1,8 +1,12 @@
 -- What reading a frame does to the bytes that a source has left, where it tells them, and to its count of failures.
-use Rattle.std.specs.{Prelude.{◌≡◌, ℕ, ◌<◌, ◌≤◌, Bool, true, false, List, [], length, take, Option, Some, None, Result, Ok, Err}, Io.KnownBytes.{Consumes, IsAtEnd}}
+use Rattle.std.specs.Prelude.{◌≡◌, ℕ, ◌<◌, ◌≤◌, Bool, true, false, List, [], length, take, Option, Some, None, Result}
+use Rattle.std.specs.Prelude.{Ok, Err}
+use Rattle.std.specs.Io.KnownBytes.{Consumes, IsAtEnd}
 use Rattle.arrayvec.specs.ArrayVec.{ArrayVec}
 use Rattle.tpm_wire.specs.Sources.{one_more}
-use Rattle.tpm_stream.specs.{declared.reader.ReadFault.{ReadFault, TheVariants.{Device, EndInside, Broken}}, Frames.{IsFrame, IsPart, IsBroken, bad_size}}
+use Rattle.tpm_stream.specs.declared.reader.ReadFault.TheVariants.{Device, EndInside, Broken}
+use Rattle.tpm_stream.specs.declared.reader.ReadFault.{ReadFault}
+use Rattle.tpm_stream.specs.Frames.{IsFrame, IsPart, IsBroken, bad_size}
 
 -- A read failed where the answer is Device, and nowhere else.
 abbrev pub CountsDevice : {X : Type 0} → ℕ → ℕ → Result X ReadFault → Type 0

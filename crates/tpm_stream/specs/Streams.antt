@@ -1,7 +1,11 @@
 -- What comes of a stream that is cut into pieces, and of one that is read to its end.
 use Rattle.std.specs.Prelude.{◌≡◌, ◌≢◌, ℕ, List, [], ◌∷◌, ◌++◌, drop, Option, Some, Result, Ok}
 use Rattle.arrayvec.specs.ArrayVec.{ArrayVec}
-use Rattle.tpm_stream.specs.{declared.{framer.Status.{Status, TheVariants.{Ready}}, reader.ReadFault.{ReadFault}}, Frames.{Pushes, Advances}, Reads.{ReadsFrame}}
+use Rattle.tpm_stream.specs.declared.framer.Status.TheVariants.{Ready}
+use Rattle.tpm_stream.specs.declared.framer.Status.{Status}
+use Rattle.tpm_stream.specs.declared.reader.ReadFault.{ReadFault}
+use Rattle.tpm_stream.specs.Frames.{Pushes, Advances}
+use Rattle.tpm_stream.specs.Reads.{ReadsFrame}
 
 -- A piece was given to a framer that held these bytes. As often as a frame was ready it was dropped, and the bytes that
 -- were not taken were given again. These frames came, the framer holds the new bytes, and the bytes left were not taken.

@@ -1,6 +1,7 @@
 //! Frames from pieces of a stream.
 
-ghost use Rattle.std.specs.Prelude.{◌≡◌, ◌+◌, ◌≤◌, ◌<◌, ◌++◌, [], length, min, take, ◌-◌, ◌⊎◌, MatchBool, MatchOption, MatchResult};
+ghost use Rattle.std.specs.Prelude.{◌≡◌, ◌+◌, ◌≤◌, ◌<◌, ◌++◌, [], length, min, take, ◌-◌, ◌⊎◌, MatchBool, MatchOption};
+ghost use Rattle.std.specs.Prelude.{MatchResult};
 ghost use Rattle.tpm_stream.specs.Frames.{stated, IsFrame, IsHeld, bad_size, Pushes, Advances};
 
 use std::marker::Model;

@@ -1,7 +1,8 @@
 //! Frames from a source of bytes.
 
 ghost use Rattle.std.specs.Prelude.{◌≡◌, ◌≤◌, ◌++◌, ◌⊎◌, ℕ, true, List, [], length, drop, Ok, IfErr, IsErrOf};
-ghost use Rattle.tpm_stream.specs.{declared.reader.ReadFault.TheVariants.{Device, Broken}, Reads.{Fills, CountsDevice, ReadsFrame, ReadsInto, IsBuffer}};
+ghost use Rattle.tpm_stream.specs.declared.reader.ReadFault.TheVariants.{Device, Broken};
+ghost use Rattle.tpm_stream.specs.Reads.{Fills, CountsDevice, ReadsFrame, ReadsInto, IsBuffer};
 ghost use Rattle.tpm_wire.specs.Sources.{CountsFailures, IsWhereItFailed};
 
 use crate::framer::{SIZE_END, stated_size};

@@ -1,8 +1,14 @@
 //! What holds of frames in a stream.
 
-ghost use Rattle.std.specs.{Prelude.{◌≡◌, ◌<◌, ◌⊎◌, ℕ, List, [], ◌∷◌, ◌++◌, Option, length}, List.{concat}};
-ghost use Rattle.tpm_wire.specs.{Sources.{OfBytes}, declared.refusal.Refusal.{Refusal}};
-ghost use Rattle.tpm_stream.specs.{declared.{reader.ReadFault.TheVariants.{EndInside, Broken}, framer.Status.{Status, TheVariants.{Broken as BrokenFramer}}}, Frames.{IsFrame, IsPart, IsBroken, Frames, Pushes, Advances, bad_size}, Streams.{GivenPieces, ReadInTurn}};
+ghost use Rattle.std.specs.Prelude.{◌≡◌, ◌<◌, ◌⊎◌, ℕ, List, [], ◌∷◌, ◌++◌, Option, length};
+ghost use Rattle.std.specs.List.{concat};
+ghost use Rattle.tpm_wire.specs.Sources.{OfBytes};
+ghost use Rattle.tpm_wire.specs.declared.refusal.Refusal.{Refusal};
+ghost use Rattle.tpm_stream.specs.declared.reader.ReadFault.TheVariants.{EndInside, Broken};
+ghost use Rattle.tpm_stream.specs.declared.framer.Status.TheVariants.{Broken as BrokenFramer};
+ghost use Rattle.tpm_stream.specs.declared.framer.Status.{Status};
+ghost use Rattle.tpm_stream.specs.Frames.{IsFrame, IsPart, IsBroken, Frames, Pushes, Advances, bad_size};
+ghost use Rattle.tpm_stream.specs.Streams.{GivenPieces, ReadInTurn};
 
 /// Every stream is frames and a rest, in one way, and the rest is part of a frame or has a size that no frame has. A frame
 /// before a stream is its first.

@@ -1,5 +1,8 @@
 -- The lines of an input.
-use Rattle.std.{proofs.{Common.{◌≡◌, ℕ, Bool, true, cond, ◌<◌, false, List, [], ◌∷◌, ◌++◌, length, refl, sym, ap, ◌∙◌, inl, inr, arith, append_assoc}, lemmas.List.{append-nil}}, specs.Prelude.{nat_eq}}
+use Rattle.std.proofs.Common.{◌≡◌, ℕ, Bool, true, cond, ◌<◌, false, List, [], ◌∷◌, ◌++◌, length, refl, sym, ap, ◌∙◌}
+use Rattle.std.proofs.Common.{inl, inr, arith, append_assoc}
+use Rattle.std.proofs.lemmas.List.{append-nil}
+use Rattle.std.specs.Prelude.{nat_eq}
 use Rattle.tpm_text.specs.InputLines.{onto_first, lines_of, HasNoFeed, AreEnded}
 
 pub no_feed-more : (line : List ℕ) (byte : ℕ) → HasNoFeed line → nat_eq byte 10 ≡ false → HasNoFeed (line ++ byte ∷ [])

@@ -1,5 +1,6 @@
 -- What two parts add one after the other.
-use Rattle.std.{proofs.Common.{ℕ, List, ◌++◌, Option, Some, None, ap, ◌∙◌, append_assoc}, specs.Io.KnownBytes.{Appends}}
+use Rattle.std.proofs.Common.{ℕ, List, ◌++◌, Option, Some, None, ap, ◌∙◌, append_assoc}
+use Rattle.std.specs.Io.KnownBytes.{Appends}
 use Rattle.tpm_text.specs.InputLines.{AddedTo}
 
 -- What two parts add is added by both.

@@ -1,5 +1,9 @@
 -- A line for each entry of a list.
-use Rattle.std.{proofs.{Common.{◌≡◌, ◌<◌, ◌+◌, ◌++◌, ◌∷◌, ℕ, suc, List, Bool, true, false, cond, filter, Some, None, length, drop, sym, ap, subst, ◌∙◌, append_assoc, inl, inr, arith}, Math.Seq.{drop-cons}, lemmas.Option.{get_or_from_slice_get, slice_get_within, slice_get_cases, none-some}}, specs.List.{slice_get}}
+use Rattle.std.proofs.Common.{◌≡◌, ◌<◌, ◌+◌, ◌++◌, ◌∷◌, ℕ, suc, List, Bool, true, false, cond, filter, Some, None}
+use Rattle.std.proofs.Common.{length, drop, sym, ap, subst, ◌∙◌, append_assoc, inl, inr, arith}
+use Rattle.std.proofs.Math.Seq.{drop-cons}
+use Rattle.std.proofs.lemmas.Option.{get_or_from_slice_get, slice_get_within, slice_get_cases, none-some}
+use Rattle.std.specs.List.{slice_get}
 use Rattle.tpm_text.specs.Text.{lines_from}
 
 drop_next : {A : Type 0} (xs : List A) (i : ℕ) (x : A) → slice_get xs i ≡ Some x → drop i xs ≡ x ∷ drop (i + 1) xs

@@ -1,5 +1,8 @@
 -- Numbers with zeros before them.
-use Rattle.std.{proofs.{Common.{◌≡◌, ℕ, ◌-◌, ◌^◌, false, List, [], ◌++◌, length, replicate, refl, append_assoc}, Math.Nat.{sub-zero}, lemmas.List.{append-nil}}, specs.Fmt.{char_count, padded_integral, format_spec}}
+use Rattle.std.proofs.Common.{◌≡◌, ℕ, ◌-◌, ◌^◌, false, List, [], ◌++◌, length, replicate, refl, append_assoc}
+use Rattle.std.proofs.Math.Nat.{sub-zero}
+use Rattle.std.proofs.lemmas.List.{append-nil}
+use Rattle.std.specs.Fmt.{char_count, padded_integral, format_spec}
 
 -- the zeros stand before the digits
 pub padded_integral-zeros : (least : ℕ) (digits : List ℕ) → padded_integral (format_spec 32 0 4 least (2 ^ 64 - 1)) false [] digits ≡ replicate (least - length digits) 48 ++ digits

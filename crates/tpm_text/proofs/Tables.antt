@@ -1,5 +1,8 @@
 -- Tables that are searched.
-use Rattle.std.{proofs.{Common.{◌≡◌, List, [], ◌∷◌, map, find, option_map, Some, None, Option, Bool, true, false, cond, refl, ap, ◌∙◌, Bor, position, not}, lemmas.List.{length-map}}, specs.List.{prefix_len}}
+use Rattle.std.proofs.Common.{◌≡◌, List, [], ◌∷◌, map, find, option_map, Some, None, Option, Bool, true, false, cond}
+use Rattle.std.proofs.Common.{refl, ap, ◌∙◌, Bor, position, not}
+use Rattle.std.proofs.lemmas.List.{length-map}
+use Rattle.std.specs.List.{prefix_len}
 
 by : {A B : Type 0} (f : A → B) (b : Bool) (x : A) (rest : Option A) → option_map f (cond b (Some x) rest) ≡ cond b (Some (f x)) (option_map f rest)
 by f true x rest = refl

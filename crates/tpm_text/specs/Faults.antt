@@ -1,6 +1,7 @@
 -- What keeps a subcommand from its answer.
 use Rattle.std.specs.Prelude.{Result, Ok, Err}
-use Rattle.tpm_text.specs.declared.fault.ToolFault.{ToolFault, TheVariants.{Memory, Read, Write, InputTooLong}}
+use Rattle.tpm_text.specs.declared.fault.ToolFault.TheVariants.{Memory, Read, Write, InputTooLong}
+use Rattle.tpm_text.specs.declared.fault.ToolFault.{ToolFault}
 
 -- an answer, or want of memory, or a write that failed
 abbrev pub FailsByMemoryOrWrite : {X : Type 0} → Result X ToolFault → Type 0

@@ -1,7 +1,9 @@
 -- The lines of an input, and what is read of one (this profile).
-use Rattle.std.specs.{Prelude.{◌≡◌, ◌⊎◌, ℕ, ◌==◌, false, List, [], ◌∷◌, ◌++◌, Result, Ok, Err, if◌then◌else◌}, List.{AllByRecursion}}
+use Rattle.std.specs.Prelude.{◌≡◌, ◌⊎◌, ℕ, ◌==◌, false, List, [], ◌∷◌, ◌++◌, Result, Ok, Err, if◌then◌else◌}
+use Rattle.std.specs.List.{AllByRecursion}
 use Rattle.tpm_wire.specs.Sources.{one_more}
-use Rattle.tpm_text.specs.declared.fault.ToolFault.{ToolFault, TheVariants.{Memory, Read, Write, InputTooLong}}
+use Rattle.tpm_text.specs.declared.fault.ToolFault.TheVariants.{Memory, Read, Write, InputTooLong}
+use Rattle.tpm_text.specs.declared.fault.ToolFault.{ToolFault}
 
 -- ---- the lines of an input
 

@@ -1,6 +1,7 @@
 -- The statuses of the program (this profile): 0 for done, 1 for refused or a mismatch.
 use Rattle.std.specs.Prelude.{ℕ}
-use Rattle.tpm_text.specs.declared.status.Status.{Status, TheVariants.{Done, Refused}}
+use Rattle.tpm_text.specs.declared.status.Status.TheVariants.{Done, Refused}
+use Rattle.tpm_text.specs.declared.status.Status.{Status}
 
 abbrev pub status_number : Status → ℕ
 status_number Done = 0

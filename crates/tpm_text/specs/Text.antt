@@ -1,9 +1,14 @@
 -- The program's lines (this profile).
-use Rattle.std.specs.{Prelude.{ℕ, ◌+◌, ◌-◌, ◌==◌, if◌then◌else◌, Bool, true, false, List, [], ◌∷◌, ◌++◌, length, map, replicate, codes, Option, Some, None, Result, Ok, Err}, Fmt.{decimal, digits}}
-use Rattle.hex.specs.{Hex.{decode_of, encode_lower}, declared.error.FromHexError.{FromHexError}}
+use Rattle.std.specs.Prelude.{ℕ, ◌+◌, ◌-◌, ◌==◌, if◌then◌else◌, Bool, true, false, List, [], ◌∷◌, ◌++◌, length, map}
+use Rattle.std.specs.Prelude.{replicate, codes, Option, Some, None, Result, Ok, Err}
+use Rattle.std.specs.Fmt.{decimal, digits}
+use Rattle.hex.specs.Hex.{decode_of, encode_lower}
+use Rattle.hex.specs.declared.error.FromHexError.{FromHexError}
 use Rattle.tpm_wire.specs.declared.refusal.Refusal.{Refusal}
-use Rattle.tpm_types.specs.declared.tpms.{Auth.{Auth}, AuthReply.{AuthReply}}
-use Rattle.tpm_commands.specs.{declared.code.CommandCode.{CommandCode}, Codes.{code_name}}
+use Rattle.tpm_types.specs.declared.tpms.Auth.{Auth}
+use Rattle.tpm_types.specs.declared.tpms.AuthReply.{AuthReply}
+use Rattle.tpm_commands.specs.declared.code.CommandCode.{CommandCode}
+use Rattle.tpm_commands.specs.Codes.{code_name}
 use Rattle.tpm_buffer.specs.CommandAreas.{Cut}
 
 -- words with a space between them, and a line feed

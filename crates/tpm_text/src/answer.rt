@@ -1,7 +1,11 @@
 //! What a subcommand answers: a status and a text.
 
-ghost use Rattle.std.specs.{Prelude.{◌≡◌, IfOk, IsErrOf, OnOk, string_bytes}, Io.KnownBytes.{Appends}};
-ghost use Rattle.tpm_text.specs.{declared.{status.Status.TheVariants.{Done, Refused}, fault.ToolFault.TheVariants.{Memory}}, Faults.{FailsByMemoryOrWrite}, Text.{not_hexadecimal_line}};
+ghost use Rattle.std.specs.Prelude.{◌≡◌, IfOk, IsErrOf, OnOk, string_bytes};
+ghost use Rattle.std.specs.Io.KnownBytes.{Appends};
+ghost use Rattle.tpm_text.specs.declared.status.Status.TheVariants.{Done, Refused};
+ghost use Rattle.tpm_text.specs.declared.fault.ToolFault.TheVariants.{Memory};
+ghost use Rattle.tpm_text.specs.Faults.{FailsByMemoryOrWrite};
+ghost use Rattle.tpm_text.specs.Text.{not_hexadecimal_line};
 
 use crate::fault::ToolFault;
 use crate::status::Status;

@@ -1,7 +1,8 @@
 //! The sessions of a command or of a reply, as lines or as objects of JSON.
 
 ghost use Rattle.std.specs.Prelude.{◌≡◌, ◌++◌, List, OnOk, IfOk, length, slice_get, string_bytes};
-ghost use Rattle.tpm_text.specs.Text.{Session as SessionValue, lines_from, session_begin, session_bytes, session_handle, session_text};
+ghost use Rattle.tpm_text.specs.Text.{Session as SessionValue, lines_from, session_begin, session_bytes};
+ghost use Rattle.tpm_text.specs.Text.{session_handle, session_text};
 
 use crate::hexadecimal::shown_bytes;
 use crate::text::{Pushed, push_comma};

@@ -1,7 +1,8 @@
 //! The program's lines.
 
 ghost use Rattle.std.specs.Prelude.{◌≡◌, ◌++◌, OnOk, string_bytes};
-ghost use Rattle.tpm_text.specs.Text.{comma, lines_from, refusal_line, bytes_line, command_line, handle_text, parameters_line, command_text};
+ghost use Rattle.tpm_text.specs.Text.{comma, lines_from, refusal_line, bytes_line, command_line, handle_text};
+ghost use Rattle.tpm_text.specs.Text.{parameters_line, command_text};
 
 use crate::hexadecimal::shown_bytes;
 use crate::sessions::push_sessions;

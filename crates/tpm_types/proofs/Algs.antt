@@ -1,6 +1,12 @@
 -- What holds of each hash, by looking at all of them: another hash changes nothing here.
-use Rattle.std.{proofs.{Common.{◌≡◌, ℕ, ◌≤◌, ◌<◌, sym, ◌∙◌, arith}, lemmas.{Bool.Decides.{nat_tests}, List.{get_or-map, FromFn.{get_or-range_with_len}}}}, specs.Prelude.{◌==◌, slice_index_or}}
-use Rattle.tpm_types.specs.{declared.alg.Alg.{Alg}, Alg.{alg_number, digest_len, block_len, all_algs, bank_place}, Limits.{banks, digest_bytes, block_bytes}}
+use Rattle.std.proofs.Common.{◌≡◌, ℕ, ◌≤◌, ◌<◌, sym, ◌∙◌, arith}
+use Rattle.std.proofs.lemmas.Bool.Decides.{nat_tests}
+use Rattle.std.proofs.lemmas.List.FromFn.{get_or-range_with_len}
+use Rattle.std.proofs.lemmas.List.{get_or-map}
+use Rattle.std.specs.Prelude.{◌==◌, slice_index_or}
+use Rattle.tpm_types.specs.declared.alg.Alg.{Alg}
+use Rattle.tpm_types.specs.Alg.{alg_number, digest_len, block_len, all_algs, bank_place}
+use Rattle.tpm_types.specs.Limits.{banks, digest_bytes, block_bytes}
 
 pub digest_some : (a : Alg) → 0 < digest_len a
 digest_some a = grind arith

@@ -1,7 +1,10 @@
 -- The hash algorithms of this profile: TPMI_ALG_HASH (Part 2, 9.27, with the numbers of 6.3).
 use Rattle.std.specs.Prelude.{◌≡◌, ℕ, Option, Some, None, ◌==◌, if◌then◌else◌, List, [], ◌∷◌, length}
-use Rattle.tpm_wire.specs.{Buffers.{Layout}, Layout.Form.{number}, ResponseCodes.{rc_hash}}
-use Rattle.tpm_types.specs.declared.alg.Alg.{Alg, TheVariants.{Sha1, Sha256, Sha384}}
+use Rattle.tpm_wire.specs.Buffers.{Layout}
+use Rattle.tpm_wire.specs.Layout.Form.{number}
+use Rattle.tpm_wire.specs.ResponseCodes.{rc_hash}
+use Rattle.tpm_types.specs.declared.alg.Alg.TheVariants.{Sha1, Sha256, Sha384}
+use Rattle.tpm_types.specs.declared.alg.Alg.{Alg}
 
 abbrev pub alg_number : Alg → ℕ
 alg_number Sha1 = 0x0004

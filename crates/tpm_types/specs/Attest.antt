@@ -1,7 +1,14 @@
 -- What a device attests (Part 2, 10.11 and 10.12).
 use Rattle.std.specs.Prelude.{ℕ, Bool, true, false, Option, Some, None, ◌==◌, if◌then◌else◌}
-use Rattle.tpm_wire.specs.{Buffers.{Layout, number_in, any_number}, Layout.Form.{number, field, done}, Structures.{sized_bytes}, ResponseCodes.{rc_value}}
-use Rattle.tpm_types.specs.{Tpm2b.{digest}, Tpml.{selections}, declared.attest.{QuoteInfo.{QuoteInfo}, ClockInfo.{ClockInfo}, Attest.{Attest}}}
+use Rattle.tpm_wire.specs.Buffers.{Layout, number_in, any_number}
+use Rattle.tpm_wire.specs.Layout.Form.{number, field, done}
+use Rattle.tpm_wire.specs.Structures.{sized_bytes}
+use Rattle.tpm_wire.specs.ResponseCodes.{rc_value}
+use Rattle.tpm_types.specs.Tpm2b.{digest}
+use Rattle.tpm_types.specs.Tpml.{selections}
+use Rattle.tpm_types.specs.declared.attest.QuoteInfo.{QuoteInfo}
+use Rattle.tpm_types.specs.declared.attest.ClockInfo.{ClockInfo}
+use Rattle.tpm_types.specs.declared.attest.Attest.{Attest}
 
 -- TPMS_QUOTE_INFO (10.12.4)
 unfoldable pub quote_info : Layout QuoteInfo

@@ -1,7 +1,14 @@
 -- Numbers that stand for a choice (Part 2, 6 and 11.1).
 use Rattle.std.specs.Prelude.{ℕ, Option, Some, None, ◌==◌, if◌then◌else◌}
-use Rattle.tpm_wire.specs.{Buffers.{Layout}, Layout.Form.{number}, ResponseCodes.{rc_value}}
-use Rattle.tpm_types.specs.declared.constants.{StartupType.{StartupType, TheVariants.{Clear, State}}, SessionType.{SessionType, TheVariants.{Hmac, Policy, Trial}}, KeyBits.{KeyBits, TheVariants.{Bits128, Bits256}}}
+use Rattle.tpm_wire.specs.Buffers.{Layout}
+use Rattle.tpm_wire.specs.Layout.Form.{number}
+use Rattle.tpm_wire.specs.ResponseCodes.{rc_value}
+use Rattle.tpm_types.specs.declared.constants.StartupType.TheVariants.{Clear, State}
+use Rattle.tpm_types.specs.declared.constants.StartupType.{StartupType}
+use Rattle.tpm_types.specs.declared.constants.SessionType.TheVariants.{Hmac, Policy, Trial}
+use Rattle.tpm_types.specs.declared.constants.SessionType.{SessionType}
+use Rattle.tpm_types.specs.declared.constants.KeyBits.TheVariants.{Bits128, Bits256}
+use Rattle.tpm_types.specs.declared.constants.KeyBits.{KeyBits}
 
 -- ---- TPM_SU (6.10)
 

@@ -1,6 +1,9 @@
 -- The handles of a command that are of one kind or another, as values.
 use Rattle.std.specs.Prelude.{ℕ, Option, Some, None, if◌then◌else◌}
-use Rattle.tpm_types.specs.{Handles.{rh_owner, rh_null, is_owner, is_null, is_pcr, is_nv_index}, declared.handle_sets.{PcrOrNull.{PcrOrNull}, NvAuthHandle.{NvAuthHandle}, BindHandle.{BindHandle}}}
+use Rattle.tpm_types.specs.Handles.{rh_owner, rh_null, is_owner, is_null, is_pcr, is_nv_index}
+use Rattle.tpm_types.specs.declared.handle_sets.PcrOrNull.{PcrOrNull}
+use Rattle.tpm_types.specs.declared.handle_sets.NvAuthHandle.{NvAuthHandle}
+use Rattle.tpm_types.specs.declared.handle_sets.BindHandle.{BindHandle}
 use Rattle.tpm_types.specs.declared.handle_sets.PcrOrNull.TheVariants as registers
 use Rattle.tpm_types.specs.declared.handle_sets.NvAuthHandle.TheVariants as authorities
 use Rattle.tpm_types.specs.declared.handle_sets.BindHandle.TheVariants as binds

@@ -1,6 +1,10 @@
 -- Handles: TPM_HANDLE (Part 2, 7), and the sets of them that commands take.
 use Rattle.std.specs.Prelude.{◌≡◌, refl, ℕ, Bool, nat_lt, ◌/◌, ◌==◌, ◌||◌}
-use Rattle.tpm_wire.specs.{Token.{Here}, Reading.{read}, Spelling.{spelling, Fits}, Buffers.{Layout, number_in}, ResponseCodes.{rc_value}}
+use Rattle.tpm_wire.specs.Token.{Here}
+use Rattle.tpm_wire.specs.Reading.{read}
+use Rattle.tpm_wire.specs.Spelling.{spelling, Fits}
+use Rattle.tpm_wire.specs.Buffers.{Layout, number_in}
+use Rattle.tpm_wire.specs.ResponseCodes.{rc_value}
 
 -- ---- permanent handles, TPM_RH (7.4)
 

@@ -1,7 +1,12 @@
 -- Sized buffers: a size, and that many bytes (Part 2, 10.4).
 use Rattle.std.specs.Prelude.{ℕ, List, Option, Some, None, ◌==◌, if◌then◌else◌}
-use Rattle.tpm_wire.specs.{Buffers.{Layout}, Layout.Form.{number}, Structures.{sized_bytes}, ResponseCodes.{rc_value}}
-use Rattle.tpm_types.specs.{Limits.{digest_bytes, name_bytes}, declared.tpm2b.EncryptedSalt.{EncryptedSalt, TheVariants.{Empty}}}
+use Rattle.tpm_wire.specs.Buffers.{Layout}
+use Rattle.tpm_wire.specs.Layout.Form.{number}
+use Rattle.tpm_wire.specs.Structures.{sized_bytes}
+use Rattle.tpm_wire.specs.ResponseCodes.{rc_value}
+use Rattle.tpm_types.specs.Limits.{digest_bytes, name_bytes}
+use Rattle.tpm_types.specs.declared.tpm2b.EncryptedSalt.TheVariants.{Empty}
+use Rattle.tpm_types.specs.declared.tpm2b.EncryptedSalt.{EncryptedSalt}
 
 -- TPM2B_DIGEST (10.4.2)
 abbrev pub digest : Layout (List ℕ)

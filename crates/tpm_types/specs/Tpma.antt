@@ -1,6 +1,7 @@
 -- Attributes: numbers of bits (Part 2, 8.4 and 13.4).
 use Rattle.std.specs.Prelude.{ℕ, ◌+◌, ◌^◌, ◌/◌, ◌%◌, Bool, not, bit_and, bit_or, ◌==◌, List, [], ◌∷◌}
-use Rattle.tpm_wire.specs.{Buffers.{Layout, number_in}, ResponseCodes.{rc_reserved_bits}}
+use Rattle.tpm_wire.specs.Buffers.{Layout, number_in}
+use Rattle.tpm_wire.specs.ResponseCodes.{rc_reserved_bits}
 
 -- the number in which these bits are set
 abbrev pub mask : List ℕ → ℕ

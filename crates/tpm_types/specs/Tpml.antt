@@ -1,7 +1,13 @@
 -- Counted lists: TPML (Part 2, 10.9).
 use Rattle.std.specs.Prelude.{ℕ, List}
-use Rattle.tpm_wire.specs.{Buffers.{Layout}, Structures.{counted}}
-use Rattle.tpm_types.specs.{Limits.{banks}, Tpm2b.{digest}, Tpms.{selection}, Tpmt.{digest_value}, declared.{alg.Alg.{Alg}, tpms.Selection.{Selection}}}
+use Rattle.tpm_wire.specs.Buffers.{Layout}
+use Rattle.tpm_wire.specs.Structures.{counted}
+use Rattle.tpm_types.specs.Limits.{banks}
+use Rattle.tpm_types.specs.Tpm2b.{digest}
+use Rattle.tpm_types.specs.Tpms.{selection}
+use Rattle.tpm_types.specs.Tpmt.{digest_value}
+use Rattle.tpm_types.specs.declared.alg.Alg.{Alg}
+use Rattle.tpm_types.specs.declared.tpms.Selection.{Selection}
 
 -- TPML_PCR_SELECTION (10.9.7)
 abbrev pub selections : Layout (List Selection)

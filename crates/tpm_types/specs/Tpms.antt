@@ -1,7 +1,19 @@
 -- Structures of several fields: TPMS (Part 2, 10 to 13).
 use Rattle.std.specs.Prelude.{ℕ, ◌/◌, ◌%◌, Bool, List, slice_index, ◌==◌}
-use Rattle.tpm_wire.specs.{Buffers.{Layout, number_in, any_number}, Layout.{raw, Form.{field, done}}, Structures.{sized}, ResponseCodes.{rc_value}}
-use Rattle.tpm_types.specs.{Limits.{public_bytes}, Alg.{hash}, Handles.{nv_index, auth_session}, Tpma.{is_set, session_attrs, nv_attrs}, Tpm2b.{digest, nonce, auth_value}, declared.tpms.{Selection.{Selection}, NvPublic.{NvPublic}, Auth.{Auth}, AuthReply.{AuthReply}}}
+use Rattle.tpm_wire.specs.Buffers.{Layout, number_in, any_number}
+use Rattle.tpm_wire.specs.Layout.Form.{field, done}
+use Rattle.tpm_wire.specs.Layout.{raw}
+use Rattle.tpm_wire.specs.Structures.{sized}
+use Rattle.tpm_wire.specs.ResponseCodes.{rc_value}
+use Rattle.tpm_types.specs.Limits.{public_bytes}
+use Rattle.tpm_types.specs.Alg.{hash}
+use Rattle.tpm_types.specs.Handles.{nv_index, auth_session}
+use Rattle.tpm_types.specs.Tpma.{is_set, session_attrs, nv_attrs}
+use Rattle.tpm_types.specs.Tpm2b.{digest, nonce, auth_value}
+use Rattle.tpm_types.specs.declared.tpms.Selection.{Selection}
+use Rattle.tpm_types.specs.declared.tpms.NvPublic.{NvPublic}
+use Rattle.tpm_types.specs.declared.tpms.Auth.{Auth}
+use Rattle.tpm_types.specs.declared.tpms.AuthReply.{AuthReply}
 
 -- how many bytes of bits, one for each register, a selection has
 abbrev pub select_bytes : ℕ

@@ -1,7 +1,16 @@
 -- Structures by a choice: TPMT (Part 2, 10.3 and 11.1).
 use Rattle.std.specs.Prelude.{ℕ, List, ◌==◌, ◌||◌}
-use Rattle.tpm_wire.specs.{Buffers.{Layout, number_in}, Layout.{either, raw, Form.{field, done}}, ResponseCodes.{rc_mode, rc_symmetric}}
-use Rattle.tpm_types.specs.{Alg.{hash, digest_len}, declared.{alg.Alg.{Alg, TheVariants.{Sha256}}, tpmt.SymDef.{SymDef, TheVariants.{Null, Aes, Xor}}, constants.KeyBits.{KeyBits, TheVariants.{Bits128}}}}
+use Rattle.tpm_wire.specs.Buffers.{Layout, number_in}
+use Rattle.tpm_wire.specs.Layout.Form.{field, done}
+use Rattle.tpm_wire.specs.Layout.{either, raw}
+use Rattle.tpm_wire.specs.ResponseCodes.{rc_mode, rc_symmetric}
+use Rattle.tpm_types.specs.Alg.{hash, digest_len}
+use Rattle.tpm_types.specs.declared.alg.Alg.TheVariants.{Sha256}
+use Rattle.tpm_types.specs.declared.alg.Alg.{Alg}
+use Rattle.tpm_types.specs.declared.tpmt.SymDef.TheVariants.{Null, Aes, Xor}
+use Rattle.tpm_types.specs.declared.tpmt.SymDef.{SymDef}
+use Rattle.tpm_types.specs.declared.constants.KeyBits.TheVariants.{Bits128}
+use Rattle.tpm_types.specs.declared.constants.KeyBits.{KeyBits}
 pub use Rattle.tpm_types.specs.Constants.{key_bits_of, key_bits_number, key_bits}
 
 -- TPMT_HA (10.3.2): a hash, and a digest of as many bytes as it gives

@@ -1,7 +1,8 @@
 //! Hash algorithms: TPMI_ALG_HASH (Part 2, 9.27).
 
 ghost use Rattle.std.specs.Prelude.{◌≡◌, ◌≤◌};
-ghost use Rattle.tpm_types.specs.{Limits.{digest_bytes, block_bytes}, Alg.{alg_of, alg_number, digest_len, block_len, hash}};
+ghost use Rattle.tpm_types.specs.Limits.{digest_bytes, block_bytes};
+ghost use Rattle.tpm_types.specs.Alg.{alg_of, alg_number, digest_len, block_len, hash};
 
 use crate::limits::BANKS;
 use tpm_wire::response_code::HASH;

@@ -1,7 +1,8 @@
 //! What a device attests (Part 2, 10.11 and 10.12).
 
 ghost use Rattle.std.specs.Prelude.{◌≡◌, ◌≤◌, ◌+◌, ◌++◌, ℕ, length, IfOk};
-ghost use Rattle.tpm_wire.specs.{Buffers.{Takes}, Spelling.{spelling, Fits}};
+ghost use Rattle.tpm_wire.specs.Buffers.{Takes};
+ghost use Rattle.tpm_wire.specs.Spelling.{spelling, Fits};
 ghost use Rattle.tpm_types.specs.Attest.{yes_no};
 
 use crate::lent::Lent;
@@ -23,7 +24,8 @@ pub struct QuoteInfo {
 #[tactic(auto, unfolding(crate::specs::Attest::quote_info))]
 impl Wire for QuoteInfo {
     ghost use Rattle.std.specs.Prelude.{◌+◌, ◌*◌};
-    ghost use Rattle.tpm_types.specs.{Limits.{digest_bytes, banks}, Attest.{quote_info}};
+    ghost use Rattle.tpm_types.specs.Limits.{digest_bytes, banks};
+    ghost use Rattle.tpm_types.specs.Attest.{quote_info};
 
     ghost layout = { quote_info };
 
@@ -166,7 +168,8 @@ pub struct Attest<'a> {
 #[tactic(auto, unfolding(crate::specs::Attest::attest, crate::specs::Attest::generated, crate::specs::Attest::attest_type))]
 impl<'a> Attest<'a> {
     ghost use Rattle.std.specs.Prelude.{◌≡◌, ◌≤◌, ◌+◌, ◌++◌, ℕ, length, IfOk};
-    ghost use Rattle.tpm_wire.specs.{Buffers.{Takes}, Spelling.{spelling, Fits}};
+    ghost use Rattle.tpm_wire.specs.Buffers.{Takes};
+    ghost use Rattle.tpm_wire.specs.Spelling.{spelling, Fits};
     ghost use Rattle.tpm_types.specs.Attest.{attest};
 
     /// A quote has a spelling. It does nothing, and is called for what it ensures.

@@ -1,8 +1,12 @@
 //! The limits and the lists are those of the specification.
 
 ghost use Rattle.std.specs.Prelude.{◌≡◌, ℕ};
-ghost use Rattle.tpm_wire.specs.{Token.{Here}, Reading.{read}};
-ghost use Rattle.tpm_types.specs.{Limits.{banks, digest_bytes, name_bytes, public_bytes, block_bytes}, Attest.{data_bytes}, Tpms.{select_bytes}, Tpml.{most_digests, selections, digests, or_digests, digest_values}};
+ghost use Rattle.tpm_wire.specs.Token.{Here};
+ghost use Rattle.tpm_wire.specs.Reading.{read};
+ghost use Rattle.tpm_types.specs.Limits.{banks, digest_bytes, name_bytes, public_bytes, block_bytes};
+ghost use Rattle.tpm_types.specs.Attest.{data_bytes};
+ghost use Rattle.tpm_types.specs.Tpms.{select_bytes};
+ghost use Rattle.tpm_types.specs.Tpml.{most_digests, selections, digests, or_digests, digest_values};
 
 use crate::attest::DATA_BYTES;
 use crate::limits::{BANKS, BLOCK_BYTES, DIGEST_BYTES, NAME_BYTES, PUBLIC_BYTES};

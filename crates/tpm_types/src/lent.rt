@@ -1,7 +1,9 @@
 //! Sized buffers that are lent (Part 2, 10.4).
 
 ghost use Rattle.std.specs.Prelude.{◌≡◌, ◌≤◌, ◌<◌, ◌+◌, ◌^◌, ◌++◌, ℕ, IfOk, MatchOption, length};
-ghost use Rattle.tpm_wire.specs.{Spelling.{spelling, Fits}, Structures.{sized_bytes}, Buffers.{Takes}};
+ghost use Rattle.tpm_wire.specs.Spelling.{spelling, Fits};
+ghost use Rattle.tpm_wire.specs.Structures.{sized_bytes};
+ghost use Rattle.tpm_wire.specs.Buffers.{Takes};
 
 use std::marker::Model;
 use tpm_wire::response_code::{INSUFFICIENT, SIZE};

@@ -1,6 +1,7 @@
 //! Sized buffers: TPM2B (Part 2, 10.4).
 
-ghost use Rattle.std.specs.{Prelude.{◌≡◌}, Int.{to_be_bytes, w32}};
+ghost use Rattle.std.specs.Prelude.{◌≡◌};
+ghost use Rattle.std.specs.Int.{to_be_bytes, w32};
 
 use crate::limits::{DIGEST_BYTES, NAME_BYTES};
 use tpm_wire::response_code::VALUE;

@@ -1,7 +1,10 @@
 //! Attributes: TPMA_SESSION and TPMA_NV (Part 2, 8.4 and 13.4).
 
 ghost use Rattle.std.specs.Prelude.{◌≡◌, ℕ, true, Some, None, if◌then◌else◌};
-ghost use Rattle.tpm_types.specs.Tpma.{is_session_attrs, session_attrs, continues, audits_or_encrypts, is_nv_attrs, nv_attrs, is_counter, owner_writes, auth_writes, policy_writes, owner_reads, auth_reads, policy_reads, no_da, is_written, with_written, is_writable, is_readable, is_undefinable};
+ghost use Rattle.tpm_types.specs.Tpma.{is_session_attrs, session_attrs, continues, audits_or_encrypts, is_nv_attrs};
+ghost use Rattle.tpm_types.specs.Tpma.{nv_attrs, is_counter, owner_writes, auth_writes, policy_writes, owner_reads};
+ghost use Rattle.tpm_types.specs.Tpma.{auth_reads, policy_reads, no_da, is_written, with_written, is_writable};
+ghost use Rattle.tpm_types.specs.Tpma.{is_readable, is_undefinable};
 
 use std::marker::Model;
 use tpm_wire::response_code::RESERVED_BITS;

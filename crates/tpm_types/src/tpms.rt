@@ -105,7 +105,8 @@ pub struct Auth {
 #[tactic(auto, unfolding(crate::specs::Tpms::auth_command))]
 impl Wire for Auth {
     ghost use Rattle.std.specs.Prelude.{◌+◌};
-    ghost use Rattle.tpm_types.specs.{Limits.{digest_bytes}, Tpms.{auth_command}};
+    ghost use Rattle.tpm_types.specs.Limits.{digest_bytes};
+    ghost use Rattle.tpm_types.specs.Tpms.{auth_command};
 
     ghost layout = { auth_command };
 
@@ -161,7 +162,8 @@ pub struct AuthReply {
 #[tactic(auto, unfolding(crate::specs::Tpms::auth_response))]
 impl Wire for AuthReply {
     ghost use Rattle.std.specs.Prelude.{◌+◌};
-    ghost use Rattle.tpm_types.specs.{Limits.{digest_bytes}, Tpms.{auth_response}};
+    ghost use Rattle.tpm_types.specs.Limits.{digest_bytes};
+    ghost use Rattle.tpm_types.specs.Tpms.{auth_response};
 
     ghost layout = { auth_response };
 
@@ -217,8 +219,10 @@ pub struct NvPublic {
 #[tactic(auto, unfolding(crate::specs::Tpms::nv_public_area))]
 impl NvPublic {
     ghost use Rattle.std.specs.Prelude.{◌≡◌, ℕ, ◌+◌, ◌++◌, ◌≤◌, length, IfOk};
-    ghost use Rattle.tpm_wire.specs.{Buffers.{Takes}, Spelling.{spelling, Fits}};
-    ghost use Rattle.tpm_types.specs.{Limits.{public_bytes}, Tpms.{nv_public_area}};
+    ghost use Rattle.tpm_wire.specs.Buffers.{Takes};
+    ghost use Rattle.tpm_wire.specs.Spelling.{spelling, Fits};
+    ghost use Rattle.tpm_types.specs.Limits.{public_bytes};
+    ghost use Rattle.tpm_types.specs.Tpms.{nv_public_area};
 
     /// How many bytes the area has, TPMS_NV_PUBLIC.
     pub fn area_len(&self) -> usize
@@ -273,7 +277,8 @@ impl NvPublic {
 #[tactic(auto, unfolding(crate::specs::Tpms::nv_public, tpm_wire::specs::Structures::sized))]
 impl Wire for NvPublic {
     ghost use Rattle.std.specs.Prelude.{◌+◌};
-    ghost use Rattle.tpm_types.specs.{Limits.{public_bytes}, Tpms.{nv_public}};
+    ghost use Rattle.tpm_types.specs.Limits.{public_bytes};
+    ghost use Rattle.tpm_types.specs.Tpms.{nv_public};
 
     ghost layout = { nv_public };
 

@@ -1,7 +1,8 @@
 //! Structures by a choice: TPMT (Part 2, 10.3 and 11.1).
 
 ghost use Rattle.std.specs.Prelude.{◌≡◌, ◌≢◌, ◌≤◌, length, replicate, MatchOption};
-ghost use Rattle.tpm_types.specs.{Alg.{digest_len, IsDigestValue}, Limits.{digest_bytes}};
+ghost use Rattle.tpm_types.specs.Alg.{digest_len, IsDigestValue};
+ghost use Rattle.tpm_types.specs.Limits.{digest_bytes};
 
 use crate::alg::Alg;
 use crate::constants::KeyBits;
@@ -20,7 +21,8 @@ pub struct HashedDigest {
 
 impl Model for HashedDigest {
     ghost use Rattle.std.specs.Prelude.{ℕ, List, take};
-    ghost use Rattle.tpm_types.specs.{declared.alg.Alg.{Alg}, Alg.{digest_len}};
+    ghost use Rattle.tpm_types.specs.declared.alg.Alg.{Alg};
+    ghost use Rattle.tpm_types.specs.Alg.{digest_len};
 
     ghost Value = { Alg × List ℕ };
 
@@ -81,7 +83,8 @@ impl Default for HashedDigest {
 #[tactic(auto, unfolding(crate::specs::Tpmt::digest_value))]
 impl Wire for HashedDigest {
     ghost use Rattle.std.specs.Prelude.{◌+◌};
-    ghost use Rattle.tpm_types.specs.{Limits.{digest_bytes}, Tpmt.{digest_value}};
+    ghost use Rattle.tpm_types.specs.Limits.{digest_bytes};
+    ghost use Rattle.tpm_types.specs.Tpmt.{digest_value};
 
     ghost layout = { digest_value };
 

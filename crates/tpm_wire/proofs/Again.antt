@@ -1,6 +1,17 @@
 -- What is spelled is read again, and nothing else is consumed.
-use Rattle.std.{proofs.{Common.{◌≡◌, ℕ, zero, suc, ◌+◌, ◌-◌, ◌≤◌, ◌⊎◌, Bool, true, false, eqb, List, [], ◌∷◌, ◌++◌, length, Result, Ok, refl, sym, ap, subst, ◌∙◌, append_assoc, arith, inl, inr, All}, lemmas.{Bool.{eq-eqb, ne_eqb, and_right, and_from}, List.{take_at, drop_at, length-append, append-nil, Elements.{All-head, All-tail}}}}, specs.{Prelude.{◌&&◌}, Int.{bytes_high_first}}}
-use Rattle.tpm_wire.{specs.{Rules.{Rules, IsRoomy}, Token.{Here}, Layout.{Form}, Reading.{entries, read, read_all}, Spelling.{joined, spelling, FitEach, Fits, IsSpelled}}, proofs.Numbers.{length-bytes_high_first, number_of-bytes}}
+use Rattle.std.proofs.Common.{◌≡◌, ℕ, zero, suc, ◌+◌, ◌-◌, ◌≤◌, ◌⊎◌, Bool, true, false, eqb, List, [], ◌∷◌, ◌++◌}
+use Rattle.std.proofs.Common.{length, Result, Ok, refl, sym, ap, subst, ◌∙◌, append_assoc, arith, inl, inr, All}
+use Rattle.std.proofs.lemmas.Bool.{eq-eqb, ne_eqb, and_right, and_from}
+use Rattle.std.proofs.lemmas.List.Elements.{All-head, All-tail}
+use Rattle.std.proofs.lemmas.List.{take_at, drop_at, length-append, append-nil}
+use Rattle.std.specs.Prelude.{◌&&◌}
+use Rattle.std.specs.Int.{bytes_high_first}
+use Rattle.tpm_wire.specs.Rules.{Rules, IsRoomy}
+use Rattle.tpm_wire.specs.Token.{Here}
+use Rattle.tpm_wire.specs.Layout.{Form}
+use Rattle.tpm_wire.specs.Reading.{entries, read, read_all}
+use Rattle.tpm_wire.specs.Spelling.{joined, spelling, FitEach, Fits, IsSpelled}
+use Rattle.tpm_wire.proofs.Numbers.{length-bytes_high_first, number_of-bytes}
 
 -- the place before a text
 abbrev before : List ℕ → List ℕ → ℕ → Here

@@ -1,6 +1,16 @@
 -- Reading a layout is running what it says.
-use Rattle.std.{proofs.{Common.{◌≡◌, ℕ, zero, suc, ◌+◌, ◌-◌, ◌≤◌, Bool, true, false, cond, eqb, List, [], ◌∷◌, ◌++◌, length, take, drop, Option, Some, None, Result, Ok, Err, refl, sym, ap, ◌∙◌, append_assoc, arith, inl, inr}, lemmas.{Bool.{eqb-true, cases_Bool}, List.{take_at, take-append-drop, length-take, length-drop, nil_from_length, drop-append-le}}}, specs.Prelude.{◌&&◌}}
-use Rattle.tpm_wire.{specs.{Rules.{Rules, IsSound}, Token.{number_of, Here, past, or_fault}, Layout.{Form}, Reading.{refuse, unless, found, entries, read, ◌>>=◌}, Path.{Next, each, steps}}, proofs.Runs.{meant, run}}
+use Rattle.std.proofs.Common.{◌≡◌, ℕ, zero, suc, ◌+◌, ◌-◌, ◌≤◌, Bool, true, false, cond, eqb, List, [], ◌∷◌, ◌++◌}
+use Rattle.std.proofs.Common.{length, take, drop, Option, Some, None, Result, Ok, Err, refl, sym, ap, ◌∙◌, append_assoc}
+use Rattle.std.proofs.Common.{arith, inl, inr}
+use Rattle.std.proofs.lemmas.Bool.{eqb-true, cases_Bool}
+use Rattle.std.proofs.lemmas.List.{take_at, take-append-drop, length-take, length-drop, nil_from_length, drop-append-le}
+use Rattle.std.specs.Prelude.{◌&&◌}
+use Rattle.tpm_wire.specs.Rules.{Rules, IsSound}
+use Rattle.tpm_wire.specs.Token.{number_of, Here, past, or_fault}
+use Rattle.tpm_wire.specs.Layout.{Form}
+use Rattle.tpm_wire.specs.Reading.{refuse, unless, found, entries, read, ◌>>=◌}
+use Rattle.tpm_wire.specs.Path.{Next, each, steps}
+use Rattle.tpm_wire.proofs.Runs.{meant, run}
 
 abbrev pub ok : {A E : Type 0} → A → Result A E
 ok x = Ok x

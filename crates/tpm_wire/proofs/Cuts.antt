@@ -1,6 +1,15 @@
 -- A layout, cut from what is left behind it.
-use Rattle.std.proofs.{Common.{◌≡◌, ℕ, List, length, take, drop, Result, Ok, Err, refl, ap, ◌∙◌, arith}, lemmas.List.{length-drop, take_all}}
-use Rattle.tpm_wire.{specs.{declared.refusal.Refusal.{Refusal}, Token.{Here, at_start}, Layout.{remaining, cut}, Reading.{read, read_all, finish, Gives, ◌>>=◌}, Path.{Decodes}, Buffers.{buffer, Layout}}, proofs.{Agreement.{ok}, Buffers.{buffer_sound, buffer_roomy}, Whole.{read_spells, read_fault}}}
+use Rattle.std.proofs.Common.{◌≡◌, ℕ, List, length, take, drop, Result, Ok, Err, refl, ap, ◌∙◌, arith}
+use Rattle.std.proofs.lemmas.List.{length-drop, take_all}
+use Rattle.tpm_wire.specs.declared.refusal.Refusal.{Refusal}
+use Rattle.tpm_wire.specs.Token.{Here, at_start}
+use Rattle.tpm_wire.specs.Layout.{remaining, cut}
+use Rattle.tpm_wire.specs.Reading.{read, read_all, finish, Gives, ◌>>=◌}
+use Rattle.tpm_wire.specs.Path.{Decodes}
+use Rattle.tpm_wire.specs.Buffers.{buffer, Layout}
+use Rattle.tpm_wire.proofs.Agreement.{ok}
+use Rattle.tpm_wire.proofs.Buffers.{buffer_sound, buffer_roomy}
+use Rattle.tpm_wire.proofs.Whole.{read_spells, read_fault}
 
 abbrev pub parted : {A : Type 0} → A × Here → Result (A × List ℕ) Refusal
 parted x = Ok (x.0, x.1.rest)

@@ -1,6 +1,12 @@
 -- Reading the same bytes further on in a buffer gives the same, further on.
-use Rattle.std.{proofs.Common.{◌≡◌, ℕ, zero, suc, ◌+◌, ◌-◌, Bool, true, false, cond, eqb, List, [], ◌∷◌, ◌++◌, length, take, Option, Some, None, Result, Ok, Err, refl, ap, arith}, specs.Prelude.{◌&&◌}}
-use Rattle.tpm_wire.specs.{declared.refusal.Refusal.{Refusal}, Token.{number_of, Here, past, or_fault}, Layout.{Form}, Reading.{refuse, unless, found, entries, read, ◌>>=◌}, Buffers.{buffer, Layout, later_place, later_refusal}}
+use Rattle.std.proofs.Common.{◌≡◌, ℕ, zero, suc, ◌+◌, ◌-◌, Bool, true, false, cond, eqb, List, [], ◌∷◌, ◌++◌, length}
+use Rattle.std.proofs.Common.{take, Option, Some, None, Result, Ok, Err, refl, ap, arith}
+use Rattle.std.specs.Prelude.{◌&&◌}
+use Rattle.tpm_wire.specs.declared.refusal.Refusal.{Refusal}
+use Rattle.tpm_wire.specs.Token.{number_of, Here, past, or_fault}
+use Rattle.tpm_wire.specs.Layout.{Form}
+use Rattle.tpm_wire.specs.Reading.{refuse, unless, found, entries, read, ◌>>=◌}
+use Rattle.tpm_wire.specs.Buffers.{buffer, Layout, later_place, later_refusal}
 
 -- so many bytes further on
 abbrev pub later : {A : Type 0} → ℕ → Result (A × Here) Refusal → Result (A × Here) Refusal

@@ -1,6 +1,21 @@
 -- Reading the begin of longer bytes gives what reading all of them gives, where a layout takes so many bytes at most.
-use Rattle.std.{proofs.{Common.{◌≡◌, ℕ, zero, suc, ◌+◌, ◌-◌, ◌*◌, ◌≤◌, Bool, true, false, cond, eqb, leb, List, [], ◌∷◌, ◌++◌, length, take, Option, Some, None, Result, Ok, Err, refl, sym, ap, ◌∙◌, arith}, lemmas.{Bool.{leb-true, and_parts}, List.{length-append, length-drop, take-append-le, drop-append-le}}, Math.Nat.{mul-le-mul_right}}, specs.Prelude.{◌&&◌}}
-use Rattle.tpm_wire.{specs.{Rules.{Rules, IsSound}, Token.{number_of, Here, past, or_fault}, Layout.{Form, raw}, Reading.{read, unless, found, refuse, entries, ◌>>=◌}, Longer.{with_more, IsAlike, IsReadOn}, Buffers.{buffer, Layout, number_in}, ResponseCodes.{rc_size}, Spelling.{spelling}, Structures.{sized_bytes, sized, counted}}, proofs.{Agreement.{ok, ok_is, bind_ok, test_end, unless_ok, was_found, number_ok}, Buffers.{buffer_sound, buffer_roomy}}}
+use Rattle.std.proofs.Common.{◌≡◌, ℕ, zero, suc, ◌+◌, ◌-◌, ◌*◌, ◌≤◌, Bool, true, false, cond, eqb, leb, List, [], ◌∷◌}
+use Rattle.std.proofs.Common.{◌++◌, length, take, Option, Some, None, Result, Ok, Err, refl, sym, ap, ◌∙◌, arith}
+use Rattle.std.proofs.lemmas.Bool.{leb-true, and_parts}
+use Rattle.std.proofs.lemmas.List.{length-append, length-drop, take-append-le, drop-append-le}
+use Rattle.std.proofs.Math.Nat.{mul-le-mul_right}
+use Rattle.std.specs.Prelude.{◌&&◌}
+use Rattle.tpm_wire.specs.Rules.{Rules, IsSound}
+use Rattle.tpm_wire.specs.Token.{number_of, Here, past, or_fault}
+use Rattle.tpm_wire.specs.Layout.{Form, raw}
+use Rattle.tpm_wire.specs.Reading.{read, unless, found, refuse, entries, ◌>>=◌}
+use Rattle.tpm_wire.specs.Longer.{with_more, IsAlike, IsReadOn}
+use Rattle.tpm_wire.specs.Buffers.{buffer, Layout, number_in}
+use Rattle.tpm_wire.specs.ResponseCodes.{rc_size}
+use Rattle.tpm_wire.specs.Spelling.{spelling}
+use Rattle.tpm_wire.specs.Structures.{sized_bytes, sized, counted}
+use Rattle.tpm_wire.proofs.Agreement.{ok, ok_is, bind_ok, test_end, unless_ok, was_found, number_ok}
+use Rattle.tpm_wire.proofs.Buffers.{buffer_sound, buffer_roomy}
 
 -- the same, read of longer bytes
 abbrev pub longer : {A E : Type 0} → List ℕ → Result (A × Here) E → Result (A × Here) E

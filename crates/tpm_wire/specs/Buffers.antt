@@ -1,6 +1,12 @@
 -- What buffers are read by.
-use Rattle.std.specs.Prelude.{◌≡◌, ℕ, ◌+◌, ◌<◌, ◌≤◌, Bool, length, take, Option, Some, None, Result, Ok, Err, nat_lt, if◌then◌else◌}
-use Rattle.tpm_wire.specs.{declared.refusal.Refusal.{Refusal}, ResponseCodes.{rc_insufficient, rc_size}, Rules.{Rules}, Token.{Here, past}, Layout.{Form}, Reading.{read}}
+use Rattle.std.specs.Prelude.{◌≡◌, ℕ, ◌+◌, ◌<◌, ◌≤◌, Bool, length, take, Option, Some, None, Result, Ok, Err, nat_lt}
+use Rattle.std.specs.Prelude.{if◌then◌else◌}
+use Rattle.tpm_wire.specs.declared.refusal.Refusal.{Refusal}
+use Rattle.tpm_wire.specs.ResponseCodes.{rc_insufficient, rc_size}
+use Rattle.tpm_wire.specs.Rules.{Rules}
+use Rattle.tpm_wire.specs.Token.{Here, past}
+use Rattle.tpm_wire.specs.Layout.{Form}
+use Rattle.tpm_wire.specs.Reading.{read}
 
 abbrev pub too_few : ℕ → ℕ → ℕ → ℕ → Option ℕ
 too_few added at n left = if nat_lt left n then Some rc_insufficient else None

@@ -1,6 +1,7 @@
 -- Bytes, with more behind them.
 use Rattle.std.specs.Prelude.{◌≡◌, ◌≤◌, ℕ, List, ◌++◌, Result, Ok, Err}
-use Rattle.tpm_wire.specs.{Rules.{Rules}, Token.{Here}}
+use Rattle.tpm_wire.specs.Rules.{Rules}
+use Rattle.tpm_wire.specs.Token.{Here}
 
 -- the same place, with more bytes behind those from it on
 abbrev pub with_more : List ℕ → Here → Here

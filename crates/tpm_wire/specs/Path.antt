@@ -1,6 +1,10 @@
 -- Which bytes spell a value, and where others have their fault.
-use Rattle.std.specs.Prelude.{◌≡◌, ◌⊎◌, ◌↔◌, ℕ, zero, suc, ◌-◌, Bool, true, false, List, [], ◌∷◌, ◌++◌, length, take, drop, Option, Some, None, Result, Ok, Err, ◌==◌, ◌&&◌, if◌then◌else◌}
-use Rattle.tpm_wire.specs.{Rules.{Rules}, Token.{Token, spelled, spelled_all, number_of, Here, past, at_start, or_fault}, Layout.{Form}, Reading.{read}}
+use Rattle.std.specs.Prelude.{◌≡◌, ◌⊎◌, ◌↔◌, ℕ, zero, suc, ◌-◌, Bool, true, false, List, [], ◌∷◌, ◌++◌, length, take}
+use Rattle.std.specs.Prelude.{drop, Option, Some, None, Result, Ok, Err, ◌==◌, ◌&&◌, if◌then◌else◌}
+use Rattle.tpm_wire.specs.Rules.{Rules}
+use Rattle.tpm_wire.specs.Token.{Token, spelled, spelled_all, number_of, Here, past, at_start, or_fault}
+use Rattle.tpm_wire.specs.Layout.{Form}
+use Rattle.tpm_wire.specs.Reading.{read}
 
 -- What a layout says from a place on: it ends, or asks for a token, and by its value goes on.
 -- Each token has a mark, and a number of bytes that are left in its area.

@@ -1,6 +1,10 @@
 -- Reading from left to right, with the first fault that is met.
-use Rattle.std.specs.Prelude.{◌≡◌, ℕ, zero, suc, ◌-◌, Bool, List, [], ◌∷◌, ◌++◌, length, take, Option, Some, None, Result, Ok, Err, ◌==◌, ◌&&◌, if◌then◌else◌}
-use Rattle.tpm_wire.specs.{Rules.{Rules}, Token.{number_of, Here, past, at_start, or_fault}, Layout.{Form, Form.{done, number, text, field, area, list, by_left, marked}}}
+use Rattle.std.specs.Prelude.{◌≡◌, ℕ, zero, suc, ◌-◌, Bool, List, [], ◌∷◌, ◌++◌, length, take, Option, Some, None}
+use Rattle.std.specs.Prelude.{Result, Ok, Err, ◌==◌, ◌&&◌, if◌then◌else◌}
+use Rattle.tpm_wire.specs.Rules.{Rules}
+use Rattle.tpm_wire.specs.Token.{number_of, Here, past, at_start, or_fault}
+use Rattle.tpm_wire.specs.Layout.Form.{done, number, text, field, area, list, by_left, marked}
+use Rattle.tpm_wire.specs.Layout.{Form}
 
 infixl 10 ◌>>=◌
 abbrev pub ◌>>=◌ : {A B E : Type 0} → Result A E → (A → Result B E) → Result B E

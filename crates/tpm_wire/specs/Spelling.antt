@@ -1,6 +1,9 @@
 -- The spelling of a value.
-use Rattle.std.specs.{Prelude.{◌≡◌, ℕ, zero, suc, ◌-◌, ◌<◌, ◌^◌, ◌⊎◌, Bool, true, List, [], ◌∷◌, ◌++◌, length, Some, Ok}, Int.{bytes_high_first}}
-use Rattle.tpm_wire.specs.{Rules.{Rules}, Layout.{Form, Form.{done, number, text, field, area, list, by_left, marked}}}
+use Rattle.std.specs.Prelude.{◌≡◌, ℕ, zero, suc, ◌-◌, ◌<◌, ◌^◌, ◌⊎◌, Bool, true, List, [], ◌∷◌, ◌++◌, length, Some, Ok}
+use Rattle.std.specs.Int.{bytes_high_first}
+use Rattle.tpm_wire.specs.Rules.{Rules}
+use Rattle.tpm_wire.specs.Layout.Form.{done, number, text, field, area, list, by_left, marked}
+use Rattle.tpm_wire.specs.Layout.{Form}
 
 -- the spellings of the entries, joined
 abbrev pub joined : {A : Type 0} → (List A → A → List ℕ) → List A → List A → List ℕ

@@ -1,7 +1,11 @@
 //! Counted lists: TPML structures (Part 2, 10.9).
 
-ghost use Rattle.std.specs.Prelude.{◌≡◌, ◌==◌, ◌+◌, ◌*◌, ◌≤◌, ◌<◌, ◌^◌, ◌⊎◌, [], ◌∷◌, ◌++◌, length, nat_le, ◌&&◌, IfOk, MatchOption};
-ghost use Rattle.tpm_wire.specs.{ResponseCodes.{rc_size}, Buffers.{number_in, Takes}, Spelling.{spelling, joined_all}, Structures.{counted}};
+ghost use Rattle.std.specs.Prelude.{◌≡◌, ◌==◌, ◌+◌, ◌*◌, ◌≤◌, ◌<◌, ◌^◌, ◌⊎◌, [], ◌∷◌, ◌++◌, length, nat_le, ◌&&◌, IfOk};
+ghost use Rattle.std.specs.Prelude.{MatchOption};
+ghost use Rattle.tpm_wire.specs.ResponseCodes.{rc_size};
+ghost use Rattle.tpm_wire.specs.Buffers.{number_in, Takes};
+ghost use Rattle.tpm_wire.specs.Spelling.{spelling, joined_all};
+ghost use Rattle.tpm_wire.specs.Structures.{counted};
 
 use crate::cursor::Cursor;
 use crate::duplicate::Duplicate;
@@ -27,7 +31,10 @@ impl<T: Wire + Default + Duplicate + Drop, const LEAST: usize, const MOST: usize
 
     ghost view = { λ c. c.entries.items };
 
-    ghost invariant = { λ c. (LEAST ≤ length c.entries.items) × (length c.entries.items ≤ MOST) × (length c.entries.items < 2 ^ 32) × (2 ^ 63 ≤ MOST * T.most → 4 + length (joined_all T.layout c.entries.items) < 2 ^ 64) };
+    ghost invariant = { λ c. (LEAST ≤ length c.entries.items)
+        × (length c.entries.items ≤ MOST)
+        × (length c.entries.items < 2 ^ 32)
+        × (2 ^ 63 ≤ MOST * T.most → 4 + length (joined_all T.layout c.entries.items) < 2 ^ 64) };
 }
 
 impl<T: Wire + Default + Duplicate + Drop, const LEAST: usize, const MOST: usize> Counted<
@@ -39,7 +46,10 @@ impl<T: Wire + Default + Duplicate + Drop, const LEAST: usize, const MOST: usize
     pub fn new(entries: &[T]) -> Option<Self>
         requires count { MOST ≤ 8 }
         requires short { T.most ≤ 4096 }
-        ensures { MatchOption result ((length entries.now < LEAST) ⊎ (MOST < length entries.now)) (λ c. (c ≡ entries.now) × (LEAST ≤ length entries.now) × (length entries.now ≤ MOST)) }
+        ensures { MatchOption result ((length entries.now < LEAST) ⊎ (MOST < length entries.now))
+            (λ c. (c ≡ entries.now)
+            × (LEAST ≤ length entries.now)
+            × (length entries.now ≤ MOST)) }
     {
         if entries.len() < LEAST || entries.len() > MOST {
             return None;

@@ -1,6 +1,8 @@
 //! Where bytes come from.
 
-ghost use Rattle.std.specs.{Prelude.{◌≡◌, ℕ, Bool, true, false, min, length, List, Option, Some, Ok, IfErr}, Io.{ReadsAtMost, KnownBytes.{ReadConsumes}}};
+ghost use Rattle.std.specs.Prelude.{◌≡◌, ℕ, Bool, true, false, min, length, List, Option, Some, Ok, IfErr};
+ghost use Rattle.std.specs.Io.KnownBytes.{ReadConsumes};
+ghost use Rattle.std.specs.Io.{ReadsAtMost};
 ghost use Rattle.tpm_wire.specs.Sources.{CountsFailures, IsWhereItFailed};
 
 use std::io::Read;

@@ -1,8 +1,11 @@
 -- The commands of context management (Part 3, 28).
 use Rattle.std.specs.Prelude.{ℕ, [], ◌∷◌, false, codes}
-use Rattle.tpm_wire.specs.{Buffers.{Layout, numbered}, ResponseCodes.{of_parameter}, Layout.Form.{done, field}}
+use Rattle.tpm_wire.specs.Buffers.{Layout, numbered}
+use Rattle.tpm_wire.specs.ResponseCodes.{of_parameter}
+use Rattle.tpm_wire.specs.Layout.Form.{done, field}
 use Rattle.tpm_types.specs.Handles.{session}
-use Rattle.tpm_commands.specs.{declared.command_parameters.Params.{Params}, Row.{Row, named}}
+use Rattle.tpm_commands.specs.declared.command_parameters.Params.{Params}
+use Rattle.tpm_commands.specs.Row.{Row, named}
 use Rattle.tpm_commands.specs.declared.command_parameters.Params.TheVariants as params
 use Rattle.tpm_commands.specs.declared.response.ReplyBody.TheVariants as replies
 

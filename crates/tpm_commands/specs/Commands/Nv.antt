@@ -1,8 +1,17 @@
 -- The commands of non-volatile storage (Part 3, 31).
 use Rattle.std.specs.Prelude.{ℕ, List, [], ◌∷◌, true, false, codes}
-use Rattle.tpm_wire.specs.{Buffers.{Layout, any_number, numbered}, ResponseCodes.{of_parameter}, Layout.Form.{done, field}, Structures.{sized_bytes}}
-use Rattle.tpm_types.specs.{declared.{alg.Alg.TheVariants.{Sha256}, tpms.NvPublic.{NvPublic}}, Tpm2b.{auth_value, name}, Tpms.{nv_public}}
-use Rattle.tpm_commands.specs.{declared.{command_handles.HandleKind.TheVariants.{Owner, Index, OwnerOrIndex}, command_parameters.Params.{Params}, response.ReplyBody.{ReplyBody}}, Row.{Row, named}}
+use Rattle.tpm_wire.specs.Buffers.{Layout, any_number, numbered}
+use Rattle.tpm_wire.specs.ResponseCodes.{of_parameter}
+use Rattle.tpm_wire.specs.Layout.Form.{done, field}
+use Rattle.tpm_wire.specs.Structures.{sized_bytes}
+use Rattle.tpm_types.specs.declared.alg.Alg.TheVariants.{Sha256}
+use Rattle.tpm_types.specs.declared.tpms.NvPublic.{NvPublic}
+use Rattle.tpm_types.specs.Tpm2b.{auth_value, name}
+use Rattle.tpm_types.specs.Tpms.{nv_public}
+use Rattle.tpm_commands.specs.declared.command_handles.HandleKind.TheVariants.{Owner, Index, OwnerOrIndex}
+use Rattle.tpm_commands.specs.declared.command_parameters.Params.{Params}
+use Rattle.tpm_commands.specs.declared.response.ReplyBody.{ReplyBody}
+use Rattle.tpm_commands.specs.Row.{Row, named}
 use Rattle.tpm_commands.specs.declared.command_parameters.Params.TheVariants as params
 use Rattle.tpm_commands.specs.declared.response.ReplyBody.TheVariants as replies
 

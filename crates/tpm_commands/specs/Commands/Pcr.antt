@@ -1,8 +1,17 @@
 -- The commands of the registers (Part 3, 22).
 use Rattle.std.specs.Prelude.{ℕ, List, [], ◌∷◌, true, false, codes}
-use Rattle.tpm_wire.specs.{Buffers.{Layout, any_number, numbered}, ResponseCodes.{of_parameter}, Layout.Form.{done, field}, Structures.{sized_bytes}}
-use Rattle.tpm_types.specs.{declared.{alg.Alg.{Alg}, tpms.Selection.{Selection}}, Tpml.{selections, digests, digest_values}}
-use Rattle.tpm_commands.specs.{declared.{command_handles.HandleKind.TheVariants.{Pcr, PcrOrNull}, command_parameters.Params.{Params}, response.ReplyBody.{ReplyBody}}, Events.{event_bytes}, Row.{Row, named}}
+use Rattle.tpm_wire.specs.Buffers.{Layout, any_number, numbered}
+use Rattle.tpm_wire.specs.ResponseCodes.{of_parameter}
+use Rattle.tpm_wire.specs.Layout.Form.{done, field}
+use Rattle.tpm_wire.specs.Structures.{sized_bytes}
+use Rattle.tpm_types.specs.declared.alg.Alg.{Alg}
+use Rattle.tpm_types.specs.declared.tpms.Selection.{Selection}
+use Rattle.tpm_types.specs.Tpml.{selections, digests, digest_values}
+use Rattle.tpm_commands.specs.declared.command_handles.HandleKind.TheVariants.{Pcr, PcrOrNull}
+use Rattle.tpm_commands.specs.declared.command_parameters.Params.{Params}
+use Rattle.tpm_commands.specs.declared.response.ReplyBody.{ReplyBody}
+use Rattle.tpm_commands.specs.Events.{event_bytes}
+use Rattle.tpm_commands.specs.Row.{Row, named}
 use Rattle.tpm_commands.specs.declared.command_parameters.Params.TheVariants as params
 use Rattle.tpm_commands.specs.declared.response.ReplyBody.TheVariants as replies
 

@@ -1,8 +1,15 @@
 -- The commands of policies (Part 3, 23).
 use Rattle.std.specs.Prelude.{ℕ, List, [], ◌∷◌, false, codes}
-use Rattle.tpm_wire.specs.{Buffers.{Layout, any_number, numbered}, ResponseCodes.{of_parameter}, Layout.Form.{done, field}}
-use Rattle.tpm_types.specs.{declared.tpms.Selection.{Selection}, Tpm2b.{digest}, Tpml.{selections, or_digests}}
-use Rattle.tpm_commands.specs.{declared.{command_handles.HandleKind.TheVariants.{Policy}, command_parameters.Params.{Params}, response.ReplyBody.{ReplyBody}}, Row.{Row, named}}
+use Rattle.tpm_wire.specs.Buffers.{Layout, any_number, numbered}
+use Rattle.tpm_wire.specs.ResponseCodes.{of_parameter}
+use Rattle.tpm_wire.specs.Layout.Form.{done, field}
+use Rattle.tpm_types.specs.declared.tpms.Selection.{Selection}
+use Rattle.tpm_types.specs.Tpm2b.{digest}
+use Rattle.tpm_types.specs.Tpml.{selections, or_digests}
+use Rattle.tpm_commands.specs.declared.command_handles.HandleKind.TheVariants.{Policy}
+use Rattle.tpm_commands.specs.declared.command_parameters.Params.{Params}
+use Rattle.tpm_commands.specs.declared.response.ReplyBody.{ReplyBody}
+use Rattle.tpm_commands.specs.Row.{Row, named}
 use Rattle.tpm_commands.specs.declared.command_parameters.Params.TheVariants as params
 use Rattle.tpm_commands.specs.declared.response.ReplyBody.TheVariants as replies
 

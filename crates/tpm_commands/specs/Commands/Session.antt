@@ -1,9 +1,24 @@
 -- The commands of sessions (Part 3, 11).
 use Rattle.std.specs.Prelude.{ℕ, List, [], ◌∷◌, false, codes, if◌then◌else◌}
-use Rattle.tpm_wire.specs.{Buffers.{Layout, numbered}, ResponseCodes.{of_handle, of_parameter}, Layout.Form.{done, field}}
-use Rattle.tpm_types.specs.{declared.{alg.Alg.{Alg, TheVariants.{Sha256}}, constants.SessionType.{SessionType, TheVariants.{Hmac}}, tpm2b.EncryptedSalt.TheVariants.{Empty}, tpmt.SymDef.{SymDef}}, Alg.{hash}, Constants.{session_type}, Handles.{session, is_session}, Tpm2b.{nonce, encrypted_salt}, Tpmt.{sym_def}}
+use Rattle.tpm_wire.specs.Buffers.{Layout, numbered}
+use Rattle.tpm_wire.specs.ResponseCodes.{of_handle, of_parameter}
+use Rattle.tpm_wire.specs.Layout.Form.{done, field}
+use Rattle.tpm_types.specs.declared.alg.Alg.TheVariants.{Sha256}
+use Rattle.tpm_types.specs.declared.alg.Alg.{Alg}
+use Rattle.tpm_types.specs.declared.constants.SessionType.TheVariants.{Hmac}
+use Rattle.tpm_types.specs.declared.constants.SessionType.{SessionType}
+use Rattle.tpm_types.specs.declared.tpm2b.EncryptedSalt.TheVariants.{Empty}
+use Rattle.tpm_types.specs.declared.tpmt.SymDef.{SymDef}
+use Rattle.tpm_types.specs.Alg.{hash}
+use Rattle.tpm_types.specs.Constants.{session_type}
+use Rattle.tpm_types.specs.Handles.{session, is_session}
+use Rattle.tpm_types.specs.Tpm2b.{nonce, encrypted_salt}
+use Rattle.tpm_types.specs.Tpmt.{sym_def}
 use Rattle.tpm_types.specs.declared.tpmt.SymDef.TheVariants as symmetrics
-use Rattle.tpm_commands.specs.{declared.{command_handles.HandleKind.TheVariants.{Null, OwnerOrNull, Policy}, command_parameters.Params.{Params}, response.ReplyBody.{ReplyBody}}, Row.{Row, Field, named, first}}
+use Rattle.tpm_commands.specs.declared.command_handles.HandleKind.TheVariants.{Null, OwnerOrNull, Policy}
+use Rattle.tpm_commands.specs.declared.command_parameters.Params.{Params}
+use Rattle.tpm_commands.specs.declared.response.ReplyBody.{ReplyBody}
+use Rattle.tpm_commands.specs.Row.{Row, Field, named, first}
 use Rattle.tpm_commands.specs.declared.command_parameters.Params.TheVariants as params
 use Rattle.tpm_commands.specs.declared.response.ReplyBody.TheVariants as replies
 

@@ -1,8 +1,13 @@
 -- The commands of start-up (Part 3, 9).
 use Rattle.std.specs.Prelude.{[], ◌∷◌, false, codes}
-use Rattle.tpm_wire.specs.{Buffers.{Layout, numbered}, ResponseCodes.{of_parameter}, Layout.Form.{done, field}}
-use Rattle.tpm_types.specs.{declared.constants.StartupType.{StartupType, TheVariants.{Clear}}, Constants.{startup_type}}
-use Rattle.tpm_commands.specs.{declared.command_parameters.Params.{Params}, Row.{Row, named}}
+use Rattle.tpm_wire.specs.Buffers.{Layout, numbered}
+use Rattle.tpm_wire.specs.ResponseCodes.{of_parameter}
+use Rattle.tpm_wire.specs.Layout.Form.{done, field}
+use Rattle.tpm_types.specs.declared.constants.StartupType.TheVariants.{Clear}
+use Rattle.tpm_types.specs.declared.constants.StartupType.{StartupType}
+use Rattle.tpm_types.specs.Constants.{startup_type}
+use Rattle.tpm_commands.specs.declared.command_parameters.Params.{Params}
+use Rattle.tpm_commands.specs.Row.{Row, named}
 use Rattle.tpm_commands.specs.declared.command_parameters.Params.TheVariants as params
 use Rattle.tpm_commands.specs.declared.response.ReplyBody.TheVariants as replies
 

@@ -1,11 +1,13 @@
 //! The commands of non-volatile storage (Part 3, 31).
 
 ghost use Rattle.std.specs.Prelude.{◌≡◌, ◌≤◌, ◌+◌, ◌++◌, length, ℕ, None, OnOk};
-ghost use Rattle.tpm_wire.specs.{Spelling.{spelling, Fits}, Buffers.{TakesNumbered}};
+ghost use Rattle.tpm_wire.specs.Spelling.{spelling, Fits};
+ghost use Rattle.tpm_wire.specs.Buffers.{TakesNumbered};
 ghost use Rattle.tpm_commands.specs.declared.code.CommandCode.TheVariants as codes;
 ghost use Rattle.tpm_commands.specs.declared.command_parameters.Params.TheVariants as params;
 ghost use Rattle.tpm_commands.specs.declared.response.ReplyBody.TheVariants as replies;
-ghost use Rattle.tpm_commands.specs.{Parameters.{nv_define_space, nv_read}, Replies.{nv_read_reply, nv_read_public_reply, IsReplyTo}};
+ghost use Rattle.tpm_commands.specs.Parameters.{nv_define_space, nv_read};
+ghost use Rattle.tpm_commands.specs.Replies.{nv_read_reply, nv_read_public_reply, IsReplyTo};
 
 use crate::command_handles::HandleKind;
 use crate::commands::Row;

@@ -1,11 +1,13 @@
 //! The commands of the registers (Part 3, 22).
 
 ghost use Rattle.std.specs.Prelude.{◌≡◌, ◌≤◌, ◌+◌, ◌++◌, length, ℕ, None, IfOk, OnOk};
-ghost use Rattle.tpm_wire.specs.{Spelling.{spelling, Fits}, Buffers.{TakesNumbered}};
+ghost use Rattle.tpm_wire.specs.Spelling.{spelling, Fits};
+ghost use Rattle.tpm_wire.specs.Buffers.{TakesNumbered};
 ghost use Rattle.tpm_commands.specs.declared.code.CommandCode.TheVariants as codes;
 ghost use Rattle.tpm_commands.specs.declared.command_parameters.Params.TheVariants as params;
 ghost use Rattle.tpm_commands.specs.declared.response.ReplyBody.TheVariants as replies;
-ghost use Rattle.tpm_commands.specs.{Parameters.{pcr_event, pcr_read, pcr_extend}, Replies.{code_for_reply, pcr_event_reply, pcr_read_reply, IsReplyTo}};
+ghost use Rattle.tpm_commands.specs.Parameters.{pcr_event, pcr_read, pcr_extend};
+ghost use Rattle.tpm_commands.specs.Replies.{code_for_reply, pcr_event_reply, pcr_read_reply, IsReplyTo};
 
 use crate::command_handles::HandleKind;
 use crate::commands::Row;

@@ -1,11 +1,13 @@
 //! The commands of policies (Part 3, 23).
 
 ghost use Rattle.std.specs.Prelude.{◌≡◌, ◌≤◌, ◌+◌, ◌++◌, length, ℕ, None, OnOk};
-ghost use Rattle.tpm_wire.specs.{Spelling.{spelling, Fits}, Buffers.{TakesNumbered}};
+ghost use Rattle.tpm_wire.specs.Spelling.{spelling, Fits};
+ghost use Rattle.tpm_wire.specs.Buffers.{TakesNumbered};
 ghost use Rattle.tpm_commands.specs.declared.code.CommandCode.TheVariants as codes;
 ghost use Rattle.tpm_commands.specs.declared.command_parameters.Params.TheVariants as params;
 ghost use Rattle.tpm_commands.specs.declared.response.ReplyBody.TheVariants as replies;
-ghost use Rattle.tpm_commands.specs.{Parameters.{policy_command_code, policy_or, policy_pcr}, Replies.{policy_get_digest_reply, IsReplyTo}};
+ghost use Rattle.tpm_commands.specs.Parameters.{policy_command_code, policy_or, policy_pcr};
+ghost use Rattle.tpm_commands.specs.Replies.{policy_get_digest_reply, IsReplyTo};
 
 use crate::command_handles::HandleKind;
 use crate::commands::Row;

@@ -1,11 +1,13 @@
 //! The commands of sessions (Part 3, 11).
 
 ghost use Rattle.std.specs.Prelude.{◌≡◌, ◌≤◌, ◌+◌, ◌∷◌, ◌++◌, [], length, ℕ, Some, IfOk, OnOk};
-ghost use Rattle.tpm_wire.specs.{Spelling.{spelling, Fits}, Buffers.{TakesNumbered}};
+ghost use Rattle.tpm_wire.specs.Spelling.{spelling, Fits};
+ghost use Rattle.tpm_wire.specs.Buffers.{TakesNumbered};
 ghost use Rattle.tpm_commands.specs.declared.code.CommandCode.TheVariants as codes;
 ghost use Rattle.tpm_commands.specs.declared.command_parameters.Params.TheVariants as params;
 ghost use Rattle.tpm_commands.specs.declared.response.ReplyBody.TheVariants as replies;
-ghost use Rattle.tpm_commands.specs.{Parameters.{start_auth_session}, Replies.{session_handle, start_auth_session_reply, IsReplyTo}};
+ghost use Rattle.tpm_commands.specs.Parameters.{start_auth_session};
+ghost use Rattle.tpm_commands.specs.Replies.{session_handle, start_auth_session_reply, IsReplyTo};
 
 use crate::command::StartAuth;
 use crate::command_handles::HandleKind;

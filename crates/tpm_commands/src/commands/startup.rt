@@ -1,7 +1,8 @@
 //! The command of start-up (Part 3, 9).
 
 ghost use Rattle.std.specs.Prelude.{◌≡◌, ◌≤◌, ◌+◌, ◌++◌, length, ℕ, OnOk};
-ghost use Rattle.tpm_wire.specs.{Spelling.{spelling, Fits}, Buffers.{TakesNumbered}};
+ghost use Rattle.tpm_wire.specs.Spelling.{spelling, Fits};
+ghost use Rattle.tpm_wire.specs.Buffers.{TakesNumbered};
 ghost use Rattle.tpm_commands.specs.declared.command_parameters.Params.TheVariants as params;
 ghost use Rattle.tpm_commands.specs.Parameters.{startup};
 

@@ -1,4 +1,7 @@
-use Rattle.std.{proofs.{Common.{rules, tests, lit<, ◌&&◌}, lemmas.Iterator.{Search.{all_from_yields_List}, Splits.{YieldsList-from_str_split}}}, specs.Str.Parse.{digits_value}}
+use Rattle.std.proofs.Common.{rules, tests, lit<, ◌&&◌}
+use Rattle.std.proofs.lemmas.Iterator.Search.{all_from_yields_List}
+use Rattle.std.proofs.lemmas.Iterator.Splits.{YieldsList-from_str_split}
+use Rattle.std.specs.Str.Parse.{digits_value}
 use Rattle.tpm_types.specs.Handles.{is_pcr}
 use Rattle.tpm_arg_values.specs.Selections.{is_numeral}
 use Rattle.tpm_arg_values.proofs.selection.are_registers.Goals as goal

@@ -1,4 +1,6 @@
-use Rattle.std.{proofs.{Common.{◌==◌, arith}, lemmas.Bool.Decides.{nat_tests}}, specs.Str.Parse.{digits_value}}
+use Rattle.std.proofs.Common.{◌==◌, arith}
+use Rattle.std.proofs.lemmas.Bool.Decides.{nat_tests}
+use Rattle.std.specs.Str.Parse.{digits_value}
 use Rattle.tpm_arg_values.proofs.Numerals.{tested, not_tested}
 use Rattle.tpm_arg_values.proofs.selection.is_number.Goals as goal
 

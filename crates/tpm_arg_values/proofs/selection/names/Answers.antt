@@ -1,4 +1,6 @@
-use Rattle.std.proofs.{Common.{rules, tests, lit<}, lemmas.Iterator.{Search.{any_from_yields_List}, Splits.{YieldsList-from_str_split}}}
+use Rattle.std.proofs.Common.{rules, tests, lit<}
+use Rattle.std.proofs.lemmas.Iterator.Search.{any_from_yields_List}
+use Rattle.std.proofs.lemmas.Iterator.Splits.{YieldsList-from_str_split}
 use Rattle.tpm_arg_values.specs.Selections.{part_names}
 use Rattle.tpm_arg_values.proofs.selection.names.Goals as goal
 

@@ -1,5 +1,7 @@
 use Rattle.std.proofs.Common.{ℕ, Bool, ◌+◌, sym, ◌∙◌, arith}
-use Rattle.tpm_arg_values.{specs.Selections.{names}, proofs.{Bits.{below_set, below_clear, above_set}, selection.selected.Goals.{then-names, else-names}}}
+use Rattle.tpm_arg_values.specs.Selections.{names}
+use Rattle.tpm_arg_values.proofs.Bits.{below_set, below_clear, above_set}
+use Rattle.tpm_arg_values.proofs.selection.selected.Goals.{then-names, else-names}
 use Rattle.tpm_arg_values.proofs.selection.selected.Goals as goal
 
 pub loop-bit-preserved : goal.loop-bit-preserved

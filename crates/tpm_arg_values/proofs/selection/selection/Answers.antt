@@ -1,4 +1,5 @@
-use Rattle.tpm_arg_values.{specs.Selections.{names}, proofs.Bits.{in_bytes}}
+use Rattle.tpm_arg_values.specs.Selections.{names}
+use Rattle.tpm_arg_values.proofs.Bits.{in_bytes}
 use Rattle.tpm_arg_values.proofs.selection.selection.Goals as goal
 
 pub returns-clause-select : goal.returns-clause-select

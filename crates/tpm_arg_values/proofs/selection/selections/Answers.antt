@@ -1,4 +1,7 @@
-use Rattle.std.{proofs.{Common.{◌≡◌, true, refl, rules, tests, lit<}, lemmas.Iterator.{Search.{all_from_yields_List}, Splits.{YieldsList-from_str_split}}}, specs.List.{list_all}}
+use Rattle.std.proofs.Common.{◌≡◌, true, refl, rules, tests, lit<}
+use Rattle.std.proofs.lemmas.Iterator.Search.{all_from_yields_List}
+use Rattle.std.proofs.lemmas.Iterator.Splits.{YieldsList-from_str_split}
+use Rattle.std.specs.List.{list_all}
 use Rattle.tpm_arg_values.specs.Selections.{is_part, parts}
 use Rattle.tpm_arg_values.proofs.selection.selections.Goals as goal
 

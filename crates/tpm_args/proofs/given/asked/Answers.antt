@@ -1,5 +1,7 @@
 use Rattle.std.proofs.Common.{rules, ◌≡◌, List, Some, option_map}
-use Rattle.clap.specs.{Matches.{subcommand_name_of, found_of}, Walk.{Row, Text, rows_of}, Simple.{subcommand_rows_of}}
+use Rattle.clap.specs.Matches.{subcommand_name_of, found_of}
+use Rattle.clap.specs.Walk.{Row, Text, rows_of}
+use Rattle.clap.specs.Simple.{subcommand_rows_of}
 use Rattle.tpm_args.proofs.Found.{asks, asks_nothing, result_then}
 use Rattle.tpm_args.proofs.given.asked.Goals as goal
 

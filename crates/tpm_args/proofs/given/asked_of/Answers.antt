@@ -1,4 +1,5 @@
-use Rattle.std.proofs.{Common.{rules, ◌≡◌, codes}, lemmas.Result.{err_from_is_err_and}}
+use Rattle.std.proofs.Common.{rules, ◌≡◌, codes}
+use Rattle.std.proofs.lemmas.Result.{err_from_is_err_and}
 use Rattle.tpm_args.proofs.given.asked_of.Goals as goal
 
 pub returns-in_err-run_task-in-run : goal.returns-in_err-run_task-in-run

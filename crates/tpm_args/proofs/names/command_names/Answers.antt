@@ -1,4 +1,7 @@
-use Rattle.std.{proofs.{Common.{rules, ℕ, List}, lemmas.Iterator.{YieldsList-from_map_by, YieldsList-from_slice, Consumers.{map_from_collect}}}, specs.Borrow.{Bor}}
+use Rattle.std.proofs.Common.{rules, ℕ, List}
+use Rattle.std.proofs.lemmas.Iterator.Consumers.{map_from_collect}
+use Rattle.std.proofs.lemmas.Iterator.{YieldsList-from_map_by, YieldsList-from_slice}
+use Rattle.std.specs.Borrow.{Bor}
 use Rattle.tpm_commands.specs.Codes.{all_commands, code_name}
 use Rattle.tpm_args.proofs.names.command_names.Goals as goal
 

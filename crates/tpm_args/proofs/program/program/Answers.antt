@@ -1,6 +1,10 @@
 use Rattle.std.proofs.lemmas.Result.{IfOk-weaker}
-use Rattle.clap.specs.{Built.{AddsSubcommand}, Simple.{App, with_subcommand}, declared.builder.value_parser.ValueParser.TheVariants.{Names}}
-use Rattle.tpm_args.{specs.Program.{show_app, build_app, run_app, explain_app, check_app, events_app, above_subcommands, program_app, IsApp}, proofs.Adds.{adds}}
+use Rattle.clap.specs.Built.{AddsSubcommand}
+use Rattle.clap.specs.Simple.{App, with_subcommand}
+use Rattle.clap.specs.declared.builder.value_parser.ValueParser.TheVariants.{Names}
+use Rattle.tpm_args.specs.Program.{show_app, build_app, run_app, explain_app, check_app, events_app, above_subcommands}
+use Rattle.tpm_args.specs.Program.{program_app, IsApp}
+use Rattle.tpm_args.proofs.Adds.{adds}
 use Rattle.tpm_args.proofs.program.program.Goals as goal
 
 pub returns : goal.returns

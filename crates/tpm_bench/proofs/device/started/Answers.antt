@@ -1,5 +1,6 @@
 use Rattle.std.proofs.Common.{[]}
-use Rattle.tpm_model.specs.{Steps.{Origin}, Answers.{next}}
+use Rattle.tpm_model.specs.Steps.{Origin}
+use Rattle.tpm_model.specs.Answers.{next}
 use Rattle.tpm_bench.proofs.device.started.Goals as goal
 
 pub returns : goal.returns

@@ -1,5 +1,7 @@
 use Rattle.std.proofs.Common.{ℕ, List, [], sym, subst, ◌∙◌, arith}
-use Rattle.tpm_stream.{specs.Frames.{IsFrame, IsStatus}, proofs.{Framed.{short_part}, Streamed.{broken_begins}}}
+use Rattle.tpm_stream.specs.Frames.{IsFrame, IsStatus}
+use Rattle.tpm_stream.proofs.Framed.{short_part}
+use Rattle.tpm_stream.proofs.Streamed.{broken_begins}
 use Rattle.tpm_bench.proofs.Came.{Came, pushes, frame, over}
 use Rattle.tpm_bench.proofs.streams.tpm_bench_push_frames.Goals as goal
 

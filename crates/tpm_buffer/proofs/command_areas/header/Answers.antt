@@ -1,5 +1,6 @@
 use Rattle.tpm_wire.proofs.Cuts.{cut_decodes}
-use Rattle.tpm_buffer.specs.{Commands.{header}, CommandAreas.{head_and_rest}}
+use Rattle.tpm_buffer.specs.Commands.{header}
+use Rattle.tpm_buffer.specs.CommandAreas.{head_and_rest}
 use Rattle.tpm_buffer.proofs.command_areas.header.Goals as goal
 
 pub returns-clause-decodes : goal.returns-clause-decodes

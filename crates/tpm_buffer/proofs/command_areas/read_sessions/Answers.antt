@@ -1,7 +1,10 @@
 use Rattle.std.proofs.Common.{refl, ap, ◌∙◌, arith}
 use Rattle.tpm_wire.specs.Token.{Here}
 use Rattle.tpm_commands.proofs.Short.{ok}
-use Rattle.tpm_buffer.{specs.{Commands.{authorization}, CommandAreas.{sessions_at}}, proofs.{Places.{stands_behind}, Sessions.{place_is}}}
+use Rattle.tpm_buffer.specs.Commands.{authorization}
+use Rattle.tpm_buffer.specs.CommandAreas.{sessions_at}
+use Rattle.tpm_buffer.proofs.Places.{stands_behind}
+use Rattle.tpm_buffer.proofs.Sessions.{place_is}
 use Rattle.tpm_buffer.proofs.command_areas.read_sessions.Goals as goal
 
 pub invariant_of-result : goal.invariant_of-result

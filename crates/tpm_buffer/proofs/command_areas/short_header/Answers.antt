@@ -1,4 +1,5 @@
-use Rattle.tpm_buffer.{specs.Commands.{header}, proofs.Places.{stands_new, stands_behind}}
+use Rattle.tpm_buffer.specs.Commands.{header}
+use Rattle.tpm_buffer.proofs.Places.{stands_new, stands_behind}
 use Rattle.tpm_buffer.proofs.command_areas.short_header.Goals as goal
 
 pub invariant_of-result : goal.invariant_of-result

@@ -1,8 +1,17 @@
-use Rattle.std.proofs.{Common.{◌≡◌, ◌++◌, List, ℕ, length, Ok, sym, ap, ◌∙◌, arith}, lemmas.List.{length-map}}
-use Rattle.tpm_wire.specs.{Token.{Here, at_start}, Reading.{read}, Spelling.{spelling}, Buffers.{Place}}
+use Rattle.std.proofs.Common.{◌≡◌, ◌++◌, List, ℕ, length, Ok, sym, ap, ◌∙◌, arith}
+use Rattle.std.proofs.lemmas.List.{length-map}
+use Rattle.tpm_wire.specs.Token.{Here, at_start}
+use Rattle.tpm_wire.specs.Reading.{read}
+use Rattle.tpm_wire.specs.Spelling.{spelling}
+use Rattle.tpm_wire.specs.Buffers.{Place}
 use Rattle.tpm_types.specs.declared.tpms.Auth.{Auth}
-use Rattle.tpm_commands.specs.{declared.command.Header.{Header}, Handles.{handles}}
-use Rattle.tpm_buffer.{specs.{Commands.{header, authorization}, ResponseAreas.{Stands}, CommandAreas.{session_at, sessions_at}}, proofs.{Places.{stands_new, stands_behind}, Sessions.{place_is}}}
+use Rattle.tpm_commands.specs.declared.command.Header.{Header}
+use Rattle.tpm_commands.specs.Handles.{handles}
+use Rattle.tpm_buffer.specs.Commands.{header, authorization}
+use Rattle.tpm_buffer.specs.ResponseAreas.{Stands}
+use Rattle.tpm_buffer.specs.CommandAreas.{session_at, sessions_at}
+use Rattle.tpm_buffer.proofs.Places.{stands_new, stands_behind}
+use Rattle.tpm_buffer.proofs.Sessions.{place_is}
 use Rattle.tpm_buffer.proofs.command_areas.take_areas.Goals as goal
 
 -- the place behind the header and the handles

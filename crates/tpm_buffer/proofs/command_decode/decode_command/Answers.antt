@@ -1,4 +1,6 @@
-use Rattle.tpm_wire.{specs.Buffers.{buffer}, proofs.{Buffers.{buffer_sound}, Whole.{answers_value, answers_fault}}}
+use Rattle.tpm_wire.specs.Buffers.{buffer}
+use Rattle.tpm_wire.proofs.Buffers.{buffer_sound}
+use Rattle.tpm_wire.proofs.Whole.{answers_value, answers_fault}
 use Rattle.tpm_buffer.specs.Commands.{command}
 use Rattle.tpm_buffer.proofs.command_decode.decode_command.Goals as goal
 

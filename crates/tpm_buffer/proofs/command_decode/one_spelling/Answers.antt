@@ -1,5 +1,12 @@
-use Rattle.std.{proofs.Common.{◌≡◌, List, ℕ, Result, subst, sym, ◌∙◌}, specs.Prelude.{IfOk}}
-use Rattle.tpm_wire.{specs.{declared.refusal.Refusal.{Refusal}, Spelling.{spelling}, Reading.{read_all}, Buffers.{buffer}, Path.{Spells}}, proofs.{Buffers.{buffer_sound}, Whole.{spells_read}}}
+use Rattle.std.proofs.Common.{◌≡◌, List, ℕ, Result, subst, sym, ◌∙◌}
+use Rattle.std.specs.Prelude.{IfOk}
+use Rattle.tpm_wire.specs.declared.refusal.Refusal.{Refusal}
+use Rattle.tpm_wire.specs.Spelling.{spelling}
+use Rattle.tpm_wire.specs.Reading.{read_all}
+use Rattle.tpm_wire.specs.Buffers.{buffer}
+use Rattle.tpm_wire.specs.Path.{Spells}
+use Rattle.tpm_wire.proofs.Buffers.{buffer_sound}
+use Rattle.tpm_wire.proofs.Whole.{spells_read}
 use Rattle.tpm_commands.specs.declared.command.Command.{Command}
 use Rattle.tpm_buffer.specs.Commands.{command}
 use Rattle.tpm_buffer.proofs.command_decode.one_spelling.Goals as goal

@@ -1,7 +1,17 @@
-use Rattle.std.proofs.{Common.{◌≡◌, ◌++◌, [], List, ℕ, Ok, Err, length, true, false, eqb, sym, ap, ◌∙◌, arith}, lemmas.{Bool.{ne_eqb, eq-eqb}, List.{append-nil, nil_from_length}, Result.{err_from_is_err_and}}}
-use Rattle.tpm_wire.specs.{Token.{at_start}, Reading.{read}, Spelling.{spelling}, Buffers.{Place}}
-use Rattle.tpm_commands.specs.{Handles.{handles}, Parameters.{parameters}}
-use Rattle.tpm_buffer.{specs.{Commands.{header, authorization, body_from, params_of, before_params}, CommandAreas.{Cut, checked, cut_of}}, proofs.{Canonical.{canonical}, Staged.{areas_fault, params_fault, left_over, command_is}}}
+use Rattle.std.proofs.Common.{◌≡◌, ◌++◌, [], List, ℕ, Ok, Err, length, true, false, eqb, sym, ap, ◌∙◌, arith}
+use Rattle.std.proofs.lemmas.Bool.{ne_eqb, eq-eqb}
+use Rattle.std.proofs.lemmas.List.{append-nil, nil_from_length}
+use Rattle.std.proofs.lemmas.Result.{err_from_is_err_and}
+use Rattle.tpm_wire.specs.Token.{at_start}
+use Rattle.tpm_wire.specs.Reading.{read}
+use Rattle.tpm_wire.specs.Spelling.{spelling}
+use Rattle.tpm_wire.specs.Buffers.{Place}
+use Rattle.tpm_commands.specs.Handles.{handles}
+use Rattle.tpm_commands.specs.Parameters.{parameters}
+use Rattle.tpm_buffer.specs.Commands.{header, authorization, body_from, params_of, before_params}
+use Rattle.tpm_buffer.specs.CommandAreas.{Cut, checked, cut_of}
+use Rattle.tpm_buffer.proofs.Canonical.{canonical}
+use Rattle.tpm_buffer.proofs.Staged.{areas_fault, params_fault, left_over, command_is}
 use Rattle.tpm_buffer.proofs.command_decode.read_command.Goals as goal
 
 pub returns-in_err-header-clause-reads : goal.returns-in_err-header-clause-reads

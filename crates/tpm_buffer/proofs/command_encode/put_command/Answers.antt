@@ -1,7 +1,9 @@
 use Rattle.std.proofs.Common.{arith, ◌≤◌, ℕ, List, All, subst, sym, ap, length, rules}
 use Rattle.tpm_wire.specs.Spelling.{spelling, Fits, IsSpelled}
-use Rattle.tpm_types.specs.{declared.tpms.Auth.{Auth}, Tpms.{auth_command}}
-use Rattle.tpm_buffer.{specs.Commands.{rest_of, code_for, tag_of, command}, proofs.Spelled.{encoded, fits_command, fits_rest}}
+use Rattle.tpm_types.specs.declared.tpms.Auth.{Auth}
+use Rattle.tpm_types.specs.Tpms.{auth_command}
+use Rattle.tpm_buffer.specs.Commands.{rest_of, code_for, tag_of, command}
+use Rattle.tpm_buffer.proofs.Spelled.{encoded, fits_command, fits_rest}
 use Rattle.tpm_buffer.proofs.command_encode.put_command.Goals as goal
 
 pub returns-clause-fits : goal.returns-clause-fits

@@ -1,5 +1,10 @@
-use Rattle.std.proofs.{Common.{sym, ap, ◌∙◌, ◌++◌, ◌∷◌, [], ◌≡◌, ◌+◌, length, true, false, arith, eqb, length-append}, lemmas.Bool.{ne_eqb}}
-use Rattle.tpm_wire.{specs.{ResponseCodes.{of_session}, Spelling.{spelling}, Reading.{read}, Buffers.{Place}}, proofs.Loop.{at_place, goes_on, joined_push, written_last}}
+use Rattle.std.proofs.Common.{sym, ap, ◌∙◌, ◌++◌, ◌∷◌, [], ◌≡◌, ◌+◌, length, true, false, arith, eqb, length-append}
+use Rattle.std.proofs.lemmas.Bool.{ne_eqb}
+use Rattle.tpm_wire.specs.ResponseCodes.{of_session}
+use Rattle.tpm_wire.specs.Spelling.{spelling}
+use Rattle.tpm_wire.specs.Reading.{read}
+use Rattle.tpm_wire.specs.Buffers.{Place}
+use Rattle.tpm_wire.proofs.Loop.{at_place, goes_on, joined_push, written_last}
 use Rattle.tpm_types.specs.Tpms.{auth_command}
 use Rattle.tpm_buffer.proofs.command_sessions.read_sessions.Goals as goal
 

@@ -1,7 +1,21 @@
-use Rattle.std.proofs.{Common.{◌≡◌, ◌∙◌, ◌++◌, ◌∷◌, [], ◌+◌, ap, sym, length, true, false, arith, inl, inr, eqb, ℕ, length-append}, lemmas.{Bool.{ne_eqb, eq-eqb}, List.{length-map, Elements.{All-push}}, Result.{err_from_is_err_and}}}
-use Rattle.tpm_wire.{specs.{ResponseCodes.{of_session}, Spelling.{spelling}, Reading.{read}, Buffers.{Place}}, proofs.Loop.{at_place, goes_on, ends, is_done, joined_push}}
+use Rattle.std.proofs.Common.{◌≡◌, ◌∙◌, ◌++◌, ◌∷◌, [], ◌+◌, ap, sym, length, true, false, arith, inl, inr, eqb, ℕ}
+use Rattle.std.proofs.Common.{length-append}
+use Rattle.std.proofs.lemmas.Bool.{ne_eqb, eq-eqb}
+use Rattle.std.proofs.lemmas.List.Elements.{All-push}
+use Rattle.std.proofs.lemmas.List.{length-map}
+use Rattle.std.proofs.lemmas.Result.{err_from_is_err_and}
+use Rattle.tpm_wire.specs.ResponseCodes.{of_session}
+use Rattle.tpm_wire.specs.Spelling.{spelling}
+use Rattle.tpm_wire.specs.Reading.{read}
+use Rattle.tpm_wire.specs.Buffers.{Place}
+use Rattle.tpm_wire.proofs.Loop.{at_place, goes_on, ends, is_done, joined_push}
 use Rattle.tpm_types.specs.Tpms.{auth_command}
-use Rattle.tpm_buffer.{specs.{Commands.{sessions}, CommandAreas.{IsSession, session_at, sessions_at}}, proofs.{Places.{one_more}, Sessions.{step}, command_sessions.take_sessions.Goals.{then-loop-positions-test+else-len-lt3, else-loop-positions-test}}}
+use Rattle.tpm_buffer.specs.Commands.{sessions}
+use Rattle.tpm_buffer.specs.CommandAreas.{IsSession, session_at, sessions_at}
+use Rattle.tpm_buffer.proofs.Places.{one_more}
+use Rattle.tpm_buffer.proofs.Sessions.{step}
+use Rattle.tpm_buffer.proofs.command_sessions.take_sessions.Goals.{then-loop-positions-test+else-len-lt3}
+use Rattle.tpm_buffer.proofs.command_sessions.take_sessions.Goals.{else-loop-positions-test}
 use Rattle.tpm_buffer.proofs.command_sessions.take_sessions.Goals as goal
 
 pub loop-positions-preserved : goal.loop-positions-preserved

@@ -1,5 +1,8 @@
-use Rattle.std.{proofs.Common.{◌≡◌, ◌++◌, ◌+◌, ◌-◌, ◌≤◌, length, true, []}, specs.List.{All}}
-use Rattle.tpm_wire.specs.{ResponseCodes.{of_session}, Reading.{read, entries}, Spelling.{joined_all}}
+use Rattle.std.proofs.Common.{◌≡◌, ◌++◌, ◌+◌, ◌-◌, ◌≤◌, length, true, []}
+use Rattle.std.specs.List.{All}
+use Rattle.tpm_wire.specs.ResponseCodes.{of_session}
+use Rattle.tpm_wire.specs.Reading.{read, entries}
+use Rattle.tpm_wire.specs.Spelling.{joined_all}
 use Rattle.tpm_types.specs.Tpms.{auth_command}
 use Rattle.tpm_buffer.specs.CommandAreas.{LiesIn, IsSession, sessions_at}
 use Rattle.tpm_buffer.proofs.command_sessions.take_sessions.Given as goal

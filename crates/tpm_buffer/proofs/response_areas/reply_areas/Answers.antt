@@ -1,4 +1,6 @@
-use Rattle.tpm_wire.{specs.Buffers.{buffer}, proofs.{Buffers.{buffer_sound}, Whole.{answers_value, answers_fault}}}
+use Rattle.tpm_wire.specs.Buffers.{buffer}
+use Rattle.tpm_wire.proofs.Buffers.{buffer_sound}
+use Rattle.tpm_wire.proofs.Whole.{answers_value, answers_fault}
 use Rattle.tpm_buffer.specs.Responses.{reply_cut}
 use Rattle.tpm_buffer.proofs.response_areas.reply_areas.Goals as goal
 

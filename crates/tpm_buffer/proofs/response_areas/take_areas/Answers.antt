@@ -1,6 +1,8 @@
 use Rattle.std.proofs.Common.{length, ap, arith, sym, subst}
 use Rattle.tpm_wire.specs.Token.{Here}
-use Rattle.tpm_buffer.{specs.{Responses.{response_front, response_code}, ResponseAreas.{Stands}}, proofs.Places.{stands_first, stands_behind}}
+use Rattle.tpm_buffer.specs.Responses.{response_front, response_code}
+use Rattle.tpm_buffer.specs.ResponseAreas.{Stands}
+use Rattle.tpm_buffer.proofs.Places.{stands_first, stands_behind}
 use Rattle.tpm_buffer.proofs.response_areas.take_areas.Goals as goal
 
 pub take_behind_code-requires-clause-stands : goal.take_behind_code-requires-clause-stands

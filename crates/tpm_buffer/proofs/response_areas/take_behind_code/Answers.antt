@@ -1,6 +1,8 @@
 use Rattle.std.proofs.Common.{◌≡◌, ◌+◌, ◌*◌, length, arith, rules}
 use Rattle.tpm_commands.specs.Replies.{reply_handles, handle_list}
-use Rattle.tpm_buffer.{specs.{Responses.{raw_without_sessions}, ResponseAreas.{Stands}}, proofs.Places.{stands_behind}}
+use Rattle.tpm_buffer.specs.Responses.{raw_without_sessions}
+use Rattle.tpm_buffer.specs.ResponseAreas.{Stands}
+use Rattle.tpm_buffer.proofs.Places.{stands_behind}
 use Rattle.tpm_buffer.proofs.response_areas.take_behind_code.Goals as goal
 
 pub take_with_sessions-requires-clause-stands : goal.take_with_sessions-requires-clause-stands

@@ -1,6 +1,12 @@
-use Rattle.std.proofs.{Common.{◌≡◌, ◌+◌, ◌<◌, length, take, drop, ap, sym, ◌∙◌, refl, arith}, lemmas.List.{length-map}}
-use Rattle.tpm_wire.{specs.{Buffers.{Place}, Layout.{raw}}, proofs.Loop.{at_place}}
-use Rattle.tpm_buffer.{specs.{Responses.{parameter_size, raw_with_sessions}, ResponseAreas.{Stands, session_at, sessions_at}}, proofs.{Places.{any_mark, stands_behind, raw_is}, ReadSessions.{place_before_sessions, has_params}}}
+use Rattle.std.proofs.Common.{◌≡◌, ◌+◌, ◌<◌, length, take, drop, ap, sym, ◌∙◌, refl, arith}
+use Rattle.std.proofs.lemmas.List.{length-map}
+use Rattle.tpm_wire.specs.Buffers.{Place}
+use Rattle.tpm_wire.specs.Layout.{raw}
+use Rattle.tpm_wire.proofs.Loop.{at_place}
+use Rattle.tpm_buffer.specs.Responses.{parameter_size, raw_with_sessions}
+use Rattle.tpm_buffer.specs.ResponseAreas.{Stands, session_at, sessions_at}
+use Rattle.tpm_buffer.proofs.Places.{any_mark, stands_behind, raw_is}
+use Rattle.tpm_buffer.proofs.ReadSessions.{place_before_sessions, has_params}
 use Rattle.tpm_commands.specs.Replies.{handle_list}
 use Rattle.tpm_buffer.proofs.response_areas.take_with_sessions.Goals as goal
 

@@ -1,4 +1,5 @@
-use Rattle.std.proofs.{Common.{arith, sym, ◌∙◌}, lemmas.Bool.{eqb-true}}
+use Rattle.std.proofs.Common.{arith, sym, ◌∙◌}
+use Rattle.std.proofs.lemmas.Bool.{eqb-true}
 use Rattle.tpm_commands.specs.Replies.{parameters_of_reply}
 use Rattle.tpm_buffer.proofs.Answered.{fits_behind}
 use Rattle.tpm_buffer.proofs.response_encode.known_reply.Goals as goal

@@ -1,6 +1,14 @@
-use Rattle.std.proofs.{Common.{sym, ap, ◌∙◌, ◌++◌, ◌∷◌, [], ◌≡◌, ◌+◌, List, length, drop, true, false, arith, eqb, append_assoc}, lemmas.{Bool.{ne_eqb}, List.{length-append, length-drop, drop-append-le}}}
-use Rattle.tpm_wire.{specs.{ResponseCodes.{of_session}, Spelling.{spelling}, Reading.{read}, Buffers.{Place}}, proofs.Loop.{at_place, goes_on, joined_push, written_last}}
-use Rattle.tpm_types.specs.{declared.tpms.AuthReply.{AuthReply}, Tpms.{auth_response}}
+use Rattle.std.proofs.Common.{sym, ap, ◌∙◌, ◌++◌, ◌∷◌, [], ◌≡◌, ◌+◌, List, length, drop, true, false, arith, eqb}
+use Rattle.std.proofs.Common.{append_assoc}
+use Rattle.std.proofs.lemmas.Bool.{ne_eqb}
+use Rattle.std.proofs.lemmas.List.{length-append, length-drop, drop-append-le}
+use Rattle.tpm_wire.specs.ResponseCodes.{of_session}
+use Rattle.tpm_wire.specs.Spelling.{spelling}
+use Rattle.tpm_wire.specs.Reading.{read}
+use Rattle.tpm_wire.specs.Buffers.{Place}
+use Rattle.tpm_wire.proofs.Loop.{at_place, goes_on, joined_push, written_last}
+use Rattle.tpm_types.specs.declared.tpms.AuthReply.{AuthReply}
+use Rattle.tpm_types.specs.Tpms.{auth_response}
 use Rattle.tpm_buffer.proofs.response_sessions.read_further_sessions.Goals as goal
 
 pub loop-auths-preserved : goal.loop-auths-preserved

@@ -1,5 +1,7 @@
 use Rattle.std.proofs.Common.{◌≡◌, ◌++◌, ◌+◌, ◌-◌, ◌≤◌, length, drop, true, []}
-use Rattle.tpm_wire.specs.{ResponseCodes.{of_session}, Reading.{read, entries}, Spelling.{joined_all}}
+use Rattle.tpm_wire.specs.ResponseCodes.{of_session}
+use Rattle.tpm_wire.specs.Reading.{read, entries}
+use Rattle.tpm_wire.specs.Spelling.{joined_all}
 use Rattle.tpm_types.specs.Tpms.{auth_response}
 use Rattle.tpm_buffer.proofs.response_sessions.read_further_sessions.Given as goal
 

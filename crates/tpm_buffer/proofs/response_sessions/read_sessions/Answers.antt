@@ -1,7 +1,11 @@
 use Rattle.std.proofs.Common.{◌≡◌, ◌∷◌, ◌++◌, [], List, length, drop, ap, sym, subst, ◌∙◌}
-use Rattle.tpm_wire.{specs.{Spelling.{spelling}, Buffers.{Place}}, proofs.Loop.{written_last}}
-use Rattle.tpm_types.specs.{declared.tpms.AuthReply.{AuthReply}, Tpms.{auth_response}}
-use Rattle.tpm_buffer.{specs.Responses.{reply_sessions}, proofs.ReadSessions.{text_of}}
+use Rattle.tpm_wire.specs.Spelling.{spelling}
+use Rattle.tpm_wire.specs.Buffers.{Place}
+use Rattle.tpm_wire.proofs.Loop.{written_last}
+use Rattle.tpm_types.specs.declared.tpms.AuthReply.{AuthReply}
+use Rattle.tpm_types.specs.Tpms.{auth_response}
+use Rattle.tpm_buffer.specs.Responses.{reply_sessions}
+use Rattle.tpm_buffer.proofs.ReadSessions.{text_of}
 use Rattle.tpm_buffer.proofs.response_sessions.read_sessions.Goals as goal
 
 pub returns-clause-spelled : goal.returns-clause-spelled

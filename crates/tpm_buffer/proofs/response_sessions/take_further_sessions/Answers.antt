@@ -1,6 +1,18 @@
-use Rattle.std.proofs.{Common.{◌≡◌, ◌+◌, ◌∷◌, ◌++◌, [], length, true, false, arith, inl, inr, eqb, ap, sym, ◌∙◌}, lemmas.{Bool.{ne_eqb, eq-eqb}, List.{length-append, length-map, Elements.{All-push}}, Result.{err_from_is_err_and}}}
-use Rattle.tpm_wire.{specs.{Reading.{read, entries}, ResponseCodes.{of_session}, Buffers.{Place}}, proofs.Loop.{at_place, goes_on, ends, is_done, joined_push}}
-use Rattle.tpm_buffer.{specs.{Responses.{further_sessions}, ResponseAreas.{Stands, IsSession, session_at, sessions_at}}, proofs.{Places.{one_more, stands_behind}, ReadSessions.{is_there, begins_there}, response_sessions.take_further_sessions.Goals.{then-loop-positions-test+else-len-lt2, else-loop-positions-test}}}
+use Rattle.std.proofs.Common.{◌≡◌, ◌+◌, ◌∷◌, ◌++◌, [], length, true, false, arith, inl, inr, eqb, ap, sym, ◌∙◌}
+use Rattle.std.proofs.lemmas.Bool.{ne_eqb, eq-eqb}
+use Rattle.std.proofs.lemmas.List.Elements.{All-push}
+use Rattle.std.proofs.lemmas.List.{length-append, length-map}
+use Rattle.std.proofs.lemmas.Result.{err_from_is_err_and}
+use Rattle.tpm_wire.specs.Reading.{read, entries}
+use Rattle.tpm_wire.specs.ResponseCodes.{of_session}
+use Rattle.tpm_wire.specs.Buffers.{Place}
+use Rattle.tpm_wire.proofs.Loop.{at_place, goes_on, ends, is_done, joined_push}
+use Rattle.tpm_buffer.specs.Responses.{further_sessions}
+use Rattle.tpm_buffer.specs.ResponseAreas.{Stands, IsSession, session_at, sessions_at}
+use Rattle.tpm_buffer.proofs.Places.{one_more, stands_behind}
+use Rattle.tpm_buffer.proofs.ReadSessions.{is_there, begins_there}
+use Rattle.tpm_buffer.proofs.response_sessions.take_further_sessions.Goals.{then-loop-positions-test+else-len-lt2}
+use Rattle.tpm_buffer.proofs.response_sessions.take_further_sessions.Goals.{else-loop-positions-test}
 use Rattle.tpm_types.specs.Tpms.{auth_response}
 use Rattle.tpm_buffer.proofs.response_sessions.take_further_sessions.Goals as goal
 

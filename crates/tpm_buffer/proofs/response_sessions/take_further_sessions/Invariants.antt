@@ -1,5 +1,8 @@
-use Rattle.std.{proofs.Common.{◌≡◌, ◌++◌, ◌≤◌, ◌+◌, ◌-◌, [], true, length}, specs.List.{All}}
-use Rattle.tpm_wire.specs.{Spelling.{joined_all}, Reading.{read, entries}, ResponseCodes.{of_session}}
+use Rattle.std.proofs.Common.{◌≡◌, ◌++◌, ◌≤◌, ◌+◌, ◌-◌, [], true, length}
+use Rattle.std.specs.List.{All}
+use Rattle.tpm_wire.specs.Spelling.{joined_all}
+use Rattle.tpm_wire.specs.Reading.{read, entries}
+use Rattle.tpm_wire.specs.ResponseCodes.{of_session}
 use Rattle.tpm_types.specs.Tpms.{auth_response}
 use Rattle.tpm_buffer.specs.ResponseAreas.{Stands, IsSession, sessions_at}
 use Rattle.tpm_buffer.proofs.response_sessions.take_further_sessions.Given as goal

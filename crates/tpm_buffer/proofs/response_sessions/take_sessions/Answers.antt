@@ -1,7 +1,14 @@
-use Rattle.std.proofs.{Common.{◌≡◌, ◌∷◌, ◌++◌, ap, sym, ◌∙◌, refl, arith}, lemmas.List.Elements.{All-cons}}
-use Rattle.tpm_wire.{specs.{Spelling.{spelling}, ResponseCodes.{of_session}, Buffers.{Place}}, proofs.Loop.{at_place}}
+use Rattle.std.proofs.Common.{◌≡◌, ◌∷◌, ◌++◌, ap, sym, ◌∙◌, refl, arith}
+use Rattle.std.proofs.lemmas.List.Elements.{All-cons}
+use Rattle.tpm_wire.specs.Spelling.{spelling}
+use Rattle.tpm_wire.specs.ResponseCodes.{of_session}
+use Rattle.tpm_wire.specs.Buffers.{Place}
+use Rattle.tpm_wire.proofs.Loop.{at_place}
 use Rattle.tpm_types.specs.Tpms.{auth_response}
-use Rattle.tpm_buffer.{specs.{Responses.{reply_sessions}, ResponseAreas.{IsSession, sessions_at}}, proofs.{Places.{stands_behind}, ReadSessions.{is_there, begins_there, text_of}}}
+use Rattle.tpm_buffer.specs.Responses.{reply_sessions}
+use Rattle.tpm_buffer.specs.ResponseAreas.{IsSession, sessions_at}
+use Rattle.tpm_buffer.proofs.Places.{stands_behind}
+use Rattle.tpm_buffer.proofs.ReadSessions.{is_there, begins_there, text_of}
 use Rattle.tpm_buffer.proofs.response_sessions.take_sessions.Goals as goal
 
 pub take_further_sessions-requires : goal.take_further_sessions-requires

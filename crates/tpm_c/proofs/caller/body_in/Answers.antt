@@ -1,6 +1,7 @@
 use Rattle.std.proofs.Common.{true, false, sym, ap, rules}
 use Rattle.tpm_buffer.specs.Commands.{command}
-use Rattle.tpm_c.{specs.Callers.{body_in}, proofs.Decoding.{is_refused, body_is}}
+use Rattle.tpm_c.specs.Callers.{body_in}
+use Rattle.tpm_c.proofs.Decoding.{is_refused, body_is}
 use Rattle.tpm_c.proofs.caller.body_in.Goals as goal
 
 pub returns-then-needs_authorization : goal.returns-then-needs_authorization

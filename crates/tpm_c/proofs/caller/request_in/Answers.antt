@@ -2,7 +2,8 @@ use Rattle.std.proofs.Common.{◌≡◌, Ok, sym, ap, ◌∙◌, rules}
 use Rattle.tpm_wire.specs.Reading.{read_all}
 use Rattle.tpm_commands.specs.declared.command.CommandBody.TheVariants as bodies
 use Rattle.tpm_buffer.specs.Commands.{command}
-use Rattle.tpm_c.{specs.Callers.{request_of, request_in}, proofs.Decoding.{is_read, is_refused, no_request}}
+use Rattle.tpm_c.specs.Callers.{request_of, request_in}
+use Rattle.tpm_c.proofs.Decoding.{is_read, is_refused, no_request}
 use Rattle.tpm_c.proofs.caller.request_in.Goals as goal
 
 pub returns-in-StartAuthSession : goal.returns-in-StartAuthSession

@@ -1,8 +1,10 @@
-use Rattle.std.{proofs.Common.{rules, ◌≡◌, length, take, [], ◌∷◌, Some, true, false}, specs.Prelude.{nat_le}}
+use Rattle.std.proofs.Common.{rules, ◌≡◌, length, take, [], ◌∷◌, Some, true, false}
+use Rattle.std.specs.Prelude.{nat_le}
 use Rattle.tpm_wire.specs.Reading.{read_all}
 use Rattle.tpm_commands.specs.Handles.{handle_kinds}
 use Rattle.tpm_buffer.specs.Commands.{command as command_layout, code_for}
-use Rattle.tpm_c.{specs.Callers.{body_in, do_fit}, proofs.Sealing.{unsealed}}
+use Rattle.tpm_c.specs.Callers.{body_in, do_fit}
+use Rattle.tpm_c.proofs.Sealing.{unsealed}
 use Rattle.tpm_c.proofs.caller.seal.Goals as goal
 
 pub returns-then-not-do_fit : goal.returns-then-not-do_fit

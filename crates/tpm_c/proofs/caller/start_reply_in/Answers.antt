@@ -4,7 +4,8 @@ use Rattle.tpm_commands.specs.declared.code.CommandCode.TheVariants as codes
 use Rattle.tpm_commands.specs.declared.response.ReplyBody.TheVariants as replies
 use Rattle.tpm_commands.specs.declared.response.Response.TheVariants as responses
 use Rattle.tpm_buffer.specs.Responses.{response}
-use Rattle.tpm_c.{specs.Callers.{reply_of, reply_in}, proofs.Decoding.{is_read, is_refused, no_reply}}
+use Rattle.tpm_c.specs.Callers.{reply_of, reply_in}
+use Rattle.tpm_c.proofs.Decoding.{is_read, is_refused, no_reply}
 use Rattle.tpm_c.proofs.caller.start_reply_in.Goals as goal
 
 pub returns-in-StartAuthSession : goal.returns-in-StartAuthSession

@@ -1,5 +1,11 @@
 -- `tpm_caller_open` meets its contract: what is held is lent to `open`.
-use Rattle.tpm_c.{proofs.{Steps.{◌≡◌, refl, w32, full_share, named, id⊢, ◌$◌, !, done, addr, stop, of_opd, and_then, no_more, returns, enter, alloc_all, pass_all, free_all, look_at, through, get, sets, lands_as, uint_Lawful, u8, mut_vals, shr_slice_vals, shr_slice_Tells, triple_of}, Lending.{Spelled, there, points, becomes, lent}, caller.open.Met.{met}}, specs.{contracts.caller.Held.{the_row}, Callers.{held_at, open_code, after_open}}}
+use Rattle.tpm_c.proofs.Steps.{◌≡◌, refl, w32, full_share, named, id⊢, ◌$◌, !, done, addr, stop, of_opd, and_then}
+use Rattle.tpm_c.proofs.Steps.{no_more, returns, enter, alloc_all, pass_all, free_all, look_at, through, get, sets}
+use Rattle.tpm_c.proofs.Steps.{lands_as, uint_Lawful, u8, mut_vals, shr_slice_vals, shr_slice_Tells, triple_of}
+use Rattle.tpm_c.proofs.Lending.{Spelled, there, points, becomes, lent}
+use Rattle.tpm_c.proofs.caller.open.Met.{met}
+use Rattle.tpm_c.specs.contracts.caller.Held.{the_row}
+use Rattle.tpm_c.specs.Callers.{held_at, open_code, after_open}
 use Rattle.tpm_c.specs.contracts.caller.open as of
 use Rattle.tpm_c.specs.contracts.caller.tpm_caller_open as f
 use Rattle.tpm_c.proofs.caller.tpm_caller_open.Statement as stated

@@ -1,5 +1,14 @@
 -- `tpm_caller_seal` meets its contract: what is held is lent to `seal`, with the room.
-use Rattle.tpm_c.{proofs.{Steps.{◌≡◌, length, refl, w32, w64, full_share, named, id⊢, ◌$◌, !, done, addr, stop, of_opd, and_then, no_more, returns, enter, fld, hop, from, alloc_all, pass_all, free_all, look_at, through, get, sets, lands_as, look_in_at, get_in, uint_Lawful, uint_vals, uint_Tells, u8, mut_vals, shr_slice_vals, shr_slice_Tells, mut_slice_vals, mut_slice_Tells, triple_of, whole, sub, agg}, Lending.{Spelled, there, points, becomes, lent}, caller.seal.Met.{met}}, specs.{contracts.caller.Held.{the_row}, Callers.{held_at, sealing, sealed_bytes, after_seal}, Written.{IsIn}}}
+use Rattle.tpm_c.proofs.Steps.{◌≡◌, length, refl, w32, w64, full_share, named, id⊢, ◌$◌, !, done, addr, stop, of_opd}
+use Rattle.tpm_c.proofs.Steps.{and_then, no_more, returns, enter, fld, hop, from, alloc_all, pass_all, free_all}
+use Rattle.tpm_c.proofs.Steps.{look_at, through, get, sets, lands_as, look_in_at, get_in, uint_Lawful, uint_vals}
+use Rattle.tpm_c.proofs.Steps.{uint_Tells, u8, mut_vals, shr_slice_vals, shr_slice_Tells, mut_slice_vals}
+use Rattle.tpm_c.proofs.Steps.{mut_slice_Tells, triple_of, whole, sub, agg}
+use Rattle.tpm_c.proofs.Lending.{Spelled, there, points, becomes, lent}
+use Rattle.tpm_c.proofs.caller.seal.Met.{met}
+use Rattle.tpm_c.specs.contracts.caller.Held.{the_row}
+use Rattle.tpm_c.specs.Callers.{held_at, sealing, sealed_bytes, after_seal}
+use Rattle.tpm_c.specs.Written.{IsIn}
 use Rattle.tpm_c.specs.contracts.caller.seal as of
 use Rattle.tpm_c.specs.contracts.caller.tpm_caller_seal as f
 use Rattle.tpm_c.proofs.caller.tpm_caller_seal.Statement as stated

@@ -1,5 +1,6 @@
 use Rattle.std.proofs.Common.{refl, sym, subst, inl, inr}
-use Rattle.tpm_wire.specs.{Layout.{cut}, Path.{Fault}}
+use Rattle.tpm_wire.specs.Layout.{cut}
+use Rattle.tpm_wire.specs.Path.{Fault}
 use Rattle.tpm_buffer.specs.Commands.{before_params}
 use Rattle.tpm_c.proofs.Held.{holds_parts}
 use Rattle.tpm_c.proofs.command.tpm_command_cut.Goals as goal

@@ -1,6 +1,17 @@
 -- `tpm_device_execute` meets its contract: the device is lent to `execute`, with the room.
-use Rattle.tpm_c.{proofs.{Steps.{length, refl, w64, full_share, named, id⊢, ◌$◌, !, done, addr, stop, of_opd, and_then, no_more, returns, enter, fld, hop, from, alloc_all, pass_all, free_all, look_at, through, get, sets, lands_as, look_in_at, get_in, uint_Lawful, u8, shr_vals, shr_Tells, mut_vals, shr_slice_vals, shr_slice_Tells, mut_slice_vals, mut_slice_Tells, lies_at, triple_of, whole, sub, agg, Array}, Lending.{Spelled, points, is_one_and, lent}, Replies.{is_answered}, device.execute.Met.{met}}, specs.{Devices.{after, written}, Written.{IsIn}}}
-use Rattle.tpm_device.specs.{declared.device.Device.{Device}, contracts.device.Device.{the_row}, Stands.{Stands}}
+use Rattle.tpm_c.proofs.Steps.{length, refl, w64, full_share, named, id⊢, ◌$◌, !, done, addr, stop, of_opd, and_then}
+use Rattle.tpm_c.proofs.Steps.{no_more, returns, enter, fld, hop, from, alloc_all, pass_all, free_all, look_at, through}
+use Rattle.tpm_c.proofs.Steps.{get, sets, lands_as, look_in_at, get_in, uint_Lawful, u8, shr_vals, shr_Tells, mut_vals}
+use Rattle.tpm_c.proofs.Steps.{shr_slice_vals, shr_slice_Tells, mut_slice_vals, mut_slice_Tells, lies_at, triple_of}
+use Rattle.tpm_c.proofs.Steps.{whole, sub, agg, Array}
+use Rattle.tpm_c.proofs.Lending.{Spelled, points, is_one_and, lent}
+use Rattle.tpm_c.proofs.Replies.{is_answered}
+use Rattle.tpm_c.proofs.device.execute.Met.{met}
+use Rattle.tpm_c.specs.Devices.{after, written}
+use Rattle.tpm_c.specs.Written.{IsIn}
+use Rattle.tpm_device.specs.declared.device.Device.{Device}
+use Rattle.tpm_device.specs.contracts.device.Device.{the_row}
+use Rattle.tpm_device.specs.Stands.{Stands}
 use Rattle.tpm_model.specs.Steps.{History, Origin}
 use Rattle.tpm_c.specs.contracts.device.execute as of
 use Rattle.tpm_c.specs.contracts.device.tpm_device_execute as f

@@ -1,8 +1,22 @@
 -- `tpm_device_init` meets its contract: the room is written, and what lies there is what `made` gives; or the value is too long, and no room is there.
-use Rattle.tpm_c.{proofs.{Steps.{◌≡◌, ◌≤◌, Bool, true, false, [], ◌∷◌, length, refl, w32, w64, lit<, ltb→lt, nltb→le, sym, arith, leb-true, leb-false, full_share, named, vint, ent, sep, sem, id⊢, emp, mono_r, ftrue, fact_i, Valss, ‵, at_ret, ◌$◌, ◌∵◌, !, qed, by, move, drop, use0, split, nothing, fjoin, fpack, rewrite, done, init, stop, of_opd, lit, bin, fld, whole, sub, assigns, and_then, no_more, first, branches, skips, exec, returns, returns_within, enter, alloc_all, pass_all, free_all, look_at, through, get, get_in, sets, lands_as, env, alive, part_at, WpFn, uint_vals, uint_Tells, uint_Makes, u8, shr_slice_vals, shr_slice_Tells, Ptr, block_ptr, room_at, rawptr_vals, rawptr_Tells, rawptr_Lawful, mean, says, types_at, owns, lasts, lasts_of, u32, triple_of, walk_of, tables, proved, framed}, Lending.{stayed, goes, others, ends, entry, in_block, made, makes}, device.made.Met.{met}}, specs.Devices.{fits, room_if, new_if, whether_fits}}
+use Rattle.tpm_c.proofs.Steps.{◌≡◌, ◌≤◌, Bool, true, false, [], ◌∷◌, length, refl, w32, w64, lit<, ltb→lt, nltb→le, sym}
+use Rattle.tpm_c.proofs.Steps.{arith, leb-true, leb-false, full_share, named, vint, ent, sep, sem, id⊢, emp, mono_r}
+use Rattle.tpm_c.proofs.Steps.{ftrue, fact_i, Valss, ‵, at_ret, ◌$◌, ◌∵◌, !, qed, by, move, drop, use0, split, nothing}
+use Rattle.tpm_c.proofs.Steps.{fjoin, fpack, rewrite, done, init, stop, of_opd, lit, bin, fld, whole, sub, assigns}
+use Rattle.tpm_c.proofs.Steps.{and_then, no_more, first, branches, skips, exec, returns, returns_within, enter}
+use Rattle.tpm_c.proofs.Steps.{alloc_all, pass_all, free_all, look_at, through, get, get_in, sets, lands_as, env, alive}
+use Rattle.tpm_c.proofs.Steps.{part_at, WpFn, uint_vals, uint_Tells, uint_Makes, u8, shr_slice_vals, shr_slice_Tells}
+use Rattle.tpm_c.proofs.Steps.{Ptr, block_ptr, room_at, rawptr_vals, rawptr_Tells, rawptr_Lawful, mean, says, types_at}
+use Rattle.tpm_c.proofs.Steps.{owns, lasts, lasts_of, u32, triple_of, walk_of, tables, proved, framed}
+use Rattle.tpm_c.proofs.Lending.{stayed, goes, others, ends, entry, in_block, made, makes}
+use Rattle.tpm_c.proofs.device.made.Met.{met}
+use Rattle.tpm_c.specs.Devices.{fits, room_if, new_if, whether_fits}
 use Rattle.tpm_types.specs.Limits.{digest_bytes}
 use Rattle.tpm_model.specs.Steps.{Origin}
-use Rattle.tpm_device.{specs.{declared.device.Device.{Device}, contracts.device.Device.{the_row}, Stands.{Stands}}, proofs.device.Device.TheLaws.{the_row_laws}}
+use Rattle.tpm_device.specs.declared.device.Device.{Device}
+use Rattle.tpm_device.specs.contracts.device.Device.{the_row}
+use Rattle.tpm_device.specs.Stands.{Stands}
+use Rattle.tpm_device.proofs.device.Device.TheLaws.{the_row_laws}
 use Rattle.tpm_c.specs.contracts.device.made as of
 use Rattle.tpm_c.specs.contracts.device.tpm_device_init as f
 use Rattle.tpm_c.proofs.device.tpm_device_init.Statement as stated

@@ -1,6 +1,12 @@
 -- `tpm_device_power_cycle` meets its contract: the device is lent to `Device::power_cycle`.
-use Rattle.tpm_c.proofs.{Steps.{◌∷◌, refl, ap, full_share, id⊢, ◌$◌, !, rewrite, done, addr, stop, of_opd, and_then, no_more, returns, enter, unit_lit, alloc_all, pass_all, free_all, look_at, through, get, sets, lands_as, mut_vals, lies_at, only, triple_of}, Lending.{after, Spelled, points, is_one, lent}}
-use Rattle.tpm_device.{specs.{declared.device.Device.{Device}, contracts.device.Device.{the_row}, Stands.{Stands}}, proofs.device.Device.power_cycle.Met.{met}}
+use Rattle.tpm_c.proofs.Steps.{◌∷◌, refl, ap, full_share, id⊢, ◌$◌, !, rewrite, done, addr, stop, of_opd, and_then}
+use Rattle.tpm_c.proofs.Steps.{no_more, returns, enter, unit_lit, alloc_all, pass_all, free_all, look_at, through, get}
+use Rattle.tpm_c.proofs.Steps.{sets, lands_as, mut_vals, lies_at, only, triple_of}
+use Rattle.tpm_c.proofs.Lending.{after, Spelled, points, is_one, lent}
+use Rattle.tpm_device.specs.declared.device.Device.{Device}
+use Rattle.tpm_device.specs.contracts.device.Device.{the_row}
+use Rattle.tpm_device.specs.Stands.{Stands}
+use Rattle.tpm_device.proofs.device.Device.power_cycle.Met.{met}
 use Rattle.tpm_model.specs.Steps.{History, Origin, PowerCycle}
 use Rattle.tpm_device.specs.contracts.device.Device.power_cycle as of
 use Rattle.tpm_c.specs.contracts.device.tpm_device_power_cycle as f

@@ -1,5 +1,11 @@
 -- `tpm_framer_frame` meets its contract: the framer is lent to `frame`, with the room.
-use Rattle.tpm_c.{proofs.{Steps.{◌≡◌, refl, w64, full_share, named, id⊢, ◌$◌, !, done, addr, stop, of_opd, and_then, no_more, returns, enter, fld, hop, from, alloc_all, pass_all, free_all, look_at, through, get, sets, lands_as, look_in_at, get_in, uint_Lawful, u8, mut_vals, mut_slice_vals, mut_slice_Tells, triple_of, whole, sub, agg}, Lending.{Spelled, there, points, becomes, lent}, framer.frame.Met.{met}}, specs.Framers.{framer_at, FrameIn}}
+use Rattle.tpm_c.proofs.Steps.{◌≡◌, refl, w64, full_share, named, id⊢, ◌$◌, !, done, addr, stop, of_opd, and_then}
+use Rattle.tpm_c.proofs.Steps.{no_more, returns, enter, fld, hop, from, alloc_all, pass_all, free_all, look_at, through}
+use Rattle.tpm_c.proofs.Steps.{get, sets, lands_as, look_in_at, get_in, uint_Lawful, u8, mut_vals, mut_slice_vals}
+use Rattle.tpm_c.proofs.Steps.{mut_slice_Tells, triple_of, whole, sub, agg}
+use Rattle.tpm_c.proofs.Lending.{Spelled, there, points, becomes, lent}
+use Rattle.tpm_c.proofs.framer.frame.Met.{met}
+use Rattle.tpm_c.specs.Framers.{framer_at, FrameIn}
 use Rattle.tpm_stream.specs.contracts.framer.Framer.{the_row}
 use Rattle.tpm_c.specs.contracts.framer.frame as of
 use Rattle.tpm_c.specs.contracts.framer.tpm_framer_frame as f

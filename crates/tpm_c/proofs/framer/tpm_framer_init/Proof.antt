@@ -1,6 +1,9 @@
 -- `tpm_framer_init` meets its contract: the room is written, and what lies there is a framer that holds nothing.
-use Rattle.tpm_c.proofs.{Steps.{◌≡◌, [], refl, id⊢, room_at}, Lending.{there, is_this, inits}}
-use Rattle.tpm_stream.{specs.contracts.framer.Framer.{the_row}, proofs.framer.Framer.{TheLaws.{the_row_laws}, new.Met.{met}}}
+use Rattle.tpm_c.proofs.Steps.{◌≡◌, [], refl, id⊢, room_at}
+use Rattle.tpm_c.proofs.Lending.{there, is_this, inits}
+use Rattle.tpm_stream.specs.contracts.framer.Framer.{the_row}
+use Rattle.tpm_stream.proofs.framer.Framer.TheLaws.{the_row_laws}
+use Rattle.tpm_stream.proofs.framer.Framer.new.Met.{met}
 use Rattle.tpm_stream.specs.contracts.framer.Framer.new as of
 use Rattle.tpm_c.specs.contracts.framer.tpm_framer_init as f
 use Rattle.tpm_c.proofs.framer.tpm_framer_init.Statement as stated

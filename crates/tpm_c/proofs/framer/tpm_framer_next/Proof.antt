@@ -1,6 +1,12 @@
 -- `tpm_framer_next` meets its contract: the framer is lent to `Framer::next`.
-use Rattle.tpm_c.{proofs.{Steps.{ℕ, List, refl, ap, full_share, id⊢, ◌$◌, !, rewrite, done, addr, stop, of_opd, and_then, no_more, returns, enter, unit_lit, alloc_all, pass_all, free_all, look_at, through, get, sets, lands_as, mut_vals, only, triple_of}, Lending.{after, Spelled, there, points, is_one, lent}}, specs.Framers.{framer_at}}
-use Rattle.tpm_stream.{specs.{contracts.framer.Framer.{the_row}, Frames.{Advances}}, proofs.framer.Framer.next.Met.{met}}
+use Rattle.tpm_c.proofs.Steps.{ℕ, List, refl, ap, full_share, id⊢, ◌$◌, !, rewrite, done, addr, stop, of_opd, and_then}
+use Rattle.tpm_c.proofs.Steps.{no_more, returns, enter, unit_lit, alloc_all, pass_all, free_all, look_at, through, get}
+use Rattle.tpm_c.proofs.Steps.{sets, lands_as, mut_vals, only, triple_of}
+use Rattle.tpm_c.proofs.Lending.{after, Spelled, there, points, is_one, lent}
+use Rattle.tpm_c.specs.Framers.{framer_at}
+use Rattle.tpm_stream.specs.contracts.framer.Framer.{the_row}
+use Rattle.tpm_stream.specs.Frames.{Advances}
+use Rattle.tpm_stream.proofs.framer.Framer.next.Met.{met}
 use Rattle.tpm_stream.specs.contracts.framer.Framer.next as of
 use Rattle.tpm_c.specs.contracts.framer.tpm_framer_next as f
 use Rattle.tpm_c.proofs.framer.tpm_framer_next.Statement as stated

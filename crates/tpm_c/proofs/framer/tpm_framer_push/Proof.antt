@@ -1,6 +1,14 @@
 -- `tpm_framer_push` meets its contract: the framer is lent to `push`.
-use Rattle.tpm_c.{proofs.{Steps.{◌≡◌, ℕ, List, refl, w64, full_share, named, id⊢, ◌$◌, !, done, addr, stop, of_opd, and_then, no_more, returns, enter, alloc_all, pass_all, free_all, look_at, through, get, sets, lands_as, uint_Lawful, u8, u32, mut_vals, mut_Tells, shr_slice_vals, shr_slice_Tells, triple_of}, Lending.{Spelled, there, points, is_one, lent}, framer.push.Met.{met}}, specs.Framers.{framer_at, status_number}}
-use Rattle.tpm_stream.specs.{contracts.framer.Framer.{the_row}, Frames.{Pushes}, declared.framer.Status.{Status}}
+use Rattle.tpm_c.proofs.Steps.{◌≡◌, ℕ, List, refl, w64, full_share, named, id⊢, ◌$◌, !, done, addr, stop, of_opd}
+use Rattle.tpm_c.proofs.Steps.{and_then, no_more, returns, enter, alloc_all, pass_all, free_all, look_at, through, get}
+use Rattle.tpm_c.proofs.Steps.{sets, lands_as, uint_Lawful, u8, u32, mut_vals, mut_Tells, shr_slice_vals}
+use Rattle.tpm_c.proofs.Steps.{shr_slice_Tells, triple_of}
+use Rattle.tpm_c.proofs.Lending.{Spelled, there, points, is_one, lent}
+use Rattle.tpm_c.proofs.framer.push.Met.{met}
+use Rattle.tpm_c.specs.Framers.{framer_at, status_number}
+use Rattle.tpm_stream.specs.contracts.framer.Framer.{the_row}
+use Rattle.tpm_stream.specs.Frames.{Pushes}
+use Rattle.tpm_stream.specs.declared.framer.Status.{Status}
 use Rattle.tpm_c.specs.contracts.framer.push as of
 use Rattle.tpm_c.specs.contracts.framer.tpm_framer_push as f
 use Rattle.tpm_c.proofs.framer.tpm_framer_push.Statement as stated

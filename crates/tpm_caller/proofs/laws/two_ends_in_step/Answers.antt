@@ -1,5 +1,8 @@
 use Rattle.std.proofs.Common.{◌∙◌}
-use Rattle.tpm_model.{specs.{Answers.{answer}, Callers.{waiting, sealed}}, proofs.{RoundTrip.{last_check, opens, keeps, stays}, Starting.{starts}}}
+use Rattle.tpm_model.specs.Answers.{answer}
+use Rattle.tpm_model.specs.Callers.{waiting, sealed}
+use Rattle.tpm_model.proofs.RoundTrip.{last_check, opens, keeps, stays}
+use Rattle.tpm_model.proofs.Starting.{starts}
 use Rattle.tpm_caller.proofs.Kept.{one_opened, one_given_up}
 use Rattle.tpm_caller.proofs.laws.two_ends_in_step.Goals as goal
 

@@ -1,4 +1,5 @@
-use Rattle.tpm_caller.proofs.Told.{what_opens, what_is_refused, what_is_a_code, what_is_not_expected, what_has_a_wrong_mac, what_is_given_up}
+use Rattle.tpm_caller.proofs.Told.{what_opens, what_is_refused, what_is_a_code, what_is_not_expected}
+use Rattle.tpm_caller.proofs.Told.{what_has_a_wrong_mac, what_is_given_up}
 use Rattle.tpm_caller.proofs.laws.what_is_opened.Goals as goal
 
 pub returns : goal.returns

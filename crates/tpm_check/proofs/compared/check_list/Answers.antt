@@ -1,6 +1,10 @@
-use Rattle.std.{proofs.{Common.{◌≡◌, true, false, [], take, refl, sym, ◌∙◌, arith, rules, drop, length, length-take-le}, lemmas.{List.{take-append-le}, Result.{IfOk-weaker}}}, specs.Io.KnownBytes.{Appends, Consumes}}
+use Rattle.std.proofs.Common.{◌≡◌, true, false, [], take, refl, sym, ◌∙◌, arith, rules, drop, length, length-take-le}
+use Rattle.std.proofs.lemmas.List.{take-append-le}
+use Rattle.std.proofs.lemmas.Result.{IfOk-weaker}
+use Rattle.std.specs.Io.KnownBytes.{Appends, Consumes}
 use Rattle.tpm_model.specs.Registers.{value_in}
-use Rattle.tpm_check.{specs.Comparing.{IsOpen, place, start}, proofs.Comparisons.{answers_at_end, answers_stopped, goes_none, reaches_more, reads_too_much}}
+use Rattle.tpm_check.specs.Comparing.{IsOpen, place, start}
+use Rattle.tpm_check.proofs.Comparisons.{answers_at_end, answers_stopped, goes_none, reaches_more, reads_too_much}
 use Rattle.tpm_check.proofs.compared.check_list.Goals as goal
 
 pub returns-then-read-gt-MOST_BYTES-clause-too_long : goal.returns-then-read-gt-MOST_BYTES-clause-too_long

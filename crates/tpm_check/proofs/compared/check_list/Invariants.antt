@@ -1,4 +1,5 @@
-use Rattle.std.{proofs.Common.{◌≡◌, ◌+◌, ◌-◌, ◌≤◌}, specs.Io.KnownBytes.{Appends}}
+use Rattle.std.proofs.Common.{◌≡◌, ◌+◌, ◌-◌, ◌≤◌}
+use Rattle.std.specs.Io.KnownBytes.{Appends}
 use Rattle.tpm_model.specs.Registers.{value_in}
 use Rattle.tpm_check.specs.Comparing.{Reaches, place}
 use Rattle.tpm_text.specs.InputLines.{most_bytes}

@@ -1,4 +1,5 @@
-use Rattle.std.{proofs.Common.{◌≡◌, ◌++◌, string_bytes, take}, specs.List.{flat_map}}
+use Rattle.std.proofs.Common.{◌≡◌, ◌++◌, string_bytes, take}
+use Rattle.std.specs.List.{flat_map}
 use Rattle.tpm_check.specs.CheckAttest.{entry_words}
 use Rattle.tpm_check.proofs.signed_text.push_entries.Given as goal
 

@@ -1,6 +1,7 @@
 use Rattle.std.proofs.Common.{List, ℕ, ◌++◌, [], cond, ap, sym, ◌∙◌, append_assoc, string_bytes}
 use Rattle.tpm_types.specs.Tpms.{is_selected}
-use Rattle.tpm_check.{specs.CheckAttest.{register_word, register_words}, proofs.Verdicts.{words-more}}
+use Rattle.tpm_check.specs.CheckAttest.{register_word, register_words}
+use Rattle.tpm_check.proofs.Verdicts.{words-more}
 use Rattle.tpm_check.proofs.signed_text.push_words.Goals as goal
 
 pub loop-number-preserved : goal.loop-number-preserved

@@ -1,5 +1,8 @@
-use Rattle.std.proofs.{Common.{◌≡◌, ◌∙◌, rules, tests, bytes_eq}, lemmas.Iterator.{YieldsList-from_slice, Search.{position_from_yields_List}}}
-use Rattle.tpm_check.{specs.Compare.{register_named}, proofs.Comparisons.{named-below, named-is}}
+use Rattle.std.proofs.Common.{◌≡◌, ◌∙◌, rules, tests, bytes_eq}
+use Rattle.std.proofs.lemmas.Iterator.Search.{position_from_yields_List}
+use Rattle.std.proofs.lemmas.Iterator.{YieldsList-from_slice}
+use Rattle.tpm_check.specs.Compare.{register_named}
+use Rattle.tpm_check.proofs.Comparisons.{named-below, named-is}
 use Rattle.tpm_check.proofs.stated.number_named.Goals as goal
 
 pub returns-clause-place : goal.returns-clause-place

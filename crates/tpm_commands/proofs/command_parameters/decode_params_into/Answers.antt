@@ -1,6 +1,11 @@
 use Rattle.std.proofs.Common.{◌≡◌, Result, Ok, Err, sym}
-use Rattle.tpm_wire.{specs.{declared.refusal.Refusal.{Refusal}, Buffers.{buffer}, Reading.{Gives}}, proofs.{Buffers.{buffer_sound}, Whole.{decodes, read_fault}}}
-use Rattle.tpm_commands.specs.{declared.command_parameters.Params.{Params}, Parameters.{parameters, placed}}
+use Rattle.tpm_wire.specs.declared.refusal.Refusal.{Refusal}
+use Rattle.tpm_wire.specs.Buffers.{buffer}
+use Rattle.tpm_wire.specs.Reading.{Gives}
+use Rattle.tpm_wire.proofs.Buffers.{buffer_sound}
+use Rattle.tpm_wire.proofs.Whole.{decodes, read_fault}
+use Rattle.tpm_commands.specs.declared.command_parameters.Params.{Params}
+use Rattle.tpm_commands.specs.Parameters.{parameters, placed}
 use Rattle.tpm_commands.proofs.command_parameters.decode_params_into.Goals as goal
 
 is_placed : (p : Params) (given : Result Params Refusal) (r : Result (Unit {0}) Refusal) → Gives (λ _. p) given r → placed p r ≡ given

@@ -1,6 +1,11 @@
-use Rattle.std.proofs.{Common.{◌≡◌, Ok, Err, ap, sym, ◌∙◌, take, arith}, lemmas.List.{length-take}}
-use Rattle.tpm_wire.specs.{Token.{at_start}, Reading.{read}, Buffers.{Place}}
-use Rattle.tpm_commands.{specs.Parameters.{parameters}, proofs.{Short.{fault_of_long, left_of_long}, EachCommand.{of_parameters}}}
+use Rattle.std.proofs.Common.{◌≡◌, Ok, Err, ap, sym, ◌∙◌, take, arith}
+use Rattle.std.proofs.lemmas.List.{length-take}
+use Rattle.tpm_wire.specs.Token.{at_start}
+use Rattle.tpm_wire.specs.Reading.{read}
+use Rattle.tpm_wire.specs.Buffers.{Place}
+use Rattle.tpm_commands.specs.Parameters.{parameters}
+use Rattle.tpm_commands.proofs.Short.{fault_of_long, left_of_long}
+use Rattle.tpm_commands.proofs.EachCommand.{of_parameters}
 use Rattle.tpm_commands.proofs.command_parameters.long_fault.Goals as goal
 
 pub slice_bounds-new-end : goal.slice_bounds-new-end

@@ -1,4 +1,6 @@
-use Rattle.std.{proofs.{Common.{rules, ◌≡◌, length, sym, ap, ◌∙◌, arith, inl, inr}, lemmas.Bool.Decides.{nat_tests}}, specs.Slice.Iter.{iter_rest}}
+use Rattle.std.proofs.Common.{rules, ◌≡◌, length, sym, ap, ◌∙◌, arith, inl, inr}
+use Rattle.std.proofs.lemmas.Bool.Decides.{nat_tests}
+use Rattle.std.specs.Slice.Iter.{iter_rest}
 use Rattle.tpm_hmac.proofs.Differences.{none_behind, none_before, both_nothing}
 use Rattle.tpm_hmac.proofs.bytes.same.Goals as goal
 

@@ -1,4 +1,5 @@
-use Rattle.std.{proofs.Common.{◌≡◌, length}, specs.Slice.Iter.{iter_rest}}
+use Rattle.std.proofs.Common.{◌≡◌, length}
+use Rattle.std.specs.Slice.Iter.{iter_rest}
 use Rattle.tpm_hmac.proofs.bytes.same.Given as goal
 
 abbrev pub invariant-loop-x : goal.invariant-loop-x

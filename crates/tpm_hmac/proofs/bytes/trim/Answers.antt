@@ -1,5 +1,6 @@
 use Rattle.std.proofs.Common.{◌-◌, ◌∙◌, sym, arith}
-use Rattle.tpm_hmac.proofs.{Trimming.{trim-take_zero, trim-take_other, trim-nothing}, bytes.trim.Goals.{then-loop-len-test+else-bytes-len-eq0, else-loop-len-test}}
+use Rattle.tpm_hmac.proofs.Trimming.{trim-take_zero, trim-take_other, trim-nothing}
+use Rattle.tpm_hmac.proofs.bytes.trim.Goals.{then-loop-len-test+else-bytes-len-eq0, else-loop-len-test}
 use Rattle.tpm_hmac.proofs.bytes.trim.Goals as goal
 
 pub loop-len-preserved : goal.loop-len-preserved

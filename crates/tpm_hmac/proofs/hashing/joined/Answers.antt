@@ -1,4 +1,5 @@
-use Rattle.std.proofs.{Common.{◌≡◌, ◌+◌, ◌/◌, length, take, arith}, lemmas.List.{take_all}}
+use Rattle.std.proofs.Common.{◌≡◌, ◌+◌, ◌/◌, length, take, arith}
+use Rattle.std.proofs.lemmas.List.{take_all}
 use Rattle.tpm_hmac.proofs.Joined.{both_fill}
 use Rattle.tpm_hmac.proofs.hashing.joined.Goals as goal
 

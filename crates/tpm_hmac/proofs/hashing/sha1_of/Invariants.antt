@@ -1,4 +1,5 @@
-use Rattle.std.{proofs.Common.{take}, specs.List.{flat_map}}
+use Rattle.std.proofs.Common.{take}
+use Rattle.std.specs.List.{flat_map}
 use Rattle.sha1.specs.Sha1.{Holds}
 use Rattle.tpm_hmac.proofs.hashing.sha1_of.Given as goal
 

@@ -1,4 +1,5 @@
-use Rattle.std.{proofs.Common.{take}, specs.List.{flat_map}}
+use Rattle.std.proofs.Common.{take}
+use Rattle.std.specs.List.{flat_map}
 use Rattle.sha2.specs.Hashers.{Holds384}
 use Rattle.tpm_hmac.proofs.hashing.sha384_of.Given as goal
 

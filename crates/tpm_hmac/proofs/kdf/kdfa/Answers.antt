@@ -1,6 +1,8 @@
 use Rattle.std.proofs.Common.{◌≡◌, ◌-◌, ◌*◌, length, take, min, ap, ◌∙◌, arith, length-take-le}
-use Rattle.tpm_types.{specs.Alg.{digest_len}, proofs.Algs.{digest_some}}
-use Rattle.tpm_hmac.{specs.Hmac.{kdfa_text}, proofs.KdfaBlocks.{next_end, written_more, kdfa-whole}}
+use Rattle.tpm_types.specs.Alg.{digest_len}
+use Rattle.tpm_types.proofs.Algs.{digest_some}
+use Rattle.tpm_hmac.specs.Hmac.{kdfa_text}
+use Rattle.tpm_hmac.proofs.KdfaBlocks.{next_end, written_more, kdfa-whole}
 use Rattle.tpm_hmac.proofs.kdf.kdfa.Goals as goal
 
 pub loop-done-preserved : goal.loop-done-preserved

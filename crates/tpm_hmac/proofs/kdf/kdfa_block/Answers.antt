@@ -1,5 +1,9 @@
-use Rattle.std.{proofs.{Common.{◌∷◌, [], ◌++◌, length, ◌∙◌, ap}, lemmas.List.{append-nil}}, specs.Int.{w32, to_be_bytes}}
-use Rattle.tpm_hmac.{specs.Hmac.{hmac}, proofs.{DigestLengths.{length-hmac}, KdfaBlocks.{in_six}}}
+use Rattle.std.proofs.Common.{◌∷◌, [], ◌++◌, length, ◌∙◌, ap}
+use Rattle.std.proofs.lemmas.List.{append-nil}
+use Rattle.std.specs.Int.{w32, to_be_bytes}
+use Rattle.tpm_hmac.specs.Hmac.{hmac}
+use Rattle.tpm_hmac.proofs.DigestLengths.{length-hmac}
+use Rattle.tpm_hmac.proofs.KdfaBlocks.{in_six}
 use Rattle.tpm_hmac.proofs.kdf.kdfa_block.Goals as goal
 
 pub returns-clause-value : goal.returns-clause-value

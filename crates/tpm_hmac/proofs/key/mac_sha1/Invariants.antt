@@ -1,4 +1,5 @@
-use Rattle.std.{proofs.Common.{ℕ, List, ◌++◌, take}, specs.List.{flat_map}}
+use Rattle.std.proofs.Common.{ℕ, List, ◌++◌, take}
+use Rattle.std.specs.List.{flat_map}
 use Rattle.sha1.specs.Sha1.{Holds}
 use Rattle.tpm_hmac.proofs.key.mac_sha1.Given as goal
 

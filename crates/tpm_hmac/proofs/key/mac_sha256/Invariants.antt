@@ -1,4 +1,5 @@
-use Rattle.std.{proofs.Common.{ℕ, List, ◌++◌, take}, specs.List.{flat_map}}
+use Rattle.std.proofs.Common.{ℕ, List, ◌++◌, take}
+use Rattle.std.specs.List.{flat_map}
 use Rattle.sha2.specs.Hashers.{Holds256}
 use Rattle.tpm_hmac.proofs.key.mac_sha256.Given as goal
 

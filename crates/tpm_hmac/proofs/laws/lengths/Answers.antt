@@ -1,4 +1,5 @@
-use Rattle.tpm_hmac.proofs.{DigestLengths.{length-digest, length-hmac}, KdfaBlocks.{length-kdfa}}
+use Rattle.tpm_hmac.proofs.DigestLengths.{length-digest, length-hmac}
+use Rattle.tpm_hmac.proofs.KdfaBlocks.{length-kdfa}
 use Rattle.tpm_hmac.proofs.laws.lengths.Goals as goal
 
 pub returns : goal.returns

@@ -1,6 +1,13 @@
-use Rattle.std.proofs.{Common.{◌≡◌, [], ◌++◌, length, length-append, nat_lt, true, false, ap, ◌∙◌, take, arith}, lemmas.{Bool.Decides.{nat_tests}, List.{append-nil}}}
-use Rattle.tpm_types.{specs.{Alg.{block_len}, Limits.{block_bytes}}, proofs.Algs.{digest_fits, block_most}}
-use Rattle.tpm_hmac.{specs.{Hashes.{digest}, Hmac.{filled, block_key}}, proofs.{DigestLengths.{length-digest}, Filling.{fitted}}}
+use Rattle.std.proofs.Common.{◌≡◌, [], ◌++◌, length, length-append, nat_lt, true, false, ap, ◌∙◌, take, arith}
+use Rattle.std.proofs.lemmas.Bool.Decides.{nat_tests}
+use Rattle.std.proofs.lemmas.List.{append-nil}
+use Rattle.tpm_types.specs.Alg.{block_len}
+use Rattle.tpm_types.specs.Limits.{block_bytes}
+use Rattle.tpm_types.proofs.Algs.{digest_fits, block_most}
+use Rattle.tpm_hmac.specs.Hashes.{digest}
+use Rattle.tpm_hmac.specs.Hmac.{filled, block_key}
+use Rattle.tpm_hmac.proofs.DigestLengths.{length-digest}
+use Rattle.tpm_hmac.proofs.Filling.{fitted}
 use Rattle.tpm_hmac.proofs.mac.key_block.Goals as goal
 
 pub returns-then-front-back : goal.returns-then-front-back

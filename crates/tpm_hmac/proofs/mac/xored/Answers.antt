@@ -1,4 +1,6 @@
-use Rattle.std.proofs.{Common.{◌<◌, ℕ, length, bit_xor, slice_index_or, arith, ap}, lemmas.List.{get_or_default, length-append, length-map, length-take, length-drop, Edits.{map_over_more}}}
+use Rattle.std.proofs.Common.{◌<◌, ℕ, length, bit_xor, slice_index_or, arith, ap}
+use Rattle.std.proofs.lemmas.List.Edits.{map_over_more}
+use Rattle.std.proofs.lemmas.List.{get_or_default, length-append, length-map, length-take, length-drop}
 use Rattle.tpm_hmac.proofs.mac.xored.Goals as goal
 
 pub loop-byte-preserved : goal.loop-byte-preserved

@@ -1,4 +1,5 @@
-use Rattle.tpm_model.proofs.{Accepted.{passed}, Spelled.{spelled_by}}
+use Rattle.tpm_model.proofs.Accepted.{passed}
+use Rattle.tpm_model.proofs.Spelled.{spelled_by}
 use Rattle.tpm_model.proofs.laws.accepted_is_spelled.Goals as goal
 
 pub returns : goal.returns

@@ -1,5 +1,6 @@
 use Rattle.tpm_buffer.specs.Commands.{header, authorization}
-use Rattle.tpm_commands.specs.{Handles.{handles}, Parameters.{parameters}}
+use Rattle.tpm_commands.specs.Handles.{handles}
+use Rattle.tpm_commands.specs.Parameters.{parameters}
 use Rattle.tpm_model.proofs.Cuts.{cut, whole}
 use Rattle.tpm_model.proofs.laws.cut_by_the_grammar.Goals as goal
 

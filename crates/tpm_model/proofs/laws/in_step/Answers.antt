@@ -1,4 +1,5 @@
-use Rattle.tpm_model.proofs.{RoundTrip.{last_check, opens, keeps, stays}, Starting.{starts}}
+use Rattle.tpm_model.proofs.RoundTrip.{last_check, opens, keeps, stays}
+use Rattle.tpm_model.proofs.Starting.{starts}
 use Rattle.tpm_model.proofs.laws.in_step.Goals as goal
 
 pub returns : goal.returns

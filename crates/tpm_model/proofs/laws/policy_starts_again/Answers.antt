@@ -1,5 +1,13 @@
-use Rattle.std.{proofs.Common.{◌≡◌, [], ◌∷◌, Some, None, refl, sym, ap, ◌∙◌, subst}, specs.Prelude.{if◌then◌else◌, option_map}}
-use Rattle.tpm_model.{specs.{Steps.{History, Accepted}, Registers.{changes, registers_after}, Policies.{policy_of}, Sessions.{Session, slot_of, lives, begins, authorizes, start_of, last_nonce, asserted_by, assertions_of, as_session, session_at}}, proofs.{Accepted.{next_is}, Slots.{by_start}, Replay.{its_slot, chosen}}}
+use Rattle.std.proofs.Common.{◌≡◌, [], ◌∷◌, Some, None, refl, sym, ap, ◌∙◌, subst}
+use Rattle.std.specs.Prelude.{if◌then◌else◌, option_map}
+use Rattle.tpm_model.specs.Steps.{History, Accepted}
+use Rattle.tpm_model.specs.Registers.{changes, registers_after}
+use Rattle.tpm_model.specs.Policies.{policy_of}
+use Rattle.tpm_model.specs.Sessions.{Session, slot_of, lives, begins, authorizes, start_of, last_nonce, asserted_by}
+use Rattle.tpm_model.specs.Sessions.{assertions_of, as_session, session_at}
+use Rattle.tpm_model.proofs.Accepted.{next_is}
+use Rattle.tpm_model.proofs.Slots.{by_start}
+use Rattle.tpm_model.proofs.Replay.{its_slot, chosen}
 use Rattle.tpm_model.proofs.laws.policy_starts_again.Goals as goal
 
 pub returns : goal.returns

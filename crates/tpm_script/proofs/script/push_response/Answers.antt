@@ -1,4 +1,5 @@
-use Rattle.std.proofs.{Common.{List, ℕ, ◌++◌, ap, sym, ◌∙◌, string_bytes}, lemmas.List.{append-nil}}
+use Rattle.std.proofs.Common.{List, ℕ, ◌++◌, ap, sym, ◌∙◌, string_bytes}
+use Rattle.std.proofs.lemmas.List.{append-nil}
 use Rattle.tpm_text.specs.Text.{bytes_line}
 use Rattle.tpm_script.specs.Progress.{StandsAt}
 use Rattle.tpm_script.proofs.script.push_response.Goals as goal

@@ -1,7 +1,13 @@
-use Rattle.std.{proofs.{Common.{◌≡◌, [], take, refl, sym, ◌∙◌, arith, rules, drop, length, length-take-le}, lemmas.{List.{take-append-le}, Result.{IfOk-weaker}}}, specs.Io.KnownBytes.{Appends, Consumes}}
+use Rattle.std.proofs.Common.{◌≡◌, [], take, refl, sym, ◌∙◌, arith, rules, drop, length, length-take-le}
+use Rattle.std.proofs.lemmas.List.{take-append-le}
+use Rattle.std.proofs.lemmas.Result.{IfOk-weaker}
+use Rattle.std.specs.Io.KnownBytes.{Appends, Consumes}
 use Rattle.tpm_stream.proofs.Filled.{consumes_both}
-use Rattle.tpm_text.{specs.declared.status.Status.TheVariants.{Done, Refused}, proofs.Joins.{joins_appends}}
-use Rattle.tpm_script.{specs.Progress.{StandsAt, IsOpen, place}, proofs.Scripts.{reaches_more, takes_none, unrefused, answers_at_end, answers_refused, keeps_none, no_further, no_further_in}}
+use Rattle.tpm_text.specs.declared.status.Status.TheVariants.{Done, Refused}
+use Rattle.tpm_text.proofs.Joins.{joins_appends}
+use Rattle.tpm_script.specs.Progress.{StandsAt, IsOpen, place}
+use Rattle.tpm_script.proofs.Scripts.{reaches_more, takes_none, unrefused, answers_at_end, answers_refused, keeps_none}
+use Rattle.tpm_script.proofs.Scripts.{no_further, no_further_in}
 use Rattle.tpm_script.proofs.script.run_script.Goals as goal
 
 pub returns-then-read-gt-MOST_BYTES-clause-too_long : goal.returns-then-read-gt-MOST_BYTES-clause-too_long

@@ -1,4 +1,5 @@
-use Rattle.std.{proofs.Common.{◌≡◌, ◌+◌, ◌-◌, ◌≤◌}, specs.Io.KnownBytes.{Appends}}
+use Rattle.std.proofs.Common.{◌≡◌, ◌+◌, ◌-◌, ◌≤◌}
+use Rattle.std.specs.Io.KnownBytes.{Appends}
 use Rattle.tpm_script.specs.Progress.{Reaches}
 use Rattle.tpm_text.specs.InputLines.{most_bytes}
 use Rattle.tpm_script.proofs.script.run_script.Given as goal

@@ -1,7 +1,11 @@
-use Rattle.std.{proofs.{Common.{◌≡◌, ℕ, List, ◌∷◌, ◌∙◌, ap, sym, length, take, Bor, arith, append_assoc}, lemmas.List.{take_all, Folds.{flat_map-map}}}, specs.Prelude.{flat_map}}
+use Rattle.std.proofs.Common.{◌≡◌, ℕ, List, ◌∷◌, ◌∙◌, ap, sym, length, take, Bor, arith, append_assoc}
+use Rattle.std.proofs.lemmas.List.Folds.{flat_map-map}
+use Rattle.std.proofs.lemmas.List.{take_all}
+use Rattle.std.specs.Prelude.{flat_map}
 use Rattle.tpm_commands.specs.declared.code.CommandCode.TheVariants as codes
 use Rattle.tpm_hmac.specs.Hashes.{digest}
-use Rattle.tpm_model.specs.{Registers.{zeros}, Policies.{code_bytes}}
+use Rattle.tpm_model.specs.Registers.{zeros}
+use Rattle.tpm_model.specs.Policies.{code_bytes}
 use Rattle.tpm_session.proofs.policy.after_choice.Goals as goal
 
 pub returns : goal.returns

@@ -1,6 +1,7 @@
 use Rattle.std.specs.Prelude.{◌≡◌, ◌+◌, ◌∷◌, length, map, take}
 use Rattle.tpm_commands.specs.declared.code.CommandCode.TheVariants as codes
-use Rattle.tpm_model.specs.{Registers.{zeros}, Policies.{code_bytes}}
+use Rattle.tpm_model.specs.Registers.{zeros}
+use Rattle.tpm_model.specs.Policies.{code_bytes}
 use Rattle.tpm_session.proofs.policy.after_choice.Given as goal
 
 abbrev pub invariant-loop-digest : goal.invariant-loop-digest

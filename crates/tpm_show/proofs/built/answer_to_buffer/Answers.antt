@@ -1,4 +1,5 @@
-use Rattle.std.proofs.{Common.{refl}, lemmas.Result.{IfOk-weaker}}
+use Rattle.std.proofs.Common.{refl}
+use Rattle.std.proofs.lemmas.Result.{IfOk-weaker}
 use Rattle.tpm_show.proofs.built.answer_to_buffer.Goals as goal
 
 pub returns-in_ok-push_bytes-in-Ok : goal.returns-in_ok-push_bytes-in-Ok

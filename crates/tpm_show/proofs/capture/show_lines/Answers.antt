@@ -1,4 +1,6 @@
-use Rattle.std.{proofs.{Common.{take, refl, sym, ◌∙◌, arith, length-append, length-take-le}, lemmas.Result.{IfOk-weaker}}, specs.Io.KnownBytes.{Appends}}
+use Rattle.std.proofs.Common.{take, refl, sym, ◌∙◌, arith, length-append, length-take-le}
+use Rattle.std.proofs.lemmas.Result.{IfOk-weaker}
+use Rattle.std.specs.Io.KnownBytes.{Appends}
 use Rattle.tpm_stream.proofs.Filled.{consumes_both}
 use Rattle.tpm_text.proofs.Joins.{joins_appends}
 use Rattle.tpm_show.proofs.Captures.{reaches_more, answers_at_end}

@@ -1,5 +1,8 @@
-use Rattle.std.{proofs.Common.{◌+◌, ◌-◌}, specs.Io.KnownBytes.{Appends}}
-use Rattle.tpm_show.{specs.{Capture.{most_bytes}, Capturing.{Streams}}, proofs.Captures.{GoesOn}}
+use Rattle.std.proofs.Common.{◌+◌, ◌-◌}
+use Rattle.std.specs.Io.KnownBytes.{Appends}
+use Rattle.tpm_show.specs.Capture.{most_bytes}
+use Rattle.tpm_show.specs.Capturing.{Streams}
+use Rattle.tpm_show.proofs.Captures.{GoesOn}
 use Rattle.tpm_show.proofs.capture_stream.show_stream.Given as goal
 
 abbrev pub invariant-loop-capture : goal.invariant-loop-capture

@@ -1,4 +1,6 @@
-use Rattle.std.{proofs.{Common.{◌≡◌, ◌++◌, ◌∙◌, ℕ, List, Option, ap, subst, sym, string_bytes}, lemmas.List.{append-nil}}, specs.Prelude.{OnOk}}
+use Rattle.std.proofs.Common.{◌≡◌, ◌++◌, ◌∙◌, ℕ, List, Option, ap, subst, sym, string_bytes}
+use Rattle.std.proofs.lemmas.List.{append-nil}
+use Rattle.std.specs.Prelude.{OnOk}
 use Rattle.tpm_text.specs.Named.{Named}
 use Rattle.tpm_show.specs.CommandNames.{absent_of}
 use Rattle.tpm_show.proofs.command_names.push_absent.Goals as goal

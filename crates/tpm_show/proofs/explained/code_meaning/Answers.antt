@@ -1,4 +1,6 @@
-use Rattle.std.{proofs.{Common.{◌≡◌, ◌<◌, ℕ, cond, false, Option, eqb, ltb, refl, sym, ◌∙◌}, lemmas.Bool.{ne_eqb, lt-ltb}}, specs.Prelude.{bit_and}}
+use Rattle.std.proofs.Common.{◌≡◌, ◌<◌, ℕ, cond, false, Option, eqb, ltb, refl, sym, ◌∙◌}
+use Rattle.std.proofs.lemmas.Bool.{ne_eqb, lt-ltb}
+use Rattle.std.specs.Prelude.{bit_and}
 use Rattle.tpm_show.specs.Meanings.{Meaning}
 use Rattle.tpm_show.proofs.explained.code_meaning.Goals as goal
 

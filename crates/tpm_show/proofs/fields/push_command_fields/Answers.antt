@@ -1,5 +1,7 @@
-use Rattle.std.proofs.{Common.{append_assoc}, lemmas.List.{append-nil}}
-use Rattle.tpm_commands.specs.Parameters.{startup, nv_define_space, nv_read, flush_context, policy_or, start_auth_session, pcr_read, policy_pcr, pcr_extend}
+use Rattle.std.proofs.Common.{append_assoc}
+use Rattle.std.proofs.lemmas.List.{append-nil}
+use Rattle.tpm_commands.specs.Parameters.{startup, nv_define_space, nv_read, flush_context, policy_or}
+use Rattle.tpm_commands.specs.Parameters.{start_auth_session, pcr_read, policy_pcr, pcr_extend}
 use Rattle.tpm_show.proofs.fields.push_command_fields.Goals as goal
 
 pub returns-in_ok-push-in-NvDefineSpace : goal.returns-in_ok-push-in-NvDefineSpace

@@ -1,4 +1,5 @@
-use Rattle.std.proofs.{Common.{append_assoc}, lemmas.List.{append-nil}}
+use Rattle.std.proofs.Common.{append_assoc}
+use Rattle.std.proofs.lemmas.List.{append-nil}
 use Rattle.tpm_commands.specs.Replies.{nv_read_public_reply, pcr_read_reply, policy_get_digest_reply}
 use Rattle.tpm_show.proofs.fields.push_reply_fields.Goals as goal
 

@@ -1,5 +1,8 @@
-use Rattle.std.proofs.{Common.{rules, ◌≡◌, ℕ, List, map, find, ◌==◌, option_map, Option, Bor}, lemmas.Iterator.{YieldsList-from_slice, Search.{find_from_yields_List}}}
-use Rattle.tpm_show.specs.{declared.meaning.Meaning.{Meaning}, Meanings.{meaning_as, meaning_in}}
+use Rattle.std.proofs.Common.{rules, ◌≡◌, ℕ, List, map, find, ◌==◌, option_map, Option, Bor}
+use Rattle.std.proofs.lemmas.Iterator.Search.{find_from_yields_List}
+use Rattle.std.proofs.lemmas.Iterator.{YieldsList-from_slice}
+use Rattle.tpm_show.specs.declared.meaning.Meaning.{Meaning}
+use Rattle.tpm_show.specs.Meanings.{meaning_as, meaning_in}
 use Rattle.tpm_text.proofs.Tables.{found_as}
 use Rattle.tpm_show.proofs.meaning.look_up.Goals as goal
 

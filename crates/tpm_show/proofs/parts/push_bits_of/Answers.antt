@@ -1,4 +1,5 @@
-use Rattle.std.proofs.{Common.{◌<◌}, lemmas.List.Elements.{All-from_recursion}}
+use Rattle.std.proofs.Common.{◌<◌}
+use Rattle.std.proofs.lemmas.List.Elements.{All-from_recursion}
 use Rattle.tpm_text.specs.declared.named.Named.{Named}
 use Rattle.tpm_show.proofs.parts.push_bits_of.Goals as goal
 

@@ -1,4 +1,5 @@
-use Rattle.std.{proofs.Common.{◌≡◌, ◌++◌, ◌+◌, ◌-◌, ◌≤◌, filter, string_bytes}, specs.List.{range_with_len}}
+use Rattle.std.proofs.Common.{◌≡◌, ◌++◌, ◌+◌, ◌-◌, ◌≤◌, filter, string_bytes}
+use Rattle.std.specs.List.{range_with_len}
 use Rattle.tpm_types.specs.Tpms.{is_selected}
 use Rattle.tpm_text.specs.Text.{lines_from}
 use Rattle.tpm_show.specs.Parts.{register_entry, register_parts}

@@ -1,4 +1,5 @@
-use Rattle.std.proofs.{Common.{refl}, lemmas.Result.{err_from_is_err_and}}
+use Rattle.std.proofs.Common.{refl}
+use Rattle.std.proofs.lemmas.Result.{err_from_is_err_and}
 use Rattle.tpm_show.proofs.told.command_and_areas.Goals as goal
 
 pub returns-in_err-command-clause-err : goal.returns-in_err-command-clause-err

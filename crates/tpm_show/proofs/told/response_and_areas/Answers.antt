@@ -1,5 +1,8 @@
-use Rattle.std.proofs.{Common.{refl}, lemmas.Result.{err_from_is_err_and}}
-use Rattle.tpm_wire.{specs.Buffers.{buffer}, proofs.{Buffers.{buffer_sound}, Whole.{exactly_one}}}
+use Rattle.std.proofs.Common.{refl}
+use Rattle.std.proofs.lemmas.Result.{err_from_is_err_and}
+use Rattle.tpm_wire.specs.Buffers.{buffer}
+use Rattle.tpm_wire.proofs.Buffers.{buffer_sound}
+use Rattle.tpm_wire.proofs.Whole.{exactly_one}
 use Rattle.tpm_buffer.specs.Responses.{reply_cut}
 use Rattle.tpm_show.proofs.told.response_and_areas.Goals as goal
 

@@ -1,7 +1,9 @@
-use Rattle.std.proofs.{Common.{◌≡◌, ◌+◌, List, ◌∷◌, [], ◌++◌, length, take, subst, sym, ap, ◌∙◌, ℕ, arith}, lemmas.List.{take_all, take_more}}
+use Rattle.std.proofs.Common.{◌≡◌, ◌+◌, List, ◌∷◌, [], ◌++◌, length, take, subst, sym, ap, ◌∙◌, ℕ, arith}
+use Rattle.std.proofs.lemmas.List.{take_all, take_more}
 use Rattle.tpm_types.specs.declared.alg.Alg.{Alg}
 use Rattle.tpm_model.specs.Registers.Change.{Extend}
-use Rattle.tpm_store.{specs.Banks.{Holds, changed}, proofs.Values.{extend_more}}
+use Rattle.tpm_store.specs.Banks.{Holds, changed}
+use Rattle.tpm_store.proofs.Values.{extend_more}
 use Rattle.tpm_store.proofs.banks.extend.Goals as goal
 
 pub loop-entry-preserved : goal.loop-entry-preserved

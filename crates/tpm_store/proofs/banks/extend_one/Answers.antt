@@ -1,7 +1,9 @@
 use Rattle.std.proofs.Common.{◌≡◌, ◌+◌, ◌-◌, ◌++◌, arith}
 use Rattle.tpm_types.specs.Alg.{digest_len}
-use Rattle.tpm_hmac.{specs.Hashes.{digest}, proofs.DigestLengths.{length-digest}}
-use Rattle.tpm_store.{specs.Banks.{value_at}, proofs.Places.{written}}
+use Rattle.tpm_hmac.specs.Hashes.{digest}
+use Rattle.tpm_hmac.proofs.DigestLengths.{length-digest}
+use Rattle.tpm_store.specs.Banks.{value_at}
+use Rattle.tpm_store.proofs.Places.{written}
 use Rattle.tpm_store.proofs.banks.extend_one.Goals as goal
 
 pub returns : goal.returns

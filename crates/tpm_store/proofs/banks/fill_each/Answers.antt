@@ -1,6 +1,7 @@
 use Rattle.std.proofs.Common.{◌∙◌, arith, refl}
 use Rattle.tpm_types.proofs.Algs.{bank_at}
-use Rattle.tpm_store.{specs.Banks.{filled_but_last}, proofs.Values.{first_none, first_more, first_all}}
+use Rattle.tpm_store.specs.Banks.{filled_but_last}
+use Rattle.tpm_store.proofs.Values.{first_none, first_more, first_all}
 use Rattle.tpm_store.proofs.banks.fill_each.Goals as goal
 
 pub loop-alg-init : goal.loop-alg-init

@@ -1,5 +1,6 @@
 use Rattle.std.specs.Prelude.{◌≡◌, length}
-use Rattle.tpm_store.{specs.Banks.{Holds, value_at, filled_but_last}, proofs.Values.{with_first}}
+use Rattle.tpm_store.specs.Banks.{Holds, value_at, filled_but_last}
+use Rattle.tpm_store.proofs.Values.{with_first}
 use Rattle.tpm_store.proofs.banks.fill_each.Given as goal
 
 abbrev pub invariant-loop-alg : goal.invariant-loop-alg

@@ -1,4 +1,5 @@
-use Rattle.tpm_store.{specs.Banks.{Holds}, proofs.Values.{starting}}
+use Rattle.tpm_store.specs.Banks.{Holds}
+use Rattle.tpm_store.proofs.Values.{starting}
 use Rattle.tpm_store.proofs.banks.start.Given as goal
 
 abbrev pub invariant-loop-register : goal.invariant-loop-register

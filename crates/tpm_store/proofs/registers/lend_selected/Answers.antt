@@ -1,7 +1,10 @@
-use Rattle.std.proofs.{Common.{ℕ, List, ◌∷◌, [], ◌++◌, ◌∙◌, ap, sym, map, filter, take, Bor, arith}, lemmas.List.{map-append}}
+use Rattle.std.proofs.Common.{ℕ, List, ◌∷◌, [], ◌++◌, ◌∙◌, ap, sym, map, filter, take, Bor, arith}
+use Rattle.std.proofs.lemmas.List.{map-append}
 use Rattle.tpm_types.specs.Tpms.{is_selected}
 use Rattle.tpm_model.specs.Registers.{all_registers}
-use Rattle.tpm_store.{specs.Banks.{value_at}, proofs.{Choice.{filter_more, filter_same, register_more, values_more}, registers.lend_selected.Goals.{then-is_selected, else-is_selected}}}
+use Rattle.tpm_store.specs.Banks.{value_at}
+use Rattle.tpm_store.proofs.Choice.{filter_more, filter_same, register_more, values_more}
+use Rattle.tpm_store.proofs.registers.lend_selected.Goals.{then-is_selected, else-is_selected}
 use Rattle.tpm_store.proofs.registers.lend_selected.Goals as goal
 
 pub loop-register-preserved : goal.loop-register-preserved

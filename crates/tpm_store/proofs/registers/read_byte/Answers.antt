@@ -1,5 +1,11 @@
-use Rattle.std.proofs.{Common.{◌∙◌, sym, length, arith, ◌*◌, ◌+◌}, lemmas.Bool.Decides.{nat_tests}}
-use Rattle.tpm_store.{specs.Banks.{value_at}, proofs.{Choice.{below, chosen_more, chosen_same, chosen_full, bits_more, small_still, smaller_still, values_more, count_is}, registers.read_byte.Goals.{then-not-is_full+then-is_selected, else-not-is_full, else-not-is_full-via-then-not-is_full+else-is_selected, else-not-is_full-via-else-not-is_full}}}
+use Rattle.std.proofs.Common.{◌∙◌, sym, length, arith, ◌*◌, ◌+◌}
+use Rattle.std.proofs.lemmas.Bool.Decides.{nat_tests}
+use Rattle.tpm_store.specs.Banks.{value_at}
+use Rattle.tpm_store.proofs.Choice.{below, chosen_more, chosen_same, chosen_full, bits_more, small_still, smaller_still}
+use Rattle.tpm_store.proofs.Choice.{values_more, count_is}
+use Rattle.tpm_store.proofs.registers.read_byte.Goals.{then-not-is_full+then-is_selected, else-not-is_full}
+use Rattle.tpm_store.proofs.registers.read_byte.Goals.{else-not-is_full-via-then-not-is_full+else-is_selected}
+use Rattle.tpm_store.proofs.registers.read_byte.Goals.{else-not-is_full-via-else-not-is_full}
 use Rattle.tpm_store.proofs.registers.read_byte.Goals as goal
 
 pub loop-bit-preserved : goal.loop-bit-preserved

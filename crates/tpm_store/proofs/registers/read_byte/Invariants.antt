@@ -1,5 +1,6 @@
 use Rattle.std.specs.Prelude.{◌≡◌, ◌<◌, ◌^◌, ◌++◌, length, map, take}
-use Rattle.tpm_store.specs.{Select.{registers_of, chosen, bits_of}, Banks.{value_at}}
+use Rattle.tpm_store.specs.Select.{registers_of, chosen, bits_of}
+use Rattle.tpm_store.specs.Banks.{value_at}
 use Rattle.tpm_store.proofs.registers.read_byte.Given as goal
 
 abbrev pub invariant-loop-bit : goal.invariant-loop-bit

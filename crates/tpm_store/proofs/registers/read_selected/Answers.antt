@@ -1,6 +1,9 @@
 use Rattle.std.proofs.Common.{ℕ, List, ◌∷◌, [], ◌++◌, ◌∙◌, ap, sym, length, map, append_assoc}
 use Rattle.tpm_types.specs.declared.tpms.Selection.{Selection}
-use Rattle.tpm_store.{specs.{Select.{registers_of, chosen, bits_of}, Banks.{value_at}}, proofs.{Choice.{count_is}, Entries.{chosen_is, select_of_first, map_three}}}
+use Rattle.tpm_store.specs.Select.{registers_of, chosen, bits_of}
+use Rattle.tpm_store.specs.Banks.{value_at}
+use Rattle.tpm_store.proofs.Choice.{count_is}
+use Rattle.tpm_store.proofs.Entries.{chosen_is, select_of_first, map_three}
 use Rattle.tpm_store.proofs.registers.read_selected.Goals as goal
 
 pub returns-clause-selection : goal.returns-clause-selection

@@ -1,5 +1,7 @@
-use Rattle.std.proofs.{Common.{ap, ◌∙◌, arith}, lemmas.List.{take_rest}}
-use Rattle.tpm_stream.{specs.Frames.{stated}, proofs.Framed.{pushes_short, pushes_broken, pushes_part, pushes_ready}}
+use Rattle.std.proofs.Common.{ap, ◌∙◌, arith}
+use Rattle.std.proofs.lemmas.List.{take_rest}
+use Rattle.tpm_stream.specs.Frames.{stated}
+use Rattle.tpm_stream.proofs.Framed.{pushes_short, pushes_broken, pushes_part, pushes_ready}
 use Rattle.tpm_stream.proofs.framer.go_on.Goals as goal
 
 pub returns-then-len-lt-SIZE_END-clause-pushes : goal.returns-then-len-lt-SIZE_END-clause-pushes

@@ -1,5 +1,8 @@
-use Rattle.std.{proofs.{Common.{◌≡◌, ◌++◌, List, ℕ, length, arith, sym, subst, ◌∙◌, ap}, lemmas.Result.{err_from_is_err_and}}, specs.Io.KnownBytes.{Consumes}}
-use Rattle.tpm_stream.{specs.Frames.{IsFrame}, proofs.Filled.{failed_inside, ended_inside, whole_frame, part_length, whole_buffer, short_read}}
+use Rattle.std.proofs.Common.{◌≡◌, ◌++◌, List, ℕ, length, arith, sym, subst, ◌∙◌, ap}
+use Rattle.std.proofs.lemmas.Result.{err_from_is_err_and}
+use Rattle.std.specs.Io.KnownBytes.{Consumes}
+use Rattle.tpm_stream.specs.Frames.{IsFrame}
+use Rattle.tpm_stream.proofs.Filled.{failed_inside, ended_inside, whole_frame, part_length, whole_buffer, short_read}
 use Rattle.tpm_stream.proofs.reader.read_into.Goals as goal
 
 pub returns-then-count-lt-SIZE_END-clause-frame : goal.returns-then-count-lt-SIZE_END-clause-frame

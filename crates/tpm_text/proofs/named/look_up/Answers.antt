@@ -1,5 +1,9 @@
-use Rattle.std.proofs.{Common.{rules, ◌≡◌, ℕ, List, map, find, ◌==◌, option_map, Option, Bor}, lemmas.Iterator.{YieldsList-from_slice, Search.{find_from_yields_List}}}
-use Rattle.tpm_text.{specs.{declared.named.Named.{Named}, Named.{named_as, named_in}}, proofs.Tables.{found_as}}
+use Rattle.std.proofs.Common.{rules, ◌≡◌, ℕ, List, map, find, ◌==◌, option_map, Option, Bor}
+use Rattle.std.proofs.lemmas.Iterator.Search.{find_from_yields_List}
+use Rattle.std.proofs.lemmas.Iterator.{YieldsList-from_slice}
+use Rattle.tpm_text.specs.declared.named.Named.{Named}
+use Rattle.tpm_text.specs.Named.{named_as, named_in}
+use Rattle.tpm_text.proofs.Tables.{found_as}
 use Rattle.tpm_text.proofs.named.look_up.Goals as goal
 
 found : (table : List Named) (n : ℕ) (o : Option (Bor Named)) → option_map (λ m. m.now) o ≡ find (λ m. m.number == n) table → option_map (λ m. named_as m.now) o ≡ named_in (map named_as table) n

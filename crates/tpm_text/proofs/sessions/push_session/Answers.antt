@@ -1,5 +1,6 @@
 use Rattle.std.proofs.Common.{append_assoc}
-use Rattle.tpm_text.{specs.Text.{session_text}, proofs.Padded.{padded_integral-zeros}}
+use Rattle.tpm_text.specs.Text.{session_text}
+use Rattle.tpm_text.proofs.Padded.{padded_integral-zeros}
 use Rattle.tpm_text.proofs.sessions.push_session.Goals as goal
 
 pub returns : goal.returns

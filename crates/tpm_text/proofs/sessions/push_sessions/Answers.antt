@@ -1,5 +1,7 @@
 use Rattle.std.proofs.Common.{◌∙◌, sym, arith}
-use Rattle.tpm_text.{specs.Text.{session_text}, proofs.{Listed.{lines_further, is_within}, sessions.push_sessions.Goals.{in-Some+in_ok-push_session, in_default}}}
+use Rattle.tpm_text.specs.Text.{session_text}
+use Rattle.tpm_text.proofs.Listed.{lines_further, is_within}
+use Rattle.tpm_text.proofs.sessions.push_sessions.Goals.{in-Some+in_ok-push_session, in_default}
 use Rattle.tpm_text.proofs.sessions.push_sessions.Goals as goal
 
 pub loop-before-preserved : goal.loop-before-preserved

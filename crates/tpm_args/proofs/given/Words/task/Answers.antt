@@ -1,6 +1,14 @@
-use Rattle.std.{proofs.{Common.{◌≡◌, ap, sym, ◌∙◌, subst, map, string_bytes, Option}, lemmas.Result.{err_from_is_err_and}}, specs.Option.{MatchOption}}
-use Rattle.clap.specs.{Takes.{takes}, Simple.{App, subcommand_rows_of}, declared.builder.value_parser.ValueParser.TheVariants.{Names}}
-use Rattle.tpm_args.{specs.{declared.task.Task.{Task}, Names.{AreAllNames}, Program.{program_app}, Task.{Asks, AsksNothing}}, proofs.Found.{met_is, memory_or, refuses, stops}}
+use Rattle.std.proofs.Common.{◌≡◌, ap, sym, ◌∙◌, subst, map, string_bytes, Option}
+use Rattle.std.proofs.lemmas.Result.{err_from_is_err_and}
+use Rattle.std.specs.Option.{MatchOption}
+use Rattle.clap.specs.Takes.{takes}
+use Rattle.clap.specs.Simple.{App, subcommand_rows_of}
+use Rattle.clap.specs.declared.builder.value_parser.ValueParser.TheVariants.{Names}
+use Rattle.tpm_args.specs.declared.task.Task.{Task}
+use Rattle.tpm_args.specs.Names.{AreAllNames}
+use Rattle.tpm_args.specs.Program.{program_app}
+use Rattle.tpm_args.specs.Task.{Asks, AsksNothing}
+use Rattle.tpm_args.proofs.Found.{met_is, memory_or, refuses, stops}
 use Rattle.tpm_args.proofs.given.Words.task.Goals as goal
 
 pub returns-in-Some-clause-ok : goal.returns-in-Some-clause-ok

@@ -1,10 +1,14 @@
 use Rattle.std.proofs.Common.{◌≡◌, ℕ, List, ◌∷◌, [], length, ap, ◌∙◌, subst}
 use Rattle.tpm_types.specs.declared.tpms.Auth.{Auth}
 use Rattle.tpm_wire.specs.Spelling.{spelling, Fits}
-use Rattle.tpm_commands.specs.declared.{code.CommandCode.{CommandCode}, command.{Command.{Command}, CommandBody.{CommandBody}}}
+use Rattle.tpm_commands.specs.declared.code.CommandCode.{CommandCode}
+use Rattle.tpm_commands.specs.declared.command.Command.{Command}
+use Rattle.tpm_commands.specs.declared.command.CommandBody.{CommandBody}
 use Rattle.tpm_buffer.specs.Commands.{command, code_for, with_auths}
 use Rattle.tpm_model.specs.Callers.{Seal, seal_key}
-use Rattle.tpm_caller.{specs.Sent.{Sent, hmac_key}, proofs.{HmacPlace.{IsUnsigned, unsigned, room, signed, has_spelling}, caller.Caller.seal_into.Goals.{After-as_slice-3}}}
+use Rattle.tpm_caller.specs.Sent.{Sent, hmac_key}
+use Rattle.tpm_caller.proofs.HmacPlace.{IsUnsigned, unsigned, room, signed, has_spelling}
+use Rattle.tpm_caller.proofs.caller.Caller.seal_into.Goals.{After-as_slice-3}
 use Rattle.tpm_caller.proofs.caller.Caller.seal_into.Goals as goal
 
 abbrev as_command : CommandBody → List Auth → Command

@@ -1,6 +1,7 @@
 use Rattle.std.proofs.Common.{◌≡◌, sym, ap, ◌∙◌}
 use Rattle.tpm_model.specs.Callers.{Waiting, opened_response}
-use Rattle.tpm_caller.{specs.Faults.{opening_of}, proofs.Opening.{open_done, response_ok, decoded}}
+use Rattle.tpm_caller.specs.Faults.{opening_of}
+use Rattle.tpm_caller.proofs.Opening.{open_done, response_ok, decoded}
 use Rattle.tpm_caller.proofs.pending.Pending.accept.Goals as goal
 
 pub returns-in-Err : goal.returns-in-Err

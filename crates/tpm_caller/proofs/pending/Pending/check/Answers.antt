@@ -1,9 +1,14 @@
-use Rattle.std.proofs.{Common.{◌≡◌, true, length, sym, ap, ◌∙◌, subst}, lemmas.Bool.{both_ways, eqb-true}}
+use Rattle.std.proofs.Common.{◌≡◌, true, length, sym, ap, ◌∙◌, subst}
+use Rattle.std.proofs.lemmas.Bool.{both_ways, eqb-true}
 use Rattle.tpm_types.specs.declared.tpms.AuthReply.{AuthReply}
 use Rattle.tpm_commands.specs.Handles.{needs_authorization}
 use Rattle.tpm_model.specs.Callers.{Waiting}
 use Rattle.tpm_caller.specs.declared.waiting.CallerFault.TheVariants as faults
-use Rattle.tpm_caller.{specs.Sent.{has_no_params}, proofs.{Opening.{HasOne, HasMac, mac_is, FaultFor, no_cut, not_one_for, other_length_for, other_mac_for, open_for}, FromCut.{plain_wrong_mac}, pending.Pending.check.Goals.{After-as_slice-4}}}
+use Rattle.tpm_caller.specs.Sent.{has_no_params}
+use Rattle.tpm_caller.proofs.Opening.{HasOne, HasMac, mac_is, FaultFor, no_cut, not_one_for, other_length_for}
+use Rattle.tpm_caller.proofs.Opening.{other_mac_for, open_for}
+use Rattle.tpm_caller.proofs.FromCut.{plain_wrong_mac}
+use Rattle.tpm_caller.proofs.pending.Pending.check.Goals.{After-as_slice-4}
 use Rattle.tpm_caller.proofs.pending.Pending.check.Goals as goal
 
 abbrev Authorized : Waiting → Type 0

@@ -1,9 +1,16 @@
-use Rattle.std.{proofs.Common.{◌≡◌, Bool, Option, Some, None, Result, Ok, sym, ap, ◌∙◌}, specs.Prelude.{if◌then◌else◌}}
-use Rattle.tpm_wire.{specs.Buffers.{buffer}, proofs.{Buffers.{buffer_sound}, Whole.{spells_read}}}
+use Rattle.std.proofs.Common.{◌≡◌, Bool, Option, Some, None, Result, Ok, sym, ap, ◌∙◌}
+use Rattle.std.specs.Prelude.{if◌then◌else◌}
+use Rattle.tpm_wire.specs.Buffers.{buffer}
+use Rattle.tpm_wire.proofs.Buffers.{buffer_sound}
+use Rattle.tpm_wire.proofs.Whole.{spells_read}
 use Rattle.tpm_commands.specs.declared.response.Response.TheVariants as responses
-use Rattle.tpm_buffer.{specs.Responses.{response}, proofs.Answered.{code_spelled}}
-use Rattle.tpm_model.specs.{InStep.{CallerSession}, Callers.{Waiting, caller_of_refusal, given_up}}
-use Rattle.tpm_caller.{specs.Faults.{giving_up_of}, proofs.pending.Pending.give_up.Goals.{then-is_code-via-then-is_code, then-is_code-via-else-is_code+then-is_refused}}
+use Rattle.tpm_buffer.specs.Responses.{response}
+use Rattle.tpm_buffer.proofs.Answered.{code_spelled}
+use Rattle.tpm_model.specs.InStep.{CallerSession}
+use Rattle.tpm_model.specs.Callers.{Waiting, caller_of_refusal, given_up}
+use Rattle.tpm_caller.specs.Faults.{giving_up_of}
+use Rattle.tpm_caller.proofs.pending.Pending.give_up.Goals.{then-is_code-via-then-is_code}
+use Rattle.tpm_caller.proofs.pending.Pending.give_up.Goals.{then-is_code-via-else-is_code+then-is_refused}
 use Rattle.tpm_caller.proofs.pending.Pending.give_up.Goals as goal
 
 abbrev okay : CallerSession → Result CallerSession Waiting

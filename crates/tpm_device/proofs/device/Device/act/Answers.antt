@@ -1,11 +1,15 @@
-use Rattle.std.{proofs.Common.{◌≡◌, ◌∙◌, ℕ, List, refl, ap, subst}, specs.Prelude.{OnOk}}
-use Rattle.tpm_types.specs.declared.handle_sets.{NvAuthHandle.{NvAuthHandle}, BindHandle.{BindHandle}}
-use Rattle.tpm_commands.specs.{declared.command.CommandBody.{CommandBody}, Handles.{first, second}}
+use Rattle.std.proofs.Common.{◌≡◌, ◌∙◌, ℕ, List, refl, ap, subst}
+use Rattle.std.specs.Prelude.{OnOk}
+use Rattle.tpm_types.specs.declared.handle_sets.NvAuthHandle.{NvAuthHandle}
+use Rattle.tpm_types.specs.declared.handle_sets.BindHandle.{BindHandle}
+use Rattle.tpm_commands.specs.declared.command.CommandBody.{CommandBody}
+use Rattle.tpm_commands.specs.Handles.{first, second}
 use Rattle.tpm_commands.specs.declared.command.CommandBody.TheVariants as bodies
 use Rattle.tpm_commands.specs.declared.command_parameters.Params.TheVariants as params
 use Rattle.tpm_buffer.specs.Commands.{body_from, bind_in, nv_auth_in}
 use Rattle.tpm_model.specs.Actions.{action}
-use Rattle.tpm_device.{specs.Stands.{holds, acted, Steps}, proofs.Further.{always, unchanged}}
+use Rattle.tpm_device.specs.Stands.{holds, acted, Steps}
+use Rattle.tpm_device.proofs.Further.{always, unchanged}
 use Rattle.tpm_device.proofs.device.Device.act.Goals as goal
 
 pub returns-in-Startup-clause-answer : goal.returns-in-Startup-clause-answer

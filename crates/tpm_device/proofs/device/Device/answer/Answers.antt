@@ -1,5 +1,7 @@
 use Rattle.tpm_model.specs.Answers.{outcome}
-use Rattle.tpm_device.{specs.Stands.{holds}, proofs.{Own.{own_done}, Passing.{reply_told}}}
+use Rattle.tpm_device.specs.Stands.{holds}
+use Rattle.tpm_device.proofs.Own.{own_done}
+use Rattle.tpm_device.proofs.Passing.{reply_told}
 use Rattle.tpm_device.proofs.device.Device.answer.Goals as goal
 
 pub returns-in_default-clause-answer : goal.returns-in_default-clause-answer

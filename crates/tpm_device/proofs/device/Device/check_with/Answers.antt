@@ -1,9 +1,11 @@
-use Rattle.std.{proofs.Common.{List, ap, ◌∙◌}, specs.Prelude.{length}}
+use Rattle.std.proofs.Common.{List, ap, ◌∙◌}
+use Rattle.std.specs.Prelude.{length}
 use Rattle.tpm_types.specs.declared.tpms.Auth.{Auth}
 use Rattle.tpm_commands.specs.Handles.{first}
 use Rattle.tpm_model.specs.Entities.{entity_of}
 use Rattle.tpm_session.specs.Entities.{entity_in}
-use Rattle.tpm_device.{specs.Stands.{holds}, proofs.Checked.{checked_by, first_auth}}
+use Rattle.tpm_device.specs.Stands.{holds}
+use Rattle.tpm_device.proofs.Checked.{checked_by, first_auth}
 use Rattle.tpm_device.proofs.device.Device.check_with.Goals as goal
 
 pub returns : goal.returns

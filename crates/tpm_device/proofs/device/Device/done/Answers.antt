@@ -2,7 +2,9 @@ use Rattle.std.proofs.Common.{rules, ◌≡◌, Err, ap, ◌∙◌}
 use Rattle.tpm_commands.specs.Handles.{needs_authorization}
 use Rattle.tpm_buffer.specs.Commands.{body_from}
 use Rattle.tpm_model.proofs.OwnCode.{code_again, needs_it}
-use Rattle.tpm_device.{specs.Stands.{holds}, proofs.{Checked.{is_loaded}, Passing.{was_done, was_refused}}}
+use Rattle.tpm_device.specs.Stands.{holds}
+use Rattle.tpm_device.proofs.Checked.{is_loaded}
+use Rattle.tpm_device.proofs.Passing.{was_done, was_refused}
 use Rattle.tpm_device.proofs.device.Device.done.Goals as goal
 
 pub roll-requires-clause-loaded : goal.roll-requires-clause-loaded

@@ -1,5 +1,6 @@
 use Rattle.std.proofs.Common.{rules, ◌≡◌, Err, refl, sym}
-use Rattle.tpm_device.{specs.Stands.{holds}, proofs.Passing.{sessions_permit, sessions_refuse, outcome_refuses, some_code, some_codes}}
+use Rattle.tpm_device.specs.Stands.{holds}
+use Rattle.tpm_device.proofs.Passing.{sessions_permit, sessions_refuse, outcome_refuses, some_code, some_codes}
 use Rattle.tpm_device.proofs.device.Device.outcome.Goals as goal
 
 pub performed-requires : goal.performed-requires

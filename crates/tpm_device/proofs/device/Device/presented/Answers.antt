@@ -1,5 +1,6 @@
 use Rattle.std.proofs.Common.{rules, ◌≡◌, Err, sym}
-use Rattle.tpm_device.{specs.Stands.{holds}, proofs.Passing.{is_read, tag_refused, areas_refused, admitted}}
+use Rattle.tpm_device.specs.Stands.{holds}
+use Rattle.tpm_device.proofs.Passing.{is_read, tag_refused, areas_refused, admitted}
 use Rattle.tpm_device.proofs.device.Device.presented.Goals as goal
 
 pub returns-in_err-check_tag-clause-reads : goal.returns-in_err-check_tag-clause-reads

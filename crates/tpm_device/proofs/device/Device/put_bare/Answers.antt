@@ -1,7 +1,14 @@
-use Rattle.std.{proofs.Common.{rules, ◌≡◌, true, List, [], ℕ, sym, ap, ◌∙◌}, specs.Prelude.{◌==◌}}
-use Rattle.tpm_types.specs.{declared.tpms.AuthReply.{AuthReply}, Handles.{rs_pw}}
-use Rattle.tpm_model.specs.{Answers.{reply_params}, Authorization.{reply_auths}, Premises.{code_in}}
-use Rattle.tpm_device.{specs.Stands.{any_bare, reply_bytes}, proofs.{WithoutParameters.{bare_bytes, bare_params}, Checked.{first_auth, password_replies, none_replied, no_auths}, Passing.{reply_is_done}}}
+use Rattle.std.proofs.Common.{rules, ◌≡◌, true, List, [], ℕ, sym, ap, ◌∙◌}
+use Rattle.std.specs.Prelude.{◌==◌}
+use Rattle.tpm_types.specs.declared.tpms.AuthReply.{AuthReply}
+use Rattle.tpm_types.specs.Handles.{rs_pw}
+use Rattle.tpm_model.specs.Answers.{reply_params}
+use Rattle.tpm_model.specs.Authorization.{reply_auths}
+use Rattle.tpm_model.specs.Premises.{code_in}
+use Rattle.tpm_device.specs.Stands.{any_bare, reply_bytes}
+use Rattle.tpm_device.proofs.WithoutParameters.{bare_bytes, bare_params}
+use Rattle.tpm_device.proofs.Checked.{first_auth, password_replies, none_replied, no_auths}
+use Rattle.tpm_device.proofs.Passing.{reply_is_done}
 use Rattle.tpm_device.proofs.device.Device.put_bare.Goals as goal
 
 pub returns-in-None-clause-bytes : goal.returns-in-None-clause-bytes

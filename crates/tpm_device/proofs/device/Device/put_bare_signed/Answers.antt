@@ -1,7 +1,8 @@
 use Rattle.std.proofs.Common.{List, sym, ap, ◌∙◌}
 use Rattle.tpm_types.specs.declared.tpms.AuthReply.{AuthReply}
 use Rattle.tpm_model.specs.Premises.{code_in}
-use Rattle.tpm_device.{specs.Stands.{any_bare, reply_bytes}, proofs.Passing.{reply_is_done}}
+use Rattle.tpm_device.specs.Stands.{any_bare, reply_bytes}
+use Rattle.tpm_device.proofs.Passing.{reply_is_done}
 use Rattle.tpm_device.proofs.device.Device.put_bare_signed.Goals as goal
 
 pub returns-clause-bytes : goal.returns-clause-bytes

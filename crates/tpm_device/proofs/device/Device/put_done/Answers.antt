@@ -1,7 +1,12 @@
-use Rattle.std.{proofs.Common.{rules, ◌≡◌, true, List, [], ◌∷◌, sym, ap, ◌∙◌}, specs.Prelude.{◌==◌}}
-use Rattle.tpm_types.specs.{declared.tpms.AuthReply.{AuthReply}, Handles.{rs_pw}}
-use Rattle.tpm_model.specs.{Answers.{reply_params}, Premises.{code_in}}
-use Rattle.tpm_device.{specs.Stands.{reply_bytes}, proofs.{Checked.{first_auth, password_replies}, Passing.{reply_is_done}}}
+use Rattle.std.proofs.Common.{rules, ◌≡◌, true, List, [], ◌∷◌, sym, ap, ◌∙◌}
+use Rattle.std.specs.Prelude.{◌==◌}
+use Rattle.tpm_types.specs.declared.tpms.AuthReply.{AuthReply}
+use Rattle.tpm_types.specs.Handles.{rs_pw}
+use Rattle.tpm_model.specs.Answers.{reply_params}
+use Rattle.tpm_model.specs.Premises.{code_in}
+use Rattle.tpm_device.specs.Stands.{reply_bytes}
+use Rattle.tpm_device.proofs.Checked.{first_auth, password_replies}
+use Rattle.tpm_device.proofs.Passing.{reply_is_done}
 use Rattle.tpm_device.proofs.device.Device.put_done.Goals as goal
 
 pub returns-in-None-clause-done : goal.returns-in-None-clause-done

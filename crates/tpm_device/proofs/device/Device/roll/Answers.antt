@@ -2,8 +2,10 @@ use Rattle.std.proofs.Common.{List, ◌∷◌, sym, subst, ◌∙◌}
 use Rattle.tpm_types.specs.declared.tpms.Auth.{Auth}
 use Rattle.tpm_commands.specs.Handles.{needs_authorization}
 use Rattle.tpm_buffer.specs.Commands.{code_for, with_auths}
-use Rattle.tpm_model.{specs.Steps.{Accepted}, proofs.OwnCode.{needs_it}}
-use Rattle.tpm_device.{specs.Stands.{Stands}, proofs.Checked.{first_auth, no_auths}}
+use Rattle.tpm_model.specs.Steps.{Accepted}
+use Rattle.tpm_model.proofs.OwnCode.{needs_it}
+use Rattle.tpm_device.specs.Stands.{Stands}
+use Rattle.tpm_device.proofs.Checked.{first_auth, no_auths}
 use Rattle.tpm_device.proofs.device.Device.roll.Goals as goal
 
 pub roll_session-requires : goal.roll_session-requires

@@ -1,7 +1,9 @@
 use Rattle.std.proofs.Common.{◌∷◌, refl, sym, ap, ◌∙◌}
 use Rattle.tpm_types.specs.Tpma.{continues}
 use Rattle.tpm_buffer.specs.Commands.{with_auths}
-use Rattle.tpm_device.{specs.Stands.{step_of}, proofs.{Further.{its_sessions, sessions_stay, with_sessions, by_a_password}, Checked.{named_session, named_none}}}
+use Rattle.tpm_device.specs.Stands.{step_of}
+use Rattle.tpm_device.proofs.Further.{its_sessions, sessions_stay, with_sessions, by_a_password}
+use Rattle.tpm_device.proofs.Checked.{named_session, named_none}
 use Rattle.tpm_device.proofs.device.Device.roll_session.Goals as goal
 
 pub roll-requires : goal.roll-requires

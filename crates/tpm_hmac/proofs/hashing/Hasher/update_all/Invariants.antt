@@ -1,4 +1,5 @@
-use Rattle.std.{proofs.Common.{ℕ, List, ◌++◌, take}, specs.List.{flat_map}}
+use Rattle.std.proofs.Common.{ℕ, List, ◌++◌, take}
+use Rattle.std.specs.List.{flat_map}
 use Rattle.tpm_types.specs.declared.alg.Alg.{Alg}
 use Rattle.tpm_hmac.specs.Hashers.{Holding}
 use Rattle.tpm_hmac.proofs.hashing.Hasher.update_all.Given as goal

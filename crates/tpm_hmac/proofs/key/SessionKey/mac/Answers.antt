@@ -1,5 +1,9 @@
-use Rattle.std.{proofs.Common.{length, ap, ◌∙◌}, specs.List.{flat_map}}
-use Rattle.tpm_hmac.{specs.{Hmac.{hmac}, Keys.{Key}}, proofs.{DigestLengths.{length-hmac}, Kept.{by_sha1, by_sha256}}}
+use Rattle.std.proofs.Common.{length, ap, ◌∙◌}
+use Rattle.std.specs.List.{flat_map}
+use Rattle.tpm_hmac.specs.Hmac.{hmac}
+use Rattle.tpm_hmac.specs.Keys.{Key}
+use Rattle.tpm_hmac.proofs.DigestLengths.{length-hmac}
+use Rattle.tpm_hmac.proofs.Kept.{by_sha1, by_sha256}
 use Rattle.tpm_hmac.proofs.key.SessionKey.mac.Goals as goal
 
 pub returns-in-Sha1 : goal.returns-in-Sha1

@@ -1,5 +1,7 @@
-use Rattle.std.proofs.{Common.{◌≡◌, ◌+◌, drop, arith, rules}, lemmas.List.{take-append-drop}}
-use Rattle.tpm_text.{specs.declared.status.Status.TheVariants.{Done, Refused}, proofs.Joins.{joins_texts}}
+use Rattle.std.proofs.Common.{◌≡◌, ◌+◌, drop, arith, rules}
+use Rattle.std.proofs.lemmas.List.{take-append-drop}
+use Rattle.tpm_text.specs.declared.status.Status.TheVariants.{Done, Refused}
+use Rattle.tpm_text.proofs.Joins.{joins_texts}
 use Rattle.tpm_script.proofs.Scripts.{takes_more, takes_further}
 use Rattle.tpm_script.proofs.script.Run.feed.Goals as goal
 

@@ -1,5 +1,6 @@
 use Rattle.std.proofs.Common.{take, string_bytes}
-use Rattle.tpm_text.specs.{declared.status.Status.TheVariants.{Done}, InputLines.{AddedTo}}
+use Rattle.tpm_text.specs.declared.status.Status.TheVariants.{Done}
+use Rattle.tpm_text.specs.InputLines.{AddedTo}
 use Rattle.tpm_script.specs.Progress.{Takes}
 use Rattle.tpm_script.proofs.script.Run.feed.Given as goal
 

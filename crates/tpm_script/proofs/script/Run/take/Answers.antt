@@ -1,5 +1,9 @@
-use Rattle.std.{proofs.{Common.{◌≡◌, false, [], ◌∷◌, refl, sym, arith, rules, length-append}, lemmas.{List.{append-nil}, Result.{IfOk-weaker}}}, specs.Prelude.{nat_eq}}
-use Rattle.tpm_script.{specs.Progress.{place}, proofs.Scripts.{takes_feed, leads_longer, leads_too_long, ends_longer, ends_too_long}}
+use Rattle.std.proofs.Common.{◌≡◌, false, [], ◌∷◌, refl, sym, arith, rules, length-append}
+use Rattle.std.proofs.lemmas.List.{append-nil}
+use Rattle.std.proofs.lemmas.Result.{IfOk-weaker}
+use Rattle.std.specs.Prelude.{nat_eq}
+use Rattle.tpm_script.specs.Progress.{place}
+use Rattle.tpm_script.proofs.Scripts.{takes_feed, leads_longer, leads_too_long, ends_longer, ends_too_long}
 use Rattle.tpm_text.proofs.InputLines.{no_feed-more}
 use Rattle.tpm_script.proofs.script.Run.take.Goals as goal
 

@@ -1,7 +1,10 @@
-use Rattle.std.{proofs.Common.{List, sym, ap, ◌∙◌}, specs.Prelude.{length}}
+use Rattle.std.proofs.Common.{List, sym, ap, ◌∙◌}
+use Rattle.std.specs.Prelude.{length}
 use Rattle.tpm_types.specs.declared.tpms.Auth.{Auth}
-use Rattle.tpm_model.specs.{Sessions.{loaded}, Authorization.{first_loaded, authorize}}
-use Rattle.tpm_session.{specs.Entities.{entity_in}, proofs.Authorized.{nonempty}}
+use Rattle.tpm_model.specs.Sessions.{loaded}
+use Rattle.tpm_model.specs.Authorization.{first_loaded, authorize}
+use Rattle.tpm_session.specs.Entities.{entity_in}
+use Rattle.tpm_session.proofs.Authorized.{nonempty}
 use Rattle.tpm_session.proofs.sessions.Sessions.authorize.Goals as goal
 
 pub returns : goal.returns

@@ -1,4 +1,5 @@
-use Rattle.std.proofs.{Common.{◌∙◌, ap}, lemmas.Option.{same_Some}}
+use Rattle.std.proofs.Common.{◌∙◌, ap}
+use Rattle.std.proofs.lemmas.Option.{same_Some}
 use Rattle.tpm_model.specs.Sessions.{Session}
 use Rattle.tpm_session.proofs.Asserted.{digest_held}
 use Rattle.tpm_session.proofs.sessions.Sessions.policy_digest.Goals as goal

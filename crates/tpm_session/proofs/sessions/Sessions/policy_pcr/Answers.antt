@@ -1,7 +1,10 @@
 use Rattle.std.proofs.Common.{◌∙◌, ap, sym, option_map}
 use Rattle.tpm_types.specs.declared.alg.Alg.{Alg}
-use Rattle.tpm_model.specs.{Registers.{value_in, composite}, Policies.{Assertion}, Sessions.{slot_of}}
-use Rattle.tpm_session.{specs.Policies.{asserting, with_slot}, proofs.Asserted.{asserts_registers}}
+use Rattle.tpm_model.specs.Registers.{value_in, composite}
+use Rattle.tpm_model.specs.Policies.{Assertion}
+use Rattle.tpm_model.specs.Sessions.{slot_of}
+use Rattle.tpm_session.specs.Policies.{asserting, with_slot}
+use Rattle.tpm_session.proofs.Asserted.{asserts_registers}
 use Rattle.tpm_session.proofs.sessions.Sessions.policy_pcr.Goals as goal
 
 pub returns-clause-asserted : goal.returns-clause-asserted

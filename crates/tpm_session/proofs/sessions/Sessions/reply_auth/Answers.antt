@@ -1,4 +1,5 @@
-use Rattle.tpm_session.{specs.Entities.{entity_in}, proofs.Authorized.{session_replies}}
+use Rattle.tpm_session.specs.Entities.{entity_in}
+use Rattle.tpm_session.proofs.Authorized.{session_replies}
 use Rattle.tpm_session.proofs.sessions.Sessions.reply_auth.Goals as goal
 
 pub returns-in-Ok-Loaded-clause-answer : goal.returns-in-Ok-Loaded-clause-answer

@@ -1,5 +1,9 @@
-use Rattle.std.{proofs.{Common.{◌≡◌, ◌<◌, ◌≤◌, true, false, refl, sym, arith, rules, length}, lemmas.{List.{append-nil}, Result.{on_ok_weaker}}}, specs.Prelude.{nat_eq}}
-use Rattle.tpm_show.{specs.Capture.{is_blank, most_line}, proofs.Captures.{takes_feed, takes_byte, keeps_blank, keeps_byte, keeps_full}}
+use Rattle.std.proofs.Common.{◌≡◌, ◌<◌, ◌≤◌, true, false, refl, sym, arith, rules, length}
+use Rattle.std.proofs.lemmas.List.{append-nil}
+use Rattle.std.proofs.lemmas.Result.{on_ok_weaker}
+use Rattle.std.specs.Prelude.{nat_eq}
+use Rattle.tpm_show.specs.Capture.{is_blank, most_line}
+use Rattle.tpm_show.proofs.Captures.{takes_feed, takes_byte, keeps_blank, keeps_byte, keeps_full}
 use Rattle.tpm_show.proofs.capture.Capture.take.Goals as goal
 
 pub returns-then-byte-eq10 : goal.returns-then-byte-eq10

@@ -1,4 +1,5 @@
-use Rattle.std.proofs.{Common.{append_assoc}, lemmas.List.{append-nil}}
+use Rattle.std.proofs.Common.{append_assoc}
+use Rattle.std.proofs.lemmas.List.{append-nil}
 use Rattle.tpm_types.specs.Tpms.{selection}
 use Rattle.tpm_show.proofs.parts.SelectionHasParts.push_parts.Goals as goal
 

@@ -1,4 +1,5 @@
-use Rattle.std.proofs.{Common.{append_assoc}, lemmas.List.{append-nil}}
+use Rattle.std.proofs.Common.{append_assoc}
+use Rattle.std.proofs.lemmas.List.{append-nil}
 use Rattle.tpm_types.specs.Tpmt.{sym_def, algorithm, mode}
 use Rattle.tpm_show.proofs.parts.SymDefHasParts.push_parts.Goals as goal
 

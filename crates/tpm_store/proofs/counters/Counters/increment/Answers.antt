@@ -1,7 +1,8 @@
 use Rattle.std.proofs.Common.{◌≡◌, List, get_or, length, max, Ok, true, false, refl, sym, ap, ◌∙◌, rules}
 use Rattle.arrayvec.proofs.ArrayVecLemmas.{items-with_items}
 use Rattle.tpm_types.specs.Tpma.{owner_writes}
-use Rattle.tpm_model.specs.{Counters.{Counter, next_value}, Actions.{may}}
+use Rattle.tpm_model.specs.Counters.{Counter, next_value}
+use Rattle.tpm_model.specs.Actions.{may}
 use Rattle.tpm_store.proofs.Found.{entry_found, raised_to, not_raised, increment_is, same_memory}
 use Rattle.tpm_store.proofs.counters.Counters.increment.Goals as goal
 

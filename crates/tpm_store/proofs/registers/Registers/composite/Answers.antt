@@ -1,7 +1,12 @@
-use Rattle.std.{proofs.{Common.{◌≡◌, ℕ, List, ◌∙◌, ap, sym, length, take, Bor, arith}, lemmas.List.{take_all, Folds.{flat_map-map}}}, specs.Prelude.{flat_map}}
+use Rattle.std.proofs.Common.{◌≡◌, ℕ, List, ◌∙◌, ap, sym, length, take, Bor, arith}
+use Rattle.std.proofs.lemmas.List.Folds.{flat_map-map}
+use Rattle.std.proofs.lemmas.List.{take_all}
+use Rattle.std.specs.Prelude.{flat_map}
 use Rattle.tpm_hmac.specs.Hashes.{digest}
 use Rattle.tpm_model.specs.Registers.{selected_values, value_in}
-use Rattle.tpm_store.{specs.Banks.{value_at}, proofs.{Entries.{parts_next, values_same}, Stands.{held_at}}}
+use Rattle.tpm_store.specs.Banks.{value_at}
+use Rattle.tpm_store.proofs.Entries.{parts_next, values_same}
+use Rattle.tpm_store.proofs.Stands.{held_at}
 use Rattle.tpm_store.proofs.registers.Registers.composite.Goals as goal
 
 pub loop-selection-preserved : goal.loop-selection-preserved

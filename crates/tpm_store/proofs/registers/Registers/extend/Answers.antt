@@ -1,5 +1,6 @@
 use Rattle.std.proofs.Common.{◌≡◌, ◌+◌, ◌%◌, ◌^◌, ◌<◌, length, ap, sym, ◌∙◌, ℕ, rules}
-use Rattle.tpm_model.specs.Registers.{updates, Change.{Extend}}
+use Rattle.tpm_model.specs.Registers.Change.{Extend}
+use Rattle.tpm_model.specs.Registers.{updates}
 use Rattle.tpm_store.proofs.Stands.{stands, next_count, counts, counts_none}
 use Rattle.tpm_store.proofs.registers.Registers.extend.Goals as goal
 

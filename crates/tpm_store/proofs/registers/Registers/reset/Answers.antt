@@ -1,6 +1,8 @@
 use Rattle.std.proofs.Common.{◌+◌, ◌%◌}
-use Rattle.tpm_model.specs.Registers.{updates, Change.{Reset}}
-use Rattle.tpm_store.proofs.{Values.{reset_is}, Stands.{stands, next_count}}
+use Rattle.tpm_model.specs.Registers.Change.{Reset}
+use Rattle.tpm_model.specs.Registers.{updates}
+use Rattle.tpm_store.proofs.Values.{reset_is}
+use Rattle.tpm_store.proofs.Stands.{stands, next_count}
 use Rattle.tpm_store.proofs.registers.Registers.reset.Goals as goal
 
 pub returns-clause-reset : goal.returns-clause-reset

@@ -1,6 +1,9 @@
-use Rattle.std.proofs.{Common.{◌≡◌, ◌∙◌, ap, length, length-append, take, arith, ◌∷◌, []}, lemmas.List.{take_all}}
+use Rattle.std.proofs.Common.{◌≡◌, ◌∙◌, ap, length, length-append, take, arith, ◌∷◌, []}
+use Rattle.std.proofs.lemmas.List.{take_all}
 use Rattle.tpm_model.specs.Registers.{values_read, value_in}
-use Rattle.tpm_store.{specs.Banks.{value_at}, proofs.{Entries.{entries_next, values_same}, Stands.{held_at}}}
+use Rattle.tpm_store.specs.Banks.{value_at}
+use Rattle.tpm_store.proofs.Entries.{entries_next, values_same}
+use Rattle.tpm_store.proofs.Stands.{held_at}
 use Rattle.tpm_store.proofs.registers.Registers.select_into.Goals as goal
 
 pub loop-selection-preserved : goal.loop-selection-preserved

@@ -1,5 +1,7 @@
 use Rattle.tpm_model.specs.Registers.Change.{StartAt}
-use Rattle.tpm_store.{specs.Answers.{locality_number}, proofs.{Values.{start_is}, Stands.{stands}}}
+use Rattle.tpm_store.specs.Answers.{locality_number}
+use Rattle.tpm_store.proofs.Values.{start_is}
+use Rattle.tpm_store.proofs.Stands.{stands}
 use Rattle.tpm_store.proofs.registers.Registers.start_at.Goals as goal
 
 pub returns : goal.returns

@@ -1,4 +1,5 @@
-use Rattle.std.proofs.{Common.{ap, sym, ◌∙◌, option_map}, lemmas.Option.{slice_get-map}}
+use Rattle.std.proofs.Common.{ap, sym, ◌∙◌, option_map}
+use Rattle.std.proofs.lemmas.Option.{slice_get-map}
 use Rattle.tpm_text.specs.Text.{of_command}
 use Rattle.tpm_text.proofs.sessions.AreasHasSessions.session.Goals as goal
 

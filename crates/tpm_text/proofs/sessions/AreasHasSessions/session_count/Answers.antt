@@ -1,4 +1,5 @@
-use Rattle.std.proofs.{Common.{sym, ◌∙◌}, lemmas.List.{length-map}}
+use Rattle.std.proofs.Common.{sym, ◌∙◌}
+use Rattle.std.proofs.lemmas.List.{length-map}
 use Rattle.tpm_text.specs.Text.{of_command}
 use Rattle.tpm_text.proofs.sessions.AreasHasSessions.session_count.Goals as goal
 

@@ -1,5 +1,7 @@
 use Rattle.std.proofs.Common.{rules, refl, inl, arith, subst, length, false, ◌-◌, ◌∙◌, [], All}
-use Rattle.tpm_wire.{specs.{Spelling.{IsSpelled}, Structures.{counted}}, proofs.Again.{fit_list}}
+use Rattle.tpm_wire.specs.Spelling.{IsSpelled}
+use Rattle.tpm_wire.specs.Structures.{counted}
+use Rattle.tpm_wire.proofs.Again.{fit_list}
 use Rattle.tpm_wire.proofs.counted.CountedWire.has_spelling.Goals as goal
 
 pub returns-clause-fits : goal.returns-clause-fits
