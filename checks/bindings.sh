@@ -1,3 +1,4 @@
+#!/bin/sh
 # The bindings for Python, Go and Rust over what ./install installs: one table of questions, answered by each as by the C programs
 # and by tpmtool. A question is a line:
 #
@@ -10,6 +11,11 @@
 #     device OWNER, execute HEX, power                                        a script, by its nonces
 #     zeros SIZE HEX                                                          as command and as log: HEX, and zeros up to this size
 
+. "$(dirname "$0")/shared.sh"
+. checks/tables.sh
+want_program
+find_compiler
+
 prefix=$room/prefix
 table=$room/table
 LD_LIBRARY_PATH=$prefix/lib
@@ -21,25 +27,11 @@ GOFLAGS=-mod=mod
 GOCACHE=$room/go
 GODEBUG=cgocheck=1
 
-compiler=
-for word in "${CC:-cc}" gcc clang; do
-    if command -v "$word" >/dev/null 2>&1; then
-        compiler=$word
-        break
-    fi
-done
 
 # in_place WORD..: runs the words with the installed library, wherever that is.
 in_place() {
     env LD_LIBRARY_PATH="$LD_LIBRARY_PATH" PKG_CONFIG_PATH="$PKG_CONFIG_PATH" PYTHONPATH="$PYTHONPATH" CARGO_TARGET_DIR="$CARGO_TARGET_DIR" \
         PYTHONDONTWRITEBYTECODE=yes GOFLAGS="$GOFLAGS" GOCACHE="$GOCACHE" GODEBUG="$GODEBUG" CGO_LDFLAGS_ALLOW='.*' "$@"
-}
-
-# agrees NAME WORD..: the check NAME passes where the words succeed.
-agrees() {
-    name=$1
-    shift
-    if "$@" >"$room/said" 2>&1; then pass "$name"; else fail "$name" "$(head -n 5 "$room/said")"; fi
 }
 
 # selection WORD: the TPML_PCR_SELECTION of `sha256:0,7+sha1:1`.
@@ -351,50 +343,50 @@ else
     if ! command -v python3 >/dev/null 2>&1; then
         skip "the binding for Python" "there is no python3"
     else
-        agrees "Python has the header's numbers and places" python_layout
-        agrees "Python answers the table of $(wc -l <"$table" | tr -d ' ') questions" answers python3 bindings/python/table.py
-        agrees "Python answers a hundred thousand changed buffers" answers_changed python3 bindings/python/table.py
+        holds "Python has the header's numbers and places" python_layout
+        holds "Python answers the table of $(wc -l <"$table" | tr -d ' ') questions" answers python3 bindings/python/table.py
+        holds "Python answers a hundred thousand changed buffers" answers_changed python3 bindings/python/table.py
         sanitizer=$("$compiler" -print-file-name=libasan.so)
         if [ -e "$sanitizer" ]; then
-            agrees "Python answers them beside an address sanitizer" answers_changed env LD_PRELOAD="$sanitizer" ASAN_OPTIONS=detect_leaks=0 \
+            holds "Python answers them beside an address sanitizer" answers_changed env LD_PRELOAD="$sanitizer" ASAN_OPTIONS=detect_leaks=0 \
                 python3 bindings/python/table.py
         else
             skip "Python answers them beside an address sanitizer" "there is no libasan.so"
         fi
-        agrees "Python refuses what has no bytes, and other libraries" python_faults
-        agrees "Python prints of quotes what tpmtool prints" python_program
-        agrees "the example in Python" python_example
+        holds "Python refuses what has no bytes, and other libraries" python_faults
+        holds "Python prints of quotes what tpmtool prints" python_program
+        holds "the example in Python" python_example
     fi
     if ! command -v go >/dev/null 2>&1 || ! command -v pkg-config >/dev/null 2>&1; then
         skip "the binding for Go" "there is no go or no pkg-config"
     elif ! go_built >"$room/said" 2>&1; then
         fail "the binding for Go" "$(head -n 5 "$room/said")"
     else
-        agrees "Go has the names of the header's codes" go_names
-        agrees "Go answers the table" answers "$room/go_table"
-        agrees "Go answers the table while its collector works, which clears what it frees" answers env \
+        holds "Go has the names of the header's codes" go_names
+        holds "Go answers the table" answers "$room/go_table"
+        holds "Go answers the table while its collector works, which clears what it frees" answers env \
             GODEBUG=cgocheck=1,clobberfree=1 GOGC=1 "$room/go_table"
-        agrees "Go answers a hundred thousand changed buffers" answers_changed "$room/go_table"
+        holds "Go answers a hundred thousand changed buffers" answers_changed "$room/go_table"
         if (cd bindings/go && in_place go build -asan -o "$room/go_asan" ./table) >"$room/said" 2>&1; then
-            agrees "Go answers them beside an address sanitizer" answers_changed env ASAN_OPTIONS=detect_leaks=0 "$room/go_asan"
+            holds "Go answers them beside an address sanitizer" answers_changed env ASAN_OPTIONS=detect_leaks=0 "$room/go_asan"
         else
             skip "Go answers them beside an address sanitizer" "$(head -n 1 "$room/said")"
         fi
-        agrees "the example in Go" go_example
+        holds "the example in Go" go_example
     fi
     if ! command -v cargo >/dev/null 2>&1; then
         skip "the binding for Rust" "there is no cargo"
     elif ! rust_built >"$room/said" 2>&1; then
         fail "the binding for Rust" "$(head -n 5 "$room/said")"
     else
-        agrees "Rust has the header's places" rust_layout
-        agrees "Rust answers the table" answers "$room/rust/release/examples/table" $(numbers)
-        agrees "Rust answers a hundred thousand changed buffers" answers_changed "$room/rust/release/examples/table" $(numbers)
+        holds "Rust has the header's places" rust_layout
+        holds "Rust answers the table" answers "$room/rust/release/examples/table" $(numbers)
+        holds "Rust answers a hundred thousand changed buffers" answers_changed "$room/rust/release/examples/table" $(numbers)
         if command -v valgrind >/dev/null 2>&1; then
-            agrees "Rust answers them under valgrind" answers_changed valgrind -q --error-exitcode=9 "$room/rust/release/examples/table" $(numbers)
+            holds "Rust answers them under valgrind" answers_changed valgrind -q --error-exitcode=9 "$room/rust/release/examples/table" $(numbers)
         else
             skip "Rust answers them under valgrind" "there is no valgrind"
         fi
-        agrees "the example in Rust" rust_example
+        holds "the example in Rust" rust_example
     fi
 fi

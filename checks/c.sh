@@ -1,8 +1,13 @@
+#!/bin/sh
 # The library for C: the archive of crate tpm_c, built by both backends, with the header and the programs in examples/. What they
 # print is compared with `tpmtool run`, with the rows and the cases in the files beside this one, with the lists of checks/logs and
 # with what the program of crate tpm_examples writes of its session.
 
+. "$(dirname "$0")/shared.sh"
 . checks/toolchain.sh
+. checks/tables.sh
+want_program
+
 archive=crates/tpm_c/out/libtpm_c.a
 
 # built BACKEND: the archive by this backend, which is kept for ./install, too.
@@ -32,13 +37,6 @@ write_hundred() {
 # as_bytes: hexadecimal text on standard input as bytes.
 as_bytes() {
     xxd -r -p
-}
-
-# holds NAME WORD..: the check NAME passes where the words succeed.
-holds() {
-    name=$1
-    shift
-    if "$@" >"$room/said" 2>&1; then pass "$name"; else fail "$name" "$(head -n 3 "$room/said")"; fi
 }
 
 # hosted: the programs with the C library, over the archive.

@@ -1,4 +1,7 @@
+#!/bin/sh
 # The documents: each path that they name is there, each name stands in the sources, and the counts of edits are those in must-fail/.
+
+. "$(dirname "$0")/shared.sh"
 
 documents="README.md CONTRIBUTING.md docs/*.md"
 

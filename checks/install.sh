@@ -1,15 +1,12 @@
+#!/bin/sh
 # ./install: into an empty folder, used from outside of the repository, and removed again.
+
+. "$(dirname "$0")/shared.sh"
+want_program
 
 installed=$room/installed
 elsewhere=$room/elsewhere
 mkdir -p "$installed" "$elsewhere"
-
-# works NAME WORD..: the check NAME passes where the words succeed.
-works() {
-    name=$1
-    shift
-    if "$@" >"$room/said" 2>&1; then pass "$name"; else fail "$name" "$(head -n 3 "$room/said")"; fi
-}
 
 # wants PROGRAM NAME: whether the program is there; else the check NAME is skipped.
 wants_program() {
@@ -120,27 +117,21 @@ if ! ./install "$installed" >"$room/said" 2>&1; then
     fail "an install" "$(tail -n 3 "$room/said")"
 else
     pass "an install"
-    works "what is installed has one version" one_version
-    works "the page and the completions have the program's words" told
-    compiler=
-    for word in "${CC:-cc}" gcc clang; do
-        if command -v "$word" >/dev/null 2>&1; then
-            compiler=$word
-            break
-        fi
-    done
+    holds "what is installed has one version" one_version
+    holds "the page and the completions have the program's words" told
+    find_compiler
     if [ -z "$compiler" ]; then
         skip "C programs over what is installed" "no C compiler was found"
     else
-        wants_program pkg-config "a C program by pkg-config" && works "a C program by pkg-config" linked_by_name
-        works "a C program over the installed archive" linked -I "$installed/include" "$installed/lib/libvinjakwe.a"
-        wants_program nm "the names of the shared library" && works "the names of the shared library" exported
-        [ "$(uname -s) $(uname -m)" = "Linux x86_64" ] && works "a C program over the installed archive without a C library" freestanding_linked
+        wants_program pkg-config "a C program by pkg-config" && holds "a C program by pkg-config" linked_by_name
+        holds "a C program over the installed archive" linked -I "$installed/include" "$installed/lib/libvinjakwe.a"
+        wants_program nm "the names of the shared library" && holds "the names of the shared library" exported
+        [ "$(uname -s) $(uname -m)" = "Linux x86_64" ] && holds "a C program over the installed archive without a C library" freestanding_linked
     fi
-    wants_program man "the page of the program" && works "the page of the program" page
-    wants_program bash "the words that bash completes" && works "the words that bash completes" completed
-    wants_program zsh "the completions for zsh are read" && works "the completions for zsh are read" zsh -n "$installed/share/zsh/site-functions/_tpmtool"
-    wants_program fish "the completions for fish are read" && works "the completions for fish are read" fish -n "$installed/share/fish/vendor_completions.d/tpmtool.fish"
-    works "an install below another root, and again" again
-    works "what was installed is removed" removed
+    wants_program man "the page of the program" && holds "the page of the program" page
+    wants_program bash "the words that bash completes" && holds "the words that bash completes" completed
+    wants_program zsh "the completions for zsh are read" && holds "the completions for zsh are read" zsh -n "$installed/share/zsh/site-functions/_tpmtool"
+    wants_program fish "the completions for fish are read" && holds "the completions for fish are read" fish -n "$installed/share/fish/vendor_completions.d/tpmtool.fish"
+    holds "an install below another root, and again" again
+    holds "what was installed is removed" removed
 fi

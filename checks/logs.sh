@@ -1,5 +1,9 @@
+#!/bin/sh
 # The logs in checks/logs: the registers that each gives, the records of some, and the fault of each that is none.
 # checks/logs/make.py writes registers and faults, and checks/logs/list_events.py records.
+
+. "$(dirname "$0")/shared.sh"
+want_program
 
 # ran NAME STATUS WORD..: the program on these words writes what $room/out.wanted holds, and nothing on standard error.
 ran() {

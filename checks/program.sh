@@ -1,3 +1,4 @@
+#!/bin/sh
 # The program's statuses and what it writes where, by the script ./tpmtool: 0 done, 1 refused, 2 usage,
 # 3 a reading or writing fault. What it prints stands in the files of cases beside this one:
 #
@@ -11,43 +12,8 @@
 #
 # The words are the shell's, and so is a line behind `<$`, `<.$` and `>$`.
 
-program=crates/tpmtool/out/tpmtool
-startup=80010000000c000001440000
-
-# zeros N: N bytes of zeros, in hexadecimal.
-zeros() {
-    printf "%0$((2 * $1))d" 0
-}
-
-# bytes_of HEX: writes the bytes.
-bytes_of() {
-    printf "$(echo "$1" | awk '{
-        gsub(/ /, "")
-        for (i = 1; i < length($0); i += 2) {
-            byte = 16 * (index("0123456789abcdef", substr($0, i, 1)) - 1) + index("0123456789abcdef", substr($0, i + 1, 1)) - 1
-            printf "\\%03o", byte
-        }
-    }')"
-}
-
-# judge STATUS: what was written and the status are what was wanted.
-judge() {
-    if [ "$1" -ne "$wanted" ]; then
-        why="status $1 in place of $wanted"
-    elif ! cmp -s "$room/out" "$room/out.wanted"; then
-        why="it wrote: $(cat "$room/out")"
-    elif ! cmp -s "$room/err" "$room/err.wanted"; then
-        why="it complained: $(cat "$room/err")"
-    else
-        return 0
-    fi
-    return 1
-}
-
-# check STATUS: counts the case $name by what was written and the status.
-check() {
-    if judge "$1"; then pass "$name"; else fail "$name" "$why"; fi
-}
+. "$(dirname "$0")/shared.sh"
+want_program
 
 # clear_case: nothing is wanted so far.
 clear_case() {

@@ -1,7 +1,10 @@
+#!/bin/sh
 # `same` of tpm_hmac takes as many instructions wherever two lists of one length differ, and where they don't: valgrind counts those of
 # crate tpm_bench's call of it, where there is a valgrind.
 
+. "$(dirname "$0")/shared.sh"
 . checks/toolchain.sh
+
 same=$room/same
 name_of_same="same takes the same instructions wherever it is that two lists differ"
 

@@ -1,5 +1,8 @@
+#!/bin/sh
 # A Caller and a Waiting are spent by their use: what uses one again does not compile. checks/spent.txt has a function for each use;
 # it is compiled once, as a crate over a copy of the repository's sources, of which nothing is proved here.
+
+. "$(dirname "$0")/shared.sh"
 
 spent=$room/spent
 mkdir -p "$spent/crates/spent/src"

@@ -1,14 +1,8 @@
-# What builds an archive beside the gate: a C compiler, or none, and the toolchain's own over the libraries that the gate has kept.
+# What builds an archive beside the gate: a C compiler, or none, and the toolchain's own over the libraries that are kept.
 
 kit=$(dirname "$(rt doc)")
 
-compiler=
-for word in "${CC:-cc}" gcc clang; do
-    if command -v "$word" >/dev/null 2>&1; then
-        compiler=$word
-        break
-    fi
-done
+find_compiler
 
 # rattle CRATE WORD..: the toolchain's compiler on this static library, over the libraries that the gate has proved and kept.
 rattle() {

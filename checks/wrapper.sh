@@ -1,4 +1,7 @@
+#!/bin/sh
 # The script ./tpmtool, over a toolchain of its own that only says that it was called.
+
+. "$(dirname "$0")/shared.sh"
 
 wrapper=$room/wrapper
 mkdir -p "$wrapper/crates/tpmtool/src" "$wrapper/crates/low/specs" "$wrapper/bin" "$wrapper/elsewhere" "$wrapper/tmp"
