@@ -1,5 +1,6 @@
 #!/bin/sh
-# The documents: each path that they name is there, each name stands in the sources, and the counts of edits are those in must-fail/.
+# The documents: each path that they name is there, each name stands in the sources, and the counts of edits are those
+# in must-fail/.
 
 . "$(dirname "$0")/shared.sh"
 
@@ -20,7 +21,8 @@ paths() {
 
 # missing_paths: those that are no file or folder, by their whole path or by its end.
 missing_paths() {
-    { find . -name .git -prune -o -name out -prune -o -type f -print && find . -name .git -prune -o -name out -prune -o -type d -print; } |
+    { find . -name .git -prune -o -name out -prune -o -type f -print &&
+        find . -name .git -prune -o -name out -prune -o -type d -print; } |
         sed 's|^\.|/|' | awk '
             NR == FNR { path = $0; do { there[path]; sub(/^\/+[^\/]*/, "", path) } while (path != ""); next }
             !(("/" $0) in there) && !(("//" $0) in there) { print }
@@ -30,7 +32,8 @@ missing_paths() {
 # words: a line for each word of the sources.
 words_of_sources() {
     {
-        find checks bench crates test tpmtool crates.txt HANDLES -name out -prune -o -type f -not -name "*.edit" -exec cat {} +
+        find checks bench crates test tpmtool crates.txt HANDLES -name out -prune -o \
+            -type f -not -name "*.edit" -exec cat {} +
         find crates -path '*/must-fail/*.edit'
     } |
         tr -cs 'A-Za-z0-9_' '\n' | sort -u
@@ -43,7 +46,8 @@ names() {
     grep -h -o -w -e 'tpm_[a-z_]*' $documents
 }
 
-# edits: a line 'CRATE EDITS' for each crate of the table of the gate's time whose number is another, and one for their sum.
+# edits: a line 'CRATE EDITS' for each crate of the table of the gate's time whose number is another, and one for their
+# sum.
 wrong_edits() {
     awk -F ' *[|] *' '$2 ~ /^tpm/ && $6 ~ /^[0-9]/ { print $2, $6 + 0 }' docs/GATE.md | while read -r crate edits; do
         counted=$(find "crates/$crate" -path '*/must-fail/*.edit' | wc -l)

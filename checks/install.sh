@@ -54,7 +54,8 @@ freestanding_linked() {
 exported() {
     { tr -s ' \n' ' ' <include/vinjakwe.h | grep -o 'tpm_[a-z_]*(' | tr -d '(' && echo vinjakwe_version; } |
         sort -u >"$room/declared"
-    nm -D --defined-only "$installed/lib/libvinjakwe.so" | awk '$2 != "A" { print $3 }' | sort -u | diff "$room/declared" -
+    nm -D --defined-only "$installed/lib/libvinjakwe.so" | awk '$2 != "A" { print $3 }' | sort -u |
+        diff "$room/declared" -
 }
 
 # told: each subcommand and each option of the help stands in each file of completions, and in the page, with the words
@@ -121,7 +122,8 @@ for line in '' 'show --f' 'show --reply PCR_R' 'check --hash sha2' 'run --owner 
     echo (complete -C "tpmtool $line" | cut -f 1 | sort)
 end
 END
-    printf '%s\n' 'build check events explain run show' '--fields --file' 'PCR_Read PCR_Reset' sha256 '' 'a log' >"$room/wanted"
+    printf '%s\n' 'build check events explain run show' '--fields --file' 'PCR_Read PCR_Reset' sha256 '' 'a log' \
+        >"$room/wanted"
     LC_ALL=C fish "$room/offer.fish" "$installed/share/fish/vendor_completions.d/tpmtool.fish" "$room/offered" 2>&1 |
         diff "$room/wanted" -
 }
@@ -151,15 +153,16 @@ stays() {
 kept_whole() {
     mv "$installed/lib/pkgconfig" "$room/kept" && : >"$installed/lib/pkgconfig" && stays || return 1
     rm "$installed/lib/pkgconfig" && mv "$room/kept" "$installed/lib/pkgconfig" || return 1
-    mv "$installed/share/man/man1/tpmtool.1" "$room/kept" && mkdir "$installed/share/man/man1/tpmtool.1" && stays || return 1
+    mv "$installed/share/man/man1/tpmtool.1" "$room/kept" && mkdir "$installed/share/man/man1/tpmtool.1" && stays ||
+        return 1
     rmdir "$installed/share/man/man1/tpmtool.1" && mv "$room/kept" "$installed/share/man/man1/tpmtool.1" || return 1
     cp -a "$installed" "$room/before" && echo share/old >>"$installed/share/vinjakwe/installed" || return 1
     : >"$installed/share/old"
     ./install "$installed" && diff -r "$room/before" "$installed"
 }
 
-# again: installed below another root, nothing of which stands in a file, and twice, with a file of someone else's beside
-# it; through a link.
+# again: installed below another root, nothing of which stands in a file, and twice, with a file of someone else's
+# beside it; through a link.
 again() {
     ln -s "$PWD/install" "$elsewhere/install" || return 1
     DESTDIR="$room/staged" "$elsewhere/install" /usr || return 1

@@ -1,7 +1,7 @@
 #!/bin/sh
-# Each request of the program for memory, refused in turn: `out of memory` with status 3, or the
-# answer as if none had been refused (the program may ask again for less), and never another answer. And no run is out of memory
-# where no request is refused.
+# Each request of the program for memory, refused in turn: `out of memory` with status 3, or the answer as if none had
+# been refused (the program may ask again for less), and never another answer. And no run is out of memory where no
+# request is refused.
 
 . "$(dirname "$0")/shared.sh"
 want_program

@@ -1,6 +1,6 @@
 #!/bin/sh
-# What is taken and what is refused, by the program that was built, and by tpm_fuzz, which reads all buffers of a check in one
-# run of what `show` calls: rows in the files beside this one.
+# What is taken and what is refused, by the program that was built, and by tpm_fuzz, which reads all buffers of a check
+# in one run of what `show` calls: rows in the files beside this one.
 #
 #     NAME                      begins a check, which the empty line ends
 #     command HEX -> ANSWER     the first line of `show`; `taken` stands for any command

@@ -1,5 +1,5 @@
-# What the checks share; each begins by reading this file. Each runs by itself, and ends with a line 'N passed, M failed',
-# and the status 1 where anything failed. ./test runs them all.
+# What the checks share; each begins by reading this file. Each runs by itself, and ends with a line 'N passed, M
+# failed', and the status 1 where anything failed. ./test runs them all.
 
 cd "$(dirname "$0")" || exit 1
 [ -d checks ] || cd .. || exit 1
@@ -87,11 +87,9 @@ zeros() {
 bytes_of() {
     printf "$(echo "$1" | awk '{
         gsub(/ /, "")
-        for (i = 1; i < length($0); i += 2) {
-            byte = 16 * (index("0123456789abcdef", substr($0, i, 1)) - 1) + index("0123456789abcdef", substr($0, i + 1, 1)) - 1
-            printf "\\%03o", byte
-        }
-    }')"
+        for (i = 1; i < length($0); i += 2) printf "\\%03o", 16 * digit(substr($0, i, 1)) + digit(substr($0, i + 1, 1))
+    }
+    function digit(it) { return index("0123456789abcdef", it) - 1 }')"
 }
 
 # judge STATUS: what was written and the status are what was wanted.

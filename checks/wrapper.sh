@@ -4,8 +4,8 @@
 . "$(dirname "$0")/shared.sh"
 
 wrapper=$room/wrapper
-mkdir -p "$wrapper/crates/tpmtool/src" "$wrapper/crates/low/src" "$wrapper/crates/low/specs" "$wrapper/crates/low/proofs" \
-    "$wrapper/bin" "$wrapper/elsewhere/in" "$wrapper/tmp"
+mkdir -p "$wrapper/crates/tpmtool/src" "$wrapper/crates/low/src" "$wrapper/crates/low/specs" \
+    "$wrapper/crates/low/proofs" "$wrapper/bin" "$wrapper/elsewhere/in" "$wrapper/tmp"
 cp tpmtool "$wrapper/tpmtool"
 printf 'low:\ntpmtool: low\n' >"$wrapper/crates.txt"
 cat >"$wrapper/bin/rt" <<'END'
@@ -81,7 +81,8 @@ wants() {
 
 # says NAME STATUS BUILDS TRIES: these, and the output that is wanted, and nothing that is left behind.
 says() {
-    if [ "$status $builds $tries" = "$2 $3 $4" ] && cmp -s "$wrapper/out" "$wrapper/wanted" && [ -z "$(ls "$wrapper/tmp")" ]; then
+    if [ "$status $builds $tries" = "$2 $3 $4" ] && cmp -s "$wrapper/out" "$wrapper/wanted" &&
+        [ -z "$(ls "$wrapper/tmp")" ]; then
         pass "$1"
     else
         fail "$1" "status $status, $builds builds, $tries tries: $(cat "$wrapper/out" "$wrapper/err"; ls "$wrapper/tmp")"
@@ -101,7 +102,7 @@ wrapped show 'a  b' '' '*'
 wants '<show>' '<a  b>' '<>' '<*>'
 says "a try answers where nothing is built, and takes no input that the program does not read" 3 0 1
 complains "one line says that a try proves nothing, and another what the program complains of" \
-    'tpmtool: this answer takes about a minute, and is not proved here: ./tpmtool --build proves and builds the program' \
+    "tpmtool: this answer takes about a minute, and is not proved here: ./tpmtool --build proves and builds the program" \
     complaint
 [ ! -e "$wrapper/crates/tpmtool/out" ] || fail "a try leaves the crate as it was" "$(ls "$wrapper/crates/tpmtool/out")"
 
@@ -123,8 +124,8 @@ says "a try of parts that are empty takes no input" 3 0 1
 : >"$wrapper/elsewhere/a log"
 : >"$wrapper/elsewhere/check"
 : >"$wrapper/elsewhere/in/log"
-for word in 'check *' 'events *' 'check log --registers *' 'check log --registers=*' 'check log --attest *' 'check log --attest=*' \
-    'show --file *' 'show --file=*' 'show --binary --file *'; do
+for word in 'check *' 'events *' 'check log --registers *' 'check log --registers=*' \
+    'check log --attest *' 'check log --attest=*' 'show --file *' 'show --file=*' 'show --binary --file *'; do
     name="a try of '$word'"
     anew
     set -f
