@@ -345,6 +345,13 @@ readme() {
     grep -q "This prints \`$("$room/readme")\`" README.md
 }
 
+# using: the first program of C in docs/USING.md prints the same.
+using() {
+    awk '/^```c$/ { inside = 1; next } /^```$/ { if (inside) exit } inside' docs/USING.md >"$room/using.c"
+    "$compiler" -std=c99 -O2 -Wall -Wextra -Werror -Iinclude -o "$room/using" "$room/using.c" "$archive" || return 1
+    [ "$("$room/using")" = "$("$room/readme")" ]
+}
+
 if [ -z "$compiler" ]; then
     skip "the library for C" "no C compiler was found"
 elif ! command -v nm >/dev/null 2>&1 || ! command -v xxd >/dev/null 2>&1; then
@@ -363,6 +370,7 @@ else
     fi
     holds "C programs with the C library are built" hosted
     holds "the lines of C in README.md print what it says" readme
+    holds "the lines of C in docs/USING.md print the same" using
     holds "the hundred commands through C give the bytes of tpmtool" same_script
     holds "a stream of frames through C gives the bytes of tpmtool" same_stream
     holds "rows of commands and of responses through C" same_first_lines
