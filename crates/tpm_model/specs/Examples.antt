@@ -186,7 +186,8 @@ pub record Examples : Type 0 where
   pub event_too_long : reply_to new (startup ∷ []) (pcr_event "0000041e" "00000000" (hex "0401" ++ replicate 1025 0))
       ≡ code "000001d5"
   -- an event of four bytes, an empty one, and one into no register
-  pub event_updates : update_counter (changes (accepted new (startup ∷ pcr_event "00000021" "00000000" (hex "0004 00000000")
+  pub event_updates : update_counter (changes (accepted new (startup
+      ∷ pcr_event "00000021" "00000000" (hex "0004 00000000")
       ∷ pcr_event "0000001d" "00000000" (hex "0000")
       ∷ pcr_event "00000021" "40000007" (hex "0004 00000000") ∷ []))) ≡ 2
   -- one digest into a register, one into none, no digest, and a reset
@@ -218,7 +219,8 @@ pub record Examples : Type 0 where
   pub not_written : reply_to new (startup ∷ nv_define ∷ []) (nv_read "0000") ≡ code "0000014a"
   -- three increments, the definition undone and made again, and one increment
   pub goes_on : value_at new
-      (accepted new (startup ∷ nv_define ∷ nv_increment ∷ nv_increment ∷ nv_increment ∷ nv_undefine ∷ nv_define ∷ nv_increment ∷ []))
+      (accepted new (startup ∷ nv_define ∷ nv_increment ∷ nv_increment ∷ nv_increment
+      ∷ nv_undefine ∷ nv_define ∷ nv_increment ∷ []))
       0x01800001
       ≡ Some 4
   pub goes_on_after_power : value_at new (after new []
