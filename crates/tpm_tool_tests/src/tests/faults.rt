@@ -167,7 +167,8 @@ fn perform<W: Write>(alloc: Global, out: &mut W, call: Call) -> Result<Status, T
     }
 }
 
-// A writer that takes a byte at a time, as long as it is the next of a text, and so many of them. It asks for no memory.
+// A writer that takes a byte at a time, as long as it is the next of a text, and so many of them. It asks for no
+// memory.
 #[derive(Drop)]
 struct Expecting<'a> {
     rest: &'a [u8],

@@ -41,7 +41,8 @@ fn a_script_is_the_same_in_any_pieces(rt: HostRuntime) {
     }
 }
 
-// A line that ends with byte 16,777,216 counts, whatever was read together with it, and one that ends behind it does not.
+// A line that ends with byte 16,777,216 counts, whatever was read together with it, and one that ends behind it does
+// not.
 #[test]
 fn the_limit_is_the_same_in_any_pieces(rt: HostRuntime) {
     let refused = "line 16777214: not hexadecimal\n";
