@@ -6,8 +6,9 @@ use std::alloc::Global;
 use std::io;
 use std::io::Write;
 use std::test::Fail;
+use tpm_check::{Listing, list_events};
 use tpm_testing::Pieces;
-use tpm_tool::{Listing, Status, list_events};
+use tpm_text::status::Status;
 
 // The records of the log, by a reading of its bytes in Python.
 pub(crate) const TEXT: &str =

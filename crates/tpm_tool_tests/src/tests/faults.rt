@@ -6,11 +6,13 @@ use std::io;
 use std::io::{ErrorKind, Write};
 use std::test::Fail;
 use tpm_buffer::CommandCode;
+use tpm_check::{check_log, list_events};
 use tpm_device::Device;
-use tpm_tool::{
-    Status, Telling, ToolFault, build, check_log, list_events, not_hexadecimal, run_script, show,
-    show_fields, show_lines, show_stream,
-};
+use tpm_script::run_script;
+use tpm_show::{Telling, build, show, show_fields, show_lines, show_stream};
+use tpm_text::answer::not_hexadecimal;
+use tpm_text::fault::ToolFault;
+use tpm_text::status::Status;
 use tpm_types::{Alg, AuthValue};
 use tpm_wire::SliceSource;
 

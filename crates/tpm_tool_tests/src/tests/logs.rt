@@ -4,8 +4,10 @@ use crate::tests::reads::{Answered, each_read_may_fail, is_answered};
 use std::alloc::Global;
 use std::process::Abort;
 use std::test::Fail;
+use tpm_check::check_log;
 use tpm_testing::{Pieces, bytes};
-use tpm_tool::{Status, ToolFault, check_log};
+use tpm_text::fault::ToolFault;
+use tpm_text::status::Status;
 use tpm_types::Alg;
 use tpm_wire::Buffer;
 

@@ -3,7 +3,8 @@
 use std::process::Abort;
 use std::test::*;
 use tpm_testing::Pieces;
-use tpm_tool::{Status, ToolFault};
+use tpm_text::fault::ToolFault;
+use tpm_text::status::Status;
 use tpm_wire::Source;
 
 /// The status or the fault, and what was written.
