@@ -22,13 +22,8 @@ use Rattle.tpm_show.specs.Capture as specs
 
 -- ---- a line of which no more is kept than one byte too many
 
-<<<<<<< HEAD
-told_long : (first : ℕ) (rest others : List ℕ) → most_line < length (first ∷ rest)
-    → most_line < length (first ∷ others) → told_in (first ∷ rest) ≡ told_in (first ∷ others)
-=======
 told_long : (first : ℕ) (rest others : List ℕ) → most_line < length (first ∷ rest) → most_line < length (first ∷ others)
     → told_in (first ∷ rest) ≡ told_in (first ∷ others)
->>>>>>> f522b22
 told_long first rest others f g = rw (lt-ltb most_line (length (first ∷ rest)) f, lt-ltb most_line (length (first ∷ others)) g) refl
 
 -- ---- statuses
@@ -65,13 +60,8 @@ pub tells_one : (how : Telling) (p : Place) (l : Line) (s : Status) (a : List �
 tells_one how p l s a f = (s, a, Done, [], f, (refl, refl), sym (both_done s), sym (append-nil a))
 
 -- the last line, which may be empty
-<<<<<<< HEAD
-tells_last : (how : Telling) (p : Place) (line : List ℕ) (s : Status) (a : List ℕ)
-    → HasNoFeed line → TellsLine how p (line_of line) s a → TellsFrom how p (map line_of (lines_of line)) s a
-=======
 tells_last : (how : Telling) (p : Place) (line : List ℕ) (s : Status) (a : List ℕ) → HasNoFeed line → TellsLine how p (line_of line) s a
     → TellsFrom how p (map line_of (lines_of line)) s a
->>>>>>> f522b22
 tells_last how p [] s a f g = g
 tells_last how p (x ∷ line) s a f g = rw (last_line x line f) (tells_one how p (line_of (x ∷ line)) s a g)
 
@@ -86,13 +76,8 @@ told_kept (first ∷ rest) = elim (cases_lt (most_line + 1) (length (first ∷ r
 ]
 
 -- a byte that counts, of a line that is not too long
-<<<<<<< HEAD
-kept_more : (kept held : List ℕ) (byte : ℕ) → held ≡ take (most_line + 1) kept
-    → length held ≤ most_line → held ++ byte ∷ [] ≡ take (most_line + 1) (kept ++ byte ∷ [])
-=======
 kept_more : (kept held : List ℕ) (byte : ℕ) → held ≡ take (most_line + 1) kept → length held ≤ most_line
     → held ++ byte ∷ [] ≡ take (most_line + 1) (kept ++ byte ∷ [])
->>>>>>> f522b22
 kept_more kept held byte is le = elim (cases_lt (most_line + 1) (length kept)) [
   | inl many ↦
       let counted : length held ≡ most_line + 1 = ap length is ∙ length-take-le (most_line + 1) kept (omega (arith, many)) in
@@ -163,13 +148,8 @@ takes_feed c d A f = record {
       let ended = g.line ++ 10 ∷ [] in
       let lines : lines_of (g.lines ++ ended) ≡ lines_of g.lines ++ g.line ∷ [] = lines_of-append g.lines ended g.ended
       ∙ ap (λ (ls : List (List ℕ)). lines_of g.lines ++ ls) (ended_line g.line [] g.one) in
-<<<<<<< HEAD
-      let mapped : map line_of (lines_of (g.lines ++ ended)) ≡ map line_of (lines_of g.lines) ++ line_of g.line ∷ [] =
-      ap (map line_of) lines ∙ map-append line_of (lines_of g.lines) (g.line ∷ []) in
-=======
       let mapped : map line_of (lines_of (g.lines ++ ended)) ≡ map line_of (lines_of g.lines) ++ line_of g.line ∷ [] = ap (map line_of) lines
       ∙ map-append line_of (lines_of g.lines) (g.line ∷ []) in
->>>>>>> f522b22
       record {
         lines = g.lines ++ ended;
         line = [];
@@ -226,13 +206,8 @@ GoesOn Told read failed failed_before = record { told : Told; bound : read ≤ s
 abbrev pub Answers : (how : Telling) → (old new : Option (List ℕ)) → (A : List ℕ → Type 0) → Status → Type 0
 Answers how old new A status = (bytes : List ℕ) × (text : List ℕ) × ReadsAll old new bytes × TellsCapture how bytes status text × A text
 
-<<<<<<< HEAD
-pub answers_at_end : (how : Telling) (old mid new : Option (List ℕ)) (read : ℕ) (c d : Capture) (A B C : List ℕ → Type 0)
-    → Joins A B C → Reaches how old mid read c A
-=======
 pub answers_at_end : (how : Telling) (old mid new : Option (List ℕ)) (read : ℕ) (c d : Capture) (A B C : List ℕ → Type 0) → Joins A B C
     → Reaches how old mid read c A
->>>>>>> f522b22
     → Consumes mid new [] → IsAtEnd new → EndsLine (told_in c.line.items) c d B → Answers how old new C d.status
 answers_at_end how old mid new read c d A B C joins f consumed end ended =
     let g = f.taken in

@@ -115,17 +115,9 @@ sentence_text true sentence = fault_member sentence
 abbrev pub TellsReply : (json fields : Bool) → Awaited → List ℕ → Status → List ℕ → Type 0
 TellsReply json fields (awaits.Reply command) bytes status text = ShowsReply json fields command bytes status text
 TellsReply json fields awaits.Unknown bytes status text =
-<<<<<<< HEAD
-    (status ≡ Refused)
-    × (text ≡ sentence_text json (codes "its command is not known"))
-TellsReply json fields awaits.Nothing bytes status text =
-    (status ≡ Refused)
-    × (text ≡ sentence_text json (codes "no command is before it"))
-=======
     (status ≡ Refused) × (text ≡ sentence_text json (codes "its command is not known"))
 TellsReply json fields awaits.Nothing bytes status text =
     (status ≡ Refused) × (text ≡ sentence_text json (codes "no command is before it"))
->>>>>>> f522b22
 
 abbrev pub TellsFrame : (json fields : Bool) → Direction → Awaited → List ℕ → Status → List ℕ → Type 0
 TellsFrame json fields Command awaited bytes status text = TellsCommand json fields bytes status text
@@ -145,14 +137,9 @@ kind_of Reply = codes "response"
 
 -- in one object, with its number and which way it went
 unfoldable pub frame_object : ℕ → Direction → List ℕ → List ℕ
-<<<<<<< HEAD
-frame_object number direction members = codes "{\"number\":" ++ (decimal number
-    ++ (codes ",\"kind\":\"" ++ (kind_of direction ++ (codes "\"" ++ (members ++ codes "}\n")))))
-=======
 frame_object number direction members =
     codes "{\"number\":"
     ++ (decimal number ++ (codes ",\"kind\":\"" ++ (kind_of direction ++ (codes "\"" ++ (members ++ codes "}\n")))))
->>>>>>> f522b22
 
 abbrev pub numbered : (json : Bool) → ℕ → Direction → List ℕ → List ℕ
 numbered false number direction told = front number direction ++ told
@@ -185,19 +172,11 @@ abbrev pub TellsLine : (how : Telling) → Place → Line → Status → List �
 TellsLine how p Nothing status text = (status ≡ Done) × (text ≡ [])
 TellsLine how p (Frame mark bytes) status text =
     let direction = direction_of mark p.awaited bytes in
-<<<<<<< HEAD
-    (told : List ℕ) × TellsFrame how.json how.fields direction p.awaited bytes status told
-    × (text ≡ numbered how.json p.number direction told)
-TellsLine how p NotHexadecimal status text =
-    (status ≡ Refused)
-    × (text ≡ fault_text how.json p.number (codes "not hexadecimal"))
-=======
     (told : List ℕ)
     × TellsFrame how.json how.fields direction p.awaited bytes status told
     × (text ≡ numbered how.json p.number direction told)
 TellsLine how p NotHexadecimal status text =
     (status ≡ Refused) × (text ≡ fault_text how.json p.number (codes "not hexadecimal"))
->>>>>>> f522b22
 TellsLine how p TooLong status text = (status ≡ Refused) × (text ≡ fault_text how.json p.number (codes "too long"))
 
 -- From this place the lines are told one after the other. All is done where each is.

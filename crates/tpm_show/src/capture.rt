@@ -207,41 +207,12 @@ impl Capture {
     }
 }
 
-<<<<<<< HEAD
-/// Prints what `show` prints of each frame of a capture, or what `show --fields` prints, or an
-/// object of JSON in a line.
-=======
 /// Prints what `show` prints of each frame of a capture, or what `show --fields` prints, or an object of JSON in a
 /// line.
->>>>>>> f522b22
 ///
 /// A line has a frame in hexadecimal digits, two to a byte and in either case, behind `0x` or without it. Spaces, tabs
 /// and carriage returns count for nothing wherever they stand. `>` before it marks a command and `<` a reply. Without a
 /// mark a frame is a command, but where one is before it and the frame is of ten bytes, or has the code 0, it is the
-<<<<<<< HEAD
-/// reply. A line that is empty, or begins with `#`, is skipped. A line ends with a line feed, and
-/// the last may do without.
-///
-/// In front of what is told of a frame stand its number, from 1, and its mark. A reply is read as one to the command
-/// before it, by the code of that; with none before it the line is `N < no command is before it`, and with a code that
-/// the profile hasn't `N < its command is not known`. Where a command is refused for its code
-/// alone, and the library has one with that code (Part 2, 6.5.2), the line `TPM2_NAME is not in
-/// this profile` follows. A line of other text is `N not hexadecimal`, and one of more than 8,195
-/// bytes beside its blanks `N too long`; the next is read all the same.
-///
-/// The object has the members `number` and `kind`, which is `command` or `response`. A command has
-/// its name as `command`, `size`, `handles`, `sessions` and `parameters`, and a reply the same; a
-/// response of another code than 0 has `code`. What is refused has `refused` and `at`, and `name`
-/// where the profile hasn't the command; a reply without its command has `fault`. Where parameters
-/// are told by their names there is `fields`, a list of objects with `name`, `type` and `value`.
-/// That of a structure has `fields` likewise, of its members or entries; bits that are set, and
-/// registers, are objects with `name` and `number`, which is decimal. A line without a frame has
-/// `number` and `fault`. Each says what its line says: bytes, handles, attributes and codes are in
-/// hexadecimal, and no bytes are empty.
-///
-/// The status is `Refused` where a frame or a line was refused, and else `Done`. What a read gave
-/// is answered before the next read, and no more than one line and one piece is held.
-=======
 /// reply. A line that is empty, or begins with `#`, is skipped. A line ends with a line feed, and the last may do
 /// without.
 ///
@@ -263,7 +234,6 @@ impl Capture {
 ///
 /// The status is `Refused` where a frame or a line was refused, and else `Done`. What a read gave is answered before
 /// the next read, and no more than one line and one piece is held.
->>>>>>> f522b22
 ///
 /// Where a request for memory is refused the answer is `Memory`, where a read fails `Read`, where the writer fails
 /// `Write`, and where more than 2^62 bytes come `InputTooLong`. What was written before is then left open, and a failed

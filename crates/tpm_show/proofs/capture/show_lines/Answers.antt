@@ -34,14 +34,9 @@ loop-capture-preserved g c =
     let piece = c.read.new.room in
     let contents = g.W.Write.contents in
     record {
-<<<<<<< HEAD
-      told = reaches_more c.args.how _ _ _ c.loop-capture.read count (take count piece)
-          c.loop-capture.capture c.print.new.self _ _ (Appends (contents c.args.out.now) (contents c.print.new.out))
-=======
       told =
           reaches_more c.args.how _ _ _ c.loop-capture.read count (take count piece) c.loop-capture.capture c.print.new.self _ _
           (Appends (contents c.args.out.now) (contents c.print.new.out))
->>>>>>> f522b22
           (joins_appends (contents c.args.out.now) (contents c.loop-capture.out) (contents c.print.new.out))
           c.loop-capture.invariant.told c.in_ok-count.ensures.bytes.0 (sym (length-take-le count piece c.in_ok-count.ensures.bound.0)) c.in_ok-print.ensures.ok;
       bound = omega arith;

@@ -12,14 +12,9 @@ loop-capture-init g c =
     let contents = g.W.Write.contents in
     let coming = g.R.Source.coming in
     record {
-<<<<<<< HEAD
-      told = streams_none c.args.how (coming c.args.input.now) c.new-capture.result
-          (Appends (contents c.args.out.now) (contents c.args.out.now)) (consumes_none (coming c.args.input.now))
-=======
       told =
           streams_none c.args.how (coming c.args.input.now) c.new-capture.result (Appends (contents c.args.out.now) (contents c.args.out.now))
           (consumes_none (coming c.args.input.now))
->>>>>>> f522b22
           (appends_nothing (contents c.args.out.now)) c.new-capture.ensures.how c.new-capture.ensures.place c.new-capture.ensures.status;
       bound = omega arith;
       failures = refl;
@@ -63,13 +58,8 @@ loop-capture-preserved g c =
     let told = rw c.as_slice.ensures.value at c.in_ok-print_frame.ensures.ok in
     record {
       told = rw c.len-read.ensures.value
-<<<<<<< HEAD
-          (streams_more c.args.how _ _ _ c.loop-capture.read c.read_frame_into.new.frame.items c.loop-capture.capture
-          c.print_frame.new.self _ _ (Appends (contents c.args.out.now) (contents c.print_frame.new.out))
-=======
           (streams_more c.args.how _ _ _ c.loop-capture.read c.read_frame_into.new.frame.items c.loop-capture.capture c.print_frame.new.self _ _
           (Appends (contents c.args.out.now) (contents c.print_frame.new.out))
->>>>>>> f522b22
           (joins_appends (contents c.args.out.now) (contents c.loop-capture.out) (contents c.print_frame.new.out))
           c.loop-capture.invariant.told is.0 is.1 told);
       bound = omega arith;
