@@ -1,6 +1,7 @@
 //! The model of a device: what it answers, by the history of what it has accepted, and what holds of every run.
 //!
-//! The definitions stand in `specs/`, and there is no code but laws: functions that do nothing, whose contracts are proved.
+//! The definitions stand in `specs/`, and there is no code but laws: functions that do nothing, whose contracts
+//! are proved.
 #![tactic(auto)]
 
 mod laws;
