@@ -18,7 +18,7 @@ void machine_power_on(struct machine *machine) {
     machine->powered = true;
     clock_gettime(CLOCK_MONOTONIC, &machine->powered_at);
     if (machine->startup)
-        machine_answer(machine, startup, sizeof startup, response);
+        machine_answer(machine, 0, startup, sizeof startup, response);
 }
 
 void machine_power_off(struct machine *machine) {
@@ -56,8 +56,13 @@ static void keep(struct machine *machine, const uint8_t *command, size_t len, co
     state_write(machine->state, &machine->record);
 }
 
-size_t machine_answer(struct machine *machine, const uint8_t *command, size_t len, uint8_t *response) {
+/* The device has locality 0 alone. */
+static size_t answered(struct machine *machine, uint8_t locality, const uint8_t *command, size_t len, uint8_t *response) {
     uint8_t nonce[TPM_NONCE_BYTES];
+    if (!machine->powered)
+        return code_alone(response, RC_FAILURE);
+    if (locality != 0)
+        return code_alone(response, TPM_RC_LOCALITY);
     size_t count = machine->only_device ? 0 : host_answer(machine, command, len, response);
     if (count > 0)
         return count;
@@ -67,5 +72,12 @@ size_t machine_answer(struct machine *machine, const uint8_t *command, size_t le
     count = tpm_device_execute(machine->making.device, command, len, nonce, response, TPM_BUFFER_BYTES);
     if (number32(response + 6) == TPM_RC_SUCCESS)
         keep(machine, command, len, response, count);
+    return count;
+}
+
+size_t machine_answer(struct machine *machine, uint8_t locality, const uint8_t *command, size_t len, uint8_t *response) {
+    size_t count = answered(machine, locality, command, len, response);
+    if (machine->capture)
+        capture_exchange(machine->capture, command, len, response, count);
     return count;
 }
