@@ -3,6 +3,8 @@
 #include "host.h"
 #include "wire.h"
 
+#include <string.h>
+
 void machine_begin(struct machine *machine) {
     random_bytes(machine->key, sizeof machine->key);
     clock_gettime(CLOCK_MONOTONIC, &machine->began_at);
@@ -30,11 +32,38 @@ void machine_power_off(struct machine *machine) {
     record_power_cycle(&machine->record);
 }
 
+static size_t digest_bytes(uint16_t algorithm) {
+    return algorithm == TPM_ALG_SHA1 ? 20 : algorithm == TPM_ALG_SHA256 ? 32 : algorithm == TPM_ALG_SHA384 ? 48 : 0;
+}
+
 size_t code_alone(uint8_t *response, uint32_t code) {
     put16(response, TPM_ST_NO_SESSIONS);
     put32(response + 2, 10);
     put32(response + 6, code);
     return 10;
+}
+
+/* TPM2_PCR_Event of TPM_RH_NULL (Part 3, 22.3) extends nothing, and answers a TPML_DIGEST_VALUES. */
+size_t machine_hash(struct machine *machine, uint16_t algorithm, const uint8_t *bytes, size_t len, uint8_t digest[TPM_POLICY_BYTES]) {
+    uint8_t command[29 + HASHED_BYTES] = {0x80, 2, 0, 0, 0, 0, 0, 0, 1, 0x3C, 0x40, 0, 0, 7, 0, 0, 0, 9, 0x40, 0, 0, 9, 0, 0, 1};
+    uint8_t nonce[TPM_NONCE_BYTES], response[TPM_BUFFER_BYTES];
+    put32(command + 2, (uint32_t)(29 + len));
+    put16(command + 27, (uint16_t)len);
+    memcpy(command + 29, bytes, len);
+    random_bytes(nonce, sizeof nonce);
+    size_t count = tpm_device_execute(machine->making.device, command, 29 + len, nonce, response, sizeof response);
+    size_t at = 18, size;
+    for (; number32(response + 6) == TPM_RC_SUCCESS && at + 2 <= count; at += 2 + size) {
+        uint16_t found = number16(response + at);
+        size = digest_bytes(found);
+        if (size == 0 || at + 2 + size > count)
+            return 0;
+        if (found == algorithm) {
+            memcpy(digest, response + at + 2, size);
+            return size;
+        }
+    }
+    return 0;
 }
 
 /* How many counters there are that only a policy made. */

@@ -35,6 +35,12 @@ void machine_power_off(struct machine *machine);
  * from another locality than 0 LOCALITY. */
 size_t machine_answer(struct machine *machine, uint8_t locality, const uint8_t *command, size_t len, uint8_t *response);
 
+/* How many bytes are hashed at most. */
+#define HASHED_BYTES 1024
+
+/* The digest of at most HASHED_BYTES, which the device makes: so many bytes, or 0 where it has no bank of this hash. */
+size_t machine_hash(struct machine *machine, uint16_t algorithm, const uint8_t *bytes, size_t len, uint8_t digest[TPM_POLICY_BYTES]);
+
 /* A response with this code alone. */
 size_t code_alone(uint8_t *response, uint32_t code);
 
