@@ -11,8 +11,8 @@ use Rattle.tpm_types.specs.Tpms.{selection}
 use Rattle.tpm_types.specs.Tpm2b.{digest}
 use Rattle.tpm_types.specs.Tpml.{most_digests, selections, or_digests}
 use Rattle.tpm_commands.proofs.Short.{of_selection}
-use Rattle.tpm_log.specs.Quotes.{left_over}
-use Rattle.tpm_log.proofs.Quotes.{long_is}
+use Rattle.tpm_quote.specs.Quotes.{left_over}
+use Rattle.tpm_quote.proofs.Quotes.{long_is}
 use Rattle.tpm_c.specs.Parts.{whole_in}
 
 pub of_selections : TakesAtMost 4096 selections

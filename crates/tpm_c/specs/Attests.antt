@@ -12,9 +12,9 @@ use Rattle.tpm_types.specs.Tpml.{selections}
 use Rattle.tpm_types.specs.Attest.{yes_no_number, attest}
 use Rattle.tpm_model.specs.Registers.{Registers, value_in}
 use Rattle.tpm_log.specs.declared.fault.LogFault.{LogFault}
-use Rattle.tpm_log.specs.declared.attest.AttestFault.{AttestFault}
-use Rattle.tpm_log.specs.Attests.{SelectsNone, IsJudged}
-use Rattle.tpm_log.specs.declared.attest.AttestFault.TheVariants as faults
+use Rattle.tpm_quote.specs.declared.attest.AttestFault.{AttestFault}
+use Rattle.tpm_quote.specs.Attests.{SelectsNone, IsJudged}
+use Rattle.tpm_quote.specs.declared.attest.AttestFault.TheVariants as faults
 use Rattle.tpm_c.specs.declared.part.TpmPart.{TpmPart}
 use Rattle.tpm_c.specs.declared.part.TpmRefusal.{TpmRefusal}
 use Rattle.tpm_c.specs.declared.attest.TpmAttest.{TpmAttest}

@@ -4,7 +4,7 @@ use Rattle.tpm_wire.specs.declared.refusal.Refusal.{Refusal}
 use Rattle.tpm_wire.specs.Buffers.{Layout}
 use Rattle.tpm_wire.specs.Token.{at_start}
 use Rattle.tpm_wire.specs.Reading.{read, read_all}
-use Rattle.tpm_log.specs.Quotes.{left_over}
+use Rattle.tpm_quote.specs.Quotes.{left_over}
 use Rattle.tpm_c.specs.declared.part.TpmPart.{TpmPart}
 use Rattle.tpm_c.specs.declared.part.TpmRefusal.{TpmRefusal}
 

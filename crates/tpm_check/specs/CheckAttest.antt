@@ -15,8 +15,8 @@ use Rattle.tpm_types.specs.Attest.{attest}
 use Rattle.tpm_types.specs.Tpms.{is_selected}
 use Rattle.tpm_model.specs.Registers.{Registers, composite, value_in}
 use Rattle.tpm_log.specs.declared.fault.LogFault.{LogFault}
-use Rattle.tpm_log.specs.declared.attest.NotSelected.{NotSelected}
-use Rattle.tpm_log.specs.Attests.{first_not_selected, registers_of}
+use Rattle.tpm_quote.specs.declared.attest.NotSelected.{NotSelected}
+use Rattle.tpm_quote.specs.Attests.{first_not_selected, registers_of}
 use Rattle.tpm_log.specs.Takes.{IsOfBytes}
 use Rattle.tpm_text.specs.declared.status.Status.TheVariants.{Done, Refused}
 use Rattle.tpm_text.specs.declared.status.Status.{Status}

@@ -3,14 +3,14 @@
 ghost use Rattle.std.specs.Prelude.{◌≡◌, ◌++◌, IfOk, OnOk, option_map, string_bytes};
 ghost use Rattle.std.specs.Str.{bytes_eq};
 ghost use Rattle.tpm_model.specs.Registers.{composite, value_in};
-ghost use Rattle.tpm_log.specs.Attests.{registers_of};
+ghost use Rattle.tpm_quote.specs.Attests.{registers_of};
 ghost use Rattle.tpm_check.specs.CheckAttest.{Adds, whether, lacks_line, on_nonce, on_missing, on_registers};
 ghost use Rattle.tpm_check.specs.CheckAttest.{on_selection, on_quote, on_attest, Says, ChecksAttest, ChecksGiven};
 
 use crate::register_text::bank_name;
 use crate::signed_text::push_attest;
 use std::alloc::{AllocError, Global};
-use tpm_log::{
+use tpm_quote::{
     NotSelected, check_quote, decode_attest, first_not_selected, nonce_matches, selects_none,
 };
 use tpm_store::Registers;

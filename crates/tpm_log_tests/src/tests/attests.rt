@@ -5,10 +5,12 @@ use crate::tests::logs::bytes_of;
 use arrayvec::ArrayVec;
 use std::process::Abort;
 use std::test::*;
-use tpm_log::laws::{attest_or_fault, boot_to_quote};
-use tpm_log::{
+use tpm_log::laws::boot_to_quote;
+use tpm_log::replay;
+use tpm_quote::laws::attest_or_fault;
+use tpm_quote::{
     AttestFault, NotSelected, check_attest, decode_attest, first_not_selected, nonce_matches,
-    replay, selects_none,
+    selects_none,
 };
 use tpm_store::Registers;
 use tpm_types::{Alg, Attest, ClockInfo, Lent, PcrIndex, Selection, Selections};

@@ -3,7 +3,8 @@
 use crate::tests::logs::{ORDER, bytes_of};
 use std::process::Abort;
 use std::test::*;
-use tpm_log::{check_quote, decode_quote, replay};
+use tpm_log::replay;
+use tpm_quote::{check_quote, decode_quote};
 use tpm_store::Registers;
 use tpm_types::{Alg, QuoteInfo, Selection};
 use tpm_wire::Refusal;
