@@ -15,7 +15,7 @@ use crate::kdf::kdfa;
 use crate::key::SessionKey;
 use crate::known::known_rp_hash;
 use crate::mac::Mac;
-use tpm_buffer::CommandCode;
+use tpm_commands::CommandCode;
 use tpm_types::{Alg, DIGEST_BYTES, Digest, Name, SessionAttrs};
 
 // The label of the key of a session that is bound.
