@@ -17,18 +17,19 @@ ghost use Rattle.tpm_commands.specs.declared.command.CommandBody.TheVariants as 
 ghost use Rattle.tpm_commands.specs.declared.response.ReplyBody.TheVariants as replies;
 ghost use Rattle.tpm_buffer.specs.Commands.{header, authorization, command, code_for};
 ghost use Rattle.tpm_hmac.specs.Sessions.{trim};
-ghost use Rattle.tpm_model.specs.Steps.{History, Origin};
+ghost use Rattle.tpm_model.specs.Steps.{History, PowerCycle, Origin};
 ghost use Rattle.tpm_model.specs.Policies.{policy_of};
 ghost use Rattle.tpm_model.specs.Sessions.{Session, slot_of, session_at};
-ghost use Rattle.tpm_model.specs.Counters.{value_at};
+ghost use Rattle.tpm_model.specs.Counters.{NvMemory, nv_memory, value_at};
+ghost use Rattle.tpm_model.specs.Kept.{kept_memory, restored};
 ghost use Rattle.tpm_model.specs.Present.{Present, present};
 ghost use Rattle.tpm_model.specs.Authorization.{check_evidence};
 ghost use Rattle.tpm_model.specs.Answers.{Presented, presented, Done, outcome, answer, next};
 ghost use Rattle.tpm_model.specs.InStep.{CallerSession, InStep};
 ghost use Rattle.tpm_model.specs.Callers.{started_with, Seal, sealed_command, sealed, waiting, Code, Opened, opened};
 ghost use Rattle.tpm_model.specs.Callers.{given_up};
-ghost use Rattle.tpm_model.specs.Runs.Event.{Given};
-ghost use Rattle.tpm_model.specs.Runs.{Event, after};
+ghost use Rattle.tpm_model.specs.Runs.Event.{Given, Cycled};
+ghost use Rattle.tpm_model.specs.Runs.{Event, after, run};
 ghost use Rattle.tpm_model.specs.Examples.{Examples};
 ghost use Rattle.tpm_model.specs.Premises.{IsByGrammar, IsWholeByGrammar, code_in, IsAccepted, HasSessionMac};
 ghost use Rattle.tpm_model.specs.Premises.{NoncesDiffer, NoCollision, nonce_bytes, most_nonce, IsReady, rolled};
@@ -81,6 +82,23 @@ pub fn no_counter_goes_back()
         (v : ℕ)
         × (value_at o (after o [] (es ++ Given bytes n ∷ [])) i ≡ Some v)
         × (o.greatest < v) }
+{}
+
+/// A device that is kept: what is made of the owner's value and of the bytes of a device's NV memory is what a power cycle
+/// leaves of that device. So making it again is one power cycle of a run: the answers and the history go on behind it, and
+/// what holds of every run holds across it.
+pub fn restored_is_cycled()
+    ensures stands { (o : Origin) (h : History) (nv : NvMemory) (bytes : List ℕ) →
+        Spells kept_memory (nv_memory o h) bytes →
+        Spells kept_memory nv bytes →
+        restored o.owner nv ≡ present o (PowerCycle ∷ h) }
+    ensures runs { (o : Origin) (es fs : List Event) (nv : NvMemory) (bytes : List ℕ) →
+        Spells kept_memory (nv_memory o (after o [] es)) bytes →
+        Spells kept_memory nv bytes →
+        (restored o.owner nv ≡ present o (after o [] (es ++ Cycled ∷ [])))
+        × (run o [] (es ++ Cycled ∷ fs)
+        ≡ run o [] es ++ run o (after o [] (es ++ Cycled ∷ [])) fs)
+        × (after o [] (es ++ Cycled ∷ fs) ≡ after o (after o [] (es ++ Cycled ∷ [])) fs) }
 {}
 
 /// A policy serves once: a session that has authorized a command, and is still there, asserts nothing.
