@@ -268,6 +268,43 @@ END
     in_place python3 -m vinjakwe check checks/logs/worked.log | cmp - checks/logs/worked.registers
 }
 
+# python_tests, go_tests, rust_tests: what a user runs in the folder of a binding.
+python_tests() {
+    (cd bindings/python && in_place python3 -m unittest discover -s tests)
+}
+
+go_tests() {
+    (cd bindings/go && in_place go test ./...)
+}
+
+rust_tests() {
+    (cd bindings/rust && in_place cargo test --offline --locked --features alloc)
+}
+
+# python_typed: a checker of types finds nothing.
+python_typed() {
+    (cd bindings/python && mypy --strict --cache-dir="$room/mypy" vinjakwe)
+}
+
+# python_wheel: a wheel holds the library, runs without another install, and leaves nothing among the sources.
+python_wheel() {
+    before=$(find bindings/python | sort)
+    VINJAKWE_LIBRARY=$prefix/lib/libvinjakwe.so.0 "$1" -m pip wheel -q --no-build-isolation --no-deps -w "$room/wheel" \
+        bindings/python || return 1
+    [ "$(find bindings/python | sort)" = "$before" ] || return 1
+    mkdir "$room/unpacked" && "$1" -m zipfile -e "$room"/wheel/*.whl "$room/unpacked" || return 1
+    env -u VINJAKWE_LIBRARY -u LD_LIBRARY_PATH PYTHONPATH="$room/unpacked" "$1" -m vinjakwe check \
+        checks/logs/worked.log | cmp - checks/logs/worked.registers
+}
+
+# wheel_maker: a python3 that makes wheels without a network.
+wheel_maker() {
+    for maker in python3 /usr/bin/python3; do
+        "$maker" -c 'import pip, setuptools, wheel' 2>/dev/null && return
+    done
+    return 1
+}
+
 # same_said WORD..: `python -m vinjakwe` and tpmtool write the same and have the same status for these words.
 same_said() {
     "$program" "$@" >"$room/out.wanted" 2>"$room/err" </dev/null
@@ -385,6 +422,17 @@ else
         holds "Python refuses what has no bytes, and other libraries" python_faults
         holds "Python prints of quotes what tpmtool prints" python_program
         holds "the example in Python" python_example
+        holds "the tests of the package for Python" python_tests
+        if command -v mypy >/dev/null 2>&1; then
+            holds "Python's types" python_typed
+        else
+            skip "Python's types" "there is no mypy"
+        fi
+        if wheel_maker; then
+            holds "a wheel that holds the library" python_wheel "$maker"
+        else
+            skip "a wheel that holds the library" "there is no python3 with pip, setuptools and wheel"
+        fi
     fi
     if ! command -v go >/dev/null 2>&1 || ! command -v pkg-config >/dev/null 2>&1; then
         skip "the binding for Go" "there is no go or no pkg-config"
@@ -402,6 +450,7 @@ else
             skip "Go answers them beside an address sanitizer" "$(head -n 1 "$room/said")"
         fi
         holds "the example in Go" go_example
+        holds "the tests of the package for Go" go_tests
     fi
     if ! command -v cargo >/dev/null 2>&1; then
         skip "the binding for Rust" "there is no cargo"
@@ -417,5 +466,6 @@ else
             skip "Rust answers them under valgrind" "there is no valgrind"
         fi
         holds "the example in Rust" rust_example
+        holds "the tests of the crate for Rust" rust_tests
     fi
 fi
