@@ -181,7 +181,7 @@ make_layout() {
         function number(name, value) { printf "printf(\"%s %%lu\\n\", (unsigned long)%s);\n", name, value }
         BEGIN { print "#include \"vinjakwe.h\"\n#include <stdio.h>\nint main(void) {" }
         /^struct tpm_[a-z_]* \{/ &&
-            ($2 ~ /refusal|part|session|areas|attest|log_(place|digest|event)/) { name = $2; size(name); next }
+            ($2 ~ /refusal|part|session|areas|attest|policy|log_(place|digest|event)/) { name = $2; size(name); next }
         /^}/ { name = "" }
         name && /;/ {
             for (i = 1; i <= NF; i++) if ($i ~ /;/) break
@@ -190,7 +190,7 @@ make_layout() {
         }
         /^#define TPM_(CC|RC)_/ &&
             $2 !~ /^TPM_RC_([HPS1-7])$/ { number($2, $2) }
-        /^#define TPM_(DONE|REFUSED|NO_ROOM|NO_COMMAND|EVENT|CALLER_OPENED|FRAMER_[A-Z]+|ATTEST_[A-Z_]+) / ||
+        /^#define TPM_(DONE|REFUSED|NO_ROOM|NO_COMMAND|EVENT|CALLER_OPENED|FRAMER_[A-Z]+|ATTEST_[A-Z_]+|POLICY_NO_DIGEST) / ||
             /^#define TPM_ALG_SHA/ ||
             /^#define TPM_(BUFFER|OWNER|NONCE|REGISTERS)_BYTES/ { number($2, $2) }
         /^#define TPM_LOG_/ { sub(/^TPM_LOG_/, "", $2); gsub(/_/, "", $2); number("TPM_LOG_" $2, $3) }
@@ -208,7 +208,7 @@ for it, name in (
     (v._Refusal, "refusal"), (v._Part, "part"), (v._CommandSession, "command_session"),
     (v._CommandAreas, "command_areas"), (v._ResponseSession, "response_session"), (v._ResponseAreas, "response_areas"),
     (v._LogPlace, "log_place"), (v._LogDigest, "log_digest"), (v._LogEvent, "log_event"), (v._Attest, "attest"),
-    (v._AttestFault, "attest_fault"),
+    (v._AttestFault, "attest_fault"), (v._Policy, "policy"),
 ):
     print(f"tpm_{name} {ctypes.sizeof(it)}")
     for field, _ in it._fields_:
@@ -222,7 +222,7 @@ for i, name in enumerate(v.LOG_FAULTS):
 for name in ("BUFFER_BYTES", "OWNER_BYTES", "NONCE_BYTES", "REGISTERS_BYTES"):
     print(f"TPM_{name} {getattr(v, name)}")
 for name in ("DONE", "REFUSED", "NO_ROOM", "NO_COMMAND", "FRAMER_MORE", "FRAMER_READY", "FRAMER_BROKEN", "EVENT",
-             "CALLER_OPENED", "ATTEST_REFUSED", "ATTEST_NO_BANK", "ATTEST_REQUIREMENT"):
+             "CALLER_OPENED", "ATTEST_REFUSED", "ATTEST_NO_BANK", "ATTEST_REQUIREMENT", "POLICY_NO_DIGEST"):
     print(f"TPM_{name} {getattr(v, '_' + name)}")
 for kind in v.Kind:
     print(f"TPM_ATTEST_{kind.name} {kind.value}")
