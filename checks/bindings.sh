@@ -181,7 +181,7 @@ make_layout() {
         function number(name, value) { printf "printf(\"%s %%lu\\n\", (unsigned long)%s);\n", name, value }
         BEGIN { print "#include \"vinjakwe.h\"\n#include <stdio.h>\nint main(void) {" }
         /^struct tpm_[a-z_]* \{/ &&
-            ($2 ~ /refusal|part|session|areas|attest|log_(place|digest|event)/) { name = $2; size(name); next }
+            ($2 ~ /refusal|part|session|areas|attest|policy|log_(place|digest|event)/) { name = $2; size(name); next }
         /^}/ { name = "" }
         name && /;/ {
             for (i = 1; i <= NF; i++) if ($i ~ /;/) break
@@ -190,7 +190,7 @@ make_layout() {
         }
         /^#define TPM_(CC|RC)_/ &&
             $2 !~ /^TPM_RC_([HPS1-7])$/ { number($2, $2) }
-        /^#define TPM_(DONE|REFUSED|NO_ROOM|NO_COMMAND|EVENT|CALLER_OPENED|FRAMER_[A-Z]+|ATTEST_[A-Z_]+) / ||
+        /^#define TPM_(DONE|REFUSED|NO_ROOM|NO_COMMAND|EVENT|CALLER_OPENED|FRAMER_[A-Z]+|ATTEST_[A-Z_]+|POLICY_NO_DIGEST) / ||
             /^#define TPM_ALG_SHA/ ||
             /^#define TPM_(BUFFER|OWNER|NONCE|REGISTERS)_BYTES/ { number($2, $2) }
         /^#define TPM_LOG_/ { sub(/^TPM_LOG_/, "", $2); gsub(/_/, "", $2); number("TPM_LOG_" $2, $3) }
@@ -208,7 +208,7 @@ for it, name in (
     (v._Refusal, "refusal"), (v._Part, "part"), (v._CommandSession, "command_session"),
     (v._CommandAreas, "command_areas"), (v._ResponseSession, "response_session"), (v._ResponseAreas, "response_areas"),
     (v._LogPlace, "log_place"), (v._LogDigest, "log_digest"), (v._LogEvent, "log_event"), (v._Attest, "attest"),
-    (v._AttestFault, "attest_fault"),
+    (v._AttestFault, "attest_fault"), (v._Policy, "policy"),
 ):
     print(f"tpm_{name} {ctypes.sizeof(it)}")
     for field, _ in it._fields_:
@@ -222,7 +222,7 @@ for i, name in enumerate(v.LOG_FAULTS):
 for name in ("BUFFER_BYTES", "OWNER_BYTES", "NONCE_BYTES", "REGISTERS_BYTES"):
     print(f"TPM_{name} {getattr(v, name)}")
 for name in ("DONE", "REFUSED", "NO_ROOM", "NO_COMMAND", "FRAMER_MORE", "FRAMER_READY", "FRAMER_BROKEN", "EVENT",
-             "CALLER_OPENED", "ATTEST_REFUSED", "ATTEST_NO_BANK", "ATTEST_REQUIREMENT"):
+             "CALLER_OPENED", "ATTEST_REFUSED", "ATTEST_NO_BANK", "ATTEST_REQUIREMENT", "POLICY_NO_DIGEST"):
     print(f"TPM_{name} {getattr(v, '_' + name)}")
 for kind in v.Kind:
     print(f"TPM_ATTEST_{kind.name} {kind.value}")
@@ -266,6 +266,43 @@ END
     in_place env VINJAKWE_LIBRARY="$room/other.so" python3 -c 'import vinjakwe' 2>&1 |
         grep -q 'LibraryError: .* has version 9.0.0' || return 1
     in_place python3 -m vinjakwe check checks/logs/worked.log | cmp - checks/logs/worked.registers
+}
+
+# python_tests, go_tests, rust_tests: what a user runs in the folder of a binding.
+python_tests() {
+    (cd bindings/python && in_place python3 -m unittest discover -s tests)
+}
+
+go_tests() {
+    (cd bindings/go && in_place go test ./...)
+}
+
+rust_tests() {
+    (cd bindings/rust && in_place cargo test --offline --locked --features alloc)
+}
+
+# python_typed: a checker of types finds nothing.
+python_typed() {
+    (cd bindings/python && mypy --strict --cache-dir="$room/mypy" vinjakwe)
+}
+
+# python_wheel: a wheel holds the library, runs without another install, and leaves nothing among the sources.
+python_wheel() {
+    before=$(find bindings/python | sort)
+    VINJAKWE_LIBRARY=$prefix/lib/libvinjakwe.so.0 "$1" -m pip wheel -q --no-build-isolation --no-deps -w "$room/wheel" \
+        bindings/python || return 1
+    [ "$(find bindings/python | sort)" = "$before" ] || return 1
+    mkdir "$room/unpacked" && "$1" -m zipfile -e "$room"/wheel/*.whl "$room/unpacked" || return 1
+    env -u VINJAKWE_LIBRARY -u LD_LIBRARY_PATH PYTHONPATH="$room/unpacked" "$1" -m vinjakwe check \
+        checks/logs/worked.log | cmp - checks/logs/worked.registers
+}
+
+# wheel_maker: a python3 that makes wheels without a network.
+wheel_maker() {
+    for maker in python3 /usr/bin/python3; do
+        "$maker" -c 'import pip, setuptools, wheel' 2>/dev/null && return
+    done
+    return 1
 }
 
 # same_said WORD..: `python -m vinjakwe` and tpmtool write the same and have the same status for these words.
@@ -385,6 +422,17 @@ else
         holds "Python refuses what has no bytes, and other libraries" python_faults
         holds "Python prints of quotes what tpmtool prints" python_program
         holds "the example in Python" python_example
+        holds "the tests of the package for Python" python_tests
+        if command -v mypy >/dev/null 2>&1; then
+            holds "Python's types" python_typed
+        else
+            skip "Python's types" "there is no mypy"
+        fi
+        if wheel_maker; then
+            holds "a wheel that holds the library" python_wheel "$maker"
+        else
+            skip "a wheel that holds the library" "there is no python3 with pip, setuptools and wheel"
+        fi
     fi
     if ! command -v go >/dev/null 2>&1 || ! command -v pkg-config >/dev/null 2>&1; then
         skip "the binding for Go" "there is no go or no pkg-config"
@@ -402,6 +450,7 @@ else
             skip "Go answers them beside an address sanitizer" "$(head -n 1 "$room/said")"
         fi
         holds "the example in Go" go_example
+        holds "the tests of the package for Go" go_tests
     fi
     if ! command -v cargo >/dev/null 2>&1; then
         skip "the binding for Rust" "there is no cargo"
@@ -417,5 +466,6 @@ else
             skip "Rust answers them under valgrind" "there is no valgrind"
         fi
         holds "the example in Rust" rust_example
+        holds "the tests of the crate for Rust" rust_tests
     fi
 fi

@@ -4,7 +4,15 @@
 
 #include <string.h>
 
+#define FOR_HANDLE_1 (TPM_RC_H + TPM_RC_1)
 #define FOR_PARAMETER_1 (TPM_RC_P + TPM_RC_1)
+#define FOR_PARAMETER_2 (TPM_RC_P + TPM_RC_2)
+#define FOR_PARAMETER_3 (TPM_RC_P + TPM_RC_3)
+
+/* Permanent handles beside those of the device (Part 2, 7.4). */
+#define RH_ENDORSEMENT ((uint32_t)0x4000000B)
+#define RH_PLATFORM ((uint32_t)0x4000000C)
+#define RH_PLATFORM_NV ((uint32_t)0x4000000D)
 
 /* ---- the response, behind its header */
 
@@ -36,6 +44,14 @@ static void reply_bytes(struct reply *reply, const uint8_t *bytes, size_t len) {
     memcpy(reply->bytes + reply->len, bytes, len);
     reply->len += len;
 }
+
+/* ---- what is asked: a command's handle, where it has one, and its parameters, behind the authorization area */
+
+struct asked {
+    uint32_t handle;
+    const uint8_t *parameters;
+    size_t len;
+};
 
 /* ---- TPM2_GetCapability (Part 3, 30.2) */
 
@@ -72,8 +88,10 @@ static void add(struct entries *list, uint32_t tag, uint32_t value) {
     list->at[at] = (struct entry){tag, value};
 }
 
-/* TPMA_CC (Part 2, 8.9): the command's number, whether it writes NV memory, and how many handles it and its response have. */
+/* TPMA_CC (Part 2, 8.9): the command's number, whether it writes NV memory or much of the state, and how many handles it and its
+ * response have. */
 #define CC_NV ((uint32_t)1 << 22)
+#define CC_EXTENSIVE ((uint32_t)1 << 23)
 #define CC_HANDLES(n) ((uint32_t)(n) << 25)
 #define CC_ANSWERS_HANDLE ((uint32_t)1 << 28)
 
@@ -186,9 +204,9 @@ static void list_properties(struct entries *list, const struct machine *machine)
     add(list, 0x20B, COUNTER_SLOTS - counters);
 }
 
-/* The handles of a type, which is the first byte of the property (Part 2, 7.2). A session that was saved is listed as saved, as tools
- * expect it, though it stays loaded in the device. */
-static void list_handles(struct entries *list, const struct record *record, uint32_t type) {
+/* The handles of a type, which is the first byte of the property (Part 2, 7.2), and whether there is such a type. A session that was
+ * saved is listed as saved, as tools expect it, though it stays loaded in the device. */
+static bool list_handles(struct entries *list, const struct record *record, uint32_t type) {
     switch (type) {
     case 0x00:
         for (uint32_t i = 0; i < 24; i++)
@@ -209,7 +227,13 @@ static void list_handles(struct entries *list, const struct record *record, uint
         add(list, TPM_RH_NULL, 0);
         add(list, TPM_RS_PW, 0);
         break;
+    case 0x80: /* transient and persistent objects: none */
+    case 0x81:
+        break;
+    default:
+        return false;
     }
+    return true;
 }
 
 /* A TPML of the entries from this tag on, at most so many, behind TPMI_YES_NO moreData and the capability. */
@@ -260,16 +284,16 @@ static void reply_none(struct reply *reply, enum capability capability) {
     reply32(reply, 0);
 }
 
-static uint32_t get_capability(struct machine *machine, const uint8_t *parameters, size_t len, struct reply *reply) {
-    uint32_t capability = number32(parameters), property = number32(parameters + 4), most = number32(parameters + 8);
+static uint32_t get_capability(struct machine *machine, const struct asked *asked, struct reply *reply) {
+    uint32_t capability = number32(asked->parameters), property = number32(asked->parameters + 4);
     struct entries list = {.count = 0};
-    (void)len;
     switch (capability) {
     case CAP_ALGS:
         list_algorithms(&list);
         break;
     case CAP_HANDLES:
-        list_handles(&list, &machine->record, property >> 24);
+        if (!list_handles(&list, &machine->record, property >> 24))
+            return TPM_RC_HANDLE + FOR_PARAMETER_2;
         break;
     case CAP_COMMANDS:
         list_commands(&list);
@@ -292,7 +316,7 @@ static uint32_t get_capability(struct machine *machine, const uint8_t *parameter
     default:
         return TPM_RC_VALUE + FOR_PARAMETER_1;
     }
-    reply_entries(reply, &list, capability, property, most);
+    reply_entries(reply, &list, capability, property, number32(asked->parameters + 8));
     return TPM_RC_SUCCESS;
 }
 
@@ -306,12 +330,14 @@ static void seal_context(const struct machine *machine, const uint8_t *context, 
     hmac_sha256(machine->key, context, SAVED_BYTES - SHA256_BYTES, mac);
 }
 
-/* The session stays loaded in the device: what is saved names it, and is good for one load while the session lives. */
-static uint32_t context_save(struct machine *machine, const uint8_t *parameters, size_t len, struct reply *reply) {
-    struct session *session = record_session(&machine->record, number32(parameters));
-    uint8_t *context = reply->bytes + reply->len, mac[SHA256_BYTES];
-    (void)len;
-    if (!session)
+/* The session stays loaded in the device: what is saved names it, and is good for one load while the session lives. Of a session
+ * that is saved already nothing is loaded that could be saved. */
+static uint32_t context_save(struct machine *machine, const struct asked *asked, struct reply *reply) {
+    struct session *session = record_session(&machine->record, asked->handle);
+    uint8_t *context = reply->bytes + reply->len, mac[SHA256_BYTES], type = (uint8_t)(asked->handle >> 24);
+    if (type != 0x02 && type != 0x03 && type != 0x80)
+        return TPM_RC_VALUE + FOR_HANDLE_1;
+    if (!session || session->save != 0)
         return TPM_RC_REFERENCE_H0;
     session->save = ++machine->saves;
     reply64(reply, session->save);
@@ -324,59 +350,157 @@ static uint32_t context_save(struct machine *machine, const uint8_t *parameters,
     return TPM_RC_SUCCESS;
 }
 
-static uint32_t context_load(struct machine *machine, const uint8_t *parameters, size_t len, struct reply *reply) {
+static uint32_t context_load(struct machine *machine, const struct asked *asked, struct reply *reply) {
+    const uint8_t *context = asked->parameters;
     uint8_t mac[SHA256_BYTES];
-    if (len != SAVED_BYTES || number16(parameters + 16) != SAVED_BLOB)
+    if (asked->len != SAVED_BYTES || number16(context + 16) != SAVED_BLOB)
         return TPM_RC_SIZE + FOR_PARAMETER_1;
-    seal_context(machine, parameters, mac);
-    if (memcmp(mac, parameters + SAVED_BYTES - SHA256_BYTES, sizeof mac) != 0)
+    seal_context(machine, context, mac);
+    if (memcmp(mac, context + SAVED_BYTES - SHA256_BYTES, sizeof mac) != 0)
         return RC_INTEGRITY + FOR_PARAMETER_1;
-    struct session *session = record_session(&machine->record, number32(parameters + 8));
-    if (!session || session->save != number64(parameters) || session->start != number64(parameters + 18))
+    struct session *session = record_session(&machine->record, number32(context + 8));
+    if (!session || session->save != number64(context) || session->start != number64(context + 18))
         return TPM_RC_HANDLE + FOR_PARAMETER_1;
     session->save = 0;
     reply32(reply, session->handle);
     return TPM_RC_SUCCESS;
 }
 
-/* ---- the others */
+/* ---- random bytes and hashes */
 
 /* TPM2_GetRandom (Part 3, 16.1): at most a digest's bytes. */
-static uint32_t get_random(struct machine *machine, const uint8_t *parameters, size_t len, struct reply *reply) {
+static uint32_t get_random(struct machine *machine, const struct asked *asked, struct reply *reply) {
     uint8_t bytes[48];
-    size_t count = number16(parameters) < sizeof bytes ? number16(parameters) : sizeof bytes;
+    size_t wanted = number16(asked->parameters), count = wanted < sizeof bytes ? wanted : sizeof bytes;
     (void)machine;
-    (void)len;
     random_bytes(bytes, count);
     reply16(reply, (uint16_t)count);
     reply_bytes(reply, bytes, count);
     return TPM_RC_SUCCESS;
 }
 
-/* TPM2_SelfTest (Part 3, 10.2): there is nothing to test. */
-static uint32_t self_test(struct machine *machine, const uint8_t *parameters, size_t len, struct reply *reply) {
+/* A TPM2B at the beginning of the parameters, and nothing behind it but what is wanted there. */
+static uint32_t sized(const struct asked *asked, size_t most) {
+    size_t len = number16(asked->parameters);
+    if (len > most)
+        return TPM_RC_SIZE + FOR_PARAMETER_1;
+    return asked->len - 2 < len ? TPM_RC_INSUFFICIENT + FOR_PARAMETER_1 : TPM_RC_SUCCESS;
+}
+
+/* TPM2_StirRandom (Part 3, 16.2): the bytes are taken, and no nonce is made of them. */
+static uint32_t stir_random(struct machine *machine, const struct asked *asked, struct reply *reply) {
+    uint32_t code = sized(asked, 128);
     (void)machine;
-    (void)len;
     (void)reply;
-    return parameters[0] <= 1 ? TPM_RC_SUCCESS : TPM_RC_VALUE + FOR_PARAMETER_1;
+    if (code == TPM_RC_SUCCESS && asked->len > 2 + (size_t)number16(asked->parameters))
+        return TPM_RC_SIZE;
+    return code;
+}
+
+/* TPM2_Hash (Part 3, 15.4): the device hashes. No ticket says that the digest may be signed, since there are no keys. */
+static uint32_t hash(struct machine *machine, const struct asked *asked, struct reply *reply) {
+    uint32_t code = sized(asked, HASHED_BYTES);
+    size_t len = number16(asked->parameters), left = asked->len - 2 - len;
+    const uint8_t *behind = asked->parameters + 2 + len;
+    uint8_t digest[TPM_POLICY_BYTES];
+    if (code != TPM_RC_SUCCESS)
+        return code;
+    if (left < 2)
+        return TPM_RC_INSUFFICIENT + FOR_PARAMETER_2;
+    size_t count = machine_hash(machine, number16(behind), asked->parameters + 2, len, digest);
+    if (count == 0)
+        return TPM_RC_HASH + FOR_PARAMETER_2;
+    if (left < 6)
+        return TPM_RC_INSUFFICIENT + FOR_PARAMETER_3;
+    uint32_t hierarchy = number32(behind + 2);
+    if (hierarchy != TPM_RH_OWNER && hierarchy != RH_ENDORSEMENT && hierarchy != RH_PLATFORM && hierarchy != TPM_RH_NULL)
+        return TPM_RC_VALUE + FOR_PARAMETER_3;
+    if (left > 6)
+        return TPM_RC_SIZE;
+    reply16(reply, (uint16_t)count);
+    reply_bytes(reply, digest, count);
+    reply16(reply, ST_HASHCHECK);
+    reply32(reply, TPM_RH_NULL);
+    reply16(reply, 0);
+    return TPM_RC_SUCCESS;
+}
+
+/* ---- tests */
+
+/* TPM2_SelfTest (Part 3, 10.2): there is nothing to test. */
+static uint32_t self_test(struct machine *machine, const struct asked *asked, struct reply *reply) {
+    (void)machine;
+    (void)reply;
+    return asked->parameters[0] <= 1 ? TPM_RC_SUCCESS : TPM_RC_VALUE + FOR_PARAMETER_1;
+}
+
+/* TPM2_IncrementalSelfTest (Part 3, 10.3): of a TPML_ALG nothing is left to be tested. */
+static uint32_t incremental_self_test(struct machine *machine, const struct asked *asked, struct reply *reply) {
+    uint32_t count = number32(asked->parameters);
+    (void)machine;
+    if (count > 128)
+        return TPM_RC_SIZE + FOR_PARAMETER_1;
+    if (asked->len - 4 < 2 * (size_t)count)
+        return TPM_RC_INSUFFICIENT + FOR_PARAMETER_1;
+    if (asked->len - 4 > 2 * (size_t)count)
+        return TPM_RC_SIZE;
+    reply32(reply, 0);
+    return TPM_RC_SUCCESS;
 }
 
 /* TPM2_GetTestResult (Part 3, 10.4): no data, and TPM_RC_SUCCESS. */
-static uint32_t get_test_result(struct machine *machine, const uint8_t *parameters, size_t len, struct reply *reply) {
+static uint32_t get_test_result(struct machine *machine, const struct asked *asked, struct reply *reply) {
     (void)machine;
-    (void)parameters;
-    (void)len;
+    (void)asked;
     reply16(reply, 0);
     reply32(reply, TPM_RC_SUCCESS);
     return TPM_RC_SUCCESS;
 }
 
-/* TPM2_Shutdown (Part 3, 9.4): counters are always kept, and the rest of a state can't be. */
-static uint32_t shut_down(struct machine *machine, const uint8_t *parameters, size_t len, struct reply *reply) {
+/* TPM2_TestParms (Part 3, 30.3): there are no objects, so no type of them is supported. */
+static uint32_t test_parms(struct machine *machine, const struct asked *asked, struct reply *reply) {
     (void)machine;
-    (void)len;
+    (void)asked;
     (void)reply;
-    return number16(parameters) == TPM_SU_CLEAR ? TPM_RC_SUCCESS : TPM_RC_VALUE + FOR_PARAMETER_1;
+    return RC_TYPE + FOR_PARAMETER_1;
+}
+
+/* ---- the platform's hierarchy: there is none, so what firmware does to lock it is done */
+
+/* TPM2_HierarchyChangeAuth (Part 3, 24.8): the owner's value is handed in when the program starts. */
+static uint32_t hierarchy_change_auth(struct machine *machine, const struct asked *asked, struct reply *reply) {
+    uint32_t code = sized(asked, TPM_OWNER_BYTES);
+    (void)machine;
+    (void)reply;
+    if (asked->handle != RH_PLATFORM)
+        return RC_HIERARCHY + FOR_HANDLE_1;
+    if (code == TPM_RC_SUCCESS && asked->len > 2 + (size_t)number16(asked->parameters))
+        return TPM_RC_SIZE;
+    return code;
+}
+
+/* TPM2_HierarchyControl (Part 3, 24.2): what is not there is off, and the owner's hierarchy is on. */
+static uint32_t hierarchy_control(struct machine *machine, const struct asked *asked, struct reply *reply) {
+    uint32_t hierarchy = number32(asked->parameters);
+    uint8_t state = asked->parameters[4];
+    (void)machine;
+    (void)reply;
+    if (asked->handle != RH_PLATFORM)
+        return RC_HIERARCHY + FOR_HANDLE_1;
+    if (hierarchy != TPM_RH_OWNER && hierarchy != RH_ENDORSEMENT && hierarchy != RH_PLATFORM && hierarchy != RH_PLATFORM_NV)
+        return TPM_RC_VALUE + FOR_PARAMETER_1;
+    if (state > 1)
+        return TPM_RC_VALUE + FOR_PARAMETER_2;
+    return (hierarchy == TPM_RH_OWNER) == (state == 1) ? TPM_RC_SUCCESS : RC_HIERARCHY + FOR_PARAMETER_1;
+}
+
+/* ---- power and time */
+
+/* TPM2_Shutdown (Part 3, 9.4): counters are always kept, and the rest of a state can't be. */
+static uint32_t shut_down(struct machine *machine, const struct asked *asked, struct reply *reply) {
+    (void)machine;
+    (void)reply;
+    return number16(asked->parameters) == TPM_SU_CLEAR ? TPM_RC_SUCCESS : TPM_RC_VALUE + FOR_PARAMETER_1;
 }
 
 static uint64_t milliseconds_since(const struct timespec *then) {
@@ -386,9 +510,8 @@ static uint64_t milliseconds_since(const struct timespec *then) {
 }
 
 /* TPM2_ReadClock (Part 3, 29.1): time since the power came on, and since this process began; so the clock is not safe. */
-static uint32_t read_clock(struct machine *machine, const uint8_t *parameters, size_t len, struct reply *reply) {
-    (void)parameters;
-    (void)len;
+static uint32_t read_clock(struct machine *machine, const struct asked *asked, struct reply *reply) {
+    (void)asked;
     reply64(reply, milliseconds_since(&machine->powered_at));
     reply64(reply, milliseconds_since(&machine->began_at));
     reply32(reply, machine->power_cycles);
@@ -401,18 +524,25 @@ static uint32_t read_clock(struct machine *machine, const uint8_t *parameters, s
 
 static const struct answer {
     uint32_t command; /* as TPMA_CC */
-    size_t least;     /* bytes behind the header */
+    bool by_platform; /* a password authorizes it, and any will do */
+    size_t least;     /* bytes of parameters */
     size_t most;
-    uint32_t (*reply)(struct machine *, const uint8_t *, size_t, struct reply *);
+    uint32_t (*reply)(struct machine *, const struct asked *, struct reply *);
 } table[] = {
-    {0x143 | CC_NV, 1, 1, self_test},
-    {0x145 | CC_NV, 2, 2, shut_down},
-    {0x161 | CC_ANSWERS_HANDLE, 18, TPM_BUFFER_BYTES, context_load},
-    {0x162 | CC_HANDLES(1), 4, 4, context_save},
-    {0x17A, 12, 12, get_capability},
-    {0x17B, 2, 2, get_random},
-    {0x17C, 0, 0, get_test_result},
-    {0x181, 0, 0, read_clock},
+    {0x121 | CC_NV | CC_EXTENSIVE | CC_HANDLES(1), true, 5, 5, hierarchy_control},
+    {0x129 | CC_NV | CC_HANDLES(1), true, 2, TPM_BUFFER_BYTES, hierarchy_change_auth},
+    {0x142 | CC_NV, false, 4, TPM_BUFFER_BYTES, incremental_self_test},
+    {0x143 | CC_NV, false, 1, 1, self_test},
+    {0x145 | CC_NV, false, 2, 2, shut_down},
+    {0x146 | CC_NV, false, 2, TPM_BUFFER_BYTES, stir_random},
+    {0x161 | CC_ANSWERS_HANDLE, false, 18, TPM_BUFFER_BYTES, context_load},
+    {0x162 | CC_HANDLES(1), false, 0, 0, context_save},
+    {0x17A, false, 12, 12, get_capability},
+    {0x17B, false, 2, 2, get_random},
+    {0x17C, false, 0, 0, get_test_result},
+    {0x17D, false, 2, TPM_BUFFER_BYTES, hash},
+    {0x181, false, 0, 0, read_clock},
+    {0x18A, false, 2, TPM_BUFFER_BYTES, test_parms},
 };
 
 static uint32_t host_command(size_t number) {
@@ -430,30 +560,85 @@ static const struct answer *answer_to(uint32_t code) {
     return NULL;
 }
 
-/* The checks before an answer are those of the device, in its order: started, no sessions, and the size of the parameters. */
-static uint32_t judged(struct machine *machine, const struct answer *answer, const uint8_t *command, size_t len, struct reply *reply) {
-    if (!machine->record.started)
-        return TPM_RC_INITIALIZE;
-    if (number16(command) == TPM_ST_SESSIONS)
-        return TPM_RC_AUTH_CONTEXT;
-    if (len - 10 < answer->least)
-        return TPM_RC_INSUFFICIENT + FOR_PARAMETER_1;
-    if (len - 10 > answer->most)
-        return TPM_RC_SIZE;
-    return answer->reply(machine, command + 10, len - 10, reply);
+/* ---- a command, from its tag to its parameters */
+
+/* The handle, where the command has one; how many bytes it has. */
+static size_t take_handle(const struct answer *answer, const uint8_t *command, struct asked *asked) {
+    if (!(answer->command & CC_HANDLES(1)))
+        return 0;
+    asked->handle = number32(command + 10);
+    return 4;
 }
 
-size_t host_answer(struct machine *machine, const uint8_t *command, size_t len, uint8_t *response) {
-    struct reply reply = {response, 10};
-    if (len < 10 || number32(command + 2) != len || (number16(command) != TPM_ST_NO_SESSIONS && number16(command) != TPM_ST_SESSIONS))
-        return 0;
-    const struct answer *answer = answer_to(number32(command + 6));
-    if (!answer)
-        return 0;
+/* One password session, TPMS_AUTH_COMMAND without a nonce; `taken` says how many bytes the authorization area has. */
+static uint32_t take_password(const uint8_t *area, size_t len, size_t *taken) {
+    size_t size = len < 4 ? 0 : number32(area);
+    if (size < 9 || size > len - 4)
+        return TPM_RC_AUTHSIZE;
+    if (number32(area + 4) != TPM_RS_PW)
+        return TPM_RC_AUTH_UNAVAILABLE;
+    if (number16(area + 8) != 0)
+        return TPM_RC_NONCE + TPM_RC_S + TPM_RC_1;
+    if (size != 9 + (size_t)number16(area + 11))
+        return TPM_RC_AUTHSIZE;
+    *taken = 4 + size;
+    return TPM_RC_SUCCESS;
+}
+
+/* The checks before an answer are those of the device, in its order: started, handles, sessions, and the size of the parameters. */
+static uint32_t judged(struct machine *machine, const struct answer *answer, const uint8_t *command, size_t len, struct reply *reply) {
+    bool has_sessions = number16(command) == TPM_ST_SESSIONS;
+    struct asked asked = {0};
+    size_t at = 10, taken = 0;
+    if (!machine->record.started)
+        return TPM_RC_INITIALIZE;
+    if ((answer->command & CC_HANDLES(1)) && len < 14)
+        return TPM_RC_INSUFFICIENT + FOR_HANDLE_1;
+    at += take_handle(answer, command, &asked);
+    if (has_sessions != answer->by_platform)
+        return has_sessions ? TPM_RC_AUTH_CONTEXT : TPM_RC_AUTH_MISSING;
+    uint32_t code = has_sessions ? take_password(command + at, len - at, &taken) : TPM_RC_SUCCESS;
+    if (code != TPM_RC_SUCCESS)
+        return code;
+    asked.parameters = command + at + taken;
+    asked.len = len - at - taken;
+    if (asked.len < answer->least)
+        return TPM_RC_INSUFFICIENT + FOR_PARAMETER_1;
+    if (asked.len > answer->most)
+        return TPM_RC_SIZE;
+    return answer->reply(machine, &asked, reply);
+}
+
+/* Answers a command of the table; a password is answered by the session that ends all of them: no nonce, continueSession, no HMAC. */
+static size_t answer_by(struct machine *machine, const struct answer *answer, const uint8_t *command, size_t len, uint8_t *response) {
+    static const uint8_t password[5] = {0, 0, 1, 0, 0};
+    bool has_sessions = number16(command) == TPM_ST_SESSIONS;
+    struct reply reply = {response, has_sessions ? 14 : 10};
     uint32_t code = judged(machine, answer, command, len, &reply);
     if (code != TPM_RC_SUCCESS)
         return code_alone(response, code);
     code_alone(response, TPM_RC_SUCCESS);
+    if (has_sessions) {
+        put16(response, TPM_ST_SESSIONS);
+        put32(response + 10, (uint32_t)(reply.len - 14));
+        reply_bytes(&reply, password, sizeof password);
+    }
     put32(response + 2, (uint32_t)reply.len);
     return reply.len;
+}
+
+/* TPM 1.2's tags. Firmware asks by one of these which TPM is there, and takes BAD_TAG for a TPM 1.2. */
+static bool is_of_tpm_12(uint16_t tag) {
+    return tag >= 0x00C1 && tag <= 0x00C3;
+}
+
+size_t host_answer(struct machine *machine, const uint8_t *command, size_t len, uint8_t *response) {
+    if (len < 10 || number32(command + 2) != len)
+        return 0;
+    if (is_of_tpm_12(number16(command)))
+        return code_alone(response, TPM_RC_VALUE);
+    if (number16(command) != TPM_ST_NO_SESSIONS && number16(command) != TPM_ST_SESSIONS)
+        return 0;
+    const struct answer *answer = answer_to(number32(command + 6));
+    return answer ? answer_by(machine, answer, command, len, response) : 0;
 }

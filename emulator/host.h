@@ -7,7 +7,12 @@
 /* Response codes beside those of the device (Part 2, 6.6.3). */
 #define RC_FAILURE ((uint32_t)0x101)
 #define RC_NV_UNAVAILABLE ((uint32_t)0x923)
+#define RC_HIERARCHY ((uint32_t)0x085)
+#define RC_TYPE ((uint32_t)0x08A)
 #define RC_INTEGRITY ((uint32_t)0x09F)
+
+/* TPM_ST of a ticket of TPM2_Hash (Part 2, 6.9). */
+#define ST_HASHCHECK ((uint16_t)0x8024)
 
 /* Answers a command that the host answers, and says how many bytes the response has; 0 where the command is the device's. */
 size_t host_answer(struct machine *machine, const uint8_t *command, size_t len, uint8_t *response);

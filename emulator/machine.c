@@ -3,6 +3,8 @@
 #include "host.h"
 #include "wire.h"
 
+#include <string.h>
+
 void machine_begin(struct machine *machine) {
     random_bytes(machine->key, sizeof machine->key);
     clock_gettime(CLOCK_MONOTONIC, &machine->began_at);
@@ -18,7 +20,7 @@ void machine_power_on(struct machine *machine) {
     machine->powered = true;
     clock_gettime(CLOCK_MONOTONIC, &machine->powered_at);
     if (machine->startup)
-        machine_answer(machine, startup, sizeof startup, response);
+        machine_answer(machine, 0, startup, sizeof startup, response);
 }
 
 void machine_power_off(struct machine *machine) {
@@ -30,11 +32,38 @@ void machine_power_off(struct machine *machine) {
     record_power_cycle(&machine->record);
 }
 
+static size_t digest_bytes(uint16_t algorithm) {
+    return algorithm == TPM_ALG_SHA1 ? 20 : algorithm == TPM_ALG_SHA256 ? 32 : algorithm == TPM_ALG_SHA384 ? 48 : 0;
+}
+
 size_t code_alone(uint8_t *response, uint32_t code) {
     put16(response, TPM_ST_NO_SESSIONS);
     put32(response + 2, 10);
     put32(response + 6, code);
     return 10;
+}
+
+/* TPM2_PCR_Event of TPM_RH_NULL (Part 3, 22.3) extends nothing, and answers a TPML_DIGEST_VALUES. */
+size_t machine_hash(struct machine *machine, uint16_t algorithm, const uint8_t *bytes, size_t len, uint8_t digest[TPM_POLICY_BYTES]) {
+    uint8_t command[29 + HASHED_BYTES] = {0x80, 2, 0, 0, 0, 0, 0, 0, 1, 0x3C, 0x40, 0, 0, 7, 0, 0, 0, 9, 0x40, 0, 0, 9, 0, 0, 1};
+    uint8_t nonce[TPM_NONCE_BYTES], response[TPM_BUFFER_BYTES];
+    put32(command + 2, (uint32_t)(29 + len));
+    put16(command + 27, (uint16_t)len);
+    memcpy(command + 29, bytes, len);
+    random_bytes(nonce, sizeof nonce);
+    size_t count = tpm_device_execute(machine->making.device, command, 29 + len, nonce, response, sizeof response);
+    size_t at = 18, size;
+    for (; number32(response + 6) == TPM_RC_SUCCESS && at + 2 <= count; at += 2 + size) {
+        uint16_t found = number16(response + at);
+        size = digest_bytes(found);
+        if (size == 0 || at + 2 + size > count)
+            return 0;
+        if (found == algorithm) {
+            memcpy(digest, response + at + 2, size);
+            return size;
+        }
+    }
+    return 0;
 }
 
 /* How many counters there are that only a policy made. */
@@ -56,8 +85,13 @@ static void keep(struct machine *machine, const uint8_t *command, size_t len, co
     state_write(machine->state, &machine->record);
 }
 
-size_t machine_answer(struct machine *machine, const uint8_t *command, size_t len, uint8_t *response) {
+/* The device has locality 0 alone. */
+static size_t answered(struct machine *machine, uint8_t locality, const uint8_t *command, size_t len, uint8_t *response) {
     uint8_t nonce[TPM_NONCE_BYTES];
+    if (!machine->powered)
+        return code_alone(response, RC_FAILURE);
+    if (locality != 0)
+        return code_alone(response, TPM_RC_LOCALITY);
     size_t count = machine->only_device ? 0 : host_answer(machine, command, len, response);
     if (count > 0)
         return count;
@@ -67,5 +101,12 @@ size_t machine_answer(struct machine *machine, const uint8_t *command, size_t le
     count = tpm_device_execute(machine->making.device, command, len, nonce, response, TPM_BUFFER_BYTES);
     if (number32(response + 6) == TPM_RC_SUCCESS)
         keep(machine, command, len, response, count);
+    return count;
+}
+
+size_t machine_answer(struct machine *machine, uint8_t locality, const uint8_t *command, size_t len, uint8_t *response) {
+    size_t count = answered(machine, locality, command, len, response);
+    if (machine->capture)
+        capture_exchange(machine->capture, command, len, response, count);
     return count;
 }

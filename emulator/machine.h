@@ -2,6 +2,7 @@
 #ifndef EMULATOR_MACHINE_H
 #define EMULATOR_MACHINE_H
 
+#include "capture.h"
 #include "record.h"
 #include "sha256.h"
 #include "state.h"
@@ -11,7 +12,8 @@
 struct machine {
     struct making making;
     struct record record;
-    struct state *state; /* or none */
+    struct state *state;     /* or none */
+    struct capture *capture; /* or none */
     bool only_device;
     bool startup; /* the host sends TPM2_Startup itself, whenever the power comes on */
     bool powered;
@@ -29,8 +31,15 @@ void machine_power_on(struct machine *machine);
 void machine_power_off(struct machine *machine);
 
 /* Answers these bytes, whatever they are, with those of a response, at most TPM_BUFFER_BYTES, and says how many they are. Counters
- * that the command changed are in the state file when it returns. */
-size_t machine_answer(struct machine *machine, const uint8_t *command, size_t len, uint8_t *response);
+ * that the command changed are in the state file when it returns, and both frames in the record. Without power it is FAILURE, and
+ * from another locality than 0 LOCALITY. */
+size_t machine_answer(struct machine *machine, uint8_t locality, const uint8_t *command, size_t len, uint8_t *response);
+
+/* How many bytes are hashed at most. */
+#define HASHED_BYTES 1024
+
+/* The digest of at most HASHED_BYTES, which the device makes: so many bytes, or 0 where it has no bank of this hash. */
+size_t machine_hash(struct machine *machine, uint16_t algorithm, const uint8_t *bytes, size_t len, uint8_t digest[TPM_POLICY_BYTES]);
 
 /* A response with this code alone. */
 size_t code_alone(uint8_t *response, uint32_t code);

@@ -1,4 +1,5 @@
 /* The emulator: a TPM that TPM software can talk to. docs/EMULATOR.md says how. */
+#include "background.h"
 #include "fault.h"
 #include "machine.h"
 #include "server.h"
@@ -16,8 +17,12 @@ struct words {
     bool stream;
     bool only_device;
     bool startup;
+    bool daemon;
     const char *address;
+    const char *unixio;
     const char *state;
+    const char *record;
+    const char *pid;
     bool has_greatest;
     uint64_t greatest;
     uint8_t owner[TPM_OWNER_BYTES];
@@ -25,11 +30,13 @@ struct words {
 };
 
 static const char usage[] =
-    "emulator/run [--mssim PORT] [--swtpm PORT] [--stdio] [--listen ADDRESS] [--state FILE]\n"
-    "             [--owner HEX] [--greatest NUMBER] [--startup] [--only-device]\n"
+    "usage: vinjakwe-emulator [--swtpm PORT] [--mssim PORT] [--unixio PATH] [--stdio] [--listen ADDRESS]\n"
+    "                         [--state FILE] [--owner HEX] [--greatest NUMBER] [--startup] [--only-device]\n"
+    "                         [--record FILE] [--daemon] [--pid FILE]\n"
     "\n"
-    "  --mssim PORT       speak as the reference simulator does: commands at PORT, the platform at PORT + 1\n"
     "  --swtpm PORT       speak as swtpm does: data at PORT, control at PORT + 1\n"
+    "  --mssim PORT       speak as the reference simulator does: commands at PORT, the platform at PORT + 1\n"
+    "  --unixio PATH      serve QEMU at this Unix socket: its control channel, and the descriptor that it hands over\n"
     "  --stdio            read commands from standard input, and write responses to standard output\n"
     "  --listen ADDRESS   listen there in place of 127.0.0.1\n"
     "  --state FILE       keep counters and the greatest value in this file\n"
@@ -37,9 +44,13 @@ static const char usage[] =
     "  --greatest NUMBER  the greatest value that a counter has had, of a device whose file is not there yet\n"
     "  --startup          start the device whenever its power comes on\n"
     "  --only-device      answer nothing but what the device answers\n"
+    "  --record FILE      write each command and each response to this file, a line of hexadecimal digits each\n"
+    "  --daemon           go to the background as soon as it listens\n"
+    "  --pid FILE         write the number of the process to this file as soon as it listens\n"
+    "  --version          say the version\n"
     "\n"
-    "SIGTERM ends it with status 0. Status 1: a state file that was cut or changed, or no frames; 2: these words; 3: a fault of\n"
-    "ports, files, memory or random bytes.\n";
+    "SIGTERM ends it with status 0. Status 1: a state file that was cut or changed, or no frames; 2: these words;\n"
+    "3: a fault of ports, files, memory or random bytes.\n";
 
 static uint64_t number_of(const char *word, const char *text, uint64_t most) {
     char *end;
@@ -81,8 +92,14 @@ static bool take_value(struct words *words, const char *word, const char *value)
         words->swtpm = port_of(word, value);
     else if (strcmp(word, "--listen") == 0)
         words->address = value;
+    else if (strcmp(word, "--unixio") == 0)
+        words->unixio = value;
     else if (strcmp(word, "--state") == 0)
         words->state = value;
+    else if (strcmp(word, "--record") == 0)
+        words->record = value;
+    else if (strcmp(word, "--pid") == 0)
+        words->pid = value;
     else if (strcmp(word, "--owner") == 0)
         words->owner_len = bytes_of(value, words->owner, sizeof words->owner);
     else if (strcmp(word, "--greatest") == 0) {
@@ -93,6 +110,11 @@ static bool take_value(struct words *words, const char *word, const char *value)
     return true;
 }
 
+static void tell(const char *text) {
+    fputs(text, stdout);
+    exit(fflush(stdout) == 0 ? 0 : STATUS_FAULT);
+}
+
 static bool take_word(struct words *words, const char *word) {
     if (strcmp(word, "--stdio") == 0)
         words->stream = true;
@@ -100,12 +122,33 @@ static bool take_word(struct words *words, const char *word) {
         words->only_device = true;
     else if (strcmp(word, "--startup") == 0)
         words->startup = true;
-    else if (strcmp(word, "--help") == 0) {
-        fputs(usage, stdout);
-        exit(0);
-    } else
+    else if (strcmp(word, "--daemon") == 0)
+        words->daemon = true;
+    else if (strcmp(word, "--version") == 0)
+        tell("vinjakwe-emulator " VINJAKWE_VERSION "\n");
+    else if (strcmp(word, "--help") == 0)
+        tell(usage);
+    else
         return false;
     return true;
+}
+
+/* Each of the two takes its port and the next one. */
+static void judge_ports(const struct words *words) {
+    int apart = (int)words->mssim - (int)words->swtpm;
+    if (words->mssim && words->swtpm && apart >= -1 && apart <= 1)
+        fail(STATUS_USAGE, "--mssim %u takes ports %u and %u, and --swtpm %u takes %u and %u: they collide", words->mssim,
+             words->mssim, words->mssim + 1u, words->swtpm, words->swtpm, words->swtpm + 1u);
+}
+
+static void judge_words(const struct words *words) {
+    if (!words->mssim && !words->swtpm && !words->unixio && !words->stream) {
+        fputs(usage, stderr);
+        fail(STATUS_USAGE, "one of --swtpm, --mssim, --unixio and --stdio is wanted");
+    }
+    if (words->daemon && words->stream)
+        fail(STATUS_USAGE, "--daemon leaves standard input and output, and --stdio serves them");
+    judge_ports(words);
 }
 
 static void take_words(struct words *words, char **given) {
@@ -118,10 +161,7 @@ static void take_words(struct words *words, char **given) {
         }
         given++;
     }
-    if (!words->mssim && !words->swtpm && !words->stream) {
-        fputs(usage, stderr);
-        fail(STATUS_USAGE, "one of --mssim, --swtpm and --stdio is wanted");
-    }
+    judge_words(words);
 }
 
 /* A new device, or the one that the file keeps. */
@@ -144,24 +184,39 @@ static void make_device(struct machine *machine, struct state *state, const stru
         state_make(making, &machine->record);
 }
 
-/* Listens where the words say, and says so in one line. */
+/* Listens where the words say. */
 static void listen_to(struct server *server, const struct words *words) {
-    if (words->mssim) {
-        server_listen(server, words->address, words->mssim, MSSIM_COMMANDS);
-        server_listen(server, words->address, (uint16_t)(words->mssim + 1), MSSIM_PLATFORM);
-    }
     if (words->swtpm) {
         server_listen(server, words->address, words->swtpm, SWTPM_DATA);
         server_listen(server, words->address, (uint16_t)(words->swtpm + 1), SWTPM_CONTROL);
     }
-    if (words->mssim || words->swtpm)
-        fprintf(stderr, "emulator: listens at %s:", words->address);
-    if (words->mssim)
-        fprintf(stderr, " mssim at %u, its platform at %u", words->mssim, words->mssim + 1u);
-    if (words->swtpm)
-        fprintf(stderr, "%s swtpm at %u, its control at %u", words->mssim ? ";" : "", words->swtpm, words->swtpm + 1u);
-    if (words->mssim || words->swtpm)
-        fputc('\n', stderr);
+    if (words->mssim) {
+        server_listen(server, words->address, words->mssim, MSSIM_COMMANDS);
+        server_listen(server, words->address, (uint16_t)(words->mssim + 1), MSSIM_PLATFORM);
+    }
+    if (words->unixio)
+        server_listen_unix(server, words->unixio);
+}
+
+/* Says where it listens, in one line. */
+static void say_places(const struct words *words) {
+    const char *comma = "";
+    if (!words->swtpm && !words->mssim && !words->unixio)
+        return;
+    fputs("emulator: listens at ", stderr);
+    if (words->swtpm || words->mssim)
+        fprintf(stderr, "%s: ", words->address);
+    if (words->swtpm) {
+        fprintf(stderr, "swtpm at %u, its control at %u", words->swtpm, words->swtpm + 1u);
+        comma = "; ";
+    }
+    if (words->mssim) {
+        fprintf(stderr, "%smssim at %u, its platform at %u", comma, words->mssim, words->mssim + 1u);
+        comma = "; ";
+    }
+    if (words->unixio)
+        fprintf(stderr, "%sQEMU at %s", comma, words->unixio);
+    fputc('\n', stderr);
 }
 
 /* While a device is being made nothing is owed to anybody, and what the file keeps is whole. */
@@ -170,27 +225,51 @@ static void end_at_once(int number) {
     _exit(0);
 }
 
+static void begin(struct machine *machine, struct state *state, struct capture *capture, const struct words *words) {
+    machine->only_device = words->only_device;
+    machine->startup = words->startup;
+    make_device(machine, state, words);
+    if (words->record) {
+        capture_begin(capture, words->record);
+        machine->capture = capture;
+    }
+    machine_begin(machine);
+}
+
+static void end(struct machine *machine) {
+    if (machine->state)
+        state_release(machine->state);
+    if (machine->capture)
+        capture_end(machine->capture);
+    record_free(&machine->record);
+    free(machine->making.device);
+}
+
 int main(int argc, char **argv) {
     struct sigaction ended = {.sa_handler = end_at_once};
     struct words words = {.address = "127.0.0.1"};
     struct machine machine = {.powered = false};
     struct state state;
+    struct capture capture;
     struct server server;
     (void)argc;
     sigaction(SIGTERM, &ended, NULL);
     take_words(&words, argv + 1);
-    machine.only_device = words.only_device;
-    machine.startup = words.startup;
-    make_device(&machine, &state, &words);
-    machine_begin(&machine);
+    /* The process that goes on makes the device and holds the file, since a lock is its holder's alone. */
+    int waiting = words.daemon ? background_begin() : -1;
+    begin(&machine, &state, &capture, &words);
     server_init(&server, &machine);
     if (words.stream)
         server_stream(&server);
     listen_to(&server, &words);
+    if (words.pid)
+        pid_write(words.pid);
+    say_places(&words);
+    if (words.daemon)
+        background_ready(waiting);
     int status = server_run(&server);
-    if (machine.state)
-        state_release(machine.state);
-    record_free(&machine.record);
-    free(machine.making.device);
+    if (words.pid)
+        unlink(words.pid);
+    end(&machine);
     return status;
 }

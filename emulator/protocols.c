@@ -6,6 +6,7 @@
 #include "wire.h"
 
 #include <string.h>
+#include <unistd.h>
 
 static void owe32(struct link *link, uint32_t number) {
     put32(link->answer + link->owed, number);
@@ -35,15 +36,6 @@ enum {
     SIM_SESSION_END = 20
 };
 
-/* The device has locality 0 alone. A device without power answers nothing, which is a response of no bytes. */
-static size_t sim_execute(struct machine *machine, uint8_t locality, const uint8_t *command, size_t len, uint8_t *response) {
-    if (!machine->powered)
-        return 0;
-    if (locality != 0)
-        return code_alone(response, TPM_RC_LOCALITY);
-    return machine_answer(machine, command, len, response);
-}
-
 /* Locality, size and the command, which states its own size once more: the device judges that. */
 static size_t take_sim_command(struct server *server, struct link *link) {
     if (link->held < 9)
@@ -53,7 +45,10 @@ static size_t take_sim_command(struct server *server, struct link *link) {
         return give_up(link);
     if (link->held < 9 + len)
         return 0;
-    size_t count = sim_execute(server->machine, link->bytes[4], link->bytes + 9, len, link->answer + 4);
+    /* A device without power answers nothing, which is a response of no bytes. */
+    size_t count = 0;
+    if (server->machine->powered)
+        count = machine_answer(server->machine, link->bytes[4], link->bytes + 9, len, link->answer + 4);
     owe32(link, (uint32_t)count);
     link->owed += count;
     owe32(link, 0);
@@ -115,7 +110,7 @@ static size_t take_sim_signal(struct server *server, struct link *link) {
     return 4;
 }
 
-/* ---- plain frames: swtpm's data port, and standard input */
+/* ---- plain frames: swtpm's data port, QEMU's descriptor, and standard input */
 
 /* The framer takes the bytes up to the end of a frame. Behind the first bytes of what can't be a frame nothing can be read. */
 static size_t take_frame(struct server *server, struct link *link) {
@@ -128,25 +123,37 @@ static size_t take_frame(struct server *server, struct link *link) {
         return taken;
     size_t len = tpm_framer_frame(link->framer, frame, sizeof frame);
     tpm_framer_next(link->framer);
-    link->owed = server->machine->powered ? machine_answer(server->machine, frame, len, link->answer) : code_alone(link->answer, RC_FAILURE);
+    link->owed = machine_answer(server->machine, 0, frame, len, link->answer);
     return taken;
 }
 
-/* ---- swtpm: the control port */
+/* ---- swtpm's control port, and QEMU's control channel */
 
 #define CONTROL_DONE ((uint32_t)0)
 #define CONTROL_BAD_NUMBER ((uint32_t)0x0A)
 #define CONTROL_BAD_LOCALITY ((uint32_t)0x3D)
 
-/* What the table below does, as PTM_CAP bits: all but state blobs, hashing from outside, descriptors, resetting and storing. */
-#define CONTROL_CAPABILITIES ((uint32_t)(0x1 | 0x2 | 0x4 | 0x8 | 0x20 | 0x400 | 0x800 | 0x2000))
+/* What the table below does, as PTM_CAP bits. There is none for state blobs, since no kind of them can be had. */
+#define CAN_INIT ((uint32_t)1 << 0)
+#define CAN_SHUTDOWN ((uint32_t)1 << 1)
+#define CAN_GET_ESTABLISHED ((uint32_t)1 << 2)
+#define CAN_SET_LOCALITY ((uint32_t)1 << 3)
+#define CAN_CANCEL ((uint32_t)1 << 5)
+#define CAN_RESET_ESTABLISHED ((uint32_t)1 << 7)
+#define CAN_STOP ((uint32_t)1 << 10)
+#define CAN_GET_CONFIG ((uint32_t)1 << 11)
+#define CAN_SET_DATAFD ((uint32_t)1 << 12)
+#define CAN_SET_BUFFERSIZE ((uint32_t)1 << 13)
 
 static void control_capabilities(struct server *server, struct link *link) {
+    uint32_t can = CAN_INIT | CAN_SHUTDOWN | CAN_GET_ESTABLISHED | CAN_SET_LOCALITY | CAN_CANCEL | CAN_RESET_ESTABLISHED | CAN_STOP |
+                   CAN_GET_CONFIG | CAN_SET_BUFFERSIZE;
     (void)server;
-    owe32(link, 0);
-    owe32(link, CONTROL_CAPABILITIES);
+    owe32(link, CONTROL_DONE);
+    owe32(link, link->protocol == QEMU_CONTROL ? can | CAN_SET_DATAFD : can);
 }
 
+/* The flags ask for no more than that volatile state be dropped, which is never kept. */
 static void control_init(struct server *server, struct link *link) {
     machine_power_off(server->machine);
     machine_power_on(server->machine);
@@ -158,7 +165,8 @@ static void control_shutdown(struct server *server, struct link *link) {
     owe32(link, CONTROL_DONE);
 }
 
-static void control_established(struct server *server, struct link *link) {
+/* Of TPM_ESTABLISHED, which is never set, and of the configuration: no keys. */
+static void control_zero(struct server *server, struct link *link) {
     (void)server;
     owe32(link, CONTROL_DONE);
     owe32(link, 0);
@@ -186,6 +194,33 @@ static void control_buffer(struct server *server, struct link *link) {
         owe32(link, TPM_BUFFER_BYTES);
 }
 
+/* One descriptor, no more and no less. Over TCP there is none. */
+static void control_data(struct server *server, struct link *link) {
+    bool one = link->given_count == 1 && link->given >= 0;
+    owe32(link, one ? CONTROL_DONE : CONTROL_BAD_NUMBER);
+    if (one) {
+        server_set_data(server, link->given);
+        link->given = -1;
+    }
+    link_drop_given(link);
+}
+
+/* No kind of state can be had: the answer has the form of one, so that whoever asks reads it whole. */
+static void control_get_blob(struct server *server, struct link *link) {
+    (void)server;
+    owe32(link, CONTROL_BAD_NUMBER);
+    for (int i = 0; i < 3; i++) /* flags, the whole length, and that of this part */
+        owe32(link, 0);
+}
+
+/* The blob comes behind the message. It is stepped over, and then refused. */
+static void control_set_blob(struct server *server, struct link *link) {
+    (void)server;
+    link->blob_left = number32(link->bytes + 12);
+    if (link->blob_left == 0)
+        owe32(link, CONTROL_BAD_NUMBER);
+}
+
 static const struct control {
     uint32_t number;
     size_t len; /* behind the number */
@@ -194,28 +229,74 @@ static const struct control {
     {1, 0, control_capabilities},
     {2, 4, control_init},
     {3, 0, control_shutdown},
-    {4, 0, control_established},
+    {4, 0, control_zero},
     {5, 1, control_locality},
     {9, 0, control_nothing},
+    {11, 1, control_nothing}, /* TPM_ESTABLISHED is reset */
+    {12, 12, control_get_blob},
+    {13, 12, control_set_blob},
     {14, 0, control_stop},
-    {15, 0, control_established}, /* the configuration: no keys */
+    {15, 0, control_zero},
+    {16, 0, control_data},
     {17, 4, control_buffer},
 };
 
-static size_t take_control(struct server *server, struct link *link) {
+static const struct control *control_of(const struct link *link) {
     if (link->held < 4)
-        return 0;
-    for (size_t i = 0; i < sizeof controls / sizeof *controls; i++) {
-        if (controls[i].number != number32(link->bytes))
-            continue;
-        if (link->held < 4 + controls[i].len)
-            return 0;
-        controls[i].answer(server, link);
-        return 4 + controls[i].len;
-    }
+        return NULL;
+    for (size_t i = 0; i < sizeof controls / sizeof *controls; i++)
+        if (controls[i].number == number32(link->bytes))
+            return &controls[i];
+    return NULL;
+}
+
+/* A locality is a byte, and some write the three zeros behind it that fill a word of C. The next message begins with zeros, too; but
+ * its fourth byte is none. */
+static bool is_filled(const struct link *link) {
+    static const uint8_t zeros[3];
+    return link->held >= 8 && memcmp(link->bytes + 5, zeros, sizeof zeros) == 0 && (link->held == 8 || link->bytes[8] == 0);
+}
+
+/* A message that is none of the table, or of QEMU's channel less than one, since there each is written at once. What was read with it
+ * belongs to it, and the connection stays. */
+static size_t refuse_control(struct link *link) {
     owe32(link, CONTROL_BAD_NUMBER);
-    link->ending = true;
     return link->held;
+}
+
+static size_t answer_control(struct server *server, struct link *link) {
+    const struct control *control = control_of(link);
+    if (!control)
+        return link->held < 4 && link->protocol != QEMU_CONTROL ? 0 : refuse_control(link);
+    if (link->held < 4 + control->len)
+        return link->protocol == QEMU_CONTROL ? refuse_control(link) : 0;
+    control->answer(server, link);
+    return 4 + control->len + (control->len == 1 && is_filled(link) ? 3 : 0);
+}
+
+static size_t step_over_blob(struct link *link) {
+    size_t len = link->blob_left < link->held ? link->blob_left : link->held;
+    link->blob_left -= (uint32_t)len;
+    if (link->blob_left == 0)
+        owe32(link, CONTROL_BAD_NUMBER);
+    return len;
+}
+
+void link_drop_given(struct link *link) {
+    if (link->given >= 0)
+        close(link->given);
+    link->given = -1;
+    link->given_count = 0;
+}
+
+/* A descriptor comes with the last bytes of what was read at once, so it belongs to the message that ends there. */
+static size_t take_control(struct server *server, struct link *link) {
+    if (link->held == 0)
+        return 0;
+    size_t taken = link->blob_left > 0 ? step_over_blob(link) : answer_control(server, link);
+    if (taken == link->held)
+        link_drop_given(link);
+    return taken;
 }
 
 size_t link_take(struct server *server, struct link *link) {
@@ -225,6 +306,7 @@ size_t link_take(struct server *server, struct link *link) {
     case MSSIM_PLATFORM:
         return take_sim_signal(server, link);
     case SWTPM_CONTROL:
+    case QEMU_CONTROL:
         return take_control(server, link);
     default:
         return take_frame(server, link);

@@ -13,6 +13,8 @@
 #include <string.h>
 #include <sys/resource.h>
 #include <sys/socket.h>
+#include <sys/stat.h>
+#include <sys/un.h>
 #include <unistd.h>
 
 /* How many connections there are at most, and how many descriptors are left for all else. */
@@ -68,7 +70,7 @@ void server_init(struct server *server, struct machine *machine) {
     memset(server, 0, sizeof *server);
     server->machine = machine;
     server->link_most = most_links();
-    server->links = room_of(server->link_most * sizeof *server->links);
+    server->links = room_of((server->link_most + 1) * sizeof *server->links); /* and one for QEMU's frames */
     watch_signals(server);
 }
 
@@ -84,6 +86,39 @@ void server_listen(struct server *server, const char *address, uint16_t port, en
     server->listeners[server->listener_count++] = (struct listener){descriptor, protocol};
 }
 
+/* Whether a socket of this name is there that nobody listens at: it was left by a process that was killed. */
+static bool is_left(const struct sockaddr_un *place) {
+    struct stat there;
+    int descriptor = socket(AF_UNIX, SOCK_STREAM, 0);
+    bool left = stat(place->sun_path, &there) == 0 && S_ISSOCK(there.st_mode) && descriptor >= 0 &&
+                connect(descriptor, (const struct sockaddr *)place, sizeof *place) != 0 && errno == ECONNREFUSED;
+    if (descriptor >= 0)
+        close(descriptor);
+    return left;
+}
+
+void server_listen_unix(struct server *server, const char *path) {
+    struct sockaddr_un place = {.sun_family = AF_UNIX};
+    int descriptor = socket(AF_UNIX, SOCK_STREAM, 0);
+    if (strlen(path) >= sizeof place.sun_path)
+        fail(STATUS_USAGE, "%s is too long for a Unix socket, whose name has at most %zu bytes", path, sizeof place.sun_path - 1);
+    memcpy(place.sun_path, path, strlen(path));
+    if (is_left(&place))
+        unlink(path);
+    /* Whoever reaches it has the whole TPM: its owner alone. */
+    mode_t mask = umask(0177);
+    if (descriptor < 0 || bind(descriptor, (struct sockaddr *)&place, sizeof place) != 0 || listen(descriptor, SOMAXCONN) != 0)
+        fail(STATUS_FAULT, "%s: %s", path, strerror(errno));
+    umask(mask);
+    no_wait(descriptor);
+    server->path = path;
+    server->listeners[server->listener_count++] = (struct listener){descriptor, QEMU_CONTROL};
+}
+
+static bool has_frames(enum protocol protocol) {
+    return protocol == SWTPM_DATA || protocol == QEMU_DATA || protocol == STREAM;
+}
+
 static struct link *add_link(struct server *server, int in, int out, enum protocol protocol) {
     struct link *link = room_of(sizeof *link);
     memset(link, 0, sizeof *link);
@@ -91,7 +126,8 @@ static struct link *add_link(struct server *server, int in, int out, enum protoc
     link->out = out;
     link->protocol = protocol;
     link->heard = server->turn;
-    if (protocol == SWTPM_DATA || protocol == STREAM) {
+    link->given = -1;
+    if (has_frames(protocol)) {
         link->framer = library_room(tpm_framer_size(), tpm_framer_align());
         tpm_framer_init(link->framer);
     }
@@ -103,9 +139,26 @@ void server_stream(struct server *server) {
     add_link(server, STDIN_FILENO, STDOUT_FILENO, STREAM);
 }
 
+void server_set_data(struct server *server, int descriptor) {
+    struct link *link = server->data;
+    no_wait(descriptor);
+    if (!link) {
+        server->data = add_link(server, descriptor, descriptor, QEMU_DATA);
+        return;
+    }
+    close(link->in);
+    link->in = link->out = descriptor;
+    link->ending = link->broken = false;
+    link->held = link->owed = link->written = 0;
+    tpm_framer_init(link->framer);
+}
+
 static void remove_link(struct server *server, size_t number) {
     struct link *link = server->links[number];
     server->links[number] = server->links[--server->link_count];
+    if (link == server->data)
+        server->data = NULL;
+    link_drop_given(link);
     if (link->protocol == STREAM)
         server->ended = true;
     else
@@ -114,20 +167,38 @@ static void remove_link(struct server *server, size_t number) {
     free(link);
 }
 
-/* The connection that was quiet longest makes room. */
+/* The connection that was quiet longest makes room. A guest may be quiet for days, so QEMU's frames stay. */
 static void make_room(struct server *server) {
     size_t quiet = server->link_count;
-    for (size_t i = 0; i < server->link_count; i++)
-        if (server->links[i]->protocol != STREAM && (quiet == server->link_count || server->links[i]->heard < server->links[quiet]->heard))
+    for (size_t i = 0; i < server->link_count; i++) {
+        const struct link *link = server->links[i];
+        if (link->protocol != STREAM && link->protocol != QEMU_DATA &&
+            (quiet == server->link_count || link->heard < server->links[quiet]->heard))
             quiet = i;
+    }
     if (quiet < server->link_count)
         remove_link(server, quiet);
+}
+
+/* An acknowledgement that waits makes those wait who write a message in two parts, as tcti-mssim does: 40 milliseconds a command.
+ * Linux forgets after a while that it was asked to send them at once, so it is asked again after each read. */
+static void acknowledge(int descriptor) {
+#ifdef TCP_QUICKACK
+    int yes = 1;
+    setsockopt(descriptor, IPPROTO_TCP, TCP_QUICKACK, &yes, sizeof yes);
+#else
+    (void)descriptor;
+#endif
+}
+
+static bool is_tcp(enum protocol protocol) {
+    return protocol == MSSIM_COMMANDS || protocol == MSSIM_PLATFORM || protocol == SWTPM_DATA || protocol == SWTPM_CONTROL;
 }
 
 static void take_connections(struct server *server, const struct listener *listener) {
     int yes = 1;
     for (int i = 0; i < ACCEPTS; i++) {
-        if (server->link_count == server->link_most)
+        if (server->link_count >= server->link_most)
             make_room(server);
         int descriptor = accept(listener->descriptor, NULL, NULL);
         if (descriptor < 0 && (errno == EMFILE || errno == ENFILE))
@@ -135,7 +206,10 @@ static void take_connections(struct server *server, const struct listener *liste
         if (descriptor < 0)
             return;
         no_wait(descriptor);
-        setsockopt(descriptor, IPPROTO_TCP, TCP_NODELAY, &yes, sizeof yes);
+        if (is_tcp(listener->protocol)) {
+            setsockopt(descriptor, IPPROTO_TCP, TCP_NODELAY, &yes, sizeof yes);
+            acknowledge(descriptor);
+        }
         add_link(server, descriptor, descriptor, listener->protocol);
     }
 }
@@ -172,10 +246,48 @@ static void take_messages(struct server *server, struct link *link) {
     }
 }
 
+/* The descriptors that came with a message: the first is kept, and the others are closed. More than there is room for the system
+ * has closed already, and says so. */
+static void take_given(struct link *link, struct msghdr *message) {
+    if (message->msg_flags & MSG_CTRUNC)
+        link->given_count += 2;
+    for (struct cmsghdr *part = CMSG_FIRSTHDR(message); part; part = CMSG_NXTHDR(message, part)) {
+        if (part->cmsg_level != SOL_SOCKET || part->cmsg_type != SCM_RIGHTS)
+            continue;
+        size_t count = (part->cmsg_len - CMSG_LEN(0)) / sizeof(int);
+        for (size_t i = 0; i < count; i++) {
+            int descriptor;
+            memcpy(&descriptor, CMSG_DATA(part) + i * sizeof descriptor, sizeof descriptor);
+            if (link->given_count++ == 0)
+                link->given = descriptor;
+            else
+                close(descriptor);
+        }
+    }
+}
+
+/* Reads what has come, with its descriptors where it may have some. */
+static ssize_t receive(struct link *link) {
+    union {
+        struct cmsghdr aligned;
+        char bytes[CMSG_SPACE(2 * sizeof(int))];
+    } room;
+    struct iovec bytes = {link->bytes + link->held, sizeof link->bytes - link->held};
+    struct msghdr message = {.msg_iov = &bytes, .msg_iovlen = 1, .msg_control = &room, .msg_controllen = sizeof room};
+    if (link->protocol != QEMU_CONTROL)
+        return read(link->in, bytes.iov_base, bytes.iov_len);
+    ssize_t count = recvmsg(link->in, &message, MSG_CMSG_CLOEXEC);
+    if (count >= 0)
+        take_given(link, &message);
+    return count;
+}
+
 static void read_bytes(struct server *server, struct link *link) {
-    ssize_t count = read(link->in, link->bytes + link->held, sizeof link->bytes - link->held);
+    ssize_t count = receive(link);
     if (count < 0 && is_for_later(errno))
         return;
+    if (is_tcp(link->protocol))
+        acknowledge(link->in);
     link->heard = server->turn;
     if (count < 0)
         link->broken = true;
@@ -231,11 +343,13 @@ static void end(struct server *server) {
         remove_link(server, server->link_count - 1);
     for (size_t i = 0; i < server->listener_count; i++)
         close(server->listeners[i].descriptor);
+    if (server->path)
+        unlink(server->path);
     free(server->links);
 }
 
 int server_run(struct server *server) {
-    struct pollfd *polled = room_of((1 + LISTENERS + server->link_most) * sizeof *polled);
+    struct pollfd *polled = room_of((1 + LISTENERS + server->link_most + 1) * sizeof *polled);
     while (!server->ended) {
         size_t links = server->link_count;
         if (poll(polled, (nfds_t)ask_for(server, polled), -1) < 0) {
