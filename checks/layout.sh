@@ -1,12 +1,14 @@
 #!/bin/sh
 # No line is too long to be read: 120 characters at most in sources, definitions, tests and scripts, 160 in proofs. Left
-# alone are rows of tables, runs of 40 hexadecimal digits, and strings of 40 characters.
+# alone are rows of bytes, runs of 40 hexadecimal digits, strings of 40 characters, and the attributes of tactics, which
+# the formatter joins.
 
 . "$(dirname "$0")/shared.sh"
 
 # short NAME MOST: of the files in the list $room/files no line has more than so many characters.
 short() {
-    <"$room/files" xargs grep -HnvE '[0-9a-fA-F]{40}|"[^"]{40,}"|([0-9a-fA-F]{2,}[ :]+){6}' |
+    bytes='[0-9a-fA-F]{40}|([0-9a-fA-F]{2,}[ :]+){6}|(0x[0-9A-F]{2} ∷ ){6}'
+    <"$room/files" xargs grep -HnvE "$bytes"'|"(\\.|[^"\]){40,}|#\[tactic\(' |
         LC_ALL=C.UTF-8 grep -E "^[^:]*:[0-9]*:.{$(($2 + 1))}" | cut -d : -f 1,2 >"$room/long"
     name="no line of $1 has more than $2 characters"
     if [ -s "$room/long" ]; then
