@@ -8,7 +8,7 @@
 # short NAME MOST: of the files in the list $room/files no line has more than so many characters.
 short() {
     bytes='[0-9a-fA-F]{40}|([0-9a-fA-F]{2,}[ :]+){6}|(0x[0-9A-F]{2} ∷ ){6}'
-    <"$room/files" xargs grep -HnvE "$bytes"'|"(\\.|[^"\]){40,}|#\[tactic\(' |
+    <"$room/files" xargs grep -HnvE "$bytes"'|"(\\.|[^"\]){40,}("|\\$)|#\[tactic\(' |
         LC_ALL=C.UTF-8 grep -E "^[^:]*:[0-9]*:.{$(($2 + 1))}" | cut -d : -f 1,2 >"$room/long"
     name="no line of $1 has more than $2 characters"
     if [ -s "$room/long" ]; then
