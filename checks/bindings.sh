@@ -190,8 +190,8 @@ make_layout() {
         }
         /^#define TPM_(CC|RC)_/ &&
             $2 !~ /^TPM_RC_([HPS1-7])$/ { number($2, $2) }
-        /^#define TPM_(DONE|REFUSED|NO_ROOM|NO_COMMAND|EVENT|CALLER_OPENED|FRAMER_[A-Z]+|ATTEST_[A-Z_]+|POLICY_NO_DIGEST) / ||
-            /^#define TPM_ALG_SHA/ ||
+        /^#define TPM_(DONE|REFUSED|NO_ROOM|NO_COMMAND|EVENT|CALLER_OPENED|POLICY_NO_DIGEST) / ||
+            /^#define TPM_(FRAMER_[A-Z]+|ATTEST_[A-Z_]+) / || /^#define TPM_ALG_SHA/ ||
             /^#define TPM_(BUFFER|OWNER|NONCE|REGISTERS)_BYTES/ { number($2, $2) }
         /^#define TPM_LOG_/ { sub(/^TPM_LOG_/, "", $2); gsub(/_/, "", $2); number("TPM_LOG_" $2, $3) }
         END { print "return 0; }" }' include/vinjakwe.h >"$room/layout.c"
@@ -385,9 +385,17 @@ go_example() {
 
 rust_example() {
     mkdir -p "$room/example_rust/src" && example bindings/rust/README.md rust >"$room/example_rust/src/main.rs"
-    printf '[package]\nname = "example"\nversion = "0.0.0"\nedition = "2021"\n\n[dependencies]\nvinjakwe = { path = "%s/bindings/rust" }\n' "$PWD" \
-        >"$room/example_rust/Cargo.toml"
-    (cd "$room/example_rust" && in_place cargo build --offline) && [ "$(in_place "$room/rust/debug/example" $one_quote)" = "$verdict" ]
+    cat >"$room/example_rust/Cargo.toml" <<END
+[package]
+name = "example"
+version = "0.0.0"
+edition = "2021"
+
+[dependencies]
+vinjakwe = { path = "$PWD/bindings/rust" }
+END
+    (cd "$room/example_rust" && in_place cargo build --offline) &&
+        [ "$(in_place "$room/rust/debug/example" $one_quote)" = "$verdict" ]
 }
 
 one_quote="$PWD/checks/quotes/17-ovmf-secureboot.log $PWD/checks/quotes/ecc-sha256.msg c0ffee0000000000000000000000000000000000"
