@@ -522,27 +522,30 @@ static uint32_t read_clock(struct machine *machine, const struct asked *asked, s
 
 /* ---- the table: all that the host answers */
 
+/* What a command carries: sessions that audit, if any; none; or first the platform's password, where any will do. */
+enum by { ANYBODY, NO_SESSIONS, PLATFORM };
+
 static const struct answer {
     uint32_t command; /* as TPMA_CC */
-    bool by_platform; /* a password authorizes it, and any will do */
+    enum by by;
     size_t least;     /* bytes of parameters */
     size_t most;
     uint32_t (*reply)(struct machine *, const struct asked *, struct reply *);
 } table[] = {
-    {0x121 | CC_NV | CC_EXTENSIVE | CC_HANDLES(1), true, 5, 5, hierarchy_control},
-    {0x129 | CC_NV | CC_HANDLES(1), true, 2, TPM_BUFFER_BYTES, hierarchy_change_auth},
-    {0x142 | CC_NV, false, 4, TPM_BUFFER_BYTES, incremental_self_test},
-    {0x143 | CC_NV, false, 1, 1, self_test},
-    {0x145 | CC_NV, false, 2, 2, shut_down},
-    {0x146 | CC_NV, false, 2, TPM_BUFFER_BYTES, stir_random},
-    {0x161 | CC_ANSWERS_HANDLE, false, 18, TPM_BUFFER_BYTES, context_load},
-    {0x162 | CC_HANDLES(1), false, 0, 0, context_save},
-    {0x17A, false, 12, 12, get_capability},
-    {0x17B, false, 2, 2, get_random},
-    {0x17C, false, 0, 0, get_test_result},
-    {0x17D, false, 2, TPM_BUFFER_BYTES, hash},
-    {0x181, false, 0, 0, read_clock},
-    {0x18A, false, 2, TPM_BUFFER_BYTES, test_parms},
+    {0x121 | CC_NV | CC_EXTENSIVE | CC_HANDLES(1), PLATFORM, 5, 5, hierarchy_control},
+    {0x129 | CC_NV | CC_HANDLES(1), PLATFORM, 2, TPM_BUFFER_BYTES, hierarchy_change_auth},
+    {0x142 | CC_NV, ANYBODY, 4, TPM_BUFFER_BYTES, incremental_self_test},
+    {0x143 | CC_NV, ANYBODY, 1, 1, self_test},
+    {0x145 | CC_NV, ANYBODY, 2, 2, shut_down},
+    {0x146 | CC_NV, ANYBODY, 2, TPM_BUFFER_BYTES, stir_random},
+    {0x161 | CC_ANSWERS_HANDLE, NO_SESSIONS, 18, TPM_BUFFER_BYTES, context_load},
+    {0x162 | CC_HANDLES(1), NO_SESSIONS, 0, 0, context_save},
+    {0x17A, ANYBODY, 12, 12, get_capability},
+    {0x17B, ANYBODY, 2, 2, get_random},
+    {0x17C, ANYBODY, 0, 0, get_test_result},
+    {0x17D, ANYBODY, 2, TPM_BUFFER_BYTES, hash},
+    {0x181, ANYBODY, 0, 0, read_clock},
+    {0x18A, ANYBODY, 2, TPM_BUFFER_BYTES, test_parms},
 };
 
 static uint32_t host_command(size_t number) {
@@ -562,67 +565,84 @@ static const struct answer *answer_to(uint32_t code) {
 
 /* ---- a command, from its tag to its parameters */
 
-/* The handle, where the command has one; how many bytes it has. */
-static size_t take_handle(const struct answer *answer, const uint8_t *command, struct asked *asked) {
-    if (!(answer->command & CC_HANDLES(1)))
-        return 0;
-    asked->handle = number32(command + 10);
-    return 4;
+/* A command that was cut: its answer in the table, its handle and parameters, and the sessions that it carries. */
+struct cut {
+    const struct answer *answer;
+    struct asked asked;
+    struct carried_area area;
+};
+
+static bool has_sessions(const uint8_t *command) {
+    return number16(command) == TPM_ST_SESSIONS;
 }
 
-/* One password session, TPMS_AUTH_COMMAND without a nonce; `taken` says how many bytes the authorization area has. */
-static uint32_t take_password(const uint8_t *area, size_t len, size_t *taken) {
-    size_t size = len < 4 ? 0 : number32(area);
-    if (size < 9 || size > len - 4)
-        return TPM_RC_AUTHSIZE;
-    if (number32(area + 4) != TPM_RS_PW)
-        return TPM_RC_AUTH_UNAVAILABLE;
-    if (number16(area + 8) != 0)
-        return TPM_RC_NONCE + TPM_RC_S + TPM_RC_1;
-    if (size != 9 + (size_t)number16(area + 11))
-        return TPM_RC_AUTHSIZE;
-    *taken = 4 + size;
-    return TPM_RC_SUCCESS;
+/* What an HMAC of the command is over. */
+static struct carried_text text_of(const struct cut *cut) {
+    uint32_t code = cut->answer->command & 0xffff;
+    return (struct carried_text){code, cut->asked.handle, cut->asked.parameters, cut->asked.len};
+}
+
+static uint32_t cut_areas(struct cut *cut, const uint8_t *command, size_t len) {
+    size_t at = 10, taken = 0;
+    uint32_t code = TPM_RC_SUCCESS;
+    if (cut->answer->command & CC_HANDLES(1)) {
+        if (len < 14)
+            return TPM_RC_INSUFFICIENT + FOR_HANDLE_1;
+        cut->asked.handle = number32(command + 10);
+        at = 14;
+    }
+    if (has_sessions(command))
+        code = carried_cut(command + at, len - at, &cut->area, &taken);
+    cut->asked.parameters = command + at + taken;
+    cut->asked.len = len - at - taken;
+    return code;
+}
+
+static uint32_t check_sessions(struct machine *machine, const struct cut *cut) {
+    const struct answer *answer = cut->answer;
+    struct carried_text text = text_of(cut);
+    if (cut->area.count == 0)
+        return answer->by == PLATFORM ? TPM_RC_AUTH_MISSING : TPM_RC_SUCCESS;
+    if (answer->by == NO_SESSIONS)
+        return TPM_RC_AUTH_CONTEXT;
+    return carried_check(machine, &cut->area, answer->by == PLATFORM, &text);
 }
 
 /* The checks before an answer are those of the device, in its order: started, handles, sessions, and the size of the parameters. */
-static uint32_t judged(struct machine *machine, const struct answer *answer, const uint8_t *command, size_t len, struct reply *reply) {
-    bool has_sessions = number16(command) == TPM_ST_SESSIONS;
-    struct asked asked = {0};
-    size_t at = 10, taken = 0;
+static uint32_t judged(struct machine *machine, struct cut *cut, const uint8_t *command, size_t len, struct reply *reply) {
     if (!machine->record.started)
         return TPM_RC_INITIALIZE;
-    if ((answer->command & CC_HANDLES(1)) && len < 14)
-        return TPM_RC_INSUFFICIENT + FOR_HANDLE_1;
-    at += take_handle(answer, command, &asked);
-    if (has_sessions != answer->by_platform)
-        return has_sessions ? TPM_RC_AUTH_CONTEXT : TPM_RC_AUTH_MISSING;
-    uint32_t code = has_sessions ? take_password(command + at, len - at, &taken) : TPM_RC_SUCCESS;
+    uint32_t code = cut_areas(cut, command, len);
+    if (code == TPM_RC_SUCCESS)
+        code = check_sessions(machine, cut);
     if (code != TPM_RC_SUCCESS)
         return code;
-    asked.parameters = command + at + taken;
-    asked.len = len - at - taken;
-    if (asked.len < answer->least)
+    if (cut->asked.len < cut->answer->least)
         return TPM_RC_INSUFFICIENT + FOR_PARAMETER_1;
-    if (asked.len > answer->most)
+    if (cut->asked.len > cut->answer->most)
         return TPM_RC_SIZE;
-    return answer->reply(machine, &asked, reply);
+    return cut->answer->reply(machine, &cut->asked, reply);
 }
 
-/* Answers a command of the table; a password is answered by the session that ends all of them: no nonce, continueSession, no HMAC. */
+/* The size of the parameters stands before them, and behind them are the sessions. */
+static void add_sessions(struct machine *machine, const struct cut *cut, struct reply *reply) {
+    struct carried_text text = text_of(cut);
+    text.parameters = reply->bytes + 14;
+    text.len = reply->len - 14;
+    put16(reply->bytes, TPM_ST_SESSIONS);
+    put32(reply->bytes + 10, (uint32_t)text.len);
+    reply->len += carried_answer(machine, &cut->area, &text, reply->bytes + reply->len);
+}
+
 static size_t answer_by(struct machine *machine, const struct answer *answer, const uint8_t *command, size_t len, uint8_t *response) {
-    static const uint8_t password[5] = {0, 0, 1, 0, 0};
-    bool has_sessions = number16(command) == TPM_ST_SESSIONS;
-    struct reply reply = {response, has_sessions ? 14 : 10};
-    uint32_t code = judged(machine, answer, command, len, &reply);
+    struct cut cut = {.answer = answer};
+    struct reply reply = {response, has_sessions(command) ? 14 : 10};
+    uint32_t code = judged(machine, &cut, command, len, &reply);
     if (code != TPM_RC_SUCCESS)
         return code_alone(response, code);
     code_alone(response, TPM_RC_SUCCESS);
-    if (has_sessions) {
-        put16(response, TPM_ST_SESSIONS);
-        put32(response + 10, (uint32_t)(reply.len - 14));
-        reply_bytes(&reply, password, sizeof password);
-    }
+    if (has_sessions(command))
+        add_sessions(machine, &cut, &reply);
     put32(response + 2, (uint32_t)reply.len);
     return reply.len;
 }
