@@ -7,6 +7,7 @@
 
 /* TPMA_SESSION (Part 2, 8.4) */
 #define CONTINUES ((uint8_t)0x01)
+#define AUDIT_EXCLUSIVE ((uint8_t)0x02)
 #define RESERVED ((uint8_t)0x18)
 #define DECRYPTS ((uint8_t)0x20)
 #define ENCRYPTS ((uint8_t)0x40)
@@ -211,7 +212,8 @@ static uint32_t check_hmac(struct machine *machine, const struct carried *sessio
     return TPM_RC_SUCCESS;
 }
 
-/* A session that authorizes nothing has to audit, since parameters are not encrypted here. */
+/* A session that authorizes nothing has to audit, since parameters are not encrypted here. No session is the only one that audits:
+ * the digests of what it audits are not kept. */
 static uint32_t check_session(struct machine *machine, const struct carried *session, const struct carried_text *text, size_t number) {
     uint8_t type = (uint8_t)(session->handle >> 24);
     if (session->handle == TPM_RS_PW)
@@ -225,6 +227,8 @@ static uint32_t check_session(struct machine *machine, const struct carried *ses
         return TPM_RC_REFERENCE_S0 + (uint32_t)number;
     if (type == 0x03 || (session->attributes & (DECRYPTS | ENCRYPTS)) || !(session->attributes & AUDITS))
         return TPM_RC_ATTRIBUTES + FOR_SESSION(number);
+    if (session->attributes & AUDIT_EXCLUSIVE)
+        return RC_EXCLUSIVE;
     return check_hmac(machine, session, text, number);
 }
 

@@ -10,6 +10,7 @@
 #define FOR_PARAMETER_3 (TPM_RC_P + TPM_RC_3)
 
 /* Permanent handles beside those of the device (Part 2, 7.4). */
+#define RH_LOCKOUT ((uint32_t)0x4000000A)
 #define RH_ENDORSEMENT ((uint32_t)0x4000000B)
 #define RH_PLATFORM ((uint32_t)0x4000000C)
 #define RH_PLATFORM_NV ((uint32_t)0x4000000D)
@@ -467,13 +468,18 @@ static uint32_t test_parms(struct machine *machine, const struct asked *asked, s
 
 /* ---- the platform's hierarchy: there is none, so what firmware does to lock it is done */
 
+static uint32_t not_the_platform(uint32_t handle) {
+    bool is_hierarchy = handle == TPM_RH_OWNER || handle == RH_ENDORSEMENT || handle == RH_LOCKOUT;
+    return (is_hierarchy ? RC_HIERARCHY : TPM_RC_VALUE) + FOR_HANDLE_1;
+}
+
 /* TPM2_HierarchyChangeAuth (Part 3, 24.8): the owner's value is handed in when the program starts. */
 static uint32_t hierarchy_change_auth(struct machine *machine, const struct asked *asked, struct reply *reply) {
     uint32_t code = sized(asked, TPM_OWNER_BYTES);
     (void)machine;
     (void)reply;
     if (asked->handle != RH_PLATFORM)
-        return RC_HIERARCHY + FOR_HANDLE_1;
+        return not_the_platform(asked->handle);
     if (code == TPM_RC_SUCCESS && asked->len > 2 + (size_t)number16(asked->parameters))
         return TPM_RC_SIZE;
     return code;
@@ -486,7 +492,7 @@ static uint32_t hierarchy_control(struct machine *machine, const struct asked *a
     (void)machine;
     (void)reply;
     if (asked->handle != RH_PLATFORM)
-        return RC_HIERARCHY + FOR_HANDLE_1;
+        return not_the_platform(asked->handle);
     if (hierarchy != TPM_RH_OWNER && hierarchy != RH_ENDORSEMENT && hierarchy != RH_PLATFORM && hierarchy != RH_PLATFORM_NV)
         return TPM_RC_VALUE + FOR_PARAMETER_1;
     if (state > 1)
@@ -608,6 +614,11 @@ static uint32_t check_sessions(struct machine *machine, const struct cut *cut) {
     return carried_check(machine, &cut->area, answer->by == PLATFORM, &text);
 }
 
+/* Which parameter is missing, from 0: those of four bytes stand before it, but a context is one of many fields. */
+static uint32_t missing(const struct cut *cut) {
+    return cut->answer->by == NO_SESSIONS ? 0 : (uint32_t)cut->asked.len / 4;
+}
+
 /* The checks before an answer are those of the device, in its order: started, handles, sessions, and the size of the parameters. */
 static uint32_t judged(struct machine *machine, struct cut *cut, const uint8_t *command, size_t len, struct reply *reply) {
     if (!machine->record.started)
@@ -618,7 +629,7 @@ static uint32_t judged(struct machine *machine, struct cut *cut, const uint8_t *
     if (code != TPM_RC_SUCCESS)
         return code;
     if (cut->asked.len < cut->answer->least)
-        return TPM_RC_INSUFFICIENT + FOR_PARAMETER_1;
+        return TPM_RC_INSUFFICIENT + FOR_PARAMETER_1 + TPM_RC_1 * missing(cut);
     if (cut->asked.len > cut->answer->most)
         return TPM_RC_SIZE;
     return cut->answer->reply(machine, &cut->asked, reply);

@@ -6,6 +6,7 @@
 
 /* Response codes beside those of the device (Part 2, 6.6.3). */
 #define RC_FAILURE ((uint32_t)0x101)
+#define RC_EXCLUSIVE ((uint32_t)0x121)
 #define RC_NV_UNAVAILABLE ((uint32_t)0x923)
 #define RC_HIERARCHY ((uint32_t)0x085)
 #define RC_TYPE ((uint32_t)0x08A)
