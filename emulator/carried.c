@@ -39,13 +39,14 @@ static void add32(struct text *text, uint32_t number) {
     add(text, bytes, sizeof bytes);
 }
 
-static size_t digest_of(struct machine *machine, uint16_t hash, const struct text *text, uint8_t digest[TPM_POLICY_BYTES]) {
+static size_t digest_of(struct machine *machine, uint16_t hash, const struct text *text,
+                        uint8_t digest[TPM_POLICY_BYTES]) {
     return text->full ? 0 : machine_hash(machine, hash, text->bytes, text->len, digest);
 }
 
 /* HMAC (RFC 2104), under a key that is no longer than a digest. */
-static size_t hmac_of(struct machine *machine, uint16_t hash, const uint8_t *key, size_t key_len, const struct text *text,
-                      uint8_t mac[TPM_POLICY_BYTES]) {
+static size_t hmac_of(struct machine *machine, uint16_t hash, const uint8_t *key, size_t key_len,
+                      const struct text *text, uint8_t mac[TPM_POLICY_BYTES]) {
     size_t block = hash == TPM_ALG_SHA384 ? 128 : 64;
     struct text inner = {.len = block}, outer = {.len = block};
     memcpy(inner.bytes, key, key_len);
@@ -76,8 +77,8 @@ static size_t without_zeros(const uint8_t *bytes, size_t len) {
     return len;
 }
 
-/* The key of a session that is bound to the owner: KDFa of the owner's value with the label ATH, nonceTPM and nonceCaller (Part 1,
- * "sessionKey Creation"), one HMAC for a key as long as the digest. */
+/* The key of a session that is bound to the owner: KDFa of the owner's value with the label ATH, nonceTPM and
+ * nonceCaller (Part 1, "sessionKey Creation"), one HMAC for a key as long as the digest. */
 static void make_key(struct machine *machine, struct session_key *key, const uint8_t *caller, size_t caller_len) {
     const struct making *making = &machine->making;
     static const uint8_t label[4] = {'A', 'T', 'H', 0};
@@ -87,7 +88,8 @@ static void make_key(struct machine *machine, struct session_key *key, const uin
     add(&text, key->nonce, key->nonce_len);
     add(&text, caller, caller_len);
     add32(&text, 8 * (uint32_t)digest_bytes(key->hash));
-    key->key_len = hmac_of(machine, key->hash, making->owner, without_zeros(making->owner, making->owner_len), &text, key->key);
+    key->key_len =
+        hmac_of(machine, key->hash, making->owner, without_zeros(making->owner, making->owner_len), &text, key->key);
 }
 
 static void set_nonce(struct session_key *key, const uint8_t *nonce, size_t len) {
@@ -108,7 +110,8 @@ static void see_start(struct machine *machine, const uint8_t *command, size_t le
         make_key(machine, key, command + 20, number16(command + 18));
 }
 
-void carried_see(struct machine *machine, const uint8_t *command, size_t len, const uint8_t *response, size_t response_len) {
+void carried_see(struct machine *machine, const uint8_t *command, size_t len, const uint8_t *response,
+                 size_t response_len) {
     struct tpm_command_areas asked;
     struct tpm_response_areas answered;
     struct tpm_refusal refusal;
@@ -164,8 +167,9 @@ uint32_t carried_cut(const uint8_t *bytes, size_t len, struct carried_area *area
 /* ---- judging */
 
 /* The HMAC of a command or a response: the digest of its text, the newer nonce, the older one, and the attributes. */
-static size_t mac_of(struct machine *machine, const struct session_key *key, const struct carried_text *text, bool is_response,
-                     const struct carried *session, uint8_t attributes, uint8_t mac[TPM_POLICY_BYTES]) {
+static size_t mac_of(struct machine *machine, const struct session_key *key, const struct carried_text *text,
+                     bool is_response, const struct carried *session, uint8_t attributes,
+                     uint8_t mac[TPM_POLICY_BYTES]) {
     struct text over = {.len = 0};
     uint8_t digest[TPM_POLICY_BYTES];
     if (is_response)
@@ -197,7 +201,8 @@ static bool is_same(const uint8_t *one, const uint8_t *other, size_t len) {
     return differs == 0;
 }
 
-static uint32_t check_hmac(struct machine *machine, const struct carried *session, const struct carried_text *text, size_t number) {
+static uint32_t check_hmac(struct machine *machine, const struct carried *session, const struct carried_text *text,
+                           size_t number) {
     const struct session_key *key = key_of(machine, session->handle);
     uint8_t mac[TPM_POLICY_BYTES];
     if (!key || session->nonce_len > TPM_POLICY_BYTES)
@@ -212,9 +217,10 @@ static uint32_t check_hmac(struct machine *machine, const struct carried *sessio
     return TPM_RC_SUCCESS;
 }
 
-/* A session that authorizes nothing has to audit, since parameters are not encrypted here. No session is the only one that audits:
- * the digests of what it audits are not kept. */
-static uint32_t check_session(struct machine *machine, const struct carried *session, const struct carried_text *text, size_t number) {
+/* A session that authorizes nothing has to audit, since parameters are not encrypted here. No session is the only one
+ * that audits: the digests of what it audits are not kept. */
+static uint32_t check_session(struct machine *machine, const struct carried *session, const struct carried_text *text,
+                              size_t number) {
     uint8_t type = (uint8_t)(session->handle >> 24);
     if (session->handle == TPM_RS_PW)
         return TPM_RC_HANDLE + FOR_SESSION(number);
@@ -246,7 +252,8 @@ static bool is_twice(const struct carried_area *area, size_t number) {
     return false;
 }
 
-uint32_t carried_check(struct machine *machine, const struct carried_area *area, bool by_password, const struct carried_text *text) {
+uint32_t carried_check(struct machine *machine, const struct carried_area *area, bool by_password,
+                       const struct carried_text *text) {
     for (size_t i = 0; i < area->count; i++) {
         const struct carried *session = &area->sessions[i];
         if (is_twice(area, i))
@@ -260,7 +267,8 @@ uint32_t carried_check(struct machine *machine, const struct carried_area *area,
 
 /* ---- answering */
 
-static size_t put_session(uint8_t *out, const uint8_t *nonce, size_t nonce_len, uint8_t attributes, const uint8_t *hmac, size_t hmac_len) {
+static size_t put_session(uint8_t *out, const uint8_t *nonce, size_t nonce_len, uint8_t attributes, const uint8_t *hmac,
+                          size_t hmac_len) {
     put16(out, (uint16_t)nonce_len);
     memcpy(out + 2, nonce, nonce_len);
     out[2 + nonce_len] = attributes;
@@ -269,7 +277,8 @@ static size_t put_session(uint8_t *out, const uint8_t *nonce, size_t nonce_len, 
     return 5 + nonce_len + hmac_len;
 }
 
-static size_t answer_session(struct machine *machine, const struct carried *session, const struct carried_text *text, uint8_t *out) {
+static size_t answer_session(struct machine *machine, const struct carried *session, const struct carried_text *text,
+                             uint8_t *out) {
     const struct session_key *key = key_of(machine, session->handle);
     uint8_t mac[TPM_POLICY_BYTES], attributes = session->attributes & (CONTINUES | AUDITS);
     if (!key) /* a password's */
@@ -278,7 +287,8 @@ static size_t answer_session(struct machine *machine, const struct carried *sess
     return put_session(out, key->nonce, key->nonce_len, attributes, mac, count);
 }
 
-size_t carried_answer(struct machine *machine, const struct carried_area *area, const struct carried_text *text, uint8_t *out) {
+size_t carried_answer(struct machine *machine, const struct carried_area *area, const struct carried_text *text,
+                      uint8_t *out) {
     size_t len = 0;
     for (size_t i = 0; i < area->count; i++) {
         const struct carried *session = &area->sessions[i];

@@ -1,5 +1,6 @@
-/* The sessions that a command of the host carries (Part 1, "Session-Based Authorizations"). The device has the sessions; this knows
- * what it takes to check and to make an HMAC: each one's key and its last nonceTPM, which stays the same over commands of the host. */
+/* The sessions that a command of the host carries (Part 1, "Session-Based Authorizations"). The device has the
+ * sessions; this knows what it takes to check and to make an HMAC: each one's key and its last nonceTPM, which stays
+ * the same over commands of the host. */
 #ifndef EMULATOR_CARRIED_H
 #define EMULATOR_CARRIED_H
 
@@ -34,7 +35,8 @@ struct carried_area {
     size_t count;
 };
 
-/* A command's or a response's number, the handle whose Name it has, if any, and its parameters: what an HMAC is over. */
+/* A command's or a response's number, the handle whose Name it has, if any, and its parameters: what an HMAC
+ * is over. */
 struct carried_text {
     uint32_t code;
     uint32_t handle; /* 0 for none */
@@ -43,15 +45,18 @@ struct carried_text {
 };
 
 /* Takes note of what the device has accepted: a session's start, and each new nonceTPM. */
-void carried_see(struct machine *machine, const uint8_t *command, size_t len, const uint8_t *response, size_t response_len);
+void carried_see(struct machine *machine, const uint8_t *command, size_t len, const uint8_t *response,
+                 size_t response_len);
 
 /* Cuts an authorization area with its size before it. TPM_RC_SUCCESS: `taken` says how many bytes it has. */
 uint32_t carried_cut(const uint8_t *bytes, size_t len, struct carried_area *area, size_t *taken);
 
 /* Judges the sessions, in their order. Where a password authorizes the command it is the first one, and any will do. */
-uint32_t carried_check(struct machine *machine, const struct carried_area *area, bool by_password, const struct carried_text *text);
+uint32_t carried_check(struct machine *machine, const struct carried_area *area, bool by_password,
+                       const struct carried_text *text);
 
 /* Writes the sessions of the response, and says how many bytes they have. Those that do not go on are ended. */
-size_t carried_answer(struct machine *machine, const struct carried_area *area, const struct carried_text *text, uint8_t *out);
+size_t carried_answer(struct machine *machine, const struct carried_area *area, const struct carried_text *text,
+                      uint8_t *out);
 
 #endif

@@ -89,8 +89,8 @@ static void add(struct entries *list, uint32_t tag, uint32_t value) {
     list->at[at] = (struct entry){tag, value};
 }
 
-/* TPMA_CC (Part 2, 8.9): the command's number, whether it writes NV memory or much of the state, and how many handles it and its
- * response have. */
+/* TPMA_CC (Part 2, 8.9): the command's number, whether it writes NV memory or much of the state, and how many handles
+ * it and its response have. */
 #define CC_NV ((uint32_t)1 << 22)
 #define CC_EXTENSIVE ((uint32_t)1 << 23)
 #define CC_HANDLES(n) ((uint32_t)(n) << 25)
@@ -205,8 +205,8 @@ static void list_properties(struct entries *list, const struct machine *machine)
     add(list, 0x20B, COUNTER_SLOTS - counters);
 }
 
-/* The handles of a type, which is the first byte of the property (Part 2, 7.2), and whether there is such a type. A session that was
- * saved is listed as saved, as tools expect it, though it stays loaded in the device. */
+/* The handles of a type, which is the first byte of the property (Part 2, 7.2), and whether there is such a type. A
+ * session that was saved is listed as saved, as tools expect it, though it stays loaded in the device. */
 static bool list_handles(struct entries *list, const struct record *record, uint32_t type) {
     switch (type) {
     case 0x00:
@@ -238,7 +238,8 @@ static bool list_handles(struct entries *list, const struct record *record, uint
 }
 
 /* A TPML of the entries from this tag on, at most so many, behind TPMI_YES_NO moreData and the capability. */
-static void reply_entries(struct reply *reply, const struct entries *list, enum capability capability, uint32_t from, uint32_t most) {
+static void reply_entries(struct reply *reply, const struct entries *list, enum capability capability, uint32_t from,
+                          uint32_t most) {
     size_t first = 0;
     while (first < list->count && list->at[first].tag < from)
         first++;
@@ -331,8 +332,8 @@ static void seal_context(const struct machine *machine, const uint8_t *context, 
     hmac_sha256(machine->key, context, SAVED_BYTES - SHA256_BYTES, mac);
 }
 
-/* The session stays loaded in the device: what is saved names it, and is good for one load while the session lives. Of a session
- * that is saved already nothing is loaded that could be saved. */
+/* The session stays loaded in the device: what is saved names it, and is good for one load while the session lives. Of
+ * a session that is saved already nothing is loaded that could be saved. */
 static uint32_t context_save(struct machine *machine, const struct asked *asked, struct reply *reply) {
     struct session *session = record_session(&machine->record, asked->handle);
     uint8_t *context = reply->bytes + reply->len, mac[SHA256_BYTES], type = (uint8_t)(asked->handle >> 24);
@@ -398,7 +399,8 @@ static uint32_t stir_random(struct machine *machine, const struct asked *asked, 
     return code;
 }
 
-/* TPM2_Hash (Part 3, 15.4): the device hashes. No ticket says that the digest may be signed, since there are no keys. */
+/* TPM2_Hash (Part 3, 15.4): the device hashes. No ticket says that the digest may be signed, since there are
+ * no keys. */
 static uint32_t hash(struct machine *machine, const struct asked *asked, struct reply *reply) {
     uint32_t code = sized(asked, HASHED_BYTES);
     size_t len = number16(asked->parameters), left = asked->len - 2 - len;
@@ -414,7 +416,8 @@ static uint32_t hash(struct machine *machine, const struct asked *asked, struct 
     if (left < 6)
         return TPM_RC_INSUFFICIENT + FOR_PARAMETER_3;
     uint32_t hierarchy = number32(behind + 2);
-    if (hierarchy != TPM_RH_OWNER && hierarchy != RH_ENDORSEMENT && hierarchy != RH_PLATFORM && hierarchy != TPM_RH_NULL)
+    if (hierarchy != TPM_RH_OWNER && hierarchy != RH_ENDORSEMENT && hierarchy != RH_PLATFORM &&
+        hierarchy != TPM_RH_NULL)
         return TPM_RC_VALUE + FOR_PARAMETER_3;
     if (left > 6)
         return TPM_RC_SIZE;
@@ -493,7 +496,8 @@ static uint32_t hierarchy_control(struct machine *machine, const struct asked *a
     (void)reply;
     if (asked->handle != RH_PLATFORM)
         return not_the_platform(asked->handle);
-    if (hierarchy != TPM_RH_OWNER && hierarchy != RH_ENDORSEMENT && hierarchy != RH_PLATFORM && hierarchy != RH_PLATFORM_NV)
+    if (hierarchy != TPM_RH_OWNER && hierarchy != RH_ENDORSEMENT && hierarchy != RH_PLATFORM &&
+        hierarchy != RH_PLATFORM_NV)
         return TPM_RC_VALUE + FOR_PARAMETER_1;
     if (state > 1)
         return TPM_RC_VALUE + FOR_PARAMETER_2;
@@ -515,7 +519,8 @@ static uint64_t milliseconds_since(const struct timespec *then) {
     return (uint64_t)((int64_t)(now.tv_sec - then->tv_sec) * 1000 + (now.tv_nsec - then->tv_nsec) / 1000000);
 }
 
-/* TPM2_ReadClock (Part 3, 29.1): time since the power came on, and since this process began; so the clock is not safe. */
+/* TPM2_ReadClock (Part 3, 29.1): time since the power came on, and since this process began; so the clock is
+ * not safe. */
 static uint32_t read_clock(struct machine *machine, const struct asked *asked, struct reply *reply) {
     (void)asked;
     reply64(reply, milliseconds_since(&machine->powered_at));
@@ -534,7 +539,7 @@ enum by { ANYBODY, NO_SESSIONS, PLATFORM };
 static const struct answer {
     uint32_t command; /* as TPMA_CC */
     enum by by;
-    size_t least;     /* bytes of parameters */
+    size_t least; /* bytes of parameters */
     size_t most;
     uint32_t (*reply)(struct machine *, const struct asked *, struct reply *);
 } table[] = {
@@ -619,8 +624,10 @@ static uint32_t missing(const struct cut *cut) {
     return cut->answer->by == NO_SESSIONS ? 0 : (uint32_t)cut->asked.len / 4;
 }
 
-/* The checks before an answer are those of the device, in its order: started, handles, sessions, and the size of the parameters. */
-static uint32_t judged(struct machine *machine, struct cut *cut, const uint8_t *command, size_t len, struct reply *reply) {
+/* The checks before an answer are those of the device, in its order: started, handles, sessions, and the size of the
+ * parameters. */
+static uint32_t judged(struct machine *machine, struct cut *cut, const uint8_t *command, size_t len,
+                       struct reply *reply) {
     if (!machine->record.started)
         return TPM_RC_INITIALIZE;
     uint32_t code = cut_areas(cut, command, len);
@@ -645,7 +652,8 @@ static void add_sessions(struct machine *machine, const struct cut *cut, struct 
     reply->len += carried_answer(machine, &cut->area, &text, reply->bytes + reply->len);
 }
 
-static size_t answer_by(struct machine *machine, const struct answer *answer, const uint8_t *command, size_t len, uint8_t *response) {
+static size_t answer_by(struct machine *machine, const struct answer *answer, const uint8_t *command, size_t len,
+                        uint8_t *response) {
     struct cut cut = {.answer = answer};
     struct reply reply = {response, has_sessions(command) ? 14 : 10};
     uint32_t code = judged(machine, &cut, command, len, &reply);

@@ -44,8 +44,10 @@ size_t code_alone(uint8_t *response, uint32_t code) {
 }
 
 /* TPM2_PCR_Event of TPM_RH_NULL (Part 3, 22.3) extends nothing, and answers a TPML_DIGEST_VALUES. */
-size_t machine_hash(struct machine *machine, uint16_t algorithm, const uint8_t *bytes, size_t len, uint8_t digest[TPM_POLICY_BYTES]) {
-    uint8_t command[29 + HASHED_BYTES] = {0x80, 2, 0, 0, 0, 0, 0, 0, 1, 0x3C, 0x40, 0, 0, 7, 0, 0, 0, 9, 0x40, 0, 0, 9, 0, 0, 1};
+size_t machine_hash(struct machine *machine, uint16_t algorithm, const uint8_t *bytes, size_t len,
+                    uint8_t digest[TPM_POLICY_BYTES]) {
+    uint8_t command[29 + HASHED_BYTES] = {0x80, 2, 0, 0, 0, 0,    0, 0, 1, 0x3C, 0x40, 0, 0,
+                                          7,    0, 0, 0, 9, 0x40, 0, 0, 9, 0,    0,    1};
     uint8_t nonce[TPM_NONCE_BYTES], response[TPM_BUFFER_BYTES];
     put32(command + 2, (uint32_t)(29 + len));
     put16(command + 27, (uint16_t)len);
@@ -102,7 +104,8 @@ void machine_flush(struct machine *machine, uint32_t session) {
 }
 
 /* The device has locality 0 alone. */
-static size_t answered(struct machine *machine, uint8_t locality, const uint8_t *command, size_t len, uint8_t *response) {
+static size_t answered(struct machine *machine, uint8_t locality, const uint8_t *command, size_t len,
+                       uint8_t *response) {
     if (!machine->powered)
         return code_alone(response, RC_FAILURE);
     if (locality != 0)
@@ -115,7 +118,8 @@ static size_t answered(struct machine *machine, uint8_t locality, const uint8_t 
     return executed(machine, command, len, response);
 }
 
-size_t machine_answer(struct machine *machine, uint8_t locality, const uint8_t *command, size_t len, uint8_t *response) {
+size_t machine_answer(struct machine *machine, uint8_t locality, const uint8_t *command, size_t len,
+                      uint8_t *response) {
     size_t count = answered(machine, locality, command, len, response);
     if (machine->capture)
         capture_exchange(machine->capture, command, len, response, count);
