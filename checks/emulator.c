@@ -15,6 +15,8 @@
  *                                           over with it, and `@` sends it over the one that was handed over alone
  *     client messages PATH COUNT SEED       sends so many control messages over that channel, random ones and changed ones, cut, and
  *                                           with descriptors; then QEMU's next start is answered
+ *     client parts PORT COUNT               sends so many commands to mssim's port, header and body apart as tcti-mssim does, and
+ *                                           says how many milliseconds they take
  *     client speed PORT SECONDS             sends commands over swtpm's data port, and says how many a second are answered
  */
 #include <arpa/inet.h>
@@ -30,6 +32,7 @@
 #include <stdio.h>
 #include <stdlib.h>
 #include <string.h>
+#include <sys/resource.h>
 #include <sys/socket.h>
 #include <sys/time.h>
 #include <sys/un.h>
@@ -507,6 +510,16 @@ static const char *const commands[] = {
     "80010000000a0000017c",
     "80010000000c000001450000",
     "80010000000a00000181",
+    "00c10000000a000000f1",
+    "80010000001000000146000401020304",
+    "80020000001d000001294000000c00000009400000090000010000" "0000",
+    "800200000020000001214000000c00000009400000090000010000" "4000000c00",
+    "80010000001500000" "17d0003616263000b40000007",
+    "80010000001000000142" "00000001000b",
+    "80010000001a0000018a00010010001008000000" "0000",
+    "80020000002900000" "17b00000019020000000010000102030405060708090a0b0c0d0e0f8100000004",
+    "80020000004900000" "17b00000039020000000010000102030405060708090a0b0c0d0e0f810020"
+    "0000000000000000000000000000000000000000000000000000000000000000" "0004",
 };
 
 #define COMMANDS (sizeof commands / sizeof *commands)
@@ -627,12 +640,39 @@ static void send_frames(uint16_t mssim, uint16_t swtpm, uint32_t count) {
     printf("%u messages over %u connections\n", done, connections);
 }
 
+/* ---- messages in two parts */
+
+static void send_parts(uint16_t port, uint32_t count) {
+    uint8_t envelope[9] = {0, 0, 0, 8, 0, 0, 0, 0, 20}, frame[64], reply[REPLY_BYTES];
+    int descriptor = opened(port), no = 0;
+    double begin = now();
+    setsockopt(descriptor, IPPROTO_TCP, TCP_NODELAY, &no, sizeof no);
+    for (uint32_t i = 0; i < count; i++) {
+        size_t len = bytes_of(READ_16, frame);
+        if (descriptor < 0 || !sent(descriptor, envelope, sizeof envelope) || !sent(descriptor, frame, len) ||
+            !received(descriptor, reply, 4) || !received(descriptor, reply + 4, number32(reply) + 4))
+            fail("a command in two parts is not answered", i);
+    }
+    printf("%.0f\n", 1000 * (now() - begin));
+    close(descriptor);
+}
+
 /* ---- many connections */
+
+/* As many descriptors as there may be. */
+static void want_descriptors(uint32_t count) {
+    struct rlimit limit;
+    if (getrlimit(RLIMIT_NOFILE, &limit) != 0 || (limit.rlim_max != RLIM_INFINITY && limit.rlim_max < count))
+        fail("there may not be so many descriptors", count);
+    limit.rlim_cur = count;
+    setrlimit(RLIMIT_NOFILE, &limit);
+}
 
 static void open_many(uint16_t port, uint32_t count) {
     uint8_t frame[64], reply[REPLY_BYTES];
     size_t len = bytes_of(READ_16, frame);
     int *descriptors = calloc(count, sizeof *descriptors);
+    want_descriptors(count + 32);
     for (uint32_t i = 0; i < count; i++) {
         descriptors[i] = opened(port);
         if (descriptors[i] < 0 || !sent(descriptors[i], frame, 1 + i % (len - 1)))
@@ -865,6 +905,8 @@ int main(int argc, char **argv) {
         send_frames(port, (uint16_t)atoi(argv[3]), (uint32_t)atoi(argv[4]));
     } else if (strcmp(what, "many") == 0 && argc == 4) {
         open_many(port, (uint32_t)atoi(argv[3]));
+    } else if (strcmp(what, "parts") == 0 && argc == 4) {
+        send_parts(port, (uint32_t)atoi(argv[3]));
     } else if (strcmp(what, "listens") == 0 && argc == 3) {
         return opened(port) < 0;
     } else if (strcmp(what, "ask") == 0 && argc == 3) {

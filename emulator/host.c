@@ -237,6 +237,13 @@ static bool list_handles(struct entries *list, const struct record *record, uint
     return true;
 }
 
+/* TPMS_TAGGED_PCR_SELECT: which registers are extended, and which are reset, from locality 0; the value is a selection of
+ * three bytes behind its size. */
+static void list_register_properties(struct entries *list) {
+    add(list, 1, 0x03FFFF81);
+    add(list, 2, 0x03000081);
+}
+
 /* A TPML of the entries from this tag on, at most so many, behind TPMI_YES_NO moreData and the capability. */
 static void reply_entries(struct reply *reply, const struct entries *list, enum capability capability, uint32_t from,
                           uint32_t most) {
@@ -269,17 +276,6 @@ static void reply_banks(struct reply *reply) {
     }
 }
 
-/* TPML_TAGGED_PCR_PROPERTY: which registers are extended, and which are reset, from locality 0. */
-static void reply_register_properties(struct reply *reply) {
-    reply8(reply, 0);
-    reply32(reply, CAP_PCR_PROPERTIES);
-    reply32(reply, 2);
-    reply32(reply, 1);
-    reply32(reply, 0x03FFFF81);
-    reply32(reply, 2);
-    reply32(reply, 0x03000081);
-}
-
 static void reply_none(struct reply *reply, enum capability capability) {
     reply8(reply, 0);
     reply32(reply, capability);
@@ -303,11 +299,11 @@ static uint32_t get_capability(struct machine *machine, const struct asked *aske
     case CAP_TPM_PROPERTIES:
         list_properties(&list, machine);
         break;
+    case CAP_PCR_PROPERTIES:
+        list_register_properties(&list);
+        break;
     case CAP_PCRS:
         reply_banks(reply);
-        return TPM_RC_SUCCESS;
-    case CAP_PCR_PROPERTIES:
-        reply_register_properties(reply);
         return TPM_RC_SUCCESS;
     case CAP_PP_COMMANDS:
     case CAP_AUDIT_COMMANDS:
