@@ -265,11 +265,31 @@ refused_frames() {
     done
 }
 
+# without_addresses LOG: its bytes, a line each. Of images that were loaded the address is left out, which is not measured: swtpm
+# lists a fourth bank, which is off, and so OVMF loads some images to another page.
+without_addresses() {
+    od -An -v -tu1 "$1" | tr -s ' ' '\n' | grep . | awk '
+        function number(at) { return byte[at] + 256 * (byte[at + 1] + 256 * (byte[at + 2] + 256 * byte[at + 3])) }
+        { byte[NR - 1] = $1 }
+        END {
+            size[4] = 20; size[11] = 32; size[12] = 48; size[13] = 64
+            for (at = 32 + number(28); at < NR; at = data + 4 + number(data)) {
+                data = at + 12
+                for (left = number(at + 8); left > 0; left--) data += 2 + size[byte[data] + 256 * byte[data + 1]]
+                type = number(at + 4) - 2147483648
+                if (type >= 3 && type <= 5) for (i = 4; i < 12; i++) byte[data + i] = "-"
+            }
+            for (i = 0; i < NR; i++) print byte[i]
+        }'
+}
+
 # like_swtpm NAME: the same boot over swtpm gives the same log, and the same registers.
 like_swtpm() {
     cp "$here/log" "$here/ours.log" && cp "$here/registers" "$here/ours.registers" && with_swtpm || return 1
     boot "$here/socket" "$1"
-    tpm_ends && booted "$1" && cmp "$here/log" "$here/ours.log" && diff "$here/registers" "$here/ours.registers"
+    tpm_ends && booted "$1" && diff "$here/registers" "$here/ours.registers" || return 1
+    without_addresses "$here/ours.log" >"$here/ours.bytes"
+    without_addresses "$here/log" | cmp - "$here/ours.bytes"
 }
 
 # boots_as NAME: boots, over the emulator and over swtpm; a row of the table.

@@ -9,6 +9,14 @@
  *     client many PORT COUNT                opens so many connections to swtpm's data port, each with a part of a frame; the emulator
  *                                           answers the next client, and one that sends a byte at a time
  *     client listens PORT                   asks whether anybody listens there
+ *     client ask PORT                       sends the lines of standard input, in hexadecimal digits, each as one write, and prints
+ *                                           what is answered to each, a line each; an answer that does not come is a `-`
+ *     client channel PATH                   the same over QEMU's channel at this Unix socket. Before a line `N+` hands N descriptors
+ *                                           over with it, and `@` sends it over the one that was handed over alone
+ *     client messages PATH COUNT SEED       sends so many control messages over that channel, random ones and changed ones, cut, and
+ *                                           with descriptors; then QEMU's next start is answered
+ *     client parts PORT COUNT               sends so many commands to mssim's port, header and body apart as tcti-mssim does, and
+ *                                           says how many milliseconds they take
  *     client speed PORT SECONDS             sends commands over swtpm's data port, and says how many a second are answered
  */
 #include <arpa/inet.h>
@@ -24,8 +32,10 @@
 #include <stdio.h>
 #include <stdlib.h>
 #include <string.h>
+#include <sys/resource.h>
 #include <sys/socket.h>
 #include <sys/time.h>
+#include <sys/un.h>
 #include <sys/wait.h>
 #include <time.h>
 #include <unistd.h>
@@ -500,6 +510,16 @@ static const char *const commands[] = {
     "80010000000a0000017c",
     "80010000000c000001450000",
     "80010000000a00000181",
+    "00c10000000a000000f1",
+    "80010000001000000146000401020304",
+    "80020000001d000001294000000c00000009400000090000010000" "0000",
+    "800200000020000001214000000c00000009400000090000010000" "4000000c00",
+    "80010000001500000" "17d0003616263000b40000007",
+    "80010000001000000142" "00000001000b",
+    "80010000001a0000018a00010010001008000000" "0000",
+    "80020000002900000" "17b00000019020000000010000102030405060708090a0b0c0d0e0f8100000004",
+    "80020000004900000" "17b00000039020000000010000102030405060708090a0b0c0d0e0f810020"
+    "0000000000000000000000000000000000000000000000000000000000000000" "0004",
 };
 
 #define COMMANDS (sizeof commands / sizeof *commands)
@@ -620,12 +640,39 @@ static void send_frames(uint16_t mssim, uint16_t swtpm, uint32_t count) {
     printf("%u messages over %u connections\n", done, connections);
 }
 
+/* ---- messages in two parts */
+
+static void send_parts(uint16_t port, uint32_t count) {
+    uint8_t envelope[9] = {0, 0, 0, 8, 0, 0, 0, 0, 20}, frame[64], reply[REPLY_BYTES];
+    int descriptor = opened(port), no = 0;
+    double begin = now();
+    setsockopt(descriptor, IPPROTO_TCP, TCP_NODELAY, &no, sizeof no);
+    for (uint32_t i = 0; i < count; i++) {
+        size_t len = bytes_of(READ_16, frame);
+        if (descriptor < 0 || !sent(descriptor, envelope, sizeof envelope) || !sent(descriptor, frame, len) ||
+            !received(descriptor, reply, 4) || !received(descriptor, reply + 4, number32(reply) + 4))
+            fail("a command in two parts is not answered", i);
+    }
+    printf("%.0f\n", 1000 * (now() - begin));
+    close(descriptor);
+}
+
 /* ---- many connections */
+
+/* As many descriptors as there may be. */
+static void want_descriptors(uint32_t count) {
+    struct rlimit limit;
+    if (getrlimit(RLIMIT_NOFILE, &limit) != 0 || (limit.rlim_max != RLIM_INFINITY && limit.rlim_max < count))
+        fail("there may not be so many descriptors", count);
+    limit.rlim_cur = count;
+    setrlimit(RLIMIT_NOFILE, &limit);
+}
 
 static void open_many(uint16_t port, uint32_t count) {
     uint8_t frame[64], reply[REPLY_BYTES];
     size_t len = bytes_of(READ_16, frame);
     int *descriptors = calloc(count, sizeof *descriptors);
+    want_descriptors(count + 32);
     for (uint32_t i = 0; i < count; i++) {
         descriptors[i] = opened(port);
         if (descriptors[i] < 0 || !sent(descriptors[i], frame, 1 + i % (len - 1)))
@@ -647,6 +694,168 @@ static void open_many(uint16_t port, uint32_t count) {
     is_served(port);
     printf("%u connections\n", count);
     free(descriptors);
+}
+
+/* ---- lines */
+
+/* Waits for what is answered, and prints it; a response that comes in parts is told as a whole. */
+static void print_answer(int descriptor) {
+    uint8_t bytes[REPLY_BYTES];
+    struct pollfd polled = {.fd = descriptor, .events = POLLIN};
+    ssize_t count = poll(&polled, 1, 2000) > 0 ? recv(descriptor, bytes, sizeof bytes, 0) : 0;
+    for (ssize_t i = 0; i < count; i++)
+        printf("%02x", bytes[i]);
+    puts(count > 0 ? "" : "-");
+    fflush(stdout);
+}
+
+/* A line of standard input without its end. */
+static bool read_line(char *line, int room) {
+    if (!fgets(line, room, stdin))
+        return false;
+    line[strcspn(line, "\n")] = 0;
+    return true;
+}
+
+static void ask_lines(uint16_t port) {
+    static char line[2 * REPLY_BYTES + 8];
+    uint8_t bytes[REPLY_BYTES];
+    int descriptor = opened(port);
+    while (descriptor >= 0 && read_line(line, sizeof line)) {
+        if (!sent(descriptor, bytes, bytes_of(line, bytes)))
+            fail("the connection is closed", port);
+        print_answer(descriptor);
+    }
+    close(descriptor);
+}
+
+/* ---- QEMU's channel */
+
+static int opened_channel(const char *path) {
+    struct sockaddr_un place = {.sun_family = AF_UNIX};
+    struct timeval patience = {.tv_sec = 20};
+    int descriptor = socket(AF_UNIX, SOCK_STREAM, 0);
+    snprintf(place.sun_path, sizeof place.sun_path, "%s", path);
+    if (descriptor < 0 || connect(descriptor, (struct sockaddr *)&place, sizeof place) != 0)
+        return -1;
+    setsockopt(descriptor, SOL_SOCKET, SO_RCVTIMEO, &patience, sizeof patience);
+    setsockopt(descriptor, SOL_SOCKET, SO_SNDTIMEO, &patience, sizeof patience);
+    return descriptor;
+}
+
+#define DESCRIPTORS 4
+
+/* Sends the bytes in one write, with so many descriptors, which are then closed here; `kept` is the other end of one alone. */
+static bool handed(int channel, const uint8_t *bytes, size_t len, uint32_t count, int *kept) {
+    union {
+        struct cmsghdr aligned;
+        char bytes[CMSG_SPACE(DESCRIPTORS * sizeof(int))];
+    } room;
+    int pair[2], given[DESCRIPTORS];
+    struct iovec part = {(void *)(uintptr_t)bytes, len};
+    struct msghdr message = {.msg_iov = &part, .msg_iovlen = 1};
+    memset(&room, 0, sizeof room);
+    for (uint32_t i = 0; i < count; i++) {
+        if (socketpair(AF_UNIX, SOCK_STREAM, 0, pair) != 0)
+            fail("no pair of sockets", (uint64_t)errno);
+        given[i] = pair[0];
+        if (count > 1) {
+            close(pair[1]);
+        } else {
+            if (*kept >= 0)
+                close(*kept);
+            *kept = pair[1];
+        }
+    }
+    if (count > 0) {
+        message.msg_control = &room;
+        message.msg_controllen = CMSG_SPACE(count * sizeof(int));
+        struct cmsghdr *control = CMSG_FIRSTHDR(&message);
+        control->cmsg_level = SOL_SOCKET;
+        control->cmsg_type = SCM_RIGHTS;
+        control->cmsg_len = CMSG_LEN(count * sizeof(int));
+        memcpy(CMSG_DATA(control), given, count * sizeof(int));
+    }
+    bool done = sendmsg(channel, &message, MSG_NOSIGNAL) == (ssize_t)len;
+    for (uint32_t i = 0; i < count; i++)
+        close(given[i]);
+    return done;
+}
+
+static void ask_channel(const char *path) {
+    static char line[2 * REPLY_BYTES + 8];
+    uint8_t bytes[REPLY_BYTES];
+    int channel = opened_channel(path), kept = -1;
+    while (channel >= 0 && read_line(line, sizeof line)) {
+        bool over = line[0] == '@';
+        uint32_t count = line[0] >= '0' && line[0] <= '4' && line[1] == '+' ? (uint32_t)(line[0] - '0') : 0;
+        size_t len = bytes_of(line + (over ? 1 : line[1] == '+' ? 2 : 0), bytes);
+        if (over ? !sent(kept, bytes, len) : !handed(channel, bytes, len, count, &kept))
+            fail("the connection is closed", len);
+        print_answer(over ? kept : channel);
+    }
+    close(channel);
+    if (kept >= 0)
+        close(kept);
+}
+
+/* Mostly one that is understood, but for SHUTDOWN, which ends the emulator; sometimes a cut one, or a long one. */
+static size_t any_message(uint8_t *bytes) {
+    static const uint8_t lengths[20] = {4, 4, 8, 4, 4, 8, 4, 8, 4, 4, 4, 8, 16, 16, 4, 4, 4, 8, 12, 4};
+    uint32_t number = below(20);
+    for (size_t i = 0; i < 64; i++)
+        bytes[i] = below(4) == 0 ? (uint8_t)any() : 0;
+    put32(bytes, below(16) == 0 ? any() | 1u << 31 : number == 3 ? 16 : number);
+    if (number == 12 || number == 13)
+        put32(bytes + 12, below(64) == 0 ? any() : below(200));
+    return below(8) == 0 ? 1 + below(64) : number == 5 && below(2) ? 5 : lengths[number];
+}
+
+/* QEMU's first messages, and a frame over the descriptor that it hands over. */
+static void start_as_qemu(const char *path) {
+    static const uint8_t data[4] = {0, 0, 0, 16}, init[8] = {0, 0, 0, 2};
+    uint8_t reply[REPLY_BYTES];
+    int channel = opened_channel(path), kept = -1;
+    if (channel < 0 || !handed(channel, data, sizeof data, 1, &kept) || !received(channel, reply, 4) || number32(reply) != 0)
+        fail("a new channel is not served", (uint64_t)errno);
+    if (asked_text(kept, READ_16, reply) < 0 || !sent(channel, init, sizeof init) || !received(channel, reply, 4) || number32(reply) != 0)
+        fail("a new channel has no power", (uint64_t)errno);
+    if (asked_text(kept, STARTUP, reply) != 0 || asked_text(kept, READ_16, reply) != 0)
+        fail("a new channel has no device", number32(reply + 6));
+    close(kept);
+    close(channel);
+}
+
+static uint32_t send_messages(const char *path, uint32_t left) {
+    uint32_t most = 1 + below(300), count = 0;
+    int channel = opened_channel(path), kept = -1;
+    if (channel < 0)
+        fail("no channel", (uint64_t)errno);
+    while (count < most && count < left) {
+        uint8_t bytes[LONGEST];
+        size_t len = any_message(bytes);
+        count++;
+        if (!handed(channel, bytes, len, below(4) == 0 ? below(DESCRIPTORS + 1) : 0, &kept))
+            break;
+        if (below(4))
+            drain(channel);
+        if (kept >= 0 && below(4) == 0 && (!sent(kept, bytes, any_frame(bytes)) || below(4) == 0)) {
+            close(kept);
+            kept = -1;
+        }
+    }
+    close(channel);
+    if (kept >= 0)
+        close(kept);
+    return count;
+}
+
+static void send_channel(const char *path, uint32_t count) {
+    uint32_t done = 0;
+    while (done < count)
+        done += send_messages(path, count - done);
+    start_as_qemu(path);
+    printf("%u messages\n", done);
 }
 
 /* ---- speed */
@@ -696,8 +905,17 @@ int main(int argc, char **argv) {
         send_frames(port, (uint16_t)atoi(argv[3]), (uint32_t)atoi(argv[4]));
     } else if (strcmp(what, "many") == 0 && argc == 4) {
         open_many(port, (uint32_t)atoi(argv[3]));
+    } else if (strcmp(what, "parts") == 0 && argc == 4) {
+        send_parts(port, (uint32_t)atoi(argv[3]));
     } else if (strcmp(what, "listens") == 0 && argc == 3) {
         return opened(port) < 0;
+    } else if (strcmp(what, "ask") == 0 && argc == 3) {
+        ask_lines(port);
+    } else if (strcmp(what, "channel") == 0 && argc == 3) {
+        ask_channel(argv[2]);
+    } else if (strcmp(what, "messages") == 0 && argc == 5) {
+        seed = strtoull(argv[4], NULL, 10) * 2 + 1;
+        send_channel(argv[2], (uint32_t)atoi(argv[3]));
     } else if (strcmp(what, "speed") == 0 && argc == 4) {
         measure_all(port, atof(argv[3]));
     } else {

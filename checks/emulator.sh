@@ -420,14 +420,252 @@ there_again() {
         --state "$room/state.again"
 }
 
+# build_sanitized: the emulator with sanitizers, once.
+build_sanitized() {
+    [ -x "$room/sanitized" ] ||
+        "$compiler" $flags -g -O1 -fsanitize=address,undefined -fno-sanitize-recover=all -o "$room/sanitized" emulator/*.c "$archive"
+}
+
 # harmless: random messages and cut connections, over the emulator with sanitizers.
 harmless() {
-    "$compiler" $flags -g -O1 -fsanitize=address,undefined -fno-sanitize-recover=all -o "$room/sanitized" emulator/*.c "$archive" || return 1
+    build_sanitized || return 1
     begin sanitized --state "$room/state.frames" || { cat "$room/served" && return 1; }
     timeout 900 "$room/client" frames $((port + 2)) "$port" "${MESSAGES:-30000}" "${SEED:-1}" &&
-        timeout 100 "$room/client" many "$port" 1000
+        timeout 100 "$room/client" many "$port" 4200
     said=$?
     end && [ $said -eq 0 ] && ! grep -q -e ERROR -e 'runtime error' "$room/served" || { cat "$room/served" && return 1; }
+}
+
+# ---- what is answered, byte for byte
+
+# ask AFTER COMMAND..: what is answered to each of these at the port that is so many behind the first, a line each.
+ask() {
+    after=$1
+    shift
+    printf '%s\n' "$@" | timeout 20 "$room/client" ask $((port + after))
+}
+
+# rows FILE: the rows of such a file, without what is said of them.
+rows() {
+    grep -v -e '^#' -e '^$' "$1"
+}
+
+# answers_of KIND WORD..: the server answers the commands of checks/host.txt as its rows say: a command and its response, or ours and
+# swtpm's with a `|` between. A `.` is any digit.
+answers_of() {
+    kind=$1
+    shift
+    begin "$kind" "$@" || { cat "$room/served" && return 1; }
+    [ "$kind" = emulator ] || ask 0 80010000000c000001440000 >/dev/null
+    rows checks/host.txt | cut -d ' ' -f 1 | timeout 60 "$room/client" ask "$port" >"$room/answers"
+    end
+    rows checks/host.txt | paste -d ' ' - "$room/answers" | awk -v kind="$kind" '
+        { wanted = kind == "swtpm" && NF == 5 ? $4 : $2; if ($NF !~ ("^" wanted "$")) { print substr($1, 1, 60), $NF, "and not", wanted; bad = 1 } }
+        END { exit bad || NR < 150 }'
+}
+
+registers_0=8001000000200000017e00000003000403000001000b03000001000c03000001
+session=80010000002b0000017640000007400000070010000102030405060708090a0b0c0d0e0f0000000010000b
+save=80010000000e0000016202000000
+
+# saved_once: a session that is saved can't be saved again, a context is loaded once, and a changed one never.
+saved_once() {
+    begin emulator --startup || return 1
+    ask 0 $session $save $save >"$room/answers"
+    context=$(sed -n 's/^8001........00000000//p' "$room/answers" | sed -n 2p)
+    load=$(printf '8001%08x00000161%s' $((10 + ${#context} / 2)) "$context")
+    case $load in
+    *0) changed=${load%0}1 ;;
+    *) changed=${load%?}0 ;;
+    esac
+    ask 0 "$changed" "$load" "$load" $save "$load" >>"$room/answers"
+    end
+    sed -e '1,2d' "$room/answers" | cut -c 13-20 | tr '\n' ' ' >"$room/codes"
+    [ "$(cat "$room/codes")" = '00000910 000001df 00000000 000001cb 00000000 000001cb ' ] || { cat "$room/codes" && return 1; }
+}
+
+# of_locality: another locality than 0 over mssim.
+of_locality() {
+    begin emulator --startup || return 1
+    ask 2 00000008000000000c80010000000c0000017b0000 00000008010000000c80010000000c0000017b0000 00000008ff0000000c80010000000c0000017b0000 >"$room/answers"
+    end
+    printf '%s\n' 0000000c80010000000c00000000000000000000 0000000a80010000000a0000090700000000 0000000a80010000000a0000090700000000 |
+        diff - "$room/answers"
+}
+
+define=80020000002d0000012a40000001000000094000000900000100000000000e01800001000b0206001600000008
+increment=80020000001f00000134400000010180000100000009400000090000010000
+read=8002000000230000014e40000001018000010000000940000009000001000000080000
+
+# in_one_life: a power cycle within one process keeps counters, takes registers and sessions, and is counted.
+in_one_life() {
+    rm -f "$room/state.life"
+    begin emulator --startup --state "$room/state.life" --owner 0102 || return 1
+    clock=80010000000a00000181
+    ask 0 $session $clock >"$room/answers"
+    variable=
+    for property in 200 201 202 203 204 205 206 207 208 209 20a 20b; do variable="$variable 8001000000160000017a0000000600000${property}00000001"; done
+    ask 0 $variable | sed 's/.*\(........\)$/\1/' | tr '\n' ' ' >"$room/before"
+    sleep 0.3
+    ask 3 00000002 00000001 >/dev/null
+    sleep 0.2
+    ask 0 $clock >>"$room/answers"
+    ask 0 $variable | sed 's/.*\(........\)$/\1/' | tr '\n' ' ' >"$room/after"
+    end
+    [ "$(cat "$room/before")" = '00000001 00000002 00000000 00000001 00000002 00000001 00000002 00000000 00000000 00000000 00000000 00000008 ' ] &&
+        [ "$(cat "$room/after")" = '00000001 00000002 00000000 00000000 00000003 00000000 00000003 00000000 00000000 00000000 00000000 00000008 ' ] ||
+        { cat "$room/before" "$room/after" && return 1; }
+    # Behind the header: the time since the power came on, the clock, resets, restarts, and whether it is safe.
+    sed 1d "$room/answers" | sed 's/^8001........00000000\(.\{16\}\)\(.\{16\}\)\(.\{8\}\)\(.\{8\}\)\(..\)$/\1 \2 \3 \4 \5/' >"$room/clocks"
+    {
+        read -r time1 clock1 resets1 restarts1 safe1 && read -r time2 clock2 resets2 restarts2 safe2
+    } <"$room/clocks" || return 1
+    [ "$resets1 $restarts1 $safe1" = '00000000 00000000 00' ] && [ "$resets2 $restarts2 $safe2" = '00000001 00000000 00' ] || return 1
+    [ $((0x$time2)) -ge 150 ] && [ $((0x$time2)) -lt $((0x$clock2 - 250)) ] && [ $((0x$clock2 - 0x$clock1)) -ge 450 ] && [ $((0x$clock2)) -lt 60000 ]
+}
+
+# cycled: counters over power cycles of one process, whose file is kept: they go on, and the next first value is behind the greatest.
+cycled() {
+    rm -f "$room/state.life"
+    begin emulator --startup --state "$room/state.life" || return 1
+    {
+        ask 0 $define $increment $increment $read
+        ask 3 00000011
+        ask 0 $read $increment $read
+        ask 3 00000002 00000001
+        ask 0 $read 80020000001f00000122400000010180000100000009400000090000010000 $define $increment $read
+    } | sed -n 's/^8002........00000000........0008\(.\{16\}\).*/\1/p' | tr '\n' ' ' >"$room/values"
+    end
+    [ "$(cat "$room/values")" = '0000000000000002 0000000000000002 0000000000000003 0000000000000003 0000000000000004 ' ] || { cat "$room/values" && return 1; }
+}
+
+# synced: before a reply says that a counter has changed, the file is on the disk, has its name, and its folder is on the disk.
+synced() {
+    rm -f "$room/state.traced"
+    printf '%s\n' $define $increment | xxd -r -p |
+        strace -f -o "$room/trace" -e trace=openat,fsync,rename,renameat,renameat2,write "$room/emulator" --stdio --startup --state "$room/state.traced" >"$room/out" || return 1
+    awk -v folder="\"$room\"" '
+        { sub(/^[0-9]+ +/, "") }
+        /^openat/ && index($0, folder ",") { place = $NF }
+        /^openat.*state.traced.new"/ { file = $NF; order = "" }
+        /^fsync/ { split($0, part, /[()]/); order = order (part[2] == place ? "folder " : part[2] == file ? "file " : "other ") }
+        /^rename/ { order = order "name " }
+        /^write\(1,/ { if (order != "file name folder ") { print "before a reply: " order; bad = 1 } else good++ }
+        END { exit bad || good < 2 }' "$room/trace" || { tail -n 12 "$room/trace" && return 1; }
+}
+
+# in_parts: a command over mssim whose header and body are written apart takes no 40 milliseconds.
+in_parts() {
+    begin emulator --startup || return 1
+    took=$(timeout 60 "$room/client" parts $((port + 2)) 50)
+    end
+    [ "${took:-9999}" -lt 1000 ] || { echo "50 commands took $took milliseconds" && return 1; }
+}
+
+# ---- QEMU's channel
+
+# at_channel KIND WORD..: starts it at a Unix socket, and waits; $server is its process.
+at_channel() {
+    kind=$1
+    shift
+    "$room/$kind" --unixio "$room/channel" "$@" >"$room/served" 2>&1 &
+    server=$!
+    for wait in $(seq 200); do
+        if [ -S "$room/channel" ]; then return 0; fi
+        sleep 0.05
+    done
+    return 1
+}
+
+# channelled: each message of checks/channel.txt is answered as its row says; the last one ends the emulator, and its socket is gone.
+channelled() {
+    at_channel emulator || return 1
+    rows checks/channel.txt | cut -d ' ' -f 1 | timeout 60 "$room/client" channel "$room/channel" >"$room/answers"
+    wait "$server" || { echo "status $?" && return 1; }
+    rows checks/channel.txt | cut -d ' ' -f 2 | diff - "$room/answers" && [ ! -e "$room/channel" ]
+}
+
+# one_channel: a second emulator does not take the socket of another; one that was left by a killed process is taken over.
+one_channel() {
+    at_channel emulator || return 1
+    "$room/emulator" --unixio "$room/channel" 2>"$room/err"
+    [ $? -eq 3 ] && grep -q 'in use' "$room/err" || { end && return 1; }
+    [ "$(stat -c %a "$room/channel")" = 600 ] || { end && return 1; }
+    kill -KILL "$server"
+    wait "$server" 2>/dev/null
+    [ -S "$room/channel" ] || return 1
+    at_channel emulator && sleep 0.3 && printf '00000001\n' | timeout 20 "$room/client" channel "$room/channel" | grep -q -x 0000000000003caf && end
+}
+
+# harmless_channel: random messages, cut ones, and descriptors; none stays open.
+harmless_channel() {
+    build_sanitized && at_channel sanitized || return 1
+    open=$(find "/proc/$server/fd" 2>/dev/null | wc -l)
+    timeout 900 "$room/client" messages "$room/channel" "${MESSAGES:-100000}" "${SEED:-1}"
+    said=$?
+    for wait in $(seq 40); do
+        left=$(find "/proc/$server/fd" 2>/dev/null | wc -l)
+        if [ "$left" -eq "$open" ]; then break; fi
+        sleep 0.05
+    done
+    end && [ $said -eq 0 ] && [ "$left" -eq "$open" ] && ! grep -q -e ERROR -e 'runtime error' "$room/served" ||
+        { echo "$open descriptors before, $left behind" && cat "$room/served" && return 1; }
+}
+
+# ---- the program
+
+# in_the_background: --daemon returns when it listens, its number is in the file, and the file goes with it; a fault is its status.
+in_the_background() {
+    rm -f "$room/state.back" "$room/pid"
+    port=$((port + 8))
+    "$room/emulator" --swtpm "$port" --state "$room/state.back" --daemon --pid "$room/pid" >"$room/out" 2>&1 || { cat "$room/out" && return 1; }
+    "$room/client" listens "$port" >/dev/null && kill -0 "$(cat "$room/pid")" || return 1
+    "$room/emulator" --swtpm $((port + 4)) --state "$room/state.back" --daemon 2>"$room/err"
+    [ $? -eq 3 ] && grep -q 'another emulator holds it' "$room/err" || return 1
+    "$room/emulator" --swtpm "$port" --daemon 2>/dev/null
+    [ $? -eq 3 ] || return 1
+    "$room/emulator" --stdio --daemon 2>/dev/null
+    [ $? -eq 2 ] || return 1
+    kill "$(cat "$room/pid")" || return 1
+    for wait in $(seq 100); do
+        if [ ! -e "$room/pid" ]; then return 0; fi
+        sleep 0.05
+    done
+    return 1
+}
+
+# its_words: the version, words that collide, and words that are none.
+its_words() {
+    version=$(awk '$2 == "VINJAKWE_VERSION" { gsub(/"/, ""); print $3 }' include/vinjakwe.h)
+    [ "$("$room/emulator" --version)" = "vinjakwe-emulator $version" ] && "$room/emulator" --help | grep -q -e '--unixio PATH' || return 1
+    for words in '--mssim 24376 --swtpm 24377' '--mssim 24376 --swtpm 24375' '--mssim 24376 --swtpm 24376'; do
+        "$room/emulator" $words 2>"$room/err"
+        [ $? -eq 2 ] && grep -q 'they collide' "$room/err" || { echo "$words" && return 1; }
+    done
+    for words in '' '--swtpm' '--swtpm 0' '--swtpm 65535' '--other' '--owner 0' "--unixio $(printf '%0200d' 0)"; do
+        timeout 20 "$room/emulator" $words 2>"$room/err"
+        [ $? -eq 2 ] && [ -s "$room/err" ] || { echo "words $words" && return 1; }
+    done
+}
+
+# recorded: each frame and its answer are in the record, a line each, which the program tells.
+recorded() {
+    printf '%s\n' 80010000000c000001440000 $registers_0 $session 80010000000a00000181 | tee "$room/in.frames" | xxd -r -p |
+        "$room/emulator" --stdio --record "$room/frames" | xxd -p | tr -d '\n' >"$room/out" || return 1
+    sed -n 's/^> //p' "$room/frames" | diff "$room/in.frames" - && [ "$(sed -n 's/^< //p' "$room/frames" | tr -d '\n')" = "$(cat "$room/out")" ] &&
+        [ "$(wc -l <"$room/frames")" -eq 8 ] || return 1
+    [ ! -x "$program" ] || "$program" show --file "$room/frames" | grep -q StartAuthSession || return 1
+    "$room/emulator" --stdio --record "$room/no/frames" </dev/null 2>/dev/null
+    [ $? -eq 3 ]
+}
+
+# by_links: emulator/run works through symbolic links, and without `rt` where it is built.
+by_links() {
+    mkdir -p "$room/links/more" && ln -sf "$PWD/emulator/run" "$room/links/one" && ln -sf ../one "$room/links/more/two" || return 1
+    for link in "$room/links/one" "$room/links/more/two"; do
+        PATH=/usr/bin:/bin "$link" --version | grep -q '^vinjakwe-emulator ' || { echo "$link" && return 1; }
+    done
+    (cd "$room/links/more" && ./two --version) | grep -q '^vinjakwe-emulator '
 }
 
 # sanitizes: whether the compiler has sanitizers.
@@ -484,11 +722,34 @@ else
     else
         skip "commands over standard input give the bytes of tpmtool" "the program is not built"
     fi
+    emulates "the host answers as swtpm does, field by field" answers_of emulator --startup
+    if command -v swtpm >/dev/null 2>&1; then
+        emulates "swtpm answers as is kept of it" answers_of swtpm
+    else
+        skip "swtpm answers as is kept of it" "there is no swtpm"
+    fi
+    emulates "a session is saved once, and its context loaded once" saved_once
+    emulates "another locality over mssim is refused" of_locality
+    emulates "a power cycle within one process is counted" in_one_life
+    emulates "counters go on over power cycles of one process" cycled
+    if command -v strace >/dev/null 2>&1; then
+        emulates "a counter is on the disk before the reply" synced
+    else
+        skip "a counter is on the disk before the reply" "there is no strace"
+    fi
+    emulates "a command over mssim in two parts does not wait" in_parts
+    emulates "each message of QEMU's channel is answered" channelled
+    emulates "a Unix socket has one emulator" one_channel
+    emulates "the emulator in the background" in_the_background
+    emulates "the emulator's words" its_words
+    emulates "frames are recorded" recorded
+    emulates "emulator/run works through symbolic links" by_links
     emulates "without random bytes the emulator ends" no_random_bytes
     emulates "counters of all kinds are there at the next start" there_again
     emulates "killed at random moments, no counter goes back" killed
     if sanitizes; then
         emulates "random messages and cut connections harm nothing" harmless
+        emulates "random messages over QEMU's channel harm nothing" harmless_channel
     else
         skip "random messages and cut connections harm nothing" "the compiler has no sanitizers"
     fi

@@ -42,7 +42,8 @@ int background_begin(void) {
 
 void background_ready(int waiting) {
     int nothing = open("/dev/null", O_RDWR);
-    if (nothing < 0 || dup2(nothing, STDIN_FILENO) < 0 || dup2(nothing, STDOUT_FILENO) < 0 || dup2(nothing, STDERR_FILENO) < 0)
+    if (nothing < 0 || dup2(nothing, STDIN_FILENO) < 0 || dup2(nothing, STDOUT_FILENO) < 0 ||
+        dup2(nothing, STDERR_FILENO) < 0)
         fail(STATUS_FAULT, "/dev/null: %s", strerror(errno));
     if (nothing > STDERR_FILENO)
         close(nothing);

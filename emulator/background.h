@@ -2,8 +2,8 @@
 #ifndef EMULATOR_BACKGROUND_H
 #define EMULATOR_BACKGROUND_H
 
-/* Goes on as another process, whose session is its own. The one that called it waits until that one is ready, and ends with status 0;
- * where that one ends before, it ends with the same status. The answer is for background_ready. */
+/* Goes on as another process, whose session is its own. The one that called it waits until that one is ready, and ends
+ * with status 0; where that one ends before, it ends with the same status. The answer is for background_ready. */
 int background_begin(void);
 
 /* Lets the first process end. Standard input, output and error are nothing from here on. */

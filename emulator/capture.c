@@ -29,7 +29,8 @@ static size_t put_line(char *to, char way, const uint8_t *frame, size_t len) {
     return at;
 }
 
-void capture_exchange(struct capture *capture, const uint8_t *command, size_t len, const uint8_t *response, size_t response_len) {
+void capture_exchange(struct capture *capture, const uint8_t *command, size_t len, const uint8_t *response,
+                      size_t response_len) {
     char lines[2 * LINE_BYTES];
     if (len == 0 || response_len == 0)
         return;

@@ -15,7 +15,8 @@ struct capture {
 void capture_begin(struct capture *capture, const char *path);
 
 /* Records a command and its response, in one write. Of no bytes nothing is recorded. */
-void capture_exchange(struct capture *capture, const uint8_t *command, size_t len, const uint8_t *response, size_t response_len);
+void capture_exchange(struct capture *capture, const uint8_t *command, size_t len, const uint8_t *response,
+                      size_t response_len);
 
 void capture_end(struct capture *capture);
 

@@ -10,6 +10,7 @@
 #define FOR_PARAMETER_3 (TPM_RC_P + TPM_RC_3)
 
 /* Permanent handles beside those of the device (Part 2, 7.4). */
+#define RH_LOCKOUT ((uint32_t)0x4000000A)
 #define RH_ENDORSEMENT ((uint32_t)0x4000000B)
 #define RH_PLATFORM ((uint32_t)0x4000000C)
 #define RH_PLATFORM_NV ((uint32_t)0x4000000D)
@@ -88,8 +89,8 @@ static void add(struct entries *list, uint32_t tag, uint32_t value) {
     list->at[at] = (struct entry){tag, value};
 }
 
-/* TPMA_CC (Part 2, 8.9): the command's number, whether it writes NV memory or much of the state, and how many handles it and its
- * response have. */
+/* TPMA_CC (Part 2, 8.9): the command's number, whether it writes NV memory or much of the state, and how many handles
+ * it and its response have. */
 #define CC_NV ((uint32_t)1 << 22)
 #define CC_EXTENSIVE ((uint32_t)1 << 23)
 #define CC_HANDLES(n) ((uint32_t)(n) << 25)
@@ -204,8 +205,8 @@ static void list_properties(struct entries *list, const struct machine *machine)
     add(list, 0x20B, COUNTER_SLOTS - counters);
 }
 
-/* The handles of a type, which is the first byte of the property (Part 2, 7.2), and whether there is such a type. A session that was
- * saved is listed as saved, as tools expect it, though it stays loaded in the device. */
+/* The handles of a type, which is the first byte of the property (Part 2, 7.2), and whether there is such a type. A
+ * session that was saved is listed as saved, as tools expect it, though it stays loaded in the device. */
 static bool list_handles(struct entries *list, const struct record *record, uint32_t type) {
     switch (type) {
     case 0x00:
@@ -236,8 +237,16 @@ static bool list_handles(struct entries *list, const struct record *record, uint
     return true;
 }
 
+/* TPMS_TAGGED_PCR_SELECT: which registers are extended, and which are reset, from locality 0; the value is a selection of
+ * three bytes behind its size. */
+static void list_register_properties(struct entries *list) {
+    add(list, 1, 0x03FFFF81);
+    add(list, 2, 0x03000081);
+}
+
 /* A TPML of the entries from this tag on, at most so many, behind TPMI_YES_NO moreData and the capability. */
-static void reply_entries(struct reply *reply, const struct entries *list, enum capability capability, uint32_t from, uint32_t most) {
+static void reply_entries(struct reply *reply, const struct entries *list, enum capability capability, uint32_t from,
+                          uint32_t most) {
     size_t first = 0;
     while (first < list->count && list->at[first].tag < from)
         first++;
@@ -267,17 +276,6 @@ static void reply_banks(struct reply *reply) {
     }
 }
 
-/* TPML_TAGGED_PCR_PROPERTY: which registers are extended, and which are reset, from locality 0. */
-static void reply_register_properties(struct reply *reply) {
-    reply8(reply, 0);
-    reply32(reply, CAP_PCR_PROPERTIES);
-    reply32(reply, 2);
-    reply32(reply, 1);
-    reply32(reply, 0x03FFFF81);
-    reply32(reply, 2);
-    reply32(reply, 0x03000081);
-}
-
 static void reply_none(struct reply *reply, enum capability capability) {
     reply8(reply, 0);
     reply32(reply, capability);
@@ -301,11 +299,11 @@ static uint32_t get_capability(struct machine *machine, const struct asked *aske
     case CAP_TPM_PROPERTIES:
         list_properties(&list, machine);
         break;
+    case CAP_PCR_PROPERTIES:
+        list_register_properties(&list);
+        break;
     case CAP_PCRS:
         reply_banks(reply);
-        return TPM_RC_SUCCESS;
-    case CAP_PCR_PROPERTIES:
-        reply_register_properties(reply);
         return TPM_RC_SUCCESS;
     case CAP_PP_COMMANDS:
     case CAP_AUDIT_COMMANDS:
@@ -330,8 +328,8 @@ static void seal_context(const struct machine *machine, const uint8_t *context, 
     hmac_sha256(machine->key, context, SAVED_BYTES - SHA256_BYTES, mac);
 }
 
-/* The session stays loaded in the device: what is saved names it, and is good for one load while the session lives. Of a session
- * that is saved already nothing is loaded that could be saved. */
+/* The session stays loaded in the device: what is saved names it, and is good for one load while the session lives. Of
+ * a session that is saved already nothing is loaded that could be saved. */
 static uint32_t context_save(struct machine *machine, const struct asked *asked, struct reply *reply) {
     struct session *session = record_session(&machine->record, asked->handle);
     uint8_t *context = reply->bytes + reply->len, mac[SHA256_BYTES], type = (uint8_t)(asked->handle >> 24);
@@ -397,7 +395,8 @@ static uint32_t stir_random(struct machine *machine, const struct asked *asked, 
     return code;
 }
 
-/* TPM2_Hash (Part 3, 15.4): the device hashes. No ticket says that the digest may be signed, since there are no keys. */
+/* TPM2_Hash (Part 3, 15.4): the device hashes. No ticket says that the digest may be signed, since there are
+ * no keys. */
 static uint32_t hash(struct machine *machine, const struct asked *asked, struct reply *reply) {
     uint32_t code = sized(asked, HASHED_BYTES);
     size_t len = number16(asked->parameters), left = asked->len - 2 - len;
@@ -413,7 +412,8 @@ static uint32_t hash(struct machine *machine, const struct asked *asked, struct 
     if (left < 6)
         return TPM_RC_INSUFFICIENT + FOR_PARAMETER_3;
     uint32_t hierarchy = number32(behind + 2);
-    if (hierarchy != TPM_RH_OWNER && hierarchy != RH_ENDORSEMENT && hierarchy != RH_PLATFORM && hierarchy != TPM_RH_NULL)
+    if (hierarchy != TPM_RH_OWNER && hierarchy != RH_ENDORSEMENT && hierarchy != RH_PLATFORM &&
+        hierarchy != TPM_RH_NULL)
         return TPM_RC_VALUE + FOR_PARAMETER_3;
     if (left > 6)
         return TPM_RC_SIZE;
@@ -467,13 +467,18 @@ static uint32_t test_parms(struct machine *machine, const struct asked *asked, s
 
 /* ---- the platform's hierarchy: there is none, so what firmware does to lock it is done */
 
+static uint32_t not_the_platform(uint32_t handle) {
+    bool is_hierarchy = handle == TPM_RH_OWNER || handle == RH_ENDORSEMENT || handle == RH_LOCKOUT;
+    return (is_hierarchy ? RC_HIERARCHY : TPM_RC_VALUE) + FOR_HANDLE_1;
+}
+
 /* TPM2_HierarchyChangeAuth (Part 3, 24.8): the owner's value is handed in when the program starts. */
 static uint32_t hierarchy_change_auth(struct machine *machine, const struct asked *asked, struct reply *reply) {
     uint32_t code = sized(asked, TPM_OWNER_BYTES);
     (void)machine;
     (void)reply;
     if (asked->handle != RH_PLATFORM)
-        return RC_HIERARCHY + FOR_HANDLE_1;
+        return not_the_platform(asked->handle);
     if (code == TPM_RC_SUCCESS && asked->len > 2 + (size_t)number16(asked->parameters))
         return TPM_RC_SIZE;
     return code;
@@ -486,8 +491,9 @@ static uint32_t hierarchy_control(struct machine *machine, const struct asked *a
     (void)machine;
     (void)reply;
     if (asked->handle != RH_PLATFORM)
-        return RC_HIERARCHY + FOR_HANDLE_1;
-    if (hierarchy != TPM_RH_OWNER && hierarchy != RH_ENDORSEMENT && hierarchy != RH_PLATFORM && hierarchy != RH_PLATFORM_NV)
+        return not_the_platform(asked->handle);
+    if (hierarchy != TPM_RH_OWNER && hierarchy != RH_ENDORSEMENT && hierarchy != RH_PLATFORM &&
+        hierarchy != RH_PLATFORM_NV)
         return TPM_RC_VALUE + FOR_PARAMETER_1;
     if (state > 1)
         return TPM_RC_VALUE + FOR_PARAMETER_2;
@@ -509,7 +515,8 @@ static uint64_t milliseconds_since(const struct timespec *then) {
     return (uint64_t)((int64_t)(now.tv_sec - then->tv_sec) * 1000 + (now.tv_nsec - then->tv_nsec) / 1000000);
 }
 
-/* TPM2_ReadClock (Part 3, 29.1): time since the power came on, and since this process began; so the clock is not safe. */
+/* TPM2_ReadClock (Part 3, 29.1): time since the power came on, and since this process began; so the clock is
+ * not safe. */
 static uint32_t read_clock(struct machine *machine, const struct asked *asked, struct reply *reply) {
     (void)asked;
     reply64(reply, milliseconds_since(&machine->powered_at));
@@ -522,27 +529,30 @@ static uint32_t read_clock(struct machine *machine, const struct asked *asked, s
 
 /* ---- the table: all that the host answers */
 
+/* What a command carries: sessions that audit, if any; none; or first the platform's password, where any will do. */
+enum by { ANYBODY, NO_SESSIONS, PLATFORM };
+
 static const struct answer {
     uint32_t command; /* as TPMA_CC */
-    bool by_platform; /* a password authorizes it, and any will do */
-    size_t least;     /* bytes of parameters */
+    enum by by;
+    size_t least; /* bytes of parameters */
     size_t most;
     uint32_t (*reply)(struct machine *, const struct asked *, struct reply *);
 } table[] = {
-    {0x121 | CC_NV | CC_EXTENSIVE | CC_HANDLES(1), true, 5, 5, hierarchy_control},
-    {0x129 | CC_NV | CC_HANDLES(1), true, 2, TPM_BUFFER_BYTES, hierarchy_change_auth},
-    {0x142 | CC_NV, false, 4, TPM_BUFFER_BYTES, incremental_self_test},
-    {0x143 | CC_NV, false, 1, 1, self_test},
-    {0x145 | CC_NV, false, 2, 2, shut_down},
-    {0x146 | CC_NV, false, 2, TPM_BUFFER_BYTES, stir_random},
-    {0x161 | CC_ANSWERS_HANDLE, false, 18, TPM_BUFFER_BYTES, context_load},
-    {0x162 | CC_HANDLES(1), false, 0, 0, context_save},
-    {0x17A, false, 12, 12, get_capability},
-    {0x17B, false, 2, 2, get_random},
-    {0x17C, false, 0, 0, get_test_result},
-    {0x17D, false, 2, TPM_BUFFER_BYTES, hash},
-    {0x181, false, 0, 0, read_clock},
-    {0x18A, false, 2, TPM_BUFFER_BYTES, test_parms},
+    {0x121 | CC_NV | CC_EXTENSIVE | CC_HANDLES(1), PLATFORM, 5, 5, hierarchy_control},
+    {0x129 | CC_NV | CC_HANDLES(1), PLATFORM, 2, TPM_BUFFER_BYTES, hierarchy_change_auth},
+    {0x142 | CC_NV, ANYBODY, 4, TPM_BUFFER_BYTES, incremental_self_test},
+    {0x143 | CC_NV, ANYBODY, 1, 1, self_test},
+    {0x145 | CC_NV, ANYBODY, 2, 2, shut_down},
+    {0x146 | CC_NV, ANYBODY, 2, TPM_BUFFER_BYTES, stir_random},
+    {0x161 | CC_ANSWERS_HANDLE, NO_SESSIONS, 18, TPM_BUFFER_BYTES, context_load},
+    {0x162 | CC_HANDLES(1), NO_SESSIONS, 0, 0, context_save},
+    {0x17A, ANYBODY, 12, 12, get_capability},
+    {0x17B, ANYBODY, 2, 2, get_random},
+    {0x17C, ANYBODY, 0, 0, get_test_result},
+    {0x17D, ANYBODY, 2, TPM_BUFFER_BYTES, hash},
+    {0x181, ANYBODY, 0, 0, read_clock},
+    {0x18A, ANYBODY, 2, TPM_BUFFER_BYTES, test_parms},
 };
 
 static uint32_t host_command(size_t number) {
@@ -562,67 +572,92 @@ static const struct answer *answer_to(uint32_t code) {
 
 /* ---- a command, from its tag to its parameters */
 
-/* The handle, where the command has one; how many bytes it has. */
-static size_t take_handle(const struct answer *answer, const uint8_t *command, struct asked *asked) {
-    if (!(answer->command & CC_HANDLES(1)))
-        return 0;
-    asked->handle = number32(command + 10);
-    return 4;
+/* A command that was cut: its answer in the table, its handle and parameters, and the sessions that it carries. */
+struct cut {
+    const struct answer *answer;
+    struct asked asked;
+    struct carried_area area;
+};
+
+static bool has_sessions(const uint8_t *command) {
+    return number16(command) == TPM_ST_SESSIONS;
 }
 
-/* One password session, TPMS_AUTH_COMMAND without a nonce; `taken` says how many bytes the authorization area has. */
-static uint32_t take_password(const uint8_t *area, size_t len, size_t *taken) {
-    size_t size = len < 4 ? 0 : number32(area);
-    if (size < 9 || size > len - 4)
-        return TPM_RC_AUTHSIZE;
-    if (number32(area + 4) != TPM_RS_PW)
-        return TPM_RC_AUTH_UNAVAILABLE;
-    if (number16(area + 8) != 0)
-        return TPM_RC_NONCE + TPM_RC_S + TPM_RC_1;
-    if (size != 9 + (size_t)number16(area + 11))
-        return TPM_RC_AUTHSIZE;
-    *taken = 4 + size;
-    return TPM_RC_SUCCESS;
+/* What an HMAC of the command is over. */
+static struct carried_text text_of(const struct cut *cut) {
+    uint32_t code = cut->answer->command & 0xffff;
+    return (struct carried_text){code, cut->asked.handle, cut->asked.parameters, cut->asked.len};
 }
 
-/* The checks before an answer are those of the device, in its order: started, handles, sessions, and the size of the parameters. */
-static uint32_t judged(struct machine *machine, const struct answer *answer, const uint8_t *command, size_t len, struct reply *reply) {
-    bool has_sessions = number16(command) == TPM_ST_SESSIONS;
-    struct asked asked = {0};
+static uint32_t cut_areas(struct cut *cut, const uint8_t *command, size_t len) {
     size_t at = 10, taken = 0;
+    uint32_t code = TPM_RC_SUCCESS;
+    if (cut->answer->command & CC_HANDLES(1)) {
+        if (len < 14)
+            return TPM_RC_INSUFFICIENT + FOR_HANDLE_1;
+        cut->asked.handle = number32(command + 10);
+        at = 14;
+    }
+    if (has_sessions(command))
+        code = carried_cut(command + at, len - at, &cut->area, &taken);
+    cut->asked.parameters = command + at + taken;
+    cut->asked.len = len - at - taken;
+    return code;
+}
+
+static uint32_t check_sessions(struct machine *machine, const struct cut *cut) {
+    const struct answer *answer = cut->answer;
+    struct carried_text text = text_of(cut);
+    if (cut->area.count == 0)
+        return answer->by == PLATFORM ? TPM_RC_AUTH_MISSING : TPM_RC_SUCCESS;
+    if (answer->by == NO_SESSIONS)
+        return TPM_RC_AUTH_CONTEXT;
+    return carried_check(machine, &cut->area, answer->by == PLATFORM, &text);
+}
+
+/* Which parameter is missing, from 0: those of four bytes stand before it, but a context is one of many fields. */
+static uint32_t missing(const struct cut *cut) {
+    return cut->answer->by == NO_SESSIONS ? 0 : (uint32_t)cut->asked.len / 4;
+}
+
+/* The checks before an answer are those of the device, in its order: started, handles, sessions, and the size of the
+ * parameters. */
+static uint32_t judged(struct machine *machine, struct cut *cut, const uint8_t *command, size_t len,
+                       struct reply *reply) {
     if (!machine->record.started)
         return TPM_RC_INITIALIZE;
-    if ((answer->command & CC_HANDLES(1)) && len < 14)
-        return TPM_RC_INSUFFICIENT + FOR_HANDLE_1;
-    at += take_handle(answer, command, &asked);
-    if (has_sessions != answer->by_platform)
-        return has_sessions ? TPM_RC_AUTH_CONTEXT : TPM_RC_AUTH_MISSING;
-    uint32_t code = has_sessions ? take_password(command + at, len - at, &taken) : TPM_RC_SUCCESS;
+    uint32_t code = cut_areas(cut, command, len);
+    if (code == TPM_RC_SUCCESS)
+        code = check_sessions(machine, cut);
     if (code != TPM_RC_SUCCESS)
         return code;
-    asked.parameters = command + at + taken;
-    asked.len = len - at - taken;
-    if (asked.len < answer->least)
-        return TPM_RC_INSUFFICIENT + FOR_PARAMETER_1;
-    if (asked.len > answer->most)
+    if (cut->asked.len < cut->answer->least)
+        return TPM_RC_INSUFFICIENT + FOR_PARAMETER_1 + TPM_RC_1 * missing(cut);
+    if (cut->asked.len > cut->answer->most)
         return TPM_RC_SIZE;
-    return answer->reply(machine, &asked, reply);
+    return cut->answer->reply(machine, &cut->asked, reply);
 }
 
-/* Answers a command of the table; a password is answered by the session that ends all of them: no nonce, continueSession, no HMAC. */
-static size_t answer_by(struct machine *machine, const struct answer *answer, const uint8_t *command, size_t len, uint8_t *response) {
-    static const uint8_t password[5] = {0, 0, 1, 0, 0};
-    bool has_sessions = number16(command) == TPM_ST_SESSIONS;
-    struct reply reply = {response, has_sessions ? 14 : 10};
-    uint32_t code = judged(machine, answer, command, len, &reply);
+/* The size of the parameters stands before them, and behind them are the sessions. */
+static void add_sessions(struct machine *machine, const struct cut *cut, struct reply *reply) {
+    struct carried_text text = text_of(cut);
+    text.parameters = reply->bytes + 14;
+    text.len = reply->len - 14;
+    put16(reply->bytes, TPM_ST_SESSIONS);
+    put32(reply->bytes + 10, (uint32_t)text.len);
+    reply->len += carried_answer(machine, &cut->area, &text, reply->bytes + reply->len);
+}
+
+static size_t answer_by(struct machine *machine, const struct answer *answer, const uint8_t *command, size_t len,
+                        uint8_t *response) {
+    struct cut cut = {.answer = answer};
+    struct reply reply = {response, has_sessions(command) ? 14 : 10};
+    uint32_t code = judged(machine, &cut, command, len, &reply);
     if (code != TPM_RC_SUCCESS)
         return code_alone(response, code);
     code_alone(response, TPM_RC_SUCCESS);
-    if (has_sessions) {
-        put16(response, TPM_ST_SESSIONS);
-        put32(response + 10, (uint32_t)(reply.len - 14));
-        reply_bytes(&reply, password, sizeof password);
-    }
+    if (has_sessions(command))
+        add_sessions(machine, &cut, &reply);
     put32(response + 2, (uint32_t)reply.len);
     return reply.len;
 }

@@ -26,8 +26,8 @@ struct link {
     uint8_t answer[LONGEST_ANSWER];
 };
 
-/* Takes the message at the beginning of what is held, if a whole one is there, and puts its answer where it is written from. It
- * answers how many bytes were taken: none where more are wanted. */
+/* Takes the message at the beginning of what is held, if a whole one is there, and puts its answer where it is written
+ * from. It answers how many bytes were taken: none where more are wanted. */
 size_t link_take(struct server *server, struct link *link);
 
 /* Closes the descriptor that came with a message, where there is one. */

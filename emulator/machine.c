@@ -32,7 +32,7 @@ void machine_power_off(struct machine *machine) {
     record_power_cycle(&machine->record);
 }
 
-static size_t digest_bytes(uint16_t algorithm) {
+size_t digest_bytes(uint16_t algorithm) {
     return algorithm == TPM_ALG_SHA1 ? 20 : algorithm == TPM_ALG_SHA256 ? 32 : algorithm == TPM_ALG_SHA384 ? 48 : 0;
 }
 
@@ -44,8 +44,10 @@ size_t code_alone(uint8_t *response, uint32_t code) {
 }
 
 /* TPM2_PCR_Event of TPM_RH_NULL (Part 3, 22.3) extends nothing, and answers a TPML_DIGEST_VALUES. */
-size_t machine_hash(struct machine *machine, uint16_t algorithm, const uint8_t *bytes, size_t len, uint8_t digest[TPM_POLICY_BYTES]) {
-    uint8_t command[29 + HASHED_BYTES] = {0x80, 2, 0, 0, 0, 0, 0, 0, 1, 0x3C, 0x40, 0, 0, 7, 0, 0, 0, 9, 0x40, 0, 0, 9, 0, 0, 1};
+size_t machine_hash(struct machine *machine, uint16_t algorithm, const uint8_t *bytes, size_t len,
+                    uint8_t digest[TPM_POLICY_BYTES]) {
+    uint8_t command[29 + HASHED_BYTES] = {0x80, 2, 0, 0, 0, 0,    0, 0, 1, 0x3C, 0x40, 0, 0,
+                                          7,    0, 0, 0, 9, 0x40, 0, 0, 9, 0,    0,    1};
     uint8_t nonce[TPM_NONCE_BYTES], response[TPM_BUFFER_BYTES];
     put32(command + 2, (uint32_t)(29 + len));
     put16(command + 27, (uint16_t)len);
@@ -77,6 +79,7 @@ static size_t witnesses(const struct record *record) {
 /* Takes note of an accepted command. What it did to counters is in the file before anybody is told. */
 static void keep(struct machine *machine, const uint8_t *command, size_t len, const uint8_t *response, size_t count) {
     size_t before = witnesses(&machine->record);
+    carried_see(machine, command, len, response, count);
     if (!record_accepted(&machine->record, command, len, response, count) || !machine->state)
         return;
     state_compare(&machine->making, &machine->record);
@@ -85,9 +88,24 @@ static void keep(struct machine *machine, const uint8_t *command, size_t len, co
     state_write(machine->state, &machine->record);
 }
 
-/* The device has locality 0 alone. */
-static size_t answered(struct machine *machine, uint8_t locality, const uint8_t *command, size_t len, uint8_t *response) {
+static size_t executed(struct machine *machine, const uint8_t *command, size_t len, uint8_t *response) {
     uint8_t nonce[TPM_NONCE_BYTES];
+    random_bytes(nonce, sizeof nonce);
+    size_t count = tpm_device_execute(machine->making.device, command, len, nonce, response, TPM_BUFFER_BYTES);
+    if (number32(response + 6) == TPM_RC_SUCCESS)
+        keep(machine, command, len, response, count);
+    return count;
+}
+
+void machine_flush(struct machine *machine, uint32_t session) {
+    uint8_t command[14] = {0x80, 1, 0, 0, 0, 14, 0, 0, 1, 0x65}, response[TPM_BUFFER_BYTES];
+    put32(command + 10, session);
+    executed(machine, command, sizeof command, response);
+}
+
+/* The device has locality 0 alone. */
+static size_t answered(struct machine *machine, uint8_t locality, const uint8_t *command, size_t len,
+                       uint8_t *response) {
     if (!machine->powered)
         return code_alone(response, RC_FAILURE);
     if (locality != 0)
@@ -97,14 +115,11 @@ static size_t answered(struct machine *machine, uint8_t locality, const uint8_t 
         return count;
     if (record_cannot_keep(&machine->record, command, len))
         return code_alone(response, RC_NV_UNAVAILABLE);
-    random_bytes(nonce, sizeof nonce);
-    count = tpm_device_execute(machine->making.device, command, len, nonce, response, TPM_BUFFER_BYTES);
-    if (number32(response + 6) == TPM_RC_SUCCESS)
-        keep(machine, command, len, response, count);
-    return count;
+    return executed(machine, command, len, response);
 }
 
-size_t machine_answer(struct machine *machine, uint8_t locality, const uint8_t *command, size_t len, uint8_t *response) {
+size_t machine_answer(struct machine *machine, uint8_t locality, const uint8_t *command, size_t len,
+                      uint8_t *response) {
     size_t count = answered(machine, locality, command, len, response);
     if (machine->capture)
         capture_exchange(machine->capture, command, len, response, count);

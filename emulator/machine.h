@@ -3,6 +3,7 @@
 #define EMULATOR_MACHINE_H
 
 #include "capture.h"
+#include "carried.h"
 #include "record.h"
 #include "sha256.h"
 #include "state.h"
@@ -21,7 +22,8 @@ struct machine {
     struct timespec began_at;
     uint32_t power_cycles;
     uint64_t saves;
-    uint8_t key[SHA256_BYTES]; /* seals saved sessions */
+    struct session_key keys[SESSION_SLOTS]; /* by their slots */
+    uint8_t key[SHA256_BYTES];              /* seals saved sessions */
 };
 
 /* Switches a machine on whose device was made, and whose record and words are set. */
@@ -30,16 +32,23 @@ void machine_begin(struct machine *machine);
 void machine_power_on(struct machine *machine);
 void machine_power_off(struct machine *machine);
 
-/* Answers these bytes, whatever they are, with those of a response, at most TPM_BUFFER_BYTES, and says how many they are. Counters
- * that the command changed are in the state file when it returns, and both frames in the record. Without power it is FAILURE, and
- * from another locality than 0 LOCALITY. */
+/* Answers these bytes, whatever they are, with those of a response, at most TPM_BUFFER_BYTES, and says how many they
+ * are. Counters that the command changed are in the state file when it returns, and both frames in the record. Without
+ * power it is FAILURE, and from another locality than 0 LOCALITY. */
 size_t machine_answer(struct machine *machine, uint8_t locality, const uint8_t *command, size_t len, uint8_t *response);
 
 /* How many bytes are hashed at most. */
 #define HASHED_BYTES 1024
 
 /* The digest of at most HASHED_BYTES, which the device makes: so many bytes, or 0 where it has no bank of this hash. */
-size_t machine_hash(struct machine *machine, uint16_t algorithm, const uint8_t *bytes, size_t len, uint8_t digest[TPM_POLICY_BYTES]);
+size_t machine_hash(struct machine *machine, uint16_t algorithm, const uint8_t *bytes, size_t len,
+                    uint8_t digest[TPM_POLICY_BYTES]);
+
+/* How many bytes a digest has; 0 for a hash that the device has no bank of. */
+size_t digest_bytes(uint16_t algorithm);
+
+/* Ends a session that the device has loaded. */
+void machine_flush(struct machine *machine, uint32_t session);
 
 /* A response with this code alone. */
 size_t code_alone(uint8_t *response, uint32_t code);

@@ -137,8 +137,8 @@ static bool take_word(struct words *words, const char *word) {
 static void judge_ports(const struct words *words) {
     int apart = (int)words->mssim - (int)words->swtpm;
     if (words->mssim && words->swtpm && apart >= -1 && apart <= 1)
-        fail(STATUS_USAGE, "--mssim %u takes ports %u and %u, and --swtpm %u takes %u and %u: they collide", words->mssim,
-             words->mssim, words->mssim + 1u, words->swtpm, words->swtpm, words->swtpm + 1u);
+        fail(STATUS_USAGE, "--mssim %u takes ports %u and %u, and --swtpm %u takes %u and %u: they collide",
+             words->mssim, words->mssim, words->mssim + 1u, words->swtpm, words->swtpm, words->swtpm + 1u);
 }
 
 static void judge_words(const struct words *words) {

@@ -1,5 +1,5 @@
-/* The protocols: what a message is, and what is answered to it. The numbers are those of the reference simulator's TpmTcpProtocol.h
- * and of swtpm's tpm_ioctl.h. */
+/* The protocols: what a message is, and what is answered to it. The numbers are those of the reference simulator's
+ * TpmTcpProtocol.h and of swtpm's tpm_ioctl.h. */
 #include "fault.h"
 #include "host.h"
 #include "link.h"
@@ -112,7 +112,8 @@ static size_t take_sim_signal(struct server *server, struct link *link) {
 
 /* ---- plain frames: swtpm's data port, QEMU's descriptor, and standard input */
 
-/* The framer takes the bytes up to the end of a frame. Behind the first bytes of what can't be a frame nothing can be read. */
+/* The framer takes the bytes up to the end of a frame. Behind the first bytes of what can't be a frame nothing can be
+ * read. */
 static size_t take_frame(struct server *server, struct link *link) {
     uint8_t frame[TPM_BUFFER_BYTES];
     uint32_t status;
@@ -146,8 +147,8 @@ static size_t take_frame(struct server *server, struct link *link) {
 #define CAN_SET_BUFFERSIZE ((uint32_t)1 << 13)
 
 static void control_capabilities(struct server *server, struct link *link) {
-    uint32_t can = CAN_INIT | CAN_SHUTDOWN | CAN_GET_ESTABLISHED | CAN_SET_LOCALITY | CAN_CANCEL | CAN_RESET_ESTABLISHED | CAN_STOP |
-                   CAN_GET_CONFIG | CAN_SET_BUFFERSIZE;
+    uint32_t can = CAN_INIT | CAN_SHUTDOWN | CAN_GET_ESTABLISHED | CAN_SET_LOCALITY | CAN_CANCEL |
+                   CAN_RESET_ESTABLISHED | CAN_STOP | CAN_GET_CONFIG | CAN_SET_BUFFERSIZE;
     (void)server;
     owe32(link, CONTROL_DONE);
     owe32(link, link->protocol == QEMU_CONTROL ? can | CAN_SET_DATAFD : can);
@@ -250,15 +251,16 @@ static const struct control *control_of(const struct link *link) {
     return NULL;
 }
 
-/* A locality is a byte, and some write the three zeros behind it that fill a word of C. The next message begins with zeros, too; but
- * its fourth byte is none. */
+/* A locality is a byte, and some write the three zeros behind it that fill a word of C. The next message begins with
+ * zeros, too; but its fourth byte is none. */
 static bool is_filled(const struct link *link) {
     static const uint8_t zeros[3];
-    return link->held >= 8 && memcmp(link->bytes + 5, zeros, sizeof zeros) == 0 && (link->held == 8 || link->bytes[8] == 0);
+    return link->held >= 8 && memcmp(link->bytes + 5, zeros, sizeof zeros) == 0 &&
+           (link->held == 8 || link->bytes[8] == 0);
 }
 
-/* A message that is none of the table, or of QEMU's channel less than one, since there each is written at once. What was read with it
- * belongs to it, and the connection stays. */
+/* A message that is none of the table, or of QEMU's channel less than one, since there each is written at once. What
+ * was read with it belongs to it, and the connection stays. */
 static size_t refuse_control(struct link *link) {
     owe32(link, CONTROL_BAD_NUMBER);
     return link->held;

@@ -101,13 +101,15 @@ void server_listen_unix(struct server *server, const char *path) {
     struct sockaddr_un place = {.sun_family = AF_UNIX};
     int descriptor = socket(AF_UNIX, SOCK_STREAM, 0);
     if (strlen(path) >= sizeof place.sun_path)
-        fail(STATUS_USAGE, "%s is too long for a Unix socket, whose name has at most %zu bytes", path, sizeof place.sun_path - 1);
+        fail(STATUS_USAGE, "%s is too long for a Unix socket, whose name has at most %zu bytes", path,
+             sizeof place.sun_path - 1);
     memcpy(place.sun_path, path, strlen(path));
     if (is_left(&place))
         unlink(path);
     /* Whoever reaches it has the whole TPM: its owner alone. */
     mode_t mask = umask(0177);
-    if (descriptor < 0 || bind(descriptor, (struct sockaddr *)&place, sizeof place) != 0 || listen(descriptor, SOMAXCONN) != 0)
+    if (descriptor < 0 || bind(descriptor, (struct sockaddr *)&place, sizeof place) != 0 ||
+        listen(descriptor, SOMAXCONN) != 0)
         fail(STATUS_FAULT, "%s: %s", path, strerror(errno));
     umask(mask);
     no_wait(descriptor);
@@ -180,8 +182,9 @@ static void make_room(struct server *server) {
         remove_link(server, quiet);
 }
 
-/* An acknowledgement that waits makes those wait who write a message in two parts, as tcti-mssim does: 40 milliseconds a command.
- * Linux forgets after a while that it was asked to send them at once, so it is asked again after each read. */
+/* An acknowledgement that waits makes those wait who write a message in two parts, as tcti-mssim does: 40 milliseconds
+ * a command. Linux forgets after a while that it was asked to send them at once, so it is asked again after
+ * each read. */
 static void acknowledge(int descriptor) {
 #ifdef TCP_QUICKACK
     int yes = 1;
@@ -192,7 +195,8 @@ static void acknowledge(int descriptor) {
 }
 
 static bool is_tcp(enum protocol protocol) {
-    return protocol == MSSIM_COMMANDS || protocol == MSSIM_PLATFORM || protocol == SWTPM_DATA || protocol == SWTPM_CONTROL;
+    return protocol == MSSIM_COMMANDS || protocol == MSSIM_PLATFORM || protocol == SWTPM_DATA ||
+           protocol == SWTPM_CONTROL;
 }
 
 static void take_connections(struct server *server, const struct listener *listener) {
@@ -246,8 +250,8 @@ static void take_messages(struct server *server, struct link *link) {
     }
 }
 
-/* The descriptors that came with a message: the first is kept, and the others are closed. More than there is room for the system
- * has closed already, and says so. */
+/* The descriptors that came with a message: the first is kept, and the others are closed. More than there is room for
+ * the system has closed already, and says so. */
 static void take_given(struct link *link, struct msghdr *message) {
     if (message->msg_flags & MSG_CTRUNC)
         link->given_count += 2;

@@ -1,5 +1,5 @@
-/* Connections, and the protocols that TPM software speaks over them. One process serves all of them in turns; nobody waits for
- * anybody's bytes. */
+/* Connections, and the protocols that TPM software speaks over them. One process serves all of them in turns; nobody
+ * waits for anybody's bytes. */
 #ifndef EMULATOR_SERVER_H
 #define EMULATOR_SERVER_H
 
@@ -45,7 +45,8 @@ void server_init(struct server *server, struct machine *machine);
 /* Listens at this port of this address (IPv4, as digits). The program ends where it can't. */
 void server_listen(struct server *server, const char *address, uint16_t port, enum protocol protocol);
 
-/* Listens at a Unix socket, which is made and is removed at the end. One that nobody listens at any more is taken over. */
+/* Listens at a Unix socket, which is made and is removed at the end. One that nobody listens at any more is
+ * taken over. */
 void server_listen_unix(struct server *server, const char *path);
 
 /* Serves frames over this descriptor, which takes the place of the one before it. */
@@ -54,7 +55,8 @@ void server_set_data(struct server *server, int descriptor);
 /* Serves standard input and output. */
 void server_stream(struct server *server);
 
-/* Serves until SIGTERM or SIGINT comes, the control channel says so, or the stream ends. The answer is the program's status. */
+/* Serves until SIGTERM or SIGINT comes, the control channel says so, or the stream ends. The answer is the program's
+ * status. */
 int server_run(struct server *server);
 
 #endif
