@@ -95,10 +95,23 @@ END
     bash "$room/complete" "$installed/share/bash-completion/completions/tpmtool" "$room/offered" | diff "$room/wanted" -
 }
 
-# page: man formats the page and complains of nothing.
+# page NAME: man formats the page and complains of nothing.
 page() {
-    MANWIDTH=80 man --warnings -E UTF-8 -l "$installed/share/man/man1/tpmtool.1" >"$room/page.text" 2>"$room/page.err" && [ ! -s "$room/page.err" ] &&
+    MANWIDTH=80 man --warnings -E UTF-8 -l "$installed/share/man/man1/$1.1" >"$room/page.text" 2>"$room/page.err" && [ ! -s "$room/page.err" ] &&
         grep -q 'EXIT STATUS' "$room/page.text"
+}
+
+# emulated: the installed emulator runs outside of the sources, and its page has its words.
+emulated() {
+    version=$(awk '$2 == "VINJAKWE_VERSION" { gsub(/"/, ""); print $3 }' "$installed/include/vinjakwe.h")
+    grep -q "\"vinjakwe $version\"" "$installed/share/man/man1/vinjakwe-emulator.1" || return 1
+    (cd "$elsewhere" && [ "$("$installed/bin/vinjakwe-emulator" --version)" = "vinjakwe-emulator $version" ] &&
+        printf '\200\001\000\000\000\014\000\000\001\104\000\000' | "$installed/bin/vinjakwe-emulator" --stdio --state kept | od -An -tx1 |
+        grep -q ' 80 01 00 00 00 0a 00 00 00 00' && [ -s kept ]) || return 1
+    sed 's/\\-/-/g' "$installed/share/man/man1/vinjakwe-emulator.1" >"$room/page"
+    "$installed/bin/vinjakwe-emulator" --help | grep -o -e '--[a-z-]*' | sort -u | while read -r word; do
+        grep -q -e "$word" "$room/page" || { echo "the page lacks $word" && exit 1; }
+    done
 }
 
 # again: installed below another root, nothing of which stands in a file, and twice, with a file of someone else's beside it.
@@ -137,7 +150,11 @@ else
         wants_program nm "the names of the shared library" && works "the names of the shared library" exported
         [ "$(uname -s) $(uname -m)" = "Linux x86_64" ] && works "a C program over the installed archive without a C library" freestanding_linked
     fi
-    wants_program man "the page of the program" && works "the page of the program" page
+    if [ -x "$installed/bin/vinjakwe-emulator" ]; then
+        works "the installed emulator" emulated
+        wants_program man "the page of the emulator" && works "the page of the emulator" page vinjakwe-emulator
+    fi
+    wants_program man "the page of the program" && works "the page of the program" page tpmtool
     wants_program bash "the words that bash completes" && works "the words that bash completes" completed
     wants_program zsh "the completions for zsh are read" && works "the completions for zsh are read" zsh -n "$installed/share/zsh/site-functions/_tpmtool"
     wants_program fish "the completions for fish are read" && works "the completions for fish are read" fish -n "$installed/share/fish/vendor_completions.d/tpmtool.fish"
