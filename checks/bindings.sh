@@ -1,14 +1,20 @@
-# The bindings for Python, Go and Rust over what ./install installs: one table of questions, answered by each as by the C programs
-# and by tpmtool. A question is a line:
+#!/bin/sh
+# The bindings for Python, Go and Rust over what ./install installs: one table of questions, answered by each as by the
+# C programs and by tpmtool. A question is a line:
 #
 #     command HEX, reply NAME HEX, build NAME HANDLES SESSIONS PARAMETERS      as examples/view.c
-#     log FILE, pieces FILE                                                   `tpmtool check FILE`, whole and from a reader
-#     events FILE                                                             as examples/events.c, which checks/c.sh compares
-#     quote FILE HEX HASH                                                     as examples/log.c
-#     attest LOG HEX NONCE REQUIRE HASH                                       a quote as it was signed
-#     frames SIZE HEX                                                         a stream in pieces of so many bytes
-#     device OWNER, execute HEX, power                                        a script, by its nonces
-#     zeros SIZE HEX                                                          as command and as log: HEX, and zeros up to this size
+#     log FILE, pieces FILE                               `tpmtool check FILE`, whole and from a reader
+#     events FILE                                         as examples/events.c, which checks/c.sh compares
+#     quote FILE HEX HASH                                 as examples/log.c
+#     attest LOG HEX NONCE REQUIRE HASH                   a quote as it was signed
+#     frames SIZE HEX                                     a stream in pieces of so many bytes
+#     device OWNER, execute HEX, power                    a script, by its nonces
+#     zeros SIZE HEX                                      as command and as log: HEX, and zeros up to this size
+
+. "$(dirname "$0")/shared.sh"
+. checks/tables.sh
+want_program
+find_compiler
 
 prefix=$room/prefix
 table=$room/table
@@ -21,25 +27,12 @@ GOFLAGS=-mod=mod
 GOCACHE=$room/go
 GODEBUG=cgocheck=1
 
-compiler=
-for word in "${CC:-cc}" gcc clang; do
-    if command -v "$word" >/dev/null 2>&1; then
-        compiler=$word
-        break
-    fi
-done
 
 # in_place WORD..: runs the words with the installed library, wherever that is.
 in_place() {
-    env LD_LIBRARY_PATH="$LD_LIBRARY_PATH" PKG_CONFIG_PATH="$PKG_CONFIG_PATH" PYTHONPATH="$PYTHONPATH" CARGO_TARGET_DIR="$CARGO_TARGET_DIR" \
+    env LD_LIBRARY_PATH="$LD_LIBRARY_PATH" PKG_CONFIG_PATH="$PKG_CONFIG_PATH" PYTHONPATH="$PYTHONPATH" \
+        CARGO_TARGET_DIR="$CARGO_TARGET_DIR" \
         PYTHONDONTWRITEBYTECODE=yes GOFLAGS="$GOFLAGS" GOCACHE="$GOCACHE" GODEBUG="$GODEBUG" CGO_LDFLAGS_ALLOW='.*' "$@"
-}
-
-# agrees NAME WORD..: the check NAME passes where the words succeed.
-agrees() {
-    name=$1
-    shift
-    if "$@" >"$room/said" 2>&1; then pass "$name"; else fail "$name" "$(head -n 5 "$room/said")"; fi
 }
 
 # selection WORD: the TPML_PCR_SELECTION of `sha256:0,7+sha1:1`.
@@ -59,7 +52,8 @@ selection() {
         }'
 }
 
-# ask_quotes: of each quote in checks/quotes what is right of it, and what is wrong where a word is another, with the answers.
+# ask_quotes: of each quote in checks/quotes what is right of it, and what is wrong where a word is another, with the
+# answers.
 ask_quotes() {
     while read -r quote log hash nonce selected; do
         bytes=$(xxd -p "checks/quotes/$quote.msg" | tr -d '\n')
@@ -79,8 +73,8 @@ ask_quotes() {
         # No log extends the registers that this quote selects, so that each gives its digest.
         other='digest differs'
         [ "$quote" != not-measured ] || other=matches
-        printf '%s\n' matches matches 'nonce differs' 'nonce differs' 'lacks sha384 9' 'requirement refused' 'refused 084 at 0' \
-            "$other" 'log Truncated at 211' >>"$table.wanted"
+        printf '%s\n' matches matches 'nonce differs' 'nonce differs' 'lacks sha384 9' \
+            'requirement refused' 'refused 084 at 0' "$other" 'log Truncated at 211' >>"$table.wanted"
     done <checks/quotes/cases.txt
 }
 
@@ -176,16 +170,30 @@ answers_changed() {
     cmp "$room/changed.wanted" "$room/out"
 }
 
-# make_layout: of each structure of the header that the bindings write again its size and the places of its fields, and each number.
+# make_layout: of each structure of the header that the bindings write again its size and the places of its fields, and
+# each number.
 make_layout() {
     awk '
+        function size(name) { printf "printf(\"%s %%zu\\n\", sizeof(struct %s));\n", name, name }
+        function place(name, field) {
+            printf "printf(\"%s.%s %%zu\\n\", offsetof(struct %s, %s));\n", name, field, name, field
+        }
+        function number(name, value) { printf "printf(\"%s %%lu\\n\", (unsigned long)%s);\n", name, value }
         BEGIN { print "#include \"vinjakwe.h\"\n#include <stdio.h>\nint main(void) {" }
-        /^struct tpm_[a-z_]* \{/ && ($2 ~ /refusal|part|session|areas|attest|log_(place|digest|event)/) { name = $2; printf "printf(\"%s %%zu\\n\", sizeof(struct %s));\n", name, name; next }
+        /^struct tpm_[a-z_]* \{/ &&
+            ($2 ~ /refusal|part|session|areas|attest|policy|log_(place|digest|event)/) { name = $2; size(name); next }
         /^}/ { name = "" }
-        name { field = $NF; sub(/(\[.*)?;.*/, "", field); if ($0 ~ /;/) { $0 = $0; for (i = 1; i <= NF; i++) if ($i ~ /;/) { field = $i; break } sub(/(\[.*)?;.*/, "", field); printf "printf(\"%s.%s %%zu\\n\", offsetof(struct %s, %s));\n", name, field, name, field } }
-        /^#define TPM_(CC|RC)_/ && $2 !~ /^TPM_RC_([HPS1-7])$/ { printf "printf(\"%s %%lu\\n\", (unsigned long)%s);\n", $2, $2 }
-        /^#define TPM_(DONE|REFUSED|NO_ROOM|NO_COMMAND|EVENT|CALLER_OPENED|FRAMER_[A-Z]+|ATTEST_[A-Z_]+) / || /^#define TPM_ALG_SHA/ || /^#define TPM_(BUFFER|OWNER|NONCE|REGISTERS)_BYTES/ { printf "printf(\"%s %%lu\\n\", (unsigned long)%s);\n", $2, $2 }
-        /^#define TPM_LOG_/ { sub(/^TPM_LOG_/, "", $2); gsub(/_/, "", $2); printf "printf(\"TPM_LOG_%s %%lu\\n\", (unsigned long)%s);\n", $2, $3 }
+        name && /;/ {
+            for (i = 1; i <= NF; i++) if ($i ~ /;/) break
+            sub(/(\[.*)?;.*/, "", $i)
+            place(name, $i)
+        }
+        /^#define TPM_(CC|RC)_/ &&
+            $2 !~ /^TPM_RC_([HPS1-7])$/ { number($2, $2) }
+        /^#define TPM_(DONE|REFUSED|NO_ROOM|NO_COMMAND|EVENT|CALLER_OPENED|POLICY_NO_DIGEST) / ||
+            /^#define TPM_(FRAMER_[A-Z]+|ATTEST_[A-Z_]+) / || /^#define TPM_ALG_SHA/ ||
+            /^#define TPM_(BUFFER|OWNER|NONCE|REGISTERS)_BYTES/ { number($2, $2) }
+        /^#define TPM_LOG_/ { sub(/^TPM_LOG_/, "", $2); gsub(/_/, "", $2); number("TPM_LOG_" $2, $3) }
         END { print "return 0; }" }' include/vinjakwe.h >"$room/layout.c"
     "$compiler" -Iinclude -o "$room/c_layout" "$room/layout.c" && "$room/c_layout" | sort >"$room/layout"
 }
@@ -196,21 +204,25 @@ python_layout() {
 import ctypes
 import vinjakwe as v
 
-for it, name in ((v._Refusal, "refusal"), (v._Part, "part"), (v._CommandSession, "command_session"), (v._CommandAreas, "command_areas"),
-                 (v._ResponseSession, "response_session"), (v._ResponseAreas, "response_areas"), (v._LogPlace, "log_place"),
-                 (v._LogDigest, "log_digest"), (v._LogEvent, "log_event"), (v._Attest, "attest"), (v._AttestFault, "attest_fault")):
+for it, name in (
+    (v._Refusal, "refusal"), (v._Part, "part"), (v._CommandSession, "command_session"),
+    (v._CommandAreas, "command_areas"), (v._ResponseSession, "response_session"), (v._ResponseAreas, "response_areas"),
+    (v._LogPlace, "log_place"), (v._LogDigest, "log_digest"), (v._LogEvent, "log_event"), (v._Attest, "attest"),
+    (v._AttestFault, "attest_fault"), (v._Policy, "policy"),
+):
     print(f"tpm_{name} {ctypes.sizeof(it)}")
     for field, _ in it._fields_:
         print(f"tpm_{name}.{field} {getattr(it, field).offset}")
-for prefix, table in (("CC", v.COMMANDS), ("RC", v.CODES), ("ALG", {name.upper(): number for name, number in v.HASHES.items()})):
+hashes = {name.upper(): number for name, number in v.HASHES.items()}
+for prefix, table in (("CC", v.COMMANDS), ("RC", v.CODES), ("ALG", hashes)):
     for name, number in table.items():
         print(f"TPM_{prefix}_{name} {number}")
 for i, name in enumerate(v.LOG_FAULTS):
     print(f"TPM_LOG_{name.replace('_', '')} {i}")
 for name in ("BUFFER_BYTES", "OWNER_BYTES", "NONCE_BYTES", "REGISTERS_BYTES"):
     print(f"TPM_{name} {getattr(v, name)}")
-for name in ("DONE", "REFUSED", "NO_ROOM", "NO_COMMAND", "FRAMER_MORE", "FRAMER_READY", "FRAMER_BROKEN", "EVENT", "CALLER_OPENED",
-             "ATTEST_REFUSED", "ATTEST_NO_BANK", "ATTEST_REQUIREMENT"):
+for name in ("DONE", "REFUSED", "NO_ROOM", "NO_COMMAND", "FRAMER_MORE", "FRAMER_READY", "FRAMER_BROKEN", "EVENT",
+             "CALLER_OPENED", "ATTEST_REFUSED", "ATTEST_NO_BANK", "ATTEST_REQUIREMENT", "POLICY_NO_DIGEST"):
     print(f"TPM_{name} {getattr(v, '_' + name)}")
 for kind in v.Kind:
     print(f"TPM_ATTEST_{kind.name} {kind.value}")
@@ -247,11 +259,50 @@ with open("checks/logs/worked.log", "rb") as log:
     found = v.replay(log)
     assert v.replay(bytearray(open(log.name, "rb").read())) == found
 END
-    in_place env VINJAKWE_LIBRARY=/nowhere/none.so python3 -c 'import vinjakwe' 2>&1 | grep -q 'LibraryError: the library vinjakwe is not found' || return 1
+    in_place env VINJAKWE_LIBRARY=/nowhere/none.so python3 -c 'import vinjakwe' 2>&1 |
+        grep -q 'LibraryError: the library vinjakwe is not found' || return 1
     printf 'extern const char vinjakwe_version[];\nconst char vinjakwe_version[] = "9.0.0";\n' >"$room/other.c"
     "$compiler" -shared -fPIC -o "$room/other.so" "$room/other.c" || return 1
-    in_place env VINJAKWE_LIBRARY="$room/other.so" python3 -c 'import vinjakwe' 2>&1 | grep -q 'LibraryError: .* has version 9.0.0' || return 1
+    in_place env VINJAKWE_LIBRARY="$room/other.so" python3 -c 'import vinjakwe' 2>&1 |
+        grep -q 'LibraryError: .* has version 9.0.0' || return 1
     in_place python3 -m vinjakwe check checks/logs/worked.log | cmp - checks/logs/worked.registers
+}
+
+# python_tests, go_tests, rust_tests: what a user runs in the folder of a binding.
+python_tests() {
+    (cd bindings/python && in_place python3 -m unittest discover -s tests)
+}
+
+go_tests() {
+    (cd bindings/go && in_place go test ./...)
+}
+
+rust_tests() {
+    (cd bindings/rust && in_place cargo test --offline --locked --features alloc)
+}
+
+# python_typed: a checker of types finds nothing.
+python_typed() {
+    (cd bindings/python && mypy --strict --cache-dir="$room/mypy" vinjakwe)
+}
+
+# python_wheel: a wheel holds the library, runs without another install, and leaves nothing among the sources.
+python_wheel() {
+    before=$(find bindings/python | sort)
+    VINJAKWE_LIBRARY=$prefix/lib/libvinjakwe.so.0 "$1" -m pip wheel -q --no-build-isolation --no-deps -w "$room/wheel" \
+        bindings/python || return 1
+    [ "$(find bindings/python | sort)" = "$before" ] || return 1
+    mkdir "$room/unpacked" && "$1" -m zipfile -e "$room"/wheel/*.whl "$room/unpacked" || return 1
+    env -u VINJAKWE_LIBRARY -u LD_LIBRARY_PATH PYTHONPATH="$room/unpacked" "$1" -m vinjakwe check \
+        checks/logs/worked.log | cmp - checks/logs/worked.registers
+}
+
+# wheel_maker: a python3 that makes wheels without a network.
+wheel_maker() {
+    for maker in python3 /usr/bin/python3; do
+        "$maker" -c 'import pip, setuptools, wheel' 2>/dev/null && return
+    done
+    return 1
 }
 
 # same_said WORD..: `python -m vinjakwe` and tpmtool write the same and have the same status for these words.
@@ -264,7 +315,8 @@ same_said() {
     return 1
 }
 
-# python_program: each quote in checks/quotes beside its log, another and a broken one, with nonces, lists of registers and hashes.
+# python_program: each quote in checks/quotes beside its log, another and a broken one, with nonces, lists of registers
+# and hashes.
 python_program() {
     while read -r quote log hash nonce selected; do
         for log in "checks/quotes/$log" checks/logs/worked.log checks/logs/cut_by_a_byte.log; do
@@ -274,11 +326,12 @@ python_program() {
             done
         done
     done <checks/quotes/cases.txt
-    for list in "" all none sha256 sha256: sha256:none sha256:0, sha256:,0 sha256:0+ sha256:24 sha256:0x1 sha256:-1 sha256:all,0 SHA256:0 md5:0 ' sha256:0' \
-        'sha256:0 ' sha256:0:1 sha256:18446744073709551623; do
+    for list in "" all none sha256 sha256: sha256:none sha256:0, sha256:,0 sha256:0+ sha256:24 sha256:0x1 sha256:-1 \
+        sha256:all,0 SHA256:0 md5:0 ' sha256:0' 'sha256:0 ' sha256:0:1 sha256:18446744073709551623; do
         same_said check checks/logs/worked.log --attest checks/quotes/not-measured.msg --require "$list" || return 1
     done
-    same_said check checks/logs/worked.log --attest checks/logs/worked.log && same_said check checks/logs/worked.log --require sha256:0 \
+    same_said check checks/logs/worked.log --attest checks/logs/worked.log &&
+        same_said check checks/logs/worked.log --require sha256:0 \
         && same_said check checks/logs/worked.log --nonce 00 && same_said check checks/logs/worked.log --hash sha1
 }
 
@@ -294,8 +347,8 @@ go_names() {
     cat "$room/lacking" && ! [ -s "$room/lacking" ]
 }
 
-# rust_built: the crate is built without a warning, and so is the program that answers the table; its structures, made of the
-# header, lie as C lays them out, and its log faults are in the header's order.
+# rust_built: the crate is built without a warning, and so is the program that answers the table; its structures, made
+# of the header, lie as C lays them out, and its log faults are in the header's order.
 rust_built() {
     (cd bindings/rust && RUSTFLAGS='-D warnings' in_place cargo build --offline --release --locked --examples)
 }
@@ -315,7 +368,8 @@ example() {
     awk -v fence="^\`\`\`$2\$" '$0 ~ fence { inside = 1; next } /^```$/ { inside = 0 } inside' "$1"
 }
 
-# python_example, go_example, rust_example: the README's example as it stands there, from a log, a quote and a nonce to a verdict.
+# python_example, go_example, rust_example: the README's example as it stands there, from a log, a quote and a nonce to
+# a verdict.
 python_example() {
     example bindings/python/README.md python >"$room/example.py"
     [ "$(in_place python3 "$room/example.py" $one_quote)" = "$verdict" ]
@@ -323,15 +377,25 @@ python_example() {
 
 go_example() {
     mkdir -p "$room/example" && example bindings/go/README.md go >"$room/example/main.go"
-    printf 'module example\n\ngo 1.19\n\nrequire vinjakwe v0.1.0\n\nreplace vinjakwe => %s/bindings/go\n' "$PWD" >"$room/example/go.mod"
-    (cd "$room/example" && in_place go build -o "$room/go_example" .) && [ "$(in_place "$room/go_example" $one_quote)" = "$verdict" ]
+    printf 'module example\n\ngo 1.19\n\nrequire vinjakwe v0.1.0\n\nreplace vinjakwe => %s/bindings/go\n' "$PWD" \
+        >"$room/example/go.mod"
+    (cd "$room/example" && in_place go build -o "$room/go_example" .) &&
+        [ "$(in_place "$room/go_example" $one_quote)" = "$verdict" ]
 }
 
 rust_example() {
     mkdir -p "$room/example_rust/src" && example bindings/rust/README.md rust >"$room/example_rust/src/main.rs"
-    printf '[package]\nname = "example"\nversion = "0.0.0"\nedition = "2021"\n\n[dependencies]\nvinjakwe = { path = "%s/bindings/rust" }\n' "$PWD" \
-        >"$room/example_rust/Cargo.toml"
-    (cd "$room/example_rust" && in_place cargo build --offline) && [ "$(in_place "$room/rust/debug/example" $one_quote)" = "$verdict" ]
+    cat >"$room/example_rust/Cargo.toml" <<END
+[package]
+name = "example"
+version = "0.0.0"
+edition = "2021"
+
+[dependencies]
+vinjakwe = { path = "$PWD/bindings/rust" }
+END
+    (cd "$room/example_rust" && in_place cargo build --offline) &&
+        [ "$(in_place "$room/rust/debug/example" $one_quote)" = "$verdict" ]
 }
 
 one_quote="$PWD/checks/quotes/17-ovmf-secureboot.log $PWD/checks/quotes/ecc-sha256.msg c0ffee0000000000000000000000000000000000"
@@ -343,7 +407,8 @@ elif ! grep -q tpm_log_check_attest include/vinjakwe.h; then
     skip "the bindings" "the header has no quote as it was signed"
 elif ! ./install "$prefix" >"$room/said" 2>&1 || [ ! -e "$prefix/lib/libvinjakwe.so" ]; then
     fail "the bindings" "nothing is installed: $(tail -n 3 "$room/said")"
-elif ! "$compiler" -O2 -Iinclude -o "$room/c_view" examples/view.c "$prefix/lib/libvinjakwe.a" || ! "$compiler" -O2 -Iinclude -o "$room/c_log" examples/log.c "$prefix/lib/libvinjakwe.a" ||
+elif ! "$compiler" -O2 -Iinclude -o "$room/c_view" examples/view.c "$prefix/lib/libvinjakwe.a" ||
+    ! "$compiler" -O2 -Iinclude -o "$room/c_log" examples/log.c "$prefix/lib/libvinjakwe.a" ||
     ! "$compiler" -O2 -Iinclude -o "$room/c_events" examples/events.c "$prefix/lib/libvinjakwe.a" ||
     ! make_table || ! make_changed || ! make_layout; then
     fail "the bindings" "the table was not made"
@@ -351,50 +416,64 @@ else
     if ! command -v python3 >/dev/null 2>&1; then
         skip "the binding for Python" "there is no python3"
     else
-        agrees "Python has the header's numbers and places" python_layout
-        agrees "Python answers the table of $(wc -l <"$table" | tr -d ' ') questions" answers python3 bindings/python/table.py
-        agrees "Python answers a hundred thousand changed buffers" answers_changed python3 bindings/python/table.py
+        holds "Python has the header's numbers and places" python_layout
+        holds "Python answers the table of $(wc -l <"$table" | tr -d ' ') questions" answers \
+            python3 bindings/python/table.py
+        holds "Python answers a hundred thousand changed buffers" answers_changed python3 bindings/python/table.py
         sanitizer=$("$compiler" -print-file-name=libasan.so)
         if [ -e "$sanitizer" ]; then
-            agrees "Python answers them beside an address sanitizer" answers_changed env LD_PRELOAD="$sanitizer" ASAN_OPTIONS=detect_leaks=0 \
+            holds "Python answers them beside an address sanitizer" answers_changed env LD_PRELOAD="$sanitizer" ASAN_OPTIONS=detect_leaks=0 \
                 python3 bindings/python/table.py
         else
             skip "Python answers them beside an address sanitizer" "there is no libasan.so"
         fi
-        agrees "Python refuses what has no bytes, and other libraries" python_faults
-        agrees "Python prints of quotes what tpmtool prints" python_program
-        agrees "the example in Python" python_example
+        holds "Python refuses what has no bytes, and other libraries" python_faults
+        holds "Python prints of quotes what tpmtool prints" python_program
+        holds "the example in Python" python_example
+        holds "the tests of the package for Python" python_tests
+        if command -v mypy >/dev/null 2>&1; then
+            holds "Python's types" python_typed
+        else
+            skip "Python's types" "there is no mypy"
+        fi
+        if wheel_maker; then
+            holds "a wheel that holds the library" python_wheel "$maker"
+        else
+            skip "a wheel that holds the library" "there is no python3 with pip, setuptools and wheel"
+        fi
     fi
     if ! command -v go >/dev/null 2>&1 || ! command -v pkg-config >/dev/null 2>&1; then
         skip "the binding for Go" "there is no go or no pkg-config"
     elif ! go_built >"$room/said" 2>&1; then
         fail "the binding for Go" "$(head -n 5 "$room/said")"
     else
-        agrees "Go has the names of the header's codes" go_names
-        agrees "Go answers the table" answers "$room/go_table"
-        agrees "Go answers the table while its collector works, which clears what it frees" answers env \
+        holds "Go has the names of the header's codes" go_names
+        holds "Go answers the table" answers "$room/go_table"
+        holds "Go answers the table while its collector works, which clears what it frees" answers env \
             GODEBUG=cgocheck=1,clobberfree=1 GOGC=1 "$room/go_table"
-        agrees "Go answers a hundred thousand changed buffers" answers_changed "$room/go_table"
+        holds "Go answers a hundred thousand changed buffers" answers_changed "$room/go_table"
         if (cd bindings/go && in_place go build -asan -o "$room/go_asan" ./table) >"$room/said" 2>&1; then
-            agrees "Go answers them beside an address sanitizer" answers_changed env ASAN_OPTIONS=detect_leaks=0 "$room/go_asan"
+            holds "Go answers them beside an address sanitizer" answers_changed env ASAN_OPTIONS=detect_leaks=0 "$room/go_asan"
         else
             skip "Go answers them beside an address sanitizer" "$(head -n 1 "$room/said")"
         fi
-        agrees "the example in Go" go_example
+        holds "the example in Go" go_example
+        holds "the tests of the package for Go" go_tests
     fi
     if ! command -v cargo >/dev/null 2>&1; then
         skip "the binding for Rust" "there is no cargo"
     elif ! rust_built >"$room/said" 2>&1; then
         fail "the binding for Rust" "$(head -n 5 "$room/said")"
     else
-        agrees "Rust has the header's places" rust_layout
-        agrees "Rust answers the table" answers "$room/rust/release/examples/table" $(numbers)
-        agrees "Rust answers a hundred thousand changed buffers" answers_changed "$room/rust/release/examples/table" $(numbers)
+        holds "Rust has the header's places" rust_layout
+        holds "Rust answers the table" answers "$room/rust/release/examples/table" $(numbers)
+        holds "Rust answers a hundred thousand changed buffers" answers_changed "$room/rust/release/examples/table" $(numbers)
         if command -v valgrind >/dev/null 2>&1; then
-            agrees "Rust answers them under valgrind" answers_changed valgrind -q --error-exitcode=9 "$room/rust/release/examples/table" $(numbers)
+            holds "Rust answers them under valgrind" answers_changed valgrind -q --error-exitcode=9 "$room/rust/release/examples/table" $(numbers)
         else
             skip "Rust answers them under valgrind" "there is no valgrind"
         fi
-        agrees "the example in Rust" rust_example
+        holds "the example in Rust" rust_example
+        holds "the tests of the crate for Rust" rust_tests
     fi
 fi

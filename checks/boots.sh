@@ -1,3 +1,4 @@
+#!/bin/sh
 # Machines that boot: SeaBIOS, OVMF, shim, GRUB and Linux in QEMU, in emulation, with the emulator as their TPM, and the same boots
 # over swtpm. An initramfs that is made on the spot prints the kernel's registers and the firmware's log.
 #
@@ -9,6 +10,7 @@
 #     BOOTS_ONLY="WORD.." ./test   these boots alone: FIRMWARE-DEVICE, as the table below has them
 #     TABLE=FILE ./test            a row for each boot is written to this file, as docs/EMULATOR.md has it
 
+. "$(dirname "$0")/shared.sh"
 . checks/toolchain.sh
 archive=crates/tpm_c/out/llvm/libtpm_c.a
 [ -f "$archive" ] || archive=crates/tpm_c/out/libtpm_c.a

@@ -1,8 +1,13 @@
-# The library for C: the archive of crate tpm_c, built by both backends, with the header and the programs in examples/. What they
-# print is compared with `tpmtool run`, with the rows and the cases in the files beside this one, with the lists of checks/logs and
-# with what the program of crate tpm_examples writes of its session.
+#!/bin/sh
+# The library for C: the archive of crate tpm_c, built by both backends, with the header and the programs in examples/.
+# What they print is compared with `tpmtool run`, with the rows and the cases in the files beside this one, with the
+# lists of checks/logs and with what the program of crate tpm_examples writes of its session.
 
+. "$(dirname "$0")/shared.sh"
 . checks/toolchain.sh
+. checks/tables.sh
+want_program
+
 archive=crates/tpm_c/out/libtpm_c.a
 
 # built BACKEND: the archive by this backend, which is kept for ./install, too.
@@ -32,13 +37,6 @@ write_hundred() {
 # as_bytes: hexadecimal text on standard input as bytes.
 as_bytes() {
     xxd -r -p
-}
-
-# holds NAME WORD..: the check NAME passes where the words succeed.
-holds() {
-    name=$1
-    shift
-    if "$@" >"$room/said" 2>&1; then pass "$name"; else fail "$name" "$(head -n 3 "$room/said")"; fi
 }
 
 # hosted: the programs with the C library, over the archive.
@@ -76,7 +74,8 @@ view_line() {
     esac
 }
 
-# same_cases FILE: the cases of this file that checks/program.sh reads, where their text is hexadecimal, by the C program.
+# same_cases FILE: the cases of this file that checks/program.sh reads, where their text is hexadecimal, by the C
+# program.
 same_cases() {
     : >"$room/in"
     : >"$room/out.wanted"
@@ -108,7 +107,8 @@ CASES
 # other_answers: a room that is a byte too small, one that is not, and a command that there is not.
 other_answers() {
     echo 'build Startup - - 0000' >"$room/in"
-    [ "$("$room/view" room 11 <"$room/in")" = "no room" ] && [ "$("$room/view" room 12 <"$room/in")" = 80010000000c000001440000 ] || return 1
+    [ "$("$room/view" room 11 <"$room/in")" = "no room" ] &&
+        [ "$("$room/view" room 12 <"$room/in")" = 80010000000c000001440000 ] || return 1
     printf 'build GetRandom - - 0008\nreply GetRandom 80010000000a00000100\n' >"$room/in"
     [ "$("$room/view" <"$room/in" | sort -u)" = "no command" ]
 }
@@ -127,7 +127,8 @@ same_stream() {
     cmp "$room/out.stream" "$room/out.wanted.stream"
 }
 
-# same_logs WORD..: each log of checks/logs gives the registers of its list, or its fault, by the C program with these words.
+# same_logs WORD..: each log of checks/logs gives the registers of its list, or its fault, by the C program with these
+# words.
 same_logs() {
     for list in checks/logs/*.registers; do
         "$room/log" "$@" <"${list%.registers}.log" >"$room/out" && cmp "$room/out" "$list" || return 1
@@ -139,7 +140,8 @@ same_logs() {
     done <checks/logs/faults.txt
 }
 
-# long_log EVENTS: the log checks/logs/worked.log, with so many records of EV_IPL behind it, of 122 bytes each, in register 5.
+# long_log EVENTS: the log checks/logs/worked.log, with so many records of EV_IPL behind it, of 122 bytes each, in
+# register 5.
 long_log() {
     cat checks/logs/worked.log
     {
@@ -203,7 +205,8 @@ device_faults() {
     is_told 2 "device: the owner's value is no hexadecimal, or too long" "$room/device" script 6g || return 1
     is_told 2 "device: the owner's value is no hexadecimal, or too long" "$room/device" script "$(printf '%098d' 0)" || return 1
     is_told 2 'device: the greatest value is no number of 64 bits' "$room/device" script 00 -1 || return 1
-    is_told 2 'device: the greatest value is no number of 64 bits' "$room/device" script 00 18446744073709551616 || return 1
+    is_told 2 'device: the greatest value is no number of 64 bits' "$room/device" script 00 18446744073709551616 ||
+        return 1
     is_told 2 'device: the greatest value is no number of 64 bits' "$room/device" script 00 1x || return 1
     is_told 0 '' "$room/device" stream || return 1
     is_told 0 '' "$room/device" power "$(printf '%096d' 0)" 18446744073709551615 || return 1
@@ -223,10 +226,13 @@ device_faults() {
 # same_power: a stream with the word `power` in it answers as a script with it does, and without the word it does not.
 same_power() {
     startup=80010000000c000001440000
-    printf '%s\n' $startup $startup power $startup | "$room/device" script | grep -v power | tr -d '\n' >"$room/out.wanted.stream"
-    { printf '%s%s' $startup $startup | as_bytes && printf power && printf '%s' $startup | as_bytes; } >"$room/in.stream"
+    printf '%s\n' $startup $startup power $startup | "$room/device" script | grep -v power |
+        tr -d '\n' >"$room/out.wanted.stream"
+    { printf '%s%s' $startup $startup | as_bytes && printf power && printf '%s' $startup |
+        as_bytes; } >"$room/in.stream"
     "$room/device" power <"$room/in.stream" | xxd -p | tr -d '\n' >"$room/out.stream"
-    [ -s "$room/out.stream" ] && cmp "$room/out.stream" "$room/out.wanted.stream" && ! "$room/device" <"$room/in.stream" >"$room/out.stream"
+    [ -s "$room/out.stream" ] && cmp "$room/out.stream" "$room/out.wanted.stream" &&
+        ! "$room/device" <"$room/in.stream" >"$room/out.stream"
 }
 
 # says LOG QUOTE HASH WORD..: what the words say of a quote beside a log.
@@ -289,7 +295,8 @@ same_attests() {
         attests "$quote, safe 2" quote refused 0084 at 80 || return 1
         quoted "$quote"
         printf x >>"$room/quoted"
-        attests "$quote, a byte behind it" quote refused 0095 at "$(wc -c <"checks/quotes/$quote.msg" | tr -d ' ')" || return 1
+        size=$(wc -c <"checks/quotes/$quote.msg" | tr -d ' ')
+        attests "$quote, a byte behind it" quote refused 0095 at "$size" || return 1
     done <checks/quotes/cases.txt
     # No register, and the digest of no bytes.
     { head -c 89 checks/quotes/ecc-sha256.msg && echo 00000001000b030000000020e3b0c44298fc1c149afbf4c8996fb92427ae41e4649b934ca495991b7852b855 | as_bytes; } >"$room/quoted"
@@ -310,7 +317,8 @@ same_policies() {
     "$room/policy" >"$room/out" && cmp "$room/out" checks/policy.txt
 }
 
-# same_session: a caller and a device in one process, by C and by crate tpm_examples, which writes these seven lines last.
+# same_session: a caller and a device in one process, by C and by crate tpm_examples, which writes these seven lines
+# last.
 same_session() {
     "$room/session" >"$room/out" && tail -n 7 crates/tpm_examples/stdout | cmp - "$room/out"
 }
@@ -337,6 +345,13 @@ readme() {
     grep -q "This prints \`$("$room/readme")\`" README.md
 }
 
+# using: the first program of C in docs/USING.md prints the same.
+using() {
+    awk '/^```c$/ { inside = 1; next } /^```$/ { if (inside) exit } inside' docs/USING.md >"$room/using.c"
+    "$compiler" -std=c99 -O2 -Wall -Wextra -Werror -Iinclude -o "$room/using" "$room/using.c" "$archive" || return 1
+    [ "$("$room/using")" = "$("$room/readme")" ]
+}
+
 if [ -z "$compiler" ]; then
     skip "the library for C" "no C compiler was found"
 elif ! command -v nm >/dev/null 2>&1 || ! command -v xxd >/dev/null 2>&1; then
@@ -345,14 +360,17 @@ elif ! checked tpm_c || ! built llvm; then
     fail "the library for C" "it isn't built: $(tail -n 3 "$room/lib")"
 else
     write_hundred
-    holds "the header as C99" "$compiler" -std=c99 -Wall -Wextra -pedantic -Werror -fsyntax-only -Iinclude -x c include/vinjakwe.h
+    holds "the header as C99" "$compiler" -std=c99 -Wall -Wextra -pedantic -Werror -fsyntax-only -Iinclude \
+        -x c include/vinjakwe.h
     if command -v "${CXX:-c++}" >/dev/null 2>&1; then
-        holds "the header as C++" "${CXX:-c++}" -Wall -Wextra -pedantic -Werror -fsyntax-only -Iinclude -x c++ include/vinjakwe.h
+        holds "the header as C++" "${CXX:-c++}" -Wall -Wextra -pedantic -Werror -fsyntax-only -Iinclude \
+            -x c++ include/vinjakwe.h
     else
         skip "the header as C++" "no C++ compiler was found"
     fi
     holds "C programs with the C library are built" hosted
     holds "the lines of C in README.md print what it says" readme
+    holds "the lines of C in docs/USING.md print the same" using
     holds "the hundred commands through C give the bytes of tpmtool" same_script
     holds "a stream of frames through C gives the bytes of tpmtool" same_stream
     holds "rows of commands and of responses through C" same_first_lines

@@ -1,5 +1,9 @@
-# A million buffers of the tables, changed at random: what is accepted is encoded to itself, and what a device answers to a
-# command is a response. The seed is the clock's, or $SEED; the same seed gives the same buffers.
+#!/bin/sh
+# A million buffers of the tables, changed at random: what is accepted is encoded to itself, and what a device answers
+# to a command is a response. The seed is the clock's, or $SEED; the same seed gives the same buffers.
+
+. "$(dirname "$0")/shared.sh"
+want_trials
 
 seed=${SEED:-$(date +%s)}
 changed=${CHANGED:-1000000}

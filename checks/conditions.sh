@@ -1,8 +1,12 @@
-# The conditions of calls: the table of them in docs/AUDIT.md names each public function of the library that has a `requires`, and
-# no other, as `function`, as `Type::function`, or by the beginning of its name and an underscore. And no definition takes a number
-# from the code: what a contract cites imports no constant of the sources.
+#!/bin/sh
+# The conditions of calls: the table of them in docs/AUDIT.md names each public function of the library that has a
+# `requires`, and no other, as `function`, as `Type::function`, or by the beginning of its name and an underscore. And
+# no definition takes a number from the code: what a contract cites imports no constant of the sources.
 
-# conditions FILE..: a line 'NAME' or 'TYPE::NAME' for each public function with a condition, whatever is public of the crate.
+. "$(dirname "$0")/shared.sh"
+
+# conditions FILE..: a line 'NAME' or 'TYPE::NAME' for each public function with a condition, whatever is public of the
+# crate.
 conditions() {
     awk '
         FNR == 1 { type = ""; is_trait = 0; is_head = 0 }

@@ -1,4 +1,7 @@
-# The documents: each path that they name is there, each name stands in the sources, and the counts of edits are those in must-fail/.
+#!/bin/sh
+# The documents: each path that they name is there, and each name stands in the sources.
+
+. "$(dirname "$0")/shared.sh"
 
 documents="README.md CONTRIBUTING.md docs/*.md"
 
@@ -17,7 +20,8 @@ paths() {
 
 # missing_paths: those that are no file or folder, by their whole path or by its end.
 missing_paths() {
-    { find . -name .git -prune -o -name out -prune -o -type f -print && find . -name .git -prune -o -name out -prune -o -type d -print; } |
+    { find . -name .git -prune -o -name out -prune -o -type f -print &&
+        find . -name .git -prune -o -name out -prune -o -type d -print; } |
         sed 's|^\.|/|' | awk '
             NR == FNR { path = $0; do { there[path]; sub(/^\/+[^\/]*/, "", path) } while (path != ""); next }
             !(("/" $0) in there) && !(("//" $0) in there) { print }
@@ -27,7 +31,8 @@ missing_paths() {
 # words: a line for each word of the sources.
 words_of_sources() {
     {
-        find checks bench crates test tpmtool crates.txt HANDLES -name out -prune -o -type f -not -name "*.edit" -exec cat {} +
+        find checks bench crates test tpmtool crates.txt HANDLES -name out -prune -o \
+            -type f -not -name "*.edit" -exec cat {} +
         find crates -path '*/must-fail/*.edit'
     } |
         tr -cs 'A-Za-z0-9_' '\n' | sort -u
@@ -40,16 +45,6 @@ names() {
     grep -h -o -w -e 'tpm_[a-z_]*' $documents
 }
 
-# edits: a line 'CRATE EDITS' for each crate of the table of the gate's time whose number is another, and one for their sum.
-wrong_edits() {
-    awk -F ' *[|] *' '$2 ~ /^tpm/ && $6 ~ /^[0-9]/ { print $2, $6 + 0 }' docs/GATE.md | while read -r crate edits; do
-        counted=$(find "crates/$crate" -path '*/must-fail/*.edit' | wc -l)
-        [ "$edits" -eq "$counted" ] || echo "$crate has $((counted)) edits, and not $edits;"
-    done
-    counted=$(find crates -path '*/must-fail/*.edit' | wc -l)
-    grep -q -e "In all $((counted)) edits" docs/GATE.md || echo "there are $((counted)) edits in all;"
-}
-
 paths >"$room/paths"
 missing=$(missing_paths)
 name="the documents name $(wc -l <"$room/paths" | tr -d ' ') paths that are there"
@@ -60,7 +55,3 @@ names | sort -u >"$room/names"
 missing=$(comm -23 "$room/names" "$room/words_of_sources")
 name="the documents name $(wc -l <"$room/names" | tr -d ' ') names that stand in the sources"
 if [ -z "$missing" ]; then pass "$name"; else fail "$name" "$missing"; fi
-
-wrong=$(wrong_edits)
-name="the documents count the edits"
-if [ -z "$wrong" ]; then pass "$name"; else fail "$name" "$wrong"; fi

@@ -1,8 +1,10 @@
+#!/bin/sh
 # The emulator: tpm2-tools drive it over both protocols, and give what they give over swtpm (checks/emulator.txt); a log's records
 # leave the registers of its list; it is killed at random moments, and no counter goes back; and random messages over sanitizers.
 #
 #     KILLS=1000 BOOTS=1000 MESSAGES=1000000 ./test     kills it so often, starts it so often, and sends so many messages
 
+. "$(dirname "$0")/shared.sh"
 . checks/toolchain.sh
 # LLVM's archive, where the check of the library for C has left both.
 archive=crates/tpm_c/out/llvm/libtpm_c.a

@@ -1,5 +1,9 @@
+#!/bin/sh
 # The examples in README.md and docs/USING.md: each block of code stands in a program that the gate proves and runs,
 # and each command, which begins with `$`, prints the lines below it.
+
+. "$(dirname "$0")/shared.sh"
+want_program
 
 # in_programs FILE: counts the file's blocks of code, each of which has to stand in a source of crates/, whatever its
 # indentation.

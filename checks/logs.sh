@@ -1,5 +1,9 @@
+#!/bin/sh
 # The logs in checks/logs: the registers that each gives, the records of some, and the fault of each that is none.
 # checks/logs/make.py writes registers and faults, and checks/logs/list_events.py records.
+
+. "$(dirname "$0")/shared.sh"
+want_program
 
 # ran NAME STATUS WORD..: the program on these words writes what $room/out.wanted holds, and nothing on standard error.
 ran() {
@@ -27,8 +31,8 @@ for list in "$logs"/*.registers; do
     checked "${log##*/} beside a list of its registers" 0 "$log.log" --registers "$list"
 done
 
-# What tpm2_pcrread prints of swtpm, whose registers the records of the log have extended. Of the banks in one_bank.pcrread only
-# that of SHA-256 has registers.
+# What tpm2_pcrread prints of swtpm, whose registers the records of the log have extended. Of the banks in
+# one_bank.pcrread only that of SHA-256 has registers.
 log=fewer_and_in_other_order
 awk '{ print "match", $1, $2 }' "$logs/$log.registers" >"$room/out.wanted"
 checked "$log beside what tpm2_pcrread prints" 0 "$logs/$log.log" --registers "$logs/$log.pcrread"
@@ -60,11 +64,13 @@ if python3 -m json.tool --help >"$room/out" 2>&1; then
     while read -r object; do
         printf '%s\n' "$object" | python3 -m json.tool >"$room/out" || echo "$object"
     done <"$logs/said.json" >"$room/refused" 2>&1
-    if [ -s "$room/refused" ]; then fail "each object is JSON" "$(cat "$room/refused")"; else pass "each object is JSON"; fi
+    name="each object is JSON"
+    if [ -s "$room/refused" ]; then fail "$name" "$(cat "$room/refused")"; else pass "$name"; fi
 else
     skip "each object is JSON" "python3 is not there"
 fi
-if LC_ALL=C grep -q '[^ -~]' "$logs/said.listed"; then fail "lines are printable" ""; else pass "lines are printable"; fi
+name="lines are printable"
+if LC_ALL=C grep -q '[^ -~]' "$logs/said.listed"; then fail "$name" ""; else pass "$name"; fi
 
 while read -r log kind at; do
     echo "log $kind at $at" >"$room/out.wanted"
@@ -85,10 +91,12 @@ for length in $(seq 0 215); do
     status=$?
     case $length in
     73 | 89 | 215) [ $status -eq 0 ] || wrong="$wrong $length: status $status;" ;;
-    *) [ $status -eq 1 ] && grep -q -x -e 'log Truncated at [0-9]*' "$room/out" || wrong="$wrong $length: status $status;" ;;
+    *) [ $status -eq 1 ] && grep -q -x -e 'log Truncated at [0-9]*' "$room/out" ||
+        wrong="$wrong $length: status $status;" ;;
     esac
 done
-if [ -z "$wrong" ]; then pass "the worked log cut to each length"; else fail "the worked log cut to each length" "$wrong"; fi
+name="the worked log cut to each length"
+if [ -z "$wrong" ]; then pass "$name"; else fail "$name" "$wrong"; fi
 
 # stated N REGISTER: N lines that state of this register of SHA-1 that it is zeros.
 stated() {

@@ -1,14 +1,11 @@
-# Each request of the program for memory, refused in turn: `out of memory` with status 3, or the
-# answer as if none had been refused (the program may ask again for less), and never another answer. And no run is out of memory
-# where no request is refused.
+#!/bin/sh
+# Each request of the program for memory, refused in turn: `out of memory` with status 3, or the answer as if none had
+# been refused (the program may ask again for less), and never another answer. And no run is out of memory where no
+# request is refused.
 
-compiler=
-for word in "${CC:-cc}" gcc clang; do
-    if command -v "$word" >/dev/null 2>&1; then
-        compiler=$word
-        break
-    fi
-done
+. "$(dirname "$0")/shared.sh"
+want_program
+find_compiler
 
 # refuses NAME WORD..: the words are run undisturbed first, and then with each request refused. $room/script
 # is standard input.

@@ -1,6 +1,10 @@
-# Frames of the tables, changed at random, as objects of JSON: Python's own reader takes each line, and finds there what
-# checks/objects.py cuts from the frame. These are 50,000 frames, or $FRAMES. A million takes some minutes: FRAMES=1000000 ./test,
-# or alone, over the program that was built, python3 checks/objects.py 1000000
+#!/bin/sh
+# Frames of the tables, changed at random, as objects of JSON: Python's own reader takes each line, and finds there
+# what checks/objects.py cuts from the frame. These are 50,000 frames, or $FRAMES. A million takes some minutes:
+# FRAMES=1000000 ./test, or alone, over the program that was built, python3 checks/objects.py 1000000
+
+. "$(dirname "$0")/shared.sh"
+want_program
 
 frames=${FRAMES:-50000}
 name="$frames changed frames as objects of JSON"

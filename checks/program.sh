@@ -1,3 +1,4 @@
+#!/bin/sh
 # The program's statuses and what it writes where, by the script ./tpmtool: 0 done, 1 refused, 2 usage,
 # 3 a reading or writing fault. What it prints stands in the files of cases beside this one:
 #
@@ -11,43 +12,8 @@
 #
 # The words are the shell's, and so is a line behind `<$`, `<.$` and `>$`.
 
-program=crates/tpmtool/out/tpmtool
-startup=80010000000c000001440000
-
-# zeros N: N bytes of zeros, in hexadecimal.
-zeros() {
-    printf "%0$((2 * $1))d" 0
-}
-
-# bytes_of HEX: writes the bytes.
-bytes_of() {
-    printf "$(echo "$1" | awk '{
-        gsub(/ /, "")
-        for (i = 1; i < length($0); i += 2) {
-            byte = 16 * (index("0123456789abcdef", substr($0, i, 1)) - 1) + index("0123456789abcdef", substr($0, i + 1, 1)) - 1
-            printf "\\%03o", byte
-        }
-    }')"
-}
-
-# judge STATUS: what was written and the status are what was wanted.
-judge() {
-    if [ "$1" -ne "$wanted" ]; then
-        why="status $1 in place of $wanted"
-    elif ! cmp -s "$room/out" "$room/out.wanted"; then
-        why="it wrote: $(cat "$room/out")"
-    elif ! cmp -s "$room/err" "$room/err.wanted"; then
-        why="it complained: $(cat "$room/err")"
-    else
-        return 0
-    fi
-    return 1
-}
-
-# check STATUS: counts the case $name by what was written and the status.
-check() {
-    if judge "$1"; then pass "$name"; else fail "$name" "$why"; fi
-}
+. "$(dirname "$0")/shared.sh"
+want_program
 
 # clear_case: nothing is wanted so far.
 clear_case() {
@@ -102,7 +68,8 @@ if python3 -m json.tool --help >"$room/out" 2>&1; then
     while read -r object; do
         printf '%s\n' "$object" | python3 -m json.tool >"$room/out" || echo "$object"
     done <"$room/objects" >"$room/refused" 2>&1
-    if [ -s "$room/refused" ]; then fail "each object of a frame is JSON" "$(cat "$room/refused")"; else pass "each object of a frame is JSON"; fi
+    name="each object of a frame is JSON"
+    if [ -s "$room/refused" ]; then fail "$name" "$(cat "$room/refused")"; else pass "$name"; fi
 else
     skip "each object of a frame is JSON" "python3 is not there"
 fi
@@ -116,14 +83,23 @@ cases checks/words.txt
 header=/usr/include/tss2/tss2_tpm2_types.h
 name="each command that is not in the profile has its name"
 if [ -r "$header" ]; then
-    sed -n 's/^#define TPM2_CC_\([A-Za-z0-9_]*\) *((TPM2_CC) 0x\([0-9a-f]\{8\}\))$/\1 \2/p' "$header" | grep -v '^LAST ' >"$room/commands"
+    sed -n 's/^#define TPM2_CC_\([A-Za-z0-9_]*\) *((TPM2_CC) 0x\([0-9a-f]\{8\}\))$/\1 \2/p' "$header" |
+        grep -v '^LAST ' >"$room/commands"
     awk '{ print "> 80010000000a" $2 }' "$room/commands" | ./tpmtool show - >"$room/out" 2>"$room/err"
     awk '
         FILENAME == ARGV[1] { name[FNR] = $1; commands = FNR; next }
-        absent { if ($0 != "TPM2_" name[absent] " is not in this profile") print "line " FNR ": " $0; named++; absent = 0; next }
+        absent {
+            if ($0 != "TPM2_" name[absent] " is not in this profile") print "line " FNR ": " $0
+            named++
+            absent = 0
+            next
+        }
         $2 == ">" { number = $1 }
         / refused 143 at 6$/ { absent = number }
-        END { if (commands < 100 || number != commands || named != commands - 18) print commands " commands, " named " with names" }
+        END {
+            if (commands < 100 || number != commands || named != commands - 18)
+                print commands " commands, " named " with names"
+        }
     ' "$room/commands" "$room/out" >"$room/wrong" 2>&1
     if [ -s "$room/wrong" ]; then fail "$name" "$(cat "$room/wrong")"; else pass "$name"; fi
 else

@@ -1,7 +1,10 @@
-# `same` of tpm_hmac takes as many instructions wherever two lists of one length differ, and where they don't: valgrind counts those of
-# crate tpm_bench's call of it, where there is a valgrind.
+#!/bin/sh
+# `same` of tpm_hmac takes as many instructions wherever two lists of one length differ, and where they don't: valgrind
+# counts those of crate tpm_bench's call of it, where there is a valgrind.
 
+. "$(dirname "$0")/shared.sh"
 . checks/toolchain.sh
+
 same=$room/same
 name_of_same="same takes the same instructions wherever it is that two lists differ"
 
@@ -34,7 +37,8 @@ if ! command -v valgrind >/dev/null 2>&1; then
     skip "$name_of_same" "there is no valgrind"
 elif [ -z "$compiler" ]; then
     skip "$name_of_same" "there is no C compiler"
-elif ! checked tpm_bench || ! compiled tpm_bench llvm || ! "$compiler" -o "$same" "$same.c" crates/tpm_bench/out/libtpm_bench.a >>"$room/lib" 2>&1; then
+elif ! checked tpm_bench || ! compiled tpm_bench llvm ||
+    ! "$compiler" -o "$same" "$same.c" crates/tpm_bench/out/libtpm_bench.a >>"$room/lib" 2>&1; then
     fail "$name_of_same" "it isn't built: $(tail -n 3 "$room/lib")"
 else
     for len in 32 48; do

@@ -1,5 +1,9 @@
-# A Caller and a Waiting are spent by their use: what uses one again does not compile. checks/spent.txt has a function for each use;
-# it is compiled once, as a crate over a copy of the repository's sources, of which nothing is proved here.
+#!/bin/sh
+# A Caller and a Waiting are spent by their use: what uses one again does not compile. checks/spent.txt has a function
+# for each use; it is compiled once, as a crate over a copy of the repository's sources, of which nothing is proved
+# here.
+
+. "$(dirname "$0")/shared.sh"
 
 spent=$room/spent
 mkdir -p "$spent/crates/spent/src"
@@ -19,7 +23,8 @@ awk -F : '
 wrong=$(grep error "$spent/said" | grep -v 'error\[borrow-e0382\]')
 
 for use in seals_twice opens_twice opens_what_was_given_up gives_up_what_was_opened; do
-    if grep -qx "$use" "$spent/refused"; then pass "$use is refused"; else fail "$use is refused" "it compiles: $wrong"; fi
+    name="$use is refused"
+    if grep -qx "$use" "$spent/refused"; then pass "$name"; else fail "$name" "it compiles: $wrong"; fi
 done
 if [ -s "$spent/refused" ] && [ -z "$wrong" ] && ! grep -qx uses_each_once "$spent/refused"; then
     pass "uses_each_once is not refused"

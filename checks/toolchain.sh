@@ -1,16 +1,12 @@
-# What builds an archive beside the gate: a C compiler, or none, and the toolchain's own over the libraries that the gate has kept.
+# What builds an archive beside the gate: a C compiler, or none, and the toolchain's own over the libraries that are
+# kept.
 
 kit=$(dirname "$(rt doc)")
 
-compiler=
-for word in "${CC:-cc}" gcc clang; do
-    if command -v "$word" >/dev/null 2>&1; then
-        compiler=$word
-        break
-    fi
-done
+find_compiler
 
-# rattle CRATE WORD..: the toolchain's compiler on this static library, over the libraries that the gate has proved and kept.
+# rattle CRATE WORD..: the toolchain's compiler on this static library, over the libraries that the gate has proved and
+# kept.
 rattle() {
     crate=$1
     shift
@@ -37,5 +33,6 @@ checked() {
 # compiled CRATE BACKEND: its archive in out/, as this backend compiles what was checked.
 compiled() {
     rm -f "crates/$1/out/lib$1.a"
-    rattle "$1" build --crate-checked "$room/$1.checked" --toolchain "$kit/toolchain" --backend "$2" -o "out/lib$1.a" && [ -f "crates/$1/out/lib$1.a" ]
+    rattle "$1" build --crate-checked "$room/$1.checked" --toolchain "$kit/toolchain" --backend "$2" \
+        -o "out/lib$1.a" && [ -f "crates/$1/out/lib$1.a" ]
 }

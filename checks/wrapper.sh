@@ -1,18 +1,31 @@
+#!/bin/sh
 # The script ./tpmtool, over a toolchain of its own that only says that it was called.
 
+. "$(dirname "$0")/shared.sh"
+
 wrapper=$room/wrapper
-mkdir -p "$wrapper/crates/tpmtool/src" "$wrapper/crates/low/specs" "$wrapper/bin" "$wrapper/elsewhere" "$wrapper/tmp"
+mkdir -p "$wrapper/crates/tpmtool/src" "$wrapper/crates/low/src" "$wrapper/crates/low/specs" \
+    "$wrapper/crates/low/proofs" "$wrapper/bin" "$wrapper/elsewhere/in" "$wrapper/tmp"
 cp tpmtool "$wrapper/tpmtool"
 printf 'low:\ntpmtool: low\n' >"$wrapper/crates.txt"
 cat >"$wrapper/bin/rt" <<'END'
 #!/bin/sh
-# lib: a proof; run: a build, and the program with a word; try: the program, and then what `rt try` says of it.
+# all: proofs; run: a build, and the program with a word; try: the program, and then what `rt try` says of it.
 echo "$PWD $*" >>"$CALLS"
 case $1 in
+all)
+    echo "== low
+what a proof of low says
+logic=proved functions=1
+== tpmtool"
+    [ -z "$UNPROVED" ] || exit 1
+    sleep 1
+    echo logic=proved functions=2
+    ;;
 run)
     echo "what a build says"
     echo "what a build complains of" >&2
-    mkdir -p out
+    [ -z "$EDITED" ] || touch "$EDITED"
     cat >out/tpmtool <<'PROGRAM'
 #!/bin/sh
 for word in "$@"; do echo "<$word>"; done
@@ -25,14 +38,14 @@ PROGRAM
     [ "$BROKEN" = killed ] && kill -9 $PPID
     [ -z "$BROKEN" ]
     ;;
-lib)
-    echo "what a proof of ${PWD##*/} says"
-    [ "${PWD##*/}" != "$UNPROVED" ] || exit 1
-    mkdir -p out/rlib && echo "$PWD, over$(cd .. && ls -d */out/rlib/proved 2>/dev/null | sed 's,/.*,,' | tr '\n' ' ' | sed 's/^/ /')" >out/rlib/proved
-    ;;
 try)
-    shift 4
+    shift 3
     [ -z "$SLOW" ] || { touch "$SLOW" && exec sleep 60; }
+    while [ "$1" != -- ]; do
+        echo "copy $2"
+        shift 2
+    done
+    shift
     for word in "$@"; do echo "<$word>"; done
     cat
     echo complaint >&2
@@ -44,15 +57,21 @@ try)
 esac
 END
 chmod +x "$wrapper/bin/rt"
-: >"$wrapper/calls"
+built=$wrapper/crates/tpmtool/out/tpmtool
 
 # wrapped WORD..: runs it elsewhere, and keeps its status, what it wrote and how often it has built.
+script=../tpmtool
 wrapped() {
     (cd "$wrapper/elsewhere" && echo given | CALLS="$wrapper/calls" PATH="$wrapper/bin:$PATH" TMPDIR="$wrapper/tmp" \
-        ../tpmtool "$@") >"$wrapper/out" 2>"$wrapper/err"
+        "$script" "$@") >"$wrapper/out" 2>"$wrapper/err"
     status=$?
     builds=$(grep -c ' run -- --help$' "$wrapper/calls")
     tries=$(grep -c ' try --seconds ' "$wrapper/calls")
+}
+
+# anew: nothing was called so far.
+anew() {
+    : >"$wrapper/calls"
 }
 
 # wants WORD..: a line of the file of what is wanted for each.
@@ -62,54 +81,98 @@ wants() {
 
 # says NAME STATUS BUILDS TRIES: these, and the output that is wanted, and nothing that is left behind.
 says() {
-    if [ "$status $builds $tries" = "$2 $3 $4" ] && cmp -s "$wrapper/out" "$wrapper/wanted" && [ -z "$(ls "$wrapper/tmp")" ]; then
+    if [ "$status $builds $tries" = "$2 $3 $4" ] && cmp -s "$wrapper/out" "$wrapper/wanted" &&
+        [ -z "$(ls "$wrapper/tmp")" ]; then
         pass "$1"
     else
         fail "$1" "status $status, $builds builds, $tries tries: $(cat "$wrapper/out" "$wrapper/err"; ls "$wrapper/tmp")"
     fi
 }
 
-unproved='tpmtool: this answer takes about a minute, and is not proved here: ./tpmtool --build proves and builds the program'
+# complains NAME LINE..: what it wrote on standard error is these lines.
+complains() {
+    name=$1
+    shift
+    printf '%s\n' "$@" >"$wrapper/err.wanted"
+    if cmp -s "$wrapper/err" "$wrapper/err.wanted"; then pass "$name"; else fail "$name" "$(cat "$wrapper/err")"; fi
+}
 
+anew
 wrapped show 'a  b' '' '*'
 wants '<show>' '<a  b>' '<>' '<*>'
-says "the wrapper answers by a try where nothing is built, and takes no input that the program does not read" 3 0 1
-printf '%s\n' "$unproved" complaint >"$wrapper/err.wanted"
-name="the wrapper says in one line that a try proves nothing, and what the program complains of"
-if cmp -s "$wrapper/err" "$wrapper/err.wanted" && [ ! -e "$wrapper/crates/tpmtool/out" ]; then
-    pass "$name"
-else
-    fail "$name" "$(cat "$wrapper/err")"
-fi
+says "a try answers where nothing is built, and takes no input that the program does not read" 3 0 1
+complains "one line says that a try proves nothing, and another what the program complains of" \
+    "tpmtool: this answer takes about a minute, and is not proved here: ./tpmtool --build proves and builds the program" \
+    complaint
+[ ! -e "$wrapper/crates/tpmtool/out" ] || fail "a try leaves the crate as it was" "$(ls "$wrapper/crates/tpmtool/out")"
 
+anew
 wrapped run --owner 00
 wants '<run>' '<--owner>' '<00>' given
-says "the wrapper hands standard input to a try of a script" 3 0 2
+says "a try of a script is handed standard input" 3 0 1
+for words in 'show -' 'show --fields --file=/dev/stdin' 'check log --registers /dev/stdin' 'events -'; do
+    anew
+    wrapped $words
+    tail -n 1 "$wrapper/out" | grep -qx given && pass "a try of $words is handed standard input" ||
+        fail "a try of $words is handed standard input" "$(cat "$wrapper/out")"
+done
+anew
+wrapped build Startup - - 0000
+wants '<build>' '<Startup>' '<->' '<->' '<0000>'
+says "a try of parts that are empty takes no input" 3 0 1
 
 : >"$wrapper/elsewhere/a log"
 : >"$wrapper/elsewhere/check"
+: >"$wrapper/elsewhere/in/log"
+for word in 'check *' 'events *' 'check log --registers *' 'check log --registers=*' \
+    'check log --attest *' 'check log --attest=*' 'show --file *' 'show --file=*' 'show --binary --file *'; do
+    name="a try of '$word'"
+    anew
+    set -f
+    wrapped ${word%"*"}"a log"
+    wants "copy a log=$wrapper/elsewhere/a log" $(printf '<%s> ' ${word%"*"} | sed 's/=> $/=/')
+    set +f
+    wanted=$(grep -c . "$wrapper/wanted")
+    if grep -qx "copy a log=$wrapper/elsewhere/a log" "$wrapper/out" && grep -q '<.*a log>$' "$wrapper/out"; then
+        pass "$name has a file by a bare name"
+    else
+        fail "$name has a file by a bare name" "$(cat "$wrapper/out")"
+    fi
+    wrapped ${word%"*"}in/log
+    if grep -q "[<=]$wrapper/elsewhere/in/log>\$" "$wrapper/out" && ! grep -q '^copy.*in/log' "$wrapper/out"; then
+        pass "$name has a file by its path"
+    else
+        fail "$name has a file by its path" "$(cat "$wrapper/out")"
+    fi
+    wrapped ${word%"*"}no/log
+    if grep -q '[<=]no/log>$' "$wrapper/out"; then
+        pass "$name leaves the name of no file as it is"
+    else
+        fail "$name leaves the name of no file as it is" "$(cat "$wrapper/out")"
+    fi
+done
+
 : >"$wrapper/elsewhere/00"
-wrapped check --quote 00 'a log' --registers=check --hash sha1
-wants '<check>' '<--quote>' '<00>' "<$wrapper/elsewhere/a log>" "<--registers=$wrapper/elsewhere/check>" '<--hash>' '<sha1>'
-says "the wrapper makes the names of files absolute for a try, and no other words" 3 0 3
+anew
+wrapped check /etc/passwd --quote 00
+wants "copy 00=$wrapper/elsewhere/00" "copy check=$wrapper/elsewhere/check" '<check>' '</etc/passwd>' '<--quote>' '<00>'
+says "a try changes no word that is a file's name by chance" 3 0 1
 
-wrapped check 'no log' --registers /dev/stdin
-wants '<check>' '<no log>' '<--registers>' '</dev/stdin>' given
-says "the wrapper leaves names of no file as they are, and hands standard input on by its name" 3 0 4
-
-BROKEN=yes
-export BROKEN
+anew
+export BROKEN=yes
 wrapped show
 unset BROKEN
-if [ "$status" -eq 126 ] && [ ! -s "$wrapper/out" ] && grep -q '^complaint' "$wrapper/err" && grep -q ' 20 minutes' "$wrapper/err"; then
-    pass "the wrapper says why a try gave no answer, and its limits"
+name="a try that gave no answer says why, and its limits"
+if [ "$status" -eq 126 ] && [ ! -s "$wrapper/out" ] && grep -q '^complaint' "$wrapper/err" &&
+    grep -q ' 20 minutes' "$wrapper/err"; then
+    pass "$name"
 else
-    fail "the wrapper says why a try gave no answer, and its limits" "status $status: $(cat "$wrapper/err")"
+    fail "$name" "status $status: $(cat "$wrapper/err")"
 fi
 
-SLOW=$wrapper/slow
-export SLOW
-CALLS="$wrapper/calls" PATH="$wrapper/bin:$PATH" TMPDIR="$wrapper/tmp" "$wrapper/tpmtool" run </dev/null >"$wrapper/out" 2>"$wrapper/err" &
+export SLOW=$wrapper/slow
+CALLS="$wrapper/calls" PATH="$wrapper/bin:$PATH" TMPDIR="$wrapper/tmp" "$wrapper/tpmtool" run \
+    </dev/null >"$wrapper/out" 2>"$wrapper/err" &
 interrupted=$!
 waited=0
 while [ ! -e "$SLOW" ] && [ $waited -lt 100 ]; do sleep 0.1 && waited=$((waited + 1)); done
@@ -117,105 +180,114 @@ kill -TERM $interrupted
 wait $interrupted
 status=$?
 unset SLOW
-name="the wrapper that is ended during a try leaves nothing behind"
-if [ "$status" -eq 143 ] && [ ! -s "$wrapper/out" ] && [ -z "$(ls "$wrapper/tmp")" ] && [ ! -e "$wrapper/crates/tpmtool/out" ]; then
+name="a try that is ended leaves nothing behind"
+if [ "$status" -eq 143 ] && [ ! -s "$wrapper/out" ] && [ -z "$(ls "$wrapper/tmp")" ] &&
+    [ ! -e "$wrapper/crates/tpmtool/out" ]; then
     pass "$name"
 else
     fail "$name" "status $status: $(ls "$wrapper/tmp")"
 fi
 
-: >"$wrapper/calls"
+anew
 wrapped --build show 'a  b' '' '*'
 wants '<show>' '<a  b>' '<>' '<*>' "in $wrapper/elsewhere" given
-says "the wrapper builds where it is asked to, and passes words, input, output and status on" 3 1 0
-{
-    echo 'tpmtool: proving and building the program, which takes some minutes the first time'
-    echo 'tpmtool: proving low (1 of 2)'
-    echo 'tpmtool: proving tpmtool (2 of 2)'
-    echo complaint
-} >"$wrapper/err.wanted"
-name="the wrapper says which crate it proves"
-if cmp -s "$wrapper/err" "$wrapper/err.wanted"; then pass "$name"; else fail "$name" "$(cat "$wrapper/err")"; fi
-
+says "a build is made where it is asked for, and words, input, output and status are passed on" 3 1 0
+complains "a build says which crates are proved" \
+    'tpmtool: proving and building the program, which takes half an hour on four cores the first time' \
+    'tpmtool: low is proved' 'tpmtool: tpmtool is proved' complaint
 wrapped show 'a  b' '' '*'
-says "the wrapper started again builds nothing" 3 1 0
-name="the wrapper started again says nothing"
-if [ "$(cat "$wrapper/err")" = complaint ]; then pass "$name"; else fail "$name" "$(cat "$wrapper/err")"; fi
-
+says "what is built is not built again" 3 1 0
+complains "what is built says nothing besides" complaint
 wrapped --build
 : >"$wrapper/wanted"
-says "the wrapper that is to build what is built does nothing" 0 1 0
+says "to build what is built does nothing" 0 1 0
 
-touch -d '1 hour ago' "$wrapper/crates/tpmtool/out/tpmtool"
-touch "$wrapper/crates/low/specs/Lib.antt"
-wrapped show
-wants '<show>'
-says "a program older than a source counts as not built" 3 1 1
+ln -s ../tpmtool "$wrapper/elsewhere/linked"
+ln -s linked "$wrapper/elsewhere/twice"
+ln -s .. "$wrapper/elsewhere/folder"
+for script in ./linked ./twice folder/tpmtool; do
+    wrapped show
+    wants '<show>' "in $wrapper/elsewhere" given
+    says "the script is run through the link $script" 3 1 0
+done
+script=../tpmtool
+
+for newer in crates.txt crates/low/src/lib.rt crates/low/specs/Lib.antt crates/low/proofs/Lib.antt; do
+    touch -d '1 hour ago' "$built"
+    find "$wrapper/crates.txt" "$wrapper"/crates/*/src "$wrapper"/crates/*/specs "$wrapper"/crates/*/proofs \
+        -exec touch -d '2 hours ago' {} +
+    anew
+    wrapped show
+    wants '<show>' "in $wrapper/elsewhere" given
+    says "a program is built that is newer than all sources" 3 0 0
+    touch "$wrapper/$newer"
+    wrapped show
+    wants '<show>'
+    says "a program older than $newer is not built" 3 0 1
+    rm -f "$wrapper/crates/low"/*/*
+done
+anew
 wrapped --build show
 wants '<show>' "in $wrapper/elsewhere" given
-says "the wrapper builds where a source is newer than the program" 3 2 1
+says "a build is made where a source is newer than the program" 3 1 0
 
-touch -d '1 hour ago' "$wrapper/crates/tpmtool/out/tpmtool"
-BROKEN=yes
-export BROKEN
-wrapped --build show
-if [ "$status" -eq 126 ] && [ ! -s "$wrapper/out" ] && [ ! -e "$wrapper/crates/tpmtool/out/tpmtool" ] &&
-    grep -q '^what a build complains of' "$wrapper/err"; then
-    pass "the wrapper says why nothing was built, and runs nothing"
-else
-    fail "the wrapper says why nothing was built, and runs nothing" "status $status: $(cat "$wrapper/err")"
-fi
+rm "$built"
+anew
+export EDITED=$wrapper/crates/low/src/lib.rt
+sleep 1
+wrapped --build
+unset EDITED
+: >"$wrapper/wanted"
+says "a build goes on where a source is edited meanwhile" 0 1 0
+wrapped show
+wants '<show>'
+says "a source that was edited during the build is newer than the program" 3 1 1
 
-BROKEN=killed
+for BROKEN in yes killed; do
+    export BROKEN
+    anew
+    wrapped --build show
+    unset BROKEN
+    rm -rf "$wrapper/tmp"/*
+    wrapped show
+    wants '<show>'
+    says "what a build leaves that was broken or killed is not built" 3 1 1
+done
+anew
+export BROKEN=yes
 wrapped --build show
 unset BROKEN
-rm -rf "$wrapper/tmp"/*
-wrapped show
-wants '<show>'
-says "what a build leaves that was killed counts as not built" 3 4 2
-wrapped --build show
-wants '<show>' "in $wrapper/elsewhere" given
-says "the wrapper builds after a build that was killed" 3 5 2
-
-mkdir "$wrapper/few"
-for word in sh dirname find head; do
-    ln -s "$(command -v $word)" "$wrapper/few/$word"
-done
-rm "$wrapper/crates/tpmtool/out/tpmtool"
-PATH="$wrapper/few" "$wrapper/tpmtool" show >"$wrapper/out" 2>"$wrapper/err"
-status=$?
-if [ "$status" -eq 127 ] && [ ! -s "$wrapper/out" ] && grep -q '`rt`.* is not in PATH' "$wrapper/err"; then
-    pass "the wrapper says that the toolchain is missing"
-else
-    fail "the wrapper says that the toolchain is missing" "status $status: $(cat "$wrapper/err")"
-fi
-
-# from_nothing: a first build of a program that is made of four crates.
-from_nothing() {
-    rm -rf "$wrapper/crates"
-    for crate in low left right high tpmtool; do mkdir -p "$wrapper/crates/$crate/src"; done
-    : >"$wrapper/calls"
-    wrapped --build show
-}
-printf 'low:\nleft: low\nright: low\nhigh staticlib: left right\ntpmtool: high\n' >"$wrapper/crates.txt"
-wants '<show>' "in $wrapper/elsewhere" given
-from_nothing
-says "the wrapper proves crate after crate at the first build" 3 1 0
-name="the wrapper proves each crate in a copy, over those below it, brings what was proved and leaves no copy"
-sed "s|^$wrapper/crates/tpmtool/out/copies/||" "$wrapper"/crates/*/out/rlib/proved >"$wrapper/out"
-wants 'high/crates/high, over left low right ' 'left/crates/left, over low ' 'low/crates/low, over' 'right/crates/right, over low '
-if cmp -s "$wrapper/out" "$wrapper/wanted" && [ ! -e "$wrapper/crates/tpmtool/out/copies" ]; then
+name="a build that fails says why, and nothing is run"
+if [ "$status" -eq 126 ] && [ ! -s "$wrapper/out" ] && [ ! -e "$built" ] && grep -q '^what a build complains of' "$wrapper/err"; then
     pass "$name"
 else
-    fail "$name" "$(cat "$wrapper/out"; ls "$wrapper/crates/tpmtool/out")"
+    fail "$name" "status $status: $(cat "$wrapper/err")"
 fi
-UNPROVED=right
-export UNPROVED
-from_nothing
+anew
+export UNPROVED=yes
+wrapped --build show
 unset UNPROVED
-name="the wrapper stops at a crate that is not proved, and says why"
-if [ "$status" -eq 126 ] && grep -q '^what a proof of right says' "$wrapper/err" && ! grep -q ' run ' "$wrapper/calls" &&
-    [ ! -e "$wrapper/crates/high/out" ] && [ ! -e "$wrapper/crates/tpmtool/out/copies" ] && [ -z "$(ls "$wrapper/tmp")" ]; then
+name="a build stops at what is not proved, and says why"
+if [ "$status" -eq 126 ] && grep -q '^what a proof of low says' "$wrapper/err" && ! grep -q ' run ' "$wrapper/calls" &&
+    [ -z "$(ls "$wrapper/tmp")" ]; then
+    pass "$name"
+else
+    fail "$name" "status $status: $(cat "$wrapper/err")"
+fi
+anew
+wrapped --build show
+wants '<show>' "in $wrapper/elsewhere" given
+says "a build is made after one that failed" 3 1 0
+
+mkdir "$wrapper/few"
+for word in sh readlink find head; do
+    ln -s "$(command -v $word)" "$wrapper/few/$word"
+done
+rm "$built"
+PATH="$wrapper/few" "$wrapper/tpmtool" show >"$wrapper/out" 2>"$wrapper/err"
+status=$?
+name="a script without a toolchain says so"
+if [ "$status" -eq 127 ] && [ ! -s "$wrapper/out" ] && grep -q '`rt`.* is not in PATH' "$wrapper/err"; then
     pass "$name"
 else
     fail "$name" "status $status: $(cat "$wrapper/err")"

@@ -9,6 +9,7 @@ struct tpm_log_replay { uint64_t first; };
 import "C"
 
 import (
+	"bytes"
 	"fmt"
 	"io"
 )
@@ -38,6 +39,19 @@ func logJudged(kind, at C.uint32_t) error {
 
 // A Hash is the number of a hash, TPM_ALG.
 type Hash uint16
+
+// String is the hash's name, as "sha256", or its number.
+func (h Hash) String() string {
+	switch h {
+	case SHA1:
+		return "sha1"
+	case SHA256:
+		return "sha256"
+	case SHA384:
+		return "sha384"
+	}
+	return fmt.Sprintf("%#06x", uint16(h))
+}
 
 // The hashes of the banks.
 const (
@@ -157,23 +171,49 @@ const (
 	Empty   Verdict = C.TPM_ATTEST_EMPTY   // no register is selected
 )
 
+// String says it in words.
+func (v Verdict) String() string {
+	switch v {
+	case Matches:
+		return "matches"
+	case Differs:
+		return "digest differs"
+	case Nonce:
+		return "nonce differs"
+	case Lacks:
+		return "lacks a required register"
+	case Empty:
+		return "selects nothing"
+	}
+	return fmt.Sprintf("Verdict(%d)", int(v))
+}
+
 // A Selected register is the one that a quote lacks.
 type Selected struct {
 	Bank     Hash
 	Register uint32
 }
 
+// String is its bank and its number, as "sha256 7".
+func (s Selected) String() string { return fmt.Sprintf("%v %d", s.Bank, s.Register) }
+
+// How each TPMS_ATTEST begins: TPM_GENERATED_VALUE (Part 2, 6.2).
+var generated = []byte("\xffTCG")
+
 // CheckQuote says whether the digest of a TPMS_QUOTE_INFO is that of a log's registers. Otherwise the error is a *LogFault, a *Refusal,
-// whose code is 0, since it is not told, or ErrNoBank.
+// whose code is 0, since it is not told, ErrNoBank, or ErrAttest for a whole TPMS_ATTEST.
 func CheckQuote(log, quote []byte, hash Hash) (bool, error) {
 	var fault C.struct_tpm_attest_fault
 	answer := C.tpm_log_check_quote(place(log), size(log), place(quote), size(quote), C.uint16_t(hash), &fault.at)
+	if answer == C.TPM_QUOTE_REFUSED && bytes.HasPrefix(quote, generated) {
+		return false, ErrAttest
+	}
 	verdict, _, err := said(answer, &fault)
 	return verdict == Matches, err
 }
 
 // Check compares a log with a TPMS_ATTEST of a quote, whose signature has to be verified elsewhere: its nonce, the registers of the
-// TPML_PCR_SELECTION `require`, of which there may be no bytes, and the digest under this hash. The quote is good where the verdict is
+// TPML_PCR_SELECTION `require`, which Selection makes of a text and of which there may be no bytes, and the digest under this hash. The quote is good where the verdict is
 // Matches and the error nil. Otherwise the error is a *LogFault, a *Refusal of the quote's bytes, ErrNoBank, or ErrRequirement.
 func Check(log, attest, nonce, require []byte, hash Hash) (Verdict, Selected, error) {
 	var fault C.struct_tpm_attest_fault

@@ -45,9 +45,12 @@ func (r *Refusal) Error() string {
 
 // What else may be wrong.
 var (
+	ErrAttest      = errors.New("this is a whole TPMS_ATTEST, which Check takes; DecodeAttest gives its TPMS_QUOTE_INFO")
 	ErrNoCommand   = errors.New("no command has this number")
 	ErrNoBank      = errors.New("no bank has this hash")
 	ErrRequirement = errors.New("what is required is no TPML_PCR_SELECTION")
+	ErrList        = errors.New("no list of registers, as sha256:0,1,2 or sha256:all")
+	ErrDigest      = errors.New("a digest has another length than those of the policy's hash")
 	ErrBroken      = errors.New("no buffer has the size that was stated")
 	ErrTooLong     = errors.New("a value is too long")
 	ErrNonce       = errors.New("a nonce has 64 bytes")

@@ -5,11 +5,14 @@
     NAME.registers  all registers after it, by hashlib, a line each as `tpmtool check` prints them
     faults.txt      for each log that is none: its name, the kind of its first fault, and how many bytes precede it
 
-No value is read from the program. Run it in this folder; it writes the same bytes each time.
+No value is read from the program. It writes the same bytes each time.
 """
 import hashlib
+import os
 import struct
 import uuid
+
+os.chdir(os.path.dirname(os.path.abspath(__file__)))
 
 SIZES = {0x0004: 20, 0x000B: 32, 0x000C: 48, 0x000D: 64, 0x0012: 32, 0x0027: 32, 0x0028: 48, 0x0029: 64}
 BANKS = {0x0004: ("sha1", hashlib.sha1), 0x000B: ("sha256", hashlib.sha256), 0x000C: ("sha384", hashlib.sha384)}

@@ -1,7 +1,8 @@
 """Commands and responses of a TPM 2.0, logs of a measured boot, and quotes, judged by the library vinjakwe.
 
-Bytes are anything with the buffer protocol, and are lent to the library without a copy. Each call holds the interpreter's lock
-until it returns, so that no other thread changes them meanwhile; a map of a file has to be left alone by other processes, too.
+Bytes are anything with the buffer protocol, and are lent to the library without a copy. A call over logs or quotes lets other
+threads run where all that it is lent are `bytes`, which nobody can change. Every other call holds the interpreter's lock until it
+returns, so that no other thread changes its bytes or its state meanwhile. A map of a file has to be left alone by other processes.
 """
 from __future__ import annotations
 
@@ -11,11 +12,22 @@ import os
 import re
 from ctypes import POINTER, Structure, byref, c_size_t, c_uint8, c_uint16, c_uint32, c_uint64, c_void_p
 from ctypes.util import find_library
-from typing import TYPE_CHECKING, Any, BinaryIO, Callable, Iterator, NamedTuple
+from mmap import mmap
+from pathlib import Path
+from typing import TYPE_CHECKING, Any, BinaryIO, Callable, Dict, Iterable, Iterator, NamedTuple, Tuple, Union
 
 if TYPE_CHECKING:
-    from typing_extensions import Buffer
+    from _typeshed import ReadableBuffer as Buffer
 
+    Log = Union[Buffer, BinaryIO, str, os.PathLike[str]]
+    Selected = Union[Buffer, str]
+
+__all__ = [
+    "Attest", "BrokenStream", "BUFFER_BYTES", "Caller", "CODES", "COMMANDS", "Command", "Device", "Event", "Framer", "HASHES", "Kind",
+    "LibraryError", "LogFault", "NONCE_BYTES", "OWNER_BYTES", "Policy", "Refusal", "Registers", "Response", "Session", "Verdict",
+    "build_command", "check", "check_quote", "code_name", "decode_attest", "decode_command", "decode_response", "events", "replay",
+    "selection",
+]
 __version__ = "0.1.0"
 
 # As in vinjakwe.h, with which a test compares them.
@@ -42,6 +54,7 @@ _DONE, _REFUSED, _NO_ROOM, _NO_COMMAND = range(4)
 _FRAMER_MORE, _FRAMER_READY, _FRAMER_BROKEN = range(3)
 _EVENT, _CALLER_OPENED = 32, 0
 _ATTEST_REFUSED, _ATTEST_NO_BANK, _ATTEST_REQUIREMENT = 17, 18, 22
+_POLICY_NO_DIGEST = 5
 _DIGESTS = {"sha1": (0, 20), "sha256": (480, 32), "sha384": (1248, 48)}
 _COMMAND_NAMES = {number: name for name, number in COMMANDS.items()}
 _CODE_NAMES = {number: name for name, number in CODES.items()}
@@ -70,6 +83,9 @@ class Refusal(ValueError):
         super().__init__(f"refused {code:03x} at {at}: {code_name(code)}")
         self.code, self.at, self.name = code, at, code_name(code)
 
+    def __reduce__(self) -> tuple[type[Refusal], tuple[int, int]]:
+        return Refusal, (self.code, self.at)
+
 
 class LogFault(ValueError):
     """The log is none: the kind of its first fault, as `Truncated`, and how many bytes are before it."""
@@ -77,6 +93,10 @@ class LogFault(ValueError):
     def __init__(self, kind: int, at: int) -> None:
         self.kind, self.at = "".join(word.capitalize() for word in LOG_FAULTS[kind].split("_")), at
         super().__init__(f"log {self.kind} at {at}")
+        self._number = kind
+
+    def __reduce__(self) -> tuple[type[LogFault], tuple[int, int]]:
+        return LogFault, (self._number, self.at)
 
 
 class BrokenStream(ValueError):
@@ -85,6 +105,9 @@ class BrokenStream(ValueError):
     def __init__(self, frames: list[bytes]) -> None:
         super().__init__("no buffer has the size that was stated")
         self.frames = frames
+
+    def __reduce__(self) -> tuple[type[BrokenStream], tuple[list[bytes]]]:
+        return BrokenStream, (self.frames,)
 
 
 class _Refusal(Structure):
@@ -134,10 +157,21 @@ class _AttestFault(Structure):
     _fields_ = [("code", c_uint32), ("at", c_uint32), ("hash", c_uint16), ("pcr", c_uint32)]
 
 
-def _load() -> ctypes.PyDLL:
-    name = os.environ.get("VINJAKWE_LIBRARY") or find_library("vinjakwe") or "libvinjakwe.so.0"
+class _Policy(Structure):
+    _fields_ = [("hash", c_uint16), ("digest", c_uint8 * 48)]
+
+
+def _file_name() -> str:
+    """The library's file: the one that is named, or that lies in the package (as in a wheel), or that the system finds."""
+    within = Path(__file__).with_name("libvinjakwe.so.0")
+    return os.environ.get("VINJAKWE_LIBRARY") or (str(within) if within.exists() else find_library("vinjakwe")) or "libvinjakwe.so.0"
+
+
+def _load() -> tuple[ctypes.PyDLL, ctypes.CDLL]:
+    """The library, whose calls hold the interpreter's lock, and the same for calls that let it go."""
+    name = _file_name()
     try:
-        library = ctypes.PyDLL(name)
+        library, unlocked = ctypes.PyDLL(name), ctypes.CDLL(name)
     except OSError as error:
         raise LibraryError(f"the library vinjakwe is not found ({error}): install it, or name its file in VINJAKWE_LIBRARY") from None
     try:
@@ -147,8 +181,9 @@ def _load() -> ctypes.PyDLL:
     if found != __version__:
         raise LibraryError(f"{name} has version {found}, and this package is for {__version__}")
     p, size, number, refusal, count = c_void_p, c_size_t, c_uint32, POINTER(_Refusal), POINTER(c_uint32)
-    functions = [(f"{state}_{what}", size, []) for state in ("device", "framer", "log_replay", "caller") for what in ("size", "align")]
-    for function, result, words in functions + [
+    states = ("device", "framer", "log_replay", "caller")
+    rooms: list[tuple[str, Any, list[Any]]] = [(f"{state}_{what}", size, []) for state in states for what in ("size", "align")]
+    for function, result, words in rooms + [
         ("device_init", number, [p, p, size, c_uint64]), ("device_power_cycle", None, [p]),
         ("device_execute", size, [p, p, size, p, p, size]),
         ("framer_init", None, [p]), ("framer_push", size, [p, p, size, count]), ("framer_frame", size, [p, p, size]),
@@ -166,13 +201,16 @@ def _load() -> ctypes.PyDLL:
         ("caller_init", None, [p]), ("caller_start", number, [p, p, size, p, size, p, size]),
         ("caller_seal", size, [p, p, size, p, size, p, size, p, size, p, size, number, p, size]),
         ("caller_open", number, [p, p, size]), ("caller_give_up", number, [p, p, size]),
+        ("policy_start", number, [p, c_uint16]), ("policy_restart", number, [p]), ("policy_pcr", number, [p, p, size, p, size, refusal]),
+        ("policy_or", number, [p, p, size, refusal]), ("policy_command_code", number, [p, number]), ("policy_auth_value", number, [p]),
     ]:
-        call = getattr(library, "tpm_" + function)
-        call.restype, call.argtypes = result, words
-    return library
+        for it in library, unlocked:
+            call = getattr(it, "tpm_" + function)
+            call.restype, call.argtypes = result, words
+    return library, unlocked
 
 
-_library = _load()
+_library, _unlocked = _load()
 
 
 class _View(Structure):
@@ -207,6 +245,12 @@ def _lend(call: Callable[..., int], *words: Any) -> int:
             _give_back(byref(view))
 
 
+def _lend_long(name: str, *words: Any) -> int:
+    """As _lend, for a call that may take long: other threads run meanwhile where nobody can change what is lent."""
+    is_fixed = all(type(word[0]) is bytes for word in words if isinstance(word, tuple))
+    return _lend(getattr(_unlocked if is_fixed else _library, name), *words)
+
+
 def _judge(call: Callable[..., int], *words: Any) -> None:
     """Makes a call whose last word is a refusal, and raises it."""
     refusal = _Refusal()
@@ -225,11 +269,12 @@ def _raise_fault(answer: int, at: int, code: int = 0) -> None:
         raise Refusal(code, at)
 
 
-def _room(what: str) -> ctypes.Array:
+def _room(what: str) -> ctypes.Array[c_uint8]:
     """Memory for a device, a framer, a replay or a caller, at the place that it wants."""
     size, align = getattr(_library, f"tpm_{what}_size")(), getattr(_library, f"tpm_{what}_align")()
     whole = (c_uint8 * (size + align))()
-    return (c_uint8 * size).from_buffer(whole, -ctypes.addressof(whole) % align)
+    room: ctypes.Array[c_uint8] = (c_uint8 * size).from_buffer(whole, -ctypes.addressof(whole) % align)
+    return room
 
 
 def _part(view: memoryview, it: _Part) -> bytes:
@@ -337,30 +382,39 @@ class Framer:
                 return frames
 
 
-Registers = dict[str, tuple[bytes, ...]]
+Registers = Dict[str, Tuple[bytes, ...]]
 
 
-def replay(log: Buffer | BinaryIO) -> Registers:
-    """The 24 registers of each bank, by the hash's name, after a log: its bytes, or a file that is read to its end. Raises LogFault."""
+def _whole(log: Log) -> Buffer:
+    """The bytes of a log that is given by its bytes, by a path, or by a file that is read to its end."""
+    if isinstance(log, (str, os.PathLike)):
+        return Path(log).read_bytes()
+    return log.read() if hasattr(log, "read") and not isinstance(log, mmap) else log
+
+
+def replay(log: Log) -> Registers:
+    """The 24 registers of each bank, by the hash's name, after a log: its bytes, its path, or a file that is read to its end, of which
+    65,536 bytes are held at once. Raises LogFault."""
     out, at = (c_uint8 * REGISTERS_BYTES)(), c_uint32()
-    try:
-        kind = _lend(_library.tpm_log_replay, (log,), out, byref(at))
-    except TypeError:
-        if not hasattr(log, "read"):
-            raise
-        kind = _replay_file(log, out, at)
+    if isinstance(log, (str, os.PathLike)):
+        with open(log, "rb") as file:
+            kind = _replay_file(file.read, out, at)
+    elif hasattr(log, "read") and not isinstance(log, mmap):
+        kind = _replay_file(log.read, out, at)
+    else:
+        kind = _lend_long("tpm_log_replay", (log,), out, byref(at))
     _raise_fault(kind, at.value)
     whole = bytes(out)
     return {name: tuple(whole[start + size * i:][:size] for i in range(24)) for name, (start, size) in _DIGESTS.items()}
 
 
-def _replay_file(log: BinaryIO, out: ctypes.Array, at: c_uint32) -> int:
+def _replay_file(read: Callable[[int], bytes], out: ctypes.Array[c_uint8], at: c_uint32) -> int:
     room = _room("log_replay")
     _library.tpm_log_replay_init(room)
-    while piece := log.read(1 << 16):
+    while piece := read(1 << 16):
         if kind := _lend(_library.tpm_log_replay_feed, room, (piece,), byref(at)):
             return kind
-    return _library.tpm_log_replay_end(room, out, byref(at))
+    return int(_library.tpm_log_replay_end(room, out, byref(at)))
 
 
 class Event(NamedTuple):
@@ -372,25 +426,34 @@ class Event(NamedTuple):
     type: int
     digests: dict[str | int, bytes]
     data: bytes
-    hashed: tuple[str, ...]
+    hashed: tuple[str | int, ...]
 
 
-def events(log: Buffer) -> Iterator[Event]:
-    """The records of a log's bytes, one by one. Raises LogFault behind those before the fault."""
-    place, event, at, number = _LogPlace(), _LogEvent(), c_uint32(), 0
-    while (said := _lend(_library.tpm_log_event, (log,), byref(place), byref(event), byref(at))) == _EVENT:
+def events(log: Log) -> Iterator[Event]:
+    """The records of a log, one by one: of its bytes, its path, or a file that is read to its end. Raises LogFault behind those before
+    the fault."""
+    place, event, at, number, whole = _LogPlace(), _LogEvent(), c_uint32(), 0, _whole(log)
+    while (said := _lend(_library.tpm_log_event, (whole,), byref(place), byref(event), byref(at))) == _EVENT:
         number += 1
-        found = [(_HASH_NAMES.get(it.hash, it.hash), it) for it in event.digests[:event.digest_count]]
-        with memoryview(log).cast("B") as view:
+        listed = event.digests[:event.digest_count]
+        found: list[tuple[str | int, _LogDigest]] = [(_HASH_NAMES.get(it.hash, it.hash), it) for it in listed]
+        with memoryview(whole).cast("B") as view:
             digests, data = {name: _part(view, it.digest) for name, it in found}, _part(view, event.data)
         yield Event(number, event.pcr, event.type, digests, data, tuple(name for name, it in found if it.hashed))
     _raise_fault(said, at.value)
 
 
+# How each TPMS_ATTEST begins: TPM_GENERATED_VALUE (Part 2, 6.2).
+_GENERATED = b"\xffTCG"
+
+
 def check_quote(log: Buffer, quote: Buffer, hash: str = "sha256") -> bool:
-    """Whether the digest of a quote's TPMS_QUOTE_INFO is that of a log's registers. Raises LogFault, Refusal (whose code is not told: 0)."""
+    """Whether the digest of a quote's TPMS_QUOTE_INFO is that of a log's registers. Raises LogFault, Refusal (whose code is not told: 0),
+    and ValueError for a whole TPMS_ATTEST, which is for `check`."""
     at = c_uint32()
-    answer = _lend(_library.tpm_log_check_quote, (log,), (quote,), _hash(hash), byref(at))
+    answer = _lend_long("tpm_log_check_quote", (log,), (quote,), _hash(hash), byref(at))
+    if answer == _ATTEST_REFUSED and bytes(memoryview(quote).cast("B")[:4]) == _GENERATED:
+        raise ValueError("this is a whole TPMS_ATTEST, which check() takes; its TPMS_QUOTE_INFO is decode_attest(..).info")
     _raise_fault(answer, at.value)
     return Kind(answer) is Kind.MATCHES
 
@@ -403,13 +466,17 @@ def selection(text: str) -> bytes:
     bits = dict.fromkeys(HASHES, 0)
     for part in text.split("+"):
         name, _, listed = part.partition(":")
-        numbers = [_REGISTER.fullmatch(it) for it in listed.split(",")]
+        numbers = [it[1] if it else None for it in map(_REGISTER.fullmatch, listed.split(","))]
         if name not in HASHES or listed != "all" and None in numbers:
             raise ValueError(f"{part!r} is no list of registers, as sha256:0,1,2 or sha256:all")
-        for pcr in range(24) if listed == "all" else (int(it[1]) for it in numbers):
+        for pcr in range(24) if listed == "all" else (int(it) for it in numbers if it):
             bits[name] |= 1 << pcr
     return len(HASHES).to_bytes(4, "big") + b"".join(
         number.to_bytes(2, "big") + b"\3" + bits[name].to_bytes(3, "little") for name, number in HASHES.items())
+
+
+def _selected(list: Selected) -> Buffer:
+    return selection(list) if isinstance(list, str) else list
 
 
 class Attest(NamedTuple):
@@ -455,17 +522,65 @@ class Verdict(NamedTuple):
         return self.kind is Kind.MATCHES
 
 
-def check(log: Buffer, attest: Buffer, nonce: Buffer, require: Buffer = b"", hash: str = "sha256") -> Verdict:
-    """Compares a log with a TPMS_ATTEST of a quote, whose signature has to be verified elsewhere: its nonce, the registers of the
-    TPML_PCR_SELECTION `require`, and the digest under this hash. Raises LogFault, and Refusal for bytes that spell no quote;
-    ValueError where `require` is no selection."""
-    fault = _AttestFault()
-    answer = _lend(_library.tpm_log_check_attest, (log,), (attest,), _hash(hash), (nonce,), (require,), byref(fault))
+def check(log: Buffer, attest: Buffer, nonce: Buffer, require: Selected = b"", hash: str = "sha256") -> Verdict:
+    """Compares a log with a TPMS_ATTEST of a quote, whose signature has to be verified elsewhere: its nonce, the registers that are
+    required, and the digest under this hash. `require` is a TPML_PCR_SELECTION or a list as `sha256:0,7`. Raises LogFault, and Refusal
+    for bytes that spell no quote; ValueError where `require` is no selection."""
+    fault, listed = _AttestFault(), _selected(require)
+    answer = _lend_long("tpm_log_check_attest", (log,), (attest,), _hash(hash), (nonce,), (listed,), byref(fault))
     _raise_fault(answer, fault.at, fault.code)
     if answer == _ATTEST_REQUIREMENT:
         raise ValueError("require: " + str(Refusal(fault.code, fault.at)))
     lacks = Kind(answer) is Kind.LACKS
     return Verdict(Kind(answer), _HASH_NAMES[fault.hash] if lacks else None, fault.pcr if lacks else None)
+
+
+class Policy:
+    """The digest of a policy in a hash, without a device (Part 1, "Enhanced Authorization"; Part 3, 23). A policy that asserts nothing
+    has zeros. A call that raises changes nothing."""
+
+    def __init__(self, hash: str = "sha256") -> None:
+        self._policy, self._size = _Policy(), _DIGESTS[hash][1] if hash in HASHES else 0
+        _library.tpm_policy_start(byref(self._policy), _hash(hash))
+
+    @property
+    def digest(self) -> bytes:
+        """What an object with this policy has as its authPolicy: 20, 32 or 48 bytes."""
+        return bytes(self._policy.digest[:self._size])
+
+    def __repr__(self) -> str:
+        return f"<Policy {_HASH_NAMES[self._policy.hash]} {self.digest.hex()}>"
+
+    def _assert(self, name: str, *words: Any) -> None:
+        refusal = _Refusal()
+        answer = _lend(getattr(_library, "tpm_policy_" + name), byref(self._policy), *words, *[byref(refusal)] * (name in ("pcr", "or")))
+        if answer == _REFUSED:
+            raise Refusal(refusal.code, refusal.at)
+        if answer == _POLICY_NO_DIGEST:
+            raise ValueError(f"a digest of the registers has {self._size} bytes here")
+
+    def restart(self) -> None:
+        """TPM2_PolicyRestart: nothing is asserted any more."""
+        self._assert("restart")
+
+    def pcr(self, selected: Selected, digest: Buffer) -> None:
+        """TPM2_PolicyPCR: the selected registers, as `sha256:0,7`, have values with this digest. Raises Refusal where `selected` is no
+        selection, ValueError where the digest has another length than the policy's."""
+        self._assert("pcr", (_selected(selected),), (digest,))
+
+    def any_of(self, digests: Iterable[bytes]) -> None:
+        """TPM2_PolicyOR: the policy is one of those with these 2 to 8 digests. Raises Refusal for other lists."""
+        listed = [bytes(it) for it in digests]
+        spelled = len(listed).to_bytes(4, "big") + b"".join(len(it).to_bytes(2, "big") + it for it in listed)
+        self._assert("or", (spelled,))
+
+    def command_code(self, command: str | int) -> None:
+        """TPM2_PolicyCommandCode: the command is the one of this name or number."""
+        self._assert("command_code", _number(command))
+
+    def auth_value(self) -> None:
+        """TPM2_PolicyAuthValue: the authorization value of the entity is known."""
+        self._assert("auth_value")
 
 
 class Device:

@@ -1,21 +1,24 @@
 """python -m vinjakwe check LOG [--attest FILE [--nonce HEX] [--require LIST] [--hash NAME]]: a log's registers, or what a quote as it
 was signed says and what is said of it beside the log, as tpmtool prints them. The status is 0, or 1 for a mismatch, a refusal or a
 fault."""
+from __future__ import annotations
+
 import argparse
 import re
 import sys
+from typing import BinaryIO
 
 from . import HASHES, Kind, LogFault, Refusal, check, check_quote, decode_attest, replay, selection
 
 
-def show_registers(log) -> int:
+def show_registers(log: BinaryIO) -> int:
     for name, values in replay(log).items():
         for i, value in enumerate(values):
             print(name, i, value.hex())
     return 0
 
 
-def show_quote(log: bytes, data: bytes, nonce, require, hash: str) -> int:
+def show_quote(log: bytes, data: bytes, nonce: str | None, require: bytes | None, hash: str) -> int:
     replay(log)
     if nonce is not None and not re.fullmatch("([0-9a-fA-F]{2})*", nonce):
         print("not hexadecimal")

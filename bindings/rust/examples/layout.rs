@@ -21,6 +21,7 @@ fn main() {
     tell!(tpm_log_event, pcr, r#type, digest_count, digests, data);
     tell!(tpm_attest, signer, nonce, clock, reset_count, restart_count, safe, firmware_version, selections, digest);
     tell!(tpm_attest_fault, code, at, hash, pcr);
+    tell!(tpm_policy, hash, digest);
     for (number, name) in vinjakwe::LOG_FAULTS.iter().enumerate() {
         println!("TPM_LOG_{} {number}", name.to_uppercase());
     }

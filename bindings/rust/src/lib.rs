@@ -4,16 +4,20 @@
 #![warn(missing_docs)]
 
 mod buffers;
+#[cfg(feature = "alloc")]
+extern crate alloc;
 #[doc(hidden)]
 pub mod c;
 mod logs;
+mod quotes;
 mod states;
 
 use core::fmt;
 
 pub use buffers::{build_command, Command, List, Response, Session};
 pub use logs::{check, check_quote, events, replay, Bank, Digest, Event, Events, Registers, Replay, Verdict};
-pub use states::{Caller, Device, Framer, Room};
+pub use quotes::{Attest, Policy, Selection};
+pub use states::{Caller, Device, Framer, Place, Room};
 
 /// The version of this crate and of the library that it wants.
 pub const VERSION: &str = env!("CARGO_PKG_VERSION");
@@ -40,6 +44,12 @@ pub struct Refusal {
     pub at: u32,
 }
 
+impl fmt::Display for Refusal {
+    fn fmt(&self, f: &mut fmt::Formatter<'_>) -> fmt::Result {
+        write!(f, "refused {:03x} at {}", self.code, self.at)
+    }
+}
+
 /// The kind of a log's first fault, as `Truncated`, and how many bytes are before it.
 #[derive(Clone, Copy, Debug, PartialEq, Eq)]
 pub struct LogFault {
@@ -47,6 +57,12 @@ pub struct LogFault {
     pub kind: &'static str,
     /// The position.
     pub at: u32,
+}
+
+impl fmt::Display for LogFault {
+    fn fmt(&self, f: &mut fmt::Formatter<'_>) -> fmt::Result {
+        write!(f, "log {} at {}", self.kind, self.at)
+    }
 }
 
 /// The kinds of a log's faults, by their numbers in the header.
@@ -68,6 +84,8 @@ pub enum Fault {
     Length,
     /// No bank has this hash.
     NoBank,
+    /// This is a whole TPMS_ATTEST, which `check` takes; its TPMS_QUOTE_INFO is the `info` of an `Attest`.
+    Attest,
     /// What is required is no TPML_PCR_SELECTION.
     Requirement(Refusal),
     /// The call does not apply to what the session has done so far, or to these bytes.
@@ -80,12 +98,13 @@ impl fmt::Display for Fault {
     fn fmt(&self, f: &mut fmt::Formatter<'_>) -> fmt::Result {
         match self {
             Fault::Version => f.write_str("the library has another version than the crate"),
-            Fault::Refused(it) => write!(f, "refused {:03x} at {}", it.code, it.at),
-            Fault::Log(it) => write!(f, "log {} at {}", it.kind, it.at),
+            Fault::Refused(it) => it.fmt(f),
+            Fault::Log(it) => it.fmt(f),
+            Fault::Attest => f.write_str("this is a whole TPMS_ATTEST, which check takes"),
             Fault::NoCommand => f.write_str("no command has this number"),
             Fault::Length => f.write_str("the room or a value has another length than is wanted"),
             Fault::NoBank => f.write_str("no bank has this hash"),
-            Fault::Requirement(it) => write!(f, "requirement refused {:03x} at {}", it.code, it.at),
+            Fault::Requirement(it) => write!(f, "requirement {it}"),
             Fault::Session => f.write_str("the session cannot do this"),
             Fault::Broken => f.write_str("no buffer has the size that was stated"),
         }

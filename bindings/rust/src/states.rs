@@ -1,5 +1,7 @@
 //! A framer, a device and a caller, each in memory of its own.
 use crate::{c, Fault, BUFFER_BYTES, NONCE_BYTES};
+#[cfg(feature = "alloc")]
+use alloc::boxed::Box;
 use core::mem::{align_of, size_of};
 
 /// Room for one of the library's states, a device, a framer, a replay or a caller, which lies where it is until that is dropped.
@@ -13,26 +15,52 @@ impl Room {
         Room([0; 8192])
     }
 
-    /// The place for a state of this size and alignment.
-    pub(crate) fn fit(&mut self, size: usize, align: usize) -> Result<&mut Self, Fault> {
-        if size > size_of::<Room>() || align > align_of::<Room>() { Err(Fault::Length) } else { Ok(self) }
-    }
+}
 
-    pub(crate) fn place(&mut self) -> *mut u8 {
+mod sealed {
+    pub trait Sealed {}
+}
+
+/// Where a state lies: a `Room` that is borrowed, or with the feature `alloc` a boxed one, which the state then owns. Neither is moved
+/// with what holds it.
+pub trait Place: sealed::Sealed {
+    #[doc(hidden)]
+    fn place(&mut self) -> *mut u8;
+
+    /// The place for a state of this size and alignment.
+    #[doc(hidden)]
+    fn fit(&mut self, size: usize, align: usize) -> Result<*mut u8, Fault> {
+        if size > size_of::<Room>() || align > align_of::<Room>() { Err(Fault::Length) } else { Ok(self.place()) }
+    }
+}
+
+impl sealed::Sealed for &mut Room {}
+
+impl Place for &mut Room {
+    fn place(&mut self) -> *mut u8 {
+        self.0.as_mut_ptr()
+    }
+}
+
+#[cfg(feature = "alloc")]
+impl sealed::Sealed for Box<Room> {}
+
+#[cfg(feature = "alloc")]
+impl Place for Box<Room> {
+    fn place(&mut self) -> *mut u8 {
         self.0.as_mut_ptr()
     }
 }
 
 /// Cuts a stream into its buffers, each of which states its size.
-pub struct Framer<'r>(&'r mut Room);
+pub struct Framer<P: Place>(P);
 
-impl<'r> Framer<'r> {
+impl<P: Place> Framer<P> {
     /// A framer that holds nothing.
-    pub fn new(room: &'r mut Room) -> Result<Self, Fault> {
+    pub fn new(mut room: P) -> Result<Self, Fault> {
         // SAFETY: the room is large enough and lies where the library wants it, and is borrowed as long as it is used.
         unsafe {
-            let room = room.fit(c::tpm_framer_size(), c::tpm_framer_align())?;
-            c::tpm_framer_init(room.place());
+            c::tpm_framer_init(room.fit(c::tpm_framer_size(), c::tpm_framer_align())?);
             Ok(Framer(room))
         }
     }
@@ -56,16 +84,24 @@ impl<'r> Framer<'r> {
 }
 
 /// A device in memory.
-pub struct Device<'r>(&'r mut Room);
+pub struct Device<P: Place>(P);
 
-impl<'r> Device<'r> {
+#[cfg(feature = "alloc")]
+impl Device<Box<Room>> {
+    /// As `new`, of a device that owns its room.
+    pub fn boxed(owner: &[u8], greatest: u64) -> Result<Self, Fault> {
+        Device::new(Box::new(Room::new()), owner, greatest)
+    }
+}
+
+impl<P: Place> Device<P> {
     /// A device of this owner, which is not started, and of which no counter has had a greater value; or Length, of an owner's value
     /// of more than 48 bytes.
-    pub fn new(room: &'r mut Room, owner: &[u8], greatest: u64) -> Result<Self, Fault> {
+    pub fn new(mut room: P, owner: &[u8], greatest: u64) -> Result<Self, Fault> {
         // SAFETY: as for a framer, and the owner's value is there for the call.
         unsafe {
-            let room = room.fit(c::tpm_device_size(), c::tpm_device_align())?;
-            let made = c::tpm_device_init(room.place(), owner.as_ptr(), owner.len(), greatest);
+            let place = room.fit(c::tpm_device_size(), c::tpm_device_align())?;
+            let made = c::tpm_device_init(place, owner.as_ptr(), owner.len(), greatest);
             if made == 0 { Err(Fault::Length) } else { Ok(Device(room)) }
         }
     }
@@ -87,19 +123,18 @@ impl<'r> Device<'r> {
 }
 
 /// The other end of a session. Where a call gives a fault, nothing changes.
-pub struct Caller<'r>(&'r mut Room);
+pub struct Caller<P: Place>(P);
 
 fn applies(it: bool) -> Result<(), Fault> {
     if it { Ok(()) } else { Err(Fault::Session) }
 }
 
-impl<'r> Caller<'r> {
+impl<P: Place> Caller<P> {
     /// A caller without a session.
-    pub fn new(room: &'r mut Room) -> Result<Self, Fault> {
+    pub fn new(mut room: P) -> Result<Self, Fault> {
         // SAFETY: the room is large enough and lies where the library wants it, and is borrowed as long as it is used.
         unsafe {
-            let room = room.fit(c::tpm_caller_size(), c::tpm_caller_align())?;
-            c::tpm_caller_init(room.place());
+            c::tpm_caller_init(room.fit(c::tpm_caller_size(), c::tpm_caller_align())?);
             Ok(Caller(room))
         }
     }

@@ -10,7 +10,8 @@ use Rattle.tpm_arg_values.specs.declared.owner.OwnerFault.{OwnerFault}
 abbrev pub bytes_in : List ℕ → Option (List ℕ)
 bytes_in text = result_ok (decode_of text)
 
--- an owner's authorization value by its hexadecimal digits, of no more bytes than a digest has; or none for any other text
+-- an owner's authorization value by its hexadecimal digits, of no more bytes than a digest has; or
+-- none for any other text
 abbrev pub IsOwner : List ℕ → Option (List ℕ) → Type 0
 IsOwner text owner = (owner ≡ bytes_in text) × IfSome owner (λ bytes. length bytes ≤ digest_bytes)
 

@@ -26,11 +26,13 @@ parts code text = slice_split (λ b. b == code) text
 
 -- `all`, or numbers of registers with commas between them
 abbrev pub are_registers : List ℕ → Bool
-are_registers text = bytes_eq text (codes "all") || list_all (λ t. is_numeral t && is_pcr (digits_value 10 t)) (parts 44 text)
+are_registers text =
+    bytes_eq text (codes "all") || list_all (λ t. is_numeral t && is_pcr (digits_value 10 t)) (parts 44 text)
 
 -- They name this register.
 abbrev pub name_register : ℕ → List ℕ → Bool
-name_register register text = bytes_eq text (codes "all") || list_any (λ t. is_numeral t && (digits_value 10 t == register)) (parts 44 text)
+name_register register text = bytes_eq text (codes "all") || list_any
+    (λ t. is_numeral t && (digits_value 10 t == register)) (parts 44 text)
 
 -- what stands before the first colon, and behind it
 abbrev pub name_in : List ℕ → List ℕ
@@ -51,7 +53,9 @@ part_names bank register part = bytes_eq (name_in part) (hash_word bank) && name
 abbrev pub names : List ℕ → Alg → ℕ → Bool
 names text bank register = list_any (part_names bank register) (parts 43 text)
 
--- a part or more with `+` between them, and an entry for each bank in which the registers that they name are selected, and no others
+-- a part or more with `+` between them, and an entry for each bank in which the registers that they
+-- name are selected, and no others
 abbrev pub AreSelections : List ℕ → List Selection → Type 0
 AreSelections text selections = (list_all is_part (parts 43 text) ≡ true) × (map (λ s. s.hash) selections ≡ all_algs)
-    × AllByRecursion (λ s. (register : ℕ) → register < 24 → is_selected s.select register ≡ names text s.hash register) selections
+    × AllByRecursion (λ s. (register : ℕ)
+    → register < 24 → is_selected s.select register ≡ names text s.hash register) selections

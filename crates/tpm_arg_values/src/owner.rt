@@ -18,13 +18,14 @@ pub enum OwnerFault {
     OutOfMemory,
 }
 
-/// The owner's authorization value (TPM2B_AUTH; Part 2, 10.4.5) whose bytes these hexadecimal digits are, in either letter case;
-/// no digits are the empty value.
+/// The owner's authorization value (TPM2B_AUTH; Part 2, 10.4.5) whose bytes these hexadecimal
+/// digits are, in either letter case; no digits are the empty value.
 ///
-/// A text that is not hexadecimal is refused as such whatever its length. Memory is asked for all bytes of the text, before they
-/// are counted.
+/// A text that is not hexadecimal is refused as such whatever its length. Memory is asked for all
+/// bytes of the text, before they are counted.
 pub fn owner_value(alloc: Global, text: &str) -> Result<AuthValue, OwnerFault>
-    ensures { MatchResult result (λ value. IsOwner text.now (Some value)) (λ fault. IsOwnerFault text.now fault) }
+    ensures { MatchResult result
+        (λ value. IsOwner text.now (Some value)) (λ fault. IsOwnerFault text.now fault) }
 {
     match hex::decode(alloc, text) {
         Ok(bytes) => AuthValue::new(bytes.as_slice()).ok_or(OwnerFault::TooLong),

@@ -16,14 +16,17 @@ ghost use Rattle.tpm_arg_values.specs.Selections.{part_names as part_names_of, n
 use crate::number::decimal;
 use tpm_types::{Alg, REGISTERS, Selection, Selections};
 
-/// The registers of banks that this text lists as tpm2-tools do: `sha1:7+sha256:0,1,2`, or `sha256:all` for all 24 of a bank.
+/// The registers of banks that this text lists as tpm2-tools do: `sha1:7+sha256:0,1,2`, or
+/// `sha256:all` for all 24 of a bank.
 ///
-/// The answer has an entry for each bank in the order of their numbers, in which no register is selected where the text doesn't
-/// name the bank (TPML_PCR_SELECTION; Part 2, 10.9.7). A bank that is named twice has the registers of both lists. A number may
-/// have leading zeros. None is answered for any other text: where a bank is none of `sha1`, `sha256` and `sha384`, or where a
+/// The answer has an entry for each bank in the order of their numbers, in which no register is
+/// selected where the text doesn't name the bank (TPML_PCR_SELECTION; Part 2, 10.9.7). A bank that
+/// is named twice has the registers of both lists. A number may have leading zeros. None is
+/// answered for any other text: where a bank is none of `sha1`, `sha256` and `sha384`, or where a
 /// number is above 23, has a sign, or is left out, as in `sha256:`.
 pub fn selections(text: &str) -> Option<Selections>
-    ensures { MatchOption result ((selections : List SelectionValue) → AreSelections text.now selections → ⊥) (λ selections. AreSelections text.now selections) }
+    ensures { MatchOption result ((selections : List SelectionValue)
+        → AreSelections text.now selections → ⊥) (λ selections. AreSelections text.now selections) }
 {
     if !text.split('+').all(|part| is_part(part)) {
         return None;
@@ -38,7 +41,8 @@ pub fn selections(text: &str) -> Option<Selections>
 // The registers of a bank that the text names.
 fn selection(text: &str, bank: Alg) -> Selection
     ensures hash { result.hash ≡ bank }
-    ensures select { (register : ℕ) → register < 24 → is_selected result.select register ≡ names_of text.now bank register }
+    ensures select { (register : ℕ)
+        → register < 24 → is_selected result.select register ≡ names_of text.now bank register }
 {
     Selection {
         hash: bank,
@@ -50,7 +54,8 @@ fn selection(text: &str, bank: Alg) -> Selection
     }
 }
 
-// The bits of eight registers from this one on, set for those that the text names. The text is short, and is read anew for each.
+// The bits of eight registers from this one on, set for those that the text names. The text is
+// short, and is read anew for each.
 fn selected(text: &str, bank: Alg, first: u32) -> u8
     requires { first < 24 }
     ensures { (bit : ℕ) → bit < 8 → is_set bit result ≡ names_of text.now bank (first + bit) }

@@ -6,7 +6,8 @@ use Rattle.clap.specs.declared.builder.command.Command.TheViews.{out-Command}
 use Rattle.clap.specs.declared.builder.command.Command.{Command}
 use Rattle.tpm_args.specs.Program.{IsApp}
 
-pub adds : (old sub new : Command) (words added : App) → IsApp words old → IsApp added sub → AddsSubcommand old sub new → IsApp (with_subcommand words added.top) new
+pub adds : (old sub new : Command) (words added : App)
+    → IsApp words old → IsApp added sub → AddsSubcommand old sub new → IsApp (with_subcommand words added.top) new
 adds old sub new words added o s a = (
   a.shape s.1 ∙ (ap (λ (x : App). with_subcommand x (shape_of sub)) o.0 ∙ ap (λ (x : App). with_subcommand words x.top) s.0),
   a.globals ∙ (ap (λ (b : Bool). b || (out-Command sub).has_globals) o.1 ∙ s.1),

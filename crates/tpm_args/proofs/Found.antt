@@ -51,7 +51,8 @@ agrees name v w same (ShowCapture file binary fields json) h = (
   sym (same (codes "reply")) ∙ h.1,
   h.2 ∙ ap is_given (same (codes "fields")),
   sym (same (codes "file")) ∙ h.3,
-  subst (λ (x : Option Text). IsInput x (w (codes "file"))) (same (codes "HEX")) (subst (λ (x : Option Text). IsInput (v (codes "HEX")) x) (same (codes "file")) h.4),
+  subst (λ (x : Option Text). IsInput x (w (codes "file")))
+      (same (codes "HEX")) (subst (λ (x : Option Text). IsInput (v (codes "HEX")) x) (same (codes "file")) h.4),
   h.5 ∙ ap is_given (same (codes "binary")),
   h.6 ∙ ap is_given (same (codes "json")),
 )
@@ -70,9 +71,11 @@ agrees name v w same (Check log registers quote attest sent required hash) h = (
   sym (same (codes "quote")) ∙ h.3,
   sym (same (codes "attest")) ∙ h.4,
   sym (same (codes "nonce")) ∙ h.5,
-  subst (λ (x : Option Text). IsWith x (w (codes "attest"))) (same (codes "nonce")) (subst (λ (x : Option Text). IsWith (v (codes "nonce")) x) (same (codes "attest")) h.6),
+  subst (λ (x : Option Text). IsWith x (w (codes "attest")))
+      (same (codes "nonce")) (subst (λ (x : Option Text). IsWith (v (codes "nonce")) x) (same (codes "attest")) h.6),
   subst (λ (x : Option Text). Requires x required) (same (codes "require")) h.7,
-  subst (λ (x : Option Text). IsWith x (w (codes "attest"))) (same (codes "require")) (subst (λ (x : Option Text). IsWith (v (codes "require")) x) (same (codes "attest")) h.8),
+  subst (λ (x : Option Text). IsWith x (w (codes "attest"))) (same (codes "require"))
+      (subst (λ (x : Option Text). IsWith (v (codes "require")) x) (same (codes "attest")) h.8),
   subst (λ (x : Option Text). IsHash (unwrap_or x (codes "sha256")) hash) (same (codes "hash")) h.9,
   subst (λ (x : Option Text). IsWithEither x (w (codes "quote")) (w (codes "attest"))) (same (codes "hash"))
       (subst (λ (x : Option Text). IsWithEither (v (codes "hash")) x (w (codes "attest"))) (same (codes "quote"))
@@ -87,7 +90,8 @@ agrees name v w same (Events log register places digests json) h = (
   h.5 ∙ ap is_given (same (codes "json")),
 )
 
-met : (o : Option (Text × List Row)) (name : Text) (f : Found) (t : Task) → option_map (λ (p : Text × List Row). p.0) o ≡ Some name → option_map (λ (p : Text × List Row). p.1) o ≡ Some (rows_of f)
+met : (o : Option (Text × List Row)) (name : Text) (f : Found) (t : Task) → option_map
+    (λ (p : Text × List Row). p.0) o ≡ Some name → option_map (λ (p : Text × List Row). p.1) o ≡ Some (rows_of f)
     → AsksWith name (first_value f) t → Asks o t
 met None name f t n r h = absurd (let z : ⊥ = cc in z)
 met (Some p) name f t n r h =
@@ -96,7 +100,8 @@ met (Some p) name f t n r h =
     subst (λ (x : Text). AsksWith x (λ id. first_of id p.1) t) named
     (agrees name (first_value f) (λ id. first_of id p.1) (λ id. first_value-rows f id ∙ ap (first_of id) rows) t h)
 
-met_back : (o : Option (Text × List Row)) (name : Text) (f : Found) (t : Task) → option_map (λ (p : Text × List Row). p.0) o ≡ Some name → option_map (λ (p : Text × List Row). p.1) o ≡ Some (rows_of f)
+met_back : (o : Option (Text × List Row)) (name : Text) (f : Found) (t : Task) → option_map
+    (λ (p : Text × List Row). p.0) o ≡ Some name → option_map (λ (p : Text × List Row). p.1) o ≡ Some (rows_of f)
     → Asks o t → AsksWith name (first_value f) t
 met_back None name f t n r h = absurd h
 met_back (Some p) name f t n r h =
@@ -105,7 +110,8 @@ met_back (Some p) name f t n r h =
     subst (λ (x : Text). AsksWith x (first_value f) t) named
     (agrees p.0 (λ id. first_of id p.1) (first_value f) (λ id. sym (first_value-rows f id ∙ ap (first_of id) rows)) t h)
 
-name_in : {Z : Type 0} (o : Option (Box SubCommand Z)) → option_map (λ (p : Text × List Row). p.0) (subcommand_rows o) ≡ option_map (λ (b : Box SubCommand Z). (out-SubCommand (box_value b)).name.now) o
+name_in : {Z : Type 0} (o : Option (Box SubCommand Z)) → option_map (λ (p : Text × List Row). p.0) (subcommand_rows o)
+    ≡ option_map (λ (b : Box SubCommand Z). (out-SubCommand (box_value b)).name.now) o
 name_in None = refl
 name_in (Some b) = refl
 
@@ -113,11 +119,13 @@ named : (m : ArgMatches) → option_map (λ (p : Text × List Row). p.0) (subcom
 named m = name_in (out-ArgMatches m).subcommand
 
 -- The task of a subcommand that was met is that of the matches.
-pub asks : (m : ArgMatches) (name : Text) (f : Found) (t : Task) → subcommand_name_of m ≡ Some name → option_map (λ (p : Text × List Row). p.1) (subcommand_rows_of m) ≡ Some (rows_of f)
+pub asks : (m : ArgMatches) (name : Text) (f : Found) (t : Task) → subcommand_name_of m ≡ Some name
+    → option_map (λ (p : Text × List Row). p.1) (subcommand_rows_of m) ≡ Some (rows_of f)
     → AsksWith name (first_value f) t → Asks (subcommand_rows_of m) t
 asks m name f t n r h = met (subcommand_rows_of m) name f t (named m ∙ n) r h
 
-pub asks_nothing : (m : ArgMatches) (name : Text) (f : Found) → subcommand_name_of m ≡ Some name → option_map (λ (p : Text × List Row). p.1) (subcommand_rows_of m) ≡ Some (rows_of f)
+pub asks_nothing : (m : ArgMatches) (name : Text) (f : Found) → subcommand_name_of m ≡ Some name
+    → option_map (λ (p : Text × List Row). p.1) (subcommand_rows_of m) ≡ Some (rows_of f)
     → AsksNothingWith name (first_value f) → AsksNothing (subcommand_rows_of m)
 asks_nothing m name f n r none = λ t h. none t (met_back (subcommand_rows_of m) name f t (named m ∙ n) r h)
 
@@ -133,7 +141,8 @@ memory_or Memory f h = tt
 
 -- an answer that may be a reason in two ways
 pub result_then : {A : Type 0} (o : Result (Option A) Stop) {N M : Type 0} {P Q : A → Type 0}
-    → MatchResult o (λ asked. MatchOption asked N P) (IsMemoryOr N) → (N → M) → ((x : A) → P x → Q x) → MatchResult o (λ asked. MatchOption asked M Q) (IsMemoryOr M)
+    → MatchResult o (λ asked. MatchOption asked N P) (IsMemoryOr N)
+    → (N → M) → ((x : A) → P x → Q x) → MatchResult o (λ asked. MatchOption asked M Q) (IsMemoryOr M)
 result_then (Ok asked) h f g = match_then asked h f g
 result_then (Err stop) h f g = memory_or stop f h
 
@@ -143,15 +152,18 @@ unfolding clap_on_literals
 simple names = refl
 
 -- what clap met in the words of these texts is what the program says
-pub met_is : {S : Type 0} (bytes : S → Text) (m : ArgMatches) (program : Command) (names : Bor (List (Bor (List ℕ)))) (texts all : List S) (words : List Text) → app_of program ≡ program_app (Names names)
-    → HasMatchesOf (app_of program) (map bytes texts) m → texts ≡ all → map bytes all ≡ words → subcommand_rows_of m ≡ subcommand_of (program_app (Names names)) words
+pub met_is : {S : Type 0} (bytes : S → Text) (m : ArgMatches) (program : Command) (names : Bor (List (Bor (List ℕ))))
+    (texts all : List S) (words : List Text) → app_of program ≡ program_app (Names names)
+    → HasMatchesOf (app_of program) (map bytes texts) m
+    → texts ≡ all → map bytes all ≡ words → subcommand_rows_of m ≡ subcommand_of (program_app (Names names)) words
 met_is bytes m program names texts all words same has are is =
     (has (ap is_simple same ∙ simple (Names names))).1 ∙ ap (λ (a : App). subcommand_of a (map bytes texts)) same
     ∙ ap (subcommand_of (program_app (Names names))) (ap (map bytes) are ∙ is)
 
 -- ---- words that are refused
 
-pub refuses : (words : List Text) (names : Bor (List (Bor (List ℕ)))) (stop : Stop) → AreAllNames names.now → IsMemoryOr (AsksNothing (subcommand_of (program_app (Names names)) words)) stop → Refuses words stop
+pub refuses : (words : List Text) (names : Bor (List (Bor (List ℕ)))) (stop : Stop) → AreAllNames names.now
+    → IsMemoryOr (AsksNothing (subcommand_of (program_app (Names names)) words)) stop → Refuses words stop
 refuses words names (Help text) all h = absurd h
 refuses words names (Usage text) all h = (names, all, λ _. h)
 refuses words names Memory all h = tt

@@ -20,7 +20,8 @@ name_rule names = record (required_rule (codes "NAME")) { parser = Some names }
 
 -- --reply NAME
 abbrev pub reply_rule : ValueParser → Rule
-reply_rule names = record (new_rule (codes "reply")) { long = Some (codes "reply"); value_names = 1; parser = Some names }
+reply_rule names =
+    record (new_rule (codes "reply")) { long = Some (codes "reply"); value_names = 1; parser = Some names }
 
 -- a flag, as --fields
 abbrev pub flag_rule : Text → Rule
@@ -36,7 +37,8 @@ buffer_app names = with_rule (with_rule (new_app (codes "show")) (reply_rule nam
 
 -- show [--reply NAME] [--fields] [--file FILE] [--binary] [--json] [HEX]
 abbrev pub show_app : ValueParser → App
-show_app names = with_rule (with_rule (with_rule (with_rule (buffer_app names) (option_rule (codes "file"))) (flag_rule (codes "binary"))) (flag_rule (codes "json")))
+show_app names = with_rule (with_rule (with_rule (with_rule (buffer_app names) (option_rule (codes "file")))
+    (flag_rule (codes "binary"))) (flag_rule (codes "json")))
     (optional_rule (codes "HEX"))
 
 -- build NAME HANDLES SESSIONS PARAMETERS
@@ -58,24 +60,31 @@ log_app name = with_rule (new_app name) (required_rule (codes "LOG"))
 
 -- check LOG [--registers FILE] [--quote HEX]
 abbrev pub compare_app : App
-compare_app = with_rule (with_rule (log_app (codes "check")) (option_rule (codes "registers"))) (option_rule (codes "quote"))
+compare_app =
+    with_rule (with_rule (log_app (codes "check")) (option_rule (codes "registers"))) (option_rule (codes "quote"))
 
 -- check LOG [--registers FILE] [--quote HEX] [--attest FILE] [--nonce HEX] [--require LIST] [--hash NAME]
 abbrev pub check_app : App
-check_app = with_rule (with_rule (with_rule (with_rule compare_app (option_rule (codes "attest"))) (option_rule (codes "nonce"))) (option_rule (codes "require")))
+check_app = with_rule (with_rule (with_rule (with_rule compare_app (option_rule (codes "attest")))
+    (option_rule (codes "nonce"))) (option_rule (codes "require")))
     (option_rule (codes "hash"))
 
 -- events LOG [--register N] [--places] [--digests] [--json]
 abbrev pub events_app : App
-events_app = with_rule (with_rule (with_rule (with_rule (log_app (codes "events")) (option_rule (codes "register"))) (flag_rule (codes "places"))) (flag_rule (codes "digests")))
+events_app = with_rule (with_rule (with_rule (with_rule (log_app (codes "events"))
+    (option_rule (codes "register"))) (flag_rule (codes "places"))) (flag_rule (codes "digests")))
     (flag_rule (codes "json"))
 
 -- one of the subcommands, or a version
 abbrev pub above_subcommands : App
-above_subcommands = record (new_app (codes "tpmtool")) { top = record (new_app (codes "tpmtool")).top { subcommand_required = true; has_version = true; has_long_version = true } }
+above_subcommands = record (new_app (codes "tpmtool")) {
+  top = record (new_app
+      (codes "tpmtool")).top { subcommand_required = true; has_version = true; has_long_version = true };
+}
 
 abbrev pub program_app : ValueParser → App
-program_app names = with_subcommand (with_subcommand (with_subcommand (with_subcommand (with_subcommand (with_subcommand above_subcommands
+program_app names = with_subcommand
+    (with_subcommand (with_subcommand (with_subcommand (with_subcommand (with_subcommand above_subcommands
     (show_app names).top) (build_app names).top) run_app.top) explain_app.top) check_app.top) events_app.top
 
 -- A command has these words, and none that it shares with its subcommands.

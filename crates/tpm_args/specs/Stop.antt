@@ -32,12 +32,16 @@ IsMemoryOr Reason Memory = Unit {0}
 -- what the words of a subcommand of this name ask for, if anything, or the end for that reason
 abbrev pub IsAsked : Text → ArgMatches → Result (Option Task) Stop → Type 0
 IsAsked name words asked = MatchResult asked
-    (λ task. MatchOption task (AsksNothingWith name (first_value (found_of words))) (AsksWith name (first_value (found_of words))))
+    (λ task. MatchOption task (AsksNothingWith name (first_value (found_of words)))
+    (AsksWith name (first_value (found_of words))))
     (IsMemoryOr (AsksNothingWith name (first_value (found_of words))))
 
 -- Help is answered only where clap doesn't take the words, and a usage fault only there and where they ask for nothing.
 abbrev pub Refuses : List Text → Stop → Type 0
-Refuses words (Help text) = (names : Bor (List (Bor (List ℕ)))) × AreAllNames names.now × (takes (program_app (Names names)) words ≡ false)
+Refuses words (Help text) =
+    (names : Bor (List (Bor (List ℕ))))
+    × AreAllNames names.now
+    × (takes (program_app (Names names)) words ≡ false)
 Refuses words (Usage text) = (names : Bor (List (Bor (List ℕ)))) × AreAllNames names.now
     × (takes (program_app (Names names)) words ≡ true → AsksNothing (subcommand_of (program_app (Names names)) words))
 Refuses words Memory = Unit {0}

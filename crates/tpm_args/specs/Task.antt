@@ -69,25 +69,41 @@ IsInput _ _ = ⊥
 
 -- a subcommand of this name, with these values of its words by their names, asks for the task
 abbrev pub AsksWith : Text → (Text → Option Text) → Task → Type 0
-AsksWith name value (Show reply fields hex) = (name ≡ codes "show") × Replies (value (codes "reply")) reply × (fields ≡ is_given (value (codes "fields")))
+AsksWith name value (Show reply fields hex) =
+    (name ≡ codes "show")
+    × Replies (value (codes "reply")) reply
+    × (fields ≡ is_given (value (codes "fields")))
     × (value (codes "HEX") ≡ Some hex.now) × (hex.now ≢ codes "-") × (value (codes "file") ≡ None)
     × (is_given (value (codes "binary")) ≡ false) × (is_given (value (codes "json")) ≡ false)
-AsksWith name value (ShowCapture file binary fields json) = (name ≡ codes "show") × (value (codes "reply") ≡ None) × (fields ≡ is_given (value (codes "fields")))
+AsksWith name value (ShowCapture file binary fields json) =
+    (name ≡ codes "show")
+    × (value (codes "reply") ≡ None)
+    × (fields ≡ is_given (value (codes "fields")))
     × (value (codes "file") ≡ option_map (λ f. f.now) file) × IsInput (value (codes "HEX")) (value (codes "file"))
     × (binary ≡ is_given (value (codes "binary"))) × (json ≡ is_given (value (codes "json")))
 AsksWith name value (Build code handles sessions parameters) = (name ≡ codes "build")
     × (option_and_then command_of_name (value (codes "NAME")) ≡ Some code)
-    × (value (codes "HANDLES") ≡ Some handles.now) × (value (codes "SESSIONS") ≡ Some sessions.now) × (value (codes "PARAMETERS") ≡ Some parameters.now)
-AsksWith name value (Run owner greatest) = (name ≡ codes "run") × IsOwner (unwrap_or (value (codes "owner")) (codes "")) owner
+    × (value (codes "HANDLES") ≡ Some handles.now)
+    × (value (codes "SESSIONS") ≡ Some sessions.now)
+    × (value (codes "PARAMETERS") ≡ Some parameters.now)
+AsksWith name value (Run owner greatest) =
+    (name ≡ codes "run")
+    × IsOwner (unwrap_or (value (codes "owner")) (codes "")) owner
     × IsDecimal (unwrap_or (value (codes "greatest")) (codes "0")) greatest
 AsksWith name value (Explain code) = (name ≡ codes "explain") × IsCode (value (codes "CODE")) code
-AsksWith name value (Check log registers quote attest sent required hash) = (name ≡ codes "check") × (value (codes "LOG") ≡ Some log.now)
-    × (value (codes "registers") ≡ option_map (λ r. r.now) registers) × (value (codes "quote") ≡ option_map (λ q. q.now) quote)
+AsksWith name value (Check log registers quote attest sent required hash) =
+    (name ≡ codes "check")
+    × (value (codes "LOG") ≡ Some log.now)
+    × (value (codes "registers") ≡ option_map (λ r. r.now) registers)
+    × (value (codes "quote") ≡ option_map (λ q. q.now) quote)
     × (value (codes "attest") ≡ option_map (λ a. a.now) attest) × (value (codes "nonce") ≡ option_map (λ s. s.now) sent)
     × IsWith (value (codes "nonce")) (value (codes "attest"))
     × Requires (value (codes "require")) required × IsWith (value (codes "require")) (value (codes "attest"))
-    × IsHash (unwrap_or (value (codes "hash")) (codes "sha256")) hash × IsWithEither (value (codes "hash")) (value (codes "quote")) (value (codes "attest"))
-AsksWith name value (Events log register places digests json) = (name ≡ codes "events") × (value (codes "LOG") ≡ Some log.now)
+    × IsHash (unwrap_or (value (codes "hash")) (codes "sha256")) hash
+    × IsWithEither (value (codes "hash")) (value (codes "quote")) (value (codes "attest"))
+AsksWith name value (Events log register places digests json) =
+    (name ≡ codes "events")
+    × (value (codes "LOG") ≡ Some log.now)
     × IsRegister (value (codes "register")) register × (places ≡ is_given (value (codes "places")))
     × (digests ≡ is_given (value (codes "digests"))) × (json ≡ is_given (value (codes "json")))
 

@@ -50,8 +50,10 @@ fn with_attest(
     word: &str,
     attest: Option<&str>,
 ) -> Result<(), Stop>
-    ensures { MatchResult result (λ _. IsWith (option_map (λ g. g.now) given.entry) (option_map (λ a. a.now) attest.entry))
-        (IsMemoryOr (IsWith (option_map (λ g. g.now) given.entry) (option_map (λ a. a.now) attest.entry) → ⊥)) }
+    ensures { MatchResult result
+        (λ _. IsWith (option_map (λ g. g.now) given.entry) (option_map (λ a. a.now) attest.entry))
+        (IsMemoryOr (IsWith
+        (option_map (λ g. g.now) given.entry) (option_map (λ a. a.now) attest.entry) → ⊥)) }
 {
     match (given, attest) {
         (Some(text), None) => {
@@ -69,8 +71,10 @@ fn with_quote(
     quote: Option<&str>,
     attest: Option<&str>,
 ) -> Result<(), Stop>
-    ensures { MatchResult result (λ _. IsWithEither (option_map (λ n. n.now) name.entry) (option_map (λ q. q.now) quote.entry) (option_map (λ a. a.now) attest.entry))
-        (IsMemoryOr (IsWithEither (option_map (λ n. n.now) name.entry) (option_map (λ q. q.now) quote.entry) (option_map (λ a. a.now) attest.entry) → ⊥)) }
+    ensures { MatchResult result (λ _. IsWithEither (option_map (λ n. n.now) name.entry)
+        (option_map (λ q. q.now) quote.entry) (option_map (λ a. a.now) attest.entry))
+        (IsMemoryOr (IsWithEither (option_map (λ n. n.now) name.entry)
+        (option_map (λ q. q.now) quote.entry) (option_map (λ a. a.now) attest.entry) → ⊥)) }
 {
     match (name, quote, attest) {
         (Some(text), None, None) => {
@@ -83,8 +87,10 @@ fn with_quote(
 
 // The registers that a list names, where it is given. A usage fault where it is none.
 fn required(alloc: Global, list: Option<&str>) -> Result<Option<Selections>, Stop>
-    ensures { MatchResult result (λ required. Requires (option_map (λ l. l.now) list.entry) required)
-        (IsMemoryOr ((required : Option (List SelectionValue)) → Requires (option_map (λ l. l.now) list.entry) required → ⊥)) }
+    ensures { MatchResult result
+        (λ required. Requires (option_map (λ l. l.now) list.entry) required)
+        (IsMemoryOr ((required : Option (List SelectionValue))
+        → Requires (option_map (λ l. l.now) list.entry) required → ⊥)) }
 {
     let Some(text) = list else {
         return Ok(None);

@@ -10,11 +10,13 @@ use crate::stop::Stop;
 use std::alloc::Global;
 use tpm_arg_values::decimal;
 
-/// The register that alone is listed: a number of decimal digits alone, without a sign. A usage fault where it is none, or not
-/// below 2^64.
+/// The register that alone is listed: a number of decimal digits alone, without a sign. A usage
+/// fault where it is none, or not below 2^64.
 pub(crate) fn register(alloc: Global, text: Option<&str>) -> Result<Option<u64>, Stop>
-    ensures { MatchResult result (λ register. IsRegister (option_map (λ t. t.now) text.entry) register)
-        (IsMemoryOr ((register : Option ℕ) → IsRegister (option_map (λ t. t.now) text.entry) register → ⊥)) }
+    ensures { MatchResult result
+        (λ register. IsRegister (option_map (λ t. t.now) text.entry) register)
+        (IsMemoryOr ((register : Option ℕ)
+        → IsRegister (option_map (λ t. t.now) text.entry) register → ⊥)) }
 {
     let Some(text) = text else {
         return Ok(None);

@@ -35,13 +35,14 @@ fn digits(text: &str) -> &str
 
 // The number of a text's digits, or none where it has other characters or is not below 2^32.
 fn number(text: &str) -> Option<u32>
-    ensures { MatchOption result ((number : ℕ) → IsHexadecimal (digits_in text.now) number → ⊥) (λ number. IsHexadecimal (digits_in text.now) number) }
+    ensures { MatchOption result ((number : ℕ) → IsHexadecimal (digits_in text.now) number → ⊥)
+        (λ number. IsHexadecimal (digits_in text.now) number) }
 {
     hexadecimal(digits(text))
 }
 
-// A number of hexadecimal digits, with `0x` before them or not, and without a sign. A usage fault where it is none, or not
-// below 2^32.
+// A number of hexadecimal digits, with `0x` before them or not, and without a sign. A usage fault
+// where it is none, or not below 2^32.
 fn code(alloc: Global, text: &str) -> Result<u32, Stop>
     ensures { MatchResult result (λ code. IsHexadecimal (digits_in text.now) code)
         (IsMemoryOr ((code : ℕ) → IsHexadecimal (digits_in text.now) code → ⊥)) }

@@ -53,13 +53,14 @@ impl Words {
 
     /// What they ask for.
     ///
-    /// The names that may be given are those of all commands. Where the words are those of a subcommand they are refused
-    /// only for a value: of `run` an owner value of too many bytes, or a number that is other than decimal digits or
-    /// above 2^64 - 1, and likewise of `events`; of `explain` other than hexadecimal digits, or a number above 2^32 - 1; of
-    /// `check` a hash other than `sha1`, `sha256` and `sha384`, a list of no registers, or a word whose quote is not given: the
-    /// nonce and the list want `--attest`, the hash one of `--quote` and `--attest`; and of `show` where they have a buffer and a
-    /// file, or neither, a capture with `--reply`, or a buffer with `--binary` or
-    /// `--json`.
+    /// The names that may be given are those of all commands. Where the words are those of a
+    /// subcommand they are refused only for a value: of `run` an owner value of too many bytes, or
+    /// a number that is other than decimal digits or above 2^64 - 1, and likewise of `events`; of
+    /// `explain` other than hexadecimal digits, or a number above 2^32 - 1; of `check` a hash other
+    /// than `sha1`, `sha256` and `sha384`, a list of no registers, or a word whose quote is not
+    /// given: the nonce and the list want `--attest`, the hash one of `--quote` and `--attest`; and
+    /// of `show` where they have a buffer and a file, or neither, a capture with `--reply`, or a
+    /// buffer with `--binary` or `--json`.
     pub fn task(&self, alloc: Global) -> Result<Task<'_>, Stop>
         ensures ok { IfOk result (λ t. (names : Bor (List (Bor (List ℕ)))) × AreAllNames names.now
             × Asks (subcommand_of (program_app (Names names)) self.now) t) }
@@ -91,7 +92,8 @@ pub(crate) fn is_given(words: &ArgMatches<'_>, name: &str) -> bool
 }
 
 fn build_task<'a>(words: &ArgMatches<'a>) -> Option<Task<'a>>
-    ensures { MatchOption result (AsksNothingWith (codes "build") (first_value (found_of words.now)))
+    ensures { MatchOption result
+        (AsksNothingWith (codes "build") (first_value (found_of words.now)))
         (λ t. AsksWith (codes "build") (first_value (found_of words.now)) t) }
 {
     Some(Task::Build {
@@ -135,7 +137,8 @@ fn asked_of<'a>(alloc: Global, name: &str, words: &ArgMatches<'a>) -> Asked<'a>
 
 fn asked<'a>(alloc: Global, matches: &ArgMatches<'a>) -> Asked<'a>
     ensures { MatchResult result
-        (λ asked. MatchOption asked (AsksNothing (subcommand_rows_of matches.now)) (λ t. Asks (subcommand_rows_of matches.now) t))
+        (λ asked. MatchOption asked (AsksNothing (subcommand_rows_of matches.now))
+        (λ t. Asks (subcommand_rows_of matches.now) t))
         (λ stop. IsMemoryOr (AsksNothing (subcommand_rows_of matches.now)) stop) }
 {
     let Some((name, words)) = matches.subcommand() else {

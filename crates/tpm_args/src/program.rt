@@ -36,7 +36,8 @@ Exit status:
   2  the words are at fault
   3  a reading or writing fault, want of memory, or input too long";
 
-// A command with these words behind its own, a word in a line: what makes it, its name, its value's name if it has one, and its help.
+// A command with these words behind its own, a word in a line: what makes it, its name, its value's
+// name if it has one, and its help.
 macro_rules! with_words {
     ($alloc:ident, $command:expr; $kind:ident $($word:literal)+;) => {
         $command.arg($kind($alloc, $($word),+))

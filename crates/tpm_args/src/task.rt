@@ -19,7 +19,8 @@ pub enum Task<'a> {
         /// The digits.
         hex: &'a str,
     },
-    /// `show [--binary] [--fields] [--json] -` and `show [--binary] [--fields] [--json] --file FILE`: print each frame of a capture.
+    /// `show [--binary] [--fields] [--json] -` and `show [--binary] [--fields] [--json] --file
+    /// FILE`: print each frame of a capture.
     ShowCapture {
         /// The path of the capture, or none where it is on standard input.
         file: Option<&'a str>,
@@ -53,8 +54,8 @@ pub enum Task<'a> {
         /// The code.
         code: u32,
     },
-    /// `check LOG [--registers FILE] [--quote HEX] [--attest FILE [--nonce HEX] [--require LIST]] [--hash NAME]`: print the
-    /// registers that a log gives, or compare them.
+    /// `check LOG [--registers FILE] [--quote HEX] [--attest FILE [--nonce HEX] [--require LIST]]
+    /// [--hash NAME]`: print the registers that a log gives, or compare them.
     Check {
         /// The path of the log.
         log: &'a str,

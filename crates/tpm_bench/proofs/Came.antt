@@ -21,7 +21,8 @@ pub record Reading (stream left out began : List ℕ) (written : ℕ) : Type 0 w
   pub room : length out ≡ length began
 
 -- some of what was left is held
-pub more : (stream held left new rest out : List ℕ) (written : ℕ) → Came stream held left out written → held ++ left ≡ new ++ rest → Came stream new rest out written
+pub more : (stream held left new rest out : List ℕ) (written : ℕ)
+    → Came stream held left out written → held ++ left ≡ new ++ rest → Came stream new rest out written
 more stream held left new rest out written came e = record {
   frames = came.frames;
   whole = came.whole ∙ ap (λ (r : List ℕ). concat came.frames ++ r) e;
@@ -30,16 +31,19 @@ more stream held left new rest out written came e = record {
   bytes = came.bytes;
 }
 
-pushed : (held left new piece rest : List ℕ) (n k : ℕ) → piece ≡ take n left → length piece ≡ n → rest ≡ drop k left → k ≤ length piece → new ≡ held ++ take k piece → held ++ left ≡ new ++ rest
+pushed : (held left new piece rest : List ℕ) (n k : ℕ) → piece ≡ take n left
+    → length piece ≡ n → rest ≡ drop k left → k ≤ length piece → new ≡ held ++ take k piece → held ++ left ≡ new ++ rest
 pushed held left new piece rest n k front count back within e =
     let le : k ≤ n = omega (arith, within, count) in
     let taken : take k piece ≡ take k left = ap (λ (r : List ℕ). take k r) front ∙ take-take k n left le in
     ap (λ (r : List ℕ). held ++ r) (sym (take-append-drop k left)) ∙ sym (append_assoc held (take k left) (drop k left))
     ∙ ap (λ (r : List ℕ). r ++ drop k left) (sym (e ∙ ap (λ (r : List ℕ). held ++ r) taken)) ∙ ap (λ (r : List ℕ). new ++ r) (sym back)
 
-pub pushes : (stream held left out : List ℕ) (written : ℕ) → Came stream held left out written → (new piece rest : List ℕ) (n k : ℕ) → piece ≡ take n left → length piece ≡ n → rest ≡ drop k left → k ≤ length piece
+pub pushes : (stream held left out : List ℕ) (written : ℕ) → Came stream held left out written
+    → (new piece rest : List ℕ) (n k : ℕ) → piece ≡ take n left → length piece ≡ n → rest ≡ drop k left → k ≤ length piece
     → new ≡ held ++ take k piece → Came stream new rest out written
-pushes stream held left out written came new piece rest n k front count back within e = more stream held left new rest out written came (pushed held left new piece rest n k front count back within e)
+pushes stream held left out written came new piece rest n k front count back within e =
+    more stream held left new rest out written came (pushed held left new piece rest n k front count back within e)
 
 -- there is room for what is held
 pub room : (stream held left out : List ℕ) (written : ℕ) → Came stream held left out written → length stream ≤ length out → written + length held ≤ length out
@@ -47,7 +51,8 @@ room stream held left out written came fits =
     omega (arith, fits, came.count, ap length came.whole, length-append (concat came.frames) (held ++ left), length-append held left)
 
 -- a frame that was held was written
-pub frame : (stream held left out new : List ℕ) (written : ℕ) → Came stream held left out written → IsFrame held → take (written + length held) new ≡ take written out ++ held
+pub frame : (stream held left out new : List ℕ) (written : ℕ)
+    → Came stream held left out written → IsFrame held → take (written + length held) new ≡ take written out ++ held
     → Came stream [] left new (written + length held)
 frame stream held left out new written came is e =
     let joined : concat (came.frames ++ held ∷ []) ≡ concat came.frames ++ held =

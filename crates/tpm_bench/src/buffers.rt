@@ -15,7 +15,8 @@ use tpm_buffer::{Command, CommandCode, decode_command, decode_response, encode_c
 /// Decodes the command, and answers 0, or the code of its fault.
 #[unsafe(no_mangle)]
 pub extern "C" fn tpm_bench_decode_command(bytes: &[u8]) -> u32
-    ensures { ((c : CommandOf) × Spells command_layout c bytes.now × (result ≡ 0)) ⊎ ((e : RefusalOf) × Fault command_layout bytes.now e × (result ≡ e.code)) }
+    ensures { ((c : CommandOf) × Spells command_layout c bytes.now × (result ≡ 0))
+        ⊎ ((e : RefusalOf) × Fault command_layout bytes.now e × (result ≡ e.code)) }
 {
     match decode_command(bytes) {
         Ok(_) => 0,
@@ -26,7 +27,9 @@ pub extern "C" fn tpm_bench_decode_command(bytes: &[u8]) -> u32
 /// Decodes the response to a PCR_Read, and answers 0, or the code of its fault.
 #[unsafe(no_mangle)]
 pub extern "C" fn tpm_bench_decode_pcr_read_reply(bytes: &[u8]) -> u32
-    ensures { ((r : ResponseOf) × Spells (response_layout codes.PcrRead) r bytes.now × (result ≡ 0)) ⊎ ((e : RefusalOf) × Fault (response_layout codes.PcrRead) bytes.now e × (result ≡ e.code)) }
+    ensures { ((r : ResponseOf) × Spells (response_layout codes.PcrRead) r bytes.now × (result ≡ 0))
+        ⊎ ((e : RefusalOf)
+        × Fault (response_layout codes.PcrRead) bytes.now e × (result ≡ e.code)) }
 {
     match decode_response(CommandCode::PcrRead, bytes) {
         Ok(_) => 0,
@@ -34,12 +37,14 @@ pub extern "C" fn tpm_bench_decode_pcr_read_reply(bytes: &[u8]) -> u32
     }
 }
 
-/// Decodes the command once, and encodes it so many times, at least once, each time to the beginning of `out`. It answers the
-/// number of its bytes, or 0 where there is no command.
+/// Decodes the command once, and encodes it so many times, at least once, each time to the
+/// beginning of `out`. It answers the number of its bytes, or 0 where there is no command.
 #[unsafe(no_mangle)]
 pub extern "C" fn tpm_bench_encode_command(bytes: &[u8], times: u32, out: &mut [u8]) -> usize
     requires { 4096 ≤ length out.old }
-    ensures { ((c : CommandOf) × Spells command_layout c bytes.now × Spells command_layout c (take result out.new)) ⊎ ((e : RefusalOf) × Fault command_layout bytes.now e × (result ≡ 0)) }
+    ensures { ((c : CommandOf)
+        × Spells command_layout c bytes.now × Spells command_layout c (take result out.new))
+        ⊎ ((e : RefusalOf) × Fault command_layout bytes.now e × (result ≡ 0)) }
 {
     match decode_command(bytes) {
         Ok(command) => encode(&command, times, out),

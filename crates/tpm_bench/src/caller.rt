@@ -105,8 +105,8 @@ pub extern "C" fn tpm_bench_seal(times: u32) -> u32
     times
 }
 
-/// Opens the command's reply so many times, whose HMAC is wrong in its last byte, so that it may be opened again. It answers
-/// how many times this was found.
+/// Opens the command's reply so many times, whose HMAC is wrong in its last byte, so that it may be
+/// opened again. It answers how many times this was found.
 #[unsafe(no_mangle)]
 pub extern "C" fn tpm_bench_open(times: u32) -> u32
     ensures { result ≤ times }
@@ -136,7 +136,8 @@ pub extern "C" fn tpm_bench_open(times: u32) -> u32
     times
 }
 
-/// Seals the command, has a device execute it and opens the reply, so many times. It answers how many times it was opened.
+/// Seals the command, has a device execute it and opens the reply, so many times. It answers how
+/// many times it was opened.
 #[unsafe(no_mangle)]
 pub extern "C" fn tpm_bench_both_ends(times: u32) -> u32
     ensures { result ≤ times }

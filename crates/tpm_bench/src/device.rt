@@ -18,9 +18,10 @@ const STARTUP: [u8; 12] = [
 // How many commands make a device ready, at most.
 const MOST_COMMANDS: usize = 8;
 
-/// Starts a new device and makes it ready by the commands of `prepare`, one behind the other and eight at most. Then it executes the
-/// first command so many times, at least once, with the answer to the beginning of `out`, and behind each but the last the second.
-/// It says how many bytes the last answer has, which is that of the model at some history.
+/// Starts a new device and makes it ready by the commands of `prepare`, one behind the other and
+/// eight at most. Then it executes the first command so many times, at least once, with the answer
+/// to the beginning of `out`, and behind each but the last the second. It says how many bytes the
+/// last answer has, which is that of the model at some history.
 #[unsafe(no_mangle)]
 pub extern "C" fn tpm_bench_execute(
     prepare: &[u8],
@@ -30,7 +31,8 @@ pub extern "C" fn tpm_bench_execute(
     out: &mut [u8],
 ) -> usize
     requires { 4096 ≤ length out.old }
-    ensures { (o : Origin) × (h : History) × (n : List ℕ) × (take result out.new ≡ answer o h first.now n) }
+    ensures { (o : Origin)
+        × (h : History) × (n : List ℕ) × (take result out.new ≡ answer o h first.now n) }
 {
     let nonce = [0; 64];
     let mut device = prepared(prepare, &nonce);
@@ -41,12 +43,14 @@ pub extern "C" fn tpm_bench_execute(
     answer_once(&mut device, first, &nonce, &mut reply, out)
 }
 
-/// Switches a device's power off and on, and has it execute this command, so many times, at least once, with the answer to the beginning
-/// of `out`. It says how many bytes the last answer has, which is that of the model at some history.
+/// Switches a device's power off and on, and has it execute this command, so many times, at least
+/// once, with the answer to the beginning of `out`. It says how many bytes the last answer has,
+/// which is that of the model at some history.
 #[unsafe(no_mangle)]
 pub extern "C" fn tpm_bench_start(startup: &[u8], times: u32, out: &mut [u8]) -> usize
     requires { 4096 ≤ length out.old }
-    ensures { (o : Origin) × (h : History) × (n : List ℕ) × (take result out.new ≡ answer o h startup.now n) }
+    ensures { (o : Origin)
+        × (h : History) × (n : List ℕ) × (take result out.new ≡ answer o h startup.now n) }
 {
     let nonce = [0; 64];
     let mut device = started(&AuthValue::default(), &STARTUP, &nonce);
@@ -100,7 +104,8 @@ fn answer_both(
     out: &mut [u8],
 )
     requires { 4096 ≤ length out.old }
-    ensures stands { (o : Origin) (h : History) → Stands o h device.old → (k : History) × Stands o k device.new }
+    ensures stands { (o : Origin) (h : History) → Stands o h device.old → (k : History)
+        × Stands o k device.new }
     ensures room { length out.new ≡ length out.old }
 {
     answer_once(device, first, nonce, reply, out);
@@ -119,8 +124,10 @@ fn answer_once(
     out: &mut [u8],
 ) -> usize
     requires { 4096 ≤ length out.old }
-    ensures answer { (o : Origin) (h : History) → Stands o h device.old → (n : List ℕ) × (take result out.new ≡ answer o h bytes.now n) }
-    ensures stands { (o : Origin) (h : History) → Stands o h device.old → (k : History) × Stands o k device.new }
+    ensures answer { (o : Origin) (h : History) → Stands o h device.old → (n : List ℕ)
+        × (take result out.new ≡ answer o h bytes.now n) }
+    ensures stands { (o : Origin) (h : History) → Stands o h device.old → (k : History)
+        × Stands o k device.new }
     ensures room { length out.new ≡ length out.old }
 {
     device.execute_into(bytes, nonce, reply);

@@ -19,12 +19,13 @@ fn put(out: &mut [u8], digest: &Digest) -> usize
     bytes.len()
 }
 
-/// The hash of the message, at the beginning of `out`, which has room for the longest digest. It answers the length, or 0
-/// where the number is no hash's (Part 2, 6.3).
+/// The hash of the message, at the beginning of `out`, which has room for the longest digest. It
+/// answers the length, or 0 where the number is no hash's (Part 2, 6.3).
 #[unsafe(no_mangle)]
 pub extern "C" fn tpm_bench_hash(alg: u16, message: &[u8], out: &mut [u8]) -> usize
     requires { digest_bytes ≤ length out.old }
-    ensures { MatchOption (alg_of alg) (result ≡ 0) (λ a. (result ≡ digest_len a) × (take (digest_len a) out.new ≡ digest a message.now)) }
+    ensures { MatchOption (alg_of alg) (result ≡ 0) (λ a. (result ≡ digest_len a)
+        × (take (digest_len a) out.new ≡ digest a message.now)) }
 {
     match Alg::from_number(alg) {
         Some(alg) => put(out, &hash(alg, &[message])),
@@ -36,7 +37,8 @@ pub extern "C" fn tpm_bench_hash(alg: u16, message: &[u8], out: &mut [u8]) -> us
 #[unsafe(no_mangle)]
 pub extern "C" fn tpm_bench_hmac(alg: u16, key: &[u8], text: &[u8], out: &mut [u8]) -> usize
     requires { digest_bytes ≤ length out.old }
-    ensures { MatchOption (alg_of alg) (result ≡ 0) (λ a. (result ≡ digest_len a) × (take (digest_len a) out.new ≡ hmac_of a key.now text.now)) }
+    ensures { MatchOption (alg_of alg) (result ≡ 0) (λ a. (result ≡ digest_len a)
+        × (take (digest_len a) out.new ≡ hmac_of a key.now text.now)) }
 {
     match Alg::from_number(alg) {
         Some(alg) => put(out, &hmac(alg, key, &[text])),
@@ -64,8 +66,9 @@ fn are_same(a: &[u8], b: &[u8]) -> bool {
     same(a, b)
 }
 
-/// Hashes the message, if it has bytes, and makes the HMAC of its digest and of the text, so many times, by SHA-256 and a key that is
-/// hashed once. It answers the last HMAC's first byte and 1, or 0 where nothing was done.
+/// Hashes the message, if it has bytes, and makes the HMAC of its digest and of the text, so many
+/// times, by SHA-256 and a key that is hashed once. It answers the last HMAC's first byte and 1, or
+/// 0 where nothing was done.
 #[unsafe(no_mangle)]
 pub extern "C" fn tpm_bench_session_hashes(
     key: &[u8],

@@ -9,8 +9,9 @@ use tpm_buffer::{Areas, AuthRef, StartAuth, areas};
 use tpm_session::{Entity, Sessions};
 use tpm_types::{Alg, BindHandle, Name, Nonce, SessionType, SymDef, name_of_handle};
 
-/// Starts an HMAC session of SHA-256 in slot 0, which is bound to none and whose nonceTPM is 32 zeros, and has it authorize the
-/// command so many times, which is one on a register. It answers how many times it was authorized.
+/// Starts an HMAC session of SHA-256 in slot 0, which is bound to none and whose nonceTPM is 32
+/// zeros, and has it authorize the command so many times, which is one on a register. It answers
+/// how many times it was authorized.
 #[unsafe(no_mangle)]
 pub extern "C" fn tpm_bench_authorize(bytes: &[u8], times: u32) -> u32
     ensures { result ≤ times }
@@ -49,8 +50,8 @@ fn started() -> Sessions {
     sessions
 }
 
-// Whether a command of a register is authorized at this update counter. The counter is another one each time, so that the compiler
-// cannot take one answer for all.
+// Whether a command of a register is authorized at this update counter. The counter is another one
+// each time, so that the compiler cannot take one answer for all.
 #[inline(never)]
 fn is_authorized(
     sessions: &Sessions,
@@ -60,7 +61,8 @@ fn is_authorized(
     counter: u32,
 ) -> bool
     requires { 0 < length auths.now }
-    ensures { result ≡ is_ok (authorize (first_loaded (loaded sessions.now) auths.now) Register areas.now.header.code names.now areas.now.params counter auths.now) }
+    ensures { result ≡ is_ok (authorize (first_loaded (loaded sessions.now) auths.now)
+        Register areas.now.header.code names.now areas.now.params counter auths.now) }
 {
     sessions
         .authorize(

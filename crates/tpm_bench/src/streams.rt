@@ -11,12 +11,14 @@ use crate::out::append;
 use tpm_buffer::{Framer, Status, read_frame, read_frame_into};
 use tpm_wire::{Buffer, ReadFailed, Source};
 
-/// Writes the frames of the stream one after the other, and answers how many bytes they have. The stream comes to a framer
-/// in pieces of at most so many bytes, and of at least one.
+/// Writes the frames of the stream one after the other, and answers how many bytes they have. The
+/// stream comes to a framer in pieces of at most so many bytes, and of at least one.
 #[unsafe(no_mangle)]
 pub extern "C" fn tpm_bench_push_frames(stream: &[u8], most: usize, out: &mut [u8]) -> usize
     requires { length stream.now ≤ length out.old }
-    ensures { (frames : List (List ℕ)) × (rest : List ℕ) × Frames stream.now frames rest × (result ≡ length (concat frames)) × (take result out.new ≡ concat frames) }
+    ensures { (frames : List (List ℕ)) × (rest : List ℕ) × Frames stream.now frames rest
+        × (result ≡ length (concat frames))
+        × (take result out.new ≡ concat frames) }
 {
     let most = most.max(1);
     let mut framer = Framer::new();
@@ -41,7 +43,8 @@ fn take_frame(framer: &mut Framer, out: &mut [u8], written: usize) -> usize
     requires frame { IsFrame framer.old }
     requires room { written + length framer.old ≤ length out.old }
     ensures count { result ≡ written + length framer.old }
-    ensures bytes { take (written + length framer.old) out.new ≡ take written out.old ++ framer.old }
+    ensures bytes { take (written + length framer.old) out.new
+        ≡ take written out.old ++ framer.old }
     ensures room { length out.new ≡ length out.old }
     ensures next { framer.new ≡ [] }
 {
@@ -88,7 +91,9 @@ impl Source for Pieces<'_> {
 #[unsafe(no_mangle)]
 pub extern "C" fn tpm_bench_read_frames(stream: &[u8], most: usize, out: &mut [u8]) -> usize
     requires { length stream.now ≤ length out.old }
-    ensures { (frames : List (List ℕ)) × (rest : List ℕ) × Frames stream.now frames rest × (result ≡ length (concat frames)) × (take result out.new ≡ concat frames) }
+    ensures { (frames : List (List ℕ)) × (rest : List ℕ) × Frames stream.now frames rest
+        × (result ≡ length (concat frames))
+        × (take result out.new ≡ concat frames) }
 {
     let mut source = Pieces { rest: stream, most };
     let mut written = 0;
@@ -102,7 +107,9 @@ pub extern "C" fn tpm_bench_read_frames(stream: &[u8], most: usize, out: &mut [u
 #[unsafe(no_mangle)]
 pub extern "C" fn tpm_bench_read_frames_into(stream: &[u8], most: usize, out: &mut [u8]) -> usize
     requires { length stream.now ≤ length out.old }
-    ensures { (frames : List (List ℕ)) × (rest : List ℕ) × Frames stream.now frames rest × (result ≡ length (concat frames)) × (take result out.new ≡ concat frames) }
+    ensures { (frames : List (List ℕ)) × (rest : List ℕ) × Frames stream.now frames rest
+        × (result ≡ length (concat frames))
+        × (take result out.new ≡ concat frames) }
 {
     let mut source = Pieces { rest: stream, most };
     let mut frame = Buffer::new();

@@ -57,13 +57,16 @@ fits_code code n some small =
     (((tags.small, tags.is_tag), ((rw rest (omega arith), rw rest refl), refl)), ((small, tags.goes), rw none refl))
 
 -- what is written of a code
-pub code_text : (code : CommandCode) (n : ℕ) → 0 < n → spelling (response code) (responses.Code n) ≡ bytes_high_first 2 (code_tag n) ++ (bytes_high_first 4 10 ++ bytes_high_first 4 n)
+pub code_text : (code : CommandCode) (n : ℕ) → 0 < n
+    → spelling (response code) (responses.Code n)
+    ≡ bytes_high_first 2 (code_tag n) ++ (bytes_high_first 4 10 ++ bytes_high_first 4 n)
 unfolding response response_front response_tag command_size response_code
 code_text code n some =
     let rest = code_behind code n (ne_eqb n 0 (λ e. omega (arith, some, e))) in
     rw (rest, append-nil (bytes_high_first 4 n)) refl
 
-pub code_spelled : (code : CommandCode) (n : ℕ) (bytes : List ℕ) → 0 < n → n < 2 ^ 32 → bytes ≡ bytes_high_first 2 (code_tag n) ++ (bytes_high_first 4 10 ++ bytes_high_first 4 n)
+pub code_spelled : (code : CommandCode) (n : ℕ) (bytes : List ℕ) → 0 < n → n < 2 ^ 32
+    → bytes ≡ bytes_high_first 2 (code_tag n) ++ (bytes_high_first 4 10 ++ bytes_high_first 4 n)
     → Spells (response code) (responses.Code n) bytes
 code_spelled code n bytes some small is =
     let text = code_text code n some in
@@ -83,24 +86,36 @@ room_meant : (n left : ℕ) → n ≤ left → cond (leb n left) (Some n) None �
 room_meant n left le = rw (le-leb n left le) refl
 
 fits_with : (l : Layout ReplyBody) (body : ReplyBody) (auths : List AuthReply) → ((left : ℕ) → Fits left l body) → length (spelling l body) ≤ 3500
-    → Fits (length (spelling reply_sessions auths)) reply_sessions auths → Fits (length (spelling (with_sessions l) (record { body = body; auths = auths }))) (with_sessions l) (record { body = body; auths = auths })
+    → Fits (length (spelling reply_sessions auths)) reply_sessions auths
+    → Fits (length (spelling (with_sessions l) (record { body = body; auths = auths }))) (with_sessions l)
+    (record { body = body; auths = auths })
 unfolding with_sessions parameter_size
 fits_with l body auths params short sessions =
     let n = length (spelling l body) in
     let m = length (spelling reply_sessions auths) in
-    let whole : length (spelling l body ++ (spelling reply_sessions auths ++ [])) ≡ n + m = omega (arith, length-append (spelling l body) (spelling reply_sessions auths ++ []), ap length (append-nil (spelling reply_sessions auths))) in
-    ((omega (arith, short), room_meant n _ (omega (arith, whole))), ((refl, params n), (at_left reply_sessions auths _ m sessions (omega (arith, whole)), refl)))
+    let whole : length (spelling l body ++ (spelling reply_sessions auths ++ [])) ≡ n + m =
+    omega (
+      arith,
+      length-append (spelling l body) (spelling reply_sessions auths ++ []),
+      ap length (append-nil (spelling reply_sessions auths)),
+    ) in (
+      (omega (arith, short), room_meant n _ (omega (arith, whole))),
+      ((refl, params n), (at_left reply_sessions auths _ m sessions (omega (arith, whole)), refl)),
+    )
 
 pub fits_behind : (l : Layout ReplyBody) (body : ReplyBody) (auths : List AuthReply) → ((left : ℕ) → Fits left l body) → length (spelling l body) ≤ 3500
     → (0 < length auths → Fits (length (spelling reply_sessions auths)) reply_sessions auths)
-    → Fits (length (spelling (reply_behind (reply_tag auths) l) (record { body = body; auths = auths }))) (reply_behind (reply_tag auths) l) (record { body = body; auths = auths })
+    → Fits (length (spelling (reply_behind (reply_tag auths) l) (record { body = body; auths = auths })))
+    (reply_behind (reply_tag auths) l) (record { body = body; auths = auths })
 unfolding without_sessions
 fits_behind l body [] params short sessions = (params _, refl)
 fits_behind l body (a ∷ others) params short sessions = fits_with l body (a ∷ others) params short (sessions (omega arith))
 
 fits_reply : (body : ReplyBody) (auths : List AuthReply) → ((left : ℕ) → Fits left (reply_handles (code_for_reply body)) (reply_handles_of body))
-    → Fits (length (spelling (reply_behind (reply_tag auths) (parameters_of_reply body)) (made body auths))) (reply_behind (reply_tag auths) (parameters_of_reply body)) (made body auths)
-    → Fits (length (spelling (reply (code_for_reply body) (reply_tag auths)) (made body auths))) (reply (code_for_reply body) (reply_tag auths)) (made body auths)
+    → Fits (length (spelling (reply_behind (reply_tag auths) (parameters_of_reply body)) (made body auths)))
+    (reply_behind (reply_tag auths) (parameters_of_reply body)) (made body auths)
+    → Fits (length (spelling (reply (code_for_reply body) (reply_tag auths)) (made body auths)))
+    (reply (code_for_reply body) (reply_tag auths)) (made body auths)
 fits_reply body auths handles behind =
     let front = spelling (reply_handles (code_for_reply body)) (reply_handles_of body) in
     let back = spelling (reply_behind (reply_tag auths) (parameters_of_reply body)) (made body auths) in
@@ -112,20 +127,41 @@ done_tag [] = record { is_tag = refl; small = omega arith; goes = refl }
 done_tag (a ∷ others) = record { is_tag = refl; small = omega arith; goes = refl }
 
 fits_done : (body : ReplyBody) (auths : List AuthReply) → length (spelling (reply (code_for_reply body) (reply_tag auths)) (made body auths)) ≤ 4000
-    → Fits (length (spelling (reply (code_for_reply body) (reply_tag auths)) (made body auths))) (reply (code_for_reply body) (reply_tag auths)) (made body auths)
+    → Fits (length (spelling (reply (code_for_reply body) (reply_tag auths)) (made body auths)))
+    (reply (code_for_reply body) (reply_tag auths)) (made body auths)
     → Fits (length (spelling (response (code_for_reply body)) (done_with (made body auths)))) (response (code_for_reply body)) (done_with (made body auths))
 unfolding response response_front response_tag command_size response_code
 fits_done body auths short behind =
     let text = spelling (reply (code_for_reply body) (reply_tag auths)) (made body auths) in
     let n = length text in
     let same : length (text ++ []) ≡ n = ap length (append-nil text) in
-    let tags = done_tag auths in
-    (((tags.small, tags.is_tag), ((omega (arith, short, same), size_meant (10 + length (text ++ [])) _ (omega arith) (omega arith) (omega (arith, short, same))), refl)), ((omega arith, tags.goes), (at_left (reply (code_for_reply body) (reply_tag auths)) (made body auths) _ n behind (omega (arith, same)), refl)))
+    let tags = done_tag auths in (
+      (
+        (tags.small, tags.is_tag),
+        (
+          (
+            omega (arith, short, same),
+            size_meant (10 + length (text ++ [])) _ (omega arith) (omega arith) (omega (arith, short, same)),
+          ),
+          refl,
+        ),
+      ),
+      (
+        (omega arith, tags.goes),
+        (
+          at_left (reply (code_for_reply body) (reply_tag auths)) (made body auths) _ n behind
+              (omega (arith, same)),
+          refl,
+        ),
+      ),
+    )
 
-pub done_spelled : (body : ReplyBody) (auths : List AuthReply) (bytes : List ℕ) → bytes ≡ spelling (response (code_for_reply body)) (done_with (made body auths))
+pub done_spelled : (body : ReplyBody) (auths : List AuthReply) (bytes : List ℕ)
+    → bytes ≡ spelling (response (code_for_reply body)) (done_with (made body auths))
     → length (spelling (reply (code_for_reply body) (reply_tag auths)) (made body auths)) ≤ 4000
     → ((left : ℕ) → Fits left (reply_handles (code_for_reply body)) (reply_handles_of body))
-    → Fits (length (spelling (reply_behind (reply_tag auths) (parameters_of_reply body)) (made body auths))) (reply_behind (reply_tag auths) (parameters_of_reply body)) (made body auths)
+    → Fits (length (spelling (reply_behind (reply_tag auths) (parameters_of_reply body)) (made body auths)))
+    (reply_behind (reply_tag auths) (parameters_of_reply body)) (made body auths)
     → Spells (response (code_for_reply body)) (done_with (made body auths)) bytes
 done_spelled body auths bytes is short handles behind =
     encoded (response (code_for_reply body)) (done_with (made body auths)) bytes is (rw is (fits_done body auths short (fits_reply body auths handles behind)))

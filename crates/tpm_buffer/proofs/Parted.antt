@@ -47,19 +47,22 @@ ends R a b h both x is none =
     let pairs = ok_is (a, h) x is in
     ((b, h), refl, ap (λ z. length z.1.rest) pairs ∙ none, subst (λ z. R z b) (ap (λ z. z.0) pairs) both)
 
-looser : {A B : Type 0} (R S : A → B → Type 0) (o : Result (A × Here) Refusal) (p : Result (B × Here) Refusal) → ((a : A) (b : B) → R a b → S a b) → Follows R o p → Follows S o p
+looser : {A B : Type 0} (R S : A → B → Type 0) (o : Result (A × Here) Refusal) (p : Result (B × Here) Refusal)
+    → ((a : A) (b : B) → R a b → S a b) → Follows R o p → Follows S o p
 looser R S o p more f x is none =
     let y = f x is none in
     (y.0, y.1, y.2, more x.0 y.0.0 y.3)
 
 -- readings that begin alike
-alike : {A B C : Type 0} (R : A → B → Type 0) (r : Result (C × Here) Refusal) (f : C × Here → Result (A × Here) Refusal) (g : C × Here → Result (B × Here) Refusal)
+alike : {A B C : Type 0} (R : A → B → Type 0) (r : Result (C × Here) Refusal) (f : C × Here → Result (A × Here) Refusal)
+    (g : C × Here → Result (B × Here) Refusal)
     → ((c : C × Here) → r ≡ Ok c → Follows R (f c) (g c)) → Follows R (r >>= f) (r >>= g)
 alike R (Ok c) f g next = next c refl
 alike R (Err e) f g next = never R e (err e)
 
 -- An area's bytes, whatever is in it, are so many bytes.
-area_or_raw : {A B C : Type 0} (R : A → B → Type 0) (n : ℕ) (l : Layout C) (h : Here) (f : C × Here → Result (A × Here) Refusal) (g : List ℕ × Here → Result (B × Here) Refusal)
+area_or_raw : {A B C : Type 0} (R : A → B → Type 0) (n : ℕ) (l : Layout C) (h : Here)
+    (f : C × Here → Result (A × Here) Refusal) (g : List ℕ × Here → Result (B × Here) Refusal)
     → ((c : C) → read_all l (take n h.rest) ≡ Ok c → Follows R (f (c, past n h)) (g (take n h.rest, past n h)))
     → Follows R (read 0 (Form.area n rc_size l) h >>= f) (read {r = buffer} 0 (raw n) h >>= g)
 area_or_raw {A = A} {B = B} {C = C} R n l h f g next = room (too_few 0 h.at n (length h.rest))
@@ -67,11 +70,15 @@ area_or_raw {A = A} {B = B} {C = C} R n l h f g next = room (too_few 0 h.at n (l
     within : Here
     within = record { rest = take n h.rest; at = h.at }
 
-    end : (c : C × Here) (t : Bool) → read 0 l within ≡ Ok c → eqb (length c.1.rest) 0 ≡ t → Follows R (cond t (ok (c.0, past n h)) (refuse buffer 0 rc_size c.1) >>= f) (g (take n h.rest, past n h))
+    end : (c : C × Here) (t : Bool) → read 0 l within ≡ Ok c → eqb (length c.1.rest) 0 ≡ t
+        → Follows R (cond t (ok (c.0, past n h)) (refuse buffer 0 rc_size c.1) >>= f) (g (take n h.rest, past n h))
     end c true is none = next c.0 (read_whole l within c is (eqb-true _ _ none))
     end c false is some = never R _ (g (take n h.rest, past n h))
 
-    inside : (o : Result (C × Here) Refusal) → read 0 l within ≡ o → Follows R ((o >>= λ x. cond (eqb (length x.1.rest) 0) (ok (x.0, past n h)) (refuse buffer 0 rc_size x.1)) >>= f) (g (take n h.rest, past n h))
+    inside : (o : Result (C × Here) Refusal) → read 0 l within ≡ o
+        → Follows R
+        ((o >>= λ x. cond (eqb (length x.1.rest) 0) (ok (x.0, past n h)) (refuse buffer 0 rc_size x.1)) >>= f)
+        (g (take n h.rest, past n h))
     inside (Ok c) is = end c (eqb (length c.1.rest) 0) is refl
     inside (Err e) is = never R e (g (take n h.rest, past n h))
 
@@ -89,7 +96,9 @@ record SameParts (code : CommandCode) (hs : List ℕ) (n : ℕ) (r : Reply) (c :
   auths : c.auths ≡ r.auths
   params : read_all (reply_parameters code hs) c.params ≡ Ok r.body
 
-with_same : (code : CommandCode) (hs : List ℕ) (n : ℕ) (h : Here) → Follows (SameParts code hs n) (read 0 (with_sessions (reply_parameters code hs)) h) (read 0 (raw_with_sessions n hs) h)
+with_same : (code : CommandCode) (hs : List ℕ) (n : ℕ) (h : Here)
+    → Follows (SameParts code hs n) (read 0 (with_sessions (reply_parameters code hs)) h)
+    (read 0 (raw_with_sessions n hs) h)
 unfolding with_sessions raw_with_sessions
 with_same code hs n h = alike (SameParts code hs n) (read 0 parameter_size h) _ _ (λ s _.
     area_or_raw (SameParts code hs n) s.0 (reply_parameters code hs) s.1 _ _ (λ b is.
@@ -100,7 +109,9 @@ abbrev only : ReplyBody → Reply
 only body = record { body = body; auths = [] }
 
 -- What is left is taken.
-without_same : (code : CommandCode) (hs : List ℕ) (n : ℕ) (h : Here) → Follows (SameParts code hs n) (read 0 (without_sessions (reply_parameters code hs)) h) (read 0 (raw_without_sessions n hs) h)
+without_same : (code : CommandCode) (hs : List ℕ) (n : ℕ) (h : Here)
+    → Follows (SameParts code hs n) (read 0 (without_sessions (reply_parameters code hs)) h)
+    (read 0 (raw_without_sessions n hs) h)
 unfolding without_sessions raw_without_sessions
 without_same code hs n h x is none =
     let k = length h.rest in
@@ -121,7 +132,9 @@ without_same code hs n h x is none =
     )
 
 behind_same : (code : CommandCode) (n : ℕ) (hs : List ℕ) (h : Here) (two : Bool)
-    → Follows (SameParts code hs n) (read 0 (either two (with_sessions (reply_parameters code hs)) (without_sessions (reply_parameters code hs))) h) (read 0 (either two (raw_with_sessions n hs) (raw_without_sessions n hs)) h)
+    → Follows (SameParts code hs n)
+    (read 0 (either two (with_sessions (reply_parameters code hs)) (without_sessions (reply_parameters code hs))) h)
+    (read 0 (either two (raw_with_sessions n hs) (raw_without_sessions n hs)) h)
 behind_same code n hs h true = with_same code hs n h
 behind_same code n hs h false = without_same code hs n h
 
@@ -136,10 +149,19 @@ record Belongs (code : CommandCode) (n : ℕ) (r : Reply) (c : ReplyCut) : Type 
 belongs : (code : CommandCode) (n : ℕ) (hs : List ℕ) → AreRead code hs → (r : Reply) (c : ReplyCut) → SameParts code hs n r c → Belongs code n r c
 belongs code n hs are r c parts =
     let read = all_read (reply_parameters code hs) c.params r.body parts.params in
-    record { hs = hs; is_body = ends_read (IsBodyOf code hs) (reply_parameters code hs) 0 (at_start c.params) (r.body, read.0) (bodies code hs are) read.1; parts = parts }
+    record {
+      hs = hs;
+      is_body =
+          ends_read (IsBodyOf code hs) (reply_parameters code hs) 0 (at_start c.params) (r.body, read.0)
+          (bodies code hs are) read.1;
+      parts = parts;
+    }
 
 reply_same : (code : CommandCode) (t n : ℕ) (h : Here)
-    → Follows (Belongs code n) (read 0 (reply code t) h) (read 0 (Form.field (λ c. c.handles) (reply_handles code) (λ hs. either (eqb t 0x8002) (raw_with_sessions n hs) (raw_without_sessions n hs))) h)
+    → Follows (Belongs code n) (read 0 (reply code t) h)
+    (read 0
+    (Form.field (λ c. c.handles) (reply_handles code)
+    (λ hs. either (eqb t 0x8002) (raw_with_sessions n hs) (raw_without_sessions n hs))) h)
 reply_same code t n h = alike (Belongs code n) (read 0 (reply_handles code) h) _ _ (λ hs is.
     looser (SameParts code hs.0 n) (Belongs code n) _ _ (belongs code n hs.0 (are_read code h hs.1 hs.0 is)) (behind_same code n hs.0 hs.1 (eqb t 0x8002)))
 
@@ -150,7 +172,9 @@ its_cut code n r c zero b =
     record {
       code_is = b.parts.code_is ∙ zero;
       handles_are = b.parts.handles ∙ sym b.is_body.1;
-      spells_params = read_spells buffer buffer_sound (parameters_of_reply r.body) c.params r.body (ap (λ (l : Layout ReplyBody). read_all l c.params) same ∙ b.parts.params);
+      spells_params =
+          read_spells buffer buffer_sound (parameters_of_reply r.body) c.params r.body
+          (ap (λ (l : Layout ReplyBody). read_all l c.params) same ∙ b.parts.params);
       auths_are = b.parts.auths;
     }
 
@@ -161,8 +185,15 @@ IsOwnCut code r c = IsCutOf r c × Answers code r
 code_same : (code : CommandCode) (t n : ℕ) (h : Here) → Follows (IsOwnCut code) (read 0 (behind_code code t n) h) (read 0 (cut_behind_code code t n) h)
 code_same code t n h = go (eqb n 0) refl
   where
-    go : (zero : Bool) → eqb n 0 ≡ zero → Follows (IsOwnCut code) (read 0 (either zero (Form.field reply_of (reply code t) (λ r. Form.done (done_with r))) (Form.done (responses.Code n))) h)
-        (read 0 (either zero (Form.field (λ c. c.handles) (reply_handles code) (λ hs. either (eqb t 0x8002) (raw_with_sessions n hs) (raw_without_sessions n hs)))
+    go : (zero : Bool) → eqb n 0 ≡ zero
+        → Follows (IsOwnCut code)
+        (read 0
+        (either zero (Form.field reply_of (reply code t) (λ r. Form.done (done_with r)))
+        (Form.done (responses.Code n))) h)
+        (read 0
+        (either zero
+        (Form.field (λ c. c.handles) (reply_handles code)
+        (λ hs. either (eqb t 0x8002) (raw_with_sessions n hs) (raw_without_sessions n hs)))
         (Form.done (record { code = n; handles = []; params = []; auths = [] }))) h)
     go true zero = λ x is none.
         let done = bind_ok (read 0 (reply code t) h) (λ r. ok (done_with r.0, r.1)) x is in
@@ -177,13 +208,15 @@ has_read code h = alike (IsOwnCut code) (read 0 response_front h) _ _ (λ f _.
     alike (IsOwnCut code) (read 0 (response_code f.0.0) f.1) _ _ (λ n _.
     code_same code f.0.0 n.0 n.1))
 
-has_own_areas : (code : CommandCode) (bytes : List ℕ) (r : Response) → Spells (response code) r bytes → (c : ReplyCut) × Spells (reply_cut code) c bytes × IsOwnCut code r c
+has_own_areas : (code : CommandCode) (bytes : List ℕ) (r : Response) → Spells (response code) r bytes
+    → (c : ReplyCut) × Spells (reply_cut code) c bytes × IsOwnCut code r c
 has_own_areas code bytes r s =
     let all = all_read (response code) bytes r (spells_read buffer buffer_sound (response code) bytes r s) in
     let c = has_read code (at_start bytes) (r, all.0) all.1 all.2 in
     (c.0.0, read_spells buffer buffer_sound (reply_cut code) bytes c.0.0 (rw (c.1, c.2) refl), c.3)
 
-pub has_areas : (code : CommandCode) (bytes : List ℕ) (r : Response) → Spells (response code) r bytes → (c : ReplyCut) × Spells (reply_cut code) c bytes × IsCutOf r c
+pub has_areas : (code : CommandCode) (bytes : List ℕ) (r : Response) → Spells (response code) r bytes
+    → (c : ReplyCut) × Spells (reply_cut code) c bytes × IsCutOf r c
 has_areas code bytes r s = let x = has_own_areas code bytes r s in (x.0, x.1, x.2.0)
 
 -- The response that bytes spell is one to the command.

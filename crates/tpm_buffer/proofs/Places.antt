@@ -17,32 +17,38 @@ use Rattle.tpm_wire.proofs.Elsewhere.{read_later, later}
 use Rattle.tpm_commands.proofs.Short.{ok}
 use Rattle.tpm_buffer.specs.ResponseAreas.{Stands}
 
-token_mark : {A : Type 0} (o : Option ℕ) (p : Result A ℕ) (n m k : ℕ) (h : Here) (x : A × Here) → unless buffer o m h (found buffer p n m h) ≡ Ok x → unless buffer o k h (found buffer p n k h) ≡ Ok x
+token_mark : {A : Type 0} (o : Option ℕ) (p : Result A ℕ) (n m k : ℕ) (h : Here) (x : A × Here)
+    → unless buffer o m h (found buffer p n m h) ≡ Ok x → unless buffer o k h (found buffer p n k h) ≡ Ok x
 token_mark (Some f) p n m k h x e = absurd cc
 token_mark None (Err f) n m k h x e = absurd cc
 token_mark None (Ok y) n m k h x e = e
 
-bind_mark : {A B : Type 0} (o p : Result (A × Here) Refusal) (f g : A × Here → Result (B × Here) Refusal) (x : B × Here) → ((y : A × Here) → o ≡ Ok y → p ≡ Ok y) → ((y : A × Here) → f y ≡ Ok x → g y ≡ Ok x)
+bind_mark : {A B : Type 0} (o p : Result (A × Here) Refusal) (f g : A × Here → Result (B × Here) Refusal) (x : B × Here)
+    → ((y : A × Here) → o ≡ Ok y → p ≡ Ok y) → ((y : A × Here) → f y ≡ Ok x → g y ≡ Ok x)
     → (o >>= f) ≡ Ok x → (p >>= g) ≡ Ok x
 bind_mark o p f g x one two e =
     let b = bind_ok o f x e in
     rw (one b.0 b.1) (two b.0 b.2)
 
-each_mark : {A : Type 0} (rd other : List A → Here → Result (A × Here) Refusal) → ((before : List A) (h : Here) (x : A × Here) → rd before h ≡ Ok x → other before h ≡ Ok x)
+each_mark : {A : Type 0} (rd other : List A → Here → Result (A × Here) Refusal)
+    → ((before : List A) (h : Here) (x : A × Here) → rd before h ≡ Ok x → other before h ≡ Ok x)
     → (n : ℕ) (before : List A) (stops : Bool) (h : Here) (x : List A × Here) → entries n before stops rd h ≡ Ok x → entries n before stops other h ≡ Ok x
 each_mark rd other one zero before stops h x = λ e. e
 each_mark {A = A} rd other one (suc n) before stops h x = go (stops && eqb (length h.rest) 0) (λ b g. each_mark rd other one n b stops g x)
   where
-    go : (b : Bool) → ((b : List A) (g : Here) → entries n b stops rd g ≡ Ok x → entries n b stops other g ≡ Ok x) → cond b (ok (before, h)) (rd before h >>= λ y. entries n (before ++ y.0 ∷ []) stops rd y.1) ≡ Ok x
+    go : (b : Bool) → ((b : List A) (g : Here) → entries n b stops rd g ≡ Ok x → entries n b stops other g ≡ Ok x)
+        → cond b (ok (before, h)) (rd before h >>= λ y. entries n (before ++ y.0 ∷ []) stops rd y.1) ≡ Ok x
         → cond b (ok (before, h)) (other before h >>= λ y. entries n (before ++ y.0 ∷ []) stops other y.1) ≡ Ok x
     go true again e = e
     go false again e = bind_mark (rd before h) (other before h) _ _ x (one before h) (λ y. again (before ++ y.0 ∷ []) y.1) e
 
-end_mark : {A : Type 0} (b : Bool) (m k fault : ℕ) (y : A × Here) (g : Here) (x : A × Here) → cond b (ok (y.0, g)) (refuse buffer m fault y.1) ≡ Ok x → cond b (ok (y.0, g)) (refuse buffer k fault y.1) ≡ Ok x
+end_mark : {A : Type 0} (b : Bool) (m k fault : ℕ) (y : A × Here) (g : Here) (x : A × Here)
+    → cond b (ok (y.0, g)) (refuse buffer m fault y.1) ≡ Ok x → cond b (ok (y.0, g)) (refuse buffer k fault y.1) ≡ Ok x
 end_mark true m k fault y g x e = e
 end_mark false m k fault y g x e = absurd cc
 
-room_mark : {A : Type 0} (o : Option ℕ) (m k : ℕ) (h : Here) (one two : Result A Refusal) (x : A) → (one ≡ Ok x → two ≡ Ok x) → unless buffer o m h one ≡ Ok x → unless buffer o k h two ≡ Ok x
+room_mark : {A : Type 0} (o : Option ℕ) (m k : ℕ) (h : Here) (one two : Result A Refusal) (x : A)
+    → (one ≡ Ok x → two ≡ Ok x) → unless buffer o m h one ≡ Ok x → unless buffer o k h two ≡ Ok x
 room_mark (Some f) m k h one two x same e = absurd cc
 room_mark None m k h one two x same e = same e
 
@@ -57,7 +63,9 @@ any_mark m k (Form.area n fault l) h x e =
     room_mark (buffer.lacks m h.at n (length h.rest)) m k h _ _ x
     (bind_mark (read m l (record { rest = take n h.rest; at = h.at })) (read k l (record { rest = take n h.rest; at = h.at })) _ _ x
     (any_mark m k l (record { rest = take n h.rest; at = h.at })) (λ y. end_mark (eqb (length y.1.rest) 0) m k fault y (past n h) x)) e
-any_mark m k (Form.list most stops l) h x e = each_mark (λ before. read m (l before)) (λ before. read k (l before)) (λ before. any_mark m k (l before)) most [] stops h x e
+any_mark m k (Form.list most stops l) h x e =
+    each_mark (λ before. read m (l before)) (λ before. read k (l before)) (λ before. any_mark m k (l before)) most []
+    stops h x e
 any_mark m k (Form.by_left f) h x e = any_mark m k (f (length h.rest)) h x e
 any_mark m k (Form.marked n l) h x e = e
 
@@ -68,7 +76,8 @@ later_ok {A = A} k (Ok y) x g e =
 later_ok k (Err d) x g e = absurd cc
 
 -- what is read at a place is read of its bytes alone
-pub alone : {A : Type 0} (m k : ℕ) (l : Layout A) (h g : Here) (x : A) → read m l h ≡ Ok (x, g) → (f : Here) × (read k l (at_start h.rest) ≡ Ok (x, f)) × (f.rest ≡ g.rest)
+pub alone : {A : Type 0} (m k : ℕ) (l : Layout A) (h g : Here) (x : A) → read m l h ≡ Ok (x, g)
+    → (f : Here) × (read k l (at_start h.rest) ≡ Ok (x, f)) × (f.rest ≡ g.rest)
 alone m k l h g x e =
     let marked : read k l h ≡ Ok (x, g) = any_mark m k l h (x, g) e in
     let same : read k l (later_place h.at (at_start h.rest)) ≡ read k l h =
@@ -79,7 +88,8 @@ finished : {A : Type 0} (x y : A × Here) → finish buffer x ≡ Ok y → (leng
 finished x y e = let t = test_end (eqb (length x.1.rest) 0) x _ y e in (eqb-true _ _ t.0, t.1)
 
 -- what is read of all bytes leaves none
-pub all_read : {A : Type 0} (l : Layout A) (bytes : List ℕ) (x : A) → read_all l bytes ≡ Ok x → (h : Here) × (read 0 l (at_start bytes) ≡ Ok (x, h)) × (length h.rest ≡ 0)
+pub all_read : {A : Type 0} (l : Layout A) (bytes : List ℕ) (x : A) → read_all l bytes ≡ Ok x
+    → (h : Here) × (read 0 l (at_start bytes) ≡ Ok (x, h)) × (length h.rest ≡ 0)
 all_read l bytes x e =
     let done = bind_ok (read 0 l (at_start bytes) >>= finish buffer) (λ y. ok y.0) x e in
     let whole = bind_ok (read 0 l (at_start bytes)) (finish buffer) done.0 done.1 in

@@ -63,8 +63,17 @@ no_more bytes more one two =
 stated_by_header : (bytes : List ℕ) (x : Header × Here) → read 0 header (at_start bytes) ≡ Ok x → IsStated bytes
 unfolding header tag
 stated_by_header bytes x e =
-    let t = bind_ok (read 0 tag (at_start bytes)) (λ t. read 0 command_size t.1 >>= λ s. read 0 command_code s.1 >>= λ code. Ok (record { tag = t.0; size = s.0; code = code.0 }, code.1)) x e in
-    let s = bind_ok (read 0 command_size t.0.1) (λ s. read 0 command_code s.1 >>= λ code. Ok (record { tag = t.0.0; size = s.0; code = code.0 }, code.1)) x t.2 in
+    let t =
+    bind_ok (read 0 tag (at_start bytes))
+    (λ t.
+    read 0 command_size t.1
+    >>= λ s.
+    read 0 command_code s.1 >>= λ code. Ok (record { tag = t.0; size = s.0; code = code.0 }, code.1))
+    x e in
+    let s =
+    bind_ok (read 0 command_size t.0.1)
+    (λ s. read 0 command_code s.1 >>= λ code. Ok (record { tag = t.0.0; size = s.0; code = code.0 }, code.1))
+    x t.2 in
     stated bytes t.0.1 s.0 (tag_is is_tag (at_start bytes) t.0 t.1) s.1
 
 stated_command : (bytes : List ℕ) (c : Command) → Spells command c bytes → IsStated bytes
@@ -90,8 +99,11 @@ stated_response : (code : CommandCode) (bytes : List ℕ) (r : Response) → Spe
 unfolding response
 stated_response code bytes r s =
     let all = all_read (response code) bytes r (spells_read buffer buffer_sound (response code) bytes r s) in
-    let front = bind_ok (read 0 response_front (at_start bytes)) (λ f. read 0 (response_code f.0.0) f.1 >>= λ n. read 0 (behind_code code f.0.0 n.0) n.1) (r, all.0) all.1 in
+    let front =
+    bind_ok (read 0 response_front (at_start bytes))
+    (λ f. read 0 (response_code f.0.0) f.1 >>= λ n. read 0 (behind_code code f.0.0 n.0) n.1) (r, all.0) all.1 in
     stated_by_front bytes front.0 front.1
 
-pub no_response_prefix : (code : CommandCode) (bytes more : List ℕ) (r q : Response) → Spells (response code) r bytes → Spells (response code) q (bytes ++ more) → more ≡ []
+pub no_response_prefix : (code : CommandCode) (bytes more : List ℕ) (r q : Response) → Spells (response code) r bytes
+    → Spells (response code) q (bytes ++ more) → more ≡ []
 no_response_prefix code bytes more r q s t = no_more bytes more (stated_response code bytes r s) (stated_response code (bytes ++ more) q t)

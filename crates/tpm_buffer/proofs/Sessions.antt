@@ -27,7 +27,11 @@ pub lies_inside : (bytes : List ℕ) (h : Here) (n : ℕ) → Stands bytes h →
 lies_inside bytes h n s le =
     let len : length (take n h.rest) ≡ n = omega (arith, le, length-take n h.rest) in
     record {
-      rest = sym s.rest ∙ sym (take-append-drop n h.rest) ∙ ap (λ (r : List ℕ). take n h.rest ++ r) (ap (drop n) s.rest ∙ drop-drop n h.at bytes ∙ ap (λ (k : ℕ). drop (h.at + k) bytes) (sym len));
+      rest =
+          sym s.rest
+          ∙ sym (take-append-drop n h.rest)
+          ∙ ap (λ (r : List ℕ). take n h.rest ++ r)
+          (ap (drop n) s.rest ∙ drop-drop n h.at bytes ∙ ap (λ (k : ℕ). drop (h.at + k) bytes) (sym len));
       within = omega (arith, s.whole, le, len);
     }
 
@@ -51,10 +55,15 @@ step bytes m h g x s e =
     let more = drop (h.at + length h.rest) bytes in
     let one = alone m 0 auth_command h g x e in
     let all : read 0 auth_command (at_start (h.rest ++ more)) ≡ Ok (x, with_more more one.0) = of_session.same 0 (at_start h.rest) more (x, one.0) one.1 in
-    let here : read 0 auth_command (at_start (drop h.at bytes)) ≡ Ok (x, with_more more one.0) = ap (λ (b : List ℕ). read 0 auth_command (at_start b)) s.rest ∙ all in
+    let here : read 0 auth_command (at_start (drop h.at bytes)) ≡ Ok (x, with_more more one.0) =
+    ap (λ (b : List ℕ). read 0 auth_command (at_start b)) s.rest ∙ all in
     let is = session_is bytes h.at x (with_more more one.0) here in
     record {
-      there = record { within = omega (arith, s.within); behind = with_more more one.0; reads = here ∙ ap (λ (y : Auth). ok (y, with_more more one.0)) (sym is) };
+      there = record {
+        within = omega (arith, s.within);
+        behind = with_more more one.0;
+        reads = here ∙ ap (λ (y : Auth). ok (y, with_more more one.0)) (sym is);
+      };
       is = is;
       lies = let p = read_past m auth_command h g x e in rw p.2 (lies_past bytes h p.0 s p.1);
     }

@@ -35,7 +35,8 @@ some_long [] some = absurd (omega arith)
 some_long (a ∷ auths) some = omega (arith, auth_long a, length-append (spelling auth_command a) (joined (λ _. spelling auth_command) (a ∷ []) auths))
 
 pub fits_authorization : (t : ℕ) (auths : List Auth) (left : ℕ) → ((t ≡ 0x8001) × (length auths ≡ 0)) ⊎ ((t ≡ 0x8002) × (0 < length auths)) → length auths ≤ 3
-    → All (IsSpelled auth_command) auths → length (spelling (authorization t) auths) < 2 ^ 16 → length (spelling (authorization t) auths) ≤ left → Fits left (authorization t) auths
+    → All (IsSpelled auth_command) auths → length (spelling (authorization t) auths) < 2 ^ 16
+    → length (spelling (authorization t) auths) ≤ left → Fits left (authorization t) auths
 unfolding authorization authorization_size sessions
 fits_authorization t auths left (inl none) three each small room = rw (none.0) (nil_from_length auths none.1)
 fits_authorization t auths left (inr some) three each small room =
@@ -67,14 +68,21 @@ pub fits_command : (c : Command) → IsCode (code_for c.body) → length (spelli
 unfolding command header tag command_size command_code
 fits_command c code short rest =
     let n = length (spelling (rest_of (code_for c.body) (tag_of c)) c) in
-    let total = 10 + n in
-    ((tag_meant (eqb (length c.auths.items) 0), ((omega arith, size_meant (10 + n) _ (omega arith) (omega arith) (omega arith)), ((code.0, code.1), refl))), rest _ (omega arith))
+    let total = 10 + n in (
+      (
+        tag_meant (eqb (length c.auths.items) 0),
+        ((omega arith, size_meant (10 + n) _ (omega arith) (omega arith) (omega arith)), ((code.0, code.1), refl)),
+      ),
+      rest _ (omega arith),
+    )
 
 -- bytes that are the spelling of a value spell it
 pub encoded : {A : Type 0} (l : Layout A) (x : A) (bytes : List ℕ) → bytes ≡ spelling l x → Fits (length bytes) l x → Spells l x bytes
 encoded l x bytes is fits = read_spells buffer buffer_sound l bytes x (ap (read_all l) is ∙ read_again buffer buffer_roomy l x (rw is at fits))
 
-tag_cases : (auths : List Auth) → ((tag_by (eqb (length auths) 0) ≡ 0x8001) × (length auths ≡ 0)) ⊎ ((tag_by (eqb (length auths) 0) ≡ 0x8002) × (0 < length auths))
+tag_cases : (auths : List Auth)
+    → ((tag_by (eqb (length auths) 0) ≡ 0x8001) × (length auths ≡ 0))
+    ⊎ ((tag_by (eqb (length auths) 0) ≡ 0x8002) × (0 < length auths))
 tag_cases [] = inl (refl, refl)
 tag_cases (a ∷ auths) = inr (rw (ne_eqb (length (a ∷ auths)) 0 (λ e. omega (arith, e))) refl, omega arith)
 
@@ -88,7 +96,8 @@ fits_rest c three each one last whole short left room =
     let front = spelling (handles (code_for c.body)) (handles_of c.body) in
     let middle = spelling (authorization (tag_of c)) auths in
     let back = spelling (parameters (code_for c.body)) (params_of c.body) ++ [] in
-    let lengths : length (front ++ (middle ++ back)) ≡ length front + (length middle + length back) = omega (arith, length-append front (middle ++ back), length-append middle back) in (
+    let lengths : length (front ++ (middle ++ back)) ≡ length front + (length middle + length back) =
+    omega (arith, length-append front (middle ++ back), length-append middle back) in (
       one left,
       (
         fits_authorization (tag_of c) auths (left - length front) (tag_cases auths) three each (omega (arith, short, lengths)) (omega (arith, room, lengths)),

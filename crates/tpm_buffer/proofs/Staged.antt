@@ -22,7 +22,8 @@ use Rattle.tpm_buffer.specs.Commands.{header, authorization, body_from, with_aut
 use Rattle.tpm_buffer.specs.Commands.{command}
 
 -- what fails in one chain fails in another that begins so
-fails : {A B C : Type 0} (r : Result A Refusal) (f : A → Result B Refusal) (g : A → Result C Refusal) (d : Refusal) → ((x : A) → f x ≡ Err d → g x ≡ Err d) → (r >>= f) ≡ Err d → (r >>= g) ≡ Err d
+fails : {A B C : Type 0} (r : Result A Refusal) (f : A → Result B Refusal) (g : A → Result C Refusal) (d : Refusal)
+    → ((x : A) → f x ≡ Err d → g x ≡ Err d) → (r >>= f) ≡ Err d → (r >>= g) ≡ Err d
 fails (Ok x) f g d same e = same x e
 fails {B = B} {C = C} (Err c) f g d same e = ap (err {A = C}) (err_is {A = B} c d e)
 
@@ -39,7 +40,11 @@ front_fails h d = fails (read 0 header h) _ _ d (λ a. fails (read 0 (handles a.
 
 before_fails : (h : Here) (d : Refusal) → read 0 before_params h ≡ Err d → read 0 command h ≡ Err d
 unfolding before_params command
-before_fails h d = fails (read 0 header h) _ _ d (λ a. fails (read 0 (handles a.0.code) a.1) _ _ d (λ b. fails (read 0 (authorization a.0.tag) b.1) _ _ d (λ x. never _ d _)))
+before_fails h d =
+    fails (read 0 header h) _ _ d
+    (λ a.
+    fails (read 0 (handles a.0.code) a.1) _ _ d
+    (λ b. fails (read 0 (authorization a.0.tag) b.1) _ _ d (λ x. never _ d _)))
 
 cut_fails : {A : Type 0} (r : Result (A × Here) Refusal) (d : Refusal) → (r >>= parted) ≡ Err d → r ≡ Err d
 cut_fails (Ok x) d e = absurd cc
@@ -70,7 +75,9 @@ abbrev at_command : Command → Here → Result (Command × Here) Refusal
 at_command c h = Ok (c, h)
 
 -- what succeeds in one chain goes on in another that begins so
-goes_on : {A B C : Type 0} (r : Result A Refusal) (f : A → Result B Refusal) (g : A → Result C Refusal) (y : B) (o : Result C Refusal) → ((x : A) → f x ≡ Ok y → g x ≡ o) → (r >>= f) ≡ Ok y → (r >>= g) ≡ o
+goes_on : {A B C : Type 0} (r : Result A Refusal) (f : A → Result B Refusal) (g : A → Result C Refusal) (y : B)
+    (o : Result C Refusal)
+    → ((x : A) → f x ≡ Ok y → g x ≡ o) → (r >>= f) ≡ Ok y → (r >>= g) ≡ o
 goes_on (Ok x) f g y o same e = same x e
 goes_on (Err c) f g y o same e = absurd cc
 
@@ -80,7 +87,11 @@ behind y = read 0 (parameters y.0.header.code) y.1 >>= λ p. at_command (with_au
 
 command_goes_on : (h : Here) (y : Checked × Here) → read 0 before_params h ≡ Ok y → read 0 command h ≡ behind y
 unfolding before_params command
-command_goes_on h y = goes_on (read 0 header h) _ _ y (behind y) (λ a. goes_on (read 0 (handles a.0.code) a.1) _ _ y (behind y) (λ b. goes_on (read 0 (authorization a.0.tag) b.1) _ _ y (behind y) (λ c e. ap behind (ok_is _ y e))))
+command_goes_on h y =
+    goes_on (read 0 header h) _ _ y (behind y)
+    (λ a.
+    goes_on (read 0 (handles a.0.code) a.1) _ _ y (behind y)
+    (λ b. goes_on (read 0 (authorization a.0.tag) b.1) _ _ y (behind y) (λ c e. ap behind (ok_is _ y e))))
 
 record Before (bytes rest : List ℕ) (x : Checked) : Type 0 where
   place : Here
@@ -93,8 +104,11 @@ cut_is (Ok y) x rest e =
     (y.1, ap (λ (z : Checked). ok (z, y.1)) (ap (λ (p : Checked × List ℕ). p.0) pairs), ap (λ (p : Checked × List ℕ). p.1) pairs)
 cut_is (Err c) x rest e = absurd cc
 
-pub cut_value : (bytes rest : List ℕ) (x : Checked) → Spells (cut before_params) (x, rest) bytes → (g : Here) × (read 0 before_params (at_start bytes) ≡ Ok (x, g)) × (g.rest ≡ rest)
-cut_value bytes rest x s = cut_is (read 0 before_params (at_start bytes)) x rest (sym (cut_read before_params bytes) ∙ spells_read buffer buffer_sound (cut before_params) bytes (x, rest) s)
+pub cut_value : (bytes rest : List ℕ) (x : Checked) → Spells (cut before_params) (x, rest) bytes
+    → (g : Here) × (read 0 before_params (at_start bytes) ≡ Ok (x, g)) × (g.rest ≡ rest)
+cut_value bytes rest x s =
+    cut_is (read 0 before_params (at_start bytes)) x rest
+    (sym (cut_read before_params bytes) ∙ spells_read buffer buffer_sound (cut before_params) bytes (x, rest) s)
 
 before : (bytes rest : List ℕ) (x : Checked) → Spells (cut before_params) (x, rest) bytes → Before bytes rest x
 before bytes rest x s =
@@ -111,14 +125,20 @@ whole o = (o >>= finish buffer) >>= λ x. ok x.0
 pub areas_fault : (bytes : List ℕ) (e : Refusal) → read 0 before_params (at_start bytes) ≡ Err e → read_all command bytes ≡ Err e
 areas_fault bytes e is = ap whole (before_fails (at_start bytes) e is)
 
-pub params_fault : (bytes : List ℕ) (x : Checked) (h : Here) (e : Refusal) → read 0 before_params (at_start bytes) ≡ Ok (x, h) → read 0 (parameters x.header.code) h ≡ Err e → read_all command bytes ≡ Err e
+pub params_fault : (bytes : List ℕ) (x : Checked) (h : Here) (e : Refusal)
+    → read 0 before_params (at_start bytes) ≡ Ok (x, h) → read 0 (parameters x.header.code) h ≡ Err e
+    → read_all command bytes ≡ Err e
 params_fault bytes x h e is bad = ap whole (command_goes_on (at_start bytes) (x, h) is) ∙ rw bad refl
 
-pub left_over : (bytes : List ℕ) (x : Checked) (h g : Here) (p : Params) → read 0 before_params (at_start bytes) ≡ Ok (x, h) → read 0 (parameters x.header.code) h ≡ Ok (p, g) → eqb (length g.rest) 0 ≡ false
+pub left_over : (bytes : List ℕ) (x : Checked) (h g : Here) (p : Params)
+    → read 0 before_params (at_start bytes) ≡ Ok (x, h) → read 0 (parameters x.header.code) h ≡ Ok (p, g)
+    → eqb (length g.rest) 0 ≡ false
     → read_all command bytes ≡ Err (record { code = 0x095; at = g.at })
 left_over bytes x h g p is good more = ap whole (command_goes_on (at_start bytes) (x, h) is) ∙ rw (good, more) refl
 
-pub command_is : (bytes : List ℕ) (x : Checked) (h g : Here) (p : Params) → read 0 before_params (at_start bytes) ≡ Ok (x, h) → read 0 (parameters x.header.code) h ≡ Ok (p, g) → eqb (length g.rest) 0 ≡ true
+pub command_is : (bytes : List ℕ) (x : Checked) (h g : Here) (p : Params)
+    → read 0 before_params (at_start bytes) ≡ Ok (x, h) → read 0 (parameters x.header.code) h ≡ Ok (p, g)
+    → eqb (length g.rest) 0 ≡ true
     → read_all command bytes ≡ Ok (with_auths (body_from x.handles p) x.auths)
 command_is bytes x h g p is good none = ap whole (command_goes_on (at_start bytes) (x, h) is) ∙ rw (good, none) refl
 
@@ -126,7 +146,8 @@ abbrev wrapped : ℕ → (Params → Command) → Result Params Refusal → Resu
 wrapped k wrap (Ok p) = Ok (wrap p)
 wrapped k wrap (Err e) = Err (later_refusal k e)
 
-wraps : (k : ℕ) (o : Result (Params × Here) Refusal) (wrap : Params → Command) → whole (later k o >>= λ p. at_command (wrap p.0) p.1) ≡ wrapped k wrap ((o >>= finish buffer) >>= λ x. ok x.0)
+wraps : (k : ℕ) (o : Result (Params × Here) Refusal) (wrap : Params → Command)
+    → whole (later k o >>= λ p. at_command (wrap p.0) p.1) ≡ wrapped k wrap ((o >>= finish buffer) >>= λ x. ok x.0)
 wraps k (Err e) wrap = refl
 wraps k (Ok x) wrap = go (eqb (length x.1.rest) 0)
   where

@@ -37,8 +37,11 @@ cut_ok bytes r is c = (to r is, from r is)
   where
     to : (r : Result Cut Refusal) → Gives areas_view (read 0 before_params (at_start bytes)) r → r ≡ Ok c → HasCut bytes c
     to r is e =
-        let there : Gives areas_view (read 0 before_params (at_start bytes)) (ok c) = subst (λ (o : Result Cut Refusal). Gives areas_view (read 0 before_params (at_start bytes)) o) e is in
-        (cut_decodes before_params areas_view bytes (ok c) there, omega (arith, ends_same buffer buffer_sound 0 before_params (at_start bytes) (areas_view c) there))
+        let there : Gives areas_view (read 0 before_params (at_start bytes)) (ok c) =
+        subst (λ (o : Result Cut Refusal). Gives areas_view (read 0 before_params (at_start bytes)) o) e is in (
+          cut_decodes before_params areas_view bytes (ok c) there,
+          omega (arith, ends_same buffer buffer_sound 0 before_params (at_start bytes) (areas_view c) there),
+        )
 
     from : (r : Result Cut Refusal) → Gives areas_view (read 0 before_params (at_start bytes)) r → HasCut bytes c → r ≡ Ok c
     from (Ok d) is has =
@@ -52,12 +55,14 @@ cut_ok bytes r is c = (to r is, from r is)
         let g = cut_value bytes c.params (checked c) has.0 in
         absurd (let w : ok (checked c, g.0) ≡ err e = sym g.1 ∙ is in cc)
 
-pub cut_err : (bytes : List ℕ) (r : Result Cut Refusal) → Gives areas_view (read 0 before_params (at_start bytes)) r → (e : Refusal) → (r ≡ Err e) ↔ Fault (cut before_params) bytes e
+pub cut_err : (bytes : List ℕ) (r : Result Cut Refusal) → Gives areas_view (read 0 before_params (at_start bytes)) r
+    → (e : Refusal) → (r ≡ Err e) ↔ Fault (cut before_params) bytes e
 cut_err bytes r is e = (to r is, from r is)
   where
     to : (r : Result Cut Refusal) → Gives areas_view (read 0 before_params (at_start bytes)) r → r ≡ Err e → Fault (cut before_params) bytes e
     to r is d =
-        cut_decodes before_params areas_view bytes (err {A = Cut} e) (subst (λ (o : Result Cut Refusal). Gives areas_view (read 0 before_params (at_start bytes)) o) d is)
+        cut_decodes before_params areas_view bytes (err {A = Cut} e)
+        (subst (λ (o : Result Cut Refusal). Gives areas_view (read 0 before_params (at_start bytes)) o) d is)
 
     from : (r : Result Cut Refusal) → Gives areas_view (read 0 before_params (at_start bytes)) r → Fault (cut before_params) bytes e → r ≡ Err e
     from (Ok d) is f = absurd (let w : ok (areas_view d) ≡ err e = sym is ∙ cut_fault before_params bytes e f in let z : ⊥ = cc in z)

@@ -39,7 +39,8 @@ abbrev pub HasHandles : HeaderCut → Result HandlesCut Refusal → Type 0
 HasHandles x (Ok y) = Begins 0 (handles x.header.code) y.handles x.here y.here
 HasHandles x (Err e) = FaultFrom 0 (handles x.header.code) x.here e
 
--- ---- a command whose parameters are not judged: its parts, the parameters as they came, and how many bytes are before them
+-- ---- a command whose parameters are not judged: its parts, the parameters as they came, and how many bytes are
+-- before them
 
 pub record Cut : Type 0 where
   pub header : Header
@@ -69,7 +70,10 @@ HasCut bytes c = Spells (cut before_params) (checked c, c.params) bytes × (c.pa
 
 -- The sessions, and the place behind them, are what is read behind the handles.
 abbrev pub IsAreas : HandlesCut → Result Cut Refusal → Type 0
-IsAreas x (Ok y) = (read 0 (authorization x.header.tag) x.here ≡ Ok (y.auths, params_here y)) × (y.header ≡ x.header) × (y.handles ≡ x.handles)
+IsAreas x (Ok y) =
+    (read 0 (authorization x.header.tag) x.here ≡ Ok (y.auths, params_here y))
+    × (y.header ≡ x.header)
+    × (y.handles ≡ x.handles)
 IsAreas x (Err e) = read 0 (authorization x.header.tag) x.here ≡ Err e
 
 -- From the place behind the handles on, the bytes begin with these sessions, or have this fault.
@@ -109,4 +113,6 @@ pub record IsSpelledBy (bytes : List ℕ) (c : Cut) : Type 0 where
   pub admitted : AreAdmitted (handle_kinds c.header.code) c.handles
   pub none : c.header.tag ≢ 0x8002 → length c.auths ≡ 0
   pub some : c.header.tag ≡ 0x8002 → 0 < length c.auths
-  pub text : bytes ≡ spelling header c.header ++ (spelling (handles c.header.code) c.handles ++ (spelling (authorization c.header.tag) c.auths ++ c.params))
+  pub text : bytes
+      ≡ spelling header c.header
+      ++ (spelling (handles c.header.code) c.handles ++ (spelling (authorization c.header.tag) c.auths ++ c.params))

@@ -28,7 +28,9 @@ tag = number_in 2 is_tag rc_bad_tag
 
 -- the number of bytes of the buffer, of which six are read with it
 unfoldable pub command_size : Layout ℕ
-command_size = number 4 (λ left n. if (n == left + 6) && nat_le 10 n && nat_le n 4096 then Some n else None) (λ n. n) rc_command_size
+command_size =
+    number 4 (λ left n. if (n == left + 6) && nat_le 10 n && nat_le n 4096 then Some n else None) (λ n. n)
+    rc_command_size
 
 unfoldable pub header : Layout Header
 header =

@@ -21,4 +21,5 @@ behind_header handles sessions parameters = handles ++ (authorization_of session
 -- the header, and behind it the parts
 abbrev pub joined : CommandCode → List ℕ → List ℕ → List ℕ → List ℕ
 joined code handles sessions parameters = let behind = behind_header handles sessions parameters in
-    to_be_bytes w16 (tag_for sessions) ++ (to_be_bytes w32 (10 + length behind) ++ (to_be_bytes w32 (code_number code) ++ behind))
+    to_be_bytes w16 (tag_for sessions)
+    ++ (to_be_bytes w32 (10 + length behind) ++ (to_be_bytes w32 (code_number code) ++ behind))

@@ -1,4 +1,5 @@
--- A response to a given command: a header, and where its code is 0 a handle, parameters and sessions (Part 1, "Command/Response Structure"; Part 2, 6.9).
+-- A response to a given command: a header, and where its code is 0 a handle, parameters and sessions (Part 1,
+-- "Command/Response Structure"; Part 2, 6.9).
 use Rattle.std.specs.Prelude.{◌≡◌, ℕ, ◌+◌, Bool, true, not, List, [], ◌∷◌, length, Option, Some, None, nat_le, ◌==◌}
 use Rattle.std.specs.Prelude.{◌||◌, if◌then◌else◌}
 use Rattle.tpm_wire.specs.Buffers.{Layout, number_in, numbered}
@@ -120,7 +121,8 @@ code_or_done None r = done_with r
 
 -- what follows the header
 abbrev pub behind_code : CommandCode → ℕ → ℕ → Layout Response
-behind_code code t n = either (n == 0) (field reply_of (reply code t) (λ r. done (done_with r))) (done (responses.Code n))
+behind_code code t n =
+    either (n == 0) (field reply_of (reply code t) (λ r. done (done_with r))) (done (responses.Code n))
 
 abbrev pub size_of_response : CommandCode → Response → ℕ
 size_of_response code r = 10 + length (spelling (behind_code code (tag_of_response r) (code_of_response r)) r)
@@ -147,11 +149,13 @@ raw_with_sessions n hs =
     done (record { code = n; handles = hs; params = params; auths = auths }))))
 
 unfoldable pub raw_without_sessions : ℕ → List ℕ → Layout ReplyCut
-raw_without_sessions n hs = field (λ c. c.params) remaining (λ params. done (record { code = n; handles = hs; params = params; auths = [] }))
+raw_without_sessions n hs =
+    field (λ c. c.params) remaining (λ params. done (record { code = n; handles = hs; params = params; auths = [] }))
 
 abbrev pub cut_behind_code : CommandCode → ℕ → ℕ → Layout ReplyCut
 cut_behind_code code t n = either (n == 0)
-    (field (λ c. c.handles) (reply_handles code) (λ hs. either (t == 0x8002) (raw_with_sessions n hs) (raw_without_sessions n hs)))
+    (field (λ c. c.handles) (reply_handles code)
+    (λ hs. either (t == 0x8002) (raw_with_sessions n hs) (raw_without_sessions n hs)))
     (done (record { code = n; handles = []; params = []; auths = [] }))
 
 unfoldable pub reply_cut : CommandCode → Layout ReplyCut

@@ -54,7 +54,11 @@ impl<'a> Model for Handled<'a> {
 
     ghost Value = { HandlesCut };
 
-    ghost view = { λ h. record { header = h.header; handles = h.handles.items; here = h.cursor.here } };
+    ghost view = { λ h. record {
+      header = h.header;
+      handles = h.handles.items;
+      here = h.cursor.here;
+    } };
 
     ghost invariant = { λ h. (length h.bytes.now ≤ 4096) × Stands h.bytes.now h.cursor.here };
 }
@@ -84,7 +88,9 @@ impl<'a> Model for Areas<'a> {
       params_at = a.params_at;
     } };
 
-    ghost invariant = { λ a. (length a.bytes.now ≤ 4096) × (a.params_at ≤ length a.bytes.now) × All (IsSession a.bytes.now) a.sessions.items };
+    ghost invariant = { λ a. (length a.bytes.now ≤ 4096)
+        × (a.params_at ≤ length a.bytes.now)
+        × All (IsSession a.bytes.now) a.sessions.items };
 }
 
 impl<'a> Headed<'a> {
@@ -247,8 +253,8 @@ pub fn header(bytes: &[u8]) -> Result<Headed<'_>, Refusal>
     any_header(bytes)
 }
 
-/// Reads all that stands before the parameters of the command, which begin where the cursor is then: the sessions in the place
-/// of others.
+/// Reads all that stands before the parameters of the command, which begin where the cursor is
+/// then: the sessions in the place of others.
 #[tactic(auto, unfolding(crate::specs::Commands::before_params))]
 #[inline(always)]
 pub(crate) fn read_before_params(
@@ -256,8 +262,12 @@ pub(crate) fn read_before_params(
     auths: &mut ArrayVec<Auth, 3>,
 ) -> Result<(Header, ArrayVec<u32, 2>), Refusal>
     requires { cursor.old.number ≡ 0 }
-    ensures reads { TakesNumbered (λ x. checked (cut_of x.0 x.1.items auths.new.items cursor.new.here)) before_params cursor.old cursor.new result }
-    ensures spelled { IfOk result (λ x. IsSpelledBy cursor.old.here.rest (cut_of x.0 x.1.items auths.new.items cursor.new.here)) }
+    ensures reads { TakesNumbered
+        (λ x. checked (cut_of x.0 x.1.items auths.new.items cursor.new.here)) before_params
+        cursor.old cursor.new result }
+    ensures spelled { IfOk result
+        (λ x. IsSpelledBy cursor.old.here.rest
+        (cut_of x.0 x.1.items auths.new.items cursor.new.here)) }
 {
     let header = take_header(cursor)?;
     let handles = take_handles(cursor, header.code)?;

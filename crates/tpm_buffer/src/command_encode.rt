@@ -17,17 +17,22 @@ use tpm_wire::{Buffer, Wire, known_list, list_len, put_list};
 // ---- handles
 
 fn handles_len(body: &CommandBody<'_>) -> usize
-    ensures value { result ≡ length (spelling (handles_layout (code_for body.now)) (handles_of body.now)) }
+    ensures value { result
+        ≡ length (spelling (handles_layout (code_for body.now)) (handles_of body.now)) }
     ensures fits { result ≤ 8 }
-    ensures spelled { (left : ℕ) → Fits left (handles_layout (code_for body.now)) (handles_of body.now) }
+    ensures spelled { (left : ℕ)
+        → Fits left (handles_layout (code_for body.now)) (handles_of body.now) }
     ensures whole { body_from (handles_of body.now) (params_of body.now) ≡ body.now }
 {
     4 * body.handle_numbers().len()
 }
 
 fn put_handles(body: &CommandBody<'_>, out: &mut Buffer)
-    requires { length out.old.items + length (spelling (handles_layout (code_for body.now)) (handles_of body.now)) ≤ 4096 }
-    ensures { out.new.items ≡ out.old.items ++ spelling (handles_layout (code_for body.now)) (handles_of body.now) }
+    requires { length out.old.items
+        + length (spelling (handles_layout (code_for body.now)) (handles_of body.now))
+        ≤ 4096 }
+    ensures { out.new.items
+        ≡ out.old.items ++ spelling (handles_layout (code_for body.now)) (handles_of body.now) }
 {
     match body.handle_numbers().as_slice() {
         [] => {}
@@ -82,12 +87,16 @@ fn tag_for(command: &Command<'_>) -> u16
 }
 
 fn rest_len(tag: u16, command: &Command<'_>) -> usize
-    ensures value { result ≡ length (spelling (rest_of (code_for command.now.body) tag) command.now) }
+    ensures value { result
+        ≡ length (spelling (rest_of (code_for command.now.body) tag) command.now) }
     ensures fits { result ≤ 4000 }
     ensures few { length command.now.auths.items ≤ 3 }
-    ensures handles { (left : ℕ) → Fits left (handles_layout (code_for command.now.body)) (handles_of command.now.body) }
-    ensures whole { body_from (handles_of command.now.body) (params_of command.now.body) ≡ command.now.body }
-    ensures params { (left : ℕ) → Fits left (parameters (code_for command.now.body)) (params_of command.now.body) }
+    ensures handles { (left : ℕ)
+        → Fits left (handles_layout (code_for command.now.body)) (handles_of command.now.body) }
+    ensures whole { body_from (handles_of command.now.body) (params_of command.now.body)
+        ≡ command.now.body }
+    ensures params { (left : ℕ)
+        → Fits left (parameters (code_for command.now.body)) (params_of command.now.body) }
 {
     handles_len(&command.body)
         + authorization_len(tag, command.auths.as_slice())
@@ -95,8 +104,11 @@ fn rest_len(tag: u16, command: &Command<'_>) -> usize
 }
 
 fn put_rest(tag: u16, command: &Command<'_>, out: &mut Buffer)
-    requires { length out.old.items + length (spelling (rest_of (code_for command.now.body) tag) command.now) ≤ 4096 }
-    ensures { out.new.items ≡ out.old.items ++ spelling (rest_of (code_for command.now.body) tag) command.now }
+    requires { length out.old.items
+        + length (spelling (rest_of (code_for command.now.body) tag) command.now)
+        ≤ 4096 }
+    ensures { out.new.items
+        ≡ out.old.items ++ spelling (rest_of (code_for command.now.body) tag) command.now }
 {
     put_handles(&command.body, out);
     put_authorization(tag, command.auths.as_slice(), out);
@@ -117,7 +129,8 @@ fn put_whole(tag: u16, len: usize, command: &Command<'_>, out: &mut Buffer)
     put_rest(tag, command, out);
 }
 
-/// Puts the bytes that spell the command, 10 to 4,096 of them, into an empty buffer: those that `encode_command` answers.
+/// Puts the bytes that spell the command, 10 to 4,096 of them, into an empty buffer: those that `encode_command`
+/// answers.
 // It is out of line, so that `encode_command` is small, and its buffer the caller's.
 #[inline(never)]
 pub fn put_command(command: &Command<'_>, out: &mut Buffer)

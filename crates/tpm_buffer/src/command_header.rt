@@ -33,7 +33,8 @@ pub(crate) fn tag_with<T>(sessions: &[T]) -> u16
 #[tactic(auto, unfolding(crate::specs::Commands::tag))]
 fn take_tag(cursor: &mut Cursor<'_>) -> Result<u16, Refusal>
     ensures reads { Takes tag cursor.old cursor.new result }
-    ensures spelled { IfOk result (λ x. cursor.old.here.rest ≡ spelling tag x ++ cursor.new.here.rest) }
+    ensures spelled { IfOk result
+        (λ x. cursor.old.here.rest ≡ spelling tag x ++ cursor.new.here.rest) }
     ensures tag { IfOk result (λ x. is_tag x ≡ true) }
     ensures two { IfOk result (λ x. length cursor.old.here.rest ≡ 2 + length cursor.new.here.rest) }
 {
@@ -48,9 +49,11 @@ fn take_tag(cursor: &mut Cursor<'_>) -> Result<u16, Refusal>
 #[tactic(auto, unfolding(crate::specs::Commands::command_size))]
 pub(crate) fn take_size(cursor: &mut Cursor<'_>) -> Result<u32, Refusal>
     ensures reads { Takes command_size cursor.old cursor.new result }
-    ensures spelled { IfOk result (λ x. cursor.old.here.rest ≡ spelling command_size x ++ cursor.new.here.rest) }
+    ensures spelled { IfOk result
+        (λ x. cursor.old.here.rest ≡ spelling command_size x ++ cursor.new.here.rest) }
     ensures size { IfOk result (λ x. x ≡ length cursor.old.here.rest + 2) }
-    ensures four { IfOk result (λ x. length cursor.old.here.rest ≡ 4 + length cursor.new.here.rest) }
+    ensures four { IfOk result
+        (λ x. length cursor.old.here.rest ≡ 4 + length cursor.new.here.rest) }
 {
     let refusal = cursor.refusal(COMMAND_SIZE);
     let size = u32::take(cursor)?;
@@ -64,7 +67,8 @@ pub(crate) fn take_size(cursor: &mut Cursor<'_>) -> Result<u32, Refusal>
 #[inline(always)]
 fn take_code(cursor: &mut Cursor<'_>) -> Result<CommandCode, Refusal>
     ensures reads { Takes command_code cursor.old cursor.new result }
-    ensures spelled { IfOk result (λ x. cursor.old.here.rest ≡ spelling command_code x ++ cursor.new.here.rest) }
+    ensures spelled { IfOk result
+        (λ x. cursor.old.here.rest ≡ spelling command_code x ++ cursor.new.here.rest) }
 {
     let refusal = cursor.refusal(COMMAND_CODE);
     CommandCode::from_number(u32::take(cursor)?).ok_or(refusal)
@@ -75,7 +79,8 @@ fn take_code(cursor: &mut Cursor<'_>) -> Result<CommandCode, Refusal>
 pub(crate) fn take_header(cursor: &mut Cursor<'_>) -> Result<Header, Refusal>
     requires { cursor.old.number ≡ 0 }
     ensures reads { TakesNumbered (λ h. h) header cursor.old cursor.new result }
-    ensures spelled { IfOk result (λ x. cursor.old.here.rest ≡ spelling header x ++ cursor.new.here.rest) }
+    ensures spelled { IfOk result
+        (λ x. cursor.old.here.rest ≡ spelling header x ++ cursor.new.here.rest) }
     ensures tag { IfOk result (λ x. is_tag x.tag ≡ true) }
     ensures size { IfOk result (λ x. x.size ≡ length cursor.old.here.rest) }
 {

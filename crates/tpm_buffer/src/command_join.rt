@@ -9,7 +9,10 @@ use tpm_wire::{Buffer, put_bytes};
 
 // How many bytes the joined parts have, or None where a number can't say it.
 fn joined_len(handles: &[u8], sessions: &[u8], parameters: &[u8]) -> Option<usize>
-    ensures { MatchOption result (4096 < 10 + length handles.now + length (authorization_of sessions.now) + length parameters.now)
+    ensures { MatchOption result
+        (4096
+        < 10 + length handles.now + length (authorization_of sessions.now)
+        + length parameters.now)
         (λ n. n ≡ 10 + length handles.now + length (authorization_of sessions.now) + length parameters.now) }
 {
     let authorization = if sessions.is_empty() {
@@ -33,16 +36,18 @@ fn put_authorization(out: &mut Buffer, sessions: &[u8])
     }
 }
 
-/// A command's header, and behind it these bytes of its handles, its sessions as they are spelled in the authorization area, and its
-/// parameters; None where they are more than 4,096 bytes. The tag is 0x8001 where there are no sessions' bytes, and else 0x8002,
-/// and they stand behind their number. Whether the bytes spell a command says `decode_command`.
+/// A command's header, and behind it these bytes of its handles, its sessions as they are spelled in the
+/// authorization area, and its parameters; None where they are more than 4,096 bytes. The tag is 0x8001
+/// where there are no sessions' bytes, and else 0x8002, and they stand behind their number. Whether the
+/// bytes spell a command says `decode_command`.
 pub fn join_command(
     code: CommandCode,
     handles: &[u8],
     sessions: &[u8],
     parameters: &[u8],
 ) -> Option<Buffer>
-    ensures { MatchOption result (4096 < length (joined code handles.now sessions.now parameters.now))
+    ensures { MatchOption result
+        (4096 < length (joined code handles.now sessions.now parameters.now))
         (λ b. (length b.items ≤ 4096) × (b.items ≡ joined code handles.now sessions.now parameters.now)) }
 {
     let size = joined_len(handles, sessions, parameters)?;

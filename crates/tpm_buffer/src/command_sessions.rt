@@ -1,4 +1,5 @@
-//! A command's authorization area (Part 1, "Command/Response Structure"): its sessions, by their positions in the command.
+//! A command's authorization area (Part 1, "Command/Response Structure"): its
+//! sessions, by their positions in the command.
 
 ghost use Rattle.std.specs.Prelude.{◌≡◌, ◌≢◌, ◌<◌, ◌≤◌, ◌^◌, [], ◌∷◌, ◌++◌, IfOk, OnOk, length};
 ghost use Rattle.std.specs.List.{All};
@@ -35,9 +36,15 @@ impl<'a> Model for AuthRef<'a> {
 
     ghost Value = { Auth };
 
-    ghost view = { λ a. record { session = a.session; nonce = a.nonce.now; attrs = a.attrs; hmac = a.hmac.now } };
+    ghost view = { λ a. record {
+      session = a.session;
+      nonce = a.nonce.now;
+      attrs = a.attrs;
+      hmac = a.hmac.now;
+    } };
 
-    ghost invariant = { λ a. (length a.nonce.now ≤ digest_bytes) × (length a.hmac.now ≤ digest_bytes) };
+    ghost invariant = { λ a. (length a.nonce.now ≤ digest_bytes)
+        × (length a.hmac.now ≤ digest_bytes) };
 }
 
 impl<'a> AuthRef<'a> {
@@ -77,7 +84,8 @@ impl<'a> AuthRef<'a> {
 #[inline(always)]
 fn take_session<'a>(cursor: &mut Cursor<'a>) -> Result<AuthRef<'a>, Refusal>
     ensures reads { Takes auth_command cursor.old cursor.new result }
-    ensures spelled { IfOk result (λ a. cursor.old.here.rest ≡ spelling auth_command a ++ cursor.new.here.rest) }
+    ensures spelled { IfOk result
+        (λ a. cursor.old.here.rest ≡ spelling auth_command a ++ cursor.new.here.rest) }
 {
     let session = AuthSession::take(cursor)?;
     let nonce = take_sized(cursor, DIGEST_BYTES)?;
@@ -107,10 +115,14 @@ pub(crate) fn session_at<'a>(bytes: &'a [u8], at: u32) -> AuthRef<'a>
 #[tactic(auto, unfolding(crate::specs::Commands::sessions))]
 fn take_sessions(cursor: &mut Cursor<'_>, bytes: &[u8]) -> Result<ArrayVec<u32, 3>, Refusal>
     requires { LiesIn bytes.now cursor.old.here }
-    ensures reads { TakesNumbered (λ v. sessions_at bytes.now v.items) sessions cursor.old cursor.new result }
-    ensures spelled { IfOk result (λ v. cursor.old.here.rest ≡ spelling sessions (sessions_at bytes.now v.items) ++ cursor.new.here.rest) }
+    ensures reads { TakesNumbered (λ v. sessions_at bytes.now v.items) sessions
+        cursor.old cursor.new result }
+    ensures spelled { IfOk result
+        (λ v. cursor.old.here.rest
+        ≡ spelling sessions (sessions_at bytes.now v.items) ++ cursor.new.here.rest) }
     ensures sessions { IfOk result (λ v. All (IsSession bytes.now) v.items) }
-    ensures some { IfOk result (λ v. length cursor.new.here.rest < length cursor.old.here.rest → 0 < length v.items) }
+    ensures some { IfOk result
+        (λ v. length cursor.new.here.rest < length cursor.old.here.rest → 0 < length v.items) }
 {
     let mut positions = ArrayVec::new();
     while cursor.left() > 0 && positions.len() < 3 {
@@ -126,7 +138,8 @@ fn take_sessions(cursor: &mut Cursor<'_>, bytes: &[u8]) -> Result<ArrayVec<u32, 
 fn take_authorization_size(cursor: &mut Cursor<'_>) -> Result<u32, Refusal>
     requires { cursor.old.number ≡ 0 }
     ensures reads { Takes authorization_size cursor.old cursor.new result }
-    ensures spelled { IfOk result (λ x. cursor.old.here.rest ≡ spelling authorization_size x ++ cursor.new.here.rest) }
+    ensures spelled { IfOk result
+        (λ x. cursor.old.here.rest ≡ spelling authorization_size x ++ cursor.new.here.rest) }
     ensures least { IfOk result (λ x. 9 ≤ x) }
 {
     let refusal = cursor.refusal(AUTHSIZE);
@@ -146,8 +159,11 @@ pub(crate) fn take_authorization(
     tag: u16,
 ) -> Result<ArrayVec<u32, 3>, Refusal>
     requires { Stands bytes.now cursor.old.here }
-    ensures reads { TakesNumbered (λ v. sessions_at bytes.now v.items) (authorization tag) cursor.old cursor.new result }
-    ensures spelled { IfOk result (λ v. cursor.old.here.rest ≡ spelling (authorization tag) (sessions_at bytes.now v.items) ++ cursor.new.here.rest) }
+    ensures reads { TakesNumbered (λ v. sessions_at bytes.now v.items) (authorization tag)
+        cursor.old cursor.new result }
+    ensures spelled { IfOk result
+        (λ v. cursor.old.here.rest
+        ≡ spelling (authorization tag) (sessions_at bytes.now v.items) ++ cursor.new.here.rest) }
     ensures sessions { IfOk result (λ v. All (IsSession bytes.now) v.items) }
     ensures none { IfOk result (λ v. tag ≢ 0x8002 → length v.items ≡ 0) }
     ensures some { IfOk result (λ v. tag ≡ 0x8002 → 0 < length v.items) }
@@ -167,8 +183,8 @@ pub(crate) fn take_authorization(
     Ok(positions)
 }
 
-// Adds a session that another one is read in the place of. It is out of line, where it is made in its place; in line it is made elsewhere and
-// copied.
+// Adds a session that another one is read in the place of. It is out of line, where it is made in its
+// place; in line it is made elsewhere and copied.
 #[inline(never)]
 fn push_any(auths: &mut ArrayVec<Auth, 3>)
     requires { length auths.old.items < 3 }
@@ -182,8 +198,10 @@ fn push_any(auths: &mut ArrayVec<Auth, 3>)
 #[inline(always)]
 fn read_sessions(cursor: &mut Cursor<'_>, auths: &mut ArrayVec<Auth, 3>) -> Result<(), Refusal>
     ensures reads { TakesNumbered (λ _. auths.new.items) sessions cursor.old cursor.new result }
-    ensures spelled { OnOk result (cursor.old.here.rest ≡ spelling sessions auths.new.items ++ cursor.new.here.rest) }
-    ensures some { OnOk result (length cursor.new.here.rest < length cursor.old.here.rest → 0 < length auths.new.items) }
+    ensures spelled { OnOk result
+        (cursor.old.here.rest ≡ spelling sessions auths.new.items ++ cursor.new.here.rest) }
+    ensures some { OnOk result
+        (length cursor.new.here.rest < length cursor.old.here.rest → 0 < length auths.new.items) }
 {
     auths.clear();
     while cursor.left() > 0 && auths.len() < 3 {
@@ -203,8 +221,11 @@ pub(crate) fn read_authorization(
     tag: u16,
     auths: &mut ArrayVec<Auth, 3>,
 ) -> Result<(), Refusal>
-    ensures reads { TakesNumbered (λ _. auths.new.items) (authorization tag) cursor.old cursor.new result }
-    ensures spelled { OnOk result (cursor.old.here.rest ≡ spelling (authorization tag) auths.new.items ++ cursor.new.here.rest) }
+    ensures reads { TakesNumbered (λ _. auths.new.items) (authorization tag)
+        cursor.old cursor.new result }
+    ensures spelled { OnOk result
+        (cursor.old.here.rest
+        ≡ spelling (authorization tag) auths.new.items ++ cursor.new.here.rest) }
     ensures none { OnOk result (tag ≢ 0x8002 → length auths.new.items ≡ 0) }
     ensures some { OnOk result (tag ≡ 0x8002 → 0 < length auths.new.items) }
 {

@@ -21,22 +21,28 @@ pub fn command_or_fault()
 
 /// One reading: no command's spelling is the begin of another's.
 pub fn no_prefix()
-    ensures { (bytes more : List ℕ) (c d : Command) → Spells command c bytes → Spells command d (bytes ++ more) → more ≡ [] }
+    ensures { (bytes more : List ℕ) (c d : Command) → Spells command c bytes
+        → Spells command d (bytes ++ more) → more ≡ [] }
 {}
 
 /// A fault of a cut before the parameters is the whole command's, with the same code and position.
 pub fn fault_before_params()
-    ensures header { (bytes : List ℕ) (e : Refusal) → Fault (cut header) bytes e → Fault command bytes e }
-    ensures handles { (bytes : List ℕ) (e : Refusal) → Fault (cut front) bytes e → Fault command bytes e }
-    ensures sessions { (bytes : List ℕ) (e : Refusal) → Fault (cut before_params) bytes e → Fault command bytes e }
+    ensures header { (bytes : List ℕ) (e : Refusal) → Fault (cut header) bytes e
+        → Fault command bytes e }
+    ensures handles { (bytes : List ℕ) (e : Refusal) → Fault (cut front) bytes e
+        → Fault command bytes e }
+    ensures sessions { (bytes : List ℕ) (e : Refusal) → Fault (cut before_params) bytes e
+        → Fault command bytes e }
 {}
 
 /// What the parameters alone are, the whole command is: the command of those parameters, or their fault, further on by
 /// the bytes before the parameters.
 pub fn parameters_in_command()
-    ensures value { (bytes rest : List ℕ) (x : Checked) (p : Params) → Spells (cut before_params) (x, rest) bytes → Spells (parameters x.header.code) p rest
+    ensures value { (bytes rest : List ℕ) (x : Checked) (p : Params)
+        → Spells (cut before_params) (x, rest) bytes → Spells (parameters x.header.code) p rest
         → Spells command (with_auths (body_from x.handles p) x.auths) bytes }
-    ensures fault { (bytes rest : List ℕ) (x : Checked) (e : Refusal) → Spells (cut before_params) (x, rest) bytes → Fault (parameters x.header.code) rest e
+    ensures fault { (bytes rest : List ℕ) (x : Checked) (e : Refusal)
+        → Spells (cut before_params) (x, rest) bytes → Fault (parameters x.header.code) rest e
         → Fault command bytes (later_refusal (length bytes - length rest) e) }
 {}
 
@@ -47,7 +53,8 @@ pub fn response_or_fault()
 
 /// One reading: no response's spelling is the begin of that of another response to a command with the same code.
 pub fn no_response_prefix()
-    ensures { (code : CommandCode) (bytes more : List ℕ) (r q : Response) → Spells (response code) r bytes → Spells (response code) q (bytes ++ more) → more ≡ [] }
+    ensures { (code : CommandCode) (bytes more : List ℕ) (r q : Response)
+        → Spells (response code) r bytes → Spells (response code) q (bytes ++ more) → more ≡ [] }
 {}
 
 /// Bytes that spell a response have its areas: its code, its handle, its sessions, and bytes that spell its parameters.

@@ -51,7 +51,8 @@ impl<'a> Model for ReplyAreas<'a> {
 
     ghost invariant = { λ a. (length a.bytes.now ≤ 4096)
         × (a.params_at + a.params_size ≤ length a.bytes.now)
-        × (a.params_at ≡ place_behind (handle_list a.handle) (sessions_at a.bytes.now a.sessions.items))
+        × (a.params_at
+        ≡ place_behind (handle_list a.handle) (sessions_at a.bytes.now a.sessions.items))
         × All (IsSession a.bytes.now) a.sessions.items };
 }
 
@@ -115,7 +116,8 @@ fn take_with_sessions<'a>(
     requires short { length bytes.now ≤ 4096 }
     requires stands { Stands bytes.now cursor.old.here }
     requires place { cursor.old.here.at ≡ 10 + 4 * length (handle_list handle) }
-    ensures reads { TakesNumbered (λ c. c) (raw_with_sessions code (handle_list handle)) cursor.old cursor.new result }
+    ensures reads { TakesNumbered (λ c. c) (raw_with_sessions code (handle_list handle))
+        cursor.old cursor.new result }
     ensures place { IfOk result (HasItsParams bytes.now) }
 {
     cursor.number(0);
@@ -144,7 +146,8 @@ fn take_behind_code<'a>(
     requires short { length bytes.now ≤ 4096 }
     requires stands { Stands bytes.now cursor.old.here }
     requires place { cursor.old.here.at ≡ 10 }
-    ensures reads { TakesNumbered (λ c. c) (cut_behind_code code tag number) cursor.old cursor.new result }
+    ensures reads { TakesNumbered (λ c. c) (cut_behind_code code tag number)
+        cursor.old cursor.new result }
     ensures place { IfOk result (HasItsParams bytes.now) }
 {
     if number != 0 {

@@ -33,8 +33,13 @@ fn read_with_sessions(
     auths: &mut ArrayVec<AuthReply, 3>,
 ) -> Result<(), Refusal>
     requires { HasHandle code handle }
-    ensures reads { TakesNumbered (λ _. record { body = body.new; auths = auths.new.items }) (with_sessions (reply_parameters code (handle_list handle))) cursor.old cursor.new result }
-    ensures spelled { OnOk result (cursor.old.here.rest ≡ spelling (with_sessions (reply_parameters code (handle_list handle))) (record { body = body.new; auths = auths.new.items }) ++ cursor.new.here.rest) }
+    ensures reads { TakesNumbered (λ _. record { body = body.new; auths = auths.new.items })
+        (with_sessions (reply_parameters code (handle_list handle))) cursor.old cursor.new result }
+    ensures spelled { OnOk result
+        (cursor.old.here.rest
+        ≡ spelling (with_sessions (reply_parameters code (handle_list handle)))
+        (record { body = body.new; auths = auths.new.items })
+        ++ cursor.new.here.rest) }
     ensures own { OnOk result (IsReplyTo code handle body.new) }
     ensures some { OnOk result (0 < length auths.new.items) }
 {
@@ -55,8 +60,12 @@ fn read_reply(
     body: &mut ReplyBody,
     auths: &mut ArrayVec<AuthReply, 3>,
 ) -> Result<(), Refusal>
-    ensures reads { TakesNumbered (λ _. record { body = body.new; auths = auths.new.items }) (reply code tag) cursor.old cursor.new result }
-    ensures spelled { OnOk result (cursor.old.here.rest ≡ spelling (reply code tag) (record { body = body.new; auths = auths.new.items }) ++ cursor.new.here.rest) }
+    ensures reads { TakesNumbered (λ _. record { body = body.new; auths = auths.new.items })
+        (reply code tag) cursor.old cursor.new result }
+    ensures spelled { OnOk result
+        (cursor.old.here.rest
+        ≡ spelling (reply code tag) (record { body = body.new; auths = auths.new.items })
+        ++ cursor.new.here.rest) }
     ensures some { OnOk result (tag ≡ 0x8002 → 0 < length auths.new.items) }
     ensures none { OnOk result (tag ≢ 0x8002 → length auths.new.items ≡ 0) }
 {
@@ -77,10 +86,23 @@ fn read_behind_code(
     body: &mut ReplyBody,
     auths: &mut ArrayVec<AuthReply, 3>,
 ) -> Result<Option<ErrorCode>, Refusal>
-    ensures reads { TakesNumbered (λ error. code_or_done error (record { body = body.new; auths = auths.new.items })) (behind_code code tag number) cursor.old cursor.new result }
-    ensures spelled { IfOk result (λ error. cursor.old.here.rest ≡ spelling (behind_code code tag number) (code_or_done error (record { body = body.new; auths = auths.new.items })) ++ cursor.new.here.rest) }
-    ensures number { IfOk result (λ error. code_of_response (code_or_done error (record { body = body.new; auths = auths.new.items })) ≡ number) }
-    ensures tag { IfOk result (λ error. is_response_tag tag ≡ true → goes_with tag number ≡ true → tag_of_response (code_or_done error (record { body = body.new; auths = auths.new.items })) ≡ tag) }
+    ensures reads { TakesNumbered
+        (λ error. code_or_done error (record { body = body.new; auths = auths.new.items }))
+        (behind_code code tag number) cursor.old cursor.new result }
+    ensures spelled { IfOk result
+        (λ error. cursor.old.here.rest
+        ≡ spelling (behind_code code tag number)
+        (code_or_done error (record { body = body.new; auths = auths.new.items }))
+        ++ cursor.new.here.rest) }
+    ensures number { IfOk result
+        (λ error. code_of_response
+        (code_or_done error (record { body = body.new; auths = auths.new.items }))
+        ≡ number) }
+    ensures tag { IfOk result
+        (λ error. is_response_tag tag ≡ true → goes_with tag number ≡ true
+        → tag_of_response
+        (code_or_done error (record { body = body.new; auths = auths.new.items }))
+        ≡ tag) }
 {
     match ErrorCode::from_number(number) {
         Some(error) => Ok(Some(error)),
@@ -99,8 +121,14 @@ fn read_response(
     auths: &mut ArrayVec<AuthReply, 3>,
 ) -> Result<Option<ErrorCode>, Refusal>
     requires { cursor.old.number ≡ 0 }
-    ensures reads { TakesNumbered (λ error. code_or_done error (record { body = body.new; auths = auths.new.items })) (response code) cursor.old cursor.new result }
-    ensures spelled { IfOk result (λ error. length cursor.new.here.rest ≡ 0 → cursor.old.here.rest ≡ spelling (response code) (code_or_done error (record { body = body.new; auths = auths.new.items }))) }
+    ensures reads { TakesNumbered
+        (λ error. code_or_done error (record { body = body.new; auths = auths.new.items }))
+        (response code) cursor.old cursor.new result }
+    ensures spelled { IfOk result
+        (λ error. length cursor.new.here.rest ≡ 0
+        → cursor.old.here.rest
+        ≡ spelling (response code)
+        (code_or_done error (record { body = body.new; auths = auths.new.items }))) }
 {
     let (tag, _size) = take_front(cursor)?;
     let number = take_code(cursor, tag)?;
@@ -123,8 +151,13 @@ fn read_bytes(
     body: &mut ReplyBody,
     auths: &mut ArrayVec<AuthReply, 3>,
 ) -> Result<Option<ErrorCode>, Refusal>
-    ensures reads { Gives (λ error. code_or_done error (record { body = body.new; auths = auths.new.items })) (read_all (response code) bytes.now) result }
-    ensures spelled { IfOk result (λ error. bytes.now ≡ spelling (response code) (code_or_done error (record { body = body.new; auths = auths.new.items }))) }
+    ensures reads { Gives
+        (λ error. code_or_done error (record { body = body.new; auths = auths.new.items }))
+        (read_all (response code) bytes.now) result }
+    ensures spelled { IfOk result
+        (λ error. bytes.now
+        ≡ spelling (response code)
+        (code_or_done error (record { body = body.new; auths = auths.new.items }))) }
 {
     if bytes.len() > 4096 {
         return Err(refusal_of_long(code, bytes));

@@ -59,7 +59,8 @@ fn put_sessions(auths: &[AuthReply], out: &mut Buffer)
 
 fn known_behind(first: &AuthReply, others: &[AuthReply])
     requires { length others.now ≤ 2 }
-    ensures { Fits (length (spelling reply_sessions (first.now ∷ others.now))) reply_sessions (first.now ∷ others.now) }
+    ensures { Fits (length (spelling reply_sessions (first.now ∷ others.now))) reply_sessions
+        (first.now ∷ others.now) }
 {
     first.has_spelling();
     known_list(others);
@@ -79,7 +80,10 @@ fn known_sessions(auths: &[AuthReply])
 #[tactic(auto, unfolding(crate::specs::Responses::with_sessions, crate::specs::Responses::without_sessions, crate::specs::Responses::parameter_size))]
 fn reply_len(body: &ReplyBody, auths: &[AuthReply]) -> usize
     requires { length auths.now ≤ 3 }
-    ensures value { result ≡ length (spelling (reply (code_for_reply body.now) (reply_tag auths.now)) (record { body = body.now; auths = auths.now })) }
+    ensures value { result
+        ≡ length
+        (spelling (reply (code_for_reply body.now) (reply_tag auths.now))
+        (record { body = body.now; auths = auths.now })) }
     ensures fits { result ≤ 4000 }
     ensures params { length (spelling (parameters_of_reply body.now) body.now) ≤ 3500 }
 {
@@ -94,8 +98,15 @@ fn reply_len(body: &ReplyBody, auths: &[AuthReply]) -> usize
 #[tactic(auto, unfolding(crate::specs::Responses::with_sessions, crate::specs::Responses::without_sessions, crate::specs::Responses::parameter_size))]
 fn put_parts(body: &ReplyBody, auths: &[AuthReply], out: &mut Buffer)
     requires few { length auths.now ≤ 3 }
-    requires room { length out.old.items + length (spelling (reply (code_for_reply body.now) (reply_tag auths.now)) (record { body = body.now; auths = auths.now })) ≤ 4096 }
-    ensures { out.new.items ≡ out.old.items ++ spelling (reply (code_for_reply body.now) (reply_tag auths.now)) (record { body = body.now; auths = auths.now }) }
+    requires room { length out.old.items
+        + length
+        (spelling (reply (code_for_reply body.now) (reply_tag auths.now))
+        (record { body = body.now; auths = auths.now }))
+        ≤ 4096 }
+    ensures { out.new.items
+        ≡ out.old.items
+        ++ spelling (reply (code_for_reply body.now) (reply_tag auths.now))
+        (record { body = body.now; auths = auths.now }) }
 {
     body.put_handles(out);
     if auths.is_empty() {
@@ -121,7 +132,9 @@ fn tag_of_code(error: ErrorCode) -> u16
 
 fn put_header(error: ErrorCode, out: &mut Buffer)
     requires { length out.old.items ≡ 0 }
-    ensures bytes { out.new.items ≡ bytes_high_first 2 (code_tag error) ++ (bytes_high_first 4 10 ++ bytes_high_first 4 error) }
+    ensures bytes { out.new.items
+        ≡ bytes_high_first 2 (code_tag error)
+        ++ (bytes_high_first 4 10 ++ bytes_high_first 4 error) }
     ensures number { (0 < error) × (error < 2 ^ 32) }
 {
     tag_of_code(error).put(out);
@@ -133,8 +146,10 @@ fn put_header(error: ErrorCode, out: &mut Buffer)
 #[inline(never)]
 pub fn put_code(error: ErrorCode, out: &mut Buffer)
     requires { length out.old.items ≡ 0 }
-    ensures spells { (code : CodeOf) → Spells (response_layout code) (responses.Code error) out.new.items }
-    ensures bytes { (code : CodeOf) → out.new.items ≡ spelling (response_layout code) (responses.Code error) }
+    ensures spells { (code : CodeOf)
+        → Spells (response_layout code) (responses.Code error) out.new.items }
+    ensures bytes { (code : CodeOf)
+        → out.new.items ≡ spelling (response_layout code) (responses.Code error) }
 {
     put_header(error, out);
 }
@@ -142,8 +157,12 @@ pub fn put_code(error: ErrorCode, out: &mut Buffer)
 fn known_reply(body: &ReplyBody, auths: &[AuthReply])
     requires few { length auths.now ≤ 3 }
     requires params { length (spelling (parameters_of_reply body.now) body.now) ≤ 3500 }
-    ensures { Fits (length (spelling (reply_behind (reply_tag auths.now) (parameters_of_reply body.now)) (record { body = body.now; auths = auths.now })))
-        (reply_behind (reply_tag auths.now) (parameters_of_reply body.now)) (record { body = body.now; auths = auths.now }) }
+    ensures { Fits
+        (length
+        (spelling (reply_behind (reply_tag auths.now) (parameters_of_reply body.now))
+        (record { body = body.now; auths = auths.now })))
+        (reply_behind (reply_tag auths.now) (parameters_of_reply body.now))
+        (record { body = body.now; auths = auths.now }) }
 {
     prove!(body.params_len() <= 3500);
     if !auths.is_empty() {
@@ -156,8 +175,13 @@ fn known_reply(body: &ReplyBody, auths: &[AuthReply])
 fn put_done(body: &ReplyBody, auths: &[AuthReply], out: &mut Buffer)
     requires few { length auths.now ≤ 3 }
     requires empty { length out.old.items ≡ 0 }
-    ensures bytes { out.new.items ≡ spelling (response_layout (code_for_reply body.now)) (responses.Done body.now (record { items = auths.now })) }
-    ensures short { length (spelling (reply (code_for_reply body.now) (reply_tag auths.now)) (record { body = body.now; auths = auths.now })) ≤ 4000 }
+    ensures bytes { out.new.items
+        ≡ spelling (response_layout (code_for_reply body.now))
+        (responses.Done body.now (record { items = auths.now })) }
+    ensures short { length
+        (spelling (reply (code_for_reply body.now) (reply_tag auths.now))
+        (record { body = body.now; auths = auths.now }))
+        ≤ 4000 }
     ensures params { length (spelling (parameters_of_reply body.now) body.now) ≤ 3500 }
 {
     tag_with(auths).put(out);
@@ -171,8 +195,11 @@ fn put_done(body: &ReplyBody, auths: &[AuthReply], out: &mut Buffer)
 pub fn put_reply(body: &ReplyBody, auths: &[AuthReply], out: &mut Buffer)
     requires few { length auths.now ≤ 3 }
     requires empty { length out.old.items ≡ 0 }
-    ensures spells { Spells (response_layout (code_for_reply body.now)) (responses.Done body.now (record { items = auths.now })) out.new.items }
-    ensures bytes { out.new.items ≡ spelling (response_layout (code_for_reply body.now)) (responses.Done body.now (record { items = auths.now })) }
+    ensures spells { Spells (response_layout (code_for_reply body.now))
+        (responses.Done body.now (record { items = auths.now })) out.new.items }
+    ensures bytes { out.new.items
+        ≡ spelling (response_layout (code_for_reply body.now))
+        (responses.Done body.now (record { items = auths.now })) }
 {
     put_done(body, auths, out);
     body.known_handles();
@@ -181,8 +208,10 @@ pub fn put_reply(body: &ReplyBody, auths: &[AuthReply], out: &mut Buffer)
 
 fn spell(response: &Response, out: &mut Buffer)
     requires { length out.old.items ≡ 0 }
-    ensures spells { (code : CodeOf) → Answers code response.now → Spells (response_layout code) response.now out.new.items }
-    ensures bytes { (code : CodeOf) → Answers code response.now → out.new.items ≡ spelling (response_layout code) response.now }
+    ensures spells { (code : CodeOf) → Answers code response.now
+        → Spells (response_layout code) response.now out.new.items }
+    ensures bytes { (code : CodeOf) → Answers code response.now
+        → out.new.items ≡ spelling (response_layout code) response.now }
 {
     match response {
         Response::Code(error) => put_code(*error, out),
@@ -193,8 +222,10 @@ fn spell(response: &Response, out: &mut Buffer)
 /// The bytes that spell the response: a code in 10 bytes, under tag 0x00C4 where it is TPM_RC_BAD_TAG and 0x8001 else;
 /// a reply under tag 0x8001 where it has no sessions and 0x8002 else.
 pub fn encode_response(response: &Response) -> Buffer
-    ensures spells { (code : CodeOf) → Answers code response.now → Spells (response_layout code) response.now result.items }
-    ensures bytes { (code : CodeOf) → Answers code response.now → result.items ≡ spelling (response_layout code) response.now }
+    ensures spells { (code : CodeOf) → Answers code response.now
+        → Spells (response_layout code) response.now result.items }
+    ensures bytes { (code : CodeOf) → Answers code response.now
+        → result.items ≡ spelling (response_layout code) response.now }
 {
     let mut out = ArrayVec::new();
     spell(response, &mut out);

@@ -17,9 +17,11 @@ pub const RSP_COMMAND: u16 = 0x00C4;
 #[tactic(auto, unfolding(crate::specs::Responses::response_tag))]
 fn take_tag(cursor: &mut Cursor<'_>) -> Result<u16, Refusal>
     ensures reads { Takes response_tag cursor.old cursor.new result }
-    ensures spelled { IfOk result (λ t. cursor.old.here.rest ≡ spelling response_tag t ++ cursor.new.here.rest) }
+    ensures spelled { IfOk result
+        (λ t. cursor.old.here.rest ≡ spelling response_tag t ++ cursor.new.here.rest) }
     ensures tag { IfOk result (λ t. is_response_tag t ≡ true) }
-    ensures length { IfOk result (λ t. length cursor.old.here.rest ≡ 2 + length cursor.new.here.rest) }
+    ensures length { IfOk result
+        (λ t. length cursor.old.here.rest ≡ 2 + length cursor.new.here.rest) }
 {
     let refusal = cursor.refusal(BAD_TAG);
     let tag = u16::take(cursor)?;
@@ -35,10 +37,12 @@ pub(crate) fn take_front(cursor: &mut Cursor<'_>) -> Result<(u16, u32), Refusal>
     requires { cursor.old.number ≡ 0 }
     ensures reads { TakesNumbered (λ f. f) response_front cursor.old cursor.new result }
     ensures number { IfOk result (λ f. cursor.new.number ≡ 0) }
-    ensures spelled { IfOk result (λ f. cursor.old.here.rest ≡ spelling response_front f ++ cursor.new.here.rest) }
+    ensures spelled { IfOk result
+        (λ f. cursor.old.here.rest ≡ spelling response_front f ++ cursor.new.here.rest) }
     ensures tag { IfOk result (λ f. is_response_tag f.0 ≡ true) }
     ensures size { IfOk result (λ f. f.1 ≡ length cursor.old.here.rest) }
-    ensures length { IfOk result (λ f. length cursor.old.here.rest ≡ 6 + length cursor.new.here.rest) }
+    ensures length { IfOk result
+        (λ f. length cursor.old.here.rest ≡ 6 + length cursor.new.here.rest) }
 {
     let tag = take_tag(cursor)?;
     let size = take_size(cursor)?;
@@ -49,9 +53,11 @@ pub(crate) fn take_front(cursor: &mut Cursor<'_>) -> Result<(u16, u32), Refusal>
 #[tactic(auto, unfolding(crate::specs::Responses::response_code))]
 pub(crate) fn take_code(cursor: &mut Cursor<'_>, tag: u16) -> Result<u32, Refusal>
     ensures reads { Takes (response_code tag) cursor.old cursor.new result }
-    ensures spelled { IfOk result (λ n. cursor.old.here.rest ≡ spelling (response_code tag) n ++ cursor.new.here.rest) }
+    ensures spelled { IfOk result
+        (λ n. cursor.old.here.rest ≡ spelling (response_code tag) n ++ cursor.new.here.rest) }
     ensures goes_with { IfOk result (λ n. goes_with tag n ≡ true) }
-    ensures length { IfOk result (λ n. length cursor.old.here.rest ≡ 4 + length cursor.new.here.rest) }
+    ensures length { IfOk result
+        (λ n. length cursor.old.here.rest ≡ 4 + length cursor.new.here.rest) }
 {
     let refusal = cursor.refusal(VALUE);
     let code = u32::take(cursor)?;

@@ -33,7 +33,8 @@ impl<'a> Model for ReplyRef<'a> {
 
     ghost view = { λ r. record { nonce = r.nonce.now; attrs = r.attrs; hmac = r.hmac.now } };
 
-    ghost invariant = { λ r. (length r.nonce.now ≤ digest_bytes) × (length r.hmac.now ≤ digest_bytes) };
+    ghost invariant = { λ r. (length r.nonce.now ≤ digest_bytes)
+        × (length r.hmac.now ≤ digest_bytes) };
 }
 
 impl<'a> ReplyRef<'a> {
@@ -65,9 +66,11 @@ impl<'a> ReplyRef<'a> {
 #[tactic(auto, unfolding(crate::specs::Responses::parameter_size))]
 pub(crate) fn take_parameter_size(cursor: &mut Cursor<'_>) -> Result<u32, Refusal>
     ensures reads { Takes parameter_size cursor.old cursor.new result }
-    ensures spelled { IfOk result (λ n. cursor.old.here.rest ≡ spelling parameter_size n ++ cursor.new.here.rest) }
+    ensures spelled { IfOk result
+        (λ n. cursor.old.here.rest ≡ spelling parameter_size n ++ cursor.new.here.rest) }
     ensures fits { IfOk result (λ n. n ≤ length cursor.new.here.rest) }
-    ensures length { IfOk result (λ n. length cursor.old.here.rest ≡ 4 + length cursor.new.here.rest) }
+    ensures length { IfOk result
+        (λ n. length cursor.old.here.rest ≡ 4 + length cursor.new.here.rest) }
 {
     let refusal = cursor.refusal(SIZE);
     let size = u32::take(cursor)?;
@@ -81,7 +84,8 @@ pub(crate) fn take_parameter_size(cursor: &mut Cursor<'_>) -> Result<u32, Refusa
 #[tactic(auto, unfolding(tpm_types::specs::Tpms::auth_response))]
 fn take_session<'a>(cursor: &mut Cursor<'a>) -> Result<ReplyRef<'a>, Refusal>
     ensures reads { Takes auth_response cursor.old cursor.new result }
-    ensures spelled { IfOk result (λ a. cursor.old.here.rest ≡ spelling auth_response a ++ cursor.new.here.rest) }
+    ensures spelled { IfOk result
+        (λ a. cursor.old.here.rest ≡ spelling auth_response a ++ cursor.new.here.rest) }
 {
     let nonce = take_sized(cursor, DIGEST_BYTES)?;
     let attrs = SessionAttrs::take(cursor)?;
@@ -105,8 +109,11 @@ pub(crate) fn session_at<'a>(bytes: &'a [u8], at: u32) -> ReplyRef<'a>
 #[tactic(auto, unfolding(crate::specs::Responses::further_sessions))]
 fn take_further_sessions(cursor: &mut Cursor<'_>, bytes: &[u8]) -> Result<ArrayVec<u32, 3>, Refusal>
     requires { Stands bytes.now cursor.old.here }
-    ensures reads { TakesNumbered (λ v. sessions_at bytes.now v.items) further_sessions cursor.old cursor.new result }
-    ensures spelled { IfOk result (λ v. cursor.old.here.rest ≡ joined_all auth_response (sessions_at bytes.now v.items) ++ cursor.new.here.rest) }
+    ensures reads { TakesNumbered (λ v. sessions_at bytes.now v.items) further_sessions
+        cursor.old cursor.new result }
+    ensures spelled { IfOk result
+        (λ v. cursor.old.here.rest
+        ≡ joined_all auth_response (sessions_at bytes.now v.items) ++ cursor.new.here.rest) }
     ensures sessions { IfOk result (λ v. All (IsSession bytes.now) v.items) }
     ensures few { IfOk result (λ v. length v.items ≤ 2) }
 {
@@ -126,8 +133,11 @@ pub(crate) fn take_sessions(
     bytes: &[u8],
 ) -> Result<ArrayVec<u32, 3>, Refusal>
     requires { Stands bytes.now cursor.old.here }
-    ensures reads { TakesNumbered (λ v. sessions_at bytes.now v.items) reply_sessions cursor.old cursor.new result }
-    ensures spelled { IfOk result (λ v. cursor.old.here.rest ≡ spelling reply_sessions (sessions_at bytes.now v.items) ++ cursor.new.here.rest) }
+    ensures reads { TakesNumbered (λ v. sessions_at bytes.now v.items) reply_sessions
+        cursor.old cursor.new result }
+    ensures spelled { IfOk result
+        (λ v. cursor.old.here.rest
+        ≡ spelling reply_sessions (sessions_at bytes.now v.items) ++ cursor.new.here.rest) }
     ensures sessions { IfOk result (λ v. All (IsSession bytes.now) v.items) }
     ensures some { IfOk result (λ v. 0 < length v.items) }
 {
@@ -146,8 +156,11 @@ fn read_further_sessions(
     auths: &mut ArrayVec<AuthReply, 3>,
 ) -> Result<(), Refusal>
     requires { length auths.old.items ≡ 1 }
-    ensures reads { TakesNumbered (λ _. drop 1 auths.new.items) further_sessions cursor.old cursor.new result }
-    ensures spelled { OnOk result (cursor.old.here.rest ≡ joined_all auth_response (drop 1 auths.new.items) ++ cursor.new.here.rest) }
+    ensures reads { TakesNumbered (λ _. drop 1 auths.new.items) further_sessions
+        cursor.old cursor.new result }
+    ensures spelled { OnOk result
+        (cursor.old.here.rest
+        ≡ joined_all auth_response (drop 1 auths.new.items) ++ cursor.new.here.rest) }
     ensures first { OnOk result (auths.new.items ≡ auths.old.items ++ drop 1 auths.new.items) }
 {
     while cursor.left() > 0 && auths.len() < 3 {
@@ -165,8 +178,10 @@ pub(crate) fn read_sessions(
     cursor: &mut Cursor<'_>,
     auths: &mut ArrayVec<AuthReply, 3>,
 ) -> Result<(), Refusal>
-    ensures reads { TakesNumbered (λ _. auths.new.items) reply_sessions cursor.old cursor.new result }
-    ensures spelled { OnOk result (cursor.old.here.rest ≡ spelling reply_sessions auths.new.items ++ cursor.new.here.rest) }
+    ensures reads { TakesNumbered (λ _. auths.new.items) reply_sessions
+        cursor.old cursor.new result }
+    ensures spelled { OnOk result
+        (cursor.old.here.rest ≡ spelling reply_sessions auths.new.items ++ cursor.new.here.rest) }
     ensures some { OnOk result (0 < length auths.new.items) }
 {
     auths.clear();

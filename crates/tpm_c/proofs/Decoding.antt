@@ -25,7 +25,8 @@ pub is_refused : {A : Type 0} (l : Layout A) (bytes : List ℕ) (e : Refusal) �
 is_refused l bytes e f = fault_read buffer buffer_sound l bytes e f
 
 -- the body of a command, where its first handle needs authorization
-pub body_is : (bytes : List ℕ) (c : Command) (needs : Bool) → Spells command c bytes → needs_authorization (code_for c.body) ≡ needs → body_in (read_all command bytes) ≡ (if needs then Some c.body else None)
+pub body_is : (bytes : List ℕ) (c : Command) (needs : Bool) → Spells command c bytes
+    → needs_authorization (code_for c.body) ≡ needs → body_in (read_all command bytes) ≡ (if needs then Some c.body else None)
 body_is bytes c needs s e = ap body_in (is_read command bytes c s) ∙ rw e refl
 
 pub no_request : (b : CommandBody) → ((q : StartAuth) → b ≡ bodies.StartAuthSession q → ⊥) → None ≡ request_of b

@@ -21,14 +21,17 @@ session_long : (a : Auth) → length (spelling auth_command a) ≡ 9 + length a.
 unfolding auth_command auth_session session_attrs sized_bytes
 session_long a = simp length-append (omega arith)
 
-to_nonce : (before h s nonce a t hmac after : List ℕ) → before ++ ((h ++ ((s ++ nonce) ++ (a ++ ((t ++ hmac) ++ [])))) ++ after) ≡ (before ++ (h ++ s)) ++ (nonce ++ (a ++ (t ++ (hmac ++ after))))
+to_nonce : (before h s nonce a t hmac after : List ℕ) → before ++ ((h ++ ((s ++ nonce) ++ (a ++ ((t ++ hmac) ++ [])))) ++ after)
+    ≡ (before ++ (h ++ s)) ++ (nonce ++ (a ++ (t ++ (hmac ++ after))))
 to_nonce before h s nonce a t hmac after = simp (append_assoc, append-nil)
 
-to_hmac : (before h s nonce a t hmac after : List ℕ) → before ++ ((h ++ ((s ++ nonce) ++ (a ++ ((t ++ hmac) ++ [])))) ++ after) ≡ (before ++ (h ++ (s ++ (nonce ++ (a ++ t))))) ++ (hmac ++ after)
+to_hmac : (before h s nonce a t hmac after : List ℕ) → before ++ ((h ++ ((s ++ nonce) ++ (a ++ ((t ++ hmac) ++ [])))) ++ after)
+    ≡ (before ++ (h ++ (s ++ (nonce ++ (a ++ t))))) ++ (hmac ++ after)
 to_hmac before h s nonce a t hmac after = simp (append_assoc, append-nil)
 
 -- a session behind so many bytes
-session_is : (before after bytes : List ℕ) (a : Auth) (n : ℕ) → bytes ≡ before ++ (spelling auth_command a ++ after) → length before ≡ n → HoldsSession bytes n (Some a)
+session_is : (before after bytes : List ℕ) (a : Auth) (n : ℕ)
+    → bytes ≡ before ++ (spelling auth_command a ++ after) → length before ≡ n → HoldsSession bytes n (Some a)
 unfolding auth_command auth_session session_attrs sized_bytes
 session_is before after bytes a n is count =
     let handle = bytes_high_first 4 a.session in
@@ -45,13 +48,15 @@ abbrev text : List Auth → List Auth → List ℕ
 text seen auths = joined (λ _. spelling auth_command) seen auths
 
 -- these sessions behind so many bytes
-are_held : (before after bytes : List ℕ) (seen auths : List Auth) (n : ℕ) → bytes ≡ before ++ (text seen auths ++ after) → length before ≡ n → AreHeld (HoldsSession bytes) behind n auths
+are_held : (before after bytes : List ℕ) (seen auths : List Auth) (n : ℕ)
+    → bytes ≡ before ++ (text seen auths ++ after) → length before ≡ n → AreHeld (HoldsSession bytes) behind n auths
 are_held before after bytes seen [] n is count = tt
 are_held before after bytes seen (a ∷ auths) n is count =
     let one = spelling auth_command a in
     let others = text (seen ++ a ∷ []) auths in (
       session_is before (others ++ after) bytes a n (is ∙ ap (λ (r : List ℕ). before ++ r) (append_assoc one others after)) count,
-      are_held (before ++ one) after bytes (seen ++ a ∷ []) auths (behind n (Some a)) (is ∙ simp append_assoc) (omega (arith, count, session_long a, length-append before one)),
+      are_held (before ++ one) after bytes (seen ++ a ∷ []) auths
+          (behind n (Some a)) (is ∙ simp append_assoc) (omega (arith, count, session_long a, length-append before one)),
     )
 
 header_long : (h : Header) → length (spelling header h) ≡ 10
@@ -69,7 +74,8 @@ is_tagged t auths some none = elim (eqb t 0x8002) as (λ b. eqb t 0x8002 ≡ b �
   | false ↦ λ e. absurd (omega (arith, some, none (λ is. cc)))
 ] refl
 
-authorization_is : (t : ℕ) (auths : List Auth) → eqb t 0x8002 ≡ true → spelling (authorization t) auths ≡ bytes_high_first 4 (length (text [] auths)) ++ text [] auths
+authorization_is : (t : ℕ) (auths : List Auth) → eqb t 0x8002 ≡ true
+    → spelling (authorization t) auths ≡ bytes_high_first 4 (length (text [] auths)) ++ text [] auths
 unfolding authorization authorization_size sessions
 authorization_is t auths e = rw e refl
 
@@ -83,7 +89,8 @@ sessions_are bytes c s tagged =
     (simp length-append (omega (arith, header_long c.header, handles_long 1 (handle_kinds c.header.code) c.handles)))
 
 -- the parameters stand at the end
-params_are : (bytes : List ℕ) (c : Cut) → IsSpelledBy bytes c → c.params_at + length c.params ≡ length bytes → take (length c.params) (drop c.params_at bytes) ≡ c.params
+params_are : (bytes : List ℕ) (c : Cut) → IsSpelledBy bytes c
+    → c.params_at + length c.params ≡ length bytes → take (length c.params) (drop c.params_at bytes) ≡ c.params
 params_are bytes c s whole =
     let before = spelling header c.header ++ (spelling (handles c.header.code) c.handles ++ spelling (authorization c.header.tag) c.auths) in
     let is : bytes ≡ before ++ (c.params ++ []) = s.text ∙ simp (append_assoc, append-nil) in
@@ -95,5 +102,6 @@ holds_parts bytes c s whole = go c.auths refl
     go : (auths : List Auth) → c.auths ≡ auths → HoldsParts bytes c
     go [] e = rw e (tt, tt, tt, params_are bytes c s whole)
     go (a ∷ auths) e =
-        let h = first_three (HoldsSession bytes) behind (λ n. tt) (first_place c) c.auths (sessions_are bytes c s (is_tagged c.header.tag c.auths (rw e (omega arith)) s.none)) in
+        let h = first_three (HoldsSession bytes) behind (λ n. tt) (first_place c) c.auths
+        (sessions_are bytes c s (is_tagged c.header.tag c.auths (rw e (omega arith)) s.none)) in
         (h.0, h.1, h.2, params_are bytes c s whole)

@@ -45,7 +45,8 @@ record IsThere (bytes : List ℕ) (n : ℕ) (x : List ℕ) (g : Here) : Type 0 w
 raw_there : (bytes : List ℕ) (m n : ℕ) (h g : Here) (x : List ℕ) → Stands bytes h → read {r = buffer} m (raw n) h ≡ Ok (x, g) → IsThere bytes h.at x g
 raw_there bytes m n h g x s e = go (too_few m h.at n (length h.rest)) refl e
   where
-    go : (o : Option ℕ) → too_few m h.at n (length h.rest) ≡ o → unless buffer o m h (okay {E = Refusal} (pair (take n h.rest) (past n h))) ≡ Ok (x, g) → IsThere bytes h.at x g
+    go : (o : Option ℕ) → too_few m h.at n (length h.rest) ≡ o
+        → unless buffer o m h (okay {E = Refusal} (pair (take n h.rest) (past n h))) ≡ Ok (x, g) → IsThere bytes h.at x g
     go (Some f) t e = absurd (let z : ⊥ = cc in z)
     go None t e =
         let same = okay_is {E = Refusal} (pair (take n h.rest) (past n h)) (pair x g) e in
@@ -109,17 +110,20 @@ record GoOn (bytes : List ℕ) (before auths : List AuthReply) (n : ℕ) : Type 
   is : auths ≡ before ++ more
   held : AreIn bytes n more
 
-ended : (bytes : List ℕ) (before : List AuthReply) (h : Here) (x : List AuthReply × Here) → okay {E = Refusal} (listed before h) ≡ Ok x → GoOn bytes before x.0 h.at
+ended : (bytes : List ℕ) (before : List AuthReply) (h : Here) (x : List AuthReply × Here)
+    → okay {E = Refusal} (listed before h) ≡ Ok x → GoOn bytes before x.0 h.at
 ended bytes before h x e =
     let same = okay_is {E = Refusal} (listed before h) x e in
     record { more = []; is = sym (ap (λ (p : List AuthReply × Here). p.0) same) ∙ sym (append-nil before); held = tt }
 
-more_held : (bytes : List ℕ) (n : ℕ) (before : List AuthReply) (h : Here) (x : List AuthReply × Here) → Stands bytes h → entries n before true one h ≡ Ok x → GoOn bytes before x.0 h.at
+more_held : (bytes : List ℕ) (n : ℕ) (before : List AuthReply) (h : Here) (x : List AuthReply × Here)
+    → Stands bytes h → entries n before true one h ≡ Ok x → GoOn bytes before x.0 h.at
 more_held bytes zero before h x s e = ended bytes before h x e
 more_held bytes (suc n) before h x s e = go (length h.rest == 0) (λ b g. more_held bytes n b g x) e
   where
     go : (none : Bool) → ((b : List AuthReply) (g : Here) → Stands bytes g → entries n b true one g ≡ Ok x → GoOn bytes b x.0 g.at)
-        → (if none then okay {E = Refusal} (listed before h) else (one before h >>= λ y. entries n (before ++ y.0 ∷ []) true one y.1)) ≡ Ok x → GoOn bytes before x.0 h.at
+        → (if none then okay {E = Refusal} (listed before h)
+        else (one before h >>= λ y. entries n (before ++ y.0 ∷ []) true one y.1)) ≡ Ok x → GoOn bytes before x.0 h.at
     go true again e = ended bytes before h x e
     go false again e =
         let mark = of_session (2 + length before) in
@@ -160,7 +164,8 @@ cut_at n hs params auths g = (record { code = n; handles = hs; params = params; 
 abbrev InPlace : List ℕ → ReplyCut × Here → Type 0
 InPlace bytes x = AreIn bytes (place x.0 0) x.0.auths
 
-with_held : (bytes : List ℕ) (n : ℕ) (hs : List ℕ) (h : Here) (x : ReplyCut × Here) → Stands bytes h → h.at ≡ 10 + 4 * length hs → read 0 (raw_with_sessions n hs) h ≡ Ok x → InPlace bytes x
+with_held : (bytes : List ℕ) (n : ℕ) (hs : List ℕ) (h : Here) (x : ReplyCut × Here)
+    → Stands bytes h → h.at ≡ 10 + 4 * length hs → read 0 (raw_with_sessions n hs) h ≡ Ok x → InPlace bytes x
 unfolding raw_with_sessions
 with_held bytes n hs h x s at e =
     let a = bind_ok (read 0 parameter_size h) _ x e in
@@ -172,7 +177,8 @@ with_held bytes n hs h x s at e =
     let params = raw_there bytes 0 a.0.0 a.0.1 b.0.1 b.0.0 behind_size b.1 in
     let behind_params : Stands bytes b.0.1 = stands_behind bytes 0 (raw a.0.0) a.0.1 b.0.1 b.0.0 behind_size b.1 in
     let there : b.0.1.at ≡ 10 + 4 * length hs + 4 + length b.0.0 = omega (arith, params.at, at, ap (λ (p : Here). p.at) size.1) in
-    let held : AreIn bytes (10 + 4 * length hs + 4 + length b.0.0) c.0.0 = subst (λ (k : ℕ). AreIn bytes k c.0.0) there (sessions_held bytes b.0.1 c.0 behind_params c.1) in
+    let held : AreIn bytes (10 + 4 * length hs + 4 + length b.0.0) c.0.0 =
+    subst (λ (k : ℕ). AreIn bytes k c.0.0) there (sessions_held bytes b.0.1 c.0 behind_params c.1) in
     subst (InPlace bytes) same (to_place bytes hs (length b.0.0) c.0.0 held)
 
 without_held : (bytes : List ℕ) (n : ℕ) (hs : List ℕ) (h : Here) (x : ReplyCut × Here) → read 0 (raw_without_sessions n hs) h ≡ Ok x → InPlace bytes x
@@ -198,10 +204,12 @@ handles_at codes.StartAuthSession h x e =
     subst (HandlesAt h.at) (okay_is {E = Refusal} (pair (a.0.0 ∷ []) a.0.1) x a.2) (ap (λ (p : Here). p.at) (sym n.2))
 handles_at _ h x e = subst (HandlesAt h.at) (okay_is {E = Refusal} (pair [] h) x e) (omega arith)
 
-code_held : (bytes : List ℕ) (code : CommandCode) (t n : ℕ) (h : Here) (x : ReplyCut × Here) → Stands bytes h → h.at ≡ 10 → read 0 (cut_behind_code code t n) h ≡ Ok x → InPlace bytes x
+code_held : (bytes : List ℕ) (code : CommandCode) (t n : ℕ) (h : Here) (x : ReplyCut × Here)
+    → Stands bytes h → h.at ≡ 10 → read 0 (cut_behind_code code t n) h ≡ Ok x → InPlace bytes x
 code_held bytes code t n h x s ten e = go (n == 0) e
   where
-    go : (done : Bool) → read 0 (either done (Form.field (λ c. c.handles) (reply_handles code) (λ hs. either (t == 0x8002) (raw_with_sessions n hs) (raw_without_sessions n hs))) (Form.done (cut_at n [] [] [] h).0)) h ≡ Ok x → InPlace bytes x
+    go : (done : Bool) → read 0 (either done (Form.field (λ c. c.handles) (reply_handles code) (λ hs. either (t == 0x8002)
+        (raw_with_sessions n hs) (raw_without_sessions n hs))) (Form.done (cut_at n [] [] [] h).0)) h ≡ Ok x → InPlace bytes x
     go true e =
         let a = bind_ok (read 0 (reply_handles code) h) _ x e in
         let there : Stands bytes a.0.1 = stands_behind bytes 0 (reply_handles code) h a.0.1 a.0.0 s a.1 in
@@ -218,9 +226,11 @@ in_place code bytes c e =
     let n = bind_ok (read 0 (response_code f.0.0.0) f.0.1) _ whole.0 f.2 in
     let front : Stands bytes f.0.1 = stands_behind bytes 0 response_front (at_start bytes) f.0.1 f.0.0 (stands_first bytes) f.1 in
     let there : Stands bytes n.0.1 = stands_behind bytes 0 (response_code f.0.0.0) f.0.1 n.0.1 n.0.0 front n.1 in
-    subst (λ (z : ReplyCut). AreIn bytes (place z 0) z.auths) value (code_held bytes code f.0.0.0 n.0.0 n.0.1 whole.0 there (ap (λ (p : Here). p.at) (code_place f.0.0.0 f.0.1 n.0 n.1 ∙ ap (past 4) (front_place (at_start bytes) f.0 f.1))) n.2)
+    subst (λ (z : ReplyCut). AreIn bytes (place z 0) z.auths) value (code_held bytes code f.0.0.0 n.0.0 n.0.1 whole.0 there
+    (ap (λ (p : Here). p.at) (code_place f.0.0.0 f.0.1 n.0 n.1 ∙ ap (past 4) (front_place (at_start bytes) f.0 f.1))) n.2)
 
 pub holds_parts : (code : CommandCode) (bytes : List ℕ) (c : ReplyCut) → Spells (reply_cut code) c bytes → HasItsParams bytes c → HoldsParts bytes c
 holds_parts code bytes c s params =
-    let held = first_three (HoldsSession bytes) behind (λ n. tt) (place c 0) c.auths (in_place code bytes c (spells_read buffer buffer_sound (reply_cut code) bytes c s)) in
+    let held = first_three (HoldsSession bytes) behind
+    (λ n. tt) (place c 0) c.auths (in_place code bytes c (spells_read buffer buffer_sound (reply_cut code) bytes c s)) in
     (held.0, held.1, held.2, sym params)

@@ -1,6 +1,10 @@
--- How an export meets its contract that holds state in C's memory. The value there is lent, for a lifetime that is made for the call, to a private function or a method, and comes back as that function says. An export's own proof has the steps of its MIR, and what the function's contract gives of its own.
+-- How an export meets its contract that holds state in C's memory. The value there is lent, for a
+-- lifetime that is made for the call, to a private function or a method, and comes back as that
+-- function says. An export's own proof has the steps of its MIR, and what the function's contract
+-- gives of its own.
 use mathlib.Core.Path.{subst, ap}
-use mir.Syntax.{Ty, ty_unit, ty_ptr, Callee, Place, place, deref, Opd as Operand, copy, opd_unit, rv_opd, Body as Code, seq, call, assign, return, Fn, local, value_local}
+use mir.Syntax.{Ty, ty_unit, ty_ptr, Callee, Place, place, deref, Opd as Operand, copy, opd_unit, rv_opd}
+use mir.Syntax.{Body as Code, seq, call, assign, return, Fn, local, value_local}
 use prog.{Wp.{Env, Closed}, Model.{Model}}
 use base.{Logic.{comm∗, mono_r, ex_i}, Fml.{fsep, fbor, fex, fat}}
 use borrow.Table.OneValue.{One, part_in}
@@ -52,7 +56,8 @@ module _ {n : ℕ} where
     all_fit [] ks a ws = tt
     all_fit (s ∷ ss) ks a ws = (tt, all_fit ss ks.1 a.1 ws.1)
 
-    all_had : (ss : List (Slot n)) (ks : Kepts ss) (a : Denots (types_at ss κs)) (ws : Fins κs ss ks a) (vss : Valss (types_at ss κs)) → has_of κs ss ks (all_gone ss ks) a ws vss ≡ lasts_of κs ss ks a ws
+    all_had : (ss : List (Slot n)) (ks : Kepts ss) (a : Denots (types_at ss κs)) (ws : Fins κs ss ks a)
+        (vss : Valss (types_at ss κs)) → has_of κs ss ks (all_gone ss ks) a ws vss ≡ lasts_of κs ss ks a ws
     all_had [] ks a ws vss = refl
     all_had (s ∷ ss) ks a ws vss = ap (fsep (left ((s.row κs).exit ks.0) a.0 ws.0)) (all_had ss ks.1 a.1 ws.1 vss.1)
 
@@ -71,22 +76,31 @@ module _ {M : Type 1} {𝓤 : Ura M} (𝓛 : Logic 𝓤) where
 
   module _ (T : Ended) (c : Clauses 𝓤 T) where
     -- an export ends with the tokens, what is said of the last values, the result, and what makes its `ensures`
-    pub ends : (y : (walk_of 𝓛 T (stayed T) c).Ghost) (v : Val) (r : Res T.signature y.0.0) (ws : Lasts T y.0.0 y.0.3) (F : Fml) → ent 𝓤 (sem 𝓛 F) ((c y.0.0 y.0.3).ensures y.1 r (at_exit T y.0.0 y.0.3 ws))
-        → ent 𝓤 (sep 𝓤 (alive 𝓛 T.signature y.0.0 y.0.1) (sep 𝓤 (sem 𝓛 (lasts T y.0.0 y.0.3 ws)) (sep 𝓤 (sem 𝓛 ((type_at T.signature.result y.0.0).own_val r (v ∷ []))) (sem 𝓛 F)))) ((walk_of 𝓛 T (stayed T) c).post y v)
+    pub ends : (y : (walk_of 𝓛 T (stayed T) c).Ghost) (v : Val) (r : Res T.signature y.0.0) (ws : Lasts T y.0.0 y.0.3) (F : Fml)
+        → ent 𝓤 (sem 𝓛 F) ((c y.0.0 y.0.3).ensures y.1 r (at_exit T y.0.0 y.0.3 ws))
+        → ent 𝓤 (sep 𝓤 (alive 𝓛 T.signature y.0.0 y.0.1) (sep 𝓤 (sem 𝓛 (lasts T y.0.0 y.0.3 ws))
+        (sep 𝓤 (sem 𝓛 ((type_at T.signature.result y.0.0).own_val r (v ∷ []))) (sem 𝓛 F)))) ((walk_of 𝓛 T (stayed T) c).post y v)
     ends y v r ws F h =
-        let own = (type_at T.signature.result y.0.0).own_val r (v ∷ []) in let last = lasts T y.0.0 y.0.3 ws in let says = (c y.0.0 y.0.3).ensures y.1 r (at_exit T y.0.0 y.0.3 ws) in
+        let own = (type_at T.signature.result y.0.0).own_val r (v ∷ []) in let last =
+        lasts T y.0.0 y.0.3 ws in let says = (c y.0.0 y.0.3).ensures y.1 r (at_exit T y.0.0 y.0.3 ws) in
         via 𝓤 (sep 𝓤 (alive 𝓛 T.signature y.0.0 y.0.1) (sep 𝓤 (sem 𝓛 last) (sep 𝓤 (sem 𝓛 own) says)))
         (mono_r 𝓤 (alive 𝓛 T.signature y.0.0 y.0.1) (mono_r 𝓤 (sem 𝓛 last) (mono_r 𝓤 (sem 𝓛 own) h)))
         (subst (λ (L : Fml). ent 𝓤 (sep 𝓤 (alive 𝓛 T.signature y.0.0 y.0.1) (sep 𝓤 (sem 𝓛 L) (sep 𝓤 (sem 𝓛 own) says))) ((walk_of 𝓛 T (stayed T) c).post y v))
         (all_had y.0.0 T.signature.params T.kept y.0.3 ws y.0.4) (leaves 𝓛 T (stayed T) c y v r ws (all_fit y.0.0 T.signature.params T.kept y.0.3 ws)))
 
     -- the same with a value that was made, and written to (b, o)
-    pub makes : (y : (walk_of 𝓛 T (stayed T) c).Ghost) (v : Val) (r : Res T.signature y.0.0) (ws : Lasts T y.0.0 y.0.3) (R : RattleType) → One R → (x : R.Denot) (b o : ℕ) (u : Val)
-        → ent 𝓤 (emp 𝓤) (sem 𝓛 (lasts T y.0.0 y.0.3 ws)) → ent 𝓤 (emp 𝓤) (sem 𝓛 ((type_at T.signature.result y.0.0).own_val r (v ∷ []))) → ent 𝓤 (sem 𝓛 (part_at R full_share x b o)) ((c y.0.0 y.0.3).ensures y.1 r (at_exit T y.0.0 y.0.3 ws))
-        → ent 𝓤 (sep 𝓤 (sem 𝓛 (R.own_val x (u ∷ []))) (sep 𝓤 (alive 𝓛 T.signature y.0.0 y.0.1) (H.at full_share (lone R.mir) b o u))) ((walk_of 𝓛 T (stayed T) c).post y v)
+    pub makes : (y : (walk_of 𝓛 T (stayed T) c).Ghost) (v : Val) (r : Res T.signature y.0.0)
+        (ws : Lasts T y.0.0 y.0.3) (R : RattleType) → One R → (x : R.Denot) (b o : ℕ) (u : Val)
+        → ent 𝓤 (emp 𝓤) (sem 𝓛 (lasts T y.0.0 y.0.3 ws))
+        → ent 𝓤 (emp 𝓤) (sem 𝓛 ((type_at T.signature.result y.0.0).own_val r (v ∷ [])))
+        → ent 𝓤 (sem 𝓛 (part_at R full_share x b o)) ((c y.0.0 y.0.3).ensures y.1 r (at_exit T y.0.0 y.0.3 ws))
+        → ent 𝓤 (sep 𝓤 (sem 𝓛 (R.own_val x (u ∷ [])))
+        (sep 𝓤 (alive 𝓛 T.signature y.0.0 y.0.1) (H.at full_share (lone R.mir) b o u))) ((walk_of 𝓛 T (stayed T) c).post y v)
     makes y v r ws R one x b o u nothing_said owned h =
-        qed 𝓛 (‵ (R.own_val x (u ∷ [])) ∷ raw (alive 𝓛 T.signature y.0.0 y.0.1) ∷ ‵ (fat full_share (lone R.mir) b o u) ∷ []) ∵ move ! (2 ∷ 0 ∷ []) $ use2 𝓛 (‵ (part_at R full_share x b o)) (part_in 𝓛 R one full_share x b o u) $
-        use0 𝓛 (‵ ((type_at T.signature.result y.0.0).own_val r (v ∷ []))) owned $ use0 𝓛 (‵ (lasts T y.0.0 y.0.3 ws)) nothing_said $ move ! (3 ∷ []) $ by ! (ends y v r ws (part_at R full_share x b o) h)
+        qed 𝓛 (‵ (R.own_val x (u ∷ [])) ∷ raw (alive 𝓛 T.signature y.0.0 y.0.1) ∷ ‵ (fat full_share (lone R.mir) b o u) ∷ [])
+        ∵ move ! (2 ∷ 0 ∷ []) $ use2 𝓛 (‵ (part_at R full_share x b o)) (part_in 𝓛 R one full_share x b o u) $
+        use0 𝓛 (‵ ((type_at T.signature.result y.0.0).own_val r (v ∷ []))) owned $ use0 𝓛 (‵ (lasts T y.0.0 y.0.3 ws))
+        nothing_said $ move ! (3 ∷ []) $ by ! (ends y v r ws (part_at R full_share x b o) h)
 
     -- ---- what lies in a block, and nothing lies at null
     -- what the types own at entry
@@ -97,10 +111,13 @@ module _ {M : Type 1} {𝓤 : Ura M} (𝓛 : Logic 𝓤) where
       abbrev Runs : Ptr → SProp 𝓤
       Runs p = run ((walk_of 𝓛 T (stayed T) c).args (y p)) ((walk_of 𝓛 T (stayed T) c).post (y p))
 
-      pub in_block : (F : Ptr → Fml) → ent 𝓤 (sem 𝓛 (F null_ptr)) (never 𝓤) → ((b o : ℕ) → ent 𝓤 (sep 𝓤 (sem 𝓛 (F (block_ptr b o))) (mean 𝓛 (entry (y (block_ptr b o))))) (Runs (block_ptr b o)))
+      pub in_block : (F : Ptr → Fml) → ent 𝓤 (sem 𝓛 (F null_ptr)) (never 𝓤)
+          → ((b o : ℕ) → ent 𝓤 (sep 𝓤 (sem 𝓛 (F (block_ptr b o))) (mean 𝓛 (entry (y (block_ptr b o))))) (Runs (block_ptr b o)))
           → (p : Ptr) → ent 𝓤 (sep 𝓤 (mean 𝓛 (entry (y p))) (sem 𝓛 (F p))) (Runs p)
-      in_block F none k (block_ptr b o) = via 𝓤 (sep 𝓤 (sem 𝓛 (F (block_ptr b o))) (mean 𝓛 (entry (y (block_ptr b o))))) (comm∗ 𝓤 (mean 𝓛 (entry (y (block_ptr b o)))) (sem 𝓛 (F (block_ptr b o)))) (k b o)
-      in_block F none k null_ptr = via 𝓤 (sem 𝓛 (F null_ptr)) (snd∗ 𝓤 (mean 𝓛 (entry (y null_ptr))) (sem 𝓛 (F null_ptr))) (via 𝓤 (never 𝓤) none (never_e 𝓤 (Runs null_ptr)))
+      in_block F none k (block_ptr b o) = via 𝓤 (sep 𝓤 (sem 𝓛 (F (block_ptr b o))) (mean 𝓛 (entry (y (block_ptr b o)))))
+          (comm∗ 𝓤 (mean 𝓛 (entry (y (block_ptr b o)))) (sem 𝓛 (F (block_ptr b o)))) (k b o)
+      in_block F none k null_ptr = via 𝓤 (sem 𝓛 (F null_ptr))
+          (snd∗ 𝓤 (mean 𝓛 (entry (y null_ptr))) (sem 𝓛 (F null_ptr))) (via 𝓤 (never 𝓤) none (never_e 𝓤 (Runs null_ptr)))
 
   -- what is there is the one of one
   pub there : (F : Fml) → ent 𝓤 (sem 𝓛 F) (sem 𝓛 (fex (Unit {0}) (λ x. F)))
@@ -109,16 +126,19 @@ module _ {M : Type 1} {𝓤 : Ura M} (𝓛 : Logic 𝓤) where
   module _ (R : RattleType) (b o : ℕ) where
     -- what lies there is this
     pub becomes : {w x : R.Denot} {φ : Type 0} → w ≡ x → φ → ent 𝓤 (sem 𝓛 (part_at R full_share w b o)) (sep 𝓤 (sem 𝓛 (part_at R full_share x b o)) (fact 𝓤 φ))
-    becomes {w} {x} {φ} e y = qed 𝓛 (‵ (part_at R full_share w b o) ∷ []) ∵ rewrite ! 0 (λ (z : R.Denot). ‵ (part_at R full_share z b o)) e refl $ says ! y $ done !
+    becomes {w} {x} {φ} e y = qed 𝓛 (‵ (part_at R full_share w b o) ∷ []) ∵ rewrite ! 0
+        (λ (z : R.Denot). ‵ (part_at R full_share z b o)) e refl $ says ! y $ done !
 
     pub is_this : {w x : R.Denot} → w ≡ x → ent 𝓤 (sem 𝓛 (part_at R full_share w b o)) (sem 𝓛 (part_at R full_share x b o))
     is_this {w} {x} e = qed 𝓛 (‵ (part_at R full_share w b o) ∷ []) ∵ rewrite ! 0 (λ (z : R.Denot). ‵ (part_at R full_share z b o)) e refl $ done !
 
     -- one of several values
-    pub is_one : {X : Type 0} (to : X → R.Denot) (x : X) → ent 𝓤 (sem 𝓛 (part_at R full_share (to x) b o)) (sem 𝓛 (fex X (λ z. part_at R full_share (to z) b o)))
+    pub is_one : {X : Type 0} (to : X → R.Denot) (x : X)
+        → ent 𝓤 (sem 𝓛 (part_at R full_share (to x) b o)) (sem 𝓛 (fex X (λ z. part_at R full_share (to z) b o)))
     is_one to x = ex_i 𝓤 (λ z. sem 𝓛 (part_at R full_share (to z) b o)) x
 
-    pub is_one_and : {X : Type 0} (to : X → R.Denot) (x : X) {φ : Type 0} → φ → ent 𝓤 (sem 𝓛 (part_at R full_share (to x) b o)) (sep 𝓤 (sem 𝓛 (fex X (λ z. part_at R full_share (to z) b o))) (fact 𝓤 φ))
+    pub is_one_and : {X : Type 0} (to : X → R.Denot) (x : X) {φ : Type 0} → φ → ent 𝓤
+        (sem 𝓛 (part_at R full_share (to x) b o)) (sep 𝓤 (sem 𝓛 (fex X (λ z. part_at R full_share (to z) b o))) (fact 𝓤 φ))
     is_one_and {X} to x y = qed 𝓛 (‵ (part_at R full_share (to x) b o) ∷ []) ∵ fpack ! X (λ z. part_at R full_share (to z) b o) x $ says ! y $ done !
 
 -- ---- the call
@@ -136,28 +156,39 @@ module _ {M : Type 1} {𝓤 : Ura M} (𝓛 : Logic 𝓤) (R : RattleType) (Token
   abbrev Gave : (Z : RattleType) {Us : Type 0} → (Us → Fml) → (Z.Denot → R.Denot → Us → Type 0) → Val → Item 𝓤
   Gave Z {Us} kept Says v =
       later (some (λ (r : Z.Denot). ((‵ (flft κ full_share) ⊛ raw Tokens) ⊛ ‵ (Z.own_val r (v ∷ [])))
-      ⊛ some (λ (ws : R.Denot × Us). ‵ (fsep (fsep (fres x.ghost_name (R.coded.code ws.0)) (fbor κ (Body (mem R) x.ref_ptr.0 x.ref_ptr.1 x.ghost_name))) (kept ws.1)) ⊛ raw (fact 𝓤 (Says r ws.0 ws.1)))))
+      ⊛ some (λ (ws : R.Denot × Us). ‵ (fsep (fsep (fres x.ghost_name (R.coded.code ws.0))
+      (fbor κ (Body (mem R) x.ref_ptr.0 x.ref_ptr.1 x.ghost_name))) (kept ws.1)) ⊛ raw (fact 𝓤 (Says r ws.0 ws.1)))))
 
-module _ {M : Type 1} {𝓤 : Ura M} {𝓛 : Logic 𝓤} {K : Type 0} {Γ : List (Item 𝓤)} {E : Env 𝓤 𝓛.H} {C : Calls 𝓤 𝓛.H} {Λ : Loops 𝓤 𝓛.H} {q : Post 𝓤 𝓛.H} {dest : Place} {fn : Callee} {xs : List Operand} {rest : Code} where
+module _ {M : Type 1} {𝓤 : Ura M} {𝓛 : Logic 𝓤} {K : Type 0} {Γ : List (Item 𝓤)} {E : Env 𝓤 𝓛.H} {C : Calls 𝓤 𝓛.H}
+    {Λ : Loops 𝓤 𝓛.H} {q : Post 𝓤 𝓛.H} {dest : Place} {fn : Callee} {xs : List Operand} {rest : Code} where
   open 𝓛 use {H}
 
   -- an export's call that makes what is to lie there
-  pub made : K → FmC 𝓤 H 𝓛.laws C → (R : RattleType) → Lawful 𝓛 R → (Tokens : SProp 𝓤) {First Own : Fml} {Us : Type 0} (kept : Us → Fml) (Says : R.Denot → Type 0)
+  pub made : K → FmC 𝓤 H 𝓛.laws C → (R : RattleType)
+      → Lawful 𝓛 R → (Tokens : SProp 𝓤) {First Own : Fml} {Us : Type 0} (kept : Us → Fml) (Says : R.Denot → Type 0)
       → (c : Contract 𝓤) → Triple 𝓤 (C fn) c → (y : c.Ghost) → ent 𝓤 (sep 𝓤 (sep 𝓤 Tokens (sem 𝓛 Own)) (emp 𝓤)) (c.pre y)
-      → ((v : Val) → ent 𝓤 (c.post y v) (mean 𝓛 (later (some (λ (x : R.Denot). (raw Tokens ⊛ ‵ (R.own_val x (v ∷ []))) ⊛ some (λ (us : Us). ‵ (kept us) ⊛ raw (fact 𝓤 (Says x))))))))
+      → ((v : Val) → ent 𝓤 (c.post y v) (mean 𝓛 (later (some
+      (λ (x : R.Denot). (raw Tokens ⊛ ‵ (R.own_val x (v ∷ []))) ⊛ some (λ (us : Us). ‵ (kept us) ⊛ raw (fact 𝓤 (Says x))))))))
       → Opds K 𝓛 (raw (c.pre y) ∷ Γ) E xs (c.args y)
       → ((v : Val) (x : R.Denot) → Says x → Typed R.mir (v ∷ []) → Seq K 𝓛 (‵ (R.own_val x (v ∷ [])) ∷ raw Tokens ∷ Γ) (lands C Λ E dest v rest q))
       → Seq K 𝓛 ((raw Tokens ⊛ ‵ (fsep First Own)) ∷ Γ) (runs C Λ E (seq (call fn xs dest) rest) q)
   made t fm R lawful Tokens {First} {Own} {Us} kept Says c known y takes gives opds go =
       split t $ move t (1 ∷ []) $ fsplit t $ drop t $ move t (1 ∷ []) $ join t $ nothing t $ move t (1 ∷ []) $ use2 𝓛 (raw (c.pre y)) takes $
-      calls_at t fm c known y opds (λ v. use1 𝓛 (later (some (λ (x : R.Denot). (raw Tokens ⊛ ‵ (R.own_val x (v ∷ []))) ⊛ some (λ (us : Us). ‵ (kept us) ⊛ raw (fact 𝓤 (Says x)))))) (gives v) $ await t tt $ pick t (λ x. split t $ move t (1 ∷ []) $ pick t (λ us. split t $ drop t $
+      calls_at t fm c known y opds (λ v. use1 𝓛 (later (some (λ (x : R.Denot).
+      (raw Tokens ⊛ ‵ (R.own_val x (v ∷ []))) ⊛ some (λ (us : Us). ‵ (kept us) ⊛ raw (fact 𝓤 (Says x)))))) (gives v) $
+      await t tt $ pick t (λ x. split t $ move t (1 ∷ []) $ pick t (λ us. split t $ drop t $
       heard t (Says x) (λ s. split t $ move t (1 ∷ []) $ peeks t R (Is R) (shows 𝓛 R) x (v ∷ []) (λ is. go v x s (lawful.typed x (v ∷ []) is))))))
 
 -- ---- an export whose first parameter points at what it is about
 -- its contract is over this, which is its own
 abbrev pub pointing : Ended → Ended
 pointing T = record {
-  signature = record { lifetimes = T.signature.lifetimes; outlives = T.signature.outlives; params = plain (λ κs. RawPtr) ∷ others T.signature.params; result = T.signature.result };
+  signature = record {
+    lifetimes = T.signature.lifetimes;
+    outlives = T.signature.outlives;
+    params = plain (λ κs. RawPtr) ∷ others T.signature.params;
+    result = T.signature.result;
+  };
   kept = (yes, others_kept T.signature.params T.kept);
 }
 
@@ -180,7 +211,8 @@ module _ {M : Type 1} {𝓤 : Ura M} (𝓛 : Logic 𝓤) (𝓜 : Model 𝓤 𝓛
 
     -- what a walk is given: the lifetimes, the shares, the bounds, the other arguments, and the ghost value
     abbrev pub Choice : Ptr → Type 0
-    Choice p = (κs : Lfts T.signature.lifetimes) × (qs : Shares T.signature.lifetimes) × AllOutlive T.signature.lifetimes T.signature.outlives κs × (a : Denots (Rest κs)) × (c κs (p, a)).ghost
+    Choice p = (κs : Lfts T.signature.lifetimes) × (qs : Shares T.signature.lifetimes)
+        × AllOutlive T.signature.lifetimes T.signature.outlives κs × (a : Denots (Rest κs)) × (c κs (p, a)).ghost
 
     abbrev pub chosen : (p : Ptr) → Choice p → Walk.Ghost
     chosen p w = ((w.0, w.1, w.2, (p, w.3), (rawptr_vals p, valss (Rest w.0) (sp w.0) w.3)), w.4)
@@ -199,48 +231,63 @@ module _ {M : Type 1} {𝓤 : Ura M} (𝓛 : Logic 𝓤) (𝓜 : Model 𝓤 𝓛
 
     -- it meets its contract by a walk from what lies in a block, since nothing lies at null
     pub points : (name : Callee) (e : Fn) → Closed 𝓤 H 𝓣.C 𝓣.Λ name e → ((κs : Lfts T.signature.lifetimes) → Tellss (Rest κs) (Ises (Rest κs)) (sp κs))
-        → (X : (p : Ptr) → Choice p → Type 0) (F : (p : Ptr) (w : Choice p) → X p w → Fml) → ((w : Choice null_ptr) (x : X null_ptr w) → ent 𝓤 (sem 𝓛 (F null_ptr w x)) (never 𝓤))
+        → (X : (p : Ptr) → Choice p → Type 0) (F : (p : Ptr) (w : Choice p) → X p w → Fml)
+        → ((w : Choice null_ptr) (x : X null_ptr w) → ent 𝓤 (sem 𝓛 (F null_ptr w x)) (never 𝓤))
         → ((p : Ptr) (w : Choice p) → ent 𝓤 ((c w.0 (p, w.3)).requires w.4) (sem 𝓛 (fex (X p w) (F p w))))
-        → ((b o : ℕ) (w : Choice (block_ptr b o)) → Stored (block_ptr b o) w → (x : X (block_ptr b o) w) → Sq 𝓛 (‵ (F (block_ptr b o) w x) ∷ entry 𝓛 (pointing T) c (chosen (block_ptr b o) w) ∷ []) (prop (Goes e (block_ptr b o) w)))
+        → ((b o : ℕ) (w : Choice (block_ptr b o)) → Stored (block_ptr b o) w → (x : X (block_ptr b o) w) → Sq 𝓛
+        (‵ (F (block_ptr b o) w x) ∷ entry 𝓛 (pointing T) c (chosen (block_ptr b o) w) ∷ []) (prop (Goes e (block_ptr b o) w)))
         → Meets 𝓛 (pointing T).signature (𝓣.C name) (closing 𝓛 (pointing T) c)
     points name e closed tells X F none asks walk =
-        proved 𝓛 (pointing T) (stayed (pointing T)) c 𝓜 𝓡 (goes 𝓛 (pointing T)) name e closed (λ κs. (rawptr_vals, sp κs)) (λ κs. (rawptr_Tells, tells κs)) (λ κs qs bounds a g are. go a.0 (κs, qs, bounds, a.1, g) are.1)
+        proved 𝓛 (pointing T) (stayed (pointing T)) c 𝓜 𝓡 (goes 𝓛 (pointing T)) name e closed (λ κs. (rawptr_vals, sp κs))
+        (λ κs. (rawptr_Tells, tells κs)) (λ κs qs bounds a g are. go a.0 (κs, qs, bounds, a.1, g) are.1)
       where
         each : (p : Ptr) (w : Choice p) → Stored p w → (x : X p w) → Sq 𝓛 (‵ (F p w x) ∷ entry 𝓛 (pointing T) c (chosen p w) ∷ []) (prop (Goes e p w))
         each (block_ptr b o) w are x = walk b o w are x
         each null_ptr w are x = use1 𝓛 (raw (never 𝓤)) (none w x) $ move ! (1 ∷ []) $ drop ! $ by ! (never_e 𝓤 (Goes e null_ptr w))
 
         go : (p : Ptr) (w : Choice p) → Stored p w → ent 𝓤 (sep 𝓤 (mean 𝓛 (entry 𝓛 (pointing T) c (chosen p w))) ((c w.0 (p, w.3)).requires w.4)) (Goes e p w)
-        go p w are = qed 𝓛 (entry 𝓛 (pointing T) c (chosen p w) ∷ raw ((c w.0 (p, w.3)).requires w.4) ∷ []) ∵ move ! (1 ∷ []) $ use1 𝓛 (‵ (fex (X p w) (F p w))) (asks p w) $ fpick ! (λ x. each p w are x)
+        go p w are = qed 𝓛 (entry 𝓛 (pointing T) c (chosen p w) ∷ raw ((c w.0 (p, w.3)).requires w.4) ∷ [])
+            ∵ move ! (1 ∷ []) $ use1 𝓛 (‵ (fex (X p w) (F p w))) (asks p w) $ fpick ! (λ x. each p w are x)
 
     module _ {K : Type 0} {Γ : List (Item 𝓤)} {E : Env 𝓤 H} {q : Post 𝓤 H} {dest : Place} {fn : Callee} {xs : List Operand} {rest : Code} where
       -- its call to which is lent what lies at (b, o): of the value that comes back what the callee says makes the export's `ensures`
-      pub lent : K → (R : RattleType) (d : R.Denot) (b o : ℕ) (w : Choice (block_ptr b o)) → let Tokens = alive 𝓛 T.signature w.0 w.1 in let Z = type_at T.signature.result w.0 in let ks = others_kept T.signature.params T.kept in let Us = Fins w.0 (others T.signature.params) ks w.3 in
+      pub lent : K → (R : RattleType) (d : R.Denot) (b o : ℕ) (w : Choice (block_ptr b o)) → let Tokens =
+          alive 𝓛 T.signature w.0 w.1 in let Z = type_at T.signature.result w.0 in let ks =
+          others_kept T.signature.params T.kept in let Us = Fins w.0 (others T.signature.params) ks w.3 in
           (Says : Z.Denot → R.Denot → Us → Type 0) → (k : Contract 𝓤) → Triple 𝓤 (𝓣.C fn) k → (y : Lft → MutBor R.Denot → Valss (Rest w.0) → k.Ghost)
           → let vals = valss (Rest w.0) (sp w.0) w.3 in
           ((κ : Lft) (δ : GName) → ent 𝓤 (sep 𝓤 (Given 𝓛 R Tokens κ (loan d b o δ) (owns (Rest w.0) w.3 vals)) (emp 𝓤)) (k.pre (y κ (loan d b o δ) vals)))
-          → ((κ : Lft) (δ : GName) (v : Val) → ent 𝓤 (k.post (y κ (loan d b o δ) vals) v) (mean 𝓛 (Gave 𝓛 R Tokens κ (loan d b o δ) Z (lasts_of w.0 (others T.signature.params) ks w.3) Says v)))
-          → ((r : Z.Denot) (new : R.Denot) (us : Us) → Says r new us → ent 𝓤 (sem 𝓛 (part_at R full_share new b o)) ((c w.0 (block_ptr b o, w.3)).ensures w.4 r (at_exit (pointing T) w.0 (block_ptr b o, w.3) (tt, us))))
-          → ((κ : Lft) (δ : GName) → Opds K 𝓛 (raw (k.pre (y κ (loan d b o δ) vals)) ∷ ‵ (flent κ (Body (mem R) b o δ)) ∷ Γ) E xs (k.args (y κ (loan d b o δ) vals)))
+          → ((κ : Lft) (δ : GName) (v : Val) → ent 𝓤 (k.post (y κ (loan d b o δ) vals) v)
+          (mean 𝓛 (Gave 𝓛 R Tokens κ (loan d b o δ) Z (lasts_of w.0 (others T.signature.params) ks w.3) Says v)))
+          → ((r : Z.Denot) (new : R.Denot) (us : Us) → Says r new us → ent 𝓤 (sem 𝓛 (part_at R full_share new b o))
+          ((c w.0 (block_ptr b o, w.3)).ensures w.4 r (at_exit (pointing T) w.0 (block_ptr b o, w.3) (tt, us))))
+          → ((κ : Lft) (δ : GName) → Opds K 𝓛 (raw (k.pre (y κ (loan d b o δ) vals))
+          ∷ ‵ (flent κ (Body (mem R) b o δ)) ∷ Γ) E xs (k.args (y κ (loan d b o δ) vals)))
           → ((v : Val) (r : Z.Denot) → Is Z r (v ∷ []) → Seq K 𝓛 (after b o w v ∷ Γ) (lands 𝓣.C 𝓣.Λ E dest v rest q))
           → Seq K 𝓛 (‵ (part_at R full_share d b o) ∷ entry 𝓛 (pointing T) c (chosen (block_ptr b o) w) ∷ Γ) (runs 𝓣.C 𝓣.Λ E (seq (call fn xs dest) rest) q)
       lent t R d b o w Says k known y takes gives leave opds go =
-          let Tokens = alive 𝓛 T.signature w.0 w.1 in let Z = type_at T.signature.result w.0 in let kept = lasts_of w.0 (others T.signature.params) (others_kept T.signature.params T.kept) w.3 in let vals = valss (Rest w.0) (sp w.0) w.3 in
+          let Tokens = alive 𝓛 T.signature w.0 w.1 in let Z = type_at T.signature.result w.0 in let kept =
+          lasts_of w.0 (others T.signature.params) (others_kept T.signature.params T.kept) w.3 in let vals =
+          valss (Rest w.0) (sp w.0) w.3 in
           lft_new t tt (λ α. let κ : Lft = α ∷ [] in move t (1 ∷ []) $
           use1 𝓛 (later (some (λ (δ : GName). ‵ ((MutRef (named 0) κ R).own_val (loan d b o δ) (vptr b o ∷ [])) ⊛ ‵ (flent κ (Body (mem R) b o δ)))))
           (lends_ref 𝓛 R (named 0) κ d b o) $ await t tt $ pick t (λ δ. split t $
           let x : MutBor R.Denot = loan d b o δ in
           -- [the reference; the lender's part; the token; what the parameters own]
-          move t (3 ∷ []) $ split t $ move t (1 ∷ []) $ fsplit t $ drop t $ move t (2 ∷ 0 ∷ []) $ fjoin t $ move t (3 ∷ 1 ∷ 0 ∷ []) $ join t $ join t $ nothing t $ move t (1 ∷ 0 ∷ []) $ join t $
+          move t (3 ∷ []) $ split t $ move t (1 ∷ []) $ fsplit t $ drop t $ move t (2 ∷ 0 ∷ []) $
+          fjoin t $ move t (3 ∷ 1 ∷ 0 ∷ []) $ join t $ join t $ nothing t $ move t (1 ∷ 0 ∷ []) $ join t $
           use1 𝓛 (raw (k.pre (y κ x vals))) (takes κ δ) $
-          calls_at t (framed 𝓤 H 𝓜 𝓣) k known (y κ x vals) (opds κ δ) (λ v. use1 𝓛 (Gave 𝓛 R Tokens κ x Z kept Says v) (gives κ δ v) $ await t tt $ pick t (λ r. split t $ move t (1 ∷ []) $ pick t (λ ws. split t $ move t (1 ∷ []) $
+          calls_at t (framed 𝓤 H 𝓜 𝓣) k known (y κ x vals) (opds κ δ) (λ v. use1 𝓛 (Gave 𝓛 R Tokens κ x Z kept Says v)
+          (gives κ δ v) $ await t tt $ pick t (λ r. split t $ move t (1 ∷ []) $ pick t (λ ws. split t $ move t (1 ∷ []) $
           heard t (Says r ws.0 ws.1) (λ e. fsplit t $ fsplit t $
           -- [what is said of the last value; its borrow; of the other parameters; the tokens with the result; the lender's part]
           move t (3 ∷ []) $ split t $ split t $ lft_end t tt $ move t (0 ∷ 6 ∷ 3 ∷ []) $
           use3 𝓛 (later (‵ (part_at R full_share ws.0 b o))) (ref_back 𝓛 R κ δ ws.0 b o) $ await t tt $
           -- [what lies there; the tokens; the result; the borrow; of the other parameters]
           move t (4 ∷ []) $ nothing t $ fjoin t $ move t (3 ∷ []) $
-          peeks t Z (Is Z) (shows 𝓛 Z) r (v ∷ []) (λ is. move t (3 ∷ 1 ∷ 0 ∷ 2 ∷ []) $ group t 4 $ use1 𝓛 (after b o w v) (ends 𝓛 (pointing T) c (chosen (block_ptr b o) w) v r (tt, ws.1) (part_at R full_share ws.0 b o) (leave r ws.0 ws.1 e)) $ move t (1 ∷ []) $ drop t $ go v r is)))))))
+          peeks t Z (Is Z) (shows 𝓛 Z) r (v ∷ []) (λ is. move t (3 ∷ 1 ∷ 0 ∷ 2 ∷ []) $
+          group t 4 $ use1 𝓛 (after b o w v) (ends 𝓛 (pointing T) c (chosen (block_ptr b o) w) v r (tt, ws.1)
+          (part_at R full_share ws.0 b o) (leave r ws.0 ws.1 e)) $ move t (1 ∷ []) $ drop t $ go v r is)))))))
 
   -- ---- an export that makes what is to lie there
   abbrev alone : Ended
@@ -258,20 +305,28 @@ module _ {M : Type 1} {𝓤 : Ura M} (𝓛 : Logic 𝓤) (𝓜 : Model 𝓤 𝓛
     givens = 0;
     params = 1;
     locals = local ty_unit value_local ∷ local ty_ptr value_local ∷ local ty_ptr value_local ∷ local τ value_local ∷ [];
-    body = seq (assign (place 2 []) (rv_opd (copy (place 1 [])))) (seq (call callee [] (place 3 [])) (seq (assign (place 2 (deref τ ∷ [])) (rv_opd (copy (place 3 [])))) (seq (assign (place 0 []) (rv_opd opd_unit)) return)));
+    body = seq (assign (place 2 []) (rv_opd (copy (place 1 [])))) (seq (call callee [] (place 3 [])) (seq
+        (assign (place 2 (deref τ ∷ [])) (rv_opd (copy (place 3 [])))) (seq (assign (place 0 []) (rv_opd opd_unit)) return)));
   }
 
-  pub inits : (R : RattleType) → One R → Lawful 𝓛 R → (c : Clauses 𝓤 alone) (name : Callee) {callee : Callee} → Closed 𝓤 H 𝓣.C 𝓣.Λ name (writing (lone R.mir) callee) → (Says : R.Denot → Type 0) (s : Spec 𝓤 (giving R)) → Meets 𝓛 (giving R) (𝓣.C callee) s
+  pub inits : (R : RattleType) → One R → Lawful 𝓛 R
+      → (c : Clauses 𝓤 alone) (name : Callee) {callee : Callee} → Closed 𝓤 H 𝓣.C 𝓣.Λ name (writing (lone R.mir) callee)
+      → (Says : R.Denot → Type 0) (s : Spec 𝓤 (giving R)) → Meets 𝓛 (giving R) (𝓣.C callee) s
       → let k = triple_of 𝓛 (giving R) s in (y : k.Ghost) → ent 𝓤 (sep 𝓤 (sep 𝓤 (emp 𝓤) (sem 𝓛 ftrue)) (emp 𝓤)) (k.pre y)
-      → ((v : Val) → ent 𝓤 (k.post y v) (mean 𝓛 (later (some (λ (x : R.Denot). (raw (emp 𝓤) ⊛ ‵ (R.own_val x (v ∷ []))) ⊛ some (λ (us : Unit {0}). ‵ ftrue ⊛ raw (fact 𝓤 (Says x))))))))
+      → ((v : Val) → ent 𝓤 (k.post y v) (mean 𝓛 (later (some
+      (λ (x : R.Denot). (raw (emp 𝓤) ⊛ ‵ (R.own_val x (v ∷ []))) ⊛ some (λ (us : Unit {0}). ‵ ftrue ⊛ raw (fact 𝓤 (Says x))))))))
       → ((p : Ptr) (g : (c tt (p, tt)).ghost) → ent 𝓤 ((c tt (p, tt)).requires g) (sem 𝓛 (fex (Unit {0}) (λ x. room_at R p))))
-      → ((b o : ℕ) (g : (c tt (block_ptr b o, tt)).ghost) (x : R.Denot) → Says x → ent 𝓤 (sem 𝓛 (part_at R full_share x b o)) ((c tt (block_ptr b o, tt)).ensures g tt (at_exit alone tt (block_ptr b o, tt) (tt, tt))))
+      → ((b o : ℕ) (g : (c tt (block_ptr b o, tt)).ghost) (x : R.Denot) → Says x → ent 𝓤 (sem 𝓛 (part_at R full_share x b o))
+      ((c tt (block_ptr b o, tt)).ensures g tt (at_exit alone tt (block_ptr b o, tt) (tt, tt))))
       → Meets 𝓛 alone.signature (𝓣.C name) (closing 𝓛 alone c)
   inits R one lawful c name {callee} closed Says s met y takes gives asks leave = let unspelled : Spelled alone = λ κs. tt in
-      points alone c unspelled name (writing (lone R.mir) callee) closed (λ κs. tt) (λ p w. Unit {0}) (λ p w x. room_at R p) (λ w x. id⊢ 𝓤 _) (λ p w. asks p w.4) (λ b o w are x.
+      points alone c unspelled name (writing (lone R.mir) callee) closed
+      (λ κs. tt) (λ p w. Unit {0}) (λ p w x. room_at R p) (λ w x. id⊢ 𝓤 _) (λ p w. asks p w.4) (λ b o w are x.
       enter ! _ _ _ _ _ $ alloc_all ! (λ l. pass_all ! refl ((tt, tt), tt) $
       sets ! (of_opd ! (get ! refl)) refl (tt, tt) $ move ! (1 ∷ []) $
       made ! (framed 𝓤 H 𝓜 𝓣) R lawful (emp 𝓤) (λ (us : Unit {0}). ftrue) Says (triple_of 𝓛 (giving R) s) met y takes gives (no_more !)
-      (λ v x e wt. let ok = (subst (λ τs. Typed τs (v ∷ [])) one wt).0 in lands_as ! refl refl ok $ assigns ! (of_opd ! (get ! refl)) (through ! refl (stop !)) (init ! 2 refl ok) $
+      (λ v x e wt. let ok = (subst (λ τs. Typed τs (v ∷ [])) one wt).0 in
+      lands_as ! refl refl ok $ assigns ! (of_opd ! (get ! refl)) (through ! refl (stop !)) (init ! 2 refl ok) $
       sets ! (of_opd ! (unit_lit !)) refl (tt, tt) $ returns ! (look_at ! 0 refl) $ free_all ! refl $
-      by ! (makes 𝓛 alone c (chosen alone c unspelled (block_ptr b o) w) vunit tt (tt, tt) R one x b o v (emp∗ 𝓤 (emp 𝓤)) (qed 𝓛 [] ∵ feq_i ! _ (vunit ∷ []) _ refl $ done !) (leave b o w.4 x e)))))
+      by ! (makes 𝓛 alone c (chosen alone c unspelled (block_ptr b o) w) vunit tt (tt, tt) R one x b o v
+      (emp∗ 𝓤 (emp 𝓤)) (qed 𝓛 [] ∵ feq_i ! _ (vunit ∷ []) _ refl $ done !) (leave b o w.4 x e)))))

@@ -11,8 +11,8 @@ use Rattle.tpm_types.specs.Tpms.{selection}
 use Rattle.tpm_types.specs.Tpm2b.{digest}
 use Rattle.tpm_types.specs.Tpml.{most_digests, selections, or_digests}
 use Rattle.tpm_commands.proofs.Short.{of_selection}
-use Rattle.tpm_log.specs.Quotes.{left_over}
-use Rattle.tpm_log.proofs.Quotes.{long_is}
+use Rattle.tpm_quote.specs.Quotes.{left_over}
+use Rattle.tpm_quote.proofs.Quotes.{long_is}
 use Rattle.tpm_c.specs.Parts.{whole_in}
 
 pub of_selections : TakesAtMost 4096 selections
@@ -24,6 +24,7 @@ of_or_digests = at_most_more 404 4096 or_digests (omega arith) (at_most_counted 
 pub whole_is : {A : Type 0} (l : Layout A) → TakesAtMost 4096 l → (bytes : List ℕ) → whole_in l bytes ≡ read_all l bytes
 whole_is {A = A} l few bytes = go (nat_le (length bytes) 4096) refl
   where
-    go : (short : Bool) → nat_le (length bytes) 4096 ≡ short → (if short then read_all l bytes else Err (left_over (read 0 l (at_start (take 4096 bytes))))) ≡ read_all l bytes
+    go : (short : Bool) → nat_le (length bytes) 4096 ≡ short
+        → (if short then read_all l bytes else Err (left_over (read 0 l (at_start (take 4096 bytes))))) ≡ read_all l bytes
     go true e = refl
     go false e = sym (long_is 4096 l few (omega arith) bytes (leb-false (length bytes) 4096 e))

@@ -16,7 +16,8 @@ module _ {A : Type 0} (Holds : ℕ → Option A → Type 0) (behind : ℕ → Op
 
   -- the first three, of which some may not be there
   pub first_three : ((n : ℕ) → Holds n None) → (n : ℕ) (auths : List A) → AreHeld n auths
-      → Holds n (slice_get auths 0) × Holds (behind n (slice_get auths 0)) (slice_get auths 1) × Holds (behind (behind n (slice_get auths 0)) (slice_get auths 1)) (slice_get auths 2)
+      → Holds n (slice_get auths 0) × Holds (behind n (slice_get auths 0)) (slice_get auths 1)
+      × Holds (behind (behind n (slice_get auths 0)) (slice_get auths 1)) (slice_get auths 2)
   first_three none n [] h = (none n, none _, none _)
   first_three none n (a ∷ []) h = (h.0, none _, none _)
   first_three none n (a ∷ b ∷ []) h = (h.0, h.1.0, none _)

@@ -53,7 +53,10 @@ holds_attest bytes a is =
     let four_long : length four ≡ 8 + length a.signer + 2 + length a.extra_data + 25 + length sels + 2 = simp length-append (omega (arith, c)) in
     record {
       signer = part_is one a.signer _ bytes 8 (is ∙ to_signer m t s a.signer u a.extra_data clock firmware sels v a.quote.digest) one_long;
-      nonce = part_is two a.extra_data _ bytes (8 + length a.signer + 2) (is ∙ to_nonce m t s a.signer u a.extra_data clock firmware sels v a.quote.digest) two_long;
-      selected = part_is three sels _ bytes (8 + length a.signer + 2 + length a.extra_data + 25) (is ∙ to_selected m t s a.signer u a.extra_data clock firmware sels v a.quote.digest) three_long;
-      digest = part_is four a.quote.digest _ bytes (8 + length a.signer + 2 + length a.extra_data + 25 + length sels + 2) (is ∙ to_digest m t s a.signer u a.extra_data clock firmware sels v a.quote.digest) four_long;
+      nonce = part_is two a.extra_data _ bytes (8 + length a.signer + 2)
+          (is ∙ to_nonce m t s a.signer u a.extra_data clock firmware sels v a.quote.digest) two_long;
+      selected = part_is three sels _ bytes (8 + length a.signer + 2 + length a.extra_data + 25)
+          (is ∙ to_selected m t s a.signer u a.extra_data clock firmware sels v a.quote.digest) three_long;
+      digest = part_is four a.quote.digest _ bytes (8 + length a.signer + 2 + length a.extra_data + 25 + length sels + 2)
+          (is ∙ to_digest m t s a.signer u a.extra_data clock firmware sels v a.quote.digest) four_long;
     }

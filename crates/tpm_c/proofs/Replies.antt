@@ -23,7 +23,8 @@ answer_long : (r : Result Done ℕ) → 10 ≤ length (answered r)
 answer_long (Ok d) = response_long (code_for d.command.body) (done_with d.reply)
 answer_long (Err code) = response_long codes.Startup (responses.Code code)
 
-pub is_answered : (o : Origin) (h : History) (bytes nonce old new : List ℕ) (count : ℕ) → IsIn (written (length old) o h bytes nonce) old new count → IsAnswered o h bytes nonce old new count
+pub is_answered : (o : Origin) (h : History) (bytes nonce old new : List ℕ) (count : ℕ)
+    → IsIn (written (length old) o h bytes nonce) old new count → IsAnswered o h bytes nonce old new count
 is_answered o h bytes nonce old new count i = (
   i,
   λ room.

@@ -14,7 +14,8 @@ same_count b = grind arith
 
 pub unsealed : (held : Held) (b : CommandBody) (first second auth nonce out : List ℕ) (keep : Bool)
     → do_fit (take (length (handle_kinds (code_for b))) (first ∷ second ∷ [])) nonce ≡ false
-    → IsIn (sealed_bytes (seal_by held (Some b) first second auth nonce keep)) out out 0 × (held ≡ after_seal held (seal_by held (Some b) first second auth nonce keep))
+    → IsIn (sealed_bytes (seal_by held (Some b) first second auth nonce keep)) out out 0
+    × (held ≡ after_seal held (seal_by held (Some b) first second auth nonce keep))
 unsealed (Free c) b first second auth nonce out keep long =
     let same : do_fit (names_of b first second) nonce ≡ false = ap (λ n. do_fit (take n (first ∷ second ∷ [])) nonce) (sym (same_count b)) ∙ long in
     rw same (record { bytes = refl; count_is = refl }, refl)

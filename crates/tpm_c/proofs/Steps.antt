@@ -14,9 +14,59 @@ pub use types.SemTy.{Body}
 pub use contract.Monad.{fact, fact_i}
 pub use contract.Lifetimes.{Lfts}
 pub use contract.Running.{tables}
-pub use types.Kit.{‵, raw, ◌⊛◌, some, later, ◌$◌, ◌∵◌, !, qed, by, move, drop, use0, use1, use3, split, join, pick, fsplit, fjoin, rewrite, await, done, feq_i, fpick, fpack, at_ret, mean}
+pub use types.Kit.{
+  ‵,
+  raw,
+  ◌⊛◌,
+  some,
+  later,
+  ◌$◌,
+  ◌∵◌,
+  !,
+  qed,
+  by,
+  move,
+  drop,
+  use0,
+  use1,
+  use3,
+  split,
+  join,
+  pick,
+  fsplit,
+  fjoin,
+  rewrite,
+  await,
+  done,
+  feq_i,
+  fpick,
+  fpack,
+  at_ret,
+  mean,
+}
 pub use types.Tokens.{lft_new, lft_end}
-pub use types.Run.{addr, stop, of_opd, and_then, no_more, returns, enter, init, unit_lit, assigns, fld, hop, from, lit, bin, first, branches, skips, exec, returns_within}
+pub use types.Run.{
+  addr,
+  stop,
+  of_opd,
+  and_then,
+  no_more,
+  returns,
+  enter,
+  init,
+  unit_lit,
+  assigns,
+  fld,
+  hop,
+  from,
+  lit,
+  bin,
+  first,
+  branches,
+  skips,
+  exec,
+  returns_within,
+}
 pub use types.ByLocal.{alloc_all, pass_all, free_all, look_at, through, get, sets, lands_as, look_in_at, get_in, env}
 pub use sound.WpLaws.{FmC}
 pub use denote.RattleType.{owns, Valss}

@@ -12,9 +12,9 @@ use Rattle.tpm_types.specs.Tpml.{selections}
 use Rattle.tpm_types.specs.Attest.{yes_no_number, attest}
 use Rattle.tpm_model.specs.Registers.{Registers, value_in}
 use Rattle.tpm_log.specs.declared.fault.LogFault.{LogFault}
-use Rattle.tpm_log.specs.declared.attest.AttestFault.{AttestFault}
-use Rattle.tpm_log.specs.Attests.{SelectsNone, IsJudged}
-use Rattle.tpm_log.specs.declared.attest.AttestFault.TheVariants as faults
+use Rattle.tpm_quote.specs.declared.attest.AttestFault.{AttestFault}
+use Rattle.tpm_quote.specs.Attests.{SelectsNone, IsJudged}
+use Rattle.tpm_quote.specs.declared.attest.AttestFault.TheVariants as faults
 use Rattle.tpm_c.specs.declared.part.TpmPart.{TpmPart}
 use Rattle.tpm_c.specs.declared.part.TpmRefusal.{TpmRefusal}
 use Rattle.tpm_c.specs.declared.attest.TpmAttest.{TpmAttest}
@@ -22,8 +22,8 @@ use Rattle.tpm_c.specs.declared.attest.TpmAttestFault.{TpmAttestFault}
 use Rattle.tpm_c.specs.Parts.{part, bytes_in, refusal_of, whole_in}
 use Rattle.tpm_c.specs.Logs.{kind_number}
 
--- ---- the parts of a quote (Part 2, 10.12): the magic and the type have 6 bytes, the size of each sized buffer 2, the clock 17 and
--- the firmware's version 8
+-- ---- the parts of a quote (Part 2, 10.12): the magic and the type have 6 bytes, the size of each
+-- sized buffer 2, the clock 17 and the firmware's version 8
 
 abbrev pub signer_part : Attest → TpmPart
 signer_part a = part 8 (length a.signer)
@@ -32,10 +32,12 @@ abbrev pub nonce_part : Attest → TpmPart
 nonce_part a = part (8 + length a.signer + 2) (length a.extra_data)
 
 abbrev pub selections_part : Attest → TpmPart
-selections_part a = part (8 + length a.signer + 2 + length a.extra_data + 25) (length (spelling selections a.quote.selections))
+selections_part a =
+    part (8 + length a.signer + 2 + length a.extra_data + 25) (length (spelling selections a.quote.selections))
 
 abbrev pub digest_part : Attest → TpmPart
-digest_part a = part (8 + length a.signer + 2 + length a.extra_data + 25 + length (spelling selections a.quote.selections) + 2) (length a.quote.digest)
+digest_part a = part (8 + length a.signer + 2 + length a.extra_data
+    + 25 + length (spelling selections a.quote.selections) + 2) (length a.quote.digest)
 
 abbrev pub attest_view : Attest → TpmAttest
 attest_view a = record {
@@ -60,7 +62,11 @@ pub record HoldsAttest (bytes : List ℕ) (a : Attest) : Type 0 where
 -- The answer is 0 with the view of the quote that the bytes spell, or 1 with their fault; the other place is as it was.
 abbrev pub ViewsAttest : List ℕ → (answer : ℕ) → (old new : TpmAttest) → (was refusal : TpmRefusal) → Type 0
 ViewsAttest bytes answer old new was refusal =
-    ((answer ≡ 0) × (a : Attest) × Spells attest a bytes × (new ≡ attest_view a) × HoldsAttest bytes a × (refusal ≡ was))
+    ((answer ≡ 0)
+    × (a : Attest) × Spells attest a bytes
+    × (new ≡ attest_view a)
+    × HoldsAttest bytes a
+    × (refusal ≡ was))
     ⊎ ((answer ≡ 1) × Fault attest bytes (refusal_of refusal) × (new ≡ old))
 
 -- ---- a quote beside a log
@@ -77,33 +83,48 @@ abbrev pub IsWhetherEmpty : List Selection → (code : ℕ) → Type 0
 IsWhetherEmpty quoted code = ((code ≡ 0) × ¬ SelectsNone quoted) ⊎ ((code ≡ 21) × SelectsNone quoted)
 
 -- the number of what was found
-abbrev pub IsTold : List Selection → Result (Unit {0}) AttestFault → (fault fault-2 : TpmAttestFault) → (code : ℕ) → Type 0
+abbrev pub IsTold : List Selection
+    → Result (Unit {0}) AttestFault → (fault fault-2 : TpmAttestFault) → (code : ℕ) → Type 0
 IsTold quoted (Ok _) fault fault-2 code = IsWhetherEmpty quoted code × (fault-2 ≡ fault)
 IsTold quoted (Err faults.Nonce) fault fault-2 code = (code ≡ 19) × (fault-2 ≡ fault)
 IsTold quoted (Err (faults.NotSelected r)) fault fault-2 code = (code ≡ 20) × (fault-2 ≡ lacking r.bank r.register)
 IsTold quoted (Err faults.Digest) fault fault-2 code = (code ≡ 16) × (fault-2 ≡ fault)
 
 -- the quote that the bytes spell, or else their fault
-abbrev pub IsAttestCompared : (Alg → ℕ → List ℕ) → Alg → (bytes nonce : List ℕ) → List Selection → (fault fault-2 : TpmAttestFault) → (code : ℕ) → Type 0
+abbrev pub IsAttestCompared : (Alg → ℕ → List ℕ) → Alg → (bytes nonce : List ℕ)
+    → List Selection → (fault fault-2 : TpmAttestFault) → (code : ℕ) → Type 0
 IsAttestCompared value hash bytes nonce required fault fault-2 code =
-    ((a : Attest) × Spells attest a bytes × (found : Result (Unit {0}) AttestFault) × IsJudged value a hash nonce required found × IsTold a.quote.selections found fault fault-2 code)
+    ((a : Attest) × Spells attest a bytes
+    × (found : Result (Unit {0}) AttestFault) × IsJudged value a hash nonce required found
+    × IsTold a.quote.selections found fault fault-2 code)
     ⊎ ((refusal : Refusal) × Fault attest bytes refusal × (fault-2 ≡ fault_at refusal.code refusal.at) × (code ≡ 17))
 
 -- The log's fault comes before the quote.
-abbrev pub IsAttestOf : Result Registers LogFault → Alg → (bytes nonce : List ℕ) → List Selection → (fault fault-2 : TpmAttestFault) → (code : ℕ) → Type 0
-IsAttestOf (Ok found) hash bytes nonce required fault fault-2 code = IsAttestCompared (value_in found.banks) hash bytes nonce required fault fault-2 code
-IsAttestOf (Err e) hash bytes nonce required fault fault-2 code = (fault-2 ≡ fault_at 0 e.at) × (code ≡ kind_number e.kind)
+abbrev pub IsAttestOf : Result Registers LogFault → Alg → (bytes nonce : List ℕ)
+    → List Selection → (fault fault-2 : TpmAttestFault) → (code : ℕ) → Type 0
+IsAttestOf (Ok found) hash bytes nonce required fault fault-2 code =
+    IsAttestCompared (value_in found.banks) hash bytes nonce required fault fault-2 code
+IsAttestOf (Err e) hash bytes nonce required fault fault-2 code =
+    (fault-2 ≡ fault_at 0 e.at)
+    × (code ≡ kind_number e.kind)
 
 -- what is required: nothing by no bytes
 abbrev pub required_in : List ℕ → Result (List Selection) Refusal
 required_in bytes = if length bytes == 0 then Ok [] else whole_in selections bytes
 
 -- What is required comes before the log. This is what the log gives.
-abbrev pub IsRequired : (Result Registers LogFault → Type 0) → Alg → (bytes nonce : List ℕ) → Result (List Selection) Refusal → (fault fault-2 : TpmAttestFault) → (code : ℕ) → Type 0
-IsRequired Gives hash bytes nonce (Ok required) fault fault-2 code = (found : Result Registers LogFault) × Gives found × IsAttestOf found hash bytes nonce required fault fault-2 code
-IsRequired Gives hash bytes nonce (Err refusal) fault fault-2 code = (fault-2 ≡ fault_at refusal.code refusal.at) × (code ≡ 22)
+abbrev pub IsRequired : (Result Registers LogFault → Type 0) → Alg → (bytes nonce : List ℕ)
+    → Result (List Selection) Refusal → (fault fault-2 : TpmAttestFault) → (code : ℕ) → Type 0
+IsRequired Gives hash bytes nonce (Ok required) fault fault-2 code =
+    (found : Result Registers LogFault) × Gives found
+    × IsAttestOf found hash bytes nonce required fault fault-2 code
+IsRequired Gives hash bytes nonce (Err refusal) fault fault-2 code =
+    (fault-2 ≡ fault_at refusal.code refusal.at)
+    × (code ≡ 22)
 
 -- The hash comes before all.
-abbrev pub IsAttestChecked : (Result Registers LogFault → Type 0) → Option Alg → (bytes nonce : List ℕ) → Result (List Selection) Refusal → (fault fault-2 : TpmAttestFault) → (code : ℕ) → Type 0
+abbrev pub IsAttestChecked : (Result Registers LogFault → Type 0) → Option Alg → (bytes nonce : List ℕ)
+    → Result (List Selection) Refusal → (fault fault-2 : TpmAttestFault) → (code : ℕ) → Type 0
 IsAttestChecked Gives None bytes nonce required fault fault-2 code = (fault-2 ≡ fault) × (code ≡ 18)
-IsAttestChecked Gives (Some hash) bytes nonce required fault fault-2 code = IsRequired Gives hash bytes nonce required fault fault-2 code
+IsAttestChecked Gives (Some hash) bytes nonce required fault fault-2 code =
+    IsRequired Gives hash bytes nonce required fault fault-2 code

@@ -26,18 +26,25 @@ too_long = record { code = rc_command_size; at = 2 }
 abbrev pub IsRefused : List ℕ → Refusal → Type 0
 IsRefused bytes e = ((4096 < length bytes) × (e ≡ too_long)) ⊎ ((length bytes ≤ 4096) × Fault command bytes e)
 
--- The answer is 0 with the bytes at the beginning of the room, where they spell a command; 1 with their fault; or 2 where they spell
--- a command and the room is less. What is not written so is as it was.
+-- The answer is 0 with the bytes at the beginning of the room, where they spell a command; 1 with
+-- their fault; or 2 where they spell a command and the room is less. What is not written so is as
+-- it was.
 abbrev pub BuildsBytes : List ℕ → (answer : ℕ) → (old new : Told) → Type 0
 BuildsBytes bytes answer old new =
-    ((answer ≡ 0) × ((c : Command) × Spells command c bytes) × IsIn bytes old.out new.out new.count × (new.refusal ≡ old.refusal))
+    ((answer ≡ 0)
+    × ((c : Command) × Spells command c bytes)
+    × IsIn bytes old.out new.out new.count
+    × (new.refusal ≡ old.refusal))
     ⊎ ((answer ≡ 1) × IsRefused bytes (refusal_of new.refusal) × (new.out ≡ old.out) × (new.count ≡ old.count))
     ⊎ ((answer ≡ 2) × ((c : Command) × Spells command c bytes) × (length old.out < length bytes) × (new ≡ old))
 
-abbrev pub BuildsOf : Option CommandCode → (handles sessions parameters : List ℕ) → (answer : ℕ) → (old new : Told) → Type 0
+abbrev pub BuildsOf : Option CommandCode
+    → (handles sessions parameters : List ℕ) → (answer : ℕ) → (old new : Told) → Type 0
 BuildsOf None handles sessions parameters answer old new = (answer ≡ 3) × (new ≡ old)
-BuildsOf (Some code) handles sessions parameters answer old new = BuildsBytes (joined code handles sessions parameters) answer old new
+BuildsOf (Some code) handles sessions parameters answer old new =
+    BuildsBytes (joined code handles sessions parameters) answer old new
 
 -- This is answered for the command of this number and the bytes of its parts; 3 where no command has the number.
 abbrev pub Builds : ℕ → (handles sessions parameters : List ℕ) → (answer : ℕ) → (old new : Told) → Type 0
-Builds number handles sessions parameters answer old new = BuildsOf (code_of number) handles sessions parameters answer old new
+Builds number handles sessions parameters answer old new =
+    BuildsOf (code_of number) handles sessions parameters answer old new

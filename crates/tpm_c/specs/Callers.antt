@@ -92,16 +92,25 @@ abbrev pub do_fit : (names : List (List ℕ)) → (nonce : List ℕ) → Bool
 do_fit names nonce = are_short names && nat_le (length nonce) digest_bytes
 
 abbrev pub seal_of : CallerSession → CommandBody → (first second auth nonce : List ℕ) → Bool → Seal
-seal_of c body first second auth nonce keep = record { caller = c; body = body; names = names_of body first second; auth = auth; nonce = nonce; keep = keep }
+seal_of c body first second auth nonce keep = record {
+  caller = c;
+  body = body;
+  names = names_of body first second;
+  auth = auth;
+  nonce = nonce;
+  keep = keep;
+}
 
 abbrev pub seal_by : Held → Option CommandBody → (first second auth nonce : List ℕ) → Bool → Option Seal
-seal_by (Free c) (Some body) first second auth nonce keep = if do_fit (names_of body first second) nonce then Some (seal_of c body first second auth nonce keep) else None
+seal_by (Free c) (Some body) first second auth nonce keep =
+    if do_fit (names_of body first second) nonce then Some (seal_of c body first second auth nonce keep) else None
 seal_by _ _ first second auth nonce keep = None
 
 -- what is sealed, if anything is
 abbrev pub sealing : Held → (command_bytes first second auth nonce : List ℕ) → (keep room : ℕ) → Option Seal
 sealing held bytes first second auth nonce keep room =
-    if nat_le 4096 room then seal_by held (body_in (read_all command bytes)) first second auth nonce (not (keep == 0)) else None
+    if nat_le 4096 room then seal_by held
+    (body_in (read_all command bytes)) first second auth nonce (not (keep == 0)) else None
 
 abbrev pub sealed_bytes : Option Seal → List ℕ
 sealed_bytes (Some s) = sealed s

@@ -13,16 +13,23 @@ use Rattle.tpm_c.specs.declared.command.TpmCommandSession.{TpmCommandSession}
 use Rattle.tpm_c.specs.declared.command.TpmCommandAreas.{TpmCommandAreas}
 use Rattle.tpm_c.specs.Parts.{part, bytes_in, OfThree, refusal_of}
 
--- A session that begins at this place: its handle, the number of the nonce's bytes, the nonce, the attributes, the number of the
--- HMAC's bytes, and the HMAC (Part 2, 10.13.2).
+-- A session that begins at this place: its handle, the number of the nonce's bytes, the nonce, the
+-- attributes, the number of the HMAC's bytes, and the HMAC (Part 2, 10.13.2).
 abbrev pub session_view : ℕ → Option Auth → TpmCommandSession
 session_view at None = record { handle = 0; attributes = 0; nonce = part 0 0; hmac = part 0 0 }
-session_view at (Some a) = record { handle = a.session; attributes = a.attrs; nonce = part (at + 6) (length a.nonce); hmac = part (at + 9 + length a.nonce) (length a.hmac) }
+session_view at (Some a) = record {
+  handle = a.session;
+  attributes = a.attrs;
+  nonce = part (at + 6) (length a.nonce);
+  hmac = part (at + 9 + length a.nonce) (length a.hmac);
+}
 
 -- The nonce and the HMAC of a session that begins at this place are the bytes of their parts.
 abbrev pub HoldsSession : List ℕ → ℕ → Option Auth → Type 0
 HoldsSession bytes at None = Unit {0}
-HoldsSession bytes at (Some a) = (bytes_in bytes (session_view at (Some a)).nonce ≡ a.nonce) × (bytes_in bytes (session_view at (Some a)).hmac ≡ a.hmac)
+HoldsSession bytes at (Some a) =
+    (bytes_in bytes (session_view at (Some a)).nonce ≡ a.nonce)
+    × (bytes_in bytes (session_view at (Some a)).hmac ≡ a.hmac)
 
 -- the place behind it
 abbrev pub behind : ℕ → Option Auth → ℕ
@@ -39,7 +46,8 @@ place c zero = first_place c
 place c (suc i) = behind (place c i) (slice_get c.auths i)
 
 abbrev pub session_views : Cut → List TpmCommandSession
-session_views c = session_view (place c 0) (slice_get c.auths 0) ∷ session_view (place c 1) (slice_get c.auths 1) ∷ session_view (place c 2) (slice_get c.auths 2) ∷ []
+session_views c = session_view (place c 0) (slice_get c.auths 0)
+    ∷ session_view (place c 1) (slice_get c.auths 1) ∷ session_view (place c 2) (slice_get c.auths 2) ∷ []
 
 -- the view of a command: what is not there is 0
 abbrev pub command_view : Cut → TpmCommandAreas
@@ -55,9 +63,11 @@ command_view c = record {
 
 -- What the view says lies in the bytes is there.
 abbrev pub HoldsParts : List ℕ → Cut → Type 0
-HoldsParts bytes c = OfThree (λ i. HoldsSession bytes (place c i) (slice_get c.auths i)) (bytes_in bytes (command_view c).parameters ≡ c.params)
+HoldsParts bytes c = OfThree (λ i. HoldsSession bytes (place c i) (slice_get c.auths i))
+    (bytes_in bytes (command_view c).parameters ≡ c.params)
 
--- The answer is 0 with the view of the bytes' cut, or 1 with their first fault before the parameters; the other place is as it was.
+-- The answer is 0 with the view of the bytes' cut, or 1 with their first fault before the
+-- parameters; the other place is as it was.
 abbrev pub ViewsCommand : List ℕ → (answer : ℕ) → (old new : TpmCommandAreas) → (was refusal : TpmRefusal) → Type 0
 ViewsCommand bytes answer old new was refusal =
     ((answer ≡ 0) × (c : Cut) × HasCut bytes c × (new ≡ command_view c) × HoldsParts bytes c × (refusal ≡ was))
@@ -66,4 +76,5 @@ ViewsCommand bytes answer old new was refusal =
 -- The answer is 0 where the bytes spell a command, or 1 with their fault.
 abbrev pub JudgesCommand : List ℕ → (answer : ℕ) → (was refusal : TpmRefusal) → Type 0
 JudgesCommand bytes answer was refusal =
-    ((answer ≡ 0) × ((c : Command) × Spells command c bytes) × (refusal ≡ was)) ⊎ ((answer ≡ 1) × Fault command bytes (refusal_of refusal))
+    ((answer ≡ 0) × ((c : Command) × Spells command c bytes) × (refusal ≡ was))
+    ⊎ ((answer ≡ 1) × Fault command bytes (refusal_of refusal))

@@ -49,4 +49,6 @@ written room o h bytes nonce = if nat_le 4096 room then answer o h bytes nonce e
 
 -- The answer was written, which has 10 bytes at least; or nothing, where there is not room for any answer.
 abbrev pub IsAnswered : Origin → History → (bytes nonce : List ℕ) → (old new : List ℕ) → (count : ℕ) → Type 0
-IsAnswered o h bytes nonce old new count = IsIn (written (length old) o h bytes nonce) old new count × (4096 ≤ length old → 10 ≤ count)
+IsAnswered o h bytes nonce old new count =
+    IsIn (written (length old) o h bytes nonce) old new count
+    × (4096 ≤ length old → 10 ≤ count)

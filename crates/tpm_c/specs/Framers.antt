@@ -24,7 +24,8 @@ next_at held p = fex ((new : List ℕ) × Advances held new) (λ x. framer_at x.
 
 -- one that took so many bytes of a piece
 abbrev pub pushed_at : List ℕ → List ℕ → ℕ → ℕ → Ptr → Fml
-pushed_at held piece taken status p = fex ((new : List ℕ) × (s : Status) × Pushes held piece new taken s × (status ≡ status_number s)) (λ x. framer_at x.0 p)
+pushed_at held piece taken status p = fex ((new : List ℕ) × (s : Status) × Pushes held piece new taken s
+    × (status ≡ status_number s)) (λ x. framer_at x.0 p)
 
 -- A frame is held, and there is room for it.
 pub record HasRoom (held out : List ℕ) : Type 0 where
@@ -33,4 +34,6 @@ pub record HasRoom (held out : List ℕ) : Type 0 where
 
 -- The frame that is held was written to the beginning of the room, or nothing was.
 abbrev pub FrameIn : List ℕ → List ℕ → List ℕ → ℕ → Type 0
-FrameIn held old new count = (HasRoom held old × IsIn held old new count) ⊎ ((HasRoom held old → ⊥) × (new ≡ old) × (count ≡ 0))
+FrameIn held old new count =
+    (HasRoom held old × IsIn held old new count)
+    ⊎ ((HasRoom held old → ⊥) × (new ≡ old) × (count ≡ 0))

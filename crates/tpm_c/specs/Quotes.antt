@@ -12,7 +12,8 @@ use Rattle.tpm_c.specs.Logs.{IsFault}
 -- Its digest is that of the selected values, or another.
 abbrev pub IsWhetherQuoted : (Alg → ℕ → List ℕ) → Alg → QuoteInfo → ℕ → Type 0
 IsWhetherQuoted value hash quote code =
-    ((composite hash value quote.selections ≡ quote.digest) × (code ≡ 0)) ⊎ ((composite hash value quote.selections ≢ quote.digest) × (code ≡ 16))
+    ((composite hash value quote.selections ≡ quote.digest) × (code ≡ 0))
+    ⊎ ((composite hash value quote.selections ≢ quote.digest) × (code ≡ 16))
 
 -- the information of a quote that the bytes spell, and else the position of their fault
 abbrev pub IsCompared : (Alg → ℕ → List ℕ) → Alg → List ℕ → (at at-2 : ℕ) → (code : ℕ) → Type 0
@@ -28,4 +29,6 @@ IsCheckedOf (Err fault) hash quote at at-2 code = IsFault fault at-2 code
 -- The hash comes before both. This is what the log gives.
 abbrev pub IsChecked : (Result Registers LogFault → Type 0) → Option Alg → List ℕ → (at at-2 : ℕ) → (code : ℕ) → Type 0
 IsChecked Gives None quote at at-2 code = (at-2 ≡ at) × (code ≡ 18)
-IsChecked Gives (Some hash) quote at at-2 code = (found : Result Registers LogFault) × Gives found × IsCheckedOf found hash quote at at-2 code
+IsChecked Gives (Some hash) quote at at-2 code =
+    (found : Result Registers LogFault) × Gives found
+    × IsCheckedOf found hash quote at at-2 code

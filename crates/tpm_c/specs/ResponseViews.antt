@@ -12,11 +12,15 @@ use Rattle.tpm_c.specs.declared.response.TpmResponseSession.{TpmResponseSession}
 use Rattle.tpm_c.specs.declared.response.TpmResponseAreas.{TpmResponseAreas}
 use Rattle.tpm_c.specs.Parts.{part, bytes_in, OfThree, refusal_of}
 
--- A session that begins at this place: the number of the nonce's bytes, the nonce, the attributes, the number of the HMAC's bytes,
--- and the HMAC (Part 2, 10.13.3).
+-- A session that begins at this place: the number of the nonce's bytes, the nonce, the attributes,
+-- the number of the HMAC's bytes, and the HMAC (Part 2, 10.13.3).
 abbrev pub session_view : ℕ → Option AuthReply → TpmResponseSession
 session_view at None = record { attributes = 0; nonce = part 0 0; hmac = part 0 0 }
-session_view at (Some a) = record { attributes = a.attrs; nonce = part (at + 2) (length a.nonce); hmac = part (at + 5 + length a.nonce) (length a.hmac) }
+session_view at (Some a) = record {
+  attributes = a.attrs;
+  nonce = part (at + 2) (length a.nonce);
+  hmac = part (at + 5 + length a.nonce) (length a.hmac);
+}
 
 -- the place behind it
 abbrev pub behind : ℕ → Option AuthReply → ℕ
@@ -29,7 +33,8 @@ place c zero = place_of_params c + length c.params
 place c (suc i) = behind (place c i) (slice_get c.auths i)
 
 abbrev pub session_views : ReplyCut → List TpmResponseSession
-session_views c = session_view (place c 0) (slice_get c.auths 0) ∷ session_view (place c 1) (slice_get c.auths 1) ∷ session_view (place c 2) (slice_get c.auths 2) ∷ []
+session_views c = session_view (place c 0) (slice_get c.auths 0)
+    ∷ session_view (place c 1) (slice_get c.auths 1) ∷ session_view (place c 2) (slice_get c.auths 2) ∷ []
 
 abbrev pub count_of : Option ℕ → ℕ
 count_of None = 0
@@ -53,24 +58,40 @@ response_view c = record {
 -- The nonce and the HMAC of a session that begins at this place are the bytes of their parts.
 abbrev pub HoldsSession : List ℕ → ℕ → Option AuthReply → Type 0
 HoldsSession bytes at None = Unit {0}
-HoldsSession bytes at (Some a) = (bytes_in bytes (session_view at (Some a)).nonce ≡ a.nonce) × (bytes_in bytes (session_view at (Some a)).hmac ≡ a.hmac)
+HoldsSession bytes at (Some a) =
+    (bytes_in bytes (session_view at (Some a)).nonce ≡ a.nonce)
+    × (bytes_in bytes (session_view at (Some a)).hmac ≡ a.hmac)
 
 -- What the view says lies in the bytes is there.
 abbrev pub HoldsParts : List ℕ → ReplyCut → Type 0
-HoldsParts bytes c = OfThree (λ i. HoldsSession bytes (place c i) (slice_get c.auths i)) (bytes_in bytes (response_view c).parameters ≡ c.params)
+HoldsParts bytes c = OfThree (λ i. HoldsSession bytes (place c i) (slice_get c.auths i))
+    (bytes_in bytes (response_view c).parameters ≡ c.params)
 
--- For the command of this number the answer is 0 with the view of the response's cut, or 1 with its first fault beside the parameters;
--- it is 3 where no command has the number. What is not written so is as it was.
-abbrev pub ViewsResponse : ℕ → List ℕ → (answer : ℕ) → (old new : TpmResponseAreas) → (was refusal : TpmRefusal) → Type 0
+-- For the command of this number the answer is 0 with the view of the response's cut, or 1 with its
+-- first fault beside the parameters; it is 3 where no command has the number. What is not written
+-- so is as it was.
+abbrev pub ViewsResponse : ℕ
+    → List ℕ → (answer : ℕ) → (old new : TpmResponseAreas) → (was refusal : TpmRefusal) → Type 0
 ViewsResponse number bytes answer old new was refusal =
-    ((answer ≡ 0) × (code : CommandCode) × (code_of number ≡ Some code) × (c : ReplyCut) × Spells (reply_cut code) c bytes × (new ≡ response_view c) × HoldsParts bytes c × (refusal ≡ was))
-    ⊎ ((answer ≡ 1) × ((code : CommandCode) × (code_of number ≡ Some code) × Fault (reply_cut code) bytes (refusal_of refusal)) × (new ≡ old))
+    ((answer ≡ 0)
+    × (code : CommandCode) × (code_of number ≡ Some code)
+    × (c : ReplyCut) × Spells (reply_cut code) c bytes
+    × (new ≡ response_view c)
+    × HoldsParts bytes c
+    × (refusal ≡ was))
+    ⊎ ((answer ≡ 1)
+    × ((code : CommandCode) × (code_of number ≡ Some code) × Fault (reply_cut code) bytes (refusal_of refusal))
+    × (new ≡ old))
     ⊎ ((answer ≡ 3) × (code_of number ≡ None) × (new ≡ old) × (refusal ≡ was))
 
--- For the command of this number the answer is 0 where the bytes spell a response to it, or 1 with their fault; it is 3 where no
--- command has the number.
+-- For the command of this number the answer is 0 where the bytes spell a response to it, or 1 with
+-- their fault; it is 3 where no command has the number.
 abbrev pub JudgesResponse : ℕ → List ℕ → (answer : ℕ) → (was refusal : TpmRefusal) → Type 0
 JudgesResponse number bytes answer was refusal =
-    ((answer ≡ 0) × ((code : CommandCode) × (code_of number ≡ Some code) × (r : Response) × Spells (response code) r bytes) × (refusal ≡ was))
-    ⊎ ((answer ≡ 1) × (code : CommandCode) × (code_of number ≡ Some code) × Fault (response code) bytes (refusal_of refusal))
+    ((answer ≡ 0)
+    × ((code : CommandCode) × (code_of number ≡ Some code) × (r : Response) × Spells (response code) r bytes)
+    × (refusal ≡ was))
+    ⊎ ((answer ≡ 1)
+    × (code : CommandCode) × (code_of number ≡ Some code)
+    × Fault (response code) bytes (refusal_of refusal))
     ⊎ ((answer ≡ 3) × (code_of number ≡ None) × (refusal ≡ was))

@@ -12,7 +12,8 @@ ghost use Rattle.tpm_c.specs.Attests.{required_in, IsRequired, IsAttestChecked};
 use crate::log::kind_number;
 use crate::part::{DONE, TpmPart, TpmRefusal, refuse, whole};
 use crate::quote::{DIFFERS, NO_BANK, REFUSED};
-use tpm_log::{AttestFault, LogFault, check_attest, decode_attest, replay, selects_none};
+use tpm_log::{LogFault, replay};
+use tpm_quote::{AttestFault, check_attest, decode_attest, selects_none};
 use tpm_store::Registers;
 use tpm_types::{Alg, Attest, Selections};
 use tpm_wire::{Refusal, Wire};
@@ -32,8 +33,8 @@ pub struct TpmAttest {
     pub digest: TpmPart,
 }
 
-/// What is wrong: the response code of refused bytes, where the fault is, and the bank and the register that are not selected. What
-/// does not apply is 0.
+/// What is wrong: the response code of refused bytes, where the fault is, and the bank and the
+/// register that are not selected. What does not apply is 0.
 #[repr(C)]
 #[derive(Clone, Copy)]
 pub struct TpmAttestFault {
@@ -84,8 +85,9 @@ fn attest_view(attest: &Attest<'_>) -> TpmAttest
     }
 }
 
-/// Tells the parts of the quote that the bytes spell as it was signed (TPMS_ATTEST of type TPM_ST_ATTEST_QUOTE; Part 2, 10.12), and
-/// answers 0; or answers 1, and `refusal` is their first fault. What isn't written so stays as it was.
+/// Tells the parts of the quote that the bytes spell as it was signed (TPMS_ATTEST of type
+/// TPM_ST_ATTEST_QUOTE; Part 2, 10.12), and answers 0; or answers 1, and `refusal` is their first
+/// fault. What isn't written so stays as it was.
 #[unsafe(no_mangle)]
 pub extern "C" fn tpm_attest_decode(
     attest: &[u8],
@@ -166,7 +168,8 @@ fn compare(
     required: &Selections,
     fault: &mut TpmAttestFault,
 ) -> u32
-    ensures { IsAttestCompared (value_in found.now.banks) hash attest.now nonce.now required.now fault.old fault.new result }
+    ensures { IsAttestCompared (value_in found.now.banks)
+        hash attest.now nonce.now required.now fault.old fault.new result }
 {
     match decode_attest(attest) {
         Ok(attest) => tell(
@@ -198,7 +201,8 @@ fn check(
     required: &[u8],
     fault: &mut TpmAttestFault,
 ) -> u32
-    ensures { IsRequired (Replays AreAfter log.now) hash attest.now nonce.now (required_in required.now) fault.old fault.new result }
+    ensures { IsRequired (Replays AreAfter log.now) hash attest.now nonce.now
+        (required_in required.now) fault.old fault.new result }
 {
     match required_in(required) {
         Ok(required) => match replay(log) {
@@ -212,12 +216,15 @@ fn check(
     }
 }
 
-/// Replays a log as `tpm_log_replay`, and answers 0 where a quote as it was signed is the one that was asked for: extraData is the
-/// nonce, each required register is selected, and the digest is that of the values of the selected registers under this hash (Part 1,
-/// "Selecting Multiple PCR"). `required` is a TPML_PCR_SELECTION (Part 2, 10.9.7), or no bytes where nothing is required. The first
-/// of these is answered otherwise: 18 for a hash that has no bank; 22 where what is required is no selection; the number of the log's
-/// first fault; 17 where the bytes of the quote are none; 19 for another nonce; 20 where a required register is not selected; 16 for
-/// another digest; 21 where no register is selected. For 22, 17, 20 and the log's fault `fault` says where and what; else it stays.
+/// Replays a log as `tpm_log_replay`, and answers 0 where a quote as it was signed is the one that
+/// was asked for: extraData is the nonce, each required register is selected, and the digest is
+/// that of the values of the selected registers under this hash (Part 1, "Selecting Multiple PCR").
+/// `required` is a TPML_PCR_SELECTION (Part 2, 10.9.7), or no bytes where nothing is required. The
+/// first of these is answered otherwise: 18 for a hash that has no bank; 22 where what is required
+/// is no selection; the number of the log's first fault; 17 where the bytes of the quote are none;
+/// 19 for another nonce; 20 where a required register is not selected; 16 for another digest; 21
+/// where no register is selected. For 22, 17, 20 and the log's fault `fault` says where and what;
+/// else it stays.
 #[unsafe(no_mangle)]
 pub extern "C" fn tpm_log_check_attest(
     log: &[u8],
@@ -227,7 +234,8 @@ pub extern "C" fn tpm_log_check_attest(
     required: &[u8],
     fault: &mut TpmAttestFault,
 ) -> u32
-    ensures { IsAttestChecked (Replays AreAfter log.now) (alg_of hash) attest.now nonce.now (required_in required.now) fault.old fault.new result }
+    ensures { IsAttestChecked (Replays AreAfter log.now)
+        (alg_of hash) attest.now nonce.now (required_in required.now) fault.old fault.new result }
 {
     match Alg::from_number(hash) {
         Some(hash) => check(log, attest, hash, nonce, required, fault),

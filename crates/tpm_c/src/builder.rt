@@ -10,10 +10,11 @@ use tpm_buffer::{CommandCode, decode_command, join_command};
 use tpm_wire::Refusal;
 use tpm_wire::response_code::COMMAND_SIZE;
 
-/// Joins the command of this number, TPM_CC, from the bytes of its handles, its sessions as they are spelled in the authorization
-/// area, and its parameters. It answers 0 with the command at the beginning of `out` and the number of its bytes in `count`; 1 where
-/// they spell no command, and `refusal` is their fault; 2 where `out` has less room; or 3 where no command has the number. What
-/// isn't written so stays as it was.
+/// Joins the command of this number, TPM_CC, from the bytes of its handles, its sessions as they
+/// are spelled in the authorization area, and its parameters. It answers 0 with the command at the
+/// beginning of `out` and the number of its bytes in `count`; 1 where they spell no command, and
+/// `refusal` is their fault; 2 where `out` has less room; or 3 where no command has the number.
+/// What isn't written so stays as it was.
 #[unsafe(no_mangle)]
 pub extern "C" fn tpm_command_build(
     command: u32,

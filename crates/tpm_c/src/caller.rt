@@ -90,7 +90,8 @@ fn started(command: &[u8], reply: &[u8], bind_auth: &[u8]) -> Option<Caller>
 }
 
 fn start(held: &mut Held, command: &[u8], reply: &[u8], bind_auth: &[u8]) -> u32
-    ensures { (result ≡ start_code (started_by command.now reply.now bind_auth.now)) × (held.new ≡ after_start held.old (started_by command.now reply.now bind_auth.now)) }
+    ensures { (result ≡ start_code (started_by command.now reply.now bind_auth.now))
+        × (held.new ≡ after_start held.old (started_by command.now reply.now bind_auth.now)) }
 {
     match started(command, reply, bind_auth) {
         Some(caller) => {
@@ -101,10 +102,10 @@ fn start(held: &mut Held, command: &[u8], reply: &[u8], bind_auth: &[u8]) -> u32
     }
 }
 
-/// Holds the session that these bytes of TPM2_StartAuthSession and of its reply make, in the place of what was held, and answers 1.
-/// `bind_auth` is the authorization value of what it is bound to. It answers 0, and nothing changes, where the bytes are no such
-/// command or no reply to it of code 0, or where the two nonces differ in length, or have fewer than 16 bytes or more than a
-/// digest.
+/// Holds the session that these bytes of TPM2_StartAuthSession and of its reply make, in the place
+/// of what was held, and answers 1. `bind_auth` is the authorization value of what it is bound to.
+/// It answers 0, and nothing changes, where the bytes are no such command or no reply to it of code
+/// 0, or where the two nonces differ in length, or have fewer than 16 bytes or more than a digest.
 #[unsafe(no_mangle)]
 pub unsafe extern "C" fn tpm_caller_start(
     place: *mut u8,
@@ -114,7 +115,9 @@ pub unsafe extern "C" fn tpm_caller_start(
 ) -> u32
     ghost held: { HeldOf }
     requires* { sem 𝓛 (held_at held place) }
-    ensures* { sem 𝓛 (held_at (after_start held (started_by command.now reply.now bind_auth.now)) place) ∗ ⌜ result ≡ start_code (started_by command.now reply.now bind_auth.now) ⌝ }
+    ensures* { sem 𝓛
+        (held_at (after_start held (started_by command.now reply.now bind_auth.now)) place)
+        ∗ ⌜ result ≡ start_code (started_by command.now reply.now bind_auth.now) ⌝ }
 {
     start(&mut *(place as *mut Held), command, reply, bind_auth)
 }
@@ -191,7 +194,8 @@ fn sealed(
 ) -> Waiting
     requires authorized { needs_authorization (code_for body) ≡ true }
     requires fit { do_fit (names_of body first.now second.now) nonce.now ≡ true }
-    ensures sealed { result ≡ sent (seal_of caller body.entry first.now second.now auth.now nonce.now keep) }
+    ensures sealed { result
+        ≡ sent (seal_of caller body.entry first.now second.now auth.now nonce.now keep) }
     ensures short { length result.bytes ≤ 4096 }
 {
     let names = names(body.code().handles(), first, second);
@@ -208,7 +212,10 @@ fn seal(
     keep: u32,
     out: &mut [u8],
 ) -> usize
-    ensures { IsIn (sealed_bytes (sealing held.old command.now first.now second.now auth.now nonce.now keep (length out.old))) out.old out.new result × (held.new ≡ after_seal held.old (sealing held.old command.now first.now second.now auth.now nonce.now keep (length out.old))) }
+    ensures { IsIn (sealed_bytes (sealing held.old command.now
+        first.now second.now auth.now nonce.now keep (length out.old))) out.old out.new result
+        × (held.new ≡ after_seal held.old (sealing
+        held.old command.now first.now second.now auth.now nonce.now keep (length out.old))) }
 {
     if out.len() < BUFFER_BYTES {
         return 0;
@@ -233,12 +240,14 @@ fn seal(
     }
 }
 
-/// Seals a command with the session that is free, writes its bytes to the beginning of `out`, and says how many they are. The command
-/// is given in bytes, of which the sessions are left out, so it may have none; `first` and `second` are the Names of its handles, the
-/// second of which is not looked at where there is one handle; `auth` is what follows the session key in the key of the HMAC, and
-/// `nonce` is nonceCaller, a fresh random one. With a `keep` other than 0 the session goes on after the command. It answers 0, and
-/// nothing changes, where no session is free, where `out` has room for fewer than 4,096 bytes, where the bytes are no command whose
-/// first handle needs authorization, or where the Name of a handle or the nonce is too long.
+/// Seals a command with the session that is free, writes its bytes to the beginning of `out`, and
+/// says how many they are. The command is given in bytes, of which the sessions are left out, so it
+/// may have none; `first` and `second` are the Names of its handles, the second of which is not
+/// looked at where there is one handle; `auth` is what follows the session key in the key of the
+/// HMAC, and `nonce` is nonceCaller, a fresh random one. With a `keep` other than 0 the session
+/// goes on after the command. It answers 0, and nothing changes, where no session is free, where
+/// `out` has room for fewer than 4,096 bytes, where the bytes are no command whose first handle
+/// needs authorization, or where the Name of a handle or the nonce is too long.
 #[unsafe(no_mangle)]
 pub unsafe extern "C" fn tpm_caller_seal(
     place: *mut u8,
@@ -252,7 +261,10 @@ pub unsafe extern "C" fn tpm_caller_seal(
 ) -> usize
     ghost held: { HeldOf }
     requires* { sem 𝓛 (held_at held place) }
-    ensures* { sem 𝓛 (held_at (after_seal held (sealing held command.now first.now second.now auth.now nonce.now keep (length out.old))) place) ∗ ⌜ IsIn (sealed_bytes (sealing held command.now first.now second.now auth.now nonce.now keep (length out.old))) out.old out.new result ⌝ }
+    ensures* { sem 𝓛 (held_at (after_seal held (sealing
+        held command.now first.now second.now auth.now nonce.now keep (length out.old))) place)
+        ∗ ⌜ IsIn (sealed_bytes (sealing held command.now
+        first.now second.now auth.now nonce.now keep (length out.old))) out.old out.new result ⌝ }
 {
     seal(
         &mut *(place as *mut Held),
@@ -308,21 +320,24 @@ fn open(held: &mut Held, reply: &[u8]) -> u32
     }
 }
 
-/// Opens the reply to the sealed command, and answers 0: the session is free again, with its new nonceTPM, or it has ended where it
-/// was not kept. Otherwise nothing changes, and the answer is the first fault: 1 where the bytes are no response to the command, 2 for
-/// a response whose code is not 0, 3 where there is not exactly one session, or its nonceTPM has another length than the session's, 4
-/// where the HMAC is not that of the reply; and 5 where no command is sealed.
+/// Opens the reply to the sealed command, and answers 0: the session is free again, with its new
+/// nonceTPM, or it has ended where it was not kept. Otherwise nothing changes, and the answer is
+/// the first fault: 1 where the bytes are no response to the command, 2 for a response whose code
+/// is not 0, 3 where there is not exactly one session, or its nonceTPM has another length than the
+/// session's, 4 where the HMAC is not that of the reply; and 5 where no command is sealed.
 #[unsafe(no_mangle)]
 pub unsafe extern "C" fn tpm_caller_open(place: *mut u8, reply: &[u8]) -> u32
     ghost held: { HeldOf }
     requires* { sem 𝓛 (held_at held place) }
-    ensures* { sem 𝓛 (held_at (after_open held reply.now) place) ∗ ⌜ result ≡ open_code held reply.now ⌝ }
+    ensures* { sem 𝓛 (held_at (after_open held reply.now) place)
+        ∗ ⌜ result ≡ open_code held reply.now ⌝ }
 {
     open(&mut *(place as *mut Held), reply)
 }
 
 fn give_up(held: &mut Held, refusal: &[u8]) -> u32
-    ensures { (result ≡ give_up_code held.old refusal.now) × (held.new ≡ after_give_up held.old refusal.now) }
+    ensures { (result ≡ give_up_code held.old refusal.now)
+        × (held.new ≡ after_give_up held.old refusal.now) }
 {
     match std::mem::replace(held, Held::Spent) {
         Held::Sealed(waiting) => match waiting.give_up(refusal) {
@@ -342,13 +357,15 @@ fn give_up(held: &mut Held, refusal: &[u8]) -> u32
     }
 }
 
-/// Frees the session as it was before it sealed the command, where these bytes are a response whose code is not 0, and answers 1. It
-/// answers 0, and nothing changes, where they are none or where no command is sealed.
+/// Frees the session as it was before it sealed the command, where these bytes are a response whose
+/// code is not 0, and answers 1. It answers 0, and nothing changes, where they are none or where no
+/// command is sealed.
 #[unsafe(no_mangle)]
 pub unsafe extern "C" fn tpm_caller_give_up(place: *mut u8, refusal: &[u8]) -> u32
     ghost held: { HeldOf }
     requires* { sem 𝓛 (held_at held place) }
-    ensures* { sem 𝓛 (held_at (after_give_up held refusal.now) place) ∗ ⌜ result ≡ give_up_code held refusal.now ⌝ }
+    ensures* { sem 𝓛 (held_at (after_give_up held refusal.now) place)
+        ∗ ⌜ result ≡ give_up_code held refusal.now ⌝ }
 {
     give_up(&mut *(place as *mut Held), refusal)
 }

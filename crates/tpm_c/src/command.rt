@@ -31,8 +31,8 @@ pub struct TpmCommandAreas {
     pub parameters: TpmPart,
 }
 
-/// Cuts a command into its areas and answers 0; or answers 1, and `refusal` is their first fault: the parameters are not judged.
-/// What isn't written so stays as it was.
+/// Cuts a command into its areas and answers 0; or answers 1, and `refusal` is their first fault:
+/// the parameters are not judged. What isn't written so stays as it was.
 #[unsafe(no_mangle)]
 pub extern "C" fn tpm_command_cut(
     bytes: &[u8],

@@ -13,12 +13,14 @@ use tpm_device::Device;
 use tpm_types::{AuthValue, DIGEST_BYTES};
 use tpm_wire::Buffer;
 
-/// Makes a device in the room, which is not started, and answers 1. The owner has this authorization value, and no counter of the
-/// device has had a greater value than this. It answers 0, and nothing is written, where the value has more than 48 bytes.
+/// Makes a device in the room, which is not started, and answers 1. The owner has this
+/// authorization value, and no counter of the device has had a greater value than this. It answers
+/// 0, and nothing is written, where the value has more than 48 bytes.
 #[unsafe(no_mangle)]
 pub unsafe extern "C" fn tpm_device_init(place: *mut u8, owner: &[u8], greatest: u64) -> u32
     requires* { sem 𝓛 (room_for owner.now place) }
-    ensures* { sem 𝓛 (made_at (record { owner = owner.now; greatest = greatest }) place) ∗ ⌜ result ≡ whether_fits owner.now ⌝ }
+    ensures* { sem 𝓛 (made_at (record { owner = owner.now; greatest = greatest }) place)
+        ∗ ⌜ result ≡ whether_fits owner.now ⌝ }
 {
     if owner.len() > DIGEST_BYTES {
         return 0;
@@ -47,8 +49,9 @@ pub unsafe extern "C" fn tpm_device_power_cycle(place: *mut u8)
     (*(place as *mut Device)).power_cycle();
 }
 
-/// Answers the bytes of a command, whatever they are, with those of a response at the beginning of `out`, and says how many they are: 10
-/// at least. The nonce is 64 fresh random bytes. It answers 0, and nothing changes, where `out` has room for fewer than 4,096 bytes.
+/// Answers the bytes of a command, whatever they are, with those of a response at the beginning of
+/// `out`, and says how many they are: 10 at least. The nonce is 64 fresh random bytes. It answers
+/// 0, and nothing changes, where `out` has room for fewer than 4,096 bytes.
 #[unsafe(no_mangle)]
 pub unsafe extern "C" fn tpm_device_execute(
     place: *mut u8,
@@ -58,14 +61,16 @@ pub unsafe extern "C" fn tpm_device_execute(
 ) -> usize
     ghost at: { Origin × History }
     requires* { sem 𝓛 (device_at at.0 at.1 place) }
-    ensures* { sem 𝓛 (device_at at.0 (after (length out.old) at.0 at.1 command.now nonce.now) place) ∗ ⌜ IsAnswered at.0 at.1 command.now nonce.now out.old out.new result ⌝ }
+    ensures* { sem 𝓛 (device_at at.0 (after (length out.old) at.0 at.1 command.now nonce.now) place)
+        ∗ ⌜ IsAnswered at.0 at.1 command.now nonce.now out.old out.new result ⌝ }
 {
     execute(&mut *(place as *mut Device), command, nonce, out)
 }
 
 fn execute(device: &mut Device, command: &[u8], nonce: &[u8; 64], out: &mut [u8]) -> usize
     ensures { (o : Origin) (h : History) → Stands o h device.old →
-        Stands o (after (length out.old) o h command.now nonce.now) device.new × IsIn (written (length out.old) o h command.now nonce.now) out.old out.new result }
+        Stands o (after (length out.old) o h command.now nonce.now) device.new
+        × IsIn (written (length out.old) o h command.now nonce.now) out.old out.new result }
 {
     if out.len() < BUFFER_BYTES {
         return 0;

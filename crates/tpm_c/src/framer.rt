@@ -20,8 +20,9 @@ pub unsafe extern "C" fn tpm_framer_init(place: *mut u8)
     std::ptr::write(place as *mut Framer, Framer::new());
 }
 
-/// Takes bytes of the piece up to the end of the present frame, and says how many. The status is then 0 for less than a frame,
-/// 1 for a frame, and 2 for a size that is refused, after which nothing more is taken.
+/// Takes bytes of the piece up to the end of the present frame, and says how many. The status is
+/// then 0 for less than a frame, 1 for a frame, and 2 for a size that is refused, after which
+/// nothing more is taken.
 #[unsafe(no_mangle)]
 pub unsafe extern "C" fn tpm_framer_push(place: *mut u8, piece: &[u8], status: &mut u32) -> usize
     ghost held: { List ℕ }
@@ -32,7 +33,8 @@ pub unsafe extern "C" fn tpm_framer_push(place: *mut u8, piece: &[u8], status: &
 }
 
 fn push(framer: &mut Framer, piece: &[u8], status: &mut u32) -> usize
-    ensures { (s : StatusOf) × Pushes framer.old piece.now framer.new result s × (status.new ≡ status_number s) }
+    ensures { (s : StatusOf) × Pushes framer.old piece.now framer.new result s
+        × (status.new ≡ status_number s) }
 {
     let (taken, held) = framer.push(piece);
     *status = number(held);
@@ -49,8 +51,8 @@ fn number(status: Status) -> u32
     }
 }
 
-/// Writes the frame that is held to the beginning of `out`, and answers how many bytes it has; or writes nothing and answers 0, where
-/// none is held or `out` has less room.
+/// Writes the frame that is held to the beginning of `out`, and answers how many bytes it has; or
+/// writes nothing and answers 0, where none is held or `out` has less room.
 #[unsafe(no_mangle)]
 pub unsafe extern "C" fn tpm_framer_frame(place: *mut u8, out: &mut [u8]) -> usize
     ghost held: { List ℕ }

@@ -3,7 +3,7 @@
 ghost use Rattle.std.specs.Prelude.{◌≡◌, ◌<◌, ◌≤◌, length, take};
 ghost use Rattle.tpm_wire.specs.Token.{at_start};
 ghost use Rattle.tpm_wire.specs.Reading.{read as read_layout, read_all};
-ghost use Rattle.tpm_log.specs.Quotes.{left_over};
+ghost use Rattle.tpm_quote.specs.Quotes.{left_over};
 ghost use Rattle.tpm_c.specs.Parts.{refusal_of, whole_in};
 
 use crate::out::BUFFER_BYTES;

@@ -20,8 +20,8 @@ const NO_HASH: u32 = 4;
 /// The bytes are not as many as the digests of the hash have.
 const NO_DIGEST: u32 = 5;
 
-/// The digest of a policy: the number of its hash, TPM_ALG_ID, and 48 bytes, of which as many as the digests of that hash have are
-/// the digest.
+/// The digest of a policy: the number of its hash, TPM_ALG_ID, and 48 bytes, of which as many as
+/// the digests of that hash have are the digest.
 #[repr(C)]
 #[derive(Clone, Copy)]
 pub struct TpmPolicy {
@@ -48,7 +48,8 @@ fn set(policy: &mut TpmPolicy, digest: &Digest)
 }
 
 fn assert(policy: &mut TpmPolicy, assertion: &Assertion<'_>) -> u32
-    ensures { IsAsserted (alg_of policy.old.hash) (as_assertion assertion.now) policy.old policy.new result }
+    ensures { IsAsserted
+        (alg_of policy.old.hash) (as_assertion assertion.now) policy.old policy.new result }
 {
     let Some(alg) = Alg::from_number(policy.hash) else {
         return NO_HASH;
@@ -71,8 +72,8 @@ fn empty(policy: &mut TpmPolicy, hash: u16) -> u32
     DONE
 }
 
-/// Makes the policy one that asserts nothing, in the hash of this number, and answers 0; or 4, and nothing changes, where there is no
-/// such hash.
+/// Makes the policy one that asserts nothing, in the hash of this number, and answers 0; or 4, and
+/// nothing changes, where there is no such hash.
 #[unsafe(no_mangle)]
 pub extern "C" fn tpm_policy_start(policy: &mut TpmPolicy, hash: u16) -> u32
     ensures { IsEmpty (alg_of hash) hash policy.old policy.new result }
@@ -80,8 +81,8 @@ pub extern "C" fn tpm_policy_start(policy: &mut TpmPolicy, hash: u16) -> u32
     empty(policy, hash)
 }
 
-/// TPM2_PolicyRestart: the policy asserts nothing any more (Part 3, 11.2). It answers 0; or 4, and nothing changes, where the policy
-/// has no hash.
+/// TPM2_PolicyRestart: the policy asserts nothing any more (Part 3, 11.2). It answers 0; or 4, and
+/// nothing changes, where the policy has no hash.
 #[unsafe(no_mangle)]
 pub extern "C" fn tpm_policy_restart(policy: &mut TpmPolicy) -> u32
     ensures { IsEmpty (alg_of policy.old.hash) policy.old.hash policy.old policy.new result }
@@ -89,8 +90,8 @@ pub extern "C" fn tpm_policy_restart(policy: &mut TpmPolicy) -> u32
     empty(policy, policy.hash)
 }
 
-/// TPM2_PolicyCommandCode: the command has this code, TPM_CC (Part 3, 23.11). It answers 0; or 4, and nothing changes, where the
-/// policy has no hash.
+/// TPM2_PolicyCommandCode: the command has this code, TPM_CC (Part 3, 23.11). It answers 0; or 4,
+/// and nothing changes, where the policy has no hash.
 #[unsafe(no_mangle)]
 pub extern "C" fn tpm_policy_command_code(policy: &mut TpmPolicy, code: u32) -> u32
     ensures { IsAsserted (alg_of policy.old.hash) (CodeAsserted code) policy.old policy.new result }
@@ -98,8 +99,8 @@ pub extern "C" fn tpm_policy_command_code(policy: &mut TpmPolicy, code: u32) -> 
     assert(policy, &Assertion::Code(code))
 }
 
-/// TPM2_PolicyAuthValue: the authorization value of the entity is known (Part 3, 23.17). It answers 0; or 4, and nothing changes,
-/// where the policy has no hash.
+/// TPM2_PolicyAuthValue: the authorization value of the entity is known (Part 3, 23.17). It answers
+/// 0; or 4, and nothing changes, where the policy has no hash.
 #[unsafe(no_mangle)]
 pub extern "C" fn tpm_policy_auth_value(policy: &mut TpmPolicy) -> u32
     ensures { IsAsserted (alg_of policy.old.hash) AuthValueAsserted policy.old policy.new result }
@@ -107,16 +108,17 @@ pub extern "C" fn tpm_policy_auth_value(policy: &mut TpmPolicy) -> u32
     assert(policy, &Assertion::AuthValue)
 }
 
-/// TPM2_PolicyOR: the policy is one of 2 to 8 with these digests, as TPML_DIGEST spells them (Part 3, 23.6; Part 2, 10.9.5). It
-/// answers 0; 1, with the fault of the bytes in `refusal`, where they spell no such list; or 4 where the policy has no hash. What
-/// isn't written so stays as it was.
+/// TPM2_PolicyOR: the policy is one of 2 to 8 with these digests, as TPML_DIGEST spells them (Part
+/// 3, 23.6; Part 2, 10.9.5). It answers 0; 1, with the fault of the bytes in `refusal`, where they
+/// spell no such list; or 4 where the policy has no hash. What isn't written so stays as it was.
 #[unsafe(no_mangle)]
 pub extern "C" fn tpm_policy_or(
     policy: &mut TpmPolicy,
     digests: &[u8],
     refusal: &mut TpmRefusal,
 ) -> u32
-    ensures { IsSpelled (read_all or_digests digests.now) OrAsserted policy.old policy.new refusal.old refusal.new result }
+    ensures { IsSpelled (read_all or_digests digests.now)
+        OrAsserted policy.old policy.new refusal.old refusal.new result }
 {
     match or_digests_in(digests) {
         Ok(digests) => assert(policy, &Assertion::Or(&digests)),
@@ -130,7 +132,8 @@ fn pcr(
     pcr_digest: &Digest,
     refusal: &mut TpmRefusal,
 ) -> u32
-    ensures { IsSpelled (read_all selections_layout selections.now) (of_registers pcr_digest.now) policy.old policy.new refusal.old refusal.new result }
+    ensures { IsSpelled (read_all selections_layout selections.now)
+        (of_registers pcr_digest.now) policy.old policy.new refusal.old refusal.new result }
 {
     match selections_in(selections) {
         Ok(selections) => {
@@ -145,9 +148,10 @@ fn pcr(
     }
 }
 
-/// TPM2_PolicyPCR: the registers of this TPML_PCR_SELECTION have values with this digest, in the hash of the policy (Part 3, 23.7;
-/// Part 1, "Selecting Multiple PCR"). It answers 0, or the first of these: 4 where the policy has no hash; 5 where the digest has
-/// another length than those of the hash; 1, with the fault of the bytes in `refusal`, where they spell no selection. What isn't
+/// TPM2_PolicyPCR: the registers of this TPML_PCR_SELECTION have values with this digest, in the
+/// hash of the policy (Part 3, 23.7; Part 1, "Selecting Multiple PCR"). It answers 0, or the first
+/// of these: 4 where the policy has no hash; 5 where the digest has another length than those of
+/// the hash; 1, with the fault of the bytes in `refusal`, where they spell no selection. What isn't
 /// written so stays as it was.
 #[unsafe(no_mangle)]
 pub extern "C" fn tpm_policy_pcr(
@@ -156,7 +160,8 @@ pub extern "C" fn tpm_policy_pcr(
     pcr_digest: &[u8],
     refusal: &mut TpmRefusal,
 ) -> u32
-    ensures { IsPcrAsserted (alg_of policy.old.hash) pcr_digest.now (read_all selections_layout selections.now) policy.old policy.new refusal.old refusal.new result }
+    ensures { IsPcrAsserted (alg_of policy.old.hash) pcr_digest.now (read_all
+        selections_layout selections.now) policy.old policy.new refusal.old refusal.new result }
 {
     let Some(alg) = Alg::from_number(policy.hash) else {
         return NO_HASH;

@@ -16,7 +16,8 @@ pub struct TpmResponseSession {
     pub hmac: TpmPart,
 }
 
-/// A response by its areas. There is a handle where one is counted, and as many sessions as are counted; the others are 0.
+/// A response by its areas. There is a handle where one is counted, and as many sessions as are
+/// counted; the others are 0.
 #[repr(C)]
 #[derive(Clone, Copy)]
 pub struct TpmResponseAreas {
@@ -28,8 +29,9 @@ pub struct TpmResponseAreas {
     pub sessions: [TpmResponseSession; 3],
 }
 
-/// Cuts a response to the command of this number, TPM_CC, into its areas and answers 0; or answers 1, and `refusal` is their first
-/// fault: the parameters are not judged. It answers 3 where no command has the number. What isn't written so stays as it was.
+/// Cuts a response to the command of this number, TPM_CC, into its areas and answers 0; or answers
+/// 1, and `refusal` is their first fault: the parameters are not judged. It answers 3 where no
+/// command has the number. What isn't written so stays as it was.
 #[unsafe(no_mangle)]
 pub extern "C" fn tpm_response_cut(
     command: u32,
@@ -51,8 +53,8 @@ pub extern "C" fn tpm_response_cut(
     }
 }
 
-/// Answers 0 where the bytes spell a response to the command of this number, all of them; or 1, and `refusal` is their fault; or 3
-/// where no command has the number.
+/// Answers 0 where the bytes spell a response to the command of this number, all of them; or 1, and
+/// `refusal` is their fault; or 3 where no command has the number.
 #[unsafe(no_mangle)]
 pub extern "C" fn tpm_response_decode(command: u32, bytes: &[u8], refusal: &mut TpmRefusal) -> u32
     ensures { JudgesResponse command bytes.now result refusal.old refusal.new }

@@ -47,7 +47,11 @@ total body nonce k = 10 + (length (handle_bytes body) + (4 + session_len nonce k
 -- what is before the HMAC, of so many bytes
 abbrev before : CommandBody → (session : ℕ) → (nonce : List ℕ) → (attrs k : ℕ) → List ℕ
 before body session nonce attrs k = spelling header (header_for body (total body nonce k))
-    ++ (handle_bytes body ++ (bytes_high_first 4 (session_len nonce k) ++ (bytes_high_first 4 session ++ ((bytes_high_first 2 (length nonce) ++ nonce) ++ (bytes_high_first 1 attrs ++ bytes_high_first 2 k)))))
+    ++ (handle_bytes body
+    ++ (bytes_high_first 4 (session_len nonce k)
+    ++ (bytes_high_first 4 session
+    ++ ((bytes_high_first 2 (length nonce) ++ nonce)
+    ++ (bytes_high_first 1 attrs ++ bytes_high_first 2 k)))))
 
 one_session : Auth → List ℕ
 one_session a = spelling auth_command a ++ []
@@ -56,7 +60,9 @@ length-session : (a : Auth) → length (one_session a) ≡ session_len a.nonce (
 unfolding one_session auth_command auth_session session_attrs sized_bytes
 length-session a = simp length-append (omega arith)
 
-rest_length : (hs auth params : List ℕ) (size : ℕ) → length (hs ++ ((bytes_high_first 4 size ++ auth) ++ (params ++ []))) ≡ length hs + (4 + length auth + length params)
+rest_length : (hs auth params : List ℕ) (size : ℕ)
+    → length (hs ++ ((bytes_high_first 4 size ++ auth) ++ (params ++ [])))
+    ≡ length hs + (4 + length auth + length params)
 rest_length hs auth params size = simp length-append (omega arith)
 
 size_is : (body : CommandBody) (a : Auth) → size_of (with_auths body (a ∷ [])) ≡ total body a.nonce (length a.hmac)
@@ -65,17 +71,27 @@ size_is body a =
     ap (λ (n : ℕ). 10 + n) (rest_length (handle_bytes body) (one_session a) (command_params body) (length (one_session a)))
     ∙ ap (λ (n : ℕ). 10 + (length (handle_bytes body) + (4 + n + length (command_params body)))) (length-session a)
 
-joined : (head hs size session nonce attrs k mac params : List ℕ) → head ++ (hs ++ ((size ++ ((session ++ (nonce ++ (attrs ++ ((k ++ mac) ++ [])))) ++ [])) ++ (params ++ [])))
+joined : (head hs size session nonce attrs k mac params : List ℕ)
+    → head ++ (hs ++ ((size ++ ((session ++ (nonce ++ (attrs ++ ((k ++ mac) ++ [])))) ++ [])) ++ (params ++ [])))
     ≡ (head ++ (hs ++ (size ++ (session ++ (nonce ++ (attrs ++ k)))))) ++ (mac ++ params)
 joined head hs size session nonce attrs k mac params = simp (append-nil, append_assoc)
 
-pub parts : (body : CommandBody) (a : Auth) → spelling command (with_auths body (a ∷ [])) ≡ before body a.session a.nonce a.attrs (length a.hmac) ++ (a.hmac ++ command_params body)
+pub parts : (body : CommandBody) (a : Auth)
+    → spelling command (with_auths body (a ∷ []))
+    ≡ before body a.session a.nonce a.attrs (length a.hmac) ++ (a.hmac ++ command_params body)
 unfolding command authorization authorization_size sessions one_session auth_command auth_session session_attrs sized_bytes
 parts body a =
     let rest = handle_bytes body ++ ((bytes_high_first 4 (length (one_session a)) ++ one_session a) ++ (command_params body ++ [])) in
     ap (λ (n : ℕ). spelling header (header_for body n) ++ rest) (size_is body a)
-    ∙ ap (λ (n : ℕ). spelling header (header_for body (total body a.nonce (length a.hmac))) ++ (handle_bytes body ++ ((bytes_high_first 4 n ++ one_session a) ++ (command_params body ++ [])))) (length-session a)
-    ∙ joined (spelling header (header_for body (total body a.nonce (length a.hmac)))) (handle_bytes body) (bytes_high_first 4 (session_len a.nonce (length a.hmac))) (bytes_high_first 4 a.session) (bytes_high_first 2 (length a.nonce) ++ a.nonce) (bytes_high_first 1 a.attrs) (bytes_high_first 2 (length a.hmac)) a.hmac (command_params body)
+    ∙ ap
+    (λ (n : ℕ).
+    spelling header (header_for body (total body a.nonce (length a.hmac)))
+    ++ (handle_bytes body ++ ((bytes_high_first 4 n ++ one_session a) ++ (command_params body ++ []))))
+    (length-session a)
+    ∙ joined (spelling header (header_for body (total body a.nonce (length a.hmac)))) (handle_bytes body)
+    (bytes_high_first 4 (session_len a.nonce (length a.hmac))) (bytes_high_first 4 a.session)
+    (bytes_high_first 2 (length a.nonce) ++ a.nonce) (bytes_high_first 1 a.attrs)
+    (bytes_high_first 2 (length a.hmac)) a.hmac (command_params body)
 
 -- ---- lengths
 
@@ -87,8 +103,10 @@ header_long : (h : Header) → length (spelling header h) ≡ 10
 unfolding header tag command_size command_code
 header_long h = refl
 
-pub before_long : (body : CommandBody) (names : List (List ℕ)) (session : ℕ) (nonce : List ℕ) (attrs k : ℕ) → length names ≡ length (handles_of body) → length (before body session nonce attrs k) ≡ hmac_at names nonce
-before_long body names session nonce attrs k same = simp length-append (omega (arith, same, handles_long body, header_long (header_for body (total body nonce k))))
+pub before_long : (body : CommandBody) (names : List (List ℕ)) (session : ℕ) (nonce : List ℕ) (attrs k : ℕ)
+    → length names ≡ length (handles_of body) → length (before body session nonce attrs k) ≡ hmac_at names nonce
+before_long body names session nonce attrs k same =
+    simp length-append (omega (arith, same, handles_long body, header_long (header_for body (total body nonce k))))
 
 -- ---- another HMAC in its place
 
@@ -103,9 +121,13 @@ record Places (body : CommandBody) (names : List (List ℕ)) (a : Auth) (bytes :
   signed : (mac : List ℕ) → length mac ≡ length a.hmac → with_hmac (hmac_at names a.nonce) mac bytes ≡ spelling command (with_auths body (re_signed a mac ∷ []))
 
 drop_two : (front middle back : List ℕ) (m n : ℕ) → length front ≡ m → length middle ≡ n → drop (m + n) (front ++ (middle ++ back)) ≡ back
-drop_two front middle back m n e f = ap (drop (m + n)) (sym (append_assoc front middle back)) ∙ drop_at (front ++ middle) back (m + n) (length-append front middle ∙ rw (e, f) refl)
+drop_two front middle back m n e f =
+    ap (drop (m + n)) (sym (append_assoc front middle back))
+    ∙ drop_at (front ++ middle) back (m + n) (length-append front middle ∙ rw (e, f) refl)
 
-places : (body : CommandBody) (names : List (List ℕ)) (a : Auth) (bytes : List ℕ) → length names ≡ length (handles_of body) → bytes ≡ spelling command (with_auths body (a ∷ [])) → Places body names a bytes
+places : (body : CommandBody) (names : List (List ℕ)) (a : Auth) (bytes : List ℕ)
+    → length names ≡ length (handles_of body) → bytes ≡ spelling command (with_auths body (a ∷ []))
+    → Places body names a bytes
 places body names a bytes same e =
     let at = hmac_at names a.nonce in
     let front = before body a.session a.nonce a.attrs (length a.hmac) in
@@ -127,7 +149,8 @@ places body names a bytes same e =
 
 -- ---- the sealed command
 
-same_auth : (a : Auth) (session : ℕ) (nonce : List ℕ) (attrs : ℕ) → a.session ≡ session → a.nonce ≡ nonce → a.attrs ≡ attrs → a ≡ record { session = session; nonce = nonce; attrs = attrs; hmac = a.hmac }
+same_auth : (a : Auth) (session : ℕ) (nonce : List ℕ) (attrs : ℕ) → a.session ≡ session → a.nonce ≡ nonce
+    → a.attrs ≡ attrs → a ≡ record { session = session; nonce = nonce; attrs = attrs; hmac = a.hmac }
 same_auth a session nonce attrs e f g =
     let with : ℕ → List ℕ → ℕ → Auth = λ x y z. record { session = x; nonce = y; attrs = z; hmac = a.hmac } in
     ap (λ (x : ℕ). with x a.nonce a.attrs) e ∙ ap (λ (y : List ℕ). with session y a.attrs) f ∙ ap (λ (z : ℕ). with session nonce z) g
@@ -139,7 +162,8 @@ pub record IsUnsigned (s : Seal) (a : Auth) (bytes : List ℕ) : Type 0 where
   pub hmac : length a.hmac ≡ digest_len s.caller.hash
   pub spelled : bytes ≡ spelling command (with_auths s.body (a ∷ []))
 
-pub unsigned : (s : Seal) (a : Auth) (bytes : List ℕ) (attrs : ℕ) → length s.names ≡ length (handles_of s.body) → a.session ≡ s.caller.handle → a.nonce ≡ s.nonce → a.attrs ≡ attrs → attrs ≡ attrs_for s.keep
+pub unsigned : (s : Seal) (a : Auth) (bytes : List ℕ) (attrs : ℕ) → length s.names ≡ length (handles_of s.body)
+    → a.session ≡ s.caller.handle → a.nonce ≡ s.nonce → a.attrs ≡ attrs → attrs ≡ attrs_for s.keep
     → length a.hmac ≡ digest_len s.caller.hash → bytes ≡ spelling command (with_auths s.body (a ∷ [])) → IsUnsigned s a bytes
 unsigned s a bytes attrs names session nonce its kept long is = record {
   names = names;
@@ -163,22 +187,34 @@ behind s a bytes u =
     ∙ ap (λ (k : ℕ). drop (hmac_at s.names a.nonce + k) bytes) (sym u.hmac)
     ∙ (places s.body s.names a bytes u.names u.spelled).params
 
-one_mac : (s : Seal) (key params : List ℕ) (code : CommandCode) (attrs : ℕ) → code ≡ code_for s.body → attrs ≡ attrs_for s.keep → key ≡ hmac_key s.caller.hash (seal_key s) → params ≡ command_params s.body
-    → hmac s.caller.hash (whole_key key []) (mac_text (cp_hash s.caller.hash (code_number code) s.names params) s.nonce s.caller.nonce attrs) ≡ hmac s.caller.hash (seal_key s) (seal_text s)
+one_mac : (s : Seal) (key params : List ℕ) (code : CommandCode) (attrs : ℕ) → code ≡ code_for s.body
+    → attrs ≡ attrs_for s.keep → key ≡ hmac_key s.caller.hash (seal_key s) → params ≡ command_params s.body
+    → hmac s.caller.hash (whole_key key [])
+    (mac_text (cp_hash s.caller.hash (code_number code) s.names params) s.nonce s.caller.nonce attrs)
+    ≡ hmac s.caller.hash (seal_key s) (seal_text s)
 one_mac s key params code attrs c k y p =
     let text = mac_text (cp_hash s.caller.hash (code_number code) s.names params) s.nonce s.caller.nonce attrs in
     ap (λ (l : List ℕ). hmac s.caller.hash l text) (append-nil key ∙ y) ∙ one_hmac s.caller.hash (seal_key s) text ∙ rw (c, k, p) refl
 
 -- With its HMAC it is the sealed command.
-pub signed : (s : Seal) (a : Auth) (bytes new key : List ℕ) (code : CommandCode) (attrs : ℕ) → IsUnsigned s a bytes → code ≡ code_for s.body → attrs ≡ attrs_for s.keep → key ≡ hmac_key s.caller.hash (seal_key s)
-    → new ≡ with_hmac (hmac_at s.names s.nonce) (hmac s.caller.hash (whole_key key []) (mac_text (cp_hash s.caller.hash (code_number code) s.names (drop (hmac_at s.names s.nonce + digest_len s.caller.hash) bytes)) s.nonce s.caller.nonce attrs)) bytes
+pub signed : (s : Seal) (a : Auth) (bytes new key : List ℕ) (code : CommandCode) (attrs : ℕ) → IsUnsigned s a bytes
+    → code ≡ code_for s.body → attrs ≡ attrs_for s.keep → key ≡ hmac_key s.caller.hash (seal_key s)
+    → new
+    ≡ with_hmac (hmac_at s.names s.nonce)
+    (hmac s.caller.hash (whole_key key [])
+    (mac_text
+    (cp_hash s.caller.hash (code_number code) s.names
+    (drop (hmac_at s.names s.nonce + digest_len s.caller.hash) bytes)) s.nonce s.caller.nonce attrs))
+    bytes
     → new ≡ sealed s
 signed s a bytes new key code attrs u c k y is =
     let mac = hmac s.caller.hash (seal_key s) (seal_text s) in
     let nonce : a.nonce ≡ s.nonce = ap (λ (x : Auth). x.nonce) u.auth in
     let p = places s.body s.names a bytes u.names u.spelled in
     is
-    ∙ ap (λ (m : List ℕ). with_hmac (hmac_at s.names s.nonce) m bytes) (one_mac s key (drop (hmac_at s.names s.nonce + digest_len s.caller.hash) bytes) code attrs c k y (behind s a bytes u))
+    ∙ ap (λ (m : List ℕ). with_hmac (hmac_at s.names s.nonce) m bytes)
+    (one_mac s key (drop (hmac_at s.names s.nonce + digest_len s.caller.hash) bytes) code attrs c k y
+    (behind s a bytes u))
     ∙ ap (λ (n : List ℕ). with_hmac (hmac_at s.names n) mac bytes) (sym nonce)
     ∙ p.signed mac (length-hmac s.caller.hash (seal_key s) (seal_text s) ∙ sym u.hmac)
     ∙ ap (λ (x : Auth). spelling command (with_auths s.body (re_signed x mac ∷ []))) u.auth
@@ -194,10 +230,26 @@ session_long a = ap length (sym (append-nil (spelling auth_command a))) ∙ leng
 
 session_fits : (left k : ℕ) (a : Auth) (mac : List ℕ) → length mac ≡ length a.hmac → Fits left auth_command a → Fits k auth_command (re_signed a mac)
 unfolding auth_command auth_session session_attrs sized_bytes
-session_fits left k a mac same f =
-    (f.0, (f.1.0, (f.1.1.0, ((subst (λ (n : ℕ). (n < 256 ^ 2) × ((if nat_le n digest_bytes then Some n else None) ≡ Some n)) (sym same) f.1.1.1.0.0, (refl, refl)), refl))))
+session_fits left k a mac same f = (
+  f.0,
+  (
+    f.1.0,
+    (
+      f.1.1.0,
+      (
+        (
+          subst (λ (n : ℕ). (n < 256 ^ 2) × ((if nat_le n digest_bytes then Some n else None) ≡ Some n))
+              (sym same) f.1.1.1.0.0,
+          (refl, refl),
+        ),
+        refl,
+      ),
+    ),
+  ),
+)
 
-area_fits : (left : ℕ) (a : Auth) (mac : List ℕ) → length mac ≡ length a.hmac → Fits left (authorization 0x8002) (a ∷ []) → Fits left (authorization 0x8002) (re_signed a mac ∷ [])
+area_fits : (left : ℕ) (a : Auth) (mac : List ℕ) → length mac ≡ length a.hmac
+    → Fits left (authorization 0x8002) (a ∷ []) → Fits left (authorization 0x8002) (re_signed a mac ∷ [])
 unfolding authorization authorization_size sessions one_session
 area_fits left a mac same f =
     let b = re_signed a mac in
@@ -207,15 +259,23 @@ area_fits left a mac same f =
       subst (λ (n : ℕ). Fits left authorization_size n) (sym e) f.0,
       (
         refl,
-        (subst (λ (n : ℕ). 0 < n) (sym one) f.1.1.0, session_fits (length (one_session a)) (length (one_session b)) a mac same f.1.1.1, subst (λ (n : ℕ). (◌≡◌ {A = ℕ} 2 0) ⊎ ((true ≡ true) × (n ≡ 0))) end f.1.1.2),
+        (
+          subst (λ (n : ℕ). 0 < n) (sym one) f.1.1.0,
+          session_fits (length (one_session a)) (length (one_session b)) a mac same f.1.1.1,
+          subst (λ (n : ℕ). (◌≡◌ {A = ℕ} 2 0) ⊎ ((true ≡ true) × (n ≡ 0))) end f.1.1.2,
+        ),
       ),
     )
 
-area_length : (a : Auth) (mac : List ℕ) → length mac ≡ length a.hmac → length (spelling (authorization 0x8002) (re_signed a mac ∷ [])) ≡ length (spelling (authorization 0x8002) (a ∷ []))
+area_length : (a : Auth) (mac : List ℕ) → length mac ≡ length a.hmac
+    → length (spelling (authorization 0x8002) (re_signed a mac ∷ []))
+    ≡ length (spelling (authorization 0x8002) (a ∷ []))
 unfolding authorization authorization_size sessions one_session
 area_length a mac same = omega (arith, one_length a mac same)
 
-rest_fits : (body : CommandBody) (left : ℕ) (a : Auth) (mac : List ℕ) → length mac ≡ length a.hmac → Fits left (rest_of (code_for body) 0x8002) (with_auths body (a ∷ [])) → Fits left (rest_of (code_for body) 0x8002) (with_auths body (re_signed a mac ∷ []))
+rest_fits : (body : CommandBody) (left : ℕ) (a : Auth) (mac : List ℕ) → length mac ≡ length a.hmac
+    → Fits left (rest_of (code_for body) 0x8002) (with_auths body (a ∷ []))
+    → Fits left (rest_of (code_for body) 0x8002) (with_auths body (re_signed a mac ∷ []))
 rest_fits body left a mac same f = (
   f.0,
   (
@@ -227,12 +287,19 @@ rest_fits body left a mac same f = (
   ),
 )
 
-command_fits : (body : CommandBody) (n : ℕ) (a : Auth) (mac : List ℕ) → length mac ≡ length a.hmac → Fits n command (with_auths body (a ∷ [])) → Fits n command (with_auths body (re_signed a mac ∷ []))
+command_fits : (body : CommandBody) (n : ℕ) (a : Auth) (mac : List ℕ) → length mac ≡ length a.hmac
+    → Fits n command (with_auths body (a ∷ [])) → Fits n command (with_auths body (re_signed a mac ∷ []))
 unfolding command
 command_fits body n a mac same f =
-    let head : header_of (with_auths body (a ∷ [])) ≡ header_of (with_auths body (re_signed a mac ∷ [])) = ap (header_for body) (size_is body a ∙ ap (total body a.nonce) (sym same) ∙ sym (size_is body (re_signed a mac))) in (
+    let head : header_of (with_auths body (a ∷ [])) ≡ header_of (with_auths body (re_signed a mac ∷ [])) =
+    ap (header_for body)
+    (size_is body a ∙ ap (total body a.nonce) (sym same) ∙ sym (size_is body (re_signed a mac))) in (
       subst (λ (h : Header). Fits n header h) head f.0,
-      subst (λ (h : Header). Fits (n - length (spelling header h)) (rest_of (code_for body) 0x8002) (with_auths body (re_signed a mac ∷ []))) head (rest_fits body (n - length (spelling header (header_of (with_auths body (a ∷ []))))) a mac same f.1),
+      subst
+          (λ (h : Header).
+          Fits (n - length (spelling header h)) (rest_of (code_for body) 0x8002)
+          (with_auths body (re_signed a mac ∷ []))) head
+          (rest_fits body (n - length (spelling header (header_of (with_auths body (a ∷ []))))) a mac same f.1),
     )
 
 -- The sealed command has a spelling, as it has without its HMAC.
@@ -242,9 +309,15 @@ has_spelling s a bytes u f =
     let long : length mac ≡ length a.hmac = length-hmac s.caller.hash (seal_key s) (seal_text s) ∙ sym u.hmac in
     let made : re_signed a mac ≡ seal_auth s = ap (λ (x : Auth). re_signed x mac) u.auth in
     let sizes : length bytes ≡ length (sealed s) =
-    ap length (u.spelled ∙ parts s.body a) ∙ lengths (before s.body a.session a.nonce a.attrs (length a.hmac)) (before s.body a.session a.nonce a.attrs (length mac)) a.hmac mac (command_params s.body) (ap (λ (k : ℕ). length (before s.body a.session a.nonce a.attrs k)) (sym long)) (sym long)
+    ap length (u.spelled ∙ parts s.body a)
+    ∙ lengths (before s.body a.session a.nonce a.attrs (length a.hmac))
+    (before s.body a.session a.nonce a.attrs (length mac)) a.hmac mac (command_params s.body)
+    (ap (λ (k : ℕ). length (before s.body a.session a.nonce a.attrs k)) (sym long)) (sym long)
     ∙ ap length (sym (parts s.body (re_signed a mac))) ∙ ap (λ (x : Auth). length (spelling command (with_auths s.body (x ∷ [])))) made in
-    subst (λ (x : Auth). Fits (length (sealed s)) command (with_auths s.body (x ∷ []))) made (command_fits s.body (length (sealed s)) a mac long (subst (λ (n : ℕ). Fits n command (with_auths s.body (a ∷ []))) sizes f))
+    subst (λ (x : Auth). Fits (length (sealed s)) command (with_auths s.body (x ∷ []))) made
+    (command_fits s.body (length (sealed s)) a mac long
+    (subst (λ (n : ℕ). Fits n command (with_auths s.body (a ∷ []))) sizes f))
   where
-    lengths : (one two mac other params : List ℕ) → length one ≡ length two → length mac ≡ length other → length (one ++ (mac ++ params)) ≡ length (two ++ (other ++ params))
+    lengths : (one two mac other params : List ℕ) → length one ≡ length two → length mac ≡ length other
+        → length (one ++ (mac ++ params)) ≡ length (two ++ (other ++ params))
     lengths one two mac other params e f = simp length-append (omega (arith, e, f))

@@ -17,7 +17,10 @@ one_block : (a : Alg) (key : List ℕ) → block_key a (hmac_key a key) ≡ bloc
 unfolding block_key
 one_block a key = go (nat_lt (block_len a) (length key)) refl
   where
-    go : (b : Bool) → nat_lt (block_len a) (length key) ≡ b → filled (block_len a) (let k = (if b then digest a key else key) in if nat_lt (block_len a) (length k) then digest a k else k) ≡ filled (block_len a) (if b then digest a key else key)
+    go : (b : Bool) → nat_lt (block_len a) (length key) ≡ b
+        → filled (block_len a)
+        (let k = (if b then digest a key else key) in if nat_lt (block_len a) (length k) then digest a k else k)
+        ≡ filled (block_len a) (if b then digest a key else key)
     go true t = rw (not_longer a key) refl
     go false t = rw t refl
 

@@ -37,11 +37,13 @@ use Rattle.tpm_caller.specs.declared.waiting.CallerFault.TheVariants as faults
 
 -- ---- the cut of a reply
 
-pub some_cut : (code : CommandCode) (bytes : List ℕ) (body : ReplyBody) (auths : List AuthReply) → IsSpelledBy bytes code body auths → (c : ReplyCut) × Spells (reply_cut code) c bytes
+pub some_cut : (code : CommandCode) (bytes : List ℕ) (body : ReplyBody) (auths : List AuthReply)
+    → IsSpelledBy bytes code body auths → (c : ReplyCut) × Spells (reply_cut code) c bytes
 some_cut code bytes body auths s = let x = has_areas code bytes (done_with (record { body = body; auths = auths })) s.spells in (x.0, x.1)
 
 -- It has the sessions of the response.
-same_auths : (code : CommandCode) (bytes : List ℕ) (body : ReplyBody) (auths : List AuthReply) (c : ReplyCut) → IsSpelledBy bytes code body auths → Spells (reply_cut code) c bytes → c.auths ≡ auths
+same_auths : (code : CommandCode) (bytes : List ℕ) (body : ReplyBody) (auths : List AuthReply) (c : ReplyCut)
+    → IsSpelledBy bytes code body auths → Spells (reply_cut code) c bytes → c.auths ≡ auths
 same_auths code bytes body auths c s cut =
     let x = has_areas code bytes (done_with (record { body = body; auths = auths })) s.spells in
     ap (λ (z : ReplyCut). z.auths) ((exactly_one buffer buffer_sound (reply_cut code) bytes).one_value c x.0 cut x.1) ∙ x.2.auths_are
@@ -57,12 +59,17 @@ pub record HasOne (w : Waiting) (bytes : List ℕ) (cut : ReplyCut) (a : AuthRep
   pub count : length cut.auths ≡ 1
   pub first : Some a ≡ slice_get cut.auths 0
 
-pub one_auth : (w : Waiting) (bytes : List ℕ) (cut : ReplyCut) (a : AuthReply) (body : ReplyBody) (auths : List AuthReply) → HasOne w bytes cut a → IsSpelledBy bytes w.code body auths → auths ≡ a ∷ []
+pub one_auth : (w : Waiting) (bytes : List ℕ) (cut : ReplyCut) (a : AuthReply) (body : ReplyBody)
+    (auths : List AuthReply)
+    → HasOne w bytes cut a → IsSpelledBy bytes w.code body auths → auths ≡ a ∷ []
 one_auth w bytes cut a body auths h s =
     let same = same_auths w.code bytes body auths cut s h.spells in
     only auths a (ap length (sym same) ∙ h.count) (h.first ∙ ap (λ (l : List AuthReply). slice_get l 0) same)
 
-pub params_of_one : (w : Waiting) (bytes : List ℕ) (cut : ReplyCut) (a : AuthReply) (body : ReplyBody) (auths : List AuthReply) → needs_authorization w.code ≡ true → HasOne w bytes cut a → IsSpelledBy bytes w.code body auths → cut.params ≡ reply_params body
+pub params_of_one : (w : Waiting) (bytes : List ℕ) (cut : ReplyCut) (a : AuthReply) (body : ReplyBody)
+    (auths : List AuthReply)
+    → needs_authorization w.code ≡ true → HasOne w bytes cut a → IsSpelledBy bytes w.code body auths
+    → cut.params ≡ reply_params body
 params_of_one w bytes cut a body auths needs h s =
     let one = one_auth w bytes cut a body auths h s in
     params_are w.code bytes cut body a needs (subst (IsSpelledBy bytes w.code body) one s) h.spells (same_auths w.code bytes body auths cut s h.spells ∙ one)
@@ -77,7 +84,8 @@ not_one w body (a ∷ b ∷ others) more = refl
 pub other_length : (w : Waiting) (body : ReplyBody) (a : AuthReply) → length a.nonce ≢ length w.caller.nonce → opened_session w body (a ∷ []) ≡ Err NotExpected
 other_length w body a differ = rw (ne_eqb (length a.nonce) (length w.caller.nonce) differ) refl
 
-pub other_mac : (w : Waiting) (body : ReplyBody) (a : AuthReply) → length a.nonce ≡ length w.caller.nonce → a.hmac ≢ hmac w.caller.hash w.key (awaited_text w body a) → opened_session w body (a ∷ []) ≡ Err WrongMac
+pub other_mac : (w : Waiting) (body : ReplyBody) (a : AuthReply) → length a.nonce ≡ length w.caller.nonce
+    → a.hmac ≢ hmac w.caller.hash w.key (awaited_text w body a) → opened_session w body (a ∷ []) ≡ Err WrongMac
 other_mac w body a long differ = go (bytes_eq a.hmac mac) refl
   where
     mac : List ℕ
@@ -87,15 +95,23 @@ other_mac w body a long differ = go (bytes_eq a.hmac mac) refl
     go true t = absurd (differ ((bytes_eq-Decides a.hmac (hmac w.caller.hash w.key (awaited_text w body a))).0 t))
     go false t = rw (eq-eqb (length a.nonce) (length w.caller.nonce) long, t) refl
 
-pub mac_is : (w : Waiting) (body : ReplyBody) (a : AuthReply) (alg : Alg) (key p rp params nonce own mac : List ℕ) (attrs : ℕ) → alg ≡ w.caller.hash → key ≡ w.key → p ≡ rp → rp ≡ rp_hash alg (code_number w.code) params
-    → params ≡ reply_params body → nonce ≡ a.nonce → own ≡ w.nonce → attrs ≡ a.attrs → mac ≡ hmac alg (whole_key key []) (mac_text p nonce own attrs) → mac ≡ hmac w.caller.hash w.key (awaited_text w body a)
+pub mac_is : (w : Waiting) (body : ReplyBody) (a : AuthReply) (alg : Alg) (key p rp params nonce own mac : List ℕ)
+    (attrs : ℕ)
+    → alg ≡ w.caller.hash → key ≡ w.key → p ≡ rp → rp ≡ rp_hash alg (code_number w.code) params
+    → params ≡ reply_params body → nonce ≡ a.nonce → own ≡ w.nonce → attrs ≡ a.attrs
+    → mac ≡ hmac alg (whole_key key []) (mac_text p nonce own attrs)
+    → mac ≡ hmac w.caller.hash w.key (awaited_text w body a)
 mac_is w body a alg key p rp params nonce own mac attrs same_alg same_key same_p rp_is same_params same_nonce same_own same_attrs is =
-    is ∙ ap (λ (l : List ℕ). hmac alg l (mac_text p nonce own attrs)) (append-nil key ∙ same_key) ∙ rw (same_p, rp_is, same_alg, same_params, same_nonce, same_own, same_attrs) refl
+    is
+    ∙ ap (λ (l : List ℕ). hmac alg l (mac_text p nonce own attrs)) (append-nil key ∙ same_key)
+    ∙ rw (same_p, rp_is, same_alg, same_params, same_nonce, same_own, same_attrs) refl
 
 -- ---- what checking answers
 
 abbrev pub FaultFor : List ℕ → CallerFault → Waiting → Type 0
-FaultFor bytes fault z = (body : ReplyBody) (auths : List AuthReply) → IsSpelledBy bytes z.code body auths → (f : model.CallerFault) × (opened_session z body auths ≡ Err f) × (fault ≡ fault_of f)
+FaultFor bytes fault z =
+    (body : ReplyBody) (auths : List AuthReply) → IsSpelledBy bytes z.code body auths
+    → (f : model.CallerFault) × (opened_session z body auths ≡ Err f) × (fault ≡ fault_of f)
 
 abbrev pub OpenFor : List ℕ → List ℕ → Waiting → Type 0
 OpenFor bytes nonce z = (body : ReplyBody) (auths : List AuthReply) → IsSpelledBy bytes z.code body auths
@@ -104,11 +120,21 @@ OpenFor bytes nonce z = (body : ReplyBody) (auths : List AuthReply) → IsSpelle
 pub no_cut : (bytes : List ℕ) (fault : CallerFault) (z : Waiting) → ((c : ReplyCut) → Spells (reply_cut z.code) c bytes → ⊥) → FaultFor bytes fault z
 no_cut bytes fault z none body auths s = let x = some_cut z.code bytes body auths s in absurd (none x.0 x.1)
 
-pub not_one_for : (bytes : List ℕ) (z : Waiting) (cut : ReplyCut) → Spells (reply_cut z.code) cut bytes → length cut.auths ≢ 1 → FaultFor bytes faults.NotExpected z
-not_one_for bytes z cut spells more body auths s = (NotExpected, not_one z body auths (λ e. more (ap length (same_auths z.code bytes body auths cut s spells) ∙ e)), refl)
+pub not_one_for : (bytes : List ℕ) (z : Waiting) (cut : ReplyCut) → Spells (reply_cut z.code) cut bytes
+    → length cut.auths ≢ 1 → FaultFor bytes faults.NotExpected z
+not_one_for bytes z cut spells more body auths s = (
+  NotExpected,
+  not_one z body auths (λ e. more (ap length (same_auths z.code bytes body auths cut s spells) ∙ e)),
+  refl,
+)
 
-pub other_length_for : (bytes : List ℕ) (z : Waiting) (cut : ReplyCut) (a : AuthReply) → HasOne z bytes cut a → length a.nonce ≢ length z.caller.nonce → FaultFor bytes faults.NotExpected z
-other_length_for bytes z cut a h differ body auths s = (NotExpected, ap (opened_session z body) (one_auth z bytes cut a body auths h s) ∙ other_length z body a differ, refl)
+pub other_length_for : (bytes : List ℕ) (z : Waiting) (cut : ReplyCut) (a : AuthReply) → HasOne z bytes cut a
+    → length a.nonce ≢ length z.caller.nonce → FaultFor bytes faults.NotExpected z
+other_length_for bytes z cut a h differ body auths s = (
+  NotExpected,
+  ap (opened_session z body) (one_auth z bytes cut a body auths h s) ∙ other_length z body a differ,
+  refl,
+)
 
 -- a cut with one session, whose nonceTPM has the session's length, and the HMAC that it should have
 pub record HasMac (z : Waiting) (bytes : List ℕ) (cut : ReplyCut) (a : AuthReply) (mac : List ℕ) : Type 0 where
@@ -116,14 +142,23 @@ pub record HasMac (z : Waiting) (bytes : List ℕ) (cut : ReplyCut) (a : AuthRep
   pub long : length a.nonce ≡ length z.caller.nonce
   pub is : (body : ReplyBody) → cut.params ≡ reply_params body → mac ≡ hmac z.caller.hash z.key (awaited_text z body a)
 
-pub other_mac_for : (bytes : List ℕ) (z : Waiting) (cut : ReplyCut) (a : AuthReply) (mac : List ℕ) → HasMac z bytes cut a mac → a.hmac ≢ mac → needs_authorization z.code ≡ true → FaultFor bytes faults.WrongMac z
-other_mac_for bytes z cut a mac h differ needs body auths s =
-    (WrongMac, ap (opened_session z body) (one_auth z bytes cut a body auths h.one s) ∙ other_mac z body a h.long (λ e. differ (e ∙ sym (h.is body (params_of_one z bytes cut a body auths needs h.one s)))), refl)
+pub other_mac_for : (bytes : List ℕ) (z : Waiting) (cut : ReplyCut) (a : AuthReply) (mac : List ℕ)
+    → HasMac z bytes cut a mac → a.hmac ≢ mac → needs_authorization z.code ≡ true → FaultFor bytes faults.WrongMac z
+other_mac_for bytes z cut a mac h differ needs body auths s = (
+  WrongMac,
+  ap (opened_session z body) (one_auth z bytes cut a body auths h.one s)
+      ∙ other_mac z body a h.long
+      (λ e. differ (e ∙ sym (h.is body (params_of_one z bytes cut a body auths needs h.one s)))),
+  refl,
+)
 
-pub open_for : (bytes nonce : List ℕ) (z : Waiting) (cut : ReplyCut) (a : AuthReply) (mac : List ℕ) → HasMac z bytes cut a mac → a.hmac ≡ mac → needs_authorization z.code ≡ true → nonce ≡ a.nonce → OpenFor bytes nonce z
+pub open_for : (bytes nonce : List ℕ) (z : Waiting) (cut : ReplyCut) (a : AuthReply) (mac : List ℕ)
+    → HasMac z bytes cut a mac → a.hmac ≡ mac → needs_authorization z.code ≡ true → nonce ≡ a.nonce
+    → OpenFor bytes nonce z
 open_for bytes nonce z cut a mac h same needs is body auths s =
     let one = one_auth z bytes cut a body auths h.one s in
-    let made : List ℕ → List AuthReply → Result Opened model.CallerFault = λ n l. Ok (record { caller = caller_with z n; response = done_with (record { body = body; auths = l }) }) in
+    let made : List ℕ → List AuthReply → Result Opened model.CallerFault =
+    λ n l. Ok (record { caller = caller_with z n; response = done_with (record { body = body; auths = l }) }) in
     ap (opened_session z body) one ∙ open_is z body a h.long (same ∙ h.is body (params_of_one z bytes cut a body auths needs h.one s))
     ∙ ap (λ (n : List ℕ). made n (a ∷ [])) (sym is) ∙ ap (made nonce) (sym one)
 
@@ -135,18 +170,27 @@ okay x = Ok x
 abbrev wrong : Waiting × CallerFault → Result (Option CallerSession × Response) (Waiting × CallerFault)
 wrong x = Err x
 
-pub opened_is : (z : Waiting) (code : CommandCode) (bytes : List ℕ) (r : Response) → code ≡ z.code → Spells (response code) r bytes → opened z bytes ≡ opened_response z (Ok r)
-opened_is z code bytes r same s = ap (opened_response z) (spells_read buffer buffer_sound (response z.code) bytes r (subst (λ (k : CommandCode). Spells (response k) r bytes) same s))
+pub opened_is : (z : Waiting) (code : CommandCode) (bytes : List ℕ) (r : Response) → code ≡ z.code
+    → Spells (response code) r bytes → opened z bytes ≡ opened_response z (Ok r)
+opened_is z code bytes r same s =
+    ap (opened_response z)
+    (spells_read buffer buffer_sound (response z.code) bytes r
+    (subst (λ (k : CommandCode). Spells (response k) r bytes) same s))
 
-pub spelled_by : (z : Waiting) (code : CommandCode) (bytes : List ℕ) (r : Response) (body : ReplyBody) (auths : List AuthReply) → code ≡ z.code → Spells (response code) r bytes → bytes ≡ spelling (response code) r
+pub spelled_by : (z : Waiting) (code : CommandCode) (bytes : List ℕ) (r : Response) (body : ReplyBody)
+    (auths : List AuthReply)
+    → code ≡ z.code → Spells (response code) r bytes → bytes ≡ spelling (response code) r
     → r ≡ done_with (record { body = body; auths = auths }) → IsSpelledBy bytes z.code body auths
 spelled_by z code bytes r body auths same s is made = record {
   spells = subst (λ (q : Response). Spells (response z.code) q bytes) made (subst (λ (k : CommandCode). Spells (response k) r bytes) same s);
   is = is ∙ ap (λ (k : CommandCode). spelling (response k) r) same ∙ ap (spelling (response z.code)) made;
 }
 
-pub open_done : (z : Waiting) (code : CommandCode) (bytes nonce : List ℕ) (r : Response) (body : ReplyBody) (auths : List AuthReply) (caller : Option CallerSession) → code ≡ z.code → Spells (response code) r bytes
-    → bytes ≡ spelling (response code) r → r ≡ done_with (record { body = body; auths = auths }) → OpenFor bytes nonce z → caller ≡ caller_with z nonce → okay (caller, r) ≡ opening_of z (opened z bytes)
+pub open_done : (z : Waiting) (code : CommandCode) (bytes nonce : List ℕ) (r : Response) (body : ReplyBody)
+    (auths : List AuthReply) (caller : Option CallerSession)
+    → code ≡ z.code → Spells (response code) r bytes
+    → bytes ≡ spelling (response code) r → r ≡ done_with (record { body = body; auths = auths }) → OpenFor bytes nonce z
+    → caller ≡ caller_with z nonce → okay (caller, r) ≡ opening_of z (opened z bytes)
 open_done z code bytes nonce r body auths caller same s is made opens kept =
     let x = spelled_by z code bytes r body auths same s is made in
     ap (λ (o : Option CallerSession). okay (o, r)) kept ∙ ap (λ (q : Response). okay (caller_with z nonce, q)) made
@@ -156,7 +200,9 @@ open_done z code bytes nonce r body auths caller same s is made opens kept =
 abbrev pub FirstFault : List ℕ → CallerFault → Waiting → Type 0
 FirstFault bytes fault z = (f : model.CallerFault) × (opened z bytes ≡ Err f) × (fault ≡ fault_of f)
 
-pub first_is : (z : Waiting) (code : CommandCode) (bytes : List ℕ) (r : Response) (body : ReplyBody) (auths : List AuthReply) (fault : CallerFault) → code ≡ z.code → Spells (response code) r bytes
+pub first_is : (z : Waiting) (code : CommandCode) (bytes : List ℕ) (r : Response) (body : ReplyBody)
+    (auths : List AuthReply) (fault : CallerFault)
+    → code ≡ z.code → Spells (response code) r bytes
     → bytes ≡ spelling (response code) r → r ≡ done_with (record { body = body; auths = auths }) → FaultFor bytes fault z → FirstFault bytes fault z
 first_is z code bytes r body auths fault same s is made faulty =
     let f = faulty body auths (spelled_by z code bytes r body auths same s is made) in
@@ -170,7 +216,13 @@ wrong_is z bytes fault f = ap (λ (x : CallerFault). wrong (z, x)) f.2 ∙ sym (
 abbrev pub response_ok : Response → Result Response Refusal
 response_ok r = Ok r
 
-pub decoded : (z : Waiting) (code : CommandCode) (bytes : List ℕ) (o : Result Response Refusal) → code ≡ z.code → ((r : Response) → (o ≡ Ok r) ↔ Spells (response code) r bytes) → ((e : Refusal) → (o ≡ Err e) ↔ Fault (response code) bytes e)
+pub decoded : (z : Waiting) (code : CommandCode) (bytes : List ℕ) (o : Result Response Refusal) → code ≡ z.code
+    → ((r : Response) → (o ≡ Ok r) ↔ Spells (response code) r bytes)
+    → ((e : Refusal) → (o ≡ Err e) ↔ Fault (response code) bytes e)
     → read_all (response z.code) bytes ≡ o
-decoded z code bytes (Ok r) same ok err = ap (λ (k : CommandCode). read_all (response k) bytes) (sym same) ∙ spells_read buffer buffer_sound (response code) bytes r ((ok r).0 refl)
-decoded z code bytes (Err e) same ok err = ap (λ (k : CommandCode). read_all (response k) bytes) (sym same) ∙ fault_read buffer buffer_sound (response code) bytes e ((err e).0 refl)
+decoded z code bytes (Ok r) same ok err =
+    ap (λ (k : CommandCode). read_all (response k) bytes) (sym same)
+    ∙ spells_read buffer buffer_sound (response code) bytes r ((ok r).0 refl)
+decoded z code bytes (Err e) same ok err =
+    ap (λ (k : CommandCode). read_all (response k) bytes) (sym same)
+    ∙ fault_read buffer buffer_sound (response code) bytes e ((err e).0 refl)

@@ -68,23 +68,35 @@ without_auths n hs h x e =
 abbrev pub raw_behind : Bool → ℕ → List ℕ → Layout ReplyCut
 raw_behind two n hs = either two (raw_with_sessions n hs) (raw_without_sessions n hs)
 
-behind_params : (two : Bool) (n : ℕ) (h : Here) (x : ReplyCut × Here) (a : AuthReply) → x.0.auths ≡ a ∷ [] → read 0 (raw_behind two n []) h ≡ Ok x → x.0.params ≡ by_size h.rest
+behind_params : (two : Bool) (n : ℕ) (h : Here) (x : ReplyCut × Here) (a : AuthReply) → x.0.auths ≡ a ∷ []
+    → read 0 (raw_behind two n []) h ≡ Ok x → x.0.params ≡ by_size h.rest
 behind_params true n h x a one e = with_params n [] h x e
 behind_params false n h x a one e = absurd (let k : [] ≡ a ∷ [] = sym (without_auths n [] h x e) ∙ one in let z : ⊥ = cc in z)
 
-code_params : (code : CommandCode) (t n : ℕ) (h : Here) (x : ReplyCut × Here) (a : AuthReply) → needs_authorization code ≡ true → x.0.auths ≡ a ∷ [] → read 0 (cut_behind_code code t n) h ≡ Ok x → x.0.params ≡ by_size h.rest
+code_params : (code : CommandCode) (t n : ℕ) (h : Here) (x : ReplyCut × Here) (a : AuthReply)
+    → needs_authorization code ≡ true → x.0.auths ≡ a ∷ [] → read 0 (cut_behind_code code t n) h ≡ Ok x
+    → x.0.params ≡ by_size h.rest
 code_params code t n h x a needs one e = go (n == 0) e
   where
     alone : ReplyCut
     alone = record { code = n; handles = []; params = []; auths = [] }
 
-    go : (zero : Bool) → read 0 (either zero (field (λ c. c.handles) (reply_handles code) (λ hs. raw_behind (t == 0x8002) n hs)) (done alone)) h ≡ Ok x → x.0.params ≡ by_size h.rest
-    go true e = behind_params (t == 0x8002) n h x a one (subst (λ (l : Layout (List ℕ)). (read 0 l h >>= λ y. read 0 (raw_behind (t == 0x8002) n y.0) y.1) ≡ Ok x) (no_handles code needs) e)
+    go : (zero : Bool)
+        → read 0
+        (either zero (field (λ c. c.handles) (reply_handles code) (λ hs. raw_behind (t == 0x8002) n hs))
+        (done alone)) h
+        ≡ Ok x
+        → x.0.params ≡ by_size h.rest
+    go true e =
+        behind_params (t == 0x8002) n h x a one
+        (subst (λ (l : Layout (List ℕ)). (read 0 l h >>= λ y. read 0 (raw_behind (t == 0x8002) n y.0) y.1) ≡ Ok x)
+        (no_handles code needs) e)
     go false e = absurd (let k : [] ≡ a ∷ [] = ap (λ (z : ReplyCut × Here). z.0.auths) (okay_is {E = Refusal} (alone, h) x e) ∙ one in let z : ⊥ = cc in z)
 
 -- ---- the buffer is short
 
-small_size : (b c d : Bool) (n k : ℕ) → b ≡ (n == k + 6) → d ≡ nat_le n 4096 → (y : ℕ) → or_fault {F = ℕ} (if b && c && d then Some n else None) 0x142 ≡ Ok y → k + 6 ≤ 4096
+small_size : (b c d : Bool) (n k : ℕ) → b ≡ (n == k + 6) → d ≡ nat_le n 4096 → (y : ℕ)
+    → or_fault {F = ℕ} (if b && c && d then Some n else None) 0x142 ≡ Ok y → k + 6 ≤ 4096
 small_size true true true n k e f y is = omega (arith, eqb-true n (k + 6) (sym e), leb-true n 4096 (sym f))
 small_size _ _ _ n k e f y is = absurd (let z : ⊥ = cc in z)
 
@@ -111,30 +123,43 @@ record CutPlaces (bytes : List ℕ) (c : ReplyCut) : Type 0 where
   short : length bytes ≤ 4096
   params : c.params ≡ by_size (drop 4 (drop 4 (drop 2 bytes)))
 
-cut_places : (code : CommandCode) (bytes : List ℕ) (c : ReplyCut) (a : AuthReply) → needs_authorization code ≡ true → c.auths ≡ a ∷ [] → read_all (reply_cut code) bytes ≡ Ok c → CutPlaces bytes c
+cut_places : (code : CommandCode) (bytes : List ℕ) (c : ReplyCut) (a : AuthReply) → needs_authorization code ≡ true
+    → c.auths ≡ a ∷ [] → read_all (reply_cut code) bytes ≡ Ok c → CutPlaces bytes c
 unfolding reply_cut
 cut_places code bytes c a needs one e =
     let whole = from_start (read 0 (reply_cut code) (at_start bytes)) c e in
     let p = fronted (λ t n. read 0 (cut_behind_code code t n)) bytes (c, whole.0) whole.1 in
     record {
       short = front_short bytes p.front p.begins;
-      params = code_params code p.front.0.0 p.code.0 p.code.1 (c, whole.0) a needs one p.last ∙ ap (λ (g : Here). by_size g.rest) (code_at (λ t n. read 0 (cut_behind_code code t n)) bytes (c, whole.0) p);
+      params =
+          code_params code p.front.0.0 p.code.0 p.code.1 (c, whole.0) a needs one p.last
+          ∙ ap (λ (g : Here). by_size g.rest) (code_at (λ t n. read 0 (cut_behind_code code t n)) bytes (c, whole.0) p);
     }
 
-none_spelled : (body : ReplyBody) → needs_authorization (code_for_reply body) ≡ true → spelling (reply_handles (code_for_reply body)) (reply_handles_of body) ≡ []
+none_spelled : (body : ReplyBody) → needs_authorization (code_for_reply body) ≡ true
+    → spelling (reply_handles (code_for_reply body)) (reply_handles_of body) ≡ []
 none_spelled (replies.StartAuthSession reply) e = absurd (let z : ⊥ = cc in z)
 none_spelled _ e = refl
 
-by_size_is : (size : ℕ) (params n : List ℕ) (f : ℕ) (m : List ℕ) → length (reply_bytes size params n f m []) ≤ 4096 → by_size (drop 4 (drop 4 (drop 2 (reply_bytes size params n f m [])))) ≡ params
+by_size_is : (size : ℕ) (params n : List ℕ) (f : ℕ) (m : List ℕ) → length (reply_bytes size params n f m []) ≤ 4096
+    → by_size (drop 4 (drop 4 (drop 2 (reply_bytes size params n f m [])))) ≡ params
 by_size_is size params n f m short =
     let few : length params < 256 ^ 4 = omega (arith, length-append params (session_text n f m [])) in
-    ap (λ (k : ℕ). take k (params ++ session_text n f m [])) (number_of-bytes 4 (length params) few) ∙ take_at params (session_text n f m []) (length params) refl
+    ap (λ (k : ℕ). take k (params ++ session_text n f m [])) (number_of-bytes 4 (length params) few)
+    ∙ take_at params (session_text n f m []) (length params) refl
 
-pub params_are : (code : CommandCode) (bytes : List ℕ) (c : ReplyCut) (body : ReplyBody) (a : AuthReply) → needs_authorization code ≡ true → IsSpelledBy bytes code body (a ∷ []) → Spells (reply_cut code) c bytes → c.auths ≡ a ∷ [] → c.params ≡ reply_params body
+pub params_are : (code : CommandCode) (bytes : List ℕ) (c : ReplyCut) (body : ReplyBody) (a : AuthReply)
+    → needs_authorization code ≡ true → IsSpelledBy bytes code body (a ∷ []) → Spells (reply_cut code) c bytes
+    → c.auths ≡ a ∷ [] → c.params ≡ reply_params body
 params_are code bytes c body a needs spelled cut one =
     let p = cut_places code bytes c a needs one (spells_read buffer buffer_sound (reply_cut code) bytes c cut) in
     let own : code ≡ code_for_reply body = answers code bytes (done_with (record { body = body; auths = a ∷ [] })) spelled.spells in
     let size = size_of_response (code_for_reply body) (done_with (record { body = body; auths = a ∷ [] })) in
     let is : bytes ≡ reply_bytes size (reply_params body) a.nonce a.attrs a.hmac [] =
-    spelled.is ∙ ap (λ (k : CommandCode). spelling (response k) (done_with (record { body = body; auths = a ∷ [] }))) own ∙ one_reply body a (none_spelled body (ap needs_authorization (sym own) ∙ needs)) in
-    p.params ∙ ap (λ (l : List ℕ). by_size (drop 4 (drop 4 (drop 2 l)))) is ∙ by_size_is size (reply_params body) a.nonce a.attrs a.hmac (subst (λ (l : List ℕ). length l ≤ 4096) is p.short)
+    spelled.is
+    ∙ ap (λ (k : CommandCode). spelling (response k) (done_with (record { body = body; auths = a ∷ [] }))) own
+    ∙ one_reply body a (none_spelled body (ap needs_authorization (sym own) ∙ needs)) in
+    p.params
+    ∙ ap (λ (l : List ℕ). by_size (drop 4 (drop 4 (drop 2 l)))) is
+    ∙ by_size_is size (reply_params body) a.nonce a.attrs a.hmac
+    (subst (λ (l : List ℕ). length l ≤ 4096) is p.short)

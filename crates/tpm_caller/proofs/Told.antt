@@ -43,16 +43,24 @@ spelled w bytes r e = read_spells buffer buffer_sound (response w.code) bytes r 
 abbrev ReadAs : Waiting → List ℕ → ReplyBody → List AuthReply → Type 0
 ReadAs w bytes body auths = read_all (response w.code) bytes ≡ Ok (done_with (record { body = body; auths = auths }))
 
-one_told : (w : Waiting) (bytes : List ℕ) (body : ReplyBody) (a : AuthReply) → ReadAs w bytes body (a ∷ []) → Tells w bytes (Ok (done_as body a)) (opened_session w body (a ∷ []))
+one_told : (w : Waiting) (bytes : List ℕ) (body : ReplyBody) (a : AuthReply) → ReadAs w bytes body (a ∷ [])
+    → Tells w bytes (Ok (done_as body a)) (opened_session w body (a ∷ []))
 one_told w bytes body a is = go (length a.nonce == length w.caller.nonce) (has_mac w body a) refl refl
   where
     go : (long mac : Bool) → (length a.nonce == length w.caller.nonce) ≡ long → has_mac w body a ≡ mac
-        → Tells w bytes (Ok (done_as body a)) (unless long NotExpected >>= λ _. unless mac WrongMac >>= λ _. Ok (record { caller = caller_after w a; response = done_as body a }))
+        → Tells w bytes (Ok (done_as body a))
+        (unless long NotExpected
+        >>= λ _.
+        unless mac WrongMac >>= λ _. Ok (record { caller = caller_after w a; response = done_as body a }))
     go false mac t u = record {
       body = body;
       auths = a ∷ [];
       spells = spelled w bytes _ is;
-      differs = λ d one same. let d_is : a ≡ d = cc in both_ways (length a.nonce == length w.caller.nonce) t (eq-eqb _ _ (ap (λ (k : AuthReply). length k.nonce) d_is ∙ same));
+      differs =
+          λ d one same.
+          let d_is : a ≡ d = cc in
+          both_ways (length a.nonce == length w.caller.nonce) t
+          (eq-eqb _ _ (ap (λ (k : AuthReply). length k.nonce) d_is ∙ same));
     }
     go true false t u = record {
       body = body;
@@ -83,7 +91,9 @@ answer_told w bytes x e = subst (Tells w bytes (read_all (response w.code) bytes
 
 -- ---- and the other way
 
-not_expected_by : (w : Waiting) (body : ReplyBody) (auths : List AuthReply) → ((a : AuthReply) → auths ≡ a ∷ [] → length a.nonce ≢ length w.caller.nonce) → opened_session w body auths ≡ Err NotExpected
+not_expected_by : (w : Waiting) (body : ReplyBody) (auths : List AuthReply)
+    → ((a : AuthReply) → auths ≡ a ∷ [] → length a.nonce ≢ length w.caller.nonce)
+    → opened_session w body auths ≡ Err NotExpected
 not_expected_by w body [] differs = refl
 not_expected_by w body (a ∷ []) differs = other_length w body a (differs a refl)
 not_expected_by w body (a ∷ b ∷ others) differs = refl
@@ -91,7 +101,10 @@ not_expected_by w body (a ∷ b ∷ others) differs = refl
 pub what_opens : (w : Waiting) (bytes : List ℕ) (x : Opened) → (opened w bytes ≡ Ok x) ↔ IsOpened w bytes x
 what_opens w bytes x = (
   answer_told w bytes (Ok x),
-  λ o. opened_is w w.code bytes (done_as o.body o.auth) refl o.expected.spells ∙ open_is w o.body o.auth o.expected.nonce o.mac ∙ ap (λ (y : Opened). let z : Result Opened CallerFault = Ok y in z) (sym o.is),
+  λ o.
+      opened_is w w.code bytes (done_as o.body o.auth) refl o.expected.spells
+      ∙ open_is w o.body o.auth o.expected.nonce o.mac
+      ∙ ap (λ (y : Opened). let z : Result Opened CallerFault = Ok y in z) (sym o.is),
 )
 
 pub what_is_refused : (w : Waiting) (bytes : List ℕ) (e : Refusal) → (opened w bytes ≡ Err (Refused e)) ↔ Fault (response w.code) bytes e
@@ -120,12 +133,16 @@ what_has_a_wrong_mac w bytes = (
 
 -- ---- giving up
 
-refusal_told : (w : Waiting) (c : CallerSession) (r : Result Response Refusal) → caller_of_refusal w r ≡ Some c → (n : ℕ) × (r ≡ Ok (responses.Code n)) × (c ≡ w.caller)
+refusal_told : (w : Waiting) (c : CallerSession) (r : Result Response Refusal) → caller_of_refusal w r ≡ Some c
+    → (n : ℕ) × (r ≡ Ok (responses.Code n)) × (c ≡ w.caller)
 refusal_told w c (Ok (responses.Code n)) is = (n, refl, let same : c ≡ w.caller = cc in same)
 refusal_told w c _ is = absurd (let z : ⊥ = cc in z)
 
 pub what_is_given_up : (w : Waiting) (bytes : List ℕ) (c : CallerSession) → (given_up w bytes ≡ Some c) ↔ IsGivenUp w bytes c
 what_is_given_up w bytes c = (
   λ e. let t = refusal_told w c (read_all (response w.code) bytes) e in record { code = t.0; spells = spelled w bytes (responses.Code t.0) t.1; is = t.2 },
-  λ x. ap (caller_of_refusal w) (spells_read buffer buffer_sound (response w.code) bytes (responses.Code x.code) x.spells) ∙ ap (λ (k : CallerSession). let o : Option CallerSession = Some k in o) (sym x.is),
+  λ x.
+      ap (caller_of_refusal w)
+      (spells_read buffer buffer_sound (response w.code) bytes (responses.Code x.code) x.spells)
+      ∙ ap (λ (k : CallerSession). let o : Option CallerSession = Some k in o) (sym x.is),
 )

@@ -15,7 +15,8 @@ fault_of NotExpected = faults.NotExpected
 fault_of WrongMac = faults.WrongMac
 
 -- What is opened leaves a caller, where it is kept, and the response; what is not leaves what was sent, unchanged.
-abbrev pub opening_of : {Sent : Type 0} → Sent → Result Opened model.CallerFault → Result (Option CallerSession × Response) (Sent × CallerFault)
+abbrev pub opening_of : {Sent : Type 0} → Sent → Result Opened model.CallerFault
+    → Result (Option CallerSession × Response) (Sent × CallerFault)
 opening_of sent (Ok x) = Ok (x.caller, x.response)
 opening_of sent (Err fault) = Err (sent, fault_of fault)
 

@@ -18,8 +18,8 @@ pub record HasExpected (w : Waiting) (bytes : List ℕ) (body : ReplyBody) (auth
   pub spells : SpellsReply w bytes body (auth ∷ [])
   pub nonce : length auth.nonce ≡ length w.caller.nonce
 
--- The HMAC is whole that of the new nonceTPM, the command's nonceCaller and the response's attributes: the response is opened, and the
--- caller goes on with that nonceTPM where it was kept.
+-- The HMAC is whole that of the new nonceTPM, the command's nonceCaller and the response's attributes: the response
+-- is opened, and the caller goes on with that nonceTPM where it was kept.
 pub record IsOpened (w : Waiting) (bytes : List ℕ) (x : Opened) : Type 0 where
   pub body : ReplyBody
   pub auth : AuthReply

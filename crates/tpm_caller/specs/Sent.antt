@@ -31,7 +31,8 @@ sent s = record { waiting = with_hmac_key (waiting s); bytes = sealed s }
 
 -- ---- the HMAC in a sealed command
 
--- how many bytes are before it: the header, the handles, authorizationSize, the session's handle, its nonce, attributes and HMAC's size
+-- how many bytes are before it: the header, the handles, authorizationSize, the session's
+-- handle, its nonce, attributes and HMAC's size
 abbrev pub hmac_at : (names : List (List ℕ)) → (nonce : List ℕ) → ℕ
 hmac_at names nonce = 23 + 4 * length names + length nonce
 

@@ -25,8 +25,8 @@ use tpm_types::{
 };
 use tpm_wire::{Bounded, Buffer, Duplicate};
 
-// How many bytes are before the HMAC of a session, beside the handles and the nonce: the header, authorizationSize, the session's handle,
-// the nonce's size, the attributes and the HMAC's size.
+// How many bytes are before the HMAC of a session, beside the handles and the nonce: the header, authorizationSize,
+// the session's handle, the nonce's size, the attributes and the HMAC's size.
 const BEFORE_HMAC: usize = 10 + 4 + 4 + 2 + 1 + 2;
 
 // How many bytes a nonce of a session has at least.
@@ -45,12 +45,15 @@ impl Model for Caller {
 
     ghost Value = { model.CallerSession };
 
-    ghost view = { λ c. record { handle = c.handle; hash = c.key.hash; key = c.key.bytes; nonce = c.nonce } };
+    ghost view = { λ c. record
+        { handle = c.handle; hash = c.key.hash; key = c.key.bytes; nonce = c.nonce } };
 }
 
 // The key of a session that is started so.
 fn key_of_start(request: &StartAuth, reply: &StartReply, bind_auth: &[u8]) -> Digest
-    ensures { result ≡ session_key_of request.now.auth_hash (bound_to request.now.bind bind_auth.now) reply.now.nonce_tpm request.now.nonce_caller }
+    ensures { result
+        ≡ session_key_of request.now.auth_hash (bound_to request.now.bind bind_auth.now)
+        reply.now.nonce_tpm request.now.nonce_caller }
 {
     match request.bind {
         BindHandle::Owner => session_key(
@@ -96,9 +99,9 @@ fn joined(front: &[u8], back: &[u8]) -> ArrayVec<u8, BLOCK_BYTES>
 }
 
 impl Caller {
-    /// The session that this TPM2_StartAuthSession and its reply make, bound to an entity with this authorization value, which is not
-    /// looked at where bind is TPM_RH_NULL (Part 1, "sessionKey Creation"). None where the two nonces differ in length, or have fewer
-    /// than 16 bytes or more than a digest.
+    /// The session that this TPM2_StartAuthSession and its reply make, bound to an entity with this authorization
+    /// value, which is not looked at where bind is TPM_RH_NULL (Part 1, "sessionKey Creation"). None where the two
+    /// nonces differ in length, or have fewer than 16 bytes or more than a digest.
     pub fn start(request: &StartAuth, reply: &StartReply, bind_auth: &[u8]) -> Option<Caller>
         ensures { result ≡ started_with request.now reply.now bind_auth.now }
     {
@@ -139,7 +142,8 @@ impl Caller {
         caller
     }
 
-    // Sets the key to sessionKey || authValue. One that is longer than a block is hashed, as HMAC would hash it each time.
+    // Sets the key to sessionKey || authValue. One that is longer than a block is
+    // hashed, as HMAC would hash it each time.
     fn set_key(&self, auth: &[u8], key: &mut Bounded<BLOCK_BYTES>)
         ensures { key.new ≡ hmac_key self.now.hash (whole_key self.now.key auth.now) }
     {
@@ -154,7 +158,8 @@ impl Caller {
         }
     }
 
-    // The MAC of a command or of a response under this key. Where it is the session key alone, what is kept of that is used.
+    // The MAC of a command or of a response under this key. Where it is the session
+    // key alone, what is kept of that is used.
     pub(crate) fn mac(
         &self,
         key: &[u8],
@@ -163,7 +168,9 @@ impl Caller {
         older: &[u8],
         attrs: SessionAttrs,
     ) -> Digest
-        ensures value { result ≡ hmac self.now.hash (whole_key key.now []) (mac_text p_hash.now newer.now older.now attrs) }
+        ensures value { result
+            ≡ hmac self.now.hash (whole_key key.now [])
+            (mac_text p_hash.now newer.now older.now attrs) }
         ensures len { length result ≡ digest_len self.now.hash }
     {
         if same(key, self.key.bytes()) {
@@ -175,7 +182,11 @@ impl Caller {
     // The command with the session, whose HMAC is not made yet.
     fn unsigned<'a>(&self, body: CommandBody<'a>, nonce: &Nonce, attrs: SessionAttrs) -> Command<'a>
         ensures body { result.body ≡ body.entry }
-        ensures session { (auth : AuthOf) × (result.auths.items ≡ auth ∷ []) × (auth.session ≡ self.now.handle) × (auth.nonce ≡ nonce.now) × (auth.attrs ≡ attrs) × (length auth.hmac ≡ digest_len self.now.hash) }
+        ensures session { (auth : AuthOf) × (result.auths.items ≡ auth ∷ [])
+            × (auth.session ≡ self.now.handle)
+            × (auth.nonce ≡ nonce.now)
+            × (auth.attrs ≡ attrs)
+            × (length auth.hmac ≡ digest_len self.now.hash) }
     {
         let session = match AuthSession::from_number(self.handle.number()) {
             Some(session) => session,
@@ -194,7 +205,8 @@ impl Caller {
         command
     }
 
-    // Puts the HMAC in its place: behind the header, the handles and what is before it of the session, and right before the parameters.
+    // Puts the HMAC in its place: behind the header, the handles and what is before it of the
+    // session, and right before the parameters.
     fn sign(
         &self,
         code: CommandCode,
@@ -206,8 +218,15 @@ impl Caller {
     )
         requires few { length names.now ≤ 2 }
         requires short { length nonce.now ≤ digest_bytes }
-        requires room { hmac_at names.now nonce.now + digest_len self.now.hash ≤ length bytes.old.items }
-        ensures { bytes.new.items ≡ with_hmac (hmac_at names.now nonce.now) (hmac self.now.hash (whole_key key.now []) (mac_text (cp_hash_of self.now.hash (code_number code) names.now (drop (hmac_at names.now nonce.now + digest_len self.now.hash) bytes.old.items)) nonce.now self.now.nonce attrs)) bytes.old.items }
+        requires room { hmac_at names.now nonce.now + digest_len self.now.hash
+            ≤ length bytes.old.items }
+        ensures { bytes.new.items
+            ≡ with_hmac (hmac_at names.now nonce.now)
+            (hmac self.now.hash (whole_key key.now [])
+            (mac_text
+            (cp_hash_of self.now.hash (code_number code) names.now
+            (drop (hmac_at names.now nonce.now + digest_len self.now.hash)
+            bytes.old.items)) nonce.now self.now.nonce attrs)) bytes.old.items }
     {
         let begin = BEFORE_HMAC + 4 * names.len() + nonce.len();
         let end = begin + self.hash().digest_len();
@@ -216,11 +235,12 @@ impl Caller {
         bytes.as_mut_slice()[begin..end].copy_from_slice(mac.as_slice());
     }
 
-    /// The command with this session as its authorization, which is spent by it: the bytes to be sent, and what opens their reply. `names`
-    /// are the Names of the command's handles, in their order, and `auth` is what follows the session key in that of the HMAC:
-    /// the authorization value of what the first handle names, whose trailing zeros do not count, or nothing where the rules
-    /// leave it out. `nonce` is nonceCaller, a fresh random one; with `keep` the session goes on after the command
-    /// (continueSession). The HMAC is always there (Part 1, "Session-Based Authorizations").
+    /// The command with this session as its authorization, which is spent by it: the bytes to be sent, and what
+    /// opens their reply. `names` are the Names of the command's handles, in their order, and `auth` is what
+    /// follows the session key in that of the HMAC: the authorization value of what the first handle names, whose
+    /// trailing zeros do not count, or nothing where the rules leave it out. `nonce` is nonceCaller, a fresh
+    /// random one; with `keep` the session goes on after the command (continueSession). The HMAC is always there
+    /// (Part 1, "Session-Based Authorizations").
     pub fn seal(
         self,
         body: CommandBody<'_>,
@@ -231,15 +251,33 @@ impl Caller {
     ) -> Waiting
         requires authorized { needs_authorization (code_for body) ≡ true }
         requires named { length names.items ≡ length (handles_of body) }
-        ensures sealed { result ≡ sent (record { caller = self; body = body.entry; names = names.items; auth = auth.now; nonce = nonce; keep = keep }) }
-        ensures spelled { HasSpelling (record { caller = self; body = body.entry; names = names.items; auth = auth.now; nonce = nonce; keep = keep }) }
+        ensures sealed { result
+            ≡ sent
+            (record {
+              caller = self;
+              body = body.entry;
+              names = names.items;
+              auth = auth.now;
+              nonce = nonce;
+              keep = keep;
+            }) }
+        ensures spelled { HasSpelling
+            (record {
+              caller = self;
+              body = body.entry;
+              names = names.items;
+              auth = auth.now;
+              nonce = nonce;
+              keep = keep;
+            }) }
     {
         let mut bytes = Buffer::new();
         let pending = self.seal_into(body, names, auth, nonce, keep, &mut bytes);
         Waiting { pending, bytes }
     }
 
-    /// As `seal`, into this buffer, whatever is in it: its bytes are to be sent, and what is answered opens their reply.
+    /// As `seal`, into this buffer, whatever is in it: its bytes are to be sent, and what is answered opens their
+    /// reply.
     pub fn seal_into(
         self,
         body: CommandBody<'_>,
@@ -251,8 +289,25 @@ impl Caller {
     ) -> Pending
         requires authorized { needs_authorization (code_for body) ≡ true }
         requires named { length names.items ≡ length (handles_of body) }
-        ensures sealed { record { waiting = result; bytes = bytes.new.items } ≡ sent (record { caller = self; body = body.entry; names = names.items; auth = auth.now; nonce = nonce; keep = keep }) }
-        ensures spelled { HasSpelling (record { caller = self; body = body.entry; names = names.items; auth = auth.now; nonce = nonce; keep = keep }) }
+        ensures sealed { record { waiting = result; bytes = bytes.new.items }
+            ≡ sent
+            (record {
+              caller = self;
+              body = body.entry;
+              names = names.items;
+              auth = auth.now;
+              nonce = nonce;
+              keep = keep;
+            }) }
+        ensures spelled { HasSpelling
+            (record {
+              caller = self;
+              body = body.entry;
+              names = names.items;
+              auth = auth.now;
+              nonce = nonce;
+              keep = keep;
+            }) }
     {
         let code = body.code();
         let mut key = Bounded::default();

@@ -20,7 +20,8 @@ use tpm_types::{BLOCK_BYTES, Nonce};
 use tpm_wire::Bounded;
 use tpm_wire::response_code::BAD_TAG;
 
-/// What is kept of a sealed command until its reply comes: all but the command's bytes, which lie in the caller's buffer.
+/// What is kept of a sealed command until its reply comes: all but the command's bytes, which lie in the caller's
+/// buffer.
 #[derive(Drop)]
 pub struct Pending {
     pub(crate) caller: Caller,
@@ -37,7 +38,8 @@ impl Model for Pending {
 
     ghost Value = { model.Waiting };
 
-    ghost view = { λ w. record { caller = w.caller; code = w.code; key = w.key; nonce = w.nonce; keep = w.keep } };
+    ghost view = { λ w. record
+        { caller = w.caller; code = w.code; key = w.key; nonce = w.nonce; keep = w.keep } };
 
     ghost invariant = { λ w. needs_authorization w.code ≡ true };
 }
@@ -58,7 +60,12 @@ fn has_no_params(code: CommandCode) -> bool
 
 // These bytes are a response code that is not 0, by its tag and its size. What they are else is not told.
 fn is_code(bytes: &[u8]) -> bool
-    ensures { result ≡ true → (n : ℕ) × (0 < n) × (n < 2 ^ 32) × (bytes.now ≡ bytes_high_first 2 (code_tag n) ++ (bytes_high_first 4 10 ++ bytes_high_first 4 n)) }
+    ensures { result ≡ true
+        → (n : ℕ) × (0 < n)
+        × (n < 2 ^ 32)
+        × (bytes.now
+        ≡ bytes_high_first 2 (code_tag n)
+        ++ (bytes_high_first 4 10 ++ bytes_high_first 4 n)) }
 {
     match bytes {
         [high, low, 0, 0, 0, 10, first, second, third, fourth] => {
@@ -75,13 +82,19 @@ fn is_code(bytes: &[u8]) -> bool
 }
 
 impl Pending {
-    // The nonceTPM of the reply, where it has one session, with a nonceTPM of the session's length and the HMAC, or else the reply's first
-    // fault. Nothing is copied. What a reply without parameters spells is known, so it is not read again.
+    // The nonceTPM of the reply, where it has one session, with a nonceTPM of the session's length and
+    // the HMAC, or else the reply's first fault. Nothing is copied. What a reply without parameters
+    // spells is known, so it is not read again.
     #[inline(never)]
     fn check<'a>(&self, bytes: &'a [u8]) -> Result<&'a [u8], CallerFault>
-        ensures ok { (body : ReplyBody) (auths : List AuthReply) → IsSpelledBy bytes.now self.now.code body auths →
-            IfOk result (λ nonce. opened_session self.now body auths ≡ Ok (record { caller = caller_with self.now nonce.now; response = done_with (record { body = body; auths = auths }) })) }
-        ensures err { IfErr result (λ fault. (f : Fault) × (opened self.now bytes.now ≡ Err f) × (fault ≡ fault_of f)) }
+        ensures ok { (body : ReplyBody) (auths : List AuthReply)
+            → IsSpelledBy bytes.now self.now.code body auths →
+            IfOk result (λ nonce. opened_session self.now body auths ≡ Ok (record {
+              caller = caller_with self.now nonce.now;
+              response = done_with (record { body = body; auths = auths });
+            })) }
+        ensures err { IfErr result
+            (λ fault. (f : Fault) × (opened self.now bytes.now ≡ Err f) × (fault ≡ fault_of f)) }
         ensures fits { IfOk result (λ nonce. length nonce.now ≤ digest_bytes) }
     {
         let Ok(areas) = reply_areas(self.code, bytes) else {
@@ -118,7 +131,8 @@ impl Pending {
     // The first fault of a reply in which `check` finds this one. The response is made here, so that nobody moves it.
     #[inline(never)]
     fn first_fault(&self, bytes: &[u8], checked: CallerFault) -> CallerFault
-        requires { (body : ReplyBody) (auths : List AuthReply) → IsSpelledBy bytes.now self.now.code body auths →
+        requires { (body : ReplyBody) (auths : List AuthReply)
+            → IsSpelledBy bytes.now self.now.code body auths →
             (f : Fault) × (opened_session self.now body auths ≡ Err f) × (checked ≡ fault_of f) }
         ensures { (f : Fault) × (opened self.now bytes.now ≡ Err f) × (result ≡ fault_of f) }
     {
@@ -157,16 +171,20 @@ impl Pending {
         }
     }
 
-    // Opens a reply with this nonceTPM, in which `check` finds no fault. What it makes is filled where the function begins, and so not in
-    // `open`.
+    // Opens a reply with this nonceTPM, in which `check` finds no fault. What it makes is filled where the
+    // function begins, and so not in `open`.
     #[inline(never)]
     fn accept(
         self,
         bytes: &[u8],
         nonce: &[u8],
     ) -> Result<(Option<Caller>, Response), (Pending, CallerFault)>
-        requires checked { (body : ReplyBody) (auths : List AuthReply) → IsSpelledBy bytes.now self.code body auths →
-            opened_session self body auths ≡ Ok (record { caller = caller_with self nonce.now; response = done_with (record { body = body; auths = auths }) }) }
+        requires checked { (body : ReplyBody) (auths : List AuthReply)
+            → IsSpelledBy bytes.now self.code body auths →
+            opened_session self body auths ≡ Ok (record {
+              caller = caller_with self nonce.now;
+              response = done_with (record { body = body; auths = auths });
+            }) }
         requires fits { length nonce.now ≤ digest_bytes }
         ensures { result ≡ opening_of self (opened self bytes.now) }
     {
@@ -180,10 +198,11 @@ impl Pending {
         Ok((self.caller_after(nonce), response))
     }
 
-    /// Opens the reply: the response, and the caller with the session's new nonceTPM, where it was kept. What is no reply is refused with
-    /// the first of these faults, and leaves this unchanged: `Refused` where the bytes do not decode as a response to the command;
-    /// `Code` for a response code that is not 0; `NotExpected` where there is not exactly one session, or its nonceTPM has another
-    /// length than the session's; `WrongMac` where its HMAC is not that of the new nonceTPM, the command's nonceCaller and the
+    /// Opens the reply: the response, and the caller with the session's new nonceTPM, where it was kept. What
+    /// is no reply is refused with the first of these faults, and leaves this unchanged: `Refused` where the
+    /// bytes do not decode as a response to the command; `Code` for a response code that is not 0;
+    /// `NotExpected` where there is not exactly one session, or its nonceTPM has another length than the
+    /// session's; `WrongMac` where its HMAC is not that of the new nonceTPM, the command's nonceCaller and the
     /// response's attributes (Part 1, "Session-Based Authorizations").
     // It is in line, since what it answers would be copied as it is returned. What it calls is not.
     #[inline(always)]
@@ -197,7 +216,8 @@ impl Pending {
         self.accept(bytes, nonce)
     }
 
-    /// The caller as it was before it sealed the command, where these bytes are a response whose code is not 0. This is unchanged else.
+    /// The caller as it was before it sealed the command, where these bytes are a response whose
+    /// code is not 0. This is unchanged else.
     pub fn give_up(self, refusal: &[u8]) -> Result<Caller, Pending>
         ensures { result ≡ giving_up_of self (given_up self refusal.now) }
     {

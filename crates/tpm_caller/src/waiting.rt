@@ -46,10 +46,11 @@ impl Waiting {
         self.bytes.as_slice()
     }
 
-    /// Opens the reply: the response, and the caller with the session's new nonceTPM, where it was kept. What is no reply is refused with
-    /// the first of these faults, and leaves this unchanged: `Refused` where the bytes do not decode as a response to the command;
-    /// `Code` for a response code that is not 0; `NotExpected` where there is not exactly one session, or its nonceTPM has another
-    /// length than the session's; `WrongMac` where its HMAC is not that of the new nonceTPM, the command's nonceCaller and the
+    /// Opens the reply: the response, and the caller with the session's new nonceTPM, where it was kept. What
+    /// is no reply is refused with the first of these faults, and leaves this unchanged: `Refused` where the
+    /// bytes do not decode as a response to the command; `Code` for a response code that is not 0;
+    /// `NotExpected` where there is not exactly one session, or its nonceTPM has another length than the
+    /// session's; `WrongMac` where its HMAC is not that of the new nonceTPM, the command's nonceCaller and the
     /// response's attributes (Part 1, "Session-Based Authorizations").
     pub fn open(self, bytes: &[u8]) -> Result<(Option<Caller>, Response), (Waiting, CallerFault)>
         ensures { result ≡ opening_of self (opened self.waiting bytes.now) }
@@ -70,7 +71,8 @@ impl Waiting {
         }
     }
 
-    /// The caller as it was before it sealed the command, where these bytes are a response whose code is not 0. This is unchanged else.
+    /// The caller as it was before it sealed the command, where these bytes are a response whose
+    /// code is not 0. This is unchanged else.
     pub fn give_up(self, refusal: &[u8]) -> Result<Caller, Waiting>
         ensures { result ≡ giving_up_of self (given_up self.waiting refusal.now) }
     {

@@ -22,16 +22,22 @@ use Rattle.tpm_check.specs.Check.{ChecksQuote, ChecksBehind, ChecksValues, Count
 
 -- ---- a list
 
-pub stated_none : (value : Values) (hash : Alg) (bytes : List ℕ) (quote : Option (List ℕ)) → None ≡ (comparison value bytes).status → ChecksValues value hash (Some bytes) quote Refused (comparison value bytes).text
-stated_none value hash bytes quote e = subst (λ (o : Option Status). ChecksBehind value hash (comparison value bytes).text o quote Refused (comparison value bytes).text) e (refl, refl)
+pub stated_none : (value : Values) (hash : Alg) (bytes : List ℕ) (quote : Option (List ℕ)) → None ≡ (comparison value bytes).status
+    → ChecksValues value hash (Some bytes) quote Refused (comparison value bytes).text
+stated_none value hash bytes quote e =
+    subst (λ (o : Option Status). ChecksBehind value hash (comparison value bytes).text o quote Refused (comparison value bytes).text) e (refl, refl)
 
-pub stated_alone : (value : Values) (hash : Alg) (bytes : List ℕ) (first : Status) → Some first ≡ (comparison value bytes).status → ChecksValues value hash (Some bytes) None first (comparison value bytes).text
-stated_alone value hash bytes first e = subst (λ (o : Option Status). ChecksBehind value hash (comparison value bytes).text o None first (comparison value bytes).text) e (refl, refl)
+pub stated_alone : (value : Values) (hash : Alg) (bytes : List ℕ) (first : Status) → Some first ≡ (comparison value bytes).status
+    → ChecksValues value hash (Some bytes) None first (comparison value bytes).text
+stated_alone value hash bytes first e =
+    subst (λ (o : Option Status). ChecksBehind value hash (comparison value bytes).text o None first (comparison value bytes).text) e (refl, refl)
 
-pub stated_quoted : (value : Values) (hash : Alg) (bytes quote more : List ℕ) (first second : Status) → Some first ≡ (comparison value bytes).status → ChecksQuote value hash (bytes_in quote) second more
+pub stated_quoted : (value : Values) (hash : Alg) (bytes quote more : List ℕ) (first second : Status) → Some first ≡ (comparison value bytes).status
+    → ChecksQuote value hash (bytes_in quote) second more
     → ChecksValues value hash (Some bytes) (Some quote) (both first second) ((comparison value bytes).text ++ more)
 stated_quoted value hash bytes quote more first second e checks =
-    subst (λ (o : Option Status). ChecksBehind value hash (comparison value bytes).text o (Some quote) (both first second) ((comparison value bytes).text ++ more)) e (second, more, checks, refl, refl)
+    subst (λ (o : Option Status). ChecksBehind value hash (comparison value bytes).text o (Some quote) (both first second)
+    ((comparison value bytes).text ++ more)) e (second, more, checks, refl, refl)
 
 -- ---- a list, where there is one
 
@@ -50,18 +56,21 @@ counts_same failed None = tt
 counts_same failed (Some list) = refl
 
 -- nothing of a list was read
-pub counts_alone : {X F : Type 0} (failed : F → ℕ) (log log-2 : ℕ) (list : Option F) (r : Result X ToolFault) → FailsByMemoryOrWrite r → log-2 ≡ log → CountsReads failed log log-2 list list r
+pub counts_alone : {X F : Type 0} (failed : F → ℕ) (log log-2 : ℕ) (list : Option F) (r : Result X ToolFault) → FailsByMemoryOrWrite r → log-2 ≡ log
+    → CountsReads failed log log-2 list list r
 counts_alone failed log log-2 list (Err Read) f same = absurd f
 counts_alone failed log log-2 list (Err InputTooLong) f same = absurd f
 counts_alone failed log log-2 list _ f same = (same, counts_same failed list)
 
 -- a list was read
-pub counts_stated : {X F : Type 0} (failed : F → ℕ) (log log-2 : ℕ) (old new : F) (r : Result X ToolFault) → CountsRead (failed old) (failed new) r → log-2 ≡ log → CountsReads failed log log-2 (Some old) (Some new) r
+pub counts_stated : {X F : Type 0} (failed : F → ℕ) (log log-2 : ℕ) (old new : F) (r : Result X ToolFault) → CountsRead (failed old) (failed new) r
+    → log-2 ≡ log → CountsReads failed log log-2 (Some old) (Some new) r
 counts_stated failed log log-2 old new (Err Read) f same = inr (same, f)
 counts_stated failed log log-2 old new _ f same = (same, f)
 
 -- a read of the log failed
-pub counts_log : (X : Type 0) {F : Type 0} (failed : F → ℕ) (log log-2 : ℕ) (list : Option F) → log-2 ≡ one_more log → CountsReads {X = X} failed log log-2 list list (Err Read)
+pub counts_log : (X : Type 0) {F : Type 0} (failed : F → ℕ) (log log-2 : ℕ) (list : Option F) → log-2 ≡ one_more log
+    → CountsReads {X = X} failed log log-2 list list (Err Read)
 counts_log X failed log log-2 list more = inl (more, counts_same failed list)
 
 -- ---- the last read
@@ -70,10 +79,12 @@ counts_log X failed log log-2 list more = inl (more, counts_same failed list)
 pub not_read : {X : Type 0} (r : Result X ToolFault) → FailsByMemoryOrWrite r → IsErrOf r Read → ⊥
 not_read r f is = rw is at f
 
-pub log_last : {F : Type 0} (failed : F → ℕ) (stopped : F → Bool) (log log-2 : ℕ) (last : Bool) (list : Option F) → log-2 ≡ one_more log → IsWhereItFailed last → FailsLast failed stopped log log-2 last list list
+pub log_last : {F : Type 0} (failed : F → ℕ) (stopped : F → Bool) (log log-2 : ℕ) (last : Bool) (list : Option F) → log-2 ≡ one_more log
+    → IsWhereItFailed last → FailsLast failed stopped log log-2 last list list
 log_last failed stopped log log-2 last list more is = inl (more, is, refl)
 
-pub stated_last : {X F : Type 0} (failed : F → ℕ) (stopped : F → Bool) (log log-2 : ℕ) (last : Bool) (old new : F) (r : Result X ToolFault) → CountsRead (failed old) (failed new) r → (IsErrOf r Read → IsWhereItFailed (stopped new)) → log-2 ≡ log
+pub stated_last : {X F : Type 0} (failed : F → ℕ) (stopped : F → Bool) (log log-2 : ℕ) (last : Bool) (old new : F) (r : Result X ToolFault)
+    → CountsRead (failed old) (failed new) r → (IsErrOf r Read → IsWhereItFailed (stopped new)) → log-2 ≡ log
     → IsErrOf r Read → FailsLast failed stopped log log-2 last (Some old) (Some new)
 stated_last failed stopped log log-2 last old new (Err Read) f ends same is = inr (same, (f, ends is))
 stated_last failed stopped log log-2 last old new _ f ends same is = absurd cc

@@ -52,7 +52,8 @@ both_done : (status : Status) → both status Done ≡ status
 both_done Done = refl
 both_done Refused = refl
 
-behind_line : (status : Status) (same : Bool) (o : Option Status) → option_map (both status) (option_map (both (status_if same)) o) ≡ option_map (both (status_behind status same)) o
+behind_line : (status : Status) (same : Bool) (o : Option Status)
+    → option_map (both status) (option_map (both (status_if same)) o) ≡ option_map (both (status_behind status same)) o
 behind_line status true None = refl
 behind_line status true (Some other) = refl
 behind_line Done false None = refl
@@ -74,33 +75,43 @@ behind-behind : (text more : List ℕ) (c : Comparison) → behind text (behind 
 behind-behind text more c = ap (λ (t : List ℕ). record { text = t; status = c.status }) (sym (append_assoc text more c.text))
 
 -- a byte of a line
-pub leads_longer : (value : Values) (p : Place) (byte : ℕ) → Leads value p (byte ∷ []) [] (record { line = p.line ++ byte ∷ []; number = p.number; heading = p.heading; status = p.status })
-leads_longer value p byte = λ more. ap (λ (bytes : List ℕ). with_status p.status (comparison_from value p.number (lines_under p.heading (lines_of bytes)))) (sym (append_assoc p.line (byte ∷ []) more))
+pub leads_longer : (value : Values) (p : Place) (byte : ℕ)
+    → Leads value p (byte ∷ []) [] (record { line = p.line ++ byte ∷ []; number = p.number; heading = p.heading; status = p.status })
+leads_longer value p byte =
+    λ more. ap (λ (bytes : List ℕ). with_status p.status (comparison_from value p.number (lines_under p.heading (lines_of bytes)))) (sym
+    (append_assoc p.line (byte ∷ []) more))
 
 -- what is printed of a line that says this, and of those behind it
 abbrev comparison_behind : (value : Values) (p : Place) (line : ListLine) (more : List ℕ) → Comparison
-comparison_behind value p line more = with_status p.status (comparison_of value p.number line (comparison_from value (p.number + 1) (lines_under (heading_behind p.heading line) (lines_of more))))
+comparison_behind value p line more =
+    with_status p.status (comparison_of value p.number line (comparison_from value (p.number + 1)
+    (lines_under (heading_behind p.heading line) (lines_of more))))
 
 -- the line feed of the present line
-after_feed : (value : Values) (p : Place) (line : ListLine) (more : List ℕ) → HasNoFeed p.line → line_under p.heading p.line ≡ line → comparison_at value p (10 ∷ more) ≡ comparison_behind value p line more
+after_feed : (value : Values) (p : Place) (line : ListLine) (more : List ℕ) → HasNoFeed p.line → line_under p.heading p.line ≡ line
+    → comparison_at value p (10 ∷ more) ≡ comparison_behind value p line more
 after_feed value p line more f is =
     ap (λ (lines : List (List ℕ)). with_status p.status (comparison_from value p.number (lines_under p.heading lines))) (ended_line p.line more f)
     ∙ ap (λ (line : ListLine). comparison_behind value p line more) is
 
 -- that of a line that states a register
 leads_line : (value : Values) (p q : Place) (s : Stated) → HasNoFeed p.line → line_under p.heading p.line ≡ States s
-    → q ≡ record { line = []; number = p.number + 1; heading = p.heading; status = status_behind p.status (is_value value s) } → Leads value p (10 ∷ []) (compared_line (is_value value s) s.bank s.register) q
+    → q ≡ record { line = []; number = p.number + 1; heading = p.heading; status = status_behind p.status (is_value value s) }
+    → Leads value p (10 ∷ []) (compared_line (is_value value s) s.bank s.register) q
 leads_line value p q s f is there = rw there (λ more.
     let rest = comparison_from value (p.number + 1) (lines_under p.heading (lines_of more)) in
     after_feed value p (States s) more f is
-    ∙ ap (λ (status : Option Status). record { text = compared_line (is_value value s) s.bank s.register ++ rest.text; status = status }) (behind_line p.status (is_value value s) rest.status))
+    ∙ ap (λ (status : Option Status). record { text = compared_line (is_value value s) s.bank s.register ++ rest.text; status = status }) (behind_line
+    p.status (is_value value s) rest.status))
 
 -- of a heading
-leads_heading : (value : Values) (p q : Place) (heading : Heading) → HasNoFeed p.line → line_under p.heading p.line ≡ Heads heading → q ≡ next_line p heading → Leads value p (10 ∷ []) [] q
+leads_heading : (value : Values) (p q : Place) (heading : Heading) → HasNoFeed p.line → line_under p.heading p.line ≡ Heads heading
+    → q ≡ next_line p heading → Leads value p (10 ∷ []) [] q
 leads_heading value p q heading f is there = rw there (λ more. after_feed value p (Heads heading) more f is)
 
 -- of a register of another bank
-leads_passed : (value : Values) (p q : Place) → HasNoFeed p.line → line_under p.heading p.line ≡ Passes → q ≡ next_line p p.heading → Leads value p (10 ∷ []) [] q
+leads_passed : (value : Values) (p q : Place) → HasNoFeed p.line → line_under p.heading p.line ≡ Passes → q ≡ next_line p p.heading
+    → Leads value p (10 ∷ []) [] q
 leads_passed value p q f is there = rw there (λ more. after_feed value p Passes more f is)
 
 -- of one that is wrong
@@ -108,13 +119,16 @@ stops_line : (value : Values) (p : Place) → HasNoFeed p.line → line_under p.
 stops_line value p f is = λ more. after_feed value p Wrong more f is
 
 -- a byte too many
-pub stops_long : (value : Values) (p : Place) (byte : ℕ) → HasNoFeed p.line → nat_eq byte 10 ≡ false → most_line ≤ length p.line → Stops value p (byte ∷ []) (not_a_register_line p.number)
+pub stops_long : (value : Values) (p : Place) (byte : ℕ) → HasNoFeed p.line → nat_eq byte 10 ≡ false → most_line ≤ length p.line
+    → Stops value p (byte ∷ []) (not_a_register_line p.number)
 stops_long value p byte f g le = λ more.
     let long = p.line ++ byte ∷ first_line (lines_of more) in
     let is_long : most_line < length long = omega (arith, le, length-append p.line (byte ∷ first_line (lines_of more))) in
     let others = other_lines (lines_of more) in
     ap (λ (lines : List (List ℕ)). with_status p.status (comparison_from value p.number (lines_under p.heading lines))) (longer_line p.line byte more f g)
-    ∙ ap (λ (line : ListLine). with_status p.status (comparison_of value p.number line (comparison_from value (p.number + 1) (lines_under (heading_behind p.heading line) others)))) (wrong-long p.heading long is_long)
+    ∙ ap (λ (line : ListLine). with_status p.status
+    (comparison_of value p.number line (comparison_from value (p.number + 1) (lines_under (heading_behind p.heading line) others)))) (wrong-long
+    p.heading long is_long)
 
 leads_both : (value : Values) (p q r : Place) (xs ys t u : List ℕ) → Leads value p xs t q → Leads value q ys u r → Leads value p (xs ++ ys) (t ++ u) r
 leads_both value p q r xs ys t u f g = λ more.
@@ -133,7 +147,8 @@ stops_further value p xs ys t f = λ more. ap (comparison_at value p) (append_as
 abbrev AreRight : List ListLine → Type 0
 AreRight lines = AllByRecursion (λ (line : ListLine). line ≢ Wrong) lines
 
-all_right : (heading : Heading) (xs ys : List (List ℕ)) → AreRight (lines_under heading xs) → AreRight (lines_under (heading_after heading xs) ys) → AreRight (lines_under heading (xs ++ ys))
+all_right : (heading : Heading) (xs ys : List (List ℕ)) → AreRight (lines_under heading xs) → AreRight (lines_under (heading_after heading xs) ys)
+    → AreRight (lines_under heading (xs ++ ys))
 all_right heading [] ys f g = g
 all_right heading (x ∷ xs) ys f g = (f.0, all_right (heading_behind heading (line_under heading x)) xs ys f.1 g)
 
@@ -141,22 +156,26 @@ after_both : (heading : Heading) (xs ys : List (List ℕ)) → heading_after hea
 after_both heading [] ys = refl
 after_both heading (x ∷ xs) ys = after_both (heading_behind heading (line_under heading x)) xs ys
 
-registers_both : (heading : Heading) (a b : List ℕ) → AreEnded a → AreRegisters heading a → AreRegisters (heading_after heading (lines_of a)) b → AreRegisters heading (a ++ b)
+registers_both : (heading : Heading) (a b : List ℕ) → AreEnded a → AreRegisters heading a → AreRegisters (heading_after heading (lines_of a)) b
+    → AreRegisters heading (a ++ b)
 registers_both heading a b ended f g = rw (lines_of-append a b ended) (all_right heading (lines_of a) (lines_of b) f g)
 
-headings_both : (heading : Heading) (a b : List ℕ) → AreEnded a → heading_after (heading_after heading (lines_of a)) (lines_of b) ≡ heading_after heading (lines_of (a ++ b))
+headings_both : (heading : Heading) (a b : List ℕ) → AreEnded a
+    → heading_after (heading_after heading (lines_of a)) (lines_of b) ≡ heading_after heading (lines_of (a ++ b))
 headings_both heading a b ended = rw (lines_of-append a b ended) (sym (after_both heading (lines_of a) (lines_of b)))
 
 ends_both : (p q r : Place) (xs ys : List ℕ) → Ends p xs q → Ends q ys r → Ends p (xs ++ ys) r
 ends_both p q r xs ys f g = (
   f.0 ++ g.0,
-  sym (append_assoc p.line xs ys) ∙ ap (λ (bytes : List ℕ). bytes ++ ys) f.1 ∙ append_assoc f.0 q.line ys ∙ ap (λ (bytes : List ℕ). f.0 ++ bytes) g.1 ∙ sym (append_assoc f.0 g.0 r.line),
+  sym (append_assoc p.line xs ys) ∙ ap (λ (bytes : List ℕ). bytes ++ ys) f.1 ∙ append_assoc f.0 q.line ys ∙ ap (λ (bytes : List ℕ). f.0 ++ bytes) g.1
+      ∙ sym (append_assoc f.0 g.0 r.line),
   ended_both f.0 g.0 f.2 g.2,
   registers_both p.heading f.0 g.0 f.2 f.3 (subst (λ (heading : Heading). AreRegisters heading g.0) f.4 g.3),
   g.4 ∙ ap (λ (heading : Heading). heading_after heading (lines_of g.0)) f.4 ∙ headings_both p.heading f.0 g.0 f.2,
 )
 
-ends_line : (p q : Place) (line : ListLine) → HasNoFeed p.line → line_under p.heading p.line ≡ line → line ≢ Wrong → q.line ≡ [] → q.heading ≡ heading_behind p.heading line → Ends p (10 ∷ []) q
+ends_line : (p q : Place) (line : ListLine) → HasNoFeed p.line → line_under p.heading p.line ≡ line → line ≢ Wrong → q.line ≡ []
+    → q.heading ≡ heading_behind p.heading line → Ends p (10 ∷ []) q
 ends_line p q line f is right none heading = (
   p.line ++ 10 ∷ [],
   rw none (sym (append-nil (p.line ++ 10 ∷ []))),
@@ -178,7 +197,8 @@ goes_none value p present = record {
   open_again = present;
 }
 
-pub takes_both : (value : Values) (p q r : Place) (xs ys t u : List ℕ) (goes_on : Bool) → GoesOn value p xs t q → Takes value q ys goes_on r u → Takes value p (xs ++ ys) goes_on r (t ++ u)
+pub takes_both : (value : Values) (p q r : Place) (xs ys t u : List ℕ) (goes_on : Bool) → GoesOn value p xs t q → Takes value q ys goes_on r u
+    → Takes value p (xs ++ ys) goes_on r (t ++ u)
 takes_both value p q r xs ys t u true f g = record {
   leads = leads_both value p q r xs ys t u f.leads g.leads;
   ends = ends_both p q r xs ys f.ends g.ends;
@@ -201,11 +221,13 @@ goes_line value p q text line present is right leads none number heading = recor
   open_again = record { line = rw none tt; most = rw none (omega arith) };
 }
 
-takes_line : (value : Values) (p q : Place) (Text : List ℕ → Type 0) (line : ListLine) → IsOpen p → line_under p.heading p.line ≡ line → EndsAs value p line q Text → Added Text (λ text. GoesOn value p (10 ∷ []) text q)
+takes_line : (value : Values) (p q : Place) (Text : List ℕ → Type 0) (line : ListLine) → IsOpen p → line_under p.heading p.line ≡ line
+    → EndsAs value p line q Text → Added Text (λ text. GoesOn value p (10 ∷ []) text q)
 takes_line value p q Text (States s) present is ended = (
   compared_line (is_value value s) s.bank s.register,
   ended.0,
-  goes_line value p q (compared_line (is_value value s) s.bank s.register) (States s) present is (λ e. let z : ⊥ = cc in z) (leads_line value p q s present.line is ended.1)
+  goes_line value p q (compared_line (is_value value s) s.bank s.register) (States s) present is (λ e. let z : ⊥ = cc in z)
+      (leads_line value p q s present.line is ended.1)
       (ap (λ (r : Place). r.line) ended.1) (ap (λ (r : Place). r.number) ended.1) (ap (λ (r : Place). r.heading) ended.1),
 )
 takes_line value p q Text (Heads heading) present is ended = (
@@ -222,7 +244,8 @@ takes_line value p q Text Passes present is ended = (
 )
 takes_line value p q Text Wrong present is ended = absurd ended
 
-pub takes_feed : (value : Values) (p q : Place) (goes_on : Bool) (Text : List ℕ → Type 0) → IsOpen p → EndsLine value p goes_on q Text → Added Text (Takes value p (10 ∷ []) goes_on q)
+pub takes_feed : (value : Values) (p q : Place) (goes_on : Bool) (Text : List ℕ → Type 0) → IsOpen p → EndsLine value p goes_on q Text
+    → Added Text (Takes value p (10 ∷ []) goes_on q)
 takes_feed value p q true Text present ended = takes_line value p q Text ended.0 present ended.1 ended.2
 takes_feed value p q false Text present ended = (not_a_register_line p.number, ended.1, stops_line value p present.line ended.0)
 
@@ -243,17 +266,20 @@ at_line_end value p line some present is =
 abbrev EndsWith : Values → Place → Place → (Text : List ℕ → Type 0) → Type 0
 EndsWith value p q Text = (Some q.status ≡ (comparison_at value p []).status) × Text (comparison_at value p []).text
 
-ends_with : (value : Values) (p q : Place) (Text : List ℕ → Type 0) (text : List ℕ) → comparison_at value p [] ≡ record { text = text; status = Some q.status } → Text text → EndsWith value p q Text
+ends_with : (value : Values) (p q : Place) (Text : List ℕ → Type 0) (text : List ℕ)
+    → comparison_at value p [] ≡ record { text = text; status = Some q.status } → Text text → EndsWith value p q Text
 ends_with value p q Text text is added = (ap (λ (c : Comparison). c.status) (sym is), subst (λ (c : Comparison). Text c.text) (sym is) added)
 
-at_end_as : (value : Values) (p q : Place) (Text : List ℕ → Type 0) (line : ListLine) → 0 < length p.line → IsOpen p → line_under p.heading p.line ≡ line → EndsAs value p line q Text → EndsWith value p q Text
+at_end_as : (value : Values) (p q : Place) (Text : List ℕ → Type 0) (line : ListLine) → 0 < length p.line → IsOpen p → line_under p.heading p.line ≡ line
+    → EndsAs value p line q Text → EndsWith value p q Text
 at_end_as value p q Text (States s) some present is ended =
     let same = is_value value s in
     let text = compared_line same s.bank s.register in
     ends_with value p q Text text (
     at_line_end value p (States s) some present is
     ∙ ap (λ (t : List ℕ). record { text = t; status = option_map (both p.status) (Some (both (status_if same) Done)) }) (append-nil text)
-    ∙ ap (λ (o : Option Status). record { text = text; status = o }) (behind_line p.status same (Some Done) ∙ ap (λ (status : Status). Some status) (both_done (status_behind p.status same)))
+    ∙ ap (λ (o : Option Status). record { text = text; status = o }) (behind_line p.status same (Some Done)
+    ∙ ap (λ (status : Status). Some status) (both_done (status_behind p.status same)))
     ∙ ap (λ (r : Place). record { text = text; status = Some r.status }) (sym ended.1)
     ) ended.0
 at_end_as value p q Text (Heads heading) some present is ended = ends_with value p q Text [] (
@@ -304,7 +330,8 @@ stated value bytes text p f = record {
 }
 
 abbrev pub Answers : Values → (old new a c : Option (List ℕ)) → Option Status → Type 0
-Answers value old new a c status = (bytes : List ℕ) × ReadsList value old new bytes × (status ≡ (comparison value bytes).status) × Appends a c (comparison value bytes).text
+Answers value old new a c status =
+    (bytes : List ℕ) × ReadsList value old new bytes × (status ≡ (comparison value bytes).status) × Appends a c (comparison value bytes).text
 
 -- at the end
 pub answers_at_end : (value : Values) (old mid new a b c : Option (List ℕ)) (read : ℕ) (p : Place) (status : Option Status)
@@ -345,7 +372,8 @@ answers_stopped value old mid new a b c read count bytes text p f le few consume
     )
 
 pub reaches_more : (value : Values) (old mid new a b c : Option (List ℕ)) (read count : ℕ) (bytes text : List ℕ) (p q : Place)
-    → Reaches value old mid read p (Appends a b) → Consumes mid new bytes → count ≡ length bytes → Appends b c text → GoesOn value p bytes text q → Reaches value old new (read + count) q (Appends a c)
+    → Reaches value old mid read p (Appends a b) → Consumes mid new bytes → count ≡ length bytes → Appends b c text → GoesOn value p bytes text q
+    → Reaches value old new (read + count) q (Appends a c)
 reaches_more value old mid new a b c read count bytes text p q f consumed is added goes = record {
   bytes = f.bytes ++ bytes;
   text = f.text ++ text;
@@ -355,7 +383,8 @@ reaches_more value old mid new a b c read count bytes text p q f consumed is add
   goes_on = takes_both value start p q f.bytes bytes f.text text true f.goes_on goes;
 }
 
-pub reads_too_much : (value : Values) (old mid new : Option (List ℕ)) (read : ℕ) (more : List ℕ) (p : Place) (Added : List ℕ → Type 0) → Reaches value old mid read p Added
+pub reads_too_much : (value : Values) (old mid new : Option (List ℕ)) (read : ℕ) (more : List ℕ) (p : Place) (Added : List ℕ → Type 0)
+    → Reaches value old mid read p Added
     → Consumes mid new more → length more ≡ 1 → read ≡ most_bytes → ReadsTooMuchList old new
 reads_too_much value old mid new read more p Added f consumed one is = record {
   bytes = f.bytes;

@@ -27,7 +27,8 @@ module _ (value : Values) (hash : Alg) (nonce : Option (List ℕ)) (required : O
   pub alone : ChecksAll value hash nonce required bytes None None first said
   alone = (first, Done, said, [], given, (refl, refl), sym (both-done first), sym (append-nil said))
 
-  pub with_quote : (quote more : List ℕ) (second : Status) → ChecksQuote value hash (bytes_in quote) second more → ChecksAll value hash nonce required bytes None (Some quote) (both first second) (said ++ more)
+  pub with_quote : (quote more : List ℕ) (second : Status) → ChecksQuote value hash (bytes_in quote) second more
+      → ChecksAll value hash nonce required bytes None (Some quote) (both first second) (said ++ more)
   with_quote quote more second checks = (first, second, said, more, given, checks, refl, refl)
 
   pub with_list : (list : List ℕ) (quote : Option (List ℕ)) (more : List ℕ) (second : Status) → ChecksValues value hash (Some list) quote second more

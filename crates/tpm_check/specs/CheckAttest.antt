@@ -15,8 +15,8 @@ use Rattle.tpm_types.specs.Attest.{attest}
 use Rattle.tpm_types.specs.Tpms.{is_selected}
 use Rattle.tpm_model.specs.Registers.{Registers, composite, value_in}
 use Rattle.tpm_log.specs.declared.fault.LogFault.{LogFault}
-use Rattle.tpm_log.specs.declared.attest.NotSelected.{NotSelected}
-use Rattle.tpm_log.specs.Attests.{first_not_selected, registers_of}
+use Rattle.tpm_quote.specs.declared.attest.NotSelected.{NotSelected}
+use Rattle.tpm_quote.specs.Attests.{first_not_selected, registers_of}
 use Rattle.tpm_log.specs.Takes.{IsOfBytes}
 use Rattle.tpm_text.specs.declared.status.Status.TheVariants.{Done, Refused}
 use Rattle.tpm_text.specs.declared.status.Status.{Status}
@@ -45,7 +45,10 @@ unfoldable pub safe_line : Bool → List ℕ
 safe_line safe = line (codes "safe" ∷ yes_no_text safe ∷ [])
 
 abbrev pub clock_lines : ClockInfo → List ℕ
-clock_lines c = number_line (codes "clock") c.clock ++ (number_line (codes "resets") c.reset_count ++ (number_line (codes "restarts") c.restart_count ++ safe_line c.safe))
+clock_lines c =
+    number_line (codes "clock") c.clock
+    ++ (number_line (codes "resets") c.reset_count
+    ++ (number_line (codes "restarts") c.restart_count ++ safe_line c.safe))
 
 unfoldable pub firmware_line : ℕ → List ℕ
 firmware_line version = line (codes "firmware" ∷ hexadecimal 16 version ∷ [])
@@ -66,7 +69,10 @@ abbrev pub selection_line : List Selection → List ℕ
 selection_line sels = codes "selection" ++ (flat_map entry_words sels ++ codes "\n")
 
 abbrev pub attest_text : Attest → List ℕ
-attest_text a = signer_line a.signer ++ (nonce_line a.extra_data ++ (clock_lines a.clock_info ++ (firmware_line a.firmware_version ++ selection_line a.quote.selections)))
+attest_text a =
+    signer_line a.signer
+    ++ (nonce_line a.extra_data
+    ++ (clock_lines a.clock_info ++ (firmware_line a.firmware_version ++ selection_line a.quote.selections)))
 
 -- ---- verdicts
 
@@ -110,7 +116,8 @@ behind v w = record { status = both v.status w.status; text = v.text ++ w.text }
 -- what the quote says, and the verdicts on its nonce, its selection and its digest
 abbrev pub on_attest : Values → Alg → (sent : Option (List ℕ)) → (required : Option (List Selection)) → Attest → Verdict
 on_attest value hash sent required a =
-    behind (record { status = Done; text = attest_text a }) (behind (on_nonce sent a.extra_data) (behind (on_selection required a.quote.selections) (on_quote value hash a.quote)))
+    behind (record { status = Done; text = attest_text a }) (behind (on_nonce sent a.extra_data)
+    (behind (on_selection required a.quote.selections) (on_quote value hash a.quote)))
 
 -- A text was added with its status.
 abbrev pub Adds : Verdict → Status → (old new : List ℕ) → Type 0
@@ -122,19 +129,24 @@ abbrev pub Says : Verdict → Status → List ℕ → Type 0
 Says v status text = (status ≡ v.status) × (text ≡ v.text)
 
 -- the quote that the bytes spell, and else their fault
-abbrev pub ChecksAttest : Values → Alg → (sent : Option (List ℕ)) → (required : Option (List Selection)) → (bytes : List ℕ) → Status → List ℕ → Type 0
+abbrev pub ChecksAttest : Values → Alg → (sent : Option (List ℕ)) → (required : Option (List Selection))
+    → (bytes : List ℕ) → Status → List ℕ → Type 0
 ChecksAttest value hash sent required bytes status text =
     ((a : Attest) × Spells attest a bytes × Says (on_attest value hash sent required a) status text)
     ⊎ ((refusal : Refusal) × Fault attest bytes refusal × (status ≡ Refused) × (text ≡ refusal_line refusal))
 
-abbrev pub ChecksDecoded : Values → Alg → (sent : Option (List ℕ)) → (required : Option (List Selection)) → (bytes : List ℕ) → Status → List ℕ → Type 0
+abbrev pub ChecksDecoded : Values → Alg → (sent : Option (List ℕ)) → (required : Option (List Selection))
+    → (bytes : List ℕ) → Status → List ℕ → Type 0
 ChecksDecoded value hash None required bytes status text = (status ≡ Refused) × (text ≡ not_hexadecimal_line)
-ChecksDecoded value hash (Some sent) required bytes status text = ChecksAttest value hash (Some sent) required bytes status text
+ChecksDecoded value hash (Some sent) required bytes status text =
+    ChecksAttest value hash (Some sent) required bytes status text
 
 -- the same with the nonce by its hexadecimal digits
-abbrev pub ChecksGiven : Values → Alg → (sent : Option (List ℕ)) → (required : Option (List Selection)) → (bytes : List ℕ) → Status → List ℕ → Type 0
+abbrev pub ChecksGiven : Values → Alg → (sent : Option (List ℕ)) → (required : Option (List Selection))
+    → (bytes : List ℕ) → Status → List ℕ → Type 0
 ChecksGiven value hash None required bytes status text = ChecksAttest value hash None required bytes status text
-ChecksGiven value hash (Some sent) required bytes status text = ChecksDecoded value hash (bytes_in sent) required bytes status text
+ChecksGiven value hash (Some sent) required bytes status text =
+    ChecksDecoded value hash (bytes_in sent) required bytes status text
 
 -- Besides: a list of registers and the information of a quote, where one of them is given.
 abbrev pub ChecksBesides : Values → Alg → (list quote : Option (List ℕ)) → Status → List ℕ → Type 0
@@ -143,14 +155,19 @@ ChecksBesides value hash None (Some quote) status text = ChecksValues value hash
 ChecksBesides value hash (Some list) quote status text = ChecksValues value hash (Some list) quote status text
 
 -- What was printed of the quote as it was signed, with its status, comes before that.
-abbrev pub ChecksAll : Values → Alg → (sent : Option (List ℕ)) → (required : Option (List Selection)) → (bytes : List ℕ) → (list quote : Option (List ℕ)) → Status → List ℕ → Type 0
+abbrev pub ChecksAll : Values → Alg → (sent : Option (List ℕ)) → (required : Option (List Selection))
+    → (bytes : List ℕ) → (list quote : Option (List ℕ)) → Status → List ℕ → Type 0
 ChecksAll value hash sent required bytes list quote status text = (first second : Status) × (said more : List ℕ)
     × ChecksGiven value hash sent required bytes first said × ChecksBesides value hash list quote second more
     × (status ≡ both first second) × (text ≡ said ++ more)
 
 -- For what the log gives this is the status and the text; a list is not read behind a fault.
-abbrev pub ChecksSigned : {F : Type 0} → Result Registers LogFault → Alg → (sent : Option (List ℕ)) → (required : Option (List Selection)) → (bytes : List ℕ)
+abbrev pub ChecksSigned : {F : Type 0} → Result Registers LogFault → Alg → (sent : Option (List ℕ))
+    → (required : Option (List Selection)) → (bytes : List ℕ)
     → (coming : F → Option (List ℕ)) → (old new : Option F) → (quote : Option (List ℕ)) → Status → List ℕ → Type 0
 ChecksSigned (Ok found) hash sent required bytes coming old new quote status text =
-    (list : Option (List ℕ)) × ReadsIfList (value_in found.banks) coming old new list × ChecksAll (value_in found.banks) hash sent required bytes list quote status text
-ChecksSigned (Err fault) hash sent required bytes coming old new quote status text = (new ≡ old) × IsOfBytes fault.kind × (status ≡ Refused) × (text ≡ log_fault_line fault)
+    (list : Option (List ℕ))
+    × ReadsIfList (value_in found.banks) coming old new list
+    × ChecksAll (value_in found.banks) hash sent required bytes list quote status text
+ChecksSigned (Err fault) hash sent required bytes coming old new quote status text =
+    (new ≡ old) × IsOfBytes fault.kind × (status ≡ Refused) × (text ≡ log_fault_line fault)

@@ -72,12 +72,16 @@ register_named word = position (λ name. bytes_eq name word) register_names
 
 -- a value has as many bytes as a digest of the bank's hash
 abbrev pub stated_of : Option Alg → Option ℕ → Option (List ℕ) → Option Stated
-stated_of (Some bank) (Some register) (Some value) = if length value == digest_len bank then Some (record { bank = bank; register = register; value = value }) else None
+stated_of (Some bank) (Some register) (Some value) =
+    if length value == digest_len bank then Some (record { bank = bank; register = register; value = value })
+    else None
 stated_of _ _ _ = None
 
 -- the bank, the register and the value that a line states: their words, with a space between them
 abbrev pub stated_in : List ℕ → Option Stated
-stated_in text = stated_of (bank_named (first_word text)) (register_named (first_word (behind_word text))) (bytes_in (behind_word (behind_word text)))
+stated_in text =
+    stated_of (bank_named (first_word text)) (register_named (first_word (behind_word text)))
+    (bytes_in (behind_word (behind_word text)))
 
 -- ---- a line of what tpm2_pcrread prints: a bank's heading, or a register's number and value
 
@@ -152,7 +156,8 @@ line_told None line = line
 unfoldable pub line_under : Heading → List ℕ → ListLine
 line_under heading text =
     if nat_lt most_line (length text) then Wrong
-    else line_told (heading_in text) (if is_numbered text then numbered_under heading (number_in text) (numbered_value text) else stating (stated_in text))
+    else line_told (heading_in text)
+    (if is_numbered text then numbered_under heading (number_in text) (numbered_value text) else stating (stated_in text))
 
 -- the heading of what is behind a line
 abbrev pub heading_behind : Heading → ListLine → Heading
@@ -162,7 +167,8 @@ heading_behind heading _ = heading
 -- what lines say, of which the first is under this heading
 abbrev pub lines_under : Heading → List (List ℕ) → List ListLine
 lines_under heading [] = []
-lines_under heading (first ∷ others) = let line = line_under heading first in line ∷ lines_under (heading_behind heading line) others
+lines_under heading (first ∷ others) = let line = line_under heading first in
+    line ∷ lines_under (heading_behind heading line) others
 
 -- ---- what is printed of a list
 
@@ -190,7 +196,11 @@ is_value value s = bytes_eq (value s.bank s.register) s.value
 
 -- a line, and what is printed of those behind it
 abbrev pub with_line : Bool → Stated → Comparison → Comparison
-with_line same s rest = record { text = compared_line same s.bank s.register ++ rest.text; status = option_map (both (status_if same)) rest.status }
+with_line same s rest =
+    record {
+      text = compared_line same s.bank s.register ++ rest.text;
+      status = option_map (both (status_if same)) rest.status;
+    }
 
 -- of the line of this number, and those behind it
 abbrev pub comparison_of : Values → ℕ → ListLine → Comparison → Comparison
@@ -230,11 +240,15 @@ pub record IsStatedBefore (bytes : List ℕ) : Type 0 where
   pub stated : IsStated before
   pub most : length last ≤ most_piece
 
--- These bytes were read, not too many; and the list has ended, or a line of the last of them is wrong, and whatever comes makes no difference.
+-- These bytes were read, not too many; and the list has ended, or a line of the last of them is wrong, and whatever
+-- comes makes no difference.
 pub record ReadsList (value : Values) (old new : Option (List ℕ)) (bytes : List ℕ) : Type 0 where
   pub read : Consumes old new bytes
   pub most : length bytes ≤ most_bytes
-  pub whole : IsAtEnd new ⊎ ((comparison value bytes).status ≡ None) × IsStatedBefore bytes × ((more : List ℕ) → comparison value (bytes ++ more) ≡ comparison value bytes)
+  pub whole : IsAtEnd new
+      ⊎ ((comparison value bytes).status ≡ None)
+      × IsStatedBefore bytes
+      × ((more : List ℕ) → comparison value (bytes ++ more) ≡ comparison value bytes)
 
 -- One byte more was read than a list may have, and up to it no line that has ended is wrong.
 pub record ReadsTooMuchList (old new : Option (List ℕ)) : Type 0 where

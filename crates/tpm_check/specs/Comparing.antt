@@ -53,7 +53,8 @@ with_status status c = record { text = c.text; status = option_map (both status)
 
 -- what is printed from here, where these bytes are to come
 abbrev pub comparison_at : Values → Place → List ℕ → Comparison
-comparison_at value p bytes = with_status p.status (comparison_from value p.number (lines_under p.heading (lines_of (p.line ++ bytes))))
+comparison_at value p bytes =
+    with_status p.status (comparison_from value p.number (lines_under p.heading (lines_of (p.line ++ bytes))))
 
 -- The line has not ended, and is not too long.
 pub record IsOpen (p : Place) : Type 0 where
@@ -62,15 +63,23 @@ pub record IsOpen (p : Place) : Type 0 where
 
 -- These bytes, and more, lead from a place to the other with this text.
 abbrev pub Leads : Values → Place → List ℕ → List ℕ → Place → Type 0
-Leads value p bytes text q = (more : List ℕ) → comparison_at value p (bytes ++ more) ≡ behind text (comparison_at value q more)
+Leads value p bytes text q =
+    (more : List ℕ) → comparison_at value p (bytes ++ more) ≡ behind text (comparison_at value q more)
 
 -- With these bytes, and whatever follows, the output ends behind this text.
 abbrev pub Stops : Values → Place → List ℕ → List ℕ → Type 0
-Stops value p bytes text = (more : List ℕ) → comparison_at value p (bytes ++ more) ≡ record { text = text; status = None }
+Stops value p bytes text =
+    (more : List ℕ) → comparison_at value p (bytes ++ more) ≡ record { text = text; status = None }
 
--- What has come of a line, and these bytes, are lines of which none is wrong, and then what has come of the other under their heading.
+-- What has come of a line, and these bytes, are lines of which none is wrong, and then what has come of the other
+-- under their heading.
 abbrev pub Ends : Place → List ℕ → Place → Type 0
-Ends p bytes q = (lines : List ℕ) × (p.line ++ bytes ≡ lines ++ q.line) × AreEnded lines × AreRegisters p.heading lines × (q.heading ≡ heading_after p.heading (lines_of lines))
+Ends p bytes q =
+    (lines : List ℕ)
+    × (p.line ++ bytes ≡ lines ++ q.line)
+    × AreEnded lines
+    × AreRegisters p.heading lines
+    × (q.heading ≡ heading_after p.heading (lines_of lines))
 
 -- From a place with these bytes to the other, with this text.
 pub record GoesOn (value : Values) (p : Place) (bytes text : List ℕ) (q : Place) : Type 0 where
@@ -97,7 +106,13 @@ status_behind status false = Refused
 -- The present line, which states this, was compared.
 abbrev pub EndsStated : Values → Place → Stated → Place → (Added : List ℕ → Type 0) → Type 0
 EndsStated value p s q Added = Added (compared_line (is_value value s) s.bank s.register)
-    × (q ≡ record { line = []; number = p.number + 1; heading = p.heading; status = status_behind p.status (is_value value s) })
+    × (q
+    ≡ record {
+      line = [];
+      number = p.number + 1;
+      heading = p.heading;
+      status = status_behind p.status (is_value value s);
+    })
 
 -- the next line, under this heading
 abbrev pub next_line : Place → Heading → Place
@@ -116,7 +131,8 @@ EndsLine value p true q Added = (line : ListLine) × (line_under p.heading p.lin
 EndsLine value p false q Added = (line_under p.heading p.line ≡ Wrong) × Added (not_a_register_line p.number)
 
 -- So many bytes of the input were read and taken.
-pub record Reaches (value : Values) (old new : Option (List ℕ)) (read : ℕ) (p : Place) (Added : List ℕ → Type 0) : Type 0 where
+pub record Reaches (value : Values) (old new : Option (List ℕ)) (read : ℕ) (p : Place)
+    (Added : List ℕ → Type 0) : Type 0 where
   pub bytes : List ℕ
   pub text : List ℕ
   pub consumed : Consumes old new bytes

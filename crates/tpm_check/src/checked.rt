@@ -51,7 +51,8 @@ fn print_registers<W: Write>(
     out: &mut W,
 ) -> Result<Status, ToolFault>
     ensures ok { IfOk result (λ status. (status ≡ Done)
-        × Appends (W.contents out.old) (W.contents out.new) (registers_text (value_in found.now.banks))) }
+        × Appends (W.contents out.old) (W.contents out.new)
+        (registers_text (value_in found.now.banks))) }
     ensures err { FailsByMemoryOrWrite result }
 {
     let mut text = String::new(alloc);
@@ -68,7 +69,8 @@ pub(crate) fn print_quote<W: Write>(
     quote: &str,
     out: &mut W,
 ) -> Result<Status, ToolFault>
-    ensures ok { IfOk result (λ status. (text : List ℕ) × ChecksQuote (value_in found.now.banks) hash (bytes_in quote.now) status text
+    ensures ok { IfOk result (λ status. (text : List ℕ)
+        × ChecksQuote (value_in found.now.banks) hash (bytes_in quote.now) status text
         × Appends (W.contents out.old) (W.contents out.new) text) }
     ensures err { FailsByMemoryOrWrite result }
 {
@@ -84,7 +86,8 @@ fn check_alone<W: Write>(
     out: &mut W,
 ) -> Result<Status, ToolFault>
     ensures ok { IfOk result (λ status. (text : List ℕ)
-        × ChecksValues (value_in found.now.banks) hash None (option_map (λ q. q.now) quote.entry) status text
+        × ChecksValues (value_in found.now.banks) hash None
+        (option_map (λ q. q.now) quote.entry) status text
         × Appends (W.contents out.old) (W.contents out.new) text) }
     ensures err { FailsByMemoryOrWrite result }
 {
@@ -107,9 +110,11 @@ pub(crate) fn check_stated<F: Source, W: Write>(
     ensures stop { IsErrOf result Read → IsWhereItFailed (F.stopped list.new) }
     ensures ok { IfOk result (λ status. (bytes : List ℕ) × (text : List ℕ)
         × ReadsList (value_in found.now.banks) (F.coming list.old) (F.coming list.new) bytes
-        × ChecksValues (value_in found.now.banks) hash (Some bytes) (option_map (λ q. q.now) quote.entry) status text
+        × ChecksValues (value_in found.now.banks) hash (Some bytes)
+        (option_map (λ q. q.now) quote.entry) status text
         × Appends (W.contents out.old) (W.contents out.new) text) }
-    ensures too_long { IsErrOf result InputTooLong → ReadsTooMuchList (F.coming list.old) (F.coming list.new) }
+    ensures too_long { IsErrOf result InputTooLong
+        → ReadsTooMuchList (F.coming list.old) (F.coming list.new) }
 {
     let Some(first) = check_list(alloc, found, list, out)? else {
         return Ok(Status::Refused);
@@ -121,20 +126,21 @@ pub(crate) fn check_stated<F: Source, W: Write>(
     Ok(first.both(second))
 }
 
-/// Replays a log of a measured boot, and prints the registers that it gives, or compares them with a list and with a quote.
+/// Replays a log of a measured boot, and prints the registers that it gives, or compares them with a list and with a
+/// quote.
 ///
-/// A fault of the log is `log KIND at N`, the kind and how many bytes precede it, and ends the output. Without a list and a quote
-/// the registers are printed, `sha1 I X` for each of the 24, then `sha256 I X` and `sha384 I X`. For each line of a list that
-/// states a register, in that form or as `tpm2_pcrread` prints it below the bank's heading, `match BANK I` or `differs BANK I` is
-/// printed, and nothing for a heading and for a register below that of SHA-512, SM3 or SHA-3; any other line is
-/// `line N: not a register`, which ends the output. The quote, the information of one (TPMS_QUOTE_INFO; Part 2, 10.12.4) in
-/// hexadecimal, comes last: `quote matches` or `quote differs`, by its digest under this hash; where it is not hexadecimal
-/// `not hexadecimal`, and where the bytes spell none `refused XXX at N`. The status is `Refused` for a fault, for what
-/// differs and for what is refused.
+/// A fault of the log is `log KIND at N`, the kind and how many bytes precede it, and ends the output. Without a list
+/// and a quote the registers are printed, `sha1 I X` for each of the 24, then `sha256 I X` and `sha384 I X`. For each
+/// line of a list that states a register, in that form or as `tpm2_pcrread` prints it below the bank's heading,
+/// `match BANK I` or `differs BANK I` is printed, and nothing for a heading and for a register below that of SHA-512,
+/// SM3 or SHA-3; any other line is `line N: not a register`, which ends the output. The quote, the information of one
+/// (TPMS_QUOTE_INFO; Part 2, 10.12.4) in hexadecimal, comes last: `quote matches` or `quote differs`, by its digest
+/// under this hash; where it is not hexadecimal `not hexadecimal`, and where the bytes spell none `refused XXX at N`.
+/// The status is `Refused` for a fault, for what differs and for what is refused.
 ///
-/// Where a request for memory is refused the answer is `Memory`, where a read of the log or of the list fails `Read`, where the
-/// writer fails `Write`, and where more than 16,777,216 bytes of a list come before its output has ended `InputTooLong`. What was
-/// written before is then left open, and a failed read isn't tried again.
+/// Where a request for memory is refused the answer is `Memory`, where a read of the log or of the list fails `Read`,
+/// where the writer fails `Write`, and where more than 16,777,216 bytes of a list come before its output has ended
+/// `InputTooLong`. What was written before is then left open, and a failed read isn't tried again.
 pub fn check_log<L: Source, F: Source, W: Write>(
     alloc: Global,
     log: &mut L,
@@ -143,14 +149,20 @@ pub fn check_log<L: Source, F: Source, W: Write>(
     hash: Alg,
     out: &mut W,
 ) -> Result<Status, ToolFault>
-    ensures failures { CountsReads F.failed (L.failed log.old) (L.failed log.new) (list_before registers.entry) (list_after registers.exit) result }
-    ensures stop { IsErrOf result Read → FailsLast F.failed F.stopped (L.failed log.old) (L.failed log.new) (L.stopped log.new) (list_before registers.entry) (list_after registers.exit) }
-    ensures ok { IfOk result (λ status. (found : Result RegistersValue LogFaultValue) × (text : List ℕ)
+    ensures failures { CountsReads F.failed (L.failed log.old) (L.failed log.new)
+        (list_before registers.entry) (list_after registers.exit) result }
+    ensures stop { IsErrOf result Read
+        → FailsLast F.failed F.stopped (L.failed log.old) (L.failed log.new) (L.stopped log.new)
+        (list_before registers.entry) (list_after registers.exit) }
+    ensures ok { IfOk result (λ status. (found : Result RegistersValue LogFaultValue)
+        × (text : List ℕ)
         × ReplaysFrom AreAfter (L.coming log.old) (L.failed log.old) (L.failed log.new) found
         × ReadsFrom AreAfter (L.coming log.old) (L.coming log.new) found
-        × ChecksLog found hash F.coming (list_before registers.entry) (list_after registers.exit) (option_map (λ q. q.now) quote.entry) status text
+        × ChecksLog found hash F.coming (list_before registers.entry)
+        (list_after registers.exit) (option_map (λ q. q.now) quote.entry) status text
         × Appends (W.contents out.old) (W.contents out.new) text) }
-    ensures too_long { IsErrOf result InputTooLong → ReadsTooMuchIfList F.coming (list_before registers.entry) (list_after registers.exit) }
+    ensures too_long { IsErrOf result InputTooLong
+        → ReadsTooMuchIfList F.coming (list_before registers.entry) (list_after registers.exit) }
 {
     let found = match replay_from(log) {
         Ok(found) => found,

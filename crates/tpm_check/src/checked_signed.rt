@@ -33,7 +33,9 @@ fn print_signed<W: Write>(
     out: &mut W,
 ) -> Result<Status, ToolFault>
     ensures ok { IfOk result (λ status. (text : List ℕ)
-        × ChecksGiven (value_in found.now.banks) hash (option_map (λ n. n.now) signed.now.nonce) signed.now.required signed.now.attest.now status text
+        × ChecksGiven (value_in found.now.banks) hash
+        (option_map (λ n. n.now) signed.now.nonce) signed.now.required signed.now.attest.now
+        status text
         × Appends (W.contents out.old) (W.contents out.new) text) }
     ensures err { FailsByMemoryOrWrite result }
 {
@@ -50,7 +52,9 @@ fn check_signed_alone<W: Write>(
     out: &mut W,
 ) -> Result<Status, ToolFault>
     ensures ok { IfOk result (λ status. (text : List ℕ)
-        × ChecksAll (value_in found.now.banks) hash (option_map (λ n. n.now) signed.now.nonce) signed.now.required signed.now.attest.now None (option_map (λ q. q.now) quote.entry) status text
+        × ChecksAll (value_in found.now.banks) hash
+        (option_map (λ n. n.now) signed.now.nonce) signed.now.required signed.now.attest.now
+        None (option_map (λ q. q.now) quote.entry) status text
         × Appends (W.contents out.old) (W.contents out.new) text) }
     ensures err { FailsByMemoryOrWrite result }
 {
@@ -76,31 +80,36 @@ fn check_signed_stated<F: Source, W: Write>(
     ensures stop { IsErrOf result Read → IsWhereItFailed (F.stopped list.new) }
     ensures ok { IfOk result (λ status. (bytes : List ℕ) × (text : List ℕ)
         × ReadsList (value_in found.now.banks) (F.coming list.old) (F.coming list.new) bytes
-        × ChecksAll (value_in found.now.banks) hash (option_map (λ n. n.now) signed.now.nonce) signed.now.required signed.now.attest.now (Some bytes) (option_map (λ q. q.now) quote.entry) status text
+        × ChecksAll (value_in found.now.banks) hash
+        (option_map (λ n. n.now) signed.now.nonce) signed.now.required signed.now.attest.now
+        (Some bytes) (option_map (λ q. q.now) quote.entry) status text
         × Appends (W.contents out.old) (W.contents out.new) text) }
-    ensures too_long { IsErrOf result InputTooLong → ReadsTooMuchList (F.coming list.old) (F.coming list.new) }
+    ensures too_long { IsErrOf result InputTooLong
+        → ReadsTooMuchList (F.coming list.old) (F.coming list.new) }
 {
     let first = print_signed(alloc, found, signed, hash, out)?;
     let second = check_stated(alloc, found, list, quote, hash, out)?;
     Ok(first.both(second))
 }
 
-/// Replays a log of a measured boot, and prints what a quote as it was signed says, and whether it is the one that was asked for.
+/// Replays a log of a measured boot, and prints what a quote as it was signed says, and whether it is the one that
+/// was asked for.
 ///
-/// A fault of the log is `log KIND at N`, the kind and how many bytes precede it, and ends the output. Where the nonce is not
-/// hexadecimal `not hexadecimal` is printed, and where the bytes spell no quote `refused XXX at N`. Else a line each says what the
-/// quote does (TPMS_ATTEST; Part 2, 10.12): `signer`, `nonce`, `clock`, `resets`, `restarts`, `safe`, `firmware`, and
-/// `selection` with each bank and its registers. Then come the verdicts: `nonce matches`, `nonce differs`, or without a nonce
-/// `nonce not compared`; `selection covers`, or `selection lacks BANK I` for the first register that is required and not selected,
-/// or where none is required `selection not compared`, and `selection empty` for a quote that selects none; and `quote matches` or
-/// `quote differs`, by its digest under this hash. The signature is not looked at.
+/// A fault of the log is `log KIND at N`, the kind and how many bytes precede it, and ends the output. Where the
+/// nonce is not hexadecimal `not hexadecimal` is printed, and where the bytes spell no quote `refused XXX at N`. Else
+/// a line each says what the quote does (TPMS_ATTEST; Part 2, 10.12): `signer`, `nonce`, `clock`, `resets`,
+/// `restarts`, `safe`, `firmware`, and `selection` with each bank and its registers. Then come the verdicts: `nonce
+/// matches`, `nonce differs`, or without a nonce `nonce not compared`; `selection covers`, or `selection lacks BANK
+/// I` for the first register that is required and not selected, or where none is required `selection not compared`,
+/// and `selection empty` for a quote that selects none; and `quote matches` or `quote differs`, by its digest under
+/// this hash. The signature is not looked at.
 ///
-/// Behind them comes what `check_log` prints of a list and of a quote's information, where they are given. The status is `Refused`
-/// for a fault, for what differs, for what is lacking and for what is refused.
+/// Behind them comes what `check_log` prints of a list and of a quote's information, where they are given. The status
+/// is `Refused` for a fault, for what differs, for what is lacking and for what is refused.
 ///
-/// Where a request for memory is refused the answer is `Memory`, where a read of the log or of the list fails `Read`, where the
-/// writer fails `Write`, and where more than 16,777,216 bytes of a list come before its output has ended `InputTooLong`. What was
-/// written before is then left open, and a failed read isn't tried again.
+/// Where a request for memory is refused the answer is `Memory`, where a read of the log or of the list fails `Read`,
+/// where the writer fails `Write`, and where more than 16,777,216 bytes of a list come before its output has ended
+/// `InputTooLong`. What was written before is then left open, and a failed read isn't tried again.
 pub fn check_signed<L: Source, F: Source, W: Write>(
     alloc: Global,
     log: &mut L,
@@ -110,14 +119,21 @@ pub fn check_signed<L: Source, F: Source, W: Write>(
     hash: Alg,
     out: &mut W,
 ) -> Result<Status, ToolFault>
-    ensures failures { CountsReads F.failed (L.failed log.old) (L.failed log.new) (list_before registers.entry) (list_after registers.exit) result }
-    ensures stop { IsErrOf result Read → FailsLast F.failed F.stopped (L.failed log.old) (L.failed log.new) (L.stopped log.new) (list_before registers.entry) (list_after registers.exit) }
-    ensures ok { IfOk result (λ status. (found : Result RegistersValue LogFaultValue) × (text : List ℕ)
+    ensures failures { CountsReads F.failed (L.failed log.old) (L.failed log.new)
+        (list_before registers.entry) (list_after registers.exit) result }
+    ensures stop { IsErrOf result Read
+        → FailsLast F.failed F.stopped (L.failed log.old) (L.failed log.new) (L.stopped log.new)
+        (list_before registers.entry) (list_after registers.exit) }
+    ensures ok { IfOk result (λ status. (found : Result RegistersValue LogFaultValue)
+        × (text : List ℕ)
         × ReplaysFrom AreAfter (L.coming log.old) (L.failed log.old) (L.failed log.new) found
         × ReadsFrom AreAfter (L.coming log.old) (L.coming log.new) found
-        × ChecksSigned found hash (option_map (λ n. n.now) signed.now.nonce) signed.now.required signed.now.attest.now F.coming (list_before registers.entry) (list_after registers.exit) (option_map (λ q. q.now) quote.entry) status text
+        × ChecksSigned found hash (option_map (λ n. n.now) signed.now.nonce)
+        signed.now.required signed.now.attest.now F.coming (list_before registers.entry)
+        (list_after registers.exit) (option_map (λ q. q.now) quote.entry) status text
         × Appends (W.contents out.old) (W.contents out.new) text) }
-    ensures too_long { IsErrOf result InputTooLong → ReadsTooMuchIfList F.coming (list_before registers.entry) (list_after registers.exit) }
+    ensures too_long { IsErrOf result InputTooLong
+        → ReadsTooMuchIfList F.coming (list_before registers.entry) (list_after registers.exit) }
 {
     let found = match replay_from(log) {
         Ok(found) => found,

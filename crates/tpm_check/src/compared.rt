@@ -44,8 +44,10 @@ struct Comparing {
 
 // Adds the line that says whether a register has the value that was stated, and answers whether it has.
 fn compare(text: &mut String, found: &Registers, stated: &Stated) -> Result<bool, AllocError>
-    ensures { IfOk result (λ same. (same ≡ is_value (value_in found.now.banks) (stated_as stated.now))
-        × (string_bytes text.new ≡ string_bytes text.old ++ compared_line same stated.now.bank stated.now.register)) }
+    ensures { IfOk result (λ same. (same
+        ≡ is_value (value_in found.now.banks) (stated_as stated.now))
+        × (string_bytes text.new
+        ≡ string_bytes text.old ++ compared_line same stated.now.bank stated.now.register)) }
 {
     let value = found.read(stated.bank, stated.register);
     let same = value.as_slice() == stated.value.as_slice();
@@ -75,7 +77,8 @@ impl Comparing {
     // Compares the register that the present line states.
     fn end_stated(&mut self, found: &Registers, stated: &Stated, text: &mut String) -> Pushed
         requires { self.old.number + 1 < 2 ^ 64 }
-        ensures { OnOk result (EndsStated (value_in found.now.banks) (place self.old) (stated_as stated.now) (place self.new)
+        ensures { OnOk result (EndsStated (value_in found.now.banks) (place self.old)
+            (stated_as stated.now) (place self.new)
             (AddedTo (string_bytes text.old) (string_bytes text.new))) }
     {
         let same = compare(text, found, stated)?;
@@ -103,7 +106,8 @@ impl Comparing {
         text: &mut String,
     ) -> Result<bool, AllocError>
         requires { self.old.number + 1 < 2 ^ 64 }
-        ensures { IfOk result (λ goes_on. EndsLine (value_in found.now.banks) (place self.old) goes_on (place self.new)
+        ensures { IfOk result (λ goes_on. EndsLine (value_in found.now.banks)
+            (place self.old) goes_on (place self.new)
             (AddedTo (string_bytes text.old) (string_bytes text.new))) }
     {
         match read_line(alloc, self.heading, self.line.as_slice())? {
@@ -128,8 +132,10 @@ impl Comparing {
     ) -> Result<bool, AllocError>
         requires open { IsOpen (place self.old) }
         requires number { self.old.number + 1 < 2 ^ 64 }
-        ensures { IfOk result (λ goes_on. (added : List ℕ) × AddedTo (string_bytes text.old) (string_bytes text.new) added
-            × Takes (value_in found.now.banks) (place self.old) (byte ∷ []) goes_on (place self.new) added) }
+        ensures { IfOk result (λ goes_on. (added : List ℕ)
+            × AddedTo (string_bytes text.old) (string_bytes text.new) added
+            × Takes (value_in found.now.banks) (place self.old) (byte ∷ []) goes_on
+            (place self.new) added) }
     {
         if byte == b'\n' {
             return self.end_line(alloc, found, text);
@@ -152,8 +158,10 @@ impl Comparing {
     ) -> Result<bool, AllocError>
         requires open { IsOpen (place self.old) }
         requires number { self.old.number + length piece.now < 2 ^ 64 }
-        ensures { IfOk result (λ goes_on. (added : List ℕ) × AddedTo (string_bytes text.old) (string_bytes text.new) added
-            × Takes (value_in found.now.banks) (place self.old) piece.now goes_on (place self.new) added) }
+        ensures { IfOk result (λ goes_on. (added : List ℕ)
+            × AddedTo (string_bytes text.old) (string_bytes text.new) added
+            × Takes (value_in found.now.banks) (place self.old) piece.now goes_on
+            (place self.new) added) }
     {
         for byte in piece {
             if !self.take(alloc, found, *byte, text)? {
@@ -173,8 +181,10 @@ impl Comparing {
     ) -> Result<bool, ToolFault>
         requires open { IsOpen (place self.old) }
         requires number { self.old.number + length piece.now < 2 ^ 64 }
-        ensures ok { IfOk result (λ goes_on. (added : List ℕ) × Appends (W.contents out.old) (W.contents out.new) added
-            × Takes (value_in found.now.banks) (place self.old) piece.now goes_on (place self.new) added) }
+        ensures ok { IfOk result (λ goes_on. (added : List ℕ)
+            × Appends (W.contents out.old) (W.contents out.new) added
+            × Takes (value_in found.now.banks) (place self.old) piece.now goes_on
+            (place self.new) added) }
         ensures err { FailsByMemoryOrWrite result }
     {
         let mut text = String::new(alloc);
@@ -192,8 +202,10 @@ impl Comparing {
     ) -> Result<Option<Status>, AllocError>
         requires open { IsOpen (place self.old) }
         requires number { self.old.number + 1 < 2 ^ 64 }
-        ensures { IfOk result (λ status. (status ≡ (comparison_at (value_in found.now.banks) (place self.old) []).status)
-            × AddedTo (string_bytes text.old) (string_bytes text.new) (comparison_at (value_in found.now.banks) (place self.old) []).text) }
+        ensures { IfOk result (λ status. (status
+            ≡ (comparison_at (value_in found.now.banks) (place self.old) []).status)
+            × AddedTo (string_bytes text.old) (string_bytes text.new)
+            (comparison_at (value_in found.now.banks) (place self.old) []).text) }
     {
         if self.line.is_empty() {
             return Ok(Some(self.status));
@@ -213,8 +225,10 @@ impl Comparing {
     ) -> Result<Option<Status>, ToolFault>
         requires open { IsOpen (place self.old) }
         requires number { self.old.number + 1 < 2 ^ 64 }
-        ensures ok { IfOk result (λ status. (status ≡ (comparison_at (value_in found.now.banks) (place self.old) []).status)
-            × Appends (W.contents out.old) (W.contents out.new) (comparison_at (value_in found.now.banks) (place self.old) []).text) }
+        ensures ok { IfOk result (λ status. (status
+            ≡ (comparison_at (value_in found.now.banks) (place self.old) []).status)
+            × Appends (W.contents out.old) (W.contents out.new)
+            (comparison_at (value_in found.now.banks) (place self.old) []).text) }
         ensures err { FailsByMemoryOrWrite result }
     {
         let mut text = String::new(alloc);
@@ -224,8 +238,8 @@ impl Comparing {
     }
 }
 
-/// Compares a list of registers with those that were found, and prints of each line that states one whether they match. None is
-/// answered where a line is wrong, which ends the output.
+/// Compares a list of registers with those that were found, and prints of each line that states one whether they
+/// match. None is answered where a line is wrong, which ends the output.
 pub(crate) fn check_list<F: Source, W: Write>(
     alloc: Global,
     found: &Registers,
@@ -237,8 +251,10 @@ pub(crate) fn check_list<F: Source, W: Write>(
     ensures ok { IfOk result (λ status. (bytes : List ℕ)
         × ReadsList (value_in found.now.banks) (F.coming list.old) (F.coming list.new) bytes
         × (status ≡ (comparison (value_in found.now.banks) bytes).status)
-        × Appends (W.contents out.old) (W.contents out.new) (comparison (value_in found.now.banks) bytes).text) }
-    ensures too_long { IsErrOf result InputTooLong → ReadsTooMuchList (F.coming list.old) (F.coming list.new) }
+        × Appends (W.contents out.old) (W.contents out.new)
+        (comparison (value_in found.now.banks) bytes).text) }
+    ensures too_long { IsErrOf result InputTooLong
+        → ReadsTooMuchList (F.coming list.old) (F.coming list.new) }
 {
     let mut comparing = Comparing::new(alloc);
     let mut piece = [0; PIECE];

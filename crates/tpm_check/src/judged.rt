@@ -3,14 +3,14 @@
 ghost use Rattle.std.specs.Prelude.{◌≡◌, ◌++◌, IfOk, OnOk, option_map, string_bytes};
 ghost use Rattle.std.specs.Str.{bytes_eq};
 ghost use Rattle.tpm_model.specs.Registers.{composite, value_in};
-ghost use Rattle.tpm_log.specs.Attests.{registers_of};
+ghost use Rattle.tpm_quote.specs.Attests.{registers_of};
 ghost use Rattle.tpm_check.specs.CheckAttest.{Adds, whether, lacks_line, on_nonce, on_missing, on_registers};
 ghost use Rattle.tpm_check.specs.CheckAttest.{on_selection, on_quote, on_attest, Says, ChecksAttest, ChecksGiven};
 
 use crate::register_text::bank_name;
 use crate::signed_text::push_attest;
 use std::alloc::{AllocError, Global};
-use tpm_log::{
+use tpm_quote::{
     NotSelected, check_quote, decode_attest, first_not_selected, nonce_matches, selects_none,
 };
 use tpm_store::Registers;
@@ -34,7 +34,8 @@ pub struct Signed<'a> {
 // Adds the line that says whether what this word names is the same, and answers its status.
 #[tactic(auto, unfolding(crate::specs::CheckAttest::whether))]
 fn push_whether(text: &mut String, word: &str, same: bool) -> Result<Status, AllocError>
-    ensures { IfOk result (λ status. Adds (whether word.now same) status (string_bytes text.old) (string_bytes text.new)) }
+    ensures { IfOk result (λ status. Adds (whether word.now same) status
+        (string_bytes text.old) (string_bytes text.new)) }
 {
     if same {
         writeln!(text, "{word} matches")?;
@@ -56,7 +57,9 @@ fn push_nonce(
     attest: &Attest<'_>,
     sent: Option<&[u8]>,
 ) -> Result<Status, AllocError>
-    ensures { IfOk result (λ status. Adds (on_nonce (option_map (λ s. s.now) sent.entry) attest.now.extra_data) status (string_bytes text.old) (string_bytes text.new)) }
+    ensures { IfOk result (λ status. Adds
+        (on_nonce (option_map (λ s. s.now) sent.entry) attest.now.extra_data) status
+        (string_bytes text.old) (string_bytes text.new)) }
 {
     match sent {
         Some(sent) => push_whether(text, "nonce", is_nonce(attest, sent)),
@@ -77,7 +80,8 @@ fn push_lacks(text: &mut String, missing: NotSelected) -> Pushed
 }
 
 fn push_missing(text: &mut String, missing: Option<NotSelected>) -> Result<Status, AllocError>
-    ensures { IfOk result (λ status. Adds (on_missing missing) status (string_bytes text.old) (string_bytes text.new)) }
+    ensures { IfOk result (λ status. Adds (on_missing missing) status (string_bytes text.old)
+        (string_bytes text.new)) }
 {
     match missing {
         Some(missing) => {
@@ -93,7 +97,8 @@ fn push_missing(text: &mut String, missing: Option<NotSelected>) -> Result<Statu
 
 // Adds whether a register is selected where none is required, and answers the status of that.
 fn push_any(text: &mut String, quoted: &Selections) -> Result<Status, AllocError>
-    ensures { IfOk result (λ status. Adds (on_registers (registers_of quoted.now)) status (string_bytes text.old) (string_bytes text.new)) }
+    ensures { IfOk result (λ status. Adds (on_registers (registers_of quoted.now)) status
+        (string_bytes text.old) (string_bytes text.new)) }
 {
     if selects_none(quoted) {
         text.push_str("selection empty\n")?;
@@ -109,7 +114,9 @@ fn push_selection(
     quoted: &Selections,
     required: Option<&Selections>,
 ) -> Result<Status, AllocError>
-    ensures { IfOk result (λ status. Adds (on_selection (option_map (λ s. s.now) required.entry) quoted.now) status (string_bytes text.old) (string_bytes text.new)) }
+    ensures { IfOk result (λ status. Adds
+        (on_selection (option_map (λ s. s.now) required.entry) quoted.now) status
+        (string_bytes text.old) (string_bytes text.new)) }
 {
     match required {
         Some(required) => push_missing(text, first_not_selected(quoted, required)),
@@ -118,7 +125,9 @@ fn push_selection(
 }
 
 fn is_quote(found: &Registers, quote: &QuoteInfo, hash: Alg) -> bool
-    ensures { result ≡ bytes_eq (composite hash (value_in found.now.banks) quote.now.selections) quote.now.digest }
+    ensures { result
+        ≡ bytes_eq (composite hash (value_in found.now.banks)
+        quote.now.selections) quote.now.digest }
 {
     check_quote(found, quote, hash)
 }
@@ -129,7 +138,9 @@ fn push_quote(
     quote: &QuoteInfo,
     hash: Alg,
 ) -> Result<Status, AllocError>
-    ensures { IfOk result (λ status. Adds (on_quote (value_in found.now.banks) hash quote.now) status (string_bytes text.old) (string_bytes text.new)) }
+    ensures { IfOk result (λ status. Adds
+        (on_quote (value_in found.now.banks) hash quote.now) status (string_bytes text.old)
+        (string_bytes text.new)) }
 {
     push_whether(text, "quote", is_quote(found, quote, hash))
 }
@@ -143,7 +154,9 @@ fn answer_to_signed(
     required: Option<&Selections>,
     attest: &Attest<'_>,
 ) -> Result<Answer, AllocError>
-    ensures { IfOk result (λ a. Says (on_attest (value_in found.now.banks) hash (option_map (λ s. s.now) sent.entry) (option_map (λ r. r.now) required.entry) attest.now) a.status (string_bytes a.text)) }
+    ensures { IfOk result (λ a. Says (on_attest (value_in found.now.banks) hash
+        (option_map (λ s. s.now) sent.entry) (option_map (λ r. r.now) required.entry)
+        attest.now) a.status (string_bytes a.text)) }
 {
     let mut text = String::new(alloc);
     push_attest(alloc, &mut text, attest)?;
@@ -165,7 +178,9 @@ fn answer_to_attest(
     required: Option<&Selections>,
     bytes: &[u8],
 ) -> Result<Answer, AllocError>
-    ensures { IfOk result (λ a. ChecksAttest (value_in found.now.banks) hash (option_map (λ s. s.now) sent.entry) (option_map (λ r. r.now) required.entry) bytes.now a.status (string_bytes a.text)) }
+    ensures { IfOk result (λ a. ChecksAttest (value_in found.now.banks) hash
+        (option_map (λ s. s.now) sent.entry) (option_map (λ r. r.now) required.entry) bytes.now
+        a.status (string_bytes a.text)) }
 {
     match decode_attest(bytes) {
         Ok(attest) => answer_to_signed(alloc, found, hash, sent, required, &attest),
@@ -180,7 +195,9 @@ pub(crate) fn answer_to_given(
     hash: Alg,
     signed: &Signed<'_>,
 ) -> Result<Answer, AllocError>
-    ensures { IfOk result (λ a. ChecksGiven (value_in found.now.banks) hash (option_map (λ n. n.now) signed.now.nonce) signed.now.required signed.now.attest.now a.status (string_bytes a.text)) }
+    ensures { IfOk result (λ a. ChecksGiven (value_in found.now.banks) hash
+        (option_map (λ n. n.now) signed.now.nonce) signed.now.required signed.now.attest.now
+        a.status (string_bytes a.text)) }
 {
     let required = signed.required.as_ref();
     let Some(nonce) = signed.nonce else {

@@ -1,4 +1,5 @@
-//! The subcommands `check` and `events`: a log of a measured boot beside a list of registers and a quote, and its records.
+//! The subcommands `check` and `events`: a log of a measured boot beside a list of registers and a quote, and its
+//! records.
 #![tactic(auto)]
 
 mod checked;

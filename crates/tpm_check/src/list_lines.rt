@@ -123,7 +123,8 @@ fn read_numbered(
     register: Option<PcrIndex>,
     value: &[u8],
 ) -> Result<Line, AllocError>
-    ensures { IfOk result (λ line. line_as line ≡ numbered_under heading register (bytes_in value.now)) }
+    ensures { IfOk result (λ line. line_as line
+        ≡ numbered_under heading register (bytes_in value.now)) }
 {
     match (heading, register) {
         (Heading::Bank(bank), Some(register)) => {
@@ -137,8 +138,8 @@ fn read_numbered(
     }
 }
 
-/// What a line says under a heading: that a register has a value, as its line is printed or as `tpm2_pcrread` prints it, or
-/// under which bank's heading the next lines stand.
+/// What a line says under a heading: that a register has a value, as its line is printed or as `tpm2_pcrread` prints
+/// it, or under which bank's heading the next lines stand.
 #[tactic(auto, unfolding(crate::specs::Compare::line_under))]
 pub(crate) fn read_line(alloc: Global, heading: Heading, text: &[u8]) -> Result<Line, AllocError>
     ensures { IfOk result (λ line. line_as line ≡ line_under heading text.now) }

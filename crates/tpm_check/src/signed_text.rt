@@ -15,7 +15,8 @@ use tpm_types::{Attest, ClockInfo, REGISTERS, Selection};
 
 #[tactic(auto, unfolding(crate::specs::CheckAttest::signer_line))]
 fn push_signer(alloc: Global, text: &mut String, signer: &[u8]) -> Pushed
-    ensures { OnOk result (string_bytes text.new ≡ string_bytes text.old ++ signer_line signer.now) }
+    ensures { OnOk result (string_bytes text.new
+        ≡ string_bytes text.old ++ signer_line signer.now) }
 {
     let signer = shown_bytes(alloc, signer)?;
     writeln!(text, "signer {signer}")
@@ -31,7 +32,8 @@ fn push_nonce(alloc: Global, text: &mut String, nonce: &[u8]) -> Pushed
 
 #[tactic(auto, unfolding(crate::specs::CheckAttest::number_line))]
 fn push_number(text: &mut String, word: &str, number: u64) -> Pushed
-    ensures { OnOk result (string_bytes text.new ≡ string_bytes text.old ++ number_line word.now number) }
+    ensures { OnOk result (string_bytes text.new
+        ≡ string_bytes text.old ++ number_line word.now number) }
 {
     writeln!(text, "{word} {number}")
 }
@@ -61,7 +63,8 @@ fn push_firmware(text: &mut String, version: u64) -> Pushed
 
 #[tactic(auto, unfolding(crate::specs::CheckAttest::register_word))]
 fn push_word(text: &mut String, register: u32) -> Pushed
-    ensures { OnOk result (string_bytes text.new ≡ string_bytes text.old ++ register_word register) }
+    ensures { OnOk result (string_bytes text.new
+        ≡ string_bytes text.old ++ register_word register) }
 {
     write!(text, " {register}")
 }
@@ -69,7 +72,9 @@ fn push_word(text: &mut String, register: u32) -> Pushed
 // Adds a register where an entry selects it.
 fn push_if_selected(text: &mut String, entry: &Selection, number: u32) -> Pushed
     requires { number < 24 }
-    ensures { OnOk result (string_bytes text.new ≡ string_bytes text.old ++ (if is_selected entry.now.select number then register_word number else [])) }
+    ensures { OnOk result (string_bytes text.new
+        ≡ string_bytes text.old
+        ++ (if is_selected entry.now.select number then register_word number else [])) }
 {
     if !entry.is_selected(register(number)) {
         return Ok(());
@@ -79,7 +84,8 @@ fn push_if_selected(text: &mut String, entry: &Selection, number: u32) -> Pushed
 
 // Adds the registers that an entry selects.
 fn push_words(text: &mut String, entry: &Selection) -> Pushed
-    ensures { OnOk result (string_bytes text.new ≡ string_bytes text.old ++ register_words entry.now.select 24) }
+    ensures { OnOk result (string_bytes text.new
+        ≡ string_bytes text.old ++ register_words entry.now.select 24) }
 {
     for number in 0..REGISTERS {
         push_if_selected(text, entry, number)?;
@@ -96,7 +102,8 @@ fn push_entry(text: &mut String, entry: &Selection) -> Pushed
 }
 
 fn push_entries(text: &mut String, entries: &[Selection]) -> Pushed
-    ensures { OnOk result (string_bytes text.new ≡ string_bytes text.old ++ flat_map entry_words entries.now) }
+    ensures { OnOk result (string_bytes text.new
+        ≡ string_bytes text.old ++ flat_map entry_words entries.now) }
 {
     for entry in entries {
         push_entry(text, entry)?;
@@ -105,7 +112,8 @@ fn push_entries(text: &mut String, entries: &[Selection]) -> Pushed
 }
 
 fn push_selection(text: &mut String, entries: &[Selection]) -> Pushed
-    ensures { OnOk result (string_bytes text.new ≡ string_bytes text.old ++ selection_line entries.now) }
+    ensures { OnOk result (string_bytes text.new
+        ≡ string_bytes text.old ++ selection_line entries.now) }
 {
     text.push_str("selection")?;
     push_entries(text, entries)?;
@@ -114,7 +122,8 @@ fn push_selection(text: &mut String, entries: &[Selection]) -> Pushed
 
 /// Adds the lines of what a quote says.
 pub(crate) fn push_attest(alloc: Global, text: &mut String, attest: &Attest<'_>) -> Pushed
-    ensures { OnOk result (string_bytes text.new ≡ string_bytes text.old ++ attest_text attest.now) }
+    ensures { OnOk result (string_bytes text.new
+        ≡ string_bytes text.old ++ attest_text attest.now) }
 {
     push_signer(alloc, text, attest.signer.as_slice())?;
     push_nonce(alloc, text, attest.extra_data.as_slice())?;

@@ -75,7 +75,8 @@ pub(crate) fn read_value(
     register: PcrIndex,
     value: &[u8],
 ) -> Result<Option<Stated>, AllocError>
-    ensures { IfOk result (λ s. option_map stated_as s ≡ stated_of (Some bank) (Some register) (bytes_in value.now)) }
+    ensures { IfOk result (λ s. option_map stated_as s
+        ≡ stated_of (Some bank) (Some register) (bytes_in value.now)) }
 {
     let Some(value) = decoded(alloc, value)? else {
         return Ok(None);
@@ -90,8 +91,8 @@ pub(crate) fn read_value(
     }))
 }
 
-/// What a line states: its words are a bank, the number of a register in decimal, and a value in as many hexadecimal digits as
-/// a digest of the bank's hash has, with one space between them. None for any other line.
+/// What a line states: its words are a bank, the number of a register in decimal, and a value in as many hexadecimal
+/// digits as a digest of the bank's hash has, with one space between them. None for any other line.
 pub(crate) fn read_stated(alloc: Global, line: &[u8]) -> Result<Option<Stated>, AllocError>
     ensures { IfOk result (λ s. option_map stated_as s ≡ stated_in line.now) }
 {

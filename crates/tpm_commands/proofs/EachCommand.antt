@@ -84,7 +84,9 @@ one : (kind : HandleKind) (a : ℕ) (hs : List ℕ) → AreAdmitted (kind ∷ []
 one kind a (n ∷ ns) t same = rw (same t.0, t.1) refl
 one kind a [] t same = absurd t
 
-two : (kind other : HandleKind) (a b : ℕ) (hs : List ℕ) → AreAdmitted (kind ∷ other ∷ []) hs → (admits kind (first hs) ≡ true → a ≡ first hs) → (admits other (second hs) ≡ true → b ≡ second hs) → a ∷ b ∷ [] ≡ hs
+two : (kind other : HandleKind) (a b : ℕ) (hs : List ℕ) → AreAdmitted (kind ∷ other ∷ []) hs
+    → (admits kind (first hs) ≡ true → a ≡ first hs) → (admits other (second hs) ≡ true → b ≡ second hs)
+    → a ∷ b ∷ [] ≡ hs
 two kind other a b (n ∷ m ∷ ns) t same too = rw (same t.0, too t.1.0, t.1.1) refl
 two kind other a b (n ∷ []) t same too = absurd t.1
 two kind other a b [] t same too = absurd t
@@ -108,7 +110,8 @@ handles_again (params.Startup kind) hs t = sym t
 handles_again (params.NvRead size offset) hs t = index hs t
 handles_again (params.FlushContext handle) hs t = sym t
 handles_again params.NvReadPublic hs t = one kinds.Index _ hs t (index_again (first hs))
-handles_again (params.StartAuthSession nonce_caller kind symmetric alg) hs t = two kinds.Null kinds.OwnerOrNull _ _ hs t (null_again (first hs)) (bind_again (second hs))
+handles_again (params.StartAuthSession nonce_caller kind symmetric alg) hs t =
+    two kinds.Null kinds.OwnerOrNull _ _ hs t (null_again (first hs)) (bind_again (second hs))
 handles_again (params.PcrRead selected) hs t = sym t
 handles_again (params.PcrExtend digests) hs t = register hs t
 handles_again _ hs t = policy hs t
@@ -126,14 +129,23 @@ none : {A : Type 0} (x : A) → TakesAtMost {r = buffer} 1100 (Form.done x)
 none x = few 0 (Form.done x) (omega arith) (at_most_done x)
 
 pub of_parameters : (code : CommandCode) → TakesAtMost 1100 (parameters code)
-unfolding nv_define_space pcr_event startup nv_read flush_context policy_command_code policy_or start_auth_session pcr_read policy_pcr pcr_extend startup_type session_type session encrypted_salt nv_public
-of_parameters codes.NvDefineSpace = few 114 _ (omega arith) (next 50 64 (of_parameter 1) _ _ _ (at_most_sized_bytes digest_bytes) (λ auth. only 64 (of_parameter 2) _ _ _ (at_most_sized public_bytes nv_public_area)))
+unfolding nv_define_space pcr_event startup nv_read flush_context policy_command_code policy_or start_auth_session
+    pcr_read policy_pcr pcr_extend startup_type session_type session encrypted_salt nv_public
+of_parameters codes.NvDefineSpace =
+    few 114 _ (omega arith)
+    (next 50 64 (of_parameter 1) _ _ _ (at_most_sized_bytes digest_bytes)
+    (λ auth. only 64 (of_parameter 2) _ _ _ (at_most_sized public_bytes nv_public_area)))
 of_parameters codes.PcrEvent = few 1026 _ (omega arith) (only 1026 (of_parameter 1) _ _ _ (at_most_sized_bytes event_bytes))
 of_parameters codes.Startup = few 2 _ (omega arith) (only 2 (of_parameter 1) _ _ _ (at_most_number 2 startup_of startup_number rc_value))
-of_parameters codes.NvRead = few 4 _ (omega arith) (next 2 2 (of_parameter 1) _ _ _ (at_most_number 2 _ _ _) (λ size. only 2 (of_parameter 2) _ _ _ (at_most_number 2 _ _ _)))
+of_parameters codes.NvRead =
+    few 4 _ (omega arith)
+    (next 2 2 (of_parameter 1) _ _ _ (at_most_number 2 _ _ _)
+    (λ size. only 2 (of_parameter 2) _ _ _ (at_most_number 2 _ _ _)))
 of_parameters codes.FlushContext = few 4 _ (omega arith) (only 4 (of_parameter 1) _ _ _ (at_most_number_in 4 is_session rc_value))
 of_parameters codes.PolicyCommandCode = few 4 _ (omega arith) (only 4 (of_parameter 1) _ _ _ (at_most_number 4 _ _ _))
-of_parameters codes.PolicyOr = few 404 _ (omega arith) (only 404 (of_parameter 1) _ _ _ (at_most_counted 2 most_digests 50 digest (at_most_sized_bytes digest_bytes)))
+of_parameters codes.PolicyOr =
+    few 404 _ (omega arith)
+    (only 404 (of_parameter 1) _ _ _ (at_most_counted 2 most_digests 50 digest (at_most_sized_bytes digest_bytes)))
 of_parameters codes.StartAuthSession = few 61 _ (omega arith) (
     next 50 11 (of_parameter 1) _ _ _ (at_most_sized_bytes digest_bytes) (λ nonce.
     next 2 9 (of_parameter 2) _ _ _ (at_most_number 2 salt_of salt_size rc_value) (λ salt.
@@ -141,7 +153,10 @@ of_parameters codes.StartAuthSession = few 61 _ (omega arith) (
     next 6 2 (of_parameter 4) _ _ _ of_sym_def (λ symmetric.
     only 2 (of_parameter 5) _ _ _ of_hash)))))
 of_parameters codes.PcrRead = few 22 _ (omega arith) (only 22 (of_parameter 1) _ _ _ (at_most_counted 0 banks 6 selection of_selection))
-of_parameters codes.PolicyPcr = few 72 _ (omega arith) (next 50 22 (of_parameter 1) _ _ _ (at_most_sized_bytes digest_bytes) (λ pcr_digest. only 22 (of_parameter 2) _ _ _ (at_most_counted 0 banks 6 selection of_selection)))
+of_parameters codes.PolicyPcr =
+    few 72 _ (omega arith)
+    (next 50 22 (of_parameter 1) _ _ _ (at_most_sized_bytes digest_bytes)
+    (λ pcr_digest. only 22 (of_parameter 2) _ _ _ (at_most_counted 0 banks 6 selection of_selection)))
 of_parameters codes.PcrExtend = few 154 _ (omega arith) (only 154 (of_parameter 1) _ _ _ (at_most_counted 0 banks 50 digest_value of_digest_value))
 of_parameters _ = none _
 

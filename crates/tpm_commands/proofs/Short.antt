@@ -25,18 +25,21 @@ use Rattle.tpm_types.specs.Constants.{key_bits_of, key_bits_number, key_bits}
 use Rattle.tpm_types.specs.Tpmt.{digest_value, bits_of, hash_of, alg_cfb, alg_null, alg_aes, algorithm, mode, sym_def}
 
 -- a part, and what follows it
-pub and : {A B : Type 0} (j k : ℕ) (get : A → B) (l : Layout B) (f : B → Layout A) → TakesAtMost j l → ((y : B) → TakesAtMost k (f y)) → TakesAtMost (j + k) (Form.field get l f)
+pub and : {A B : Type 0} (j k : ℕ) (get : A → B) (l : Layout B) (f : B → Layout A) → TakesAtMost j l
+    → ((y : B) → TakesAtMost k (f y)) → TakesAtMost (j + k) (Form.field get l f)
 and j k get l f one two = at_most_field j k get l f one (λ m h y is. two y.0)
 
 -- a parameter, and what follows it
-pub next : {A B : Type 0} (j k n : ℕ) (get : A → B) (l : Layout B) (f : B → Layout A) → TakesAtMost j l → ((y : B) → TakesAtMost k (f y)) → TakesAtMost (j + k) (Form.field get (numbered n l) f)
+pub next : {A B : Type 0} (j k n : ℕ) (get : A → B) (l : Layout B) (f : B → Layout A) → TakesAtMost j l
+    → ((y : B) → TakesAtMost k (f y)) → TakesAtMost (j + k) (Form.field get (numbered n l) f)
 next j k n get l f one two = and j k get (numbered n l) f (at_most_marked j n l one) two
 
 -- a part, and nothing behind it
 pub last : {A B : Type 0} (j : ℕ) (get : A → B) (l : Layout B) (x : B → A) → TakesAtMost j l → TakesAtMost (j + 0) (Form.field get l (λ y. Form.done (x y)))
 last j get l x one = and j 0 get l (λ y. Form.done (x y)) one (λ y. at_most_done (x y))
 
-pub only : {A B : Type 0} (j n : ℕ) (get : A → B) (l : Layout B) (x : B → A) → TakesAtMost j l → TakesAtMost (j + 0) (Form.field get (numbered n l) (λ y. Form.done (x y)))
+pub only : {A B : Type 0} (j n : ℕ) (get : A → B) (l : Layout B) (x : B → A) → TakesAtMost j l
+    → TakesAtMost (j + 0) (Form.field get (numbered n l) (λ y. Form.done (x y)))
 only j n get l x one = last j get (numbered n l) x (at_most_marked j n l one)
 
 pub of_hash : TakesAtMost 2 hash
@@ -63,23 +66,32 @@ pub of_selection : TakesAtMost 6 selection
 unfolding selection
 of_selection =
     and 2 4 _ _ _ of_hash (λ alg.
-    at_most_field 1 3 (λ _. select_bytes) (number_in 1 (λ n. eqb n select_bytes) rc_value) (λ n. Form.field (λ s. s.select) (raw n) (λ select. Form.done (made alg select)))
+    at_most_field 1 3 (λ _. select_bytes) (number_in 1 (λ n. eqb n select_bytes) rc_value)
+    (λ n. Form.field (λ s. s.select) (raw n) (λ select. Form.done (made alg select)))
     (at_most_number_in 1 (λ n. eqb n select_bytes) rc_value)
     (λ m h n is.
     let three : n.0 ≡ 3 = eqb-true n.0 select_bytes (in_set 1 (λ n. eqb n select_bytes) rc_value m h n is) in
-    at_most_more (n.0 + 0) 3 _ (omega (arith, three)) (last n.0 (λ s. s.select) (raw n.0) (λ select. made alg select) (at_most_text n.0 (λ bytes. Ok bytes) (λ bytes. bytes)))))
+    at_most_more (n.0 + 0) 3 _ (omega (arith, three))
+    (last n.0 (λ s. s.select) (raw n.0) (λ select. made alg select)
+    (at_most_text n.0 (λ bytes. Ok bytes) (λ bytes. bytes)))))
 
 pub of_digest_value : TakesAtMost 50 digest_value
 unfolding digest_value
 of_digest_value =
     and 2 48 _ _ _ of_hash (λ alg.
-    at_most_more (digest_len alg + 0) 48 _ (omega (arith, of_digest_len alg)) (last (digest_len alg) _ _ _ (at_most_text (digest_len alg) (λ bytes. Ok bytes) (λ bytes. bytes))))
+    at_most_more (digest_len alg + 0) 48 _ (omega (arith, of_digest_len alg))
+    (last (digest_len alg) _ _ _ (at_most_text (digest_len alg) (λ bytes. Ok bytes) (λ bytes. bytes))))
 
 pub of_sym_def : TakesAtMost 6 sym_def
 unfolding sym_def algorithm key_bits mode
 of_sym_def = and 2 4 _ _ _ (at_most_number_in 2 _ _) (λ n. go (eqb n alg_null) (eqb n alg_aes))
   where
-    go : (a b : Bool) → TakesAtMost 4 (either a (Form.done Null) (either b (Form.field bits_of key_bits (λ bits. Form.field (λ _. alg_cfb) mode (λ _. Form.done (Aes bits)))) (Form.field hash_of hash (λ alg. Form.done (Xor alg)))))
+    go : (a b : Bool)
+        → TakesAtMost 4
+        (either a (Form.done Null)
+        (either b
+        (Form.field bits_of key_bits (λ bits. Form.field (λ _. alg_cfb) mode (λ _. Form.done (Aes bits))))
+        (Form.field hash_of hash (λ alg. Form.done (Xor alg)))))
     go true b = at_most_more 0 4 _ (omega arith) (at_most_done _)
     go false true = and 2 2 _ _ _ (at_most_number 2 key_bits_of key_bits_number rc_value) (λ bits. last 2 _ _ _ (at_most_number_in 2 _ _))
     go false false = at_most_more 2 4 _ (omega arith) (last 2 _ _ _ of_hash)
@@ -93,7 +105,8 @@ abbrev pub err : {A : Type 0} → Refusal → Result A Refusal
 err e = Err e
 
 -- behind what was read there are bytes left
-pub over : {A : Type 0} (more : List ℕ) → 0 < length more → (x : A) (g : Here) → (finish buffer (x, with_more more g) >>= λ y. ok y.0) ≡ err (record { code = rc_size; at = g.at })
+pub over : {A : Type 0} (more : List ℕ) → 0 < length more → (x : A) (g : Here)
+    → (finish buffer (x, with_more more g) >>= λ y. ok y.0) ≡ err (record { code = rc_size; at = g.at })
 over more some x g =
     let n : eqb (length (g.rest ++ more)) 0 ≡ false = ne_eqb (length (g.rest ++ more)) 0 (λ e. omega (arith, some, e, length-append g.rest more)) in
     rw n refl
@@ -102,7 +115,10 @@ over more some x g =
 module _ {A : Type 0} (k : ℕ) (l : Layout A) (short : TakesAtMost k l) (few : k ≤ 4096) (bytes : List ℕ) (long : 4096 < length bytes) where
   pub fault_of_long : (e : Refusal) → read 0 l (at_start (take 4096 bytes)) ≡ Err e → read_all l bytes ≡ Err e
   fault_of_long e is =
-      let all = rw (take-append-drop 4096 bytes) at (short.fault 0 (at_start (take 4096 bytes)) (drop 4096 bytes) e (omega (arith, long, few, length-take 4096 bytes)) is) in
+      let all =
+      rw (take-append-drop 4096 bytes) at
+      (short.fault 0 (at_start (take 4096 bytes)) (drop 4096 bytes) e
+      (omega (arith, long, few, length-take 4096 bytes)) is) in
       ap (λ o. (o >>= finish buffer) >>= λ x. ok x.0) all
 
   -- or the bytes behind what is read are it.

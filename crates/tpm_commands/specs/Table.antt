@@ -30,8 +30,10 @@ use Rattle.tpm_commands.specs.declared.response.ReplyBody.TheVariants as replies
 -- in the order of their numbers
 abbrev pub all_commands : List CommandCode
 all_commands =
-    codes.NvUndefineSpace ∷ codes.NvDefineSpace ∷ codes.NvIncrement ∷ codes.PcrEvent ∷ codes.PcrReset ∷ codes.Startup ∷ codes.NvRead ∷ codes.FlushContext ∷ codes.NvReadPublic ∷ codes.PolicyAuthValue
-    ∷ codes.PolicyCommandCode ∷ codes.PolicyOr ∷ codes.StartAuthSession ∷ codes.PcrRead ∷ codes.PolicyPcr ∷ codes.PolicyRestart ∷ codes.PcrExtend ∷ codes.PolicyGetDigest ∷ []
+    codes.NvUndefineSpace ∷ codes.NvDefineSpace ∷ codes.NvIncrement ∷ codes.PcrEvent ∷ codes.PcrReset
+    ∷ codes.Startup ∷ codes.NvRead ∷ codes.FlushContext ∷ codes.NvReadPublic ∷ codes.PolicyAuthValue
+    ∷ codes.PolicyCommandCode ∷ codes.PolicyOr ∷ codes.StartAuthSession ∷ codes.PcrRead ∷ codes.PolicyPcr
+    ∷ codes.PolicyRestart ∷ codes.PcrExtend ∷ codes.PolicyGetDigest ∷ []
 
 abbrev pub row : CommandCode → Row
 row codes.NvUndefineSpace = nv_undefine_space_row
@@ -134,7 +136,14 @@ body_from hs params.PolicyAuthValue = bodies.PolicyAuthValue (policy_in (first h
 body_from hs (params.PolicyCommandCode code) = bodies.PolicyCommandCode (policy_in (first hs)) code
 body_from hs (params.PolicyOr digests) = bodies.PolicyOr (policy_in (first hs)) digests
 body_from hs (params.StartAuthSession nonce session_type symmetric hash) =
-    bodies.StartAuthSession (record { bind = bind_in (second hs); nonce_caller = nonce; session_type = session_type; symmetric = symmetric; auth_hash = hash })
+    bodies.StartAuthSession
+    (record {
+      bind = bind_in (second hs);
+      nonce_caller = nonce;
+      session_type = session_type;
+      symmetric = symmetric;
+      auth_hash = hash;
+    })
 body_from hs (params.PcrRead selections) = bodies.PcrRead selections
 body_from hs (params.PolicyPcr digest selections) = bodies.PolicyPcr (policy_in (first hs)) digest selections
 body_from hs params.PolicyRestart = bodies.PolicyRestart (policy_in (first hs))
@@ -156,7 +165,8 @@ params_of (bodies.NvReadPublic index) = params.NvReadPublic
 params_of (bodies.PolicyAuthValue session) = params.PolicyAuthValue
 params_of (bodies.PolicyCommandCode session code) = params.PolicyCommandCode code
 params_of (bodies.PolicyOr session digests) = params.PolicyOr digests
-params_of (bodies.StartAuthSession start) = params.StartAuthSession start.nonce_caller start.session_type start.symmetric start.auth_hash
+params_of (bodies.StartAuthSession start) =
+    params.StartAuthSession start.nonce_caller start.session_type start.symmetric start.auth_hash
 params_of (bodies.PcrRead selections) = params.PcrRead selections
 params_of (bodies.PolicyPcr session digest selections) = params.PolicyPcr digest selections
 params_of (bodies.PolicyRestart session) = params.PolicyRestart

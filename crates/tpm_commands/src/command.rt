@@ -9,8 +9,8 @@ use tpm_types::{
     StartupType, SymDef,
 };
 
-/// What a command does, with its handles and parameters: the command of that name in Part 3. An event is lent, as from the bytes
-/// that the command was decoded from.
+/// What a command does, with its handles and parameters: the command of that name in Part 3. An event is lent, as
+/// from the bytes that the command was decoded from.
 ///
 /// A handle that can have one value alone, as TPM_RH_OWNER of NV_DefineSpace, has no field.
 #[derive(Drop)]
@@ -109,7 +109,8 @@ pub struct Command<'a> {
     pub auths: ArrayVec<Auth, 3>,
 }
 
-/// What a command begins with (Part 1, "Command/Response Structure"): the tag, the number of bytes of the buffer, and the code.
+/// What a command begins with (Part 1, "Command/Response Structure"): the tag, the
+/// number of bytes of the buffer, and the code.
 #[derive(Clone, Copy, Debug, Drop, PartialEq, Eq)]
 pub struct Header {
     pub tag: u16,

@@ -51,8 +51,14 @@ impl HandleKind {
     // The handle of this number, counted from 1.
     fn take(self, cursor: &mut Cursor<'_>, number: u32) -> Result<u32, Refusal>
         requires { (1 ≤ number) × (number ≤ 2) }
-        ensures reads { TakesNumbered (λ n. n) (numbered (the_number number) (number_in 4 (is_admitted self) rc_value)) cursor.old cursor.new result }
-        ensures spelled { IfOk result (λ x. cursor.old.here.rest ≡ spelling (numbered (the_number number) (number_in 4 (is_admitted self) rc_value)) x ++ cursor.new.here.rest) }
+        ensures reads { TakesNumbered (λ n. n)
+            (numbered (the_number number) (number_in 4 (is_admitted self) rc_value))
+            cursor.old cursor.new result }
+        ensures spelled { IfOk result
+            (λ x. cursor.old.here.rest
+            ≡ spelling (numbered (the_number number) (number_in 4 (is_admitted self) rc_value))
+            x
+            ++ cursor.new.here.rest) }
         ensures admitted { IfOk result (λ x. is_admitted self x ≡ true) }
     {
         cursor.number(of_handle(number));
@@ -68,8 +74,11 @@ impl HandleKind {
 #[inline(always)]
 fn take_kinds(cursor: &mut Cursor<'_>, kinds: &[HandleKind]) -> Result<ArrayVec<u32, 2>, Refusal>
     requires { length kinds.now ≤ 2 }
-    ensures reads { TakesNumbered (λ v. v.items) (handles_from 1 kinds.now) cursor.old cursor.new result }
-    ensures spelled { IfOk result (λ x. cursor.old.here.rest ≡ spelling (handles_from 1 kinds.now) x.items ++ cursor.new.here.rest) }
+    ensures reads { TakesNumbered (λ v. v.items) (handles_from 1 kinds.now)
+        cursor.old cursor.new result }
+    ensures spelled { IfOk result
+        (λ x. cursor.old.here.rest
+        ≡ spelling (handles_from 1 kinds.now) x.items ++ cursor.new.here.rest) }
     ensures admitted { IfOk result (λ x. AreAdmitted kinds.now x.items) }
 {
     let mut list = ArrayVec::new();
@@ -87,12 +96,15 @@ fn take_kinds(cursor: &mut Cursor<'_>, kinds: &[HandleKind]) -> Result<ArrayVec<
     }
 }
 
-/// The numbers of the handles that a command with this code has, in their order, each of its kind; or the first fault: INSUFFICIENT
-/// or VALUE with the handle's number (Part 3, the command table of each).
+/// The numbers of the handles that a command with this code has, in their order, each of its kind; or the first
+/// fault: INSUFFICIENT or VALUE with the handle's number (Part 3, the command table of each).
 #[inline(always)]
 pub fn take_handles(cursor: &mut Cursor<'_>, code: CommandCode) -> Result<ArrayVec<u32, 2>, Refusal>
-    ensures reads { TakesNumbered (λ v. v.items) (handles_layout code) cursor.old cursor.new result }
-    ensures spelled { IfOk result (λ x. cursor.old.here.rest ≡ spelling (handles_layout code) x.items ++ cursor.new.here.rest) }
+    ensures reads { TakesNumbered (λ v. v.items) (handles_layout code)
+        cursor.old cursor.new result }
+    ensures spelled { IfOk result
+        (λ x. cursor.old.here.rest
+        ≡ spelling (handles_layout code) x.items ++ cursor.new.here.rest) }
     ensures admitted { IfOk result (λ x. AreAdmitted (handle_kinds code) x.items) }
 {
     take_kinds(cursor, code.handle_kinds())
@@ -122,7 +134,8 @@ impl CommandCode {
     }
 }
 
-// ---- a handle by its number, or where the command cannot have it one of its kind, which is never met on handles that were read
+// ---- a handle by its number, or where the command cannot have it one of its kind,
+// which is never met on handles that were read
 
 pub(crate) fn register_in(handle: u32) -> PcrIndex
     ensures { result ≡ the_register handle }

@@ -61,7 +61,8 @@ fn read_params<'a>(
     params: &mut Params<'a>,
 ) -> Result<(), Refusal>
     ensures reads { TakesNumbered (λ _. params.new) (parameters code) cursor.old cursor.new result }
-    ensures spelled { OnOk result (cursor.old.here.rest ≡ spelling (parameters code) params.new ++ cursor.new.here.rest) }
+    ensures spelled { OnOk result
+        (cursor.old.here.rest ≡ spelling (parameters code) params.new ++ cursor.new.here.rest) }
     ensures code { OnOk result (params_code params.new ≡ code) }
 {
     // (digests that are there already are read over, and not made anew first)

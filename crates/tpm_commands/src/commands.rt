@@ -109,7 +109,8 @@ impl CommandBody<'_> {
     /// The handles' numbers. They are of the command's kinds, and with its parameters they make it again.
     pub fn handle_numbers(&self) -> ArrayVec<u32, 2>
         ensures value { result.items ≡ handles_of self.now }
-        ensures spelled { (left : ℕ) → Fits left (handles_layout (code_for self.now)) (handles_of self.now) }
+        ensures spelled { (left : ℕ)
+            → Fits left (handles_layout (code_for self.now)) (handles_of self.now) }
         ensures whole { body_from (handles_of self.now) (params_of self.now) ≡ self.now }
     {
         let mut numbers = ArrayVec::new();
@@ -148,9 +149,11 @@ impl CommandBody<'_> {
 
     /// How many bytes its parameters have, 0 to 3,500.
     pub fn params_len(&self) -> usize
-        ensures value { result ≡ length (spelling (parameters (code_for self.now)) (params_of self.now)) }
+        ensures value { result
+            ≡ length (spelling (parameters (code_for self.now)) (params_of self.now)) }
         ensures fits { result ≤ 3500 }
-        ensures spelled { (left : ℕ) → Fits left (parameters (code_for self.now)) (params_of self.now) }
+        ensures spelled { (left : ℕ)
+            → Fits left (parameters (code_for self.now)) (params_of self.now) }
     {
         match self {
             CommandBody::NvDefineSpace { auth, public } => nv::nv_define_space_len(auth, public),
@@ -181,8 +184,11 @@ impl CommandBody<'_> {
     /// Adds its parameters at the end.
     #[inline(never)]
     pub fn put_params(&self, out: &mut Buffer)
-        requires { length out.old.items + length (spelling (parameters (code_for self.now)) (params_of self.now)) ≤ 4096 }
-        ensures { out.new.items ≡ out.old.items ++ spelling (parameters (code_for self.now)) (params_of self.now) }
+        requires { length out.old.items
+            + length (spelling (parameters (code_for self.now)) (params_of self.now))
+            ≤ 4096 }
+        ensures { out.new.items
+            ≡ out.old.items ++ spelling (parameters (code_for self.now)) (params_of self.now) }
     {
         match self {
             CommandBody::NvDefineSpace { auth, public } => nv::put_nv_define_space(
@@ -287,15 +293,19 @@ impl<'a> CommandBody<'a> {
         }
     }
 
-    /// Reads the parameters of a command with the same code in their place, and gives it the handles with these numbers; or the
-    /// first fault, with the parameter's number: INSUFFICIENT, VALUE, SIZE, HASH, SYMMETRIC, MODE or RESERVED_BITS (Part 3, the
-    /// command table of each). Which command it is after a fault is not said.
+    /// Reads the parameters of a command with the same code in their place, and gives it the handles with these
+    /// numbers; or the first fault, with the parameter's number: INSUFFICIENT, VALUE, SIZE, HASH, SYMMETRIC, MODE or
+    /// RESERVED_BITS (Part 3, the command table of each). Which command it is after a fault is not said.
     ///
-    /// A handle that is missing, or that the command cannot have, is never met where both were read under one code; in its
-    /// place stands one of its kind.
+    /// A handle that is missing, or that the command cannot have, is never met where both were read under one
+    /// code; in its place stands one of its kind.
     pub fn read(&mut self, cursor: &mut Cursor<'a>, handles: &[u32]) -> Result<(), Refusal>
-        ensures reads { TakesNumbered (λ _. params_of self.new) (parameters (code_for self.old)) cursor.old cursor.new result }
-        ensures spelled { OnOk result (cursor.old.here.rest ≡ spelling (parameters (code_for self.old)) (params_of self.new) ++ cursor.new.here.rest) }
+        ensures reads { TakesNumbered (λ _. params_of self.new) (parameters (code_for self.old))
+            cursor.old cursor.new result }
+        ensures spelled { OnOk result
+            (cursor.old.here.rest
+            ≡ spelling (parameters (code_for self.old)) (params_of self.new)
+            ++ cursor.new.here.rest) }
         ensures code { OnOk result (params_code (params_of self.new) ≡ code_for self.old) }
         ensures body { OnOk result (self.new ≡ body_from handles.now (params_of self.new)) }
     {
@@ -370,7 +380,8 @@ impl<'a> CommandBody<'a> {
 // ---- parameters alone
 
 impl<'a> Params<'a> {
-    // Makes them those of a command with this code, which others are read in the place of. Each are made where they stay.
+    // Makes them those of a command with this code, which others are read in the
+    // place of. Each are made where they stay.
     #[inline(never)]
     pub(crate) fn begin(&mut self, code: CommandCode)
         ensures { params_code self.new ≡ code }
@@ -410,8 +421,11 @@ impl<'a> Params<'a> {
 
     // Reads parameters of the same command in their place.
     pub(crate) fn read(&mut self, cursor: &mut Cursor<'a>) -> Result<(), Refusal>
-        ensures reads { TakesNumbered (λ _. self.new) (parameters (params_code self.old)) cursor.old cursor.new result }
-        ensures spelled { OnOk result (cursor.old.here.rest ≡ spelling (parameters (params_code self.old)) self.new ++ cursor.new.here.rest) }
+        ensures reads { TakesNumbered (λ _. self.new) (parameters (params_code self.old))
+            cursor.old cursor.new result }
+        ensures spelled { OnOk result
+            (cursor.old.here.rest
+            ≡ spelling (parameters (params_code self.old)) self.new ++ cursor.new.here.rest) }
         ensures code { OnOk result (params_code self.new ≡ params_code self.old) }
     {
         match self {
@@ -458,15 +472,19 @@ impl<'a> Params<'a> {
 
 // ---- replies
 
-/// The handle of a response to a command with this code, where it has one; or its fault: INSUFFICIENT or VALUE for handle 1
-/// (Part 3, the response table of each).
+/// The handle of a response to a command with this code, where it has one; or its fault: INSUFFICIENT or VALUE for
+/// handle 1 (Part 3, the response table of each).
 pub fn take_reply_handle(
     cursor: &mut Cursor<'_>,
     code: CommandCode,
 ) -> Result<Option<SessionHandle>, Refusal>
     ensures reads { TakesNumbered handle_list (reply_handles code) cursor.old cursor.new result }
-    ensures spelled { IfOk result (λ h. cursor.old.here.rest ≡ spelling (reply_handles code) (handle_list h) ++ cursor.new.here.rest) }
-    ensures length { IfOk result (λ h. length cursor.old.here.rest ≡ 4 * length (handle_list h) + length cursor.new.here.rest) }
+    ensures spelled { IfOk result
+        (λ h. cursor.old.here.rest
+        ≡ spelling (reply_handles code) (handle_list h) ++ cursor.new.here.rest) }
+    ensures length { IfOk result
+        (λ h. length cursor.old.here.rest
+        ≡ 4 * length (handle_list h) + length cursor.new.here.rest) }
     ensures there { IfOk result (HasHandle code) }
 {
     match code {
@@ -491,9 +509,9 @@ pub fn take_reply_handle(
     }
 }
 
-/// Reads the reply to a command with this code, of which the handle was read before, in the place of another one; or the first
-/// fault, with the parameter's number: INSUFFICIENT, VALUE, SIZE, HASH or RESERVED_BITS (Part 3, the response table of each).
-/// Which reply is there after a fault is not said.
+/// Reads the reply to a command with this code, of which the handle was read before, in the place of another one; or
+/// the first fault, with the parameter's number: INSUFFICIENT, VALUE, SIZE, HASH or RESERVED_BITS (Part 3, the
+/// response table of each). Which reply is there after a fault is not said.
 pub fn read_reply_params(
     cursor: &mut Cursor<'_>,
     code: CommandCode,
@@ -501,8 +519,12 @@ pub fn read_reply_params(
     body: &mut ReplyBody,
 ) -> Result<(), Refusal>
     requires { HasHandle code handle }
-    ensures reads { TakesNumbered (λ _. body.new) (reply_parameters code (handle_list handle)) cursor.old cursor.new result }
-    ensures spelled { OnOk result (cursor.old.here.rest ≡ spelling (reply_parameters code (handle_list handle)) body.new ++ cursor.new.here.rest) }
+    ensures reads { TakesNumbered (λ _. body.new) (reply_parameters code (handle_list handle))
+        cursor.old cursor.new result }
+    ensures spelled { OnOk result
+        (cursor.old.here.rest
+        ≡ spelling (reply_parameters code (handle_list handle)) body.new
+        ++ cursor.new.here.rest) }
     ensures own { OnOk result (IsReplyTo code handle body.new) }
 {
     match code {
@@ -561,7 +583,9 @@ impl ReplyBody {
     /// How many bytes its handle has, 0 where it has none.
     #[tactic(auto, unfolding(crate::specs::Replies::session_handle))]
     pub fn handles_len(&self) -> usize
-        ensures value { result ≡ length (spelling (reply_handles (code_for_reply self.now)) (reply_handles_of self.now)) }
+        ensures value { result
+            ≡ length
+            (spelling (reply_handles (code_for_reply self.now)) (reply_handles_of self.now)) }
         ensures fits { result ≤ 4 }
     {
         match self {
@@ -589,8 +613,14 @@ impl ReplyBody {
     /// Adds its handle at the end, where it has one.
     #[tactic(auto, unfolding(crate::specs::Replies::session_handle, tpm_types::specs::Handles::session))]
     pub fn put_handles(&self, out: &mut Buffer)
-        requires { length out.old.items + length (spelling (reply_handles (code_for_reply self.now)) (reply_handles_of self.now)) ≤ 4096 }
-        ensures { out.new.items ≡ out.old.items ++ spelling (reply_handles (code_for_reply self.now)) (reply_handles_of self.now) }
+        requires { length out.old.items
+            + length
+            (spelling (reply_handles (code_for_reply self.now))
+            (reply_handles_of self.now))
+            ≤ 4096 }
+        ensures { out.new.items
+            ≡ out.old.items
+            ++ spelling (reply_handles (code_for_reply self.now)) (reply_handles_of self.now) }
     {
         if let ReplyBody::StartAuthSession(reply) = self {
             reply.session.put(out);
@@ -600,7 +630,8 @@ impl ReplyBody {
     /// Its handle has a spelling.
     #[tactic(auto, unfolding(crate::specs::Replies::session_handle))]
     pub fn known_handles(&self)
-        ensures { (left : ℕ) → Fits left (reply_handles (code_for_reply self.now)) (reply_handles_of self.now) }
+        ensures { (left : ℕ)
+            → Fits left (reply_handles (code_for_reply self.now)) (reply_handles_of self.now) }
     {
         if let ReplyBody::StartAuthSession(reply) = self {
             reply.session.has_spelling();
@@ -642,8 +673,11 @@ impl ReplyBody {
 
     /// Adds its parameters at the end.
     pub fn put_params(&self, out: &mut Buffer)
-        requires { length out.old.items + length (spelling (parameters_of_reply self.now) self.now) ≤ 4096 }
-        ensures { out.new.items ≡ out.old.items ++ spelling (parameters_of_reply self.now) self.now }
+        requires { length out.old.items
+            + length (spelling (parameters_of_reply self.now) self.now)
+            ≤ 4096 }
+        ensures { out.new.items
+            ≡ out.old.items ++ spelling (parameters_of_reply self.now) self.now }
     {
         match self {
             ReplyBody::PcrEvent(digests) => pcr::put_pcr_event_reply(digests, out),

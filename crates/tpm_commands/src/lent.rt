@@ -33,7 +33,8 @@ impl<'a> Model for Event<'a> {
 impl<'a> Event<'a> {
     /// These bytes, if they are at most `EVENT_BYTES`.
     pub fn new(bytes: &'a [u8]) -> Option<Self>
-        ensures { MatchOption result (event_bytes < length bytes.now) (λ e. (e ≡ bytes.now) × (length bytes.now ≤ event_bytes)) }
+        ensures { MatchOption result (event_bytes < length bytes.now)
+            (λ e. (e ≡ bytes.now) × (length bytes.now ≤ event_bytes)) }
     {
         if bytes.len() > EVENT_BYTES {
             return None;
@@ -52,7 +53,9 @@ impl<'a> Event<'a> {
     // The event that begins here: the number of its bytes, else SIZE, and the bytes.
     pub(crate) fn take(cursor: &mut Cursor<'a>) -> Result<Self, Refusal>
         ensures reads { Takes (sized_bytes event_bytes) cursor.old cursor.new result }
-        ensures spelled { IfOk result (λ e. cursor.old.here.rest ≡ spelling (sized_bytes event_bytes) e ++ cursor.new.here.rest) }
+        ensures spelled { IfOk result
+            (λ e. cursor.old.here.rest
+            ≡ spelling (sized_bytes event_bytes) e ++ cursor.new.here.rest) }
     {
         let bytes = take_sized(cursor, EVENT_BYTES)?;
         Ok(Event { bytes })
@@ -78,7 +81,8 @@ impl<'a> Event<'a> {
     // Adds its spelling at the end.
     #[tactic(auto, unfolding(tpm_wire::specs::Structures::sized_bytes))]
     pub(crate) fn put(&self, out: &mut Buffer)
-        requires { length out.old.items + length (spelling (sized_bytes event_bytes) self.now) ≤ 4096 }
+        requires { length out.old.items + length (spelling (sized_bytes event_bytes) self.now)
+            ≤ 4096 }
         ensures { out.new.items ≡ out.old.items ++ spelling (sized_bytes event_bytes) self.now }
     {
         (self.bytes.len() as u16).put(out);
@@ -86,13 +90,14 @@ impl<'a> Event<'a> {
     }
 }
 
-/// The bytes of a sized buffer, TPM2B (Part 2, 10.4), of which there are at most so many; or SIZE where it states more, and
-/// INSUFFICIENT where fewer are there.
+/// The bytes of a sized buffer, TPM2B (Part 2, 10.4), of which there are at most so many; or SIZE where it states
+/// more, and INSUFFICIENT where fewer are there.
 #[tactic(auto, unfolding(tpm_wire::specs::Structures::sized_bytes))]
 pub fn take_sized<'a>(cursor: &mut Cursor<'a>, most: usize) -> Result<&'a [u8], Refusal>
     requires { most < 2 ^ 16 }
     ensures reads { TakesAs (λ x. x.now) (sized_bytes most) cursor.old cursor.new result }
-    ensures spelled { IfOk result (λ x. cursor.old.here.rest ≡ spelling (sized_bytes most) x.now ++ cursor.new.here.rest) }
+    ensures spelled { IfOk result
+        (λ x. cursor.old.here.rest ≡ spelling (sized_bytes most) x.now ++ cursor.new.here.rest) }
     ensures fits { IfOk result (λ x. length x.now ≤ most) }
 {
     let refusal = cursor.refusal(SIZE);

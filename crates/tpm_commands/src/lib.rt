@@ -1,4 +1,5 @@
-//! The table of commands, the values of commands and responses, and how handles, parameters and replies are read and written.
+//! The table of commands, the values of commands and responses, and how handles,
+//! parameters and replies are read and written.
 #![tactic(auto)]
 
 mod code;

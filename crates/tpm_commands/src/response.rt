@@ -86,8 +86,8 @@ pub struct StartReply {
     pub nonce_tpm: Nonce,
 }
 
-/// A response (Part 1, "Command/Response Structure"): a nonzero code alone, or what the command answers and the sessions that authorized it,
-/// none under tag 0x8001 and one to three under 0x8002.
+/// A response (Part 1, "Command/Response Structure"): a nonzero code alone, or what the command answers and the
+/// sessions that authorized it, none under tag 0x8001 and one to three under 0x8002.
 #[derive(Drop)]
 pub enum Response {
     Code(ErrorCode),

@@ -27,7 +27,8 @@ same_value false true index auth c d e = refl
 same_value false false true auth c d e = e
 same_value false false false auth c d e = refl
 
-owners_value : (pcr owner index : Bool) (auth : List ℕ) (c d : Option Counter) → owner ≡ true → auth_value (named pcr owner index auth c) ≡ auth_value (named pcr owner index auth d)
+owners_value : (pcr owner index : Bool) (auth : List ℕ) (c d : Option Counter) → owner ≡ true →
+    auth_value (named pcr owner index auth c) ≡ auth_value (named pcr owner index auth d)
 owners_value true owner index auth c d e = refl
 owners_value false true index auth c d e = refl
 owners_value false false index auth c d e = absurd (cc)
@@ -36,7 +37,8 @@ not_owner : (c : Option Counter) → is_owner_entity (index_entity c) ≡ false
 not_owner None = refl
 not_owner (Some c) = refl
 
-same_owner : (pcr owner index : Bool) (auth : List ℕ) (c d : Option Counter) → is_owner_entity (named pcr owner index auth c) ≡ is_owner_entity (named pcr owner index auth d)
+same_owner : (pcr owner index : Bool) (auth : List ℕ) (c d : Option Counter) →
+    is_owner_entity (named pcr owner index auth c) ≡ is_owner_entity (named pcr owner index auth d)
 same_owner true owner index auth c d = refl
 same_owner false true index auth c d = refl
 same_owner false false true auth c d = not_owner c ∙ sym (not_owner d)
@@ -69,19 +71,24 @@ value_stays i g handle (c ∷ cs) = one_of (has_index i c) i g handle c cs (valu
 value_after : (o : Origin) (h : History) (body : CommandBody) (reply : ReplyBody) (n : List ℕ) (handle : ℕ) → needs_authorization (code_for body) ≡ true
     → (owner_authorizes (code_for body) ≡ true → is_owner handle ≡ true)
     → auth_value (entity_of (present o h) handle) ≡ auth_value (entity_of (present o (step_of body reply n ∷ h)) handle)
-value_after o h (bodies.NvDefineSpace auth public) reply n handle needs owner = owners_value (is_pcr handle) (is_owner handle) (is_nv_index handle) o.owner _ _ (owner refl)
-value_after o h (bodies.NvUndefineSpace index) reply n handle needs owner = owners_value (is_pcr handle) (is_owner handle) (is_nv_index handle) o.owner _ _ (owner refl)
+value_after o h (bodies.NvDefineSpace auth public) reply n handle needs owner =
+    owners_value (is_pcr handle) (is_owner handle) (is_nv_index handle) o.owner _ _ (owner refl)
+value_after o h (bodies.NvUndefineSpace index) reply n handle needs owner =
+    owners_value (is_pcr handle) (is_owner handle) (is_nv_index handle) o.owner _ _ (owner refl)
 value_after o h (bodies.NvIncrement by index) reply n handle needs owner =
     same_value (is_pcr handle) (is_owner handle) (is_nv_index handle) o.owner _ _ (value_stays index (nv_memory o h).greatest handle (nv_memory o h).counters)
 value_after o h _ reply n handle needs owner = refl
 
 -- A device that has acted authorizes as before.
-pub alike : (o : Origin) (h : History) (old new : Device) (body : CommandBody) (reply : ReplyBody) (n : List ℕ) (handle : ℕ) → Stands o h old → Stands o (step_of body reply n ∷ h) new
+pub alike : (o : Origin) (h : History) (old new : Device) (body : CommandBody) (reply : ReplyBody) (n : List ℕ) (handle : ℕ) → Stands o h old →
+    Stands o (step_of body reply n ∷ h) new
     → needs_authorization (code_for body) ≡ true → (owner_authorizes (code_for body) ≡ true → is_owner handle ≡ true) → IsAlike (holds old) new handle
 alike o h old new body reply n handle st further needs owner = record {
   sessions = its_sessions o h old st ∙ sym (sessions_stay o h body reply n needs) ∙ sym (its_sessions o (step_of body reply n ∷ h) new further);
-  value = ap (λ (p : Present). auth_value (entity_of p handle)) st ∙ value_after o h body reply n handle needs owner ∙ sym (ap (λ (p : Present). auth_value (entity_of p handle)) further);
+  value = ap (λ (p : Present). auth_value (entity_of p handle)) st ∙ value_after o h body reply n handle needs owner
+      ∙ sym (ap (λ (p : Present). auth_value (entity_of p handle)) further);
   owner = ap (λ (p : Present). is_owner_entity (entity_of p handle)) st
-      ∙ same_owner (is_pcr handle) (is_owner handle) (is_nv_index handle) o.owner (counter_in (nv_memory o h).counters handle) (counter_in (nv_memory o (step_of body reply n ∷ h)).counters handle)
+      ∙ same_owner (is_pcr handle) (is_owner handle) (is_nv_index handle) o.owner (counter_in (nv_memory o h).counters handle)
+      (counter_in (nv_memory o (step_of body reply n ∷ h)).counters handle)
       ∙ sym (ap (λ (p : Present). is_owner_entity (entity_of p handle)) further);
 }

@@ -64,8 +64,10 @@ sessions_stay o h (bodies.PolicyAuthValue handle) reply n needs = absurd (cc)
 sessions_stay o h (bodies.PolicyRestart handle) reply n needs = absurd (cc)
 sessions_stay o h _ reply n needs = refl
 
--- A command with these sessions leaves the device where it leaves it without them, if the sessions are those of the history with them.
-pub with_sessions : (o : Origin) (h : History) (old new : Device) (body : CommandBody) (reply : ReplyBody) (auths : List Auth) (replied : List AuthReply) (n : List ℕ)
+-- A command with these sessions leaves the device where it leaves it without them, if the sessions
+-- are those of the history with them.
+pub with_sessions : (o : Origin) (h : History) (old new : Device) (body : CommandBody) (reply : ReplyBody) (auths : List Auth)
+    (replied : List AuthReply) (n : List ℕ)
     → Stands o (step_of body reply n ∷ h) old → new.started ≡ old.started → new.owner ≡ old.owner → new.registers ≡ old.registers → new.counters ≡ old.counters
     → new.sessions ≡ sessions_at o (Accepted (with_auths body auths) (record { body = reply; auths = replied }) n ∷ h)
     → Stands o (Accepted (with_auths body auths) (record { body = reply; auths = replied }) n ∷ h) new
@@ -79,7 +81,8 @@ with_sessions o h old new body reply auths replied n st started owner registers 
     (counters ∙ ap (λ (p : Present). p.nv) st)
 
 -- A password leaves the sessions.
-pub by_a_password : (o : Origin) (h : History) (d : Device) (body : CommandBody) (reply : ReplyBody) (a : Auth) (others : List Auth) (replied : List AuthReply) (n : List ℕ)
+pub by_a_password : (o : Origin) (h : History) (d : Device) (body : CommandBody) (reply : ReplyBody) (a : Auth) (others : List Auth)
+    (replied : List AuthReply) (n : List ℕ)
     → is_session a.session ≡ false → Stands o (step_of body reply n ∷ h) d
     → Stands o (Accepted (with_auths body (a ∷ others)) (record { body = reply; auths = replied }) n ∷ h) d
 by_a_password o h d body reply a others replied n none st =
@@ -93,9 +96,11 @@ always (Ok u) p = p
 always (Err code) p = tt
 
 -- A command that changes no more than the sessions takes the device one step further.
-pub sessions_change : (o : Origin) (h : History) (d : Device) (body : CommandBody) (reply : ReplyBody) (n : List ℕ) (sessions : List (Option Session)) → Stands o h d
+pub sessions_change : (o : Origin) (h : History) (d : Device) (body : CommandBody) (reply : ReplyBody) (n : List ℕ)
+    (sessions : List (Option Session)) → Stands o h d
     → starts body ≡ false → changes_by body ≡ [] → ((nv : NvMemory) → nv_by body nv ≡ nv)
-    → ((c : Command) (r : Reply) (m : List ℕ) → c.body ≡ body → c.auths.items ≡ [] → d.sessions ≡ sessions_at o h → sessions ≡ sessions_at o (Accepted c r m ∷ h))
+    → ((c : Command) (r : Reply) (m : List ℕ) → c.body ≡ body → c.auths.items ≡ [] → d.sessions ≡ sessions_at o h →
+    sessions ≡ sessions_at o (Accepted c r m ∷ h))
     → Stands o (step_of body reply n ∷ h) (record d { sessions = sessions })
 sessions_change o h d body reply n sessions st starts_none changes_none nv after =
     one_more o h d (record d { sessions = sessions }) body reply n st refl (rw starts_none refl) (rw changes_none (its_registers o h d st))
@@ -103,6 +108,8 @@ sessions_change o h d body reply n sessions st starts_none changes_none nv after
 
 -- A command that changes nothing takes the device one step further.
 pub unchanged : (d : Device) (body : CommandBody) (reply : ReplyBody) (n : List ℕ) → starts body ≡ false → changes_by body ≡ []
-    → ((o : Origin) (h : History) → sessions_at o (step_of body reply n ∷ h) ≡ sessions_at o h) → ((nv : NvMemory) → nv_by body nv ≡ nv) → Steps d d body reply n
+    → ((o : Origin) (h : History) → sessions_at o (step_of body reply n ∷ h) ≡ sessions_at o h) →
+    ((nv : NvMemory) → nv_by body nv ≡ nv) → Steps d d body reply n
 unchanged d body reply n starts_none changes_none sessions nv = λ o h st.
-    one_more o h d d body reply n st refl (rw starts_none refl) (rw changes_none (its_registers o h d st)) (its_sessions o h d st ∙ sym (sessions o h)) (sym (nv d.counters))
+    one_more o h d d body reply n st refl (rw starts_none refl) (rw changes_none (its_registers o h d st))
+    (its_sessions o h d st ∙ sym (sessions o h)) (sym (nv d.counters))

@@ -23,7 +23,8 @@ behind P (Err e) f own = tt
 abbrev IsOwnDone : Done → Type 0
 IsOwnDone d = code_for d.command.body ≡ code_for_reply d.reply.body
 
-made_own : (body : CommandBody) (r : Result ReplyBody ℕ) (f : ReplyBody → Done) → ((reply : ReplyBody) → IsOwn body reply → IsOwnDone (f reply)) → IfOk r (IsOwn body)
+made_own : (body : CommandBody) (r : Result ReplyBody ℕ) (f : ReplyBody → Done) →
+    ((reply : ReplyBody) → IsOwn body reply → IsOwnDone (f reply)) → IfOk r (IsOwn body)
     → IfOk (r >>= λ reply. Ok (f reply)) IsOwnDone
 made_own body (Ok reply) f made own = made reply own
 made_own body (Err e) f made own = tt

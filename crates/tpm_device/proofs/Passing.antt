@@ -42,7 +42,8 @@ use Rattle.tpm_session.proofs.Authorized.{authorized}
 -- ---- before the parameters
 
 pub is_read : (p : Present) (bytes : List ℕ) (x : HeaderCut) (y : HandlesCut) (z : Cut) → read 0 header (at_start bytes) ≡ Ok (head_and_rest x)
-    → check_started p.started x.header.code ≡ Ok tt → IsHandled x (Ok y) → check_handles p 1 y.handles ≡ Ok tt → check_tag x.header.code x.header.tag ≡ Ok tt → IsAreas y (Ok z)
+    → check_started p.started x.header.code ≡ Ok tt → IsHandled x (Ok y) → check_handles p 1 y.handles ≡ Ok tt →
+    check_tag x.header.code x.header.tag ≡ Ok tt → IsAreas y (Ok z)
     → IsRead p (presented p bytes) (Ok z)
 is_read p bytes x y z head started handled handles tag areas =
     let same : y.header ≡ x.header = handled.1 in
@@ -55,7 +56,8 @@ pub tag_refused : (p : Present) (bytes : List ℕ) (x : HeaderCut) (y : HandlesC
 tag_refused p bytes x y code head started handled handles tag = rw (head, started, handled.0, handles, tag) refl
 
 pub areas_refused : (p : Present) (bytes : List ℕ) (x : HeaderCut) (y : HandlesCut) (e : Refusal) → read 0 header (at_start bytes) ≡ Ok (head_and_rest x)
-    → check_started p.started x.header.code ≡ Ok tt → IsHandled x (Ok y) → check_handles p 1 y.handles ≡ Ok tt → check_tag x.header.code x.header.tag ≡ Ok tt → IsAreas y (Err e)
+    → check_started p.started x.header.code ≡ Ok tt → IsHandled x (Ok y) → check_handles p 1 y.handles ≡ Ok tt →
+    check_tag x.header.code x.header.tag ≡ Ok tt → IsAreas y (Err e)
     → presented p bytes ≡ Err e.code
 areas_refused p bytes x y e head started handled handles tag areas =
     let same : y.header ≡ x.header = handled.1 in
@@ -68,7 +70,8 @@ admitted x y z handled tag areas =
       owner = λ is. ap (λ (ns : List ℕ). is_owner (first ns)) areas.2
           ∙ owner_read x.header.code x.here y.handles y.here handled.0 (ap (λ (k : Header). owner_authorizes k.code) (sym same) ∙ is);
       sessions = λ not. no_session_read x.header.code x.header.tag y.here z.auths (params_here z) tag
-          (ap (λ (k : Header). read 0 (authorization k.tag) y.here) (sym handled.1) ∙ areas.0) (ap (λ (k : Header). needs_authorization k.code) (sym same) ∙ not);
+          (ap (λ (k : Header). read 0 (authorization k.tag) y.here) (sym handled.1) ∙ areas.0)
+          (ap (λ (k : Header). needs_authorization k.code) (sym same) ∙ not);
     }
 
 -- ---- the checks of the sessions
@@ -93,24 +96,29 @@ sessions_refuse p bytes x code read refused = rw read (refused_by p x (evidence_
 pub sessions_permit : (p : Present) (bytes : List ℕ) (x : Cut) → IsRead p (presented p bytes) (Ok x)
     → sessions_checked p x x.auths ≡ Ok tt → IsPermittedBy p (permitted p bytes) x
 sessions_permit p bytes x read met =
-    let right = authorized (first_loaded (loaded p.sessions) x.auths) (entity_of p (first x.handles)) x.header.code (names_of p x.handles) x.params p.registers.update_counter x.auths met in
+    let right = authorized (first_loaded (loaded p.sessions) x.auths) (entity_of p (first x.handles)) x.header.code
+    (names_of p x.handles) x.params p.registers.update_counter x.auths met in
     record { evidence = right.0; gives = right.1; is = rw (read, right.1, right.2) refl }
 
 -- ---- the parameters
 
-performed_is : (p : Present) (n : List ℕ) (x : Presented) (params : Params) → read_all (parameters x.code) x.params ≡ Ok params → performed p n x ≡ done_of p n x (body_from x.handles params)
+performed_is : (p : Present) (n : List ℕ) (x : Presented) (params : Params) → read_all (parameters x.code) x.params ≡ Ok params →
+    performed p n x ≡ done_of p n x (body_from x.handles params)
 performed_is p n x params reads = rw reads refl
 
 params_refuse : (p : Present) (n : List ℕ) (x : Cut) (params : Params) (r : Result (Unit {0}) ℕ) → read_all (parameters x.header.code) x.params ≡ Ok params
-    → IfErr r (λ code. (y : Presented) → y.code ≡ x.header.code → y.handles ≡ x.handles → y.params ≡ x.params → done_of p n y (body_from x.handles params) ≡ Err code)
+    → IfErr r (λ code. (y : Presented) → y.code ≡ x.header.code → y.handles ≡ x.handles → y.params ≡ x.params →
+    done_of p n y (body_from x.handles params) ≡ Err code)
     → IfErr r (λ code. (y : Presented) → y.code ≡ x.header.code → y.handles ≡ x.handles → y.params ≡ x.params → performed p n y ≡ Err code)
 params_refuse p n x params (Ok u) reads refuses = tt
 params_refuse p n x params (Err code) reads refuses = λ y own handles is.
     performed_is p n y params (rw (own, is) reads) ∙ ap (λ (hs : List ℕ). done_of p n y (body_from hs params)) handles ∙ refuses y own handles is
 
 -- What is done with the parameters that were read is performed.
-pub with_params : {old new : Device} {n : List ℕ} {before after : ArrayVec ℕ} {r : Result (Unit {0}) ℕ} (x : Cut) (params : Params) → read_all (parameters x.header.code) x.params ≡ Ok params
-    → Performs old x n (λ y. done_of (holds old) n y (body_from x.handles params)) before r new after → Performs old x n (performed (holds old) n) before r new after
+pub with_params : {old new : Device} {n : List ℕ} {before after : ArrayVec ℕ} {r : Result (Unit {0}) ℕ} (x : Cut) (params : Params) →
+    read_all (parameters x.header.code) x.params ≡ Ok params
+    → Performs old x n (λ y. done_of (holds old) n y (body_from x.handles params)) before r new after →
+    Performs old x n (performed (holds old) n) before r new after
 with_params {old} {new} {n} {before} {after} {r} x params reads did = record {
   answer = λ e o h gives st. rw reads (did.answer e o h gives st);
   stands = λ e o h gives st. rw reads (did.stands e o h gives st);
@@ -135,13 +143,18 @@ without_params old x n out fault reads = record {
 -- ---- the action
 
 -- A command that acted, was answered and rolled its session is done.
-pub was_done : (old mid new : Device) (x : Cut) (auth : Option Auth) (n : List ℕ) (body : CommandBody) (reply : ReplyBody) (before after : ArrayVec ℕ) → IsReady old x auth before → code_for body ≡ x.header.code
+pub was_done : (old mid new : Device) (x : Cut) (auth : Option Auth) (n : List ℕ) (body : CommandBody) (reply : ReplyBody) (before after : ArrayVec ℕ) →
+    IsReady old x auth before → code_for body ≡ x.header.code
     → Ok reply ≡ action (holds old) body n → Steps old mid body reply n → Replies mid x n reply after.items → code_in after.items ≡ 0 → Rolls mid x.auths n new
     → Performs old x n (λ y. done_of (holds old) n y body) before (Ok tt) new after
 was_done old mid new x auth n body reply before after ready code is steps replies done rolls = record {
-  answer = λ e o h gives st. rw (← is) (ap (λ (b : List ℕ). let r : Result (List ℕ) ℕ = Ok b in r) (replies (holds old) e (λ a others are. alike o h old mid body reply n (first x.handles) st (steps o h st)
-      (ap needs_authorization code ∙ needs_it (needs_authorization x.header.code) x.auths a others ready.admitted.sessions are) (λ own. ready.admitted.owner (rw (← code) own))) gives));
-  stands = λ e o h gives st. rw (← is) (rolls o h body reply (reply_auths e x.header.code (reply_params reply) n) (λ not. ready.admitted.sessions (rw (← code) not)) (steps o h st));
+  answer = λ e o h gives st.
+      rw (← is) (ap (λ (b : List ℕ). let r : Result (List ℕ) ℕ = Ok b in r)
+      (replies (holds old) e (λ a others are. alike o h old mid body reply n (first x.handles) st (steps o h st)
+      (ap needs_authorization code ∙ needs_it (needs_authorization x.header.code) x.auths a others ready.admitted.sessions are)
+      (λ own. ready.admitted.owner (rw (← code) own))) gives));
+  stands = λ e o h gives st.
+      rw (← is) (rolls o h body reply (reply_auths e x.header.code (reply_params reply) n) (λ not. ready.admitted.sessions (rw (← code) not)) (steps o h st));
   refuses = tt;
   refused = tt;
   done = done;
@@ -149,7 +162,8 @@ was_done old mid new x auth n body reply before after ready code is steps replie
 }
 
 -- What the action refuses is refused.
-pub was_refused : (old new : Device) (x : Cut) (n : List ℕ) (body : CommandBody) (out : ArrayVec ℕ) (code : ℕ) → Err code ≡ action (holds old) body n → new ≡ old
+pub was_refused : (old new : Device) (x : Cut) (n : List ℕ) (body : CommandBody) (out : ArrayVec ℕ) (code : ℕ) →
+    Err code ≡ action (holds old) body n → new ≡ old
     → Performs old x n (λ y. done_of (holds old) n y body) out (Err code) new out
 was_refused old new x n body out code is same = record {
   answer = λ e o h gives st. rw (← is) refl;
@@ -167,7 +181,8 @@ some_code p bytes n code is = (refused_with p bytes n code is).0
 
 -- what refuses the parameters or the action refuses the command
 pub outcome_refuses : (p : Present) (bytes n : List ℕ) (x : Cut) (r : Result (Unit {0}) ℕ) → IsPermittedBy p (permitted p bytes) x
-    → IfErr r (λ code. (y : Presented) → y.code ≡ x.header.code → y.handles ≡ x.handles → y.params ≡ x.params → performed p n y ≡ Err code) → IfErr r (λ code. outcome p bytes n ≡ Err code)
+    → IfErr r (λ code. (y : Presented) → y.code ≡ x.header.code → y.handles ≡ x.handles → y.params ≡ x.params → performed p n y ≡ Err code) →
+    IfErr r (λ code. outcome p bytes n ≡ Err code)
 outcome_refuses p bytes n x (Ok u) by refuses = tt
 outcome_refuses p bytes n x (Err code) by refuses = rw by.is (refuses (presented_with p x by.evidence) refl refl refl)
 
@@ -182,6 +197,7 @@ unfolding response response_front response_tag response_code command_size
 reply_is_done body auths = refl
 
 -- What was done is answered by its reply, and a code that fails stands alone.
-pub reply_told : (r : Result Done ℕ) (items : List ℕ) → IfOk r (λ d. code_for d.command.body ≡ code_for_reply d.reply.body) → Ok items ≡ told r → items ≡ answered r
+pub reply_told : (r : Result Done ℕ) (items : List ℕ) → IfOk r (λ d. code_for d.command.body ≡ code_for_reply d.reply.body) →
+    Ok items ≡ told r → items ≡ answered r
 reply_told (Ok d) items own is = ok_is items _ is ∙ ap (λ (code : CommandCode). spelling (response code) (done_with d.reply)) (sym own)
 reply_told (Err e) items own is = absurd (cc)

@@ -28,7 +28,8 @@ as_the_model o h old new (Cycled ∷ es) responses st ran = as_the_model o (Powe
 
 -- ---- no replay
 
-by_outcome : (o : Origin) (h : History) (bytes n : List ℕ) (x : Result Done ℕ) → outcome (present o h) bytes n ≡ x → code_in (answer o h bytes n) ≡ 0 → IsAccepted o h bytes n
+by_outcome : (o : Origin) (h : History) (bytes n : List ℕ) (x : Result Done ℕ) → outcome (present o h) bytes n ≡ x →
+    code_in (answer o h bytes n) ≡ 0 → IsAccepted o h bytes n
 by_outcome o h bytes n (Ok d) is zero = (d, is)
 by_outcome o h bytes n (Err code) is zero =
     let some : 0 < code = (refused_with (present o h) bytes n code is).0 in
@@ -39,7 +40,8 @@ by_outcome o h bytes n (Err code) is zero =
 pub accepted : (o : Origin) (h : History) (bytes n response : List ℕ) → response ≡ answer o h bytes n → code_in response ≡ 0 → IsAccepted o h bytes n
 accepted o h bytes n response is zero = by_outcome o h bytes n (outcome (present o h) bytes n) refl (ap code_in (sym is) ∙ zero)
 
-pub not_twice : (o : Origin) (a b c d e : Device) (es fs gs : List Event) (rs ss : List (List ℕ)) (bytes n m r s : List ℕ) → Stands o [] a → Answers a es rs b → Executes b bytes n r c → Answers c fs ss d → Executes d bytes m s e
+pub not_twice : (o : Origin) (a b c d e : Device) (es fs gs : List Event) (rs ss : List (List ℕ)) (bytes n m r s : List ℕ) → Stands o [] a → Answers a es rs b →
+    Executes b bytes n r c → Answers c fs ss d → Executes d bytes m s e
     → NoncesDiffer (es ++ Given bytes n ∷ fs ++ Given bytes m ∷ gs) → NoCollision o (es ++ Given bytes n ∷ fs ++ Given bytes m ∷ gs) → HasSessionMac bytes
     → code_in r ≡ 0 → code_in s ≡ 0 → ⊥
 not_twice o a b c d e es fs gs rs ss bytes n m r s st first once second again nonces collisions mac zero zero_again =
@@ -53,7 +55,8 @@ not_twice o a b c d e es fs gs rs ss bytes n m r s st first once second again no
 
 -- ---- no counter goes back
 
-pub rises : (o : Origin) (a b c d : Device) (es fs : List Event) (rs ss : List (List ℕ)) (bytes n r : List ℕ) (x : Done) (by : NvAuthHandle) (i w : ℕ) → Stands o [] a → Answers a es rs b → value_on b i ≡ Some w → Answers b fs ss c
+pub rises : (o : Origin) (a b c d : Device) (es fs : List Event) (rs ss : List (List ℕ)) (bytes n r : List ℕ) (x : Done) (by : NvAuthHandle) (i w : ℕ) →
+    Stands o [] a → Answers a es rs b → value_on b i ≡ Some w → Answers b fs ss c
     → Executes c bytes n r d → outcome (holds c) bytes n ≡ Ok x → x.command.body ≡ NvIncrement by i → (v : ℕ) × (value_on d i ≡ Some v) × (w < v)
 rises o a b c d es fs rs ss bytes n r x by i w st first had second last done body =
     let here = after o [] es in
@@ -68,7 +71,8 @@ rises o a b c d es fs rs ss bytes n r x by i w st first had second last done bod
     let at_end : after o [] (es ++ fs ++ Given bytes n ∷ []) ≡ next o there bytes n = after-append o [] (es ++ fs) (Given bytes n ∷ []) in
     (more.0, ap (λ (p : Present). value_of (counter_in p.nv.counters i)) ends ∙ ap (λ (h : History). value_at o h i) (sym at_end) ∙ more.1, more.2)
 
-pub rises_from_the_start : (o : Origin) (a b c : Device) (es : List Event) (rs : List (List ℕ)) (bytes n r : List ℕ) (x : Done) (by : NvAuthHandle) (i : ℕ) → Stands o [] a → Answers a es rs b
+pub rises_from_the_start : (o : Origin) (a b c : Device) (es : List Event) (rs : List (List ℕ)) (bytes n r : List ℕ) (x : Done) (by : NvAuthHandle) (i : ℕ) →
+    Stands o [] a → Answers a es rs b
     → Executes b bytes n r c → outcome (holds b) bytes n ≡ Ok x → x.command.body ≡ NvIncrement by i → (v : ℕ) × (value_on c i ≡ Some v) × (o.greatest < v)
 rises_from_the_start o a b c es rs bytes n r x by i st first last done body =
     let here = after o [] es in

@@ -10,7 +10,8 @@ use Rattle.tpm_model.specs.Answers.{reply_params}
 use Rattle.tpm_device.specs.Stands.{any_bare, is_bare, reply_bytes}
 
 -- All have the same bytes.
-pub bare_bytes : (body : ReplyBody) (auths : List AuthReply) → is_bare body ≡ true → reply_bytes (record { body = any_bare; auths = auths }) ≡ reply_bytes (record { body = body; auths = auths })
+pub bare_bytes : (body : ReplyBody) (auths : List AuthReply) → is_bare body ≡ true →
+    reply_bytes (record { body = any_bare; auths = auths }) ≡ reply_bytes (record { body = body; auths = auths })
 unfolding response response_front response_tag response_code command_size with_sessions without_sessions parameter_size
 bare_bytes replies.Startup [] is = refl
 bare_bytes replies.Startup (a ∷ others) is = refl

@@ -20,7 +20,8 @@ Cycles old new = (o : Origin) (h : History) → Stands o h old → Stands o (Pow
 abbrev pub Answers : Device → List Event → List (List ℕ) → Device → Type 0
 Answers old [] responses new = (responses ≡ []) × (old ≡ new)
 Answers old (Given bytes nonce ∷ es) [] new = ⊥
-Answers old (Given bytes nonce ∷ es) (response ∷ responses) new = (d : Device) × Executes old bytes nonce response d × Answers d es responses new
+Answers old (Given bytes nonce ∷ es) (response ∷ responses) new =
+    (d : Device) × Executes old bytes nonce response d × Answers d es responses new
 Answers old (Cycled ∷ es) responses new = (d : Device) × Cycles old d × Answers d es responses new
 
 -- the value of an index on a device, where it was incremented since its definition

@@ -73,7 +73,8 @@ owner_authorizes codes.NvDefineSpace = true
 owner_authorizes codes.NvUndefineSpace = true
 owner_authorizes _ = false
 
--- What a command that was read is beside that: its handles are of their kinds, and it has sessions only where one authorizes it.
+-- What a command that was read is beside that: its handles are of their kinds, and it has sessions
+-- only where one authorizes it.
 pub record IsAdmitted (x : Cut) : Type 0 where
   pub owner : owner_authorizes x.header.code ≡ true → is_owner (first x.handles) ≡ true
   pub sessions : needs_authorization x.header.code ≡ false → x.auths ≡ []
@@ -86,7 +87,8 @@ IsRead p r (Err code) = r ≡ Err code
 -- all checks of these sessions of a command
 abbrev pub sessions_checked : Present → Cut → List Auth → Result (Unit {0}) ℕ
 sessions_checked p x auths =
-    authorize (first_loaded (loaded p.sessions) auths) (entity_of p (first x.handles)) x.header.code (names_of p x.handles) x.params p.registers.update_counter auths
+    authorize (first_loaded (loaded p.sessions) auths) (entity_of p (first x.handles)) x.header.code
+    (names_of p x.handles) x.params p.registers.update_counter auths
 
 -- A command has evidence, with which all checks before the parameters are met.
 pub record IsPermittedBy (p : Present) (r : Result Presented ℕ) (x : Cut) : Type 0 where
@@ -107,7 +109,8 @@ done_by x body nonce reply = record {
 abbrev pub done_of : Present → List ℕ → Presented → CommandBody → Result Done ℕ
 done_of p nonce x body = action p body nonce >>= λ reply. Ok (done_by x body nonce reply)
 
--- A device authorizes as what was present: it has the same sessions, and the handle names what has the same authorization value.
+-- A device authorizes as what was present: it has the same sessions, and the handle names what has
+-- the same authorization value.
 pub record IsAlike (p : Present) (d : Device) (handle : ℕ) : Type 0 where
   pub sessions : p.sessions ≡ d.sessions
   pub value : auth_value (entity_of p handle) ≡ auth_value (entity_of (holds d) handle)
@@ -124,7 +127,8 @@ step_of body reply nonce = Accepted (with_auths body []) (record { body = reply;
 
 -- Where one device stands at a history, the other stands at the history with the command.
 abbrev pub Steps : Device → Device → CommandBody → ReplyBody → List ℕ → Type 0
-Steps old new body reply nonce = (o : Origin) (h : History) → Stands o h old → Stands o (step_of body reply nonce ∷ h) new
+Steps old new body reply nonce =
+    (o : Origin) (h : History) → Stands o h old → Stands o (step_of body reply nonce ∷ h) new
 
 -- ---- answers
 
@@ -152,17 +156,24 @@ told (Err code) = Err code
 
 -- These bytes are this reply to a command that was read, with the session of the device that has acted.
 abbrev pub Replies : Device → Cut → List ℕ → ReplyBody → List ℕ → Type 0
-Replies d x nonce reply bytes = (p : Present) (e : Evidence) → ((a : Auth) (others : List Auth) → x.auths ≡ a ∷ others → IsAlike p d (first x.handles)) → evidence_for p x ≡ Ok e
-    → bytes ≡ reply_bytes (record { body = reply; auths = reply_auths e x.header.code (reply_params reply) nonce })
+Replies d x nonce reply bytes =
+    (p : Present) (e : Evidence) →
+    ((a : Auth) (others : List Auth) → x.auths ≡ a ∷ others → IsAlike p d (first x.handles)) →
+    evidence_for p x ≡ Ok e →
+    bytes ≡ reply_bytes (record { body = reply; auths = reply_auths e x.header.code (reply_params reply) nonce })
 
 -- After a command with these sessions the other device stands where this one stood without them.
 abbrev pub Rolls : Device → List Auth → List ℕ → Device → Type 0
-Rolls old auths nonce new = (o : Origin) (h : History) (body : CommandBody) (reply : ReplyBody) (replied : List AuthReply) → (needs_authorization (code_for body) ≡ false → auths ≡ [])
-    → Stands o (step_of body reply nonce ∷ h) old → Stands o (Accepted (with_auths body auths) (record { body = reply; auths = replied }) nonce ∷ h) new
+Rolls old auths nonce new =
+    (o : Origin) (h : History) (body : CommandBody) (reply : ReplyBody) (replied : List AuthReply) →
+    (needs_authorization (code_for body) ≡ false → auths ≡ []) →
+    Stands o (step_of body reply nonce ∷ h) old →
+    Stands o (Accepted (with_auths body auths) (record { body = reply; auths = replied }) nonce ∷ h) new
 
 -- ---- performing
 
--- What a command that was read has before it is performed: this is its first session, its sessions give evidence, and the buffer is empty.
+-- What a command that was read has before it is performed: this is its first session, its sessions
+-- give evidence, and the buffer is empty.
 pub record IsReady (d : Device) (x : Cut) (auth : Option Auth) (out : ArrayVec ℕ) : Type 0 where
   pub first : auth ≡ slice_get x.auths 0
   pub admitted : IsAdmitted x
@@ -170,10 +181,18 @@ pub record IsReady (d : Device) (x : Cut) (auth : Option Auth) (out : ArrayVec �
   pub empty : length out.items ≡ 0
 
 -- What becomes of a device and a buffer where this is done of a command that was read.
-pub record Performs (old : Device) (x : Cut) (nonce : List ℕ) (does : Presented → Result Done ℕ) (before : ArrayVec ℕ) (r : Result (Unit {0}) ℕ) (new : Device) (after : ArrayVec ℕ) : Type 0 where
-  pub answer : (e : Evidence) (o : Origin) (h : History) → evidence_for (holds old) x ≡ Ok e → Stands o h old → given after.items r ≡ told (does (presented_with (holds old) x e))
-  pub stands : (e : Evidence) (o : Origin) (h : History) → evidence_for (holds old) x ≡ Ok e → Stands o h old → Stands o (with_outcome h nonce (does (presented_with (holds old) x e))) new
-  pub refuses : IfErr r (λ code. (y : Presented) → y.code ≡ x.header.code → y.handles ≡ x.handles → y.params ≡ x.params → does y ≡ Err code)
+pub record Performs (old : Device) (x : Cut) (nonce : List ℕ) (does : Presented → Result Done ℕ)
+    (before : ArrayVec ℕ) (r : Result (Unit {0}) ℕ) (new : Device) (after : ArrayVec ℕ) : Type 0 where
+  pub answer : (e : Evidence) (o : Origin) (h : History) →
+      evidence_for (holds old) x ≡ Ok e →
+      Stands o h old →
+      given after.items r ≡ told (does (presented_with (holds old) x e))
+  pub stands : (e : Evidence) (o : Origin) (h : History) →
+      evidence_for (holds old) x ≡ Ok e →
+      Stands o h old →
+      Stands o (with_outcome h nonce (does (presented_with (holds old) x e))) new
+  pub refuses : IfErr r (λ code.
+      (y : Presented) → y.code ≡ x.header.code → y.handles ≡ x.handles → y.params ≡ x.params → does y ≡ Err code)
   pub refused : OnErr r (new ≡ old)
   pub done : OnOk r (code_in after.items ≡ 0)
   pub none : OnErr r (after ≡ before)

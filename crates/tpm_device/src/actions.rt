@@ -22,9 +22,12 @@ impl Device {
         nonce: &[u8; 64],
         body: &mut ReplyBody,
     ) -> Result<(), u32>
-        ensures answer { acted body.new result ≡ action (holds self.old) (body_from handles.now params.now) nonce.now }
-        ensures stands { OnOk result (Steps self.old self.new (body_from handles.now params.now) body.new nonce.now) }
-        ensures sessions { needs_authorization (params_code params.now) ≡ true → self.new.sessions ≡ self.old.sessions }
+        ensures answer { acted body.new result ≡
+            action (holds self.old) (body_from handles.now params.now) nonce.now }
+        ensures stands { OnOk result
+            (Steps self.old self.new (body_from handles.now params.now) body.new nonce.now) }
+        ensures sessions { needs_authorization (params_code params.now) ≡ true →
+            self.new.sessions ≡ self.old.sessions }
         ensures refused { OnErr result (self.new ≡ self.old) }
     {
         match params {

@@ -67,7 +67,8 @@ impl Device {
     #[inline(always)]
     fn check_with(&self, auth: &AuthRef<'_>, areas: &Areas<'_>, names: &[Name]) -> Result<(), u32>
         requires own { Some auth.now ≡ slice_get areas.now.auths 0 }
-        requires names { (auth.now.session == rs_pw) ≡ false → names.now ≡ names_of (holds self.now) areas.now.handles }
+        requires names { (auth.now.session == rs_pw) ≡ false →
+            names.now ≡ names_of (holds self.now) areas.now.handles }
         ensures { result ≡ sessions_checked (holds self.now) areas.now areas.now.auths }
     {
         let entity = self.entity(first(areas.handles()));
@@ -106,8 +107,8 @@ impl Device {
         }
     }
 
-    /// All checks of the sessions, of which this is the first: they are the last checks before the parameters. A third session is
-    /// refused as a second is.
+    /// All checks of the sessions, of which this is the first: they are the last checks before the
+    /// parameters. A third session is refused as a second is.
     pub(crate) fn check_sessions(
         &self,
         areas: &Areas<'_>,

@@ -1,7 +1,7 @@
 //! The parameters of a command that has none, or a number or two, by value.
 //!
-//! `decode_params_into` fills the room of parameters, which is that of the longest. These are made in line, and so the compiler keeps them
-//! in registers.
+//! `decode_params_into` fills the room of parameters, which is that of the longest. These are made
+//! in line, and so the compiler keeps them in registers.
 
 ghost use Rattle.std.specs.Prelude.{◌≡◌, ◌≤◌, length, Ok, IfSome};
 ghost use Rattle.tpm_wire.specs.Reading.{read_all};
@@ -28,7 +28,8 @@ fn take_startup(cursor: &mut Cursor<'_>) -> Result<StartupType, Refusal>
 #[inline(always)]
 fn startup_kind(bytes: &[u8]) -> Option<StartupType>
     requires { length bytes.now ≤ 4096 }
-    ensures { IfSome result (λ kind. read_all (parameters codes.Startup) bytes.now ≡ Ok (of_command.Startup kind)) }
+    ensures { IfSome result (λ kind.
+        read_all (parameters codes.Startup) bytes.now ≡ Ok (of_command.Startup kind)) }
 {
     let mut cursor = Cursor::new(bytes);
     match take_startup(&mut cursor) {
@@ -53,7 +54,8 @@ fn take_nv_read(cursor: &mut Cursor<'_>) -> Result<(u16, u16), Refusal>
 #[inline(always)]
 fn nv_read_sizes(bytes: &[u8]) -> Option<(u16, u16)>
     requires { length bytes.now ≤ 4096 }
-    ensures { IfSome result (λ x. read_all (parameters codes.NvRead) bytes.now ≡ Ok (of_command.NvRead x.0 x.1)) }
+    ensures { IfSome result (λ x.
+        read_all (parameters codes.NvRead) bytes.now ≡ Ok (of_command.NvRead x.0 x.1)) }
 {
     let mut cursor = Cursor::new(bytes);
     match take_nv_read(&mut cursor) {

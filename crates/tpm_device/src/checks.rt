@@ -23,7 +23,8 @@ pub(crate) fn check_started(started: bool, code: CommandCode) -> Result<(), u32>
     Ok(())
 }
 
-/// AUTH_MISSING where a handle needs authorization and there is no session, AUTH_CONTEXT where none does and there is one.
+/// AUTH_MISSING where a handle needs authorization and there is no session, AUTH_CONTEXT where none
+/// does and there is one.
 pub(crate) fn check_tag(code: CommandCode, tag: u16) -> Result<(), u32>
     ensures { result ≡ tag_of code tag }
 {
@@ -48,7 +49,8 @@ impl Device {
         }
     }
 
-    // REFERENCE_H0 for a handle of a policy session that is not loaded, HANDLE for that of an index that is not defined.
+    // REFERENCE_H0 for a handle of a policy session that is not loaded, HANDLE for that of an index
+    // that is not defined.
     fn check_handle(&self, number: u32, handle: u32) -> Result<(), u32>
         requires { number ≤ 2 }
         ensures { result ≡ handle_of (holds self.now) number handle }

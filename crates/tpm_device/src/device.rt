@@ -36,8 +36,8 @@ fn no_sessions() -> Sessions
     Sessions::new()
 }
 
-// What a reply to a command with this code begins as: an action that answers no more leaves it so, since an enum that is assigned is
-// filled to its end.
+// What a reply to a command with this code begins as: an action that answers no more leaves it so,
+// since an enum that is assigned is filled to its end.
 #[inline(always)]
 fn begun(code: CommandCode) -> ReplyBody {
     match code {
@@ -51,8 +51,8 @@ fn begun(code: CommandCode) -> ReplyBody {
 }
 
 impl Device {
-    /// A device that is not started. The owner has this authorization value, of at most 48 bytes, and no counter of the device has
-    /// had a greater value than this.
+    /// A device that is not started. The owner has this authorization value, of at most 48 bytes,
+    /// and no counter of the device has had a greater value than this.
     pub fn new(owner: &AuthValue, greatest: u64) -> Self
         ensures { Stands (record { owner = owner.now; greatest = greatest }) [] result }
     {
@@ -65,10 +65,13 @@ impl Device {
         }
     }
 
-    /// The power is switched off and on: the sessions, the registers, the update counter and whether the device is started are
-    /// as on a new device. The counters stay, and the greatest value that any has had.
+    /// The power is switched off and on: the sessions, the registers, the update counter and
+    /// whether the device is started are as on a new device. The counters stay, and the greatest
+    /// value that any has had.
     pub fn power_cycle(&mut self)
-        ensures { (o : Origin) (h : History) → Stands o h self.old → Stands o (PowerCycle ∷ h) self.new }
+        ensures { (o : Origin) (h : History) →
+            Stands o h self.old →
+            Stands o (PowerCycle ∷ h) self.new }
     {
         self.started = false;
         self.registers.restart();
@@ -105,7 +108,9 @@ impl Device {
     ) -> Result<(), u32>
         requires own { params_code params.now ≡ areas.now.header.code }
         requires ready { IsReady self.old areas.now auth.now out.old }
-        ensures { Performs self.old areas.now nonce.now (λ x. done_of (holds self.old) nonce.now x (body_from areas.now.handles params.now)) out.old result self.new out.new }
+        ensures { Performs self.old areas.now nonce.now (λ x.
+            done_of (holds self.old) nonce.now x (body_from areas.now.handles params.now)) out.old
+            result self.new out.new }
     {
         let mut body = begun(areas.code());
         self.act(areas.handles(), params, nonce, &mut body)?;
@@ -123,7 +128,8 @@ impl Device {
         out: &mut Buffer,
     ) -> Result<(), u32>
         requires { IsReady self.old areas.now auth.now out.old }
-        ensures { Performs self.old areas.now nonce.now (performed_of (holds self.old) nonce.now) out.old result self.new out.new }
+        ensures { Performs self.old areas.now nonce.now (performed_of (holds self.old) nonce.now)
+            out.old result self.new out.new }
     {
         let mut params = Params::PolicyRestart;
         match decode_params_into(areas.code(), areas.params(), &mut params) {
@@ -142,7 +148,8 @@ impl Device {
         out: &mut Buffer,
     ) -> Result<(), u32>
         requires { IsReady self.old areas.now auth.now out.old }
-        ensures { Performs self.old areas.now nonce.now (performed_of (holds self.old) nonce.now) out.old result self.new out.new }
+        ensures { Performs self.old areas.now nonce.now (performed_of (holds self.old) nonce.now)
+            out.old result self.new out.new }
     {
         match bare(areas.code(), areas.params()) {
             Some(params) => self.done(areas, auth, &params, nonce, out),
@@ -160,7 +167,8 @@ impl Device {
         out: &mut Buffer,
     ) -> Result<(), u32>
         requires { IsReady self.old areas.now auth.now out.old }
-        ensures { Performs self.old areas.now nonce.now (performed_of (holds self.old) nonce.now) out.old result self.new out.new }
+        ensures { Performs self.old areas.now nonce.now (performed_of (holds self.old) nonce.now)
+            out.old result self.new out.new }
     {
         if areas.code() == CommandCode::PcrExtend {
             self.performed_extending(areas, auth, nonce, out)
@@ -172,9 +180,15 @@ impl Device {
     // The reply, or the code of the first check that fails.
     fn outcome(&mut self, bytes: &[u8], nonce: &[u8; 64], out: &mut Buffer) -> Result<(), u32>
         requires empty { length out.old.items ≡ 0 }
-        ensures answer { (o : Origin) (h : History) → Stands o h self.old → given out.new.items result ≡ told (outcome_of (holds self.old) bytes.now nonce.now) }
-        ensures stands { (o : Origin) (h : History) → Stands o h self.old → Stands o (with_outcome h nonce.now (outcome_of (holds self.old) bytes.now nonce.now)) self.new }
-        ensures refuses { IfErr result (λ code. outcome_of (holds self.old) bytes.now nonce.now ≡ Err code) }
+        ensures answer { (o : Origin) (h : History) →
+            Stands o h self.old →
+            given out.new.items result ≡ told (outcome_of (holds self.old) bytes.now nonce.now) }
+        ensures stands { (o : Origin) (h : History) →
+            Stands o h self.old →
+            Stands o (with_outcome h nonce.now (outcome_of (holds self.old) bytes.now nonce.now))
+            self.new }
+        ensures refuses { IfErr result (λ code.
+            outcome_of (holds self.old) bytes.now nonce.now ≡ Err code) }
         ensures some { IfErr result (λ code. 0 < code) }
         ensures refused { OnErr result (self.new ≡ self.old) }
         ensures done { OnOk result (code_in out.new.items ≡ 0) }
@@ -190,8 +204,13 @@ impl Device {
     #[inline(never)]
     fn answer(&mut self, bytes: &[u8], nonce: &[u8; 64], out: &mut Buffer)
         requires empty { length out.old.items ≡ 0 }
-        ensures answer { (o : Origin) (h : History) → Stands o h self.old → out.new.items ≡ answered (outcome_of (holds self.old) bytes.now nonce.now) }
-        ensures stands { (o : Origin) (h : History) → Stands o h self.old → Stands o (with_outcome h nonce.now (outcome_of (holds self.old) bytes.now nonce.now)) self.new }
+        ensures answer { (o : Origin) (h : History) →
+            Stands o h self.old →
+            out.new.items ≡ answered (outcome_of (holds self.old) bytes.now nonce.now) }
+        ensures stands { (o : Origin) (h : History) →
+            Stands o h self.old →
+            Stands o (with_outcome h nonce.now (outcome_of (holds self.old) bytes.now nonce.now))
+            self.new }
         ensures refused { 0 < code_in out.new.items → self.new ≡ self.old }
     {
         if let Err(code) = self.outcome(bytes, nonce, out) {
@@ -199,18 +218,23 @@ impl Device {
         }
     }
 
-    /// Answers the bytes of a command, whatever they are, with the bytes of a response. The nonce is 64 fresh random bytes, of which
-    /// the next nonceTPM of the command's session is the front.
+    /// Answers the bytes of a command, whatever they are, with the bytes of a response. The nonce
+    /// is 64 fresh random bytes, of which the next nonceTPM of the command's session is the front.
     ///
-    /// The first check that fails gives the response code, which stands alone in 10 bytes, and then nothing has changed. In this
-    /// order: the header (tpm_buffer's codes); INITIALIZE; the handles (tpm_buffer's codes), then REFERENCE_H0 for a policy session
-    /// that is not loaded and HANDLE for an index that is not defined; AUTH_CONTEXT and AUTH_MISSING; the authorization area; the
-    /// sessions (tpm_session's codes, in the order of `authorize`); the parameters; and the refusals of the command's action, those of
-    /// tpm_store and tpm_session, and VALUE for a start from a saved state (Part 1, "Command Processing"; the order is this
-    /// profile's).
+    /// The first check that fails gives the response code, which stands alone in 10 bytes, and then
+    /// nothing has changed. In this order: the header (tpm_buffer's codes); INITIALIZE; the handles
+    /// (tpm_buffer's codes), then REFERENCE_H0 for a policy session that is not loaded and HANDLE
+    /// for an index that is not defined; AUTH_CONTEXT and AUTH_MISSING; the authorization area; the
+    /// sessions (tpm_session's codes, in the order of `authorize`); the parameters; and the
+    /// refusals of the command's action, those of tpm_store and tpm_session, and VALUE for a start
+    /// from a saved state (Part 1, "Command Processing"; the order is this profile's).
     pub fn execute(&mut self, bytes: &[u8], nonce: &[u8; 64]) -> Buffer
-        ensures answer { (o : Origin) (h : History) → Stands o h self.old → result.items ≡ answer o h bytes.now nonce.now }
-        ensures stands { (o : Origin) (h : History) → Stands o h self.old → Stands o (next o h bytes.now nonce.now) self.new }
+        ensures answer { (o : Origin) (h : History) →
+            Stands o h self.old →
+            result.items ≡ answer o h bytes.now nonce.now }
+        ensures stands { (o : Origin) (h : History) →
+            Stands o h self.old →
+            Stands o (next o h bytes.now nonce.now) self.new }
         ensures refused { 0 < code_in result.items → self.new ≡ self.old }
     {
         let mut out = Buffer::new();
@@ -220,8 +244,12 @@ impl Device {
 
     /// As `execute`, into this buffer, whatever is in it.
     pub fn execute_into(&mut self, bytes: &[u8], nonce: &[u8; 64], out: &mut Buffer)
-        ensures answer { (o : Origin) (h : History) → Stands o h self.old → out.new.items ≡ answer o h bytes.now nonce.now }
-        ensures stands { (o : Origin) (h : History) → Stands o h self.old → Stands o (next o h bytes.now nonce.now) self.new }
+        ensures answer { (o : Origin) (h : History) →
+            Stands o h self.old →
+            out.new.items ≡ answer o h bytes.now nonce.now }
+        ensures stands { (o : Origin) (h : History) →
+            Stands o h self.old →
+            Stands o (next o h bytes.now nonce.now) self.new }
         ensures refused { 0 < code_in out.new.items → self.new ≡ self.old }
     {
         out.clear();

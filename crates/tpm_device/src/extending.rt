@@ -20,7 +20,8 @@ use tpm_wire::{Buffer, Cursor, Refusal, Wire};
 #[tactic(auto, unfolding(tpm_commands::specs::Parameters::pcr_extend))]
 #[inline(always)]
 fn read_digests(cursor: &mut Cursor<'_>, digests: &mut DigestValues) -> Result<(), Refusal>
-    ensures { TakesNumbered (λ _. of_command.PcrExtend digests.new) pcr_extend cursor.old cursor.new result }
+    ensures { TakesNumbered (λ _. of_command.PcrExtend digests.new) pcr_extend cursor.old cursor.new
+        result }
 {
     cursor.number(of_parameter(1));
     digests.read(cursor)
@@ -29,7 +30,8 @@ fn read_digests(cursor: &mut Cursor<'_>, digests: &mut DigestValues) -> Result<(
 // Reads the digests, or answers their first fault.
 fn decode_digests(bytes: &[u8], digests: &mut DigestValues) -> Result<(), Refusal>
     requires { length bytes.now ≤ 4096 }
-    ensures { Gives (λ _. of_command.PcrExtend digests.new) (read_all (parameters codes.PcrExtend) bytes.now) result }
+    ensures { Gives (λ _. of_command.PcrExtend digests.new)
+        (read_all (parameters codes.PcrExtend) bytes.now) result }
 {
     let mut cursor = Cursor::new(bytes);
     read_digests(&mut cursor, digests)?;
@@ -55,7 +57,10 @@ impl Device {
     ) -> Result<(), u32>
         requires extends { areas.now.header.code ≡ codes.PcrExtend }
         requires ready { IsReady self.old areas.now auth.now out.old }
-        ensures { Performs self.old areas.now nonce.now (λ x. done_of (holds self.old) nonce.now x (body_from areas.now.handles (of_command.PcrExtend digests.now))) out.old result self.new out.new }
+        ensures { Performs self.old areas.now nonce.now (λ x.
+            done_of (holds self.old) nonce.now x
+            (body_from areas.now.handles (of_command.PcrExtend digests.now))) out.old result
+            self.new out.new }
     {
         self.extend(register_or_null(areas.handles()), digests)?;
         self.put_bare(areas, auth, nonce, out);
@@ -74,7 +79,8 @@ impl Device {
     ) -> Result<(), u32>
         requires extends { areas.now.header.code ≡ codes.PcrExtend }
         requires ready { IsReady self.old areas.now auth.now out.old }
-        ensures { Performs self.old areas.now nonce.now (performed_of (holds self.old) nonce.now) out.old result self.new out.new }
+        ensures { Performs self.old areas.now nonce.now (performed_of (holds self.old) nonce.now)
+            out.old result self.new out.new }
     {
         let mut digests = DigestValues::default();
         match decode_digests(areas.params(), &mut digests) {

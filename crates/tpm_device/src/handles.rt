@@ -26,7 +26,8 @@ pub(crate) fn second(handles: &[u32]) -> u32
     }
 }
 
-/// The register of the first handle, or register 0 for a handle of none, which a command that names a register does not have.
+/// The register of the first handle, or register 0 for a handle of none, which a command that names
+/// a register does not have.
 pub(crate) fn register(handles: &[u32]) -> PcrIndex
     ensures { result ≡ register_in (first_of handles.now) }
 {

@@ -1,4 +1,5 @@
-//! What holds of every run of a device, from a new one on. Each law stands over what `execute` and `power_cycle` promise.
+//! What holds of every run of a device, from a new one on. Each law stands over what `execute` and
+//! `power_cycle` promise.
 
 ghost use Rattle.std.specs.Prelude.{◌≡◌, ◌<◌, ℕ, List, [], ◌∷◌, ◌++◌, Some, Ok};
 ghost use Rattle.tpm_types.specs.declared.handle_sets.NvAuthHandle.{NvAuthHandle};
@@ -12,30 +13,55 @@ ghost use Rattle.tpm_device.specs.declared.device.Device.{Device};
 ghost use Rattle.tpm_device.specs.Stands.{holds, Stands};
 ghost use Rattle.tpm_device.specs.Runs.{Executes, Answers, value_on};
 
-/// The responses of a device to buffers, nonces and power cycles, whatever they are, are the model's run, and the device stands
-/// at the history after them.
+/// The responses of a device to buffers, nonces and power cycles, whatever they are, are the
+/// model's run, and the device stands at the history after them.
 pub fn answers_are_the_run()
-    ensures { (o : Origin) (h : History) (old new : Device) (es : List Event) (responses : List (List ℕ)) → Stands o h old → Answers old es responses new →
+    ensures { (o : Origin) (h : History) (old new : Device) (es : List Event)
+        (responses : List (List ℕ)) →
+        Stands o h old →
+        Answers old es responses new →
         (responses ≡ run o h es) × Stands o (after o h es) new }
 {}
 
-/// No replay: where the nonces that a new device is given differ pairwise in their first 16 bytes, and no two different texts
-/// that are checked have the same HMAC, it answers no buffer with a session's HMAC twice with code 0.
+/// No replay: where the nonces that a new device is given differ pairwise in their first 16 bytes,
+/// and no two different texts that are checked have the same HMAC, it answers no buffer with a
+/// session's HMAC twice with code 0.
 pub fn no_replay()
-    ensures { (o : Origin) (a b c d e : Device) (es fs gs : List Event) (rs ss : List (List ℕ)) (bytes n m r s : List ℕ) →
-        Stands o [] a → Answers a es rs b → Executes b bytes n r c → Answers c fs ss d → Executes d bytes m s e →
-        NoncesDiffer (es ++ Given bytes n ∷ fs ++ Given bytes m ∷ gs) → NoCollision o (es ++ Given bytes n ∷ fs ++ Given bytes m ∷ gs) →
-        HasSessionMac bytes → code_in r ≡ 0 → code_in s ≡ 0 → ⊥ }
+    ensures { (o : Origin) (a b c d e : Device) (es fs gs : List Event) (rs ss : List (List ℕ))
+        (bytes n m r s : List ℕ) →
+        Stands o [] a →
+        Answers a es rs b →
+        Executes b bytes n r c →
+        Answers c fs ss d →
+        Executes d bytes m s e →
+        NoncesDiffer (es ++ Given bytes n ∷ fs ++ Given bytes m ∷ gs) →
+        NoCollision o (es ++ Given bytes n ∷ fs ++ Given bytes m ∷ gs) →
+        HasSessionMac bytes →
+        code_in r ≡ 0 →
+        code_in s ≡ 0 →
+        ⊥ }
 {}
 
-/// No counter goes back: an increment that is done leaves a value greater than each that the index had before on the device, and
-/// greater than the number that made the device, whatever was undefined, defined again or cycled in between.
+/// No counter goes back: an increment that is done leaves a value greater than each that the index
+/// had before on the device, and greater than the number that made the device, whatever was
+/// undefined, defined again or cycled in between.
 pub fn no_counter_goes_back()
-    ensures had { (o : Origin) (a b c d : Device) (es fs : List Event) (rs ss : List (List ℕ)) (bytes n r : List ℕ) (x : Done) (by : NvAuthHandle) (i w : ℕ) →
-        Stands o [] a → Answers a es rs b → value_on b i ≡ Some w → Answers b fs ss c → Executes c bytes n r d →
-        outcome (holds c) bytes n ≡ Ok x → x.command.body ≡ NvIncrement by i →
+    ensures had { (o : Origin) (a b c d : Device) (es fs : List Event) (rs ss : List (List ℕ))
+        (bytes n r : List ℕ) (x : Done) (by : NvAuthHandle) (i w : ℕ) →
+        Stands o [] a →
+        Answers a es rs b →
+        value_on b i ≡ Some w →
+        Answers b fs ss c →
+        Executes c bytes n r d →
+        outcome (holds c) bytes n ≡ Ok x →
+        x.command.body ≡ NvIncrement by i →
         (v : ℕ) × (value_on d i ≡ Some v) × (w < v) }
-    ensures made { (o : Origin) (a b c : Device) (es : List Event) (rs : List (List ℕ)) (bytes n r : List ℕ) (x : Done) (by : NvAuthHandle) (i : ℕ) →
-        Stands o [] a → Answers a es rs b → Executes b bytes n r c → outcome (holds b) bytes n ≡ Ok x → x.command.body ≡ NvIncrement by i →
+    ensures made { (o : Origin) (a b c : Device) (es : List Event) (rs : List (List ℕ))
+        (bytes n r : List ℕ) (x : Done) (by : NvAuthHandle) (i : ℕ) →
+        Stands o [] a →
+        Answers a es rs b →
+        Executes b bytes n r c →
+        outcome (holds b) bytes n ≡ Ok x →
+        x.command.body ≡ NvIncrement by i →
         (v : ℕ) × (value_on c i ≡ Some v) × (o.greatest < v) }
 {}

@@ -19,8 +19,12 @@ impl Device {
         public: &NvPublic,
         body: &mut ReplyBody,
     ) -> Result<(), u32>
-        ensures answer { (n : List ℕ) → acted body.new result ≡ action (holds self.old) (bodies.NvDefineSpace auth.now public.now) n }
-        ensures stands { (n : List ℕ) → OnOk result (Steps self.old self.new (bodies.NvDefineSpace auth.now public.now) body.new n) }
+        ensures answer { (n : List ℕ) →
+            acted body.new result ≡
+            action (holds self.old) (bodies.NvDefineSpace auth.now public.now) n }
+        ensures stands { (n : List ℕ) →
+            OnOk result
+            (Steps self.old self.new (bodies.NvDefineSpace auth.now public.now) body.new n) }
         ensures sessions { self.new.sessions ≡ self.old.sessions }
         ensures refused { OnErr result (self.new ≡ self.old) }
     {
@@ -32,8 +36,10 @@ impl Device {
 
     // TPM2_NV_UndefineSpace (Part 3, 31.4).
     pub(crate) fn undefine(&mut self, index: NvIndex, body: &mut ReplyBody) -> Result<(), u32>
-        ensures answer { (n : List ℕ) → acted body.new result ≡ action (holds self.old) (bodies.NvUndefineSpace index) n }
-        ensures stands { (n : List ℕ) → OnOk result (Steps self.old self.new (bodies.NvUndefineSpace index) body.new n) }
+        ensures answer { (n : List ℕ) →
+            acted body.new result ≡ action (holds self.old) (bodies.NvUndefineSpace index) n }
+        ensures stands { (n : List ℕ) →
+            OnOk result (Steps self.old self.new (bodies.NvUndefineSpace index) body.new n) }
         ensures sessions { self.new.sessions ≡ self.old.sessions }
         ensures refused { OnErr result (self.new ≡ self.old) }
     {
@@ -50,8 +56,10 @@ impl Device {
         index: NvIndex,
         body: &mut ReplyBody,
     ) -> Result<(), u32>
-        ensures answer { (n : List ℕ) → acted body.new result ≡ action (holds self.old) (bodies.NvIncrement by index) n }
-        ensures stands { (n : List ℕ) → OnOk result (Steps self.old self.new (bodies.NvIncrement by index) body.new n) }
+        ensures answer { (n : List ℕ) →
+            acted body.new result ≡ action (holds self.old) (bodies.NvIncrement by index) n }
+        ensures stands { (n : List ℕ) →
+            OnOk result (Steps self.old self.new (bodies.NvIncrement by index) body.new n) }
         ensures sessions { self.new.sessions ≡ self.old.sessions }
         ensures refused { OnErr result (self.new ≡ self.old) }
     {
@@ -71,7 +79,8 @@ impl Device {
         offset: u16,
         body: &mut ReplyBody,
     ) -> Result<(), u32>
-        ensures { (n : List ℕ) → acted body.new result ≡ action (holds self.now) (bodies.NvRead by index size offset) n }
+        ensures { (n : List ℕ) →
+            acted body.new result ≡ action (holds self.now) (bodies.NvRead by index size offset) n }
     {
         *body = ReplyBody::NvRead(NvData::default());
         if let ReplyBody::NvRead(bytes) = body {
@@ -82,7 +91,8 @@ impl Device {
 
     // TPM2_NV_ReadPublic (Part 3, 31.6).
     pub(crate) fn read_public(&self, index: NvIndex, body: &mut ReplyBody) -> Result<(), u32>
-        ensures { (n : List ℕ) → acted body.new result ≡ action (holds self.now) (bodies.NvReadPublic index) n }
+        ensures { (n : List ℕ) →
+            acted body.new result ≡ action (holds self.now) (bodies.NvReadPublic index) n }
     {
         match (self.counters.public(index), self.counters.name(index)) {
             (Some(public), Some(name)) => {

@@ -18,8 +18,13 @@ impl Device {
         selections: &Selections,
         body: &mut ReplyBody,
     ) -> Result<(), u32>
-        ensures answer { (n : List ℕ) → acted body.new result ≡ action (holds self.old) (bodies.PolicyPcr session pcr_digest.now selections.now) n }
-        ensures stands { (n : List ℕ) → OnOk result (Steps self.old self.new (bodies.PolicyPcr session pcr_digest.now selections.now) body.new n) }
+        ensures answer { (n : List ℕ) →
+            acted body.new result ≡
+            action (holds self.old) (bodies.PolicyPcr session pcr_digest.now selections.now) n }
+        ensures stands { (n : List ℕ) →
+            OnOk result
+            (Steps self.old self.new (bodies.PolicyPcr session pcr_digest.now selections.now)
+            body.new n) }
         ensures refused { OnErr result (self.new ≡ self.old) }
     {
         *body = ReplyBody::PolicyPcr;
@@ -35,8 +40,11 @@ impl Device {
         digests: &OrDigests,
         body: &mut ReplyBody,
     ) -> Result<(), u32>
-        ensures answer { (n : List ℕ) → acted body.new result ≡ action (holds self.old) (bodies.PolicyOr session digests.now) n }
-        ensures stands { (n : List ℕ) → OnOk result (Steps self.old self.new (bodies.PolicyOr session digests.now) body.new n) }
+        ensures answer { (n : List ℕ) →
+            acted body.new result ≡
+            action (holds self.old) (bodies.PolicyOr session digests.now) n }
+        ensures stands { (n : List ℕ) →
+            OnOk result (Steps self.old self.new (bodies.PolicyOr session digests.now) body.new n) }
         ensures refused { OnErr result (self.new ≡ self.old) }
     {
         *body = ReplyBody::PolicyOr;
@@ -51,8 +59,12 @@ impl Device {
         code: u32,
         body: &mut ReplyBody,
     ) -> Result<(), u32>
-        ensures answer { (n : List ℕ) → acted body.new result ≡ action (holds self.old) (bodies.PolicyCommandCode session code) n }
-        ensures stands { (n : List ℕ) → OnOk result (Steps self.old self.new (bodies.PolicyCommandCode session code) body.new n) }
+        ensures answer { (n : List ℕ) →
+            acted body.new result ≡
+            action (holds self.old) (bodies.PolicyCommandCode session code) n }
+        ensures stands { (n : List ℕ) →
+            OnOk result
+            (Steps self.old self.new (bodies.PolicyCommandCode session code) body.new n) }
         ensures refused { OnErr result (self.new ≡ self.old) }
     {
         *body = ReplyBody::PolicyCommandCode;
@@ -66,8 +78,10 @@ impl Device {
         session: PolicyHandle,
         body: &mut ReplyBody,
     ) -> Result<(), u32>
-        ensures answer { (n : List ℕ) → acted body.new result ≡ action (holds self.old) (bodies.PolicyAuthValue session) n }
-        ensures stands { (n : List ℕ) → OnOk result (Steps self.old self.new (bodies.PolicyAuthValue session) body.new n) }
+        ensures answer { (n : List ℕ) →
+            acted body.new result ≡ action (holds self.old) (bodies.PolicyAuthValue session) n }
+        ensures stands { (n : List ℕ) →
+            OnOk result (Steps self.old self.new (bodies.PolicyAuthValue session) body.new n) }
         ensures refused { OnErr result (self.new ≡ self.old) }
     {
         *body = ReplyBody::PolicyAuthValue;
@@ -81,8 +95,10 @@ impl Device {
         session: PolicyHandle,
         body: &mut ReplyBody,
     ) -> Result<(), u32>
-        ensures answer { (n : List ℕ) → acted body.new result ≡ action (holds self.old) (bodies.PolicyRestart session) n }
-        ensures stands { (n : List ℕ) → OnOk result (Steps self.old self.new (bodies.PolicyRestart session) body.new n) }
+        ensures answer { (n : List ℕ) →
+            acted body.new result ≡ action (holds self.old) (bodies.PolicyRestart session) n }
+        ensures stands { (n : List ℕ) →
+            OnOk result (Steps self.old self.new (bodies.PolicyRestart session) body.new n) }
         ensures refused { OnErr result (self.new ≡ self.old) }
     {
         *body = ReplyBody::PolicyRestart;
@@ -96,7 +112,8 @@ impl Device {
         session: PolicyHandle,
         body: &mut ReplyBody,
     ) -> Result<(), u32>
-        ensures { (n : List ℕ) → acted body.new result ≡ action (holds self.now) (bodies.PolicyGetDigest session) n }
+        ensures { (n : List ℕ) →
+            acted body.new result ≡ action (holds self.now) (bodies.PolicyGetDigest session) n }
     {
         *body = ReplyBody::PolicyGetDigest(self.sessions.policy_digest(session)?);
         Ok(())

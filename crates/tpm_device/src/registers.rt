@@ -15,8 +15,10 @@ use tpm_wire::response_code::{VALUE, of_parameter};
 impl Device {
     // TPM2_Startup (Part 3, 9.3).
     pub(crate) fn start(&mut self, kind: StartupType, body: &mut ReplyBody) -> Result<(), u32>
-        ensures answer { (n : List ℕ) → acted body.new result ≡ action (holds self.old) (bodies.Startup kind) n }
-        ensures stands { (n : List ℕ) → OnOk result (Steps self.old self.new (bodies.Startup kind) body.new n) }
+        ensures answer { (n : List ℕ) →
+            acted body.new result ≡ action (holds self.old) (bodies.Startup kind) n }
+        ensures stands { (n : List ℕ) →
+            OnOk result (Steps self.old self.new (bodies.Startup kind) body.new n) }
         ensures refused { OnErr result (self.new ≡ self.old) }
     {
         if !matches!(body, ReplyBody::Startup) {
@@ -35,8 +37,12 @@ impl Device {
 
     // TPM2_PCR_Extend (Part 3, 22.2).
     pub(crate) fn extend(&mut self, register: PcrOrNull, digests: &DigestValues) -> Result<(), u32>
-        ensures answer { (n : List ℕ) → acted replies.PcrExtend result ≡ action (holds self.old) (bodies.PcrExtend register digests.now) n }
-        ensures stands { (n : List ℕ) → OnOk result (Steps self.old self.new (bodies.PcrExtend register digests.now) replies.PcrExtend n) }
+        ensures answer { (n : List ℕ) →
+            acted replies.PcrExtend result ≡
+            action (holds self.old) (bodies.PcrExtend register digests.now) n }
+        ensures stands { (n : List ℕ) →
+            OnOk result
+            (Steps self.old self.new (bodies.PcrExtend register digests.now) replies.PcrExtend n) }
         ensures sessions { self.new.sessions ≡ self.old.sessions }
         ensures refused { OnErr result (self.new ≡ self.old) }
     {
@@ -53,8 +59,10 @@ impl Device {
         event: &Event<'_>,
         body: &mut ReplyBody,
     ) -> Result<(), u32>
-        ensures answer { (n : List ℕ) → acted body.new result ≡ action (holds self.old) (bodies.PcrEvent register event.now) n }
-        ensures stands { (n : List ℕ) → OnOk result (Steps self.old self.new (bodies.PcrEvent register event.now) body.new n) }
+        ensures answer { (n : List ℕ) →
+            acted body.new result ≡ action (holds self.old) (bodies.PcrEvent register event.now) n }
+        ensures stands { (n : List ℕ) →
+            OnOk result (Steps self.old self.new (bodies.PcrEvent register event.now) body.new n) }
         ensures sessions { self.new.sessions ≡ self.old.sessions }
         ensures refused { OnErr result (self.new ≡ self.old) }
     {
@@ -73,8 +81,10 @@ impl Device {
 
     // TPM2_PCR_Reset (Part 3, 22.8).
     pub(crate) fn reset(&mut self, register: PcrIndex, body: &mut ReplyBody) -> Result<(), u32>
-        ensures answer { (n : List ℕ) → acted body.new result ≡ action (holds self.old) (bodies.PcrReset register) n }
-        ensures stands { (n : List ℕ) → OnOk result (Steps self.old self.new (bodies.PcrReset register) body.new n) }
+        ensures answer { (n : List ℕ) →
+            acted body.new result ≡ action (holds self.old) (bodies.PcrReset register) n }
+        ensures stands { (n : List ℕ) →
+            OnOk result (Steps self.old self.new (bodies.PcrReset register) body.new n) }
         ensures sessions { self.new.sessions ≡ self.old.sessions }
         ensures refused { OnErr result (self.new ≡ self.old) }
     {
@@ -86,7 +96,8 @@ impl Device {
 
     // TPM2_PCR_Read (Part 3, 22.4).
     pub(crate) fn read_registers(&self, selections: &Selections, body: &mut ReplyBody)
-        ensures { (n : List ℕ) → Ok body.new ≡ action (holds self.now) (bodies.PcrRead selections.now) n }
+        ensures { (n : List ℕ) →
+            Ok body.new ≡ action (holds self.now) (bodies.PcrRead selections.now) n }
     {
         *body = ReplyBody::PcrRead {
             update_counter: self.registers.counter(),

@@ -50,7 +50,8 @@ fn put_bare_alone(out: &mut Buffer)
 // That to a command that a password authorized.
 fn put_bare_passed(out: &mut Buffer)
     requires { length out.old.items ≡ 0 }
-    ensures { out.new.items ≡ reply_bytes (record { body = any_bare; auths = password_reply_of ∷ [] }) }
+    ensures { out.new.items ≡
+        reply_bytes (record { body = any_bare; auths = password_reply_of ∷ [] }) }
 {
     put_bytes(
         out,
@@ -61,7 +62,7 @@ fn put_bare_passed(out: &mut Buffer)
 }
 
 // That with this session.
-#[tactic(auto, unfolding(tpm_buffer::specs::Responses::response, tpm_buffer::specs::Responses::response_front, tpm_buffer::specs::Responses::response_tag, tpm_buffer::specs::Responses::response_code, tpm_buffer::specs::Commands::command_size, tpm_buffer::specs::Responses::with_sessions, tpm_buffer::specs::Responses::parameter_size, tpm_buffer::specs::Responses::reply_sessions, tpm_buffer::specs::Responses::further_sessions))]
+#[tactic(auto, unfolding(tpm_buffer::specs::Responses::response, tpm_buffer::specs::Responses::response_front, tpm_buffer::specs::Responses::response_tag, tpm_buffer::specs::Responses::response_code, tpm_buffer::specs::Commands::command_size, tpm_buffer::specs::Responses::with_sessions, tpm_buffer::specs::Responses::parameter_size, tpm_buffer::specs::Responses::reply_sessions, tpm_buffer::specs::Responses::further_sessions,))]
 fn put_bare_sealed(session: &AuthReply, out: &mut Buffer)
     requires { length out.old.items ≡ 0 }
     ensures { out.new.items ≡ reply_bytes (record { body = any_bare; auths = session.now ∷ [] }) }
@@ -89,15 +90,19 @@ impl Device {
         params: &[u8],
         nonce: &[u8; 64],
     ) -> AuthReply
-        ensures { (p : Present) (e : Evidence) (others : List Auth) → IsAlike p self.now (first_of areas.now.handles) → areas.now.auths ≡ auth.now ∷ others →
-            evidence_for p areas.now ≡ Ok e → reply_auths e areas.now.header.code params.now nonce.now ≡ result ∷ [] }
+        ensures { (p : Present) (e : Evidence) (others : List Auth) →
+            IsAlike p self.now (first_of areas.now.handles) →
+            areas.now.auths ≡ auth.now ∷ others →
+            evidence_for p areas.now ≡ Ok e →
+            reply_auths e areas.now.header.code params.now nonce.now ≡ result ∷ [] }
     {
         let entity = self.entity(first(areas.handles()));
         self.sessions
             .reply_auth(auth, &entity, areas.code(), params, nonce)
     }
 
-    // That of a session, whose HMAC covers the parameters. They are written into the answer's buffer, which is cleared again.
+    // That of a session, whose HMAC covers the parameters. They are written into the answer's
+    // buffer, which is cleared again.
     fn sealed(
         &self,
         auth: &AuthRef<'_>,
@@ -107,8 +112,11 @@ impl Device {
         out: &mut Buffer,
     ) -> AuthReply
         requires empty { length out.old.items ≡ 0 }
-        ensures session { (p : Present) (e : Evidence) (others : List Auth) → IsAlike p self.now (first_of areas.now.handles) → areas.now.auths ≡ auth.now ∷ others →
-            evidence_for p areas.now ≡ Ok e → reply_auths e areas.now.header.code (reply_params body.now) nonce.now ≡ result ∷ [] }
+        ensures session { (p : Present) (e : Evidence) (others : List Auth) →
+            IsAlike p self.now (first_of areas.now.handles) →
+            areas.now.auths ≡ auth.now ∷ others →
+            evidence_for p areas.now ≡ Ok e →
+            reply_auths e areas.now.header.code (reply_params body.now) nonce.now ≡ result ∷ [] }
         ensures cleared { length out.new.items ≡ 0 }
     {
         put_reply_params(body, out);
@@ -144,7 +152,8 @@ impl Device {
         }
     }
 
-    // Adds the reply without parameters to a command that a session authorized. It is out of line, since it makes that of the reply.
+    // Adds the reply without parameters to a command that a session authorized. It is out of line,
+    // since it makes that of the reply.
     #[inline(never)]
     fn put_bare_signed(
         &self,
@@ -154,8 +163,13 @@ impl Device {
         out: &mut Buffer,
     )
         requires empty { length out.old.items ≡ 0 }
-        ensures bytes { (p : Present) (e : Evidence) (others : List Auth) → IsAlike p self.now (first_of areas.now.handles) → areas.now.auths ≡ auth.now ∷ others →
-            evidence_for p areas.now ≡ Ok e → out.new.items ≡ reply_bytes (record { body = any_bare; auths = reply_auths e areas.now.header.code [] nonce.now }) }
+        ensures bytes { (p : Present) (e : Evidence) (others : List Auth) →
+            IsAlike p self.now (first_of areas.now.handles) →
+            areas.now.auths ≡ auth.now ∷ others →
+            evidence_for p areas.now ≡ Ok e →
+            out.new.items ≡
+            reply_bytes
+            (record { body = any_bare; auths = reply_auths e areas.now.header.code [] nonce.now }) }
         ensures done { code_in out.new.items ≡ 0 }
     {
         let session = self.reply_session(auth, areas, &[], nonce);
@@ -172,7 +186,9 @@ impl Device {
     )
         requires own { auth.now ≡ slice_get areas.now.auths 0 }
         requires empty { length out.old.items ≡ 0 }
-        ensures bytes { (body : BodyOf) → is_bare body ≡ true → Replies self.now areas.now nonce.now body out.new.items }
+        ensures bytes { (body : BodyOf) →
+            is_bare body ≡ true →
+            Replies self.now areas.now nonce.now body out.new.items }
         ensures done { code_in out.new.items ≡ 0 }
     {
         match auth {
@@ -189,9 +205,15 @@ impl Device {
 
     // After a command that this session authorized: its nonce rolls, or its slot is free. A password leaves nothing.
     fn roll_session(&mut self, auth: &AuthRef<'_>, nonce: &[u8; 64])
-        requires { is_session auth.now.session ≡ true → IsSome (loaded self.old.sessions auth.now.session) }
-        ensures { (o : Origin) (h : History) (body : CommandBody) (reply : BodyOf) (replied : List ReplyOf) (others : List Auth) → needs_authorization (code_for body) ≡ true →
-            Stands o (step_of body reply nonce.now ∷ h) self.old → Stands o (Accepted (with_auths body (auth.now ∷ others)) (record { body = reply; auths = replied }) nonce.now ∷ h) self.new }
+        requires { is_session auth.now.session ≡ true →
+            IsSome (loaded self.old.sessions auth.now.session) }
+        ensures { (o : Origin) (h : History) (body : CommandBody) (reply : BodyOf)
+            (replied : List ReplyOf) (others : List Auth) →
+            needs_authorization (code_for body) ≡ true →
+            Stands o (step_of body reply nonce.now ∷ h) self.old →
+            Stands o
+            (Accepted (with_auths body (auth.now ∷ others))
+            (record { body = reply; auths = replied }) nonce.now ∷ h) self.new }
     {
         match session_of(auth) {
             Some(session) => self.sessions.roll(session, nonce, auth.attrs().continues()),
@@ -202,7 +224,10 @@ impl Device {
     /// After a command with these sessions, of which this is the first, that was done and answered.
     pub(crate) fn roll(&mut self, areas: &Areas<'_>, auth: &Option<AuthRef<'_>>, nonce: &[u8; 64])
         requires own { auth.now ≡ slice_get areas.now.auths 0 }
-        requires loaded { (a : Auth) (others : List Auth) → areas.now.auths ≡ a ∷ others → is_session a.session ≡ true → IsSome (loaded self.old.sessions a.session) }
+        requires loaded { (a : Auth) (others : List Auth) →
+            areas.now.auths ≡ a ∷ others →
+            is_session a.session ≡ true →
+            IsSome (loaded self.old.sessions a.session) }
         ensures { Rolls self.old areas.now.auths nonce.now self.new }
     {
         match auth {

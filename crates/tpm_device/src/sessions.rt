@@ -17,8 +17,10 @@ impl Device {
         nonce: &[u8; 64],
         body: &mut ReplyBody,
     ) -> Result<(), u32>
-        ensures answer { acted body.new result ≡ action (holds self.old) (bodies.StartAuthSession start.now) nonce.now }
-        ensures stands { OnOk result (Steps self.old self.new (bodies.StartAuthSession start.now) body.new nonce.now) }
+        ensures answer { acted body.new result ≡
+            action (holds self.old) (bodies.StartAuthSession start.now) nonce.now }
+        ensures stands { OnOk result
+            (Steps self.old self.new (bodies.StartAuthSession start.now) body.new nonce.now) }
         ensures refused { OnErr result (self.new ≡ self.old) }
     {
         let reply = self.sessions.start(start, self.owner.as_slice(), nonce)?;
@@ -28,8 +30,10 @@ impl Device {
 
     // TPM2_FlushContext (Part 3, 28.4).
     pub(crate) fn flush(&mut self, session: SessionHandle, body: &mut ReplyBody) -> Result<(), u32>
-        ensures answer { (n : List ℕ) → acted body.new result ≡ action (holds self.old) (bodies.FlushContext session) n }
-        ensures stands { (n : List ℕ) → OnOk result (Steps self.old self.new (bodies.FlushContext session) body.new n) }
+        ensures answer { (n : List ℕ) →
+            acted body.new result ≡ action (holds self.old) (bodies.FlushContext session) n }
+        ensures stands { (n : List ℕ) →
+            OnOk result (Steps self.old self.new (bodies.FlushContext session) body.new n) }
         ensures refused { OnErr result (self.new ≡ self.old) }
     {
         if !matches!(body, ReplyBody::FlushContext) {

@@ -1,5 +1,5 @@
-//! A boot loader holds a session with a TPM: bound to its owner, it defines a counter, increments it and reads it. Then a reply is
-//! lost, and with it the session: another one is started.
+//! A boot loader holds a session with a TPM: bound to its owner, it defines a counter, increments
+//! it and reads it. Then a reply is lost, and with it the session: another one is started.
 
 use crate::counter::Counter;
 use crate::fault::Fault;
@@ -41,8 +41,8 @@ impl Boot {
         Ok(())
     }
 
-    /// Increments the counter for the first time. A TPM that does not have it refuses, which gives the caller back, and the counter is
-    /// defined.
+    /// Increments the counter for the first time. A TPM that does not have it refuses, which gives
+    /// the caller back, and the counter is defined.
     fn begin<R: Print>(&mut self, rt: &R, caller: Caller) -> Result<Caller, Fault> {
         let waiting = self.counter.increment(caller, self.random.nonce());
         let reply = self.tpm.transmit(waiting.bytes());
@@ -76,8 +76,8 @@ impl Boot {
         }
     }
 
-    /// Increments the counter twice, and the second reply does not come. Neither the first one in its place nor the command sent again
-    /// is taken for it.
+    /// Increments the counter twice, and the second reply does not come. Neither the first one in
+    /// its place nor the command sent again is taken for it.
     fn lose_a_reply<R: Print>(&mut self, rt: &R, caller: Caller) -> Result<(), Fault> {
         let waiting = self.counter.increment(caller, self.random.nonce());
         let old = self.tpm.transmit(waiting.bytes());

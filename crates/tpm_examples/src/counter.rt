@@ -76,7 +76,8 @@ impl Counter {
         names
     }
 
-    /// TPM2_NV_DefineSpace. The session is bound to the owner, who authorizes: so the key of the HMAC has no authorization value.
+    /// TPM2_NV_DefineSpace. The session is bound to the owner, who authorizes: so the key of the
+    /// HMAC has no authorization value.
     pub(crate) fn define(&self, caller: Caller, nonce: Nonce) -> Waiting {
         let mut names = ArrayVec::new();
         names.push(name_of_handle(RH_OWNER));

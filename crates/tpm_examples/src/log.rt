@@ -2,7 +2,8 @@
 
 use crate::print_bytes;
 use std::io;
-use tpm_log::{check_quote, decode_quote, replay};
+use tpm_log::replay;
+use tpm_quote::{check_quote, decode_quote};
 use tpm_types::{Alg, PcrIndex};
 
 /// A log that lists SHA-1, SHA-256 and SHA-384, with one EV_SEPARATOR at register 7.

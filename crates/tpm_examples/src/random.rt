@@ -5,8 +5,8 @@ use tpm_types::Nonce;
 /// How many bytes the nonces of a session have.
 const NONCE_BYTES: usize = 16;
 
-/// A count, so that each run of this program is alike. Who relies on a session has random numbers here: a TPM its own generator, a boot
-/// loader that of its processor.
+/// A count, so that each run of this program is alike. Who relies on a session has random numbers
+/// here: a TPM its own generator, a boot loader that of its processor.
 #[derive(Drop)]
 pub(crate) struct Random {
     count: u64,

@@ -1,8 +1,9 @@
 //! Tries buffers on the library in one process, where a run of the program for each would take too long.
 //!
-//! Standard input has a line for each buffer: `command HEX`, or `reply NAME HEX` for a response to that command. With no words
-//! the first line that `show` prints of each is printed. With the words `SEED COUNT` buffers of these lines are changed at random
-//! and tried, so many times: one that is accepted is to be encoded to itself, and what a device answers is to be a response.
+//! Standard input has a line for each buffer: `command HEX`, or `reply NAME HEX` for a response to
+//! that command. With no words the first line that `show` prints of each is printed. With the words
+//! `SEED COUNT` buffers of these lines are changed at random and tried, so many times: one that is
+//! accepted is to be encoded to itself, and what a device answers is to be a response.
 #![tactic(auto)]
 
 mod changes;

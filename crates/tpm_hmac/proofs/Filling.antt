@@ -12,7 +12,8 @@ fill_both n front back one both fits first second =
     let start : 0 + length front ≡ length front = omega arith in
     let first = rw start at first in
     let kept : take (length front) one ≡ front = rw first (take_at front (drop (length front) (replicate n 0)) (length front) refl) in
-    let behind : drop (length front) one ≡ replicate (n - length front) 0 = rw first (drop_at front (drop (length front) (replicate n 0)) (length front) refl ∙ drop-replicate (length front) n 0) in
+    let behind : drop (length front) one ≡ replicate (n - length front) 0 =
+    rw first (drop_at front (drop (length front) (replicate n 0)) (length front) refl ∙ drop-replicate (length front) n 0) in
     let left : drop (length front + length back) one ≡ replicate (n - length (front ++ back)) 0 =
     sym (drop-drop (length back) (length front) one) ∙ ap (drop (length back)) behind ∙ drop-replicate (length back) (n - length front) 0
     ∙ ap (λ (k : ℕ). replicate k 0) (rw (length-append front back) (omega arith)) in

@@ -21,9 +21,11 @@ unfolding kdfa_blocks
 length-kdfa_blocks alg key text zero = omega arith
 length-kdfa_blocks alg key text (suc k) =
     length-append (kdfa_blocks alg key text k) (kdfa_block alg key text (suc k))
-    ∙ rw (length-kdfa_blocks alg key text k, length-hmac alg key (to_be_bytes w32 (suc k) ++ text)) (sym (ap (λ (m : ℕ). m * digest_len alg) (sym (add-one k)) ∙ next_end alg k))
+    ∙ rw (length-kdfa_blocks alg key text k, length-hmac alg key (to_be_bytes w32 (suc k) ++ text))
+    (sym (ap (λ (m : ℕ). m * digest_len alg) (sym (add-one k)) ∙ next_end alg k))
 
-pub kdfa_blocks-more : (alg : Alg) (key text : List ℕ) (k : ℕ) → kdfa_blocks alg key text (k + 1) ≡ kdfa_blocks alg key text k ++ kdfa_block alg key text (k + 1)
+pub kdfa_blocks-more : (alg : Alg) (key text : List ℕ) (k : ℕ) →
+    kdfa_blocks alg key text (k + 1) ≡ kdfa_blocks alg key text k ++ kdfa_block alg key text (k + 1)
 unfolding kdfa_blocks
 kdfa_blocks-more alg key text k = rw add-one refl
 
@@ -37,14 +39,17 @@ written_more alg key text k done n old new block part place long before is cut w
     let front : take done old ≡ blocks = before ∙ take_all done blocks (omega arith) in
     let end : length (blocks ++ part) ≡ done + n = length-append blocks part ∙ omega arith in
     let here : take (done + n) new ≡ blocks ++ part =
-    rw (written, front) (ap (take (done + n)) (sym (append_assoc blocks part (drop (done + length part) old))) ∙ take_at (blocks ++ part) (drop (done + length part) old) (done + n) end) in
+    rw (written, front)
+    (ap (take (done + n)) (sym (append_assoc blocks part (drop (done + length part) old)))
+    ∙ take_at (blocks ++ part) (drop (done + length part) old) (done + n) end) in
     let there : take (done + n) (blocks ++ block) ≡ blocks ++ part =
     ap (λ (whole : List ℕ). take (done + n) (blocks ++ whole)) (sym (take-append-drop n block) ∙ ap (λ (first : List ℕ). first ++ drop n block) (sym cut))
     ∙ ap (take (done + n)) (sym (append_assoc blocks part (drop n block))) ∙ take_at (blocks ++ part) (drop n block) (done + n) end in
     here ∙ sym there ∙ ap (take (done + n)) (ap (λ (last : List ℕ). blocks ++ last) is ∙ sym (kdfa_blocks-more alg key text k))
 
 -- all of them
-pub kdfa-whole : (alg : Alg) (key label context_u context_v : List ℕ) (k n : ℕ) (out : List ℕ) → length out ≡ n → n ≤ k * digest_len alg → k * digest_len alg < n + digest_len alg
+pub kdfa-whole : (alg : Alg) (key label context_u context_v : List ℕ) (k n : ℕ) (out : List ℕ) → length out ≡ n → n ≤ k * digest_len alg →
+    k * digest_len alg < n + digest_len alg
     → take n out ≡ take n (kdfa_blocks alg key (kdfa_text label context_u context_v (8 * n)) k) → out ≡ kdfa alg key label context_u context_v n
 unfolding kdfa
 kdfa-whole alg key label context_u context_v k n out long reached before written =

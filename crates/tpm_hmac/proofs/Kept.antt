@@ -11,10 +11,12 @@ use Rattle.sha2.specs.Sha256.{sha256}
 -- the front of a block that a pad has changed
 pub ruleset changed = (take-map)
 
-pub by_sha1 : (alg : Alg) (key text out : List ℕ) → alg ≡ Sha1 → out ≡ sha1 (xored 0x5C (block_key alg key) ++ sha1 (xored 0x36 (block_key alg key) ++ text)) → out ≡ hmac alg key text
+pub by_sha1 : (alg : Alg) (key text out : List ℕ) → alg ≡ Sha1 →
+    out ≡ sha1 (xored 0x5C (block_key alg key) ++ sha1 (xored 0x36 (block_key alg key) ++ text)) → out ≡ hmac alg key text
 unfolding hmac digest
 by_sha1 alg key text out is made = made ∙ rw is refl
 
-pub by_sha256 : (alg : Alg) (key text out : List ℕ) → alg ≡ Sha256 → out ≡ sha256 (xored 0x5C (block_key alg key) ++ sha256 (xored 0x36 (block_key alg key) ++ text)) → out ≡ hmac alg key text
+pub by_sha256 : (alg : Alg) (key text out : List ℕ) → alg ≡ Sha256 →
+    out ≡ sha256 (xored 0x5C (block_key alg key) ++ sha256 (xored 0x36 (block_key alg key) ++ text)) → out ≡ hmac alg key text
 unfolding hmac digest
 by_sha256 alg key text out is made = made ∙ rw is refl

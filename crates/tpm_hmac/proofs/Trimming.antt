@@ -25,7 +25,8 @@ trim-other (c ∷ bytes) b some = ap (before_trimmed c) (trim-other bytes b some
 
 pub trim-take_zero : (bytes : List ℕ) (n k : ℕ) → n ≡ k + 1 → k < length bytes → slice_index_or bytes k 0 ≡ 0 → trim (take k bytes) ≡ trim (take n bytes)
 trim-take_zero bytes n k next within is_zero =
-    sym (ap (λ (m : ℕ). trim (take m bytes)) next ∙ ap trim (take_more bytes k 0 within) ∙ ap (λ (b : ℕ). trim (take k bytes ++ b ∷ [])) is_zero ∙ trim-zero (take k bytes))
+    sym (ap (λ (m : ℕ). trim (take m bytes)) next ∙ ap trim (take_more bytes k 0 within) ∙ ap (λ (b : ℕ). trim (take k bytes ++ b ∷ [])) is_zero
+    ∙ trim-zero (take k bytes))
 
 pub trim-take_other : (bytes : List ℕ) (n k : ℕ) → n ≡ k + 1 → k < length bytes → 0 < slice_index_or bytes k 0 → trim (take n bytes) ≡ take n bytes
 trim-take_other bytes n k next within other =
@@ -36,7 +37,8 @@ trim-nothing bytes n none = rw none refl
 
 -- ---- laws
 
-zeros_before : (b : ℕ) (rest trimmed : List ℕ) (count : ℕ) → rest ≡ trimmed ++ replicate count 0 → (n : ℕ) × (b ∷ rest ≡ before_trimmed b trimmed ++ replicate n 0)
+zeros_before : (b : ℕ) (rest trimmed : List ℕ) (count : ℕ) → rest ≡ trimmed ++ replicate count 0 →
+    (n : ℕ) × (b ∷ rest ≡ before_trimmed b trimmed ++ replicate n 0)
 zeros_before zero rest [] count is = (suc count, ap (◌∷◌ 0) is)
 zeros_before b rest trimmed count is = (count, ap (◌∷◌ b) is)
 
@@ -44,7 +46,8 @@ pub trim-zeros : (bytes : List ℕ) → (count : ℕ) × (bytes ≡ trim bytes +
 trim-zeros [] = (0, refl)
 trim-zeros (b ∷ bytes) = let behind = trim-zeros bytes in zeros_before b bytes (trim bytes) behind.0 behind.1
 
-last_before : (b : ℕ) (trimmed : List ℕ) → ((front : List ℕ) → trimmed ≡ front ++ 0 ∷ [] → ⊥) → (front : List ℕ) → before_trimmed b trimmed ≡ front ++ 0 ∷ [] → ⊥
+last_before : (b : ℕ) (trimmed : List ℕ) → ((front : List ℕ) → trimmed ≡ front ++ 0 ∷ [] → ⊥) → (front : List ℕ) →
+    before_trimmed b trimmed ≡ front ++ 0 ∷ [] → ⊥
 last_before zero [] none [] is = cc
 last_before zero [] none (x ∷ front) is = cc
 last_before (suc b) [] none [] is = cc

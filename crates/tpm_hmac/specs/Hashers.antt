@@ -17,4 +17,6 @@ Holding alg (the.Sha384 h) m = (alg ≡ Sha384) × Holds384 h m
 
 -- the HMAC is of this hash and key and holds this text
 abbrev pub MacHolds : Alg → List ℕ → Mac → List ℕ → Type 0
-MacHolds alg key m text = Holding alg m.inner (xored 0x36 (block_key alg key) ++ text) × Holding alg m.outer (xored 0x5C (block_key alg key))
+MacHolds alg key m text =
+    Holding alg m.inner (xored 0x36 (block_key alg key) ++ text) ×
+    Holding alg m.outer (xored 0x5C (block_key alg key))

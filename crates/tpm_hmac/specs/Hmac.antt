@@ -45,4 +45,5 @@ block_count alg n = (n + digest_len alg - 1) / digest_len alg
 
 -- n bytes: as many blocks as they take, without what is left of the last
 unfoldable pub kdfa : Alg → List ℕ → List ℕ → List ℕ → List ℕ → ℕ → List ℕ
-kdfa alg key label context_u context_v n = take n (kdfa_blocks alg key (kdfa_text label context_u context_v (8 * n)) (block_count alg n))
+kdfa alg key label context_u context_v n =
+    take n (kdfa_blocks alg key (kdfa_text label context_u context_v (8 * n)) (block_count alg n))

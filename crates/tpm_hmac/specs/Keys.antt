@@ -16,5 +16,11 @@ pub record Key : Type 0 where
 -- The hashers have taken in the key's block, changed for the inner and for the outer hash.
 abbrev pub IsKept : Alg → List ℕ → Kept → Type 0
 IsKept alg key the.Nothing = ⊤
-IsKept alg key (the.Sha1 inner outer) = (alg ≡ Sha1) × S1.Holds inner (xored 0x36 (block_key alg key)) × S1.Holds outer (xored 0x5C (block_key alg key))
-IsKept alg key (the.Sha256 inner outer) = (alg ≡ Sha256) × Holds256 inner (xored 0x36 (block_key alg key)) × Holds256 outer (xored 0x5C (block_key alg key))
+IsKept alg key (the.Sha1 inner outer) =
+    (alg ≡ Sha1) ×
+    S1.Holds inner (xored 0x36 (block_key alg key)) ×
+    S1.Holds outer (xored 0x5C (block_key alg key))
+IsKept alg key (the.Sha256 inner outer) =
+    (alg ≡ Sha256) ×
+    Holds256 inner (xored 0x36 (block_key alg key)) ×
+    Holds256 outer (xored 0x5C (block_key alg key))

@@ -29,8 +29,9 @@ session_key alg None nonce_tpm nonce_caller = []
 session_key alg (Some auth_value) nonce_tpm nonce_caller =
     kdfa alg (trim auth_value) (0x41 ∷ 0x54 ∷ 0x48 ∷ []) nonce_tpm nonce_caller (digest_len alg)
 
--- What makes the authValue of an entity part of the key: an HMAC session has it unless it is bound to that very entity, a
--- policy session has it after TPM2_PolicyAuthValue alone (Part 1, "HMAC Computation").
+-- What makes the authValue of an entity part of the key: an HMAC session has it unless it is bound
+-- to that very entity, a policy session has it after TPM2_PolicyAuthValue alone (Part 1, "HMAC
+-- Computation").
 pub data AuthValueRule : Type 0 where
   ByHmac : (is_bound_to_it : Bool) → AuthValueRule
   ByPolicy : (after_policy_auth_value : Bool) → AuthValueRule

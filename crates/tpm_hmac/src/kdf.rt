@@ -19,7 +19,8 @@ fn kdfa_block(
     bits: u32,
     counter: u32,
 ) -> Digest
-    ensures value { result ≡ kdfa_block_of alg key.now (kdfa_text label.now context_u.now context_v.now bits) counter }
+    ensures value { result ≡
+        kdfa_block_of alg key.now (kdfa_text label.now context_u.now context_v.now bits) counter }
     ensures len { length result ≡ digest_len alg }
 {
     let mut mac = Mac::new(alg, key, &[]);
@@ -32,8 +33,8 @@ fn kdfa_block(
     mac.finish()
 }
 
-/// Fills `out`, at most 8,192 bytes, with a key that is derived from this one: KDFa in as many bits as `out` has, of whose
-/// last block as much is taken as is wanted (Part 1, "KDFa()").
+/// Fills `out`, at most 8,192 bytes, with a key that is derived from this one: KDFa in as many bits
+/// as `out` has, of whose last block as much is taken as is wanted (Part 1, "KDFa()").
 pub fn kdfa(alg: Alg, key: &[u8], label: &[u8], context_u: &[u8], context_v: &[u8], out: &mut [u8])
     requires { length out.old ≤ 8192 }
     ensures { out.new ≡ kdfa_of alg key.now label.now context_u.now context_v.now (length out.old) }

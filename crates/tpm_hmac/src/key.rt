@@ -26,8 +26,9 @@ pub(crate) enum Kept {
     Sha256(sha2::Sha256, sha2::Sha256),
 }
 
-/// A session's key, for HMACs by the session's hash. It is hashed once, where it is made, for SHA-1 and SHA-256; the empty key is
-/// hashed where `keep` says so, and one for SHA-384 for each HMAC, since its states would take twice the room (RFC 2104, section 4).
+/// A session's key, for HMACs by the session's hash. It is hashed once, where it is made, for SHA-1
+/// and SHA-256; the empty key is hashed where `keep` says so, and one for SHA-384 for each HMAC,
+/// since its states would take twice the room (RFC 2104, section 4).
 #[derive(Drop)]
 pub struct SessionKey {
     hash: Alg,
@@ -77,7 +78,10 @@ fn states_of(hash: Alg, key: &[u8]) -> Kept
 }
 
 fn mac_sha1(inner: &sha1::Sha1, outer: &sha1::Sha1, parts: &[&[u8]]) -> Digest
-    ensures { (i o : List ℕ) → Holds inner.now i → Holds outer.now o → result ≡ sha1 (o ++ sha1 (i ++ flat_map (λ p. p.now) parts.now)) }
+    ensures { (i o : List ℕ) →
+        Holds inner.now i →
+        Holds outer.now o →
+        result ≡ sha1 (o ++ sha1 (i ++ flat_map (λ p. p.now) parts.now)) }
 {
     let Ok(mut hasher) = inner.clone() else {
         unreachable!()
@@ -93,7 +97,10 @@ fn mac_sha1(inner: &sha1::Sha1, outer: &sha1::Sha1, parts: &[&[u8]]) -> Digest
 }
 
 fn mac_sha256(inner: &sha2::Sha256, outer: &sha2::Sha256, parts: &[&[u8]]) -> Digest
-    ensures { (i o : List ℕ) → Holds256 inner.now i → Holds256 outer.now o → result ≡ sha256 (o ++ sha256 (i ++ flat_map (λ p. p.now) parts.now)) }
+    ensures { (i o : List ℕ) →
+        Holds256 inner.now i →
+        Holds256 outer.now o →
+        result ≡ sha256 (o ++ sha256 (i ++ flat_map (λ p. p.now) parts.now)) }
 {
     let Ok(mut hasher) = inner.clone() else {
         unreachable!()
@@ -147,7 +154,8 @@ impl SessionKey {
     /// The HMAC of the parts, joined (RFC 2104).
     #[tactic(auto, using(crate::proofs::DigestLengths::lengths))]
     pub fn mac(&self, parts: &[&[u8]]) -> Digest
-        ensures value { result ≡ hmac_of self.now.hash self.now.bytes (flat_map (λ p. p.now) parts.now) }
+        ensures value { result ≡
+            hmac_of self.now.hash self.now.bytes (flat_map (λ p. p.now) parts.now) }
         ensures len { length result ≡ digest_len self.now.hash }
     {
         match &self.kept {

@@ -4,7 +4,7 @@ ghost use Rattle.std.specs.Prelude.{◌≡◌, [], IfSome};
 ghost use Rattle.tpm_commands.specs.Codes.{code_number};
 ghost use Rattle.tpm_hmac.specs.Sessions.{rp_hash};
 
-use tpm_buffer::CommandCode;
+use tpm_commands::CommandCode;
 use tpm_types::Alg;
 
 // The hash of eight bytes, the response code 0 and the command code (Part 1, "Response Parameter Hash (rpHash)").

@@ -9,9 +9,11 @@ ghost use Rattle.tpm_hmac.specs.Sessions.{trim};
 
 /// Each digest and each MAC has its hash's length, and a derived key the length that is asked for.
 pub fn lengths()
-    ensures digests { (alg : Alg) (message : List ℕ) → length (digest alg message) ≡ digest_len alg }
+    ensures digests { (alg : Alg) (message : List ℕ) →
+        length (digest alg message) ≡ digest_len alg }
     ensures macs { (alg : Alg) (key text : List ℕ) → length (hmac alg key text) ≡ digest_len alg }
-    ensures derived_keys { (alg : Alg) (key label context_u context_v : List ℕ) (n : ℕ) → length (kdfa alg key label context_u context_v n) ≡ n }
+    ensures derived_keys { (alg : Alg) (key label context_u context_v : List ℕ) (n : ℕ) →
+        length (kdfa alg key label context_u context_v n) ≡ n }
 {}
 
 /// What is trimmed off is zeros, and all of them: what is left does not end in one, and is not trimmed further.

@@ -83,13 +83,17 @@ impl Mac {
     }
 
     pub(crate) fn update(&mut self, bytes: &[u8])
-        ensures { (a : Alg) (k m : List ℕ) → MacHolds a k self.old m → MacHolds a k self.new (m ++ bytes.now) }
+        ensures { (a : Alg) (k m : List ℕ) →
+            MacHolds a k self.old m →
+            MacHolds a k self.new (m ++ bytes.now) }
     {
         self.inner.update(bytes);
     }
 
     pub(crate) fn update_all(&mut self, parts: &[&[u8]])
-        ensures { (a : Alg) (k m : List ℕ) → MacHolds a k self.old m → MacHolds a k self.new (m ++ flat_map (λ p. p.now) parts.now) }
+        ensures { (a : Alg) (k m : List ℕ) →
+            MacHolds a k self.old m →
+            MacHolds a k self.new (m ++ flat_map (λ p. p.now) parts.now) }
     {
         self.inner.update_all(parts);
     }

@@ -15,14 +15,15 @@ use crate::kdf::kdfa;
 use crate::key::SessionKey;
 use crate::known::known_rp_hash;
 use crate::mac::Mac;
-use tpm_buffer::CommandCode;
+use tpm_commands::CommandCode;
 use tpm_types::{Alg, DIGEST_BYTES, Digest, Name, SessionAttrs};
 
 // The label of the key of a session that is bound.
 const BOUND: &[u8; 3] = b"ATH";
 
-/// sessionKey of a session that is bound to an entity with this authorization value: KDFa of the trimmed value, as long as a
-/// digest (Part 1, "sessionKey Creation"). A session that is bound to none has the empty key.
+/// sessionKey of a session that is bound to an entity with this authorization value: KDFa of the
+/// trimmed value, as long as a digest (Part 1, "sessionKey Creation"). A session that is bound to
+/// none has the empty key.
 pub fn session_key(alg: Alg, auth_value: &[u8], nonce_tpm: &[u8], nonce_caller: &[u8]) -> Digest
     ensures { result ≡ session_key_of alg (Some auth_value.now) nonce_tpm.now nonce_caller.now }
 {
@@ -51,7 +52,8 @@ fn hash_of_three<'a>(alg: Alg, first: &'a [u8], second: &'a [u8], third: &'a [u8
 // The same, with the Names between. It is out of line, since a hasher of any hash is filled where its function begins.
 #[inline(never)]
 fn hash_of_names(alg: Alg, number: &[u8], names: &[Name], params: &[u8]) -> Digest
-    ensures { result ≡ digest alg (number.now ++ (flat_map (λ name. name) names.now ++ params.now)) }
+    ensures { result ≡
+        digest alg (number.now ++ (flat_map (λ name. name) names.now ++ params.now)) }
 {
     let mut hasher = Hasher::new(alg);
     hasher.update(number);
@@ -60,8 +62,8 @@ fn hash_of_names(alg: Alg, number: &[u8], names: &[Name], params: &[u8]) -> Dige
     hasher.finish()
 }
 
-/// cpHash of a command: the hash of its code, the Name of each of its handles, in their order, and its parameters as they are
-/// sent (Part 1, "Command Parameter Hash (cpHash)").
+/// cpHash of a command: the hash of its code, the Name of each of its handles, in their order, and
+/// its parameters as they are sent (Part 1, "Command Parameter Hash (cpHash)").
 #[tactic(auto, using(crate::proofs::DigestLengths::lengths))]
 pub fn cp_hash(alg: Alg, code: CommandCode, names: &[Name], params: &[u8]) -> Digest
     ensures value { result ≡ cp_hash_of alg (code_number code) names.now params.now }
@@ -75,8 +77,9 @@ pub fn cp_hash(alg: Alg, code: CommandCode, names: &[Name], params: &[u8]) -> Di
     }
 }
 
-/// rpHash of the response to a command with this code: the hash of the response code, which is 0, the command code, and the
-/// parameters as they are sent (Part 1, "Response Parameter Hash (rpHash)").
+/// rpHash of the response to a command with this code: the hash of the response code, which is 0,
+/// the command code, and the parameters as they are sent (Part 1, "Response Parameter Hash
+/// (rpHash)").
 #[tactic(auto, using(crate::proofs::DigestLengths::lengths))]
 pub fn rp_hash(alg: Alg, code: CommandCode, params: &[u8]) -> Digest
     ensures value { result ≡ rp_hash_of alg (code_number code) params.now }
@@ -95,8 +98,9 @@ pub fn rp_hash(alg: Alg, code: CommandCode, params: &[u8]) -> Digest
     hasher.finish()
 }
 
-/// The MAC of a command, under the session key followed by the trimmed authorization value. `p_hash` is its cpHash, `newer`
-/// its nonceCaller, and `older` the session's nonceTPM (Part 1, "HMAC Computation").
+/// The MAC of a command, under the session key followed by the trimmed authorization value.
+/// `p_hash` is its cpHash, `newer` its nonceCaller, and `older` the session's nonceTPM (Part 1,
+/// "HMAC Computation").
 #[tactic(auto, using(crate::proofs::DigestLengths::lengths))]
 pub fn command_mac(
     alg: Alg,
@@ -107,7 +111,9 @@ pub fn command_mac(
     older: &[u8],
     attrs: SessionAttrs,
 ) -> Digest
-    ensures value { result ≡ hmac_of alg (whole_key session_key.now auth_value.now) (mac_text p_hash.now newer.now older.now attrs) }
+    ensures value { result ≡
+        hmac_of alg (whole_key session_key.now auth_value.now)
+        (mac_text p_hash.now newer.now older.now attrs) }
     ensures len { length result ≡ digest_len alg }
 {
     let mut mac = Mac::new(alg, session_key, trim(auth_value));
@@ -119,8 +125,8 @@ pub fn command_mac(
 }
 
 impl SessionKey {
-    /// The MAC of a command or of a response, under this key followed by the trimmed authorization value, as `command_mac` and
-    /// `response_mac` give it (Part 1, "HMAC Computation").
+    /// The MAC of a command or of a response, under this key followed by the trimmed authorization
+    /// value, as `command_mac` and `response_mac` give it (Part 1, "HMAC Computation").
     #[tactic(auto, using(crate::proofs::DigestLengths::lengths))]
     pub fn session_mac(
         &self,
@@ -130,7 +136,9 @@ impl SessionKey {
         older: &[u8],
         attrs: SessionAttrs,
     ) -> Digest
-        ensures value { result ≡ hmac_of self.now.hash (whole_key self.now.bytes auth_value.now) (mac_text p_hash.now newer.now older.now attrs) }
+        ensures value { result ≡
+            hmac_of self.now.hash (whole_key self.now.bytes auth_value.now)
+            (mac_text p_hash.now newer.now older.now attrs) }
         ensures len { length result ≡ digest_len self.now.hash }
     {
         if trim(auth_value).is_empty() {
@@ -155,7 +163,9 @@ impl SessionKey {
         older: &'a [u8],
         attrs: &'a [u8],
     ) -> Digest
-        ensures value { result ≡ hmac_of self.now.hash self.now.bytes (p_hash.now ++ (newer.now ++ (older.now ++ attrs.now))) }
+        ensures value { result ≡
+            hmac_of self.now.hash self.now.bytes
+            (p_hash.now ++ (newer.now ++ (older.now ++ attrs.now))) }
         ensures len { length result ≡ digest_len self.now.hash }
     {
         self.mac(&[p_hash, newer, older, attrs])
@@ -173,7 +183,9 @@ pub fn response_mac(
     older: &[u8],
     attrs: SessionAttrs,
 ) -> Digest
-    ensures value { result ≡ hmac_of alg (whole_key session_key.now auth_value.now) (mac_text p_hash.now newer.now older.now attrs) }
+    ensures value { result ≡
+        hmac_of alg (whole_key session_key.now auth_value.now)
+        (mac_text p_hash.now newer.now older.now attrs) }
     ensures len { length result ≡ digest_len alg }
 {
     command_mac(alg, session_key, auth_value, p_hash, newer, older, attrs)

@@ -43,7 +43,8 @@ pub record Passed (p : Present) (bytes n : List ℕ) (d : Done) : Type 0 where
   pub act : action p d.command.body n ≡ Ok d.reply.body
   pub replied : d.reply.auths ≡ reply_auths x.evidence x.code (reply_params d.reply.body) n
 
-permitted_passed : (p : Present) (bytes : List ℕ) (x : Presented) → permitted p bytes ≡ Ok x → (presented p bytes ≡ Ok x) × (check_evidence x.entity x.evidence ≡ Ok tt)
+permitted_passed : (p : Present) (bytes : List ℕ) (x : Presented) → permitted p bytes ≡ Ok x
+    → (presented p bytes ≡ Ok x) × (check_evidence x.entity x.evidence ≡ Ok tt)
 permitted_passed p bytes x e =
     let a = bind_ok (presented p bytes) _ x e in
     let b = bind_ok (check_evidence a.0.entity a.0.evidence) _ x a.2 in
@@ -57,7 +58,8 @@ passed p bytes n d e =
     let before = permitted_passed p bytes x a.1 in
     let b = bind_ok (code_only (read_all (parameters x.code) x.params)) _ d a.2 in
     let c = bind_ok (action p (body_from x.handles b.0) n) _ d b.2 in
-    subst (Passed p bytes n) (ok_is _ d c.2) (record { x = x; asked = before.0; evidence = before.1; params = b.0; read = b.1; body = refl; auths = refl; act = c.1; replied = refl })
+    subst (Passed p bytes n) (ok_is _ d c.2)
+    (record { x = x; asked = before.0; evidence = before.1; params = b.0; read = b.1; body = refl; auths = refl; act = c.1; replied = refl })
 
 -- what holds of a history, and of each step that may come next, holds after a buffer
 pub after_next : (P : History → Type 0) (o : Origin) (h : History) (bytes n : List ℕ) → P h
@@ -76,5 +78,6 @@ along P o step power (Given bytes n ∷ es) h here =
 along P o step power (Cycled ∷ es) h here = along P o step power es (PowerCycle ∷ h) (power h here)
 
 -- the history after an accepted buffer
-pub next_is : (o : Origin) (h : History) (bytes n : List ℕ) (d : Done) → outcome (present o h) bytes n ≡ Ok d → next o h bytes n ≡ Accepted d.command d.reply n ∷ h
+pub next_is : (o : Origin) (h : History) (bytes n : List ℕ) (d : Done) → outcome (present o h) bytes n ≡ Ok d
+    → next o h bytes n ≡ Accepted d.command d.reply n ∷ h
 next_is o h bytes n d e = ap (with_outcome h n) e

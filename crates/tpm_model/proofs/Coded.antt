@@ -30,12 +30,17 @@ coded_either false x y c d = d
 
 pub coded_header : IsCoded header
 unfolding header tag command_size command_code
-coded_header = (coded_in 2 _ 0x01E (omega arith, omega arith), λ t. (coded_number _ 0x142 (omega arith, omega arith), λ n. (coded_number _ 0x143 (omega arith, omega arith), λ code. tt)))
+coded_header = (
+  coded_in 2 _ 0x01E (omega arith, omega arith),
+  λ t. (coded_number _ 0x142 (omega arith, omega arith), λ n. (coded_number _ 0x143 (omega arith, omega arith), λ code. tt)),
+)
 
 coded_handles_from : (i : ℕ) (kinds : List HandleKind) → i + length kinds < 256 → IsCoded (handles_from i kinds)
 coded_handles_from i [] small = tt
-coded_handles_from i (kind ∷ kinds) small =
-    ((omega (arith, small), coded_in 4 (admits kind) rc_value (omega arith, omega arith)), λ n. (coded_handles_from (i + 1) kinds (omega (arith, small)), λ ns. tt))
+coded_handles_from i (kind ∷ kinds) small = (
+  (omega (arith, small), coded_in 4 (admits kind) rc_value (omega arith, omega arith)),
+  λ n. (coded_handles_from (i + 1) kinds (omega (arith, small)), λ ns. tt),
+)
 
 pub few_kinds : (code : CommandCode) → 1 + length (handle_kinds code) < 256
 few_kinds codes.NvUndefineSpace = omega arith
@@ -47,8 +52,13 @@ coded_handles code = coded_handles_from 1 (handle_kinds code) (few_kinds code)
 
 coded_auth_command : IsCoded auth_command
 unfolding auth_command auth_session session_attrs
-coded_auth_command =
-    (coded_in 4 is_auth_session rc_value (omega arith, omega arith), λ s. (coded_sized_bytes digest_bytes, λ n. (coded_in 1 is_session_attrs rc_reserved_bits (omega arith, omega arith), λ a. (coded_sized_bytes digest_bytes, λ hmac. tt))))
+coded_auth_command = (
+  coded_in 4 is_auth_session rc_value (omega arith, omega arith),
+  λ s. (
+    coded_sized_bytes digest_bytes,
+    λ n. (coded_in 1 is_session_attrs rc_reserved_bits (omega arith, omega arith), λ a. (coded_sized_bytes digest_bytes, λ hmac. tt)),
+  ),
+)
 
 coded_sessions : IsCoded sessions
 unfolding sessions
@@ -82,8 +92,16 @@ coded_sym_def = (
 
 pub coded_public : IsCoded nv_public
 unfolding nv_public nv_public_area nv_index nv_attrs
-coded_public = coded_sized public_bytes nv_public_area
-    (coded_in 4 is_nv_index rc_value (omega arith, omega arith), λ index. (coded_hash, λ alg. (coded_in 4 is_nv_attrs rc_reserved_bits (omega arith, omega arith), λ attrs. (coded_sized_bytes digest_bytes, λ policy. (λ left n. tt, λ data_size. tt)))))
+coded_public = coded_sized public_bytes nv_public_area (
+  coded_in 4 is_nv_index rc_value (omega arith, omega arith),
+  λ index. (
+    coded_hash,
+    λ alg. (
+      coded_in 4 is_nv_attrs rc_reserved_bits (omega arith, omega arith),
+      λ attrs. (coded_sized_bytes digest_bytes, λ policy. (λ left n. tt, λ data_size. tt)),
+    ),
+  ),
+)
 
 pub coded_selections : IsCoded selections
 coded_selections = coded_counted 0 banks selection coded_selection

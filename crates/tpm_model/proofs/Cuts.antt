@@ -30,7 +30,10 @@ cut {A = A} l h =
 
 pub whole : {A : Type 0} (l : Layout A) (bytes : List ℕ) → IsWholeByGrammar l bytes
 whole {A = A} l bytes = record {
-  value = λ x. (λ is. read_spells buffer buffer_sound l bytes x (code_ok (read_all l bytes) x is), λ spells. ap code_only (spells_read buffer buffer_sound l bytes x spells));
+  value = λ x. (
+    λ is. read_spells buffer buffer_sound l bytes x (code_ok (read_all l bytes) x is),
+    λ spells. ap code_only (spells_read buffer buffer_sound l bytes x spells),
+  );
   fault = λ code. (
     λ is. (let f = by_fault (read_all l bytes) code is in (f.0, read_fault buffer buffer_sound l bytes f.0 f.1, f.2)),
     λ f. ap code_only (fault_read buffer buffer_sound l bytes f.0 f.1) ∙ ap err f.2,

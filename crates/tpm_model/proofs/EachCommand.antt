@@ -129,7 +129,8 @@ behind : {A : Type 0} (body : CommandBody) (r : Result A ℕ) (f : A → Result 
 behind body (Ok x) f c d = d x
 behind body (Err n) f c d = refuses (its_code c)
 
-replied : {A : Type 0} (body : CommandBody) (r : Result A ℕ) (reply : ReplyBody) → IfErr r → code_for body ≡ code_for_reply reply → Gives body (then_reply r reply)
+replied : {A : Type 0} (body : CommandBody) (r : Result A ℕ) (reply : ReplyBody) → IfErr r → code_for body ≡ code_for_reply reply
+    → Gives body (then_reply r reply)
 replied body r reply c own = behind body r (λ _. Ok reply) c (λ _. answers own)
 
 startup_checked : (kind : StartupType) → IfErr (check_startup kind)
@@ -142,26 +143,42 @@ extend_checked registers.Null = not_refused
 
 policy_pcr_checked : (s : Session) (composite : List ℕ) (n : ℕ) (d : List ℕ) → IfErr (check_policy_pcr s composite n d)
 policy_pcr_checked s composite n d = one_of (is_trial s.session_type) _ _ not_refused
-    (test_first (differs s.policy.update_counter n) 0x128 _ (omega arith, omega arith) (λ _. tested (not (is_empty d) && not (bytes_eq d composite)) 0x1C4 (omega arith, omega arith)))
+    (test_first (differs s.policy.update_counter n) 0x128 _ (omega arith, omega arith)
+    (λ _. tested (not (is_empty d) && not (bytes_eq d composite)) 0x1C4 (omega arith, omega arith)))
 
 define_checked : (there : Option Counter) (n : ℕ) (auth : List ℕ) (public : NvPublic) → IfErr (check_define there n auth public)
 define_checked there n auth public =
-    test_first (not (is_definable public.attrs)) 0x2C2 _ (omega arith, omega arith) (λ _. test_first (nat_lt (digest_len public.alg) (length (trim auth))) 0x1D5 _ (omega arith, omega arith) (λ _. test_first (not (is_empty public.policy) && not (length public.policy == digest_len public.alg)) 0x2D5 _ (omega arith, omega arith) (λ _. test_first (not (public.data_size == counter_size)) 0x2D5 _ (omega arith, omega arith) (λ _. test_first (is_some there) 0x14C _ (omega arith, omega arith) (λ _. tested (nat_le most_counters n) 0x14B (omega arith, omega arith))))))
+    test_first (not (is_definable public.attrs)) 0x2C2 _ (omega arith, omega arith)
+    (λ _.
+    test_first (nat_lt (digest_len public.alg) (length (trim auth))) 0x1D5 _ (omega arith, omega arith)
+    (λ _.
+    test_first (not (is_empty public.policy) && not (length public.policy == digest_len public.alg)) 0x2D5 _ (omega arith, omega arith)
+    (λ _.
+    test_first (not (public.data_size == counter_size)) 0x2D5 _ (omega arith, omega arith)
+    (λ _.
+    test_first (is_some there) 0x14C _ (omega arith, omega arith)
+    (λ _. tested (nat_le most_counters n) 0x14B (omega arith, omega arith))))))
 
 increment_checked : (most : ℕ) (there : Option Counter) (by : NvAuthHandle) (i : ℕ) → IfErr (increment most there by i)
 increment_checked most there by i = next_too (defined_counter there) _ (looked_up there _ (omega arith, omega arith)) (λ c.
-    test_first (not (may by (owner_writes c.public.attrs) i)) 0x149 _ (omega arith, omega arith) (λ _. test_first (nat_le (2 ^ 64) (next_value most c.value)) 0x146 _ (omega arith, omega arith) (λ _. not_refused {x = next_value most c.value})))
+    test_first (not (may by (owner_writes c.public.attrs) i)) 0x149 _ (omega arith, omega arith)
+    (λ _. test_first (nat_le (2 ^ 64) (next_value most c.value)) 0x146 _ (omega arith, omega arith) (λ _. not_refused {x = next_value most c.value})))
 
 read_checked : (there : Option Counter) (by : NvAuthHandle) (i size offset : ℕ) → IfErr (read_counter there by i size offset)
 read_checked there by i size offset = next_too (defined_counter there) _ (looked_up there _ (omega arith, omega arith)) (λ c.
-    test_first (not (may by (owner_reads c.public.attrs) i)) 0x149 _ (omega arith, omega arith) (λ _. next_too (ok_or c.value 0x14A) _ (looked_up c.value 0x14A (omega arith, omega arith)) (λ v. test_first (nat_lt counter_size (offset + size)) 0x146 _ (omega arith, omega arith) (λ _. not_refused {x = take size (drop offset (to_be_bytes w64 v))}))))
+    test_first (not (may by (owner_reads c.public.attrs) i)) 0x149 _ (omega arith, omega arith)
+    (λ _. next_too (ok_or c.value 0x14A) _ (looked_up c.value 0x14A (omega arith, omega arith)) (λ v.
+    test_first (nat_lt counter_size (offset + size)) 0x146 _ (omega arith, omega arith) (λ _. not_refused {x = take size (drop offset (to_be_bytes w64 v))}))))
 
 session_started : (sessions : List (Option Session)) (s : StartAuth) (n : List ℕ) → Gives (bodies.StartAuthSession s) (start_session sessions s n)
 session_started sessions s n =
-    behind (bodies.StartAuthSession s) (refuse (nat_lt (length s.nonce_caller) 16 || nat_lt (digest_len s.auth_hash) (length s.nonce_caller)) 0x1D5) _ (tested _ _ (omega arith, omega arith)) (λ _.
-    behind (bodies.StartAuthSession s) (ok_or (free_slot sessions) 0x903) _ (looked_up (free_slot sessions) 0x903 (omega arith, omega arith)) (λ k. answers refl))
+    behind (bodies.StartAuthSession s) (refuse (nat_lt (length s.nonce_caller) 16 || nat_lt (digest_len s.auth_hash) (length s.nonce_caller)) 0x1D5) _
+    (tested _ _ (omega arith, omega arith)) (λ _.
+    behind (bodies.StartAuthSession s) (ok_or (free_slot sessions) 0x903) _ (looked_up (free_slot sessions) 0x903 (omega arith, omega arith))
+    (λ k. answers refl))
 
-in_policy : (body : CommandBody) (p : Present) (handle : ℕ) (f : Session → Result ReplyBody ℕ) → ((s : Session) → Gives body (f s)) → Gives body (policy_session (loaded p.sessions handle) >>= f)
+in_policy : (body : CommandBody) (p : Present) (handle : ℕ) (f : Session → Result ReplyBody ℕ) → ((s : Session) → Gives body (f s))
+    → Gives body (policy_session (loaded p.sessions handle) >>= f)
 in_policy body p handle f d = behind body (policy_session (loaded p.sessions handle)) f (looked_up (loaded p.sessions handle) _ (omega arith, omega arith)) d
 
 pub gives : (p : Present) (body : CommandBody) (n : List ℕ) → Gives body (action p body n)
@@ -181,8 +198,11 @@ gives p (bodies.PolicyGetDigest handle) n = in_policy _ p handle _ (λ s. answer
 gives p (bodies.NvDefineSpace auth public) n = replied _ _ _ (define_checked (counter_in p.nv.counters public.index) (length p.nv.counters) auth public) refl
 gives p (bodies.NvUndefineSpace index) n = replied _ _ _ (looked_up (counter_in p.nv.counters index) _ (omega arith, omega arith)) refl
 gives p (bodies.NvIncrement by index) n = replied _ _ _ (increment_checked p.nv.greatest (counter_in p.nv.counters index) by index) refl
-gives p (bodies.NvRead by index size offset) n = behind _ (read_counter (counter_in p.nv.counters index) by index size offset) _ (read_checked (counter_in p.nv.counters index) by index size offset) (λ _. answers refl)
-gives p (bodies.NvReadPublic index) n = behind _ (defined_counter (counter_in p.nv.counters index)) _ (looked_up (counter_in p.nv.counters index) _ (omega arith, omega arith)) (λ _. answers refl)
+gives p (bodies.NvRead by index size offset) n =
+    behind _ (read_counter (counter_in p.nv.counters index) by index size offset) _ (read_checked (counter_in p.nv.counters index) by index size offset)
+    (λ _. answers refl)
+gives p (bodies.NvReadPublic index) n =
+    behind _ (defined_counter (counter_in p.nv.counters index)) _ (looked_up (counter_in p.nv.counters index) _ (omega arith, omega arith)) (λ _. answers refl)
 
 -- What is not done is refused with a code.
 pub acted : (p : Present) (body : CommandBody) (n : List ℕ) → IfErr (action p body n)

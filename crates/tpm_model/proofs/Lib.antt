@@ -2,6 +2,7 @@ pub mod Accepted
 pub mod Cuts
 pub mod Runs
 pub mod Rising
+pub mod Restored
 pub mod Spelled
 pub mod Slots
 pub mod Nonces

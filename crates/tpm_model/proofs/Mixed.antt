@@ -93,8 +93,12 @@ session_opened : (w : Waiting) (body : ReplyBody) (auths : List AuthReply) (x : 
 session_opened w body (a ∷ []) x e =
     let b = bind_ok (unless (length a.nonce == length w.caller.nonce) NotExpected) _ x e in
     let c = bind_ok (unless (has_mac w body a) WrongMac) _ x b.2 in
-    let long = holds (length a.nonce == length w.caller.nonce) NotExpected b.0 b.1 in
-    (a, refl, (bytes_eq-Decides a.hmac (mac_of (keyed_awaited w body a))).0 (holds (has_mac w body a) WrongMac c.0 c.1), ap (λ t. if t then keyed_awaited w body a ∷ [] else []) long)
+    let long = holds (length a.nonce == length w.caller.nonce) NotExpected b.0 b.1 in (
+      a,
+      refl,
+      (bytes_eq-Decides a.hmac (mac_of (keyed_awaited w body a))).0 (holds (has_mac w body a) WrongMac c.0 c.1),
+      ap (λ t. if t then keyed_awaited w body a ∷ [] else []) long,
+    )
 session_opened w body _ x e = absurd (let z : ⊥ = cc in z)
 
 was_opened : (w : Waiting) (r : Result Response Refusal) (x : Opened) → opened_response w r ≡ Ok x → WasOpened w r
@@ -111,7 +115,8 @@ was_opened w _ x is = absurd (let z : ⊥ = cc in z)
 
 -- ---- how a command was authorized
 
-loaded_by : (is_word : Bool) (s : Option Session) (by : Authorizer) → (if is_word then Ok Password else by_session s) ≡ Ok by → (by ≡ Password) ⊎ ((y : Session) × (s ≡ Some y) × (by ≡ BySession y))
+loaded_by : (is_word : Bool) (s : Option Session) (by : Authorizer) → (if is_word then Ok Password else by_session s) ≡ Ok by
+    → (by ≡ Password) ⊎ ((y : Session) × (s ≡ Some y) × (by ≡ BySession y))
 loaded_by true s by e = inl (sym (ok_is Password by e))
 loaded_by false None by e = absurd (let z : ⊥ = cc in z)
 loaded_by false (Some y) by e = inr (y, refl, sym (ok_is (BySession y) by e))
@@ -133,7 +138,8 @@ Shape s auths evidence = (evidence ≡ NotAsked)
     ⊎ (((a : Auth) × (wanted : List ℕ) × (auths ≡ a ∷ []) × (evidence ≡ ByPassword (trim a.hmac) wanted))
     ⊎ ((x : Signed) × (auths ≡ x.auth ∷ []) × (s ≡ Some x.session) × (evidence ≡ ByMac x)))
 
-shape : (s : Option Session) (e : Entity) (code : CommandCode) (names : List (List ℕ)) (params : List ℕ) (update_counter : ℕ) (auths : List Auth) (evidence : Evidence)
+shape : (s : Option Session) (e : Entity) (code : CommandCode) (names : List (List ℕ)) (params : List ℕ) (update_counter : ℕ) (auths : List Auth)
+    (evidence : Evidence)
     → evidence_of s e code names params update_counter auths ≡ Ok evidence → Shape s auths evidence
 shape s e code names params update_counter [] evidence is = inl (sym (ok_is NotAsked evidence is))
 shape s e code names params update_counter (a ∷ others) evidence is =
@@ -144,7 +150,13 @@ shape s e code names params update_counter (a ∷ others) evidence is =
     let made : evidence ≡ evidence_by b.0 e code names params a = sym (ok_is (evidence_by b.0 e code names params a) evidence d.2) in
     elim (loaded_by (a.session == rs_pw) s b.0 b.1) [
       | inl word ↦ inr (inl (a, auth_value e, one, made ∙ ap (λ z. evidence_by z e code names params a) word))
-      | inr q ↦ inr (inr (record { session = q.0; key = key_for q.0 e; p_hash = cp_hash q.0.hash (code_number code) names params; auth = a }, one, q.1, made ∙ ap (λ z. evidence_by z e code names params a) q.2))
+      | inr q ↦ inr
+          (inr (
+            record { session = q.0; key = key_for q.0 e; p_hash = cp_hash q.0.hash (code_number code) names params; auth = a },
+            one,
+            q.1,
+            made ∙ ap (λ z. evidence_by z e code names params a) q.2,
+          ))
     ]
 
 -- ---- the bytes of a reply with one session
@@ -157,14 +169,16 @@ tail_is : (handles size params s : List ℕ) → handles ≡ [] → (handles ++ 
 tail_is handles size params s none = rw none (simp append-nil)
 
 pub one_reply : (r : ReplyBody) (a : AuthReply) → spelling (reply_handles (code_for_reply r)) (reply_handles_of r) ≡ []
-    → spelling (response (code_for_reply r)) (done_body r (a ∷ [])) ≡ reply_bytes (size_of_response (code_for_reply r) (done_body r (a ∷ []))) (reply_params r) a.nonce a.attrs a.hmac []
+    → spelling (response (code_for_reply r)) (done_body r (a ∷ []))
+    ≡ reply_bytes (size_of_response (code_for_reply r) (done_body r (a ∷ []))) (reply_params r) a.nonce a.attrs a.hmac []
 unfolding response response_front response_tag command_size response_code with_sessions parameter_size reply_sessions further_sessions
 one_reply r a none =
     let size = size_of_response (code_for_reply r) (done_body r (a ∷ [])) in
     let params = reply_params r in
     let four = bytes_high_first 4 (length params) in
     ap (λ (t : List ℕ). bytes_high_first 2 0x8002 ++ (bytes_high_first 4 size ++ (bytes_high_first 4 0 ++ t)))
-    (tail_is (spelling (reply_handles (code_for_reply r)) (reply_handles_of r)) four params (spelling auth_response a) none ∙ ap (λ (t : List ℕ). four ++ (params ++ t)) (session_is a))
+    (tail_is (spelling (reply_handles (code_for_reply r)) (reply_handles_of r)) four params (spelling auth_response a) none
+    ∙ ap (λ (t : List ℕ). four ++ (params ++ t)) (session_is a))
 
 no_reply_tag : (c : CommandCode) (r : ReplyBody) → number_of (take 2 (spelling (response c) (done_body r []))) ≡ 0x8001
 unfolding response response_front response_tag
@@ -178,10 +192,12 @@ among_left x (y ∷ xs) ys (inl e) = inl e
 among_left x (y ∷ xs) ys (inr i) = inr (among_left x xs ys i)
 
 among_reply : (o : Origin) (h : History) (es fs : List Event) (bytes n : List ℕ) (x : Keyed)
-    → text_replied (presented (present o (after o h es)) bytes) (outcome (present o (after o h es)) bytes n) n ≡ x ∷ [] → IsAmong x (texts_replied o h (es ++ Given bytes n ∷ fs))
+    → text_replied (presented (present o (after o h es)) bytes) (outcome (present o (after o h es)) bytes n) n ≡ x ∷ []
+    → IsAmong x (texts_replied o h (es ++ Given bytes n ∷ fs))
 among_reply o h [] fs bytes n x e = subst (λ xs. IsAmong x (xs ++ texts_replied o (next o h bytes n) fs)) (sym e) (inl refl)
 among_reply o h (Given b m ∷ es) fs bytes n x e =
-    among_later x (text_replied (presented (present o h) b) (outcome (present o h) b m) m) (texts_replied o (next o h b m) (es ++ Given bytes n ∷ fs)) (among_reply o (next o h b m) es fs bytes n x e)
+    among_later x (text_replied (presented (present o h) b) (outcome (present o h) b m) m) (texts_replied o (next o h b m) (es ++ Given bytes n ∷ fs))
+    (among_reply o (next o h b m) es fs bytes n x e)
 among_reply o h (Cycled ∷ es) fs bytes n x e = among_reply o (PowerCycle ∷ h) es fs bytes n x e
 
 abbrev text_at : Opening → List Keyed
@@ -219,10 +235,12 @@ last_cut u v f g e =
     sym (take_at u (f ∷ []) (length u) refl) ∙ ap (take (length u)) e ∙ take_at v (g ∷ []) (length u) long
 
 -- Equal MACs of replies with one nonceTPM have one nonceCaller.
-one_caller : (a b : Keyed) (p q newer other u v : List ℕ) (f g : ℕ) → mac_of a ≡ mac_of b → a.text ≡ b.text → a.text ≡ digest a.hash p ++ (newer ++ (u ++ f ∷ [])) → b.text ≡ digest b.hash q ++ (other ++ (v ++ g ∷ []))
+one_caller : (a b : Keyed) (p q newer other u v : List ℕ) (f g : ℕ) → mac_of a ≡ mac_of b → a.text ≡ b.text
+    → a.text ≡ digest a.hash p ++ (newer ++ (u ++ f ∷ [])) → b.text ≡ digest b.hash q ++ (other ++ (v ++ g ∷ []))
     → newer ≡ other → u ≡ v
 one_caller a b p q newer other u v f g mac text left right same =
-    let lengths = length-digest a.hash p ∙ sym (length-hmac a.hash a.key a.text) ∙ ap length mac ∙ length-hmac b.hash b.key b.text ∙ sym (length-digest b.hash q) in
+    let lengths =
+    length-digest a.hash p ∙ sym (length-hmac a.hash a.key a.text) ∙ ap length mac ∙ length-hmac b.hash b.key b.text ∙ sym (length-digest b.hash q) in
     let cut = cut_front (digest a.hash p) (digest b.hash q) (newer ++ (u ++ f ∷ [])) (other ++ (v ++ g ∷ [])) lengths (sym left ∙ text ∙ right) in
     last_cut u v f g (append_cancel_left newer (u ++ f ∷ []) (v ++ g ∷ []) (cut ∙ ap (λ (m : List ℕ). m ++ (v ++ g ∷ [])) (sym same)))
 
@@ -241,7 +259,8 @@ step_lists o h bytes n s d t auths is =
     let code = code_for s.body in
     let same : answer o h bytes n ≡ spelling (response (code_for d.command.body)) (done_body d.reply.body auths) =
     ap answered t.is ∙ ap (λ (l : List AuthReply). spelling (response (code_for d.command.body)) (done_body d.reply.body l)) is in
-    listed code (spelling (response (code_for d.command.body)) (done_body d.reply.body auths)) t.opening.body (t.opening.auth ∷ []) t.needs (ap (read_all (response code)) (sym same) ∙ t.opening.is)
+    listed code (spelling (response (code_for d.command.body)) (done_body d.reply.body auths)) t.opening.body (t.opening.auth ∷ []) t.needs
+    (ap (read_all (response code)) (sym same) ∙ t.opening.is)
 
 open_some : (w : Waiting) (r : Result Response Refusal) (t : WasOpened w r) → 0 < length t.auth.hmac
 open_some w r t = subst (λ (m : List ℕ). 0 < length m) (sym t.mac) (hmac_some w.caller.hash w.key (awaited_text w t.body t.auth))
@@ -253,22 +272,29 @@ never_none o h bytes n s d t none =
     let z : ⊥ = cc in z
 
 -- The nonce and the HMAC that were read are those of the reply.
-step_read : (o : Origin) (h : History) (bytes n : List ℕ) (s : Seal) (d : Done) (t : Step o h bytes n s d) (done : Passed (present o h) bytes n d) (auth : Auth) (a : AuthReply)
-    → done.x.auths ≡ auth ∷ [] → d.reply.auths ≡ a ∷ [] → length a.nonce ≤ most_nonce → length a.hmac ≤ most_nonce → (t.opening.auth.nonce ≡ a.nonce) × (t.opening.auth.hmac ≡ a.hmac)
+step_read : (o : Origin) (h : History) (bytes n : List ℕ) (s : Seal) (d : Done) (t : Step o h bytes n s d) (done : Passed (present o h) bytes n d) (auth : Auth)
+    (a : AuthReply)
+    → done.x.auths ≡ auth ∷ [] → d.reply.auths ≡ a ∷ [] → length a.nonce ≤ most_nonce → length a.hmac ≤ most_nonce
+    → (t.opening.auth.nonce ≡ a.nonce) × (t.opening.auth.hmac ≡ a.hmac)
 step_read o h bytes n s d t done auth a one is few_nonce few_hmac =
     let needs = by_session_needs (present o h) bytes n d done auth one in
     let own = own_reply (present o h) d.command.body n d.reply.body needs done.act in
     let r = d.reply.body in
-    let same : spelling (response (code_for d.command.body)) (done_body r (a ∷ [])) ≡ reply_bytes (size_of_response (code_for_reply r) (done_body r (a ∷ []))) (reply_params r) a.nonce a.attrs a.hmac [] =
+    let same : spelling (response (code_for d.command.body)) (done_body r (a ∷ []))
+    ≡ reply_bytes (size_of_response (code_for_reply r) (done_body r (a ∷ []))) (reply_params r) a.nonce a.attrs a.hmac [] =
     ap (λ c. spelling (response c) (done_body r (a ∷ []))) own.code ∙ one_reply r a own.none in
-    one_session (size_of_response (code_for_reply r) (done_body r (a ∷ []))) (reply_params r) a.nonce a.attrs a.hmac [] t.opening.auth own.short few_nonce few_hmac
+    one_session (size_of_response (code_for_reply r) (done_body r (a ∷ []))) (reply_params r) a.nonce a.attrs a.hmac [] t.opening.auth own.short few_nonce
+    few_hmac
     (subst (λ (b : List ℕ). Lists (session_list b) (t.opening.auth ∷ [])) same (step_lists o h bytes n s d t (a ∷ []) is))
 
-never_word : (o : Origin) (h : History) (bytes n : List ℕ) (s : Seal) (d : Done) (t : Step o h bytes n s d) (done : Passed (present o h) bytes n d) (auth : Auth) (a : AuthReply)
+never_word : (o : Origin) (h : History) (bytes n : List ℕ) (s : Seal) (d : Done) (t : Step o h bytes n s d) (done : Passed (present o h) bytes n d)
+    (auth : Auth) (a : AuthReply)
     → done.x.auths ≡ auth ∷ [] → d.reply.auths ≡ a ∷ [] → length a.nonce ≤ most_nonce → a.hmac ≡ [] → ⊥
 never_word o h bytes n s d t done auth a one is few none =
     let r = step_read o h bytes n s d t done auth a one is few (omega (arith, ap length none)) in
-    let z : ⊥ = absurd (omega (arith, open_some (waiting s) (read_all (response (code_for s.body)) (answer o h bytes n)) t.opening, ap length r.1, ap length none)) in z
+    let z : ⊥ =
+    absurd (omega (arith, open_some (waiting s) (read_all (response (code_for s.body)) (answer o h bytes n)) t.opening, ap length r.1, ap length none)) in
+    z
 
 -- The HMAC of a command that passed is there.
 mac_there : (e : Entity) (y : Signed) → check_evidence e (ByMac y) ≡ Ok tt → needs_none y ≡ false → 0 < length y.auth.hmac
@@ -291,7 +317,8 @@ module _ (o : Origin) (seals : List Seal) (xs : List Opening) (es fs : List Even
     pub given : IsAmong s seals
     pub tried : IsAmong (record { seal = s; bytes = answer o before bytes n }) xs
 
-  by_mac : (d : Done) (g : OfRun) (t : Step o before bytes n s d) (done : Passed (present o before) bytes n d) (y : Signed) → done.x.auths ≡ y.auth ∷ [] → done.x.evidence ≡ ByMac y
+  by_mac : (d : Done) (g : OfRun) (t : Step o before bytes n s d) (done : Passed (present o before) bytes n d) (y : Signed) → done.x.auths ≡ y.auth ∷ []
+      → done.x.evidence ≡ ByMac y
       → loaded (sessions_at o before) y.auth.session ≡ Some y.session → length (nonce_next y.session n) ≤ most_nonce → needs_none y ≡ false → Own
   by_mac d g t done y one evidence is few signs =
       let p = present o before in
@@ -300,41 +327,66 @@ module _ (o : Origin) (seals : List Seal) (xs : List Opening) (es fs : List Even
       let params = reply_params d.reply.body in
       let a : AuthReply = record { nonce = nonce_next y.session n; attrs = y.auth.attrs; hmac = reply_mac y x.code params n } in
       let reply : d.reply.auths ≡ a ∷ [] = done.replied ∙ ap (λ z. reply_auths z x.code params n) evidence
-      ∙ ap (λ b. let c : AuthReply = record { nonce = nonce_next y.session n; attrs = y.auth.attrs; hmac = if b then [] else reply_mac y x.code params n } in c ∷ []) signs in
+      ∙ ap
+      (λ b.
+      let c : AuthReply = record { nonce = nonce_next y.session n; attrs = y.auth.attrs; hmac = if b then [] else reply_mac y x.code params n } in
+      c ∷ [])
+      signs in
       let k = keyed_reply y x.code params n in
       let q = keyed_awaited w t.opening.body t.opening.auth in
       let short : length a.hmac ≤ most_nonce = omega (arith, length-hmac y.session.hash y.key k.text, digest_most y.session.hash) in
       let read_it = step_read o before bytes n s d t done y.auth a one reply few short in
       let text : text_replied (presented p bytes) (outcome p bytes n) n ≡ k ∷ [] =
-      ap (λ z. text_replied z (outcome p bytes n) n) done.asked ∙ ap (λ z. text_replied (Ok x) z n) t.is ∙ ap (λ z. text_by z x.code params n) evidence ∙ ap (λ b. if b then [] else k ∷ []) signs in
+      ap (λ z. text_replied z (outcome p bytes n) n) done.asked ∙ ap (λ z. text_replied (Ok x) z n) t.is ∙ ap (λ z. text_by z x.code params n) evidence
+      ∙ ap (λ b. if b then [] else k ∷ []) signs in
       let checked = texts_checked o [] (es ++ Given bytes n ∷ fs) in
       let replied = texts_replied o [] (es ++ Given bytes n ∷ fs) in
       let among_k = among_later k checked (replied ++ texts_opened xs) (among_left k replied (texts_opened xs) (among_reply o [] es fs bytes n k text)) in
-      let among_q = among_later q checked (replied ++ texts_opened xs) (among_later q replied (texts_opened xs) (among_opened (record { seal = s; bytes = answer o before bytes n }) xs q g.tried t.opening.text)) in
+      let among_q =
+      among_later q checked (replied ++ texts_opened xs)
+      (among_later q replied (texts_opened xs) (among_opened (record { seal = s; bytes = answer o before bytes n }) xs q g.tried t.opening.text)) in
       let macs : mac_of q ≡ mac_of k = sym t.opening.mac ∙ read_it.1 in
       let texts = g.run.no_collision q k among_q among_k macs in
-      let nonce : s.nonce ≡ y.auth.nonce = one_caller q k (to_be_bytes w32 0 ++ (to_be_bytes w32 (code_number w.code) ++ reply_params t.opening.body)) (to_be_bytes w32 0 ++ (to_be_bytes w32 (code_number x.code) ++ params))
+      let nonce : s.nonce ≡ y.auth.nonce =
+      one_caller q k (to_be_bytes w32 0 ++ (to_be_bytes w32 (code_number w.code) ++ reply_params t.opening.body))
+      (to_be_bytes w32 0 ++ (to_be_bytes w32 (code_number x.code) ++ params))
       t.opening.auth.nonce (nonce_next y.session n) s.nonce y.auth.nonce t.opening.auth.attrs y.auth.attrs macs texts refl refl read_it.0 in
       let there = mac_there x.entity y (ap (check_evidence x.entity) (sym evidence) ∙ done.evidence) signs in
       let spelled = spelled_by p bytes n d done in
-      let seal = sealed_here o seals [] es fs bytes n g.run.sealed (d, t.is) (d.command, y.auth, spelled, done.auths ∙ one, loaded_handle p.sessions y.auth.session y.session is, there) in
-      let same : d.command ≡ sealed_command seal.0 = (exactly_one buffer buffer_sound command bytes).one_value d.command (sealed_command seal.0) spelled seal.2 in
+      let seal =
+      sealed_here o seals [] es fs bytes n g.run.sealed (d, t.is)
+      (d.command, y.auth, spelled, done.auths ∙ one, loaded_handle p.sessions y.auth.session y.session is, there) in
+      let same : d.command ≡ sealed_command seal.0 =
+      (exactly_one buffer buffer_sound command bytes).one_value d.command (sealed_command seal.0) spelled seal.2 in
       let auth : y.auth ≡ seal_auth seal.0 = head_is y.auth (seal_auth seal.0) [] (sym (done.auths ∙ one) ∙ ap (λ (c : Command). c.auths.items) same) in
       let its = same_seal seals s seal.0 g.run.differ g.given seal.1 (nonce ∙ ap (λ (b : Auth). b.nonce) auth) in
-      let session = loaded_handle p.sessions y.auth.session y.session is in
-      (subst (λ (z : Seal). Spells command (sealed_command z) bytes) (sym its) seal.2, subst (λ (z : Seal). is_session z.caller.handle ≡ true) (sym its) (ap (λ (b : Auth). is_session b.session) (sym auth) ∙ session))
+      let session = loaded_handle p.sessions y.auth.session y.session is in (
+        subst (λ (z : Seal). Spells command (sealed_command z) bytes) (sym its) seal.2,
+        subst (λ (z : Seal). is_session z.caller.handle ≡ true) (sym its) (ap (λ (b : Auth). is_session b.session) (sym auth) ∙ session),
+      )
 
-  by_signed : (d : Done) (g : OfRun) (t : Step o before bytes n s d) (done : Passed (present o before) bytes n d) (y : Signed) → done.x.auths ≡ y.auth ∷ [] → done.x.evidence ≡ ByMac y
+  by_signed : (d : Done) (g : OfRun) (t : Step o before bytes n s d) (done : Passed (present o before) bytes n d) (y : Signed) → done.x.auths ≡ y.auth ∷ []
+      → done.x.evidence ≡ ByMac y
       → loaded (sessions_at o before) y.auth.session ≡ Some y.session → Own
   by_signed d g t done y one evidence is =
       let x = done.x in
       let params = reply_params d.reply.body in
       let session = held o before y.auth.session y.session is in
-      let few : length (nonce_next y.session n) ≤ most_nonce = omega (arith, length-take y.session.nonce_length n, ap (λ (z : Session). z.nonce_length) session.is, (has_length o es y.auth.session y.session session).1) in
+      let few : length (nonce_next y.session n) ≤ most_nonce =
+      omega (
+        arith,
+        length-take y.session.nonce_length n,
+        ap (λ (z : Session). z.nonce_length) session.is,
+        (has_length o es y.auth.session y.session session).1,
+      )
+      in
       elim (needs_none y) as (λ b. needs_none y ≡ b → Own) [
         | true ↦ λ none. absurd (never_word o before bytes n s d t done y.auth (record { nonce = nonce_next y.session n; attrs = y.auth.attrs; hmac = [] }) one
             (done.replied ∙ ap (λ z. reply_auths z x.code params n) evidence
-            ∙ ap (λ b. let c : AuthReply = record { nonce = nonce_next y.session n; attrs = y.auth.attrs; hmac = if b then [] else reply_mac y x.code params n } in c ∷ []) none) few refl)
+            ∙ ap (λ b.
+            let c : AuthReply = record { nonce = nonce_next y.session n; attrs = y.auth.attrs; hmac = if b then [] else reply_mac y x.code params n } in
+            c ∷ []) none)
+            few refl)
         | false ↦ λ signs. by_mac d g t done y one evidence is few signs
       ] refl
 
@@ -345,20 +397,29 @@ module _ (o : Origin) (seals : List Seal) (xs : List Opening) (es fs : List Even
       let x = done.x in
       let params = reply_params d.reply.body in
       let r = was_read p bytes x done.asked in
-      elim (shape (first_loaded (loaded p.sessions) x.auths) (entity_of p (first x.handles)) x.code (names_of p x.handles) x.params p.registers.update_counter x.auths x.evidence r.evidence) [
+      elim
+      (shape (first_loaded (loaded p.sessions) x.auths) (entity_of p (first x.handles)) x.code (names_of p x.handles) x.params p.registers.update_counter
+      x.auths x.evidence r.evidence) [
         | inl none ↦ absurd (never_none o before bytes n s d t (done.replied ∙ ap (λ z. reply_auths z x.code params n) none))
-        | inr (inl (auth, wanted, one, evidence)) ↦ absurd (never_word o before bytes n s d t done auth password_reply one (done.replied ∙ ap (λ z. reply_auths z x.code params n) evidence) (omega arith) refl)
+        | inr (inl (auth, wanted, one, evidence)) ↦ absurd
+            (never_word o before bytes n s d t done auth password_reply one
+            (done.replied ∙ ap (λ z. reply_auths z x.code params n) evidence) (omega arith) refl)
         | inr (inr (y, one, is, evidence)) ↦ by_signed d g t done y one evidence (ap (first_loaded (loaded p.sessions)) (sym one) ∙ is)
       ]
 
   -- A reply that is opened was that of an accepted buffer, its own.
-  pub own : OfRun → needs_authorization (code_for s.body) ≡ true → (w : Opened) → opened (waiting s) (answer o before bytes n) ≡ Ok w → IsAccepted o before bytes n × Own
+  pub own : OfRun → needs_authorization (code_for s.body) ≡ true → (w : Opened) → opened (waiting s) (answer o before bytes n) ≡ Ok w
+      → IsAccepted o before bytes n × Own
   own g needs w is =
       let r = read_all (response (code_for s.body)) (answer o before bytes n) in
       let t = was_opened (waiting s) r w is in
       elim (outcome (present o before) bytes n) as (λ z. outcome (present o before) bytes n ≡ z → IsAccepted o before bytes n × Own) [
         | Ok d ↦ λ e. ((d, e), own_step d g (record { is = e; needs = needs; opening = t }))
-        | Err code ↦ λ e. absurd (let both : read_ok (responses.Code code) ≡ Ok (done_body t.body (t.auth ∷ [])) = sym (refused_read o before (code_for s.body) bytes n code e) ∙ t.is in let z : ⊥ = cc in z)
+        | Err code ↦
+            λ e.
+            absurd (let both : read_ok (responses.Code code) ≡ Ok (done_body t.body (t.auth ∷ [])) =
+            sym (refused_read o before (code_for s.body) bytes n code e) ∙ t.is in
+            let z : ⊥ = cc in z)
       ] refl
 
 -- ---- the laws
@@ -376,12 +437,15 @@ fewer o es xs free x y i j =
     free x y (among_left x (texts_checked o [] es) others i) (among_left y (texts_checked o [] es) others j)
 
 pub one_reply_alone : (o : Origin) (seals : List Seal) (xs : List Opening) (es fs gs : List Event) (bytes other n m : List ℕ) (s : Seal) (w v : Opened)
-    → NoncesDiffer (es ++ Given bytes n ∷ fs ++ Given other m ∷ gs) → IsOfCallers o seals xs (es ++ Given bytes n ∷ fs ++ Given other m ∷ gs) → IsAmong s seals → needs_authorization (code_for s.body) ≡ true
-    → IsAmong (record { seal = s; bytes = answer o (after o [] es) bytes n }) xs → IsAmong (record { seal = s; bytes = answer o (after o [] (es ++ Given bytes n ∷ fs)) other m }) xs
+    → NoncesDiffer (es ++ Given bytes n ∷ fs ++ Given other m ∷ gs) → IsOfCallers o seals xs (es ++ Given bytes n ∷ fs ++ Given other m ∷ gs) → IsAmong s seals
+    → needs_authorization (code_for s.body) ≡ true
+    → IsAmong (record { seal = s; bytes = answer o (after o [] es) bytes n }) xs
+    → IsAmong (record { seal = s; bytes = answer o (after o [] (es ++ Given bytes n ∷ fs)) other m }) xs
     → opened (waiting s) (answer o (after o [] es) bytes n) ≡ Ok w → opened (waiting s) (answer o (after o [] (es ++ Given bytes n ∷ fs)) other m) ≡ Ok v → ⊥
 one_reply_alone o seals xs es fs gs bytes other n m s w v nonces run given needs tried also is both =
     let first_run = subst (IsOfCallers o seals xs) (append_assoc es (Given bytes n ∷ fs) (Given other m ∷ gs)) run in
     let a = own o seals xs es (fs ++ Given other m ∷ gs) bytes n s (record { run = first_run; given = given; tried = tried }) needs w is in
     let b = own o seals xs (es ++ Given bytes n ∷ fs) gs other m s (record { run = run; given = given; tried = also }) needs v both in
-    twice_as o es fs gs bytes other n m (sealed_command s) (seal_auth s) nonces (fewer o (es ++ Given bytes n ∷ fs ++ Given other m ∷ gs) xs run.no_collision) a.1.0 b.1.0 refl a.1.1
+    twice_as o es fs gs bytes other n m (sealed_command s) (seal_auth s) nonces (fewer o (es ++ Given bytes n ∷ fs ++ Given other m ∷ gs) xs run.no_collision)
+    a.1.0 b.1.0 refl a.1.1
     (hmac_some s.caller.hash (seal_key s) (seal_text s)) a.0 b.0

@@ -68,7 +68,8 @@ last_by false false live false n old l = inr (l, refl)
 
 pub last_step : (k : ℕ) (h : History) (c : Command) (r : Reply) (n : List ℕ) → lives k (Accepted c r n ∷ h) ≡ true →
     (last_nonce k (Accepted c r n ∷ h) ≡ n) ⊎ ((lives k h ≡ true) × (last_nonce k (Accepted c r n ∷ h) ≡ last_nonce k h))
-last_step k h c r n l = last_by (begins k c.body r.body) (authorizes k c.auths.items) (lives k h) (clears k c.body || closes k c.auths.items) n (last_nonce k h) l
+last_step k h c r n l =
+    last_by (begins k c.body r.body) (authorizes k c.auths.items) (lives k h) (clears k c.body || closes k c.auths.items) n (last_nonce k h) l
 
 abbrev Or : (List ℕ → Type 0) → List ℕ → List ℕ → Type 0
 Or S n x = S x ⊎ (x ≡ n)
@@ -100,7 +101,8 @@ HasStart (Some s) = HasLength s.request
 abbrev IsSound : ℕ → History → Type 0
 IsSound k h = lives k h ≡ true → HasStart (start_of k h)
 
-sound_by : (begin : Option StartAuth) (live gone : Bool) (n : List ℕ) (old : Option Start) → ((q : StartAuth) → begin ≡ Some q → HasLength q) → (live ≡ true → HasStart old)
+sound_by : (begin : Option StartAuth) (live gone : Bool) (n : List ℕ) (old : Option Start) → ((q : StartAuth) → begin ≡ Some q → HasLength q)
+    → (live ≡ true → HasStart old)
     → (is_some begin || (if gone then false else live)) ≡ true → HasStart (started_by begin n old)
 sound_by (Some q) live gone n old f g l = f q refl
 sound_by None live true n old f g l = absurd (let k : ⊥ = cc in k)
@@ -124,7 +126,8 @@ begun_same k s q _ e = absurd (let z : ⊥ = cc in z)
 start_by : (o : Origin) (h : History) (k : ℕ) (body : CommandBody) (n : List ℕ) (reply : ReplyBody) (q : StartAuth)
     → action (present o h) body n ≡ Ok reply → begun k body reply ≡ Some q → HasLength q
 start_by o h k (bodies.StartAuthSession s) n reply q e b =
-    let f = bind_ok (refuse (nat_lt (length s.nonce_caller) 16 || nat_lt (digest_len s.auth_hash) (length s.nonce_caller)) (rc_size + of_parameter 1)) _ reply e in
+    let f =
+    bind_ok (refuse (nat_lt (length s.nonce_caller) 16 || nat_lt (digest_len s.auth_hash) (length s.nonce_caller)) (rc_size + of_parameter 1)) _ reply e in
     let g = bounds (length s.nonce_caller) (digest_len s.auth_hash) (rc_size + of_parameter 1) f.1 in
     subst HasLength (begun_same k s q reply b) (g.0, omega (arith, g.1, digest_most s.auth_hash))
 start_by o h k _ n reply q e b = absurd (let z : ⊥ = cc in z)

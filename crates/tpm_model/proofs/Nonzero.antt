@@ -44,7 +44,8 @@ goes_on : {A B : Type 0} (r : Result A Refusal) (f : A → Result B Refusal) →
 goes_on (Ok x) f c d = d x
 goes_on (Err e) f c d = c
 
-not_lacking : {A : Type 0} (mark at n left : ℕ) (h : Here) (next : Result A Refusal) → mark < 2 ^ 16 → IfRefused next → IfRefused (unless buffer (too_few mark at n left) mark h next)
+not_lacking : {A : Type 0} (mark at n left : ℕ) (h : Here) (next : Result A Refusal) → mark < 2 ^ 16 → IfRefused next
+    → IfRefused (unless buffer (too_few mark at n left) mark h next)
 not_lacking mark at n left h next m c = go (nat_lt left n)
   where
     go : (b : Bool) → IfRefused (unless buffer (if b then Some rc_insufficient else None) mark h next)
@@ -64,9 +65,11 @@ each_entry : {A : Type 0} (most n : ℕ) (before : List A) (stops : Bool) (one :
 each_entry most zero before stops one room c h = tt
 each_entry most (suc n) before stops one room c h =
     or_stop (stops && length h.rest == 0) (Ok (before, h)) (one before h >>= λ x. entries n (before ++ x.0 ∷ []) stops one x.1) tt
-    (goes_on (one before h) _ (c before h (omega (arith, room))) (λ x. each_entry most n (before ++ x.0 ∷ []) stops one (omega (arith, room, length-append before (x.0 ∷ []))) c x.1))
+    (goes_on (one before h) _ (c before h (omega (arith, room)))
+    (λ x. each_entry most n (before ++ x.0 ∷ []) stops one (omega (arith, room, length-append before (x.0 ∷ []))) c x.1))
 
-at_end : {A : Type 0} (done : Bool) (x : A × Here) (fault mark : ℕ) (h : Here) → mark < 2 ^ 16 → IsCode fault → IfRefused (if done then Ok x else refuse buffer mark fault h)
+at_end : {A : Type 0} (done : Bool) (x : A × Here) (fault mark : ℕ) (h : Here) → mark < 2 ^ 16 → IsCode fault
+    → IfRefused (if done then Ok x else refuse buffer mark fault h)
 at_end true x fault mark h m c = tt
 at_end false x fault mark h m c = with_added fault mark c m
 
@@ -76,15 +79,18 @@ read_coded mark (done x) h m c = tt
 read_coded mark (number width meaning number_for fault) h m c =
     let n = number_of (take width h.rest) in
     let left = length h.rest - width in
-    not_lacking mark h.at width (length h.rest) h (found buffer (or_fault (meaning left n) fault) width mark h) m (judged (or_fault (meaning left n) fault) width mark h m (c left n))
+    not_lacking mark h.at width (length h.rest) h (found buffer (or_fault (meaning left n) fault) width mark h) m
+    (judged (or_fault (meaning left n) fault) width mark h m (c left n))
 read_coded mark (text n judge text_for) h m c =
     not_lacking mark h.at n (length h.rest) h (found buffer (judge (take n h.rest)) n mark h) m (judged (judge (take n h.rest)) n mark h m (c (take n h.rest)))
-read_coded mark (field get l f) h m c = goes_on (read mark l h) (λ x. read mark (f x.0) x.1) (read_coded mark l h m c.0) (λ x. read_coded mark (f x.0) x.1 m (c.1 x.0))
+read_coded mark (field get l f) h m c =
+    goes_on (read mark l h) (λ x. read mark (f x.0) x.1) (read_coded mark l h m c.0) (λ x. read_coded mark (f x.0) x.1 m (c.1 x.0))
 read_coded mark (area n fault l) h m c =
     let inside : Here = record { rest = take n h.rest; at = h.at } in
     not_lacking mark h.at n (length h.rest) h (read mark l inside >>= λ x. if length x.1.rest == 0 then Ok (x.0, past n h) else refuse buffer mark fault x.1) m
     (goes_on (read mark l inside) _ (read_coded mark l inside m c.1) (λ x. at_end (length x.1.rest == 0) (x.0, past n h) fault mark x.1 m c.0))
-read_coded mark (list most stops l) h m c = each_entry most most [] stops (λ before. read mark (l before)) (omega arith) (λ before g room. read_coded mark (l before) g m (c before room)) h
+read_coded mark (list most stops l) h m c =
+    each_entry most most [] stops (λ before. read mark (l before)) (omega arith) (λ before g room. read_coded mark (l before) g m (c before room)) h
 read_coded mark (by_left f) h m c = read_coded mark (f (length h.rest)) h m (c (length h.rest))
 read_coded mark (marked n l) h m c = read_coded n l h c.0 c.1
 

@@ -63,12 +63,14 @@ passed_not : (b : Bool) (code : ℕ) → test b code ≡ Ok tt → b ≡ false
 passed_not true code e = absurd (let z : ⊥ = cc in z)
 passed_not false code e = refl
 
-none_needed : (needs : Bool) (t : ℕ) → (if needs then test (t == 0x8001) rc_auth_missing else test (t == 0x8002) rc_auth_context) ≡ Ok tt → needs ≡ false → (t == 0x8002) ≡ false
+none_needed : (needs : Bool) (t : ℕ) → (if needs then test (t == 0x8001) rc_auth_missing else test (t == 0x8002) rc_auth_context) ≡ Ok tt → needs ≡ false
+    → (t == 0x8002) ≡ false
 none_needed true t c not = absurd (let z : ⊥ = cc in z)
 none_needed false t c not = passed_not (t == 0x8002) rc_auth_context c
 
 -- A command that needs no authorization has no session.
-pub no_session_read : (code : CommandCode) (t : ℕ) (h : Here) (auths : List Auth) (g : Here) → check_tag code t ≡ Ok tt → read 0 (authorization t) h ≡ Ok (auths, g)
+pub no_session_read : (code : CommandCode) (t : ℕ) (h : Here) (auths : List Auth) (g : Here) → check_tag code t ≡ Ok tt
+    → read 0 (authorization t) h ≡ Ok (auths, g)
     → needs_authorization code ≡ false → auths ≡ []
 no_session_read code t h auths g tag reads not = no_area t h (auths, g) (none_needed (needs_authorization code) t tag not) reads
 
@@ -76,8 +78,10 @@ pub needs_it : (needs : Bool) (auths : List Auth) (a : Auth) (others : List Auth
 needs_it true auths a others none is = refl
 needs_it false auths a others none is = let e : [] ≡ a ∷ others = sym (none refl) ∙ is in absurd (cc)
 
-pub by_session_needs : (p : Present) (bytes n : List ℕ) (d : Done) (s : Passed p bytes n d) (a : Auth) → s.x.auths ≡ a ∷ [] → needs_authorization (code_for d.command.body) ≡ true
+pub by_session_needs : (p : Present) (bytes n : List ℕ) (d : Done) (s : Passed p bytes n d) (a : Auth) → s.x.auths ≡ a ∷ []
+    → needs_authorization (code_for d.command.body) ≡ true
 by_session_needs p bytes n d s a one =
     let r = was_read p bytes s.x s.asked in
     ap needs_authorization (own_code p bytes n d s ∙ r.code)
-    ∙ needs_it (needs_authorization r.before.header.code) r.before.auths a [] (no_session_read r.before.header.code r.before.header.tag r.area r.before.auths r.place r.tag r.listed) (sym r.auths ∙ one)
+    ∙ needs_it (needs_authorization r.before.header.code) r.before.auths a []
+    (no_session_read r.before.header.code r.before.header.tag r.area r.before.auths r.place r.tag r.listed) (sym r.auths ∙ one)

@@ -66,7 +66,9 @@ same_list ns ms g h e = let both : (ns, g) ≡ (ms, h) = cc in ap (λ (x : List 
 as_many_kinds : (i : ℕ) (kinds : List HandleKind) (h : Here) (x : List ℕ × Here) → read 0 (handles_from i kinds) h ≡ Ok x → length x.0 ≡ length kinds
 as_many_kinds i [] h x e = ap length (sym (same_list [] x.0 h x.1 e))
 as_many_kinds i (kind ∷ kinds) h x e =
-    let a = bind_ok (read 0 (numbered (of_handle i) (number_in 4 (admits kind) rc_value)) h) (λ y. read 0 (handles_from (i + 1) kinds) y.1 >>= λ z. handles_read (y.0 ∷ z.0) z.1) x e in
+    let a =
+    bind_ok (read 0 (numbered (of_handle i) (number_in 4 (admits kind) rc_value)) h)
+    (λ y. read 0 (handles_from (i + 1) kinds) y.1 >>= λ z. handles_read (y.0 ∷ z.0) z.1) x e in
     let b = bind_ok (read 0 (handles_from (i + 1) kinds) a.0.1) (λ z. handles_read (a.0.0 ∷ z.0) z.1) x a.2 in
     let rest = as_many_kinds (i + 1) kinds a.0.1 b.0 b.1 in
     ap length (sym (same_list (a.0.0 ∷ b.0.0) x.0 b.0.1 x.1 b.2)) ∙ ap suc rest
@@ -81,7 +83,10 @@ tag_checked code tag = one_of (needs_authorization code) _ _ (tested _ _ (omega 
 
 session_checked : (by : Authorizer) (a : Auth) (others : List Auth) → IfErr (check_session by a others)
 session_checked by a others =
-    test_first (audits_or_encrypts a.attrs) 0x982 _ (omega arith, omega arith) (λ _. next_too (check_no_trial by) _ (no_trial by) (λ _. next_too (check_no_nonce by a.nonce) _ (no_nonce by) (λ _. tested (not (is_empty others)) 0xA82 (omega arith, omega arith))))
+    test_first (audits_or_encrypts a.attrs) 0x982 _ (omega arith, omega arith)
+    (λ _.
+    next_too (check_no_trial by) _ (no_trial by)
+    (λ _. next_too (check_no_nonce by a.nonce) _ (no_nonce by) (λ _. tested (not (is_empty others)) 0xA82 (omega arith, omega arith))))
   where
     no_trial : (by : Authorizer) → IfErr (check_no_trial by)
     no_trial Password = not_refused
@@ -102,7 +107,9 @@ policy_allowed _ code = with_code (omega arith, omega arith)
 policy_checked : (e : Entity) (code : CommandCode) (n : ℕ) (s : Session) → IfErr (check_policy e code n s)
 policy_checked e code n s =
     next_too (check_policy_allowed e code) _ (policy_allowed e code) (λ _.
-    test_first (differs s.policy.update_counter n) 0x128 _ (omega arith, omega arith) (λ _. test_first (not (has_policy e s)) 0x99D _ (omega arith, omega arith) (λ _. tested (differs s.policy.code (code_number code)) 0x9A4 (omega arith, omega arith))))
+    test_first (differs s.policy.update_counter n) 0x128 _ (omega arith, omega arith)
+    (λ _. test_first (not (has_policy e s)) 0x99D _ (omega arith, omega arith) (λ _.
+    tested (differs s.policy.code (code_number code)) 0x9A4 (omega arith, omega arith))))
 
 entity_checked : (by : Authorizer) (e : Entity) (code : CommandCode) (n : ℕ) → IfErr (check_entity by e code n)
 entity_checked Password e code n = auth_checked e code
@@ -115,10 +122,14 @@ session_loaded handle s = one_of (handle == rs_pw) _ _ not_refused (found s)
     found None = with_code (omega arith, omega arith)
     found (Some s) = not_refused
 
-proof_found : (s : Option Session) (e : Entity) (code : CommandCode) (names : List (List ℕ)) (params : List ℕ) (n : ℕ) (auths : List Auth) → IfErr (evidence_of s e code names params n auths)
+proof_found : (s : Option Session) (e : Entity) (code : CommandCode) (names : List (List ℕ)) (params : List ℕ) (n : ℕ) (auths : List Auth)
+    → IfErr (evidence_of s e code names params n auths)
 proof_found s e code names params n [] = not_refused
 proof_found s e code names params n (a ∷ others) =
-    next_too (check_loaded a.session s) _ (session_loaded a.session s) (λ by. next_too (check_session by a others) _ (session_checked by a others) (λ _. next_too (check_entity by e code n) _ (entity_checked by e code n) (λ _. not_refused)))
+    next_too (check_loaded a.session s) _ (session_loaded a.session s)
+    (λ by.
+    next_too (check_session by a others) _ (session_checked by a others)
+    (λ _. next_too (check_entity by e code n) _ (entity_checked by e code n) (λ _. not_refused)))
 
 failure_is : (e : Entity) → IsAnswered (failure e)
 failure_is (Index public auth) = go (no_da public.attrs)
@@ -145,14 +156,19 @@ was_presented p bytes =
     next_too (check_tag head.0.code head.0.tag) _ (tag_checked head.0.code head.0.tag) (λ _.
     next_too (by_grammar (authorization head.0.tag) list.1) _ (grammar (authorization head.0.tag) list.1 (coded_authorization head.0.tag)) (λ auths.
     next_too (evidence_in p head.0.code list.0 auths.1.rest auths.0) _
-    (proof_found (first_loaded (loaded p.sessions) auths.0) (entity_of p (first list.0)) head.0.code (names_of p list.0) auths.1.rest p.registers.update_counter auths.0) (λ _. not_refused)))))))
+    (proof_found (first_loaded (loaded p.sessions) auths.0) (entity_of p (first list.0)) head.0.code (names_of p list.0) auths.1.rest
+    p.registers.update_counter auths.0)
+    (λ _. not_refused)))))))
 
 was_permitted : (p : Present) (bytes : List ℕ) → IfErr (permitted p bytes)
-was_permitted p bytes = next_too (presented p bytes) _ (was_presented p bytes) (λ x. next_too (check_evidence x.entity x.evidence) _ (proof_checked x.entity x.evidence) (λ _. not_refused))
+was_permitted p bytes =
+    next_too (presented p bytes) _ (was_presented p bytes)
+    (λ x. next_too (check_evidence x.entity x.evidence) _ (proof_checked x.entity x.evidence) (λ _. not_refused))
 
 was_performed : (p : Present) (n : List ℕ) (x : Presented) → IfErr (performed p n x)
 was_performed p n x =
-    next_too (code_only (read_all (parameters x.code) x.params)) _ (of_code (read_all (parameters x.code) x.params) (read_all_coded (parameters x.code) x.params (coded_parameters x.code)))
+    next_too (code_only (read_all (parameters x.code) x.params)) _
+    (of_code (read_all (parameters x.code) x.params) (read_all_coded (parameters x.code) x.params (coded_parameters x.code)))
     (λ params. next_too (action p (body_from x.handles params) n) _ (acted p (body_from x.handles params) n) (λ _. not_refused))
 
 pub refused_with : (p : Present) (bytes n : List ℕ) (code : ℕ) → outcome p bytes n ≡ Err code → IsAnswered code

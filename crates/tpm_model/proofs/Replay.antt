@@ -46,19 +46,30 @@ use Rattle.tpm_model.proofs.Nonces.{among_later, has_length, fresh, apart_across
 -- ---- what the checks of a session let through
 
 pub no_password : (n : ℕ) → is_session n ≡ true → (n == rs_pw) ≡ false
-no_password n s = elim (n == rs_pw) as (λ b. (n == rs_pw) ≡ b → b ≡ false)
-    [ true ↦ λ e. let same : n ≡ rs_pw = grind (arith, nat_tests) in absurd (let bad : is_session rs_pw ≡ true = subst (λ m. is_session m ≡ true) same s in let z : ⊥ = cc in z) | false ↦ λ e. refl ] refl
+no_password n s = elim (n == rs_pw) as (λ b. (n == rs_pw) ≡ b → b ≡ false) [
+  | true ↦ λ e.
+      let same : n ≡ rs_pw = grind (arith, nat_tests) in
+      absurd (let bad : is_session rs_pw ≡ true = subst (λ m. is_session m ≡ true) same s in let z : ⊥ = cc in z)
+  | false ↦ λ e. refl
+] refl
 
 -- a session's command proves itself by the HMAC of that session
-pub by_its_session : (s : Option Session) (e : Entity) (code : CommandCode) (names : List (List ℕ)) (params : List ℕ) (update_counter : ℕ) (a : Auth) (others : List Auth) (evidence : Evidence)
+pub by_its_session : (s : Option Session) (e : Entity) (code : CommandCode) (names : List (List ℕ)) (params : List ℕ) (update_counter : ℕ) (a : Auth)
+    (others : List Auth) (evidence : Evidence)
     → is_session a.session ≡ true → evidence_of s e code names params update_counter (a ∷ others) ≡ Ok evidence
-    → (y : Session) × (s ≡ Some y) × (evidence ≡ ByMac (record { session = y; key = key_for y e; p_hash = cp_hash y.hash (code_number code) names params; auth = a }))
+    → (y : Session) × (s ≡ Some y)
+    × (evidence ≡ ByMac (record { session = y; key = key_for y e; p_hash = cp_hash y.hash (code_number code) names params; auth = a }))
 by_its_session None e code names params update_counter a others evidence is p =
     let b = bind_ok (check_loaded a.session None) _ evidence p in
-    absurd (let c : by_session None ≡ Ok b.0 = subst (λ t. (if t then Ok Password else by_session None) ≡ Ok b.0) (no_password a.session is) b.1 in let z : ⊥ = cc in z)
+    absurd (
+    let c : by_session None ≡ Ok b.0 = subst (λ t. (if t then Ok Password else by_session None) ≡ Ok b.0) (no_password a.session is) b.1 in
+    let z : ⊥ = cc in
+    z
+    )
 by_its_session (Some y) e code names params update_counter a others evidence is p =
     let b = bind_ok (check_loaded a.session (Some y)) _ evidence p in
-    let by : BySession y ≡ b.0 = ok_is (BySession y) b.0 (subst (λ t. (if t then Ok Password else by_session (Some y)) ≡ Ok b.0) (no_password a.session is) b.1) in
+    let by : BySession y ≡ b.0 =
+    ok_is (BySession y) b.0 (subst (λ t. (if t then Ok Password else by_session (Some y)) ≡ Ok b.0) (no_password a.session is) b.1) in
     let c = bind_ok (check_session b.0 a others) _ evidence b.2 in
     let d = bind_ok (check_entity b.0 e code update_counter) _ evidence c.2 in
     (y, refl, sym (ap (λ x. evidence_by x e code names params a) by ∙ ok_is (evidence_by b.0 e code names params a) evidence d.2))
@@ -88,7 +99,8 @@ by_mac : (e : Entity) (x : Signed) → 0 < length x.auth.hmac → check_evidence
 by_mac e x some c =
     let none : needs_none x ≡ false = both_false (is_empty x.key) (is_empty x.auth.hmac) (some_bytes x.auth.hmac some) in
     let mac = hmac x.session.hash x.key (command_text x) in
-    let same : bytes_eq x.auth.hmac mac ≡ true = subst (λ t. (if t then true else bytes_eq x.auth.hmac mac) ≡ true) none (refused_not (is_signed x) (failure e) c) in
+    let same : bytes_eq x.auth.hmac mac ≡ true =
+    subst (λ t. (if t then true else bytes_eq x.auth.hmac mac) ≡ true) none (refused_not (is_signed x) (failure e) c) in
     (bytes_eq-Decides x.auth.hmac mac).0 same
 
 was_signed : (p : Present) (bytes n : List ℕ) (d : Done) (a : Auth) (s : Passed p bytes n d)
@@ -120,7 +132,8 @@ pub among_here : (o : Origin) (h : History) (es fs : List Event) (bytes n : List
     → text_checked (presented (present o (after o h es)) bytes) ≡ x ∷ [] → IsAmong x (texts_checked o h (es ++ Given bytes n ∷ fs))
 among_here o h [] fs bytes n x e = subst (λ xs. IsAmong x (xs ++ texts_checked o (next o h bytes n) fs)) (sym e) (inl refl)
 among_here o h (Given b m ∷ es) fs bytes n x e =
-    among_later x (text_checked (presented (present o h) b)) (texts_checked o (next o h b m) (es ++ Given bytes n ∷ fs)) (among_here o (next o h b m) es fs bytes n x e)
+    among_later x (text_checked (presented (present o h) b)) (texts_checked o (next o h b m) (es ++ Given bytes n ∷ fs))
+    (among_here o (next o h b m) es fs bytes n x e)
 among_here o h (Cycled ∷ es) fs bytes n x e = among_here o (PowerCycle ∷ h) es fs bytes n x e
 
 -- ---- cutting texts
@@ -130,7 +143,8 @@ cut_front a b x y l e = sym (drop_at a x (length a) refl) ∙ ap (drop (length a
 
 same_older : (p q newer u v : List ℕ) (f : ℕ) → length p ≡ length q → mac_text p newer u f ≡ mac_text q newer v f → u ≡ v
 same_older p q newer u v f l e =
-    append_cancel_right u v (f ∷ []) (append_cancel_left newer (u ++ f ∷ []) (v ++ f ∷ []) (cut_front p q (newer ++ (u ++ f ∷ [])) (newer ++ (v ++ f ∷ [])) l e))
+    append_cancel_right u v (f ∷ [])
+    (append_cancel_left newer (u ++ f ∷ []) (v ++ f ∷ []) (cut_front p q (newer ++ (u ++ f ∷ [])) (newer ++ (v ++ f ∷ [])) l e))
 
 -- equal front parts of two nonces
 same_front : (j k : ℕ) (x y : List ℕ) → least_nonce ≤ j → least_nonce ≤ k → take j x ≡ take k y → take least_nonce x ≡ take least_nonce y
@@ -157,7 +171,8 @@ uses_apart o es fs k n g before start live differ =
     apart_across (nonces es) (n ∷ nonces fs) (last_nonce k h) (last_nonce k (after o g fs)) differ (elim old [ inl none ↦ absurd none | inr i ↦ i ]) new
 
 -- the nonces up to the second use
-first_nonces : (es fs gs : List Event) (bytes other n m : List ℕ) → NoncesDiffer (es ++ Given bytes n ∷ fs ++ Given other m ∷ gs) → AreApart (nonces es ++ n ∷ nonces fs)
+first_nonces : (es fs gs : List Event) (bytes other n m : List ℕ) → NoncesDiffer (es ++ Given bytes n ∷ fs ++ Given other m ∷ gs)
+    → AreApart (nonces es ++ n ∷ nonces fs)
 first_nonces es fs gs bytes other n m differ =
     let listed : nonces (es ++ Given bytes n ∷ fs ++ Given other m ∷ gs) ≡ (nonces es ++ n ∷ nonces fs) ++ m ∷ nonces gs =
     nonces-append (es ++ Given bytes n ∷ fs) (Given other m ∷ gs) ∙ ap (λ (l : List (List ℕ)). l ++ m ∷ nonces gs) (nonces-append es (Given bytes n ∷ fs)) in
@@ -168,7 +183,9 @@ one_nonce : (p q : Present) (bytes other : List ℕ) (x y : Presented) (a : Auth
 one_nonce p q bytes other x y a v w one_text =
     let s = v.signed.session in
     let t = w.signed.session in
-    let one_length = sym (length-hmac s.hash v.signed.key (command_text v.signed)) ∙ ap length (sym v.mac ∙ w.mac) ∙ length-hmac t.hash w.signed.key (command_text w.signed) in
+    let one_length =
+    sym (length-hmac s.hash v.signed.key (command_text v.signed)) ∙ ap length (sym v.mac ∙ w.mac)
+    ∙ length-hmac t.hash w.signed.key (command_text w.signed) in
     let lengths = length-digest s.hash v.hashed ∙ one_length ∙ sym (length-digest t.hash w.hashed) in
     same_older (digest s.hash v.hashed) (digest t.hash w.hashed) a.nonce s.nonce t.nonce a.attrs lengths (sym v.text_is ∙ one_text ∙ w.text_is)
 
@@ -184,8 +201,10 @@ twice_as o es fs gs bytes other n m c a differ apart spells others one is some (
     let s = passed (present o h) bytes n d first in
     let t = passed (present o j) other m e second in
     let reading = exactly_one buffer buffer_sound command in
-    let d_auths : d.command.auths.items ≡ a ∷ [] = ap (λ (x : Command). x.auths.items) ((reading bytes).one_value d.command c (spelled_by (present o h) bytes n d s) spells) ∙ one in
-    let e_auths : e.command.auths.items ≡ a ∷ [] = ap (λ (x : Command). x.auths.items) ((reading other).one_value e.command c (spelled_by (present o j) other m e t) others) ∙ one in
+    let d_auths : d.command.auths.items ≡ a ∷ [] =
+    ap (λ (x : Command). x.auths.items) ((reading bytes).one_value d.command c (spelled_by (present o h) bytes n d s) spells) ∙ one in
+    let e_auths : e.command.auths.items ≡ a ∷ [] =
+    ap (λ (x : Command). x.auths.items) ((reading other).one_value e.command c (spelled_by (present o j) other m e t) others) ∙ one in
     let v = was_signed (present o h) bytes n d a s d_auths is some in
     let w = was_signed (present o j) other m e a t e_auths is some in
     let among_v = subst (λ (l : List Event). IsAmong (keyed v.signed) (texts_checked o [] l)) (sym (append_assoc es (Given bytes n ∷ fs) (Given other m ∷ gs)))
@@ -196,8 +215,11 @@ twice_as o es fs gs bytes other n m c a differ apart spells others one is some (
     let k = slot_of a.session in
     let x = held o h a.session v.signed.session v.is in
     let y = held o j a.session w.signed.session w.is in
-    let front = same_front (length x.start.request.nonce_caller) (length y.start.request.nonce_caller) (last_nonce k h) (last_nonce k j) (has_length o es a.session v.signed.session x).0
-    (has_length o (es ++ Given bytes n ∷ fs) a.session w.signed.session y).0 (sym (ap (λ (s : Session). s.nonce) x.is) ∙ older ∙ ap (λ (s : Session). s.nonce) y.is) in
+    let front =
+    same_front (length x.start.request.nonce_caller) (length y.start.request.nonce_caller) (last_nonce k h) (last_nonce k j)
+    (has_length o es a.session v.signed.session x).0
+    (has_length o (es ++ Given bytes n ∷ fs) a.session w.signed.session y).0
+    (sym (ap (λ (s : Session). s.nonce) x.is) ∙ older ∙ ap (λ (s : Session). s.nonce) y.is) in
     let there : j ≡ after o g fs = after-append o [] es (Given bytes n ∷ fs) ∙ ap (λ (l : History). after o l fs) (next_is o h bytes n d first) in
     let by_it = ap (authorizes k) d_auths ∙ its_slot a is in
     uses_apart o es fs k n g x.live (λ _. chosen (begins k d.command.body d.reply.body) (authorizes k d.command.auths.items) n (last_nonce k h) by_it)

@@ -68,7 +68,8 @@ pub record IsReply (body : CommandBody) (r : ReplyBody) : Type 0 where
 replied_by : {A : Type 0} (check : Result A ℕ) (q r : ReplyBody) → then_reply check q ≡ Ok r → q ≡ r
 replied_by check q r e = let b = bind_ok check _ r e in ok_is q r b.2
 
-read_short : (there : Option Counter) (by : NvAuthHandle) (i size offset : ℕ) (bytes : List ℕ) → read_counter there by i size offset ≡ Ok bytes → length bytes ≤ 8
+read_short : (there : Option Counter) (by : NvAuthHandle) (i size offset : ℕ) (bytes : List ℕ) → read_counter there by i size offset ≡ Ok bytes
+    → length bytes ≤ 8
 read_short there by i size offset bytes e =
     let a = bind_ok (defined_counter there) _ bytes e in
     let b = bind_ok (refuse (not (may by (owner_reads a.0.public.attrs) i)) rc_nv_authorization) _ bytes a.2 in
@@ -113,28 +114,49 @@ reply_event q event =
       code = refl;
       handles = λ left. refl;
       params = λ left. (((omega arith, refl), (x.some, x.fits _, (y.some, y.fits _, (z.some, z.fits _, inl refl)))), refl);
-      short = omega (arith, long, length_value Sha1 a (length-digest Sha1 event), length_value Sha256 b (length-digest Sha256 event), length_value Sha384 c (length-digest Sha384 event));
+      short = omega (
+        arith,
+        long,
+        length_value Sha1 a (length-digest Sha1 event),
+        length_value Sha256 b (length-digest Sha256 event),
+        length_value Sha384 c (length-digest Sha384 event),
+      );
       none = refl;
     }
 
-pub own_reply : (p : Present) (body : CommandBody) (n : List ℕ) (r : ReplyBody) → needs_authorization (code_for body) ≡ true → action p body n ≡ Ok r → IsReply body r
-own_reply p (bodies.PcrExtend q digests) n r needs e = subst (IsReply (bodies.PcrExtend q digests)) (replied_by _ _ r e) (record { code = refl; handles = λ left. refl; params = λ left. refl; short = omega arith; none = refl })
+pub own_reply : (p : Present) (body : CommandBody) (n : List ℕ) (r : ReplyBody) → needs_authorization (code_for body) ≡ true → action p body n ≡ Ok r
+    → IsReply body r
+own_reply p (bodies.PcrExtend q digests) n r needs e =
+    subst (IsReply (bodies.PcrExtend q digests)) (replied_by _ _ r e)
+    (record { code = refl; handles = λ left. refl; params = λ left. refl; short = omega arith; none = refl })
 own_reply p (bodies.PcrEvent q event) n r needs e = subst (IsReply (bodies.PcrEvent q event)) (replied_by _ _ r e) (reply_event q event)
-own_reply p (bodies.PcrReset q) n r needs e = subst (IsReply (bodies.PcrReset q)) (replied_by _ _ r e) (record { code = refl; handles = λ left. refl; params = λ left. refl; short = omega arith; none = refl })
-own_reply p (bodies.NvDefineSpace auth public) n r needs e = subst (IsReply (bodies.NvDefineSpace auth public)) (replied_by _ _ r e) (record { code = refl; handles = λ left. refl; params = λ left. refl; short = omega arith; none = refl })
-own_reply p (bodies.NvUndefineSpace index) n r needs e = subst (IsReply (bodies.NvUndefineSpace index)) (replied_by _ _ r e) (record { code = refl; handles = λ left. refl; params = λ left. refl; short = omega arith; none = refl })
-own_reply p (bodies.NvIncrement by index) n r needs e = subst (IsReply (bodies.NvIncrement by index)) (replied_by _ _ r e) (record { code = refl; handles = λ left. refl; params = λ left. refl; short = omega arith; none = refl })
+own_reply p (bodies.PcrReset q) n r needs e =
+    subst (IsReply (bodies.PcrReset q)) (replied_by _ _ r e)
+    (record { code = refl; handles = λ left. refl; params = λ left. refl; short = omega arith; none = refl })
+own_reply p (bodies.NvDefineSpace auth public) n r needs e =
+    subst (IsReply (bodies.NvDefineSpace auth public)) (replied_by _ _ r e)
+    (record { code = refl; handles = λ left. refl; params = λ left. refl; short = omega arith; none = refl })
+own_reply p (bodies.NvUndefineSpace index) n r needs e =
+    subst (IsReply (bodies.NvUndefineSpace index)) (replied_by _ _ r e)
+    (record { code = refl; handles = λ left. refl; params = λ left. refl; short = omega arith; none = refl })
+own_reply p (bodies.NvIncrement by index) n r needs e =
+    subst (IsReply (bodies.NvIncrement by index)) (replied_by _ _ r e)
+    (record { code = refl; handles = λ left. refl; params = λ left. refl; short = omega arith; none = refl })
 own_reply p (bodies.NvRead by index size offset) n r needs e =
     let b = bind_ok (read_counter (counter_in p.nv.counters index) by index size offset) _ r e in
-    subst (IsReply (bodies.NvRead by index size offset)) (ok_is (replies.NvRead b.0) r b.2) (reply_read by index size offset b.0 (read_short (counter_in p.nv.counters index) by index size offset b.0 b.1))
+    subst (IsReply (bodies.NvRead by index size offset)) (ok_is (replies.NvRead b.0) r b.2)
+    (reply_read by index size offset b.0 (read_short (counter_in p.nv.counters index) by index size offset b.0 b.1))
 own_reply p _ n r needs e = absurd (let z : ⊥ = cc in z)
 
 -- ---- the session
 
-pub auth_spelled : (a : AuthReply) → length a.nonce ≤ most_nonce → length a.hmac ≤ most_nonce → a.attrs < 256 → is_session_attrs a.attrs ≡ true → IsSpelled auth_response a
+pub auth_spelled : (a : AuthReply) → length a.nonce ≤ most_nonce → length a.hmac ≤ most_nonce → a.attrs < 256 → is_session_attrs a.attrs ≡ true
+    → IsSpelled auth_response a
 unfolding auth_response session_attrs
 auth_spelled a nonce mac small attrs = record {
-  fits = λ left. (fits_bytes most_nonce left a.nonce (omega arith) nonce, ((omega arith, rw attrs refl), (fits_bytes most_nonce _ a.hmac (omega arith) mac, refl)));
+  fits =
+      λ left.
+      (fits_bytes most_nonce left a.nonce (omega arith) nonce, ((omega arith, rw attrs refl), (fits_bytes most_nonce _ a.hmac (omega arith) mac, refl)));
   some = simp (length-append, length_bytes) (omega arith);
 }
 
@@ -147,17 +169,20 @@ auth_short a nonce mac = simp (length-append, length_bytes) (omega arith)
 abbrev made : ReplyBody → AuthReply → Reply
 made body a = record { body = body; auths = a ∷ [] }
 
-whole_short : (body : CommandBody) (r : ReplyBody) (a : AuthReply) → IsReply body r → length (spelling auth_response a) ≤ 101 → length (spelling (reply (code_for_reply r) (reply_tag (a ∷ []))) (made r a)) ≤ 4000
+whole_short : (body : CommandBody) (r : ReplyBody) (a : AuthReply) → IsReply body r → length (spelling auth_response a) ≤ 101
+    → length (spelling (reply (code_for_reply r) (reply_tag (a ∷ []))) (made r a)) ≤ 4000
 unfolding with_sessions parameter_size reply_sessions further_sessions
 whole_short body r a is short = rw is.none (simp length-append (omega (arith, is.short, short)))
 
-pub read_again_as : (body : CommandBody) (r : ReplyBody) (a : AuthReply) → IsReply body r → length a.nonce ≤ most_nonce → length a.hmac ≤ most_nonce → a.attrs < 256 → is_session_attrs a.attrs ≡ true
+pub read_again_as : (body : CommandBody) (r : ReplyBody) (a : AuthReply) → IsReply body r → length a.nonce ≤ most_nonce → length a.hmac ≤ most_nonce
+    → a.attrs < 256 → is_session_attrs a.attrs ≡ true
     → read_all (response (code_for body)) (spelling (response (code_for body)) (done_with (made r a))) ≡ Ok (done_with (made r a))
 read_again_as body r a is nonce mac small attrs =
     let one = auth_spelled a nonce mac small attrs in
     let sessions = fits_sessions a [] (omega arith) one (All-nil (IsSpelled auth_response)) in
     let behind = fits_behind (parameters_of_reply r) r (a ∷ []) is.params (omega (arith, is.short)) (λ _. sessions) in
     let code = code_for_reply r in
-    let spelled = done_spelled r (a ∷ []) (spelling (response code) (done_with (made r a))) refl (whole_short body r a is (auth_short a nonce mac)) is.handles behind in
+    let spelled =
+    done_spelled r (a ∷ []) (spelling (response code) (done_with (made r a))) refl (whole_short body r a is (auth_short a nonce mac)) is.handles behind in
     subst (λ k. read_all (response k) (spelling (response k) (done_with (made r a))) ≡ Ok (done_with (made r a))) (sym is.code)
     (spells_read buffer buffer_sound (response code) (spelling (response code) (done_with (made r a))) (done_with (made r a)) spelled)

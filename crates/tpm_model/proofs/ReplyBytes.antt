@@ -29,14 +29,17 @@ use Rattle.tpm_model.proofs.ReplySessions.{in_place, front_tag}
 
 total_place : (h : Here) (x : ℕ × Here) → read 0 command_size h ≡ Ok x → x.1 ≡ past 4 h
 unfolding command_size
-total_place h x e = let n = number_ok buffer buffer_sound 0 4 (λ left n. if (n == left + 6) && nat_le 10 n && nat_le n 4096 then Some n else None) (λ n. n) 0x142 h x e in sym n.2
+total_place h x e =
+    let n = number_ok buffer buffer_sound 0 4 (λ left n. if (n == left + 6) && nat_le 10 n && nat_le n 4096 then Some n else None) (λ n. n) 0x142 h x e in
+    sym n.2
 
 pub front_place : (h : Here) (x : (ℕ × ℕ) × Here) → read 0 response_front h ≡ Ok x → x.1 ≡ past 4 (past 2 h)
 unfolding response_front response_tag
 front_place h x e =
     let a = bind_ok (read 0 response_tag h) _ x e in
     let b = bind_ok (read 0 command_size a.0.1) _ x a.2 in
-    sym (ap (λ (z : (ℕ × ℕ) × Here). z.1) (okay_is {E = Refusal} ((a.0.0, b.0.0), b.0.1) x b.2)) ∙ total_place a.0.1 b.0 b.1 ∙ ap (past 4) ((in_place 0 2 is_response_tag 0x01E h a.0 a.1).1)
+    sym (ap (λ (z : (ℕ × ℕ) × Here). z.1) (okay_is {E = Refusal} ((a.0.0, b.0.0), b.0.1) x b.2)) ∙ total_place a.0.1 b.0 b.1
+    ∙ ap (past 4) ((in_place 0 2 is_response_tag 0x01E h a.0 a.1).1)
 
 pub code_place : (t : ℕ) (h : Here) (x : ℕ × Here) → read 0 (response_code t) h ≡ Ok x → x.1 ≡ past 4 h
 unfolding response_code
@@ -49,10 +52,12 @@ size_place h x e =
     (meant (nat_le (number_of (take 4 h.rest)) (length h.rest - 4)) (number_of (take 4 h.rest)) x.0 rc_size n.1, sym n.2)
 
 -- where the code ends
-pub code_at : {A : Type 0} (next : ℕ → ℕ → Here → Result A Refusal) (bytes : List ℕ) (x : A) (p : Fronted next bytes x) → p.code.1 ≡ past 4 (past 4 (past 2 (at_start bytes)))
+pub code_at : {A : Type 0} (next : ℕ → ℕ → Here → Result A Refusal) (bytes : List ℕ) (x : A) (p : Fronted next bytes x)
+    → p.code.1 ≡ past 4 (past 4 (past 2 (at_start bytes)))
 code_at next bytes x p = code_place p.front.0.0 p.front.1 p.code p.follows ∙ ap (past 4) (front_place (at_start bytes) p.front p.begins)
 
-taken : (o : Option ℕ) (mark n : ℕ) (h : Here) (x : List ℕ × Here) → unless buffer o mark h (found buffer (Ok (take n h.rest)) n mark h) ≡ Ok x → (take n h.rest ≡ x.0) × (past n h ≡ x.1)
+taken : (o : Option ℕ) (mark n : ℕ) (h : Here) (x : List ℕ × Here) → unless buffer o mark h (found buffer (Ok (take n h.rest)) n mark h) ≡ Ok x
+    → (take n h.rest ≡ x.0) × (past n h ≡ x.1)
 taken None mark n h x e =
     let same = okay_is {E = Refusal} (take n h.rest, past n h) x e in
     (ap (λ (z : List ℕ × Here). z.0) same, ap (λ (z : List ℕ × Here). z.1) same)
@@ -66,8 +71,10 @@ sized_place mark h x e =
     let a = bind_ok (read mark (number_in 2 (λ n. nat_le n most_nonce) rc_size) h) _ x e in
     let n = in_place mark 2 (λ n. nat_le n most_nonce) rc_size h a.0 a.1 in
     let k = number_of (take 2 h.rest) in
-    let t = taken (buffer.lacks mark a.0.1.at a.0.0 (length a.0.1.rest)) mark a.0.0 a.0.1 x a.2 in
-    (sym t.0 ∙ ap (λ (i : ℕ). take i a.0.1.rest) (sym n.0) ∙ ap (λ (g : Here). take k g.rest) n.1, sym t.1 ∙ ap (λ (i : ℕ). past i a.0.1) (sym n.0) ∙ ap (past k) n.1)
+    let t = taken (buffer.lacks mark a.0.1.at a.0.0 (length a.0.1.rest)) mark a.0.0 a.0.1 x a.2 in (
+      sym t.0 ∙ ap (λ (i : ℕ). take i a.0.1.rest) (sym n.0) ∙ ap (λ (g : Here). take k g.rest) n.1,
+      sym t.1 ∙ ap (λ (i : ℕ). past i a.0.1) (sym n.0) ∙ ap (past k) n.1,
+    )
 
 -- ---- a session
 
@@ -83,7 +90,8 @@ two_bytes : (n : ℕ) (more : List ℕ) → n < 256 ^ 2 → number_of (take 2 (b
 two_bytes n more small = number_of-bytes 2 n small
 
 -- sized bytes are read from their spelling
-sized_read : (mark : ℕ) (h : Here) (x : List ℕ × Here) (n more : List ℕ) → length n ≤ most_nonce → Rest h (bytes_high_first 2 (length n) ++ (n ++ more)) → read mark (sized_bytes most_nonce) h ≡ Ok x → (x.0 ≡ n) × Rest x.1 more
+sized_read : (mark : ℕ) (h : Here) (x : List ℕ × Here) (n more : List ℕ) → length n ≤ most_nonce → Rest h (bytes_high_first 2 (length n) ++ (n ++ more))
+    → read mark (sized_bytes most_nonce) h ≡ Ok x → (x.0 ≡ n) × Rest x.1 more
 sized_read mark h x n more few is e =
     let p = sized_place mark h x e in
     let k : number_of (take 2 h.rest) ≡ length n = ap (λ (l : List ℕ). number_of (take 2 l)) is ∙ two_bytes (length n) (n ++ more) (omega (arith, few)) in
@@ -95,7 +103,8 @@ sized_read mark h x n more few is e =
 abbrev auth_at : List ℕ → ℕ → List ℕ → Here → AuthReply × Here
 auth_at n f m g = (record { nonce = n; attrs = f; hmac = m }, g)
 
-session_read : (mark : ℕ) (h : Here) (x : AuthReply × Here) (n : List ℕ) (f : ℕ) (m more : List ℕ) → length n ≤ most_nonce → length m ≤ most_nonce → Rest h (session_text n f m more) → read mark auth_response h ≡ Ok x
+session_read : (mark : ℕ) (h : Here) (x : AuthReply × Here) (n : List ℕ) (f : ℕ) (m more : List ℕ) → length n ≤ most_nonce → length m ≤ most_nonce
+    → Rest h (session_text n f m more) → read mark auth_response h ≡ Ok x
     → (x.0.nonce ≡ n) × (x.0.hmac ≡ m)
 unfolding auth_response session_attrs
 session_read mark h x n f m more few_n few_m is e =
@@ -103,7 +112,8 @@ session_read mark h x n f m more few_n few_m is e =
     let b = bind_ok (read mark session_attrs a.0.1) _ x a.2 in
     let c = bind_ok (read mark auth_value b.0.1) _ x b.2 in
     let first = sized_read mark h a.0 n (bytes_high_first 1 f ++ (bytes_high_first 2 (length m) ++ (m ++ more))) few_n is a.1 in
-    let behind : Rest b.0.1 (bytes_high_first 2 (length m) ++ (m ++ more)) = ap (λ (g : Here). g.rest) ((in_place mark 1 is_session_attrs rc_reserved_bits a.0.1 b.0 b.1).1) ∙ ap (drop 1) first.1 in
+    let behind : Rest b.0.1 (bytes_high_first 2 (length m) ++ (m ++ more)) =
+    ap (λ (g : Here). g.rest) ((in_place mark 1 is_session_attrs rc_reserved_bits a.0.1 b.0 b.1).1) ∙ ap (drop 1) first.1 in
     let last = sized_read mark b.0.1 c.0 m more few_m behind c.1 in
     let same = okay_is {E = Refusal} (auth_at a.0.0 b.0.0 c.0.0 c.0.1) x c.2 in
     (sym (ap (λ (z : AuthReply × Here). z.0.nonce) same) ∙ first.0, sym (ap (λ (z : AuthReply × Here). z.0.hmac) same) ∙ last.0)
@@ -111,7 +121,8 @@ session_read mark h x n f m more few_n few_m is e =
 pub head_is : {A : Type 0} (a b : A) (others : List A) → a ∷ others ≡ b ∷ [] → a ≡ b
 head_is a b others e = cc
 
-sessions_read : (h g : Here) (a : AuthReply) (n : List ℕ) (f : ℕ) (m more : List ℕ) → length n ≤ most_nonce → length m ≤ most_nonce → Rest h (session_text n f m more) → read 0 reply_sessions h ≡ Ok (a ∷ [], g)
+sessions_read : (h g : Here) (a : AuthReply) (n : List ℕ) (f : ℕ) (m more : List ℕ) → length n ≤ most_nonce → length m ≤ most_nonce
+    → Rest h (session_text n f m more) → read 0 reply_sessions h ≡ Ok (a ∷ [], g)
     → (a.nonce ≡ n) × (a.hmac ≡ m)
 unfolding reply_sessions
 sessions_read h g a n f m more few_n few_m is e =
@@ -125,7 +136,9 @@ sessions_read h g a n f m more few_n few_m is e =
 
 -- a response with one session, by its parts
 abbrev pub reply_bytes : (size : ℕ) → (params nonce : List ℕ) → (attrs : ℕ) → (hmac more : List ℕ) → List ℕ
-reply_bytes size params n f m more = bytes_high_first 2 0x8002 ++ (bytes_high_first 4 size ++ (bytes_high_first 4 0 ++ (bytes_high_first 4 (length params) ++ (params ++ session_text n f m more))))
+reply_bytes size params n f m more =
+    bytes_high_first 2 0x8002
+    ++ (bytes_high_first 4 size ++ (bytes_high_first 4 0 ++ (bytes_high_first 4 (length params) ++ (params ++ session_text n f m more))))
 
 pub one_session : (size : ℕ) (params n : List ℕ) (f : ℕ) (m more : List ℕ) (a : AuthReply) → length params ≤ 110 → length n ≤ most_nonce → length m ≤ most_nonce
     → Lists (session_list (reply_bytes size params n f m more)) (a ∷ []) → (a.nonce ≡ n) × (a.hmac ≡ m)
@@ -134,9 +147,11 @@ one_session size params n f m more a short few_n few_m l =
     let p = fronted auths_behind bytes (a ∷ [], l.0) l.1 in
     let t : p.front.0.0 ≡ 0x8002 = sym (front_tag bytes p.front p.begins) in
     let z = bind_ok (read 0 parameter_size p.code.1) _ (a ∷ [], l.0) (subst (λ (t : ℕ). auths_at (t == 0x8002) p.code.1 ≡ Ok (a ∷ [], l.0)) t p.last) in
-    let rest : Rest p.code.1 (bytes_high_first 4 (length params) ++ (params ++ session_text n f m more)) = ap (λ (g : Here). g.rest) (code_at auths_behind bytes (a ∷ [], l.0) p) in
+    let rest : Rest p.code.1 (bytes_high_first 4 (length params) ++ (params ++ session_text n f m more)) =
+    ap (λ (g : Here). g.rest) (code_at auths_behind bytes (a ∷ [], l.0) p) in
     let s = size_place p.code.1 z.0 z.1 in
     let k : z.0.0 ≡ length params = sym s.0 ∙ ap (λ (r : List ℕ). number_of (take 4 r)) rest ∙ number_of-bytes 4 (length params) (omega (arith, short)) in
     let there : Rest (past z.0.0 z.0.1) (session_text n f m more) =
-    ap (λ (i : ℕ). drop i z.0.1.rest) k ∙ ap (λ (g : Here). drop (length params) g.rest) s.1 ∙ ap (λ (r : List ℕ). drop (length params) (drop 4 r)) rest ∙ drop_at params (session_text n f m more) (length params) refl in
+    ap (λ (i : ℕ). drop i z.0.1.rest) k ∙ ap (λ (g : Here). drop (length params) g.rest) s.1 ∙ ap (λ (r : List ℕ). drop (length params) (drop 4 r)) rest
+    ∙ drop_at params (session_text n f m more) (length params) refl in
     sessions_read (past z.0.0 z.0.1) l.0 a n f m more few_n few_m there z.2

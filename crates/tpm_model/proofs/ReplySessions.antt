@@ -66,7 +66,8 @@ fronted next bytes x e =
     record { front = f.0; begins = f.1; code = n.0; follows = n.1; last = n.2 }
 
 -- The same bytes are read otherwise behind the code.
-pub fronted_too : {A B : Type 0} (next : ℕ → ℕ → Here → Result A Refusal) (other : ℕ → ℕ → Here → Result B Refusal) (bytes : List ℕ) (x : A) (y : Result B Refusal) (p : Fronted next bytes x)
+pub fronted_too : {A B : Type 0} (next : ℕ → ℕ → Here → Result A Refusal) (other : ℕ → ℕ → Here → Result B Refusal) (bytes : List ℕ) (x : A)
+    (y : Result B Refusal) (p : Fronted next bytes x)
     → other p.front.0.0 p.code.0 p.code.1 ≡ y → behind_front other bytes ≡ y
 fronted_too next other bytes x y p e = rw (p.begins, p.follows) e
 
@@ -76,7 +77,8 @@ behind_room : {A : Type 0} (o : Option ℕ) (h : Here) (next : Result A Refusal)
 behind_room None h next x e = e
 behind_room (Some fault) h next x e = absurd (let z : ⊥ = cc in z)
 
-at_end : {A : Type 0} (b : Bool) (y x : A × Here) (n : ℕ) (h : Here) → (if b then okay {E = Refusal} (y.0, past n h) else refuse buffer 0 rc_size y.1) ≡ Ok x → x.1 ≡ past n h
+at_end : {A : Type 0} (b : Bool) (y x : A × Here) (n : ℕ) (h : Here) → (if b then okay {E = Refusal} (y.0, past n h) else refuse buffer 0 rc_size y.1) ≡ Ok x
+    → x.1 ≡ past n h
 at_end true y x n h e = sym (ap (λ (z : _ × Here). z.1) (okay_is {E = Refusal} (y.0, past n h) x e))
 at_end false y x n h e = absurd (let z : ⊥ = cc in z)
 
@@ -97,7 +99,8 @@ with_listed l h x e =
     let c = bind_ok (read 0 reply_sessions b.0.1) _ x b.2 in
     let same = okay_is {E = Refusal} (reply_at b.0.0 c.0.0 c.0.1) x c.2 in
     let there = area_past a.0.0 l a.0.1 b.0 b.1 in
-    let here : read 0 reply_sessions (past a.0.0 a.0.1) ≡ Ok (x.0.auths, c.0.1) = ap (read 0 reply_sessions) (sym there) ∙ c.1 ∙ ap (λ (z : Reply × Here). okay {E = Refusal} (z.0.auths, c.0.1)) same in
+    let here : read 0 reply_sessions (past a.0.0 a.0.1) ≡ Ok (x.0.auths, c.0.1) =
+    ap (read 0 reply_sessions) (sym there) ∙ c.1 ∙ ap (λ (z : Reply × Here). okay {E = Refusal} (z.0.auths, c.0.1)) same in
     (c.0.1, goes_on (read 0 parameter_size h) (λ s. read 0 reply_sessions (past s.0 s.1)) a.0 (Ok (x.0.auths, c.0.1)) a.1 here)
 
 without_listed : (l : Layout ReplyBody) (h : Here) (x : Reply × Here) → read 0 (without_sessions l) h ≡ Ok x → Lists (auths_at false h) x.0.auths
@@ -107,7 +110,8 @@ without_listed l h x e =
     let same = okay_is {E = Refusal} (reply_at a.0.0 [] a.0.1) x a.2 in
     (h, ap (λ (z : Reply × Here). okay {E = Refusal} (z.0.auths, h)) same)
 
-either_listed : (two : Bool) (l : Layout ReplyBody) (h : Here) (x : Reply × Here) → read 0 (either two (with_sessions l) (without_sessions l)) h ≡ Ok x → Lists (auths_at two h) x.0.auths
+either_listed : (two : Bool) (l : Layout ReplyBody) (h : Here) (x : Reply × Here) → read 0 (either two (with_sessions l) (without_sessions l)) h ≡ Ok x
+    → Lists (auths_at two h) x.0.auths
 either_listed true l h x e = with_listed l h x e
 either_listed false l h x e = without_listed l h x e
 
@@ -118,7 +122,8 @@ pub no_handles : (code : CommandCode) → needs_authorization code ≡ true → 
 no_handles codes.StartAuthSession e = absurd (let z : ⊥ = cc in z)
 no_handles _ e = refl
 
-reply_listed : (code : CommandCode) (t : ℕ) (h : Here) (x : Reply × Here) → needs_authorization code ≡ true → read 0 (reply code t) h ≡ Ok x → Lists (auths_at (t == 0x8002) h) x.0.auths
+reply_listed : (code : CommandCode) (t : ℕ) (h : Here) (x : Reply × Here) → needs_authorization code ≡ true → read 0 (reply code t) h ≡ Ok x
+    → Lists (auths_at (t == 0x8002) h) x.0.auths
 reply_listed code t h x needs e =
     let f : (read 0 none h >>= λ y. read 0 (reply_behind t (reply_parameters code y.0)) y.1) ≡ Ok x =
     subst (λ l. (read 0 l h >>= λ y. read 0 (reply_behind t (reply_parameters code y.0)) y.1) ≡ Ok x) (no_handles code needs) e in
@@ -128,7 +133,9 @@ code_listed : (code : CommandCode) (t n : ℕ) (h : Here) (body : ReplyBody) (au
     → read 0 (behind_code code t n) h ≡ Ok (done_with (record { body = body; auths = auths }), g) → Lists (auths_at (t == 0x8002) h) auths
 code_listed code t n h body auths g needs e = go (n == 0) e
   where
-    go : (zero : Bool) → read 0 (either zero (Form.field reply_of (reply code t) (λ r. Form.done (done_with r))) (Form.done (responses.Code n))) h ≡ Ok (done_with (record { body = body; auths = auths }), g)
+    go : (zero : Bool)
+        → read 0 (either zero (Form.field reply_of (reply code t) (λ r. Form.done (done_with r))) (Form.done (responses.Code n))) h
+        ≡ Ok (done_with (record { body = body; auths = auths }), g)
         → Lists (auths_at (t == 0x8002) h) auths
     go true e =
         let a = bind_ok (read 0 (reply code t) h) (λ r. okay {E = Refusal} (done_with r.0, r.1)) _ e in
@@ -146,11 +153,13 @@ finished x y e = go (length x.1.rest == 0) e
     go false e = absurd (let z : ⊥ = cc in z)
 
 -- What is read whole leaves nothing behind it.
-pub from_start : {A : Type 0} (o : Result (A × Here) Refusal) (x : A) → (o >>= finish buffer >>= λ y. okay {E = Refusal} y.0) ≡ Ok x → (g : Here) × (o ≡ Ok (x, g)) × (length g.rest ≡ 0)
+pub from_start : {A : Type 0} (o : Result (A × Here) Refusal) (x : A) → (o >>= finish buffer >>= λ y. okay {E = Refusal} y.0) ≡ Ok x
+    → (g : Here) × (o ≡ Ok (x, g)) × (length g.rest ≡ 0)
 from_start (Err e) x is = absurd (let z : ⊥ = cc in z)
 from_start {A = A} (Ok y) x is = go (length y.1.rest == 0) refl is
   where
-    go : (b : Bool) → (length y.1.rest == 0) ≡ b → ((if b then okay {E = Refusal} y else refuse buffer 0 rc_size y.1) >>= λ z. okay {E = Refusal} z.0) ≡ Ok x → (g : Here) × (okay {E = Refusal} y ≡ Ok (x, g)) × (length g.rest ≡ 0)
+    go : (b : Bool) → (length y.1.rest == 0) ≡ b → ((if b then okay {E = Refusal} y else refuse buffer 0 rc_size y.1) >>= λ z. okay {E = Refusal} z.0) ≡ Ok x
+        → (g : Here) × (okay {E = Refusal} y ≡ Ok (x, g)) × (length g.rest ≡ 0)
     go true t e = (y.1, ap (λ (z : A). okay {E = Refusal} (z, y.1)) (okay_is {E = Refusal} y.0 x e), eqb-true _ _ t)
     go false t e = absurd (let z : ⊥ = cc in z)
 
@@ -171,7 +180,8 @@ pub meant : (b : Bool) (n y fault : ℕ) → or_fault {F = ℕ} (if b then Some 
 meant true n y fault e = okay_is {E = ℕ} n y e
 meant false n y fault e = absurd (let z : ⊥ = cc in z)
 
-pub in_place : (mark width : ℕ) (set : ℕ → Bool) (code : ℕ) (h : Here) (x : ℕ × Here) → read mark (number_in width set code) h ≡ Ok x → (number_of (take width h.rest) ≡ x.0) × (x.1 ≡ past width h)
+pub in_place : (mark width : ℕ) (set : ℕ → Bool) (code : ℕ) (h : Here) (x : ℕ × Here) → read mark (number_in width set code) h ≡ Ok x
+    → (number_of (take width h.rest) ≡ x.0) × (x.1 ≡ past width h)
 in_place mark width set code h x e =
     let n = number_ok buffer buffer_sound mark width (λ left n. if set n then Some n else None) (λ n. n) code h x e in
     (meant (set (number_of (take width h.rest))) (number_of (take width h.rest)) x.0 code n.1, sym n.2)

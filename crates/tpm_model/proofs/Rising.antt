@@ -72,12 +72,16 @@ value_raised j most (c ∷ counters) i = go (has_index j c) (has_index i c) refl
     go false false t u later = rw (t, u) later
 
 -- the value that an increment gives an index that is defined
-value_given : (i most : ℕ) (counters : List Counter) (c : Counter) → counter_in counters i ≡ Some c → value_in (with_increment i most counters) i ≡ Some (next_value most (value_in counters i))
+value_given : (i most : ℕ) (counters : List Counter) (c : Counter) → counter_in counters i ≡ Some c
+    → value_in (with_increment i most counters) i ≡ Some (next_value most (value_in counters i))
 value_given i most [] c e = absurd (let z : ⊥ = cc in z)
 value_given i most (d ∷ counters) c e =
     elim (has_index i d) as (λ b. has_index i d ≡ b → value_in (with_increment i most (d ∷ counters)) i ≡ Some (next_value most (value_in (d ∷ counters) i))) [
       | true ↦ λ t. rw t (rw t refl)
-      | false ↦ λ f. let later : counter_in counters i ≡ Some c = sym (ap (λ b. if b then Some d else counter_in counters i) f) ∙ e in rw f (rw f (value_given i most counters c later))
+      | false ↦
+          λ f.
+          let later : counter_in counters i ≡ Some c = sym (ap (λ b. if b then Some d else counter_in counters i) f) ∙ e in
+          rw f (rw f (value_given i most counters c later))
     ] refl
 
 -- ---- what holds of the greatest and of an index's value along runs
@@ -101,13 +105,17 @@ kept_by P k i (bodies.NvUndefineSpace index) nv f = subst (P nv.greatest) (sym (
 kept_by P k i (bodies.NvIncrement by index) nv f =
     let value = value_in nv.counters i in
     elim (value_raised index nv.greatest nv.counters i) [
-      | inl same ↦ subst (P (max nv.greatest (next_value nv.greatest (value_in nv.counters index)))) (sym same) (k.more nv.greatest (next_value nv.greatest (value_in nv.counters index)) value f)
-      | inr r ↦ subst (λ (j : ℕ). P (max nv.greatest (next_value nv.greatest (value_in nv.counters j))) (value_in (with_increment index nv.greatest nv.counters) i)) (sym r.0)
+      | inl same ↦ subst (P (max nv.greatest (next_value nv.greatest (value_in nv.counters index)))) (sym same)
+          (k.more nv.greatest (next_value nv.greatest (value_in nv.counters index)) value f)
+      | inr r ↦ subst
+          (λ (j : ℕ). P (max nv.greatest (next_value nv.greatest (value_in nv.counters j))) (value_in (with_increment index nv.greatest nv.counters) i))
+          (sym r.0)
           (subst (P (max nv.greatest (next_value nv.greatest value))) (sym r.1) (k.raised nv.greatest value f))
     ]
 kept_by P k i _ nv f = f
 
-kept_along : (P : ℕ → Option ℕ → Type 0) → IsKept P → (o : Origin) (i : ℕ) (es : List Event) (h : History) → HoldsOf P i (nv_memory o h) → HoldsOf P i (nv_memory o (after o h es))
+kept_along : (P : ℕ → Option ℕ → Type 0) → IsKept P → (o : Origin) (i : ℕ) (es : List Event) (h : History) → HoldsOf P i (nv_memory o h)
+    → HoldsOf P i (nv_memory o (after o h es))
 kept_along P k o i = along (λ h. HoldsOf P i (nv_memory o h)) o (λ h bytes n d s f. kept_by P k i d.command.body (nv_memory o h) f) (λ h f. f)
 
 -- The next increment gives more than w, and so does each later one.
@@ -141,13 +149,15 @@ floor_here most (Some v) w b e = let k : v ≡ w = cc in (omega (arith, b, k), o
 abbrev greatest_at : Origin → History → ℕ
 greatest_at o h = (nv_memory o h).greatest
 
-was_there : (greatest : ℕ) (there : Option Counter) (by : NvAuthHandle) (i : ℕ) (reply : ReplyBody) → then_reply (increment greatest there by i) replies.NvIncrement ≡ Ok reply → (c : Counter) × (there ≡ Some c)
+was_there : (greatest : ℕ) (there : Option Counter) (by : NvAuthHandle) (i : ℕ) (reply : ReplyBody)
+    → then_reply (increment greatest there by i) replies.NvIncrement ≡ Ok reply → (c : Counter) × (there ≡ Some c)
 was_there greatest there by i reply e =
     let a = bind_ok (increment greatest there by i) _ reply e in
     let b = bind_ok (defined_counter there) _ a.0 a.1 in
     (b.0, was_some there _ b.0 b.1)
 
-gives_next : (o : Origin) (h : History) (i : ℕ) (by : NvAuthHandle) (n : List ℕ) (d : Done) → action (present o h) d.command.body n ≡ Ok d.reply.body → d.command.body ≡ bodies.NvIncrement by i
+gives_next : (o : Origin) (h : History) (i : ℕ) (by : NvAuthHandle) (n : List ℕ) (d : Done) → action (present o h) d.command.body n ≡ Ok d.reply.body
+    → d.command.body ≡ bodies.NvIncrement by i
     → value_at o (Accepted d.command d.reply n ∷ h) i ≡ Some (next_value (greatest_at o h) (value_at o h i))
 gives_next o h i by n d act is =
     let nv = nv_memory o h in
@@ -169,12 +179,18 @@ pub more_than_had : (o : Origin) (es fs : List Event) (bytes n : List ℕ) (d : 
 more_than_had o es fs bytes n d by i w had e is =
     let h = after o [] es in
     let g = after o [] (es ++ fs) in
-    let held = kept_along (IsFloor w) (floor w) o i fs h (floor_here (greatest_at o h) (value_at o h i) w (kept_along IsBelow below o i es [] tt) had) in
-    (next_value (greatest_at o g) (value_at o g i), left_by o (es ++ fs) bytes n d by i e is, (subst (λ (l : History). HoldsOf (IsFloor w) i (nv_memory o l)) (sym (after-append o [] es fs)) held).1)
+    let held = kept_along (IsFloor w) (floor w) o i fs h (floor_here (greatest_at o h) (value_at o h i) w (kept_along IsBelow below o i es [] tt) had) in (
+      next_value (greatest_at o g) (value_at o g i),
+      left_by o (es ++ fs) bytes n d by i e is,
+      (subst (λ (l : History). HoldsOf (IsFloor w) i (nv_memory o l)) (sym (after-append o [] es fs)) held).1,
+    )
 
 pub more_than_made : (o : Origin) (es : List Event) (bytes n : List ℕ) (d : Done) (by : NvAuthHandle) (i : ℕ)
     → outcome (present o (after o [] es)) bytes n ≡ Ok d → d.command.body ≡ bodies.NvIncrement by i
     → (v : ℕ) × (value_at o (after o [] (es ++ Given bytes n ∷ [])) i ≡ Some v) × (o.greatest < v)
 more_than_made o es bytes n d by i e is =
-    let g = after o [] es in
-    (next_value (greatest_at o g) (value_at o g i), left_by o es bytes n d by i e is, (kept_along (IsFloor o.greatest) (floor o.greatest) o i es [] (omega arith, omega arith)).1)
+    let g = after o [] es in (
+      next_value (greatest_at o g) (value_at o g i),
+      left_by o es bytes n d by i e is,
+      (kept_along (IsFloor o.greatest) (floor o.greatest) o i es [] (omega arith, omega arith)).1,
+    )

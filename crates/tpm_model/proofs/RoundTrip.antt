@@ -49,10 +49,13 @@ abbrev pub replied : Seal → ReplyBody → List ℕ → AuthReply
 replied s body n = record {
   nonce = take (length s.caller.nonce) n;
   attrs = attrs_for s.keep;
-  hmac = hmac s.caller.hash (seal_key s) (reply_text s.caller.hash (code_for s.body) (reply_params body) (take (length s.caller.nonce) n) s.nonce (attrs_for s.keep));
+  hmac =
+      hmac s.caller.hash (seal_key s)
+      (reply_text s.caller.hash (code_for s.body) (reply_params body) (take (length s.caller.nonce) n) s.nonce (attrs_for s.keep));
 }
 
-reply_is : (p : Present) (s : Seal) (x : Presented) (m : Met p s x) (body : ReplyBody) (n : List ℕ) → reply_auths x.evidence x.code (reply_params body) n ≡ replied s body n ∷ []
+reply_is : (p : Present) (s : Seal) (x : Presented) (m : Met p s x) (body : ReplyBody) (n : List ℕ)
+    → reply_auths x.evidence x.code (reply_params body) n ≡ replied s body n ∷ []
 reply_is p s x m body n = rw (m.evidence, met_needs p s x m, m.agrees.hash, m.key, m.auth, m.code, m.agrees.length) refl
 
 pub record Trip (p : Present) (s : Seal) (n : List ℕ) (d : Done) : Type 0 where
@@ -65,13 +68,15 @@ pub record Trip (p : Present) (s : Seal) (n : List ℕ) (d : Done) : Type 0 wher
 abbrev with_replies : ReplyBody → List AuthReply → Reply
 with_replies body auths = record { body = body; auths = auths }
 
-trip : (p : Present) (s : Seal) (n : List ℕ) (d : Done) (y : Session) → HasSpelling s → loaded p.sessions s.caller.handle ≡ Some y → Agrees s.caller y → IsPresent p s
+trip : (p : Present) (s : Seal) (n : List ℕ) (d : Done) (y : Session) → HasSpelling s → loaded p.sessions s.caller.handle ≡ Some y → Agrees s.caller y
+    → IsPresent p s
     → outcome p (sealed s) n ≡ Ok d → Trip p s n d
 trip p s n d y fits is agrees here e =
     let done = passed p (sealed s) n d e in
     let m = met p s done.x y fits is agrees here done.asked in
     let reading = exactly_one buffer buffer_sound command (sealed s) in
-    let one : d.command ≡ sealed_command s = reading.one_value d.command (sealed_command s) (spelled_by p (sealed s) n d done) (has_spelling (sealed_command s) fits) in
+    let one : d.command ≡ sealed_command s =
+    reading.one_value d.command (sealed_command s) (spelled_by p (sealed s) n d done) (has_spelling (sealed_command s) fits) in
     let same = ap (λ (c : Command). c.body) one in
     record {
       done = done;
@@ -91,7 +96,8 @@ keep_attrs : (keep : Bool) → is_session_attrs (attrs_for keep) ≡ true
 keep_attrs true = refl
 keep_attrs false = refl
 
-pub open_is : (w : Waiting) (body : ReplyBody) (a : AuthReply) → length a.nonce ≡ length w.caller.nonce → a.hmac ≡ hmac w.caller.hash w.key (awaited_text w body a)
+pub open_is : (w : Waiting) (body : ReplyBody) (a : AuthReply) → length a.nonce ≡ length w.caller.nonce
+    → a.hmac ≡ hmac w.caller.hash w.key (awaited_text w body a)
     → opened_session w body (a ∷ []) ≡ Ok (record { caller = caller_after w a; response = done_with (record { body = body; auths = a ∷ [] }) })
 open_is w body a l m =
     let long = eq-eqb (length a.nonce) (length w.caller.nonce) l in
@@ -106,22 +112,37 @@ open_trip o h s n d short whole e t =
     let a = replied s d.reply.body n in
     let r : Reply = record { body = d.reply.body; auths = a ∷ [] } in
     let long : length a.nonce ≡ length s.caller.nonce = omega (arith, length-take (length s.caller.nonce) n) in
-    let mac_short : length a.hmac ≤ most_nonce = omega (arith, digest_most s.caller.hash, length-hmac s.caller.hash (seal_key s) (reply_text s.caller.hash (code_for s.body) (reply_params d.reply.body) (take (length s.caller.nonce) n) s.nonce (attrs_for s.keep))) in
+    let mac_short : length a.hmac ≤ most_nonce =
+    omega (
+      arith,
+      digest_most s.caller.hash,
+      length-hmac s.caller.hash (seal_key s)
+          (reply_text s.caller.hash (code_for s.body) (reply_params d.reply.body) (take (length s.caller.nonce) n) s.nonce (attrs_for s.keep)),
+    )
+    in
     let bytes_are : answer o h (sealed s) n ≡ spelling (response (code_for s.body)) (done_with r) =
-    ap answered e ∙ ap (λ (c : Command). spelling (response (code_for c.body)) (done_with d.reply)) t.command ∙ ap (λ (q : Reply). spelling (response (code_for s.body)) (done_with q)) t.reply in
-    let read_it = ap (read_all (response (code_for s.body))) bytes_are ∙ read_again_as s.body d.reply.body a t.own (omega arith) mac_short (keep_small s.keep) (keep_attrs s.keep) in
+    ap answered e ∙ ap (λ (c : Command). spelling (response (code_for c.body)) (done_with d.reply)) t.command
+    ∙ ap (λ (q : Reply). spelling (response (code_for s.body)) (done_with q)) t.reply in
+    let read_it =
+    ap (read_all (response (code_for s.body))) bytes_are
+    ∙ read_again_as s.body d.reply.body a t.own (omega arith) mac_short (keep_small s.keep) (keep_attrs s.keep) in
     ap (opened_response w) read_it ∙ open_is w d.reply.body a long refl
-    ∙ ap (λ (q : Reply). let z : Result Opened CallerFault = Ok (record { caller = if s.keep then Some (rolled s.caller n) else None; response = done_with q }) in z) (sym t.reply)
+    ∙ ap
+    (λ (q : Reply).
+    let z : Result Opened CallerFault = Ok (record { caller = if s.keep then Some (rolled s.caller n) else None; response = done_with q }) in z)
+    (sym t.reply)
 
 -- ---- what is refused
 
 code_read : (code : CommandCode) (n : ℕ) → 0 < n → n < 2 ^ 32 → read_all (response code) (answered (Err n)) ≡ Ok (responses.Code n)
 code_read code n some small =
-    spells_read buffer buffer_sound (response code) (answered (Err n)) (responses.Code n) (code_spelled code n (answered (Err n)) some small (code_text codes.Startup n some))
+    spells_read buffer buffer_sound (response code) (answered (Err n)) (responses.Code n)
+    (code_spelled code n (answered (Err n)) some small (code_text codes.Startup n some))
 
 -- ---- the laws
 
-pub last_check : (o : Origin) (h : History) (s : Seal) (x : Presented) → IsReady o h s → presented (present o h) (sealed s) ≡ Ok x → check_evidence x.entity x.evidence ≡ Ok tt
+pub last_check : (o : Origin) (h : History) (s : Seal) (x : Presented) → IsReady o h s → presented (present o h) (sealed s) ≡ Ok x
+    → check_evidence x.entity x.evidence ≡ Ok tt
 last_check o h s x r asked =
     let i = r.in_step in passes (present o h) s x (met (present o h) s x i.0 r.spelled i.1 i.2 r.present asked)
 
@@ -130,23 +151,27 @@ pub opens : (o : Origin) (h : History) (s : Seal) (n : List ℕ) (d : Done) → 
 opens o h s n d r short whole e =
     let i = r.in_step in open_trip o h s n d short whole e (trip (present o h) s n d i.0 r.spelled i.1 i.2 r.present e)
 
-pub keeps : (o : Origin) (h : History) (s : Seal) (n : List ℕ) (d : Done) → IsReady o h s → length s.caller.nonce ≤ most_nonce → length n ≡ nonce_bytes → s.keep ≡ true
+pub keeps : (o : Origin) (h : History) (s : Seal) (n : List ℕ) (d : Done) → IsReady o h s → length s.caller.nonce ≤ most_nonce → length n ≡ nonce_bytes
+    → s.keep ≡ true
     → outcome (present o h) (sealed s) n ≡ Ok d → InStep o (next o h (sealed s) n) (rolled s.caller n)
 keeps o h s n d r short whole keep e =
     let i = r.in_step in
     let t = trip (present o h) s n d i.0 r.spelled i.1 i.2 r.present e in
     let needs : needs_authorization (code_for d.command.body) ≡ true = ap (λ (c : Command). needs_authorization (code_for c.body)) t.command ∙ t.met.needs in
     subst (λ g. InStep o g (rolled s.caller n)) (sym (next_is o h (sealed s) n d e))
-    (still o h s.caller i.0 d.command d.reply n (seal_auth s) i.1 i.2 (loaded_handle (sessions_at o h) s.caller.handle i.0 i.1) whole short needs (ap (λ (c : Command). c.auths.items) t.command) refl (ap attrs_for keep))
+    (still o h s.caller i.0 d.command d.reply n (seal_auth s) i.1 i.2 (loaded_handle (sessions_at o h) s.caller.handle i.0 i.1) whole short needs
+    (ap (λ (c : Command). c.auths.items) t.command) refl (ap attrs_for keep))
 
 -- A refusal is read as its code, whatever it answers.
-pub refused_read : (o : Origin) (h : History) (c : CommandCode) (bytes n : List ℕ) (code : ℕ) → outcome (present o h) bytes n ≡ Err code → read_all (response c) (answer o h bytes n) ≡ Ok (responses.Code code)
+pub refused_read : (o : Origin) (h : History) (c : CommandCode) (bytes n : List ℕ) (code : ℕ) → outcome (present o h) bytes n ≡ Err code
+    → read_all (response c) (answer o h bytes n) ≡ Ok (responses.Code code)
 refused_read o h c bytes n code e =
     let k = refused_with (present o h) bytes n code e in
     ap (λ (r : Result Done ℕ). read_all (response c) (answered r)) e ∙ code_read c code k.0 k.1
 
 pub stays : (o : Origin) (h : History) (s : Seal) (n : List ℕ) (code : ℕ) → InStep o h s.caller → outcome (present o h) (sealed s) n ≡ Err code
-    → (opened (waiting s) (answer o h (sealed s) n) ≡ Err (Code code)) × (given_up (waiting s) (answer o h (sealed s) n) ≡ Some s.caller) × InStep o (next o h (sealed s) n) s.caller
+    → (opened (waiting s) (answer o h (sealed s) n) ≡ Err (Code code)) × (given_up (waiting s) (answer o h (sealed s) n) ≡ Some s.caller)
+    × InStep o (next o h (sealed s) n) s.caller
 stays o h s n code i e =
     let read_it = refused_read o h (code_for s.body) (sealed s) n code e in
     (ap (opened_response (waiting s)) read_it, ap (caller_of_refusal (waiting s)) read_it, subst (λ g. InStep o g s.caller) (sym (ap (with_outcome h n) e)) i)

@@ -54,7 +54,8 @@ behind l x one two f = subst (λ (k : ℕ). Fits k l x) (omega (arith, length-ap
 -- how a command that is spelled is read before its parameters
 pub record IsReadAs (c : Command) : Type 0 where
   pub at : ℕ
-  pub is : read 0 before_params (at_start (spelling command c)) ≡ Ok (record { header = header_of c; handles = handles_of c.body; auths = c.auths.items }, record { rest = command_params c.body; at = at })
+  pub is : read 0 before_params (at_start (spelling command c))
+      ≡ Ok (record { header = header_of c; handles = handles_of c.body; auths = c.auths.items }, record { rest = command_params c.body; at = at })
 
 pub read_as : (c : Command) → Fits (length (spelling command c)) command c → IsReadAs c
 unfolding command
@@ -71,11 +72,18 @@ read_as c f =
     let i = behind (authorization h.tag) c.auths.items two (three ++ four) g.1.0 in
     let e = again buffer buffer_roomy 0 (authorization h.tag) c.auths.items four (0 + length one + length two) i in
     let at = 0 + length one + length two + length three in
-    let read_all = read_in_turn (one ++ (two ++ (three ++ four))) (h, place (two ++ (three ++ four)) (0 + length one)) (handles_of c.body, place (three ++ four) (0 + length one + length two))
+    let read_all =
+    read_in_turn (one ++ (two ++ (three ++ four))) (h, place (two ++ (three ++ four)) (0 + length one))
+    (handles_of c.body, place (three ++ four) (0 + length one + length two))
     (c.auths.items, place four at) a b e in
     record {
       at = at;
-      is = subst (λ (rest : List ℕ). read 0 before_params (at_start (one ++ (two ++ (three ++ four)))) ≡ Ok (record { header = h; handles = handles_of c.body; auths = c.auths.items }, place rest at)) (append-nil params) read_all;
+      is =
+          subst
+          (λ (rest : List ℕ).
+          read 0 before_params (at_start (one ++ (two ++ (three ++ four))))
+          ≡ Ok (record { header = h; handles = handles_of c.body; auths = c.auths.items }, place rest at))
+          (append-nil params) read_all;
     }
 
 pub has_spelling : (c : Command) → Fits (length (spelling command c)) command c → Spells command c (spelling command c)
@@ -97,7 +105,8 @@ session_by _ _ policy e = absurd (let z : ⊥ = cc in z)
 
 -- The handle of a session that is loaded is a session's.
 pub loaded_handle : (sessions : List (Option Session)) (handle : ℕ) (s : Session) → loaded sessions handle ≡ Some s → is_session handle ≡ true
-loaded_handle sessions handle s e = session_by (is_hmac s.session_type) (is_hmac_session handle) (is_policy handle) (of_kind handle (session_in sessions (slot_of handle)) s e).1
+loaded_handle sessions handle s e =
+    session_by (is_hmac s.session_type) (is_hmac_session handle) (is_policy handle) (of_kind handle (session_in sessions (slot_of handle)) s e).1
 
 -- ---- the HMAC of a sealed command
 
@@ -124,11 +133,14 @@ tagged false e = absurd (let z : ⊥ = cc in z)
 one_key : (c : CallerSession) (y : Session) (e : Entity) (auth : List ℕ) → Agrees c y → trim auth ≡ trim (follows y e) → key_for y e ≡ whole_key c.key auth
 one_key c y e auth a t = ap (λ (k : List ℕ). k ++ trim (follows y e)) a.key ∙ ap (λ (v : List ℕ). c.key ++ v) (sym t)
 
-one_text : (c : CallerSession) (y : Session) (code code' : CommandCode) (names names' : List (List ℕ)) (params params' nonce : List ℕ) (attrs : ℕ) → Agrees c y → code ≡ code' → names ≡ names' → params ≡ params'
-    → mac_text (cp_hash y.hash (code_number code) names params) nonce y.nonce attrs ≡ mac_text (cp_hash c.hash (code_number code') names' params') nonce c.nonce attrs
+one_text : (c : CallerSession) (y : Session) (code code' : CommandCode) (names names' : List (List ℕ)) (params params' nonce : List ℕ) (attrs : ℕ) → Agrees c y
+    → code ≡ code' → names ≡ names' → params ≡ params'
+    → mac_text (cp_hash y.hash (code_number code) names params) nonce y.nonce attrs
+    ≡ mac_text (cp_hash c.hash (code_number code') names' params') nonce c.nonce attrs
 one_text c y code code' names names' params params' nonce attrs a k n q = rw (a.hash, k, n, q, a.nonce) refl
 
-pub met : (p : Present) (s : Seal) (x : Presented) (y : Session) → HasSpelling s → loaded p.sessions s.caller.handle ≡ Some y → Agrees s.caller y → IsPresent p s
+pub met : (p : Present) (s : Seal) (x : Presented) (y : Session) → HasSpelling s → loaded p.sessions s.caller.handle ≡ Some y → Agrees s.caller y
+    → IsPresent p s
     → presented p (sealed s) ≡ Ok x → Met p s x
 met p s x y fits is agrees present asked =
     let c = sealed_command s in
@@ -148,11 +160,14 @@ met p s x y fits is agrees present asked =
     let names = names_of p x.handles in
     let evidence : evidence_of (loaded p.sessions a.session) e x.code names x.params p.registers.update_counter (a ∷ []) ≡ Ok x.evidence =
     subst (λ l. evidence_of (first_loaded (loaded p.sessions) l) e x.code names x.params p.registers.update_counter l ≡ Ok x.evidence) auths r.evidence in
-    let found = by_its_session (loaded p.sessions a.session) e x.code names x.params p.registers.update_counter a [] x.evidence (loaded_handle p.sessions s.caller.handle y is) evidence in
+    let found =
+    by_its_session (loaded p.sessions a.session) e x.code names x.params p.registers.update_counter a [] x.evidence
+    (loaded_handle p.sessions s.caller.handle y is) evidence in
     let one : found.0 ≡ y = some_is found.0 y (sym found.1 ∙ is) in
     let agree : Agrees s.caller found.0 = subst (Agrees s.caller) (sym one) agrees in
     let follow : trim s.auth ≡ trim (follows found.0 e) =
-    present.auth ∙ ap (λ z. trim (asked_for z (entity_of p (first (handles_of s.body))))) found.1 ∙ ap (λ (l : List ℕ). trim (follows found.0 (entity_of p (first l)))) (sym list) in
+    present.auth ∙ ap (λ z. trim (asked_for z (entity_of p (first (handles_of s.body))))) found.1
+    ∙ ap (λ (l : List ℕ). trim (follows found.0 (entity_of p (first l)))) (sym list) in
     record {
       signed = record { session = found.0; key = key_for found.0 e; p_hash = cp_hash found.0.hash (code_number x.code) names x.params; auth = a };
       evidence = found.2;
@@ -160,19 +175,23 @@ met p s x y fits is agrees present asked =
       agrees = agree;
       auth = refl;
       key = one_key s.caller found.0 e s.auth agree follow;
-      text = one_text s.caller found.0 x.code (code_for s.body) names s.names x.params (command_params s.body) s.nonce (attrs_for s.keep) agree code (ap (names_of p) list ∙ sym present.names) params;
+      text =
+          one_text s.caller found.0 x.code (code_for s.body) names s.names x.params (command_params s.body) s.nonce (attrs_for s.keep) agree code
+          (ap (names_of p) list ∙ sym present.names) params;
       code = code;
       auths = auths;
       needs = tagged (needs_authorization (code_for s.body)) (subst (λ (z : Checked). check_tag z.header.code z.header.tag ≡ Ok tt) before r.tag);
     }
 
-met_mac : (p : Present) (s : Seal) (x : Presented) (m : Met p s x) → hmac m.signed.session.hash m.signed.key (command_text m.signed) ≡ hmac s.caller.hash (seal_key s) (seal_text s)
+met_mac : (p : Present) (s : Seal) (x : Presented) (m : Met p s x)
+    → hmac m.signed.session.hash m.signed.key (command_text m.signed) ≡ hmac s.caller.hash (seal_key s) (seal_text s)
 met_mac p s x m = rw (m.agrees.hash, m.key, m.text) refl
 
 -- A sealed command has an HMAC.
 pub met_needs : (p : Present) (s : Seal) (x : Presented) (m : Met p s x) → needs_none m.signed ≡ false
 met_needs p s x m =
-    both_false (is_empty m.signed.key) (is_empty m.signed.auth.hmac) (some_bytes m.signed.auth.hmac (subst (λ (a : Auth). 0 < length a.hmac) (sym m.auth) (hmac_some s.caller.hash (seal_key s) (seal_text s))))
+    both_false (is_empty m.signed.key) (is_empty m.signed.auth.hmac)
+    (some_bytes m.signed.auth.hmac (subst (λ (a : Auth). 0 < length a.hmac) (sym m.auth) (hmac_some s.caller.hash (seal_key s) (seal_text s))))
 
 -- ---- The last check does not fail.
 
@@ -182,6 +201,8 @@ signed_by false given wanted e = (bytes_eq-Decides given wanted).1 e
 
 pub passes : (p : Present) (s : Seal) (x : Presented) → Met p s x → check_evidence x.entity x.evidence ≡ Ok tt
 passes p s x m =
-    let same : m.signed.auth.hmac ≡ hmac m.signed.session.hash m.signed.key (command_text m.signed) = ap (λ (a : Auth). a.hmac) m.auth ∙ sym (met_mac p s x m) in
-    let signs : is_signed m.signed ≡ true = signed_by (needs_none m.signed) m.signed.auth.hmac (hmac m.signed.session.hash m.signed.key (command_text m.signed)) same in
+    let same : m.signed.auth.hmac ≡ hmac m.signed.session.hash m.signed.key (command_text m.signed) =
+    ap (λ (a : Auth). a.hmac) m.auth ∙ sym (met_mac p s x m) in
+    let signs : is_signed m.signed ≡ true =
+    signed_by (needs_none m.signed) m.signed.auth.hmac (hmac m.signed.session.hash m.signed.key (command_text m.signed)) same in
     ap (check_evidence x.entity) m.evidence ∙ ap (λ b. refuse (not b) (failure x.entity)) signs

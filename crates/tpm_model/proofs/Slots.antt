@@ -46,7 +46,8 @@ of_kind handle (Some x) y e = go (is_handle_of handle x) refl e
     go true t e = (e, subst (λ z. is_handle_of handle z ≡ true) (some_is x y e) t)
     go false t e = absurd (let z : ⊥ = cc in z)
 
-pub by_start : (o : Origin) (live : Bool) (start : Option Start) (n : List ℕ) (made : List Assertion) (y : Session) → (if live then option_map (as_session o n made) start else None) ≡ Some y
+pub by_start : (o : Origin) (live : Bool) (start : Option Start) (n : List ℕ) (made : List Assertion) (y : Session)
+    → (if live then option_map (as_session o n made) start else None) ≡ Some y
     → (live ≡ true) × (x : Start) × (start ≡ Some x) × (y ≡ as_session o n made x)
 by_start o true None n made y e = absurd (let z : ⊥ = cc in z)
 by_start o true (Some x) n made y e = (refl, x, refl, sym (some_is (as_session o n made x) y e))

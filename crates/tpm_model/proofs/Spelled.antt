@@ -76,9 +76,12 @@ was_read p bytes x e =
 pub spelled_by : (p : Present) (bytes n : List ℕ) (d : Done) → Passed p bytes n d → Spells command d.command bytes
 spelled_by p bytes n d s =
     let r = was_read p bytes s.x s.asked in
-    let before = read_spells buffer buffer_sound (cut before_params) bytes (r.before, r.place.rest) (cut_read before_params bytes ∙ ap (λ o. o >>= parted) r.is) in
+    let before =
+    read_spells buffer buffer_sound (cut before_params) bytes (r.before, r.place.rest) (cut_read before_params bytes ∙ ap (λ o. o >>= parted) r.is) in
     let params = read_spells buffer buffer_sound (parameters r.before.header.code) r.place.rest s.params
-    (subst (λ code. read_all (parameters code) r.place.rest ≡ Ok s.params) r.code (subst (λ rest. read_all (parameters s.x.code) rest ≡ Ok s.params) r.params (code_ok _ s.params s.read))) in
+    (subst (λ code. read_all (parameters code) r.place.rest ≡ Ok s.params) r.code
+    (subst (λ rest. read_all (parameters s.x.code) rest ≡ Ok s.params) r.params (code_ok _ s.params s.read)))
+    in
     let parts = of_parts bytes r.place.rest r.before s.params before params in
     let body : d.command.body ≡ body_from r.before.handles s.params = s.body ∙ ap (λ hs. body_from hs s.params) r.handles in
     let auths : d.command.auths.items ≡ r.before.auths = s.auths ∙ r.auths in

@@ -39,31 +39,37 @@ no_close true = refl
 no_close false = refl
 
 -- what a step of a session leaves of its slot
-lives_on : (k : ℕ) (c : Command) (r : Reply) (n : List ℕ) (h : History) (a : Auth) → needs_authorization (code_for c.body) ≡ true → c.auths.items ≡ a ∷ [] → a.attrs ≡ attrs_for true
+lives_on : (k : ℕ) (c : Command) (r : Reply) (n : List ℕ) (h : History) (a : Auth) → needs_authorization (code_for c.body) ≡ true → c.auths.items ≡ a ∷ []
+    → a.attrs ≡ attrs_for true
     → lives k h ≡ true → lives k (Accepted c r n ∷ h) ≡ true
 lives_on k c r n h a needs one keep l =
     let close : closes k c.auths.items ≡ false = ap (closes k) one ∙ ap (λ (f : ℕ). is_of_slot k a && not (continues f)) keep ∙ no_close (is_of_slot k a) in
     rw (no_begin k c.body r.body needs, no_clear k c.body needs, close) l
 
-start_on : (k : ℕ) (c : Command) (r : Reply) (n : List ℕ) (h : History) → needs_authorization (code_for c.body) ≡ true → start_of k (Accepted c r n ∷ h) ≡ start_of k h
+start_on : (k : ℕ) (c : Command) (r : Reply) (n : List ℕ) (h : History) → needs_authorization (code_for c.body) ≡ true
+    → start_of k (Accepted c r n ∷ h) ≡ start_of k h
 start_on k c r n h needs = rw (no_begin k c.body r.body needs) refl
 
 -- A caller that keeps its session is in step after the step.
 pub still : (o : Origin) (h : History) (c : CallerSession) (y : Session) (d : Command) (r : Reply) (n : List ℕ) (a : Auth)
     → loaded (sessions_at o h) c.handle ≡ Some y → Agrees c y → is_session c.handle ≡ true → length n ≡ nonce_bytes → length c.nonce ≤ most_nonce
-    → needs_authorization (code_for d.body) ≡ true → d.auths.items ≡ a ∷ [] → a.session ≡ c.handle → a.attrs ≡ attrs_for true → InStep o (Accepted d r n ∷ h) (rolled c n)
+    → needs_authorization (code_for d.body) ≡ true → d.auths.items ≡ a ∷ [] → a.session ≡ c.handle → a.attrs ≡ attrs_for true
+    → InStep o (Accepted d r n ∷ h) (rolled c n)
 still o h c y d r n a is agrees session whole short needs one handle keep =
     let k = slot_of c.handle in
     let g : History = Accepted d r n ∷ h in
     let x = held o h c.handle y is in
-    let by : authorizes k d.auths.items ≡ true = ap (authorizes k) one ∙ subst (λ (i : ℕ). authorizes (slot_of i) (a ∷ []) ≡ true) handle (its_slot a (subst (λ (i : ℕ). is_session i ≡ true) (sym handle) session)) in
+    let by : authorizes k d.auths.items ≡ true =
+    ap (authorizes k) one
+    ∙ subst (λ (i : ℕ). authorizes (slot_of i) (a ∷ []) ≡ true) handle (its_slot a (subst (λ (i : ℕ). is_session i ≡ true) (sym handle) session)) in
     let live = lives_on k d r n h a needs one keep x.live in
     let start : start_of k g ≡ Some x.start = start_on k d r n h needs ∙ x.there in
     let nonce : last_nonce k g ≡ n = chosen (begins k d.body r.body) (authorizes k d.auths.items) n (last_nonce k h) by in
     let z = as_session o n (assertions_of k g) x.start in
     let there : session_at o g k ≡ Some z = rw (live, start, nonce) refl in
     let kind : is_handle_of c.handle z ≡ true = subst (λ s. is_handle_of c.handle s ≡ true) x.is x.kind in
-    let load : loaded (sessions_at o g) c.handle ≡ Some z = ap (if_of_kind c.handle) (in_slot o g k x.slot ∙ there) ∙ ap (λ b. if b then some z else None) kind in
+    let load : loaded (sessions_at o g) c.handle ≡ Some z =
+    ap (if_of_kind c.handle) (in_slot o g k x.slot ∙ there) ∙ ap (λ b. if b then some z else None) kind in
     let long : length x.start.request.nonce_caller ≡ length c.nonce = sym (ap (λ (s : Session). s.nonce_length) x.is) ∙ agrees.length in (
       z,
       load,

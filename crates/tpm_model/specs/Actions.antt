@@ -1,5 +1,5 @@
--- What each command does, or refuses (Part 3, the detailed actions in the section of each; the order of refusals is this
--- profile's).
+-- What each command does, or refuses (Part 3, the detailed actions in the section of each; the order of refusals is
+-- this profile's).
 use Rattle.std.specs.Prelude.{ℕ, ◌+◌, ◌^◌, Bool, false, not, ◌&&◌, ◌||◌, ◌==◌, nat_lt, nat_le, bytes_eq, List, [], ◌∷◌}
 use Rattle.std.specs.Prelude.{length, take, drop, Option, is_some, is_none, Result, Ok, Err, ok_or, if◌then◌else◌}
 use Rattle.std.specs.Int.{w64, to_be_bytes}
@@ -50,7 +50,8 @@ check_reset q = refuse (not (q == 16 || q == 23)) rc_locality
 -- A nonce has 16 bytes at least, and no more than a digest (Part 3, 11.1).
 abbrev pub start_session : List (Option Session) → StartAuth → List ℕ → Result ReplyBody ℕ
 start_session sessions s nonce = do
-  _ ← refuse (nat_lt (length s.nonce_caller) 16 || nat_lt (digest_len s.auth_hash) (length s.nonce_caller)) (rc_size + of_parameter 1)
+  _ ← refuse (nat_lt (length s.nonce_caller) 16 || nat_lt (digest_len s.auth_hash) (length s.nonce_caller))
+      (rc_size + of_parameter 1)
   k ← ok_or (free_slot sessions) rc_session_memory
   Ok (replies.StartAuthSession (record { session = handle_for s.session_type k; nonce_tpm = nonce_from s nonce }))
 
@@ -64,7 +65,8 @@ abbrev pub policy_session : Option Session → Result Session ℕ
 policy_session s = ok_or s rc_reference_h0
 
 -- The registers are as they were at an earlier TPM2_PolicyPCR, and have the digest that is given, if one is.
-abbrev pub check_policy_pcr : Session → (composite : List ℕ) → (update_counter : ℕ) → (pcr_digest : List ℕ) → Result (Unit {0}) ℕ
+abbrev pub check_policy_pcr : Session → (composite : List ℕ) → (update_counter : ℕ) → (pcr_digest : List ℕ)
+    → Result (Unit {0}) ℕ
 check_policy_pcr s composite update_counter pcr_digest = if is_trial s.session_type then Ok tt else do
   _ ← refuse (differs s.policy.update_counter update_counter) rc_pcr_changed
   refuse (not (is_empty pcr_digest) && not (bytes_eq pcr_digest composite)) (rc_value + of_parameter 1)
@@ -75,7 +77,8 @@ is_listed d (e ∷ es) = bytes_eq d e || is_listed d es
 
 -- One of the digests is that of the policy so far.
 abbrev pub check_policy_or : Session → List (List ℕ) → Result (Unit {0}) ℕ
-check_policy_or s digests = refuse (not (is_trial s.session_type) && not (is_listed s.policy.digest digests)) (rc_value + of_parameter 1)
+check_policy_or s digests =
+    refuse (not (is_trial s.session_type) && not (is_listed s.policy.digest digests)) (rc_value + of_parameter 1)
 
 -- No other code was set, in a trial either.
 abbrev pub check_policy_code : Session → ℕ → Result (Unit {0}) ℕ
@@ -83,8 +86,8 @@ check_policy_code s code = refuse (differs s.policy.code code) (rc_value + of_pa
 
 -- ---- counters
 
--- what is defined is a counter, with none of the attributes that are left out or not for a caller to set, and there is a way
--- to write it and one to read it
+-- what is defined is a counter, with none of the attributes that are left out or not for a caller to set, and there
+-- is a way to write it and one to read it
 abbrev pub is_definable : ℕ → Bool
 is_definable attrs = is_counter attrs && not (is_undefinable attrs) && is_writable attrs && is_readable attrs
 
@@ -99,7 +102,8 @@ abbrev pub check_define : Option Counter → (counters : ℕ) → (auth : List �
 check_define there counters auth public = do
   _ ← refuse (not (is_definable public.attrs)) (rc_attributes + of_parameter 2)
   _ ← refuse (nat_lt (digest_len public.alg) (length (trim auth))) (rc_size + of_parameter 1)
-  _ ← refuse (not (is_empty public.policy) && not (length public.policy == digest_len public.alg)) (rc_size + of_parameter 2)
+  _ ← refuse (not (is_empty public.policy) && not (length public.policy == digest_len public.alg))
+      (rc_size + of_parameter 2)
   _ ← refuse (not (public.data_size == counter_size)) (rc_size + of_parameter 2)
   _ ← refuse (is_some there) rc_nv_defined
   refuse (nat_le most_counters counters) rc_nv_space
@@ -147,7 +151,9 @@ action p (bodies.PcrEvent q event) nonce = then_reply (check_extend q) (replies.
 -- 22.8, TPM2_PCR_Reset
 action p (bodies.PcrReset q) nonce = then_reply (check_reset q) replies.PcrReset
 -- 22.4, TPM2_PCR_Read
-action p (bodies.PcrRead sels) nonce = Ok (replies.PcrRead p.registers.update_counter (selections_read sels) (values_read (value_in p.registers.banks) sels))
+action p (bodies.PcrRead sels) nonce =
+    Ok (replies.PcrRead p.registers.update_counter (selections_read sels)
+    (values_read (value_in p.registers.banks) sels))
 -- 11.1, TPM2_StartAuthSession
 action p (bodies.StartAuthSession start) nonce = start_session p.sessions start nonce
 -- 28.4, TPM2_FlushContext
@@ -155,7 +161,9 @@ action p (bodies.FlushContext handle) nonce = then_reply (check_flush (loaded p.
 -- 23.7, TPM2_PolicyPCR
 action p (bodies.PolicyPcr handle pcr_digest sels) nonce = do
   s ← policy_session (loaded p.sessions handle)
-  then_reply (check_policy_pcr s (composite s.hash (value_in p.registers.banks) sels) p.registers.update_counter pcr_digest) replies.PolicyPcr
+  then_reply
+      (check_policy_pcr s (composite s.hash (value_in p.registers.banks) sels) p.registers.update_counter pcr_digest)
+      replies.PolicyPcr
 -- 23.6, TPM2_PolicyOR
 action p (bodies.PolicyOr handle digests) nonce = do
   s ← policy_session (loaded p.sessions handle)
@@ -165,19 +173,25 @@ action p (bodies.PolicyCommandCode handle code) nonce = do
   s ← policy_session (loaded p.sessions handle)
   then_reply (check_policy_code s code) replies.PolicyCommandCode
 -- 23.17, TPM2_PolicyAuthValue
-action p (bodies.PolicyAuthValue handle) nonce = then_reply (policy_session (loaded p.sessions handle)) replies.PolicyAuthValue
+action p (bodies.PolicyAuthValue handle) nonce =
+    then_reply (policy_session (loaded p.sessions handle)) replies.PolicyAuthValue
 -- 11.2, TPM2_PolicyRestart
-action p (bodies.PolicyRestart handle) nonce = then_reply (policy_session (loaded p.sessions handle)) replies.PolicyRestart
+action p (bodies.PolicyRestart handle) nonce =
+    then_reply (policy_session (loaded p.sessions handle)) replies.PolicyRestart
 -- 23.19, TPM2_PolicyGetDigest
 action p (bodies.PolicyGetDigest handle) nonce = do
   s ← policy_session (loaded p.sessions handle)
   Ok (replies.PolicyGetDigest s.policy.digest)
 -- 31.3, TPM2_NV_DefineSpace
-action p (bodies.NvDefineSpace auth public) nonce = then_reply (check_define (counter_in p.nv.counters public.index) (length p.nv.counters) auth public) replies.NvDefineSpace
+action p (bodies.NvDefineSpace auth public) nonce =
+    then_reply (check_define (counter_in p.nv.counters public.index) (length p.nv.counters) auth public)
+    replies.NvDefineSpace
 -- 31.4, TPM2_NV_UndefineSpace
-action p (bodies.NvUndefineSpace index) nonce = then_reply (defined_counter (counter_in p.nv.counters index)) replies.NvUndefineSpace
+action p (bodies.NvUndefineSpace index) nonce =
+    then_reply (defined_counter (counter_in p.nv.counters index)) replies.NvUndefineSpace
 -- 31.8, TPM2_NV_Increment
-action p (bodies.NvIncrement by index) nonce = then_reply (increment p.nv.greatest (counter_in p.nv.counters index) by index) replies.NvIncrement
+action p (bodies.NvIncrement by index) nonce =
+    then_reply (increment p.nv.greatest (counter_in p.nv.counters index) by index) replies.NvIncrement
 -- 31.13, TPM2_NV_Read
 action p (bodies.NvRead by index size offset) nonce = do
   bytes ← read_counter (counter_in p.nv.counters index) by index size offset

@@ -61,7 +61,8 @@ check_handles p i (n ∷ ns) = do
 
 -- Sessions are there where a handle needs authorization, and nowhere else.
 abbrev pub check_tag : CommandCode → ℕ → Result (Unit {0}) ℕ
-check_tag code tag = if needs_authorization code then refuse (tag == 0x8001) rc_auth_missing else refuse (tag == 0x8002) rc_auth_context
+check_tag code tag =
+    if needs_authorization code then refuse (tag == 0x8001) rc_auth_missing else refuse (tag == 0x8002) rc_auth_context
 
 -- ---- the chain of checks
 
@@ -77,7 +78,8 @@ pub record Presented : Type 0 where
 -- the checks of the sessions, with what is present, and the parameters as they came
 abbrev pub evidence_in : Present → CommandCode → (handles : List ℕ) → (params : List ℕ) → List Auth → Result Evidence ℕ
 evidence_in p code handles params auths =
-    evidence_of (first_loaded (loaded p.sessions) auths) (entity_of p (first handles)) code (names_of p handles) params p.registers.update_counter auths
+    evidence_of (first_loaded (loaded p.sessions) auths) (entity_of p (first handles)) code (names_of p handles) params
+    p.registers.update_counter auths
 
 -- all checks before the password or the HMAC is compared
 abbrev pub presented : Present → List ℕ → Result Presented ℕ
@@ -89,7 +91,14 @@ presented p bytes = do
   _ ← check_tag head.0.code head.0.tag
   auths ← by_grammar (authorization head.0.tag) list.1
   evidence ← evidence_in p head.0.code list.0 auths.1.rest auths.0
-  Ok (record { code = head.0.code; handles = list.0; auths = auths.0; params = auths.1.rest; entity = entity_of p (first list.0); evidence = evidence })
+  Ok (record {
+    code = head.0.code;
+    handles = list.0;
+    auths = auths.0;
+    params = auths.1.rest;
+    entity = entity_of p (first list.0);
+    evidence = evidence;
+  })
 
 -- all checks before the parameters
 abbrev pub permitted : Present → List ℕ → Result Presented ℕ

@@ -97,7 +97,8 @@ check_auth _ code = Ok tt
 
 -- Nothing else has a policy.
 abbrev pub check_policy_allowed : Entity → CommandCode → Result (Unit {0}) ℕ
-check_policy_allowed (Index public auth) code = refuse (not (allows_policy (access_of code) public.attrs)) rc_auth_unavailable
+check_policy_allowed (Index public auth) code =
+    refuse (not (allows_policy (access_of code) public.attrs)) rc_auth_unavailable
 check_policy_allowed _ code = Err rc_auth_unavailable
 
 -- ---- the policy (Part 1, "Policy Session Authorization")
@@ -122,7 +123,8 @@ check_policy e code update_counter s = do
 -- The entity lets itself be used so, and a policy is met.
 abbrev pub check_entity : Authorizer → Entity → CommandCode → (update_counter : ℕ) → Result (Unit {0}) ℕ
 check_entity Password e code update_counter = check_auth e code
-check_entity (BySession s) e code update_counter = if is_hmac s.session_type then check_auth e code else check_policy e code update_counter s
+check_entity (BySession s) e code update_counter =
+    if is_hmac s.session_type then check_auth e code else check_policy e code update_counter s
 
 -- ---- the evidence
 
@@ -163,7 +165,8 @@ pub data Evidence : Type 0 where
   ByMac : (signed : Signed) → Evidence
 
 -- what a password or a session gives as evidence for a command with these Names and parameters
-abbrev pub evidence_by : Authorizer → Entity → CommandCode → (names : List (List ℕ)) → (params : List ℕ) → Auth → Evidence
+abbrev pub evidence_by : Authorizer → Entity → CommandCode → (names : List (List ℕ)) → (params : List ℕ) → Auth
+    → Evidence
 evidence_by Password e code names params a = ByPassword (trim a.hmac) (auth_value e)
 evidence_by (BySession s) e code names params a =
     ByMac (record { session = s; key = key_for s e; p_hash = cp_hash s.hash (code_number code) names params; auth = a })
@@ -174,7 +177,8 @@ first_loaded loaded [] = None
 first_loaded loaded (a ∷ others) = loaded a.session
 
 -- All checks of the sessions but the last. The parameters are as they came.
-abbrev pub evidence_of : Option Session → Entity → CommandCode → (names : List (List ℕ)) → (params : List ℕ) → (update_counter : ℕ) → List Auth → Result Evidence ℕ
+abbrev pub evidence_of : Option Session → Entity → CommandCode → (names : List (List ℕ)) → (params : List ℕ)
+    → (update_counter : ℕ) → List Auth → Result Evidence ℕ
 evidence_of s e code names params update_counter [] = Ok NotAsked
 evidence_of s e code names params update_counter (a ∷ others) = do
   by ← check_loaded a.session s
@@ -194,7 +198,8 @@ check_evidence e (ByPassword given wanted) = refuse (not (bytes_eq given wanted)
 check_evidence e (ByMac x) = refuse (not (is_signed x)) (failure e)
 
 -- all checks of the sessions
-abbrev pub authorize : Option Session → Entity → CommandCode → (names : List (List ℕ)) → (params : List ℕ) → (update_counter : ℕ) → List Auth → Result (Unit {0}) ℕ
+abbrev pub authorize : Option Session → Entity → CommandCode → (names : List (List ℕ)) → (params : List ℕ)
+    → (update_counter : ℕ) → List Auth → Result (Unit {0}) ℕ
 authorize s e code names params update_counter auths = do
   evidence ← evidence_of s e code names params update_counter auths
   check_evidence e evidence
@@ -207,11 +212,14 @@ nonce_next s nonce = take s.nonce_length nonce
 
 -- The text of a reply's HMAC: the newer nonce is the session's next, the older the caller's.
 abbrev pub reply_text : Alg → CommandCode → (params newer older : List ℕ) → (attributes : ℕ) → List ℕ
-reply_text alg code params newer older attributes = mac_text (rp_hash alg (code_number code) params) newer older attributes
+reply_text alg code params newer older attributes =
+    mac_text (rp_hash alg (code_number code) params) newer older attributes
 
 -- The key is that of the command's check.
 abbrev pub reply_mac : Signed → CommandCode → (params nonce : List ℕ) → List ℕ
-reply_mac x code params nonce = hmac x.session.hash x.key (reply_text x.session.hash code params (nonce_next x.session nonce) x.auth.nonce x.auth.attrs)
+reply_mac x code params nonce =
+    hmac x.session.hash x.key
+    (reply_text x.session.hash code params (nonce_next x.session nonce) x.auth.nonce x.auth.attrs)
 
 -- A password is answered with continueSession set and nothing else (Part 1, "Password Authorizations").
 abbrev pub password_reply : AuthReply

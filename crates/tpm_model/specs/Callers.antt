@@ -31,7 +31,9 @@ use Rattle.tpm_model.specs.InStep.{CallerSession}
 
 -- Both nonces have one length: 16 bytes at least, and no more than a digest.
 abbrev pub nonces_fit : StartAuth → StartReply → Bool
-nonces_fit q r = length r.nonce_tpm == length q.nonce_caller && nat_le 16 (length q.nonce_caller) && nat_le (length q.nonce_caller) (digest_len q.auth_hash)
+nonces_fit q r =
+    length r.nonce_tpm == length q.nonce_caller && nat_le 16 (length q.nonce_caller)
+    && nat_le (length q.nonce_caller) (digest_len q.auth_hash)
 
 -- the authValue of what it is bound to, if it is bound
 abbrev pub bound_to : BindHandle → List ℕ → Option (List ℕ)
@@ -49,8 +51,8 @@ started_with q r bind_auth = if nonces_fit q r then Some (record {
 
 -- ---- sealing
 
--- what is sealed: by whom, the command, the Names of its handles, what follows the session key, the nonceCaller, and whether
--- the session is kept
+-- what is sealed: by whom, the command, the Names of its handles, what follows the session key, the nonceCaller, and
+-- whether the session is kept
 pub record Seal : Type 0 where
   pub caller : CallerSession
   pub body : CommandBody
@@ -73,10 +75,17 @@ command_params body = spelling (parameters (code_for body)) (params_of body)
 
 -- cpHash || nonceCaller || nonceTPM || attributes
 abbrev pub seal_text : Seal → List ℕ
-seal_text s = mac_text (cp_hash s.caller.hash (code_number (code_for s.body)) s.names (command_params s.body)) s.nonce s.caller.nonce (attrs_for s.keep)
+seal_text s =
+    mac_text (cp_hash s.caller.hash (code_number (code_for s.body)) s.names (command_params s.body)) s.nonce
+    s.caller.nonce (attrs_for s.keep)
 
 abbrev pub seal_auth : Seal → Auth
-seal_auth s = record { session = s.caller.handle; nonce = s.nonce; attrs = attrs_for s.keep; hmac = hmac s.caller.hash (seal_key s) (seal_text s) }
+seal_auth s = record {
+  session = s.caller.handle;
+  nonce = s.nonce;
+  attrs = attrs_for s.keep;
+  hmac = hmac s.caller.hash (seal_key s) (seal_text s);
+}
 
 -- the command with one session, whose HMAC is always there
 abbrev pub sealed_command : Seal → Command

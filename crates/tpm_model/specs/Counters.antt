@@ -33,8 +33,8 @@ without i counters = filter (λ c. not (has_index i c)) counters
 
 -- ---- values
 
--- What an increment makes of a value: the first since the definition gives one more than the greatest that any counter of
--- the device has had, and each later one gives one more (Part 1, "NV Counters").
+-- What an increment makes of a value: the first since the definition gives one more than the greatest that any
+-- counter of the device has had, and each later one gives one more (Part 1, "NV Counters").
 abbrev pub next_value : (greatest : ℕ) → Option ℕ → ℕ
 next_value greatest None = greatest + 1
 next_value greatest (Some v) = v + 1
@@ -49,7 +49,8 @@ incremented greatest c = record { public = written c.public; auth = c.auth; valu
 -- the counters with that of an index incremented
 abbrev pub with_increment : ℕ → (greatest : ℕ) → List Counter → List Counter
 with_increment i greatest [] = []
-with_increment i greatest (c ∷ counters) = if has_index i c then incremented greatest c ∷ counters else c ∷ with_increment i greatest counters
+with_increment i greatest (c ∷ counters) =
+    if has_index i c then incremented greatest c ∷ counters else c ∷ with_increment i greatest counters
 
 abbrev pub value_of : Option Counter → Option ℕ
 value_of None = None

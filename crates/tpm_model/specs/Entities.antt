@@ -21,7 +21,8 @@ pub data Entity : Type 0 where
   -- an index, with its public area as it is now
   Index : (public : NvPublic) → (auth : List ℕ) → Entity
 
--- Registers and TPM_RH_NULL have the empty value, and trailing zeros are no part of one (Part 1, "Authorization Values").
+-- Registers and TPM_RH_NULL have the empty value, and trailing zeros are no part of one (Part 1, "Authorization
+-- Values").
 abbrev pub auth_value : Entity → List ℕ
 auth_value Register = []
 auth_value Null = []
@@ -59,7 +60,8 @@ index_name None handle = handle_name handle
 index_name (Some c) handle = nv_name c.public
 
 abbrev pub name_of : Present → ℕ → List ℕ
-name_of p handle = if is_nv_index handle then index_name (counter_in p.nv.counters handle) handle else handle_name handle
+name_of p handle =
+    if is_nv_index handle then index_name (counter_in p.nv.counters handle) handle else handle_name handle
 
 abbrev pub names_of : Present → List ℕ → List (List ℕ)
 names_of p handles = map (name_of p) handles

@@ -7,6 +7,7 @@ pub mod Present
 pub mod Entities
 pub mod Authorization
 pub mod Actions
+pub mod Kept
 pub mod Answers
 pub mod Runs
 pub mod Premises

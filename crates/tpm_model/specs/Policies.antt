@@ -27,7 +27,8 @@ code_bytes code = to_be_bytes w32 (code_number code)
 
 -- The digest after an assertion (Part 3, 23.7, 23.6, 23.11 and 23.17).
 abbrev pub asserted : Alg → Assertion → List ℕ → List ℕ
-asserted alg (PcrAsserted selected pcr_digest update_counter) old = digest alg (old ++ code_bytes codes.PolicyPcr ++ spelling selections selected ++ pcr_digest)
+asserted alg (PcrAsserted selected pcr_digest update_counter) old =
+    digest alg (old ++ code_bytes codes.PolicyPcr ++ spelling selections selected ++ pcr_digest)
 asserted alg (OrAsserted digests) old = digest alg (zeros alg ++ code_bytes codes.PolicyOr ++ flat_map (λ d. d) digests)
 asserted alg (CodeAsserted code) old = digest alg (old ++ code_bytes codes.PolicyCommandCode ++ to_be_bytes w32 code)
 asserted alg AuthValueAsserted old = digest alg (old ++ code_bytes codes.PolicyAuthValue)
@@ -65,4 +66,9 @@ pub record Policy : Type 0 where
   pub auth_value : Bool
 
 abbrev pub policy_of : Alg → List Assertion → Policy
-policy_of alg made = record { digest = policy_digest alg made; code = code_set made; update_counter = counter_kept made; auth_value = asks_auth_value made }
+policy_of alg made = record {
+  digest = policy_digest alg made;
+  code = code_set made;
+  update_counter = counter_kept made;
+  auth_value = asks_auth_value made;
+}

@@ -36,7 +36,8 @@ use Rattle.tpm_model.specs.Runs.{Event}
 
 -- ---- cuts
 
--- A cut of the command is Ok exactly where the bytes from the place on begin so, and Err exactly where they have that fault.
+-- A cut of the command is Ok exactly where the bytes from the place on begin so, and Err exactly where they have that
+-- fault.
 pub record IsByGrammar {A : Type 0} (l : Layout A) (h : Here) : Type 0 where
   pub value : (x : A) (behind : Here) → (by_grammar l h ≡ Ok (x, behind)) ↔ Begins 0 l x h behind
   pub fault : (code : ℕ) → (by_grammar l h ≡ Err code) ↔ ((e : Refusal) × FaultFrom 0 l h e × (e.code ≡ code))
@@ -44,7 +45,8 @@ pub record IsByGrammar {A : Type 0} (l : Layout A) (h : Here) : Type 0 where
 -- The same of what is left, which the layout has to fill.
 pub record IsWholeByGrammar {A : Type 0} (l : Layout A) (bytes : List ℕ) : Type 0 where
   pub value : (x : A) → (code_only (read_all l bytes) ≡ Ok x) ↔ Spells l x bytes
-  pub fault : (code : ℕ) → (code_only (read_all l bytes) ≡ Err code) ↔ ((e : Refusal) × Fault l bytes e × (e.code ≡ code))
+  pub fault : (code : ℕ)
+      → (code_only (read_all l bytes) ≡ Err code) ↔ ((e : Refusal) × Fault l bytes e × (e.code ≡ code))
 
 -- ---- accepted buffers
 
@@ -58,7 +60,9 @@ IsAccepted o h bytes nonce = (d : Done) × (outcome (present o h) bytes nonce �
 
 -- The bytes spell a command whose session is an HMAC or policy session, with a nonempty HMAC.
 abbrev pub HasSessionMac : List ℕ → Type 0
-HasSessionMac bytes = (c : Command) × (a : Auth) × Spells command c bytes × (c.auths.items ≡ a ∷ []) × (is_session a.session ≡ true) × (0 < length a.hmac)
+HasSessionMac bytes =
+    (c : Command) × (a : Auth) × Spells command c bytes × (c.auths.items ≡ a ∷ []) × (is_session a.session ≡ true)
+    × (0 < length a.hmac)
 
 -- ---- nonces
 
@@ -112,7 +116,8 @@ text_checked (Err code) = []
 -- the texts whose HMACs are checked in a run
 abbrev pub texts_checked : Origin → History → List Event → List Keyed
 texts_checked o h [] = []
-texts_checked o h (Given bytes nonce ∷ es) = text_checked (presented (present o h) bytes) ++ (texts_checked o (next o h bytes nonce) es)
+texts_checked o h (Given bytes nonce ∷ es) =
+    text_checked (presented (present o h) bytes) ++ (texts_checked o (next o h bytes nonce) es)
 texts_checked o h (Cycled ∷ es) = texts_checked o (PowerCycle ∷ h) es
 
 abbrev pub IsAmong : {A : Type 0} → A → List A → Type 0
@@ -141,7 +146,8 @@ asked_for (Some s) e = follows s e
 -- It is sealed with the Names as they are now, and with the authValue that the rules ask for, without trailing zeros.
 pub record IsPresent (p : Present) (s : Seal) : Type 0 where
   pub names : s.names ≡ names_of p (handles_of s.body)
-  pub auth : trim s.auth ≡ trim (asked_for (loaded p.sessions s.caller.handle) (entity_of p (first (handles_of s.body))))
+  pub auth : trim s.auth
+      ≡ trim (asked_for (loaded p.sessions s.caller.handle) (entity_of p (first (handles_of s.body))))
 
 -- how many bytes are handed in, and how many a nonce of a session has at most
 abbrev pub nonce_bytes : ℕ
@@ -162,7 +168,10 @@ rolled c nonce = with_nonce c (take (length c.nonce) nonce)
 
 -- the response that was made, and the caller where it is kept
 abbrev pub opened_as : Seal → Done → List ℕ → Opened
-opened_as s d nonce = record { caller = if s.keep then Some (rolled s.caller nonce) else None; response = done_with d.reply }
+opened_as s d nonce = record {
+  caller = if s.keep then Some (rolled s.caller nonce) else None;
+  response = done_with d.reply;
+}
 
 -- ---- callers and a run
 
@@ -170,10 +179,13 @@ opened_as s d nonce = record { caller = if s.keep then Some (rolled s.caller non
 abbrev pub IsSealedBy : List Seal → List ℕ → Type 0
 IsSealedBy seals bytes = (s : Seal) × IsAmong s seals × Spells command (sealed_command s) bytes
 
--- Each buffer that is accepted, and whose session is an HMAC or policy session with a nonempty HMAC, is sealed by one of these.
+-- Each buffer that is accepted, and whose session is an HMAC or policy session with a nonempty HMAC, is sealed by one
+-- of these.
 abbrev pub AreSealed : Origin → List Seal → History → List Event → Type 0
 AreSealed o seals h [] = Unit {0}
-AreSealed o seals h (Given bytes nonce ∷ es) = (IsAccepted o h bytes nonce → HasSessionMac bytes → IsSealedBy seals bytes) × AreSealed o seals (next o h bytes nonce) es
+AreSealed o seals h (Given bytes nonce ∷ es) =
+    (IsAccepted o h bytes nonce → HasSessionMac bytes → IsSealedBy seals bytes)
+    × AreSealed o seals (next o h bytes nonce) es
 AreSealed o seals h (Cycled ∷ es) = AreSealed o seals (PowerCycle ∷ h) es
 
 abbrev pub IsOther : List ℕ → List Seal → Type 0
@@ -207,7 +219,8 @@ text_replied _ _ nonce = []
 abbrev pub texts_replied : Origin → History → List Event → List Keyed
 texts_replied o h [] = []
 texts_replied o h (Given bytes nonce ∷ es) =
-    text_replied (presented (present o h) bytes) (outcome (present o h) bytes nonce) nonce ++ texts_replied o (next o h bytes nonce) es
+    text_replied (presented (present o h) bytes) (outcome (present o h) bytes nonce) nonce
+    ++ texts_replied o (next o h bytes nonce) es
 texts_replied o h (Cycled ∷ es) = texts_replied o (PowerCycle ∷ h) es
 
 -- bytes that are given to a Waiting
@@ -229,14 +242,16 @@ text_opened w _ = []
 -- the texts whose HMACs are checked where these are opened
 abbrev pub texts_opened : List Opening → List Keyed
 texts_opened [] = []
-texts_opened (x ∷ xs) = text_opened (waiting x.seal) (read_all (response (code_for x.seal.body)) x.bytes) ++ texts_opened xs
+texts_opened (x ∷ xs) =
+    text_opened (waiting x.seal) (read_all (response (code_for x.seal.body)) x.bytes) ++ texts_opened xs
 
--- The same of the texts that are checked in the run of a new device, those of its replies, and those that opening checks.
+-- The same of the texts that are checked in the run of a new device, those of its replies, and those that opening
+-- checks.
 abbrev pub NoCollisionWith : Origin → List Event → List Opening → Type 0
 NoCollisionWith o es xs = AreFree (texts_checked o [] es ++ (texts_replied o [] es ++ texts_opened xs))
 
--- A run of a new device: its accepted commands with session HMACs are sealed by callers, the nonceCallers are pairwise different,
--- and no two different texts have the same HMAC.
+-- A run of a new device: its accepted commands with session HMACs are sealed by callers, the nonceCallers are
+-- pairwise different, and no two different texts have the same HMAC.
 pub record IsOfCallers (o : Origin) (seals : List Seal) (xs : List Opening) (es : List Event) : Type 0 where
   pub sealed : AreSealed o seals [] es
   pub differ : SealsDiffer seals

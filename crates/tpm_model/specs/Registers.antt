@@ -62,7 +62,8 @@ filled_with byte alg = replicate (digest_len alg) byte
 abbrev pub zeros : Alg → List ℕ
 zeros = filled_with 0
 
--- bytes 0xFF in a register of dynamic launch, and zeros in the others (this profile, after the PC Client Platform TPM Profile)
+-- bytes 0xFF in a register of dynamic launch, and zeros in the others (this profile, after the PC Client Platform TPM
+-- Profile)
 abbrev pub start_value : Alg → ℕ → List ℕ
 start_value alg q = if is_dynamic q then filled_with 0xFF alg else zeros alg
 
@@ -89,7 +90,8 @@ value_by alg q (StartAt locality) old = if q == 0 then locality_value locality a
 value_by alg q (Reset p) old = if p == q then zeros alg else old
 value_by alg q (Extend p ds) old = if p == q then extended alg old (digests_for alg ds) else old
 
--- The value of a register in a bank: from its start value or zeros, extended with all digests since its last start or reset.
+-- The value of a register in a bank: from its start value or zeros, extended with all digests since its last start or
+-- reset.
 abbrev pub register_value : List Change → Alg → ℕ → List ℕ
 register_value [] alg q = start_value alg q
 register_value (c ∷ cs) alg q = value_by alg q c (register_value cs alg q)
@@ -115,7 +117,8 @@ update_counter cs = updates cs % 2 ^ 32
 -- ---- registers as they are held
 
 abbrev pub all_registers : List ℕ
-all_registers = 0 ∷ 1 ∷ 2 ∷ 3 ∷ 4 ∷ 5 ∷ 6 ∷ 7 ∷ 8 ∷ 9 ∷ 10 ∷ 11 ∷ 12 ∷ 13 ∷ 14 ∷ 15 ∷ 16 ∷ 17 ∷ 18 ∷ 19 ∷ 20 ∷ 21 ∷ 22 ∷ 23 ∷ []
+all_registers =
+    0 ∷ 1 ∷ 2 ∷ 3 ∷ 4 ∷ 5 ∷ 6 ∷ 7 ∷ 8 ∷ 9 ∷ 10 ∷ 11 ∷ 12 ∷ 13 ∷ 14 ∷ 15 ∷ 16 ∷ 17 ∷ 18 ∷ 19 ∷ 20 ∷ 21 ∷ 22 ∷ 23 ∷ []
 
 -- the values of all registers, by bank and register
 unfoldable pub banks_of : (Alg → ℕ → List ℕ) → List (List (List ℕ))
@@ -162,7 +165,8 @@ select_of qs = map (λ byte. mask (map (λ q. q % 8) (filter (λ q. q / 8 == byt
 abbrev pub first_selected : ℕ → List Selection → List Selection
 first_selected left [] = []
 first_selected left (s ∷ sels) =
-    record { hash = s.hash; select = select_of (take left (selected_by s)) } ∷ first_selected (left - length (selected_by s)) sels
+    record { hash = s.hash; select = select_of (take left (selected_by s)) }
+    ∷ first_selected (left - length (selected_by s)) sels
 
 -- what was read of a selection: each of its entries, in which the bits of the registers that were not read are clear
 abbrev pub selections_read : List Selection → List Selection

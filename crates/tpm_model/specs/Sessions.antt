@@ -81,7 +81,8 @@ clears k _ = false
 abbrev pub lives : ℕ → History → Bool
 lives k [] = false
 lives k (PowerCycle ∷ h) = false
-lives k (Accepted c r n ∷ h) = begins k c.body r.body || (if clears k c.body || closes k c.auths.items then false else lives k h)
+lives k (Accepted c r n ∷ h) =
+    begins k c.body r.body || (if clears k c.body || closes k c.auths.items then false else lives k h)
 
 -- how a session was started, and the nonce that was handed in
 pub record Start : Type 0 where
@@ -112,19 +113,25 @@ last_nonce k (Accepted c r n ∷ h) = if begins k c.body r.body || authorizes k 
 abbrev pub pcr_assertion : Registers → SessionType → Alg → List ℕ → List Selection → Assertion
 pcr_assertion now Trial alg [] sels = PcrAsserted sels (composite alg (value_in now.banks) sels) None
 pcr_assertion now Trial alg pcr_digest sels = PcrAsserted sels pcr_digest None
-pcr_assertion now _ alg pcr_digest sels = PcrAsserted sels (composite alg (value_in now.banks) sels) (Some now.update_counter)
+pcr_assertion now _ alg pcr_digest sels =
+    PcrAsserted sels (composite alg (value_in now.banks) sels) (Some now.update_counter)
 
 -- in the session of this start
 abbrev pub pcr_asserted : Registers → Option Start → List ℕ → List Selection → List Assertion → List Assertion
 pcr_asserted now None pcr_digest sels old = old
-pcr_asserted now (Some start) pcr_digest sels old = pcr_assertion now start.request.session_type start.request.auth_hash pcr_digest sels ∷ old
+pcr_asserted now (Some start) pcr_digest sels old =
+    pcr_assertion now start.request.session_type start.request.auth_hash pcr_digest sels ∷ old
 
 -- what the slot's session asserts after a policy command on it, or another command
 abbrev pub asserted_by : ℕ → CommandBody → Registers → Option Start → List Assertion → List Assertion
-asserted_by k (bodies.PolicyPcr handle pcr_digest sels) now start old = if slot_of handle == k then pcr_asserted now start pcr_digest sels old else old
-asserted_by k (bodies.PolicyOr handle digests) now start old = if slot_of handle == k then OrAsserted digests ∷ old else old
-asserted_by k (bodies.PolicyCommandCode handle code) now start old = if slot_of handle == k then CodeAsserted code ∷ old else old
-asserted_by k (bodies.PolicyAuthValue handle) now start old = if slot_of handle == k then AuthValueAsserted ∷ old else old
+asserted_by k (bodies.PolicyPcr handle pcr_digest sels) now start old =
+    if slot_of handle == k then pcr_asserted now start pcr_digest sels old else old
+asserted_by k (bodies.PolicyOr handle digests) now start old =
+    if slot_of handle == k then OrAsserted digests ∷ old else old
+asserted_by k (bodies.PolicyCommandCode handle code) now start old =
+    if slot_of handle == k then CodeAsserted code ∷ old else old
+asserted_by k (bodies.PolicyAuthValue handle) now start old =
+    if slot_of handle == k then AuthValueAsserted ∷ old else old
 asserted_by k (bodies.PolicyRestart handle) now start old = if slot_of handle == k then [] else old
 asserted_by k _ now start old = old
 
@@ -134,7 +141,8 @@ abbrev pub assertions_of : ℕ → History → List Assertion
 assertions_of k [] = []
 assertions_of k (PowerCycle ∷ h) = []
 assertions_of k (Accepted c r n ∷ h) =
-    if begins k c.body r.body || authorizes k c.auths.items then [] else asserted_by k c.body (registers_after (changes h)) (start_of k h) (assertions_of k h)
+    if begins k c.body r.body || authorizes k c.auths.items then []
+    else asserted_by k c.body (registers_after (changes h)) (start_of k h) (assertions_of k h)
 
 -- ---- a session as it is held
 
@@ -162,7 +170,8 @@ abbrev pub nonce_from : StartAuth → List ℕ → List ℕ
 nonce_from start nonce = take (length start.nonce_caller) nonce
 
 abbrev pub key_of : Origin → Start → List ℕ
-key_of o s = session_key s.request.auth_hash (bound_value o s.request.bind) (nonce_from s.request s.nonce) s.request.nonce_caller
+key_of o s =
+    session_key s.request.auth_hash (bound_value o s.request.bind) (nonce_from s.request s.nonce) s.request.nonce_caller
 
 abbrev pub as_session : Origin → (last : List ℕ) → List Assertion → Start → Session
 as_session o last made s = record {
@@ -177,7 +186,8 @@ as_session o last made s = record {
 
 -- the session of a slot, where one lives
 abbrev pub session_at : Origin → History → ℕ → Option Session
-session_at o h k = if lives k h then option_map (as_session o (last_nonce k h) (assertions_of k h)) (start_of k h) else None
+session_at o h k =
+    if lives k h then option_map (as_session o (last_nonce k h) (assertions_of k h)) (start_of k h) else None
 
 abbrev pub sessions_at : Origin → History → List (Option Session)
 sessions_at o h = map (session_at o h) slots

@@ -50,10 +50,12 @@ behind-behind es fs s = ap (λ (gs : List Event). record { events = gs; refused 
 
 -- a byte of a line
 pub leads_longer : (p : Place) (byte : ℕ) → Leads p (byte ∷ []) [] Done (record { line = p.line ++ byte ∷ []; number = p.number; command = p.command })
-leads_longer p byte = λ more. ap (λ (bytes : List ℕ). script_from p.number p.command (map line_of (lines_of bytes))) (sym (append_assoc p.line (byte ∷ []) more))
+leads_longer p byte =
+    λ more. ap (λ (bytes : List ℕ). script_from p.number p.command (map line_of (lines_of bytes))) (sym (append_assoc p.line (byte ∷ []) more))
 
 -- a byte too many
-pub leads_too_long : (p q : Place) (byte : ℕ) → HasNoFeed p.line → nat_eq byte 10 ≡ false → most_digits ≤ length p.line → q.number ≡ p.number → Leads p (byte ∷ []) [] Refused q
+pub leads_too_long : (p q : Place) (byte : ℕ) → HasNoFeed p.line → nat_eq byte 10 ≡ false → most_digits ≤ length p.line → q.number ≡ p.number
+    → Leads p (byte ∷ []) [] Refused q
 leads_too_long p q byte f g le same = λ more.
     let long = p.line ++ byte ∷ first_line (lines_of more) in
     let is_long : most_digits < length long = omega (arith, le, length-append p.line (byte ∷ first_line (lines_of more))) in
@@ -63,7 +65,8 @@ leads_too_long p q byte f g le same = λ more.
 
 -- the line feed of a line that is accepted
 leads_next : (p q : Place) → HasNoFeed p.line → refused_from p.number (line_of p.line ∷ []) ≡ None
-    → q ≡ record { line = []; number = p.number + 1; command = next_command p.command (line_of p.line) } → Leads p (10 ∷ []) (events_from p.command (line_of p.line ∷ [])) Done q
+    → q ≡ record { line = []; number = p.number + 1; command = next_command p.command (line_of p.line) }
+    → Leads p (10 ∷ []) (events_from p.command (line_of p.line ∷ [])) Done q
 leads_next p q f accepted there = rw there (λ more.
     ap (λ (lines : List (List ℕ)). script_from p.number p.command (map line_of lines)) (ended_line p.line more f)
     ∙ script_from-more p.number p.command (line_of p.line) (map line_of (lines_of more)) accepted)
@@ -84,7 +87,8 @@ at_end : (p : Place) → HasNoFeed p.line → script_at p [] ≡ script_from p.n
 at_end p f = rw (append-nil p.line) (lines_at_end p.number p.command p.line f)
 
 -- bytes, and then others
-pub leads_both : (p q r : Place) (xs ys : List ℕ) (es fs : List Event) (status : Status) → Leads p xs es Done q → Leads q ys fs status r → Leads p (xs ++ ys) (es ++ fs) status r
+pub leads_both : (p q r : Place) (xs ys : List ℕ) (es fs : List Event) (status : Status) → Leads p xs es Done q → Leads q ys fs status r
+    → Leads p (xs ++ ys) (es ++ fs) status r
 leads_both p q r xs ys es fs Done f g = λ more.
     ap (λ (bytes : List ℕ). script_at p bytes) (append_assoc xs ys more) ∙ f (ys ++ more) ∙ ap (behind es) (g more) ∙ behind-behind es fs (script_at r more)
 leads_both p q r xs ys es fs Refused f g = λ more.
@@ -92,7 +96,8 @@ leads_both p q r xs ys es fs Refused f g = λ more.
 
 -- ---- lines that have ended
 
-all_accepted : (xs ys : List (List ℕ)) → AllByRecursion (λ (line : List ℕ). line_of line ≢ NotHexadecimal) xs → AllByRecursion (λ (line : List ℕ). line_of line ≢ NotHexadecimal) ys
+all_accepted : (xs ys : List (List ℕ)) → AllByRecursion (λ (line : List ℕ). line_of line ≢ NotHexadecimal) xs
+    → AllByRecursion (λ (line : List ℕ). line_of line ≢ NotHexadecimal) ys
     → AllByRecursion (λ (line : List ℕ). line_of line ≢ NotHexadecimal) (xs ++ ys)
 all_accepted [] ys f g = g
 all_accepted (x ∷ xs) ys f g = (f.0, all_accepted xs ys f.1 g)
@@ -218,7 +223,9 @@ takes_both xs ys r s t A B C status joins f g = record {
   events = f.events ++ g.events;
   leads = leads_both (place r) (place s) (place t) xs ys f.events g.events status f.leads g.leads;
   ends = ends_both r.line.items xs ys s.line.items t.line.items status f.ends g.ends;
-  performs = performs_both f.events (record { events = g.events; refused = refused_at status t.number }) r.device s.device t.device A B C joins f.performs g.performs;
+  performs =
+      performs_both f.events (record { events = g.events; refused = refused_at status t.number }) r.device s.device t.device A B C joins f.performs
+      g.performs;
   number = omega (arith, f.number, g.number, length-append xs ys);
   open_again = g.open_again;
 }
@@ -226,7 +233,8 @@ takes_both xs ys r s t A B C status joins f g = record {
 -- a byte more of a piece
 pub takes_more : (piece : List ℕ) (i : ℕ) (r s t : Run) (A B C : List ℕ → Type 0) (status : Status) → Joins A B C → i < length piece
     → Takes (take i piece) r s A Done → Takes (get_or piece i 0 ∷ []) s t B status → Takes (take (i + 1) piece) r t C status
-takes_more piece i r s t A B C status joins within f g = rw (take_more piece i 0) (takes_both (take i piece) (get_or piece i 0 ∷ []) r s t A B C status joins f g)
+takes_more piece i r s t A B C status joins within f g =
+    rw (take_more piece i 0) (takes_both (take i piece) (get_or piece i 0 ∷ []) r s t A B C status joins f g)
 
 -- A script that has come to a line that is refused is over.
 pub takes_further : (xs ys : List ℕ) (r s : Run) (A : List ℕ → Type 0) → Takes xs r s A Refused → Takes (xs ++ ys) r s A Refused
@@ -244,7 +252,8 @@ next_command-le k (Command bytes) = omega arith
 next_command-le k _ = omega arith
 
 -- the line feed of the present line
-pub takes_feed : (r s : Run) (A : List ℕ → Type 0) (status : Status) → IsOpen (place r) → EndsLine (line_of r.line.items) r s A status → Takes (10 ∷ []) r s A status
+pub takes_feed : (r s : Run) (A : List ℕ → Type 0) (status : Status) → IsOpen (place r) → EndsLine (line_of r.line.items) r s A status
+    → Takes (10 ∷ []) r s A status
 takes_feed r s A Done present ended =
     let number = ap (λ (p : Place). p.number) ended.place in
     record {
@@ -274,7 +283,10 @@ whole_script : (bytes : List ℕ) (first : Place) → first ≡ start → script
 whole_script bytes first is = ap (λ (p : Place). script_at p bytes) (sym is) ∙ ap (script_at first) (sym (append-nil bytes))
 
 last_script : (r s : Run) (A : List ℕ → Type 0) (status : Status) → EndsLine (line_of r.line.items) r s A status
-    → (last : Script) × (script_from r.number r.command (line_of r.line.items ∷ []) ≡ last) × (status ≡ status_for last.refused) × Performs last r.device s.device A
+    → (last : Script)
+    × (script_from r.number r.command (line_of r.line.items ∷ []) ≡ last)
+    × (status ≡ status_for last.refused)
+    × Performs last r.device s.device A
 last_script r s A Done ended = (
   record { events = events_from r.command (line_of r.line.items ∷ []); refused = None },
   ap (λ (n : Option ℕ). record { events = events_from r.command (line_of r.line.items ∷ []); refused = n }) ended.accepted,
@@ -301,13 +313,15 @@ answered_at_end bytes first r s A B C status joins is takes ended =
     let performs = performs_both takes.events last.0 first.device r.device s.device A B C joins takes.performs last.3 in
     subst (λ (t : Script). IsAnswer t first.device C status) (sym whole) (last.2, λ o h stands. (performs o h stands).text)
 
-answered_refused : (bytes : List ℕ) (first r : Run) (A : List ℕ → Type 0) → place first ≡ start → Takes bytes first r A Refused → IsAnswer (script bytes) first.device A Refused
+answered_refused : (bytes : List ℕ) (first r : Run) (A : List ℕ → Type 0) → place first ≡ start → Takes bytes first r A Refused
+    → IsAnswer (script bytes) first.device A Refused
 answered_refused bytes first r A is takes =
     let whole : script bytes ≡ record { events = takes.events; refused = Some r.number } = whole_script bytes (place first) is ∙ takes.leads [] in
     subst (λ (t : Script). IsAnswer t first.device A Refused) (sym whole) (refl, λ o h stands. (takes.performs o h stands).text)
 
 -- Whatever follows a line that is refused makes no difference.
-over : (bytes : List ℕ) (first r : Run) (A : List ℕ → Type 0) → place first ≡ start → Takes bytes first r A Refused → (more : List ℕ) → script (bytes ++ more) ≡ script bytes
+over : (bytes : List ℕ) (first r : Run) (A : List ℕ → Type 0) → place first ≡ start → Takes bytes first r A Refused → (more : List ℕ)
+    → script (bytes ++ more) ≡ script bytes
 over bytes first r A is takes = λ more.
     ap (λ (p : Place). script_at p (bytes ++ more)) (sym is) ∙ takes.leads more ∙ sym (whole_script bytes (place first) is ∙ takes.leads [])
 
@@ -346,7 +360,8 @@ keeps_none (Some xs) None keeps = keeps
 keeps_none (Some xs) (Some ys) keeps = sym keeps
 
 -- no line is refused of what was read before the last bytes
-pub no_further : (old mid new : Option (List ℕ)) (read count : ℕ) (bytes : List ℕ) (first r : Run) (A : List ℕ → Type 0) → place first ≡ start → Reaches old mid read first r A
+pub no_further : (old mid new : Option (List ℕ)) (read count : ℕ) (bytes : List ℕ) (first r : Run) (A : List ℕ → Type 0) → place first ≡ start
+    → Reaches old mid read first r A
     → Consumes mid new bytes → count ≡ length bytes → count ≤ most_piece → read + count ≤ most_bytes → ReadsNoFurther old new
 no_further old mid new read count bytes first r A is f consumed counted few le = record {
   before = f.bytes;
@@ -358,7 +373,8 @@ no_further old mid new read count bytes first r A is f consumed counted few le =
 }
 
 -- the same of a read into this room
-pub no_further_in : (old mid new : Option (List ℕ)) (read count : ℕ) (room : List ℕ) (first r : Run) (A : List ℕ → Type 0) → place first ≡ start → Reaches old mid read first r A
+pub no_further_in : (old mid new : Option (List ℕ)) (read count : ℕ) (room : List ℕ) (first r : Run) (A : List ℕ → Type 0) → place first ≡ start
+    → Reaches old mid read first r A
     → Consumes mid new (take count room) → count ≤ length room → length room ≤ most_piece → read + count ≤ most_bytes → ReadsNoFurther old new
 no_further_in old mid new read count room first r A is f consumed within few le =
     no_further old mid new read count (take count room) first r A is f consumed (sym (length-take-le count room within)) (omega arith) le
@@ -393,8 +409,10 @@ answers_at_end old mid new read device first r s A B C status joins is same f le
     )
 
 -- at a line that is refused
-pub answers_refused : (old mid new : Option (List ℕ)) (read count : ℕ) (bytes : List ℕ) (device : Device) (first r s : Run) (A B C : List ℕ → Type 0) → Joins A B C
-    → place first ≡ start → first.device ≡ device → Reaches old mid read first r A → read + count ≤ most_bytes → count ≤ most_piece → Consumes mid new bytes → count ≡ length bytes
+pub answers_refused : (old mid new : Option (List ℕ)) (read count : ℕ) (bytes : List ℕ) (device : Device) (first r s : Run) (A B C : List ℕ → Type 0)
+    → Joins A B C
+    → place first ≡ start → first.device ≡ device → Reaches old mid read first r A → read + count ≤ most_bytes → count ≤ most_piece
+    → Consumes mid new bytes → count ≡ length bytes
     → Takes bytes r s B Refused → Answers old new device C Refused
 answers_refused old mid new read count bytes device first r s A B C joins is same f le few consumed counted takes =
     let all = takes_both f.bytes bytes first r s A B C Refused joins f.takes takes in

@@ -49,7 +49,8 @@ behind es s = record { events = es ++ s.events; refused = s.refused }
 -- These bytes, and more, lead from a place through these events to the other; or the line there is refused.
 abbrev pub Leads : Place → List ℕ → List Event → Status → Place → Type 0
 Leads p bytes es Done q = (more : List ℕ) → script_at p (bytes ++ more) ≡ behind es (script_at q more)
-Leads p bytes es Refused q = (more : List ℕ) → script_at p (bytes ++ more) ≡ record { events = es; refused = Some q.number }
+Leads p bytes es Refused q =
+    (more : List ℕ) → script_at p (bytes ++ more) ≡ record { events = es; refused = Some q.number }
 
 -- ---- the device
 
@@ -95,7 +96,8 @@ abbrev pub OnDone : Status → Type 0 → Type 0
 OnDone Done P = P
 OnDone Refused P = Unit {0}
 
--- What has come of a line, and these bytes, are lines that are accepted and then what has come of the other; or a line of them is refused.
+-- What has come of a line, and these bytes, are lines that are accepted and then what has come of the other; or a
+-- line of them is refused.
 abbrev pub Ends : (line bytes : List ℕ) → Status → List ℕ → Type 0
 Ends line bytes Done other = (lines : List ℕ) × (line ++ bytes ≡ lines ++ other) × AreEnded lines × AreAccepted lines
 Ends line bytes Refused other = IsRefusedIn (line ++ bytes)
@@ -105,7 +107,8 @@ pub record Takes (bytes : List ℕ) (old new : Run) (Added : List ℕ → Type 0
   pub events : List Event
   pub leads : Leads (place old) bytes events status (place new)
   pub ends : Ends old.line.items bytes status new.line.items
-  pub performs : Performs (record { events = events; refused = refused_at status new.number }) old.device new.device Added
+  pub performs : Performs (record { events = events; refused = refused_at status new.number }) old.device
+      new.device Added
   pub number : new.number ≤ old.number + length bytes
   pub open_again : OnDone status (IsOpen (place new))
 

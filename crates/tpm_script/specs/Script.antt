@@ -43,7 +43,8 @@ AreAccepted lines = AllByRecursion (λ line. line_of line ≢ NotHexadecimal) (l
 
 -- A line is refused where it ends, and at the first byte that it has too many.
 abbrev pub IsRefusedLine : (line rest : List ℕ) → Type 0
-IsRefusedLine line rest = ((line_of line ≡ NotHexadecimal) × (more : List ℕ) × (rest ≡ 10 ∷ more)) ⊎ (most_digits < length line)
+IsRefusedLine line rest =
+    ((line_of line ≡ NotHexadecimal) × (more : List ℕ) × (rest ≡ 10 ∷ more)) ⊎ (most_digits < length line)
 
 -- A line is refused that comes behind lines that are accepted.
 pub record IsRefusedIn (bytes : List ℕ) : Type 0 where
@@ -130,7 +131,8 @@ pub record IsRefusedLast (bytes : List ℕ) : Type 0 where
   pub unrefused : IsUnrefused before
   pub most : length last ≤ most_piece
 
--- Not too many bytes were read, and of these no line is refused but in the last of them, no more than are asked for at a time.
+-- Not too many bytes were read, and of these no line is refused but in the last of them, no more than are asked for
+-- at a time.
 pub record ReadsNoFurther (old new : Option (List ℕ)) : Type 0 where
   pub before : List ℕ
   pub last : List ℕ
@@ -139,11 +141,13 @@ pub record ReadsNoFurther (old new : Option (List ℕ)) : Type 0 where
   pub piece : length last ≤ most_piece
   pub most : length before + length last ≤ most_bytes
 
--- These bytes of the input were read, not too many; and it has ended, or a line of the last of them is refused, and whatever comes makes no difference.
+-- These bytes of the input were read, not too many; and it has ended, or a line of the last of them is refused, and
+-- whatever comes makes no difference.
 pub record ReadsScript (old new : Option (List ℕ)) (bytes : List ℕ) : Type 0 where
   pub read : Consumes old new bytes
   pub most : length bytes ≤ most_bytes
-  pub whole : IsAtEnd new ⊎ IsRefusedIn bytes × IsRefusedLast bytes × ((more : List ℕ) → script (bytes ++ more) ≡ script bytes)
+  pub whole : IsAtEnd new
+      ⊎ IsRefusedIn bytes × IsRefusedLast bytes × ((more : List ℕ) → script (bytes ++ more) ≡ script bytes)
 
 -- One byte more was read than a script may have, and up to it no line was refused.
 pub record ReadsTooMuch (old new : Option (List ℕ)) : Type 0 where

@@ -9,12 +9,18 @@ ghost use Rattle.tpm_model.specs.Premises.{code_in, HasSessionMac, NoncesDiffer,
 ghost use Rattle.tpm_text.specs.InputLines.{most_bytes};
 ghost use Rattle.tpm_script.specs.Script.{script};
 
-/// The nonces of a script, of at most 16,777,216 bytes, differ pairwise in their first 16 bytes. So there is no replay in a script
-/// that is run on a new device: where no two different texts that are checked have the same HMAC, no buffer with a session's HMAC
-/// is answered twice with code 0.
+/// The nonces of a script, of at most 16,777,216 bytes, differ pairwise in their first 16 bytes. So there is no
+/// replay in a script that is run on a new device: where no two different texts that are checked have the same HMAC,
+/// no buffer with a session's HMAC is answered twice with code 0.
 pub fn no_replay_in_a_script()
-    ensures differ { (text : List ℕ) → length text ≤ most_bytes → NoncesDiffer (script text).events }
-    ensures no_replay { (o : Origin) (text : List ℕ) (es fs gs : List Event) (bytes n m : List ℕ) → length text ≤ most_bytes →
-        (script text).events ≡ es ++ Given bytes n ∷ fs ++ Given bytes m ∷ gs → NoCollision o (script text).events → HasSessionMac bytes →
-        code_in (answer o (after o [] es) bytes n) ≡ 0 → code_in (answer o (after o [] (es ++ Given bytes n ∷ fs)) bytes m) ≡ 0 → ⊥ }
+    ensures differ { (text : List ℕ) → length text ≤ most_bytes
+        → NoncesDiffer (script text).events }
+    ensures no_replay { (o : Origin) (text : List ℕ) (es fs gs : List Event) (bytes n m : List ℕ)
+        → length text ≤ most_bytes
+        → (script text).events ≡ es ++ Given bytes n ∷ fs ++ Given bytes m ∷ gs
+        → NoCollision o (script text).events
+        → HasSessionMac bytes
+        → code_in (answer o (after o [] es) bytes n) ≡ 0
+        → code_in (answer o (after o [] (es ++ Given bytes n ∷ fs)) bytes m) ≡ 0
+        → ⊥ }
 {}

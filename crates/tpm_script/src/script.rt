@@ -49,7 +49,8 @@ fn push_response(
     k: u64,
     bytes: &[u8],
 ) -> Pushed
-    ensures { OnOk result (Performs (record { events = Given bytes.now (nonce_of k) ∷ []; refused = None })
+    ensures { OnOk result (Performs
+        (record { events = Given bytes.now (nonce_of k) ∷ []; refused = None })
         device.old device.new (AddedTo (string_bytes text.old) (string_bytes text.new))) }
 {
     let response = device.execute(bytes, &nonce(k));
@@ -206,13 +207,15 @@ pub fn run_script<R: Source, W: Write>(
 ) -> Result<Status, ToolFault>
     ensures failures { CountsRead (R.failed input.old) (R.failed input.new) result }
     ensures stop { IsErrOf result Read → IsWhereItFailed (R.stopped input.new) }
-    ensures further { (IsErrOf result InputTooLong → ⊥) → ReadsNoFurther (R.coming input.old) (R.coming input.new) }
+    ensures further { (IsErrOf result InputTooLong → ⊥)
+        → ReadsNoFurther (R.coming input.old) (R.coming input.new) }
     ensures ok { IfOk result (λ status. (bytes : List ℕ)
         × ReadsScript (R.coming input.old) (R.coming input.new) bytes
         × (status ≡ status_for (script bytes).refused)
         × ((o : Origin) (h : History) → Stands o h device →
         Appends (W.contents out.old) (W.contents out.new) (script_text o h (script bytes)))) }
-    ensures too_long { IsErrOf result InputTooLong → ReadsTooMuch (R.coming input.old) (R.coming input.new) }
+    ensures too_long { IsErrOf result InputTooLong
+        → ReadsTooMuch (R.coming input.old) (R.coming input.new) }
 {
     let mut run = Run::new(alloc, device);
     let mut piece = [0; PIECE];

@@ -49,23 +49,28 @@ set_three a b d x (suc (suc (suc n))) =
 
 started_at : (o : Origin) (h : History) (c : Command) (r : Reply) (nonce : List ℕ) (start : StartAuth) (reply : StartReply) (k : ℕ) →
     c.body ≡ bodies.StartAuthSession start → c.auths.items ≡ [] → r.body ≡ replies.StartAuthSession reply →
-    session_at o (Accepted c r nonce ∷ h) k ≡ put_at (slot_of reply.session) (Some (as_session o nonce [] (record { request = start; nonce = nonce }))) k (session_at o h k)
+    session_at o (Accepted c r nonce ∷ h) k ≡ put_at (slot_of reply.session)
+    (Some (as_session o nonce [] (record { request = start; nonce = nonce }))) k (session_at o h k)
 started_at o h c r nonce start reply k body auths answer =
     elim (slot_of reply.session == k) as (λ t. (slot_of reply.session == k) ≡ t →
-    session_at o (Accepted c r nonce ∷ h) k ≡ put_at (slot_of reply.session) (Some (as_session o nonce [] (record { request = start; nonce = nonce }))) k (session_at o h k)) [
+    session_at o (Accepted c r nonce ∷ h) k ≡
+    put_at (slot_of reply.session) (Some (as_session o nonce [] (record { request = start; nonce = nonce }))) k (session_at o h k)) [
       | true ↦ λ t. rw (body, auths, answer, t) refl
       | false ↦ λ t. rw (body, auths, answer, t) refl
     ] refl
 
-pub started : (o : Origin) (h : History) (c : Command) (r : Reply) (nonce : List ℕ) (start : StartAuth) (reply : StartReply) (slot : ℕ) (made : Session) (old new : List (Option Session)) →
+pub started : (o : Origin) (h : History) (c : Command) (r : Reply) (nonce : List ℕ) (start : StartAuth) (reply : StartReply) (slot : ℕ) (made : Session)
+    (old new : List (Option Session)) →
     new ≡ slice_set old slot (Some made) → slot_of reply.session ≡ slot → made ≡ as_session o nonce [] (record { request = start; nonce = nonce }) →
-    c.body ≡ bodies.StartAuthSession start → c.auths.items ≡ [] → r.body ≡ replies.StartAuthSession reply → old ≡ sessions_at o h → new ≡ sessions_at o (Accepted c r nonce ∷ h)
+    c.body ≡ bodies.StartAuthSession start → c.auths.items ≡ [] → r.body ≡ replies.StartAuthSession reply → old ≡ sessions_at o h →
+    new ≡ sessions_at o (Accepted c r nonce ∷ h)
 started o h c r nonce start reply slot made old new is in_slot made_is body auths answer at =
     let x = Some (as_session o nonce [] (record { request = start; nonce = nonce })) in
     is ∙ ap (λ (l : List (Option Session)). slice_set l slot (Some made)) at
     ∙ rw (made_is, ← in_slot)
     (set_three (session_at o h 0) (session_at o h 1) (session_at o h 2) x (slot_of reply.session)
-    ∙ sym (three (started_at o h c r nonce start reply 0 body auths answer) (started_at o h c r nonce start reply 1 body auths answer) (started_at o h c r nonce start reply 2 body auths answer)))
+    ∙ sym (three (started_at o h c r nonce start reply 0 body auths answer) (started_at o h c r nonce start reply 1 body auths answer)
+    (started_at o h c r nonce start reply 2 body auths answer)))
 
 -- ---- a session that authorized
 
@@ -87,23 +92,35 @@ stays_out k (bodies.PolicyRestart handle) reply e = absurd (both_ways false refl
 stays_out k _ reply e = record { no_start = refl; no_flush = refl; no_assertion = λ now start old. refl }
 
 as_rolled : (o : Origin) (nonce last : List ℕ) (made : List Assertion) (lives : Bool) (start : Option Start) →
-    (if lives then option_map (as_session o nonce []) start else None) ≡ option_map (rolled nonce) (if lives then option_map (as_session o last made) start else None)
+    (if lives then option_map (as_session o nonce []) start else None) ≡ option_map (rolled nonce)
+    (if lives then option_map (as_session o last made) start else None)
 as_rolled o nonce last made false start = refl
 as_rolled o nonce last made true None = refl
 as_rolled o nonce last made true (Some s) = refl
 
-rolled_at : (o : Origin) (h : History) (c : Command) (r : Reply) (nonce : List ℕ) (a : Auth) (others : List Auth) (keep : Bool) (k : ℕ) → c.auths.items ≡ a ∷ others → is_session a.session ≡ true →
+rolled_at : (o : Origin) (h : History) (c : Command) (r : Reply) (nonce : List ℕ) (a : Auth) (others : List Auth) (keep : Bool) (k : ℕ) →
+    c.auths.items ≡ a ∷ others → is_session a.session ≡ true →
     continues a.attrs ≡ keep → needs_authorization (code_for c.body) ≡ true →
     session_at o (Accepted c r nonce ∷ h) k ≡ (if slot_of a.session == k then after_command nonce keep (session_at o h k) else session_at o h k)
 rolled_at o h c r nonce a others keep k auths of_session kept needs =
     let out = stays_out k c.body r.body needs in
     elim (slot_of a.session == k) as (λ t. (slot_of a.session == k) ≡ t →
     session_at o (Accepted c r nonce ∷ h) k ≡ (if slot_of a.session == k then after_command nonce keep (session_at o h k) else session_at o h k)) [
-      | true ↦ λ t. elim keep as (λ b. continues a.attrs ≡ b → session_at o (Accepted c r nonce ∷ h) k ≡ (if slot_of a.session == k then after_command nonce b (session_at o h k) else session_at o h k)) [
-        | true ↦ λ b. rw (out.no_start, out.no_flush, auths, of_session, t, b) (as_rolled o nonce (last_nonce k h) (assertions_of k h) (lives k h) (start_of k h))
-        | false ↦ λ b. rw (out.no_start, out.no_flush, auths, of_session, t, b) refl
-      ] kept
-      | false ↦ λ t. rw (out.no_start, out.no_flush, auths, of_session, t, out.no_assertion (registers_after (changes h)) (start_of k h) (assertions_of k h)) refl
+      | true ↦ λ t. elim keep
+          as (λ b. continues a.attrs ≡ b →
+          session_at o (Accepted c r nonce ∷ h) k ≡ (if slot_of a.session == k then after_command nonce b (session_at o h k) else session_at o h k)) [
+            | true ↦ λ b. rw (out.no_start, out.no_flush, auths, of_session, t, b)
+                (as_rolled o nonce (last_nonce k h) (assertions_of k h) (lives k h) (start_of k h))
+            | false ↦ λ b. rw (out.no_start, out.no_flush, auths, of_session, t, b) refl
+          ] kept
+      | false ↦ λ t. rw (
+        out.no_start,
+        out.no_flush,
+        auths,
+        of_session,
+        t,
+        out.no_assertion (registers_after (changes h)) (start_of k h) (assertions_of k h),
+      ) refl
     ] refl
 
 set_after : (a b d x : Option Session) (f : Option Session → Option Session) (s : ℕ) → get_or (a ∷ b ∷ d ∷ []) s x ≡ x →
@@ -116,7 +133,8 @@ set_after a b d x f (suc (suc (suc n))) e = set_three a b d (f x) (suc (suc (suc
     (same_test (suc (suc (suc n))) 1 false (grind (arith, nat_tests)) (f x) b ∙ sym (same_test (suc (suc (suc n))) 1 false (grind (arith, nat_tests)) (f b) b))
     (same_test (suc (suc (suc n))) 2 false (grind (arith, nat_tests)) (f x) d ∙ sym (same_test (suc (suc (suc n))) 2 false (grind (arith, nat_tests)) (f d) d))
 
-of_a_kind : (by_hmac by_policy kind : Bool) (s : Session) → IsSome (if (if kind then by_hmac else by_policy) then Some s else None) → (by_hmac || by_policy) ≡ true
+of_a_kind : (by_hmac by_policy kind : Bool) (s : Session) → IsSome (if (if kind then by_hmac else by_policy) then Some s else None) →
+    (by_hmac || by_policy) ≡ true
 of_a_kind true by_policy kind s h = refl
 of_a_kind false true kind s h = refl
 of_a_kind false false true s h = absurd (both_ways false refl h)
@@ -126,12 +144,16 @@ of_session : (handle : ℕ) (s : Option Session) → IsSome (if_of_kind handle s
 of_session handle None h = absurd (both_ways false refl h)
 of_session handle (Some s) h = of_a_kind (is_hmac_session handle) (is_policy handle) (is_hmac s.session_type) s h
 
-pub went_on : (o : Origin) (h : History) (c : Command) (r : Reply) (nonce : List ℕ) (a : Auth) (others : List Auth) (keep : Bool) (x y : Option Session) (slot : ℕ) (old new : List (Option Session)) →
+pub went_on : (o : Origin) (h : History) (c : Command) (r : Reply) (nonce : List ℕ) (a : Auth) (others : List Auth) (keep : Bool) (x y : Option Session)
+    (slot : ℕ) (old new : List (Option Session)) →
     new ≡ slice_set old slot y → y ≡ after_command nonce keep x → x ≡ get_or old slot x → slot ≡ slot_of a.session → IsSome (loaded old a.session) →
-    c.auths.items ≡ a ∷ others → continues a.attrs ≡ keep → needs_authorization (code_for c.body) ≡ true → old ≡ sessions_at o h → new ≡ sessions_at o (Accepted c r nonce ∷ h)
+    c.auths.items ≡ a ∷ others → continues a.attrs ≡ keep → needs_authorization (code_for c.body) ≡ true → old ≡ sessions_at o h →
+    new ≡ sessions_at o (Accepted c r nonce ∷ h)
 went_on o h c r nonce a others keep x y slot old new is becomes found in_slot is_loaded auths kept needs at =
     let handle = of_session a.session (get_or old (slot_of a.session) None) is_loaded in
-    let here : get_or (sessions_at o h) (slot_of a.session) x ≡ x = sym (found ∙ ap (λ (l : List (Option Session)). get_or l slot x) at ∙ ap (λ (k : ℕ). get_or (sessions_at o h) k x) in_slot) in
+    let here : get_or (sessions_at o h) (slot_of a.session) x ≡ x =
+    sym (found ∙ ap (λ (l : List (Option Session)). get_or l slot x) at ∙ ap (λ (k : ℕ). get_or (sessions_at o h) k x) in_slot) in
     is ∙ ap (λ (l : List (Option Session)). slice_set l slot y) at ∙ rw (becomes, in_slot)
     (set_after (session_at o h 0) (session_at o h 1) (session_at o h 2) x (after_command nonce keep) (slot_of a.session) here
-    ∙ sym (three (rolled_at o h c r nonce a others keep 0 auths handle kept needs) (rolled_at o h c r nonce a others keep 1 auths handle kept needs) (rolled_at o h c r nonce a others keep 2 auths handle kept needs)))
+    ∙ sym (three (rolled_at o h c r nonce a others keep 0 auths handle kept needs) (rolled_at o h c r nonce a others keep 1 auths handle kept needs)
+    (rolled_at o h c r nonce a others keep 2 auths handle kept needs)))

@@ -11,8 +11,8 @@ abbrev pub started_reply : Result StartReply ℕ → Result ReplyBody ℕ
 started_reply (Ok reply) = Ok (replies.StartAuthSession reply)
 started_reply (Err code) = Err code
 
--- A session that authorized a command: its nonce is the first bytes of the one that is handed in, and it asserts nothing any more
--- (Part 1, "Session-Based Authorizations").
+-- A session that authorized a command: its nonce is the first bytes of the one that is handed in,
+-- and it asserts nothing any more (Part 1, "Session-Based Authorizations").
 abbrev pub rolled : (nonce : List ℕ) → Session → Session
 rolled nonce s = record s { nonce = take s.nonce_length nonce; policy = policy_of s.hash [] }
 

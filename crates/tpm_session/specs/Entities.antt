@@ -35,7 +35,8 @@ found (Ok by) = Ok (authorizer_in by)
 found (Err code) = Err code
 
 -- what it gives as evidence for a command, or a code
-abbrev pub given : model.Entity → CommandCode → (names : List (List ℕ)) → (params : List ℕ) → Auth → Result Authorizer ℕ → Result authorization.Evidence ℕ
+abbrev pub given : model.Entity → CommandCode → (names : List (List ℕ)) → (params : List ℕ) → Auth →
+    Result Authorizer ℕ → Result authorization.Evidence ℕ
 given e code names params a (Ok by) = Ok (authorization.evidence_by (authorizer_in by) e code names params a)
 given e code names params a (Err code_of_failure) = Err code_of_failure
 
@@ -46,7 +47,8 @@ signed_by s e p_hash a = record { session = s; key = authorization.key_for s e; 
 -- The HMAC of the reply with this nonce, or none.
 abbrev pub reply_hmac : Session → model.Entity → Auth → CommandCode → (params newer : List ℕ) → List ℕ
 reply_hmac s e a code params newer =
-    if authorization.needs_none (signed_by s e [] a) then [] else hmac s.hash (authorization.key_for s e) (authorization.reply_text s.hash code params newer a.nonce a.attrs)
+    if authorization.needs_none (signed_by s e [] a) then []
+    else hmac s.hash (authorization.key_for s e) (authorization.reply_text s.hash code params newer a.nonce a.attrs)
 
 -- The session of a reply that has none: no nonce, no attributes, no HMAC.
 abbrev pub no_reply : AuthReply

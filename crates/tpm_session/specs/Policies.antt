@@ -38,7 +38,12 @@ auth_value_after AuthValueAsserted old = true
 auth_value_after _ old = old
 
 abbrev pub policy_after : Alg → Assertion → Policy → Policy
-policy_after alg a p = record { digest = asserted alg a p.digest; code = code_after a p.code; update_counter = counter_after a p.update_counter; auth_value = auth_value_after a p.auth_value }
+policy_after alg a p = record {
+  digest = asserted alg a p.digest;
+  code = code_after a p.code;
+  update_counter = counter_after a p.update_counter;
+  auth_value = auth_value_after a p.auth_value;
+}
 
 abbrev pub asserting : Assertion → Session → Session
 asserting a s = record s { policy = policy_after s.hash a s.policy }

@@ -1,5 +1,5 @@
-//! Whether a command is authorized: the checks of its sessions, in their order (Part 1, "Authorizations and Acknowledgments"; the
-//! order is this profile's).
+//! Whether a command is authorized: the checks of its sessions, in their order (Part 1,
+//! "Authorizations and Acknowledgments"; the order is this profile's).
 
 ghost use Rattle.std.specs.Prelude.{◌≡◌, ℕ, ◌<◌, suc, List, ◌∷◌, [], length, Ok, IsErr};
 ghost use Rattle.tpm_types.specs.declared.tpms.Auth.{Auth};
@@ -34,10 +34,12 @@ pub(crate) enum Authorizer<'a> {
     Loaded(&'a Session),
 }
 
-// ATTRIBUTES for audit or encryption, and for a trial session; NONCE for a password with a nonce; ATTRIBUTES of the second session,
-// where there are so many sessions.
+// ATTRIBUTES for audit or encryption, and for a trial session; NONCE for a password with a nonce;
+// ATTRIBUTES of the second session, where there are so many sessions.
 fn check_session(by: &Authorizer<'_>, auth: &AuthRef<'_>, count: usize) -> Result<(), u32>
-    ensures { (others : List Auth) → count ≡ suc (length others) → result ≡ session_checked (authorizer_in by.now) auth.now others }
+    ensures { (others : List Auth) →
+        count ≡ suc (length others) →
+        result ≡ session_checked (authorizer_in by.now) auth.now others }
 {
     if auth.attrs().audits_or_encrypts() {
         return Err(ATTRIBUTES + of_session(1));
@@ -98,8 +100,8 @@ impl Session {
         }
     }
 
-    // AUTH_UNAVAILABLE; PCR_CHANGED where registers changed since TPM2_PolicyPCR; POLICY_FAIL where the policy is not that of the
-    // index; POLICY_CC where it is for another command.
+    // AUTH_UNAVAILABLE; PCR_CHANGED where registers changed since TPM2_PolicyPCR; POLICY_FAIL where
+    // the policy is not that of the index; POLICY_CC where it is for another command.
     fn check_policy(
         &self,
         entity: &Entity<'_>,
@@ -129,7 +131,8 @@ fn check_entity(
     command: CommandCode,
     counter: u32,
 ) -> Result<(), u32>
-    ensures { result ≡ entity_checked (authorizer_in by.now) (entity_in entity.now) command counter }
+    ensures { result ≡
+        entity_checked (authorizer_in by.now) (entity_in entity.now) command counter }
 {
     match by {
         Authorizer::Password => check_auth(entity, command),
@@ -145,7 +148,8 @@ fn check_entity(
 impl Sessions {
     // The password, or the session where it is loaded; else REFERENCE_S0.
     fn authorizer(&self, auth: &AuthRef<'_>) -> Result<Authorizer<'_>, u32>
-        ensures { found result ≡ loaded_checked auth.now.session (loaded self.now auth.now.session) }
+        ensures { found result ≡
+            loaded_checked auth.now.session (loaded self.now auth.now.session) }
     {
         let number = auth.session().number();
         if number == RS_PW {
@@ -169,8 +173,11 @@ impl Sessions {
         command: CommandCode,
         counter: u32,
     ) -> Result<Authorizer<'_>, u32>
-        ensures { (others : List Auth) (names : List (List ℕ)) (params : List ℕ) → count ≡ suc (length others) →
-            evidence_by_all (loaded self.now auth.now.session) (entity_in entity.now) command names params counter (auth.now ∷ others) ≡ given (entity_in entity.now) command names params auth.now result }
+        ensures { (others : List Auth) (names : List (List ℕ)) (params : List ℕ) →
+            count ≡ suc (length others) →
+            evidence_by_all (loaded self.now auth.now.session) (entity_in entity.now) command names
+            params counter (auth.now ∷ others) ≡
+            given (entity_in entity.now) command names params auth.now result }
     {
         let by = self.authorizer(auth)?;
         check_session(&by, auth, count)?;
@@ -178,16 +185,19 @@ impl Sessions {
         Ok(by)
     }
 
-    /// Whether a command of this entity is authorized by these sessions, one at least: the first authorizes it, by a password or by
-    /// an HMAC over the command's Names and its parameters as they came. `counter` is the present update counter of the registers.
+    /// Whether a command of this entity is authorized by these sessions, one at least: the first
+    /// authorizes it, by a password or by an HMAC over the command's Names and its parameters as
+    /// they came. `counter` is the present update counter of the registers.
     ///
-    /// Else the code of the first check that fails, in this order: REFERENCE_S0 for a session that is not loaded. ATTRIBUTES of
-    /// session 1 for audit or encryption, and for a trial session; NONCE of session 1 for a password with a nonce; ATTRIBUTES of
-    /// session 2 where there is one. AUTH_UNAVAILABLE where the entity does not let itself be used so. For a policy session,
-    /// PCR_CHANGED where another update counter is kept, POLICY_FAIL of session 1 where the policy is not that of the index or in
-    /// another hash, POLICY_CC of session 1 where another command is set. AUTH_FAIL of session 1 where the password or the HMAC is
-    /// wrong and the entity is an index without NO_DA, else BAD_AUTH of session 1 (Part 1, "Authorizations and Acknowledgments";
-    /// the order is this profile's).
+    /// Else the code of the first check that fails, in this order: REFERENCE_S0 for a session that
+    /// is not loaded. ATTRIBUTES of session 1 for audit or encryption, and for a trial session;
+    /// NONCE of session 1 for a password with a nonce; ATTRIBUTES of session 2 where there is one.
+    /// AUTH_UNAVAILABLE where the entity does not let itself be used so. For a policy session,
+    /// PCR_CHANGED where another update counter is kept, POLICY_FAIL of session 1 where the policy
+    /// is not that of the index or in another hash, POLICY_CC of session 1 where another command is
+    /// set. AUTH_FAIL of session 1 where the password or the HMAC is wrong and the entity is an
+    /// index without NO_DA, else BAD_AUTH of session 1 (Part 1, "Authorizations and
+    /// Acknowledgments"; the order is this profile's).
     pub fn authorize(
         &self,
         auths: &[AuthRef<'_>],
@@ -198,7 +208,9 @@ impl Sessions {
         counter: u32,
     ) -> Result<(), u32>
         requires { 0 < length auths.now }
-        ensures { result ≡ authorized (first_loaded (loaded self.now) auths.now) (entity_in entity.now) command names.now params.now counter auths.now }
+        ensures { result ≡
+            authorized (first_loaded (loaded self.now) auths.now) (entity_in entity.now) command
+            names.now params.now counter auths.now }
     {
         self.authorize_first(
             &auths[0],
@@ -211,7 +223,8 @@ impl Sessions {
         )
     }
 
-    /// As `authorize`, by the first of so many sessions, at least one: of the others it matters only whether there are any.
+    /// As `authorize`, by the first of so many sessions, at least one: of the others it matters
+    /// only whether there are any.
     pub fn authorize_first(
         &self,
         auth: &AuthRef<'_>,
@@ -223,18 +236,22 @@ impl Sessions {
         counter: u32,
     ) -> Result<(), u32>
         requires { 0 < count }
-        ensures { (others : List Auth) → count ≡ suc (length others) →
-            result ≡ authorized (loaded self.now auth.now.session) (entity_in entity.now) command names.now params.now counter (auth.now ∷ others) }
+        ensures { (others : List Auth) →
+            count ≡ suc (length others) →
+            result ≡
+            authorized (loaded self.now auth.now.session) (entity_in entity.now) command names.now
+            params.now counter (auth.now ∷ others) }
     {
         let by = self.evidence_of(auth, count, entity, command, counter)?;
         check_evidence(&by, auth, entity, command, names, params)
     }
 
-    /// The session of the reply to a command that this session authorized, before it rolls: a password is
-    /// answered with continueSession alone, a session with its next nonce, the command's attributes and its HMAC over the reply's
-    /// parameters. The HMAC is empty where the command's could be. The entity is that of the command, or as it is after the
-    /// command with the same authorization value (Part 1, "HMAC Computation"). Of a session that is not loaded it is empty: no
-    /// nonce, no attributes and no HMAC.
+    /// The session of the reply to a command that this session authorized, before it rolls: a
+    /// password is answered with continueSession alone, a session with its next nonce, the
+    /// command's attributes and its HMAC over the reply's parameters. The HMAC is empty where the
+    /// command's could be. The entity is that of the command, or as it is after the command with
+    /// the same authorization value (Part 1, "HMAC Computation"). Of a session that is not loaded
+    /// it is empty: no nonce, no attributes and no HMAC.
     pub fn reply_auth(
         &self,
         auth: &AuthRef<'_>,
@@ -243,11 +260,16 @@ impl Sessions {
         params: &[u8],
         nonce: &[u8; NONCE_BYTES],
     ) -> AuthReply
-        ensures answer { (e : EntityOf) (names : List (List ℕ)) (sent : List ℕ) (counter : ℕ) (others : List Auth) (x : Evidence) →
-            evidence_by_all (loaded self.now auth.now.session) e command names sent counter (auth.now ∷ others) ≡ Ok x →
-            auth_value e ≡ auth_value (entity_in entity.now) → is_owner_entity e ≡ is_owner_entity (entity_in entity.now) →
+        ensures answer { (e : EntityOf) (names : List (List ℕ)) (sent : List ℕ) (counter : ℕ)
+            (others : List Auth) (x : Evidence) →
+            evidence_by_all (loaded self.now auth.now.session) e command names sent counter
+            (auth.now ∷ others) ≡ Ok x →
+            auth_value e ≡ auth_value (entity_in entity.now) →
+            is_owner_entity e ≡ is_owner_entity (entity_in entity.now) →
             reply_auths x command params.now nonce.now ≡ result ∷ [] }
-        ensures unloaded { IsErr (loaded_checked auth.now.session (loaded self.now auth.now.session)) → result ≡ no_reply }
+        ensures unloaded { IsErr
+            (loaded_checked auth.now.session (loaded self.now auth.now.session)) →
+            result ≡ no_reply }
     {
         match self.authorizer(auth) {
             Ok(Authorizer::Loaded(session)) => session.reply(auth, entity, command, params, nonce),

@@ -7,8 +7,8 @@ ghost use Rattle.tpm_session.specs.Entities.{entity_in};
 use tpm_hmac::trim;
 use tpm_types::NvPublic;
 
-/// What the first handle of a command names, whose authorization the command needs. Authorization values may have trailing
-/// zeros, which are no part of them (Part 1, "Authorization Values").
+/// What the first handle of a command names, whose authorization the command needs. Authorization
+/// values may have trailing zeros, which are no part of them (Part 1, "Authorization Values").
 #[derive(Clone, Copy)]
 pub enum Entity<'a> {
     /// A register: its authorization value is empty.

@@ -1,5 +1,5 @@
-//! The evidence that a command is authorized, a password or an HMAC, and the session of its reply (Part 1, "HMAC Computation" and
-//! "Password Authorizations").
+//! The evidence that a command is authorized, a password or an HMAC, and the session of its reply
+//! (Part 1, "HMAC Computation" and "Password Authorizations").
 
 ghost use Rattle.std.specs.Prelude.{◌≡◌, ℕ, List, [], ◌∷◌, ◌&&◌, bytes_eq};
 ghost use Rattle.tpm_commands.specs.Codes.{code_number};
@@ -20,9 +20,10 @@ use tpm_types::{AuthReply, AuthValue, Name, Nonce, SessionAttrs, SessionType};
 use tpm_wire::response_code::{AUTH_FAIL, BAD_AUTH, of_session};
 
 impl Session {
-    /// What follows the session key in the key of its HMACs, where it authorizes a command of this entity: the entity's
-    /// authorization value without trailing zeros. Nothing follows it in an HMAC session that is bound to the owner, where the
-    /// entity is the owner, nor in a policy session, but after TPM2_PolicyAuthValue (Part 1, "HMAC Computation").
+    /// What follows the session key in the key of its HMACs, where it authorizes a command of this
+    /// entity: the entity's authorization value without trailing zeros. Nothing follows it in an
+    /// HMAC session that is bound to the owner, where the entity is the owner, nor in a policy
+    /// session, but after TPM2_PolicyAuthValue (Part 1, "HMAC Computation").
     pub fn follows<'e>(&self, entity: &Entity<'e>) -> &'e [u8]
         ensures { result.now ≡ follows self.now (entity_in entity.now) }
     {
@@ -39,7 +40,8 @@ impl Session {
 
     // Whether the key of its HMACs is empty, of which what follows the session key is a part.
     fn has_no_key(&self, entity: &Entity<'_>) -> bool
-        ensures { result ≡ (is_empty self.now.key && is_empty (follows self.now (entity_in entity.now))) }
+        ensures { result ≡
+            (is_empty self.now.key && is_empty (follows self.now (entity_in entity.now))) }
     {
         self.key.bytes().is_empty() && self.follows(entity).is_empty()
     }
@@ -47,13 +49,14 @@ impl Session {
     // Whether an empty HMAC is none: the command has no other, and there is no key.
     #[tactic(auto, using(crate::proofs::Keys::empty_key))]
     fn needs_none(&self, entity: &Entity<'_>, auth: &AuthRef<'_>) -> bool
-        ensures { result ≡ (is_empty (key_for self.now (entity_in entity.now)) && is_empty auth.now.hmac) }
+        ensures { result ≡
+            (is_empty (key_for self.now (entity_in entity.now)) && is_empty auth.now.hmac) }
     {
         self.has_no_key(entity) && auth.hmac().is_empty()
     }
 
-    // Whether the command has this HMAC of the session, whole: that of its code, Names and parameters, under the session key and
-    // what follows it.
+    // Whether the command has this HMAC of the session, whole: that of its code, Names and
+    // parameters, under the session key and what follows it.
     fn has_mac(
         &self,
         auth: &AuthRef<'_>,
@@ -62,8 +65,10 @@ impl Session {
         names: &[Name],
         params: &[u8],
     ) -> bool
-        ensures { result ≡ bytes_eq auth.now.hmac (hmac self.now.hash (key_for self.now (entity_in entity.now))
-            (command_text (signed_by self.now (entity_in entity.now) (cp_hash_of self.now.hash (code_number command) names.now params.now) auth.now))) }
+        ensures { result ≡
+            bytes_eq auth.now.hmac (hmac self.now.hash (key_for self.now (entity_in entity.now))
+            (command_text (signed_by self.now (entity_in entity.now)
+            (cp_hash_of self.now.hash (code_number command) names.now params.now) auth.now))) }
     {
         let p_hash = cp_hash(self.hash(), command, names, params);
         let mac = self.key.session_mac(
@@ -85,7 +90,9 @@ impl Session {
         names: &[Name],
         params: &[u8],
     ) -> bool
-        ensures { result ≡ is_signed_of (signed_by self.now (entity_in entity.now) (cp_hash_of self.now.hash (code_number command) names.now params.now) auth.now) }
+        ensures { result ≡
+            is_signed_of (signed_by self.now (entity_in entity.now)
+            (cp_hash_of self.now.hash (code_number command) names.now params.now) auth.now) }
     {
         self.needs_none(entity, auth) || self.has_mac(auth, entity, command, names, params)
     }
@@ -110,7 +117,8 @@ impl Session {
         params: &[u8],
         nonce: &[u8],
     ) -> AuthValue
-        ensures { result ≡ reply_hmac self.now (entity_in entity.now) auth.now command params.now nonce.now }
+        ensures { result ≡
+            reply_hmac self.now (entity_in entity.now) auth.now command params.now nonce.now }
     {
         if self.needs_none(entity, auth) {
             return AuthValue::default();
@@ -134,7 +142,9 @@ impl Session {
         params: &[u8],
         nonce: &[u8; NONCE_BYTES],
     ) -> AuthReply
-        ensures { (p_hash : List ℕ) → reply_auths (Evidence.ByMac (signed_by self.now (entity_in entity.now) p_hash auth.now)) command params.now nonce.now ≡ result ∷ [] }
+        ensures { (p_hash : List ℕ) →
+            reply_auths (Evidence.ByMac (signed_by self.now (entity_in entity.now) p_hash auth.now))
+            command params.now nonce.now ≡ result ∷ [] }
     {
         let nonce = self.next_nonce(nonce);
         let hmac = self.reply_mac(auth, entity, command, params, nonce.as_slice());
@@ -146,8 +156,8 @@ impl Session {
     }
 }
 
-/// The session of the reply to a command that a password authorized: continueSession is set, and nothing else (Part 1, "Password
-/// Authorizations").
+/// The session of the reply to a command that a password authorized: continueSession is set, and
+/// nothing else (Part 1, "Password Authorizations").
 pub fn password_reply() -> AuthReply
     ensures { result ≡ password_reply_of }
 {
@@ -192,7 +202,10 @@ pub(crate) fn check_evidence(
     names: &[Name],
     params: &[u8],
 ) -> Result<(), u32>
-    ensures { result ≡ evidence_checked (entity_in entity.now) (evidence_by (authorizer_in by.now) (entity_in entity.now) command names.now params.now auth.now) }
+    ensures { result ≡
+        evidence_checked (entity_in entity.now)
+        (evidence_by (authorizer_in by.now) (entity_in entity.now) command names.now params.now
+        auth.now) }
 {
     let is_right = match by {
         Authorizer::Password => same(trim(auth.hmac()), entity.auth_value()),

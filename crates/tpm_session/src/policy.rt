@@ -31,14 +31,19 @@ impl Model for Policy {
 
     ghost Value = { model.Policy };
 
-    ghost view = { λ p. record { digest = p.digest; code = p.code; update_counter = p.update_counter; auth_value = p.auth_value } };
+    ghost view = { λ p. record {
+      digest = p.digest;
+      code = p.code;
+      update_counter = p.update_counter;
+      auth_value = p.auth_value;
+    } };
 }
 
 /// What a policy command asserts.
 #[derive(Drop)]
 pub enum Assertion<'a> {
-    /// That the selected registers have values of this digest, in the hash of the policy. The update counter is what a session keeps
-    /// beside it, and is not hashed.
+    /// That the selected registers have values of this digest, in the hash of the policy. The
+    /// update counter is what a session keeps beside it, and is not hashed.
     Pcr {
         selections: &'a Selections,
         pcr_digest: &'a Digest,
@@ -81,7 +86,8 @@ impl Policy {
     }
 }
 
-/// The digest of a policy that asserts nothing, in this hash: as many zeros as its digests have (Part 3, 23.1 and 11.2).
+/// The digest of a policy that asserts nothing, in this hash: as many zeros as its digests have
+/// (Part 3, 23.1 and 11.2).
 pub fn empty_policy(alg: Alg) -> Digest
     ensures { result ≡ policy_digest alg [] }
 {
@@ -91,8 +97,9 @@ pub fn empty_policy(alg: Alg) -> Digest
     }
 }
 
-/// The digest of a policy in this hash that asserts this too, by the digest `old` of what it asserts before: as TPM2_PolicyPCR,
-/// TPM2_PolicyOR, TPM2_PolicyCommandCode and TPM2_PolicyAuthValue extend it (Part 3, 23.7, 23.6, 23.11 and 23.17).
+/// The digest of a policy in this hash that asserts this too, by the digest `old` of what it
+/// asserts before: as TPM2_PolicyPCR, TPM2_PolicyOR, TPM2_PolicyCommandCode and
+/// TPM2_PolicyAuthValue extend it (Part 3, 23.7, 23.6, 23.11 and 23.17).
 pub fn extend_policy(alg: Alg, assertion: &Assertion<'_>, old: &[u8]) -> Digest
     ensures { result ≡ asserted alg (as_assertion assertion.now) old.now }
 {

@@ -41,7 +41,15 @@ impl Model for Session {
 
     ghost Value = { model.Session };
 
-    ghost view = { λ s. record { session_type = s.session_type; hash = s.key.hash; key = s.key.bytes; nonce = s.nonce; nonce_length = length s.nonce; is_bound = s.is_bound; policy = s.policy } };
+    ghost view = { λ s. record {
+      session_type = s.session_type;
+      hash = s.key.hash;
+      key = s.key.bytes;
+      nonce = s.nonce;
+      nonce_length = length s.nonce;
+      is_bound = s.is_bound;
+      policy = s.policy;
+    } };
 }
 
 impl Session {
@@ -79,7 +87,9 @@ impl Session {
     // A session that is started with these bytes for its nonce, bound to an entity with this authorization value.
     pub(crate) fn started(start: &StartAuth, bind_auth: &[u8], nonce: &[u8; NONCE_BYTES]) -> Self
         requires { length start.now.nonce_caller ≤ 48 }
-        ensures { (o : Origin) → (start.now.bind ≡ binds.Owner → trim_of bind_auth.now ≡ trim_of o.owner) → result ≡ as_session o nonce.now [] (record { request = start.now; nonce = nonce.now }) }
+        ensures { (o : Origin) →
+            (start.now.bind ≡ binds.Owner → trim_of bind_auth.now ≡ trim_of o.owner) →
+            result ≡ as_session o nonce.now [] (record { request = start.now; nonce = nonce.now }) }
     {
         let nonce = first_of(start, nonce);
         let key = match start.bind {
@@ -110,7 +120,8 @@ impl Session {
         }
     }
 
-    // TPM2_PolicyPCR is refused where the registers changed since an earlier one, or don't have the digest that is given.
+    // TPM2_PolicyPCR is refused where the registers changed since an earlier one, or don't have the
+    // digest that is given.
     pub(crate) fn check_registers(
         &self,
         composite: &Digest,
@@ -160,8 +171,11 @@ impl Session {
         update_counter: u32,
         pcr_digest: &'a Digest,
     ) -> Assertion<'a>
-        ensures { (now : Registers) → composite.now ≡ composite_of self.now.hash (value_in now.banks) selections.now → update_counter ≡ now.update_counter →
-            as_assertion result ≡ pcr_assertion now self.now.session_type self.now.hash pcr_digest.now selections.now }
+        ensures { (now : Registers) →
+            composite.now ≡ composite_of self.now.hash (value_in now.banks) selections.now →
+            update_counter ≡ now.update_counter →
+            as_assertion result ≡
+            pcr_assertion now self.now.session_type self.now.hash pcr_digest.now selections.now }
     {
         if !self.is_trial() {
             return Assertion::Pcr {

@@ -44,8 +44,8 @@ const FIRST_POLICY_SESSION: u32 = 0x0300_0000;
 // How many bytes the nonce of a caller that starts a session has at least.
 const LEAST_NONCE: usize = 16;
 
-/// The sessions that are loaded, three at most, each in its slot (Part 1, "Session-Based Authorizations"). All of them are in
-/// place: nothing is allocated.
+/// The sessions that are loaded, three at most, each in its slot (Part 1, "Session-Based
+/// Authorizations"). All of them are in place: nothing is allocated.
 #[derive(Drop)]
 pub struct Sessions {
     slots: [Option<Session>; SLOTS],
@@ -125,9 +125,11 @@ impl Sessions {
         }
     }
 
-    /// TPM2_StartAuthSession: starts a session in the lowest free slot, with the first of these bytes for its nonce; `bind_auth`
-    /// is the authorization value of what it is bound to, and is not looked at where bind is TPM_RH_NULL (Part 3, 11.1). Refused in this order: SIZE of parameter
-    /// 1 for a nonce of fewer than 16 bytes or more than a digest has; SESSION_MEMORY where no slot is free.
+    /// TPM2_StartAuthSession: starts a session in the lowest free slot, with the first of these
+    /// bytes for its nonce; `bind_auth` is the authorization value of what it is bound to, and is
+    /// not looked at where bind is TPM_RH_NULL (Part 3, 11.1). Refused in this order: SIZE of
+    /// parameter 1 for a nonce of fewer than 16 bytes or more than a digest has; SESSION_MEMORY
+    /// where no slot is free.
     pub fn start(
         &mut self,
         start: &StartAuth,
@@ -135,9 +137,14 @@ impl Sessions {
         nonce: &[u8; NONCE_BYTES],
     ) -> Result<StartReply, u32>
         ensures answer { started_reply result ≡ start_session self.old start.now nonce.now }
-        ensures started { IfOk result (λ reply. (o : Origin) (h : History) (c : Command) (r : Reply) → (start.now.bind ≡ binds.Owner → trim_of bind_auth.now ≡ trim_of o.owner) →
-            c.body ≡ bodies.StartAuthSession start.now → c.auths.items ≡ [] → r.body ≡ replies.StartAuthSession reply →
-            self.old ≡ sessions_at o h → self.new ≡ sessions_at o (Accepted c r nonce.now ∷ h)) }
+        ensures started { IfOk result (λ reply.
+            (o : Origin) (h : History) (c : Command) (r : Reply) →
+            (start.now.bind ≡ binds.Owner → trim_of bind_auth.now ≡ trim_of o.owner) →
+            c.body ≡ bodies.StartAuthSession start.now →
+            c.auths.items ≡ [] →
+            r.body ≡ replies.StartAuthSession reply →
+            self.old ≡ sessions_at o h →
+            self.new ≡ sessions_at o (Accepted c r nonce.now ∷ h)) }
         ensures refused { OnErr result (self.new ≡ self.old) }
     {
         let len = start.nonce_caller.as_slice().len();
@@ -157,8 +164,12 @@ impl Sessions {
     /// TPM2_FlushContext: frees the session's slot (Part 3, 28.4). HANDLE of parameter 1 where it is not loaded.
     pub fn flush(&mut self, session: SessionHandle) -> Result<(), u32>
         ensures answer { result ≡ check_flush (loaded self.old session) }
-        ensures flushed { OnOk result ((o : Origin) (h : History) (c : Command) (r : Reply) (nonce : List ℕ) → c.body ≡ bodies.FlushContext session → c.auths.items ≡ [] →
-            self.old ≡ sessions_at o h → self.new ≡ sessions_at o (Accepted c r nonce ∷ h)) }
+        ensures flushed { OnOk result (
+            (o : Origin) (h : History) (c : Command) (r : Reply) (nonce : List ℕ) →
+            c.body ≡ bodies.FlushContext session →
+            c.auths.items ≡ [] →
+            self.old ≡ sessions_at o h →
+            self.new ≡ sessions_at o (Accepted c r nonce ∷ h)) }
         ensures refused { OnErr result (self.new ≡ self.old) }
     {
         if self.get(session).is_none() {
@@ -168,12 +179,19 @@ impl Sessions {
         Ok(())
     }
 
-    /// After a command that the session authorized: its nonce is the first of these bytes, and its policy begins again; where
-    /// continueSession is clear, its slot is freed (Part 1, "Session-Based Authorizations").
+    /// After a command that the session authorized: its nonce is the first of these bytes, and its
+    /// policy begins again; where continueSession is clear, its slot is freed (Part 1,
+    /// "Session-Based Authorizations").
     pub fn roll(&mut self, session: SessionHandle, nonce: &[u8; NONCE_BYTES], keep: bool)
         requires { IsSome (loaded self.old session) }
-        ensures { (o : Origin) (h : History) (c : Command) (r : Reply) (a : Auth) (others : List Auth) → c.auths.items ≡ a ∷ others → a.session ≡ session → continues a.attrs ≡ keep →
-            needs_authorization (code_for c.body) ≡ true → self.old ≡ sessions_at o h → self.new ≡ sessions_at o (Accepted c r nonce.now ∷ h) }
+        ensures { (o : Origin) (h : History) (c : Command) (r : Reply) (a : Auth)
+            (others : List Auth) →
+            c.auths.items ≡ a ∷ others →
+            a.session ≡ session →
+            continues a.attrs ≡ keep →
+            needs_authorization (code_for c.body) ≡ true →
+            self.old ≡ sessions_at o h →
+            self.new ≡ sessions_at o (Accepted c r nonce.now ∷ h) }
     {
         roll(&mut self.slots[slot_of(session)], nonce, keep);
     }
@@ -185,12 +203,16 @@ impl Sessions {
         self.get(any_session(session))
     }
 
-    /// TPM2_PolicyRestart: the session asserts nothing any more (Part 3, 11.2). REFERENCE_H0 where it is not loaded, as for each
-    /// policy command.
+    /// TPM2_PolicyRestart: the session asserts nothing any more (Part 3, 11.2). REFERENCE_H0 where
+    /// it is not loaded, as for each policy command.
     pub fn restart(&mut self, session: PolicyHandle) -> Result<(), u32>
         ensures answer { result ≡ for_policy (loaded self.old session) (λ _. Ok tt) }
-        ensures restarted { OnOk result ((o : Origin) (h : History) (c : Command) (r : Reply) (nonce : List ℕ) → c.body ≡ bodies.PolicyRestart session → c.auths.items ≡ [] →
-            self.old ≡ sessions_at o h → self.new ≡ sessions_at o (Accepted c r nonce ∷ h)) }
+        ensures restarted { OnOk result (
+            (o : Origin) (h : History) (c : Command) (r : Reply) (nonce : List ℕ) →
+            c.body ≡ bodies.PolicyRestart session →
+            c.auths.items ≡ [] →
+            self.old ≡ sessions_at o h →
+            self.new ≡ sessions_at o (Accepted c r nonce ∷ h)) }
         ensures refused { OnErr result (self.new ≡ self.old) }
     {
         if self.policy(session).is_none() {
@@ -203,8 +225,12 @@ impl Sessions {
     /// TPM2_PolicyAuthValue: the entity's authorization value is part of the key (Part 3, 23.17). REFERENCE_H0.
     pub fn policy_auth_value(&mut self, session: PolicyHandle) -> Result<(), u32>
         ensures answer { result ≡ for_policy (loaded self.old session) (λ _. Ok tt) }
-        ensures asserted { OnOk result ((o : Origin) (h : History) (c : Command) (r : Reply) (nonce : List ℕ) → c.body ≡ bodies.PolicyAuthValue session → c.auths.items ≡ [] →
-            self.old ≡ sessions_at o h → self.new ≡ sessions_at o (Accepted c r nonce ∷ h)) }
+        ensures asserted { OnOk result (
+            (o : Origin) (h : History) (c : Command) (r : Reply) (nonce : List ℕ) →
+            c.body ≡ bodies.PolicyAuthValue session →
+            c.auths.items ≡ [] →
+            self.old ≡ sessions_at o h →
+            self.new ≡ sessions_at o (Accepted c r nonce ∷ h)) }
         ensures refused { OnErr result (self.new ≡ self.old) }
     {
         if self.policy(session).is_none() {
@@ -214,12 +240,18 @@ impl Sessions {
         Ok(())
     }
 
-    /// TPM2_PolicyCommandCode: the command has this code, which may be any (Part 3, 23.11). Refused in this order: REFERENCE_H0;
-    /// VALUE of parameter 1 where another code was set, in a trial too.
+    /// TPM2_PolicyCommandCode: the command has this code, which may be any (Part 3, 23.11). Refused
+    /// in this order: REFERENCE_H0; VALUE of parameter 1 where another code was set, in a trial
+    /// too.
     pub fn policy_command_code(&mut self, session: PolicyHandle, code: u32) -> Result<(), u32>
-        ensures answer { result ≡ for_policy (loaded self.old session) (λ s. check_policy_code s code) }
-        ensures asserted { OnOk result ((o : Origin) (h : History) (c : Command) (r : Reply) (nonce : List ℕ) → c.body ≡ bodies.PolicyCommandCode session code → c.auths.items ≡ [] →
-            self.old ≡ sessions_at o h → self.new ≡ sessions_at o (Accepted c r nonce ∷ h)) }
+        ensures answer { result ≡
+            for_policy (loaded self.old session) (λ s. check_policy_code s code) }
+        ensures asserted { OnOk result (
+            (o : Origin) (h : History) (c : Command) (r : Reply) (nonce : List ℕ) →
+            c.body ≡ bodies.PolicyCommandCode session code →
+            c.auths.items ≡ [] →
+            self.old ≡ sessions_at o h →
+            self.new ≡ sessions_at o (Accepted c r nonce ∷ h)) }
         ensures refused { OnErr result (self.new ≡ self.old) }
     {
         let Some(held) = self.policy(session) else {
@@ -230,12 +262,18 @@ impl Sessions {
         Ok(())
     }
 
-    /// TPM2_PolicyOR: the policy is one of those with these digests (Part 3, 23.6). Refused in this order: REFERENCE_H0; VALUE of
-    /// parameter 1 where the policy digest is none of them, unless it is a trial.
+    /// TPM2_PolicyOR: the policy is one of those with these digests (Part 3, 23.6). Refused in this
+    /// order: REFERENCE_H0; VALUE of parameter 1 where the policy digest is none of them, unless it
+    /// is a trial.
     pub fn policy_or(&mut self, session: PolicyHandle, digests: &OrDigests) -> Result<(), u32>
-        ensures answer { result ≡ for_policy (loaded self.old session) (λ s. check_policy_or s digests.now) }
-        ensures asserted { OnOk result ((o : Origin) (h : History) (c : Command) (r : Reply) (nonce : List ℕ) → c.body ≡ bodies.PolicyOr session digests.now → c.auths.items ≡ [] →
-            self.old ≡ sessions_at o h → self.new ≡ sessions_at o (Accepted c r nonce ∷ h)) }
+        ensures answer { result ≡
+            for_policy (loaded self.old session) (λ s. check_policy_or s digests.now) }
+        ensures asserted { OnOk result (
+            (o : Origin) (h : History) (c : Command) (r : Reply) (nonce : List ℕ) →
+            c.body ≡ bodies.PolicyOr session digests.now →
+            c.auths.items ≡ [] →
+            self.old ≡ sessions_at o h →
+            self.new ≡ sessions_at o (Accepted c r nonce ∷ h)) }
         ensures refused { OnErr result (self.new ≡ self.old) }
     {
         let Some(held) = self.policy(session) else {
@@ -246,10 +284,12 @@ impl Sessions {
         Ok(())
     }
 
-    /// TPM2_PolicyPCR: the selected registers have these values, and keep them until the policy is used (Part 3, 23.7). `pcr_digest`
-    /// is the digest of the values that is wanted, or empty for that of the present ones. Refused in this order: REFERENCE_H0;
-    /// PCR_CHANGED where registers changed since an earlier TPM2_PolicyPCR; VALUE of parameter 1 where the digest is another one. A
-    /// trial refuses neither, takes the digest that is given as it is, and keeps no update counter.
+    /// TPM2_PolicyPCR: the selected registers have these values, and keep them until the policy is
+    /// used (Part 3, 23.7). `pcr_digest` is the digest of the values that is wanted, or empty for
+    /// that of the present ones. Refused in this order: REFERENCE_H0; PCR_CHANGED where registers
+    /// changed since an earlier TPM2_PolicyPCR; VALUE of parameter 1 where the digest is another
+    /// one. A trial refuses neither, takes the digest that is given as it is, and keeps no update
+    /// counter.
     pub fn policy_pcr(
         &mut self,
         session: PolicyHandle,
@@ -257,10 +297,17 @@ impl Sessions {
         selections: &Selections,
         registers: &Registers,
     ) -> Result<(), u32>
-        ensures answer { result ≡ for_policy (loaded self.old session) (λ s.
-            check_policy_pcr s (composite_of s.hash (value_in registers.now.banks) selections.now) registers.now.update_counter pcr_digest.now) }
-        ensures asserted { OnOk result ((o : Origin) (h : History) (c : Command) (r : Reply) (nonce : List ℕ) → c.body ≡ bodies.PolicyPcr session pcr_digest.now selections.now → c.auths.items ≡ [] →
-            registers.now ≡ registers_after (changes h) → self.old ≡ sessions_at o h → self.new ≡ sessions_at o (Accepted c r nonce ∷ h)) }
+        ensures answer { result ≡
+            for_policy (loaded self.old session) (λ s.
+            check_policy_pcr s (composite_of s.hash (value_in registers.now.banks) selections.now)
+            registers.now.update_counter pcr_digest.now) }
+        ensures asserted { OnOk result (
+            (o : Origin) (h : History) (c : Command) (r : Reply) (nonce : List ℕ) →
+            c.body ≡ bodies.PolicyPcr session pcr_digest.now selections.now →
+            c.auths.items ≡ [] →
+            registers.now ≡ registers_after (changes h) →
+            self.old ≡ sessions_at o h →
+            self.new ≡ sessions_at o (Accepted c r nonce ∷ h)) }
         ensures refused { OnErr result (self.new ≡ self.old) }
     {
         let Some(held) = self.policy(session) else {
@@ -277,8 +324,12 @@ impl Sessions {
     /// TPM2_PolicyGetDigest: the policy digest of what the session asserts (Part 3, 23.19). REFERENCE_H0.
     pub fn policy_digest(&self, session: PolicyHandle) -> Result<Digest, u32>
         ensures answer { result ≡ for_policy (loaded self.now session) (λ s. Ok s.policy.digest) }
-        ensures digest { IfOk result (λ digest. (o : Origin) (h : History) → self.now ≡ sessions_at o h →
-            (s : model.Session) → loaded self.now session ≡ Some s → digest ≡ digest_of s.hash (assertions_of (slot_number session) h)) }
+        ensures digest { IfOk result (λ digest.
+            (o : Origin) (h : History) →
+            self.now ≡ sessions_at o h →
+            (s : model.Session) →
+            loaded self.now session ≡ Some s →
+            digest ≡ digest_of s.hash (assertions_of (slot_number session) h)) }
     {
         match self.policy(session) {
             Some(held) => Ok(held.policy_digest()),
@@ -297,7 +348,9 @@ impl Sessions {
     // The session asserts this too.
     fn assert(&mut self, session: PolicyHandle, assertion: &Assertion<'_>)
         requires { IsSome (loaded self.old session) }
-        ensures { self.new ≡ with_slot (slot_number session) (option_map (asserting (as_assertion assertion.now))) self.old }
+        ensures { self.new ≡
+            with_slot (slot_number session) (option_map (asserting (as_assertion assertion.now)))
+            self.old }
     {
         assert(&mut self.slots[slot_of(any_session(session))], assertion);
     }

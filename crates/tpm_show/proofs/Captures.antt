@@ -22,7 +22,8 @@ use Rattle.tpm_show.specs.Capture as specs
 
 -- ---- a line of which no more is kept than one byte too many
 
-told_long : (first : ℕ) (rest others : List ℕ) → most_line < length (first ∷ rest) → most_line < length (first ∷ others) → told_in (first ∷ rest) ≡ told_in (first ∷ others)
+told_long : (first : ℕ) (rest others : List ℕ) → most_line < length (first ∷ rest) → most_line < length (first ∷ others)
+    → told_in (first ∷ rest) ≡ told_in (first ∷ others)
 told_long first rest others f g = rw (lt-ltb most_line (length (first ∷ rest)) f, lt-ltb most_line (length (first ∷ others)) g) refl
 
 -- ---- statuses
@@ -59,7 +60,8 @@ pub tells_one : (how : Telling) (p : Place) (l : Line) (s : Status) (a : List �
 tells_one how p l s a f = (s, a, Done, [], f, (refl, refl), sym (both_done s), sym (append-nil a))
 
 -- the last line, which may be empty
-tells_last : (how : Telling) (p : Place) (line : List ℕ) (s : Status) (a : List ℕ) → HasNoFeed line → TellsLine how p (line_of line) s a → TellsFrom how p (map line_of (lines_of line)) s a
+tells_last : (how : Telling) (p : Place) (line : List ℕ) (s : Status) (a : List ℕ) → HasNoFeed line → TellsLine how p (line_of line) s a
+    → TellsFrom how p (map line_of (lines_of line)) s a
 tells_last how p [] s a f g = g
 tells_last how p (x ∷ line) s a f g = rw (last_line x line f) (tells_one how p (line_of (x ∷ line)) s a g)
 
@@ -74,14 +76,16 @@ told_kept (first ∷ rest) = elim (cases_lt (most_line + 1) (length (first ∷ r
 ]
 
 -- a byte that counts, of a line that is not too long
-kept_more : (kept held : List ℕ) (byte : ℕ) → held ≡ take (most_line + 1) kept → length held ≤ most_line → held ++ byte ∷ [] ≡ take (most_line + 1) (kept ++ byte ∷ [])
+kept_more : (kept held : List ℕ) (byte : ℕ) → held ≡ take (most_line + 1) kept → length held ≤ most_line
+    → held ++ byte ∷ [] ≡ take (most_line + 1) (kept ++ byte ∷ [])
 kept_more kept held byte is le = elim (cases_lt (most_line + 1) (length kept)) [
   | inl many ↦
       let counted : length held ≡ most_line + 1 = ap length is ∙ length-take-le (most_line + 1) kept (omega (arith, many)) in
       absurd (omega (arith, counted, le))
   | inr few ↦
       let same : held ≡ kept = is ∙ take_all (most_line + 1) kept few in
-      ap (λ (bytes : List ℕ). bytes ++ byte ∷ []) same ∙ sym (take_all (most_line + 1) (kept ++ byte ∷ []) (omega (arith, le, ap length same, length-append kept (byte ∷ []))))
+      ap (λ (bytes : List ℕ). bytes ++ byte ∷ []) same
+      ∙ sym (take_all (most_line + 1) (kept ++ byte ∷ []) (omega (arith, le, ap length same, length-append kept (byte ∷ []))))
 ]
 
 -- a byte that counts, of one that is
@@ -142,8 +146,10 @@ takes_feed c d A f = record {
   goes_on = λ how before text g.
       let l : told_in c.line.items ≡ line_of g.line = ap told_in g.held ∙ told_kept (without_blanks g.line) in
       let ended = g.line ++ 10 ∷ [] in
-      let lines : lines_of (g.lines ++ ended) ≡ lines_of g.lines ++ g.line ∷ [] = lines_of-append g.lines ended g.ended ∙ ap (λ (ls : List (List ℕ)). lines_of g.lines ++ ls) (ended_line g.line [] g.one) in
-      let mapped : map line_of (lines_of (g.lines ++ ended)) ≡ map line_of (lines_of g.lines) ++ line_of g.line ∷ [] = ap (map line_of) lines ∙ map-append line_of (lines_of g.lines) (g.line ∷ []) in
+      let lines : lines_of (g.lines ++ ended) ≡ lines_of g.lines ++ g.line ∷ [] = lines_of-append g.lines ended g.ended
+      ∙ ap (λ (ls : List (List ℕ)). lines_of g.lines ++ ls) (ended_line g.line [] g.one) in
+      let mapped : map line_of (lines_of (g.lines ++ ended)) ≡ map line_of (lines_of g.lines) ++ line_of g.line ∷ [] = ap (map line_of) lines
+      ∙ map-append line_of (lines_of g.lines) (g.line ∷ []) in
       record {
         lines = g.lines ++ ended;
         line = [];
@@ -200,13 +206,15 @@ GoesOn Told read failed failed_before = record { told : Told; bound : read ≤ s
 abbrev pub Answers : (how : Telling) → (old new : Option (List ℕ)) → (A : List ℕ → Type 0) → Status → Type 0
 Answers how old new A status = (bytes : List ℕ) × (text : List ℕ) × ReadsAll old new bytes × TellsCapture how bytes status text × A text
 
-pub answers_at_end : (how : Telling) (old mid new : Option (List ℕ)) (read : ℕ) (c d : Capture) (A B C : List ℕ → Type 0) → Joins A B C → Reaches how old mid read c A
+pub answers_at_end : (how : Telling) (old mid new : Option (List ℕ)) (read : ℕ) (c d : Capture) (A B C : List ℕ → Type 0) → Joins A B C
+    → Reaches how old mid read c A
     → Consumes mid new [] → IsAtEnd new → EndsLine (told_in c.line.items) c d B → Answers how old new C d.status
 answers_at_end how old mid new read c d A B C joins f consumed end ended =
     let g = f.taken in
     let l : told_in c.line.items ≡ line_of g.line = ap told_in g.held ∙ told_kept (without_blanks g.line) in
     let mapped : map line_of (lines_of f.bytes) ≡ map line_of (lines_of g.lines) ++ map line_of (lines_of g.line) =
-    ap (λ (bytes : List ℕ). map line_of (lines_of bytes)) g.are ∙ ap (map line_of) (lines_of-append g.lines g.line g.ended) ∙ map-append line_of (lines_of g.lines) (lines_of g.line) in (
+    ap (λ (bytes : List ℕ). map line_of (lines_of bytes)) g.are ∙ ap (map line_of) (lines_of-append g.lines g.line g.ended)
+    ∙ map-append line_of (lines_of g.lines) (lines_of g.line) in (
       f.bytes,
       f.text ++ ended.tells.text,
       record { read = rw append-nil at (consumes_both old mid new f.bytes [] f.consumed consumed); whole = end },

@@ -28,7 +28,8 @@ appends_nothing (Some l) = sym (append-nil l)
 
 -- ---- frames
 
-pub streams_none : (how : Telling) (a : Option (List ℕ)) (c : Capture) (A : List ℕ → Type 0) → Consumes a a [] → A [] → c.how ≡ how → place c ≡ start → c.status ≡ Done
+pub streams_none : (how : Telling) (a : Option (List ℕ)) (c : Capture) (A : List ℕ → Type 0) → Consumes a a [] → A [] → c.how ≡ how → place c ≡ start
+    → c.status ≡ Done
     → Streams how a a 0 c A
 streams_none how a c A none added same first done = record {
   frames = [];
@@ -61,7 +62,9 @@ streams_more how old mid new read frame c d A B C joins f consumed is g =
       tells = rw (g.all, mapped)
           (tells_both how start lines (Frame None frame ∷ []) c.status g.status f.text g.text f.tells
           (tells_one how (behind_all start lines) (Frame None frame) g.status g.text (rw (← f.place, ← f.same) g.tells)));
-      place = g.place ∙ ap (λ (p : Place). behind p (Frame None frame)) f.place ∙ sym (behind_all-append start lines (Frame None frame ∷ [])) ∙ ap (behind_all start) (sym mapped);
+      place =
+          g.place ∙ ap (λ (p : Place). behind p (Frame None frame)) f.place ∙ sym (behind_all-append start lines (Frame None frame ∷ []))
+          ∙ ap (behind_all start) (sym mapped);
       number = omega (arith, ap (λ (p : Place). p.number) g.place, f.number, length-append f.frames (frame ∷ []));
       fewer = omega (arith, f.fewer, is.least, length-append f.frames (frame ∷ []));
       same = g.how ∙ f.same;
@@ -82,7 +85,8 @@ broken_more rest more b = record {
 
 -- of a stream whose frames were told
 tells_stream : (how : Telling) (old mid : Option (List ℕ)) (read : ℕ) (c : Capture) (A : List ℕ → Type 0) → (f : Streams how old mid read c A)
-    → (rest : List ℕ) (ending : Ending) → BeginsNoFrame rest → IsEnding rest ending → TellsStream how (concat f.frames ++ rest) (both c.status (ending_status ending)) (f.text ++ ending_text how.json ending c.number read)
+    → (rest : List ℕ) (ending : Ending) → BeginsNoFrame rest → IsEnding rest ending
+    → TellsStream how (concat f.frames ++ rest) (both c.status (ending_status ending)) (f.text ++ ending_text how.json ending c.number read)
 tells_stream how old mid read c A f rest ending over ends = record {
   frames = f.frames;
   rest = rest;
@@ -100,7 +104,8 @@ abbrev pub StreamAnswers : (how : Telling) → (old new : Option (List ℕ)) →
 StreamAnswers how old new C status = (text : List ℕ) × TellsRead how old new status text × C text
 
 -- inside a frame
-pub stream_cut : (how : Telling) (old mid new : Option (List ℕ)) (read : ℕ) (rest : List ℕ) (c : Capture) (A B C : List ℕ → Type 0) → Joins A B C → Streams how old mid read c A → Consumes mid new rest
+pub stream_cut : (how : Telling) (old mid new : Option (List ℕ)) (read : ℕ) (rest : List ℕ) (c : Capture) (A B C : List ℕ → Type 0) → Joins A B C
+    → Streams how old mid read c A → Consumes mid new rest
     → IsEnding rest Inside → IsAtEnd new → B (ending_text how.json Inside c.number read) → StreamAnswers how old new C Refused
 stream_cut how old mid new read rest c A B C joins f consumed ends end added = (
   f.text ++ ending_text how.json Inside c.number read,
@@ -115,17 +120,21 @@ stream_cut how old mid new read rest c A B C joins f consumed ends end added = (
 )
 
 -- at a size that no frame has
-pub stream_breaks : (how : Telling) (old mid new : Option (List ℕ)) (read : ℕ) (rest : List ℕ) (c : Capture) (A B C : List ℕ → Type 0) → Joins A B C → Streams how old mid read c A → Consumes mid new rest
+pub stream_breaks : (how : Telling) (old mid new : Option (List ℕ)) (read : ℕ) (rest : List ℕ) (c : Capture) (A B C : List ℕ → Type 0) → Joins A B C
+    → Streams how old mid read c A → Consumes mid new rest
     → IsBroken rest → B (ending_text how.json BadSize c.number read) → StreamAnswers how old new C Refused
 stream_breaks how old mid new read rest c A B C joins f consumed broken added =
     let whole : (more : List ℕ) → TellsStream how (concat f.frames ++ (rest ++ more)) Refused (f.text ++ ending_text how.json BadSize c.number read) =
-    λ more. subst (λ (s : Status). TellsStream how (concat f.frames ++ (rest ++ more)) s (f.text ++ ending_text how.json BadSize c.number read)) (both_refused c.status)
+    λ more. subst (λ (s : Status). TellsStream how (concat f.frames ++ (rest ++ more)) s
+    (f.text ++ ending_text how.json BadSize c.number read)) (both_refused c.status)
     (tells_stream how old mid read c A f (rest ++ more) BadSize (broken_begins rest more broken) (broken_more rest more broken)) in (
       f.text ++ ending_text how.json BadSize c.number read,
       record {
         bytes = concat f.frames ++ rest;
         read = consumes_both old mid new (concat f.frames) rest f.consumed consumed;
-        tells = subst (λ (r : List ℕ). TellsStream how (concat f.frames ++ r) Refused (f.text ++ ending_text how.json BadSize c.number read)) (append-nil rest) (whole []);
+        tells =
+            subst (λ (r : List ℕ). TellsStream how (concat f.frames ++ r) Refused (f.text ++ ending_text how.json BadSize c.number read)) (append-nil
+            rest) (whole []);
         whole = inr (λ more. rw (append_assoc (concat f.frames) rest more) (whole more));
       },
       joins f.text (ending_text how.json BadSize c.number read) f.added added,

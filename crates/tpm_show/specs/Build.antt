@@ -29,12 +29,16 @@ BuildsBytes bytes Refused text = (refusal : Refusal) × Fault command bytes refu
 
 -- No buffer has more than 4,096 bytes.
 abbrev pub BuildsBuffer : List ℕ → Status → List ℕ → Type 0
-BuildsBuffer bytes status text = ((4096 < length bytes) × (status ≡ Refused) × (text ≡ refusal_line too_long)) ⊎ ((length bytes ≤ 4096) × BuildsBytes bytes status text)
+BuildsBuffer bytes status text =
+    ((4096 < length bytes) × (status ≡ Refused) × (text ≡ refusal_line too_long))
+    ⊎ ((length bytes ≤ 4096) × BuildsBytes bytes status text)
 
 abbrev pub BuildsParts : CommandCode → Option (List ℕ) → Option (List ℕ) → Option (List ℕ) → Status → List ℕ → Type 0
-BuildsParts code (Some handles) (Some sessions) (Some parameters) status text = BuildsBuffer (joined code handles sessions parameters) status text
+BuildsParts code (Some handles) (Some sessions) (Some parameters) status text =
+    BuildsBuffer (joined code handles sessions parameters) status text
 BuildsParts code _ _ _ status text = (status ≡ Refused) × (text ≡ not_hexadecimal_line)
 
 -- For this command and these texts of its handles, its sessions and its parameters, this is the status and the text.
 abbrev pub Builds : CommandCode → List ℕ → List ℕ → List ℕ → Status → List ℕ → Type 0
-Builds code handles sessions parameters status text = BuildsParts code (part_of handles) (part_of sessions) (part_of parameters) status text
+Builds code handles sessions parameters status text =
+    BuildsParts code (part_of handles) (part_of sessions) (part_of parameters) status text

@@ -114,8 +114,10 @@ sentence_text true sentence = fault_member sentence
 
 abbrev pub TellsReply : (json fields : Bool) → Awaited → List ℕ → Status → List ℕ → Type 0
 TellsReply json fields (awaits.Reply command) bytes status text = ShowsReply json fields command bytes status text
-TellsReply json fields awaits.Unknown bytes status text = (status ≡ Refused) × (text ≡ sentence_text json (codes "its command is not known"))
-TellsReply json fields awaits.Nothing bytes status text = (status ≡ Refused) × (text ≡ sentence_text json (codes "no command is before it"))
+TellsReply json fields awaits.Unknown bytes status text =
+    (status ≡ Refused) × (text ≡ sentence_text json (codes "its command is not known"))
+TellsReply json fields awaits.Nothing bytes status text =
+    (status ≡ Refused) × (text ≡ sentence_text json (codes "no command is before it"))
 
 abbrev pub TellsFrame : (json fields : Bool) → Direction → Awaited → List ℕ → Status → List ℕ → Type 0
 TellsFrame json fields Command awaited bytes status text = TellsCommand json fields bytes status text
@@ -135,7 +137,9 @@ kind_of Reply = codes "response"
 
 -- in one object, with its number and which way it went
 unfoldable pub frame_object : ℕ → Direction → List ℕ → List ℕ
-frame_object number direction members = codes "{\"number\":" ++ (decimal number ++ (codes ",\"kind\":\"" ++ (kind_of direction ++ (codes "\"" ++ (members ++ codes "}\n")))))
+frame_object number direction members =
+    codes "{\"number\":"
+    ++ (decimal number ++ (codes ",\"kind\":\"" ++ (kind_of direction ++ (codes "\"" ++ (members ++ codes "}\n")))))
 
 abbrev pub numbered : (json : Bool) → ℕ → Direction → List ℕ → List ℕ
 numbered false number direction told = front number direction ++ told
@@ -160,22 +164,29 @@ start = record { number = 1; awaited = awaits.Nothing }
 
 abbrev pub behind : Place → Line → Place
 behind p Nothing = p
-behind p (Frame mark bytes) = record { number = p.number + 1; awaited = awaited_behind (direction_of mark p.awaited bytes) bytes }
+behind p (Frame mark bytes) =
+    record { number = p.number + 1; awaited = awaited_behind (direction_of mark p.awaited bytes) bytes }
 behind p _ = record { number = p.number + 1; awaited = awaits.Unknown }
 
 abbrev pub TellsLine : (how : Telling) → Place → Line → Status → List ℕ → Type 0
 TellsLine how p Nothing status text = (status ≡ Done) × (text ≡ [])
 TellsLine how p (Frame mark bytes) status text =
     let direction = direction_of mark p.awaited bytes in
-    (told : List ℕ) × TellsFrame how.json how.fields direction p.awaited bytes status told × (text ≡ numbered how.json p.number direction told)
-TellsLine how p NotHexadecimal status text = (status ≡ Refused) × (text ≡ fault_text how.json p.number (codes "not hexadecimal"))
+    (told : List ℕ)
+    × TellsFrame how.json how.fields direction p.awaited bytes status told
+    × (text ≡ numbered how.json p.number direction told)
+TellsLine how p NotHexadecimal status text =
+    (status ≡ Refused) × (text ≡ fault_text how.json p.number (codes "not hexadecimal"))
 TellsLine how p TooLong status text = (status ≡ Refused) × (text ≡ fault_text how.json p.number (codes "too long"))
 
 -- From this place the lines are told one after the other. All is done where each is.
 abbrev pub TellsFrom : (how : Telling) → Place → List Line → Status → List ℕ → Type 0
 TellsFrom how p [] status text = (status ≡ Done) × (text ≡ [])
 TellsFrom how p (first ∷ others) status text = (one : Status) × (told : List ℕ) × (rest : Status) × (more : List ℕ)
-    × TellsLine how p first one told × TellsFrom how (behind p first) others rest more × (status ≡ both one rest) × (text ≡ told ++ more)
+    × TellsLine how p first one told
+    × TellsFrom how (behind p first) others rest more
+    × (status ≡ both one rest)
+    × (text ≡ told ++ more)
 
 -- For these bytes of a capture this is the status and what is printed.
 abbrev pub TellsCapture : (how : Telling) → List ℕ → Status → List ℕ → Type 0

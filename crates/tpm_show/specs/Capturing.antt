@@ -71,11 +71,13 @@ pub record Taken (how : Telling) (bytes text : List ℕ) (c : Capture) : Type 0 
 pub record Takes (bytes : List ℕ) (old new : Capture) (Added : List ℕ → Type 0) : Type 0 where
   pub added : List ℕ
   pub is_added : Added added
-  pub goes_on : (how : Telling) (before text : List ℕ) → Taken how before text old → Taken how (before ++ bytes) (text ++ added) new
+  pub goes_on : (how : Telling) (before text : List ℕ) → Taken how before text old
+      → Taken how (before ++ bytes) (text ++ added) new
   pub number : new.number ≤ old.number + length bytes
 
 -- So many bytes of the input were read and taken.
-pub record Reaches (how : Telling) (old new : Option (List ℕ)) (read : ℕ) (c : Capture) (Added : List ℕ → Type 0) : Type 0 where
+pub record Reaches (how : Telling) (old new : Option (List ℕ)) (read : ℕ) (c : Capture)
+    (Added : List ℕ → Type 0) : Type 0 where
   pub bytes : List ℕ
   pub text : List ℕ
   pub consumed : Consumes old new bytes
@@ -87,7 +89,8 @@ pub record Reaches (how : Telling) (old new : Option (List ℕ)) (read : ℕ) (c
 -- ---- frames
 
 -- So many bytes of the input were read, and are frames that were told.
-pub record Streams (how : Telling) (old new : Option (List ℕ)) (read : ℕ) (c : Capture) (Added : List ℕ → Type 0) : Type 0 where
+pub record Streams (how : Telling) (old new : Option (List ℕ)) (read : ℕ) (c : Capture)
+    (Added : List ℕ → Type 0) : Type 0 where
   pub frames : List (List ℕ)
   pub text : List ℕ
   pub consumed : Consumes old new (concat frames)

@@ -134,7 +134,8 @@ commands =
 -- ---- behind the refusal of a command's code
 
 unfoldable pub absent_line : List ℕ → List ℕ
-absent_line name = line ((codes "TPM2_" ++ name) ∷ codes "is" ∷ codes "not" ∷ codes "in" ∷ codes "this" ∷ codes "profile" ∷ [])
+absent_line name =
+    line ((codes "TPM2_" ++ name) ∷ codes "is" ∷ codes "not" ∷ codes "in" ∷ codes "this" ∷ codes "profile" ∷ [])
 
 unfoldable pub absent_member : List ℕ → List ℕ
 absent_member name = codes ",\"name\":\"TPM2_" ++ (name ++ codes "\"")
@@ -155,4 +156,5 @@ absent_text json code = absent_of json (named_in commands code)
 -- The code stands behind the tag and the size.
 abbrev pub absent_behind : (json : Bool) → Refusal → Option ℕ → List ℕ
 absent_behind json refusal None = []
-absent_behind json refusal (Some code) = if refusal.code == rc_command_code && refusal.at == 6 then absent_text json code else []
+absent_behind json refusal (Some code) =
+    if refusal.code == rc_command_code && refusal.at == 6 then absent_text json code else []

@@ -132,7 +132,8 @@ meaning_of code =
 
 -- bit 6 is set for a parameter, and else bit 11 for a session
 abbrev pub subject_of : ℕ → List ℕ
-subject_of code = if bit_and code 0x40 == 0 then if bit_and code 0x800 == 0 then codes "handle" else codes "session" else codes "parameter"
+subject_of code = if bit_and code 0x40 == 0
+    then if bit_and code 0x800 == 0 then codes "handle" else codes "session" else codes "parameter"
 
 -- bits 8 to 11 for a parameter, and else bits 8 to 10
 abbrev pub subject_number : ℕ → ℕ

@@ -1,4 +1,5 @@
--- The text of a field of a buffer: its name, its type and its bytes, and what is told of its parts (this profile; RFC 8259).
+-- The text of a field of a buffer: its name, its type and its bytes, and what is told of its parts
+-- (this profile; RFC 8259).
 use Rattle.std.specs.Prelude.{ℕ, ◌+◌, Bool, true, false, List, [], ◌∷◌, ◌++◌, codes as text, Option, Some, None}
 use Rattle.std.specs.Fmt.{decimal}
 use Rattle.hex.specs.Hex.{encode_lower}
@@ -19,7 +20,8 @@ unfoldable pub field_line : (indent : List ℕ) → List ℕ → List ℕ → Li
 field_line indent name type bytes = indent ++ line (name ∷ type ∷ bytes_text bytes ∷ [])
 
 unfoldable pub field_members : List ℕ → List ℕ → List ℕ → List ℕ
-field_members name type bytes = text "{\"name\":\"" ++ (name ++ (text "\",\"type\":\"" ++ (type ++ (text "\",\"value\":\"" ++ (encode_lower bytes ++ text "\"")))))
+field_members name type bytes = text "{\"name\":\""
+    ++ (name ++ (text "\",\"type\":\"" ++ (type ++ (text "\",\"value\":\"" ++ (encode_lower bytes ++ text "\"")))))
 
 -- its line, so far in, or the first members of its object, as an entry of a list
 unfoldable pub field_head : (json : Bool) → (indent : List ℕ) → ℕ → List ℕ → List ℕ → List ℕ → List ℕ
@@ -36,14 +38,17 @@ unfoldable pub field_text : (json : Bool) → (indent : List ℕ) → ℕ → Li
 field_text json indent i name type bytes = field_head json indent i name type bytes ++ in_object json (text "}")
 
 -- a field with its parts: their lines stand under its own, their objects are a member of its own
-unfoldable pub structure_text : (json : Bool) → (indent : List ℕ) → ℕ → List ℕ → List ℕ → List ℕ → (parts : List ℕ) → List ℕ
+unfoldable pub structure_text : (json : Bool)
+    → (indent : List ℕ) → ℕ → List ℕ → List ℕ → List ℕ → (parts : List ℕ) → List ℕ
 structure_text json indent i name type bytes parts =
-    field_head json indent i name type bytes ++ (in_object json (text ",\"fields\":[") ++ (parts ++ in_object json (text "]}")))
+    field_head json indent i name type bytes
+    ++ (in_object json (text ",\"fields\":[") ++ (parts ++ in_object json (text "]}")))
 
 -- a number by its name: a bit that is set, a field of bits, or a register that is selected
 unfoldable pub number_text : (json : Bool) → (indent : List ℕ) → ℕ → List ℕ → ℕ → List ℕ
 number_text false indent i name n = indent ++ line (name ∷ decimal n ∷ [])
-number_text true indent i name n = comma i ++ (text "{\"name\":\"" ++ (name ++ (text "\",\"number\":" ++ (decimal n ++ text "}"))))
+number_text true indent i name n =
+    comma i ++ (text "{\"name\":\"" ++ (name ++ (text "\",\"number\":" ++ (decimal n ++ text "}"))))
 
 -- ---- the fields of a structure
 
@@ -60,7 +65,8 @@ others_of [] = []
 others_of (x ∷ xs) = xs
 
 -- each field under its name, with its parts where there are some
-abbrev pub fields_from : (json : Bool) → (indent : List ℕ) → ℕ → List Field → List (List ℕ) → (insides : List (Option (List ℕ))) → List ℕ
+abbrev pub fields_from : (json : Bool) → (indent : List ℕ)
+    → ℕ → List Field → List (List ℕ) → (insides : List (Option (List ℕ))) → List ℕ
 fields_from json indent i (f ∷ fs) (bytes ∷ others) insides =
     told json indent i f bytes (first_of insides) ++ fields_from json indent (i + 1) fs others (others_of insides)
 fields_from json indent i _ _ insides = []

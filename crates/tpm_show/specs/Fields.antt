@@ -17,9 +17,11 @@ use Rattle.tpm_show.specs.Parts.{public_parts, selection_parts, digest_parts, di
 abbrev pub command_insides : (json : Bool) → CommandBody → List (Option (List ℕ))
 command_insides json (bodies.NvDefineSpace auth public) = None ∷ Some (public_parts json public) ∷ []
 command_insides json (bodies.PolicyOr session digests) = Some (digest_parts json digests) ∷ []
-command_insides json (bodies.StartAuthSession start) = None ∷ None ∷ None ∷ Some (symmetric_parts json start.symmetric) ∷ []
+command_insides json (bodies.StartAuthSession start) =
+    None ∷ None ∷ None ∷ Some (symmetric_parts json start.symmetric) ∷ []
 command_insides json (bodies.PcrRead selections) = Some (selection_parts json selections) ∷ []
-command_insides json (bodies.PolicyPcr session pcr_digest selections) = None ∷ Some (selection_parts json selections) ∷ []
+command_insides json (bodies.PolicyPcr session pcr_digest selections) =
+    None ∷ Some (selection_parts json selections) ∷ []
 command_insides json (bodies.PcrExtend register digests) = Some (digest_value_parts json digests) ∷ []
 command_insides json _ = []
 
@@ -27,15 +29,18 @@ command_insides json _ = []
 abbrev pub reply_insides : (json : Bool) → ReplyBody → List (Option (List ℕ))
 reply_insides json (replies.PcrEvent digests) = Some (digest_value_parts json digests) ∷ []
 reply_insides json (replies.NvReadPublic public name) = Some (public_parts json public) ∷ []
-reply_insides json (replies.PcrRead update_counter selections digests) = None ∷ Some (selection_parts json selections) ∷ Some (digest_parts json digests) ∷ []
+reply_insides json (replies.PcrRead update_counter selections digests) =
+    None ∷ Some (selection_parts json selections) ∷ Some (digest_parts json digests) ∷ []
 reply_insides json _ = []
 
 -- ---- their lines
 
 -- a line or an object for each parameter of a command, with its parts
 abbrev pub command_fields : (json : Bool) → CommandBody → List ℕ
-command_fields json body = fields_from json (text "  ") 1 (row (code_for body)).parameter_names (parts (parameters (code_for body)) (params_of body)) (command_insides json body)
+command_fields json body = fields_from json (text "  ") 1 (row (code_for body)).parameter_names
+    (parts (parameters (code_for body)) (params_of body)) (command_insides json body)
 
 -- a line or an object for each parameter of a reply, with its parts
 abbrev pub reply_fields : (json : Bool) → ReplyBody → List ℕ
-reply_fields json body = fields_from json (text "  ") 1 (row (code_for_reply body)).reply_names (parts (parameters_of_reply body) body) (reply_insides json body)
+reply_fields json body = fields_from json (text "  ") 1 (row (code_for_reply body)).reply_names
+    (parts (parameters_of_reply body) body) (reply_insides json body)

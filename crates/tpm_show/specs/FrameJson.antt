@@ -16,7 +16,8 @@ use Rattle.tpm_show.specs.Fields.{command_fields, reply_fields}
 -- ---- refusals and faults
 
 unfoldable pub refusal_members : Refusal → List ℕ
-refusal_members refusal = codes ",\"refused\":\"" ++ (hexadecimal 3 refusal.code ++ (codes "\",\"at\":" ++ decimal refusal.at))
+refusal_members refusal =
+    codes ",\"refused\":\"" ++ (hexadecimal 3 refusal.code ++ (codes "\",\"at\":" ++ decimal refusal.at))
 
 abbrev pub fault_member : List ℕ → List ℕ
 fault_member fault = codes ",\"fault\":\"" ++ (fault ++ codes "\"")
@@ -27,7 +28,8 @@ fault_object number fault = codes "{\"number\":" ++ (decimal number ++ (fault_me
 
 -- of a frame that does not come, behind so many bytes
 unfoldable pub stop_object : ℕ → List ℕ → ℕ → List ℕ
-stop_object number fault at = codes "{\"number\":" ++ (decimal number ++ (fault_member fault ++ (codes ",\"at\":" ++ (decimal at ++ codes "}\n"))))
+stop_object number fault at = codes "{\"number\":"
+    ++ (decimal number ++ (fault_member fault ++ (codes ",\"at\":" ++ (decimal at ++ codes "}\n"))))
 
 -- ---- what commands and replies share
 
@@ -53,7 +55,8 @@ fields_member true objects = codes ",\"fields\":[" ++ (objects ++ codes "]")
 -- of a command of so many bytes
 unfoldable pub command_members : (fields : Bool) → ℕ → Cut → CommandBody → List ℕ
 command_members fields size c body = head_members c.header.code size
-    ++ (handles_member c.handles ++ (sessions_member (map of_command c.auths) ++ (parameters_member c.params ++ fields_member fields (command_fields true body))))
+    ++ (handles_member c.handles ++ (sessions_member (map of_command c.auths)
+    ++ (parameters_member c.params ++ fields_member fields (command_fields true body))))
 
 -- ---- a response
 
@@ -67,4 +70,5 @@ handles_of (Some handle) = handle ∷ []
 -- of a reply to this command, of so many bytes
 unfoldable pub reply_members : (fields : Bool) → CommandCode → ℕ → ReplyCut → ReplyBody → List ℕ
 reply_members fields code size r body = head_members code size
-    ++ (handles_member (handles_of (handle_of r)) ++ (parameters_member r.params ++ (fields_member fields (reply_fields true body) ++ sessions_member (map of_reply r.auths))))
+    ++ (handles_member (handles_of (handle_of r)) ++ (parameters_member r.params
+    ++ (fields_member fields (reply_fields true body) ++ sessions_member (map of_reply r.auths))))

@@ -1,5 +1,5 @@
--- The software layers of response codes, and their base codes (TCG TSS 2.0 Overview and Common Structures, response codes), by
--- their numbers and names in tss2_common.h.
+-- The software layers of response codes, and their base codes (TCG TSS 2.0 Overview and Common
+-- Structures, response codes), by their numbers and names in tss2_common.h.
 use Rattle.std.specs.Prelude.{ℕ, ◌/◌, ◌^◌, ◌==◌, List, [], ◌∷◌, codes, Option, if◌then◌else◌}
 use Rattle.tpm_show.specs.declared.layers.Codes.TheVariants.{Base, BaseOrTpm, Tpm}
 use Rattle.tpm_show.specs.declared.layers.Codes.{Codes}

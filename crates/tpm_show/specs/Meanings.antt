@@ -2,7 +2,8 @@
 use Rattle.std.specs.Prelude.{ℕ, ◌==◌, List, Option, find}
 use Rattle.tpm_show.specs.declared.meaning.Meaning.{Meaning as RustMeaning}
 
--- a code, its name behind TPM_RC_ or TSS2_BASE_RC_, and what it says; or the number of a layer, its name between TSS2_ and _RC_LAYER, and what it is
+-- a code, its name behind TPM_RC_ or TSS2_BASE_RC_, and what it says; or the number of a layer, its
+-- name between TSS2_ and _RC_LAYER, and what it is
 pub record Meaning : Type 0 where
   pub number : ℕ
   pub name : List ℕ

@@ -51,7 +51,8 @@ bits_of table json attrs = lines_from (attribute_entry json) 2 (filter (λ bit. 
 
 -- the field TPM_NT, whatever it is, and the bits
 abbrev pub attribute_parts : (json : Bool) → ℕ → List ℕ
-attribute_parts json attrs = number_text json (text "      ") 1 (text "TPM_NT") (nv_type attrs) ++ bits_of attribute_names json attrs
+attribute_parts json attrs =
+    number_text json (text "      ") 1 (text "TPM_NT") (nv_type attrs) ++ bits_of attribute_names json attrs
 
 -- ---- TPMS_NV_PUBLIC (13.5), which is what TPM2B_NV_PUBLIC (13.6) has
 
@@ -65,7 +66,8 @@ public_names =
     []
 
 abbrev pub public_parts : (json : Bool) → NvPublic → List ℕ
-public_parts json p = fields_from json (text "    ") 1 public_names (parts nv_public_area p) (None ∷ None ∷ Some (attribute_parts json p.attrs) ∷ [])
+public_parts json p = fields_from json (text "    ") 1 public_names
+    (parts nv_public_area p) (None ∷ None ∷ Some (attribute_parts json p.attrs) ∷ [])
 
 -- ---- TPML_PCR_SELECTION (10.9.7), whose entries are TPMS_PCR_SELECTION (10.6.2)
 
@@ -84,10 +86,12 @@ abbrev pub register_parts : (json : Bool) → (select : List ℕ) → List ℕ
 register_parts json select = lines_from (register_entry json) 1 (filter (is_selected select) (range_with_len 0 24))
 
 abbrev pub selection_members : (json : Bool) → Selection → List ℕ
-selection_members json s = fields_from json (text "      ") 1 selection_names (parts selection s) (None ∷ None ∷ Some (register_parts json s.select) ∷ [])
+selection_members json s = fields_from json (text "      ") 1 selection_names
+    (parts selection s) (None ∷ None ∷ Some (register_parts json s.select) ∷ [])
 
 abbrev pub selection_entry : (json : Bool) → ℕ → Selection → List ℕ
-selection_entry json i s = structure_text json (text "    ") i (text "pcrSelections") (text "TPMS_PCR_SELECTION") (spelling selection s) (selection_members json s)
+selection_entry json i s = structure_text json (text "    ") i (text "pcrSelections")
+    (text "TPMS_PCR_SELECTION") (spelling selection s) (selection_members json s)
 
 abbrev pub selection_parts : (json : Bool) → List Selection → List ℕ
 selection_parts json selections = lines_from (selection_entry json) 1 selections
@@ -109,7 +113,8 @@ abbrev pub digest_value_members : (json : Bool) → Alg × List ℕ → List ℕ
 digest_value_members json d = fields_from json (text "      ") 1 digest_value_names (parts digest_value d) []
 
 abbrev pub digest_value_entry : (json : Bool) → ℕ → Alg × List ℕ → List ℕ
-digest_value_entry json i d = structure_text json (text "    ") i (text "digests") (text "TPMT_HA") (spelling digest_value d) (digest_value_members json d)
+digest_value_entry json i d = structure_text json (text "    ") i
+    (text "digests") (text "TPMT_HA") (spelling digest_value d) (digest_value_members json d)
 
 abbrev pub digest_value_parts : (json : Bool) → List (Alg × List ℕ) → List ℕ
 digest_value_parts json digests = lines_from (digest_value_entry json) 1 digests

@@ -34,7 +34,8 @@ named_fields true body = reply_fields false body
 -- a reply to this command, of so many bytes: its handle, its parameters likewise, and its sessions
 unfoldable pub reply_lines : (fields : Bool) → CommandCode → ℕ → ReplyCut → ReplyBody → List ℕ
 reply_lines fields code size r body =
-    reply_line code size ++ (reply_handle_line (handle_of r) ++ (parameters_line r.params ++ (named_fields fields body ++ lines_from (session_text false) 1 (map of_reply r.auths))))
+    reply_line code size ++ (reply_handle_line (handle_of r) ++ (parameters_line r.params
+    ++ (named_fields fields body ++ lines_from (session_text false) 1 (map of_reply r.auths))))
 
 -- ---- lines, or the members of an object
 
@@ -64,21 +65,29 @@ refusal_told true refusal = refusal_members refusal
 abbrev pub ShowsCommand : (json fields : Bool) → List ℕ → Status → List ℕ → Type 0
 ShowsCommand json fields bytes Done text = (c : Command) × (areas : Cut) × Spells command c bytes × HasCut bytes areas
     × (text ≡ command_told json fields (length bytes) areas c.body)
-ShowsCommand json fields bytes Refused text = (refusal : Refusal) × Fault command bytes refusal × (text ≡ refusal_told json refusal)
+ShowsCommand json fields bytes Refused text =
+    (refusal : Refusal) × Fault command bytes refusal
+    × (text ≡ refusal_told json refusal)
 
 -- a response to this command that the bytes spell is shown, and else their fault
 abbrev pub ShowsReply : (json fields : Bool) → CommandCode → List ℕ → Status → List ℕ → Type 0
-ShowsReply json fields code bytes Done text = (r : Response) × (areas : ReplyCut) × Spells (response code) r bytes × Spells (reply_cut code) areas bytes
+ShowsReply json fields code bytes Done text =
+    (r : Response) × (areas : ReplyCut) × Spells (response code) r bytes
+    × Spells (reply_cut code) areas bytes
     × (text ≡ response_told json fields code (length bytes) areas r)
-ShowsReply json fields code bytes Refused text = (refusal : Refusal) × Fault (response code) bytes refusal × (text ≡ refusal_told json refusal)
+ShowsReply json fields code bytes Refused text =
+    (refusal : Refusal) × Fault (response code) bytes refusal
+    × (text ≡ refusal_told json refusal)
 
--- Where a command is named the bytes are taken for a response to it, and else for a command; any other text is not hexadecimal.
+-- Where a command is named the bytes are taken for a response to it, and else for a command; any
+-- other text is not hexadecimal.
 abbrev pub ShowsDecoded : (fields : Bool) → Option CommandCode → Option (List ℕ) → Status → List ℕ → Type 0
 ShowsDecoded fields reply None status text = (status ≡ Refused) × (text ≡ not_hexadecimal_line)
 ShowsDecoded fields None (Some bytes) status text = ShowsCommand false fields bytes status text
 ShowsDecoded fields (Some code) (Some bytes) status text = ShowsReply false fields code bytes status text
 
--- For this text of digits, read as a response to this command where one is named, this is the status and what is printed: by `show`,
+-- For this text of digits, read as a response to this command where one is named, this is the
+-- status and what is printed: by `show`,
 abbrev pub Shows : Option CommandCode → List ℕ → Status → List ℕ → Type 0
 Shows reply hex status text = ShowsDecoded false reply (bytes_in hex) status text
 

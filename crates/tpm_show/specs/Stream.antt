@@ -45,8 +45,8 @@ ending_status _ = Refused
 abbrev pub unmarked_frame : List ℕ → Line
 unmarked_frame bytes = Frame None bytes
 
--- For these bytes of a stream this is the status and what is printed: its frames are told as those of a capture without marks, and
--- then how it goes on.
+-- For these bytes of a stream this is the status and what is printed: its frames are told as those of a capture
+-- without marks, and then how it goes on.
 pub record TellsStream (how : Telling) (bytes : List ℕ) (status : Status) (text : List ℕ) : Type 0 where
   pub frames : List (List ℕ)
   pub rest : List ℕ

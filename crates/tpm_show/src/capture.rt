@@ -74,7 +74,8 @@ impl Capture {
 
     fn tell_fault(&mut self, text: &mut String, fault: &str) -> Pushed
         requires { self.old.number + 1 < 2 ^ 64 }
-        ensures { OnOk result (string_bytes text.new ≡ string_bytes text.old ++ fault_text self.old.how.json self.old.number fault.now
+        ensures { OnOk result (string_bytes text.new
+            ≡ string_bytes text.old ++ fault_text self.old.how.json self.old.number fault.now
             × Passes self.old Unknown Refused self.new) }
     {
         push_fault(text, self.how.json, self.number, fault)?;
@@ -90,7 +91,8 @@ impl Capture {
         text: &mut String,
     ) -> Pushed
         requires { self.old.number + 1 < 2 ^ 64 }
-        ensures { OnOk result (Tells (Frame mark bytes.now) self.old self.new (AddedTo (string_bytes text.old) (string_bytes text.new))) }
+        ensures { OnOk result (Tells (Frame mark bytes.now) self.old self.new
+            (AddedTo (string_bytes text.old) (string_bytes text.new))) }
     {
         let direction = direction_of(mark, self.awaited, bytes);
         let answer = answer_to_frame(alloc, self.how, direction, self.awaited, bytes)?;
@@ -107,7 +109,8 @@ impl Capture {
 
     fn tell(&mut self, alloc: Global, line: &Line, text: &mut String) -> Pushed
         requires { self.old.number + 1 < 2 ^ 64 }
-        ensures { OnOk result (Tells (read_as line.now) self.old self.new (AddedTo (string_bytes text.old) (string_bytes text.new))) }
+        ensures { OnOk result (Tells (read_as line.now) self.old self.new
+            (AddedTo (string_bytes text.old) (string_bytes text.new))) }
     {
         match line {
             Line::Nothing => Ok(()),
@@ -125,7 +128,8 @@ impl Capture {
         out: &mut W,
     ) -> Result<(), ToolFault>
         requires { self.old.number + 1 < 2 ^ 64 }
-        ensures ok { OnOk result (Tells (Frame None bytes.now) self.old self.new (Appends (W.contents out.old) (W.contents out.new))) }
+        ensures ok { OnOk result (Tells (Frame None bytes.now) self.old self.new
+            (Appends (W.contents out.old) (W.contents out.new))) }
         ensures err { FailsByMemoryOrWrite result }
     {
         let mut text = String::new(alloc);
@@ -136,7 +140,8 @@ impl Capture {
     // Tells the present line.
     fn end_line(&mut self, alloc: Global, text: &mut String) -> Pushed
         requires { self.old.number + 1 < 2 ^ 64 }
-        ensures { OnOk result (EndsLine (told_in self.old.line.items) self.old self.new (AddedTo (string_bytes text.old) (string_bytes text.new))) }
+        ensures { OnOk result (EndsLine (told_in self.old.line.items) self.old self.new
+            (AddedTo (string_bytes text.old) (string_bytes text.new))) }
     {
         let line = read_line(alloc, self.line.as_slice())?;
         self.tell(alloc, &line, text)?;
@@ -147,7 +152,8 @@ impl Capture {
     // Takes the next byte.
     fn take(&mut self, alloc: Global, byte: u8, text: &mut String) -> Pushed
         requires { self.old.number + 1 < 2 ^ 64 }
-        ensures { OnOk result (Takes (byte ∷ []) self.old self.new (AddedTo (string_bytes text.old) (string_bytes text.new))) }
+        ensures { OnOk result (Takes (byte ∷ []) self.old self.new
+            (AddedTo (string_bytes text.old) (string_bytes text.new))) }
     {
         if byte == b'\n' {
             return self.end_line(alloc, text);
@@ -165,7 +171,8 @@ impl Capture {
     // Takes the next bytes.
     fn feed(&mut self, alloc: Global, piece: &[u8], text: &mut String) -> Pushed
         requires { self.old.number + length piece.now < 2 ^ 64 }
-        ensures { OnOk result (Takes piece.now self.old self.new (AddedTo (string_bytes text.old) (string_bytes text.new))) }
+        ensures { OnOk result (Takes piece.now self.old self.new
+            (AddedTo (string_bytes text.old) (string_bytes text.new))) }
     {
         for byte in piece {
             self.take(alloc, *byte, text)?;
@@ -176,7 +183,8 @@ impl Capture {
     // Takes the next bytes, and prints what comes of them.
     fn print<W: Write>(&mut self, alloc: Global, piece: &[u8], out: &mut W) -> Result<(), ToolFault>
         requires { self.old.number + length piece.now < 2 ^ 64 }
-        ensures ok { OnOk result (Takes piece.now self.old self.new (Appends (W.contents out.old) (W.contents out.new))) }
+        ensures ok { OnOk result (Takes piece.now self.old self.new
+            (Appends (W.contents out.old) (W.contents out.new))) }
         ensures err { FailsByMemoryOrWrite result }
     {
         let mut text = String::new(alloc);
@@ -188,7 +196,8 @@ impl Capture {
     fn print_end<W: Write>(&mut self, alloc: Global, out: &mut W) -> Result<Status, ToolFault>
         requires { self.old.number + 1 < 2 ^ 64 }
         ensures ok { IfOk result (λ status. (status ≡ self.new.status)
-            × EndsLine (told_in self.old.line.items) self.old self.new (Appends (W.contents out.old) (W.contents out.new))) }
+            × EndsLine (told_in self.old.line.items) self.old self.new
+            (Appends (W.contents out.old) (W.contents out.new))) }
         ensures err { FailsByMemoryOrWrite result }
     {
         let mut text = String::new(alloc);
@@ -198,29 +207,33 @@ impl Capture {
     }
 }
 
-/// Prints what `show` prints of each frame of a capture, or what `show --fields` prints, or an object of JSON in a line.
+/// Prints what `show` prints of each frame of a capture, or what `show --fields` prints, or an object of JSON in a
+/// line.
 ///
 /// A line has a frame in hexadecimal digits, two to a byte and in either case, behind `0x` or without it. Spaces, tabs
 /// and carriage returns count for nothing wherever they stand. `>` before it marks a command and `<` a reply. Without a
 /// mark a frame is a command, but where one is before it and the frame is of ten bytes, or has the code 0, it is the
-/// reply. A line that is empty, or begins with `#`, is skipped. A line ends with a line feed, and the last may do without.
+/// reply. A line that is empty, or begins with `#`, is skipped. A line ends with a line feed, and the last may do
+/// without.
 ///
 /// In front of what is told of a frame stand its number, from 1, and its mark. A reply is read as one to the command
 /// before it, by the code of that; with none before it the line is `N < no command is before it`, and with a code that
-/// the profile hasn't `N < its command is not known`. Where a command is refused for its code alone, and the library has
-/// one with that code (Part 2, 6.5.2), the line `TPM2_NAME is not in this profile` follows. A line of other text is
-/// `N not hexadecimal`, and one of more than 8,195 bytes beside its blanks `N too long`; the next is read all the same.
+/// the profile hasn't `N < its command is not known`. Where a command is refused for its code alone, and the library
+/// has one with that code (Part 2, 6.5.2), the line `TPM2_NAME is not in this profile` follows. A line of other text
+/// is `N not hexadecimal`, and one of more than 8,195 bytes beside its blanks `N too long`; the next is read all the
+/// same.
 ///
-/// The object has the members `number` and `kind`, which is `command` or `response`. A command has its name as `command`, `size`,
-/// `handles`, `sessions` and `parameters`, and a reply the same; a response of another code than 0 has `code`. What is refused has
-/// `refused` and `at`, and `name` where the profile hasn't the command; a reply without its command has `fault`. Where parameters
-/// are told by their names there is `fields`, a list of objects with `name`, `type` and `value`. That of a structure has `fields`
-/// likewise, of its members or entries; bits that are set, and registers, are objects with `name` and `number`, which is decimal.
-/// A line without a frame has `number` and `fault`. Each says what its line says: bytes, handles, attributes and codes are in
-/// hexadecimal, and no bytes are empty.
+/// The object has the members `number` and `kind`, which is `command` or `response`. A command has its name as
+/// `command`, `size`, `handles`, `sessions` and `parameters`, and a reply the same; a response of another code than 0
+/// has `code`. What is refused has `refused` and `at`, and `name` where the profile hasn't the command; a reply
+/// without its command has `fault`. Where parameters are told by their names there is `fields`, a list of objects
+/// with `name`, `type` and `value`. That of a structure has `fields` likewise, of its members or entries; bits that
+/// are set, and registers, are objects with `name` and `number`, which is decimal. A line without a frame has
+/// `number` and `fault`. Each says what its line says: bytes, handles, attributes and codes are in hexadecimal, and
+/// no bytes are empty.
 ///
-/// The status is `Refused` where a frame or a line was refused, and else `Done`. What a read gave is answered before the
-/// next read, and no more than one line and one piece is held.
+/// The status is `Refused` where a frame or a line was refused, and else `Done`. What a read gave is answered before
+/// the next read, and no more than one line and one piece is held.
 ///
 /// Where a request for memory is refused the answer is `Memory`, where a read fails `Read`, where the writer fails
 /// `Write`, and where more than 2^62 bytes come `InputTooLong`. What was written before is then left open, and a failed
@@ -237,7 +250,8 @@ pub fn show_lines<R: Source, W: Write>(
         × ReadsAll (R.coming input.old) (R.coming input.new) bytes
         × TellsCapture how bytes status text
         × Appends (W.contents out.old) (W.contents out.new) text) }
-    ensures too_long { IsErrOf result InputTooLong → ReadsTooMuchCapture (R.coming input.old) (R.coming input.new) }
+    ensures too_long { IsErrOf result InputTooLong
+        → ReadsTooMuchCapture (R.coming input.old) (R.coming input.new) }
 {
     let mut capture = Capture::new(alloc, how);
     let mut piece = [0; PIECE];

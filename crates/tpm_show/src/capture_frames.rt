@@ -73,7 +73,8 @@ pub(crate) fn awaited_behind(direction: Direction, bytes: &[u8]) -> Awaited
 // ---- what is told of it
 
 fn answer_to_a_command(alloc: Global, how: Telling, bytes: &[u8]) -> Result<Answer, AllocError>
-    ensures { IfOk result (λ a. TellsCommand how.json how.fields bytes.now a.status (string_bytes a.text)) }
+    ensures { IfOk result
+        (λ a. TellsCommand how.json how.fields bytes.now a.status (string_bytes a.text)) }
 {
     match command_and_areas(bytes) {
         Ok((command, areas)) => answer_of_command(alloc, how, bytes.len(), &areas, &command.body),
@@ -82,7 +83,8 @@ fn answer_to_a_command(alloc: Global, how: Telling, bytes: &[u8]) -> Result<Answ
 }
 
 fn push_sentence(text: &mut String, json: bool, sentence: &str) -> Pushed
-    ensures { OnOk result (string_bytes text.new ≡ string_bytes text.old ++ sentence_text json sentence.now) }
+    ensures { OnOk result
+        (string_bytes text.new ≡ string_bytes text.old ++ sentence_text json sentence.now) }
 {
     if json {
         write!(text, ",\"fault\":\"{sentence}\"")
@@ -93,7 +95,8 @@ fn push_sentence(text: &mut String, json: bool, sentence: &str) -> Pushed
 
 // That a frame is told by this sentence alone.
 fn answer_by_sentence(alloc: Global, json: bool, sentence: &str) -> Result<Answer, AllocError>
-    ensures { IfOk result (λ a. (a.status ≡ Refused) × (string_bytes a.text ≡ sentence_text json sentence.now)) }
+    ensures { IfOk result (λ a. (a.status ≡ Refused)
+        × (string_bytes a.text ≡ sentence_text json sentence.now)) }
 {
     let mut text = String::new(alloc);
     push_sentence(&mut text, json, sentence)?;
@@ -108,7 +111,8 @@ pub(crate) fn answer_to_frame(
     awaited: Awaited,
     bytes: &[u8],
 ) -> Result<Answer, AllocError>
-    ensures { IfOk result (λ a. TellsFrame how.json how.fields direction awaited bytes.now a.status (string_bytes a.text)) }
+    ensures { IfOk result (λ a.
+        TellsFrame how.json how.fields direction awaited bytes.now a.status (string_bytes a.text)) }
 {
     match (direction, awaited) {
         (Direction::Command, _) => answer_to_a_command(alloc, how, bytes),
@@ -126,7 +130,8 @@ pub(crate) fn answer_to_frame(
 
 // Adds the number of a frame, and which way it went.
 fn push_front(text: &mut String, number: u64, direction: Direction) -> Pushed
-    ensures { OnOk result (string_bytes text.new ≡ string_bytes text.old ++ front number direction) }
+    ensures { OnOk result
+        (string_bytes text.new ≡ string_bytes text.old ++ front number direction) }
 {
     match direction {
         Direction::Command => write!(text, "{number} > "),
@@ -145,7 +150,8 @@ fn kind_of(direction: Direction) -> &'static str
 
 #[tactic(auto, unfolding(crate::specs::Capture::frame_object))]
 fn push_object(text: &mut String, number: u64, direction: Direction, members: &str) -> Pushed
-    ensures { OnOk result (string_bytes text.new ≡ string_bytes text.old ++ frame_object number direction members.now) }
+    ensures { OnOk result (string_bytes text.new
+        ≡ string_bytes text.old ++ frame_object number direction members.now) }
 {
     let kind = kind_of(direction);
     writeln!(text, "{{\"number\":{number},\"kind\":\"{kind}\"{members}}}")
@@ -159,7 +165,8 @@ pub(crate) fn push_numbered(
     direction: Direction,
     told: &str,
 ) -> Pushed
-    ensures { OnOk result (string_bytes text.new ≡ string_bytes text.old ++ numbered json number direction told.now) }
+    ensures { OnOk result
+        (string_bytes text.new ≡ string_bytes text.old ++ numbered json number direction told.now) }
 {
     if json {
         return push_object(text, number, direction, told);
@@ -171,14 +178,16 @@ pub(crate) fn push_numbered(
 
 #[tactic(auto, unfolding(crate::specs::Capture::fault_line))]
 fn push_fault_line(text: &mut String, number: u64, fault: &str) -> Pushed
-    ensures { OnOk result (string_bytes text.new ≡ string_bytes text.old ++ fault_line number fault.now) }
+    ensures { OnOk result
+        (string_bytes text.new ≡ string_bytes text.old ++ fault_line number fault.now) }
 {
     writeln!(text, "{number} {fault}")
 }
 
 /// Adds the line or the object of a line that has no frame.
 pub(crate) fn push_fault(text: &mut String, json: bool, number: u64, fault: &str) -> Pushed
-    ensures { OnOk result (string_bytes text.new ≡ string_bytes text.old ++ fault_text json number fault.now) }
+    ensures { OnOk result
+        (string_bytes text.new ≡ string_bytes text.old ++ fault_text json number fault.now) }
 {
     if json {
         push_fault_object(text, number, fault)

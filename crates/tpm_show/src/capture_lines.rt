@@ -51,7 +51,8 @@ fn without_prefix(text: &[u8]) -> &[u8]
 }
 
 fn read_frame(alloc: Global, mark: Option<Direction>, text: &[u8]) -> Result<Line, AllocError>
-    ensures { IfOk result (λ line. read_as line ≡ frame_of mark (bytes_in (without_prefix text.now))) }
+    ensures { IfOk result (λ line. read_as line
+        ≡ frame_of mark (bytes_in (without_prefix text.now))) }
 {
     match decoded(alloc, without_prefix(text))? {
         Some(bytes) => Ok(Line::Frame(mark, bytes)),

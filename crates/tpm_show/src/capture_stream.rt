@@ -24,14 +24,16 @@ use tpm_wire::{Buffer, Source};
 
 #[tactic(auto, unfolding(crate::specs::Stream::stop_line))]
 fn push_stop_line(text: &mut String, number: u64, fault: &str, at: usize) -> Pushed
-    ensures { OnOk result (string_bytes text.new ≡ string_bytes text.old ++ stop_line number fault.now at) }
+    ensures { OnOk result (string_bytes text.new
+        ≡ string_bytes text.old ++ stop_line number fault.now at) }
 {
     writeln!(text, "{number} {fault} at {at}")
 }
 
 // Adds the line or the object of a frame that does not come.
 fn push_stop(text: &mut String, json: bool, number: u64, fault: &str, at: usize) -> Pushed
-    ensures { OnOk result (string_bytes text.new ≡ string_bytes text.old ++ stop_text json number fault.now at) }
+    ensures { OnOk result (string_bytes text.new
+        ≡ string_bytes text.old ++ stop_text json number fault.now at) }
 {
     if json {
         push_stop_object(text, number, fault, at)
@@ -61,15 +63,17 @@ fn print_stop<W: Write>(
 
 /// Prints what `show` prints of each frame of a stream, or what `show --fields` prints, or an object of JSON in a line.
 ///
-/// The stream is frames one after the other, each of 10 to 4,096 bytes that state their size in the third to sixth of them
-/// (Part 1, "Command/Response Structure"). What is told of them is what `show_lines` tells of the same frames without marks: a
-/// frame is a command, but where one is before it and the frame is of ten bytes, or has the code 0, it is the reply.
+/// The stream is frames one after the other, each of 10 to 4,096 bytes that state their size in the third to sixth of
+/// them (Part 1, "Command/Response Structure"). What is told of them is what `show_lines` tells of the same frames
+/// without marks: a frame is a command, but where one is before it and the frame is of ten bytes, or has the code 0,
+/// it is the reply.
 ///
-/// A size that no frame has ends the stream: behind the frames before it the line is `N bad size at P`, and where the input ends
-/// inside a frame `N cut short at P`. N is the number of that frame, from 1, and P is how many bytes precede it. In JSON these are the members `number`, `fault` and `at`.
+/// A size that no frame has ends the stream: behind the frames before it the line is `N bad size at P`, and where the
+/// input ends inside a frame `N cut short at P`. N is the number of that frame, from 1, and P is how many bytes
+/// precede it. In JSON these are the members `number`, `fault` and `at`.
 ///
-/// The status is `Refused` where a frame was refused or did not come whole, and else `Done`. Each frame is answered before the
-/// next is read, and no more than one frame is held. Behind a size that no frame has nothing is read.
+/// The status is `Refused` where a frame was refused or did not come whole, and else `Done`. Each frame is answered
+/// before the next is read, and no more than one frame is held. Behind a size that no frame has nothing is read.
 ///
 /// Where a request for memory is refused the answer is `Memory`, where a read fails `Read`, where the writer fails
 /// `Write`, and where more than 2^62 bytes come `InputTooLong`. What was written before is then left open, and a failed
@@ -85,7 +89,8 @@ pub fn show_stream<R: Source, W: Write>(
     ensures ok { IfOk result (λ status. (text : List ℕ)
         × TellsRead how (R.coming input.old) (R.coming input.new) status text
         × Appends (W.contents out.old) (W.contents out.new) text) }
-    ensures too_long { IsErrOf result InputTooLong → ReadsTooMuchCapture (R.coming input.old) (R.coming input.new) }
+    ensures too_long { IsErrOf result InputTooLong
+        → ReadsTooMuchCapture (R.coming input.old) (R.coming input.new) }
 {
     let mut capture = Capture::new(alloc, how);
     let mut frame = Buffer::new();

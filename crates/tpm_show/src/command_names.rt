@@ -153,13 +153,15 @@ fn push_absent_line(text: &mut String, name: &str) -> Pushed
 
 #[tactic(auto, unfolding(crate::specs::CommandNames::absent_member))]
 fn push_absent_member(text: &mut String, name: &str) -> Pushed
-    ensures { OnOk result (string_bytes text.new ≡ string_bytes text.old ++ absent_member name.now) }
+    ensures { OnOk result
+        (string_bytes text.new ≡ string_bytes text.old ++ absent_member name.now) }
 {
     write!(text, ",\"name\":\"TPM2_{name}\"")
 }
 
 fn push_absent_name(text: &mut String, json: bool, name: &str) -> Pushed
-    ensures { OnOk result (string_bytes text.new ≡ string_bytes text.old ++ absent_named json name.now) }
+    ensures { OnOk result
+        (string_bytes text.new ≡ string_bytes text.old ++ absent_named json name.now) }
 {
     if json {
         push_absent_member(text, name)
@@ -186,7 +188,8 @@ pub(crate) fn answer_to_refused(
     code: Option<u32>,
 ) -> Result<Answer, AllocError>
     ensures { IfOk result (λ a. (a.status ≡ Refused)
-        × (string_bytes a.text ≡ refusal_told json refusal.now ++ absent_behind json refusal.now code)) }
+        × (string_bytes a.text
+        ≡ refusal_told json refusal.now ++ absent_behind json refusal.now code)) }
 {
     let mut answer = answer_to_refusal(alloc, json, refusal)?;
     if *refusal == UNSUPPORTED

@@ -190,7 +190,9 @@ fn push_subject(text: &mut String, code: u32) -> Pushed
 
 #[tactic(auto, unfolding(crate::specs::Explain::meaning_line))]
 fn push_meaning(text: &mut String, code: u32, meaning: &Meaning) -> Result<Status, AllocError>
-    ensures { IfOk result (λ status. (status ≡ Done) × (string_bytes text.new ≡ string_bytes text.old ++ meaning_line code (meaning_as meaning.now))) }
+    ensures { IfOk result (λ status. (status ≡ Done)
+        × (string_bytes text.new
+        ≡ string_bytes text.old ++ meaning_line code (meaning_as meaning.now))) }
 {
     let name = meaning.name;
     write!(text, "TPM_RC_{name}")?;
@@ -201,7 +203,8 @@ fn push_meaning(text: &mut String, code: u32, meaning: &Meaning) -> Result<Statu
 }
 
 fn push_base(text: &mut String, meaning: &Meaning) -> Result<Status, AllocError>
-    ensures { IfOk result (λ status. (status ≡ Done) × (string_bytes text.new ≡ string_bytes text.old ++ base_line (meaning_as meaning.now))) }
+    ensures { IfOk result (λ status. (status ≡ Done)
+        × (string_bytes text.new ≡ string_bytes text.old ++ base_line (meaning_as meaning.now))) }
 {
     let name = meaning.name;
     let words = meaning.words;
@@ -210,7 +213,8 @@ fn push_base(text: &mut String, meaning: &Meaning) -> Result<Status, AllocError>
 }
 
 fn push_unknown(text: &mut String) -> Result<Status, AllocError>
-    ensures { IfOk result (λ status. (status ≡ Refused) × (string_bytes text.new ≡ string_bytes text.old ++ unknown_line)) }
+    ensures { IfOk result (λ status. (status ≡ Refused)
+        × (string_bytes text.new ≡ string_bytes text.old ++ unknown_line)) }
 {
     text.push_str("unknown response code\n")?;
     Ok(Status::Refused)
@@ -219,7 +223,8 @@ fn push_unknown(text: &mut String) -> Result<Status, AllocError>
 // Adds what a code says among these.
 fn push_code_among(text: &mut String, codes: Codes, code: u32) -> Result<Status, AllocError>
     ensures { IfOk result (λ status. (status ≡ status_of_line (line_among codes code))
-        × (string_bytes text.new ≡ string_bytes text.old ++ line_or_unknown (line_among codes code))) }
+        × (string_bytes text.new
+        ≡ string_bytes text.old ++ line_or_unknown (line_among codes code))) }
 {
     match (codes, base_meaning(code), code_meaning(code)) {
         (Codes::Base | Codes::BaseOrTpm, Some(meaning), _) => push_base(text, meaning),
@@ -230,7 +235,8 @@ fn push_code_among(text: &mut String, codes: Codes, code: u32) -> Result<Status,
 
 #[tactic(auto, unfolding(crate::specs::Explain::layer_line))]
 fn push_layer(text: &mut String, layer: &Meaning) -> Pushed
-    ensures { OnOk result (string_bytes text.new ≡ string_bytes text.old ++ layer_line (meaning_as layer.now)) }
+    ensures { OnOk result
+        (string_bytes text.new ≡ string_bytes text.old ++ layer_line (meaning_as layer.now)) }
 {
     let name = layer.name;
     let words = layer.words;
@@ -238,7 +244,8 @@ fn push_layer(text: &mut String, layer: &Meaning) -> Pushed
 }
 
 fn push_code(text: &mut String, code: u32) -> Result<Status, AllocError>
-    ensures { IfOk result (λ status. (status ≡ explain_status code) × (string_bytes text.new ≡ string_bytes text.old ++ explanation code)) }
+    ensures { IfOk result (λ status. (status ≡ explain_status code)
+        × (string_bytes text.new ≡ string_bytes text.old ++ explanation code)) }
 {
     let Some(layer) = layer_of(code) else {
         return push_code_among(text, Codes::Tpm, code);
@@ -248,19 +255,21 @@ fn push_code(text: &mut String, code: u32) -> Result<Status, AllocError>
 }
 
 fn answer(alloc: Global, code: u32) -> Result<Answer, AllocError>
-    ensures { IfOk result (λ a. (a.status ≡ explain_status code) × (string_bytes a.text ≡ explanation code)) }
+    ensures { IfOk result (λ a. (a.status ≡ explain_status code)
+        × (string_bytes a.text ≡ explanation code)) }
 {
     let mut text = String::new(alloc);
     let status = push_code(&mut text, code)?;
     Ok(Answer { status, text })
 }
 
-/// Prints what a response code says: `TPM_RC_NAME: WORDS`, or `TPM_RC_NAME for SUBJECT N: WORDS` where it has the number of a
-/// handle, session or parameter (Part 2, 6.6).
+/// Prints what a response code says: `TPM_RC_NAME: WORDS`, or `TPM_RC_NAME for SUBJECT N: WORDS`
+/// where it has the number of a handle, session or parameter (Part 2, 6.6).
 ///
-/// Of a code of the software above a TPM it prints the line of the layer before that, `TSS2_NAME_RC_LAYER: WORDS`, and then
-/// `TSS2_BASE_RC_NAME: WORDS`, or the line of the TPM's code that a resource manager answers (TCG TSS 2.0 Overview and Common
-/// Structures, response codes). A code that isn't listed is `unknown response code`, with the status `Refused`.
+/// Of a code of the software above a TPM it prints the line of the layer before that,
+/// `TSS2_NAME_RC_LAYER: WORDS`, and then `TSS2_BASE_RC_NAME: WORDS`, or the line of the TPM's code
+/// that a resource manager answers (TCG TSS 2.0 Overview and Common Structures, response codes). A
+/// code that isn't listed is `unknown response code`, with the status `Refused`.
 ///
 /// Where a request for memory is refused the answer is `Memory`, and where the writer fails it is
 /// `Write`. What was written before is then left open.

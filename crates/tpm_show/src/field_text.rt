@@ -17,7 +17,8 @@ pub(crate) trait HasParts: Wire {
 
     /// Adds what is told of them.
     fn push_parts(&self, alloc: Global, text: &mut String, json: bool) -> Pushed
-        ensures { OnOk result (string_bytes text.new ≡ string_bytes text.old ++ told_parts json self.now) };
+        ensures { OnOk result
+            (string_bytes text.new ≡ string_bytes text.old ++ told_parts json self.now) };
 }
 
 /// A field: how far in its line stands, its number in its list, its name and its type.
@@ -40,7 +41,8 @@ fn spelled<T: Wire>(value: &T) -> Buffer
 
 // Adds what an object has, and no line.
 fn push_in_object(text: &mut String, json: bool, mark: &str) -> Pushed
-    ensures { OnOk result (string_bytes text.new ≡ string_bytes text.old ++ in_object json mark.now) }
+    ensures { OnOk result
+        (string_bytes text.new ≡ string_bytes text.old ++ in_object json mark.now) }
 {
     if !json {
         return Ok(());
@@ -50,7 +52,8 @@ fn push_in_object(text: &mut String, json: bool, mark: &str) -> Pushed
 
 /// Adds what comes behind the parts of a structure.
 pub(crate) fn end_structure(text: &mut String, json: bool) -> Pushed
-    ensures { OnOk result (string_bytes text.new ≡ string_bytes text.old ++ in_object json (codes "]}")) }
+    ensures { OnOk result
+        (string_bytes text.new ≡ string_bytes text.old ++ in_object json (codes "]}")) }
 {
     push_in_object(text, json, "]}")
 }
@@ -58,7 +61,8 @@ pub(crate) fn end_structure(text: &mut String, json: bool) -> Pushed
 impl Field {
     #[tactic(auto, unfolding(crate::specs::FieldText::field_line))]
     fn push_line(self, alloc: Global, text: &mut String, bytes: &[u8]) -> Pushed
-        ensures { OnOk result (string_bytes text.new ≡ string_bytes text.old ++ field_line self.0.now self.2.now self.3.now bytes.now) }
+        ensures { OnOk result (string_bytes text.new
+            ≡ string_bytes text.old ++ field_line self.0.now self.2.now self.3.now bytes.now) }
     {
         let Field(indent, _, name, kind) = self;
         let bytes = shown_bytes(alloc, bytes)?;
@@ -67,7 +71,8 @@ impl Field {
 
     #[tactic(auto, unfolding(crate::specs::FieldText::field_members))]
     fn push_members(self, alloc: Global, text: &mut String, bytes: &[u8]) -> Pushed
-        ensures { OnOk result (string_bytes text.new ≡ string_bytes text.old ++ field_members self.2.now self.3.now bytes.now) }
+        ensures { OnOk result (string_bytes text.new
+            ≡ string_bytes text.old ++ field_members self.2.now self.3.now bytes.now) }
     {
         let Field(_, _, name, kind) = self;
         let value = hex::encode(alloc, bytes)?;
@@ -79,7 +84,8 @@ impl Field {
 
     #[tactic(auto, unfolding(crate::specs::FieldText::field_head))]
     fn push_head(self, alloc: Global, text: &mut String, json: bool, bytes: &[u8]) -> Pushed
-        ensures { OnOk result (string_bytes text.new ≡ string_bytes text.old ++ field_head json self.0.now self.1 self.2.now self.3.now bytes.now) }
+        ensures { OnOk result (string_bytes text.new ≡ string_bytes text.old
+            ++ field_head json self.0.now self.1 self.2.now self.3.now bytes.now) }
     {
         if !json {
             return self.push_line(alloc, text, bytes);
@@ -97,7 +103,8 @@ impl Field {
         json: bool,
         bytes: &[u8],
     ) -> Pushed
-        ensures { OnOk result (string_bytes text.new ≡ string_bytes text.old ++ field_text json self.0.now self.1 self.2.now self.3.now bytes.now) }
+        ensures { OnOk result (string_bytes text.new ≡ string_bytes text.old
+            ++ field_text json self.0.now self.1 self.2.now self.3.now bytes.now) }
     {
         self.push_head(alloc, text, json, bytes)?;
         push_in_object(text, json, "}")
@@ -112,14 +119,17 @@ impl Field {
         value: &T,
     ) -> Pushed
         requires { length (spelling T.layout value.now) ≤ 4096 }
-        ensures { OnOk result (string_bytes text.new ≡ string_bytes text.old ++ field_text json self.0.now self.1 self.2.now self.3.now (spelling T.layout value.now)) }
+        ensures { OnOk result (string_bytes text.new ≡ string_bytes text.old ++ field_text
+            json self.0.now self.1 self.2.now self.3.now (spelling T.layout value.now)) }
     {
         self.push_bytes(alloc, text, json, spelled(value).as_slice())
     }
 
     /// Adds what comes before the parts of a structure of these bytes.
     pub(crate) fn begin(self, alloc: Global, text: &mut String, json: bool, bytes: &[u8]) -> Pushed
-        ensures { OnOk result (string_bytes text.new ≡ string_bytes text.old ++ (field_head json self.0.now self.1 self.2.now self.3.now bytes.now ++ in_object json (codes ",\"fields\":["))) }
+        ensures { OnOk result (string_bytes text.new ≡ string_bytes text.old
+            ++ (field_head json self.0.now self.1 self.2.now self.3.now bytes.now
+            ++ in_object json (codes ",\"fields\":["))) }
     {
         self.push_head(alloc, text, json, bytes)?;
         push_in_object(text, json, ",\"fields\":[")
@@ -135,7 +145,9 @@ impl Field {
         value: &T,
     ) -> Pushed
         requires { length (spelling T.layout value.now) ≤ 4096 }
-        ensures { OnOk result (string_bytes text.new ≡ string_bytes text.old ++ structure_text json self.0.now self.1 self.2.now self.3.now (spelling T.layout value.now) (T.told_parts json value.now)) }
+        ensures { OnOk result (string_bytes text.new
+            ≡ string_bytes text.old ++ structure_text json self.0.now self.1 self.2.now self.3.now
+            (spelling T.layout value.now) (T.told_parts json value.now)) }
     {
         self.begin(alloc, text, json, spelled(value).as_slice())?;
         value.push_parts(alloc, text, json)?;
@@ -153,7 +165,8 @@ pub(crate) fn push_number(
     name: &str,
     n: u32,
 ) -> Pushed
-    ensures { OnOk result (string_bytes text.new ≡ string_bytes text.old ++ number_text json indent.now i name.now n) }
+    ensures { OnOk result (string_bytes text.new
+        ≡ string_bytes text.old ++ number_text json indent.now i name.now n) }
 {
     if !json {
         return writeln!(text, "{indent}{name} {n}");

@@ -21,7 +21,9 @@ fn push_event(
     json: bool,
     event: &Event<'_>,
 ) -> Result<(), AllocError>
-    ensures { OnOk result (string_bytes text.new ≡ string_bytes text.old ++ field_text json (codes "  ") 1 (codes "eventData") (codes "TPM2B_EVENT") (spelling (sized_bytes event_bytes) event.now)) }
+    ensures { OnOk result
+        (string_bytes text.new ≡ string_bytes text.old ++ field_text json (codes "  ") 1
+        (codes "eventData") (codes "TPM2B_EVENT") (spelling (sized_bytes event_bytes) event.now)) }
 {
     let event = event.as_slice();
     let mut bytes = Buffer::new();
@@ -30,8 +32,8 @@ fn push_event(
     Field("  ", 1, "eventData", "TPM2B_EVENT").push_bytes(alloc, text, json, bytes.as_slice())
 }
 
-/// Adds a line, or an object of JSON, for each parameter of a command: its name, its type and its bytes (Part 3, the table of the
-/// command), and what stands in it.
+/// Adds a line, or an object of JSON, for each parameter of a command: its name, its type and its
+/// bytes (Part 3, the table of the command), and what stands in it.
 #[tactic(auto, unfolding(tpm_types::specs::Constants::startup_type, tpm_types::specs::Constants::session_type, tpm_types::specs::Tpm2b::encrypted_salt, tpm_commands::specs::Parameters::startup, tpm_commands::specs::Parameters::nv_define_space, tpm_commands::specs::Parameters::pcr_event, tpm_commands::specs::Parameters::nv_read, tpm_commands::specs::Parameters::flush_context, tpm_commands::specs::Parameters::policy_command_code, tpm_commands::specs::Parameters::policy_or, tpm_commands::specs::Parameters::start_auth_session, tpm_commands::specs::Parameters::pcr_read, tpm_commands::specs::Parameters::policy_pcr, tpm_commands::specs::Parameters::pcr_extend))]
 pub(crate) fn push_command_fields(
     alloc: Global,
@@ -39,7 +41,8 @@ pub(crate) fn push_command_fields(
     json: bool,
     body: &CommandBody<'_>,
 ) -> Result<(), AllocError>
-    ensures { OnOk result (string_bytes text.new ≡ string_bytes text.old ++ command_fields json body.now) }
+    ensures { OnOk result
+        (string_bytes text.new ≡ string_bytes text.old ++ command_fields json body.now) }
 {
     match body {
         CommandBody::NvDefineSpace { auth, public } => {
@@ -123,8 +126,8 @@ pub(crate) fn push_command_fields(
     }
 }
 
-/// Adds a line, or an object of JSON, for each parameter of a reply: its name, its type and its bytes (Part 3, the response table of
-/// the command), and what stands in it.
+/// Adds a line, or an object of JSON, for each parameter of a reply: its name, its type and its
+/// bytes (Part 3, the response table of the command), and what stands in it.
 #[tactic(auto, unfolding(tpm_commands::specs::Replies::pcr_event_reply, tpm_commands::specs::Replies::nv_read_reply, tpm_commands::specs::Replies::nv_read_public_reply, tpm_commands::specs::Replies::start_auth_session_reply, tpm_commands::specs::Replies::pcr_read_reply, tpm_commands::specs::Replies::policy_get_digest_reply))]
 pub(crate) fn push_reply_fields(
     alloc: Global,
@@ -132,7 +135,8 @@ pub(crate) fn push_reply_fields(
     json: bool,
     body: &ReplyBody,
 ) -> Result<(), AllocError>
-    ensures { OnOk result (string_bytes text.new ≡ string_bytes text.old ++ reply_fields json body.now) }
+    ensures { OnOk result
+        (string_bytes text.new ≡ string_bytes text.old ++ reply_fields json body.now) }
 {
     match body {
         ReplyBody::PcrEvent(digests) => {

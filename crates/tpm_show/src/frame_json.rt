@@ -17,7 +17,8 @@ use tpm_wire::Refusal;
 /// Adds the members of a refusal.
 #[tactic(auto, unfolding(crate::specs::FrameJson::refusal_members))]
 pub(crate) fn push_refusal_members(text: &mut String, refusal: &Refusal) -> Pushed
-    ensures { OnOk result (string_bytes text.new ≡ string_bytes text.old ++ refusal_members refusal.now) }
+    ensures { OnOk result
+        (string_bytes text.new ≡ string_bytes text.old ++ refusal_members refusal.now) }
 {
     let Refusal { code, at } = *refusal;
     write!(text, ",\"refused\":\"{code:03x}\",\"at\":{at}")
@@ -26,7 +27,8 @@ pub(crate) fn push_refusal_members(text: &mut String, refusal: &Refusal) -> Push
 /// Adds the object of a line that has no frame.
 #[tactic(auto, unfolding(crate::specs::FrameJson::fault_object))]
 pub(crate) fn push_fault_object(text: &mut String, number: u64, fault: &str) -> Pushed
-    ensures { OnOk result (string_bytes text.new ≡ string_bytes text.old ++ fault_object number fault.now) }
+    ensures { OnOk result
+        (string_bytes text.new ≡ string_bytes text.old ++ fault_object number fault.now) }
 {
     writeln!(text, "{{\"number\":{number},\"fault\":\"{fault}\"}}")
 }
@@ -34,7 +36,8 @@ pub(crate) fn push_fault_object(text: &mut String, number: u64, fault: &str) -> 
 /// Adds the object of a frame that does not come, behind so many bytes.
 #[tactic(auto, unfolding(crate::specs::FrameJson::stop_object))]
 pub(crate) fn push_stop_object(text: &mut String, number: u64, fault: &str, at: usize) -> Pushed
-    ensures { OnOk result (string_bytes text.new ≡ string_bytes text.old ++ stop_object number fault.now at) }
+    ensures { OnOk result
+        (string_bytes text.new ≡ string_bytes text.old ++ stop_object number fault.now at) }
 {
     writeln!(
         text,
@@ -47,7 +50,8 @@ pub(crate) fn push_stop_object(text: &mut String, number: u64, fault: &str, at: 
 /// Adds the name of the command, and the size.
 #[tactic(auto, unfolding(crate::specs::FrameJson::head_members))]
 pub(crate) fn push_head(text: &mut String, command: CommandCode, size: usize) -> Pushed
-    ensures { OnOk result (string_bytes text.new ≡ string_bytes text.old ++ head_members command size) }
+    ensures { OnOk result
+        (string_bytes text.new ≡ string_bytes text.old ++ head_members command size) }
 {
     let name = command.name();
     write!(text, ",\"command\":\"{name}\",\"size\":{size}")
@@ -56,7 +60,8 @@ pub(crate) fn push_head(text: &mut String, command: CommandCode, size: usize) ->
 /// Adds the handles.
 #[tactic(auto, unfolding(crate::specs::FrameJson::handles_member))]
 pub(crate) fn push_handles_member(text: &mut String, handles: &[u32]) -> Pushed
-    ensures { OnOk result (string_bytes text.new ≡ string_bytes text.old ++ handles_member handles.now) }
+    ensures { OnOk result
+        (string_bytes text.new ≡ string_bytes text.old ++ handles_member handles.now) }
 {
     text.push_str(",\"handles\":[")?;
     push_handles(text, true, handles)?;
@@ -71,7 +76,8 @@ pub(crate) fn push_sessions_member<A: HasSessions>(
     text: &mut String,
     areas: &A,
 ) -> Pushed
-    ensures { OnOk result (string_bytes text.new ≡ string_bytes text.old ++ sessions_member (A.sessions areas.now)) }
+    ensures { OnOk result
+        (string_bytes text.new ≡ string_bytes text.old ++ sessions_member (A.sessions areas.now)) }
 {
     text.push_str(",\"sessions\":[")?;
     push_sessions(alloc, text, true, areas)?;
@@ -112,7 +118,8 @@ pub(crate) fn push_fields_member<B: HasFields>(
     fields: bool,
     body: &B,
 ) -> Pushed
-    ensures { OnOk result (string_bytes text.new ≡ string_bytes text.old ++ fields_member fields (B.objects body.now)) }
+    ensures { OnOk result (string_bytes text.new
+        ≡ string_bytes text.old ++ fields_member fields (B.objects body.now)) }
 {
     if !fields {
         return Ok(());
@@ -135,7 +142,8 @@ pub(crate) fn push_code_member(text: &mut String, code: u32) -> Pushed
 
 /// Adds the handle of a reply, where it has one.
 pub(crate) fn push_reply_handle(text: &mut String, handle: Option<u32>) -> Pushed
-    ensures { OnOk result (string_bytes text.new ≡ string_bytes text.old ++ handles_member (handles_of handle)) }
+    ensures { OnOk result
+        (string_bytes text.new ≡ string_bytes text.old ++ handles_member (handles_of handle)) }
 {
     match handle {
         Some(handle) => push_handles_member(text, &[handle]),

@@ -92,8 +92,8 @@ pub(crate) fn layer_of(code: u32) -> Option<&'static Meaning>
     look_up(&LAYERS, code >> 16)
 }
 
-/// Which codes the layer with this number answers. Under the number of RESMGR the resource manager of Linux answers in the place
-/// of the TPM, with a code of a TPM (drivers/char/tpm/tpm.h).
+/// Which codes the layer with this number answers. Under the number of RESMGR the resource manager
+/// of Linux answers in the place of the TPM, with a code of a TPM (drivers/char/tpm/tpm.h).
 pub(crate) fn codes_of(layer: u32) -> Codes
     ensures { result ≡ codes_of layer }
 {

@@ -23,7 +23,8 @@ pub(crate) use meanings;
 
 /// What the table says of this number.
 pub(crate) fn look_up(table: &'static [Meaning], number: u32) -> Option<&'static Meaning>
-    ensures { option_map (λ m. meaning_as m.now) result ≡ meaning_in (map meaning_as table.now) number }
+    ensures { option_map
+        (λ m. meaning_as m.now) result ≡ meaning_in (map meaning_as table.now) number }
 {
     table.iter().find(|meaning| meaning.number == number)
 }

@@ -58,7 +58,8 @@ fn is_set(attrs: u32, bit: u32) -> bool
 fn push_bits_of(text: &mut String, json: bool, table: &'static [Named], attrs: u32) -> Pushed
     requires within { AllByRecursion (λ bit. bit.number < 32) table.now }
     requires few { length table.now ≤ 32 }
-    ensures { OnOk result (string_bytes text.new ≡ string_bytes text.old ++ bits_of (map named_as table.now) json attrs) }
+    ensures { OnOk result (string_bytes text.new
+        ≡ string_bytes text.old ++ bits_of (map named_as table.now) json attrs) }
 {
     let mut i = 2;
     for bit in table {
@@ -72,7 +73,8 @@ fn push_bits_of(text: &mut String, json: bool, table: &'static [Named], attrs: u
 
 // Adds an entry for each bit that is set.
 fn push_bits(text: &mut String, json: bool, attrs: u32) -> Pushed
-    ensures { OnOk result (string_bytes text.new ≡ string_bytes text.old ++ bits_of attribute_names json attrs) }
+    ensures { OnOk result
+        (string_bytes text.new ≡ string_bytes text.old ++ bits_of attribute_names json attrs) }
 {
     push_bits_of(text, json, &ATTRIBUTES, attrs)
 }
@@ -121,7 +123,8 @@ trait Entry {
 
     /// Adds what is told of it.
     fn push_entry(&self, alloc: Global, text: &mut String, json: bool, i: usize) -> Pushed
-        ensures { OnOk result (string_bytes text.new ≡ string_bytes text.old ++ told_entry json i self.now) };
+        ensures { OnOk result
+            (string_bytes text.new ≡ string_bytes text.old ++ told_entry json i self.now) };
 }
 
 /// The entries.
@@ -142,7 +145,8 @@ impl<T: Wire + Default + Duplicate + Drop + Entry, const LEAST: usize, const MOS
 
 // Adds an entry for each register that is selected.
 fn push_registers(text: &mut String, json: bool, selection: &Selection) -> Pushed
-    ensures { OnOk result (string_bytes text.new ≡ string_bytes text.old ++ register_parts json selection.now.select) }
+    ensures { OnOk result (string_bytes text.new
+        ≡ string_bytes text.old ++ register_parts json selection.now.select) }
 {
     let mut i = 1;
     for number in 0..24 {
@@ -156,7 +160,9 @@ fn push_registers(text: &mut String, json: bool, selection: &Selection) -> Pushe
 
 #[tactic(auto, unfolding(crate::specs::FieldText::structure_text))]
 fn push_select(alloc: Global, text: &mut String, json: bool, selection: &Selection) -> Pushed
-    ensures { OnOk result (string_bytes text.new ≡ string_bytes text.old ++ structure_text json (codes "      ") 3 (codes "pcrSelect") (codes "BYTE") selection.now.select (register_parts json selection.now.select)) }
+    ensures { OnOk result (string_bytes text.new
+        ≡ string_bytes text.old ++ structure_text json (codes "      ") 3 (codes "pcrSelect")
+        (codes "BYTE") selection.now.select (register_parts json selection.now.select)) }
 {
     Field("      ", 3, "pcrSelect", "BYTE").begin(alloc, text, json, &selection.select)?;
     push_registers(text, json, selection)?;
@@ -234,7 +240,8 @@ const NULL: u16 = 0x0010;
 const CFB: u16 = 0x0043;
 
 fn push_algorithm(alloc: Global, text: &mut String, json: bool, n: u16) -> Pushed
-    ensures { OnOk result (string_bytes text.new ≡ string_bytes text.old ++ field_text json (codes "    ") 1 (codes "algorithm") (codes "TPMI_ALG_SYM") (bytes_high_first 2 n)) }
+    ensures { OnOk result (string_bytes text.new ≡ string_bytes text.old ++ field_text json
+        (codes "    ") 1 (codes "algorithm") (codes "TPMI_ALG_SYM") (bytes_high_first 2 n)) }
 {
     Field("    ", 1, "algorithm", "TPMI_ALG_SYM").push(alloc, text, json, &n)
 }

@@ -20,7 +20,8 @@ pub(crate) fn push_code_line(text: &mut String, code: u32) -> Pushed
 /// Adds the first line of a reply to this command, of so many bytes.
 #[tactic(auto, unfolding(crate::specs::ReplyText::reply_line))]
 pub(crate) fn push_name(text: &mut String, command: CommandCode, size: usize) -> Pushed
-    ensures { OnOk result (string_bytes text.new ≡ string_bytes text.old ++ reply_line command size) }
+    ensures { OnOk result
+        (string_bytes text.new ≡ string_bytes text.old ++ reply_line command size) }
 {
     let name = command.name();
     writeln!(text, "reply {name} size {size}")
@@ -28,7 +29,8 @@ pub(crate) fn push_name(text: &mut String, command: CommandCode, size: usize) ->
 
 /// Adds the line of a reply's handle, where it has one.
 pub(crate) fn push_first_handle(text: &mut String, handle: Option<u32>) -> Pushed
-    ensures { OnOk result (string_bytes text.new ≡ string_bytes text.old ++ reply_handle_line handle) }
+    ensures { OnOk result
+        (string_bytes text.new ≡ string_bytes text.old ++ reply_handle_line handle) }
 {
     match handle {
         Some(handle) => push_handle(text, false, 1, handle),
@@ -43,7 +45,8 @@ pub(crate) fn push_named_fields(
     fields: bool,
     body: &ReplyBody,
 ) -> Pushed
-    ensures { OnOk result (string_bytes text.new ≡ string_bytes text.old ++ named_fields fields body.now) }
+    ensures { OnOk result
+        (string_bytes text.new ≡ string_bytes text.old ++ named_fields fields body.now) }
 {
     if !fields {
         return Ok(());

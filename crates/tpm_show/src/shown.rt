@@ -22,7 +22,8 @@ fn answer(
     reply: Option<CommandCode>,
     hex: &str,
 ) -> Result<Answer, AllocError>
-    ensures { IfOk result (λ a. ShowsDecoded fields reply (bytes_in hex.now) a.status (string_bytes a.text)) }
+    ensures { IfOk result
+        (λ a. ShowsDecoded fields reply (bytes_in hex.now) a.status (string_bytes a.text)) }
 {
     let Some(bytes) = decoded(alloc, hex)? else {
         return Answer::not_hexadecimal(alloc);
@@ -66,9 +67,10 @@ pub fn show<W: Write>(
 /// Prints what `show` prints, and under the line of the parameters a line `  NAME TYPE X` for each of them, by its
 /// name and its type in the tables of the command (Part 3), with the bytes that spell it.
 ///
-/// Under the line of a structure its members or entries follow likewise, two more spaces in, by their names and types in Part 2:
-/// those of TPM2B_NV_PUBLIC, TPML_PCR_SELECTION, TPML_DIGEST, TPML_DIGEST_VALUES and TPMT_SYM_DEF. Under TPMA_NV stands
-/// `TPM_NT N`, and `NAME 1` for each bit that is set; under pcrSelect `PCR N` for each register that is selected. N is decimal.
+/// Under the line of a structure its members or entries follow likewise, two more spaces in, by
+/// their names and types in Part 2: those of TPM2B_NV_PUBLIC, TPML_PCR_SELECTION, TPML_DIGEST,
+/// TPML_DIGEST_VALUES and TPMT_SYM_DEF. Under TPMA_NV stands `TPM_NT N`, and `NAME 1` for each bit
+/// that is set; under pcrSelect `PCR N` for each register that is selected. N is decimal.
 ///
 /// Where a request for memory is refused the answer is `Memory`, and where the writer fails it is
 /// `Write`. What was written before is then left open.

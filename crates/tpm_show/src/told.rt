@@ -32,7 +32,8 @@ pub(crate) fn answer_to_refusal(
     json: bool,
     refusal: &Refusal,
 ) -> Result<Answer, AllocError>
-    ensures { IfOk result (λ a. (a.status ≡ Refused) × (string_bytes a.text ≡ refusal_told json refusal.now)) }
+    ensures { IfOk result (λ a. (a.status ≡ Refused)
+        × (string_bytes a.text ≡ refusal_told json refusal.now)) }
 {
     if !json {
         return Answer::refusal(alloc, refusal);
@@ -64,7 +65,8 @@ fn push_command_told(
     areas: &Areas<'_>,
     body: &CommandBody<'_>,
 ) -> Pushed
-    ensures { OnOk result (string_bytes text.new ≡ string_bytes text.old ++ command_told how.json how.fields size areas.now body.now) }
+    ensures { OnOk result (string_bytes text.new
+        ≡ string_bytes text.old ++ command_told how.json how.fields size areas.now body.now) }
 {
     if how.json {
         push_head(text, areas.code(), size)?;
@@ -88,7 +90,8 @@ pub(crate) fn answer_of_command(
     areas: &Areas<'_>,
     body: &CommandBody<'_>,
 ) -> Result<Answer, AllocError>
-    ensures { IfOk result (λ a. (a.status ≡ Done) × (string_bytes a.text ≡ command_told how.json how.fields size areas.now body.now)) }
+    ensures { IfOk result (λ a. (a.status ≡ Done)
+        × (string_bytes a.text ≡ command_told how.json how.fields size areas.now body.now)) }
 {
     let mut text = String::new(alloc);
     push_command_told(alloc, &mut text, how, size, areas, body)?;
@@ -101,7 +104,8 @@ pub(crate) fn answer_to_command(
     how: Telling,
     bytes: &[u8],
 ) -> Result<Answer, AllocError>
-    ensures { IfOk result (λ a. ShowsCommand how.json how.fields bytes.now a.status (string_bytes a.text)) }
+    ensures { IfOk result
+        (λ a. ShowsCommand how.json how.fields bytes.now a.status (string_bytes a.text)) }
 {
     match command_and_areas(bytes) {
         Ok((command, areas)) => answer_of_command(alloc, how, bytes.len(), &areas, &command.body),
@@ -126,7 +130,8 @@ fn response_and_areas(
     command: CommandCode,
     bytes: &[u8],
 ) -> Result<(Response, ReplyAreas<'_>), Refusal>
-    ensures ok { IfOk result (λ x. Spells (response command) x.0 bytes.now × Spells (reply_cut command) x.1 bytes.now) }
+    ensures ok { IfOk result (λ x. Spells (response command) x.0 bytes.now
+        × Spells (reply_cut command) x.1 bytes.now) }
     ensures err { IfErr result (λ e. Fault (response command) bytes.now e) }
 {
     let response = decode_response(command, bytes)?;
@@ -145,7 +150,8 @@ fn push_response_told(
     areas: &ReplyAreas<'_>,
     response: &Response,
 ) -> Pushed
-    ensures { OnOk result (string_bytes text.new ≡ string_bytes text.old ++ response_told how.json how.fields command size areas.now response.now) }
+    ensures { OnOk result (string_bytes text.new ≡ string_bytes text.old
+        ++ response_told how.json how.fields command size areas.now response.now) }
 {
     match response {
         Response::Code(code) => push_code(text, how.json, code.number()),
@@ -173,7 +179,8 @@ pub(crate) fn answer_to_reply(
     command: CommandCode,
     bytes: &[u8],
 ) -> Result<Answer, AllocError>
-    ensures { IfOk result (λ a. ShowsReply how.json how.fields command bytes.now a.status (string_bytes a.text)) }
+    ensures { IfOk result
+        (λ a. ShowsReply how.json how.fields command bytes.now a.status (string_bytes a.text)) }
 {
     match response_and_areas(command, bytes) {
         Ok((response, areas)) => {

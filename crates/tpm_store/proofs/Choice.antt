@@ -88,13 +88,15 @@ chosen_more n select byte bit h room t =
     ∙ take_room (8 - n) (filter (is_selected select) (take bit (registers_of byte))) (8 * byte + bit) room
 
 -- one that is not selected
-pub chosen_same : (n : ℕ) (select : List ℕ) (byte bit : ℕ) → bit < 8 → is_selected select (8 * byte + bit) ≡ false → below n select byte (bit + 1) ≡ below n select byte bit
+pub chosen_same : (n : ℕ) (select : List ℕ) (byte bit : ℕ) → bit < 8 → is_selected select (8 * byte + bit) ≡ false
+    → below n select byte (bit + 1) ≡ below n select byte bit
 chosen_same n select byte bit h f =
     ap (λ (qs : List ℕ). take (8 - n) (filter (is_selected select) qs)) (one_more byte bit h)
     ∙ ap (take (8 - n)) (filter_same (is_selected select) (take bit (registers_of byte)) (8 * byte + bit) f)
 
 -- any, where there is no room
-pub chosen_full : (n : ℕ) (select : List ℕ) (byte bit : ℕ) → bit < 8 → 8 - n ≤ length (below n select byte bit) → below n select byte (bit + 1) ≡ below n select byte bit
+pub chosen_full : (n : ℕ) (select : List ℕ) (byte bit : ℕ) → bit < 8 → 8 - n ≤ length (below n select byte bit)
+    → below n select byte (bit + 1) ≡ below n select byte bit
 chosen_full n select byte bit h full =
     ap (λ (qs : List ℕ). take (8 - n) (filter (is_selected select) qs)) (one_more byte bit h)
     ∙ elim (is_selected select (8 * byte + bit)) as (λ b. is_selected select (8 * byte + bit) ≡ b →
@@ -104,7 +106,8 @@ chosen_full n select byte bit h full =
       | false ↦ λ f. ap (take (8 - n)) (filter_same (is_selected select) (take bit (registers_of byte)) (8 * byte + bit) f)
     ] refl
 
-pub bits_more : (qs : List ℕ) (byte bit bits : ℕ) → bit < 8 → bits ≡ bits_of qs → bits < 2 ^ bit → bit_or bits (1 * 2 ^ bit % 256) ≡ bits_of (qs ++ (8 * byte + bit) ∷ [])
+pub bits_more : (qs : List ℕ) (byte bit bits : ℕ) → bit < 8 → bits ≡ bits_of qs → bits < 2 ^ bit
+    → bit_or bits (1 * 2 ^ bit % 256) ≡ bits_of (qs ++ (8 * byte + bit) ∷ [])
 bits_more qs byte bit bits h is small =
     or_bit bit bits h small ∙ ap (λ (x : ℕ). x + 2 ^ bit) is
     ∙ ap (λ (b : ℕ). bits_of qs + 2 ^ b) (let k : bit ≡ (8 * byte + bit) % 8 = omega (arith, h) in k)
@@ -117,7 +120,8 @@ small_still bit bits h small = omega (arith, or_bit bit bits h small, small_more
 pub smaller_still : (bit bits : ℕ) → bit < 8 → bits < 2 ^ bit → bits < 2 ^ (bit + 1)
 smaller_still bit bits h small = omega (arith, small_more bit bits h small)
 
-pub values_more : (value : ℕ → List ℕ) (old values : List (List ℕ)) (qs : List ℕ) (q : ℕ) (d : List ℕ) → d ≡ value q → values ≡ old ++ map value qs → values ++ d ∷ [] ≡ old ++ map value (qs ++ q ∷ [])
+pub values_more : (value : ℕ → List ℕ) (old values : List (List ℕ)) (qs : List ℕ) (q : ℕ) (d : List ℕ) → d ≡ value q → values ≡ old ++ map value qs
+    → values ++ d ∷ [] ≡ old ++ map value (qs ++ q ∷ [])
 values_more value old values qs q d is held =
     ap (λ (l : List (List ℕ)). l ++ d ∷ []) held ∙ append_assoc old (map value qs) (d ∷ [])
     ∙ ap (λ (l : List (List ℕ)). old ++ l) (ap (λ (x : List ℕ). map value qs ++ x ∷ []) is ∙ sym (map-append value qs (q ∷ [])))
@@ -128,4 +132,6 @@ count_is value old values qs held = ap length held ∙ length-append old (map va
 
 -- one of all registers more
 pub register_more : (q : ℕ) → q < 24 → take (q + 1) all_registers ≡ take q all_registers ++ q ∷ []
-register_more q h = take_more all_registers q 0 h ∙ ap (λ (r : ℕ). take q all_registers ++ r ∷ []) (let e : get_or all_registers q 0 ≡ 0 + q = get_or-range_with_len 0 24 q 0 h in e ∙ omega arith)
+register_more q h =
+    take_more all_registers q 0 h
+    ∙ ap (λ (r : ℕ). take q all_registers ++ r ∷ []) (let e : get_or all_registers q 0 ≡ 0 + q = get_or-range_with_len 0 24 q 0 h in e ∙ omega arith)

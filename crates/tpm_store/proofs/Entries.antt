@@ -36,7 +36,8 @@ InByte b (q ∷ qs) = (q / 8 ≡ b) × InByte b qs
 
 in_filter : (p : ℕ → Bool) (b : ℕ) (qs : List ℕ) → InByte b qs → InByte b (filter p qs)
 in_filter p b [] h = tt
-in_filter p b (q ∷ qs) h = elim (p q) as (λ t. p q ≡ t → InByte b (filter p (q ∷ qs))) [ true ↦ λ t. rw t (h.0, in_filter p b qs h.1) | false ↦ λ t. rw t (in_filter p b qs h.1) ] refl
+in_filter p b (q ∷ qs) h =
+    elim (p q) as (λ t. p q ≡ t → InByte b (filter p (q ∷ qs))) [ true ↦ λ t. rw t (h.0, in_filter p b qs h.1) | false ↦ λ t. rw t (in_filter p b qs h.1) ] refl
 
 in_take : (m b : ℕ) (qs : List ℕ) → InByte b qs → InByte b (take m qs)
 in_take zero b qs h = tt
@@ -56,7 +57,8 @@ dropped b c [] n h = refl
 dropped b c (q ∷ qs) n h = let t : (q / 8 == c) ≡ false = grind (arith, nat_tests, h.0, n) in rw t (dropped b c qs n h.1)
 
 -- the registers of three bytes, of which those of one are taken
-of_three : (b : ℕ) (x y z : List ℕ) → filter (λ q. q / 8 == b) (x ++ (y ++ z)) ≡ filter (λ q. q / 8 == b) x ++ (filter (λ q. q / 8 == b) y ++ filter (λ q. q / 8 == b) z)
+of_three : (b : ℕ) (x y z : List ℕ)
+    → filter (λ q. q / 8 == b) (x ++ (y ++ z)) ≡ filter (λ q. q / 8 == b) x ++ (filter (λ q. q / 8 == b) y ++ filter (λ q. q / 8 == b) z)
 of_three b x y z = filter-append (λ q. q / 8 == b) x (y ++ z) ∙ ap (λ (l : List ℕ). filter (λ q. q / 8 == b) x ++ l) (filter-append (λ q. q / 8 == b) y z)
 
 select_is : (x y z : List ℕ) → InByte 0 x → InByte 1 y → InByte 2 z → select_of (x ++ (y ++ z)) ≡ bits_of x ∷ bits_of y ∷ bits_of z ∷ []
@@ -79,7 +81,8 @@ select_is x y z hx hy hz =
     ) refl
 
 -- what is chosen of an entry is what is chosen of its bytes in turn
-pub chosen_is : (n : ℕ) (s : Selection) (n1 n2 : ℕ) → n1 ≡ n + length (chosen n s.select (registers_of 0)) → n2 ≡ n1 + length (chosen n1 s.select (registers_of 1)) →
+pub chosen_is : (n : ℕ) (s : Selection) (n1 n2 : ℕ) → n1 ≡ n + length (chosen n s.select (registers_of 0))
+    → n2 ≡ n1 + length (chosen n1 s.select (registers_of 1)) →
     first_of n s ≡ chosen n s.select (registers_of 0) ++ (chosen n1 s.select (registers_of 1) ++ chosen n2 s.select (registers_of 2))
 chosen_is n s n1 n2 e1 e2 =
     let p = is_selected s.select in
@@ -88,16 +91,20 @@ chosen_is n s n1 n2 e1 e2 =
     let f2 = filter p (registers_of 2) in
     let left1 : 8 - n - length (take (8 - n) f0) ≡ 8 - n1 = omega (arith, e1) in
     let left2 : 8 - n1 - length (take (8 - n1) f1) ≡ 8 - n2 = omega (arith, e2) in
-    ap (take (8 - n)) (filter-append p (registers_of 0) (registers_of 1 ++ registers_of 2) ∙ ap (λ (l : List ℕ). f0 ++ l) (filter-append p (registers_of 1) (registers_of 2)))
+    ap (take (8 - n))
+    (filter-append p (registers_of 0) (registers_of 1 ++ registers_of 2) ∙ ap (λ (l : List ℕ). f0 ++ l) (filter-append p (registers_of 1) (registers_of 2)))
     ∙ take_parts (8 - n) f0 (f1 ++ f2)
     ∙ ap (λ (l : List ℕ). take (8 - n) f0 ++ l)
     (ap (λ (m : ℕ). take m (f1 ++ f2)) left1 ∙ take_parts (8 - n1) f1 f2 ∙ ap (λ (m : ℕ). take (8 - n1) f1 ++ take m f2) left2)
 
-pub select_of_first : (n : ℕ) (s : Selection) (n1 n2 : ℕ) → n1 ≡ n + length (chosen n s.select (registers_of 0)) → n2 ≡ n1 + length (chosen n1 s.select (registers_of 1)) →
-    select_of (first_of n s) ≡ bits_of (chosen n s.select (registers_of 0)) ∷ bits_of (chosen n1 s.select (registers_of 1)) ∷ bits_of (chosen n2 s.select (registers_of 2)) ∷ []
+pub select_of_first : (n : ℕ) (s : Selection) (n1 n2 : ℕ) → n1 ≡ n + length (chosen n s.select (registers_of 0))
+    → n2 ≡ n1 + length (chosen n1 s.select (registers_of 1)) →
+    select_of (first_of n s)
+    ≡ bits_of (chosen n s.select (registers_of 0)) ∷ bits_of (chosen n1 s.select (registers_of 1)) ∷ bits_of (chosen n2 s.select (registers_of 2)) ∷ []
 select_of_first n s n1 n2 e1 e2 =
     ap select_of (chosen_is n s n1 n2 e1 e2)
-    ∙ select_is (chosen n s.select (registers_of 0)) (chosen n1 s.select (registers_of 1)) (chosen n2 s.select (registers_of 2)) (in_chosen n 0 s.select) (in_chosen n1 1 s.select) (in_chosen n2 2 s.select)
+    ∙ select_is (chosen n s.select (registers_of 0)) (chosen n1 s.select (registers_of 1)) (chosen n2 s.select (registers_of 2)) (in_chosen n 0 s.select)
+    (in_chosen n1 1 s.select) (in_chosen n2 2 s.select)
 
 pub map_three : (value : ℕ → List ℕ) (x y z : List ℕ) → map value (x ++ (y ++ z)) ≡ map value x ++ (map value y ++ map value z)
 map_three value x y z = map-append value x (y ++ z) ∙ ap (λ (l : List (List ℕ)). map value x ++ l) (map-append value y z)
@@ -108,8 +115,10 @@ abbrev read_entry : ℕ → Selection → Selection
 read_entry n s = record { hash = s.hash; select = select_of (first_of n s) }
 
 first_more : (value : Alg → ℕ → List ℕ) (left : ℕ) (xs : List Selection) (s : Selection) →
-    first_selected left (xs ++ s ∷ []) ≡ first_selected left xs ++ record { hash = s.hash; select = select_of (take (left - length (selected_values value xs)) (selected_by s)) } ∷ []
-first_more value left [] s = ap (λ (m : ℕ). record { hash = s.hash; select = select_of (take m (selected_by s)) } ∷ []) (let k : left ≡ left - 0 = omega arith in k)
+    first_selected left (xs ++ s ∷ [])
+    ≡ first_selected left xs ++ record { hash = s.hash; select = select_of (take (left - length (selected_values value xs)) (selected_by s)) } ∷ []
+first_more value left [] s =
+    ap (λ (m : ℕ). record { hash = s.hash; select = select_of (take m (selected_by s)) } ∷ []) (let k : left ≡ left - 0 = omega arith in k)
 first_more value left (x ∷ xs) s =
     let used : left - length (selected_by x) - length (selected_values value xs) ≡ left - length (selected_values value (x ∷ xs)) =
     omega (arith, length-append (map (value x.hash) (selected_by x)) (selected_values value xs), length-map (selected_by x) (value x.hash)) in
@@ -117,7 +126,8 @@ first_more value left (x ∷ xs) s =
     (first_more value (left - length (selected_by x)) xs s
     ∙ ap (λ (m : ℕ). first_selected (left - length (selected_by x)) xs ++ record { hash = s.hash; select = select_of (take m (selected_by s)) } ∷ []) used)
 
-values_next : (value : Alg → ℕ → List ℕ) (xs : List Selection) (s : Selection) → selected_values value (xs ++ s ∷ []) ≡ selected_values value xs ++ map (value s.hash) (selected_by s)
+values_next : (value : Alg → ℕ → List ℕ) (xs : List Selection) (s : Selection)
+    → selected_values value (xs ++ s ∷ []) ≡ selected_values value xs ++ map (value s.hash) (selected_by s)
 values_next value xs s = sym (flat_map_more (λ (s : Selection). map (value s.hash) (selected_by s)) [] xs s)
 
 -- n values were read of the entries before
@@ -137,12 +147,15 @@ next_is : (xs sels : List Selection) (i : ℕ) (d : Selection) → xs ≡ sels �
 next_is xs sels i d same lt = ap (take (i + 1)) (sym same) ∙ take_more xs i d lt ∙ ap (λ (l : List Selection). take i l ++ get_or xs i d ∷ []) same
 
 pub parts_next : (value : Alg → ℕ → List ℕ) (xs sels : List Selection) (i : ℕ) (d : Selection) (parts more : List (List ℕ)) → xs ≡ sels → i < length xs →
-    parts ≡ selected_values value (take i sels) → more ≡ parts ++ map (value (get_or xs i d).hash) (selected_by (get_or xs i d)) → more ≡ selected_values value (take (i + 1) sels)
+    parts ≡ selected_values value (take i sels) → more ≡ parts ++ map (value (get_or xs i d).hash) (selected_by (get_or xs i d))
+    → more ≡ selected_values value (take (i + 1) sels)
 parts_next value xs sels i d parts more same lt here is =
     is ∙ ap (λ (l : List (List ℕ)). l ++ map (value (get_or xs i d).hash) (selected_by (get_or xs i d))) here
     ∙ sym (ap (selected_values value) (next_is xs sels i d same lt) ∙ values_next value (take i sels) (get_or xs i d))
 
-pub entries_next : (value : Alg → ℕ → List ℕ) (xs sels : List Selection) (i : ℕ) (d : Selection) (read : List Selection) (values more : List (List ℕ)) (r : Selection) → xs ≡ sels → i < length xs →
+pub entries_next : (value : Alg → ℕ → List ℕ) (xs sels : List Selection) (i : ℕ) (d : Selection) (read : List Selection) (values more : List (List ℕ))
+    (r : Selection)
+    → xs ≡ sels → i < length xs →
     read ≡ first_selected 8 (take i sels) → values ≡ take 8 (selected_values value (take i sels)) → r ≡ read_entry (length values) (get_or xs i d) →
     more ≡ values ++ map (value (get_or xs i d).hash) (first_of (length values) (get_or xs i d)) →
     (read ++ r ∷ [] ≡ first_selected 8 (take (i + 1) sels)) × (more ≡ take 8 (selected_values value (take (i + 1) sels)))
@@ -150,8 +163,10 @@ entries_next value xs sels i d read values more r same lt here so_far is and =
     let s = get_or xs i d in
     let step = entries_more value (take i sels) s (length values) (ap length so_far) in
     let next = next_is xs sels i d same lt in (
-      ap (λ (l : List Selection). l ++ r ∷ []) here ∙ ap (λ (x : Selection). first_selected 8 (take i sels) ++ x ∷ []) is ∙ sym step.0 ∙ sym (ap (first_selected 8) next),
-      and ∙ ap (λ (l : List (List ℕ)). l ++ map (value s.hash) (first_of (length values) s)) so_far ∙ sym step.1 ∙ sym (ap (λ (l : List Selection). take 8 (selected_values value l)) next),
+      ap (λ (l : List Selection). l ++ r ∷ []) here ∙ ap (λ (x : Selection). first_selected 8 (take i sels) ++ x ∷ []) is ∙ sym step.0
+          ∙ sym (ap (first_selected 8) next),
+      and ∙ ap (λ (l : List (List ℕ)). l ++ map (value s.hash) (first_of (length values) s)) so_far ∙ sym step.1
+          ∙ sym (ap (λ (l : List Selection). take 8 (selected_values value l)) next),
     )
 
 -- ---- the same values
@@ -163,7 +178,8 @@ same_on v w p (q ∷ qs) same below = elim (p q) as (λ t. p q ≡ t → map v (
   | false ↦ λ t. rw t (same_on v w p qs same below.1)
 ] refl
 
-pub values_same : (v w : Alg → ℕ → List ℕ) (sels : List Selection) → ((alg : Alg) (q : ℕ) → q < 24 → v alg q ≡ w alg q) → selected_values v sels ≡ selected_values w sels
+pub values_same : (v w : Alg → ℕ → List ℕ) (sels : List Selection) → ((alg : Alg) (q : ℕ) → q < 24 → v alg q ≡ w alg q)
+    → selected_values v sels ≡ selected_values w sels
 values_same v w [] same = refl
 values_same v w (s ∷ sels) same =
     ap (λ (l : List (List ℕ)). l ++ selected_values v sels) (same_on (v s.hash) (w s.hash) (is_selected s.select) all_registers (same s.hash) are_registers)

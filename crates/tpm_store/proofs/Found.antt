@@ -10,10 +10,12 @@ use Rattle.tpm_store.specs.Places.{IsPlace}
 
 -- a counter before others, of which none is of the index
 or_others : (i : ℕ) (c : Counter) (others : Option Counter) → (if has_index i c then Some c else others) ≡ None → (has_index i c ≡ false) × (others ≡ None)
-or_others i c others none = elim (has_index i c) as (λ b. has_index i c ≡ b → (if b then Some c else others) ≡ None → (has_index i c ≡ false) × (others ≡ None)) [
-  | true ↦ λ is e. absurd (let k : ⊥ = cc in k)
-  | false ↦ λ is e. (is, e)
-] refl none
+or_others i c others none =
+    elim (has_index i c) as
+    (λ b. has_index i c ≡ b → (if b then Some c else others) ≡ None → (has_index i c ≡ false) × (others ≡ None)) [
+      | true ↦ λ is e. absurd (let k : ⊥ = cc in k)
+      | false ↦ λ is e. (is, e)
+    ] refl none
 
 found_after : (i : ℕ) (xs ys : List Counter) → counter_in xs i ≡ None → counter_in (xs ++ ys) i ≡ counter_in ys i
 found_after i [] ys none = refl
@@ -30,7 +32,8 @@ found_at i k xs p = ap (λ (l : List Counter). counter_in l i) p.split ∙ found
 
 -- ---- looking through them
 
-pub is_place : (i : ℕ) (xs : List Counter) (k : ℕ) (c : Counter) → k < length xs → c ≡ get_or xs k c → has_index i c ≡ true → counter_in (take k xs) i ≡ None → IsPlace i k xs
+pub is_place : (i : ℕ) (xs : List Counter) (k : ℕ) (c : Counter) → k < length xs → c ≡ get_or xs k c → has_index i c ≡ true → counter_in (take k xs) i ≡ None
+    → IsPlace i k xs
 is_place i xs k c lt at is none = record {
   front = take k xs;
   counter = c;
@@ -41,14 +44,16 @@ is_place i xs k c lt at is none = record {
   none = none;
 }
 
-pub found_more : (i : ℕ) (xs : List Counter) (k : ℕ) (c : Counter) → k < length xs → c ≡ get_or xs k c → counter_in (take k xs) i ≡ None → has_index i c ≡ false → counter_in (take (k + 1) xs) i ≡ None
+pub found_more : (i : ℕ) (xs : List Counter) (k : ℕ) (c : Counter) → k < length xs → c ≡ get_or xs k c → counter_in (take k xs) i ≡ None → has_index i c ≡ false
+    → counter_in (take (k + 1) xs) i ≡ None
 found_more i xs k c lt at none other =
     ap (λ (l : List Counter). counter_in l i) (take_more xs k c lt ∙ ap (λ (x : Counter). take k xs ++ x ∷ []) (sym at))
     ∙ found_after i (take k xs) (c ∷ []) none ∙ rw other refl
 
 -- ---- an increment
 
-increment_after : (i greatest : ℕ) (xs : List Counter) (c : Counter) (ys : List Counter) → counter_in xs i ≡ None → has_index i c ≡ true → with_increment i greatest (xs ++ c ∷ ys) ≡ xs ++ incremented greatest c ∷ ys
+increment_after : (i greatest : ℕ) (xs : List Counter) (c : Counter) (ys : List Counter) → counter_in xs i ≡ None → has_index i c ≡ true
+    → with_increment i greatest (xs ++ c ∷ ys) ≡ xs ++ incremented greatest c ∷ ys
 increment_after i greatest [] c ys none is = rw is refl
 increment_after i greatest (x ∷ xs) c ys none is =
     let both = or_others i x (counter_in xs i) none in rw both.0 (ap (λ (l : List Counter). x ∷ l) (increment_after i greatest xs c ys both.1 is))
@@ -59,33 +64,43 @@ increment_at i k greatest xs p =
     ∙ sym (ap (with_increment i greatest) p.split ∙ increment_after i greatest p.front p.counter p.back p.none p.same)
 
 -- the counter that a place and its element show
-pub entry_found : (i k : ℕ) (one two items : List Counter) (r e : Counter) → one ≡ items → two ≡ items → IsPlace i k one → r ≡ get_or two k r → e ≡ r → counter_in items i ≡ Some e
+pub entry_found : (i k : ℕ) (one two items : List Counter) (r e : Counter) → one ≡ items → two ≡ items → IsPlace i k one → r ≡ get_or two k r → e ≡ r
+    → counter_in items i ≡ Some e
 entry_found i k one two items r e first second p at is =
     ap (λ (l : List Counter). counter_in l i) (sym first) ∙ found_at i k one p
     ∙ ap Some (sym (is ∙ at ∙ ap (λ (l : List Counter). get_or l k r) (second ∙ sym first) ∙ at_place i k one p r))
 
 -- what an increment gives
-pub raised_to : (greatest : ℕ) (value : Option ℕ) (v : ℕ) → Some v ≡ (if nat_le (2 ^ 64) (next_value greatest value) then None else Some (next_value greatest value)) → (nat_le (2 ^ 64) (next_value greatest value) ≡ false) × (v ≡ next_value greatest value)
-raised_to greatest value v e = elim (nat_le (2 ^ 64) (next_value greatest value)) as (λ b. Some v ≡ (if b then None else Some (next_value greatest value)) → (b ≡ false) × (v ≡ next_value greatest value)) [
-  | true ↦ λ h. absurd (let k : ⊥ = cc in k)
-  | false ↦ λ h. (refl, sym (same_Some (next_value greatest value) v (sym h)))
-] e
+pub raised_to : (greatest : ℕ) (value : Option ℕ) (v : ℕ)
+    → Some v ≡ (if nat_le (2 ^ 64) (next_value greatest value) then None else Some (next_value greatest value))
+    → (nat_le (2 ^ 64) (next_value greatest value) ≡ false) × (v ≡ next_value greatest value)
+raised_to greatest value v e = elim (nat_le (2 ^ 64) (next_value greatest value)) as
+    (λ b. Some v ≡ (if b then None else Some (next_value greatest value)) → (b ≡ false) × (v ≡ next_value greatest value)) [
+      | true ↦ λ h. absurd (let k : ⊥ = cc in k)
+      | false ↦ λ h. (refl, sym (same_Some (next_value greatest value) v (sym h)))
+    ] e
 
-pub not_raised : (greatest : ℕ) (value : Option ℕ) → None ≡ (if nat_le (2 ^ 64) (next_value greatest value) then None else Some (next_value greatest value)) → nat_le (2 ^ 64) (next_value greatest value) ≡ true
-not_raised greatest value e = elim (nat_le (2 ^ 64) (next_value greatest value)) as (λ b. ◌≡◌ {A = Option ℕ} None (if b then None else Some (next_value greatest value)) → b ≡ true) [
-  | true ↦ λ h. refl
-  | false ↦ λ h. absurd (let k : ⊥ = cc in k)
-] e
+pub not_raised : (greatest : ℕ) (value : Option ℕ) → None ≡ (if nat_le (2 ^ 64) (next_value greatest value) then None else Some (next_value greatest value))
+    → nat_le (2 ^ 64) (next_value greatest value) ≡ true
+not_raised greatest value e = elim (nat_le (2 ^ 64) (next_value greatest value)) as
+    (λ b. ◌≡◌ {A = Option ℕ} None (if b then None else Some (next_value greatest value)) → b ≡ true) [
+      | true ↦ λ h. refl
+      | false ↦ λ h. absurd (let k : ⊥ = cc in k)
+    ] e
 
 -- where a counter was given the value of an increment, it was incremented
-pub increment_is : (i k greatest value : ℕ) (one two three items new : List Counter) (r : Counter) → one ≡ items → two ≡ items → three ≡ items → IsPlace i k one → r ≡ get_or two k r → value ≡ next_value greatest r.value →
+pub increment_is : (i k greatest value : ℕ) (one two three items new : List Counter) (r : Counter) → one ≡ items → two ≡ items → three ≡ items → IsPlace i k one
+    → r ≡ get_or two k r → value ≡ next_value greatest r.value →
     new ≡ set three k (record { public = written r.public; auth = r.auth; value = Some value }) → new ≡ with_increment i greatest items
 increment_is i k greatest value one two three items new r first second third p at is wrote =
     let the_counter : p.counter ≡ r = sym (at_place i k one p r) ∙ ap (λ (l : List Counter). get_or l k r) (first ∙ sym second) ∙ sym at in
     wrote ∙ ap (λ (v : ℕ). set three k (let c : Counter = record { public = written r.public; auth = r.auth; value = Some v } in c)) is
-    ∙ ap (λ (l : List Counter). set l k (incremented greatest r)) (third ∙ sym first) ∙ ap (λ (c : Counter). set one k (incremented greatest c)) (sym the_counter)
+    ∙ ap (λ (l : List Counter). set l k (incremented greatest r)) (third ∙ sym first)
+    ∙ ap (λ (c : Counter). set one k (incremented greatest c)) (sym the_counter)
     ∙ increment_at i k greatest one p ∙ ap (with_increment i greatest) first
 
-pub same_memory : (a b : List Counter) (n m : ℕ) (memory : NvMemory) → a ≡ b → n ≡ m → memory ≡ record { counters = b; greatest = m } → record { counters = a; greatest = n } ≡ memory
+pub same_memory : (a b : List Counter) (n m : ℕ) (memory : NvMemory) → a ≡ b → n ≡ m → memory ≡ record { counters = b; greatest = m }
+    → record { counters = a; greatest = n } ≡ memory
 same_memory a b n m memory counters greatest is =
-    ap (λ (x : List Counter). let r : NvMemory = record { counters = x; greatest = n } in r) counters ∙ ap (λ (x : ℕ). let r : NvMemory = record { counters = b; greatest = x } in r) greatest ∙ sym is
+    ap (λ (x : List Counter). let r : NvMemory = record { counters = x; greatest = n } in r) counters
+    ∙ ap (λ (x : ℕ). let r : NvMemory = record { counters = b; greatest = x } in r) greatest ∙ sym is

@@ -40,7 +40,8 @@ part_here xs v at n within long =
 
 -- ---- a value
 
-other : (b a : Alg) (p q : ℕ) (bytes v : List ℕ) → length bytes ≡ all_bytes → p < registers → q < registers → length v ≡ digest_len b → number_of a q ≢ number_of b p →
+other : (b a : Alg) (p q : ℕ) (bytes v : List ℕ) → length bytes ≡ all_bytes → p < registers → q < registers → length v ≡ digest_len b
+    → number_of a q ≢ number_of b p →
     value_at (put_mid (place_of b p) (digest_len b) bytes v) a q ≡ value_at bytes a q
 unfolding value_at
 other b a p q bytes v whole p_lt q_lt long differ =
@@ -55,7 +56,8 @@ other b a p q bytes v whole p_lt q_lt long differ =
           part_after bytes v (place_of b p) (digest_len b) (place_of a q) (digest_len a) (apart b a p q p_lt q_lt after) within long
     ] refl
 
-here : (b : Alg) (p : ℕ) (bytes v : List ℕ) → length bytes ≡ all_bytes → p < registers → length v ≡ digest_len b → value_at (put_mid (place_of b p) (digest_len b) bytes v) b p ≡ v
+here : (b : Alg) (p : ℕ) (bytes v : List ℕ) → length bytes ≡ all_bytes → p < registers → length v ≡ digest_len b
+    → value_at (put_mid (place_of b p) (digest_len b) bytes v) b p ≡ v
 unfolding value_at
 here b p bytes v whole p_lt long = part_here bytes v (place_of b p) (digest_len b) (omega (arith, fits b p p_lt, whole)) long
 
@@ -64,7 +66,8 @@ pub written : (b : Alg) (p : ℕ) (bytes v : List ℕ) → length bytes ≡ all_
     Holds (put_mid (place_of b p) (digest_len b) bytes v) (with_value b p v (value_at bytes))
 written b p bytes v whole p_lt long a q q_lt =
     let new = put_mid (place_of b p) (digest_len b) bytes v in
-    elim (bank_place b == bank_place a) as (λ t. (bank_place b == bank_place a) ≡ t → value_at new a q ≡ (if t then (if p == q then v else value_at bytes a q) else value_at bytes a q)) [
+    elim (bank_place b == bank_place a) as
+    (λ t. (bank_place b == bank_place a) ≡ t → value_at new a q ≡ (if t then (if p == q then v else value_at bytes a q) else value_at bytes a q)) [
       | true ↦ λ t. elim (p == q) as (λ u. (p == q) ≡ u → value_at new a q ≡ (if u then v else value_at bytes a q)) [
         | true ↦ λ u.
             let bank : bank_place b ≡ bank_place a = grind (arith, nat_tests) in

@@ -20,13 +20,65 @@ AreRegisters [] = Unit {0}
 AreRegisters (q ∷ qs) = (q < 24) × AreRegisters qs
 
 pub are_registers : AreRegisters all_registers
-are_registers = (omega arith, (omega arith, (omega arith, (omega arith, (omega arith, (omega arith, (omega arith, (omega arith, (omega arith, (omega arith, (omega arith, (omega arith, (omega arith, (omega arith, (omega arith, (omega arith, (omega arith, (omega arith, (omega arith, (omega arith, (omega arith, (omega arith, (omega arith, (omega arith, tt))))))))))))))))))))))))
+are_registers = (
+  omega arith,
+  (
+    omega arith,
+    (
+      omega arith,
+      (
+        omega arith,
+        (
+          omega arith,
+          (
+            omega arith,
+            (
+              omega arith,
+              (
+                omega arith,
+                (
+                  omega arith,
+                  (
+                    omega arith,
+                    (
+                      omega arith,
+                      (
+                        omega arith,
+                        (
+                          omega arith,
+                          (
+                            omega arith,
+                            (
+                              omega arith,
+                              (
+                                omega arith,
+                                (
+                                  omega arith,
+                                  (omega arith, (omega arith, (omega arith, (omega arith, (omega arith, (omega arith, (omega arith, tt))))))),
+                                ),
+                              ),
+                            ),
+                          ),
+                        ),
+                      ),
+                    ),
+                  ),
+                ),
+              ),
+            ),
+          ),
+        ),
+      ),
+    ),
+  ),
+)
 
 each_same : (v w : ℕ → List ℕ) (qs : List ℕ) → ((q : ℕ) → q < 24 → v q ≡ w q) → AreRegisters qs → map v qs ≡ map w qs
 each_same v w [] same below = refl
 each_same v w (q ∷ qs) same below = ap (λ (x : List ℕ). x ∷ map v qs) (same q below.0) ∙ ap (λ (l : List (List ℕ)). w q ∷ l) (each_same v w qs same below.1)
 
-banks_same : (v w : Alg → ℕ → List ℕ) (algs : List Alg) → ((a : Alg) (q : ℕ) → q < 24 → v a q ≡ w a q) → map (λ a. map (v a) all_registers) algs ≡ map (λ a. map (w a) all_registers) algs
+banks_same : (v w : Alg → ℕ → List ℕ) (algs : List Alg) → ((a : Alg) (q : ℕ) → q < 24 → v a q ≡ w a q)
+    → map (λ a. map (v a) all_registers) algs ≡ map (λ a. map (w a) all_registers) algs
 banks_same v w [] same = refl
 banks_same v w (a ∷ algs) same =
     ap (λ (x : List (List ℕ)). x ∷ map (λ a. map (v a) all_registers) algs) (each_same (v a) (w a) all_registers (same a) are_registers)
@@ -38,10 +90,12 @@ unfolding banks_of
 banks_of-same v w same = banks_same v w all_algs same
 
 -- bytes that hold the values after some changes, after one more
-pub stands_more : (c : Change) (cs : List Change) (old new : List ℕ) → Holds new (changed c old) → banks_of (value_at old) ≡ banks_of (register_value cs) → banks_of (value_at new) ≡ banks_of (register_value (c ∷ cs))
+pub stands_more : (c : Change) (cs : List Change) (old new : List ℕ) → Holds new (changed c old) → banks_of (value_at old) ≡ banks_of (register_value cs)
+    → banks_of (value_at new) ≡ banks_of (register_value (c ∷ cs))
 stands_more c cs old new step before =
     let was : (a : Alg) (q : ℕ) → q < 24 → value_at old a q ≡ register_value cs a q =
-    λ a q lt. sym (value_in-banks (value_at old) a q lt) ∙ ap (λ (b : List (List (List ℕ))). value_in b a q) before ∙ value_in-banks (register_value cs) a q lt in
+    λ a q lt.
+    sym (value_in-banks (value_at old) a q lt) ∙ ap (λ (b : List (List (List ℕ))). value_in b a q) before ∙ value_in-banks (register_value cs) a q lt in
     banks_of-same (value_at new) (register_value (c ∷ cs)) (λ a q lt. step a q lt ∙ ap (value_by a q c) (was a q lt))
 
 -- ---- the whole
@@ -49,17 +103,21 @@ stands_more c cs old new step before =
 abbrev pub as_held : List ℕ → ℕ → Registers
 as_held bytes n = record { banks = banks_of (value_at bytes); update_counter = n }
 
-same_registers : (b c : List (List (List ℕ))) (n m : ℕ) (r : Registers) → b ≡ c → n ≡ m → r ≡ record { banks = c; update_counter = m } → record { banks = b; update_counter = n } ≡ r
+same_registers : (b c : List (List (List ℕ))) (n m : ℕ) (r : Registers) → b ≡ c → n ≡ m → r ≡ record { banks = c; update_counter = m }
+    → record { banks = b; update_counter = n } ≡ r
 same_registers b c n m r banks counter is =
     ap (λ (x : List (List (List ℕ))). let r : Registers = record { banks = x; update_counter = n } in r) banks
     ∙ ap (λ (x : ℕ). let r : Registers = record { banks = c; update_counter = x } in r) counter ∙ sym is
 
 -- registers that have just been started
 pub started_stands : (cs : List Change) (bytes : List ℕ) → Holds bytes (register_value cs) → update_counter cs ≡ 0 → as_held bytes 0 ≡ registers_after cs
-started_stands cs bytes holds none = same_registers (banks_of (value_at bytes)) (banks_of (register_value cs)) 0 (update_counter cs) (registers_after cs) (banks_of-same (value_at bytes) (register_value cs) holds) (sym none) refl
+started_stands cs bytes holds none =
+    same_registers (banks_of (value_at bytes)) (banks_of (register_value cs)) 0 (update_counter cs) (registers_after cs)
+    (banks_of-same (value_at bytes) (register_value cs) holds) (sym none) refl
 
 -- registers that stand at some changes, after one more
-pub stands : (c : Change) (cs : List Change) (held : Registers) (old new : List ℕ) (n m : ℕ) → as_held old n ≡ held → held ≡ registers_after cs → Holds new (changed c old) →
+pub stands : (c : Change) (cs : List Change) (held : Registers) (old new : List ℕ) (n m : ℕ) → as_held old n ≡ held → held ≡ registers_after cs
+    → Holds new (changed c old) →
     (n ≡ update_counter cs → m ≡ update_counter (c ∷ cs)) → as_held new m ≡ registers_after (c ∷ cs)
 stands c cs held old new n m view was step counted =
     let before = view ∙ was in

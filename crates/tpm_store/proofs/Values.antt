@@ -26,7 +26,8 @@ filled_all byte a = refl
 pub zeros_at : (a : Alg) (q : ℕ) → q < registers → value_at (replicate all_bytes 0) a q ≡ zeros a
 unfolding value_at
 zeros_at a q lt =
-    ap (take (digest_len a)) (drop-replicate (place_of a q) all_bytes 0) ∙ take-replicate (digest_len a) (all_bytes - place_of a q) 0 (omega (arith, fits a q lt))
+    ap (take (digest_len a)) (drop-replicate (place_of a q) all_bytes 0)
+    ∙ take-replicate (digest_len a) (all_bytes - place_of a q) 0 (omega (arith, fits a q lt))
 
 -- the value of a register while those of dynamic launch are filled, of which so many are done
 abbrev pub starting : ℕ → Alg → ℕ → List ℕ
@@ -51,7 +52,8 @@ pub first_more : (n p : ℕ) (b : Alg) (value : Alg → List ℕ) (old mid new :
     Holds new (with_value b p (value b) (value_at mid)) → Holds new (with_first (n + 1) p value (value_at old))
 first_more n p b value old mid new place before more a q lt =
     more a q lt ∙ elim (bank_place b == bank_place a) as
-    (λ t. (bank_place b == bank_place a) ≡ t → (if t then (if p == q then value b else value_at mid a q) else value_at mid a q) ≡ with_first (n + 1) p value (value_at old) a q) [
+    (λ t. (bank_place b == bank_place a) ≡ t →
+    (if t then (if p == q then value b else value_at mid a q) else value_at mid a q) ≡ with_first (n + 1) p value (value_at old) a q) [
       | true ↦ λ t.
           let bank : bank_place b ≡ bank_place a = grind (arith, nat_tests) in
           let was : nat_lt (bank_place a) n ≡ false = grind (arith, nat_tests) in
@@ -62,7 +64,8 @@ first_more n p b value old mid new place before more a q lt =
           before a q lt ∙ rw same refl
     ] refl
 
-pub first_all : (n p : ℕ) (value : Alg → List ℕ) (old new : List ℕ) → banks ≤ n → Holds new (with_first n p value (value_at old)) → Holds new (with_values p value (value_at old))
+pub first_all : (n p : ℕ) (value : Alg → List ℕ) (old new : List ℕ) → banks ≤ n → Holds new (with_first n p value (value_at old))
+    → Holds new (with_values p value (value_at old))
 first_all n p value old new all is a q lt =
     let each : nat_lt (bank_place a) n ≡ true = grind (arith, nat_tests) in
     is a q lt ∙ rw each refl
@@ -75,7 +78,8 @@ extended_more a old (x ∷ ds) d = extended_more a (digest a (old ++ x)) ds d
 
 digests_more : (a : Alg) (ds : List (Alg × List ℕ)) (e : Alg × List ℕ) → is_of a e ≡ true → digests_for a (ds ++ e ∷ []) ≡ digests_for a ds ++ e.1 ∷ []
 digests_more a ds e is =
-    ap (map (λ (d : Alg × List ℕ). d.1)) (filter-append (is_of a) ds (e ∷ []) ∙ rw is refl) ∙ map-append (λ (d : Alg × List ℕ). d.1) (filter (is_of a) ds) (e ∷ [])
+    ap (map (λ (d : Alg × List ℕ). d.1)) (filter-append (is_of a) ds (e ∷ []) ∙ rw is refl)
+    ∙ map-append (λ (d : Alg × List ℕ). d.1) (filter (is_of a) ds) (e ∷ [])
 
 digests_same : (a : Alg) (ds : List (Alg × List ℕ)) (e : Alg × List ℕ) → is_of a e ≡ false → digests_for a (ds ++ e ∷ []) ≡ digests_for a ds
 digests_same a ds e is = ap (map (λ (d : Alg × List ℕ). d.1)) (filter-append (is_of a) ds (e ∷ []) ∙ rw is (append-nil (filter (is_of a) ds)))
@@ -85,7 +89,8 @@ pub extend_more : (p : ℕ) (old mid new : List ℕ) (ds : List (Alg × List ℕ
 extend_more p old mid new ds e before more a q lt =
     let written = digest e.0 (value_at mid e.0 p ++ e.1) in
     more a q lt ∙ elim (bank_place e.0 == bank_place a) as
-    (λ t. (bank_place e.0 == bank_place a) ≡ t → (if t then (if p == q then written else value_at mid a q) else value_at mid a q) ≡ changed (Extend p (ds ++ e ∷ [])) old a q) [
+    (λ t. (bank_place e.0 == bank_place a) ≡ t →
+    (if t then (if p == q then written else value_at mid a q) else value_at mid a q) ≡ changed (Extend p (ds ++ e ∷ [])) old a q) [
       | true ↦ λ t.
           let bank : bank_place e.0 ≡ bank_place a = grind (arith, nat_tests) in
           let is : is_of a e ≡ true = same_test a e.0 ∙ t in
@@ -111,5 +116,6 @@ reset_is p old new written a q lt = written a q lt ∙ ap (λ (x : List ℕ). if
 zero_first : (q : ℕ) → (0 == q) ≡ (q == 0)
 zero_first q = elim (q == 0) as (λ t. (q == 0) ≡ t → (0 == q) ≡ t) [ true ↦ λ t. grind (arith, nat_tests) | false ↦ λ t. grind (arith, nat_tests) ] refl
 
-pub start_is : (locality : ℕ) (old new : List ℕ) → Holds new (with_values 0 (filled_but_last 0 locality) (value_at old)) → Holds new (changed (StartAt locality) old)
+pub start_is : (locality : ℕ) (old new : List ℕ) → Holds new (with_values 0 (filled_but_last 0 locality) (value_at old))
+    → Holds new (changed (StartAt locality) old)
 start_is locality old new written a q lt = written a q lt ∙ rw (zero_first q) refl

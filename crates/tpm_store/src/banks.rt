@@ -56,7 +56,8 @@ fn write(bytes: &mut [u8], alg: Alg, register: u32, value: &[u8])
 fn fill(bytes: &mut [u8], alg: Alg, register: u32, byte: u8, last: u8)
     requires bytes { length bytes.old ≡ all_bytes }
     requires register { register < registers }
-    ensures { Holds bytes.new (with_value alg register (filled_but_last byte last alg) (value_at bytes.old)) }
+    ensures { Holds bytes.new
+        (with_value alg register (filled_but_last byte last alg) (value_at bytes.old)) }
 {
     let len = alg.digest_len();
     let mut value = [byte; DIGEST_BYTES];
@@ -68,7 +69,8 @@ fn fill(bytes: &mut [u8], alg: Alg, register: u32, byte: u8, last: u8)
 pub(crate) fn fill_each(bytes: &mut [u8], register: u32, byte: u8, last: u8)
     requires bytes { length bytes.old ≡ all_bytes }
     requires register { register < registers }
-    ensures { Holds bytes.new (with_values register (filled_but_last byte last) (value_at bytes.old)) }
+    ensures { Holds bytes.new
+        (with_values register (filled_but_last byte last) (value_at bytes.old)) }
 {
     for alg in Alg::ALL {
         fill(bytes, alg, register, byte, last);
@@ -90,7 +92,9 @@ fn extend_one(bytes: &mut [u8], alg: Alg, register: u32, digest: &[u8])
     requires bytes { length bytes.old ≡ all_bytes }
     requires register { register < registers }
     requires digest { length digest.now ≡ digest_len alg }
-    ensures { Holds bytes.new (with_value alg register (digest_of alg (value_at bytes.old alg register ++ digest.now)) (value_at bytes.old)) }
+    ensures { Holds bytes.new
+        (with_value alg register (digest_of alg (value_at bytes.old alg register ++ digest.now))
+        (value_at bytes.old)) }
 {
     let at = place(alg, register);
     tpm_hmac::extend(alg, &mut bytes[at..at + alg.digest_len()], digest);

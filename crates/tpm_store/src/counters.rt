@@ -113,7 +113,12 @@ impl Counter {
 
     // Gives it a value.
     fn write(&mut self, value: u64)
-        ensures { self.new ≡ record { public = written self.old.public; auth = self.old.auth; value = Some value } }
+        ensures { self.new
+            ≡ record {
+              public = written self.old.public;
+              auth = self.old.auth;
+              value = Some value;
+            } }
     {
         self.public.attrs = self.public.attrs.with_written();
         self.value = Some(value);
@@ -172,15 +177,20 @@ fn entry(counters: &[Counter], index: NvIndex) -> Option<&Counter>
 // Gives the counter at this place a value.
 fn write(counters: &mut [Counter], k: usize, value: u64)
     requires { k < length counters.old }
-    ensures { (c : model.Counter) → slice_index_or counters.old k c ≡ c →
-        counters.new ≡ set counters.old k (record { public = written c.public; auth = c.auth; value = Some value }) }
+    ensures { (c : model.Counter) →
+        slice_index_or counters.old k c ≡ c →
+        counters.new
+        ≡ set counters.old k
+        (record { public = written c.public; auth = c.auth; value = Some value }) }
 {
     counters[k].write(value);
 }
 
 // What an increment gives, unless it is past the greatest number.
 fn raised(value: Option<u64>, greatest: u64) -> Option<u64>
-    ensures { result ≡ (if nat_le (2 ^ 64) (next_value greatest value) then None else Some (next_value greatest value)) }
+    ensures { result
+        ≡ (if nat_le (2 ^ 64) (next_value greatest value) then None
+        else Some (next_value greatest value)) }
 {
     match value {
         None => greatest.checked_add(1),
@@ -205,8 +215,8 @@ fn may_be_defined(attrs: NvAttrs) -> bool
     attrs.is_counter() && !attrs.is_undefinable() && attrs.is_writable() && attrs.is_readable()
 }
 
-/// The counters that are defined, eight at most, in the order of their definitions, and the greatest value that any had. Power
-/// cycles leave them.
+/// The counters that are defined, eight at most, in the order of their definitions, and the greatest value that
+/// any had. Power cycles leave them.
 #[derive(Drop)]
 pub struct Counters {
     counters: ArrayVec<Counter, MOST_COUNTERS>,
@@ -232,14 +242,17 @@ impl Counters {
         }
     }
 
-    /// Defines an index with this authorization value, whose trailing zeros are no part of it (Part 3, 31.3). Refused in this
-    /// order: ATTRIBUTES of parameter 2 where it is no counter, or has an attribute that no definition may set, or can't be
-    /// written or can't be read; SIZE of parameter 1 for an authorization value longer than a digest of the index's hash; SIZE
-    /// of parameter 2 for a policy neither empty nor as long as that digest, and for data of another size than 8 bytes;
-    /// NV_DEFINED; NV_SPACE for a ninth index.
+    /// Defines an index with this authorization value, whose trailing zeros are no part of it (Part 3, 31.3).
+    /// Refused in this order: ATTRIBUTES of parameter 2 where it is no counter, or has an attribute that no
+    /// definition may set, or can't be written or can't be read; SIZE of parameter 1 for an authorization value
+    /// longer than a digest of the index's hash; SIZE of parameter 2 for a policy neither empty nor as long as
+    /// that digest, and for data of another size than 8 bytes; NV_DEFINED; NV_SPACE for a ninth index.
     pub fn define(&mut self, public: &NvPublic, auth: &[u8]) -> Result<(), u32>
-        ensures answer { result ≡ check_define (counter_in self.old.counters public.now.index) (length self.old.counters) auth.now public.now }
-        ensures defined { OnOk result (self.new ≡ nv_by (bodies.NvDefineSpace auth.now public.now) self.old) }
+        ensures answer { result
+            ≡ check_define (counter_in self.old.counters public.now.index)
+            (length self.old.counters) auth.now public.now }
+        ensures defined { OnOk result
+            (self.new ≡ nv_by (bodies.NvDefineSpace auth.now public.now) self.old) }
         ensures refused { OnErr result (self.new ≡ self.old) }
     {
         let auth = trim(auth);
@@ -302,7 +315,8 @@ impl Counters {
 
     /// The authorization value of an index, where it is defined, without trailing zeros.
     pub fn auth(&self, index: NvIndex) -> Option<&[u8]>
-        ensures { option_map (λ a. a.now) result ≡ option_map (λ c. c.auth) (counter_in self.now.counters index) }
+        ensures { option_map (λ a. a.now) result
+            ≡ option_map (λ c. c.auth) (counter_in self.now.counters index) }
     {
         match entry(self.counters.as_slice(), index) {
             None => None,
@@ -310,9 +324,12 @@ impl Counters {
         }
     }
 
-    /// The public area and the authorization value of an index, where it is defined: both lent, the value without trailing zeros.
+    /// The public area and the authorization value of an index, where it is defined: both lent, the value
+    /// without trailing zeros.
     pub fn definition(&self, index: NvIndex) -> Option<(&NvPublic, &[u8])>
-        ensures { option_map {U = Public × List ℕ} (λ d. (d.0.now, d.1.now)) result ≡ option_map {U = Public × List ℕ} (λ c. (c.public, c.auth)) (counter_in self.now.counters index) }
+        ensures { option_map {U = Public × List ℕ} (λ d. (d.0.now, d.1.now)) result
+            ≡ option_map {U = Public × List ℕ} (λ c. (c.public, c.auth))
+            (counter_in self.now.counters index) }
     {
         match entry(self.counters.as_slice(), index) {
             None => None,
@@ -321,11 +338,14 @@ impl Counters {
     }
 
     /// Increments a counter and answers its value: the first time since its definition one more than the greatest value
-    /// that any counter of the device has had, and then one more each time (Part 3, 31.8). Refused in this order: HANDLE;
-    /// NV_AUTHORIZATION for the owner without OWNERWRITE and for another index; NV_RANGE past 2^64 - 1.
+    /// that any counter of the device has had, and then one more each time (Part 3, 31.8). Refused in this
+    /// order: HANDLE; NV_AUTHORIZATION for the owner without OWNERWRITE and for another index; NV_RANGE past
+    /// 2^64 - 1.
     pub fn increment(&mut self, index: NvIndex, by: By) -> Result<u64, u32>
-        ensures answer { result ≡ increment_of self.old.greatest (counter_in self.old.counters index) by index }
-        ensures incremented { OnOk result (self.new ≡ nv_by (bodies.NvIncrement by index) self.old) }
+        ensures answer { result
+            ≡ increment_of self.old.greatest (counter_in self.old.counters index) by index }
+        ensures incremented { OnOk result
+            (self.new ≡ nv_by (bodies.NvIncrement by index) self.old) }
         ensures refused { OnErr result (self.new ≡ self.old) }
     {
         let Some(k) = place(self.counters.as_slice(), index) else {
@@ -343,9 +363,9 @@ impl Counters {
         Ok(value)
     }
 
-    /// `size` bytes of the value of a counter from `offset` on, most significant byte first (Part 3, 31.13). Refused in this
-    /// order: HANDLE; NV_AUTHORIZATION for the owner without OWNERREAD and for another index; NV_UNINITIALIZED before the first
-    /// increment; NV_RANGE for bytes behind the value's eighth.
+    /// `size` bytes of the value of a counter from `offset` on, most significant byte first (Part 3, 31.13).
+    /// Refused in this order: HANDLE; NV_AUTHORIZATION for the owner without OWNERREAD and for another index;
+    /// NV_UNINITIALIZED before the first increment; NV_RANGE for bytes behind the value's eighth.
     pub fn read(
         &self,
         index: NvIndex,

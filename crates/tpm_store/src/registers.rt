@@ -62,7 +62,10 @@ impl Model for Registers {
 
     ghost Value = { model.Registers };
 
-    ghost view = { λ r. record { banks = banks_of (value_at r.bytes); update_counter = r.updates } };
+    ghost view = { λ r. record {
+      banks = banks_of (value_at r.bytes);
+      update_counter = r.updates;
+    } };
 }
 
 fn is_for_dynamic_launch(register: u32) -> bool
@@ -93,13 +96,17 @@ fn digest(bytes: &[u8], alg: Alg, register: u32) -> Digest
     }
 }
 
-// Reads the registers of this byte of a selection as long as there is room for their values, and answers the byte with the
-// bits of those that were read.
+// Reads the registers of this byte of a selection as long as there is room for their values, and answers the
+// byte with the bits of those that were read.
 fn read_byte(bytes: &[u8], selection: &Selection, byte: u32, values: &mut Digests) -> u8
     requires bytes { length bytes.now ≡ all_bytes }
     requires byte { byte < 3 }
-    ensures bits { result ≡ bits_of (chosen (length values.old) selection.now.select (registers_of byte)) }
-    ensures values { values.new ≡ values.old ++ map (value_at bytes.now selection.now.hash) (chosen (length values.old) selection.now.select (registers_of byte)) }
+    ensures bits { result
+        ≡ bits_of (chosen (length values.old) selection.now.select (registers_of byte)) }
+    ensures values { values.new
+        ≡ values.old
+        ++ map (value_at bytes.now selection.now.hash)
+        (chosen (length values.old) selection.now.select (registers_of byte)) }
 {
     if selection.select[byte as usize] == 0 {
         return 0;
@@ -115,12 +122,19 @@ fn read_byte(bytes: &[u8], selection: &Selection, byte: u32, values: &mut Digest
     bits
 }
 
-// Reads the registers of a selection as long as there is room for their values, and answers the selection of those that were
-// read.
+// Reads the registers of a selection as long as there is room for their values, and answers the selection of
+// those that were read.
 fn read_selected(bytes: &[u8], selection: &Selection, values: &mut Digests) -> Selection
     requires { length bytes.now ≡ all_bytes }
-    ensures selection { result ≡ record { hash = selection.now.hash; select = select_of (first_of (length values.old) selection.now) } }
-    ensures values { values.new ≡ values.old ++ map (value_at bytes.now selection.now.hash) (first_of (length values.old) selection.now) }
+    ensures selection { result
+        ≡ record {
+          hash = selection.now.hash;
+          select = select_of (first_of (length values.old) selection.now);
+        } }
+    ensures values { values.new
+        ≡ values.old
+        ++ map (value_at bytes.now selection.now.hash)
+        (first_of (length values.old) selection.now) }
 {
     let first = read_byte(bytes, selection, 0, values);
     let second = read_byte(bytes, selection, 1, values);
@@ -139,7 +153,9 @@ fn lend_selected<'a>(
 )
     requires bytes { length bytes.now ≡ all_bytes }
     requires room { length parts.old.items + registers ≤ banks * registers }
-    ensures parts { map (λ p. p.now) parts.new.items ≡ map (λ p. p.now) parts.old.items ++ map (value_at bytes.now selection.now.hash) (selected_by selection.now) }
+    ensures parts { map (λ p. p.now) parts.new.items
+        ≡ map (λ p. p.now) parts.old.items
+        ++ map (value_at bytes.now selection.now.hash) (selected_by selection.now) }
     ensures count { length parts.new.items ≤ length parts.old.items + registers }
 {
     for register in 0..REGISTERS {
@@ -193,20 +209,25 @@ impl Registers {
         self.updates = 0;
     }
 
-    /// Makes register 0 begin with the locality of a platform's start: zeros in each bank, and the locality's number as the last
-    /// byte. No command does so: it is for logs, which say where their platform was started (PC Client Platform Firmware
-    /// Profile, "Startup Locality Event"). The update counter stays.
+    /// Makes register 0 begin with the locality of a platform's start: zeros in each bank, and the locality's
+    /// number as the last byte. No command does so: it is for logs, which say where their platform was started
+    /// (PC Client Platform Firmware Profile, "Startup Locality Event"). The update counter stays.
     pub fn start_at(&mut self, locality: Locality)
-        ensures { (cs : List Change) → self.old ≡ registers_after cs → self.new ≡ registers_after (StartAt (locality_number locality) ∷ cs) }
+        ensures { (cs : List Change) →
+            self.old ≡ registers_after cs →
+            self.new ≡ registers_after (StartAt (locality_number locality) ∷ cs) }
     {
         fill_each(&mut self.bytes, 0, 0, locality.number());
     }
 
-    /// Extends a register in each bank with the digests of the bank's hash, in their order, and raises the update counter once
-    /// where there is a digest at all; LOCALITY for a register of dynamic launch, 17 to 22 (Part 3, 22.2).
+    /// Extends a register in each bank with the digests of the bank's hash, in their order, and raises the
+    /// update counter once where there is a digest at all; LOCALITY for a register of dynamic launch, 17 to 22
+    /// (Part 3, 22.2).
     pub fn extend(&mut self, register: PcrIndex, digests: &DigestValues) -> Result<(), u32>
         ensures answer { result ≡ check_extend (Pcr register) }
-        ensures extended { OnOk result ((cs : List Change) → self.old ≡ registers_after cs → self.new ≡ registers_after (Extend register digests.now ∷ cs)) }
+        ensures extended { OnOk result
+            ((cs : List Change) → self.old ≡ registers_after cs
+            → self.new ≡ registers_after (Extend register digests.now ∷ cs)) }
         ensures refused { OnErr result (self.new ≡ self.old) }
     {
         let number = register.number();
@@ -220,11 +241,13 @@ impl Registers {
         Ok(())
     }
 
-    /// Extends a register with the digests of an event, each in its bank, answers them, and raises the update counter; LOCALITY
-    /// for a register of dynamic launch, 17 to 22 (Part 3, 22.3).
+    /// Extends a register with the digests of an event, each in its bank, answers them, and raises the update
+    /// counter; LOCALITY for a register of dynamic launch, 17 to 22 (Part 3, 22.3).
     pub fn event(&mut self, register: PcrIndex, event: &[u8]) -> Result<DigestValues, u32>
         ensures answer { result ≡ event_answer register event.now }
-        ensures extended { OnOk result ((cs : List Change) → self.old ≡ registers_after cs → self.new ≡ registers_after (Extend register (event_digests_of event.now) ∷ cs)) }
+        ensures extended { OnOk result
+            ((cs : List Change) → self.old ≡ registers_after cs
+            → self.new ≡ registers_after (Extend register (event_digests_of event.now) ∷ cs)) }
         ensures refused { OnErr result (self.new ≡ self.old) }
     {
         let digests = event_digests(event);
@@ -232,11 +255,13 @@ impl Registers {
         Ok(digests)
     }
 
-    /// Makes a register zeros in each bank and raises the update counter; LOCALITY for any but the debug and the application
-    /// register, 16 and 23 (Part 3, 22.8).
+    /// Makes a register zeros in each bank and raises the update counter; LOCALITY for any but the debug and
+    /// the application register, 16 and 23 (Part 3, 22.8).
     pub fn reset(&mut self, register: PcrIndex) -> Result<(), u32>
         ensures answer { result ≡ check_reset register }
-        ensures reset { OnOk result ((cs : List Change) → self.old ≡ registers_after cs → self.new ≡ registers_after (Reset register ∷ cs)) }
+        ensures reset { OnOk result
+            ((cs : List Change) → self.old ≡ registers_after cs
+            → self.new ≡ registers_after (Reset register ∷ cs)) }
         ensures refused { OnErr result (self.new ≡ self.old) }
     {
         let number = register.number();
@@ -255,11 +280,15 @@ impl Registers {
         digest(&self.bytes, alg, register.number())
     }
 
-    /// The values of the first eight of the selected registers, the entries in list order, in each rising by register, and
-    /// the selection of those that were read: each entry, in which the bits of the registers that were not read are clear
-    /// (Part 3, 22.4).
+    /// The values of the first eight of the selected registers, the entries in list order, in each rising by
+    /// register, and the selection of those that were read: each entry, in which the bits of the registers that
+    /// were not read are clear (Part 3, 22.4).
     pub fn select(&self, selections: &Selections) -> (Selections, Digests)
-        ensures { result ≡ (selections_read selections.now, values_read (value_in self.now.banks) selections.now) }
+        ensures { result
+            ≡ (
+              selections_read selections.now,
+              values_read (value_in self.now.banks) selections.now,
+            ) }
     {
         let mut read = Selections::default();
         let mut values = Digests::default();
@@ -279,8 +308,8 @@ impl Registers {
         }
     }
 
-    /// The digest under this hash of the values of all selected registers, joined: the entries in list order, in each rising
-    /// by register (Part 1, "Selecting Multiple PCR").
+    /// The digest under this hash of the values of all selected registers, joined: the entries in list order,
+    /// in each rising by register (Part 1, "Selecting Multiple PCR").
     pub fn composite(&self, alg: Alg, selections: &Selections) -> Digest
         ensures { result ≡ composite_of alg (value_in self.now.banks) selections.now }
     {

@@ -23,7 +23,8 @@ consumes_none None = tt
 consumes_none (Some l) = refl
 
 -- the front of a room after a read into the rest of it
-pub front_read : (count k n : ℕ) (room part : List ℕ) → count ≤ length room → n ≤ length part → take (count + n) (put_mid count k room part) ≡ take count room ++ take n part
+pub front_read : (count k n : ℕ) (room part : List ℕ) → count ≤ length room → n ≤ length part
+    → take (count + n) (put_mid count k room part) ≡ take count room ++ take n part
 front_read count k n room part within le =
     let len = length-take-le count room within in
     ap (λ m. take (m + n) (put_mid count k room part)) (sym len) ∙ take-append-add (take count room) (part ++ post_of count k room) n
@@ -31,7 +32,13 @@ front_read count k n room part within le =
 
 pub room_read : (count k n : ℕ) (room part : List ℕ) → count ≤ length room → n ≤ length part → count + n ≤ length (put_mid count k room part)
 room_read count k n room part within le =
-    omega (arith, length-append (take count room) (part ++ post_of count k room), length-append part (post_of count k room), length-take-le count room within, le)
+    omega (
+      arith,
+      length-append (take count room) (part ++ post_of count k room),
+      length-append part (post_of count k room),
+      length-take-le count room within,
+      le,
+    )
 
 -- ---- a frame in two reads: its first six bytes, and the rest
 
@@ -45,7 +52,8 @@ module _ (front part : List ℕ) (size : ℕ) (six : length front ≡ 6) (states
   -- less than the rest
   pub read_part : (n : ℕ) → n ≤ length part → 6 + n < size → IsPart (front ++ take n part)
   read_part n le lt =
-      sized_part (front ++ take n part) (omega (arith, both n le)) (omega (arith, says n, least)) (omega (arith, says n, most)) (omega (arith, both n le, says n, lt))
+      sized_part (front ++ take n part) (omega (arith, both n le)) (omega (arith, says n, least))
+      (omega (arith, says n, most)) (omega (arith, both n le, says n, lt))
 
   -- all of the rest
   pub read_whole : (n : ℕ) → n ≤ length part → 6 + n ≡ size → IsFrame (front ++ take n part)
@@ -56,13 +64,15 @@ module _ (front part : List ℕ) (size : ℕ) (six : length front ≡ 6) (states
   }
 
 -- where the rest stands in the buffer, which was made as long as the frame
-pub part_length : (held part : List ℕ) (size : ℕ) → length part ≡ length (take (size - 6) (drop 6 held)) → length held ≡ size → 10 ≤ size → 6 + length part ≡ size
+pub part_length : (held part : List ℕ) (size : ℕ) → length part ≡ length (take (size - 6) (drop 6 held))
+    → length held ≡ size → 10 ≤ size → 6 + length part ≡ size
 part_length held part size is whole least = omega (arith, is, length-take (size - 6) (drop 6 held), length-drop 6 held, whole, least)
 
 -- a first read of six bytes, and the next one of the rest into that buffer
 module _ (old mid new : Option (List ℕ)) (front part held : List ℕ) (count size : ℕ) (six : length front ≡ 6)
     (first : Consumes old mid (take count front)) (filled : 6 ≤ count)
-    (says : size ≡ stated front) (least : 10 ≤ size) (most : size ≤ 4096) (room : length part ≡ length (take (size - 6) (drop 6 held))) (long : length held ≡ size) where
+    (says : size ≡ stated front) (least : 10 ≤ size) (most : size ≤ 4096)
+    (room : length part ≡ length (take (size - 6) (drop 6 held))) (long : length held ≡ size) where
   rest : 6 + length part ≡ size
   rest = part_length held part size room long least
 
@@ -70,8 +80,11 @@ module _ (old mid new : Option (List ℕ)) (front part held : List ℕ) (count s
   all_first = rw (← take_all count front (omega (arith, six, filled))) first
 
   pub failed_inside : (n : ℕ) → n < length part → Consumes mid new (take n part) → (bytes : List ℕ) × Consumes old new bytes × IsPart bytes
-  failed_inside n lt more =
-      (front ++ take n part, consumes_both old mid new front (take n part) all_first more, read_part front part size six says least most n (omega (arith, lt)) (omega (arith, lt, rest)))
+  failed_inside n lt more = (
+    front ++ take n part,
+    consumes_both old mid new front (take n part) all_first more,
+    read_part front part size six says least most n (omega (arith, lt)) (omega (arith, lt, rest)),
+  )
 
   pub ended_inside : (n : ℕ) → n ≤ length part → Consumes mid new (take n part) → (n < length part → IsAtEnd new) → 6 + n < size
       → (bytes : List ℕ) × Consumes old new bytes × (IsPart bytes × (0 < length bytes) × IsAtEnd new)
@@ -87,7 +100,8 @@ module _ (old mid new : Option (List ℕ)) (front part held : List ℕ) (count s
       subst (λ (bs : List ℕ). Consumes old new bs × IsFrame bs) whole
       (consumes_both old mid new front (take n part) all_first more, read_whole front part size six says least most n le (omega (arith, rest, le, all)))
 
-pub whole_buffer : (xs held part front more : List ℕ) (n size : ℕ) → n ≡ size → held ≡ front ++ more → length held ≡ size → length front ≡ 6 → 6 + length part ≡ size
+pub whole_buffer : (xs held part front more : List ℕ) (n size : ℕ) → n ≡ size → held ≡ front ++ more
+    → length held ≡ size → length front ≡ 6 → 6 + length part ≡ size
     → refill n xs (put_mid 6 (size - 6) held part) ≡ front ++ part
 whole_buffer xs held part front more n size is begins whole six rest =
     let written = put_mid 6 (size - 6) held part in
@@ -98,7 +112,8 @@ whole_buffer xs held part front more n size is begins whole six rest =
     ∙ ap (λ (r : List ℕ). r ++ part) (take_at front more 6 six)
 
 -- a first read that was the last
-pub short_read : (old new : Option (List ℕ)) (front : List ℕ) (count : ℕ) → length front ≡ 6 → count ≤ length front → 0 < count → count < 6 → Consumes old new (take count front) → (count < length front → IsAtEnd new)
+pub short_read : (old new : Option (List ℕ)) (front : List ℕ) (count : ℕ) → length front ≡ 6 → count ≤ length front
+    → 0 < count → count < 6 → Consumes old new (take count front) → (count < length front → IsAtEnd new)
     → (bytes : List ℕ) × Consumes old new bytes × (IsPart bytes × (0 < length bytes) × IsAtEnd new)
 short_read old new front count six fits some few read end =
     let len = length-take-le count front fits in
@@ -109,5 +124,7 @@ pub headed : (xs held written head : List ℕ) (n size : ℕ) → written ≡ he
     → (more : List ℕ) × (refill n xs written ≡ head ++ more) × (length (refill n xs written) ≡ size)
 headed xs held written head n size is six long least count =
     let fits : length written ≡ size = omega (arith, length-append head (drop 6 held), length-drop 6 held, ap length is, six, long, least) in
-    let whole : refill n xs written ≡ written = take-append-le n written (drop (length written) xs) (omega (arith, fits, count)) ∙ take_all n written (omega (arith, fits, count)) in
+    let whole : refill n xs written ≡ written =
+    take-append-le n written (drop (length written) xs) (omega (arith, fits, count))
+    ∙ take_all n written (omega (arith, fits, count)) in
     (drop 6 held, whole ∙ is, ap length whole ∙ fits)

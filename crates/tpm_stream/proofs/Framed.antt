@@ -69,11 +69,15 @@ module _ (old piece : List ℕ) (k j : ℕ) (within : k ≤ length piece) (lt : 
   some_stated : 6 ≤ length old + j → stated (old ++ take j piece) ≡ stated (old ++ take k piece)
   some_stated some =
       let regroup : old ++ take k piece ≡ (old ++ take j piece) ++ drop j (take k piece) =
-      ap (λ (r : List ℕ). old ++ r) (sym (take-append-drop j (take k piece)) ∙ ap (λ (r : List ℕ). r ++ drop j (take k piece)) (take-take j k piece (omega (arith, lt)))) ∙ sym (append_assoc old (take j piece) (drop j (take k piece))) in
+      ap (λ (r : List ℕ). old ++ r)
+      (sym (take-append-drop j (take k piece))
+      ∙ ap (λ (r : List ℕ). r ++ drop j (take k piece)) (take-take j k piece (omega (arith, lt))))
+      ∙ sym (append_assoc old (take j piece) (drop j (take k piece))) in
       sym (ap stated regroup ∙ stated_more (old ++ take j piece) (drop j (take k piece)) (omega (arith, some, some_length)))
 
 -- too few for a size
-pub pushes_short : (old piece new : List ℕ) (k : ℕ) → k ≡ min (6 - length old) (length piece) → new ≡ old ++ take k piece → length new < 6 → Pushes old piece new k More
+pub pushes_short : (old piece new : List ℕ) (k : ℕ) → k ≡ min (6 - length old) (length piece)
+    → new ≡ old ++ take k piece → length new < 6 → Pushes old piece new k More
 pushes_short old piece new k count held lt =
     let within : k ≤ length piece = omega (arith, count) in
     let n : length new ≡ length old + k = ap length held ∙ all_length old piece k within in
@@ -131,16 +135,21 @@ module _ (old piece mid new : List ℕ) (n m size : ℕ) (was : IsHeld old) (cou
   sized_fewest : (j : ℕ) → j < n + m → IsPart (old ++ take j piece)
   sized_fewest j less = elim (cases_lt (length old + j) 6) [
     | inl lt ↦ short_part (old ++ take j piece) (omega (arith, some_length old piece (n + m) j sized_within less, lt))
-    | inr le ↦ let same : stated (old ++ take j piece) ≡ size = some_stated old piece (n + m) j sized_within less le ∙ ap stated (sym sized_held) ∙ sized_states in
+    | inr le ↦
+        let same : stated (old ++ take j piece) ≡ size =
+        some_stated old piece (n + m) j sized_within less le ∙ ap stated (sym sized_held) ∙ sized_states in
         let k = some_length old piece (n + m) j sized_within less in
-        sized_part (old ++ take j piece) (omega (arith, k, le)) (omega (arith, same, least)) (omega (arith, same, most)) (omega (arith, same, k, sized_fits, sized_count, less))
+        sized_part (old ++ take j piece) (omega (arith, k, le)) (omega (arith, same, least)) (omega (arith, same, most))
+        (omega (arith, same, k, sized_fits, sized_count, less))
   ]
 
   pub pushes_part : length new < size → Pushes old piece new (n + m) More
   pushes_part lt = record {
     within = sized_within;
     held = sized_held;
-    answer = sized_part new (omega (arith, sized_count, mid_count, some)) (omega (arith, sized_states, least)) (omega (arith, sized_states, most)) (omega (arith, sized_states, lt));
+    answer =
+        sized_part new (omega (arith, sized_count, mid_count, some)) (omega (arith, sized_states, least))
+        (omega (arith, sized_states, most)) (omega (arith, sized_states, lt));
     fewest = sized_fewest;
     all = λ _. omega (arith, rest, count, length-drop n piece, sized_count, mid_count, lt);
   }
@@ -177,8 +186,11 @@ module _ (piece new : List ℕ) (k size : ℕ) (some : 6 ≤ length piece) (stat
 
   pub begins_part : k < size → Pushes [] piece new k More
   begins_part lt = rw first_sum
-      (pushes_part [] piece (take 6 piece) new 6 (k - 6) size (inl (short_part [] (omega arith))) (omega (arith, some)) refl first_six first_mid least most first_rest first_whole (omega (arith, first_length, lt)))
+      (pushes_part [] piece (take 6 piece) new 6 (k - 6) size (inl (short_part [] (omega arith))) (omega (arith, some))
+      refl first_six first_mid least most first_rest first_whole (omega (arith, first_length, lt)))
 
   pub begins_ready : size ≤ k → Pushes [] piece new k Ready
   begins_ready le = rw first_sum
-      (pushes_ready [] piece (take 6 piece) new 6 (k - 6) size (inl (short_part [] (omega arith))) (omega (arith, some)) refl first_six first_mid least most first_rest first_whole (omega (arith, first_length, le)))
+      (pushes_ready [] piece (take 6 piece) new 6 (k - 6) size (inl (short_part [] (omega arith)))
+      (omega (arith, some)) refl first_six first_mid least most first_rest first_whole
+      (omega (arith, first_length, le)))

@@ -27,7 +27,17 @@ use Rattle.arrayvec.specs.ArrayVec.{ArrayVec}
 -- two frames at the begin of the same bytes are one
 pub one_first : (f g a b : List ℕ) → IsFrame f → IsFrame g → f ++ a ≡ g ++ b → (f ≡ g) × (a ≡ b)
 one_first f g a b x y e =
-    let n : length f ≡ length g = omega (arith, x.states_it, y.states_it, x.least, y.least, sym (stated_more f a (omega (arith, x.least))) ∙ ap stated e ∙ stated_more g b (omega (arith, y.least))) in (
+    let n : length f ≡ length g =
+    omega (
+      arith,
+      x.states_it,
+      y.states_it,
+      x.least,
+      y.least,
+      sym (stated_more f a (omega (arith, x.least)))
+          ∙ ap stated e
+          ∙ stated_more g b (omega (arith, y.least)),
+    ) in (
       sym (take_at f a (length f) refl) ∙ ap (take (length f)) e ∙ take_at g b (length f) (sym n),
       sym (drop_at f a (length f) refl) ∙ ap (drop (length f)) e ∙ drop_at g b (length f) (sym n),
     )
@@ -38,14 +48,18 @@ one_cut [] [] rest other x y over none e = (refl, e)
 one_cut [] (g ∷ gs) rest other x y over none e = absurd (over g (concat gs ++ other) (All-head IsFrame g gs y) (e ∙ append_assoc g (concat gs) other))
 one_cut (f ∷ fs) [] rest other x y over none e = absurd (none f (concat fs ++ rest) (All-head IsFrame f fs x) (sym e ∙ append_assoc f (concat fs) rest))
 one_cut (f ∷ fs) (g ∷ gs) rest other x y over none e =
-    let start = one_first f g (concat fs ++ rest) (concat gs ++ other) (All-head IsFrame f fs x) (All-head IsFrame g gs y) (sym (append_assoc f (concat fs) rest) ∙ e ∙ append_assoc g (concat gs) other) in
+    let start =
+    one_first f g (concat fs ++ rest) (concat gs ++ other) (All-head IsFrame f fs x) (All-head IsFrame g gs y)
+    (sym (append_assoc f (concat fs) rest) ∙ e ∙ append_assoc g (concat gs) other) in
     let later = one_cut fs gs rest other (All-tail IsFrame f fs x) (All-tail IsFrame g gs y) over none start.1 in
     (ap (λ (h : List ℕ). h ∷ fs) start.0 ∙ ap (λ (hs : List (List ℕ)). g ∷ hs) later.0, later.1)
 
-pub one : (stream : List ℕ) (frames others : List (List ℕ)) (rest other : List ℕ) → Frames stream frames rest → Frames stream others other → (frames ≡ others) × (rest ≡ other)
+pub one : (stream : List ℕ) (frames others : List (List ℕ)) (rest other : List ℕ) → Frames stream frames rest
+    → Frames stream others other → (frames ≡ others) × (rest ≡ other)
 one stream frames others rest other x y = one_cut frames others rest other x.each y.each x.over y.over (sym x.whole ∙ y.whole)
 
-pub first : (frame stream : List ℕ) (frames : List (List ℕ)) (rest : List ℕ) → IsFrame frame → Frames stream frames rest → Frames (frame ++ stream) (frame ∷ frames) rest
+pub first : (frame stream : List ℕ) (frames : List (List ℕ)) (rest : List ℕ) → IsFrame frame → Frames stream frames rest
+    → Frames (frame ++ stream) (frame ∷ frames) rest
 first frame stream frames rest is x = record {
   whole = ap (λ (r : List ℕ). frame ++ r) x.whole ∙ sym (append_assoc frame (concat frames) rest);
   each = All-cons IsFrame frame frames is x.each;
@@ -76,7 +90,11 @@ begin bytes = elim (cases_lt (length bytes) 6) [
 -- what comes behind a bad size doesn't mend it
 pub broken_begins : (bytes more : List ℕ) → IsBroken bytes → BeginsNoFrame (bytes ++ more)
 broken_begins bytes more b f others is e =
-    let same : stated bytes ≡ length f = sym (stated_more bytes more b.has_size) ∙ ap stated e ∙ stated_more f others (omega (arith, is.least)) ∙ is.states_it in
+    let same : stated bytes ≡ length f =
+    sym (stated_more bytes more b.has_size)
+    ∙ ap stated e
+    ∙ stated_more f others (omega (arith, is.least))
+    ∙ is.states_it in
     elim b.outside [ inl low ↦ absurd (omega (arith, same, low, is.least)) | inr high ↦ absurd (omega (arith, same, high, is.most)) ]
 
 rest_alone : (rest : List ℕ) → BeginsNoFrame rest → Frames rest [] rest
@@ -89,8 +107,20 @@ some_cut (suc fuel) stream le = elim (begin stream) [
   | inr (inl is) ↦ ([], stream, rest_alone stream (subst BeginsNoFrame (append-nil stream) (broken_begins stream [] is)))
   | inr (inr is) ↦
       let n = stated stream in
-      let later = some_cut fuel (drop n stream) (omega (arith, le, is.least, ap length (take-append-drop n stream), length-append (take n stream) (drop n stream))) in
-      (take n stream ∷ later.0, later.1, subst (λ (s : List ℕ). Frames s (take n stream ∷ later.0) later.1) (take-append-drop n stream) (first (take n stream) (drop n stream) later.0 later.1 is later.2))
+      let later =
+      some_cut fuel (drop n stream)
+      (omega (
+        arith,
+        le,
+        is.least,
+        ap length (take-append-drop n stream),
+        length-append (take n stream) (drop n stream),
+      )) in (
+        take n stream ∷ later.0,
+        later.1,
+        subst (λ (s : List ℕ). Frames s (take n stream ∷ later.0) later.1) (take-append-drop n stream)
+            (first (take n stream) (drop n stream) later.0 later.1 is later.2),
+      )
 ]
 
 pub some : (stream : List ℕ) → (frames : List (List ℕ)) × (rest : List ℕ) × Frames stream frames rest
@@ -110,7 +140,11 @@ abbrev Between : List ℕ → Type 0
 Between held = IsPart held ⊎ IsBroken held
 
 no_broken_frame : (bytes : List ℕ) → IsBroken bytes → IsFrame bytes → ⊥
-no_broken_frame bytes b is = elim b.outside [ inl low ↦ absurd (omega (arith, low, is.states_it, is.least)) | inr high ↦ absurd (omega (arith, high, is.states_it, is.most)) ]
+no_broken_frame bytes b is =
+    elim b.outside [
+      | inl low ↦ absurd (omega (arith, low, is.states_it, is.least))
+      | inr high ↦ absurd (omega (arith, high, is.states_it, is.most))
+    ]
 
 -- a broken framer takes nothing
 broken_takes_none : (held piece new : List ℕ) (k : ℕ) (status : Status) → IsBroken held → Pushes held piece new k status → (k ≡ 0) × (new ≡ held)
@@ -122,7 +156,8 @@ answers_broken new More b is = absurd (is.not_broken b)
 answers_broken new Ready b is = absurd (no_broken_frame new b is)
 answers_broken new (Broken e) b is = ap Broken is.1
 
-pub push_broken : (held piece new : List ℕ) (k : ℕ) (status : Status) → IsBroken held → Pushes held piece new k status → (k ≡ 0) × (new ≡ held) × (status ≡ Broken bad_size)
+pub push_broken : (held piece new : List ℕ) (k : ℕ) (status : Status) → IsBroken held → Pushes held piece new k status
+    → (k ≡ 0) × (new ≡ held) × (status ≡ Broken bad_size)
 push_broken held piece new k status b p =
     let none = broken_takes_none held piece new k status b p in
     (none.0, none.1, answers_broken new status (subst IsBroken (sym none.1) b) p.answer)
@@ -139,9 +174,12 @@ record Cut (stream : List ℕ) (frames : List (List ℕ)) (new left : List ℕ) 
 -- what a push took and what it left
 pushed_whole : (held piece new : List ℕ) (k : ℕ) (status : Status) → Pushes held piece new k status → held ++ piece ≡ new ++ drop k piece
 pushed_whole held piece new k status p =
-    ap (λ (r : List ℕ). held ++ r) (sym (take-append-drop k piece)) ∙ sym (append_assoc held (take k piece) (drop k piece)) ∙ ap (λ (r : List ℕ). r ++ drop k piece) (sym p.held)
+    ap (λ (r : List ℕ). held ++ r) (sym (take-append-drop k piece))
+    ∙ sym (append_assoc held (take k piece) (drop k piece))
+    ∙ ap (λ (r : List ℕ). r ++ drop k piece) (sym p.held)
 
-piece_end : (held piece new left : List ℕ) (k : ℕ) (status : Status) → Pushes held piece new k status → status ≢ Ready → left ≡ drop k piece → Cut (held ++ piece) [] new left
+piece_end : (held piece new left : List ℕ) (k : ℕ) (status : Status) → Pushes held piece new k status → status ≢ Ready
+    → left ≡ drop k piece → Cut (held ++ piece) [] new left
 piece_end held piece new left k More p unready is = record {
   whole = pushed_whole held piece new k More p ∙ ap (λ (r : List ℕ). new ++ r) (sym is);
   each = All-nil IsFrame;
@@ -165,12 +203,14 @@ given_piece (frame ∷ frames) held piece new left g =
     record {
       whole =
           pushed_whole held piece frame g.0 Ready g.2
-          ∙ ap (λ (r : List ℕ). frame ++ r) (ap (λ (r : List ℕ). r ++ drop g.0 piece) (sym empty) ∙ later.whole) ∙ sym (append_assoc frame (concat frames) (new ++ left));
+          ∙ ap (λ (r : List ℕ). frame ++ r) (ap (λ (r : List ℕ). r ++ drop g.0 piece) (sym empty) ∙ later.whole)
+          ∙ sym (append_assoc frame (concat frames) (new ++ left));
       each = All-cons IsFrame frame frames g.2.answer later.each;
       over = later.over;
     }
 
-broken_piece : (frames : List (List ℕ)) (held piece new left : List ℕ) → IsBroken held → GivenPiece held piece frames new left → (frames ≡ []) × (new ≡ held) × (left ≡ piece)
+broken_piece : (frames : List (List ℕ)) (held piece new left : List ℕ) → IsBroken held
+    → GivenPiece held piece frames new left → (frames ≡ []) × (new ≡ held) × (left ≡ piece)
 broken_piece [] held piece new left b g =
     let none = broken_takes_none held piece new g.0 g.1 b g.2 in
     (refl, none.1, g.4 ∙ ap (λ k. drop k piece) none.0)
@@ -183,8 +223,11 @@ broken_pieces : (pieces : List (List ℕ)) (held : List ℕ) (frames : List (Lis
 broken_pieces [] held frames new left b g = g
 broken_pieces (piece ∷ pieces) held frames new left b g =
     let one = broken_piece g.0 held piece g.2 g.3 b g.5 in
-    let more = broken_pieces pieces g.2 g.1 new g.4 (subst IsBroken (sym one.1) b) g.6 in
-    (g.7 ∙ ap (λ (fs : List (List ℕ)). fs ++ g.1) one.0 ∙ more.0, more.1 ∙ one.1, g.8 ∙ ap (λ (r : List ℕ). r ++ g.4) one.2 ∙ ap (λ (r : List ℕ). piece ++ r) more.2)
+    let more = broken_pieces pieces g.2 g.1 new g.4 (subst IsBroken (sym one.1) b) g.6 in (
+      g.7 ∙ ap (λ (fs : List (List ℕ)). fs ++ g.1) one.0 ∙ more.0,
+      more.1 ∙ one.1,
+      g.8 ∙ ap (λ (r : List ℕ). r ++ g.4) one.2 ∙ ap (λ (r : List ℕ). piece ++ r) more.2,
+    )
 
 given_pieces : (pieces : List (List ℕ)) (held : List ℕ) (frames : List (List ℕ)) (new left : List ℕ) → Between held → GivenPieces held pieces frames new left
     → Cut (held ++ concat pieces) frames new left
@@ -205,7 +248,9 @@ given_pieces (piece ∷ pieces) held frames new left is g =
             whole =
                 so_far ∙ ap (λ (r : List ℕ). concat g.0 ++ (g.2 ++ (r ++ concat pieces))) part.1 ∙ ap (λ (r : List ℕ). concat g.0 ++ r) more.whole
                 ∙ sym (append_assoc (concat g.0) (concat g.1) (new ++ g.4)) ∙ ap (λ (r : List ℕ). r ++ (new ++ g.4)) (sym (concat-append g.0 g.1))
-                ∙ ap (λ (fs : List (List ℕ)). concat fs ++ (new ++ g.4)) (sym g.7) ∙ ap (λ (r : List ℕ). concat frames ++ (new ++ (r ++ g.4))) (sym part.1) ∙ ap (λ (r : List ℕ). concat frames ++ (new ++ r)) (sym g.8);
+                ∙ ap (λ (fs : List (List ℕ)). concat fs ++ (new ++ g.4)) (sym g.7)
+                ∙ ap (λ (r : List ℕ). concat frames ++ (new ++ (r ++ g.4))) (sym part.1)
+                ∙ ap (λ (r : List ℕ). concat frames ++ (new ++ r)) (sym g.8);
             each = subst (All IsFrame) (sym g.7) (All-append IsFrame g.0 g.1 one.each more.each);
             over = elim more.over [ inl last ↦ inl (last.0, g.8 ∙ ap (λ (r : List ℕ). r ++ g.4) part.1 ∙ last.1) | inr broken ↦ inr broken ];
           }
@@ -214,7 +259,9 @@ given_pieces (piece ∷ pieces) held frames new left is g =
           let same : frames ≡ g.0 = g.7 ∙ ap (λ (fs : List (List ℕ)). g.0 ++ fs) more.0 ∙ append-nil g.0 in
           record {
             whole =
-                so_far ∙ ap (λ (fs : List (List ℕ)). concat fs ++ (g.2 ++ (g.3 ++ concat pieces))) (sym same) ∙ ap (λ (n : List ℕ). concat frames ++ (n ++ (g.3 ++ concat pieces))) (sym more.1)
+                so_far
+                ∙ ap (λ (fs : List (List ℕ)). concat fs ++ (g.2 ++ (g.3 ++ concat pieces))) (sym same)
+                ∙ ap (λ (n : List ℕ). concat frames ++ (n ++ (g.3 ++ concat pieces))) (sym more.1)
                 ∙ ap (λ (r : List ℕ). concat frames ++ (new ++ (g.3 ++ r))) (sym more.2) ∙ ap (λ (r : List ℕ). concat frames ++ (new ++ r)) (sym g.8);
             each = subst (All IsFrame) (sym same) one.each;
             over = inr (subst IsBroken (sym more.1) broken);
@@ -236,7 +283,9 @@ of_pieces pieces frames held left g =
 pub one_of_pieces : (pieces others frames found : List (List ℕ)) (held left kept unused : List ℕ) → concat pieces ≡ concat others
     → GivenPieces [] pieces frames held left → GivenPieces [] others found kept unused → (frames ≡ found) × (held ++ left ≡ kept ++ unused)
 one_of_pieces pieces others frames found held left kept unused e g h =
-    one (concat others) frames found (held ++ left) (kept ++ unused) (subst (λ (s : List ℕ). Frames s frames (held ++ left)) e (of_pieces pieces frames held left g)) (of_pieces others found kept unused h)
+    one (concat others) frames found (held ++ left) (kept ++ unused)
+    (subst (λ (s : List ℕ). Frames s frames (held ++ left)) e (of_pieces pieces frames held left g))
+    (of_pieces others found kept unused h)
 
 pub rest_of_pieces : (pieces frames : List (List ℕ)) (held left : List ℕ) → GivenPieces [] pieces frames held left → (IsPart held × (left ≡ [])) ⊎ IsBroken held
 rest_of_pieces pieces frames held left g = (given_pieces pieces [] frames held left nothing g).over
@@ -275,7 +324,8 @@ some_taken : (held piece frame : List ℕ) (k : ℕ) → IsPart held → Pushes 
 some_taken held piece frame zero part p = absurd (part.no_frame frame [] p.answer (sym (p.held ∙ append-nil held) ∙ sym (append-nil frame)))
 some_taken held piece frame (suc k) part p = omega arith
 
-after_push : (held piece new : List ℕ) (k : ℕ) (status : Status) → IsPart held → Pushes held piece new k status → ((k : ℕ) → 0 < k → k ≤ length piece → SomePiece [] (drop k piece)) → SomePiece held piece
+after_push : (held piece new : List ℕ) (k : ℕ) (status : Status) → IsPart held → Pushes held piece new k status
+    → ((k : ℕ) → 0 < k → k ≤ length piece → SomePiece [] (drop k piece)) → SomePiece held piece
 after_push held piece new k More part p go = ([], new, drop k piece, (k, More, p, (λ e. cc), refl))
 after_push held piece new k (Broken e) part p go = ([], new, drop k piece, (k, Broken e, p, (λ e. cc), refl))
 after_push held piece new k Ready part p go =
@@ -301,7 +351,9 @@ one_piece held piece (inr broken) go = (
 
 given_some : (fuel : ℕ) (held piece : List ℕ) → length piece ≤ fuel → Between held → SomePiece held piece
 given_some zero held piece le is = one_piece held piece is (λ k pos fits. absurd (omega (arith, le, pos, fits)))
-given_some (suc fuel) held piece le is = one_piece held piece is (λ k pos fits. given_some fuel [] (drop k piece) (omega (arith, le, pos, fits, length-drop k piece)) nothing)
+given_some (suc fuel) held piece le is =
+    one_piece held piece is
+    (λ k pos fits. given_some fuel [] (drop k piece) (omega (arith, le, pos, fits, length-drop k piece)) nothing)
 
 pieces_some : (pieces : List (List ℕ)) (held : List ℕ) → Between held → (frames : List (List ℕ)) × (new left : List ℕ) × GivenPieces held pieces frames new left
 pieces_some [] held is = ([], held, [], (refl, refl, refl))
@@ -323,7 +375,8 @@ record ReadTo (bytes : List ℕ) (frames : List (List ℕ)) (last : Result (Opti
   each : All IsFrame frames
   end : ReadsFrame (Some rest) (Some more) last
 
-read_to : (frames : List (List ℕ)) (bytes : List ℕ) (last : Result (Option (ArrayVec ℕ)) ReadFault) → ReadInTurn (Some bytes) frames last → ReadTo bytes frames last
+read_to : (frames : List (List ℕ)) (bytes : List ℕ) (last : Result (Option (ArrayVec ℕ)) ReadFault)
+    → ReadInTurn (Some bytes) frames last → ReadTo bytes frames last
 read_to [] bytes last (Some more, g) = record { rest = bytes; more = more; whole = refl; each = All-nil IsFrame; end = g }
 read_to [] bytes last (None, g) = absurd g.1
 read_to (frame ∷ frames) bytes last (None, read, g) = absurd read.1
@@ -333,7 +386,10 @@ read_to (frame ∷ frames) bytes last (Some more, read, g) =
       rest = later.rest;
       more = later.more;
       whole =
-          read.1 ∙ ap (λ (r : List ℕ). r ++ more) (sym read.2.1) ∙ ap (λ (r : List ℕ). frame ++ r) later.whole ∙ sym (append_assoc frame (concat frames) later.rest);
+          read.1
+          ∙ ap (λ (r : List ℕ). r ++ more) (sym read.2.1)
+          ∙ ap (λ (r : List ℕ). frame ++ r) later.whole
+          ∙ sym (append_assoc frame (concat frames) later.rest);
       each = All-cons IsFrame frame frames (subst IsFrame (sym read.2.1) read.2.0) later.each;
       end = later.end;
     }
@@ -349,7 +405,8 @@ told_end bytes frames g =
       over = (short_part [] (omega arith)).no_frame;
     }
 
-told_inside : (bytes : List ℕ) (frames : List (List ℕ)) → ReadInTurn (Some bytes) frames (Err EndInside) → (rest : List ℕ) × Frames bytes frames rest × IsPart rest × (0 < length rest)
+told_inside : (bytes : List ℕ) (frames : List (List ℕ)) → ReadInTurn (Some bytes) frames (Err EndInside)
+    → (rest : List ℕ) × Frames bytes frames rest × IsPart rest × (0 < length rest)
 told_inside bytes frames g =
     let r = read_to frames bytes (Err EndInside) g in
     let end = r.end in
@@ -357,7 +414,8 @@ told_inside bytes frames g =
     let part : IsPart r.rest = subst IsPart all end.2.0 in
     (r.rest, record { whole = r.whole; each = r.each; over = part.no_frame }, part, omega (arith, ap length all, end.2.1))
 
-told_broken : (bytes : List ℕ) (frames : List (List ℕ)) (e : Refusal) → ReadInTurn (Some bytes) frames (Err (BrokenInput e)) → (rest : List ℕ) × Frames bytes frames rest × IsBroken rest
+told_broken : (bytes : List ℕ) (frames : List (List ℕ)) (e : Refusal)
+    → ReadInTurn (Some bytes) frames (Err (BrokenInput e)) → (rest : List ℕ) × Frames bytes frames rest × IsBroken rest
 told_broken bytes frames e g =
     let r = read_to frames bytes (Err (BrokenInput e)) g in
     let end = r.end in
@@ -378,7 +436,8 @@ OfBytes-map f (Some bytes) h = f bytes h
 OfBytes-map f None h = (h.0, f h.0 h.1)
 
 -- what was answered after some bytes is answered where these are all
-answer_at_end : (bytes : List ℕ) (more : Option (List ℕ)) (last : Result (Option (ArrayVec ℕ)) ReadFault) → IsAnswer bytes more last → IsAnswer bytes (Some []) last
+answer_at_end : (bytes : List ℕ) (more : Option (List ℕ)) (last : Result (Option (ArrayVec ℕ)) ReadFault)
+    → IsAnswer bytes more last → IsAnswer bytes (Some []) last
 answer_at_end bytes more (Ok (Some frame)) h = h
 answer_at_end bytes more (Ok None) h = (h.0, refl)
 answer_at_end bytes more (Err Device) h = h

@@ -1,4 +1,5 @@
--- Buffers one after the other in a stream (Part 1, "Command/Response Structure": the third to sixth byte of a buffer are the number of its bytes).
+-- Buffers one after the other in a stream (Part 1, "Command/Response Structure": the third to sixth
+-- byte of a buffer are the number of its bytes).
 use Rattle.std.specs.Prelude.{◌≡◌, ℕ, ◌<◌, ◌≤◌, ◌⊎◌, List, [], ◌++◌, length, take, drop, All}
 use Rattle.std.specs.List.{concat}
 use Rattle.tpm_wire.specs.declared.refusal.Refusal.{Refusal}

@@ -15,8 +15,8 @@ CountsDevice old new (Err Device) = new ≡ one_more old
 CountsDevice old new (Err EndInside) = new ≡ old
 CountsDevice old new (Err (Broken e)) = new ≡ old
 
--- What is answered after these bytes, with the new ones still to come: a frame, none at the end, a bad size as soon as it
--- is there, or else part of a frame at the end or where a read failed.
+-- What is answered after these bytes, with the new ones still to come: a frame, none at the end, a bad size as soon
+-- as it is there, or else part of a frame at the end or where a read failed.
 abbrev pub IsAnswer : List ℕ → Option (List ℕ) → Result (Option (ArrayVec ℕ)) ReadFault → Type 0
 IsAnswer bytes new (Ok (Some frame)) = IsFrame bytes × (frame.items ≡ bytes)
 IsAnswer bytes new (Ok None) = (bytes ≡ []) × IsAtEnd new

@@ -101,8 +101,8 @@ pub enum Status {
     Broken(Refusal),
 }
 
-/// Cuts a stream that comes in pieces into its frames: buffers of 10 to 4,096 bytes that state their size in their third
-/// to sixth byte (Part 1, "Command/Response Structure"). It looks at the size alone, not at the tag.
+/// Cuts a stream that comes in pieces into its frames: buffers of 10 to 4,096 bytes that state their size in their
+/// third to sixth byte (Part 1, "Command/Response Structure"). It looks at the size alone, not at the tag.
 ///
 /// A framer at a refused size is broken, and stays so.
 #[derive(Drop)]
@@ -130,8 +130,8 @@ impl Framer {
     }
 
     /// Takes bytes of the piece up to the end of the present frame, and no further. The answer is how many were taken,
-    /// and what is held then. A size outside of 10 to 4,096 is refused once its last byte has come. Where a frame is held,
-    /// or the framer is broken, nothing is taken.
+    /// and what is held then. A size outside of 10 to 4,096 is refused once its last byte has come. Where a frame is
+    /// held, or the framer is broken, nothing is taken.
     pub fn push(&mut self, piece: &[u8]) -> (usize, Status)
         ensures { Pushes self.old piece.now self.new result.0 result.1 }
     {
@@ -145,7 +145,8 @@ impl Framer {
 
     /// The frame, where one is held.
     pub fn frame(&self) -> Option<&[u8]>
-        ensures { MatchOption result (IsFrame self.now → ⊥) (λ frame. (frame.now ≡ self.now) × IsFrame self.now) }
+        ensures { MatchOption result (IsFrame self.now → ⊥)
+            (λ frame. (frame.now ≡ self.now) × IsFrame self.now) }
     {
         if self.is_ready() {
             Some(self.held.as_slice())
@@ -192,7 +193,10 @@ pub(crate) fn stated_size(bytes: &[u8]) -> Result<usize, Refusal>
 #[inline]
 fn begin(held: &mut Held, size: usize, piece: &[u8]) -> (usize, Status)
     requires empty { held.old ≡ [] }
-    requires size { (6 ≤ length piece.now) × (size ≡ stated piece.now) × (10 ≤ size) × (size ≤ 4096) }
+    requires size { (6 ≤ length piece.now)
+        × (size ≡ stated piece.now)
+        × (10 ≤ size)
+        × (size ≤ 4096) }
     ensures pushes { Pushes [] piece.now held.new result.0 result.1 }
     ensures held { IsHeld held.new }
 {

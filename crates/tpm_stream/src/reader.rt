@@ -71,9 +71,9 @@ fn read_answer<R: Source>(source: &mut R, answer: &mut Result<Option<Buffer>, Re
     }
 }
 
-/// Reads the next frame into a buffer, whatever that holds, and says whether there is one: none at the end of the input.
-/// The buffer holds the frame then, and nothing where there is none. Else it does what `read_frame` does, and moves no
-/// buffer.
+/// Reads the next frame into a buffer, whatever that holds, and says whether there is one: none at the
+/// end of the input. The buffer holds the frame then, and nothing where there is none. Else it does
+/// what `read_frame` does, and moves no buffer.
 pub fn read_frame_into<R: Source>(source: &mut R, frame: &mut Buffer) -> Result<bool, ReadFault>
     ensures failures { CountsDevice (R.failed source.old) (R.failed source.new) result }
     ensures stop { IsErrOf result Device → IsWhereItFailed (R.stopped source.new) }
@@ -111,11 +111,12 @@ fn read_into<R: Source>(source: &mut R, frame: &mut Buffer) -> Result<bool, Read
     Ok(true)
 }
 
-// Makes the buffer so long, and begins it with these bytes. The others, which are written over, are what it held, as far as that
-// goes: so no more is filled than what it is longer or shorter by.
+// Makes the buffer so long, and begins it with these bytes. The others, which are written over, are what it held, as
+// far as that goes: so no more is filled than what it is longer or shorter by.
 fn begin(frame: &mut Buffer, head: &[u8; SIZE_END], size: usize)
     requires { (10 ≤ size) × (size ≤ 4096) }
-    ensures { (more : List ℕ) × (frame.new.items ≡ head.now ++ more) × (length frame.new.items ≡ size) }
+    ensures { (more : List ℕ) × (frame.new.items ≡ head.now ++ more)
+        × (length frame.new.items ≡ size) }
 {
     frame.truncate(size);
     lengthen(frame, size);

@@ -10,40 +10,56 @@ ghost use Rattle.tpm_stream.specs.declared.framer.Status.{Status};
 ghost use Rattle.tpm_stream.specs.Frames.{IsFrame, IsPart, IsBroken, Frames, Pushes, Advances, bad_size};
 ghost use Rattle.tpm_stream.specs.Streams.{GivenPieces, ReadInTurn};
 
-/// Every stream is frames and a rest, in one way, and the rest is part of a frame or has a size that no frame has. A frame
-/// before a stream is its first.
+/// Every stream is frames and a rest, in one way, and the rest is part of a frame or has a size that no frame
+/// has. A frame before a stream is its first.
 pub fn frames_of_a_stream()
-    ensures some { (stream : List ℕ) → (frames : List (List ℕ)) × (rest : List ℕ) × Frames stream frames rest }
-    ensures one { (stream : List ℕ) (frames others : List (List ℕ)) (rest other : List ℕ) → Frames stream frames rest → Frames stream others other
+    ensures some { (stream : List ℕ)
+        → (frames : List (List ℕ)) × (rest : List ℕ) × Frames stream frames rest }
+    ensures one { (stream : List ℕ) (frames others : List (List ℕ)) (rest other : List ℕ)
+        → Frames stream frames rest → Frames stream others other
         → (frames ≡ others) × (rest ≡ other) }
-    ensures rest { (stream : List ℕ) (frames : List (List ℕ)) (rest : List ℕ) → Frames stream frames rest → IsPart rest ⊎ IsBroken rest }
-    ensures first { (frame stream : List ℕ) (frames : List (List ℕ)) (rest : List ℕ) → IsFrame frame → Frames stream frames rest
+    ensures rest { (stream : List ℕ) (frames : List (List ℕ)) (rest : List ℕ)
+        → Frames stream frames rest → IsPart rest ⊎ IsBroken rest }
+    ensures first { (frame stream : List ℕ) (frames : List (List ℕ)) (rest : List ℕ)
+        → IsFrame frame → Frames stream frames rest
         → Frames (frame ++ stream) (frame ∷ frames) rest }
 {}
 
 /// However a stream is cut into pieces, what a new framer gives of them are its frames. The framer takes all bytes but
 /// those behind a size that no frame has.
 pub fn frames_of_pieces()
-    ensures some { (pieces : List (List ℕ)) → (frames : List (List ℕ)) × (held left : List ℕ) × GivenPieces [] pieces frames held left }
-    ensures frames { (pieces frames : List (List ℕ)) (held left : List ℕ) → GivenPieces [] pieces frames held left → Frames (concat pieces) frames (held ++ left) }
-    ensures cut { (pieces others frames found : List (List ℕ)) (held left kept unused : List ℕ) → concat pieces ≡ concat others
-        → GivenPieces [] pieces frames held left → GivenPieces [] others found kept unused → (frames ≡ found) × (held ++ left ≡ kept ++ unused) }
-    ensures rest { (pieces frames : List (List ℕ)) (held left : List ℕ) → GivenPieces [] pieces frames held left → (IsPart held × (left ≡ [])) ⊎ IsBroken held }
+    ensures some { (pieces : List (List ℕ))
+        → (frames : List (List ℕ)) × (held left : List ℕ) × GivenPieces [] pieces frames held left }
+    ensures frames { (pieces frames : List (List ℕ)) (held left : List ℕ)
+        → GivenPieces [] pieces frames held left → Frames (concat pieces) frames (held ++ left) }
+    ensures cut { (pieces others frames found : List (List ℕ)) (held left kept unused : List ℕ)
+        → concat pieces ≡ concat others
+        → GivenPieces [] pieces frames held left → GivenPieces [] others found kept unused
+        → (frames ≡ found) × (held ++ left ≡ kept ++ unused) }
+    ensures rest { (pieces frames : List (List ℕ)) (held left : List ℕ)
+        → GivenPieces [] pieces frames held left → (IsPart held × (left ≡ [])) ⊎ IsBroken held }
 {}
 
-/// A framer that is broken stays so for ever: a push takes nothing and gives the same refusal, and `next` changes nothing.
+/// A framer that is broken stays so for ever: a push takes nothing and gives the
+/// same refusal, and `next` changes nothing.
 pub fn broken_for_ever()
-    ensures push { (held piece new : List ℕ) (k : ℕ) (status : Status) → IsBroken held → Pushes held piece new k status
+    ensures push { (held piece new : List ℕ) (k : ℕ) (status : Status) → IsBroken held
+        → Pushes held piece new k status
         → (k ≡ 0) × (new ≡ held) × (status ≡ BrokenFramer bad_size) }
     ensures next { (held new : List ℕ) → IsBroken held → Advances held new → new ≡ held }
 {}
 
-/// The frames that are read from a source, up to its end or a size that no frame has, are those of its bytes; and of some
-/// bytes, where it doesn't tell them.
+/// The frames that are read from a source, up to its end or a size that no frame has, are those of its bytes; and
+/// of some bytes, where it doesn't tell them.
 pub fn frames_read()
-    ensures end { (coming : Option (List ℕ)) (frames : List (List ℕ)) → ReadInTurn coming frames (Ok None) → OfBytes (λ bytes. Frames bytes frames []) coming }
-    ensures inside { (coming : Option (List ℕ)) (frames : List (List ℕ)) → ReadInTurn coming frames (Err EndInside)
-        → OfBytes (λ bytes. (rest : List ℕ) × Frames bytes frames rest × IsPart rest × (0 < length rest)) coming }
-    ensures broken { (coming : Option (List ℕ)) (frames : List (List ℕ)) (e : Refusal) → ReadInTurn coming frames (Err (Broken e))
+    ensures end { (coming : Option (List ℕ)) (frames : List (List ℕ))
+        → ReadInTurn coming frames (Ok None) → OfBytes (λ bytes. Frames bytes frames []) coming }
+    ensures inside { (coming : Option (List ℕ)) (frames : List (List ℕ))
+        → ReadInTurn coming frames (Err EndInside)
+        → OfBytes
+        (λ bytes. (rest : List ℕ) × Frames bytes frames rest × IsPart rest × (0 < length rest))
+        coming }
+    ensures broken { (coming : Option (List ℕ)) (frames : List (List ℕ)) (e : Refusal)
+        → ReadInTurn coming frames (Err (Broken e))
         → OfBytes (λ bytes. (rest : List ℕ) × Frames bytes frames rest × IsBroken rest) coming }
 {}

@@ -1,5 +1,5 @@
-//! What the tests of several crates share: words of a line and what they stand for, and a source that gives little, fails or ends
-//! early.
+//! What the tests of several crates share: words of a line and what they stand for, and a
+//! source that gives little, fails or ends early.
 #![tactic(auto)]
 
 mod pieces;

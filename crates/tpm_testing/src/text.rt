@@ -14,8 +14,8 @@ pub fn number(text: &str) -> Option<u32> {
     u32::from_str_radix(text, 16).ok()
 }
 
-/// The bytes of hexadecimal words, one behind the other, or none where a word is no such thing or has more than 512 digits. `-` is no
-/// byte.
+/// The bytes of hexadecimal words, one behind the other, or none where a word is no such thing or
+/// has more than 512 digits. `-` is no byte.
 pub fn bytes(text: &str) -> Option<Buffer> {
     let mut all = Buffer::new();
     for word in text.split_ascii_whitespace() {

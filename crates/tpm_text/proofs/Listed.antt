@@ -17,7 +17,8 @@ next_line : {A : Type 0} (one : ℕ → A → List ℕ) (xs : List A) (i : ℕ) 
 next_line one xs i x e = ap (lines_from one (i + 1)) (drop_next xs i x e)
 
 -- the lines so far and those of what is left, one line further
-pub lines_further : {A : Type 0} (one : ℕ → A → List ℕ) (xs : List A) (i : ℕ) (x : A) (old new all : List ℕ) → slice_get xs i ≡ Some x → new ≡ old ++ one (i + 1) x
+pub lines_further : {A : Type 0} (one : ℕ → A → List ℕ) (xs : List A) (i : ℕ) (x : A) (old new all : List ℕ) → slice_get xs i ≡ Some x
+    → new ≡ old ++ one (i + 1) x
     → old ++ lines_from one (i + 1) (drop i xs) ≡ all → new ++ lines_from one (i + 1 + 1) (drop (i + 1) xs) ≡ all
 lines_further one xs i x old new all e added so_far =
     ap (λ (text : List ℕ). text ++ lines_from one (i + 1 + 1) (drop (i + 1) xs)) added
@@ -32,7 +33,8 @@ is_within xs i e lt = elim (slice_get_cases xs i).1 [
 ]
 
 -- the same of the entries that pass: one that passes is added
-pub filtered_further : {A : Type 0} (one : ℕ → A → List ℕ) (passes : A → Bool) (x : A) (xs : List A) (i : ℕ) (old new all : List ℕ) → passes x ≡ true → new ≡ old ++ one i x
+pub filtered_further : {A : Type 0} (one : ℕ → A → List ℕ) (passes : A → Bool) (x : A) (xs : List A) (i : ℕ) (old new all : List ℕ) → passes x ≡ true
+    → new ≡ old ++ one i x
     → old ++ lines_from one i (filter passes (x ∷ xs)) ≡ all → new ++ lines_from one (i + 1) (filter passes xs) ≡ all
 filtered_further one passes x xs i old new all passing added so_far =
     ap (λ (text : List ℕ). text ++ lines_from one (i + 1) (filter passes xs)) added

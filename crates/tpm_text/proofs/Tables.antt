@@ -17,7 +17,8 @@ both f None = refl
 both f (Some x) = refl
 
 -- an entry that was found where it lies, as f sees it
-pub found_as : {A B : Type 0} (f : A → B) (q : B → Bool) (table : List A) (o : Option (Bor A)) → option_map (λ x. x.now) o ≡ find (λ x. q (f x)) table → option_map (λ x. f x.now) o ≡ find q (map f table)
+pub found_as : {A B : Type 0} (f : A → B) (q : B → Bool) (table : List A) (o : Option (Bor A)) → option_map (λ x. x.now) o ≡ find (λ x. q (f x)) table
+    → option_map (λ x. f x.now) o ≡ find q (map f table)
 found_as f q table o is = both f o ∙ ap (option_map f) is ∙ find-map f q table
 
 -- where the first entry is that passes, by the entries as f sees them

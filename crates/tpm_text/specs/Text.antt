@@ -94,9 +94,12 @@ session_bytes true bytes = encode_lower bytes
 -- the line of a session, or its object in a list
 unfoldable pub session_text : (json : Bool) → ℕ → Session → List ℕ
 session_text false i s = session_begin false i ++ (session_handle false s.handle
-    ++ line (codes "nonce" ∷ bytes_text s.nonce ∷ codes "attributes" ∷ hexadecimal 2 s.attributes ∷ codes "hmac" ∷ bytes_text s.hmac ∷ []))
-session_text true i s = session_begin true i ++ (session_handle true s.handle ++ (codes "\"nonce\":\"" ++ (encode_lower s.nonce
-    ++ (codes "\",\"attributes\":\"" ++ (hexadecimal 2 s.attributes ++ (codes "\",\"hmac\":\"" ++ (encode_lower s.hmac ++ codes "\"}")))))))
+    ++ line (codes "nonce" ∷ bytes_text s.nonce ∷ codes "attributes" ∷ hexadecimal 2 s.attributes ∷ codes "hmac"
+    ∷ bytes_text s.hmac ∷ []))
+session_text true i s =
+    session_begin true i ++ (session_handle true s.handle ++ (codes "\"nonce\":\"" ++ (encode_lower s.nonce
+    ++ (codes "\",\"attributes\":\""
+    ++ (hexadecimal 2 s.attributes ++ (codes "\",\"hmac\":\"" ++ (encode_lower s.hmac ++ codes "\"}")))))))
 
 -- ---- a command
 
@@ -109,4 +112,6 @@ parameters_line bytes = line (codes "parameters" ∷ bytes_text bytes ∷ [])
 -- a command of so many bytes: what stands before its parameters, and these as they came
 unfoldable pub command_text : ℕ → Cut → List ℕ
 command_text size c =
-    command_line c.header.code size ++ (lines_from (handle_text false) 1 c.handles ++ (lines_from (session_text false) 1 (map of_command c.auths) ++ parameters_line c.params))
+    command_line c.header.code size
+    ++ (lines_from (handle_text false) 1 c.handles
+    ++ (lines_from (session_text false) 1 (map of_command c.auths) ++ parameters_line c.params))

@@ -46,7 +46,8 @@ impl Answer {
 
     /// The line of a refusal.
     pub fn refusal(alloc: Global, refusal: &Refusal) -> Result<Self, AllocError>
-        ensures { IfOk result (λ a. (a.status ≡ Refused) × (string_bytes a.text ≡ refusal_line refusal.now)) }
+        ensures { IfOk result (λ a. (a.status ≡ Refused)
+            × (string_bytes a.text ≡ refusal_line refusal.now)) }
     {
         let mut text = String::new(alloc);
         push_refusal(&mut text, refusal)?;
@@ -63,7 +64,8 @@ impl Answer {
 
     /// That a text is not hexadecimal.
     pub fn not_hexadecimal(alloc: Global) -> Result<Self, AllocError>
-        ensures { IfOk result (λ a. (a.status ≡ Refused) × (string_bytes a.text ≡ not_hexadecimal_line)) }
+        ensures { IfOk result (λ a. (a.status ≡ Refused)
+            × (string_bytes a.text ≡ not_hexadecimal_line)) }
     {
         Answer::of(alloc, Status::Refused, "not hexadecimal\n")
     }
@@ -81,7 +83,8 @@ impl Answer {
 
 /// Writes a text. No memory is asked for.
 pub fn write<W: Write>(out: &mut W, text: &String) -> Result<(), ToolFault>
-    ensures ok { OnOk result (Appends (W.contents out.old) (W.contents out.new) (string_bytes text.now)) }
+    ensures ok { OnOk result (Appends (W.contents out.old) (W.contents out.new)
+        (string_bytes text.now)) }
     ensures err { FailsByMemoryOrWrite result }
     ensures memory { IsErrOf result Memory → ⊥ }
 {

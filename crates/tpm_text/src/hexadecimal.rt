@@ -32,7 +32,8 @@ pub fn shown_bytes(alloc: Global, bytes: &[u8]) -> Result<String, AllocError>
 
 /// Adds bytes in hexadecimal.
 pub fn push_hex(alloc: Global, text: &mut String, bytes: &[u8]) -> Pushed
-    ensures { OnOk result (string_bytes text.new ≡ string_bytes text.old ++ encode_lower bytes.now) }
+    ensures { OnOk result (string_bytes text.new
+        ≡ string_bytes text.old ++ encode_lower bytes.now) }
 {
     let bytes = hex::encode(alloc, bytes)?;
     write!(text, "{bytes}")
@@ -41,7 +42,8 @@ pub fn push_hex(alloc: Global, text: &mut String, bytes: &[u8]) -> Pushed
 /// Adds bytes in hexadecimal as a member of an object of JSON, behind another.
 #[tactic(auto, unfolding(crate::specs::Text::hex_member))]
 pub fn push_hex_member(alloc: Global, text: &mut String, name: &str, bytes: &[u8]) -> Pushed
-    ensures { OnOk result (string_bytes text.new ≡ string_bytes text.old ++ hex_member name.now bytes.now) }
+    ensures { OnOk result (string_bytes text.new
+        ≡ string_bytes text.old ++ hex_member name.now bytes.now) }
 {
     let bytes = hex::encode(alloc, bytes)?;
     write!(text, ",\"{name}\":\"{bytes}\"")

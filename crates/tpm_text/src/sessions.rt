@@ -24,7 +24,12 @@ impl<'a> Model for Session<'a> {
 
     ghost Value = { SessionValue };
 
-    ghost view = { λ s. record { handle = s.handle; nonce = s.nonce.now; attributes = s.attributes; hmac = s.hmac.now } };
+    ghost view = { λ s. record {
+      handle = s.handle;
+      nonce = s.nonce.now;
+      attributes = s.attributes;
+      hmac = s.hmac.now;
+    } };
 }
 
 /// The areas of a buffer that has sessions.
@@ -102,7 +107,8 @@ fn push_begin(text: &mut String, json: bool, i: usize) -> Pushed
 
 #[tactic(auto, using(crate::proofs::Padded::padded))]
 fn push_session_handle(text: &mut String, json: bool, handle: Option<u32>) -> Pushed
-    ensures { OnOk result (string_bytes text.new ≡ string_bytes text.old ++ session_handle json handle) }
+    ensures { OnOk result (string_bytes text.new
+        ≡ string_bytes text.old ++ session_handle json handle) }
 {
     let Some(handle) = handle else {
         return Ok(());
@@ -131,7 +137,8 @@ fn push_session(
     i: usize,
     session: &Session<'_>,
 ) -> Pushed
-    ensures { OnOk result (string_bytes text.new ≡ string_bytes text.old ++ session_text json i session.now) }
+    ensures { OnOk result (string_bytes text.new
+        ≡ string_bytes text.old ++ session_text json i session.now) }
 {
     push_begin(text, json, i)?;
     push_session_handle(text, json, session.handle)?;
@@ -150,14 +157,16 @@ fn push_session(
     )
 }
 
-/// Adds a line for each session, `session I HHHHHHHH nonce X attributes XX hmac X`, or an object for each, with commas between them.
+/// Adds a line for each session, `session I HHHHHHHH nonce X attributes XX hmac X`, or an object for each, with
+/// commas between them.
 pub fn push_sessions<A: HasSessions>(
     alloc: Global,
     text: &mut String,
     json: bool,
     areas: &A,
 ) -> Pushed
-    ensures { OnOk result (string_bytes text.new ≡ string_bytes text.old ++ lines_from (session_text json) 1 (A.sessions areas.now)) }
+    ensures { OnOk result (string_bytes text.new
+        ≡ string_bytes text.old ++ lines_from (session_text json) 1 (A.sessions areas.now)) }
 {
     for before in 0..areas.session_count() {
         if let Some(session) = areas.session(before) {

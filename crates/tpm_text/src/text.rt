@@ -26,7 +26,8 @@ pub fn push_comma(text: &mut String, i: usize) -> Pushed
 /// Adds the line of a refusal.
 #[tactic(auto, using(crate::proofs::Padded::padded), unfolding(crate::specs::Text::refusal_line))]
 pub fn push_refusal(text: &mut String, refusal: &Refusal) -> Pushed
-    ensures { OnOk result (string_bytes text.new ≡ string_bytes text.old ++ refusal_line refusal.now) }
+    ensures { OnOk result (string_bytes text.new
+        ≡ string_bytes text.old ++ refusal_line refusal.now) }
 {
     let Refusal { code, at } = *refusal;
     writeln!(text, "refused {code:03x} at {at}")
@@ -43,7 +44,8 @@ pub fn push_bytes(alloc: Global, text: &mut String, bytes: &[u8]) -> Pushed
 
 #[tactic(auto, unfolding(crate::specs::Text::command_line))]
 fn push_name(text: &mut String, code: CommandCode, size: usize) -> Pushed
-    ensures { OnOk result (string_bytes text.new ≡ string_bytes text.old ++ command_line code size) }
+    ensures { OnOk result (string_bytes text.new
+        ≡ string_bytes text.old ++ command_line code size) }
 {
     let name = code.name();
     writeln!(text, "command {name} size {size}")
@@ -52,7 +54,8 @@ fn push_name(text: &mut String, code: CommandCode, size: usize) -> Pushed
 /// Adds the line of a handle, or its entry of a list.
 #[tactic(auto, using(crate::proofs::Padded::padded), unfolding(crate::specs::Text::handle_text))]
 pub fn push_handle(text: &mut String, json: bool, i: usize, handle: u32) -> Pushed
-    ensures { OnOk result (string_bytes text.new ≡ string_bytes text.old ++ handle_text json i handle) }
+    ensures { OnOk result (string_bytes text.new
+        ≡ string_bytes text.old ++ handle_text json i handle) }
 {
     if !json {
         return writeln!(text, "handle {i} {handle:08x}");
@@ -63,7 +66,8 @@ pub fn push_handle(text: &mut String, json: bool, i: usize, handle: u32) -> Push
 
 /// Adds a line for each handle, or an entry of a list.
 pub fn push_handles(text: &mut String, json: bool, handles: &[u32]) -> Pushed
-    ensures { OnOk result (string_bytes text.new ≡ string_bytes text.old ++ lines_from (handle_text json) 1 handles.now) }
+    ensures { OnOk result (string_bytes text.new
+        ≡ string_bytes text.old ++ lines_from (handle_text json) 1 handles.now) }
 {
     for (before, handle) in handles.iter().enumerate() {
         push_handle(text, json, before + 1, *handle)?;
@@ -74,7 +78,8 @@ pub fn push_handles(text: &mut String, json: bool, handles: &[u32]) -> Pushed
 /// Adds the line of the parameters.
 #[tactic(auto, unfolding(crate::specs::Text::parameters_line))]
 pub fn push_parameters(alloc: Global, text: &mut String, bytes: &[u8]) -> Pushed
-    ensures { OnOk result (string_bytes text.new ≡ string_bytes text.old ++ parameters_line bytes.now) }
+    ensures { OnOk result (string_bytes text.new
+        ≡ string_bytes text.old ++ parameters_line bytes.now) }
 {
     let bytes = shown_bytes(alloc, bytes)?;
     writeln!(text, "parameters {bytes}")
@@ -83,7 +88,8 @@ pub fn push_parameters(alloc: Global, text: &mut String, bytes: &[u8]) -> Pushed
 /// Adds the lines of a command of so many bytes.
 #[tactic(auto, unfolding(crate::specs::Text::command_text))]
 pub fn push_command(alloc: Global, text: &mut String, size: usize, areas: &Areas<'_>) -> Pushed
-    ensures { OnOk result (string_bytes text.new ≡ string_bytes text.old ++ command_text size areas.now) }
+    ensures { OnOk result (string_bytes text.new
+        ≡ string_bytes text.old ++ command_text size areas.now) }
 {
     push_name(text, areas.code(), size)?;
     push_handles(text, false, areas.handles())?;

@@ -12,7 +12,8 @@ alg_number Sha256 = 0x000B
 alg_number Sha384 = 0x000C
 
 abbrev pub alg_of : ℕ → Option Alg
-alg_of n = if n == 0x0004 then Some Sha1 else if n == 0x000B then Some Sha256 else if n == 0x000C then Some Sha384 else None
+alg_of n =
+    if n == 0x0004 then Some Sha1 else if n == 0x000B then Some Sha256 else if n == 0x000C then Some Sha384 else None
 
 -- how many bytes its digests have
 abbrev pub digest_len : Alg → ℕ
@@ -20,7 +21,8 @@ digest_len Sha1 = 20
 digest_len Sha256 = 32
 digest_len Sha384 = 48
 
--- how many bytes it takes at a time, which are those of an HMAC's padded key (FIPS 180-4, section 1; FIPS 198-1, section 3)
+-- how many bytes it takes at a time, which are those of an HMAC's padded key (FIPS 180-4, section 1; FIPS 198-1,
+-- section 3)
 abbrev pub block_len : Alg → ℕ
 block_len Sha1 = 64
 block_len Sha256 = 64

@@ -51,8 +51,8 @@ attest_quote = 0x8018
 unfoldable pub attest_type : Layout ℕ
 attest_type = number_in 2 (λ n. n == attest_quote) rc_value
 
--- how many bytes a TPM2B_DATA (10.4.3) and the TPM2B_NAME (10.5.3) of a key have at most: the number of a hash, and the longest
--- digest of any, which is that of SHA-512
+-- how many bytes a TPM2B_DATA (10.4.3) and the TPM2B_NAME (10.5.3) of a key have at most: the number of a hash, and
+-- the longest digest of any, which is that of SHA-512
 abbrev pub data_bytes : ℕ
 data_bytes = 66
 
@@ -66,4 +66,10 @@ attest =
     field (λ a. a.clock_info) clock_info (λ clock_info.
     field (λ a. a.firmware_version) (any_number 8) (λ firmware_version.
     field (λ a. a.quote) quote_info (λ quote.
-    done (record { signer = signer; extra_data = extra_data; clock_info = clock_info; firmware_version = firmware_version; quote = quote }))))))))
+    done (record {
+      signer = signer;
+      extra_data = extra_data;
+      clock_info = clock_info;
+      firmware_version = firmware_version;
+      quote = quote;
+    }))))))))

@@ -87,6 +87,7 @@ is_writable = any_set (0 ∷ 1 ∷ 2 ∷ 3 ∷ [])
 abbrev pub is_readable : ℕ → Bool
 is_readable = any_set (16 ∷ 17 ∷ 18 ∷ 19 ∷ [])
 
--- what a definition may not set: POLICY_DELETE, WRITELOCKED, ORDERLY, CLEAR_STCLEAR, READLOCKED, WRITTEN, PLATFORMCREATE
+-- what a definition may not set: POLICY_DELETE, WRITELOCKED, ORDERLY, CLEAR_STCLEAR, READLOCKED, WRITTEN,
+-- PLATFORMCREATE
 abbrev pub is_undefinable : ℕ → Bool
 is_undefinable = any_set (10 ∷ 11 ∷ 26 ∷ 27 ∷ 28 ∷ 29 ∷ 30 ∷ [])

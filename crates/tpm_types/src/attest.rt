@@ -57,7 +57,8 @@ impl Wire for QuoteInfo {
 #[tactic(auto, unfolding(crate::specs::Attest::yes_no))]
 fn take_yes_no(cursor: &mut Cursor<'_>) -> Result<bool, Refusal>
     ensures reads { Takes yes_no cursor.old cursor.new result }
-    ensures spelled { IfOk result (λ x. cursor.old.here.rest ≡ spelling yes_no x ++ cursor.new.here.rest) }
+    ensures spelled { IfOk result
+        (λ x. cursor.old.here.rest ≡ spelling yes_no x ++ cursor.new.here.rest) }
 {
     let refusal = cursor.refusal(VALUE);
     match u8::take(cursor)? {
@@ -145,12 +146,12 @@ const GENERATED_VALUE: u32 = 0xFF54_4347;
 /// TPM_ST_ATTEST_QUOTE (Part 2, 6.9): what is attested is a quote.
 const ATTEST_QUOTE: u16 = 0x8018;
 
-/// How many bytes a TPM2B_DATA and the Name of a key have at most (Part 2, 10.4.3 and 10.5.3): the number of a hash, and the longest
-/// digest of any, that of SHA-512.
+/// How many bytes a TPM2B_DATA and the Name of a key have at most (Part 2, 10.4.3 and 10.5.3): the number of a hash,
+/// and the longest digest of any, that of SHA-512.
 pub const DATA_BYTES: usize = 66;
 
-/// A quote as it is signed: TPMS_ATTEST (Part 2, 10.12) of type TPM_ST_ATTEST_QUOTE. What has a length of its own is lent from where
-/// the bytes are.
+/// A quote as it is signed: TPMS_ATTEST (Part 2, 10.12) of type TPM_ST_ATTEST_QUOTE. What has a length of
+/// its own is lent from where the bytes are.
 #[derive(Drop)]
 pub struct Attest<'a> {
     /// qualifiedSigner, the qualified Name of the key that signs.
@@ -209,12 +210,13 @@ impl<'a> Attest<'a> {
         self.quote.put(out);
     }
 
-    /// The quote that begins here, or the first fault, with the cursor's number added to its code: VALUE of another magic or type or
-    /// of a `safe` that is neither 0 nor 1; SIZE, HASH or VALUE in what has a size and in the selection; INSUFFICIENT. Where the
-    /// cursor is after a fault is not said.
+    /// The quote that begins here, or the first fault, with the cursor's number added to its code: VALUE of another
+    /// magic or type or of a `safe` that is neither 0 nor 1; SIZE, HASH or VALUE in what has a size and in the
+    /// selection; INSUFFICIENT. Where the cursor is after a fault is not said.
     pub fn take(cursor: &mut Cursor<'a>) -> Result<Self, Refusal>
         ensures reads { Takes attest cursor.old cursor.new result }
-        ensures spelled { IfOk result (λ a. cursor.old.here.rest ≡ spelling attest a ++ cursor.new.here.rest) }
+        ensures spelled { IfOk result
+            (λ a. cursor.old.here.rest ≡ spelling attest a ++ cursor.new.here.rest) }
     {
         let refusal = cursor.refusal(VALUE);
         if u32::take(cursor)? != GENERATED_VALUE {

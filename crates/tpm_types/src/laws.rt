@@ -28,8 +28,12 @@ pub fn same_limits()
 
 /// Each counted list is read as its layout says, with the least and the greatest count of that.
 pub fn same_lists()
-    ensures selections { (number : ℕ) (h : Here) → read number ⟦<Selections as Wire>⟧.layout h ≡ read number selections h }
-    ensures digests { (number : ℕ) (h : Here) → read number ⟦<Digests as Wire>⟧.layout h ≡ read number digests h }
-    ensures or_digests { (number : ℕ) (h : Here) → read number ⟦<OrDigests as Wire>⟧.layout h ≡ read number or_digests h }
-    ensures digest_values { (number : ℕ) (h : Here) → read number ⟦<DigestValues as Wire>⟧.layout h ≡ read number digest_values h }
+    ensures selections { (number : ℕ) (h : Here)
+        → read number ⟦<Selections as Wire>⟧.layout h ≡ read number selections h }
+    ensures digests { (number : ℕ) (h : Here)
+        → read number ⟦<Digests as Wire>⟧.layout h ≡ read number digests h }
+    ensures or_digests { (number : ℕ) (h : Here)
+        → read number ⟦<OrDigests as Wire>⟧.layout h ≡ read number or_digests h }
+    ensures digest_values { (number : ℕ) (h : Here)
+        → read number ⟦<DigestValues as Wire>⟧.layout h ≡ read number digest_values h }
 {}

@@ -29,7 +29,8 @@ impl<'a, const N: usize> Lent<'a, N> {
     /// These bytes, if they are at most `N`.
     pub fn new(bytes: &'a [u8]) -> Option<Self>
         requires { N < 2 ^ 16 }
-        ensures { MatchOption result (N < length bytes.now) (λ l. (l ≡ bytes.now) × (length bytes.now ≤ N)) }
+        ensures { MatchOption result (N < length bytes.now)
+            (λ l. (l ≡ bytes.now) × (length bytes.now ≤ N)) }
     {
         if bytes.len() > N {
             return None;
@@ -49,7 +50,8 @@ impl<'a, const N: usize> Lent<'a, N> {
     #[tactic(auto, unfolding(tpm_wire::specs::Structures::sized_bytes))]
     pub(crate) fn take(cursor: &mut Cursor<'a>) -> Result<Self, Refusal>
         ensures reads { Takes (sized_bytes N) cursor.old cursor.new result }
-        ensures spelled { IfOk result (λ l. cursor.old.here.rest ≡ spelling (sized_bytes N) l ++ cursor.new.here.rest) }
+        ensures spelled { IfOk result
+            (λ l. cursor.old.here.rest ≡ spelling (sized_bytes N) l ++ cursor.new.here.rest) }
     {
         let refusal = cursor.refusal(SIZE);
         let n = u16::take(cursor)? as usize;

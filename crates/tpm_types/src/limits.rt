@@ -12,5 +12,6 @@ pub const BLOCK_BYTES: usize = 128;
 /// How many bytes a Name has at most: the number of a hash, and its digest.
 pub const NAME_BYTES: usize = 2 + DIGEST_BYTES;
 
-/// How many bytes the public area of an NV index has at most: nvIndex, nameAlg, attributes, a sized digest and dataSize.
+/// How many bytes the public area of an NV index has at most: nvIndex, nameAlg, attributes, a sized digest and
+/// dataSize.
 pub const PUBLIC_BYTES: usize = 4 + 2 + 4 + (2 + DIGEST_BYTES) + 2;

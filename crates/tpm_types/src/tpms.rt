@@ -261,7 +261,8 @@ impl NvPublic {
 
     fn take_area(cursor: &mut Cursor<'_>) -> Result<Self, Refusal>
         ensures reads { Takes nv_public_area cursor.old cursor.new result }
-        ensures spelled { IfOk result (λ p. cursor.old.here.rest ≡ spelling nv_public_area p ++ cursor.new.here.rest) }
+        ensures spelled { IfOk result
+            (λ p. cursor.old.here.rest ≡ spelling nv_public_area p ++ cursor.new.here.rest) }
     {
         Ok(NvPublic {
             index: NvIndex::take(cursor)?,

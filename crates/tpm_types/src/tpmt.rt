@@ -32,7 +32,8 @@ impl Model for HashedDigest {
 impl HashedDigest {
     /// A copy of this digest under its hash, if it is as long as the digests of that.
     pub fn new(hash: Alg, digest: &[u8]) -> Option<Self>
-        ensures { MatchOption result (length digest.now ≢ digest_len hash) (λ d. (d ≡ (hash, digest.now)) × (length digest.now ≡ digest_len hash)) }
+        ensures { MatchOption result (length digest.now ≢ digest_len hash)
+            (λ d. (d ≡ (hash, digest.now)) × (length digest.now ≡ digest_len hash)) }
     {
         if digest.len() != hash.digest_len() {
             return None;
@@ -145,7 +146,8 @@ pub enum SymDef {
     Xor(Alg),
 }
 
-/// The algorithm, else SYMMETRIC; of AES the bits of the key, else VALUE, and the mode, else MODE; of XOR the hash, else HASH.
+/// The algorithm, else SYMMETRIC; of AES the bits of the key, else VALUE, and the
+/// mode, else MODE; of XOR the hash, else HASH.
 #[tactic(auto, unfolding(crate::specs::Tpmt::sym_def, crate::specs::Tpmt::algorithm, crate::specs::Tpmt::mode))]
 impl Wire for SymDef {
     ghost use Rattle.tpm_types.specs.Tpmt.{sym_def};

@@ -27,7 +27,8 @@ enough : (text more : List ℕ) (n : ℕ) → length text ≡ n → n ≤ length
 enough text more n len = omega (arith, length-append text more)
 
 fit_each : {r : Rules} {A E : Type 0} (l : List A → Form r A) (rd : List A → Here → Result (A × Here) E)
-    → ((b : List A) (x : A) (more : List ℕ) (at : ℕ) → Fits (length (spelling (l b) x ++ more)) (l b) x → rd b (before (spelling (l b) x) more at) ≡ ok_at x more (at + length (spelling (l b) x)))
+    → ((b : List A) (x : A) (more : List ℕ) (at : ℕ) → Fits (length (spelling (l b) x ++ more)) (l b) x
+    → rd b (before (spelling (l b) x) more at) ≡ ok_at x more (at + length (spelling (l b) x)))
     → (most : ℕ) (b : List A) (stops : Bool) (xs : List A) (more : List ℕ) (at : ℕ)
     → FitEach (λ k b. Fits k (l b)) (λ b. spelling (l b)) stops most (length (joined (λ b. spelling (l b)) b xs ++ more)) b xs
     → entries most b stops rd (before (joined (λ b. spelling (l b)) b xs) more at) ≡ ok_at (b ++ xs) more (at + length (joined (λ b. spelling (l b)) b xs))
@@ -37,7 +38,10 @@ fit_each l rd again (suc n) b stops [] more at f =
     let z : at + 0 ≡ at = omega arith in
     elim f [
       | inl none ↦ absurd (omega arith)
-      | inr e ↦ let stop : (stops && eqb (length more) 0) ≡ true = and_from stops (eqb (length more) 0) e.0 (eq-eqb (length more) 0 e.1) in rw (stop, z, append-nil b) refl
+      | inr e ↦
+          let stop : (stops && eqb (length more) 0) ≡ true =
+          and_from stops (eqb (length more) 0) e.0 (eq-eqb (length more) 0 e.1) in
+          rw (stop, z, append-nil b) refl
     ]
 fit_each l rd again zero b stops (x ∷ xs) more at f = absurd f
 fit_each l rd again (suc n) b stops (x ∷ xs) more at f =
@@ -45,10 +49,16 @@ fit_each l rd again (suc n) b stops (x ∷ xs) more at f =
     let two = joined (λ b. spelling (l b)) (b ++ x ∷ []) xs in
     let parts : (one ++ two) ++ more ≡ one ++ (two ++ more) = append_assoc one two more in
     let long : length ((one ++ two) ++ more) ≡ length one + length (two ++ more) = omega (arith, ap length parts, length-append one (two ++ more)) in
-    let go : (stops && eqb (length ((one ++ two) ++ more)) 0) ≡ false = and_right stops (eqb (length ((one ++ two) ++ more)) 0) (ne_eqb (length ((one ++ two) ++ more)) 0 (λ e. omega (arith, f.0, long, e))) in
-    let first : rd b (before one (two ++ more) at) ≡ ok_at x (two ++ more) (at + length one) = again b x (two ++ more) at (subst (λ (k : List ℕ). Fits (length k) (l b) x) parts f.1) in
+    let go : (stops && eqb (length ((one ++ two) ++ more)) 0) ≡ false =
+    and_right stops (eqb (length ((one ++ two) ++ more)) 0)
+    (ne_eqb (length ((one ++ two) ++ more)) 0 (λ e. omega (arith, f.0, long, e))) in
+    let first : rd b (before one (two ++ more) at) ≡ ok_at x (two ++ more) (at + length one) =
+    again b x (two ++ more) at (subst (λ (k : List ℕ). Fits (length k) (l b) x) parts f.1) in
     let left : length ((one ++ two) ++ more) - length one ≡ length (two ++ more) = omega (arith, long) in
-    let others = fit_each l rd again n (b ++ x ∷ []) stops xs more (at + length one) (subst (λ (k : ℕ). FitEach (λ k b. Fits k (l b)) (λ b. spelling (l b)) stops n k (b ++ x ∷ []) xs) left f.2) in
+    let others =
+    fit_each l rd again n (b ++ x ∷ []) stops xs more (at + length one)
+    (subst (λ (k : ℕ). FitEach (λ k b. Fits k (l b)) (λ b. spelling (l b)) stops n k (b ++ x ∷ []) xs) left
+    f.2) in
     let place : at + length one + length two ≡ at + length (one ++ two) = omega (arith, length-append one two) in
     rw (go, parts, first, others, place, append_assoc b (x ∷ []) xs) refl
 
@@ -60,7 +70,14 @@ module _ (r : Rules) (roomy : IsRoomy r) where
       let len = length-bytes_high_first width (number_for x) in
       let text = bytes_high_first width (number_for x) in
       let back = number_of-bytes width (number_for x) f.0 in
-      rw (roomy mark at width (length (text ++ more)) (enough text more width len), take_at text more width len, back, f.1, drop_at text more width len, len) refl
+      rw (
+        roomy mark at width (length (text ++ more)) (enough text more width len),
+        take_at text more width len,
+        back,
+        f.1,
+        drop_at text more width len,
+        len,
+      ) refl
   again mark (Form.text n judge text_for) x more at f =
       let text = text_for x in
       rw (roomy mark at n (length (text ++ more)) (enough text more n f.0), take_at text more n f.0, f.1, drop_at text more n f.0, f.0) refl
@@ -78,7 +95,8 @@ module _ (r : Rules) (roomy : IsRoomy r) where
       let text = spelling l x in
       let len : length text ≡ n = f.0 in
       let inside : read mark l (record { rest = text; at = at }) ≡ ok_at x [] (at + length text) =
-      ap (λ (k : List ℕ). read mark l (record { rest = k; at = at })) (sym (append-nil text)) ∙ again mark l x [] at (subst (λ (k : ℕ). Fits k l x) (sym (ap length (append-nil text) ∙ len)) f.1) in
+      ap (λ (k : List ℕ). read mark l (record { rest = k; at = at })) (sym (append-nil text))
+      ∙ again mark l x [] at (subst (λ (k : ℕ). Fits k l x) (sym (ap length (append-nil text) ∙ len)) f.1) in
       rw (roomy mark at n (length (text ++ more)) (enough text more n len), take_at text more n len, inside, drop_at text more n len, len) refl
   again mark (Form.list most stops l) x more at f = fit_each l (λ b. read mark (l b)) (λ b. again mark (l b)) most [] stops x more at f
   again mark (Form.by_left f) x more at fits =
@@ -94,7 +112,8 @@ module _ (r : Rules) (roomy : IsRoomy r) where
       let text = spelling l x in
       let nil = append-nil text in
       let is = again r.whole l x [] 0 (subst (λ (k : List ℕ). Fits (length k) l x) (sym nil) fits) in
-      let whole : read r.whole l (record { rest = text; at = 0 }) ≡ ok_at x [] (0 + length text) = ap (λ (k : List ℕ). read r.whole l (record { rest = k; at = 0 })) (sym nil) ∙ is in
+      let whole : read r.whole l (record { rest = text; at = 0 }) ≡ ok_at x [] (0 + length text) =
+      ap (λ (k : List ℕ). read r.whole l (record { rest = k; at = 0 })) (sym nil) ∙ is in
       rw whole refl
 
   -- No spelling of a value begins that of another.

@@ -70,29 +70,38 @@ pub test_end : {A E : Type 0} (b : Bool) (r : A) (d : E) (y : A) → cond b (Ok 
 test_end true r d y e = (refl, cc)
 test_end false r d y e = absurd cc
 
-pub unless_ok : {A : Type 0} (r : Rules) (o : Option r.Fault) (mark : r.Mark) (h : Here) (next : Result A r.Answer) (y : A) → unless r o mark h next ≡ Ok y → (o ≡ None) × (next ≡ Ok y)
+pub unless_ok : {A : Type 0} (r : Rules) (o : Option r.Fault) (mark : r.Mark) (h : Here) (next : Result A r.Answer)
+    (y : A)
+    → unless r o mark h next ≡ Ok y → (o ≡ None) × (next ≡ Ok y)
 unless_ok r None mark h next y e = (refl, e)
 unless_ok r (Some f) mark h next y e = absurd cc
 
-pub was_found : {A : Type 0} (r : Rules) (o : Result A r.Fault) (n : ℕ) (mark : r.Mark) (h : Here) (x : A × Here) → found r o n mark h ≡ Ok x → (o ≡ Ok x.0) × (past n h ≡ x.1)
+pub was_found : {A : Type 0} (r : Rules) (o : Result A r.Fault) (n : ℕ) (mark : r.Mark) (h : Here) (x : A × Here)
+    → found r o n mark h ≡ Ok x → (o ≡ Ok x.0) × (past n h ≡ x.1)
 was_found r (Err f) n mark h x e = absurd cc
 was_found r (Ok y) n mark h x e =
     let pairs : pair_at y (past n h) ≡ pair_at x.0 x.1 = cc in
     (ap (λ p. Ok p.0) pairs, ap (λ p. p.1) pairs)
 
-ends_each : {A E : Type 0} (n : ℕ) (before : List A) (stops : Bool) (rd : List A → Here → Result (A × Here) E) → ((before : List A) (h : Here) (x : A × Here) → rd before h ≡ Ok x → end_of x.1 ≡ end_of h)
+ends_each : {A E : Type 0} (n : ℕ) (before : List A) (stops : Bool) (rd : List A → Here → Result (A × Here) E)
+    → ((before : List A) (h : Here) (x : A × Here) → rd before h ≡ Ok x → end_of x.1 ≡ end_of h)
     → (h : Here) (x : List A × Here) → entries n before stops rd h ≡ Ok x → end_of x.1 ≡ end_of h
 ends_each zero before stops rd one h x e = ap end_of (sym (here_of before x.0 h x.1 e))
 ends_each {A = A} (suc n) before stops rd one h x e = go (stops && eqb (length h.rest) 0) (λ b. ends_each n b stops rd one) e
   where
-    go : (b : Bool) → ((b : List A) (g : Here) (y : List A × Here) → entries n b stops rd g ≡ Ok y → end_of y.1 ≡ end_of g) → cond b (ok_at before h) (rd before h >>= λ x. entries n (before ++ x.0 ∷ []) stops rd x.1) ≡ Ok x → end_of x.1 ≡ end_of h
+    go : (b : Bool)
+        → ((b : List A) (g : Here) (y : List A × Here) → entries n b stops rd g ≡ Ok y → end_of y.1 ≡ end_of g)
+        → cond b (ok_at before h) (rd before h >>= λ x. entries n (before ++ x.0 ∷ []) stops rd x.1) ≡ Ok x
+        → end_of x.1 ≡ end_of h
     go true again d = ap end_of (sym (here_of before x.0 h x.1 d))
     go false again d =
         let a = bind_ok (rd before h) (λ x. entries n (before ++ x.0 ∷ []) stops rd x.1) x d in
         again (before ++ a.0.0 ∷ []) a.0.1 x a.2 ∙ one before h a.0 a.1
 
 -- what was a number
-pub number_ok : (r : Rules) → IsSound r → {A : Type 0} (mark : r.Mark) (width : ℕ) (meaning : ℕ → ℕ → Option A) (number_for : A → ℕ) (fault : r.Fault) (h : Here) (x : A × Here)
+pub number_ok : (r : Rules) → IsSound r
+    → {A : Type 0} (mark : r.Mark) (width : ℕ) (meaning : ℕ → ℕ → Option A) (number_for : A → ℕ) (fault : r.Fault)
+    (h : Here) (x : A × Here)
     → read {r = r} mark (Form.number width meaning number_for fault) h ≡ Ok x
     → (width ≤ length h.rest) × (or_fault (meaning (length h.rest - width) (number_of (take width h.rest))) fault ≡ Ok x.0) × (past width h ≡ x.1)
 number_ok r sound mark width meaning number_for fault h x e =
@@ -101,23 +110,29 @@ number_ok r sound mark width meaning number_for fault h x e =
     (sound mark h.at width (length h.rest) t.0, f.0, f.1)
 
 -- behind n bytes
-moved : {r : Rules} {B : Type 0} (next : ℕ → Next r B) (n : ℕ) (outer : List ℕ) (h : Here) → n ≤ length h.rest → run (next (length h.rest - n)) (past n (whole outer h)) ≡ run (next (length (drop n h.rest))) (whole outer (past n h))
+moved : {r : Rules} {B : Type 0} (next : ℕ → Next r B) (n : ℕ) (outer : List ℕ) (h : Here) → n ≤ length h.rest
+    → run (next (length h.rest - n)) (past n (whole outer h))
+    ≡ run (next (length (drop n h.rest))) (whole outer (past n h))
 moved next n outer h le = rw (drop-append-le n h.rest outer le, length-drop n h.rest) refl
 
 -- a token of n bytes
-text_same : {A R : Type 0} (r : Rules) (o : Option r.Fault) (p : Result A r.Fault) (n : ℕ) (mark : r.Mark) (outer : List ℕ) (h : Here) (f : A → Result R r.Answer) (g : A × Here → Result R r.Answer)
+text_same : {A R : Type 0} (r : Rules) (o : Option r.Fault) (p : Result A r.Fault) (n : ℕ) (mark : r.Mark)
+    (outer : List ℕ) (h : Here) (f : A → Result R r.Answer) (g : A × Here → Result R r.Answer)
     → (o ≡ None → (x : A) → f x ≡ g (x, past n h))
     → unless r o mark (whole outer h) (meant p f (λ fault. refuse r mark fault (whole outer h))) ≡ (unless r o mark h (found r p n mark h) >>= g)
 text_same r (Some d) p n mark outer h f g e = refl
 text_same r None (Err d) n mark outer h f g e = refl
 text_same r None (Ok x) n mark outer h f g e = e refl x
 
-room_same : {A R : Type 0} (r : Rules) (o : Option r.Fault) (mark : r.Mark) (outer : List ℕ) (h : Here) (k : Result R r.Answer) (l : Result A r.Answer) (g : A → Result R r.Answer)
+room_same : {A R : Type 0} (r : Rules) (o : Option r.Fault) (mark : r.Mark) (outer : List ℕ) (h : Here)
+    (k : Result R r.Answer) (l : Result A r.Answer) (g : A → Result R r.Answer)
     → (o ≡ None → k ≡ (l >>= g)) → unless r o mark (whole outer h) k ≡ (unless r o mark h l >>= g)
 room_same r (Some d) mark outer h k l g e = refl
 room_same r None mark outer h k l g e = e refl
 
-area_ends : {r : Rules} {A B : Type 0} (next : A → ℕ → Next r B) (n : ℕ) (fault : r.Fault) (mark : r.Mark) (outer : List ℕ) (h : Here) (x : A × Here) → end_of x.1 ≡ h.at + n
+area_ends : {r : Rules} {A B : Type 0} (next : A → ℕ → Next r B) (n : ℕ) (fault : r.Fault) (mark : r.Mark)
+    (outer : List ℕ) (h : Here) (x : A × Here)
+    → end_of x.1 ≡ h.at + n
     → run (Next.end fault mark (length x.1.rest) (next x.0 (length h.rest - n))) (whole (drop n h.rest ++ outer) x.1)
     ≡ (cond (eqb (length x.1.rest) 0) (Ok (x.0, past n h)) (refuse r mark fault x.1) >>= behind next outer)
 area_ends next n fault mark outer h x at =
@@ -130,9 +145,13 @@ area_ends next n fault mark outer h x at =
       | inr more ↦ rw (text, more) refl
     ]
 
-reads_each : {r : Rules} {A B : Type 0} (most : ℕ) (before : List A) (stops : Bool) (one : List A → (A → ℕ → Next r B) → ℕ → Next r B) (rd : List A → Here → Result (A × Here) r.Answer)
-    → ((before : List A) (next : A → ℕ → Next r B) (outer : List ℕ) (h : Here) → run (one before next (length h.rest)) (whole outer h) ≡ (rd before h >>= behind next outer))
-    → (next : List A → ℕ → Next r B) (outer : List ℕ) (h : Here) → run (each most before stops one next (length h.rest)) (whole outer h) ≡ (entries most before stops rd h >>= behind next outer)
+reads_each : {r : Rules} {A B : Type 0} (most : ℕ) (before : List A) (stops : Bool)
+    (one : List A → (A → ℕ → Next r B) → ℕ → Next r B) (rd : List A → Here → Result (A × Here) r.Answer)
+    → ((before : List A) (next : A → ℕ → Next r B) (outer : List ℕ) (h : Here)
+    → run (one before next (length h.rest)) (whole outer h) ≡ (rd before h >>= behind next outer))
+    → (next : List A → ℕ → Next r B) (outer : List ℕ) (h : Here)
+    → run (each most before stops one next (length h.rest)) (whole outer h)
+    ≡ (entries most before stops rd h >>= behind next outer)
 reads_each zero before stops one rd each_one next outer h = refl
 reads_each (suc n) before stops one rd each_one next outer h =
     elim (cases_Bool (stops && eqb (length h.rest) 0)) [
@@ -173,7 +192,10 @@ module _ (r : Rules) (sound : IsSound r) where
   reads mark (Form.done x) next outer h = refl
   reads mark (Form.number width meaning number_for fault) next outer h =
       let text : take (length h.rest) (h.rest ++ outer) ≡ h.rest = take_at h.rest outer (length h.rest) refl in
-      rw text (text_same r (r.lacks mark h.at width (length h.rest)) (or_fault (meaning (length h.rest - width) (number_of (take width h.rest))) fault) width mark outer h _ (behind next outer)
+      rw text
+      (text_same r (r.lacks mark h.at width (length h.rest))
+      (or_fault (meaning (length h.rest - width) (number_of (take width h.rest))) fault) width mark outer h _
+      (behind next outer)
       (λ none x. moved (next x) width outer h (sound mark h.at width (length h.rest) none)))
   reads mark (Form.text n judge text_for) next outer h =
       let text : take (length h.rest) (h.rest ++ outer) ≡ h.rest = take_at h.rest outer (length h.rest) refl in
@@ -190,11 +212,17 @@ module _ (r : Rules) (sound : IsSound r) where
       rw text (room_same r (r.lacks mark h.at n (length h.rest)) mark outer h (run (steps mark l inside n) (whole outer h)) _ (behind next outer) (λ none.
       let le : n ≤ length h.rest = sound mark h.at n (length h.rest) none in
       let len : length (take n h.rest) ≡ n = omega (arith, length-take n h.rest) in
-      let parts : take n h.rest ++ (drop n h.rest ++ outer) ≡ h.rest ++ outer = sym (append_assoc (take n h.rest) (drop n h.rest) outer) ∙ ap (λ (r : List ℕ). r ++ outer) (take-append-drop n h.rest) in
-      let same : run (steps mark l inside n) (whole outer h) ≡ run (steps mark l inside (length (take n h.rest))) (whole (drop n h.rest ++ outer) h') = rw (len, parts) refl in
+      let parts : take n h.rest ++ (drop n h.rest ++ outer) ≡ h.rest ++ outer =
+      sym (append_assoc (take n h.rest) (drop n h.rest) outer)
+      ∙ ap (λ (r : List ℕ). r ++ outer) (take-append-drop n h.rest) in
+      let same : run (steps mark l inside n) (whole outer h)
+      ≡ run (steps mark l inside (length (take n h.rest))) (whole (drop n h.rest ++ outer) h') =
+      rw (len, parts) refl in
       same ∙ reads mark l inside (drop n h.rest ++ outer) h'
       ∙ bind_known (read mark l h') _ _ (λ x is. area_ends next n fault mark outer h x (ends_same mark l h' x is ∙ omega (arith, len)))
       ∙ sym (bind_assoc (read mark l h') _ (behind next outer))))
-  reads mark (Form.list most stops l) next outer h = reads_each most [] stops (λ before. steps mark (l before)) (λ before. read mark (l before)) (λ before. reads mark (l before)) next outer h
+  reads mark (Form.list most stops l) next outer h =
+      reads_each most [] stops (λ before. steps mark (l before)) (λ before. read mark (l before))
+      (λ before. reads mark (l before)) next outer h
   reads mark (Form.by_left f) next outer h = reads mark (f (length h.rest)) next outer h
   reads mark (Form.marked n l) next outer h = reads n l next outer h

@@ -18,7 +18,11 @@ parted x = Ok (x.0, x.1.rest)
 pub cut_read : {A : Type 0} (l : Layout A) (bytes : List ℕ) → read_all (cut l) bytes ≡ (read 0 l (at_start bytes) >>= parted)
 cut_read {A = A} l bytes = go (read 0 l (at_start bytes))
   where
-    go : (o : Result (A × Here) Refusal) → ((o >>= (λ x. read {r = buffer} 0 remaining x.1 >>= λ y. ok ((x.0, y.0), y.1))) >>= finish buffer >>= λ x. Ok x.0) ≡ (o >>= parted)
+    go : (o : Result (A × Here) Refusal)
+        → ((o >>= (λ x. read {r = buffer} 0 remaining x.1 >>= λ y. ok ((x.0, y.0), y.1)))
+        >>= finish buffer
+        >>= λ x. Ok x.0)
+        ≡ (o >>= parted)
     go (Ok x) =
         let n = length x.1.rest in
         let none : length (drop n x.1.rest) ≡ 0 = omega (arith, length-drop n x.1.rest) in

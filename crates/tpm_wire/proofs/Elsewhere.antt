@@ -36,11 +36,13 @@ room_later (Some f) mark k h there here is = refl
 room_later None mark k h there here is = is
 
 end_later : {A : Type 0} (b : Bool) (n fault mark k : ℕ) (h : Here) (x : A × Here)
-    → cond b (ok_at x.0 (past n h).rest ((h.at + k) + n)) (refuse buffer mark fault (later_place k x.1)) ≡ later k (cond b (Ok (x.0, past n h)) (refuse buffer mark fault x.1))
+    → cond b (ok_at x.0 (past n h).rest ((h.at + k) + n)) (refuse buffer mark fault (later_place k x.1))
+    ≡ later k (cond b (Ok (x.0, past n h)) (refuse buffer mark fault x.1))
 end_later true n fault mark k h x = ap (ok_at x.0 (past n h).rest) (swapped h.at k n)
 end_later false n fault mark k h x = refl
 
-each_later : {A : Type 0} (k : ℕ) (rd : List A → Here → Result (A × Here) Refusal) → ((before : List A) (h : Here) → rd before (later_place k h) ≡ later k (rd before h))
+each_later : {A : Type 0} (k : ℕ) (rd : List A → Here → Result (A × Here) Refusal)
+    → ((before : List A) (h : Here) → rd before (later_place k h) ≡ later k (rd before h))
     → (n : ℕ) (before : List A) (stops : Bool) (h : Here) → entries n before stops rd (later_place k h) ≡ later k (entries n before stops rd h)
 each_later k rd one zero before stops h = refl
 each_later {A = A} k rd one (suc n) before stops h = go (stops && eqb (length h.rest) 0) (λ b g. each_later k rd one n b stops g)
@@ -56,7 +58,9 @@ read_later k mark (Form.done x) h = refl
 read_later k mark (Form.number width meaning number_for fault) h =
     token_later (buffer.lacks mark h.at width (length h.rest)) (or_fault (meaning (length h.rest - width) (number_of (take width h.rest))) fault) width mark k h
 read_later k mark (Form.text n judge text_for) h = token_later (buffer.lacks mark h.at n (length h.rest)) (judge (take n h.rest)) n mark k h
-read_later k mark (Form.field get l f) h = bind_later k (read mark l h) (read mark l (later_place k h)) _ _ (read_later k mark l h) (λ x. read_later k mark (f x.0) x.1)
+read_later k mark (Form.field get l f) h =
+    bind_later k (read mark l h) (read mark l (later_place k h)) _ _ (read_later k mark l h)
+    (λ x. read_later k mark (f x.0) x.1)
 read_later k mark (Form.area n fault l) h =
     room_later (buffer.lacks mark h.at n (length h.rest)) mark k h _ _
     (bind_later k (read mark l (record { rest = take n h.rest; at = h.at })) (read mark l (record { rest = take n h.rest; at = h.at + k })) _ _

@@ -40,11 +40,14 @@ at_most_more j k l le t = record {
 
 -- ---- tokens and areas
 
-unless_longer : {A : Type 0} (r : Rules) (o : Option r.Fault) (m : r.Mark) (h : Here) (more : List ℕ) (a b : Result (A × Here) r.Answer) → b ≡ longer more a → unless r o m (with_more more h) b ≡ longer more (unless r o m h a)
+unless_longer : {A : Type 0} (r : Rules) (o : Option r.Fault) (m : r.Mark) (h : Here) (more : List ℕ)
+    (a b : Result (A × Here) r.Answer)
+    → b ≡ longer more a → unless r o m (with_more more h) b ≡ longer more (unless r o m h a)
 unless_longer r (Some f) m h more a b is = refl
 unless_longer r None m h more a b is = is
 
-found_longer : {A : Type 0} (r : Rules) (p : Result A r.Fault) (n : ℕ) (m : r.Mark) (h : Here) (more : List ℕ) → n ≤ length h.rest → found r p n m (with_more more h) ≡ longer more (found r p n m h)
+found_longer : {A : Type 0} (r : Rules) (p : Result A r.Fault) (n : ℕ) (m : r.Mark) (h : Here) (more : List ℕ)
+    → n ≤ length h.rest → found r p n m (with_more more h) ≡ longer more (found r p n m h)
 found_longer r (Err f) n m h more le = refl
 found_longer r (Ok x) n m h more le = ap (ok_at x (h.at + n)) (drop-append-le n h.rest more le)
 
@@ -57,12 +60,19 @@ inside {r = r} m n fault l h = read m l (record { rest = take n h.rest; at = h.a
 
 text_longer : {A : Type 0} (r : Rules) (judge : List ℕ → Result A r.Fault) (n : ℕ) (m : r.Mark) (h : Here) (more : List ℕ) → n ≤ length h.rest
     → found r (judge (take n (h.rest ++ more))) n m (with_more more h) ≡ longer more (found r (judge (take n h.rest)) n m h)
-text_longer r judge n m h more le = ap (λ (bytes : List ℕ). found r (judge bytes) n m (with_more more h)) (take-append-le n h.rest more le) ∙ found_longer r (judge (take n h.rest)) n m h more le
+text_longer r judge n m h more le =
+    ap (λ (bytes : List ℕ). found r (judge bytes) n m (with_more more h)) (take-append-le n h.rest more le)
+    ∙ found_longer r (judge (take n h.rest)) n m h more le
 
-area_longer : {r : Rules} {A : Type 0} (m : r.Mark) (n : ℕ) (fault : r.Fault) (l : Form r A) (h : Here) (more : List ℕ) → n ≤ length h.rest → inside m n fault l (with_more more h) ≡ longer more (inside m n fault l h)
-area_longer {r = r} {A = A} m n fault l h more le = rw (take-append-le n h.rest more le, drop-append-le n h.rest more le) (go (read m l (record { rest = take n h.rest; at = h.at })))
+area_longer : {r : Rules} {A : Type 0} (m : r.Mark) (n : ℕ) (fault : r.Fault) (l : Form r A) (h : Here) (more : List ℕ)
+    → n ≤ length h.rest → inside m n fault l (with_more more h) ≡ longer more (inside m n fault l h)
+area_longer {r = r} {A = A} m n fault l h more le =
+    rw (take-append-le n h.rest more le, drop-append-le n h.rest more le)
+    (go (read m l (record { rest = take n h.rest; at = h.at })))
   where
-    ended : (b : Bool) (x : A × Here) → cond b (ok (x.0, with_more more (past n h))) (refuse r m fault x.1) ≡ longer more (cond b (ok (x.0, past n h)) (refuse r m fault x.1))
+    ended : (b : Bool) (x : A × Here)
+        → cond b (ok (x.0, with_more more (past n h))) (refuse r m fault x.1)
+        ≡ longer more (cond b (ok (x.0, past n h)) (refuse r m fault x.1))
     ended true x = refl
     ended false x = refl
 
@@ -70,7 +80,8 @@ area_longer {r = r} {A = A} m n fault l h more le = rw (take-append-le n h.rest 
     go (Ok x) = ended (eqb (length x.1.rest) 0) x
     go (Err e) = refl
 
-area_ends : {r : Rules} {A : Type 0} (m : r.Mark) (n : ℕ) (fault : r.Fault) (l : Form r A) (h : Here) (x : A × Here) → inside m n fault l h ≡ Ok x → past n h ≡ x.1
+area_ends : {r : Rules} {A : Type 0} (m : r.Mark) (n : ℕ) (fault : r.Fault) (l : Form r A) (h : Here) (x : A × Here)
+    → inside m n fault l h ≡ Ok x → past n h ≡ x.1
 area_ends {r = r} {A = A} m n fault l h x e =
     let b = bind_ok (read m l (record { rest = take n h.rest; at = h.at })) (closed r m fault (past n h)) x e in
     ap (λ (y : A × Here). y.1) (test_end (eqb (length b.0.1.rest) 0) (b.0.0, past n h) _ x b.2).1
@@ -97,17 +108,21 @@ module _ (r : Rules) (sound : IsSound r) (alike : IsAlike r) where
       both : (m : r.Mark) (h : Here) (more : List ℕ) → n ≤ length h.rest → read m l (with_more more h) ≡ longer more (read m l h)
       both m h more le =
           is m (with_more more h)
-          ∙ ap (λ (o : Option r.Fault). unless r o m (with_more more h) (made m (with_more more h))) (alike m h.at n (length h.rest) (length (h.rest ++ more)) le (there n h more le))
+          ∙ ap (λ (o : Option r.Fault). unless r o m (with_more more h) (made m (with_more more h)))
+          (alike m h.at n (length h.rest) (length (h.rest ++ more)) le (there n h more le))
           ∙ unless_longer r (r.lacks m h.at n (length h.rest)) m h more (made m h) (made m (with_more more h)) (flat m h more le)
           ∙ ap (longer more) (sym (is m h))
 
   pub text_at_most : {A : Type 0} (n : ℕ) (judge : List ℕ → Result A r.Fault) (text_for : A → List ℕ) → TakesAtMost {r = r} n (Form.text n judge text_for)
   text_at_most n judge text_for =
-      taken_at_most n (Form.text n judge text_for) (λ m h. found r (judge (take n h.rest)) n m h) (λ m h. refl) (λ m h. text_longer r judge n m h) (λ m h x e. (was_found r (judge (take n h.rest)) n m h x e).1)
+      taken_at_most n (Form.text n judge text_for) (λ m h. found r (judge (take n h.rest)) n m h) (λ m h. refl)
+      (λ m h. text_longer r judge n m h) (λ m h x e. (was_found r (judge (take n h.rest)) n m h x e).1)
 
   -- an area, which is the same whatever is behind it
   pub area_at_most : {A : Type 0} (n : ℕ) (fault : r.Fault) (l : Form r A) → TakesAtMost n (Form.area n fault l)
-  area_at_most n fault l = taken_at_most n (Form.area n fault l) (λ m h. inside m n fault l h) (λ m h. refl) (λ m h. area_longer m n fault l h) (λ m h. area_ends m n fault l h)
+  area_at_most n fault l =
+      taken_at_most n (Form.area n fault l) (λ m h. inside m n fault l h) (λ m h. refl)
+      (λ m h. area_longer m n fault l h) (λ m h. area_ends m n fault l h)
 
 -- ---- what is made of tokens
 
@@ -119,7 +134,8 @@ at_most_done {A = A} x = record {
 }
 
 then_same : {A B E : Type 0} (o p : Result (B × Here) E) (f : B × Here → Result (A × Here) E) (more : List ℕ) (x : A × Here)
-    → ((y : B × Here) → o ≡ Ok y → p ≡ Ok (y.0, with_more more y.1)) → ((y : B × Here) → o ≡ Ok y → f y ≡ Ok x → f (y.0, with_more more y.1) ≡ Ok (x.0, with_more more x.1))
+    → ((y : B × Here) → o ≡ Ok y → p ≡ Ok (y.0, with_more more y.1))
+    → ((y : B × Here) → o ≡ Ok y → f y ≡ Ok x → f (y.0, with_more more y.1) ≡ Ok (x.0, with_more more x.1))
     → (o >>= f) ≡ Ok x → (p >>= f) ≡ Ok (x.0, with_more more x.1)
 then_same (Ok y) p f more x one two e = rw (one y refl) (two y refl e)
 then_same (Err d) p f more x one two e = absurd cc
@@ -137,7 +153,8 @@ pub at_most_narrow : {r : Rules} {A B : Type 0} (i j k : ℕ) (get : A → B) (l
     → ((m : r.Mark) (h : Here) (y : B × Here) → read m l h ≡ Ok y → TakesAtMost k (f y.0)) → TakesAtMost (i + k) (Form.field get l f)
 at_most_narrow i j k get l f le one most two = record {
   same = λ m h more x e.
-      then_same (read m l h) (read m l (with_more more h)) (λ y. read m (f y.0) y.1) more x (λ y is. one.same m h more y is) (λ y is. (two m h y is).same m y.1 more x) e;
+      then_same (read m l h) (read m l (with_more more h)) (λ y. read m (f y.0) y.1) more x
+      (λ y is. one.same m h more y is) (λ y is. (two m h y is).same m y.1 more x) e;
   fault = λ m h more e room is.
       then_fault (read m l h) (read m l (with_more more h)) (λ y. read m (f y.0) y.1) more e (λ y is. one.same m h more y is)
       (λ d bad. one.fault m h more d (omega (arith, le, room)) bad)
@@ -160,22 +177,26 @@ at_most_marked k n l t = record {
 
 -- so many entries, that many and no fewer
 pub entries_same : {r : Rules} {A : Type 0} (m : r.Mark) (l : List A → Form r A)
-    → ((before : List A) (h : Here) (more : List ℕ) (x : A × Here) → read m (l before) h ≡ Ok x → read m (l before) (with_more more h) ≡ Ok (x.0, with_more more x.1))
+    → ((before : List A) (h : Here) (more : List ℕ) (x : A × Here) → read m (l before) h ≡ Ok x
+    → read m (l before) (with_more more h) ≡ Ok (x.0, with_more more x.1))
     → (n : ℕ) (before : List A) (h : Here) (more : List ℕ) (x : List A × Here)
     → entries n before false (λ b. read m (l b)) h ≡ Ok x → entries n before false (λ b. read m (l b)) (with_more more h) ≡ Ok (x.0, with_more more x.1)
 entries_same m l one zero before h more x e = ap (longer more) e
 entries_same m l one (suc n) before h more x e =
-    then_same (read m (l before) h) (read m (l before) (with_more more h)) (λ y. entries n (before ++ y.0 ∷ []) false (λ b. read m (l b)) y.1) more x (λ y is. one before h more y is)
+    then_same (read m (l before) h) (read m (l before) (with_more more h))
+    (λ y. entries n (before ++ y.0 ∷ []) false (λ b. read m (l b)) y.1) more x (λ y is. one before h more y is)
     (λ y is. entries_same m l one n (before ++ y.0 ∷ []) y.1 more x) e
 
-pub at_most_list : {r : Rules} {A : Type 0} (n k : ℕ) (l : List A → Form r A) → ((before : List A) → TakesAtMost k (l before)) → TakesAtMost (n * k) (Form.list n false l)
+pub at_most_list : {r : Rules} {A : Type 0} (n k : ℕ) (l : List A → Form r A)
+    → ((before : List A) → TakesAtMost k (l before)) → TakesAtMost (n * k) (Form.list n false l)
 at_most_list {r = r} {A = A} n k l one = record {
   same = λ m. entries_same m l (λ before. (one before).same m) n [];
   fault = λ m. all_fault m n [];
   most = λ m. all_most m n [];
 }
   where
-    all_most : (m : r.Mark) (n : ℕ) (before : List A) (h : Here) (x : List A × Here) → entries n before false (λ b. read m (l b)) h ≡ Ok x → length h.rest ≤ length x.1.rest + n * k
+    all_most : (m : r.Mark) (n : ℕ) (before : List A) (h : Here) (x : List A × Here)
+        → entries n before false (λ b. read m (l b)) h ≡ Ok x → length h.rest ≤ length x.1.rest + n * k
     all_most m zero before h x e = omega (arith, ap (λ (z : List A × Here). length z.1.rest) (ok_is (before, h) x e))
     all_most m (suc n) before h x e =
         let a = bind_ok (read m (l before) h) (λ y. entries n (before ++ y.0 ∷ []) false (λ b. read m (l b)) y.1) x e in
@@ -185,7 +206,9 @@ at_most_list {r = r} {A = A} n k l one = record {
         → n * k ≤ length h.rest → entries n before false (λ b. read m (l b)) h ≡ Err e → entries n before false (λ b. read m (l b)) (with_more more h) ≡ Err e
     all_fault m zero before h more e room is = absurd cc
     all_fault m (suc n) before h more e room is =
-        then_fault (read m (l before) h) (read m (l before) (with_more more h)) (λ y. entries n (before ++ y.0 ∷ []) false (λ b. read m (l b)) y.1) more e (λ y at. (one before).same m h more y at)
+        then_fault (read m (l before) h) (read m (l before) (with_more more h))
+        (λ y. entries n (before ++ y.0 ∷ []) false (λ b. read m (l b)) y.1) more e
+        (λ y at. (one before).same m h more y at)
         (λ d bad. (one before).fault m h more d (omega (arith, room)) bad)
         (λ y at. all_fault m n (before ++ y.0 ∷ []) y.1 more e (omega (arith, room, (one before).most m h y at))) is
 
@@ -203,7 +226,9 @@ IsPlain (Form.by_left f) = ⊥
 IsPlain (Form.marked n l) = ⊥
 
 -- Under one mark, where more bytes leave a token's want of bytes as it is, if that is final.
-module _ (r : Rules) (sound : IsSound r) (alike : IsAlike r) (m : r.Mark) (IsFinal : r.Answer → Type 0) (final : (fault : r.Fault) (at n left more : ℕ) → left ≤ more → IsFinal (r.answer m fault at) → r.lacks m at n left ≡ Some fault → r.lacks m at n more ≡ Some fault) where
+module _ (r : Rules) (sound : IsSound r) (alike : IsAlike r) (m : r.Mark) (IsFinal : r.Answer → Type 0)
+    (final : (fault : r.Fault) (at n left more : ℕ) → left ≤ more → IsFinal (r.answer m fault at)
+    → r.lacks m at n left ≡ Some fault → r.lacks m at n more ≡ Some fault) where
   longer_on : {A : Type 0} (more : List ℕ) (a b : Result (A × Here) r.Answer) → b ≡ longer more a → IsReadOn IsFinal more a b
   longer_on more (Ok x) b is = is
   longer_on more (Err e) b is = λ last. is
@@ -212,7 +237,9 @@ module _ (r : Rules) (sound : IsSound r) (alike : IsAlike r) (m : r.Mark) (IsFin
       → IsReadOn IsFinal more (unless r (r.lacks m h.at n (length h.rest)) m h a) (unless r (r.lacks m h.at n (length (h.rest ++ more))) m (with_more more h) b)
   token_on n h more a b same = go (r.lacks m h.at n (length h.rest)) refl
     where
-      go : (o : Option r.Fault) → r.lacks m h.at n (length h.rest) ≡ o → IsReadOn IsFinal more (unless r o m h a) (unless r (r.lacks m h.at n (length (h.rest ++ more))) m (with_more more h) b)
+      go : (o : Option r.Fault) → r.lacks m h.at n (length h.rest) ≡ o
+          → IsReadOn IsFinal more (unless r o m h a)
+          (unless r (r.lacks m h.at n (length (h.rest ++ more))) m (with_more more h) b)
       go None e =
           let le = sound m h.at n (length h.rest) e in
           rw (alike m h.at n (length h.rest) (length (h.rest ++ more)) le (there n h more le) ∙ e) (longer_on more a b (same le))
@@ -223,23 +250,35 @@ module _ (r : Rules) (sound : IsSound r) (alike : IsAlike r) (m : r.Mark) (IsFin
   then_on more f (Ok y) b one two = rw one (two y)
   then_on more f (Err e) b one two = λ last. rw (one last) refl
 
-  entries_on : {A : Type 0} (rd : List A → Here → Result (A × Here) r.Answer) → ((before : List A) (h : Here) (more : List ℕ) → IsReadOn IsFinal more (rd before h) (rd before (with_more more h)))
-      → (n : ℕ) (before : List A) (h : Here) (more : List ℕ) → IsReadOn IsFinal more (entries n before false rd h) (entries n before false rd (with_more more h))
+  entries_on : {A : Type 0} (rd : List A → Here → Result (A × Here) r.Answer)
+      → ((before : List A) (h : Here) (more : List ℕ)
+      → IsReadOn IsFinal more (rd before h) (rd before (with_more more h)))
+      → (n : ℕ) (before : List A) (h : Here) (more : List ℕ)
+      → IsReadOn IsFinal more (entries n before false rd h) (entries n before false rd (with_more more h))
   entries_on rd one zero before h more = refl
   entries_on rd one (suc n) before h more =
-      then_on more (λ y. entries n (before ++ y.0 ∷ []) false rd y.1) (rd before h) (rd before (with_more more h)) (one before h more) (λ y. entries_on rd one n (before ++ y.0 ∷ []) y.1 more)
+      then_on more (λ y. entries n (before ++ y.0 ∷ []) false rd y.1) (rd before h) (rd before (with_more more h))
+      (one before h more) (λ y. entries_on rd one n (before ++ y.0 ∷ []) y.1 more)
 
   pub plain_on : {A : Type 0} (l : Form r A) → IsPlain l → (h : Here) (more : List ℕ) → IsReadOn IsFinal more (read m l h) (read m l (with_more more h))
   plain_on (Form.done x) p h more = refl
   plain_on {A = A} (Form.number width meaning number_for fault) p h more =
       token_on width h more (found r (or_fault (meaning (length h.rest - width) (number_of (take width h.rest))) fault) width m h) _
       (λ le.
-      ap (λ (o : Option A). found r (or_fault o fault) width m (with_more more h)) (p (length (h.rest ++ more) - width) (length h.rest - width) (number_of (take width (h.rest ++ more))))
+      ap (λ (o : Option A). found r (or_fault o fault) width m (with_more more h))
+      (p (length (h.rest ++ more) - width) (length h.rest - width) (number_of (take width (h.rest ++ more))))
       ∙ text_longer r (λ bytes. or_fault (meaning (length h.rest - width) (number_of bytes)) fault) width m h more le)
-  plain_on (Form.text n judge text_for) p h more = token_on n h more (found r (judge (take n h.rest)) n m h) (found r (judge (take n (h.rest ++ more))) n m (with_more more h)) (text_longer r judge n m h more)
-  plain_on (Form.field get l f) p h more = then_on more (λ y. read m (f y.0) y.1) (read m l h) (read m l (with_more more h)) (plain_on l p.0 h more) (λ y. plain_on (f y.0) (p.1 y.0) y.1 more)
+  plain_on (Form.text n judge text_for) p h more =
+      token_on n h more (found r (judge (take n h.rest)) n m h)
+      (found r (judge (take n (h.rest ++ more))) n m (with_more more h)) (text_longer r judge n m h more)
+  plain_on (Form.field get l f) p h more =
+      then_on more (λ y. read m (f y.0) y.1) (read m l h) (read m l (with_more more h)) (plain_on l p.0 h more)
+      (λ y. plain_on (f y.0) (p.1 y.0) y.1 more)
   plain_on (Form.area n fault l) p h more = token_on n h more (inside m n fault l h) (inside m n fault l (with_more more h)) (area_longer m n fault l h more)
-  plain_on (Form.list most stops l) p h more = rw p.0 (entries_on (λ before. read m (l before)) (λ before h more. plain_on (l before) (p.1 before) h more) most [] h more)
+  plain_on (Form.list most stops l) p h more =
+      rw p.0
+      (entries_on (λ before. read m (l before)) (λ before h more. plain_on (l before) (p.1 before) h more) most []
+      h more)
   plain_on (Form.by_left f) p h more = absurd p
   plain_on (Form.marked n l) p h more = absurd p
 
@@ -248,9 +287,11 @@ module _ (r : Rules) (sound : IsSound r) (alike : IsAlike r) (m : r.Mark) (IsFin
 buffer_alike : IsAlike buffer
 buffer_alike m at n left more le wide = buffer_roomy m at n more wide ∙ sym (buffer_roomy m at n left le)
 
-pub at_most_number : {A : Type 0} (width : ℕ) (meaning : ℕ → Option A) (number_for : A → ℕ) (fault : ℕ) → TakesAtMost {r = buffer} width (Form.number width (λ left. meaning) number_for fault)
+pub at_most_number : {A : Type 0} (width : ℕ) (meaning : ℕ → Option A) (number_for : A → ℕ) (fault : ℕ)
+    → TakesAtMost {r = buffer} width (Form.number width (λ left. meaning) number_for fault)
 at_most_number {A = A} width meaning number_for fault =
-    taken_at_most buffer buffer_sound buffer_alike width (Form.number width (λ left. meaning) number_for fault) (λ m h. found buffer (of_bytes (take width h.rest)) width m h) (λ m h. refl)
+    taken_at_most buffer buffer_sound buffer_alike width (Form.number width (λ left. meaning) number_for fault)
+    (λ m h. found buffer (of_bytes (take width h.rest)) width m h) (λ m h. refl)
     (λ m h. text_longer buffer of_bytes width m h) (λ m h x e. (was_found buffer (of_bytes (take width h.rest)) width m h x e).1)
   where
     of_bytes : List ℕ → Result A ℕ
@@ -277,19 +318,24 @@ pub at_most_sized_bytes : (n : ℕ) → TakesAtMost (2 + n) (sized_bytes n)
 unfolding sized_bytes
 at_most_sized_bytes n =
     at_most_field 2 n length (number_in 2 (λ k. leb k n) rc_size) raw (at_most_number_in 2 (λ k. leb k n) rc_size)
-    (λ m h y is. at_most_more y.0 n (raw y.0) (leb-true y.0 n (in_set 2 (λ k. leb k n) rc_size m h y is)) (at_most_text y.0 (λ bytes. Ok bytes) (λ bytes. bytes)))
+    (λ m h y is.
+    at_most_more y.0 n (raw y.0) (leb-true y.0 n (in_set 2 (λ k. leb k n) rc_size m h y is))
+    (at_most_text y.0 (λ bytes. Ok bytes) (λ bytes. bytes)))
 
 pub at_most_sized : {A : Type 0} (n : ℕ) (l : Layout A) → TakesAtMost (2 + n) (sized n l)
 unfolding sized
 at_most_sized n l =
-    at_most_field 2 n (λ x. length (spelling l x)) (number_in 2 (λ k. leb k n) rc_size) (λ k. Form.area k rc_size l) (at_most_number_in 2 (λ k. leb k n) rc_size)
+    at_most_field 2 n (λ x. length (spelling l x)) (number_in 2 (λ k. leb k n) rc_size) (λ k. Form.area k rc_size l)
+    (at_most_number_in 2 (λ k. leb k n) rc_size)
     (λ m h y is.
-    at_most_more y.0 n (Form.area y.0 rc_size l) (leb-true y.0 n (in_set 2 (λ k. leb k n) rc_size m h y is)) (area_at_most buffer buffer_sound buffer_alike y.0 rc_size l))
+    at_most_more y.0 n (Form.area y.0 rc_size l) (leb-true y.0 n (in_set 2 (λ k. leb k n) rc_size m h y is))
+    (area_at_most buffer buffer_sound buffer_alike y.0 rc_size l))
 
 pub at_most_counted : {A : Type 0} (least most k : ℕ) (l : Layout A) → TakesAtMost k l → TakesAtMost (4 + most * k) (counted least most l)
 unfolding counted
 at_most_counted least most k l t =
-    at_most_field 4 (most * k) length (number_in 4 (λ n. leb least n && leb n most) rc_size) (λ n. Form.list n false (λ _. l)) (at_most_number_in 4 (λ n. leb least n && leb n most) rc_size)
+    at_most_field 4 (most * k) length (number_in 4 (λ n. leb least n && leb n most) rc_size)
+    (λ n. Form.list n false (λ _. l)) (at_most_number_in 4 (λ n. leb least n && leb n most) rc_size)
     (λ m h y is.
     let le : y.0 ≤ most = leb-true y.0 most (and_parts _ _ (in_set 4 (λ n. leb least n && leb n most) rc_size m h y is)).1 in
     at_most_more (y.0 * k) (most * k) (Form.list y.0 false (λ _. l)) (mul-le-mul_right k le) (at_most_list y.0 k (λ _. l) (λ before. t)))

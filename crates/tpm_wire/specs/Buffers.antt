@@ -16,7 +16,15 @@ with_number added code at = record { code = code + added; at = at }
 
 -- A fault is a code, a mark is the number that is added to it. Too few bytes in its area is the first fault of a token.
 abbrev pub buffer : Rules
-buffer = record { Fault = ℕ; Mark = ℕ; Answer = Refusal; whole = 0; over = rc_size; lacks = too_few; answer = with_number }
+buffer = record {
+  Fault = ℕ;
+  Mark = ℕ;
+  Answer = Refusal;
+  whole = 0;
+  over = rc_size;
+  lacks = too_few;
+  answer = with_number;
+}
 
 abbrev pub Layout : Type 0 → Type 1
 Layout = Form buffer
@@ -61,10 +69,15 @@ later_refusal k e = record { code = e.code; at = e.at + k }
 
 -- An area of n bytes begins at the old place, and what comes after it is kept.
 abbrev pub Enters : ℕ → Place → Place → Result Here Refusal → Type 0
-Enters n old new (Ok outer) = (n ≤ length old.here.rest) × (outer ≡ past n old.here) × (new ≡ record { here = record { rest = take n old.here.rest; at = old.here.at }; number = old.number })
-Enters n old new (Err e) = (length old.here.rest < n) × (e ≡ record { code = rc_insufficient + old.number; at = old.here.at })
+Enters n old new (Ok outer) =
+    (n ≤ length old.here.rest)
+    × (outer ≡ past n old.here)
+    × (new ≡ record { here = record { rest = take n old.here.rest; at = old.here.at }; number = old.number })
+Enters n old new (Err e) =
+    (length old.here.rest < n) × (e ≡ record { code = rc_insufficient + old.number; at = old.here.at })
 
 -- The area ends at the old place, and what comes after it is next.
 abbrev pub Leaves : Here → Place → Place → Result (Unit {0}) Refusal → Type 0
 Leaves outer old new (Ok x) = (length old.here.rest ≡ 0) × (new ≡ record { here = outer; number = old.number })
-Leaves outer old new (Err e) = (0 < length old.here.rest) × (e ≡ record { code = rc_size + old.number; at = old.here.at })
+Leaves outer old new (Err e) =
+    (0 < length old.here.rest) × (e ≡ record { code = rc_size + old.number; at = old.here.at })

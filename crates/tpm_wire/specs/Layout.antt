@@ -6,8 +6,10 @@ use Rattle.tpm_wire.specs.Rules.{Rules}
 pub data Form (r : Rules) : Type 0 → Type 1 where
   -- no byte; the value is this
   done : {A : Type 0} → A → Form r A
-  -- A number of so many bytes. It has a meaning, by how many bytes are left after it in the area, or else it has the fault.
-  number : {A : Type 0} → (width : ℕ) → (meaning : ℕ → ℕ → Option A) → (number_for : A → ℕ) → (fault : r.Fault) → Form r A
+  -- A number of so many bytes. It has a meaning, by how many bytes are left after it in the area, or else it has the
+  -- fault.
+  number : {A : Type 0} → (width : ℕ) → (meaning : ℕ → ℕ → Option A) → (number_for : A → ℕ) → (fault : r.Fault)
+      → Form r A
   -- so many bytes, which have a value or a fault
   text : {A : Type 0} → (n : ℕ) → (judge : List ℕ → Result A r.Fault) → (text_for : A → List ℕ) → Form r A
   -- a part of the value, and by that part what follows it

@@ -10,7 +10,8 @@ use Rattle.tpm_wire.specs.Reading.{read}
 -- Each token has a mark, and a number of bytes that are left in its area.
 pub data Next (r : Rules) : Type 0 → Type 1 where
   ends : {A : Type 0} → A → Next r A
-  text : {A X : Type 0} → (n : ℕ) → (judge : List ℕ → Result X r.Fault) → (mark : r.Mark) → (left : ℕ) → (X → Next r A) → Next r A
+  text : {A X : Type 0} → (n : ℕ) → (judge : List ℕ → Result X r.Fault) → (mark : r.Mark) → (left : ℕ) → (X → Next r A)
+      → Next r A
   room : {A : Type 0} → (n : ℕ) → (mark : r.Mark) → (left : ℕ) → Next r A → Next r A
   end : {A : Type 0} → (fault : r.Fault) → (mark : r.Mark) → (left : ℕ) → Next r A → Next r A
 
@@ -25,7 +26,8 @@ go_on (Ok x) next here = next x
 
 -- what a layout says after a token
 abbrev pub after : {r : Rules} {A : Type 0} → Next r A → Token → Next r A
-after {r = r} (Next.text n judge mark left next) (Token.text bytes) = go_on {r = r} (judge bytes) next (Next.text n judge mark left next)
+after {r = r} (Next.text n judge mark left next) (Token.text bytes) =
+    go_on {r = r} (judge bytes) next (Next.text n judge mark left next)
 after (Next.room n mark left next) (Token.room m) = next
 after (Next.end fault mark left next) Token.end = next
 after next _ = next
@@ -49,10 +51,12 @@ abbrev pub fault_in : {X F : Type 0} → Result X F → Option F
 fault_in (Ok x) = None
 fault_in (Err fault) = Some fault
 
--- The fault of the token that is asked for, if it has one: it lacks bytes, or else its value is refused, or bytes are left.
+-- The fault of the token that is asked for, if it has one: it lacks bytes, or else its value is refused, or bytes are
+-- left.
 abbrev pub fault_at : {r : Rules} {A : Type 0} → Next r A → Here → Option r.Fault
 fault_at (Next.ends x) h = None
-fault_at {r = r} (Next.text n judge mark left next) h = first (r.lacks mark h.at n (length (take left h.rest))) (fault_in (judge (take n (take left h.rest))))
+fault_at {r = r} (Next.text n judge mark left next) h =
+    first (r.lacks mark h.at n (length (take left h.rest))) (fault_in (judge (take n (take left h.rest))))
 fault_at {r = r} (Next.room n mark left next) h = r.lacks mark h.at n (length (take left h.rest))
 fault_at (Next.end fault mark left next) h = if length (take left h.rest) == 0 then None else Some fault
 
@@ -74,25 +78,30 @@ IsPath next h (t ∷ ts) = Allows next h t × IsPath (after next t) (past (lengt
 
 -- The token that is asked for is refused with this answer.
 abbrev pub IsRefused : {r : Rules} {A : Type 0} → Next r A → Here → r.Answer → Type 0
-IsRefused {r = r} next h e = (fault : r.Fault) × (fault_at next h ≡ Some fault) × (e ≡ r.answer (mark_of next) fault h.at)
+IsRefused {r = r} next h e =
+    (fault : r.Fault) × (fault_at next h ≡ Some fault) × (e ≡ r.answer (mark_of next) fault h.at)
 
 abbrev pub one_of : {r : Rules} {A : Type 0} → Bool → Next r A → Next r A → Next r A
 one_of true x y = x
 one_of false x y = y
 
 -- entries of a list, up to so many, and no more where the area ends and that is allowed
-abbrev pub each : {r : Rules} {A B : Type 0} → ℕ → List A → Bool → (List A → (A → ℕ → Next r B) → ℕ → Next r B) → (List A → ℕ → Next r B) → ℕ → Next r B
+abbrev pub each : {r : Rules} {A B : Type 0} → ℕ → List A → Bool → (List A → (A → ℕ → Next r B) → ℕ → Next r B)
+    → (List A → ℕ → Next r B) → ℕ → Next r B
 each zero before stops one next left = next before left
-each (suc n) before stops one next left = one_of (stops && left == 0) (next before left) (one before (λ x. each n (before ++ x ∷ []) stops one next) left)
+each (suc n) before stops one next left =
+    one_of (stops && left == 0) (next before left) (one before (λ x. each n (before ++ x ∷ []) stops one next) left)
 
 -- what a layout says in an area, where so many bytes are left, with what follows it
 abbrev pub steps : {r : Rules} {A B : Type 0} → r.Mark → Form r A → (A → ℕ → Next r B) → ℕ → Next r B
 steps mark (Form.done x) next left = next x left
 steps mark (Form.number width meaning number_for fault) next left =
-    Next.text width (λ bytes. or_fault (meaning (left - width) (number_of bytes)) fault) mark left (λ x. next x (left - width))
+    Next.text width (λ bytes. or_fault (meaning (left - width) (number_of bytes)) fault) mark left
+    (λ x. next x (left - width))
 steps mark (Form.text n judge text_for) next left = Next.text n judge mark left (λ x. next x (left - n))
 steps mark (Form.field get l f) next left = steps mark l (λ x. steps mark (f x) next) left
-steps mark (Form.area n fault l) next left = Next.room n mark left (steps mark l (λ x inside. Next.end fault mark inside (next x (left - n))) n)
+steps mark (Form.area n fault l) next left =
+    Next.room n mark left (steps mark l (λ x inside. Next.end fault mark inside (next x (left - n))) n)
 steps mark (Form.list most stops l) next left = each most [] stops (λ before. steps mark (l before)) next left
 steps mark (Form.by_left f) next left = steps mark (f left) next left
 steps mark (Form.marked n l) next left = steps n l next left
@@ -103,7 +112,10 @@ start {r = r} l n = steps r.whole l (λ x left. Next.end r.over r.whole left (Ne
 
 -- The bytes are the whole of a path that ends with the value.
 abbrev pub Spells : {r : Rules} {A : Type 0} → Form r A → A → List ℕ → Type 0
-Spells l x bytes = (path : List Token) × IsPath (start l (length bytes)) (at_start bytes) path × (spelled_all path ≡ bytes) × (ended (after_all (start l (length bytes)) path) ≡ Some x)
+Spells l x bytes =
+    (path : List Token) × IsPath (start l (length bytes)) (at_start bytes) path
+    × (spelled_all path ≡ bytes)
+    × (ended (after_all (start l (length bytes)) path) ≡ Some x)
 
 -- A path begins the bytes, and the token that is asked for after it is refused there with this answer.
 abbrev pub Fault : {r : Rules} {A : Type 0} → Form r A → List ℕ → r.Answer → Type 0
@@ -133,7 +145,8 @@ abbrev pub Begins : {r : Rules} {A : Type 0} → r.Mark → Form r A → A → H
 Begins mark l x h behind = (path : List Token) × IsPath (alone mark l (length h.rest)) h path
     × (behind ≡ past (length (spelled_all path)) h) × (ended (after_all (alone mark l (length h.rest)) path) ≡ Some x)
 
--- From a place on the bytes begin with a path, and the token that is asked for after it is refused there with this answer.
+-- From a place on the bytes begin with a path, and the token that is asked for after it is refused there with this
+-- answer.
 abbrev pub FaultFrom : {r : Rules} {A : Type 0} → r.Mark → Form r A → Here → r.Answer → Type 0
 FaultFrom mark l h e = (path : List Token) × IsPath (alone mark l (length h.rest)) h path
     × IsRefused (after_all (alone mark l (length h.rest)) path) (past (length (spelled_all path)) h) e

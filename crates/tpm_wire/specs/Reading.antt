@@ -23,7 +23,8 @@ abbrev pub found : {A : Type 0} → (r : Rules) → Result A r.Fault → ℕ →
 found r (Err fault) n mark h = refuse r mark fault h
 found r (Ok x) n mark h = Ok (x, past n h)
 
-abbrev pub entries : {A E : Type 0} → ℕ → List A → Bool → (List A → Here → Result (A × Here) E) → Here → Result (List A × Here) E
+abbrev pub entries : {A E : Type 0} → ℕ → List A → Bool → (List A → Here → Result (A × Here) E) → Here
+    → Result (List A × Here) E
 entries zero before stops read h = Ok (before, h)
 entries (suc n) before stops read h = if stops && length h.rest == 0 then Ok (before, h) else
     (read before h >>= λ x. entries n (before ++ x.0 ∷ []) stops read x.1)
@@ -31,11 +32,14 @@ entries (suc n) before stops read h = if stops && length h.rest == 0 then Ok (be
 abbrev pub read : {r : Rules} {A : Type 0} → r.Mark → Form r A → Here → Result (A × Here) r.Answer
 read mark (done x) h = Ok (x, h)
 read {r = r} mark (number width meaning number_for fault) h =
-    unless r (r.lacks mark h.at width (length h.rest)) mark h (found r (or_fault (meaning (length h.rest - width) (number_of (take width h.rest))) fault) width mark h)
-read {r = r} mark (text n judge text_for) h = unless r (r.lacks mark h.at n (length h.rest)) mark h (found r (judge (take n h.rest)) n mark h)
+    unless r (r.lacks mark h.at width (length h.rest)) mark h
+    (found r (or_fault (meaning (length h.rest - width) (number_of (take width h.rest))) fault) width mark h)
+read {r = r} mark (text n judge text_for) h =
+    unless r (r.lacks mark h.at n (length h.rest)) mark h (found r (judge (take n h.rest)) n mark h)
 read mark (field get l f) h = read mark l h >>= λ x. read mark (f x.0) x.1
 read {r = r} mark (area n fault l) h = unless r (r.lacks mark h.at n (length h.rest)) mark h
-    (read mark l (record { rest = take n h.rest; at = h.at }) >>= λ x. if length x.1.rest == 0 then Ok (x.0, past n h) else refuse r mark fault x.1)
+    (read mark l (record { rest = take n h.rest; at = h.at })
+    >>= λ x. if length x.1.rest == 0 then Ok (x.0, past n h) else refuse r mark fault x.1)
 read mark (list most stops l) h = entries most [] stops (λ before. read mark (l before)) h
 read mark (by_left f) h = read mark (f (length h.rest)) h
 read mark (marked n l) h = read n l h

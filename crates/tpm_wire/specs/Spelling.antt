@@ -21,19 +21,26 @@ spelling (by_left f) x = spelling (f 0) x
 spelling (marked n l) x = spelling l x
 
 -- Each entry has a spelling, and there are as many as the layout asks for.
-abbrev pub FitEach : {A : Type 0} → (ℕ → List A → A → Type 0) → (List A → A → List ℕ) → Bool → ℕ → ℕ → List A → List A → Type 0
+abbrev pub FitEach : {A : Type 0} → (ℕ → List A → A → Type 0) → (List A → A → List ℕ) → Bool → ℕ → ℕ → List A → List A
+    → Type 0
 FitEach fits spell stops most left before [] = (most ≡ 0) ⊎ ((stops ≡ true) × (left ≡ 0))
 FitEach fits spell stops zero left before (x ∷ xs) = ⊥
-FitEach fits spell stops (suc most) left before (x ∷ xs) = (0 < length (spell before x)) × fits left before x × FitEach fits spell stops most (left - length (spell before x)) (before ++ x ∷ []) xs
+FitEach fits spell stops (suc most) left before (x ∷ xs) =
+    (0 < length (spell before x))
+    × fits left before x
+    × FitEach fits spell stops most (left - length (spell before x)) (before ++ x ∷ []) xs
 
--- The value has a spelling in an area in which so many bytes are left. Where a layout is by what is left, only one spelling is meant.
+-- The value has a spelling in an area in which so many bytes are left. Where a layout is
+-- by what is left, only one spelling is meant.
 abbrev pub Fits : {r : Rules} {A : Type 0} → ℕ → Form r A → A → Type 0
 Fits left (done y) x = x ≡ y
-Fits left (number width meaning number_for fault) x = (number_for x < 256 ^ width) × (meaning (left - width) (number_for x) ≡ Some x)
+Fits left (number width meaning number_for fault) x =
+    (number_for x < 256 ^ width) × (meaning (left - width) (number_for x) ≡ Some x)
 Fits left (text n judge text_for) x = (length (text_for x) ≡ n) × (judge (text_for x) ≡ Ok x)
 Fits left (field get l f) x = Fits left l (get x) × Fits (left - length (spelling l (get x))) (f (get x)) x
 Fits left (area n fault l) x = (length (spelling l x) ≡ n) × Fits n l x
-Fits left (list most stops l) xs = FitEach (λ k before. Fits k (l before)) (λ before. spelling (l before)) stops most left [] xs
+Fits left (list most stops l) xs =
+    FitEach (λ k before. Fits k (l before)) (λ before. spelling (l before)) stops most left [] xs
 Fits left (by_left f) x = (spelling (f left) x ≡ spelling (f 0) x) × Fits left (f left) x
 Fits left (marked n l) x = Fits left l x
 

@@ -109,8 +109,12 @@ impl<T: Wire + Default + Duplicate + Drop, const MOST: usize> Default for Counte
 
 /// The number of entries, else SIZE.
 fn take_count(cursor: &mut Cursor<'_>, least: usize, most: usize) -> Result<u32, Refusal>
-    ensures reads { Takes (number_in 4 (λ n. nat_le least n && nat_le n most) rc_size) cursor.old cursor.new result }
-    ensures spelled { IfOk result (λ n. cursor.old.here.rest ≡ spelling (number_in 4 (λ n. nat_le least n && nat_le n most) rc_size) n ++ cursor.new.here.rest) }
+    ensures reads { Takes (number_in 4 (λ n. nat_le least n && nat_le n most) rc_size)
+        cursor.old cursor.new result }
+    ensures spelled { IfOk result
+        (λ n. cursor.old.here.rest
+        ≡ spelling (number_in 4 (λ n. nat_le least n && nat_le n most) rc_size) n
+        ++ cursor.new.here.rest) }
     ensures bounds { IfOk result (λ n. (least ≤ n) × (n ≤ most) × (n < 2 ^ 32)) }
     ensures short { length cursor.old.here.rest < 2 ^ 32 }
 {

@@ -12,16 +12,18 @@ use crate::refusal::Refusal;
 use crate::wire::{Buffer, Wire};
 use arrayvec::ArrayVec;
 
-/// Reads so many entries in the place of those that were there, or answers the first fault in one of them. Which entries are
-/// there after a fault is not said.
+/// Reads so many entries in the place of those that were there, or answers the first fault in one of them. Which
+/// entries are there after a fault is not said.
 pub fn read_list<T: Wire + Default + Drop, const N: usize>(
     cursor: &mut Cursor<'_>,
     count: usize,
     entries: &mut ArrayVec<T, N>,
 ) -> Result<(), Refusal>
     requires { count ≤ N }
-    ensures reads { TakesAs (λ _. entries.new.items) (list count false (λ _. T.layout)) cursor.old cursor.new result }
-    ensures spelled { OnOk result (cursor.old.here.rest ≡ joined_all T.layout entries.new.items ++ cursor.new.here.rest) }
+    ensures reads { TakesAs (λ _. entries.new.items) (list count false (λ _. T.layout))
+        cursor.old cursor.new result }
+    ensures spelled { OnOk result
+        (cursor.old.here.rest ≡ joined_all T.layout entries.new.items ++ cursor.new.here.rest) }
     ensures count { OnOk result (length entries.new.items ≡ count) }
 {
     entries.clear();
@@ -33,8 +35,8 @@ pub fn read_list<T: Wire + Default + Drop, const N: usize>(
     Ok(())
 }
 
-/// Reads entries to the end of the area, but at most so many, or answers the first fault in one of them. To the codes of
-/// entry `i`, from 0, it adds `first + 0x100 * i`.
+/// Reads entries to the end of the area, but at most so many, or answers the first fault in one of them. To the codes
+/// of entry `i`, from 0, it adds `first + 0x100 * i`.
 pub fn take_rest<T: Wire + Default + Drop, const N: usize>(
     cursor: &mut Cursor<'_>,
     most: usize,
@@ -42,8 +44,11 @@ pub fn take_rest<T: Wire + Default + Drop, const N: usize>(
 ) -> Result<ArrayVec<T, N>, Refusal>
     requires room { most ≤ N }
     requires numbers { first + 0x100 * most ≤ greatest_number }
-    ensures reads { TakesNumbered (λ v. v.items) (list most true (λ before. numbered (first + 0x100 * length before) T.layout)) cursor.old cursor.new result }
-    ensures spelled { IfOk result (λ v. cursor.old.here.rest ≡ joined_all T.layout v.items ++ cursor.new.here.rest) }
+    ensures reads { TakesNumbered (λ v. v.items)
+        (list most true (λ before. numbered (first + 0x100 * length before) T.layout))
+        cursor.old cursor.new result }
+    ensures spelled { IfOk result
+        (λ v. cursor.old.here.rest ≡ joined_all T.layout v.items ++ cursor.new.here.rest) }
     ensures few { IfOk result (λ v. length v.items ≤ most) }
 {
     let mut entries = ArrayVec::new();
@@ -60,8 +65,11 @@ pub fn read_rest<T: Wire + Default + Drop, const N: usize>(
 ) -> Result<(), Refusal>
     requires room { most ≤ N }
     requires numbers { first + 0x100 * most ≤ greatest_number }
-    ensures reads { TakesNumbered (λ _. entries.new.items) (list most true (λ before. numbered (first + 0x100 * length before) T.layout)) cursor.old cursor.new result }
-    ensures spelled { OnOk result (cursor.old.here.rest ≡ joined_all T.layout entries.new.items ++ cursor.new.here.rest) }
+    ensures reads { TakesNumbered (λ _. entries.new.items)
+        (list most true (λ before. numbered (first + 0x100 * length before) T.layout))
+        cursor.old cursor.new result }
+    ensures spelled { OnOk result
+        (cursor.old.here.rest ≡ joined_all T.layout entries.new.items ++ cursor.new.here.rest) }
     ensures few { OnOk result (length entries.new.items ≤ most) }
 {
     entries.clear();

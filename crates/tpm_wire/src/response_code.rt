@@ -78,8 +78,8 @@ pub const AUTH_FAIL: u32 = 0x08E;
 /// TPM_RC_NONCE: a password has a nonce. The session's number is added.
 pub const NONCE: u32 = 0x08F;
 
-/// TPM_RC_SIZE: bytes left over in an area, or a size or count outside its bounds. A number is added, but not to that of
-/// bytes behind a command or a response.
+/// TPM_RC_SIZE: bytes left over in an area, or a size or count outside its bounds. A number is added, but not to
+/// that of bytes behind a command or a response.
 pub const SIZE: u32 = 0x095;
 
 /// TPM_RC_SYMMETRIC: the symmetric algorithm is none of NULL, AES and XOR. A number is added.

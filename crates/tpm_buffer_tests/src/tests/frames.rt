@@ -13,8 +13,8 @@ const READ: &str = "8001 00000014 0000017e 00000001 000b 03 010000";
 const BAD_SIZE: Refusal = Refusal { code: 0x142, at: 2 };
 
 // What comes of a framer: a piece, how many of its bytes are taken, and the status; the frame that is held; `next`; and
-// `new` for another framer. A frame comes byte by byte; no byte behind it is taken; the size is judged with its last byte; the tag is
-// not looked at; part of a frame wants more.
+// `new` for another framer. A frame comes byte by byte; no byte behind it is taken; the size is judged with its last
+// byte; the tag is not looked at; part of a frame wants more.
 const STEPS: &str = "\
 new
 80 -> 1 more

@@ -21,4 +21,13 @@ flush_context =
     done (params.FlushContext handle))
 
 abbrev pub flush_context_row : Row
-flush_context_row = record { number = 0x165; name = codes "FlushContext"; handles = []; authorized = false; parameters = flush_context; reply = λ hs. done replies.FlushContext; parameter_names = named (codes "flushHandle") (codes "TPMI_DH_CONTEXT") ∷ []; reply_names = [] }
+flush_context_row = record {
+  number = 0x165;
+  name = codes "FlushContext";
+  handles = [];
+  authorized = false;
+  parameters = flush_context;
+  reply = λ hs. done replies.FlushContext;
+  parameter_names = named (codes "flushHandle") (codes "TPMI_DH_CONTEXT") ∷ [];
+  reply_names = [];
+}

@@ -35,12 +35,33 @@ nv_define_space =
     done (params.NvDefineSpace auth public)))
 
 abbrev pub nv_define_space_row : Row
-nv_define_space_row = record { number = 0x12A; name = codes "NV_DefineSpace"; handles = Owner ∷ []; authorized = true; parameters = nv_define_space; reply = λ hs. done replies.NvDefineSpace; parameter_names = named (codes "auth") (codes "TPM2B_AUTH") ∷ named (codes "publicInfo") (codes "TPM2B_NV_PUBLIC") ∷ []; reply_names = [] }
+nv_define_space_row = record {
+  number = 0x12A;
+  name = codes "NV_DefineSpace";
+  handles = Owner ∷ [];
+  authorized = true;
+  parameters = nv_define_space;
+  reply = λ hs. done replies.NvDefineSpace;
+  parameter_names =
+      named (codes "auth") (codes "TPM2B_AUTH")
+      ∷ named (codes "publicInfo") (codes "TPM2B_NV_PUBLIC")
+      ∷ [];
+  reply_names = [];
+}
 
 -- ---- TPM2_NV_UndefineSpace (31.4)
 
 abbrev pub nv_undefine_space_row : Row
-nv_undefine_space_row = record { number = 0x122; name = codes "NV_UndefineSpace"; handles = Owner ∷ Index ∷ []; authorized = true; parameters = done params.NvUndefineSpace; reply = λ hs. done replies.NvUndefineSpace; parameter_names = []; reply_names = [] }
+nv_undefine_space_row = record {
+  number = 0x122;
+  name = codes "NV_UndefineSpace";
+  handles = Owner ∷ Index ∷ [];
+  authorized = true;
+  parameters = done params.NvUndefineSpace;
+  reply = λ hs. done replies.NvUndefineSpace;
+  parameter_names = [];
+  reply_names = [];
+}
 
 -- ---- TPM2_NV_ReadPublic (31.6)
 
@@ -59,12 +80,33 @@ nv_read_public_reply =
     done (replies.NvReadPublic public its_name)))
 
 abbrev pub nv_read_public_row : Row
-nv_read_public_row = record { number = 0x169; name = codes "NV_ReadPublic"; handles = Index ∷ []; authorized = false; parameters = done params.NvReadPublic; reply = λ hs. nv_read_public_reply; parameter_names = []; reply_names = named (codes "nvPublic") (codes "TPM2B_NV_PUBLIC") ∷ named (codes "nvName") (codes "TPM2B_NAME") ∷ [] }
+nv_read_public_row = record {
+  number = 0x169;
+  name = codes "NV_ReadPublic";
+  handles = Index ∷ [];
+  authorized = false;
+  parameters = done params.NvReadPublic;
+  reply = λ hs. nv_read_public_reply;
+  parameter_names = [];
+  reply_names =
+      named (codes "nvPublic") (codes "TPM2B_NV_PUBLIC")
+      ∷ named (codes "nvName") (codes "TPM2B_NAME")
+      ∷ [];
+}
 
 -- ---- TPM2_NV_Increment (31.8)
 
 abbrev pub nv_increment_row : Row
-nv_increment_row = record { number = 0x134; name = codes "NV_Increment"; handles = OwnerOrIndex ∷ Index ∷ []; authorized = true; parameters = done params.NvIncrement; reply = λ hs. done replies.NvIncrement; parameter_names = []; reply_names = [] }
+nv_increment_row = record {
+  number = 0x134;
+  name = codes "NV_Increment";
+  handles = OwnerOrIndex ∷ Index ∷ [];
+  authorized = true;
+  parameters = done params.NvIncrement;
+  reply = λ hs. done replies.NvIncrement;
+  parameter_names = [];
+  reply_names = [];
+}
 
 -- ---- TPM2_NV_Read (31.13)
 
@@ -92,4 +134,13 @@ nv_read_reply =
     done (replies.NvRead bytes))
 
 abbrev pub nv_read_row : Row
-nv_read_row = record { number = 0x14E; name = codes "NV_Read"; handles = OwnerOrIndex ∷ Index ∷ []; authorized = true; parameters = nv_read; reply = λ hs. nv_read_reply; parameter_names = named (codes "size") (codes "UINT16") ∷ named (codes "offset") (codes "UINT16") ∷ []; reply_names = named (codes "data") (codes "TPM2B_MAX_NV_BUFFER") ∷ [] }
+nv_read_row = record {
+  number = 0x14E;
+  name = codes "NV_Read";
+  handles = OwnerOrIndex ∷ Index ∷ [];
+  authorized = true;
+  parameters = nv_read;
+  reply = λ hs. nv_read_reply;
+  parameter_names = named (codes "size") (codes "UINT16") ∷ named (codes "offset") (codes "UINT16") ∷ [];
+  reply_names = named (codes "data") (codes "TPM2B_MAX_NV_BUFFER") ∷ [];
+}

@@ -27,7 +27,16 @@ pcr_extend =
     done (params.PcrExtend values))
 
 abbrev pub pcr_extend_row : Row
-pcr_extend_row = record { number = 0x182; name = codes "PCR_Extend"; handles = PcrOrNull ∷ []; authorized = true; parameters = pcr_extend; reply = λ hs. done replies.PcrExtend; parameter_names = named (codes "digests") (codes "TPML_DIGEST_VALUES") ∷ []; reply_names = [] }
+pcr_extend_row = record {
+  number = 0x182;
+  name = codes "PCR_Extend";
+  handles = PcrOrNull ∷ [];
+  authorized = true;
+  parameters = pcr_extend;
+  reply = λ hs. done replies.PcrExtend;
+  parameter_names = named (codes "digests") (codes "TPML_DIGEST_VALUES") ∷ [];
+  reply_names = [];
+}
 
 -- ---- TPM2_PCR_Event (22.3)
 
@@ -50,7 +59,16 @@ pcr_event_reply =
     done (replies.PcrEvent values))
 
 abbrev pub pcr_event_row : Row
-pcr_event_row = record { number = 0x13C; name = codes "PCR_Event"; handles = PcrOrNull ∷ []; authorized = true; parameters = pcr_event; reply = λ hs. pcr_event_reply; parameter_names = named (codes "eventData") (codes "TPM2B_EVENT") ∷ []; reply_names = named (codes "digests") (codes "TPML_DIGEST_VALUES") ∷ [] }
+pcr_event_row = record {
+  number = 0x13C;
+  name = codes "PCR_Event";
+  handles = PcrOrNull ∷ [];
+  authorized = true;
+  parameters = pcr_event;
+  reply = λ hs. pcr_event_reply;
+  parameter_names = named (codes "eventData") (codes "TPM2B_EVENT") ∷ [];
+  reply_names = named (codes "digests") (codes "TPML_DIGEST_VALUES") ∷ [];
+}
 
 -- ---- TPM2_PCR_Read (22.4)
 
@@ -83,9 +101,31 @@ pcr_read_reply =
     done (replies.PcrRead counter selected values))))
 
 abbrev pub pcr_read_row : Row
-pcr_read_row = record { number = 0x17E; name = codes "PCR_Read"; handles = []; authorized = false; parameters = pcr_read; reply = λ hs. pcr_read_reply; parameter_names = named (codes "pcrSelectionIn") (codes "TPML_PCR_SELECTION") ∷ []; reply_names = named (codes "pcrUpdateCounter") (codes "UINT32") ∷ named (codes "pcrSelectionOut") (codes "TPML_PCR_SELECTION") ∷ named (codes "pcrValues") (codes "TPML_DIGEST") ∷ [] }
+pcr_read_row = record {
+  number = 0x17E;
+  name = codes "PCR_Read";
+  handles = [];
+  authorized = false;
+  parameters = pcr_read;
+  reply = λ hs. pcr_read_reply;
+  parameter_names = named (codes "pcrSelectionIn") (codes "TPML_PCR_SELECTION") ∷ [];
+  reply_names =
+      named (codes "pcrUpdateCounter") (codes "UINT32")
+      ∷ named (codes "pcrSelectionOut") (codes "TPML_PCR_SELECTION")
+      ∷ named (codes "pcrValues") (codes "TPML_DIGEST")
+      ∷ [];
+}
 
 -- ---- TPM2_PCR_Reset (22.8)
 
 abbrev pub pcr_reset_row : Row
-pcr_reset_row = record { number = 0x13D; name = codes "PCR_Reset"; handles = Pcr ∷ []; authorized = true; parameters = done params.PcrReset; reply = λ hs. done replies.PcrReset; parameter_names = []; reply_names = [] }
+pcr_reset_row = record {
+  number = 0x13D;
+  name = codes "PCR_Reset";
+  handles = Pcr ∷ [];
+  authorized = true;
+  parameters = done params.PcrReset;
+  reply = λ hs. done replies.PcrReset;
+  parameter_names = [];
+  reply_names = [];
+}

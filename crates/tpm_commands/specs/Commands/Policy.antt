@@ -25,7 +25,16 @@ policy_or =
     done (params.PolicyOr digests))
 
 abbrev pub policy_or_row : Row
-policy_or_row = record { number = 0x171; name = codes "PolicyOR"; handles = Policy ∷ []; authorized = false; parameters = policy_or; reply = λ hs. done replies.PolicyOr; parameter_names = named (codes "pHashList") (codes "TPML_DIGEST") ∷ []; reply_names = [] }
+policy_or_row = record {
+  number = 0x171;
+  name = codes "PolicyOR";
+  handles = Policy ∷ [];
+  authorized = false;
+  parameters = policy_or;
+  reply = λ hs. done replies.PolicyOr;
+  parameter_names = named (codes "pHashList") (codes "TPML_DIGEST") ∷ [];
+  reply_names = [];
+}
 
 -- ---- TPM2_PolicyPCR (23.7)
 
@@ -44,7 +53,19 @@ policy_pcr =
     done (params.PolicyPcr pcr_digest selected)))
 
 abbrev pub policy_pcr_row : Row
-policy_pcr_row = record { number = 0x17F; name = codes "PolicyPCR"; handles = Policy ∷ []; authorized = false; parameters = policy_pcr; reply = λ hs. done replies.PolicyPcr; parameter_names = named (codes "pcrDigest") (codes "TPM2B_DIGEST") ∷ named (codes "pcrs") (codes "TPML_PCR_SELECTION") ∷ []; reply_names = [] }
+policy_pcr_row = record {
+  number = 0x17F;
+  name = codes "PolicyPCR";
+  handles = Policy ∷ [];
+  authorized = false;
+  parameters = policy_pcr;
+  reply = λ hs. done replies.PolicyPcr;
+  parameter_names =
+      named (codes "pcrDigest") (codes "TPM2B_DIGEST")
+      ∷ named (codes "pcrs") (codes "TPML_PCR_SELECTION")
+      ∷ [];
+  reply_names = [];
+}
 
 -- ---- TPM2_PolicyCommandCode (23.11)
 
@@ -58,12 +79,30 @@ policy_command_code =
     done (params.PolicyCommandCode code))
 
 abbrev pub policy_command_code_row : Row
-policy_command_code_row = record { number = 0x16C; name = codes "PolicyCommandCode"; handles = Policy ∷ []; authorized = false; parameters = policy_command_code; reply = λ hs. done replies.PolicyCommandCode; parameter_names = named (codes "code") (codes "TPM_CC") ∷ []; reply_names = [] }
+policy_command_code_row = record {
+  number = 0x16C;
+  name = codes "PolicyCommandCode";
+  handles = Policy ∷ [];
+  authorized = false;
+  parameters = policy_command_code;
+  reply = λ hs. done replies.PolicyCommandCode;
+  parameter_names = named (codes "code") (codes "TPM_CC") ∷ [];
+  reply_names = [];
+}
 
 -- ---- TPM2_PolicyAuthValue (23.17)
 
 abbrev pub policy_auth_value_row : Row
-policy_auth_value_row = record { number = 0x16B; name = codes "PolicyAuthValue"; handles = Policy ∷ []; authorized = false; parameters = done params.PolicyAuthValue; reply = λ hs. done replies.PolicyAuthValue; parameter_names = []; reply_names = [] }
+policy_auth_value_row = record {
+  number = 0x16B;
+  name = codes "PolicyAuthValue";
+  handles = Policy ∷ [];
+  authorized = false;
+  parameters = done params.PolicyAuthValue;
+  reply = λ hs. done replies.PolicyAuthValue;
+  parameter_names = [];
+  reply_names = [];
+}
 
 -- ---- TPM2_PolicyGetDigest (23.19)
 
@@ -77,4 +116,13 @@ policy_get_digest_reply =
     done (replies.PolicyGetDigest value))
 
 abbrev pub policy_get_digest_row : Row
-policy_get_digest_row = record { number = 0x189; name = codes "PolicyGetDigest"; handles = Policy ∷ []; authorized = false; parameters = done params.PolicyGetDigest; reply = λ hs. policy_get_digest_reply; parameter_names = []; reply_names = named (codes "policyDigest") (codes "TPM2B_DIGEST") ∷ [] }
+policy_get_digest_row = record {
+  number = 0x189;
+  name = codes "PolicyGetDigest";
+  handles = Policy ∷ [];
+  authorized = false;
+  parameters = done params.PolicyGetDigest;
+  reply = λ hs. policy_get_digest_reply;
+  parameter_names = [];
+  reply_names = named (codes "policyDigest") (codes "TPM2B_DIGEST") ∷ [];
+}

@@ -68,13 +68,35 @@ start_auth_session_reply hs =
 
 abbrev pub start_auth_session_names : List Field
 start_auth_session_names =
-    named (codes "nonceCaller") (codes "TPM2B_NONCE") ∷ named (codes "encryptedSalt") (codes "TPM2B_ENCRYPTED_SECRET") ∷ named (codes "sessionType") (codes "TPM_SE")
-    ∷ named (codes "symmetric") (codes "TPMT_SYM_DEF") ∷ named (codes "authHash") (codes "TPMI_ALG_HASH") ∷ []
+    named (codes "nonceCaller") (codes "TPM2B_NONCE")
+    ∷ named (codes "encryptedSalt") (codes "TPM2B_ENCRYPTED_SECRET")
+    ∷ named (codes "sessionType") (codes "TPM_SE")
+    ∷ named (codes "symmetric") (codes "TPMT_SYM_DEF")
+    ∷ named (codes "authHash") (codes "TPMI_ALG_HASH")
+    ∷ []
 
 abbrev pub start_auth_session_row : Row
-start_auth_session_row = record { number = 0x176; name = codes "StartAuthSession"; handles = Null ∷ OwnerOrNull ∷ []; authorized = false; parameters = start_auth_session; reply = λ hs. start_auth_session_reply hs; parameter_names = start_auth_session_names; reply_names = named (codes "nonceTPM") (codes "TPM2B_NONCE") ∷ [] }
+start_auth_session_row = record {
+  number = 0x176;
+  name = codes "StartAuthSession";
+  handles = Null ∷ OwnerOrNull ∷ [];
+  authorized = false;
+  parameters = start_auth_session;
+  reply = λ hs. start_auth_session_reply hs;
+  parameter_names = start_auth_session_names;
+  reply_names = named (codes "nonceTPM") (codes "TPM2B_NONCE") ∷ [];
+}
 
 -- ---- TPM2_PolicyRestart (11.2)
 
 abbrev pub policy_restart_row : Row
-policy_restart_row = record { number = 0x180; name = codes "PolicyRestart"; handles = Policy ∷ []; authorized = false; parameters = done params.PolicyRestart; reply = λ hs. done replies.PolicyRestart; parameter_names = []; reply_names = [] }
+policy_restart_row = record {
+  number = 0x180;
+  name = codes "PolicyRestart";
+  handles = Policy ∷ [];
+  authorized = false;
+  parameters = done params.PolicyRestart;
+  reply = λ hs. done replies.PolicyRestart;
+  parameter_names = [];
+  reply_names = [];
+}

@@ -23,4 +23,13 @@ startup =
     done (params.Startup kind))
 
 abbrev pub startup_row : Row
-startup_row = record { number = 0x144; name = codes "Startup"; handles = []; authorized = false; parameters = startup; reply = λ hs. done replies.Startup; parameter_names = named (codes "startupType") (codes "TPM_SU") ∷ []; reply_names = [] }
+startup_row = record {
+  number = 0x144;
+  name = codes "Startup";
+  handles = [];
+  authorized = false;
+  parameters = startup;
+  reply = λ hs. done replies.Startup;
+  parameter_names = named (codes "startupType") (codes "TPM_SU") ∷ [];
+  reply_names = [];
+}

@@ -32,8 +32,11 @@ pub(crate) fn read_flush_context(
     cursor: &mut Cursor<'_>,
     session: &mut SessionHandle,
 ) -> Result<(), Refusal>
-    ensures reads { TakesNumbered (λ _. params.FlushContext session.new) flush_context cursor.old cursor.new result }
-    ensures spelled { OnOk result (cursor.old.here.rest ≡ spelling flush_context (params.FlushContext session.new) ++ cursor.new.here.rest) }
+    ensures reads { TakesNumbered (λ _. params.FlushContext session.new) flush_context
+        cursor.old cursor.new result }
+    ensures spelled { OnOk result
+        (cursor.old.here.rest
+        ≡ spelling flush_context (params.FlushContext session.new) ++ cursor.new.here.rest) }
 {
     cursor.number(of_parameter(1));
     session.read(cursor)
@@ -53,8 +56,11 @@ pub(crate) fn flush_context_len(session: SessionHandle) -> usize
 #[tactic(auto, unfolding(crate::specs::Parameters::flush_context))]
 #[inline(always)]
 pub(crate) fn put_flush_context(session: SessionHandle, out: &mut Buffer)
-    requires { length out.old.items + length (spelling flush_context (params.FlushContext session)) ≤ 4096 }
-    ensures { out.new.items ≡ out.old.items ++ spelling flush_context (params.FlushContext session) }
+    requires { length out.old.items
+        + length (spelling flush_context (params.FlushContext session))
+        ≤ 4096 }
+    ensures { out.new.items
+        ≡ out.old.items ++ spelling flush_context (params.FlushContext session) }
 {
     session.put(out);
 }

@@ -44,8 +44,12 @@ pub(crate) fn read_nv_define_space(
     auth: &mut AuthValue,
     public: &mut NvPublic,
 ) -> Result<(), Refusal>
-    ensures reads { TakesNumbered (λ _. params.NvDefineSpace auth.new public.new) nv_define_space cursor.old cursor.new result }
-    ensures spelled { OnOk result (cursor.old.here.rest ≡ spelling nv_define_space (params.NvDefineSpace auth.new public.new) ++ cursor.new.here.rest) }
+    ensures reads { TakesNumbered (λ _. params.NvDefineSpace auth.new public.new) nv_define_space
+        cursor.old cursor.new result }
+    ensures spelled { OnOk result
+        (cursor.old.here.rest
+        ≡ spelling nv_define_space (params.NvDefineSpace auth.new public.new)
+        ++ cursor.new.here.rest) }
 {
     cursor.number(of_parameter(1));
     auth.read(cursor)?;
@@ -56,9 +60,11 @@ pub(crate) fn read_nv_define_space(
 #[tactic(auto, unfolding(crate::specs::Parameters::nv_define_space))]
 #[inline(always)]
 pub(crate) fn nv_define_space_len(auth: &AuthValue, public: &NvPublic) -> usize
-    ensures value { result ≡ length (spelling nv_define_space (params.NvDefineSpace auth.now public.now)) }
+    ensures value { result
+        ≡ length (spelling nv_define_space (params.NvDefineSpace auth.now public.now)) }
     ensures fits { result ≤ 3500 }
-    ensures spelled { (left : ℕ) → Fits left nv_define_space (params.NvDefineSpace auth.now public.now) }
+    ensures spelled { (left : ℕ)
+        → Fits left nv_define_space (params.NvDefineSpace auth.now public.now) }
 {
     auth.has_spelling();
     public.has_spelling();
@@ -68,8 +74,11 @@ pub(crate) fn nv_define_space_len(auth: &AuthValue, public: &NvPublic) -> usize
 #[tactic(auto, unfolding(crate::specs::Parameters::nv_define_space))]
 #[inline(always)]
 pub(crate) fn put_nv_define_space(auth: &AuthValue, public: &NvPublic, out: &mut Buffer)
-    requires { length out.old.items + length (spelling nv_define_space (params.NvDefineSpace auth.now public.now)) ≤ 4096 }
-    ensures { out.new.items ≡ out.old.items ++ spelling nv_define_space (params.NvDefineSpace auth.now public.now) }
+    requires { length out.old.items
+        + length (spelling nv_define_space (params.NvDefineSpace auth.now public.now))
+        ≤ 4096 }
+    ensures { out.new.items
+        ≡ out.old.items ++ spelling nv_define_space (params.NvDefineSpace auth.now public.now) }
 {
     auth.put(out);
     public.put(out);
@@ -96,8 +105,10 @@ pub(crate) fn read_nv_read_public_reply(
     cursor: &mut Cursor<'_>,
     body: &mut ReplyBody,
 ) -> Result<(), Refusal>
-    ensures reads { TakesNumbered (λ _. body.new) nv_read_public_reply cursor.old cursor.new result }
-    ensures spelled { OnOk result (cursor.old.here.rest ≡ spelling nv_read_public_reply body.new ++ cursor.new.here.rest) }
+    ensures reads { TakesNumbered (λ _. body.new) nv_read_public_reply
+        cursor.old cursor.new result }
+    ensures spelled { OnOk result
+        (cursor.old.here.rest ≡ spelling nv_read_public_reply body.new ++ cursor.new.here.rest) }
     ensures own { OnOk result (IsReplyTo codes.NvReadPublic None body.new) }
 {
     cursor.number(of_parameter(1));
@@ -111,9 +122,11 @@ pub(crate) fn read_nv_read_public_reply(
 #[tactic(auto, unfolding(crate::specs::Replies::nv_read_public_reply))]
 #[inline(always)]
 pub(crate) fn nv_read_public_reply_len(public: &NvPublic, name: &Name) -> usize
-    ensures value { result ≡ length (spelling nv_read_public_reply (replies.NvReadPublic public.now name.now)) }
+    ensures value { result
+        ≡ length (spelling nv_read_public_reply (replies.NvReadPublic public.now name.now)) }
     ensures fits { result ≤ 3500 }
-    ensures spelled { (left : ℕ) → Fits left nv_read_public_reply (replies.NvReadPublic public.now name.now) }
+    ensures spelled { (left : ℕ)
+        → Fits left nv_read_public_reply (replies.NvReadPublic public.now name.now) }
 {
     public.has_spelling();
     name.has_spelling();
@@ -123,8 +136,12 @@ pub(crate) fn nv_read_public_reply_len(public: &NvPublic, name: &Name) -> usize
 #[tactic(auto, unfolding(crate::specs::Replies::nv_read_public_reply))]
 #[inline(always)]
 pub(crate) fn put_nv_read_public_reply(public: &NvPublic, name: &Name, out: &mut Buffer)
-    requires { length out.old.items + length (spelling nv_read_public_reply (replies.NvReadPublic public.now name.now)) ≤ 4096 }
-    ensures { out.new.items ≡ out.old.items ++ spelling nv_read_public_reply (replies.NvReadPublic public.now name.now) }
+    requires { length out.old.items
+        + length (spelling nv_read_public_reply (replies.NvReadPublic public.now name.now))
+        ≤ 4096 }
+    ensures { out.new.items
+        ≡ out.old.items
+        ++ spelling nv_read_public_reply (replies.NvReadPublic public.now name.now) }
 {
     public.put(out);
     name.put(out);
@@ -152,8 +169,11 @@ pub(crate) fn read_nv_read(
     size: &mut u16,
     offset: &mut u16,
 ) -> Result<(), Refusal>
-    ensures reads { TakesNumbered (λ _. params.NvRead size.new offset.new) nv_read cursor.old cursor.new result }
-    ensures spelled { OnOk result (cursor.old.here.rest ≡ spelling nv_read (params.NvRead size.new offset.new) ++ cursor.new.here.rest) }
+    ensures reads { TakesNumbered (λ _. params.NvRead size.new offset.new) nv_read
+        cursor.old cursor.new result }
+    ensures spelled { OnOk result
+        (cursor.old.here.rest
+        ≡ spelling nv_read (params.NvRead size.new offset.new) ++ cursor.new.here.rest) }
 {
     cursor.number(of_parameter(1));
     size.read(cursor)?;
@@ -189,7 +209,8 @@ pub(crate) fn read_nv_read_reply(
     body: &mut ReplyBody,
 ) -> Result<(), Refusal>
     ensures reads { TakesNumbered (λ _. body.new) nv_read_reply cursor.old cursor.new result }
-    ensures spelled { OnOk result (cursor.old.here.rest ≡ spelling nv_read_reply body.new ++ cursor.new.here.rest) }
+    ensures spelled { OnOk result
+        (cursor.old.here.rest ≡ spelling nv_read_reply body.new ++ cursor.new.here.rest) }
     ensures own { OnOk result (IsReplyTo codes.NvRead None body.new) }
 {
     cursor.number(of_parameter(1));
@@ -211,7 +232,8 @@ pub(crate) fn nv_read_reply_len(bytes: &NvData) -> usize
 #[tactic(auto, unfolding(crate::specs::Replies::nv_read_reply))]
 #[inline(always)]
 pub(crate) fn put_nv_read_reply(bytes: &NvData, out: &mut Buffer)
-    requires { length out.old.items + length (spelling nv_read_reply (replies.NvRead bytes.now)) ≤ 4096 }
+    requires { length out.old.items + length (spelling nv_read_reply (replies.NvRead bytes.now))
+        ≤ 4096 }
     ensures { out.new.items ≡ out.old.items ++ spelling nv_read_reply (replies.NvRead bytes.now) }
 {
     bytes.put(out);

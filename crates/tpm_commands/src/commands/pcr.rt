@@ -30,8 +30,11 @@ pub(crate) fn read_pcr_extend(
     cursor: &mut Cursor<'_>,
     digests: &mut DigestValues,
 ) -> Result<(), Refusal>
-    ensures reads { TakesNumbered (λ _. params.PcrExtend digests.new) pcr_extend cursor.old cursor.new result }
-    ensures spelled { OnOk result (cursor.old.here.rest ≡ spelling pcr_extend (params.PcrExtend digests.new) ++ cursor.new.here.rest) }
+    ensures reads { TakesNumbered (λ _. params.PcrExtend digests.new) pcr_extend
+        cursor.old cursor.new result }
+    ensures spelled { OnOk result
+        (cursor.old.here.rest
+        ≡ spelling pcr_extend (params.PcrExtend digests.new) ++ cursor.new.here.rest) }
 {
     cursor.number(of_parameter(1));
     digests.read(cursor)
@@ -51,7 +54,8 @@ pub(crate) fn pcr_extend_len(digests: &DigestValues) -> usize
 #[tactic(auto, unfolding(crate::specs::Parameters::pcr_extend))]
 #[inline(always)]
 pub(crate) fn put_pcr_extend(digests: &DigestValues, out: &mut Buffer)
-    requires { length out.old.items + length (spelling pcr_extend (params.PcrExtend digests.now)) ≤ 4096 }
+    requires { length out.old.items + length (spelling pcr_extend (params.PcrExtend digests.now))
+        ≤ 4096 }
     ensures { out.new.items ≡ out.old.items ++ spelling pcr_extend (params.PcrExtend digests.now) }
 {
     digests.put(out);
@@ -76,7 +80,9 @@ pub(crate) fn any_event<'a>() -> Event<'a> {
 #[tactic(auto, unfolding(crate::specs::Parameters::pcr_event))]
 pub(crate) fn take_pcr_event<'a>(cursor: &mut Cursor<'a>) -> Result<Event<'a>, Refusal>
     ensures reads { TakesNumbered (λ e. params.PcrEvent e) pcr_event cursor.old cursor.new result }
-    ensures spelled { IfOk result (λ e. cursor.old.here.rest ≡ spelling pcr_event (params.PcrEvent e) ++ cursor.new.here.rest) }
+    ensures spelled { IfOk result
+        (λ e. cursor.old.here.rest
+        ≡ spelling pcr_event (params.PcrEvent e) ++ cursor.new.here.rest) }
 {
     cursor.number(of_parameter(1));
     Event::take(cursor)
@@ -96,7 +102,8 @@ pub(crate) fn pcr_event_len(event: &Event<'_>) -> usize
 #[tactic(auto, unfolding(crate::specs::Parameters::pcr_event))]
 #[inline(always)]
 pub(crate) fn put_pcr_event(event: &Event<'_>, out: &mut Buffer)
-    requires { length out.old.items + length (spelling pcr_event (params.PcrEvent event.now)) ≤ 4096 }
+    requires { length out.old.items + length (spelling pcr_event (params.PcrEvent event.now))
+        ≤ 4096 }
     ensures { out.new.items ≡ out.old.items ++ spelling pcr_event (params.PcrEvent event.now) }
 {
     event.put(out);
@@ -108,7 +115,8 @@ pub(crate) fn read_pcr_event_reply(
     body: &mut ReplyBody,
 ) -> Result<(), Refusal>
     ensures reads { TakesNumbered (λ _. body.new) pcr_event_reply cursor.old cursor.new result }
-    ensures spelled { OnOk result (cursor.old.here.rest ≡ spelling pcr_event_reply body.new ++ cursor.new.here.rest) }
+    ensures spelled { OnOk result
+        (cursor.old.here.rest ≡ spelling pcr_event_reply body.new ++ cursor.new.here.rest) }
     ensures own { OnOk result (IsReplyTo codes.PcrEvent None body.new) }
 {
     cursor.number(of_parameter(1));
@@ -130,8 +138,11 @@ pub(crate) fn pcr_event_reply_len(digests: &DigestValues) -> usize
 #[tactic(auto, unfolding(crate::specs::Replies::pcr_event_reply))]
 #[inline(always)]
 pub(crate) fn put_pcr_event_reply(digests: &DigestValues, out: &mut Buffer)
-    requires { length out.old.items + length (spelling pcr_event_reply (replies.PcrEvent digests.now)) ≤ 4096 }
-    ensures { out.new.items ≡ out.old.items ++ spelling pcr_event_reply (replies.PcrEvent digests.now) }
+    requires { length out.old.items
+        + length (spelling pcr_event_reply (replies.PcrEvent digests.now))
+        ≤ 4096 }
+    ensures { out.new.items
+        ≡ out.old.items ++ spelling pcr_event_reply (replies.PcrEvent digests.now) }
 {
     digests.put(out);
 }
@@ -149,8 +160,11 @@ pub(crate) fn read_pcr_read(
     cursor: &mut Cursor<'_>,
     selections: &mut Selections,
 ) -> Result<(), Refusal>
-    ensures reads { TakesNumbered (λ _. params.PcrRead selections.new) pcr_read cursor.old cursor.new result }
-    ensures spelled { OnOk result (cursor.old.here.rest ≡ spelling pcr_read (params.PcrRead selections.new) ++ cursor.new.here.rest) }
+    ensures reads { TakesNumbered (λ _. params.PcrRead selections.new) pcr_read
+        cursor.old cursor.new result }
+    ensures spelled { OnOk result
+        (cursor.old.here.rest
+        ≡ spelling pcr_read (params.PcrRead selections.new) ++ cursor.new.here.rest) }
 {
     cursor.number(of_parameter(1));
     selections.read(cursor)
@@ -170,14 +184,15 @@ pub(crate) fn pcr_read_len(selections: &Selections) -> usize
 #[tactic(auto, unfolding(crate::specs::Parameters::pcr_read))]
 #[inline(always)]
 pub(crate) fn put_pcr_read(selections: &Selections, out: &mut Buffer)
-    requires { length out.old.items + length (spelling pcr_read (params.PcrRead selections.now)) ≤ 4096 }
+    requires { length out.old.items + length (spelling pcr_read (params.PcrRead selections.now))
+        ≤ 4096 }
     ensures { out.new.items ≡ out.old.items ++ spelling pcr_read (params.PcrRead selections.now) }
 {
     selections.put(out);
 }
 
-// Makes it a reply to a PCR_Read, which another one is read in the place of. One that is there stays, since it is the largest reply
-// and costs as many stores to make.
+// Makes it a reply to a PCR_Read, which another one is read in the place of. One that is there stays, since it is the
+// largest reply and costs as many stores to make.
 fn begin_pcr_read(body: &mut ReplyBody)
     ensures { code_for_reply body.new ≡ codes.PcrRead }
 {
@@ -197,7 +212,8 @@ pub(crate) fn read_pcr_read_reply(
     body: &mut ReplyBody,
 ) -> Result<(), Refusal>
     ensures reads { TakesNumbered (λ _. body.new) pcr_read_reply cursor.old cursor.new result }
-    ensures spelled { OnOk result (cursor.old.here.rest ≡ spelling pcr_read_reply body.new ++ cursor.new.here.rest) }
+    ensures spelled { OnOk result
+        (cursor.old.here.rest ≡ spelling pcr_read_reply body.new ++ cursor.new.here.rest) }
     ensures own { OnOk result (IsReplyTo codes.PcrRead None body.new) }
 {
     begin_pcr_read(body);
@@ -225,9 +241,12 @@ pub(crate) fn pcr_read_reply_len(
     selections: &Selections,
     digests: &Digests,
 ) -> usize
-    ensures value { result ≡ length (spelling pcr_read_reply (replies.PcrRead update_counter selections.now digests.now)) }
+    ensures value { result
+        ≡ length
+        (spelling pcr_read_reply (replies.PcrRead update_counter selections.now digests.now)) }
     ensures fits { result ≤ 3500 }
-    ensures spelled { (left : ℕ) → Fits left pcr_read_reply (replies.PcrRead update_counter selections.now digests.now) }
+    ensures spelled { (left : ℕ)
+        → Fits left pcr_read_reply (replies.PcrRead update_counter selections.now digests.now) }
 {
     prove!(update_counter <= u32::MAX);
     selections.has_spelling();
@@ -243,8 +262,14 @@ pub(crate) fn put_pcr_read_reply(
     digests: &Digests,
     out: &mut Buffer,
 )
-    requires { length out.old.items + length (spelling pcr_read_reply (replies.PcrRead update_counter selections.now digests.now)) ≤ 4096 }
-    ensures { out.new.items ≡ out.old.items ++ spelling pcr_read_reply (replies.PcrRead update_counter selections.now digests.now) }
+    requires { length out.old.items
+        + length
+        (spelling pcr_read_reply
+        (replies.PcrRead update_counter selections.now digests.now))
+        ≤ 4096 }
+    ensures { out.new.items
+        ≡ out.old.items
+        ++ spelling pcr_read_reply (replies.PcrRead update_counter selections.now digests.now) }
 {
     update_counter.put(out);
     selections.put(out);

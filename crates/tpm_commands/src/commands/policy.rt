@@ -37,8 +37,11 @@ pub(crate) fn read_policy_or(
     cursor: &mut Cursor<'_>,
     digests: &mut OrDigests,
 ) -> Result<(), Refusal>
-    ensures reads { TakesNumbered (λ _. params.PolicyOr digests.new) policy_or cursor.old cursor.new result }
-    ensures spelled { OnOk result (cursor.old.here.rest ≡ spelling policy_or (params.PolicyOr digests.new) ++ cursor.new.here.rest) }
+    ensures reads { TakesNumbered (λ _. params.PolicyOr digests.new) policy_or
+        cursor.old cursor.new result }
+    ensures spelled { OnOk result
+        (cursor.old.here.rest
+        ≡ spelling policy_or (params.PolicyOr digests.new) ++ cursor.new.here.rest) }
 {
     cursor.number(of_parameter(1));
     digests.read(cursor)
@@ -58,7 +61,8 @@ pub(crate) fn policy_or_len(digests: &OrDigests) -> usize
 #[tactic(auto, unfolding(crate::specs::Parameters::policy_or))]
 #[inline(always)]
 pub(crate) fn put_policy_or(digests: &OrDigests, out: &mut Buffer)
-    requires { length out.old.items + length (spelling policy_or (params.PolicyOr digests.now)) ≤ 4096 }
+    requires { length out.old.items + length (spelling policy_or (params.PolicyOr digests.now))
+        ≤ 4096 }
     ensures { out.new.items ≡ out.old.items ++ spelling policy_or (params.PolicyOr digests.now) }
 {
     digests.put(out);
@@ -78,8 +82,12 @@ pub(crate) fn read_policy_pcr(
     pcr_digest: &mut Digest,
     selections: &mut Selections,
 ) -> Result<(), Refusal>
-    ensures reads { TakesNumbered (λ _. params.PolicyPcr pcr_digest.new selections.new) policy_pcr cursor.old cursor.new result }
-    ensures spelled { OnOk result (cursor.old.here.rest ≡ spelling policy_pcr (params.PolicyPcr pcr_digest.new selections.new) ++ cursor.new.here.rest) }
+    ensures reads { TakesNumbered (λ _. params.PolicyPcr pcr_digest.new selections.new) policy_pcr
+        cursor.old cursor.new result }
+    ensures spelled { OnOk result
+        (cursor.old.here.rest
+        ≡ spelling policy_pcr (params.PolicyPcr pcr_digest.new selections.new)
+        ++ cursor.new.here.rest) }
 {
     cursor.number(of_parameter(1));
     pcr_digest.read(cursor)?;
@@ -90,9 +98,11 @@ pub(crate) fn read_policy_pcr(
 #[tactic(auto, unfolding(crate::specs::Parameters::policy_pcr))]
 #[inline(always)]
 pub(crate) fn policy_pcr_len(pcr_digest: &Digest, selections: &Selections) -> usize
-    ensures value { result ≡ length (spelling policy_pcr (params.PolicyPcr pcr_digest.now selections.now)) }
+    ensures value { result
+        ≡ length (spelling policy_pcr (params.PolicyPcr pcr_digest.now selections.now)) }
     ensures fits { result ≤ 3500 }
-    ensures spelled { (left : ℕ) → Fits left policy_pcr (params.PolicyPcr pcr_digest.now selections.now) }
+    ensures spelled { (left : ℕ)
+        → Fits left policy_pcr (params.PolicyPcr pcr_digest.now selections.now) }
 {
     pcr_digest.has_spelling();
     selections.has_spelling();
@@ -102,8 +112,11 @@ pub(crate) fn policy_pcr_len(pcr_digest: &Digest, selections: &Selections) -> us
 #[tactic(auto, unfolding(crate::specs::Parameters::policy_pcr))]
 #[inline(always)]
 pub(crate) fn put_policy_pcr(pcr_digest: &Digest, selections: &Selections, out: &mut Buffer)
-    requires { length out.old.items + length (spelling policy_pcr (params.PolicyPcr pcr_digest.now selections.now)) ≤ 4096 }
-    ensures { out.new.items ≡ out.old.items ++ spelling policy_pcr (params.PolicyPcr pcr_digest.now selections.now) }
+    requires { length out.old.items
+        + length (spelling policy_pcr (params.PolicyPcr pcr_digest.now selections.now))
+        ≤ 4096 }
+    ensures { out.new.items
+        ≡ out.old.items ++ spelling policy_pcr (params.PolicyPcr pcr_digest.now selections.now) }
 {
     pcr_digest.put(out);
     selections.put(out);
@@ -122,8 +135,12 @@ pub(crate) fn read_policy_command_code(
     cursor: &mut Cursor<'_>,
     code: &mut u32,
 ) -> Result<(), Refusal>
-    ensures reads { TakesNumbered (λ _. params.PolicyCommandCode code.new) policy_command_code cursor.old cursor.new result }
-    ensures spelled { OnOk result (cursor.old.here.rest ≡ spelling policy_command_code (params.PolicyCommandCode code.new) ++ cursor.new.here.rest) }
+    ensures reads { TakesNumbered (λ _. params.PolicyCommandCode code.new) policy_command_code
+        cursor.old cursor.new result }
+    ensures spelled { OnOk result
+        (cursor.old.here.rest
+        ≡ spelling policy_command_code (params.PolicyCommandCode code.new)
+        ++ cursor.new.here.rest) }
 {
     cursor.number(of_parameter(1));
     code.read(cursor)
@@ -143,8 +160,11 @@ pub(crate) fn policy_command_code_len(code: u32) -> usize
 #[tactic(auto, unfolding(crate::specs::Parameters::policy_command_code))]
 #[inline(always)]
 pub(crate) fn put_policy_command_code(code: u32, out: &mut Buffer)
-    requires { length out.old.items + length (spelling policy_command_code (params.PolicyCommandCode code)) ≤ 4096 }
-    ensures { out.new.items ≡ out.old.items ++ spelling policy_command_code (params.PolicyCommandCode code) }
+    requires { length out.old.items
+        + length (spelling policy_command_code (params.PolicyCommandCode code))
+        ≤ 4096 }
+    ensures { out.new.items
+        ≡ out.old.items ++ spelling policy_command_code (params.PolicyCommandCode code) }
 {
     code.put(out);
 }
@@ -170,8 +190,10 @@ pub(crate) fn read_policy_get_digest_reply(
     cursor: &mut Cursor<'_>,
     body: &mut ReplyBody,
 ) -> Result<(), Refusal>
-    ensures reads { TakesNumbered (λ _. body.new) policy_get_digest_reply cursor.old cursor.new result }
-    ensures spelled { OnOk result (cursor.old.here.rest ≡ spelling policy_get_digest_reply body.new ++ cursor.new.here.rest) }
+    ensures reads { TakesNumbered (λ _. body.new) policy_get_digest_reply
+        cursor.old cursor.new result }
+    ensures spelled { OnOk result
+        (cursor.old.here.rest ≡ spelling policy_get_digest_reply body.new ++ cursor.new.here.rest) }
     ensures own { OnOk result (IsReplyTo codes.PolicyGetDigest None body.new) }
 {
     cursor.number(of_parameter(1));
@@ -182,9 +204,11 @@ pub(crate) fn read_policy_get_digest_reply(
 #[tactic(auto, unfolding(crate::specs::Replies::policy_get_digest_reply))]
 #[inline(always)]
 pub(crate) fn policy_get_digest_reply_len(digest: &Digest) -> usize
-    ensures value { result ≡ length (spelling policy_get_digest_reply (replies.PolicyGetDigest digest.now)) }
+    ensures value { result
+        ≡ length (spelling policy_get_digest_reply (replies.PolicyGetDigest digest.now)) }
     ensures fits { result ≤ 3500 }
-    ensures spelled { (left : ℕ) → Fits left policy_get_digest_reply (replies.PolicyGetDigest digest.now) }
+    ensures spelled { (left : ℕ)
+        → Fits left policy_get_digest_reply (replies.PolicyGetDigest digest.now) }
 {
     digest.has_spelling();
     digest.len()
@@ -193,8 +217,11 @@ pub(crate) fn policy_get_digest_reply_len(digest: &Digest) -> usize
 #[tactic(auto, unfolding(crate::specs::Replies::policy_get_digest_reply))]
 #[inline(always)]
 pub(crate) fn put_policy_get_digest_reply(digest: &Digest, out: &mut Buffer)
-    requires { length out.old.items + length (spelling policy_get_digest_reply (replies.PolicyGetDigest digest.now)) ≤ 4096 }
-    ensures { out.new.items ≡ out.old.items ++ spelling policy_get_digest_reply (replies.PolicyGetDigest digest.now) }
+    requires { length out.old.items
+        + length (spelling policy_get_digest_reply (replies.PolicyGetDigest digest.now))
+        ≤ 4096 }
+    ensures { out.new.items
+        ≡ out.old.items ++ spelling policy_get_digest_reply (replies.PolicyGetDigest digest.now) }
 {
     digest.put(out);
 }

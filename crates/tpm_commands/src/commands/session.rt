@@ -33,8 +33,15 @@ pub(crate) fn read_start_auth_session(
     symmetric: &mut SymDef,
     auth_hash: &mut Alg,
 ) -> Result<(), Refusal>
-    ensures reads { TakesNumbered (λ _. params.StartAuthSession nonce_caller.new session_type.new symmetric.new auth_hash.new) start_auth_session cursor.old cursor.new result }
-    ensures spelled { OnOk result (cursor.old.here.rest ≡ spelling start_auth_session (params.StartAuthSession nonce_caller.new session_type.new symmetric.new auth_hash.new) ++ cursor.new.here.rest) }
+    ensures reads { TakesNumbered
+        (λ _. params.StartAuthSession nonce_caller.new session_type.new symmetric.new
+        auth_hash.new) start_auth_session cursor.old cursor.new result }
+    ensures spelled { OnOk result
+        (cursor.old.here.rest
+        ≡ spelling start_auth_session
+        (params.StartAuthSession nonce_caller.new session_type.new symmetric.new
+        auth_hash.new)
+        ++ cursor.new.here.rest) }
 {
     cursor.number(of_parameter(1));
     nonce_caller.read(cursor)?;
@@ -51,9 +58,16 @@ pub(crate) fn read_start_auth_session(
 #[tactic(auto, unfolding(crate::specs::Parameters::start_auth_session))]
 #[inline(always)]
 pub(crate) fn start_auth_session_len(start: &StartAuth) -> usize
-    ensures value { result ≡ length (spelling start_auth_session (params.StartAuthSession start.now.nonce_caller start.now.session_type start.now.symmetric start.now.auth_hash)) }
+    ensures value { result
+        ≡ length
+        (spelling start_auth_session
+        (params.StartAuthSession start.now.nonce_caller start.now.session_type
+        start.now.symmetric start.now.auth_hash)) }
     ensures fits { result ≤ 3500 }
-    ensures spelled { (left : ℕ) → Fits left start_auth_session (params.StartAuthSession start.now.nonce_caller start.now.session_type start.now.symmetric start.now.auth_hash) }
+    ensures spelled { (left : ℕ)
+        → Fits left start_auth_session
+        (params.StartAuthSession start.now.nonce_caller start.now.session_type
+        start.now.symmetric start.now.auth_hash) }
 {
     start.nonce_caller.has_spelling();
     EncryptedSalt::Empty.has_spelling();
@@ -70,8 +84,17 @@ pub(crate) fn start_auth_session_len(start: &StartAuth) -> usize
 #[tactic(auto, unfolding(crate::specs::Parameters::start_auth_session))]
 #[inline(always)]
 pub(crate) fn put_start_auth_session(start: &StartAuth, out: &mut Buffer)
-    requires { length out.old.items + length (spelling start_auth_session (params.StartAuthSession start.now.nonce_caller start.now.session_type start.now.symmetric start.now.auth_hash)) ≤ 4096 }
-    ensures { out.new.items ≡ out.old.items ++ spelling start_auth_session (params.StartAuthSession start.now.nonce_caller start.now.session_type start.now.symmetric start.now.auth_hash) }
+    requires { length out.old.items
+        + length
+        (spelling start_auth_session
+        (params.StartAuthSession start.now.nonce_caller start.now.session_type
+        start.now.symmetric start.now.auth_hash))
+        ≤ 4096 }
+    ensures { out.new.items
+        ≡ out.old.items
+        ++ spelling start_auth_session
+        (params.StartAuthSession start.now.nonce_caller start.now.session_type
+        start.now.symmetric start.now.auth_hash) }
 {
     start.nonce_caller.put(out);
     EncryptedSalt::Empty.put(out);
@@ -84,8 +107,10 @@ pub(crate) fn put_start_auth_session(start: &StartAuth, out: &mut Buffer)
 #[tactic(auto, unfolding(crate::specs::Replies::session_handle, tpm_types::specs::Handles::session))]
 pub(crate) fn take_session_handle(cursor: &mut Cursor<'_>) -> Result<SessionHandle, Refusal>
     ensures reads { TakesNumbered (λ n. n ∷ []) session_handle cursor.old cursor.new result }
-    ensures spelled { IfOk result (λ n. cursor.old.here.rest ≡ spelling session_handle (n ∷ []) ++ cursor.new.here.rest) }
-    ensures length { IfOk result (λ n. length cursor.old.here.rest ≡ 4 + length cursor.new.here.rest) }
+    ensures spelled { IfOk result
+        (λ n. cursor.old.here.rest ≡ spelling session_handle (n ∷ []) ++ cursor.new.here.rest) }
+    ensures length { IfOk result
+        (λ n. length cursor.old.here.rest ≡ 4 + length cursor.new.here.rest) }
 {
     cursor.number(of_handle(1));
     let session = SessionHandle::take(cursor)?;
@@ -98,8 +123,11 @@ pub(crate) fn read_start_auth_session_reply(
     session: SessionHandle,
     body: &mut ReplyBody,
 ) -> Result<(), Refusal>
-    ensures reads { TakesNumbered (λ _. body.new) (start_auth_session_reply (session ∷ [])) cursor.old cursor.new result }
-    ensures spelled { OnOk result (cursor.old.here.rest ≡ spelling (start_auth_session_reply (session ∷ [])) body.new ++ cursor.new.here.rest) }
+    ensures reads { TakesNumbered (λ _. body.new) (start_auth_session_reply (session ∷ []))
+        cursor.old cursor.new result }
+    ensures spelled { OnOk result
+        (cursor.old.here.rest
+        ≡ spelling (start_auth_session_reply (session ∷ [])) body.new ++ cursor.new.here.rest) }
     ensures own { OnOk result (IsReplyTo codes.StartAuthSession (Some session) body.new) }
 {
     cursor.number(of_parameter(1));
@@ -111,9 +139,14 @@ pub(crate) fn read_start_auth_session_reply(
 #[tactic(auto, unfolding(crate::specs::Replies::start_auth_session_reply))]
 #[inline(always)]
 pub(crate) fn start_auth_session_reply_len(reply: &StartReply) -> usize
-    ensures value { result ≡ length (spelling (start_auth_session_reply (reply.now.session ∷ [])) (replies.StartAuthSession reply.now)) }
+    ensures value { result
+        ≡ length
+        (spelling (start_auth_session_reply (reply.now.session ∷ []))
+        (replies.StartAuthSession reply.now)) }
     ensures fits { result ≤ 3500 }
-    ensures spelled { (left : ℕ) → Fits left (start_auth_session_reply (reply.now.session ∷ [])) (replies.StartAuthSession reply.now) }
+    ensures spelled { (left : ℕ)
+        → Fits left (start_auth_session_reply (reply.now.session ∷ []))
+        (replies.StartAuthSession reply.now) }
 {
     prove!(reply.session.number() <= u32::MAX);
     reply.nonce_tpm.has_spelling();
@@ -123,8 +156,15 @@ pub(crate) fn start_auth_session_reply_len(reply: &StartReply) -> usize
 #[tactic(auto, unfolding(crate::specs::Replies::start_auth_session_reply))]
 #[inline(always)]
 pub(crate) fn put_start_auth_session_reply(reply: &StartReply, out: &mut Buffer)
-    requires { length out.old.items + length (spelling (start_auth_session_reply (reply.now.session ∷ [])) (replies.StartAuthSession reply.now)) ≤ 4096 }
-    ensures { out.new.items ≡ out.old.items ++ spelling (start_auth_session_reply (reply.now.session ∷ [])) (replies.StartAuthSession reply.now) }
+    requires { length out.old.items
+        + length
+        (spelling (start_auth_session_reply (reply.now.session ∷ []))
+        (replies.StartAuthSession reply.now))
+        ≤ 4096 }
+    ensures { out.new.items
+        ≡ out.old.items
+        ++ spelling (start_auth_session_reply (reply.now.session ∷ []))
+        (replies.StartAuthSession reply.now) }
 {
     reply.nonce_tpm.put(out);
 }

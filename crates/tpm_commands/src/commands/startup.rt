@@ -24,8 +24,11 @@ pub(crate) fn read_startup(
     cursor: &mut Cursor<'_>,
     startup_type: &mut StartupType,
 ) -> Result<(), Refusal>
-    ensures reads { TakesNumbered (λ _. params.Startup startup_type.new) startup cursor.old cursor.new result }
-    ensures spelled { OnOk result (cursor.old.here.rest ≡ spelling startup (params.Startup startup_type.new) ++ cursor.new.here.rest) }
+    ensures reads { TakesNumbered (λ _. params.Startup startup_type.new) startup
+        cursor.old cursor.new result }
+    ensures spelled { OnOk result
+        (cursor.old.here.rest
+        ≡ spelling startup (params.Startup startup_type.new) ++ cursor.new.here.rest) }
 {
     cursor.number(of_parameter(1));
     startup_type.read(cursor)
@@ -45,7 +48,8 @@ pub(crate) fn startup_len(startup_type: StartupType) -> usize
 #[tactic(auto, unfolding(crate::specs::Parameters::startup))]
 #[inline(always)]
 pub(crate) fn put_startup(startup_type: StartupType, out: &mut Buffer)
-    requires { length out.old.items + length (spelling startup (params.Startup startup_type)) ≤ 4096 }
+    requires { length out.old.items + length (spelling startup (params.Startup startup_type))
+        ≤ 4096 }
     ensures { out.new.items ≡ out.old.items ++ spelling startup (params.Startup startup_type) }
 {
     startup_type.put(out);

@@ -1,14 +1,16 @@
-//! Quotes that a software TPM signed, beside the logs whose records it was extended with: what `tpm2_quote -m` wrote of them. Their
-//! signatures are those of the keys in checks/quotes.
+//! Quotes that a software TPM signed, beside the logs whose records it was extended with: what `tpm2_quote
+//! -m` wrote of them. Their signatures are those of the keys in checks/quotes.
 
 use crate::tests::logs::bytes_of;
 use arrayvec::ArrayVec;
 use std::process::Abort;
 use std::test::*;
-use tpm_log::laws::{attest_or_fault, boot_to_quote};
-use tpm_log::{
+use tpm_log::laws::boot_to_quote;
+use tpm_log::replay;
+use tpm_quote::laws::attest_or_fault;
+use tpm_quote::{
     AttestFault, NotSelected, check_attest, decode_attest, first_not_selected, nonce_matches,
-    replay, selects_none,
+    selects_none,
 };
 use tpm_store::Registers;
 use tpm_types::{Alg, Attest, ClockInfo, Lent, PcrIndex, Selection, Selections};
@@ -132,7 +134,8 @@ const OVMF: &str = "
     a10406140083a5047c3e9e1c4fad65e05268d0b4d17fff0400
 ";
 
-// A quote of registers 0 and 7 of SHA-1 and of SHA-256, and one of registers 0 to 7 of SHA-256, both signed under SHA-256.
+// A quote of registers 0 and 7 of SHA-1 and of SHA-256, and one of registers 0 to 7 of SHA-256, both signed
+// under SHA-256.
 const TWO_BANKS: &str =
     "ff54434780180022000b8843e5f582d9d3270cfac1e4ba6d2343d12b3afca836e17262c53012042188590014c0ffee000000000000000000000000000000000000000000000003b8000000010000000001201910230016363600000002000403810000000b038100000020aafede955a1083bbe3492ef7a86ee56e9c872986902e2cd056ccc7e16324e03b";
 

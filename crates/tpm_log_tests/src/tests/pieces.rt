@@ -70,7 +70,8 @@ fn a_log_that_never_ends_is_too_long(rt: HostRuntime) {
     is_fault(&rt, replay.feed(&[0]), LogFaultKind::TooLong, 16_777_209);
 }
 
-// A header's event that is longer than any has its fault only where all of it came; where the bytes end before, that is the fault.
+// A header's event that is longer than any has its fault only where all of it came; where the bytes end
+// before, that is the fault.
 #[test]
 fn a_long_header_has_its_fault_at_its_end(rt: HostRuntime) {
     let mut replay = behind(&rt, LONG_HEADER);
@@ -125,7 +126,8 @@ fn is_told_in_time(rt: &impl Abort, log: &str, changes: &[(usize, u8, LogFaultKi
     }
 }
 
-// Each fault is that of the longer log from the last byte of its token on, and one of the header's event from the last byte of that.
+// Each fault is that of the longer log from the last byte of its token on, and one of the header's event from
+// the last byte of that.
 #[test]
 fn a_fault_is_told_with_the_piece_that_shows_it(rt: HostRuntime) {
     is_told_in_time(

@@ -3,13 +3,15 @@
 use crate::tests::logs::{ORDER, bytes_of};
 use std::process::Abort;
 use std::test::*;
-use tpm_log::{check_quote, decode_quote, replay};
+use tpm_log::replay;
+use tpm_quote::{check_quote, decode_quote};
 use tpm_store::Registers;
 use tpm_types::{Alg, QuoteInfo, Selection};
 use tpm_wire::Refusal;
 use tpm_wire::response_code::{HASH, INSUFFICIENT, SIZE, VALUE};
 
-// pcrSelect, of which the one entry has register 23 of SHA-256; pcrDigest, of its value after the log: that of Python's hashlib.
+// pcrSelect, of which the one entry has register 23 of SHA-256; pcrDigest, of its value after the log: that
+// of Python's hashlib.
 const QUOTE: &str =
     "00000001000b030000800020bb5c9868d7d8a015741984a3fbc8292faf5870e68ad369ca4e54c08d1ebba050";
 

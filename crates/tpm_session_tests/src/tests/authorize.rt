@@ -1,5 +1,6 @@
-//! Which sessions authorize a command, and what they add to its reply. The expected MACs are those of Python's hmac module over the
-//! texts of Part 1, "HMAC Computation". A script's line is told in `scripts`.
+//! Which sessions authorize a command, and what they add to its reply. The expected MACs are those
+//! of Python's hmac module over the texts of Part 1, "HMAC Computation". A script's line is told in
+//! `scripts`.
 
 use crate::tests::calls::{OWNER, session};
 use crate::tests::scripts::{Bench, run};
@@ -40,7 +41,8 @@ pub fn follows(rt: &impl Abort, bench: &Bench, rest: &str) -> bool {
     }
 }
 
-// What the checks of the sessions of a command answer, 0 for a yes. Each handle has this Name, and the update counter is 0.
+// What the checks of the sessions of a command answer, 0 for a yes. Each handle has this Name, and
+// the update counter is 0.
 fn judged(bench: &Bench, entity: &Entity<'_>, name: &[Name; 2], cut: &Areas<'_>) -> u32 {
     let Some(first) = cut.auth(0) else {
         return u32::MAX;
@@ -141,8 +143,8 @@ fn macs_are_over_names_and_parameters_under_the_keys_of_sessions(rt: HostRuntime
         authorize register 00000001 9a2 8002 00000064 00000182 00000001 0000002c 02000000 0003 c1c2c3 01 0020 ecba6652af6c3072da402f3f421e98d1ca0dced9b20e484579f53f36a5907ada 00000001000b0000000000000000000000000000000000000000000000000000000000000000
         authorize register 00000000 9a2 8002 00000064 00000182 00000000 0000002c 02000000 0003 c1c2c3 01 0020 ecba6652af6c3072da402f3f421e98d1ca0dced9b20e484579f53f36a5907ada 00000001000b0000000000000000000000000000000000000000000000000000000000000001
         authorize register 00000000 9a2 8002 00000064 00000182 00000000 0000002c 02000000 0003 c1c2c3 00 0020 ecba6652af6c3072da402f3f421e98d1ca0dced9b20e484579f53f36a5907ada 00000001000b0000000000000000000000000000000000000000000000000000000000000000
-        # The owner's value is left out of a bound key. An NV_DefineSpace by the owner, without the owner's value in the key,
-        # with it, and with no HMAC.
+        # The owner's value is left out of a bound key. An NV_DefineSpace by the owner, without the
+        # owner's value in the key, with it, and with no HMAC.
         new
         command 0 8001 0000002b 00000176 40000007 40000001 0010 a0a1a2a3a4a5a6a7a8a9aaabacadaeaf 0000 00 0010 0004
         authorize owner 40000001 0 8002 00000044 0000012a 40000001 00000020 02000000 0003 c1c2c3 01 0014 978731119cd7320cdbb9257753f2b6f9201e93ab 0000000e01800001000b0206001600000008
@@ -173,8 +175,8 @@ fn macs_are_over_names_and_parameters_under_the_keys_of_sessions(rt: HostRuntime
         authorize owner 40000001 9a2 8002 00000060 0000012a 40000001 0000003c 02000000 0003 c1c2c3 01 0030 6d236fabbf5699881fb288f19a1b6afd8870060757adc47815eb3e79f925d58caccb0abd0829321dd4b0c16aea5e2228 0000000e01800001000b0206001600000008
         authorize owner 40000001 0 8002 00000060 0000012a 40000001 0000003c 02000000 0003 c1c2c3 01 0030 d272c300f6921d0921a4233c0e826ba6be4e8fba58489ceea5cac52b1aefc5336c76f50aa8bf5f310b7bdcfc89d920e3 0000000e01800001000b0206001600000008
         authorize owner 40000001 9a2 8002 00000030 0000012a 40000001 0000000c 02000000 0003 c1c2c3 01 0000 0000000e01800001000b0206001600000008
-        # An index has its value in the key. An NV_Increment by the index itself, whose value is 61, with it in the key and
-        # without. A wrong one is BAD_AUTH under NO_DA, else AUTH_FAIL.
+        # An index has its value in the key. An NV_Increment by the index itself, whose value is 61,
+        # with it in the key and without. A wrong one is BAD_AUTH under NO_DA, else AUTH_FAIL.
         new
         command 0 8001 0000002b 00000176 40000007 40000001 0010 a0a1a2a3a4a5a6a7a8a9aaabacadaeaf 0000 00 0010 000b
         index 61 000e 01800001 000b 02060016 0000 0008
@@ -398,8 +400,8 @@ fn a_reply_has_the_macs_of_the_next_nonce_where_the_command_has_one(rt: HostRunt
         new
         command 0 8001 0000002b 00000176 40000007 40000007 0010 a0a1a2a3a4a5a6a7a8a9aaabacadaeaf 0000 00 0010 000c
         reply owner 00080000000000000004 404142434445464748494a4b4c4d4e4f 1 695183efa8d8e0c1d90db03afc725f664dfd4daf8ab4d2afa683aa7388e832cdd7c03262c1dda4c896787302ec687b44 8002 00000056 0000014e 40000001 01800001 0000003c 02000000 0003 c1c2c3 01 0030 4a4019804f4c227aba64ff3e80e6ebd5efc58f5a6f81eac4945f951f588bbba34248c22ad386ab5df86d48490d96bfe8 00080000
-        # An HMAC where the command has one. A PCR_Reset in a session without a key, with an empty HMAC, with the HMAC under
-        # the empty key, and with a password.
+        # An HMAC where the command has one. A PCR_Reset in a session without a key, with an empty
+        # HMAC, with the HMAC under the empty key, and with a password.
         new
         command 0 8001 0000002b 00000176 40000007 40000007 0010 a0a1a2a3a4a5a6a7a8a9aaabacadaeaf 0000 00 0010 000b
         reply register - 404142434445464748494a4b4c4d4e4f 0 - 8002 0000001e 0000013d 00000010 0000000c 02000000 0003 c1c2c3 00 0000

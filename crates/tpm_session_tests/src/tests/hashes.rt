@@ -70,8 +70,9 @@ fn hashes_of_no_byte_one_block_and_two(rt: HostRuntime) {
     );
 }
 
-// RFC 2202, section 3, and RFC 4231, section 4: test cases 1 to 4, 6 and 7. Then a key of no byte, one as long as the block,
-// which is taken as it is, and one longer by a byte, which is hashed first, and "Hi There": those are of Python's hmac module.
+// RFC 2202, section 3, and RFC 4231, section 4: test cases 1 to 4, 6 and 7. Then a key of no byte,
+// one as long as the block, which is taken as it is, and one longer by a byte, which is hashed
+// first, and "Hi There": those are of Python's hmac module.
 #[test]
 fn hmacs_of_the_rfcs_and_under_keys_about_a_block_long(rt: HostRuntime) {
     are_so(
@@ -111,8 +112,8 @@ fn hmacs_of_the_rfcs_and_under_keys_about_a_block_long(rt: HostRuntime) {
     );
 }
 
-// Two blocks and part of a third, of the key "owner" and the label "ATH". The expected values are those of OpenSSL's KBKDF, whose
-// salt is the label and whose info is both contexts.
+// Two blocks and part of a third, of the key "owner" and the label "ATH". The expected values are
+// those of OpenSSL's KBKDF, whose salt is the label and whose info is both contexts.
 #[test]
 fn derived_keys_have_as_many_blocks_as_they_take(rt: HostRuntime) {
     are_so(

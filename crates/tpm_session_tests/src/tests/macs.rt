@@ -8,9 +8,10 @@ use tpm_hmac::{SessionKey, command_mac, cp_hash, response_mac, rp_hash};
 use tpm_testing::word;
 use tpm_types::{Alg, Digest, Name, SessionAttrs};
 
-// A command or a response a line: its hash, the session key, the authorization value, the code, the Names of the handles (two at
-// most, joined by `+`), the parameters, cpHash or rpHash, the newer nonce, the older, the attributes and the MAC. `-` is none. Of
-// TPM2_HierarchyChangeAuth, code 129, the MAC alone is compared.
+// A command or a response a line: its hash, the session key, the authorization value, the code, the
+// Names of the handles (two at most, joined by `+`), the parameters, cpHash or rpHash, the newer
+// nonce, the older, the attributes and the MAC. `-` is none. Of TPM2_HierarchyChangeAuth, code 129,
+// the MAC alone is compared.
 const ROWS: &str = "\
 command 000b - - 0000013c 00000000 000400000000 83d626610b0b01361031551c63bf4483f4519d30038889ff04d59441b91fe554 c964447a8400c938dfa67f1257c33ec1565155da53ff1baf2ee35ad837558486 8b26365d44c0df3c6fae5ebabe84f4f4fa8825e8cbfa9222279101c537dd1a1e 01 61be469b433c23b38d7c2755957b62eed799a453c5aea795fe0d7851da1399f5
 response 000b - - 0000013c - 0000000400049069ca78e7450a285173431b3e52c5c25299e473000bdf3f619804a92fdb4057192dc43dd748ea778adc52bc498ce80524c014b81119000c394341b7182cd227c5c6b07ef8000cdfd86136c4292b8e576573ad7ed9ae41019f5818b4b971c9effc60e1ad9f1289f0000dec2d57691d9b2d40182ac565032054b7d784ba96b18bcb5be0bb4e70e3fb041eff582c8af66ee50256539f2181d7f9e53627c0189da7e75a4d5ef10ea93b20b3 7efb077d4ef15c65e2cf20b969a7cb7d007f197958dcf1ea455b2e319eadc069 7973cf0c8385b1fbe5cc845ebfe0b8da9e00b660882d81f392854d2e4c3942b2 c964447a8400c938dfa67f1257c33ec1565155da53ff1baf2ee35ad837558486 01 d59942074444fe145af5db9fa0a1e5f31acb007b53b1be6ad187dbc5125df5e5
@@ -37,8 +38,8 @@ response 000c 80928232c9fa129837e2162c272aa4a57f564e81478cddffb29cda0ab82d90588d
 command 000c 80928232c9fa129837e2162c272aa4a57f564e81478cddffb29cda0ab82d90588d0a0b3c71cac0368a209eae69bb4bb5 696478 00000134 000b07ee786a71c60bb938983992b82875024062d8448ca92c1ceac2c7956b686103+000b07ee786a71c60bb938983992b82875024062d8448ca92c1ceac2c7956b686103 - 07785f621ef2df3e7db350efddfc6645819b8495d0ee344a6a5083b34fcf61237328754810544cb7c1445403976e7516 6a69cc8997aed4dca3ec154e8f5f942b7667466e198ef16dddfb6bdae23cf1ce59bc9a310b31e030b6c37aee9731fe13 7847813cd84499b964a8cadeb70250181660e854319cea761e9a56cd69c2bf9b57528be1bf4904dd2f295b9d5cad6bee 01 1b9dc7de4e2a59da4878c2c696f5d1454b18ed12852616b16cfe357c8e703c1f4e901de5c7335da60ac1480cce01e83b
 response 000c 80928232c9fa129837e2162c272aa4a57f564e81478cddffb29cda0ab82d90588d0a0b3c71cac0368a209eae69bb4bb5 696478 00000134 - - 4a5d19f1cb53ae1fc3776a298ac75cfee541be1055dbe564c235100c5ce6dbae4b1334af0a243c567f7ca2b4d8e66d85 5a08f660b3621a42d3078dc4ded80b2bf53f61cb202f38931e76935d34306f2c01d27390483d3dfd0dcbd7a33cb35fb8 6a69cc8997aed4dca3ec154e8f5f942b7667466e198ef16dddfb6bdae23cf1ce59bc9a310b31e030b6c37aee9731fe13 01 6a30fa2d78a35e5e128dfdcd3dbf5c39cafb19b0af3fcb0d6d1eac1ee32b4a0b20b3f7cac87535e16e061787e2096f6e";
 
-// A line of the other table without the code, the Names and the parameters. The authorization value ends in zeros that are no
-// part of it, and the expected value is that of Python's hmac module.
+// A line of the other table without the code, the Names and the parameters. The authorization value
+// ends in zeros that are no part of it, and the expected value is that of Python's hmac module.
 const TRIMMED: &str = "\
 command 0004 01020304 6100620000 000102030405060708090a0b0c0d0e0f10111213 a0a1a2a3 b0b1b2b3b4 01 4d0b2dd8c68d5592d00db1963251da36bb7b5768
 response 0004 01020304 6100620000 000102030405060708090a0b0c0d0e0f10111213 a0a1a2a3 b0b1b2b3b4 01 4d0b2dd8c68d5592d00db1963251da36bb7b5768";

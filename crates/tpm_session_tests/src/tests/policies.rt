@@ -112,9 +112,9 @@ fn an_authorized_command_ends_the_policy(rt: HostRuntime) {
     run(
         &rt,
         "
-        # The first digest is that of Python's hashlib. The second is the one that is
-        # recorded of the other implementation for these three commands. They can't give it by Part 3, 23.11, but the last of
-        # them gives it on a policy that begins again.
+        # The first digest is that of Python's hashlib. The second is the one that is recorded of
+        # the other implementation for these three commands. They can't give it by Part 3, 23.11,
+        # but the last of them gives it on a policy that begins again.
         new
         command 0 8001 0000002b 00000176 40000007 40000007 0010 a0a1a2a3a4a5a6a7a8a9aaabacadaeaf 0000 01 0010 000b
         command 0 8001 00000012 0000016c 03000000 00000134
@@ -133,7 +133,8 @@ fn an_authorized_command_ends_the_policy(rt: HostRuntime) {
     );
 }
 
-// Another command code is refused. The same code may be set twice, and gives another digest each time: those of Python's hashlib.
+// Another command code is refused. The same code may be set twice, and gives another digest each
+// time: those of Python's hashlib.
 const CODES: &str = "
     command 0 8001 00000012 0000016c 03000000 00000134
     digest e8c02d3c5e701670cbaa327db1a2e9f3f41b2c22793e5c669a6e7f44b912f6c0
@@ -174,8 +175,8 @@ fn codes_and_choices_are_asserted_or_refused(rt: HostRuntime) {
         command 0 8001 0000002b 00000176 40000007 40000007 0010 a0a1a2a3a4a5a6a7a8a9aaabacadaeaf 0000 01 0010 000b
         command 0 8001 00000012 0000016c 03000000 0000ffff
         digest 2f1f7abecf49255a0a8d1a6f9b96e657acd9b198f9d6ff689646e073c024a8c2
-        # A choice has the policy among its digests. A list of one digest is no list of TPM2_PolicyOR, and a policy session
-        # is none of two others.
+        # A choice has the policy among its digests. A list of one digest is no list of
+        # TPM2_PolicyOR, and a policy session is none of two others.
         new
         command 0 8001 0000002b 00000176 40000007 40000007 0010 a0a1a2a3a4a5a6a7a8a9aaabacadaeaf 0000 01 0010 000b
         command 1d5 8001 00000034 00000171 03000000 00000001 0020 0000000000000000000000000000000000000000000000000000000000000000
@@ -208,8 +209,9 @@ fn registers_are_asserted_or_refused(rt: HostRuntime) {
         digest 0000000000000000000000000000000000000000000000000000000000000000
         command 0 8001 0000001a 0000017f 03000000 0000 00000001 000b 03 000001
         digest a30840cd85e3d23a95cf861ec299fb6df74a4e479f4aecabf65724558f25f0e8
-        # A trial takes any digest of registers. A trial takes the digest as it is given, of whatever length, keeps no update
-        # counter, and stays a trial after a restart. The digests are those of Python's hashlib.
+        # A trial takes any digest of registers. A trial takes the digest as it is given, of
+        # whatever length, keeps no update counter, and stays a trial after a restart. The digests
+        # are those of Python's hashlib.
         new
         command 0 8001 0000002b 00000176 40000007 40000007 0010 a0a1a2a3a4a5a6a7a8a9aaabacadaeaf 0000 03 0010 000b
         command 0 8001 0000001b 0000017f 03000000 0001 00 00000001 000b 03 000001
@@ -222,8 +224,8 @@ fn registers_are_asserted_or_refused(rt: HostRuntime) {
         extend 8002 00000041 00000182 00000010 00000009 40000009 0000 01 0000 00000001 000b 0000000000000000000000000000000000000000000000000000000000000000
         command 0 8001 0000001a 0000017f 03000000 0000 00000001 000b 03 000001
         command 0 8001 0000000e 00000180 03000000
-        # Registers of two banks are asserted under a third hash. The digests are those of Python's hashlib: over two banks,
-        # in a session of SHA-384.
+        # Registers of two banks are asserted under a third hash. The digests are those of Python's
+        # hashlib: over two banks, in a session of SHA-384.
         new
         command 0 8001 0000002b 00000176 40000007 40000007 0010 a0a1a2a3a4a5a6a7a8a9aaabacadaeaf 0000 01 0010 000c
         command 0 8001 00000020 0000017f 03000000 0000 00000002 0004 03 800001 000b 03 010002

@@ -1,23 +1,26 @@
 //! Scripts: what is done to sessions and registers, and what they answer.
 //!
-//! Each line is a word and what it is about; one that begins with `#` says what the next are about. Numbers and bytes are
-//! hexadecimal, and `-` is no byte.
+//! Each line is a word and what it is about; one that begins with `#` says what the next are about.
+//! Numbers and bytes are hexadecimal, and `-` is no byte.
 //!
 //! - `new`: from here on, sessions and registers as they are at first.
 //! - `command CODE BYTES`: this command on sessions is answered with this code, 0 where it is done.
 //! - `started HANDLE BYTES`: this TPM2_StartAuthSession is answered with this handle.
 //! - `extend BYTES`: the registers after this TPM2_PCR_Extend.
-//! - `kept HANDLE` and `ended HANDLE`: after a command that the session authorized, with continueSession and without. The next
-//!   nonce is made of zeros.
+//! - `kept HANDLE` and `ended HANDLE`: after a command that the session authorized, with
+//!   continueSession and without. The next nonce is made of zeros.
 //! - `loaded HANDLE` and `absent HANDLE`: whether there is such a session.
 //! - `nonce HANDLE BYTES`: what nonce the session has.
-//! - `digest BYTES` and `no-digest HANDLE CODE`: the policy digest of the session in slot 0, and a refusal to tell one.
-//! - `index AUTH BYTES`: from here on, the index is one with this authorization value and this TPM2B_NV_PUBLIC.
-//! - `follows HANDLE ENTITY BYTES`: what follows the session key where the session authorizes a command of `owner`, `register`,
-//!   `null` or `index`.
-//! - `authorize ENTITY NAME CODE BYTES`: the sessions of this command, each of whose handles has this Name, are answered with
-//!   this code, 0 for a yes.
-//! - `reply ENTITY PARAMETERS NONCE ATTRIBUTES HMAC BYTES`: the session of the reply to this command with these parameters.
+//! - `digest BYTES` and `no-digest HANDLE CODE`: the policy digest of the session in slot 0, and a
+//!   refusal to tell one.
+//! - `index AUTH BYTES`: from here on, the index is one with this authorization value and this
+//!   TPM2B_NV_PUBLIC.
+//! - `follows HANDLE ENTITY BYTES`: what follows the session key where the session authorizes a
+//!   command of `owner`, `register`, `null` or `index`.
+//! - `authorize ENTITY NAME CODE BYTES`: the sessions of this command, each of whose handles has
+//!   this Name, are answered with this code, 0 for a yes.
+//! - `reply ENTITY PARAMETERS NONCE ATTRIBUTES HMAC BYTES`: the session of the reply to this
+//!   command with these parameters.
 
 use crate::tests::authorize::{answers, follows, replies};
 use crate::tests::calls::{

@@ -13,8 +13,8 @@ fn three_sessions_are_started_flushed_once_and_go_on_or_end(rt: HostRuntime) {
     run(
         &rt,
         "
-        # Three sessions are started and no fourth. A slot is asked for by the kind of its session, and the lowest free slot
-        # is taken again.
+        # Three sessions are started and no fourth. A slot is asked for by the kind of its session,
+        # and the lowest free slot is taken again.
         new
         started 02000000 8001 0000002b 00000176 40000007 40000007 0010 a0a1a2a3a4a5a6a7a8a9aaabacadaeaf 0000 00 0010 000b
         started 03000001 8001 0000002b 00000176 40000007 40000007 0010 a0a1a2a3a4a5a6a7a8a9aaabacadaeaf 0000 01 0010 000b
@@ -63,8 +63,9 @@ fn nonces_that_sessions_are_started_with(rt: HostRuntime) {
     );
 }
 
-// A hash, and the key under it of a session that is bound to the owner. The keys are those of Python's hmac module: KDFa of the owner's
-// value, which the trailing zeros of the value are no part of.
+// A hash, and the key under it of a session that is bound to the owner. The keys are those of
+// Python's hmac module: KDFa of the owner's value, which the trailing zeros of the value are no
+// part of.
 const KEYS: &str = "\
 0004 c6103ca8e8b8172b2019aa95b7019d8a2a2706e0
 000b d683350f651cf750805521c488f3158619d9f0c51477fc08c55f950486759120

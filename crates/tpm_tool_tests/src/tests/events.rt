@@ -6,8 +6,9 @@ use std::alloc::Global;
 use std::io;
 use std::io::Write;
 use std::test::Fail;
+use tpm_check::{Listing, list_events};
 use tpm_testing::Pieces;
-use tpm_tool::{Listing, Status, list_events};
+use tpm_text::status::Status;
 
 // The records of the log, by a reading of its bytes in Python.
 pub(crate) const TEXT: &str =
@@ -115,8 +116,8 @@ fn long_log(alloc: Global) -> Result<Vec<u8>, Fail> {
     Ok(log)
 }
 
-// A number of up to three digits and a place of up to five are at most five bytes more than the record's line has in `TEXT`. Fewer
-// than 4,096 bytes are held when a line is added, and no write has more.
+// A number of up to three digits and a place of up to five are at most five bytes more than the record's line has in
+// `TEXT`. Fewer than 4,096 bytes are held when a line is added, and no write has more.
 #[test]
 fn a_long_log_is_written_in_pieces(rt: HostRuntime) -> Result<(), Fail> {
     let log = long_log(rt.alloc())?;

@@ -6,11 +6,13 @@ use std::io;
 use std::io::{ErrorKind, Write};
 use std::test::Fail;
 use tpm_buffer::CommandCode;
+use tpm_check::{check_log, list_events};
 use tpm_device::Device;
-use tpm_tool::{
-    Status, Telling, ToolFault, build, check_log, list_events, not_hexadecimal, run_script, show,
-    show_fields, show_lines, show_stream,
-};
+use tpm_script::run_script;
+use tpm_show::{Telling, build, show, show_fields, show_lines, show_stream};
+use tpm_text::answer::not_hexadecimal;
+use tpm_text::fault::ToolFault;
+use tpm_text::status::Status;
 use tpm_types::{Alg, AuthValue};
 use tpm_wire::SliceSource;
 
@@ -167,7 +169,8 @@ fn perform<W: Write>(alloc: Global, out: &mut W, call: Call) -> Result<Status, T
     }
 }
 
-// A writer that takes a byte at a time, as long as it is the next of a text, and so many of them. It asks for no memory.
+// A writer that takes a byte at a time, as long as it is the next of a text, and so many of them. It asks for no
+// memory.
 #[derive(Drop)]
 struct Expecting<'a> {
     rest: &'a [u8],

@@ -17,5 +17,5 @@ fn the_laws_return(_rt: HostRuntime) {
     tpm_device::answers_are_the_run();
     tpm_device::no_replay();
     tpm_device::no_counter_goes_back();
-    tpm_tool::no_replay_in_a_script();
+    tpm_script::no_replay_in_a_script();
 }

@@ -4,8 +4,10 @@ use crate::tests::reads::{Answered, each_read_may_fail, is_answered};
 use std::alloc::Global;
 use std::process::Abort;
 use std::test::Fail;
+use tpm_check::check_log;
 use tpm_testing::{Pieces, bytes};
-use tpm_tool::{Status, ToolFault, check_log};
+use tpm_text::fault::ToolFault;
+use tpm_text::status::Status;
 use tpm_types::Alg;
 use tpm_wire::Buffer;
 
@@ -125,7 +127,8 @@ const LINE: &str = "sha1 0 0000000000000000000000000000000000000000\n";
 
 const LONGER_LINE: &str = "sha1 10 0000000000000000000000000000000000000000\n";
 
-// 349,509 of the one and 16 of the other are 16,777,216 bytes, which are all answered; a line feed behind them is one too many.
+// 349,509 of the one and 16 of the other are 16,777,216 bytes, which are all answered; a line feed behind them is one
+// too many.
 #[test]
 fn a_list_with_a_byte_too_many_is_answered_to_it(rt: HostRuntime) -> Result<(), Fail> {
     let log = log(&rt);

@@ -3,7 +3,8 @@
 use std::process::Abort;
 use std::test::*;
 use tpm_testing::Pieces;
-use tpm_tool::{Status, ToolFault};
+use tpm_text::fault::ToolFault;
+use tpm_text::status::Status;
 use tpm_wire::Source;
 
 /// The status or the fault, and what was written.
@@ -21,8 +22,8 @@ pub fn is_answered(
     assert_eq!(rt; out.as_slice(), text.as_bytes());
 }
 
-/// Whichever read of the bytes fails, of so many, that is answered and not tried again, and what was written is the beginning of
-/// the text.
+/// Whichever read of the bytes fails, of so many, that is answered and not tried again, and what was written is the
+/// beginning of the text.
 pub fn each_read_may_fail<F: Fn(&mut Pieces<'_>) -> Answered>(
     rt: &impl Abort,
     bytes: &[u8],

@@ -5,8 +5,10 @@ use std::alloc::Global;
 use std::process::Abort;
 use std::test::*;
 use tpm_device::Device;
+use tpm_script::run_script;
 use tpm_testing::Pieces;
-use tpm_tool::{Status, ToolFault, run_script};
+use tpm_text::fault::ToolFault;
+use tpm_text::status::Status;
 use tpm_types::AuthValue;
 
 // Startup, a power cycle, PCR_Read before a Startup, and a line that is refused.
@@ -41,7 +43,8 @@ fn a_script_is_the_same_in_any_pieces(rt: HostRuntime) {
     }
 }
 
-// A line that ends with byte 16,777,216 counts, whatever was read together with it, and one that ends behind it does not.
+// A line that ends with byte 16,777,216 counts, whatever was read together with it, and one that ends behind it does
+// not.
 #[test]
 fn the_limit_is_the_same_in_any_pieces(rt: HostRuntime) {
     let refused = "line 16777214: not hexadecimal\n";

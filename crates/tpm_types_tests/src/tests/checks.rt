@@ -64,9 +64,9 @@ fn refuses<T: Wire + Drop>(rt: &impl Abort, bytes: &[u8], code: u32, at: u32) {
     assert!(rt; faults == expected, "{bytes:?}");
 }
 
-/// In `BYTES taken PLACES` the bytes are a value, and each beginning of them is too short, at the place that stands for its length: one
-/// byte a place, or none where the beginnings are not tried. In `BYTES refused CODE PLACE` they have a fault with this code of two bytes
-/// at this place of one byte.
+/// In `BYTES taken PLACES` the bytes are a value, and each beginning of them is too short, at the place that stands
+/// for its length: one byte a place, or none where the beginnings are not tried. In `BYTES refused CODE PLACE` they
+/// have a fault with this code of two bytes at this place of one byte.
 pub fn row<T: Wire + Drop>(rt: &impl Abort, line: &str) {
     if let Some((bytes, refusal)) = line.split_once(" refused ") {
         is_refused::<T>(rt, bytes, refusal);

@@ -1,5 +1,5 @@
-//! What is asked of a number, and of so many bytes or entries. A line is a word, a number and the answer in hexadecimal, `-` for
-//! none.
+//! What is asked of a number, and of so many bytes or entries. A line is a word, a number
+//! and the answer in hexadecimal, `-` for none.
 
 use arrayvec::ArrayVec;
 use std::process::Abort;
@@ -98,8 +98,8 @@ fn sized(bytes: &[u8]) -> [bool; 2] {
     [Digest::new(bytes).is_some(), Name::new(bytes).is_some()]
 }
 
-// Whether so many digests are a list of TPM2_PCR_Read, whether they are one of TPM2_PolicyOR, and whether so many numbers are one to
-// three.
+// Whether so many digests are a list of TPM2_PCR_Read, whether they are one of TPM2_PolicyOR,
+// and whether so many numbers are one to three.
 fn listed(count: usize) -> [bool; 3] {
     let mut entries = ArrayVec::<Digest, 9>::new();
     let mut numbers = ArrayVec::<u16, 9>::new();
@@ -192,8 +192,8 @@ fn handles_of_one_kind_or_another(rt: HostRuntime) {
     );
 }
 
-// A bit for each, the highest for counter; writes: owner, auth, policy; reads: owner, auth, policy; no_da, written; writable, readable,
-// undefinable. Then WRITTEN is added.
+// A bit for each, the highest for counter; writes: owner, auth, policy; reads: owner, auth, policy; no_da, written;
+// writable, readable, undefinable. Then WRITTEN is added.
 #[test]
 fn queries_of_nv_attributes(rt: HostRuntime) {
     answers(
@@ -254,8 +254,8 @@ fn queries_of_session_attributes(rt: HostRuntime) {
     );
 }
 
-// `sized`: a bit for a digest and one for a Name. `listed`: for the digests of TPM2_PCR_Read, for those of TPM2_PolicyOR, and for one to
-// three numbers.
+// `sized`: a bit for a digest and one for a Name. `listed`: for the digests of TPM2_PCR_Read, for those of
+// TPM2_PolicyOR, and for one to three numbers.
 #[test]
 fn how_many_bytes_and_entries_there_may_be(rt: HostRuntime) {
     answers(

@@ -1,5 +1,5 @@
-//! Bytes that are taken, and bytes that are refused, in the order of Part 2. The codes are HASH 0083, VALUE 0084, MODE 0089,
-//! SIZE 0095, SYMMETRIC 0096, INSUFFICIENT 009A and RESERVED_BITS 00A1.
+//! Bytes that are taken, and bytes that are refused, in the order of Part 2. The codes are HASH 0083, VALUE 0084,
+//! MODE 0089, SIZE 0095, SYMMETRIC 0096, INSUFFICIENT 009A and RESERVED_BITS 00A1.
 
 use crate::tests::checks::row;
 use std::process::Abort;
@@ -11,7 +11,8 @@ use tpm_types::{
     SessionType, StartupType, SymDef,
 };
 
-// What is asked of each line: the name of a type, and a row of its bytes. A line that begins with `#` says what the next is about.
+// What is asked of each line: the name of a type, and a row of its bytes. A line that
+// begins with `#` says what the next is about.
 fn rows(rt: &impl Abort, lines: &str) {
     for line in lines.lines() {
         let line = line.trim();

@@ -94,7 +94,8 @@ fn a_byte_that_is_left_in_an_area(rt: HostRuntime) {
     assert!(rt; found == (true, Err(refusal)));
 }
 
-// Of the entries of two bytes to the end, at most so many, how many there are, their first, and how many bytes are behind them.
+// Of the entries of two bytes to the end, at most so many, how many there are, their
+// first, and how many bytes are behind them.
 fn rest(bytes: &[u8], most: usize) -> Result<(usize, Option<u16>, usize), Refusal> {
     let mut cursor = Cursor::new(&bytes[..bytes.len().min(5)]);
     let entries = take_rest::<u16, 3>(&mut cursor, most.min(3), of_session(1))?;

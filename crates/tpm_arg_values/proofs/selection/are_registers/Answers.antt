@@ -9,5 +9,6 @@ use Rattle.tpm_arg_values.proofs.selection.are_registers.Goals as goal
 pub returns-else-eq : goal.returns-else-eq
 returns-else-eq c =
     let all = all_from_yields_List (λ t. is_numeral t && is_pcr (digits_value 10 t)) _ _ c.all.result c.all.ensures.ran
-    (YieldsList-from_str_split 44 c.args.text.now (lit< tt) c.split.ensures.text c.split.ensures.has_more c.split.ensures.pattern) (λ x b q k. search (rules, tests)) in
+    (YieldsList-from_str_split 44 c.args.text.now (lit< tt) c.split.ensures.text c.split.ensures.has_more c.split.ensures.pattern)
+    (λ x b q k. search (rules, tests)) in
     search (rules, all)

@@ -8,5 +8,6 @@ use Rattle.tpm_arg_values.proofs.selection.name_register.Goals as goal
 pub returns-else-eq : goal.returns-else-eq
 returns-else-eq c =
     let any = any_from_yields_List (λ t. is_numeral t && (digits_value 10 t == c.args.register)) _ _ c.any.result c.any.ensures.ran
-    (YieldsList-from_str_split 44 c.args.text.now (lit< tt) c.split.ensures.text c.split.ensures.has_more c.split.ensures.pattern) (λ x b q k. search (rules, tests)) in
+    (YieldsList-from_str_split 44 c.args.text.now (lit< tt) c.split.ensures.text c.split.ensures.has_more c.split.ensures.pattern)
+    (λ x b q k. search (rules, tests)) in
     search (rules, any)

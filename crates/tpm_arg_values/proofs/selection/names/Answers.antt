@@ -6,4 +6,5 @@ use Rattle.tpm_arg_values.proofs.selection.names.Goals as goal
 
 pub returns : goal.returns
 returns c = any_from_yields_List (part_names c.args.bank c.args.register) _ _ _ c.any.ensures.ran
-    (YieldsList-from_str_split 43 c.args.text.now (lit< tt) c.split.ensures.text c.split.ensures.has_more c.split.ensures.pattern) (λ x b q k. search (rules, tests))
+    (YieldsList-from_str_split 43 c.args.text.now (lit< tt) c.split.ensures.text c.split.ensures.has_more c.split.ensures.pattern)
+    (λ x b q k. search (rules, tests))

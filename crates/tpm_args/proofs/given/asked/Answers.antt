@@ -11,4 +11,5 @@ returns c =
     let found = found_of c.in-Some.words.now in
     let name : subcommand_name_of matches ≡ Some c.in-Some.name.now = search rules in
     let rows : option_map (λ (p : Text × List Row). p.1) (subcommand_rows_of matches) ≡ Some (rows_of found) = search rules in
-    result_then c.asked_of.result c.asked_of.ensures (asks_nothing matches c.in-Some.name.now found name rows) (λ t h. asks matches c.in-Some.name.now found t name rows h)
+    result_then c.asked_of.result c.asked_of.ensures (asks_nothing matches c.in-Some.name.now found name rows)
+    (λ t h. asks matches c.in-Some.name.now found t name rows h)

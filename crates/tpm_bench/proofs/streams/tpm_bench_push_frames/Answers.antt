@@ -8,7 +8,9 @@ use Rattle.tpm_bench.proofs.streams.tpm_bench_push_frames.Goals as goal
 pub loop-rest-preserved : goal.loop-rest-preserved
 loop-rest-preserved c =
     let p = c.push-taken.ensures in
-    let came = pushes c.args.stream.now c.loop-rest.framer c.loop-rest.rest.now c.loop-rest.out c.loop-rest.written c.loop-rest.invariant.came c.push-taken.new.self c.split_at.result.0.now c.split_at-in-loop-rest.result.1.now _ _ c.split_at.ensures.front c.split_at.ensures.front_len c.split_at-in-loop-rest.ensures.back p.within p.held in
+    let came = pushes c.args.stream.now c.loop-rest.framer c.loop-rest.rest.now c.loop-rest.out c.loop-rest.written
+    c.loop-rest.invariant.came c.push-taken.new.self c.split_at.result.0.now c.split_at-in-loop-rest.result.1.now _
+    _ c.split_at.ensures.front c.split_at.ensures.front_len c.split_at-in-loop-rest.ensures.back p.within p.held in
     let stream = c.args.stream.now in
     let new = c.push-taken.new.self in
     let rest = c.split_at-in-loop-rest.result.1.now in
@@ -24,6 +26,9 @@ loop-rest-preserved c =
 pub returns-in-Broken : goal.returns-in-Broken
 returns-in-Broken c =
     let p = c.push-taken.ensures in
-    let came = pushes c.args.stream.now c.loop-rest.framer c.loop-rest.rest.now c.loop-rest.out c.loop-rest.written c.loop-rest.invariant.came c.push-taken.new.self c.split_at.result.0.now c.split_at-in-loop-rest.result.1.now _ _ c.split_at.ensures.front c.split_at.ensures.front_len c.split_at-in-loop-rest.ensures.back p.within p.held in
+    let came = pushes c.args.stream.now c.loop-rest.framer c.loop-rest.rest.now c.loop-rest.out c.loop-rest.written
+    c.loop-rest.invariant.came c.push-taken.new.self c.split_at.result.0.now c.split_at-in-loop-rest.result.1.now _
+    _ c.split_at.ensures.front c.split_at.ensures.front_len c.split_at-in-loop-rest.ensures.back p.within p.held in
     let broken = subst (IsStatus c.push-taken.new.self) c.in-Broken.is p.answer in
-    over c.args.stream.now c.push-taken.new.self c.split_at-in-loop-rest.result.1.now c.loop-rest.out c.loop-rest.written came (broken_begins c.push-taken.new.self c.split_at-in-loop-rest.result.1.now broken.0)
+    over c.args.stream.now c.push-taken.new.self c.split_at-in-loop-rest.result.1.now c.loop-rest.out
+    c.loop-rest.written came (broken_begins c.push-taken.new.self c.split_at-in-loop-rest.result.1.now broken.0)

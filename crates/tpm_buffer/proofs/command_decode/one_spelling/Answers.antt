@@ -11,7 +11,8 @@ use Rattle.tpm_commands.specs.declared.command.Command.{Command}
 use Rattle.tpm_buffer.specs.Commands.{command}
 use Rattle.tpm_buffer.proofs.command_decode.one_spelling.Goals as goal
 
-spelled : (bytes : List ℕ) (r : Result Command Refusal) (c : Command) → r ≡ read_all command bytes → IfOk r (λ c. bytes ≡ spelling command c) → Spells command c bytes → bytes ≡ spelling command c
+spelled : (bytes : List ℕ) (r : Result Command Refusal) (c : Command) → r ≡ read_all command bytes
+    → IfOk r (λ c. bytes ≡ spelling command c) → Spells command c bytes → bytes ≡ spelling command c
 spelled bytes r c is text s =
     subst (λ (o : Result Command Refusal). IfOk o (λ c. bytes ≡ spelling command c)) (is ∙ spells_read buffer buffer_sound command bytes c s) text
 

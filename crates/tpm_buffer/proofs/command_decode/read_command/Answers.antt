@@ -18,7 +18,8 @@ pub returns-in_err-header-clause-reads : goal.returns-in_err-header-clause-reads
 returns-in_err-header-clause-reads c =
     let e = c.in_err-header.field-0.0 in
     let p = err_from_is_err_and c.from_residual.result c.from_residual.ensures.1 in
-    let before : read 0 before_params (at_start c.args.bytes.now) ≡ Err e = ap (λ (p : Place). read 0 before_params p.here) (sym c.new-cursor.ensures) ∙ c.in_err-header.ensures.reads in
+    let before : read 0 before_params (at_start c.args.bytes.now) ≡ Err e =
+    ap (λ (p : Place). read 0 before_params p.here) (sym c.new-cursor.ensures) ∙ c.in_err-header.ensures.reads in
     rw (p.1, p.2) (areas_fault c.args.bytes.now e before)
 
 pub returns-in_err-read-clause-reads : goal.returns-in_err-read-clause-reads
@@ -27,7 +28,8 @@ returns-in_err-read-clause-reads c =
     let a : Cut = cut_of c.in_ok-header.header c.in_ok-header.handles.items c.read_before_params.new.auths.items h in
     let e = c.in_err-read.field-0.0 in
     let p = err_from_is_err_and c.from_residual-in_err-read.result c.from_residual-in_err-read.ensures.1 in
-    let before : read 0 before_params (at_start c.args.bytes.now) ≡ Ok (checked a, h) = ap (λ (p : Place). read 0 before_params p.here) (sym c.new-cursor.ensures) ∙ c.in_ok-header.ensures.reads in
+    let before : read 0 before_params (at_start c.args.bytes.now) ≡ Ok (checked a, h) =
+    ap (λ (p : Place). read 0 before_params p.here) (sym c.new-cursor.ensures) ∙ c.in_ok-header.ensures.reads in
     let bad : read 0 (parameters a.header.code) h ≡ Err e = rw c.begin.ensures at c.in_err-read.ensures.reads in
     rw (p.1, p.2) (params_fault c.args.bytes.now (checked a) h e before bad)
 
@@ -36,7 +38,8 @@ returns-then-left-gt0-clause-reads c =
     let h = c.read_before_params.new.cursor.here in
     let a : Cut = cut_of c.in_ok-header.header c.in_ok-header.handles.items c.read_before_params.new.auths.items h in
     let g = c.read.new.cursor.here in
-    let before : read 0 before_params (at_start c.args.bytes.now) ≡ Ok (checked a, h) = ap (λ (p : Place). read 0 before_params p.here) (sym c.new-cursor.ensures) ∙ c.in_ok-header.ensures.reads in
+    let before : read 0 before_params (at_start c.args.bytes.now) ≡ Ok (checked a, h) =
+    ap (λ (p : Place). read 0 before_params p.here) (sym c.new-cursor.ensures) ∙ c.in_ok-header.ensures.reads in
     let good : read 0 (parameters a.header.code) h ≡ Ok (params_of c.read.new.self, g) = rw c.begin.ensures at c.in_ok-read.ensures.reads in
     let more : eqb (length g.rest) 0 ≡ false = ne_eqb (length g.rest) 0 (λ e. omega (arith, e)) in
     rw c.at.ensures (left_over c.args.bytes.now (checked a) h g (params_of c.read.new.self) before good more)
@@ -47,7 +50,8 @@ returns-clause-reads c =
     let a : Cut = cut_of c.in_ok-header.header c.in_ok-header.handles.items c.read_before_params.new.auths.items h in
     let p = params_of c.read.new.self in
     let g = c.read.new.cursor.here in
-    let before : read 0 before_params (at_start c.args.bytes.now) ≡ Ok (checked a, h) = ap (λ (p : Place). read 0 before_params p.here) (sym c.new-cursor.ensures) ∙ c.in_ok-header.ensures.reads in
+    let before : read 0 before_params (at_start c.args.bytes.now) ≡ Ok (checked a, h) =
+    ap (λ (p : Place). read 0 before_params p.here) (sym c.new-cursor.ensures) ∙ c.in_ok-header.ensures.reads in
     let good : read 0 (parameters a.header.code) h ≡ Ok (p, g) = rw c.begin.ensures at c.in_ok-read.ensures.reads in
     let none : eqb (length g.rest) 0 ≡ true = eq-eqb (length g.rest) 0 (omega arith) in
     let body = c.in_ok-read.ensures.body ∙ ap (λ (ns : List ℕ). body_from ns p) c.as_slice.ensures.value in
@@ -64,7 +68,16 @@ returns-clause-spelled c =
     let none : g.rest ≡ [] = nil_from_length g.rest (omega arith) in
     let code = c.in_ok-read.ensures.code ∙ c.begin.ensures in
     let params : h.rest ≡ spelling (parameters a.header.code) p =
-    (rw c.begin.ensures at c.in_ok-read.ensures.spelled) ∙ ap (λ (r : List ℕ). spelling (parameters a.header.code) p ++ r) none ∙ append-nil (spelling (parameters a.header.code) p) in
-    let text = sym begin ∙ s.text ∙ ap (λ (r : List ℕ). spelling header a.header ++ (spelling (handles a.header.code) a.handles ++ (spelling (authorization a.header.tag) a.auths ++ r))) params in
+    (rw c.begin.ensures at c.in_ok-read.ensures.spelled)
+    ∙ ap (λ (r : List ℕ). spelling (parameters a.header.code) p ++ r) none
+    ∙ append-nil (spelling (parameters a.header.code) p) in
+    let text =
+    sym begin
+    ∙ s.text
+    ∙ ap
+    (λ (r : List ℕ).
+    spelling header a.header
+    ++ (spelling (handles a.header.code) a.handles
+    ++ (spelling (authorization a.header.tag) a.auths ++ r))) params in
     let body = c.in_ok-read.ensures.body ∙ ap (λ (ns : List ℕ). body_from ns p) c.as_slice.ensures.value in
     rw body (canonical a.header a.handles a.auths p c.args.bytes.now s.tag (s.size ∙ ap length begin) s.admitted code s.none s.some text)

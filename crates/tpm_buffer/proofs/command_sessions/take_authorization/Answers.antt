@@ -11,5 +11,8 @@ pub take_sessions-requires : goal.take_sessions-requires
 take_sessions-requires c =
     let bytes = c.args.bytes.now in
     let before : Stands bytes c.number.new.self.here = subst (λ (p : Place). Stands bytes p.here) (sym c.number.ensures) c.requires in
-    let behind = stands_behind bytes _ authorization_size c.number.new.self.here c.take_authorization_size.new.cursor.here _ before c.in_ok-size.ensures.reads.0 in
-    subst (λ (p : Place). LiesIn bytes p.here) (sym c.in_ok-outer.ensures.2) (lies_inside bytes c.take_authorization_size.new.cursor.here _ behind c.in_ok-outer.ensures.0)
+    let behind =
+    stands_behind bytes _ authorization_size c.number.new.self.here c.take_authorization_size.new.cursor.here _
+    before c.in_ok-size.ensures.reads.0 in
+    subst (λ (p : Place). LiesIn bytes p.here) (sym c.in_ok-outer.ensures.2)
+    (lies_inside bytes c.take_authorization_size.new.cursor.here _ behind c.in_ok-outer.ensures.0)

@@ -52,8 +52,12 @@ returns-in_err-take_session-clause-reads c =
     let auths = sessions_at c.args.bytes.now ns in
     let count = length-map ns (session_at c.args.bytes.now) in
     let p = err_from_is_err_and c.from_residual.result c.from_residual.ensures.1 in
-    let is = at_place auth_command c.number.new.self here _ (of_session (1 + length auths)) _ c.number.ensures (omega (arith, count)) c.in_err-take_session.ensures.reads in
-    rw (p.1, p.2) (ends (λ before. read (of_session (1 + length before)) auth_command) true auths 3 (length ns) here _ _ (omega arith) (ne_eqb (length here.rest) 0 (λ e. omega (arith, e))) is c.loop-positions.invariant.so_far)
+    let is =
+    at_place auth_command c.number.new.self here _ (of_session (1 + length auths)) _ c.number.ensures
+    (omega (arith, count)) c.in_err-take_session.ensures.reads in
+    rw (p.1, p.2)
+    (ends (λ before. read (of_session (1 + length before)) auth_command) true auths 3 (length ns) here _ _
+    (omega arith) (ne_eqb (length here.rest) 0 (λ e. omega (arith, e))) is c.loop-positions.invariant.so_far)
 
 pub returns-clause-reads : goal.returns-clause-reads
 unfolding sessions
@@ -62,6 +66,10 @@ returns-clause-reads c =
     let here = c.loop-positions.cursor.here in
     let auths = sessions_at c.args.bytes.now ns in
     elim c.loop-positions-test.branch [
-      | then-loop-positions-test+else-len-lt3 w ↦ is_done (λ before. read (of_session (1 + length before)) auth_command) true auths 3 (length ns) here _ (inl (omega arith)) c.loop-positions.invariant.so_far
-      | else-loop-positions-test w ↦ is_done (λ before. read (of_session (1 + length before)) auth_command) true auths 3 (length ns) here _ (inr (eq-eqb (length here.rest) 0 (omega arith))) c.loop-positions.invariant.so_far
+      | then-loop-positions-test+else-len-lt3 w ↦
+          is_done (λ before. read (of_session (1 + length before)) auth_command) true auths 3 (length ns) here _
+          (inl (omega arith)) c.loop-positions.invariant.so_far
+      | else-loop-positions-test w ↦
+          is_done (λ before. read (of_session (1 + length before)) auth_command) true auths 3 (length ns) here _
+          (inr (eq-eqb (length here.rest) 0 (omega arith))) c.loop-positions.invariant.so_far
     ]

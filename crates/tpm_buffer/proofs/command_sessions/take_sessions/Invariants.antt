@@ -9,7 +9,8 @@ use Rattle.tpm_buffer.proofs.command_sessions.take_sessions.Given as goal
 
 abbrev pub invariant-loop-positions : goal.invariant-loop-positions
 invariant-loop-positions l = record {
-  so_far : entries (3 - length l.positions.items) (sessions_at l.bytes l.positions.items) true (λ before. read (of_session (1 + length before)) auth_command) l.cursor.here
+  so_far : entries (3 - length l.positions.items) (sessions_at l.bytes l.positions.items) true
+      (λ before. read (of_session (1 + length before)) auth_command) l.cursor.here
       ≡ entries 3 [] true (λ before. read (of_session (1 + length before)) auth_command) l.fn.cursor.here;
   few : length l.positions.items ≤ 3;
   spelled : l.fn.cursor.here.rest ≡ joined_all auth_command (sessions_at l.bytes l.positions.items) ++ l.cursor.here.rest;

@@ -9,9 +9,19 @@ pub take_behind_code-requires-clause-stands : goal.take_behind_code-requires-cla
 take_behind_code-requires-clause-stands c =
     let bytes = c.args.bytes.now in
     let first : Stands bytes c.args.cursor.now.here = subst (Stands bytes) (sym c.requires.place) (stands_first bytes) in
-    let front : Stands bytes c.take_front.new.cursor.here = stands_behind bytes 0 response_front c.args.cursor.now.here c.take_front.new.cursor.here (c.in_ok-tag.tag, c.in_ok-tag._size) first c.in_ok-tag.ensures.reads in
-    stands_behind bytes c.take_front.new.cursor.number (response_code c.in_ok-tag.tag) c.take_front.new.cursor.here c.take_code.new.cursor.here c.in_ok-number.number front c.in_ok-number.ensures.reads.0
+    let front : Stands bytes c.take_front.new.cursor.here =
+    stands_behind bytes 0 response_front c.args.cursor.now.here c.take_front.new.cursor.here
+    (c.in_ok-tag.tag, c.in_ok-tag._size) first c.in_ok-tag.ensures.reads in
+    stands_behind bytes c.take_front.new.cursor.number (response_code c.in_ok-tag.tag) c.take_front.new.cursor.here
+    c.take_code.new.cursor.here c.in_ok-number.number front c.in_ok-number.ensures.reads.0
 
 pub take_behind_code-requires-clause-place : goal.take_behind_code-requires-clause-place
 take_behind_code-requires-clause-place c =
-    omega (arith, (take_behind_code-requires-clause-stands c).whole, c.in_ok-tag.ensures.length, c.in_ok-number.ensures.length, ap (λ (h : Here). h.at) c.requires.place, ap (λ (h : Here). length h.rest) c.requires.place)
+    omega (
+      arith,
+      (take_behind_code-requires-clause-stands c).whole,
+      c.in_ok-tag.ensures.length,
+      c.in_ok-number.ensures.length,
+      ap (λ (h : Here). h.at) c.requires.place,
+      ap (λ (h : Here). length h.rest) c.requires.place,
+    )

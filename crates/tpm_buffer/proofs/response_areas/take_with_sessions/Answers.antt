@@ -16,20 +16,32 @@ take_sessions-requires c =
     let before = c.take_parameter_size.new.cursor in
     let size_is = at_place parameter_size c.number.new.self c.args.cursor.now.here 0 0 _ c.number.ensures refl c.in_ok-params_size.ensures.reads.0 in
     let stands = stands_behind bytes 0 parameter_size c.args.cursor.now.here before.here c.in_ok-params_size.field-0 c.requires.stands size_is in
-    stands_behind bytes before.number (raw c.in_ok-params_size.field-0) before.here c.bytes.new.self.here c.in_ok-bytes.field-0.now stands c.in_ok-bytes.ensures.0
+    stands_behind bytes before.number (raw c.in_ok-params_size.field-0) before.here c.bytes.new.self.here
+    c.in_ok-bytes.field-0.now stands c.in_ok-bytes.ensures.0
 
 pub invariant_of-result : goal.invariant_of-result
 invariant_of-result c =
     let bytes = c.args.bytes.now in
     let before = c.take_parameter_size.new.cursor in
     let size_is = at_place parameter_size c.number.new.self c.args.cursor.now.here 0 0 _ c.number.ensures refl c.in_ok-params_size.ensures.reads.0 in
-    let stands : Stands bytes before.here = stands_behind bytes 0 parameter_size c.args.cursor.now.here before.here c.in_ok-params_size.field-0 c.requires.stands size_is in
-    let four : length c.args.cursor.now.here.rest ≡ 4 + length before.here.rest = ap (λ (p : Place). length p.here.rest) (sym c.number.ensures) ∙ c.in_ok-params_size.ensures.length in
+    let stands : Stands bytes before.here =
+    stands_behind bytes 0 parameter_size c.args.cursor.now.here before.here c.in_ok-params_size.field-0
+    c.requires.stands size_is in
+    let four : length c.args.cursor.now.here.rest ≡ 4 + length before.here.rest =
+    ap (λ (p : Place). length p.here.rest) (sym c.number.ensures) ∙ c.in_ok-params_size.ensures.length in
     let sessions = sessions_at bytes c.in_ok-sessions.sessions.items in
     let some : 0 < length sessions = omega (arith, c.in_ok-sessions.ensures.some, length-map c.in_ok-sessions.sessions.items (session_at bytes)) in (
       c.requires.short,
       omega (arith, c.at-params_at.ensures, stands.whole, c.in_ok-params_size.ensures.fits),
-      omega (arith, c.at-params_at.ensures, stands.whole, c.requires.stands.whole, four, c.requires.place, place_before_sessions (handle_list c.args.handle) sessions some),
+      omega (
+        arith,
+        c.at-params_at.ensures,
+        stands.whole,
+        c.requires.stands.whole,
+        four,
+        c.requires.place,
+        place_before_sessions (handle_list c.args.handle) sessions some,
+      ),
       c.in_ok-sessions.ensures.sessions,
     )
 

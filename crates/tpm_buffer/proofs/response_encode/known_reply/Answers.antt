@@ -6,7 +6,8 @@ use Rattle.tpm_buffer.proofs.response_encode.known_reply.Goals as goal
 
 pub returns-then-not-is_empty : goal.returns-then-not-is_empty
 returns-then-not-is_empty c =
-    fits_behind (parameters_of_reply c.args.body.now) c.args.body.now c.args.auths.now c.params_len.ensures.spelled c.requires.params (λ _. c.known_sessions.ensures)
+    fits_behind (parameters_of_reply c.args.body.now) c.args.body.now c.args.auths.now c.params_len.ensures.spelled
+    c.requires.params (λ _. c.known_sessions.ensures)
 
 pub returns-else-not-is_empty : goal.returns-else-not-is_empty
 returns-else-not-is_empty c =

@@ -9,7 +9,8 @@ use Rattle.tpm_buffer.proofs.response_sessions.take_further_sessions.Given as go
 
 abbrev pub invariant-loop-positions : goal.invariant-loop-positions
 invariant-loop-positions l = record {
-  so_far : entries (2 - length l.positions.items) (sessions_at l.bytes l.positions.items) true (λ before. read (of_session (2 + length before)) auth_response) l.cursor.here
+  so_far : entries (2 - length l.positions.items) (sessions_at l.bytes l.positions.items) true
+      (λ before. read (of_session (2 + length before)) auth_response) l.cursor.here
       ≡ entries 2 [] true (λ before. read (of_session (2 + length before)) auth_response) l.fn.cursor.here;
   stands : Stands l.bytes l.cursor.here;
   sessions : All (IsSession l.bytes) l.positions.items;

@@ -13,7 +13,9 @@ use Rattle.tpm_buffer.proofs.response_sessions.take_sessions.Goals as goal
 
 pub take_further_sessions-requires : goal.take_further_sessions-requires
 take_further_sessions-requires c =
-    let is = at_place auth_response c.number.new.self c.args.cursor.now.here _ (of_session 1) _ c.number.ensures c.of_session.ensures.value c.in_ok-take_session.ensures.reads.0 in
+    let is =
+    at_place auth_response c.number.new.self c.args.cursor.now.here _ (of_session 1) _ c.number.ensures
+    c.of_session.ensures.value c.in_ok-take_session.ensures.reads.0 in
     stands_behind c.args.bytes.now (of_session 1) auth_response c.args.cursor.now.here c.take_session.new.cursor.here c.in_ok-take_session.field-0 c.requires is
 
 pub returns : goal.returns
@@ -25,12 +27,15 @@ returns c =
     let positions = c.in_ok-positions.positions.items in
     let others = sessions_at bytes positions in
     let after = c.take_further_sessions.new.cursor.here.rest in
-    let is = at_place auth_response c.number.new.self here _ (of_session 1) _ c.number.ensures c.of_session.ensures.value c.in_ok-take_session.ensures.reads.0 in
+    let is =
+    at_place auth_response c.number.new.self here _ (of_session 1) _ c.number.ensures c.of_session.ensures.value
+    c.in_ok-take_session.ensures.reads.0 in
     let there = is_there bytes (of_session 1) here c.take_session.new.cursor.here a c.requires is in
     let begins = begins_there bytes (of_session 1) here c.take_session.new.cursor.here a c.requires is in
     let at : c.at-first.result ≡ here.at = c.at-first.ensures ∙ ap (λ (p : Place). p.here.at) c.number.ensures in
     let list : c.insert.new.self.items ≡ here.at ∷ positions = c.insert.ensures.items ∙ ap (λ n. n ∷ positions) at in
-    let first : here.rest ≡ spelling auth_response a ++ c.take_session.new.cursor.here.rest = sym (ap (λ (p : Place). p.here.rest) c.number.ensures) ∙ c.in_ok-take_session.ensures.spelled in
+    let first : here.rest ≡ spelling auth_response a ++ c.take_session.new.cursor.here.rest =
+    sym (ap (λ (p : Place). p.here.rest) c.number.ensures) ∙ c.in_ok-take_session.ensures.spelled in
     record {
       reads = rw (is, c.in_ok-positions.ensures.reads, list, there) refl;
       spelled = rw (list, there) (text_of a others _ _ after first c.in_ok-positions.ensures.spelled);

@@ -11,5 +11,6 @@ pub returns-then-not-do_fit : goal.returns-then-not-do_fit
 returns-then-not-do_fit c =
     let room : nat_le 4096 (length c.args.out.now) ≡ true = search rules in
     let body : body_in (read_all command_layout c.args.command.now) ≡ Some c.in-Some.body = search rules in
-    let long : do_fit (take (length (handle_kinds (code_for c.in-Some.body))) (c.args.first.now ∷ c.args.second.now ∷ [])) c.args.nonce.now ≡ false = search rules in
+    let long : do_fit (take (length (handle_kinds (code_for c.in-Some.body))) (c.args.first.now ∷ c.args.second.now ∷ []))
+    c.args.nonce.now ≡ false = search rules in
     rw (room, body) (unsealed c.args.held.now c.in-Some.body c.args.first.now c.args.second.now c.args.auth.now c.args.nonce.now c.args.out.now _ long)

@@ -11,4 +11,9 @@ returns-in-Ok c =
     inl (refl, c.in-Ok.areas, cut, c.areas_view.ensures, holds_parts c.args.bytes.now c.in-Ok.areas c.in-Ok.ensures.spelled cut.1, refl)
 
 pub returns-in-Err : goal.returns-in-Err
-returns-in-Err c = inr (c.refuse.ensures.answer, subst (Fault (cut before_params) c.args.bytes.now) (sym c.refuse.ensures.fault) ((c.in-Err.ensures.err c.in-Err.fault).0 refl), refl)
+returns-in-Err c = inr (
+  c.refuse.ensures.answer,
+  subst (Fault (cut before_params) c.args.bytes.now)
+      (sym c.refuse.ensures.fault) ((c.in-Err.ensures.err c.in-Err.fault).0 refl),
+  refl,
+)

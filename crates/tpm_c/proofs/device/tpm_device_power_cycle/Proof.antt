@@ -25,6 +25,8 @@ tpm_device_power_cycle_spec 𝓤 𝓛 𝓜 𝓡 wired =
     lent 𝓛 𝓜 𝓡 f.ended c sp ! the_row d.0 b o w (λ r new us. (o : Origin) (h : History) → Stands o h d.0 → Stands o (PowerCycle ∷ h) new)
     (triple_of 𝓛 of.signature (of.spec 𝓛 𝓜.mem 𝓡.returns)) (met 𝓤 𝓛 𝓜 𝓡 (code.calls-tpm_device::device::Device::power_cycle 𝓡.env wired))
     (λ κ x vals. (((κ, w.0), (full_share, w.1), tt, (x, a), (mut_vals x, vals)), tt)) (λ κ δ. id⊢ 𝓤 _) (λ κ δ v. id⊢ 𝓤 _)
-    (λ r new us e. is_one 𝓛 the_row b o (λ (z : (d : Device) × Stands at.0 (PowerCycle ∷ at.1) d). z.0) (new, e at.0 at.1 d.1)) (λ κ δ. and_then ! (get ! refl) (no_more !))
-    (λ v r is. lands_as ! (ap only is) refl (tt, tt) $ sets ! (of_opd ! (unit_lit !)) refl (tt, tt) $ rewrite ! 0 (after 𝓛 𝓜 𝓡 f.ended c sp b o w) (ap only is) refl $
+    (λ r new us e. is_one 𝓛 the_row b o (λ (z : (d : Device) × Stands at.0 (PowerCycle ∷ at.1) d). z.0) (new, e at.0 at.1 d.1))
+    (λ κ δ. and_then ! (get ! refl) (no_more !))
+    (λ v r is. lands_as ! (ap only is) refl (tt, tt) $
+    sets ! (of_opd ! (unit_lit !)) refl (tt, tt) $ rewrite ! 0 (after 𝓛 𝓜 𝓡 f.ended c sp b o w) (ap only is) refl $
     returns ! (look_at ! 0 refl) $ free_all ! refl $ done !)))

@@ -25,5 +25,6 @@ tpm_framer_next_spec 𝓤 𝓛 𝓜 𝓡 wired =
     (triple_of 𝓛 of.signature (of.spec 𝓛 𝓜.mem 𝓡.returns)) (met 𝓤 𝓛 𝓜 𝓡 (code.calls-tpm_stream::framer::Framer::next 𝓡.env wired))
     (λ κ x vals. (((κ, w.0), (full_share, w.1), tt, (x, a), (mut_vals x, vals)), tt)) (λ κ δ. id⊢ 𝓤 _) (λ κ δ v. id⊢ 𝓤 _)
     (λ r new us e. is_one 𝓛 the_row b o (λ (z : (new : List ℕ) × Advances held new). z.0) (new, e)) (λ κ δ. and_then ! (get ! refl) (no_more !))
-    (λ v r is. lands_as ! (ap only is) refl (tt, tt) $ sets ! (of_opd ! (unit_lit !)) refl (tt, tt) $ rewrite ! 0 (after 𝓛 𝓜 𝓡 f.ended c sp b o w) (ap only is) refl $
+    (λ v r is. lands_as ! (ap only is) refl (tt, tt) $
+    sets ! (of_opd ! (unit_lit !)) refl (tt, tt) $ rewrite ! 0 (after 𝓛 𝓜 𝓡 f.ended c sp b o w) (ap only is) refl $
     returns ! (look_at ! 0 refl) $ free_all ! refl $ done !)))

@@ -8,7 +8,16 @@ pub returns-in-Ok : goal.returns-in-Ok
 returns-in-Ok c =
     let code = c.in-Some.code in
     let cut = (c.in-Ok.ensures.ok c.in-Ok.areas).0 refl in
-    inl (refl, code, sym c.in-Some.ensures, c.in-Ok.areas, cut, c.areas_view.ensures, holds_parts code c.args.bytes.now c.in-Ok.areas cut c.in-Ok.ensures.place, refl)
+    inl (
+      refl,
+      code,
+      sym c.in-Some.ensures,
+      c.in-Ok.areas,
+      cut,
+      c.areas_view.ensures,
+      holds_parts code c.args.bytes.now c.in-Ok.areas cut c.in-Ok.ensures.place,
+      refl,
+    )
 
 pub returns-in-Err : goal.returns-in-Err
 returns-in-Err c =

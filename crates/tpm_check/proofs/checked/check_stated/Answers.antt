@@ -15,7 +15,8 @@ returns-clause-ok g c =
       listed.0,
       text ++ quoted.0,
       listed.1,
-      rw (c.in-Some-quote.is, c.both.ensures) (stated_quoted value c.args.hash listed.0 c.in-Some-quote.quote.now quoted.0 c.in-Some.first c.in_ok-second.second listed.2 quoted.1),
+      rw (c.in-Some-quote.is, c.both.ensures) (stated_quoted value c.args.hash listed.0 c.in-Some-quote.quote.now quoted.0 c.in-Some.first
+          c.in_ok-second.second listed.2 quoted.1),
       joins_appends (contents c.args.out.now) (contents c.check_list.new.out) (contents c.print_quote.new.out) text quoted.0 listed.3 quoted.2,
     )
 
@@ -28,5 +29,10 @@ returns-in_default-clause-ok g c =
 pub returns-in_default-quote-clause-ok : goal.returns-in_default-quote-clause-ok
 returns-in_default-quote-clause-ok g c =
     let value = value_in c.args.found.now.banks in
-    let listed = rw c.in-Some.is at c.in_ok-first.ensures.ok in
-    (listed.0, (comparison value listed.0).text, listed.1, rw c.in_default-quote.is (stated_alone value c.args.hash listed.0 c.in-Some.first listed.2), listed.3)
+    let listed = rw c.in-Some.is at c.in_ok-first.ensures.ok in (
+      listed.0,
+      (comparison value listed.0).text,
+      listed.1,
+      rw c.in_default-quote.is (stated_alone value c.args.hash listed.0 c.in-Some.first listed.2),
+      listed.3,
+    )

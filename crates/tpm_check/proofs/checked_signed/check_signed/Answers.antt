@@ -16,7 +16,8 @@ returns-in-Err-clause-failures g c =
     let new = g.L.Source.failed c.replay_from.new.source in
     let is : c.in-Err.fault.kind ≡ kinds.Device = search rules in
     let more = read_failed AreAfter coming old new c.in-Err.fault is c.in-Err.ensures.replays in
-    by_list c.args.registers (λ e. rw e (counts_log Status g.F.Source.failed old new None more)) (λ list e. rw e (counts_log Status g.F.Source.failed old new (Some list.now) more))
+    by_list c.args.registers (λ e. rw e (counts_log Status g.F.Source.failed old new None more))
+    (λ list e. rw e (counts_log Status g.F.Source.failed old new (Some list.now) more))
 
 pub returns-in-Err-2-clause-failures : goal.returns-in-Err-2-clause-failures
 returns-in-Err-2-clause-failures g c =
@@ -33,8 +34,12 @@ returns-in-Err-2-clause-ok g c =
     let fault = c.in-Err.fault in
     let other : IsOfBytes fault.kind = of_bytes fault.kind (search rules) in
     by_list c.args.registers
-    (λ e. rw e (IfOk-weaker c.print_fault.result _ _ (λ status printed. (Err fault, log_fault_line fault, c.in-Err.ensures.replays, c.in-Err.ensures.reads, (refl, other, printed.0, refl), printed.1)) c.print_fault.ensures.ok))
-    (λ list e. rw e (IfOk-weaker c.print_fault.result _ _ (λ status printed. (Err fault, log_fault_line fault, c.in-Err.ensures.replays, c.in-Err.ensures.reads, (refl, other, printed.0, refl), printed.1)) c.print_fault.ensures.ok))
+    (λ e. rw e (IfOk-weaker c.print_fault.result _ _ (λ status printed.
+    (Err fault, log_fault_line fault, c.in-Err.ensures.replays, c.in-Err.ensures.reads, (refl, other, printed.0, refl), printed.1))
+    c.print_fault.ensures.ok))
+    (λ list e. rw e (IfOk-weaker c.print_fault.result _ _ (λ status printed.
+    (Err fault, log_fault_line fault, c.in-Err.ensures.replays, c.in-Err.ensures.reads, (refl, other, printed.0, refl), printed.1))
+    c.print_fault.ensures.ok))
 
 pub returns-in-Err-2-clause-too_long : goal.returns-in-Err-2-clause-too_long
 returns-in-Err-2-clause-too_long g c = λ is. absurd (not_too_long c.print_fault.result c.print_fault.ensures.err is)
@@ -44,12 +49,14 @@ returns-in-Some-clause-failures g c =
     let old = g.L.Source.failed c.args.log.now in
     let new = g.L.Source.failed c.replay_from.new.source in
     let same = replayed AreAfter (g.L.Source.coming c.args.log.now) old new c.in-Ok.found c.in-Ok.ensures.replays in
-    rw c.in-Some.is (counts_stated g.F.Source.failed old new c.in-Some.list.now c.check_signed_stated.new.list c.check_signed_stated.result c.check_signed_stated.ensures.failures same)
+    rw c.in-Some.is (counts_stated g.F.Source.failed old new c.in-Some.list.now c.check_signed_stated.new.list c.check_signed_stated.result
+    c.check_signed_stated.ensures.failures same)
 
 pub returns-in-Some-clause-ok : goal.returns-in-Some-clause-ok
 returns-in-Some-clause-ok g c =
     rw c.in-Some.is (IfOk-weaker c.check_signed_stated.result _ _ (λ status checked.
-    (Ok c.in-Ok.found, checked.1, c.in-Ok.ensures.replays, c.in-Ok.ensures.reads, (Some checked.0, checked.2, checked.3), checked.4)) c.check_signed_stated.ensures.ok)
+    (Ok c.in-Ok.found, checked.1, c.in-Ok.ensures.replays, c.in-Ok.ensures.reads, (Some checked.0, checked.2, checked.3), checked.4))
+    c.check_signed_stated.ensures.ok)
 
 pub returns-in-Some-clause-too_long : goal.returns-in-Some-clause-too_long
 returns-in-Some-clause-too_long g c = rw c.in-Some.is c.check_signed_stated.ensures.too_long
@@ -75,4 +82,5 @@ returns-in-Some-clause-stop g c =
     let new = g.L.Source.failed c.replay_from.new.source in
     let last = g.L.Source.stopped c.replay_from.new.source in
     let same = replayed AreAfter (g.L.Source.coming c.args.log.now) old new c.in-Ok.found c.in-Ok.ensures.replays in
-    rw c.in-Some.is (stated_last g.F.Source.failed g.F.Source.stopped old new last c.in-Some.list.now c.check_signed_stated.new.list c.check_signed_stated.result c.check_signed_stated.ensures.failures c.check_signed_stated.ensures.stop same)
+    rw c.in-Some.is (stated_last g.F.Source.failed g.F.Source.stopped old new last c.in-Some.list.now c.check_signed_stated.new.list
+    c.check_signed_stated.result c.check_signed_stated.ensures.failures c.check_signed_stated.ensures.stop same)

@@ -23,6 +23,7 @@ returns-clause-ok g c =
     let said = c.in_ok-first.ensures.ok in
     let quoted = c.in_ok-second.ensures.ok in (
       said.0 ++ quoted.0,
-      rw (c.in-Some.is, c.both.ensures) (with_quote value c.args.hash nonce required bytes c.in_ok-first.first said.0 said.1 c.in-Some.quote.now quoted.0 c.in_ok-second.second quoted.1),
+      rw (c.in-Some.is, c.both.ensures) (with_quote value c.args.hash nonce required bytes c.in_ok-first.first said.0 said.1 c.in-Some.quote.now quoted.0
+          c.in_ok-second.second quoted.1),
       joins_appends (contents c.args.out.now) (contents c.print_signed.new.out) (contents c.print_quote.new.out) said.0 quoted.0 said.2 quoted.2,
     )

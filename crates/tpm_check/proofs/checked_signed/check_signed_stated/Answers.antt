@@ -16,6 +16,7 @@ returns-clause-ok g c =
       checked.0,
       said.0 ++ checked.1,
       checked.2,
-      rw c.both.ensures (with_list value c.args.hash nonce required bytes c.in_ok-first.first said.0 said.1 checked.0 (option_map (λ q. q.now) c.args.quote) checked.1 c.in_ok-second.second checked.3),
+      rw c.both.ensures (with_list value c.args.hash nonce required bytes c.in_ok-first.first said.0 said.1 checked.0
+          (option_map (λ q. q.now) c.args.quote) checked.1 c.in_ok-second.second checked.3),
       joins_appends (contents c.args.out.now) (contents c.print_signed.new.out) (contents c.check_stated.new.out) said.0 checked.1 said.2 checked.4,
     )

@@ -13,7 +13,8 @@ returns-then-read-gt-MOST_BYTES-clause-too_long g c = λ _.
     let room = c.read.new.room in
     let len : length room ≡ c.clamp-room.result = search rules in
     let counted : length (take count room) ≡ count = length-take-le count room c.in_ok-count.ensures.bound.0 in
-    reads_too_much (value_in c.args.found.now.banks) _ _ _ c.loop-comparing.read (take count room) (place c.loop-comparing.comparing) _ c.loop-comparing.invariant.reaches
+    reads_too_much (value_in c.args.found.now.banks) _ _ _ c.loop-comparing.read (take count room) (place c.loop-comparing.comparing) _
+    c.loop-comparing.invariant.reaches
     c.in_ok-count.ensures.bytes.0 (omega (arith, len, counted, c.in_ok-count.ensures.bound.0)) (omega (arith, len, counted, c.in_ok-count.ensures.bound.0))
 
 pub returns-then-count-eq0-clause-ok : goal.returns-then-count-eq0-clause-ok
@@ -22,7 +23,8 @@ returns-then-count-eq0-clause-ok g c =
     let len : length c.read.new.room ≡ c.clamp-room.result = search rules in
     let contents = g.W.Write.contents in
     IfOk-weaker c.print_end.result _ _ (λ status ended.
-    answers_at_end (value_in c.args.found.now.banks) _ _ _ (contents c.args.out.now) (contents c.loop-comparing.out) (contents c.print_end.new.out) c.loop-comparing.read (place c.loop-comparing.comparing) status
+    answers_at_end (value_in c.args.found.now.banks) _ _ _ (contents c.args.out.now) (contents c.loop-comparing.out) (contents c.print_end.new.out)
+    c.loop-comparing.read (place c.loop-comparing.comparing) status
     c.loop-comparing.invariant.reaches c.loop-comparing.invariant.bound bytes.0 (bytes.1 refl (omega (arith, len))) ended) c.print_end.ensures.ok
 
 pub returns-then-not-branch-clause-ok : goal.returns-then-not-branch-clause-ok
@@ -32,9 +34,15 @@ returns-then-not-branch-clause-ok g c =
     let contents = g.W.Write.contents in
     let is : c.in_ok-print.field-0 ≡ false = search rules in
     let len : length room ≡ c.clamp-room.result = search rules in
-    let taken = rw (is, take-append-le count room (drop c.clamp-room.result c.loop-comparing.piece) c.in_ok-count.ensures.bound.0) at c.in_ok-print.ensures.ok in
-    answers_stopped (value_in c.args.found.now.banks) _ _ _ (contents c.args.out.now) (contents c.loop-comparing.out) (contents c.print.new.out) c.loop-comparing.read count (take count room) taken.0 (place c.loop-comparing.comparing)
-    c.loop-comparing.invariant.reaches (omega arith) (omega (arith, len, c.in_ok-count.ensures.bound.0)) c.in_ok-count.ensures.bytes.0 (sym (length-take-le count room c.in_ok-count.ensures.bound.0)) taken.1 taken.2
+    let taken = rw (
+      is,
+      take-append-le count room (drop c.clamp-room.result c.loop-comparing.piece)
+          c.in_ok-count.ensures.bound.0,
+    ) at c.in_ok-print.ensures.ok in
+    answers_stopped (value_in c.args.found.now.banks) _ _ _ (contents c.args.out.now) (contents c.loop-comparing.out) (contents c.print.new.out)
+    c.loop-comparing.read count (take count room) taken.0 (place c.loop-comparing.comparing)
+    c.loop-comparing.invariant.reaches (omega arith) (omega (arith, len, c.in_ok-count.ensures.bound.0)) c.in_ok-count.ensures.bytes.0
+    (sym (length-take-le count room c.in_ok-count.ensures.bound.0)) taken.1 taken.2
 
 pub loop-comparing-preserved : goal.loop-comparing-preserved
 loop-comparing-preserved g c =
@@ -42,10 +50,17 @@ loop-comparing-preserved g c =
     let room = c.read.new.room in
     let contents = g.W.Write.contents in
     let is : c.in_ok-print.field-0 ≡ true = search rules in
-    let taken = rw (is, take-append-le count room (drop c.clamp-room.result c.loop-comparing.piece) c.in_ok-count.ensures.bound.0) at c.in_ok-print.ensures.ok in
+    let taken = rw (
+      is,
+      take-append-le count room (drop c.clamp-room.result c.loop-comparing.piece)
+          c.in_ok-count.ensures.bound.0,
+    ) at c.in_ok-print.ensures.ok in
     record {
-      reaches = reaches_more (value_in c.args.found.now.banks) _ _ _ (contents c.args.out.now) (contents c.loop-comparing.out) (contents c.print.new.out) c.loop-comparing.read count (take count room) taken.0
-          (place c.loop-comparing.comparing) (place c.print.new.self) c.loop-comparing.invariant.reaches c.in_ok-count.ensures.bytes.0 (sym (length-take-le count room c.in_ok-count.ensures.bound.0)) taken.1 taken.2;
+      reaches =
+          reaches_more (value_in c.args.found.now.banks) _ _ _ (contents c.args.out.now) (contents c.loop-comparing.out) (contents c.print.new.out)
+          c.loop-comparing.read count (take count room) taken.0
+          (place c.loop-comparing.comparing) (place c.print.new.self) c.loop-comparing.invariant.reaches c.in_ok-count.ensures.bytes.0
+          (sym (length-take-le count room c.in_ok-count.ensures.bound.0)) taken.1 taken.2;
       bound = omega arith;
       failures = c.in_ok-count.ensures.count ∙ c.loop-comparing.invariant.failures;
     }
@@ -56,7 +71,15 @@ loop-comparing-init g c =
     let added : Appends (g.W.Write.contents c.args.out.now) (g.W.Write.contents c.args.out.now) [] = search rules in
     let present : IsOpen start = record { line = tt; most = omega arith } in
     record {
-      reaches = record { bytes = []; text = []; consumed = consumed; count = refl; added = added; goes_on = rw c.new-comparing.ensures (goes_none (value_in c.args.found.now.banks) start present) };
+      reaches =
+          record {
+            bytes = [];
+            text = [];
+            consumed = consumed;
+            count = refl;
+            added = added;
+            goes_on = rw c.new-comparing.ensures (goes_none (value_in c.args.found.now.banks) start present);
+          };
       bound = omega arith;
       failures = refl;
     }

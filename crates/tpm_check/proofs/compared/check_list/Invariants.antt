@@ -8,7 +8,8 @@ use Rattle.tpm_check.proofs.compared.check_list.Given as goal
 -- the bytes so far are taken, and are not too many
 abbrev pub invariant-loop-comparing : goal.invariant-loop-comparing
 invariant-loop-comparing g l = record {
-  reaches : Reaches (value_in l.fn.found.banks) (g.F.Source.coming l.fn.list) (g.F.Source.coming l.list) l.read (place l.comparing) (Appends (g.W.Write.contents l.fn.out) (g.W.Write.contents l.out));
+  reaches : Reaches (value_in l.fn.found.banks) (g.F.Source.coming l.fn.list) (g.F.Source.coming l.list) l.read (place l.comparing)
+      (Appends (g.W.Write.contents l.fn.out) (g.W.Write.contents l.out));
   bound : l.read ≤ most_bytes;
   failures : g.F.Source.failed l.list ≡ g.F.Source.failed l.fn.list;
 }

@@ -7,7 +7,8 @@ use Rattle.tpm_check.specs.Compare.{bank_lines}
 use Rattle.tpm_check.proofs.register_text.push_registers.Goals as goal
 
 -- the lines of one bank more
-lines_more : (lines : Alg → List ℕ) (old text new : List ℕ) (i : ℕ) (d : Alg) → i < length all_algs → text ≡ old ++ flat_map lines (take i all_algs) → new ≡ text ++ lines (get_or all_algs i d)
+lines_more : (lines : Alg → List ℕ) (old text new : List ℕ) (i : ℕ) (d : Alg) → i < length all_algs → text ≡ old ++ flat_map lines (take i all_algs)
+    → new ≡ text ++ lines (get_or all_algs i d)
     → new ≡ old ++ flat_map lines (take (i + 1) all_algs)
 lines_more lines old text new i d lt before more =
     more ∙ ap (λ (t : List ℕ). t ++ lines (get_or all_algs i d)) before ∙ flat_map_more lines old (take i all_algs) (get_or all_algs i d)
@@ -15,4 +16,5 @@ lines_more lines old text new i d lt before more =
 
 pub loop-bank-preserved : goal.loop-bank-preserved
 loop-bank-preserved c =
-    lines_more (λ bank. bank_lines (value_in c.args.found.now.banks) bank 24) (string_bytes c.args.text.now) (string_bytes c.loop-bank.text) _ c.loop-bank.bank-index _ c.loop-bank-test.true c.loop-bank.invariant c.in_ok-push_bank.ensures
+    lines_more (λ bank. bank_lines (value_in c.args.found.now.banks) bank 24) (string_bytes c.args.text.now) (string_bytes c.loop-bank.text) _
+    c.loop-bank.bank-index _ c.loop-bank-test.true c.loop-bank.invariant c.in_ok-push_bank.ensures

@@ -6,4 +6,5 @@ use Rattle.tpm_check.proofs.register_text.push_registers.Given as goal
 
 -- the lines of the banks so far
 abbrev pub invariant-loop-bank : goal.invariant-loop-bank
-invariant-loop-bank l = string_bytes l.text ≡ string_bytes l.fn.text ++ flat_map (λ bank. bank_lines (value_in l.found.banks) bank 24) (take l.bank-index all_algs)
+invariant-loop-bank l =
+    string_bytes l.text ≡ string_bytes l.fn.text ++ flat_map (λ bank. bank_lines (value_in l.found.banks) bank 24) (take l.bank-index all_algs)

@@ -14,7 +14,9 @@ is_placed p given (Err e) is = sym is
 
 pub returns-clause-decodes : goal.returns-clause-decodes
 returns-clause-decodes c =
-    decodes buffer buffer_sound (parameters c.args.code) c.args.bytes.now (placed c.read_bytes.new.params c.read_bytes.result) (is_placed c.read_bytes.new.params _ c.read_bytes.result c.read_bytes.ensures.reads)
+    decodes buffer buffer_sound (parameters c.args.code) c.args.bytes.now
+    (placed c.read_bytes.new.params c.read_bytes.result)
+    (is_placed c.read_bytes.new.params _ c.read_bytes.result c.read_bytes.ensures.reads)
 
 pub returns-clause-reads : goal.returns-clause-reads
 returns-clause-reads c = is_placed c.read_bytes.new.params _ c.read_bytes.result c.read_bytes.ensures.reads

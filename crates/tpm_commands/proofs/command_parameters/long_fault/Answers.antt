@@ -18,7 +18,9 @@ pub returns-in-Ok : goal.returns-in-Ok
 returns-in-Ok c =
     let is : read 0 (parameters c.args.code) (at_start (take 4096 c.args.bytes.now)) ≡ Ok (c.read_params.new.params, c.read_params.new.cursor.here) =
     ap (λ (p : Place). read 0 (parameters c.args.code) p.here) (sym c.new-cursor.ensures) ∙ c.in-Ok.ensures.reads in
-    rw c.at.ensures (left_of_long 1100 (parameters c.args.code) (of_parameters c.args.code) (omega arith) c.args.bytes.now c.requires c.read_params.new.params c.read_params.new.cursor.here is)
+    rw c.at.ensures
+    (left_of_long 1100 (parameters c.args.code) (of_parameters c.args.code) (omega arith) c.args.bytes.now
+    c.requires c.read_params.new.params c.read_params.new.cursor.here is)
 
 pub returns-in-Err : goal.returns-in-Err
 returns-in-Err c =

@@ -9,4 +9,5 @@ returns g c =
     let front = take_all (n / 2) c.args.front.now (omega arith) in
     let back = take_all (n / 2) c.args.back.now (omega arith) in
     let fits : length (take (n / 2) c.args.front.now) + length (take (n / 2) c.args.back.now) ≡ n = rw (front, back) (omega arith) in
-    rw (front, back) at (both_fill n (take (n / 2) c.args.front.now) (take (n / 2) c.args.back.now) c.put.new.out c.put-2.new.out fits c.put.ensures c.put-2.ensures)
+    rw (front, back) at
+    (both_fill n (take (n / 2) c.args.front.now) (take (n / 2) c.args.back.now) c.put.new.out c.put-2.new.out fits c.put.ensures c.put-2.ensures)

@@ -20,7 +20,8 @@ loop-done-preserved c =
       place = omega (arith, place, len, next);
       last = omega (arith, place, next, before.long, c.loop-done-test.true);
       counted = omega (arith, len, digest_some alg, before.counted, before.long, c.loop-done-test.true);
-      written = written_more alg c.args.key.now text k c.loop-done.done c.min-len.result c.loop-done.out c.put.new.out c.kdfa_block-block.result (take c.min-len.result c.as_slice.result.now)
+      written = written_more alg c.args.key.now text k c.loop-done.done c.min-len.result c.loop-done.out c.put.new.out c.kdfa_block-block.result
+          (take c.min-len.result c.as_slice.result.now)
           place long before.written c.kdfa_block-block.ensures.value (ap (take c.min-len.result) c.as_slice.ensures.value) c.put.ensures;
     }
 

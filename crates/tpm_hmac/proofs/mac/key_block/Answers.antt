@@ -14,8 +14,10 @@ pub returns-then-front-back : goal.returns-then-front-back
 unfolding block_key
 returns-then-front-back c =
     let alg = c.args.alg in let key = c.args.front.now ++ c.args.back.now in
-    let long : nat_lt (block_len alg) (length key) ≡ true = grind (arith, nat_tests, length-append c.args.front.now c.args.back.now, c.block_len.ensures.value, c.if-front-back.true) in
-    let is : c.as_slice.result.now ≡ digest alg key = c.as_slice.ensures.value ∙ c.finish.ensures alg key (c.update-then-front-back.ensures alg c.args.front.now (c.update.ensures alg [] c.new-hasher.ensures)) in
+    let long : nat_lt (block_len alg) (length key) ≡ true =
+    grind (arith, nat_tests, length-append c.args.front.now c.args.back.now, c.block_len.ensures.value, c.if-front-back.true) in
+    let is : c.as_slice.result.now ≡ digest alg key = c.as_slice.ensures.value
+    ∙ c.finish.ensures alg key (c.update-then-front-back.ensures alg c.args.front.now (c.update.ensures alg [] c.new-hasher.ensures)) in
     rw long (ap (take (block_len alg)) (c.fill.ensures ∙ ap (filled block_bytes) (append-nil c.as_slice.result.now ∙ is))
     ∙ fitted (block_len alg) block_bytes (digest alg key) (omega (arith, length-digest alg key, digest_fits alg)) (block_most alg))
 
@@ -23,6 +25,8 @@ pub returns-else-front-back : goal.returns-else-front-back
 unfolding block_key
 returns-else-front-back c =
     let alg = c.args.alg in let key = c.args.front.now ++ c.args.back.now in
-    let short : nat_lt (block_len alg) (length key) ≡ false = grind (arith, nat_tests, length-append c.args.front.now c.args.back.now, c.block_len.ensures.value, c.if-front-back.false) in
+    let short : nat_lt (block_len alg) (length key) ≡ false =
+    grind (arith, nat_tests, length-append c.args.front.now c.args.back.now, c.block_len.ensures.value, c.if-front-back.false) in
     rw short (ap (take (block_len alg)) c.fill-else-front-back.ensures
-    ∙ fitted (block_len alg) block_bytes key (omega (arith, length-append c.args.front.now c.args.back.now, c.block_len.ensures.value, c.if-front-back.false)) (block_most alg))
+    ∙ fitted (block_len alg) block_bytes key
+    (omega (arith, length-append c.args.front.now c.args.back.now, c.block_len.ensures.value, c.if-front-back.false)) (block_most alg))

@@ -9,4 +9,6 @@ loop-byte-preserved c =
     let h : c.loop-byte.byte-index < length c.args.block.now = omega arith in
     let e = simp (length-append, length-map, length-take, length-drop) at (ap length c.loop-byte.invariant) in
     let k : c.loop-byte.byte-index < length c.loop-byte.byte-items = omega (arith, e) in
-    map_over_more f c.args.block.now c.loop-byte.byte-items c.loop-byte.byte-index (slice_index_or c.loop-byte.byte-items c.loop-byte.byte-index 0) h c.loop-byte.invariant (get_or_default c.loop-byte.byte-items c.loop-byte.byte-index 0 (slice_index_or c.loop-byte.byte-items c.loop-byte.byte-index 0) k)
+    map_over_more f c.args.block.now c.loop-byte.byte-items c.loop-byte.byte-index
+    (slice_index_or c.loop-byte.byte-items c.loop-byte.byte-index 0) h c.loop-byte.invariant
+    (get_or_default c.loop-byte.byte-items c.loop-byte.byte-index 0 (slice_index_or c.loop-byte.byte-items c.loop-byte.byte-index 0) k)

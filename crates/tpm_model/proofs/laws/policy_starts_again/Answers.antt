@@ -15,7 +15,11 @@ returns c = λ o h bytes n d a s e one is there.
     let k = slot_of a.session in
     let g : History = Accepted d.command d.reply n ∷ h in
     let by_it = ap (authorizes k) one ∙ its_slot a is in
-    let none : assertions_of k g ≡ [] = chosen (begins k d.command.body d.reply.body) (authorizes k d.command.auths.items) [] (asserted_by k d.command.body (registers_after (changes h)) (start_of k h) (assertions_of k h)) by_it in
+    let none : assertions_of k g ≡ [] =
+    chosen (begins k d.command.body d.reply.body) (authorizes k d.command.auths.items) []
+    (asserted_by k d.command.body (registers_after (changes h)) (start_of k h) (assertions_of k h)) by_it in
     let here : session_at o g k ≡ Some s = sym (ap (λ (l : History). session_at o l k) (next_is o h bytes n d e)) ∙ there in
-    let x = by_start o (lives k g) (start_of k g) (last_nonce k g) [] s (subst (λ made. (if lives k g then option_map (as_session o (last_nonce k g) made) (start_of k g) else None) ≡ Some s) none here) in
+    let x =
+    by_start o (lives k g) (start_of k g) (last_nonce k g) [] s
+    (subst (λ made. (if lives k g then option_map (as_session o (last_nonce k g) made) (start_of k g) else None) ≡ Some s) none here) in
     subst (λ (y : Session). y.policy ≡ policy_of y.hash []) (sym x.3) refl

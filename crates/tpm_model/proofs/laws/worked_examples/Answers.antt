@@ -19,5 +19,9 @@ use Rattle.tpm_model.specs.Registers.{banks_of}
 use Rattle.tpm_model.proofs.laws.worked_examples.Goals as goal
 
 pub returns : goal.returns
-unfolding sized_bytes sized counted hash startup_type session_type session auth_session nv_index session_attrs nv_attrs encrypted_salt digest_value selection auth_command auth_response nv_public_area nv_public algorithm key_bits mode sym_def command_code nv_define_space startup nv_read flush_context policy_command_code policy_or start_auth_session pcr_read policy_pcr pcr_extend pcr_event tag command_size header sessions authorization_size authorization session_handle nv_read_reply nv_read_public_reply start_auth_session_reply pcr_read_reply policy_get_digest_reply response_tag response_front response_code further_sessions reply_sessions parameter_size with_sessions without_sessions response banks_of
+unfolding sized_bytes sized counted hash startup_type session_type session auth_session nv_index session_attrs nv_attrs encrypted_salt digest_value selection
+    auth_command auth_response nv_public_area nv_public algorithm key_bits mode sym_def command_code nv_define_space startup nv_read flush_context
+    policy_command_code policy_or start_auth_session pcr_read policy_pcr pcr_extend pcr_event tag command_size header sessions authorization_size authorization
+    session_handle nv_read_reply nv_read_public_reply start_auth_session_reply pcr_read_reply policy_get_digest_reply response_tag response_front response_code
+    further_sessions reply_sessions parameter_size with_sessions without_sessions response banks_of
 returns c = search rules

@@ -31,23 +31,27 @@ returns-then-read-gt-MOST_BYTES-clause-further g c = λ unless. absurd (unless r
 
 pub returns-in_err-count-clause-further : goal.returns-in_err-count-clause-further
 returns-in_err-count-clause-further g c = λ _.
-    no_further _ _ _ c.loop-run.read 0 [] c.new-run.result c.loop-run.run _ c.new-run.ensures.place c.loop-run.invariant.reaches (keeps_none _ _ c.in_err-count.ensures.bytes) refl (omega arith) (omega (arith, c.loop-run.invariant.bound))
+    no_further _ _ _ c.loop-run.read 0 [] c.new-run.result c.loop-run.run _ c.new-run.ensures.place c.loop-run.invariant.reaches
+    (keeps_none _ _ c.in_err-count.ensures.bytes) refl (omega arith) (omega (arith, c.loop-run.invariant.bound))
 
 pub returns-then-count-eq0-clause-further : goal.returns-then-count-eq0-clause-further
 returns-then-count-eq0-clause-further g c = λ _.
     let bytes = rw c.if-count-eq0.true at c.in_ok-count.ensures.bytes in
-    no_further _ _ _ c.loop-run.read 0 [] c.new-run.result c.loop-run.run _ c.new-run.ensures.place c.loop-run.invariant.reaches bytes.0 refl (omega arith) (omega (arith, c.loop-run.invariant.bound))
+    no_further _ _ _ c.loop-run.read 0 [] c.new-run.result c.loop-run.run _ c.new-run.ensures.place c.loop-run.invariant.reaches bytes.0 refl
+    (omega arith) (omega (arith, c.loop-run.invariant.bound))
 
 pub returns-in_err-print-clause-further : goal.returns-in_err-print-clause-further
 returns-in_err-print-clause-further g c = λ _.
     let len : length c.read.new.room ≡ c.clamp-room.result = search rules in
-    no_further_in _ _ _ c.loop-run.read c.in_ok-count.count c.read.new.room c.new-run.result c.loop-run.run _ c.new-run.ensures.place c.loop-run.invariant.reaches c.in_ok-count.ensures.bytes.0
+    no_further_in _ _ _ c.loop-run.read c.in_ok-count.count c.read.new.room c.new-run.result c.loop-run.run _ c.new-run.ensures.place
+    c.loop-run.invariant.reaches c.in_ok-count.ensures.bytes.0
     c.in_ok-count.ensures.bound.0 (omega (arith, len)) (omega arith)
 
 pub returns-then-eq-clause-further : goal.returns-then-eq-clause-further
 returns-then-eq-clause-further g c = λ _.
     let len : length c.read.new.room ≡ c.clamp-room.result = search rules in
-    no_further_in _ _ _ c.loop-run.read c.in_ok-count.count c.read.new.room c.new-run.result c.loop-run.run _ c.new-run.ensures.place c.loop-run.invariant.reaches c.in_ok-count.ensures.bytes.0
+    no_further_in _ _ _ c.loop-run.read c.in_ok-count.count c.read.new.room c.new-run.result c.loop-run.run _ c.new-run.ensures.place
+    c.loop-run.invariant.reaches c.in_ok-count.ensures.bytes.0
     c.in_ok-count.ensures.bound.0 (omega (arith, len)) (omega arith)
 
 pub returns-then-count-eq0-clause-ok : goal.returns-then-count-eq0-clause-ok
@@ -69,9 +73,12 @@ returns-then-eq-clause-ok g c =
     let contents = g.W.Write.contents in
     let is : c.in_ok-print.field-0 ≡ Refused = search rules in
     let len : length room ≡ c.clamp-room.result = search rules in
-    answers_refused _ _ _ c.loop-run.read count (take count room) c.args.device c.new-run.result c.loop-run.run c.print.new.self _ _ (Appends (contents c.args.out.now) (contents c.print.new.out))
+    answers_refused _ _ _ c.loop-run.read count (take count room) c.args.device c.new-run.result c.loop-run.run c.print.new.self _ _
+    (Appends (contents c.args.out.now) (contents c.print.new.out))
     (joins_appends (contents c.args.out.now) (contents c.loop-run.out) (contents c.print.new.out)) c.new-run.ensures.place c.new-run.ensures.device
-    c.loop-run.invariant.reaches (omega arith) (omega (arith, len, c.in_ok-count.ensures.bound.0)) c.in_ok-count.ensures.bytes.0 (sym (length-take-le count room c.in_ok-count.ensures.bound.0)) (rw (is, take-append-le count room (drop c.clamp-room.result c.loop-run.piece) c.in_ok-count.ensures.bound.0) at c.in_ok-print.ensures.ok)
+    c.loop-run.invariant.reaches (omega arith) (omega (arith, len, c.in_ok-count.ensures.bound.0)) c.in_ok-count.ensures.bytes.0
+    (sym (length-take-le count room c.in_ok-count.ensures.bound.0))
+    (rw (is, take-append-le count room (drop c.clamp-room.result c.loop-run.piece) c.in_ok-count.ensures.bound.0) at c.in_ok-print.ensures.ok)
 
 pub loop-run-preserved : goal.loop-run-preserved
 loop-run-preserved g c =
@@ -80,9 +87,12 @@ loop-run-preserved g c =
     let contents = g.W.Write.contents in
     let is : c.in_ok-print.field-0 ≡ Done = search rules in
     record {
-      reaches = reaches_more _ _ _ c.loop-run.read count (take count room) c.new-run.result c.loop-run.run c.print.new.self _ _ (Appends (contents c.args.out.now) (contents c.print.new.out))
+      reaches =
+          reaches_more _ _ _ c.loop-run.read count (take count room) c.new-run.result c.loop-run.run c.print.new.self _ _
+          (Appends (contents c.args.out.now) (contents c.print.new.out))
           (joins_appends (contents c.args.out.now) (contents c.loop-run.out) (contents c.print.new.out))
-          c.loop-run.invariant.reaches c.in_ok-count.ensures.bytes.0 (sym (length-take-le count room c.in_ok-count.ensures.bound.0)) (rw (is, take-append-le count room (drop c.clamp-room.result c.loop-run.piece) c.in_ok-count.ensures.bound.0) at c.in_ok-print.ensures.ok);
+          c.loop-run.invariant.reaches c.in_ok-count.ensures.bytes.0 (sym (length-take-le count room c.in_ok-count.ensures.bound.0))
+          (rw (is, take-append-le count room (drop c.clamp-room.result c.loop-run.piece) c.in_ok-count.ensures.bound.0) at c.in_ok-print.ensures.ok);
       bound = omega arith;
       failures = c.in_ok-count.ensures.count ∙ c.loop-run.invariant.failures;
     }

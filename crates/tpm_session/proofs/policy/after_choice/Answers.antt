@@ -13,7 +13,8 @@ returns c =
     let ds = c.args.digests.now in
     let alg = c.args.alg in
     let code = code_bytes codes.PolicyOr in
-    let all : take c.loop-digest.digest-index ds ≡ ds = take_all c.loop-digest.digest-index ds (omega (arith, c.loop-digest-test.false, ap length c.as_slice-digest-items.ensures.value)) in
+    let all : take c.loop-digest.digest-index ds ≡ ds =
+    take_all c.loop-digest.digest-index ds (omega (arith, c.loop-digest-test.false, ap length c.as_slice-digest-items.ensures.value)) in
     c.hash.ensures.value ∙ ap (digest alg)
     (ap (flat_map (λ (p : Bor (List ℕ)). p.now)) c.as_slice-2.ensures.value
     ∙ sym (flat_map-map (λ (v : List ℕ). v) (λ (p : Bor (List ℕ)). p.now) c.loop-digest.parts.items)

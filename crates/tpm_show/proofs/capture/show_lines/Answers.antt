@@ -23,7 +23,8 @@ returns-then-count-eq0-clause-ok g c =
     let bytes = rw c.if-count-eq0.true at c.in_ok-count.ensures.bytes in
     let contents = g.W.Write.contents in
     IfOk-weaker c.print_end.result _ _ (λ status ended.
-    rw ended.0 (answers_at_end c.args.how _ _ _ c.loop-capture.read c.loop-capture.capture c.print_end.new.self _ _ (Appends (contents c.args.out.now) (contents c.print_end.new.out))
+    rw ended.0 (answers_at_end c.args.how _ _ _ c.loop-capture.read c.loop-capture.capture c.print_end.new.self _ _
+    (Appends (contents c.args.out.now) (contents c.print_end.new.out))
     (joins_appends (contents c.args.out.now) (contents c.loop-capture.out) (contents c.print_end.new.out))
     c.loop-capture.invariant.told bytes.0 (bytes.1 refl (omega arith)) ended.1)) c.print_end.ensures.ok
 
@@ -33,7 +34,9 @@ loop-capture-preserved g c =
     let piece = c.read.new.room in
     let contents = g.W.Write.contents in
     record {
-      told = reaches_more c.args.how _ _ _ c.loop-capture.read count (take count piece) c.loop-capture.capture c.print.new.self _ _ (Appends (contents c.args.out.now) (contents c.print.new.out))
+      told =
+          reaches_more c.args.how _ _ _ c.loop-capture.read count (take count piece) c.loop-capture.capture c.print.new.self _ _
+          (Appends (contents c.args.out.now) (contents c.print.new.out))
           (joins_appends (contents c.args.out.now) (contents c.loop-capture.out) (contents c.print.new.out))
           c.loop-capture.invariant.told c.in_ok-count.ensures.bytes.0 (sym (length-take-le count piece c.in_ok-count.ensures.bound.0)) c.in_ok-print.ensures.ok;
       bound = omega arith;

@@ -12,7 +12,9 @@ loop-capture-init g c =
     let contents = g.W.Write.contents in
     let coming = g.R.Source.coming in
     record {
-      told = streams_none c.args.how (coming c.args.input.now) c.new-capture.result (Appends (contents c.args.out.now) (contents c.args.out.now)) (consumes_none (coming c.args.input.now))
+      told =
+          streams_none c.args.how (coming c.args.input.now) c.new-capture.result (Appends (contents c.args.out.now) (contents c.args.out.now))
+          (consumes_none (coming c.args.input.now))
           (appends_nothing (contents c.args.out.now)) c.new-capture.ensures.how c.new-capture.ensures.place c.new-capture.ensures.status;
       bound = omega arith;
       failures = refl;
@@ -23,7 +25,8 @@ returns-in-Err-EndInside-clause-ok g c =
     let contents = g.W.Write.contents in
     let is = rw c.in-Err-EndInside.field-0-is at c.in-Err-EndInside.ensures.frame in
     IfOk-weaker c.print_stop.result _ _ (λ status told.
-    rw told.0 (stream_cut c.args.how _ _ _ c.loop-capture.read is.0 c.loop-capture.capture _ _ (Appends (contents c.args.out.now) (contents c.print_stop.new.out))
+    rw told.0 (stream_cut c.args.how _ _ _ c.loop-capture.read is.0 c.loop-capture.capture _ _
+    (Appends (contents c.args.out.now) (contents c.print_stop.new.out))
     (joins_appends (contents c.args.out.now) (contents c.loop-capture.out) (contents c.print_stop.new.out))
     c.loop-capture.invariant.told is.1 (is.2.0, is.2.1) is.2.2 told.1)) c.print_stop.ensures.ok
 
@@ -32,7 +35,8 @@ returns-in-Err-Broken-clause-ok g c =
     let contents = g.W.Write.contents in
     let is = rw c.in-Err-Broken.field-0-is at c.in-Err-Broken.ensures.frame in
     IfOk-weaker c.print_stop-in-Err-Broken.result _ _ (λ status told.
-    rw told.0 (stream_breaks c.args.how _ _ _ c.loop-capture.read is.0 c.loop-capture.capture _ _ (Appends (contents c.args.out.now) (contents c.print_stop-in-Err-Broken.new.out))
+    rw told.0 (stream_breaks c.args.how _ _ _ c.loop-capture.read is.0 c.loop-capture.capture _ _
+    (Appends (contents c.args.out.now) (contents c.print_stop-in-Err-Broken.new.out))
     (joins_appends (contents c.args.out.now) (contents c.loop-capture.out) (contents c.print_stop-in-Err-Broken.new.out))
     c.loop-capture.invariant.told is.1 is.2.0 told.1)) c.print_stop-in-Err-Broken.ensures.ok
 
@@ -54,7 +58,8 @@ loop-capture-preserved g c =
     let told = rw c.as_slice.ensures.value at c.in_ok-print_frame.ensures.ok in
     record {
       told = rw c.len-read.ensures.value
-          (streams_more c.args.how _ _ _ c.loop-capture.read c.read_frame_into.new.frame.items c.loop-capture.capture c.print_frame.new.self _ _ (Appends (contents c.args.out.now) (contents c.print_frame.new.out))
+          (streams_more c.args.how _ _ _ c.loop-capture.read c.read_frame_into.new.frame.items c.loop-capture.capture c.print_frame.new.self _ _
+          (Appends (contents c.args.out.now) (contents c.print_frame.new.out))
           (joins_appends (contents c.args.out.now) (contents c.loop-capture.out) (contents c.print_frame.new.out))
           c.loop-capture.invariant.told is.0 is.1 told);
       bound = omega arith;

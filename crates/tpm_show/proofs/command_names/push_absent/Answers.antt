@@ -7,7 +7,9 @@ use Rattle.tpm_show.proofs.command_names.push_absent.Goals as goal
 
 pub returns-in-Some : goal.returns-in-Some
 returns-in-Some c =
-    subst (λ (told : List ℕ). OnOk c.push_absent_name.result (string_bytes c.push_absent_name.new.text ≡ string_bytes c.args.text.now ++ told)) (ap (absent_of c.args.json) c.in-Some.ensures) c.push_absent_name.ensures
+    subst (λ (told : List ℕ). OnOk c.push_absent_name.result (string_bytes c.push_absent_name.new.text
+    ≡ string_bytes c.args.text.now ++ told)) (ap (absent_of c.args.json) c.in-Some.ensures) c.push_absent_name.ensures
 
 pub returns-in-None : goal.returns-in-None
-returns-in-None c = sym (append-nil (string_bytes c.args.text.now)) ∙ ap (λ (o : Option Named). string_bytes c.args.text.now ++ absent_of c.args.json o) c.in-None.ensures
+returns-in-None c = sym (append-nil (string_bytes c.args.text.now))
+    ∙ ap (λ (o : Option Named). string_bytes c.args.text.now ++ absent_of c.args.json o) c.in-None.ensures

@@ -14,4 +14,5 @@ pub returns-then-code-eq0 : goal.returns-then-code-eq0
 returns-then-code-eq0 c = c.look_up.ensures ∙ sym (in_format_zero (bit_and c.args.code 128) _ _ c.if-code-eq0.true)
 
 pub returns-then-code-lt4096 : goal.returns-then-code-lt4096
-returns-then-code-lt4096 c = c.look_up-then-code-lt4096.ensures ∙ sym (in_format_one (bit_and c.args.code 128) c.args.code 4096 _ _ _ c.if-code-eq0.false c.if-code-lt4096.true)
+returns-then-code-lt4096 c = c.look_up-then-code-lt4096.ensures
+    ∙ sym (in_format_one (bit_and c.args.code 128) c.args.code 4096 _ _ _ c.if-code-eq0.false c.if-code-lt4096.true)

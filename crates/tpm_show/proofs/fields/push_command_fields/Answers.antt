@@ -31,7 +31,12 @@ returns-in-PolicyOr c = rw c.in-PolicyOr.is (simp append-nil c.push_structure-in
 pub returns-in_ok-push_structure-in-StartAuthSession : goal.returns-in_ok-push_structure-in-StartAuthSession
 unfolding start_auth_session
 returns-in_ok-push_structure-in-StartAuthSession c =
-    let joined = simp (c.in_ok-push_structure-in-StartAuthSession.ensures, c.in_ok-push-in-StartAuthSession-3.ensures, c.in_ok-push-in-StartAuthSession-2.ensures, c.in_ok-push-in-StartAuthSession.ensures) at c.push-in-StartAuthSession-4.ensures in
+    let joined = simp (
+      c.in_ok-push_structure-in-StartAuthSession.ensures,
+      c.in_ok-push-in-StartAuthSession-3.ensures,
+      c.in_ok-push-in-StartAuthSession-2.ensures,
+      c.in_ok-push-in-StartAuthSession.ensures,
+    ) at c.push-in-StartAuthSession-4.ensures in
     let written = simp append_assoc at joined in
     rw c.in-StartAuthSession.is (simp append-nil written)
 

@@ -13,4 +13,5 @@ found table n o is = found_as meaning_as (λ m. m.number == n) table o is
 
 pub returns : goal.returns
 returns c = found c.args.table.now c.args.number c.find.result
-    (find_from_yields_List (λ m. m.number == c.args.number) _ _ _ c.find.ensures.ran (YieldsList-from_slice c.args.table.now c.iter.ensures.rest) (λ x b q k. search rules))
+    (find_from_yields_List (λ m. m.number == c.args.number) _ _ _ c.find.ensures.ran
+    (YieldsList-from_slice c.args.table.now c.iter.ensures.rest) (λ x b q k. search rules))

@@ -8,5 +8,6 @@ use Rattle.tpm_show.proofs.parts.push_bits_of.Given as goal
 -- the entries so far and those of the bits that are left are those of all
 abbrev pub invariant-loop-bit : goal.invariant-loop-bit
 invariant-loop-bit l =
-    (string_bytes l.text ++ lines_from (attribute_entry l.json) l.i (filter (λ bit. is_set bit.number l.attrs) (map named_as (drop l.bit-index l.table))) ≡ string_bytes l.initial.text ++ bits_of (map named_as l.table) l.json l.attrs)
+    (string_bytes l.text ++ lines_from (attribute_entry l.json) l.i (filter (λ bit. is_set bit.number l.attrs)
+    (map named_as (drop l.bit-index l.table))) ≡ string_bytes l.initial.text ++ bits_of (map named_as l.table) l.json l.attrs)
     × (l.i ≤ l.bit-index + 2)

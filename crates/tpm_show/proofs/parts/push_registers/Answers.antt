@@ -18,10 +18,16 @@ loop-number-preserved c =
     let one = register_entry c.args.json in
     let passes = is_selected c.args.selection.now.select in
     let left = range_with_len (n + 1) (24 - (n + 1)) in
-    let so_far = ap (λ (rs : List ℕ). string_bytes c.loop-number.text ++ lines_from one c.loop-number.i (filter passes rs)) (sym (range_next n c.loop-number-test.true)) ∙ c.loop-number.invariant.0 in
+    let so_far = ap (λ (rs : List ℕ). string_bytes c.loop-number.text ++ lines_from one c.loop-number.i (filter passes rs))
+    (sym (range_next n c.loop-number-test.true)) ∙ c.loop-number.invariant.0 in
     let few = c.loop-number.invariant.1 in
     let known = ap passes (sym c.register.ensures) ∙ sym c.is_selected.ensures in
     elim c.if-is_selected.branch [
-      | then-is_selected+in_ok-push_number w ↦ rw (w.text-is, w.i-is) (filtered_further one passes n left c.loop-number.i _ _ _ (known ∙ w.if-is_selected.true) w.in_ok-push_number.ensures so_far, omega (arith, few))
-      | else-is_selected w ↦ rw (w.text-is, w.i-is) (filtered_over one passes n left c.loop-number.i _ _ (known ∙ w.if-is_selected.false) so_far, omega (arith, few))
+      | then-is_selected+in_ok-push_number w ↦ rw (w.text-is, w.i-is) (
+        filtered_further one passes n left
+            c.loop-number.i _ _ _ (known ∙ w.if-is_selected.true) w.in_ok-push_number.ensures so_far,
+        omega (arith, few),
+      )
+      | else-is_selected w ↦ rw (w.text-is, w.i-is)
+          (filtered_over one passes n left c.loop-number.i _ _ (known ∙ w.if-is_selected.false) so_far, omega (arith, few))
     ]

@@ -12,8 +12,12 @@ loop-alg-preserved c =
     let i = c.loop-alg.alg-index in let is = c.loop-alg.invariant in
     record {
       long = c.fill.auto.bytes ∙ is.long;
-      holds = first_more i c.args.register _ (filled_but_last c.args.byte c.args.last) c.args.bytes.now c.loop-alg.bytes c.fill.new.bytes (bank_at i _ c.loop-alg-test.true) is.holds c.fill.ensures;
+      holds =
+          first_more i c.args.register _ (filled_but_last c.args.byte c.args.last) c.args.bytes.now c.loop-alg.bytes c.fill.new.bytes
+          (bank_at i _ c.loop-alg-test.true) is.holds c.fill.ensures;
     }
 
 pub returns : goal.returns
-returns c = first_all c.loop-alg.alg-index c.args.register (filled_but_last c.args.byte c.args.last) c.args.bytes.now c.loop-alg.bytes (omega arith) c.loop-alg.invariant.holds
+returns c =
+    first_all c.loop-alg.alg-index c.args.register (filled_but_last c.args.byte c.args.last) c.args.bytes.now c.loop-alg.bytes (omega arith)
+    c.loop-alg.invariant.holds

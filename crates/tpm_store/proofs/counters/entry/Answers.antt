@@ -6,4 +6,5 @@ pub returns-in-Some : goal.returns-in-Some
 returns-in-Some c =
     let counters = c.args.counters.now in
     let p = c.in-Some.ensures.some in
-    ap Some (c.index-counters-k.is ∙ at_place c.args.index c.in-Some.k counters p c.index-counters-k.result) ∙ sym (found_at c.args.index c.in-Some.k counters p)
+    ap Some (c.index-counters-k.is ∙ at_place c.args.index c.in-Some.k counters p c.index-counters-k.result)
+    ∙ sym (found_at c.args.index c.in-Some.k counters p)

@@ -21,12 +21,14 @@ loop-register-preserved c =
         parts = rw (w.parts-is, w.push.ensures.items)
             (map-append (λ (p : Bor (List ℕ)). p.now) parts (w.value.result ∷ [])
             ∙ values_more value old (map (λ (p : Bor (List ℕ)). p.now) parts) before q w.value.result.now w.value.ensures.value c.loop-register.invariant.parts
-            ∙ ap (λ (qs : List ℕ). old ++ map value qs) (sym (next ∙ filter_more p (take q all_registers) q (sym c.is_selected.ensures ∙ w.if-is_selected.true))));
+            ∙ ap (λ (qs : List ℕ). old ++ map value qs)
+            (sym (next ∙ filter_more p (take q all_registers) q (sym c.is_selected.ensures ∙ w.if-is_selected.true))));
         count = rw w.parts-is (omega (arith, w.push.ensures.len, c.loop-register.invariant.count));
       }
       | else-is_selected w ↦ record {
         parts = rw w.parts-is (c.loop-register.invariant.parts
-            ∙ ap (λ (qs : List ℕ). old ++ map value qs) (sym (next ∙ filter_same p (take q all_registers) q (sym c.is_selected.ensures ∙ w.if-is_selected.false))));
+            ∙ ap (λ (qs : List ℕ). old ++ map value qs)
+            (sym (next ∙ filter_same p (take q all_registers) q (sym c.is_selected.ensures ∙ w.if-is_selected.false))));
         count = rw w.parts-is (omega (arith, c.loop-register.invariant.count));
       }
     ]

@@ -21,11 +21,16 @@ loop-bit-preserved c =
     let count = count_is value old c.loop-bit.values done here.values in
     elim c.if-not-is_full.branch [
       | then-not-is_full+then-is_selected w ↦
-          let more = chosen_more n select byte bit c.loop-bit-test.true (grind (arith, nat_tests, count, c.is_full.ensures.value, c.is_full.ensures.fits, w.if-not-is_full.true)) (sym w.is_selected.ensures ∙ w.if-is_selected.true) in
+          let more =
+          chosen_more n select byte bit c.loop-bit-test.true
+          (grind (arith, nat_tests, count, c.is_full.ensures.value, c.is_full.ensures.fits, w.if-not-is_full.true))
+          (sym w.is_selected.ensures ∙ w.if-is_selected.true) in
           record {
             bits = rw (w.bits-is, more) (bits_more done byte bit c.loop-bit.bits c.loop-bit-test.true here.bits here.small);
             small = rw w.bits-is (small_still bit c.loop-bit.bits c.loop-bit-test.true here.small);
-            values = rw (w.values-is, w.push.ensures, more) (values_more value old c.loop-bit.values done (8 * byte + bit) w.digest.result w.digest.ensures here.values);
+            values =
+                rw (w.values-is, w.push.ensures, more)
+                (values_more value old c.loop-bit.values done (8 * byte + bit) w.digest.result w.digest.ensures here.values);
           }
       | else-not-is_full w ↦ elim w.else-not-is_full.branch [
         | else-not-is_full-via-then-not-is_full+else-is_selected w' ↦
@@ -36,7 +41,9 @@ loop-bit-preserved c =
               values = rw (w.values-is, same) here.values;
             }
         | else-not-is_full-via-else-not-is_full w' ↦
-            let same = chosen_full n select byte bit c.loop-bit-test.true (grind (arith, nat_tests, count, c.is_full.ensures.value, c.is_full.ensures.fits, w'.if-not-is_full.false)) in
+            let same =
+            chosen_full n select byte bit c.loop-bit-test.true
+            (grind (arith, nat_tests, count, c.is_full.ensures.value, c.is_full.ensures.fits, w'.if-not-is_full.false)) in
             record {
               bits = rw (w.bits-is, same) here.bits;
               small = rw w.bits-is (smaller_still bit c.loop-bit.bits c.loop-bit-test.true here.small);

@@ -19,7 +19,8 @@ returns-clause-selection c =
     ap (λ (l : List ℕ). let r : Selection = record { hash = s.hash; select = l } in r)
     (ap (λ (x : ℕ). x ∷ c.read_byte-second.result ∷ c.read_byte-third.result ∷ []) c.read_byte-first.ensures.bits
     ∙ ap (λ (x : ℕ). bits_of (chosen n s.select (registers_of 0)) ∷ x ∷ c.read_byte-third.result ∷ []) c.read_byte-second.ensures.bits
-    ∙ ap (λ (x : ℕ). bits_of (chosen n s.select (registers_of 0)) ∷ bits_of (chosen (length one) s.select (registers_of 1)) ∷ x ∷ []) c.read_byte-third.ensures.bits
+    ∙ ap (λ (x : ℕ). bits_of (chosen n s.select (registers_of 0)) ∷ bits_of (chosen (length one) s.select (registers_of 1)) ∷ x ∷ [])
+    c.read_byte-third.ensures.bits
     ∙ sym (select_of_first n s (length one) (length two) e1 e2))
 
 pub returns-clause-values : goal.returns-clause-values
@@ -36,7 +37,8 @@ returns-clause-values c =
     let e1 = count_is value old one x c.read_byte-first.ensures.values in
     let e2 = count_is value one two y c.read_byte-second.ensures.values in
     c.read_byte-third.ensures.values
-    ∙ ap (λ (l : List (List ℕ)). l ++ map value z) (c.read_byte-second.ensures.values ∙ ap (λ (l : List (List ℕ)). l ++ map value y) c.read_byte-first.ensures.values)
+    ∙ ap (λ (l : List (List ℕ)). l ++ map value z)
+    (c.read_byte-second.ensures.values ∙ ap (λ (l : List (List ℕ)). l ++ map value y) c.read_byte-first.ensures.values)
     ∙ append_assoc (old ++ map value x) (map value y) (map value z)
     ∙ append_assoc old (map value x) (map value y ++ map value z)
     ∙ ap (λ (l : List (List ℕ)). old ++ l) (sym (map_three value x y z) ∙ ap (map value) (sym (chosen_is n s (length one) (length two) e1 e2)))

@@ -18,7 +18,10 @@ returns-in_err-count-2-clause-frame g c =
     let more = c.in_err-count-2.ensures.bytes in
     let six : length c.fill.new.room ≡ 6 = omega (arith, c.fill.auto.room) in
     let whole : length c.as_mut_slice.result.now ≡ c.in_ok-size.size = ap length c.as_mut_slice.ensures.value ∙ c.begin.ensures.2 in
-    let read = failed_inside _ _ _ c.fill.new.room c.fill-2.new.room c.as_mut_slice.result.now c.in_ok-count.count c.in_ok-size.size six first.1 (omega arith) size.0 size.1 size.2 c.fill-2.auto.room whole more.0 more.1 more.2 in
+    let read =
+    failed_inside _ _ _ c.fill.new.room c.fill-2.new.room c.as_mut_slice.result.now c.in_ok-count.count
+    c.in_ok-size.size six first.1 (omega arith) size.0 size.1 size.2 c.fill-2.auto.room whole more.0 more.1
+    more.2 in
     let fault = err_from_is_err_and c.from_residual-in_err-count-2.result c.from_residual-in_err-count-2.ensures.1 in
     rw (fault.1, fault.2) read
 
@@ -29,7 +32,9 @@ returns-then-count-size-clause-frame g c =
     let more = c.in_ok-count-2.ensures.bytes in
     let six : length c.fill.new.room ≡ 6 = omega (arith, c.fill.auto.room) in
     let whole : length c.as_mut_slice.result.now ≡ c.in_ok-size.size = ap length c.as_mut_slice.ensures.value ∙ c.begin.ensures.2 in
-    ended_inside _ _ _ c.fill.new.room c.fill-2.new.room c.as_mut_slice.result.now c.in_ok-count.count c.in_ok-size.size six first.1 (omega arith) size.0 size.1 size.2 c.fill-2.auto.room whole c.in_ok-count-2.count more.0 more.1 more.2 (omega arith)
+    ended_inside _ _ _ c.fill.new.room c.fill-2.new.room c.as_mut_slice.result.now c.in_ok-count.count c.in_ok-size.size
+    six first.1 (omega arith) size.0 size.1 size.2 c.fill-2.auto.room whole c.in_ok-count-2.count more.0 more.1
+    more.2 (omega arith)
 
 pub returns-clause-frame : goal.returns-clause-frame
 returns-clause-frame g c =
@@ -44,5 +49,7 @@ returns-clause-frame g c =
     let rest = part_length held part c.in_ok-size.size c.fill-2.auto.room whole size.1 in
     let begins : held ≡ front ++ c.begin.ensures.0 = c.as_mut_slice.ensures.value ∙ c.begin.ensures.1 in
     let is = whole_buffer c.begin.new.frame.items held part front c.begin.ensures.0 _ c.in_ok-size.size c.begin.ensures.2 begins whole six rest in
-    let read = whole_frame _ _ _ front part held c.in_ok-count.count c.in_ok-size.size six first.1 (omega arith) size.0 size.1 size.2 c.fill-2.auto.room whole c.in_ok-count-2.count more.0 more.1 (omega arith) in
+    let read =
+    whole_frame _ _ _ front part held c.in_ok-count.count c.in_ok-size.size six first.1 (omega arith) size.0
+    size.1 size.2 c.fill-2.auto.room whole c.in_ok-count-2.count more.0 more.1 (omega arith) in
     subst (λ (bs : List ℕ). Consumes (g.R.Source.coming c.args.source.now) (g.R.Source.coming c.fill-2.new.source) bs × IsFrame bs) (sym is) read

@@ -9,6 +9,7 @@ loop-before-preserved g c =
     let sessions = g.A.HasSessions.sessions c.args.areas.now in
     let i = c.loop-before.before in
     elim c.match-session.branch [
-      | in-Some+in_ok-push_session w ↦ rw w.text-is (lines_further (session_text c.args.json) sessions i w.in-Some.session _ _ _ (sym c.session.ensures ∙ w.in-Some.is) w.in_ok-push_session.ensures c.loop-before.invariant)
+      | in-Some+in_ok-push_session w ↦ rw w.text-is (lines_further (session_text c.args.json) sessions i w.in-Some.session _ _ _
+          (sym c.session.ensures ∙ w.in-Some.is) w.in_ok-push_session.ensures c.loop-before.invariant)
       | in_default w ↦ absurd (is_within sessions i (sym c.session.ensures ∙ w.in_default.is) (omega arith))
     ]

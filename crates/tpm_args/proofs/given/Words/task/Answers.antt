@@ -14,7 +14,8 @@ use Rattle.tpm_args.proofs.given.Words.task.Goals as goal
 pub returns-in-Some-clause-ok : goal.returns-in-Some-clause-ok
 returns-in-Some-clause-ok c =
     let met = met_is string_bytes _ _ c.as_slice.result _ _ _ c.in_ok-program.ensures.0 c.in-Ok.ensures.ok.2 c.as_slice-2.ensures.value c.self.view_is in
-    let asks = subst (λ (o : Option Task). MatchOption o (AsksNothing (subcommand_rows_of c.in-Ok.matches)) (λ t. Asks (subcommand_rows_of c.in-Ok.matches) t)) c.in-Some.is c.in_ok-task-in-Ok.ensures in
+    let asks = subst (λ (o : Option Task). MatchOption o (AsksNothing (subcommand_rows_of c.in-Ok.matches))
+    (λ t. Asks (subcommand_rows_of c.in-Ok.matches) t)) c.in-Some.is c.in_ok-task-in-Ok.ensures in
     (c.as_slice.result, subst AreAllNames (sym c.as_slice.ensures.value) c.self.invariant, rw met at asks)
 
 pub returns-in_err-task-in-Ok-clause-err : goal.returns-in_err-task-in-Ok-clause-err
@@ -27,7 +28,8 @@ returns-in_err-task-in-Ok-clause-err c =
 pub returns-in-Ok-clause-err : goal.returns-in-Ok-clause-err
 returns-in-Ok-clause-err c =
     let met = met_is string_bytes _ _ c.as_slice.result _ _ _ c.in_ok-program.ensures.0 c.in-Ok.ensures.ok.2 c.as_slice-2.ensures.value c.self.view_is in
-    let none = subst (λ (o : Option Task). MatchOption o (AsksNothing (subcommand_rows_of c.in-Ok.matches)) (λ t. Asks (subcommand_rows_of c.in-Ok.matches) t)) c.in-None.is c.in_ok-task-in-Ok.ensures in
+    let none = subst (λ (o : Option Task). MatchOption o (AsksNothing (subcommand_rows_of c.in-Ok.matches))
+    (λ t. Asks (subcommand_rows_of c.in-Ok.matches) t)) c.in-None.is c.in_ok-task-in-Ok.ensures in
     (c.as_slice.result, subst AreAllNames (sym c.as_slice.ensures.value) c.self.invariant, λ _. subst AsksNothing met none)
 
 pub returns-clause-err : goal.returns-clause-err
@@ -35,4 +37,5 @@ returns-clause-err c =
     let names = c.as_slice.result in
     let words : map string_bytes c.as_slice-2.result.now ≡ c.args.self.now = ap (map string_bytes) c.as_slice-2.ensures.value ∙ c.self.view_is in
     stops c.args.self.now names _ c.of.result (subst AreAllNames (sym c.as_slice.ensures.value) c.self.invariant)
-    (λ taken. c.in-Err.ensures.passes (ap (λ (a : App). takes a (map string_bytes c.as_slice-2.result.now)) c.in_ok-program.ensures.0 ∙ ap (takes (program_app (Names names))) words ∙ taken)) c.of.ensures
+    (λ taken. c.in-Err.ensures.passes (ap (λ (a : App). takes a (map string_bytes c.as_slice-2.result.now))
+    c.in_ok-program.ensures.0 ∙ ap (takes (program_app (Names names))) words ∙ taken)) c.of.ensures

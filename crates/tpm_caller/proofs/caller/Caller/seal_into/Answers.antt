@@ -18,12 +18,15 @@ abbrev seal_of : After-as_slice-3 → Seal
 seal_of c = record { caller = c.args.self; body = c.args.body; names = c.args.names.items; auth = c.args.auth.now; nonce = c.args.nonce; keep = c.args.keep }
 
 made : (c : After-as_slice-3) → c.unsigned-command.result ≡ with_auths c.args.body (c.unsigned-command.ensures.session.0 ∷ [])
-made c = ap (λ (b : CommandBody). as_command b c.unsigned-command.result.auths.items) c.unsigned-command.ensures.body ∙ ap (as_command c.args.body) c.unsigned-command.ensures.session.1
+made c =
+    ap (λ (b : CommandBody). as_command b c.unsigned-command.result.auths.items) c.unsigned-command.ensures.body
+    ∙ ap (as_command c.args.body) c.unsigned-command.ensures.session.1
 
 put : (c : After-as_slice-3) → IsUnsigned (seal_of c) c.unsigned-command.ensures.session.0 c.put_command.new.out.items
 put c =
     let x = c.unsigned-command.ensures.session in
-    unsigned (seal_of c) x.0 c.put_command.new.out.items c.attrs_for-attrs.result c.requires.named x.2 x.3 x.4 c.attrs_for-attrs.ensures x.5 (c.put_command.ensures.bytes ∙ ap (spelling command) (made c))
+    unsigned (seal_of c) x.0 c.put_command.new.out.items c.attrs_for-attrs.result c.requires.named x.2 x.3 x.4
+    c.attrs_for-attrs.ensures x.5 (c.put_command.ensures.bytes ∙ ap (spelling command) (made c))
 
 pub sign-requires-clause-room : goal.sign-requires-clause-room
 sign-requires-clause-room c =
@@ -34,9 +37,17 @@ pub returns-clause-sealed : goal.returns-clause-sealed
 returns-clause-sealed c =
     let d = (goal.at.returns-clause-sealed c).After-as_slice-3 in
     let s = seal_of d in
-    let view : CommandCode → List ℕ → List ℕ → Sent = λ code key bytes. record { waiting = record { caller = s.caller; code = code; key = key; nonce = s.nonce; keep = s.keep }; bytes = bytes } in
+    let view : CommandCode → List ℕ → List ℕ → Sent =
+    λ code key bytes.
+    record {
+      waiting = record { caller = s.caller; code = code; key = key; nonce = s.nonce; keep = s.keep };
+      bytes = bytes;
+    } in
     let mac = rw (c.as_slice.ensures.value, c.as_slice-2.ensures.value, c.as_slice-3.ensures.value) at c.sign.ensures in
-    let done = signed s c.unsigned-command.ensures.session.0 c.put_command.new.out.items c.sign.new.bytes.items c.set_key.new.key c.code-code.result c.attrs_for-attrs.result (put d) c.code-code.ensures c.attrs_for-attrs.ensures c.set_key.ensures mac in
+    let done =
+    signed s c.unsigned-command.ensures.session.0 c.put_command.new.out.items c.sign.new.bytes.items
+    c.set_key.new.key c.code-code.result c.attrs_for-attrs.result (put d) c.code-code.ensures
+    c.attrs_for-attrs.ensures c.set_key.ensures mac in
     ap (λ (z : CommandCode). view z c.set_key.new.key c.sign.new.bytes.items) c.code-code.ensures
     ∙ ap (λ (z : List ℕ). view (code_for s.body) z c.sign.new.bytes.items) c.set_key.ensures
     ∙ ap (view (code_for s.body) (hmac_key s.caller.hash (seal_key s))) done
@@ -44,4 +55,6 @@ returns-clause-sealed c =
 pub returns-clause-spelled : goal.returns-clause-spelled
 returns-clause-spelled c =
     let d = (goal.at.returns-clause-spelled c).After-as_slice-3 in
-    has_spelling (seal_of d) c.unsigned-command.ensures.session.0 c.put_command.new.out.items (put d) (subst (λ (z : Command). Fits (length c.put_command.new.out.items) command z) (made d) c.put_command.ensures.fits)
+    has_spelling (seal_of d) c.unsigned-command.ensures.session.0 c.put_command.new.out.items (put d)
+    (subst (λ (z : Command). Fits (length c.put_command.new.out.items) command z) (made d)
+    c.put_command.ensures.fits)

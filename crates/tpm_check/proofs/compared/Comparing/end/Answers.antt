@@ -10,11 +10,13 @@ returns-then-not-branch c =
     let p = place c.args.self.now in
     let is : c.in_ok-end_line.field-0 ≡ false = search rules in
     let some : 0 < length p.line = search rules in
-    at_end_stop (value_in c.args.found.now.banks) p (place c.end_line.new.self) (AddedTo (string_bytes c.args.text.now) (string_bytes c.end_line.new.text)) some c.requires.open (rw is at c.in_ok-end_line.ensures)
+    at_end_stop (value_in c.args.found.now.banks) p (place c.end_line.new.self)
+    (AddedTo (string_bytes c.args.text.now) (string_bytes c.end_line.new.text)) some c.requires.open (rw is at c.in_ok-end_line.ensures)
 
 pub returns : goal.returns
 returns c =
     let p = place c.args.self.now in
     let is : c.in_ok-end_line.field-0 ≡ true = search rules in
     let some : 0 < length p.line = search rules in
-    at_end_line (value_in c.args.found.now.banks) p (place c.end_line.new.self) (AddedTo (string_bytes c.args.text.now) (string_bytes c.end_line.new.text)) some c.requires.open (rw is at c.in_ok-end_line.ensures)
+    at_end_line (value_in c.args.found.now.banks) p (place c.end_line.new.self)
+    (AddedTo (string_bytes c.args.text.now) (string_bytes c.end_line.new.text)) some c.requires.open (rw is at c.in_ok-end_line.ensures)

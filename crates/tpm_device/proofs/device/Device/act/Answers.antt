@@ -40,12 +40,43 @@ pub returns-in-PcrRead-clause-answer : goal.returns-in-PcrRead-clause-answer
 returns-in-PcrRead-clause-answer c = rw c.in-PcrRead.is (c.read_registers.ensures c.args.nonce.now)
 
 pub returns-in-PcrRead-clause-stands : goal.returns-in-PcrRead-clause-stands
-returns-in-PcrRead-clause-stands c = rw c.in-PcrRead.is (unchanged c.args.self.now (body_from c.args.handles.now (params.PcrRead c.in-PcrRead.selections)) c.read_registers.new.body c.args.nonce.now refl refl (λ o h. refl) (λ nv. refl))
+returns-in-PcrRead-clause-stands c =
+    rw c.in-PcrRead.is (unchanged c.args.self.now (body_from c.args.handles.now (params.PcrRead c.in-PcrRead.selections)) c.read_registers.new.body
+    c.args.nonce.now refl refl (λ o h. refl) (λ nv. refl))
 
 pub returns-in-StartAuthSession-clause-answer : goal.returns-in-StartAuthSession-clause-answer
 returns-in-StartAuthSession-clause-answer c =
-    let is : bodies.StartAuthSession (record { bind = c.bind.result; nonce_caller = c.duplicate.result; session_type = c.in-StartAuthSession.session_type; symmetric = c.in-StartAuthSession.symmetric; auth_hash = c.in-StartAuthSession.auth_hash }) ≡ body_from c.args.handles.now c.args.params.now = rw c.in-StartAuthSession.is (ap (λ (b : BindHandle). bodies.StartAuthSession (record { bind = b; nonce_caller = c.duplicate.result; session_type = c.in-StartAuthSession.session_type; symmetric = c.in-StartAuthSession.symmetric; auth_hash = c.in-StartAuthSession.auth_hash })) c.bind.ensures ∙ ap (λ (m : List ℕ). bodies.StartAuthSession (record { bind = bind_in (second c.args.handles.now); nonce_caller = m; session_type = c.in-StartAuthSession.session_type; symmetric = c.in-StartAuthSession.symmetric; auth_hash = c.in-StartAuthSession.auth_hash })) c.duplicate.ensures) in
-    subst (λ (b : CommandBody). acted c.start_session.new.body c.start_session.result ≡ action (holds c.args.self.now) b c.args.nonce.now) is (c.start_session.ensures.answer)
+    let is : bodies.StartAuthSession
+    (record {
+      bind = c.bind.result;
+      nonce_caller = c.duplicate.result;
+      session_type = c.in-StartAuthSession.session_type;
+      symmetric =
+          c.in-StartAuthSession.symmetric;
+      auth_hash = c.in-StartAuthSession.auth_hash;
+    }) ≡ body_from c.args.handles.now c.args.params.now =
+    rw c.in-StartAuthSession.is
+    (ap (λ (b : BindHandle).
+    bodies.StartAuthSession
+    (record {
+      bind = b;
+      nonce_caller = c.duplicate.result;
+      session_type = c.in-StartAuthSession.session_type;
+      symmetric = c.in-StartAuthSession.symmetric;
+      auth_hash = c.in-StartAuthSession.auth_hash;
+    })) c.bind.ensures
+    ∙ ap (λ (m : List ℕ).
+    bodies.StartAuthSession
+    (record {
+      bind = bind_in (second c.args.handles.now);
+      nonce_caller = m;
+      session_type = c.in-StartAuthSession.session_type;
+      symmetric =
+          c.in-StartAuthSession.symmetric;
+      auth_hash = c.in-StartAuthSession.auth_hash;
+    })) c.duplicate.ensures) in
+    subst (λ (b : CommandBody). acted c.start_session.new.body c.start_session.result ≡ action (holds c.args.self.now) b c.args.nonce.now) is
+    (c.start_session.ensures.answer)
 
 pub returns-in-StartAuthSession-clause-stands : goal.returns-in-StartAuthSession-clause-stands
 returns-in-StartAuthSession-clause-stands c = rw c.in-StartAuthSession.is (rw (c.bind.ensures, c.duplicate.ensures) at (c.start_session.ensures.stands))
@@ -58,8 +89,10 @@ returns-in-FlushContext-clause-stands c = rw c.in-FlushContext.is (c.flush.ensur
 
 pub returns-in-PolicyPcr-clause-answer : goal.returns-in-PolicyPcr-clause-answer
 returns-in-PolicyPcr-clause-answer c =
-    let is : bodies.PolicyPcr c.policy.result c.in-PolicyPcr.pcr_digest c.in-PolicyPcr.selections ≡ body_from c.args.handles.now c.args.params.now = rw c.in-PolicyPcr.is (ap (λ (s : ℕ). bodies.PolicyPcr s c.in-PolicyPcr.pcr_digest c.in-PolicyPcr.selections) c.policy.ensures) in
-    subst (λ (b : CommandBody). acted c.policy_pcr.new.body c.policy_pcr.result ≡ action (holds c.args.self.now) b c.args.nonce.now) is (c.policy_pcr.ensures.answer c.args.nonce.now)
+    let is : bodies.PolicyPcr c.policy.result c.in-PolicyPcr.pcr_digest c.in-PolicyPcr.selections ≡ body_from c.args.handles.now c.args.params.now =
+    rw c.in-PolicyPcr.is (ap (λ (s : ℕ). bodies.PolicyPcr s c.in-PolicyPcr.pcr_digest c.in-PolicyPcr.selections) c.policy.ensures) in
+    subst (λ (b : CommandBody). acted c.policy_pcr.new.body c.policy_pcr.result ≡ action (holds c.args.self.now) b c.args.nonce.now) is
+    (c.policy_pcr.ensures.answer c.args.nonce.now)
 
 pub returns-in-PolicyPcr-clause-stands : goal.returns-in-PolicyPcr-clause-stands
 returns-in-PolicyPcr-clause-stands c = rw c.in-PolicyPcr.is (rw c.policy.ensures at (c.policy_pcr.ensures.stands c.args.nonce.now))
@@ -71,16 +104,20 @@ pub returns-in-PolicyOr-clause-stands : goal.returns-in-PolicyOr-clause-stands
 returns-in-PolicyOr-clause-stands c = rw c.in-PolicyOr.is (rw c.policy-in-PolicyOr.ensures at (c.policy_or.ensures.stands c.args.nonce.now))
 
 pub returns-in-PolicyCommandCode-clause-answer : goal.returns-in-PolicyCommandCode-clause-answer
-returns-in-PolicyCommandCode-clause-answer c = rw c.in-PolicyCommandCode.is (rw c.policy-in-PolicyCommandCode.ensures at (c.policy_command_code.ensures.answer c.args.nonce.now))
+returns-in-PolicyCommandCode-clause-answer c =
+    rw c.in-PolicyCommandCode.is (rw c.policy-in-PolicyCommandCode.ensures at (c.policy_command_code.ensures.answer c.args.nonce.now))
 
 pub returns-in-PolicyCommandCode-clause-stands : goal.returns-in-PolicyCommandCode-clause-stands
-returns-in-PolicyCommandCode-clause-stands c = rw c.in-PolicyCommandCode.is (rw c.policy-in-PolicyCommandCode.ensures at (c.policy_command_code.ensures.stands c.args.nonce.now))
+returns-in-PolicyCommandCode-clause-stands c =
+    rw c.in-PolicyCommandCode.is (rw c.policy-in-PolicyCommandCode.ensures at (c.policy_command_code.ensures.stands c.args.nonce.now))
 
 pub returns-in-PolicyAuthValue-clause-answer : goal.returns-in-PolicyAuthValue-clause-answer
-returns-in-PolicyAuthValue-clause-answer c = rw c.in-PolicyAuthValue.is (rw c.policy-in-PolicyAuthValue.ensures at (c.policy_auth_value.ensures.answer c.args.nonce.now))
+returns-in-PolicyAuthValue-clause-answer c =
+    rw c.in-PolicyAuthValue.is (rw c.policy-in-PolicyAuthValue.ensures at (c.policy_auth_value.ensures.answer c.args.nonce.now))
 
 pub returns-in-PolicyAuthValue-clause-stands : goal.returns-in-PolicyAuthValue-clause-stands
-returns-in-PolicyAuthValue-clause-stands c = rw c.in-PolicyAuthValue.is (rw c.policy-in-PolicyAuthValue.ensures at (c.policy_auth_value.ensures.stands c.args.nonce.now))
+returns-in-PolicyAuthValue-clause-stands c =
+    rw c.in-PolicyAuthValue.is (rw c.policy-in-PolicyAuthValue.ensures at (c.policy_auth_value.ensures.stands c.args.nonce.now))
 
 pub returns-in-PolicyRestart-clause-answer : goal.returns-in-PolicyRestart-clause-answer
 returns-in-PolicyRestart-clause-answer c = rw c.in-PolicyRestart.is (rw c.policy-in-PolicyRestart.ensures at (c.policy_restart.ensures.answer c.args.nonce.now))
@@ -92,7 +129,11 @@ pub returns-in-PolicyGetDigest-clause-answer : goal.returns-in-PolicyGetDigest-c
 returns-in-PolicyGetDigest-clause-answer c = rw c.in-PolicyGetDigest.is (rw c.policy-in-PolicyGetDigest.ensures at (c.policy_digest.ensures c.args.nonce.now))
 
 pub returns-in-PolicyGetDigest-clause-stands : goal.returns-in-PolicyGetDigest-clause-stands
-returns-in-PolicyGetDigest-clause-stands c = rw c.in-PolicyGetDigest.is (always c.policy_digest.result (unchanged c.args.self.now (body_from c.args.handles.now (params.PolicyGetDigest)) c.policy_digest.new.body c.args.nonce.now refl refl (λ o h. refl) (λ nv. refl)))
+returns-in-PolicyGetDigest-clause-stands c =
+    rw c.in-PolicyGetDigest.is
+    (always c.policy_digest.result
+    (unchanged c.args.self.now (body_from c.args.handles.now (params.PolicyGetDigest)) c.policy_digest.new.body c.args.nonce.now refl refl
+    (λ o h. refl) (λ nv. refl)))
 
 pub returns-in-NvDefineSpace-clause-answer : goal.returns-in-NvDefineSpace-clause-answer
 returns-in-NvDefineSpace-clause-answer c = rw c.in-NvDefineSpace.is (c.define.ensures.answer c.args.nonce.now)
@@ -107,21 +148,34 @@ pub returns-in-NvUndefineSpace-clause-stands : goal.returns-in-NvUndefineSpace-c
 returns-in-NvUndefineSpace-clause-stands c = rw c.in-NvUndefineSpace.is (rw c.second_index.ensures at (c.undefine.ensures.stands c.args.nonce.now))
 
 pub returns-in-NvIncrement-clause-answer : goal.returns-in-NvIncrement-clause-answer
-returns-in-NvIncrement-clause-answer c = rw c.in-NvIncrement.is (rw (c.by.ensures, c.second_index-in-NvIncrement.ensures) at (c.increment.ensures.answer c.args.nonce.now))
+returns-in-NvIncrement-clause-answer c =
+    rw c.in-NvIncrement.is (rw (c.by.ensures, c.second_index-in-NvIncrement.ensures) at (c.increment.ensures.answer c.args.nonce.now))
 
 pub returns-in-NvIncrement-clause-stands : goal.returns-in-NvIncrement-clause-stands
 returns-in-NvIncrement-clause-stands c =
-    let is : bodies.NvIncrement c.by.result c.second_index-in-NvIncrement.result ≡ body_from c.args.handles.now c.args.params.now = rw c.in-NvIncrement.is (ap (λ (a : NvAuthHandle). bodies.NvIncrement a c.second_index-in-NvIncrement.result) c.by.ensures ∙ ap (λ (i : ℕ). bodies.NvIncrement (nv_auth_in (first c.args.handles.now)) i) c.second_index-in-NvIncrement.ensures) in
-    subst (λ (b : CommandBody). OnOk c.increment.result (Steps c.args.self.now c.increment.new.self b c.increment.new.body c.args.nonce.now)) is (c.increment.ensures.stands c.args.nonce.now)
+    let is : bodies.NvIncrement c.by.result c.second_index-in-NvIncrement.result ≡ body_from c.args.handles.now c.args.params.now =
+    rw c.in-NvIncrement.is
+    (ap (λ (a : NvAuthHandle). bodies.NvIncrement a c.second_index-in-NvIncrement.result) c.by.ensures
+    ∙ ap (λ (i : ℕ). bodies.NvIncrement (nv_auth_in (first c.args.handles.now)) i) c.second_index-in-NvIncrement.ensures) in
+    subst (λ (b : CommandBody). OnOk c.increment.result (Steps c.args.self.now c.increment.new.self b c.increment.new.body c.args.nonce.now)) is
+    (c.increment.ensures.stands c.args.nonce.now)
 
 pub returns-in-NvRead-clause-answer : goal.returns-in-NvRead-clause-answer
-returns-in-NvRead-clause-answer c = rw c.in-NvRead.is (rw (c.by-in-NvRead.ensures, c.second_index-in-NvRead.ensures) at (c.read_counter.ensures c.args.nonce.now))
+returns-in-NvRead-clause-answer c =
+    rw c.in-NvRead.is (rw (c.by-in-NvRead.ensures, c.second_index-in-NvRead.ensures) at (c.read_counter.ensures c.args.nonce.now))
 
 pub returns-in-NvRead-clause-stands : goal.returns-in-NvRead-clause-stands
-returns-in-NvRead-clause-stands c = rw c.in-NvRead.is (always c.read_counter.result (unchanged c.args.self.now (body_from c.args.handles.now (params.NvRead c.in-NvRead.size c.in-NvRead.offset)) c.read_counter.new.body c.args.nonce.now refl refl (λ o h. refl) (λ nv. refl)))
+returns-in-NvRead-clause-stands c =
+    rw c.in-NvRead.is (always c.read_counter.result
+    (unchanged c.args.self.now (body_from c.args.handles.now (params.NvRead c.in-NvRead.size c.in-NvRead.offset)) c.read_counter.new.body c.args.nonce.now refl
+    refl (λ o h. refl) (λ nv. refl)))
 
 pub returns-in-NvReadPublic-clause-answer : goal.returns-in-NvReadPublic-clause-answer
 returns-in-NvReadPublic-clause-answer c = rw c.in-NvReadPublic.is (rw c.first_index.ensures at (c.read_public.ensures c.args.nonce.now))
 
 pub returns-in-NvReadPublic-clause-stands : goal.returns-in-NvReadPublic-clause-stands
-returns-in-NvReadPublic-clause-stands c = rw c.in-NvReadPublic.is (always c.read_public.result (unchanged c.args.self.now (body_from c.args.handles.now (params.NvReadPublic)) c.read_public.new.body c.args.nonce.now refl refl (λ o h. refl) (λ nv. refl)))
+returns-in-NvReadPublic-clause-stands c =
+    rw c.in-NvReadPublic.is
+    (always c.read_public.result
+    (unchanged c.args.self.now (body_from c.args.handles.now (params.NvReadPublic)) c.read_public.new.body c.args.nonce.now refl refl
+    (λ o h. refl) (λ nv. refl)))

@@ -7,4 +7,5 @@ use Rattle.tpm_device.proofs.device.Device.answer.Goals as goal
 pub returns-in_default-clause-answer : goal.returns-in_default-clause-answer
 returns-in_default-clause-answer c = λ o h st.
     let p = holds c.args.self.now in
-    reply_told (outcome p c.args.bytes.now c.args.nonce.now) c.outcome.new.out.items (own_done p c.args.bytes.now c.args.nonce.now) (c.in_default.ensures.answer o h st)
+    reply_told (outcome p c.args.bytes.now c.args.nonce.now) c.outcome.new.out.items (own_done p c.args.bytes.now c.args.nonce.now)
+    (c.in_default.ensures.answer o h st)

@@ -17,8 +17,10 @@ roll-requires-clause-loaded c = λ a others are is.
 pub returns : goal.returns
 returns c =
     let x = c.args.areas.now in
-    was_done c.args.self.now c.act.new.self c.roll.new.self x c.args.auth.now c.args.nonce.now (body_from x.handles c.args.params.now) c.act.new.body c.args.out.now c.put_done.new.out
-    c.requires.ready (code_again c.args.params.now x.handles ∙ c.requires.own) (rw c.handles.ensures at c.in_ok-act.ensures.answer) (rw c.handles.ensures at c.in_ok-act.ensures.stands)
+    was_done c.args.self.now c.act.new.self c.roll.new.self x c.args.auth.now c.args.nonce.now
+    (body_from x.handles c.args.params.now) c.act.new.body c.args.out.now c.put_done.new.out
+    c.requires.ready (code_again c.args.params.now x.handles ∙ c.requires.own) (rw c.handles.ensures at c.in_ok-act.ensures.answer)
+    (rw c.handles.ensures at c.in_ok-act.ensures.stands)
     c.put_done.ensures.bytes c.put_done.ensures.done c.roll.ensures
 
 pub returns-in_err-act : goal.returns-in_err-act

@@ -6,7 +6,8 @@ use Rattle.tpm_device.proofs.device.Device.performed_at_length.Goals as goal
 pub returns-in-Ok : goal.returns-in-Ok
 returns-in-Ok c =
     let params = c.decode_params_into.new.params in
-    with_params c.args.areas.now params (rw (← c.code.ensures, ← c.params.ensures.value) (sym c.decode_params_into.ensures.reads ∙ ap (placed params) c.in-Ok.is)) c.done.ensures
+    with_params c.args.areas.now params
+    (rw (← c.code.ensures, ← c.params.ensures.value) (sym c.decode_params_into.ensures.reads ∙ ap (placed params) c.in-Ok.is)) c.done.ensures
 
 pub returns-in-Err : goal.returns-in-Err
 returns-in-Err c =

@@ -4,8 +4,10 @@ use Rattle.tpm_device.proofs.device.Device.performed_extending.Goals as goal
 
 pub returns-in-Ok : goal.returns-in-Ok
 returns-in-Ok c =
-    with_params c.args.areas.now (of_command.PcrExtend c.decode_digests.new.digests) (rw (c.requires.extends, ← c.params.ensures.value) c.in-Ok.ensures) c.done_extending.ensures
+    with_params c.args.areas.now (of_command.PcrExtend c.decode_digests.new.digests)
+    (rw (c.requires.extends, ← c.params.ensures.value) c.in-Ok.ensures) c.done_extending.ensures
 
 pub returns-in-Err : goal.returns-in-Err
 returns-in-Err c =
-    without_params c.args.self.now c.args.areas.now c.args.nonce.now c.args.out.now c.in-Err.refusal (rw (c.requires.extends, ← c.params.ensures.value) c.in-Err.ensures)
+    without_params c.args.self.now c.args.areas.now c.args.nonce.now c.args.out.now c.in-Err.refusal
+    (rw (c.requires.extends, ← c.params.ensures.value) c.in-Err.ensures)

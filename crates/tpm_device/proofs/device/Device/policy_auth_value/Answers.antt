@@ -6,4 +6,5 @@ use Rattle.tpm_device.proofs.device.Device.policy_auth_value.Goals as goal
 
 pub returns-clause-stands : goal.returns-clause-stands
 returns-clause-stands c = λ n o h st.
-    sessions_change o h c.args.self.now (bodies.PolicyAuthValue c.args.session) replies.PolicyAuthValue n c.policy_auth_value.new.self st refl refl (λ nv. refl) (c.in_ok-policy_auth_value.ensures.asserted o h)
+    sessions_change o h c.args.self.now (bodies.PolicyAuthValue c.args.session) replies.PolicyAuthValue n c.policy_auth_value.new.self st refl refl (λ nv. refl)
+    (c.in_ok-policy_auth_value.ensures.asserted o h)

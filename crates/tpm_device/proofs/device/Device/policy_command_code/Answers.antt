@@ -6,4 +6,5 @@ use Rattle.tpm_device.proofs.device.Device.policy_command_code.Goals as goal
 
 pub returns-clause-stands : goal.returns-clause-stands
 returns-clause-stands c = λ n o h st.
-    sessions_change o h c.args.self.now (bodies.PolicyCommandCode c.args.session c.args.code) replies.PolicyCommandCode n c.policy_command_code.new.self st refl refl (λ nv. refl) (c.in_ok-policy_command_code.ensures.asserted o h)
+    sessions_change o h c.args.self.now (bodies.PolicyCommandCode c.args.session c.args.code) replies.PolicyCommandCode n c.policy_command_code.new.self st refl
+    refl (λ nv. refl) (c.in_ok-policy_command_code.ensures.asserted o h)

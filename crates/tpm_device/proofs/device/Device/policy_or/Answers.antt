@@ -6,4 +6,5 @@ use Rattle.tpm_device.proofs.device.Device.policy_or.Goals as goal
 
 pub returns-clause-stands : goal.returns-clause-stands
 returns-clause-stands c = λ n o h st.
-    sessions_change o h c.args.self.now (bodies.PolicyOr c.args.session c.args.digests.now) replies.PolicyOr n c.policy_or.new.self st refl refl (λ nv. refl) (c.in_ok-policy_or.ensures.asserted o h)
+    sessions_change o h c.args.self.now (bodies.PolicyOr c.args.session c.args.digests.now) replies.PolicyOr n c.policy_or.new.self st refl refl (λ nv. refl)
+    (c.in_ok-policy_or.ensures.asserted o h)

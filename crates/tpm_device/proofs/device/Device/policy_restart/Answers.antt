@@ -6,4 +6,5 @@ use Rattle.tpm_device.proofs.device.Device.policy_restart.Goals as goal
 
 pub returns-clause-stands : goal.returns-clause-stands
 returns-clause-stands c = λ n o h st.
-    sessions_change o h c.args.self.now (bodies.PolicyRestart c.args.session) replies.PolicyRestart n c.restart.new.self st refl refl (λ nv. refl) (c.in_ok-restart.ensures.restarted o h)
+    sessions_change o h c.args.self.now (bodies.PolicyRestart c.args.session) replies.PolicyRestart n c.restart.new.self st refl refl (λ nv. refl)
+    (c.in_ok-restart.ensures.restarted o h)

@@ -14,7 +14,8 @@ use Rattle.tpm_device.proofs.device.Device.put_bare.Goals as goal
 pub returns-in-None-clause-bytes : goal.returns-in-None-clause-bytes
 returns-in-None-clause-bytes c = λ body bare p e alike gives.
     c.put_bare_alone.ensures ∙ bare_bytes body [] bare ∙ ap (λ (auths : List AuthReply). reply_bytes (record { body = body; auths = auths }))
-    (sym (none_replied p c.args.areas.now e c.args.areas.now.header.code (reply_params body) c.args.nonce.now (no_auths c.args.areas.now.auths (sym c.in-None.is ∙ c.requires.own)) gives))
+    (sym (none_replied p c.args.areas.now e c.args.areas.now.header.code (reply_params body) c.args.nonce.now
+    (no_auths c.args.areas.now.auths (sym c.in-None.is ∙ c.requires.own)) gives))
 
 pub returns-in-None-clause-done : goal.returns-in-None-clause-done
 returns-in-None-clause-done c = ap code_in c.put_bare_alone.ensures ∙ reply_is_done any_bare _
@@ -38,4 +39,5 @@ returns-else-number-eq-RS_PW-clause-bytes c = λ body bare p e alike gives.
     let a = c.in-Some.auth in
     let split = first_auth c.args.areas.now.auths a (sym c.in-Some.is ∙ c.requires.own) in
     c.put_bare_signed.ensures.bytes p e split.0 (alike a split.0 split.1) split.1 gives ∙ bare_bytes body _ bare
-    ∙ ap (λ (params : List ℕ). reply_bytes (record { body = body; auths = reply_auths e c.args.areas.now.header.code params c.args.nonce.now })) (bare_params body bare)
+    ∙ ap (λ (params : List ℕ). reply_bytes (record { body = body; auths = reply_auths e c.args.areas.now.header.code params c.args.nonce.now }))
+    (bare_params body bare)

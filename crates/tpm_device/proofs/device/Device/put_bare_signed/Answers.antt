@@ -7,7 +7,9 @@ use Rattle.tpm_device.proofs.device.Device.put_bare_signed.Goals as goal
 
 pub returns-clause-bytes : goal.returns-clause-bytes
 returns-clause-bytes c = λ p e others alike are gives.
-    c.put_bare_sealed.ensures ∙ ap (λ (auths : List AuthReply). reply_bytes (record { body = any_bare; auths = auths })) (sym (c.reply_session-session.ensures p e others alike are gives))
+    c.put_bare_sealed.ensures
+    ∙ ap (λ (auths : List AuthReply). reply_bytes (record { body = any_bare; auths = auths }))
+    (sym (c.reply_session-session.ensures p e others alike are gives))
 
 pub returns-clause-done : goal.returns-clause-done
 returns-clause-done c = ap code_in c.put_bare_sealed.ensures ∙ reply_is_done any_bare _

@@ -18,9 +18,11 @@ returns-in-Some c = λ o h body reply replied none st.
     let auths = c.args.areas.now.auths in
     let split = first_auth auths c.in-Some.auth (sym c.in-Some.is ∙ c.requires.own) in
     let needs = needs_it (needs_authorization (code_for body)) auths c.in-Some.auth split.0 none split.1 in
-    subst (λ (x : List Auth). Stands o (Accepted (with_auths body x) (record { body = reply; auths = replied }) c.args.nonce.now ∷ h) c.roll_session.new.self) (sym split.1)
+    subst (λ (x : List Auth). Stands o (Accepted (with_auths body x) (record { body = reply; auths = replied }) c.args.nonce.now ∷ h) c.roll_session.new.self)
+    (sym split.1)
     (c.roll_session.ensures o h body reply replied split.0 needs st)
 
 pub returns-in-None : goal.returns-in-None
 returns-in-None c = λ o h body reply replied none st.
-    subst (λ (x : List Auth). Stands o (Accepted (with_auths body x) (record { body = reply; auths = replied }) c.args.nonce.now ∷ h) c.args.self.now) (sym (no_auths c.args.areas.now.auths (sym c.in-None.is ∙ c.requires.own))) st
+    subst (λ (x : List Auth). Stands o (Accepted (with_auths body x) (record { body = reply; auths = replied }) c.args.nonce.now ∷ h) c.args.self.now)
+    (sym (no_auths c.args.areas.now.auths (sym c.in-None.is ∙ c.requires.own))) st

@@ -18,7 +18,8 @@ returns-in-Some c = λ o h body reply replied others needs st.
     let n = c.args.nonce.now in
     let it = named_session a.session c.in-Some.session c.in-Some.ensures in
     with_sessions o h d (record d { sessions = c.roll.new.self }) body reply (a ∷ others) replied n st refl refl refl refl
-    (c.roll.ensures o h (with_auths body (a ∷ others)) (record { body = reply; auths = replied }) a others refl (sym it.0) (sym (c.continues.ensures ∙ ap continues c.attrs.ensures)) needs
+    (c.roll.ensures o h (with_auths body (a ∷ others)) (record { body = reply; auths = replied }) a others refl (sym it.0)
+    (sym (c.continues.ensures ∙ ap continues c.attrs.ensures)) needs
     (its_sessions o (step_of body reply n ∷ h) d st ∙ sessions_stay o h body reply n needs))
 
 pub returns-in-None : goal.returns-in-None

@@ -12,4 +12,5 @@ returns-clause-stands c = λ o h st.
     let body = bodies.StartAuthSession c.args.start.now in
     let reply = replies.StartAuthSession c.in_ok-reply.reply in
     one_more o h d (record d { sessions = c.start.new.self }) body reply c.args.nonce.now st refl refl (its_registers o h d st)
-    (c.in_ok-reply.ensures.started o h (with_auths body []) (record { body = reply; auths = [] }) (λ bound. ap trim (c.as_slice.ensures.value ∙ its_owner o h d st)) refl refl refl (its_sessions o h d st)) refl
+    (c.in_ok-reply.ensures.started o h (with_auths body []) (record { body = reply; auths = [] })
+    (λ bound. ap trim (c.as_slice.ensures.value ∙ its_owner o h d st)) refl refl refl (its_sessions o h d st)) refl

@@ -9,7 +9,8 @@ use Rattle.tpm_script.proofs.script.Run.take.Goals as goal
 
 pub returns-then-byte-eq10 : goal.returns-then-byte-eq10
 returns-then-byte-eq10 c =
-    rw c.if-byte-eq10.true (IfOk-weaker c.end_line.result _ _ (λ status ended. takes_feed c.args.self.now c.end_line.new.self _ status c.requires.open ended) c.end_line.ensures)
+    rw c.if-byte-eq10.true (IfOk-weaker c.end_line.result _ _
+    (λ status ended. takes_feed c.args.self.now c.end_line.new.self _ status c.requires.open ended) c.end_line.ensures)
 
 pub returns-then-len-ge-MOST_DIGITS : goal.returns-then-len-ge-MOST_DIGITS
 returns-then-len-ge-MOST_DIGITS c =

@@ -11,4 +11,6 @@ pub returns : goal.returns
 returns c =
     let split = nonempty c.args.auths.now c.index-auths-0.result c.requires c.index-auths-0.is in
     c.authorize_first.ensures split.0 (ap (λ (auths : List Auth). length auths) split.1)
-    ∙ ap (λ (auths : List Auth). authorize (first_loaded (loaded c.args.self.now) auths) (entity_in c.args.entity.now) c.args.command c.args.names.now c.args.params.now c.args.counter auths) (sym split.1)
+    ∙ ap (λ (auths : List Auth).
+    authorize (first_loaded (loaded c.args.self.now) auths) (entity_in c.args.entity.now) c.args.command c.args.names.now c.args.params.now
+    c.args.counter auths) (sym split.1)

@@ -8,5 +8,6 @@ pub returns : goal.returns
 returns c =
     let change = option_map restarted in
     slot_changed change c.index-self-slot_of.result c.restart.new.slot c.slot_of.result c.args.session c.self.inside.slots _
-    refl (c.restart.ensures ∙ rw (← c.index-self-slot_of.is) refl) c.index-self-slot_of.is (c.slot_of.ensures ∙ ap slot_of c.any_session.ensures) (rw c.self.view_is c.requires)
+    refl (c.restart.ensures ∙ rw (← c.index-self-slot_of.is) refl) c.index-self-slot_of.is (c.slot_of.ensures ∙ ap slot_of c.any_session.ensures)
+    (rw c.self.view_is c.requires)
     ∙ ap (with_slot (slot_of c.args.session) change) c.self.view_is

@@ -10,4 +10,5 @@ loop-byte-preserved c =
     let piece = c.args.piece.now in
     let within : i < length piece = omega arith in
     rw (take_more piece i 0)
-    (takes_both (take i piece) (get_or piece i 0 ∷ []) c.args.self.now c.loop-byte.self c.take.new.self _ _ _ (joins_texts _ _ _) c.loop-byte.invariant c.in_ok-take.ensures)
+    (takes_both (take i piece) (get_or piece i 0 ∷ []) c.args.self.now c.loop-byte.self c.take.new.self _ _ _ (joins_texts _ _ _) c.loop-byte.invariant
+    c.in_ok-take.ensures)

@@ -12,7 +12,8 @@ returns-then-not-may-clause-answer c =
     let found = entry_found i c.in-Some.k c.as_slice.result.now c.as_slice-2.result.now c.self.inside.counters.items c.index-as_slice-k.result _
     c.as_slice.ensures.value c.as_slice-2.ensures.value c.in-Some.ensures.some c.index-as_slice-k.is c.counter.view_is in
     let is : c.may.result ≡ false = search rules in
-    let refused : may c.args.by (owner_writes c.counter.inside.public.attrs) i ≡ false = sym (c.may.ensures ∙ ap (λ b. may c.args.by b i) c.owner_writes.ensures) ∙ is in
+    let refused : may c.args.by (owner_writes c.counter.inside.public.attrs) i ≡ false =
+    sym (c.may.ensures ∙ ap (λ b. may c.args.by b i) c.owner_writes.ensures) ∙ is in
     rw (← c.self.view_is, found, refused) refl
 
 pub returns-in_default-raised-clause-answer : goal.returns-in_default-raised-clause-answer
@@ -21,7 +22,8 @@ returns-in_default-raised-clause-answer c =
     let found = entry_found i c.in-Some.k c.as_slice.result.now c.as_slice-2.result.now c.self.inside.counters.items c.index-as_slice-k.result _
     c.as_slice.ensures.value c.as_slice-2.ensures.value c.in-Some.ensures.some c.index-as_slice-k.is c.counter.view_is in
     let is : c.may.result ≡ true = search rules in
-    let allowed : may c.args.by (owner_writes c.counter.inside.public.attrs) i ≡ true = sym (c.may.ensures ∙ ap (λ b. may c.args.by b i) c.owner_writes.ensures) ∙ is in
+    let allowed : may c.args.by (owner_writes c.counter.inside.public.attrs) i ≡ true =
+    sym (c.may.ensures ∙ ap (λ b. may c.args.by b i) c.owner_writes.ensures) ∙ is in
     let past = not_raised c.self.inside.greatest c.counter.inside.value (sym c.in_default-raised.is ∙ c.raised.ensures) in
     rw (← c.self.view_is, found, allowed, past) refl
 
@@ -31,7 +33,8 @@ returns-clause-answer c =
     let found = entry_found i c.in-Some.k c.as_slice.result.now c.as_slice-2.result.now c.self.inside.counters.items c.index-as_slice-k.result _
     c.as_slice.ensures.value c.as_slice-2.ensures.value c.in-Some.ensures.some c.index-as_slice-k.is c.counter.view_is in
     let is : c.may.result ≡ true = search rules in
-    let allowed : may c.args.by (owner_writes c.counter.inside.public.attrs) i ≡ true = sym (c.may.ensures ∙ ap (λ b. may c.args.by b i) c.owner_writes.ensures) ∙ is in
+    let allowed : may c.args.by (owner_writes c.counter.inside.public.attrs) i ≡ true =
+    sym (c.may.ensures ∙ ap (λ b. may c.args.by b i) c.owner_writes.ensures) ∙ is in
     let raised = raised_to c.self.inside.greatest c.counter.inside.value c.in-Some-raised.value (sym c.in-Some-raised.is ∙ c.raised.ensures) in
     rw (← c.self.view_is, found, allowed, raised.0) (ap Ok raised.1)
 
@@ -46,6 +49,7 @@ returns-clause-incremented c =
     let long : length c.write.new.counters ≡ length items = c.write.auto.counters ∙ ap length third in
     rw (← c.self.view_is, found) (same_memory _ _ _ _ _
     (items-with_items c.self.inside.counters c.write.new.counters long
-    ∙ increment_is i c.in-Some.k greatest c.in-Some-raised.value one two three items c.write.new.counters r first second third c.in-Some.ensures.some c.index-as_slice-k.is
+    ∙ increment_is i c.in-Some.k greatest c.in-Some-raised.value one two three items c.write.new.counters r first second third c.in-Some.ensures.some
+    c.index-as_slice-k.is
     (raised.1 ∙ ap (λ (x : Counter). next_value greatest x.value) c.counter.view_is) wrote)
     (c.max-self-inside.ensures ∙ ap (max greatest) raised.1) refl)

@@ -8,4 +8,5 @@ use Rattle.tpm_store.proofs.registers.Registers.reset.Goals as goal
 pub returns-clause-reset : goal.returns-clause-reset
 returns-clause-reset c = λ cs was.
     let q = c.args.register in let old = c.self.inside.bytes in let new = c.fill_each.new.bytes in let n = c.self.inside.updates in
-    stands (Reset q) cs c.args.self.now old new n ((n + 1) % 4294967296) c.self.view_is was (reset_is q old new (rw c.number-number.ensures.value at c.fill_each.ensures)) (next_count n (updates cs))
+    stands (Reset q) cs c.args.self.now old new n ((n + 1) % 4294967296) c.self.view_is was
+    (reset_is q old new (rw c.number-number.ensures.value at c.fill_each.ensures)) (next_count n (updates cs))

@@ -4,4 +4,13 @@ use Rattle.tpm_types.proofs.tpms.NvPublic.known_area.Goals as goal
 
 pub returns : goal.returns
 unfolding nv_public_area
-returns c left = (c.has_spelling.ensures.fits _, (c.has_spelling-2.ensures.fits _, (c.has_spelling-3.ensures.fits _, (c.has_spelling-4.ensures.fits _, (c.has_spelling-5.ensures.fits 0, refl)))))
+returns c left = (
+  c.has_spelling.ensures.fits _,
+  (
+    c.has_spelling-2.ensures.fits _,
+    (
+      c.has_spelling-3.ensures.fits _,
+      (c.has_spelling-4.ensures.fits _, (c.has_spelling-5.ensures.fits 0, refl)),
+    ),
+  ),
+)

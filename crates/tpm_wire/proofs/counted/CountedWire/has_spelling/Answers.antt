@@ -7,5 +7,6 @@ use Rattle.tpm_wire.proofs.counted.CountedWire.has_spelling.Goals as goal
 pub returns-clause-fits : goal.returns-clause-fits
 unfolding counted
 returns-clause-fits g c left =
-    let each : All (IsSpelled g.T.Wire.layout) c.args.self.now = subst (All (IsSpelled g.T.Wire.layout)) (c.as_slice.ensures.value ∙ c.self.view_is) c.known_list.ensures in
+    let each : All (IsSpelled g.T.Wire.layout) c.args.self.now =
+    subst (All (IsSpelled g.T.Wire.layout)) (c.as_slice.ensures.value ∙ c.self.view_is) c.known_list.ensures in
     ((search rules, search rules), fit_list g.T.Wire.layout false (length c.args.self.now) (left - 4) [] c.args.self.now each (omega arith) (inl refl))

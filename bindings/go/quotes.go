@@ -1,0 +1,160 @@
+package vinjakwe
+
+/*
+#include "vinjakwe.h"
+*/
+import "C"
+
+import (
+	"encoding/binary"
+	"fmt"
+	"strconv"
+	"strings"
+)
+
+// The banks in the order in which a selection has them.
+var hashes = [...]Hash{SHA1, SHA256, SHA384}
+
+// registersOf are the registers of a list as "0,7" or "all", as the bits of three bytes.
+func registersOf(list string) (bits uint32, known bool) {
+	if list == "all" {
+		return 1<<24 - 1, true
+	}
+	for _, word := range strings.Split(list, ",") {
+		register, err := strconv.ParseUint(word, 10, 8)
+		if err != nil || register > 23 {
+			return 0, false
+		}
+		bits |= 1 << register
+	}
+	return bits, true
+}
+
+// Selection is the TPML_PCR_SELECTION of registers as tpm2-tools list them, "sha1:7+sha256:0,1,2" or "sha256:all", or ErrList.
+func Selection(text string) ([]byte, error) {
+	bits := map[Hash]uint32{}
+	for _, part := range strings.Split(text, "+") {
+		name, list, _ := strings.Cut(part, ":")
+		found, known := registersOf(list)
+		bank := Hash(0)
+		for _, hash := range hashes {
+			if hash.String() == name {
+				bank = hash
+			}
+		}
+		if bank == 0 || !known {
+			return nil, fmt.Errorf("%w: %q", ErrList, part)
+		}
+		bits[bank] |= found
+	}
+	spelled := binary.BigEndian.AppendUint32(nil, uint32(len(hashes)))
+	for _, hash := range hashes {
+		spelled = binary.BigEndian.AppendUint16(spelled, uint16(hash))
+		spelled = append(spelled, 3, byte(bits[hash]), byte(bits[hash]>>8), byte(bits[hash]>>16))
+	}
+	return spelled, nil
+}
+
+// A SelectedBank is an entry of a quote's selection: its bank, and the registers that are selected there.
+type SelectedBank struct {
+	Bank      Hash
+	Registers []int
+}
+
+// An Attest is a quote as it was signed, a TPMS_ATTEST, by its parts, which are lent from the bytes that were decoded: who signed, the
+// nonce, the clock in milliseconds, how often the TPM was reset and restarted, whether the clock is safe, the firmware's version, and
+// the registers. Info is its TPMS_QUOTE_INFO whole, and Digest the digest in it.
+type Attest struct {
+	Signer, Nonce    []byte
+	Clock            uint64
+	Resets, Restarts uint32
+	Safe             bool
+	Firmware         uint64
+	Selections       []SelectedBank
+	Digest, Info     []byte
+}
+
+// DecodeAttest gives the quote as it was signed that all the bytes spell, or a *Refusal.
+func DecodeAttest(bytes []byte) (*Attest, error) {
+	var it C.struct_tpm_attest
+	var refusal C.struct_tpm_refusal
+	answer := C.tpm_attest_decode(place(bytes), size(bytes), &it, &refusal)
+	if err := judged(answer, &refusal); err != nil {
+		return nil, err
+	}
+	attest := &Attest{
+		Signer: part(bytes, it.signer), Nonce: part(bytes, it.nonce), Clock: uint64(it.clock), Resets: uint32(it.reset_count),
+		Restarts: uint32(it.restart_count), Safe: it.safe != 0, Firmware: uint64(it.firmware_version),
+		Digest: part(bytes, it.digest), Info: bytes[it.selections.at:],
+	}
+	for entry := part(bytes, it.selections)[4:]; len(entry) >= 6; entry = entry[6:] {
+		selected := SelectedBank{Bank: Hash(binary.BigEndian.Uint16(entry))}
+		for i := 0; i < 24; i++ {
+			if entry[3+i/8]>>(i%8)&1 != 0 {
+				selected.Registers = append(selected.Registers, i)
+			}
+		}
+		attest.Selections = append(attest.Selections, selected)
+	}
+	return attest, nil
+}
+
+// A Policy is the digest of a policy in a hash, without a device (Part 1, "Enhanced Authorization"; Part 3, 23). Where a call gives an
+// error, nothing changes. NewPolicy makes one.
+type Policy struct {
+	policy C.struct_tpm_policy
+	size   int
+}
+
+// NewPolicy makes a policy that asserts nothing, in this hash, or gives ErrNoBank.
+func NewPolicy(hash Hash) (*Policy, error) {
+	it := &Policy{size: banks[hash].size}
+	if C.tpm_policy_start(&it.policy, C.uint16_t(hash)) != C.TPM_DONE {
+		return nil, ErrNoBank
+	}
+	return it, nil
+}
+
+// Digest is what an object with this policy has as its authPolicy.
+func (p *Policy) Digest() []byte {
+	digest := make([]byte, p.size)
+	for i := range digest {
+		digest[i] = byte(p.policy.digest[i])
+	}
+	return digest
+}
+
+// String is the hash and the digest in hexadecimal.
+func (p *Policy) String() string { return fmt.Sprintf("%v %x", Hash(p.policy.hash), p.Digest()) }
+
+// Restart is TPM2_PolicyRestart: nothing is asserted any more.
+func (p *Policy) Restart() { C.tpm_policy_restart(&p.policy) }
+
+// PCR is TPM2_PolicyPCR: the registers of a TPML_PCR_SELECTION have values with this digest. The error is a *Refusal of the selection,
+// or ErrDigest.
+func (p *Policy) PCR(selection, digest []byte) error {
+	var refusal C.struct_tpm_refusal
+	answer := C.tpm_policy_pcr(&p.policy, place(selection), size(selection), place(digest), size(digest), &refusal)
+	if answer == C.TPM_POLICY_NO_DIGEST {
+		return ErrDigest
+	}
+	return judged(answer, &refusal)
+}
+
+// Or is TPM2_PolicyOR: the policy is one of those with these 2 to 8 digests. The error is a *Refusal of another list.
+func (p *Policy) Or(digests ...[]byte) error {
+	var refusal C.struct_tpm_refusal
+	spelled := binary.BigEndian.AppendUint32(nil, uint32(len(digests)))
+	for _, digest := range digests {
+		spelled = append(binary.BigEndian.AppendUint16(spelled, uint16(len(digest))), digest...)
+	}
+	return judged(C.tpm_policy_or(&p.policy, place(spelled), size(spelled), &refusal), &refusal)
+}
+
+// CommandCode is TPM2_PolicyCommandCode: the command is the one of this number.
+func (p *Policy) CommandCode(command uint32) {
+	C.tpm_policy_command_code(&p.policy, C.uint32_t(command))
+}
+
+// AuthValue is TPM2_PolicyAuthValue: the authorization value of the entity is known.
+func (p *Policy) AuthValue() { C.tpm_policy_auth_value(&p.policy) }

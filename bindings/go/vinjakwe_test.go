@@ -1,0 +1,164 @@
+package vinjakwe
+
+import (
+	"bytes"
+	"encoding/hex"
+	"errors"
+	"fmt"
+	"os"
+	"strings"
+	"testing"
+)
+
+const checks = "../../checks/"
+
+func read(t *testing.T, name string) []byte {
+	t.Helper()
+	found, err := os.ReadFile(checks + name)
+	if err != nil {
+		t.Fatal(err)
+	}
+	return found
+}
+
+type signedQuote struct {
+	log, quote, nonce []byte
+	selected          string
+	hash              Hash
+}
+
+func quotes(t *testing.T) (found []signedQuote) {
+	t.Helper()
+	for _, line := range strings.Split(strings.TrimSpace(string(read(t, "quotes/cases.txt"))), "\n") {
+		words := strings.Fields(line)
+		nonce, err := hex.DecodeString(words[3])
+		if err != nil {
+			t.Fatal(err)
+		}
+		it := signedQuote{read(t, "quotes/"+words[1]), read(t, "quotes/"+words[0]+".msg"), nonce, words[4], 0}
+		for _, hash := range hashes {
+			if hash.String() == words[2] {
+				it.hash = hash
+			}
+		}
+		found = append(found, it)
+	}
+	return found
+}
+
+func TestRegistersOfALog(t *testing.T) {
+	log := read(t, "logs/worked.log")
+	registers, err := Replay(log)
+	if err != nil {
+		t.Fatal(err)
+	}
+	var lines strings.Builder
+	for _, hash := range hashes {
+		for i := 0; i < 24; i++ {
+			fmt.Fprintf(&lines, "%v %d %x\n", hash, i, registers.Value(hash, i))
+		}
+	}
+	if lines.String() != string(read(t, "logs/worked.registers")) {
+		t.Error("the registers are others")
+	}
+	if again, err := ReplayFrom(bytes.NewReader(log)); err != nil || *again != *registers {
+		t.Error("the registers of a reader are others", err)
+	}
+}
+
+func TestFaultOfALogThatIsCut(t *testing.T) {
+	var fault *LogFault
+	if _, err := Replay(read(t, "logs/cut_by_a_byte.log")); !errors.As(err, &fault) || *fault != (LogFault{"Truncated", 211}) {
+		t.Error(err)
+	}
+}
+
+func TestEachQuoteMatchesItsLog(t *testing.T) {
+	for _, it := range quotes(t) {
+		require, err := Selection(it.selected)
+		if err != nil {
+			t.Fatal(err)
+		}
+		if verdict, _, err := Check(it.log, it.quote, it.nonce, require, it.hash); verdict != Matches || err != nil {
+			t.Error(verdict, err)
+		}
+		if verdict, _, err := Check(it.log, it.quote, append(it.nonce, 0), require, it.hash); verdict != Nonce || err != nil {
+			t.Error(verdict, err)
+		}
+		attest, err := DecodeAttest(it.quote)
+		if err != nil {
+			t.Fatal(err)
+		}
+		if !bytes.Equal(attest.Nonce, it.nonce) {
+			t.Errorf("nonce %x", attest.Nonce)
+		}
+		if matches, err := CheckQuote(it.log, attest.Info, it.hash); !matches || err != nil {
+			t.Error(matches, err)
+		}
+		if _, err := CheckQuote(it.log, it.quote, it.hash); !errors.Is(err, ErrAttest) {
+			t.Error(err)
+		}
+	}
+}
+
+func TestListsOfRegisters(t *testing.T) {
+	spelled, err := Selection("sha256:0,7+sha1:1")
+	if err != nil || hex.EncodeToString(spelled) != "00000003000403020000000b03810000000c03000000" {
+		t.Errorf("%x %v", spelled, err)
+	}
+	for _, text := range []string{"", "sha256", "sha256:", "sha256:24", "sha256:-1", "md5:0", "sha256:0+", "sha256:0,"} {
+		if _, err := Selection(text); !errors.Is(err, ErrList) {
+			t.Errorf("%q: %v", text, err)
+		}
+	}
+}
+
+// As in examples/policy.c: the digests are those of Python's hashlib.
+func TestDigestOfAPolicy(t *testing.T) {
+	selected, _ := hex.DecodeString("00000001000b03810000")
+	composite, _ := hex.DecodeString("f5a5fd42d16a20302798ef6ed309979b43003d2320d9f0e8ea9831a92759fb4b")
+	policy, _ := NewPolicy(SHA256)
+	known, _ := NewPolicy(SHA256)
+	if err := policy.PCR(selected, composite); err != nil {
+		t.Fatal(err)
+	}
+	policy.CommandCode(Commands["NV_Increment"])
+	known.AuthValue()
+	if err := policy.Or(policy.Digest(), known.Digest()); err != nil {
+		t.Fatal(err)
+	}
+	if policy.String() != "sha256 0cbc8809e81cb16ff30999fbee7e2683f52d23fb11af4cc3636eca86dfb154cf" {
+		t.Error(policy)
+	}
+	before := policy.String()
+	var refusal *Refusal
+	if err := policy.Or(policy.Digest()); !errors.As(err, &refusal) || policy.String() != before {
+		t.Error(err, policy)
+	}
+	if err := policy.PCR(selected, composite[1:]); err != ErrDigest || policy.String() != before {
+		t.Error(err, policy)
+	}
+	policy.Restart()
+	if !bytes.Equal(policy.Digest(), make([]byte, 32)) {
+		t.Error(policy)
+	}
+	if _, err := NewPolicy(5); err != ErrNoBank {
+		t.Error(err)
+	}
+}
+
+func TestADeviceStartsOnce(t *testing.T) {
+	device, err := NewDevice(nil, 0)
+	if err != nil {
+		t.Fatal(err)
+	}
+	startup, _ := hex.DecodeString("80010000000c000001440000")
+	for _, wanted := range []string{"80010000000a00000000", "80010000000a00000100"} {
+		if reply, err := device.Execute(startup, make([]byte, NonceBytes)); err != nil || hex.EncodeToString(reply) != wanted {
+			t.Errorf("%x %v", reply, err)
+		}
+	}
+	if _, err := device.Execute(startup, make([]byte, NonceBytes-1)); err != ErrNonce {
+		t.Error(err)
+	}
+}

@@ -1,0 +1,147 @@
+"""What the package answers, beside hashlib and the logs and quotes of the repository: `python -m unittest` in bindings/python."""
+import copy
+import hashlib
+import pickle
+import sys
+import unittest
+from concurrent.futures import ThreadPoolExecutor
+from pathlib import Path
+
+import vinjakwe as v
+
+CHECKS = Path(__file__).resolve().parents[3] / "checks"
+LOG = CHECKS / "logs" / "worked.log"
+
+
+def registers_of(path):
+    found = {}
+    for line in path.read_text().splitlines():
+        bank, _, value = line.split()
+        found.setdefault(bank, []).append(bytes.fromhex(value))
+    return {bank: tuple(values) for bank, values in found.items()}
+
+
+def quotes():
+    for line in (CHECKS / "quotes" / "cases.txt").read_text().splitlines():
+        name, log, hash, nonce, selected = line.split()
+        yield (CHECKS / "quotes" / log).read_bytes(), (CHECKS / "quotes" / f"{name}.msg").read_bytes(), bytes.fromhex(nonce), selected, hash
+
+
+class Logs(unittest.TestCase):
+    def test_registers_of_bytes_of_a_path_and_of_a_file(self):
+        wanted = registers_of(LOG.with_suffix(".registers"))
+        for log in LOG, str(LOG), LOG.read_bytes(), bytearray(LOG.read_bytes()), memoryview(LOG.read_bytes()):
+            self.assertEqual(v.replay(log), wanted)
+        with open(LOG, "rb") as file:
+            self.assertEqual(v.replay(file), wanted)
+
+    def test_events_of_bytes_of_a_path_and_of_a_file(self):
+        wanted = list(v.events(LOG.read_bytes()))
+        self.assertEqual(list(v.events(LOG)), wanted)
+        with open(LOG, "rb") as file:
+            self.assertEqual(list(v.events(file)), wanted)
+        for event in wanted:
+            for name in event.hashed:
+                self.assertEqual(hashlib.new(name, event.data).digest(), event.digests[name])
+
+    def test_fault_of_a_log_that_is_cut(self):
+        with self.assertRaises(v.LogFault) as caught:
+            v.replay(LOG.with_name("cut_by_a_byte.log"))
+        self.assertEqual((caught.exception.kind, caught.exception.at), ("Truncated", 211))
+
+    def test_threads_over_one_log(self):
+        logs = [LOG.read_bytes()] * 64
+        with ThreadPoolExecutor(4) as pool:
+            self.assertEqual(list(pool.map(v.replay, logs)), [v.replay(LOG)] * 64)
+
+
+class Quotes(unittest.TestCase):
+    def test_each_quote_matches_its_log(self):
+        for log, quote, nonce, selected, hash in quotes():
+            self.assertTrue(v.check(log, quote, nonce, selected, hash))
+            self.assertTrue(v.check(log, quote, nonce, v.selection(selected), hash))
+            self.assertTrue(v.check_quote(log, v.decode_attest(quote).info, hash))
+
+    def test_another_nonce(self):
+        for log, quote, nonce, selected, hash in quotes():
+            self.assertIs(v.check(log, quote, nonce + b"\0", selected, hash).kind, v.Kind.NONCE)
+
+    def test_a_register_that_is_not_selected(self):
+        for log, quote, nonce, _, hash in quotes():
+            verdict = v.check(log, quote, nonce, "sha384:9", hash)
+            self.assertEqual(verdict, (v.Kind.LACKS, "sha384", 9))
+            self.assertFalse(verdict)
+
+    def test_a_whole_attest_is_not_a_quotes_information(self):
+        for log, quote, _, _, hash in quotes():
+            with self.assertRaisesRegex(ValueError, "TPMS_ATTEST"):
+                v.check_quote(log, quote, hash)
+
+
+class Faults(unittest.TestCase):
+    def test_faults_are_pickled_and_copied(self):
+        for fault in v.Refusal(0x1C4, 10), v.LogFault(1, 211), v.BrokenStream([b"frame"]):
+            for made in pickle.loads(pickle.dumps(fault)), copy.copy(fault):
+                self.assertEqual((type(made), str(made), vars(made)), (type(fault), str(fault), vars(fault)))
+
+    def test_position_and_name_of_a_refusal(self):
+        with self.assertRaises(v.Refusal) as caught:
+            v.decode_command(bytes.fromhex("80010000000c000001440002"))
+        self.assertEqual((caught.exception.code, caught.exception.at), (0x1C4, 10))
+        self.assertEqual(caught.exception.name, "TPM_RC_VALUE for parameter 1")
+
+
+class Policies(unittest.TestCase):
+    def test_digests_by_hashlib(self):
+        for name in v.HASHES:
+            def extended(old, data):
+                return hashlib.new(name, old + data).digest()
+            zeros = bytes(hashlib.new(name).digest_size)
+            composite = hashlib.new(name, b"registers").digest()
+            policy = v.Policy(name)
+            self.assertEqual(policy.digest, zeros)
+            policy.pcr("sha256:0,7", composite)
+            wanted = extended(zeros, bytes.fromhex("0000017f") + v.selection("sha256:0,7") + composite)
+            self.assertEqual(policy.digest, wanted)
+            policy.command_code("NV_Increment")
+            wanted = extended(wanted, bytes.fromhex("0000016c00000134"))
+            self.assertEqual(policy.digest, wanted)
+            policy.auth_value()
+            wanted = extended(wanted, bytes.fromhex("0000016b"))
+            self.assertEqual(policy.digest, wanted)
+            policy.any_of([wanted, zeros])
+            self.assertEqual(policy.digest, extended(zeros, bytes.fromhex("00000171") + wanted + zeros))
+            policy.restart()
+            self.assertEqual(policy.digest, zeros)
+
+    def test_refusals_change_nothing(self):
+        policy = v.Policy()
+        policy.auth_value()
+        before = policy.digest
+        for call in (lambda: policy.pcr(b"\0", bytes(32)), lambda: policy.pcr("sha256:0", bytes(31)), lambda: policy.any_of([before])):
+            self.assertRaises(ValueError, call)
+            self.assertEqual(policy.digest, before)
+        self.assertRaises(ValueError, v.Policy, "md5")
+
+
+class Devices(unittest.TestCase):
+    def test_a_device_starts_once(self):
+        device, startup = v.Device(), bytes.fromhex("80010000000c000001440000")
+        self.assertEqual(device.execute(startup).hex(), "80010000000a00000000")
+        self.assertEqual(device.execute(startup).hex(), "80010000000a00000100")
+        device.power_cycle()
+        self.assertEqual(device.execute(startup).hex(), "80010000000a00000000")
+
+    def test_a_nonce_of_another_length_is_refused(self):
+        for nonce in b"", bytes(63), bytes(65):
+            self.assertRaises(ValueError, v.Device().execute, b"", nonce)
+
+
+class Names(unittest.TestCase):
+    def test_each_public_name_is_there(self):
+        for name in v.__all__:
+            self.assertTrue(hasattr(v, name), name)
+
+
+if __name__ == "__main__":
+    sys.exit(unittest.main())

@@ -1,0 +1,112 @@
+//! The crate over the repository's logs and quotes.
+use std::fmt::Write;
+use std::fs;
+use vinjakwe::{
+    check, check_quote, check_version, events, replay, Attest, Bank, Device, Fault, LogFault, Policy, Replay, Room, Selection, Verdict,
+    BUFFER_BYTES, NONCE_BYTES,
+};
+
+fn read(name: &str) -> Vec<u8> {
+    fs::read(format!("{}/../../checks/{name}", env!("CARGO_MANIFEST_DIR"))).expect("a file of the repository")
+}
+
+fn unhex(text: &str) -> Vec<u8> {
+    text.as_bytes().chunks(2).map(|it| u8::from_str_radix(std::str::from_utf8(it).unwrap(), 16).unwrap()).collect()
+}
+
+#[test]
+fn the_library_has_this_version() {
+    check_version().unwrap();
+}
+
+#[test]
+fn registers_of_a_log() {
+    let log = read("logs/worked.log");
+    let registers = replay(&log).unwrap();
+    let mut lines = String::new();
+    for bank in Bank::ALL {
+        for i in 0..24 {
+            write!(lines, "{bank} {i} ").unwrap();
+            registers.value(bank, i).unwrap().iter().for_each(|byte| write!(lines, "{byte:02x}").unwrap());
+            lines.push('\n');
+        }
+    }
+    assert_eq!(lines.as_bytes(), read("logs/worked.registers"));
+    let mut room = Room::new();
+    let mut pieces = Replay::new(&mut room).unwrap();
+    log.chunks(7).for_each(|piece| pieces.feed(piece).unwrap());
+    assert_eq!(pieces.end().unwrap(), registers);
+    assert!(events(&log).all(|it| it.is_ok()));
+}
+
+#[test]
+fn fault_of_a_log_that_is_cut() {
+    let fault = replay(&read("logs/cut_by_a_byte.log")).unwrap_err();
+    assert_eq!(fault, Fault::Log(LogFault { kind: "Truncated", at: 211 }));
+    assert_eq!(fault.to_string(), "log Truncated at 211");
+}
+
+#[test]
+fn each_quote_matches_its_log() {
+    for line in String::from_utf8(read("quotes/cases.txt")).unwrap().lines() {
+        let [quote, log, hash, nonce, selected] = line.split(' ').collect::<Vec<_>>()[..] else { panic!("{line}") };
+        let (quote, log, mut nonce) = (read(&format!("quotes/{quote}.msg")), read(&format!("quotes/{log}")), unhex(nonce));
+        let bank = Bank::ALL.into_iter().find(|it| it.name() == hash).unwrap();
+        let require = Selection::of(selected).unwrap();
+        assert_eq!(check(&log, &quote, &nonce, require.as_bytes(), bank), Ok(Verdict::Matches));
+        let attest = Attest::decode(&quote).unwrap();
+        assert_eq!(attest.nonce, nonce);
+        let listed: Vec<String> = attest.selections().map(|(bank, registers)| {
+            format!("{bank}:{}", registers.map(|it| it.to_string()).collect::<Vec<_>>().join(","))
+        }).collect();
+        assert_eq!(Selection::of(&listed.join("+")), Some(require));
+        assert_eq!(check_quote(&log, attest.info, bank), Ok(true));
+        assert_eq!(check_quote(&log, &quote, bank), Err(Fault::Attest));
+        nonce.push(0);
+        assert_eq!(check(&log, &quote, &nonce, require.as_bytes(), bank).unwrap().to_string(), "nonce differs");
+    }
+}
+
+#[test]
+fn lists_of_registers() {
+    let spelled = unhex("00000003000403020000000b03810000000c03000000");
+    assert_eq!(Selection::of("sha256:0,7+sha1:1").unwrap().as_bytes(), spelled);
+    for text in ["", "sha256", "sha256:", "sha256:24", "sha256:+1", "md5:0", "sha256:0+", "sha256:0,"] {
+        assert_eq!(Selection::of(text), None, "{text}");
+    }
+}
+
+// As in examples/policy.c: the digests are those of Python's hashlib.
+#[test]
+fn digest_of_a_policy() {
+    let selected = unhex("00000001000b03810000");
+    let composite = unhex("f5a5fd42d16a20302798ef6ed309979b43003d2320d9f0e8ea9831a92759fb4b");
+    let (mut policy, mut known) = (Policy::new(Bank::Sha256), Policy::new(Bank::Sha256));
+    policy.pcr(&selected, &composite).unwrap();
+    policy.command_code(0x134);
+    known.auth_value();
+    let list = [&[0, 0, 0, 2, 0, 32], policy.digest(), &[0, 32], known.digest()].concat();
+    policy.or(&list).unwrap();
+    assert_eq!(policy.to_string(), "sha256 0cbc8809e81cb16ff30999fbee7e2683f52d23fb11af4cc3636eca86dfb154cf");
+    let before = policy.to_string();
+    assert!(matches!(policy.or(&list[..39]), Err(Fault::Refused(_))));
+    assert_eq!(policy.pcr(&selected, &composite[1..]), Err(Fault::Length));
+    assert_eq!(policy.to_string(), before);
+    policy.restart();
+    assert_eq!(policy.digest(), [0; 32]);
+}
+
+fn starts_once<P: vinjakwe::Place>(mut device: Device<P>) {
+    let (startup, mut out) = (unhex("80010000000c000001440000"), [0; BUFFER_BYTES]);
+    assert_eq!(device.execute(&startup, &[0; NONCE_BYTES], &mut out), unhex("80010000000a00000000"));
+    assert_eq!(device.execute(&startup, &[1; NONCE_BYTES], &mut out), unhex("80010000000a00000100"));
+    device.power_cycle();
+    assert_eq!(device.execute(&startup, &[2; NONCE_BYTES], &mut out), unhex("80010000000a00000000"));
+}
+
+#[test]
+fn a_device_starts_once() {
+    starts_once(Device::new(&mut Room::new(), b"", 0).unwrap());
+    #[cfg(feature = "alloc")]
+    starts_once(Device::boxed(b"", 0).unwrap());
+}

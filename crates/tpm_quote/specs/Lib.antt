@@ -1,0 +1,3 @@
+-- What contracts on quotes say.
+pub mod Quotes
+pub mod Attests

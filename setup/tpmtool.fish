@@ -1,0 +1,28 @@
+# fish completion of tpmtool
+
+set -l commands NV_UndefineSpace NV_DefineSpace NV_Increment PCR_Event PCR_Reset Startup NV_Read FlushContext \
+    NV_ReadPublic PolicyAuthValue PolicyCommandCode PolicyOR StartAuthSession PCR_Read PolicyPCR PolicyRestart \
+    PCR_Extend PolicyGetDigest
+
+complete -c tpmtool -f
+complete -c tpmtool -n __fish_use_subcommand -a 'show build run explain check events'
+complete -c tpmtool -n __fish_use_subcommand -l version
+complete -c tpmtool -l help
+complete -c tpmtool -n '__fish_seen_subcommand_from show' -l reply -x -a "$commands"
+complete -c tpmtool -n '__fish_seen_subcommand_from show' -l fields
+complete -c tpmtool -n '__fish_seen_subcommand_from show' -l file -r -F
+complete -c tpmtool -n '__fish_seen_subcommand_from show' -l binary
+complete -c tpmtool -n '__fish_seen_subcommand_from show events' -l json
+complete -c tpmtool -n '__fish_seen_subcommand_from build' -a "$commands"
+complete -c tpmtool -n '__fish_seen_subcommand_from run' -l owner -x
+complete -c tpmtool -n '__fish_seen_subcommand_from run' -l greatest -x
+complete -c tpmtool -n '__fish_seen_subcommand_from check events' -F
+complete -c tpmtool -n '__fish_seen_subcommand_from check' -l registers -r -F
+complete -c tpmtool -n '__fish_seen_subcommand_from check' -l quote -x
+complete -c tpmtool -n '__fish_seen_subcommand_from check' -l attest -r -F
+complete -c tpmtool -n '__fish_seen_subcommand_from check' -l nonce -x
+complete -c tpmtool -n '__fish_seen_subcommand_from check' -l require -x
+complete -c tpmtool -n '__fish_seen_subcommand_from check' -l hash -x -a 'sha1 sha256 sha384'
+complete -c tpmtool -n '__fish_seen_subcommand_from events' -l register -x
+complete -c tpmtool -n '__fish_seen_subcommand_from events' -l places
+complete -c tpmtool -n '__fish_seen_subcommand_from events' -l digests
