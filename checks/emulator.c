@@ -825,15 +825,16 @@ static void ask_channel(const char *path) {
         close(kept);
 }
 
-/* Mostly one that is understood, but for SHUTDOWN, which ends the emulator; sometimes a cut one, or a long one. */
+/* Mostly one that is understood, but for SHUTDOWN, which ends the emulator; sometimes a cut one, or a long one. Behind
+ * the number no byte is a small one but 0, so that nothing is read as SHUTDOWN where it is cut anew. */
 static size_t any_message(uint8_t *bytes) {
     static const uint8_t lengths[20] = {4, 4, 8, 4, 4, 8, 4, 8, 4, 4, 4, 8, 16, 16, 4, 4, 4, 8, 12, 4};
     uint32_t number = below(20);
     for (size_t i = 0; i < 64; i++)
-        bytes[i] = below(4) == 0 ? (uint8_t)any() : 0;
+        bytes[i] = below(4) == 0 ? (uint8_t)(32 + below(224)) : 0;
     put32(bytes, below(16) == 0 ? any() | 1u << 31 : number == 3 ? 16 : number);
     if (number == 12 || number == 13)
-        put32(bytes + 12, below(64) == 0 ? any() : below(200));
+        put32(bytes + 12, below(64) == 0 ? any() | 1u << 12 : 32 + below(200));
     return below(8) == 0 ? 1 + below(64) : number == 5 && below(2) ? 5 : lengths[number];
 }
 

@@ -634,7 +634,7 @@ one_channel() {
 harmless_channel() {
     build_sanitized && at_channel sanitized || return 1
     open=$(find "/proc/$server/fd" 2>/dev/null | wc -l)
-    timeout 900 "$room/client" messages "$room/channel" "${MESSAGES:-100000}" "${SEED:-1}"
+    timeout 900 "$room/client" messages "$room/channel" "${MESSAGES:-1000000}" "${SEED:-1}"
     said=$?
     for wait in $(seq 40); do
         left=$(find "/proc/$server/fd" 2>/dev/null | wc -l)
