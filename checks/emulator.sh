@@ -400,6 +400,44 @@ the_device_alone() {
     timeout 20 tpm2_startup -c && timeout 20 tpm2_pcrextend "16:sha256=$(letters 32 62)" && end
 }
 
+# audits CONTEXT: random bytes under this session, which audits; twice.
+audits() {
+    for time in 1 2; do
+        [ "$(timeout 20 tpm2_getrandom -S "$1" --hex 8 | wc -c)" -eq 16 ] || { echo "$1 does not audit" && return 1; }
+    done
+}
+
+# with_audits: sessions that audit, of each hash, and bound to the owner; the tools check each HMAC. One is used for a
+# command of the device before and behind.
+with_audits() {
+    cd "$room" && rm -f ./*.context
+    index=0x01800001
+    {
+        for hash in sha1 sha256 sha384; do
+            tpm2_startauthsession --audit-session -g $hash -S $hash.context && audits $hash.context &&
+                tpm2_flushcontext $hash.context || return 1
+        done
+        tpm2_startauthsession --audit-session --bind-context=o --bind-auth=own -S bound.context &&
+            audits bound.context && tpm2_flushcontext bound.context &&
+            tpm2_startauthsession --audit-session --bind-context=o --bind-auth=other -S bound.context &&
+            ! tpm2_getrandom -S bound.context --hex 8 && tpm2_flushcontext bound.context || return 1
+        tpm2_nvdefine $index -C o -P own -s 8 -a "$counter" && tpm2_startauthsession --hmac-session -S both.context &&
+            tpm2_nvincrement $index -C o -P session:both.context+own &&
+            tpm2_sessionconfig both.context --enable-audit && audits both.context &&
+            tpm2_sessionconfig both.context --disable-audit && tpm2_nvincrement $index -C o -P session:both.context+own
+    } 2>&1
+}
+
+# audited: sessions audit what the host answers.
+audited() {
+    begin emulator --startup --owner 6f776e || return 1
+    over swtpm
+    (with_audits)
+    said=$?
+    end
+    return $said
+}
+
 # no_random_bytes: where the system has no more random bytes the program ends with status 3.
 no_random_bytes() {
     cat >"$room/none.c" <<'END'
@@ -744,6 +782,7 @@ by_tools() {
         skip "the control channel is spoken to by swtpm_ioctl" "there is no swtpm_ioctl"
     fi
     emulates "the device alone answers its own commands" the_device_alone
+    emulates "sessions audit what the host answers" audited
 }
 
 if [ -z "$compiler" ]; then
