@@ -1,12 +1,12 @@
 #!/bin/sh
-# Machines that boot: SeaBIOS, OVMF, shim, GRUB and Linux in QEMU, in emulation, with the emulator as their TPM, and the same boots
-# over swtpm. An initramfs that is made on the spot prints the kernel's registers and the firmware's log.
+# Machines that boot: SeaBIOS, OVMF, shim, GRUB and Linux in QEMU, in emulation, with the emulator as their TPM, and the
+# same boots over swtpm. An initramfs that is made on the spot prints the kernel's registers and the firmware's log.
 #
-# Debian's packages: qemu-system-x86, seabios, ovmf, linux-image-cloud-amd64 (or another), busybox-static, cpio; shim-signed,
-# grub-efi-amd64-signed, mtools and dosfstools for the boots by GRUB; swtpm and swtpm-tools; tpm2-tools and libtss2-tcti-device0
-# for tools in the guest.
+# Debian's packages: qemu-system-x86, seabios, ovmf, linux-image-cloud-amd64 (or another), busybox-static, cpio;
+# shim-signed, grub-efi-amd64-signed, mtools and dosfstools for the boots by GRUB; swtpm and swtpm-tools; tpm2-tools and
+# libtss2-tcti-device0 for tools in the guest.
 #
-#     BOOT_FILES=FOLDER ./test     kernel, shim and GRUB from packages that were unpacked there (`dpkg -x PACKAGE FOLDER`)
+#     BOOT_FILES=FOLDER ./test     kernel, shim and GRUB from packages that `dpkg -x` has unpacked there
 #     BOOTS_ONLY="WORD.." ./test   these boots alone: FIRMWARE-DEVICE, as the table below has them
 #     TABLE=FILE ./test            a row for each boot is written to this file, as docs/EMULATOR.md has it
 
@@ -89,8 +89,8 @@ poweroff -f
 END
 }
 
-# the_guest: tools in the guest, over the kernel's resource manager. A counter is incremented under a policy session, once in each
-# boot; after the first of them the guest resets the machine.
+# the_guest: tools in the guest, over the kernel's resource manager. A counter is incremented under a policy session,
+# once in each boot; after the first of them the guest resets the machine.
 the_guest() {
     cat <<'END'
 cd /tmp
@@ -107,7 +107,8 @@ counts() {
 {
     if ! tpm2 nvreadpublic $index >/dev/null 2>&1; then
         policy '' -L increment.policy && tpm2 flushcontext s.context &&
-            tpm2 nvdefine $index -C o -s 8 -L increment.policy -a 'ownerread|policywrite|nt=counter|no_da' && echo "defined"
+            tpm2 nvdefine $index -C o -s 8 -L increment.policy -a 'ownerread|policywrite|nt=counter|no_da' &&
+            echo "defined"
     fi
     policy --policy-session && tpm2 nvincrement $index -C $index -P session:s.context && echo "incremented"
     tpm2 flushcontext s.context
@@ -122,14 +123,18 @@ END
 # make_images: an initramfs, and one with tools where they are there.
 make_images() {
     mkdir -p "$boots/tree/bin" "$boots/tools" || return 1
-    add "$boots/tree" "$(command -v busybox)" && mv "$boots/tree$(command -v busybox)" "$boots/tree/bin/busybox" 2>/dev/null
-    the_init >"$boots/tree/init" && chmod 755 "$boots/tree/init" "$boots/tree/bin/busybox" && pack "$boots/tree" "$boots/plain.img" || return 1
+    add "$boots/tree" "$(command -v busybox)" &&
+        mv "$boots/tree$(command -v busybox)" "$boots/tree/bin/busybox" 2>/dev/null
+    the_init >"$boots/tree/init" && chmod 755 "$boots/tree/init" "$boots/tree/bin/busybox" &&
+        pack "$boots/tree" "$boots/plain.img" || return 1
     tcti=$(first /usr/lib/*/libtss2-tcti-device.so.0) && command -v tpm2 >/dev/null 2>&1 || return 0
-    cp -a "$boots/tree/." "$boots/tools" && add "$boots/tools" "$(command -v tpm2)" && add "$boots/tools" "$tcti" || return 1
+    cp -a "$boots/tree/." "$boots/tools" && add "$boots/tools" "$(command -v tpm2)" && add "$boots/tools" "$tcti" ||
+        return 1
     the_guest >"$boots/tools/guest.sh" && pack "$boots/tools" "$boots/tools.img"
 }
 
-# make_disk: a file system without partitions that OVMF boots by \EFI\BOOT\BOOTX64.EFI: shim, then GRUB, then the kernel.
+# make_disk: a file system without partitions that OVMF boots by \EFI\BOOT\BOOTX64.EFI: shim, then GRUB, then the
+# kernel.
 make_disk() {
     cat >"$boots/grub.cfg" <<'END'
 set timeout=0
@@ -139,9 +144,11 @@ initrdefi /initrd.img
 boot
 END
     truncate -s 96M "$boots/disk.img" && mkfs.vfat -F 32 -i 12345678 -n ESP "$boots/disk.img" &&
-        mmd -i "$boots/disk.img" ::/EFI ::/EFI/BOOT ::/EFI/debian && mcopy -i "$boots/disk.img" "$shim" ::/EFI/BOOT/BOOTX64.EFI &&
+        mmd -i "$boots/disk.img" ::/EFI ::/EFI/BOOT ::/EFI/debian &&
+        mcopy -i "$boots/disk.img" "$shim" ::/EFI/BOOT/BOOTX64.EFI &&
         mcopy -i "$boots/disk.img" "$grub" ::/EFI/BOOT/grubx64.efi && mcopy -i "$boots/disk.img" "$kernel" ::/vmlinuz &&
-        mcopy -i "$boots/disk.img" "$boots/plain.img" ::/initrd.img && mcopy -i "$boots/disk.img" "$boots/grub.cfg" ::/EFI/debian/grub.cfg &&
+        mcopy -i "$boots/disk.img" "$boots/plain.img" ::/initrd.img &&
+        mcopy -i "$boots/disk.img" "$boots/grub.cfg" ::/EFI/debian/grub.cfg &&
         mcopy -i "$boots/disk.img" "$boots/grub.cfg" ::/EFI/BOOT/grub.cfg
 }
 
@@ -150,11 +157,12 @@ END
 # flash CODE VARIABLES: OVMF's two flash memories, of which the second is the boot's own.
 flash() {
     cp "$2" "$here/variables.fd" || return 1
-    flashes="-drive if=pflash,format=raw,unit=0,readonly=on,file=$1 -drive if=pflash,format=raw,unit=1,file=$here/variables.fd"
+    flashes="-drive if=pflash,format=raw,unit=0,readonly=on,file=$1"
+    flashes="$flashes -drive if=pflash,format=raw,unit=1,file=$here/variables.fd"
 }
 
-# boot SOCKET NAME [IMAGE]: boots the machine of that name, FIRMWARE-DEVICE, and waits for its end. Its console is in $here/console, and
-# $seconds is how long it took. QEMU_MORE are more words for QEMU.
+# boot SOCKET NAME [IMAGE]: boots the machine of that name, FIRMWARE-DEVICE, and waits for its end. Its console is in
+# $here/console, and $seconds is how long it took. QEMU_MORE are more words for QEMU.
 boot() {
     socket=$1 firmware=${2%-*} device=tpm-${2##*-} image=${3:-plain} machine=q35 flashes=
     case $firmware in
@@ -168,12 +176,16 @@ boot() {
     esac
     set -- -kernel "$kernel" -initrd "$boots/$image.img" -append "console=ttyS0,115200 panic=-1"
     case $firmware in
-    grub | secure) set -- -drive "if=none,id=disk,format=raw,readonly=on,file=$boots/disk.img" -device virtio-blk-pci,drive=disk,bootindex=0 ;;
+    grub | secure)
+        set -- -drive "if=none,id=disk,format=raw,readonly=on,file=$boots/disk.img" \
+            -device virtio-blk-pci,drive=disk,bootindex=0
+        ;;
     esac
     began=$(date +%s%N)
     # shellcheck disable=SC2086
-    nice -n 10 timeout --kill-after=5 "${BOOT_SECONDS:-240}" qemu-system-x86_64 -accel tcg,thread=single -machine "$machine" -cpu max -smp 1 \
-        -m 512 -nodefaults -no-user-config -display none -monitor none -net none -serial "file:$here/console" \
+    nice -n 10 timeout --kill-after=5 "${BOOT_SECONDS:-240}" qemu-system-x86_64 -accel tcg,thread=single \
+        -machine "$machine" -cpu max -smp 1 -m 512 -nodefaults -no-user-config -display none -monitor none \
+        -net none -serial "file:$here/console" \
         -chardev "socket,id=chrtpm,path=$socket" -tpmdev emulator,id=tpm0,chardev=chrtpm -device "$device,tpmdev=tpm0" \
         $flashes $QEMU_MORE "$@" </dev/null >"$here/qemu" 2>&1
     status=$?
@@ -213,7 +225,8 @@ with_emulator() {
 # with_swtpm: a new swtpm of the same three banks.
 with_swtpm() {
     rm -rf "$here/state" "$here/socket"
-    mkdir -p "$here/state" && swtpm_setup --tpm2 --tpmstate "$here/state" --pcr-banks sha1,sha256,sha384 --config /dev/null >"$here/tpm" 2>&1 ||
+    mkdir -p "$here/state" && swtpm_setup --tpm2 --tpmstate "$here/state" --pcr-banks sha1,sha256,sha384 \
+        --config /dev/null >"$here/tpm" 2>&1 ||
         { cat "$here/tpm" && return 1; }
     swtpm socket --tpm2 --tpmstate "dir=$here/state" --ctrl "type=unixio,path=$here/socket" >"$here/tpm" 2>&1 &
     tpm=$!
@@ -227,15 +240,17 @@ tpm_ends() {
 
 # booted NAME: the guest came up, with a TPM 2.0 that its kernel takes.
 booted() {
-    tr -d '\r' <"$here/console" | grep -q -x '@@DONE@@' || { echo "the guest of $1 did not end: $(tail -n 3 "$here/console") $(cat "$here/qemu")" && return 1; }
+    tr -d '\r' <"$here/console" | grep -q -x '@@DONE@@' ||
+        { echo "the guest of $1 did not end: $(tail -n 3 "$here/console") $(cat "$here/qemu")" && return 1; }
     [ "$(given version)" = 2 ] || { echo "the kernel of $1 finds no TPM 2.0: $(given messages)" && return 1; }
     given devices | grep -q -x /dev/tpmrm0 || { echo "there is no /dev/tpmrm0 in $1" && return 1; }
     given log >"$here/log" && given registers >"$here/registers"
-    [ "$(wc -l <"$here/registers")" -eq 72 ] && [ -s "$here/log" ] || { echo "$1 gives no registers, or no log" && return 1; }
+    [ "$(wc -l <"$here/registers")" -eq 72 ] && [ -s "$here/log" ] ||
+        { echo "$1 gives no registers, or no log" && return 1; }
 }
 
-# told NAME: the program says of each register of the log that it matches, but register 10, which is the kernel's own; of Secure Boot
-# what is true; and it tells all frames, and refuses none of the commands that it has.
+# told NAME: the program says of each register of the log that it matches, but register 10, which is the kernel's own;
+# of Secure Boot what is true; and it tells all frames, and refuses none of the commands that it has.
 told() {
     "$program" check "$here/log" --registers "$here/registers" >"$here/matches"
     awk '$2 " " $3 !~ /^sha[0-9]* 10$/ && $1 != "match" { print; bad = 1 } END { exit bad }' "$here/matches" || return 1
@@ -265,8 +280,8 @@ refused_frames() {
     done
 }
 
-# without_addresses LOG: its bytes, a line each. Of images that were loaded the address is left out, which is not measured: swtpm
-# lists a fourth bank, which is off, and so OVMF loads some images to another page.
+# without_addresses LOG: its bytes, a line each. Of images that were loaded the address is left out, which is not
+# measured: swtpm lists a fourth bank, which is off, and so OVMF loads some images to another page.
 without_addresses() {
     od -An -v -tu1 "$1" | tr -s ' ' '\n' | grep . | awk '
         function number(at) { return byte[at] + 256 * (byte[at + 1] + 256 * (byte[at + 2] + 256 * byte[at + 3])) }
@@ -311,7 +326,8 @@ boots_as() {
 # counted VALUE: the counter that the guest read has this value, and it was incremented under its policy.
 counted() {
     given tools | grep -q -x incremented || { given tools | tail -n 5 && return 1; }
-    [ "$(given counter)" = "$(printf '%016x' "$1")" ] || { echo "the counter is $(given counter), and not $1" && return 1; }
+    [ "$(given counter)" = "$(printf '%016x' "$1")" ] ||
+        { echo "the counter is $(given counter), and not $1" && return 1; }
 }
 
 # tools_in_the_guest: a counter goes on after a reset of the guest, and after a restart of the emulator.
@@ -327,7 +343,8 @@ tools_in_the_guest() {
 
 # ---- a TPM that fails
 
-# a_failed_tpm: the emulator is killed in the middle of a boot. The guest sees a TPM that fails, and the next boot is whole.
+# a_failed_tpm: the emulator is killed in the middle of a boot. The guest sees a TPM that fails, and the next boot is
+# whole.
 a_failed_tpm() {
     here=$boots/failed
     mkdir -p "$here" && with_emulator --record "$here/frames" || return 1
@@ -338,7 +355,8 @@ a_failed_tpm() {
     wait "$killer" 2>/dev/null
     wait "$tpm" 2>/dev/null
     ! booted "the guest whose TPM is gone" >/dev/null || { echo "the guest has a TPM, still" && return 1; }
-    grep -q -i tpm "$here/qemu" || given messages | grep -q -i -e 'fail' -e 'error' || { echo "nobody says that the TPM failed: $(cat "$here/qemu")" && return 1; }
+    grep -q -i tpm "$here/qemu" || given messages | grep -q -i -e 'fail' -e 'error' ||
+        { echo "nobody says that the TPM failed: $(cat "$here/qemu")" && return 1; }
     with_emulator && boot "$here/socket" seabios-tis
     tpm_ends && booted "the next boot"
 }
@@ -405,8 +423,10 @@ elif [ ! -f "$archive" ]; then
 elif [ -n "$missing" ]; then
     skip "boots" "there is no $missing (Debian: qemu-system-x86, busybox-static, cpio)"
 elif [ -z "$kernel" ]; then
-    skip "boots" "there is no kernel in $files/boot that can be read (Debian: linux-image-cloud-amd64; or BOOT_FILES=FOLDER)"
-elif ! "$compiler" -std=c99 -D_POSIX_C_SOURCE=200809L -O2 -Iinclude -o "$room/emulator" emulator/*.c "$archive" >"$room/said" 2>&1; then
+    skip "boots" \
+        "there is no kernel in $files/boot that can be read (Debian: linux-image-cloud-amd64; or BOOT_FILES=FOLDER)"
+elif ! "$compiler" -std=c99 -D_POSIX_C_SOURCE=200809L -O2 -Iinclude -o "$room/emulator" emulator/*.c "$archive" \
+    >"$room/said" 2>&1; then
     fail "boots" "the emulator isn't built: $(head -n 5 "$room/said")"
 elif ! make_images >"$room/said" 2>&1; then
     fail "boots" "there is no initramfs: $(tail -n 3 "$room/said")"

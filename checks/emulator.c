@@ -1,23 +1,33 @@
 /* A client of the emulator, for checks/emulator.sh. It speaks to the loopback alone, and says in a line what was met.
  *
- *     client kill PORT TIMES SEED WORD..    starts the emulator (these words) so often, increments counters over swtpm's data port,
- *                                           and kills it at a random moment: no value comes twice, and none goes back
- *     client again PORT TIMES SEED WORD..   starts it so often, defines, increments and undefines counters of all kinds, and ends it:
- *                                           each is there again, to the byte, and the next first value is behind the greatest
- *     client frames MSSIM SWTPM COUNT SEED  sends so many messages to the four ports, random ones and changed ones, and cuts
- *                                           connections; the emulator answers the next client
- *     client many PORT COUNT                opens so many connections to swtpm's data port, each with a part of a frame; the emulator
- *                                           answers the next client, and one that sends a byte at a time
- *     client listens PORT                   asks whether anybody listens there
- *     client ask PORT                       sends the lines of standard input, in hexadecimal digits, each as one write, and prints
- *                                           what is answered to each, a line each; an answer that does not come is a `-`
- *     client channel PATH                   the same over QEMU's channel at this Unix socket. Before a line `N+` hands N descriptors
- *                                           over with it, and `@` sends it over the one that was handed over alone
- *     client messages PATH COUNT SEED       sends so many control messages over that channel, random ones and changed ones, cut, and
- *                                           with descriptors; then QEMU's next start is answered
- *     client parts PORT COUNT               sends so many commands to mssim's port, header and body apart as tcti-mssim does, and
- *                                           says how many milliseconds they take
- *     client speed PORT SECONDS             sends commands over swtpm's data port, and says how many a second are answered
+ *     client kill PORT TIMES SEED WORD..
+ *         starts the emulator (these words) so often, increments counters over swtpm's data port, and kills it at a
+ *         random moment: no value comes twice, and none goes back
+ *     client again PORT TIMES SEED WORD..
+ *         starts it so often, defines, increments and undefines counters of all kinds, and ends it: each is there
+ *         again, to the byte, and the next first value is behind the greatest
+ *     client frames MSSIM SWTPM COUNT SEED
+ *         sends so many messages to the four ports, random ones and changed ones, and cuts connections; the emulator
+ *         answers the next client
+ *     client many PORT COUNT
+ *         opens so many connections to swtpm's data port, each with a part of a frame; the emulator answers the next
+ *         client, and one that sends a byte at a time
+ *     client listens PORT
+ *         asks whether anybody listens there
+ *     client ask PORT
+ *         sends the lines of standard input, in hexadecimal digits, each as one write, and prints what is answered
+ *         to each, a line each; an answer that does not come is a `-`
+ *     client channel PATH
+ *         the same over QEMU's channel at this Unix socket. Before a line `N+` hands N descriptors over with it, and
+ *         `@` sends it over the one that was handed over alone
+ *     client messages PATH COUNT SEED
+ *         sends so many control messages over that channel, random ones and changed ones, cut, and with descriptors;
+ *         then QEMU's next start is answered
+ *     client parts PORT COUNT
+ *         sends so many commands to mssim's port, header and body apart as tcti-mssim does, and says how many
+ *         milliseconds they take
+ *     client speed PORT SECONDS
+ *         sends commands over swtpm's data port, and says how many a second are answered
  */
 #include <arpa/inet.h>
 #include <errno.h>
@@ -99,7 +109,8 @@ static size_t bytes_of(const char *text, uint8_t *bytes) {
 /* ---- a connection */
 
 static int opened(uint16_t port) {
-    struct sockaddr_in place = {.sin_family = AF_INET, .sin_port = htons(port), .sin_addr.s_addr = htonl(INADDR_LOOPBACK)};
+    struct sockaddr_in place = {
+        .sin_family = AF_INET, .sin_port = htons(port), .sin_addr.s_addr = htonl(INADDR_LOOPBACK)};
     struct timeval patience = {.tv_sec = 20};
     int yes = 1, descriptor = socket(AF_INET, SOCK_STREAM, 0);
     if (descriptor < 0)
@@ -282,7 +293,8 @@ static void kill_once(uint16_t port, char **words, struct known *known, long mos
     siginfo_t info = {0};
     int descriptor = -1;
     double end = now() + 20;
-    while (descriptor < 0 && now() < end && (waitid(P_PID, (id_t)child, &info, WEXITED | WNOHANG | WNOWAIT), info.si_pid == 0)) {
+    while (descriptor < 0 && now() < end &&
+           (waitid(P_PID, (id_t)child, &info, WEXITED | WNOHANG | WNOWAIT), info.si_pid == 0)) {
         descriptor = opened(port);
         if (descriptor < 0)
             pause_for(200);
@@ -304,7 +316,8 @@ static void kill_often(uint16_t port, uint32_t times, char **words) {
         kill_once(port, words, &known, 80000);
     if (known.reads < times)
         fail("hardly a counter was read", known.reads);
-    printf("%u kills, %llu values read, the greatest %llu\n", times, (unsigned long long)known.reads, (unsigned long long)known.greatest);
+    printf("%u kills, %llu values read, the greatest %llu\n", times, (unsigned long long)known.reads,
+           (unsigned long long)known.greatest);
 }
 
 /* ---- again */
@@ -317,7 +330,8 @@ enum way { OWNER = 1 << 1, VALUE = 1 << 2, POLICY = 1 << 3 };
 /* What a policy asserts, in this order. */
 enum { REGISTERS = 1, COMMAND = 2, AUTH_VALUE = 4, EITHER = 8 };
 
-/* A counter as it must be: how it is incremented, its value by the rule of Part 3, 31.8, and what TPM2_NV_ReadPublic answered last. */
+/* A counter as it must be: how it is incremented, its value by the rule of Part 3, 31.8, and what TPM2_NV_ReadPublic
+ * answered last. */
 struct made {
     bool there;
     bool written;
@@ -354,13 +368,15 @@ static void get_digest(int descriptor, uint32_t session, char digest[65]) {
     text_of(reply + 12, 32, digest);
 }
 
-/* A session of this type (1 a policy, 3 a trial) with the counter's policy, over the registers that it wants; its handle. */
+/* A session of this type (1 a policy, 3 a trial) with the counter's policy, over the registers that it wants; its
+ * handle. */
 static uint32_t session_for(int descriptor, unsigned type, const struct made *made, char digest[65]) {
     uint8_t reply[REPLY_BYTES];
     want(descriptor, 0, reply, RESET_16);
     for (uint32_t i = 0; i < made->extends; i++)
         want(descriptor, 0, reply, EXTEND_16);
-    want(descriptor, 0, reply, "80010000002b00000176400000074000000700100102030405060708090a0b0c0d0e0f100000%02x0010000b", type);
+    want(descriptor, 0, reply,
+         "80010000002b00000176400000074000000700100102030405060708090a0b0c0d0e0f100000%02x0010000b", type);
     uint32_t session = number32(reply + 10);
     if (made->assertions & REGISTERS)
         want(descriptor, 0, reply, "80010000001a0000017f%08x000000000001000b03000081", session);
@@ -379,11 +395,13 @@ static uint32_t session_for(int descriptor, unsigned type, const struct made *ma
 static void define_any(int descriptor, uint32_t index, struct made *made) {
     uint8_t reply[REPLY_BYTES];
     char digest[65] = "";
-    *made = (struct made){.there = true, .way = (enum way)(1 << (1 + below(3))), .assertions = below(16), .extends = below(3)};
+    *made = (struct made){
+        .there = true, .way = (enum way)(1 << (1 + below(3))), .assertions = below(16), .extends = below(3)};
     if (made->way == POLICY)
         want(descriptor, 0, reply, "80010000000e00000165%08x", session_for(descriptor, 3, made, digest));
     unsigned len = (unsigned)strlen(digest) / 2;
-    want(descriptor, 0, reply, "8002%08x0000012a4000000100000009400000090000010000" "000000%02x%08x000b%08x%04x%s0008", 45 + len, 14 + len,
+    want(descriptor, 0, reply,
+         "8002%08x0000012a4000000100000009400000090000010000" "000000%02x%08x000b%08x%04x%s0008", 45 + len, 14 + len,
          index, 0x02020010 | made->way, len, digest);
 }
 
@@ -391,10 +409,12 @@ static void increment_any(int descriptor, uint32_t index, struct made *made, uin
     uint8_t reply[REPLY_BYTES];
     char digest[65];
     if (made->way == POLICY)
-        want(descriptor, 0, reply, "80020000002f00000134%08x%08x00000019%08x00100102030405060708090a0b0c0d0e0f10000000", index, index,
+        want(descriptor, 0, reply,
+         "80020000002f00000134%08x%08x00000019%08x00100102030405060708090a0b0c0d0e0f10000000", index, index,
              session_for(descriptor, 1, made, digest));
     else
-        want(descriptor, 0, reply, "80020000001f00000134%08x%08x00000009400000090000010000", made->way == OWNER ? 0x40000001 : index, index);
+        want(descriptor, 0, reply, "80020000001f00000134%08x%08x00000009400000090000010000",
+             made->way == OWNER ? 0x40000001 : index, index);
     made->value = made->written ? made->value + 1 : *greatest + 1;
     made->written = true;
     if (made->value > *greatest)
@@ -595,12 +615,16 @@ static void drain(int descriptor) {
 static uint32_t send_some(uint16_t mssim, uint16_t swtpm, uint32_t left) {
     uint32_t kind = below(16), most = 1 + below(300), count = 0;
     bool control = kind == 15;
-    int descriptor = opened(kind < 6 ? mssim : kind < 8 ? (uint16_t)(mssim + 1) : control ? (uint16_t)(swtpm + 1) : swtpm);
+    uint16_t ports[] = {mssim, (uint16_t)(mssim + 1), swtpm, (uint16_t)(swtpm + 1)};
+    int descriptor = opened(ports[kind < 6 ? 0 : kind < 8 ? 1 : control ? 3 : 2]);
     if (descriptor < 0)
         fail("no connection", (uint64_t)errno);
     while (count < most && count < left) {
         uint8_t bytes[LONGEST];
-        size_t len = kind < 6 ? any_envelope(bytes) : kind < 8 ? any_signal(bytes) : control ? any_control(bytes) : any_frame(bytes);
+        size_t len = kind < 6   ? any_envelope(bytes)
+                     : kind < 8 ? any_signal(bytes)
+                     : control  ? any_control(bytes)
+                                : any_frame(bytes);
         count++;
         if (!sent(descriptor, bytes, len))
             break;
@@ -608,7 +632,8 @@ static uint32_t send_some(uint16_t mssim, uint16_t swtpm, uint32_t left) {
         if (control) /* a message that is cut would be joined to the next */
             break;
     }
-    /* Mostly it waits until all that it sent is answered or the other side has had enough, and else it is gone at once. */
+    /* Mostly it waits until all that it sent is answered or the other side has had enough, and else it is gone at
+     * once. */
     if (below(4)) {
         uint8_t bytes[65536];
         shutdown(descriptor, SHUT_WR);
@@ -745,7 +770,8 @@ static int opened_channel(const char *path) {
 
 #define DESCRIPTORS 4
 
-/* Sends the bytes in one write, with so many descriptors, which are then closed here; `kept` is the other end of one alone. */
+/* Sends the bytes in one write, with so many descriptors, which are then closed here; `kept` is the other end of
+ * one alone. */
 static bool handed(int channel, const uint8_t *bytes, size_t len, uint32_t count, int *kept) {
     union {
         struct cmsghdr aligned;
@@ -799,15 +825,16 @@ static void ask_channel(const char *path) {
         close(kept);
 }
 
-/* Mostly one that is understood, but for SHUTDOWN, which ends the emulator; sometimes a cut one, or a long one. */
+/* Mostly one that is understood, but for SHUTDOWN, which ends the emulator; sometimes a cut one, or a long one. Behind
+ * the number no byte is a small one but 0, so that nothing is read as SHUTDOWN where it is cut anew. */
 static size_t any_message(uint8_t *bytes) {
     static const uint8_t lengths[20] = {4, 4, 8, 4, 4, 8, 4, 8, 4, 4, 4, 8, 16, 16, 4, 4, 4, 8, 12, 4};
     uint32_t number = below(20);
     for (size_t i = 0; i < 64; i++)
-        bytes[i] = below(4) == 0 ? (uint8_t)any() : 0;
+        bytes[i] = below(4) == 0 ? (uint8_t)(32 + below(224)) : 0;
     put32(bytes, below(16) == 0 ? any() | 1u << 31 : number == 3 ? 16 : number);
     if (number == 12 || number == 13)
-        put32(bytes + 12, below(64) == 0 ? any() : below(200));
+        put32(bytes + 12, below(64) == 0 ? any() | 1u << 12 : 32 + below(200));
     return below(8) == 0 ? 1 + below(64) : number == 5 && below(2) ? 5 : lengths[number];
 }
 
@@ -816,9 +843,11 @@ static void start_as_qemu(const char *path) {
     static const uint8_t data[4] = {0, 0, 0, 16}, init[8] = {0, 0, 0, 2};
     uint8_t reply[REPLY_BYTES];
     int channel = opened_channel(path), kept = -1;
-    if (channel < 0 || !handed(channel, data, sizeof data, 1, &kept) || !received(channel, reply, 4) || number32(reply) != 0)
+    if (channel < 0 || !handed(channel, data, sizeof data, 1, &kept) || !received(channel, reply, 4) ||
+        number32(reply) != 0)
         fail("a new channel is not served", (uint64_t)errno);
-    if (asked_text(kept, READ_16, reply) < 0 || !sent(channel, init, sizeof init) || !received(channel, reply, 4) || number32(reply) != 0)
+    if (asked_text(kept, READ_16, reply) < 0 || !sent(channel, init, sizeof init) || !received(channel, reply, 4) ||
+        number32(reply) != 0)
         fail("a new channel has no power", (uint64_t)errno);
     if (asked_text(kept, STARTUP, reply) != 0 || asked_text(kept, READ_16, reply) != 0)
         fail("a new channel has no device", number32(reply + 6));

@@ -1,8 +1,9 @@
 #!/bin/sh
-# The emulator: tpm2-tools drive it over both protocols, and give what they give over swtpm (checks/emulator.txt); a log's records
-# leave the registers of its list; it is killed at random moments, and no counter goes back; and random messages over sanitizers.
+# The emulator: tpm2-tools drive it over both protocols, and give what they give over swtpm (checks/emulator.txt); a
+# log's records leave the registers of its list; it is killed at random moments, and no counter goes back; and random
+# messages over sanitizers.
 #
-#     KILLS=1000 BOOTS=1000 MESSAGES=1000000 ./test     kills it so often, starts it so often, and sends so many messages
+#     KILLS=1000 BOOTS=1000 MESSAGES=1000000 ./test     kills it and starts it so often, and sends so many messages
 
 . "$(dirname "$0")/shared.sh"
 . checks/toolchain.sh
@@ -12,8 +13,8 @@ archive=crates/tpm_c/out/llvm/libtpm_c.a
 program=crates/tpmtool/out/tpmtool
 flags="-std=c99 -D_POSIX_C_SOURCE=200809L -Wall -Wextra -pedantic -Werror -Iinclude"
 
-# begin WORD..: starts the words in the background, and waits until they listen at $port; $server is their process. Where
-# something else listens there, the next ports are tried.
+# begin WORD..: starts the words in the background, and waits until they listen at $port; $server is their process.
+# Where something else listens there, the next ports are tried.
 port=$((20000 + $$ % 390 * 32))
 begin() {
     for try in 1 2 3 4 5 6 7 8; do
@@ -56,8 +57,8 @@ over() {
     esac
 }
 
-# t TOOL WORD..: what tpm2_TOOL prints, behind a line with these words, and `refused` where its status is not 0. Behind `-` it is
-# only said whether it was done. (A bank of SHA-512 is not compared.)
+# t TOOL WORD..: what tpm2_TOOL prints, behind a line with these words, and `refused` where its status is not 0. Behind
+# `-` it is only said whether it was done. (A bank of SHA-512 is not compared.)
 t() {
     quiet=
     [ "$1" = - ] && quiet=yes && shift
@@ -195,13 +196,14 @@ with_the_rest() {
     t getcap handles-pcr
     t getcap handles-transient
     entries algorithms "sha1 sha256 sha384"
-    entries commands "TPM2_CC_NV_UndefineSpace TPM2_CC_NV_DefineSpace TPM2_CC_NV_Increment TPM2_CC_PCR_Event TPM2_CC_PCR_Reset \
-TPM2_CC_Startup TPM2_CC_NV_Read TPM2_CC_FlushContext TPM2_CC_NV_ReadPublic TPM2_CC_PolicyAuthValue TPM2_CC_PolicyCommandCode \
-TPM2_CC_PolicyOR TPM2_CC_StartAuthSession TPM2_CC_PCR_Read TPM2_CC_PolicyPCR TPM2_CC_PolicyRestart TPM2_CC_PCR_Extend \
-TPM2_CC_PolicyGetDigest TPM2_CC_SelfTest TPM2_CC_Shutdown TPM2_CC_ContextLoad TPM2_CC_ContextSave TPM2_CC_GetCapability \
-TPM2_CC_GetRandom TPM2_CC_GetTestResult TPM2_CC_ReadClock"
-    entries properties-fixed "TPM2_PT_FAMILY_INDICATOR TPM2_PT_LEVEL TPM2_PT_INPUT_BUFFER TPM2_PT_HR_LOADED_MIN TPM2_PT_PCR_COUNT \
-TPM2_PT_PCR_SELECT_MIN TPM2_PT_MAX_COMMAND_SIZE TPM2_PT_MAX_RESPONSE_SIZE"
+    entries commands "TPM2_CC_NV_UndefineSpace TPM2_CC_NV_DefineSpace TPM2_CC_NV_Increment TPM2_CC_PCR_Event \
+TPM2_CC_PCR_Reset TPM2_CC_Startup TPM2_CC_NV_Read TPM2_CC_FlushContext TPM2_CC_NV_ReadPublic TPM2_CC_PolicyAuthValue \
+TPM2_CC_PolicyCommandCode TPM2_CC_PolicyOR TPM2_CC_StartAuthSession TPM2_CC_PCR_Read TPM2_CC_PolicyPCR \
+TPM2_CC_PolicyRestart TPM2_CC_PCR_Extend TPM2_CC_PolicyGetDigest TPM2_CC_SelfTest TPM2_CC_Shutdown \
+TPM2_CC_ContextLoad TPM2_CC_ContextSave TPM2_CC_GetCapability TPM2_CC_GetRandom TPM2_CC_GetTestResult \
+TPM2_CC_ReadClock"
+    entries properties-fixed "TPM2_PT_FAMILY_INDICATOR TPM2_PT_LEVEL TPM2_PT_INPUT_BUFFER TPM2_PT_HR_LOADED_MIN \
+TPM2_PT_PCR_COUNT TPM2_PT_PCR_SELECT_MIN TPM2_PT_MAX_COMMAND_SIZE TPM2_PT_MAX_RESPONSE_SIZE"
     t - getcap properties-variable
     t getcap pcrs
     t - getrandom --hex 16
@@ -226,10 +228,11 @@ script() {
     with_the_rest
 }
 
-# expected WHICH: what the script prints, here or over swtpm. The file was written over swtpm 0.7.1; where the two differ a line has
-# both, and docs/DIFFERENCES.md says why.
+# expected WHICH: what the script prints, here or over swtpm. The file was written over swtpm 0.7.1; where the two
+# differ a line has both, and docs/DIFFERENCES.md says why.
 expected() {
-    awk -F ' [|] ' -v which="$1" '/^\$/ || NF < 2 { print; next } { print which == "swtpm" ? $2 : $1 }' checks/emulator.txt
+    awk -F ' [|] ' -v which="$1" '/^\$/ || NF < 2 { print; next } { print which == "swtpm" ? $2 : $1 }' \
+        checks/emulator.txt
 }
 
 # script_gives KIND PROTOCOL WORD..: the script over such a server prints what is expected.
@@ -248,7 +251,8 @@ the_records() {
     awk '$3 != "EV_NO_ACTION" {
         words = ""
         count = split($6, digests, ",")
-        for (i = 1; i <= count; i++) if (digests[i] ~ /^sha(1|256|384)=/) words = words (words == "" ? "" : ",") digests[i]
+        for (i = 1; i <= count; i++)
+            if (digests[i] ~ /^sha(1|256|384)=/) words = words (words == "" ? "" : ",") digests[i]
         if (words != "") print $2 ":" words
     }' "checks/logs/$1.events"
 }
@@ -256,7 +260,9 @@ the_records() {
 # all_registers: those of the device as `tpmtool check` prints them.
 all_registers() {
     timeout 20 tpm2_pcrread sha1:all+sha256:all+sha384:all |
-        awk '/^  sha/ { bank = $1; sub(/:/, "", bank); next } { sub(/:/, " "); print bank, $1, tolower(substr($NF, 3)) }'
+        awk '
+            /^  sha/ { bank = $1; sub(/:/, "", bank); next }
+            { sub(/:/, " "); print bank, $1, tolower(substr($NF, 3)) }'
 }
 
 # log_leaves LOG: a device that is sent the log has the registers of its list, which `tpmtool check` prints, too.
@@ -278,7 +284,8 @@ logs_leave() {
     done
 }
 
-# three_counters: a counter for the owner, one by its value, and one that only a policy of registers increments, three times.
+# three_counters: a counter for the owner, one by its value, and one that only a policy of registers increments, three
+# times.
 three_counters() {
     cd "$room/folder" && rm -f ./* || return 1
     with_registers
@@ -307,7 +314,8 @@ values_wanted() {
     printf '$ value 0x01800001\n%016x\n$ value 0x01800002\n%016x\n$ value 0x01800003\n%016x\n' 43 46 45
 }
 
-# kept: they are there with all that was told of them when the process was killed, and the next first value is behind the greatest.
+# kept: they are there with all that was told of them when the process was killed, and the next first value is behind
+# the greatest.
 kept() {
     rm -f "$room/state"
     mkdir -p "$room/folder" || return 1
@@ -324,7 +332,8 @@ kept() {
     timeout 20 tpm2_nvincrement 0x01800004 -C o
     value 0x01800004 >"$room/fourth"
     end || return 1
-    values_wanted | diff - "$room/values" && diff "$room/before" "$room/after" && grep -q '^000000000000002f$' "$room/fourth"
+    values_wanted | diff - "$room/values" && diff "$room/before" "$room/after" &&
+        grep -q '^000000000000002f$' "$room/fourth"
 }
 
 # refuses STATUS WORDS..: the emulator with this state ends at once, with this status and such a line.
@@ -341,7 +350,8 @@ refused_states() {
         head -c "$cut" "$room/state" >"$room/state.bad" && refuses 1 'was cut' || return 1
     done
     sed 's/greatest 4/greatest 5/' "$room/state" >"$room/state.bad" && refuses 1 'was cut or changed' || return 1
-    sed 's/^counter 01800001/counter 01800009/' "$room/state" >"$room/state.bad" && refuses 1 'was cut or changed' || return 1
+    sed 's/^counter 01800001/counter 01800009/' "$room/state" >"$room/state.bad" &&
+        refuses 1 'was cut or changed' || return 1
     cp "$room/state" "$room/state.bad"
     begin emulator --state "$room/state.bad" || return 1
     refuses 3 'another emulator holds it' || { end && return 1; }
@@ -365,13 +375,15 @@ by_itself() {
         timeout 100 tpm2_nvincrement 0x01800001 -C o && [ "$(value 0x01800001 | tail -n 1)" = 0000000000000002 ]
 }
 
-# controlled: the control channel as swtpm's own program speaks to it. An init takes the registers, and a shutdown ends the program.
+# controlled: the control channel as swtpm's own program speaks to it. An init takes the registers, and a shutdown ends
+# the program.
 controlled() {
     begin emulator --startup || return 1
     control="swtpm_ioctl --tcp 127.0.0.1:$((port + 1))"
     over swtpm
     timeout 20 tpm2_pcrextend "16:sha256=$(letters 32 62)" && timeout 20 $control -c && timeout 20 $control -e &&
-        timeout 20 $control -l 0 && ! timeout 20 $control -l 3 && timeout 20 $control -C && timeout 20 $control -b 4096 &&
+        timeout 20 $control -l 0 && ! timeout 20 $control -l 3 && timeout 20 $control -C &&
+        timeout 20 $control -b 4096 &&
         ! timeout 20 $control --info 1 && timeout 20 $control -i &&
         timeout 20 tpm2_pcrread sha256:16 | grep -q "0x$(letters 32 00)\$" && timeout 20 $control --stop &&
         ! timeout 20 tpm2_pcrread sha256:16 && timeout 20 $control -s && wait "$server"
@@ -386,6 +398,44 @@ the_device_alone() {
         grep -q -i -e 0x143 -e 0x100 "$room/out" || { cat "$room/out" && end && return 1; }
     done
     timeout 20 tpm2_startup -c && timeout 20 tpm2_pcrextend "16:sha256=$(letters 32 62)" && end
+}
+
+# audits CONTEXT: random bytes under this session, which audits; twice.
+audits() {
+    for time in 1 2; do
+        [ "$(timeout 20 tpm2_getrandom -S "$1" --hex 8 | wc -c)" -eq 16 ] || { echo "$1 does not audit" && return 1; }
+    done
+}
+
+# with_audits: sessions that audit, of each hash, and bound to the owner; the tools check each HMAC. One is used for a
+# command of the device before and behind.
+with_audits() {
+    cd "$room" && rm -f ./*.context
+    index=0x01800001
+    {
+        for hash in sha1 sha256 sha384; do
+            tpm2_startauthsession --audit-session -g $hash -S $hash.context && audits $hash.context &&
+                tpm2_flushcontext $hash.context || return 1
+        done
+        tpm2_startauthsession --audit-session --bind-context=o --bind-auth=own -S bound.context &&
+            audits bound.context && tpm2_flushcontext bound.context &&
+            tpm2_startauthsession --audit-session --bind-context=o --bind-auth=other -S bound.context &&
+            ! tpm2_getrandom -S bound.context --hex 8 && tpm2_flushcontext bound.context || return 1
+        tpm2_nvdefine $index -C o -P own -s 8 -a "$counter" && tpm2_startauthsession --hmac-session -S both.context &&
+            tpm2_nvincrement $index -C o -P session:both.context+own &&
+            tpm2_sessionconfig both.context --enable-audit && audits both.context &&
+            tpm2_sessionconfig both.context --disable-audit && tpm2_nvincrement $index -C o -P session:both.context+own
+    } 2>&1
+}
+
+# audited: sessions audit what the host answers.
+audited() {
+    begin emulator --startup --owner 6f776e || return 1
+    over swtpm
+    (with_audits)
+    said=$?
+    end
+    return $said
 }
 
 # no_random_bytes: where the system has no more random bytes the program ends with status 3.
@@ -411,19 +461,22 @@ END
 
 # killed: no value comes twice, and none goes back.
 killed() {
-    timeout 900 "$room/client" kill $((port + 8)) "${KILLS:-40}" "${SEED:-1}" "$room/emulator" --swtpm $((port + 8)) --state "$room/state.killed"
+    timeout 900 "$room/client" kill $((port + 8)) "${KILLS:-40}" "${SEED:-1}" "$room/emulator" --swtpm $((port + 8)) \
+        --state "$room/state.killed"
 }
 
-# there_again: counters of all kinds are there at the next start, to the byte, and the next first value is behind the greatest.
+# there_again: counters of all kinds are there at the next start, to the byte, and the next first value is behind the
+# greatest.
 there_again() {
-    timeout 900 "$room/client" again $((port + 16)) "${BOOTS:-30}" "${SEED:-1}" "$room/emulator" --swtpm $((port + 16)) \
-        --state "$room/state.again"
+    timeout 900 "$room/client" again $((port + 16)) "${BOOTS:-30}" "${SEED:-1}" "$room/emulator" \
+        --swtpm $((port + 16)) --state "$room/state.again"
 }
 
 # build_sanitized: the emulator with sanitizers, once.
 build_sanitized() {
     [ -x "$room/sanitized" ] ||
-        "$compiler" $flags -g -O1 -fsanitize=address,undefined -fno-sanitize-recover=all -o "$room/sanitized" emulator/*.c "$archive"
+        "$compiler" $flags -g -O1 -fsanitize=address,undefined -fno-sanitize-recover=all -o "$room/sanitized" \
+            emulator/*.c "$archive"
 }
 
 # harmless: random messages and cut connections, over the emulator with sanitizers.
@@ -433,7 +486,8 @@ harmless() {
     timeout 900 "$room/client" frames $((port + 2)) "$port" "${MESSAGES:-30000}" "${SEED:-1}" &&
         timeout 100 "$room/client" many "$port" 4200
     said=$?
-    end && [ $said -eq 0 ] && ! grep -q -e ERROR -e 'runtime error' "$room/served" || { cat "$room/served" && return 1; }
+    end && [ $said -eq 0 ] && ! grep -q -e ERROR -e 'runtime error' "$room/served" ||
+        { cat "$room/served" && return 1; }
 }
 
 # ---- what is answered, byte for byte
@@ -450,8 +504,8 @@ rows() {
     grep -v -e '^#' -e '^$' "$1"
 }
 
-# answers_of KIND WORD..: the server answers the commands of checks/host.txt as its rows say: a command and its response, or ours and
-# swtpm's with a `|` between. A `.` is any digit.
+# answers_of KIND WORD..: the server answers the commands of checks/host.txt as its rows say: a command and its
+# response, or ours and swtpm's with a `|` between. A `.` is any digit.
 answers_of() {
     kind=$1
     shift
@@ -460,7 +514,8 @@ answers_of() {
     rows checks/host.txt | cut -d ' ' -f 1 | timeout 60 "$room/client" ask "$port" >"$room/answers"
     end
     rows checks/host.txt | paste -d ' ' - "$room/answers" | awk -v kind="$kind" '
-        { wanted = kind == "swtpm" && NF == 5 ? $4 : $2; if ($NF !~ ("^" wanted "$")) { print substr($1, 1, 60), $NF, "and not", wanted; bad = 1 } }
+        { wanted = kind == "swtpm" && NF == 5 ? $4 : $2 }
+        $NF !~ ("^" wanted "$") { print substr($1, 1, 60), $NF, "and not", wanted; bad = 1 }
         END { exit bad || NR < 150 }'
 }
 
@@ -481,50 +536,58 @@ saved_once() {
     ask 0 "$changed" "$load" "$load" $save "$load" >>"$room/answers"
     end
     sed -e '1,2d' "$room/answers" | cut -c 13-20 | tr '\n' ' ' >"$room/codes"
-    [ "$(cat "$room/codes")" = '00000910 000001df 00000000 000001cb 00000000 000001cb ' ] || { cat "$room/codes" && return 1; }
+    [ "$(cat "$room/codes")" = '00000910 000001df 00000000 000001cb 00000000 000001cb ' ] ||
+        { cat "$room/codes" && return 1; }
 }
 
 # of_locality: another locality than 0 over mssim.
 of_locality() {
     begin emulator --startup || return 1
-    ask 2 00000008000000000c80010000000c0000017b0000 00000008010000000c80010000000c0000017b0000 00000008ff0000000c80010000000c0000017b0000 >"$room/answers"
+    ask 2 00000008000000000c80010000000c0000017b0000 00000008010000000c80010000000c0000017b0000 \
+        00000008ff0000000c80010000000c0000017b0000 >"$room/answers"
     end
-    printf '%s\n' 0000000c80010000000c00000000000000000000 0000000a80010000000a0000090700000000 0000000a80010000000a0000090700000000 |
-        diff - "$room/answers"
+    refused=0000000a80010000000a0000090700000000
+    printf '%s\n' 0000000c80010000000c00000000000000000000 $refused $refused | diff - "$room/answers"
 }
 
 define=80020000002d0000012a40000001000000094000000900000100000000000e01800001000b0206001600000008
 increment=80020000001f00000134400000010180000100000009400000090000010000
 read=8002000000230000014e40000001018000010000000940000009000001000000080000
 
-# in_one_life: a power cycle within one process keeps counters, takes registers and sessions, and is counted.
+# variables: the variable properties, each as a number.
+variables() {
+    set --
+    for property in 200 201 202 203 204 205 206 207 208 209 20a 20b; do
+        set -- "$@" "8001000000160000017a0000000600000${property}00000001"
+    done
+    ask 0 "$@" | sed 's/.*0000\(....\)$/\1/' | tr '\n' ' '
+}
+
+# in_one_life: a power cycle within one process takes the sessions, and is counted; what variable properties and the
+# clock say of it.
 in_one_life() {
-    rm -f "$room/state.life"
-    begin emulator --startup --state "$room/state.life" --owner 0102 || return 1
-    clock=80010000000a00000181
-    ask 0 $session $clock >"$room/answers"
-    variable=
-    for property in 200 201 202 203 204 205 206 207 208 209 20a 20b; do variable="$variable 8001000000160000017a0000000600000${property}00000001"; done
-    ask 0 $variable | sed 's/.*\(........\)$/\1/' | tr '\n' ' ' >"$room/before"
+    begin emulator --startup --owner 0102 || return 1
+    ask 0 $session 80010000000a00000181 >"$room/answers"
+    variables >"$room/before"
     sleep 0.3
     ask 3 00000002 00000001 >/dev/null
     sleep 0.2
-    ask 0 $clock >>"$room/answers"
-    ask 0 $variable | sed 's/.*\(........\)$/\1/' | tr '\n' ' ' >"$room/after"
+    ask 0 80010000000a00000181 >>"$room/answers"
+    variables >"$room/after"
     end
-    [ "$(cat "$room/before")" = '00000001 00000002 00000000 00000001 00000002 00000001 00000002 00000000 00000000 00000000 00000000 00000008 ' ] &&
-        [ "$(cat "$room/after")" = '00000001 00000002 00000000 00000000 00000003 00000000 00000003 00000000 00000000 00000000 00000000 00000008 ' ] ||
+    [ "$(cat "$room/before")" = '0001 0002 0000 0001 0002 0001 0002 0000 0000 0000 0000 0008 ' ] &&
+        [ "$(cat "$room/after")" = '0001 0002 0000 0000 0003 0000 0003 0000 0000 0000 0000 0008 ' ] ||
         { cat "$room/before" "$room/after" && return 1; }
     # Behind the header: the time since the power came on, the clock, resets, restarts, and whether it is safe.
-    sed 1d "$room/answers" | sed 's/^8001........00000000\(.\{16\}\)\(.\{16\}\)\(.\{8\}\)\(.\{8\}\)\(..\)$/\1 \2 \3 \4 \5/' >"$room/clocks"
-    {
-        read -r time1 clock1 resets1 restarts1 safe1 && read -r time2 clock2 resets2 restarts2 safe2
-    } <"$room/clocks" || return 1
-    [ "$resets1 $restarts1 $safe1" = '00000000 00000000 00' ] && [ "$resets2 $restarts2 $safe2" = '00000001 00000000 00' ] || return 1
-    [ $((0x$time2)) -ge 150 ] && [ $((0x$time2)) -lt $((0x$clock2 - 250)) ] && [ $((0x$clock2 - 0x$clock1)) -ge 450 ] && [ $((0x$clock2)) -lt 60000 ]
+    sed -n '2,$s/^8001........00000000\(.\{16\}\)\(.\{16\}\)/\1 \2 /p' "$room/answers" >"$room/clocks"
+    { read -r time1 clock1 rest1 && read -r time2 clock2 rest2; } <"$room/clocks" || return 1
+    [ "$rest1 $rest2" = '000000000000000000 000000010000000000' ] && [ $((0x$time1)) -le $((0x$clock1)) ] &&
+        [ $((0x$time2)) -ge 150 ] && [ $((0x$time2)) -lt $((0x$clock2 - 250)) ] &&
+        [ $((0x$clock2 - 0x$clock1)) -ge 450 ] && [ $((0x$clock2)) -lt 60000 ] || { cat "$room/clocks" && return 1; }
 }
 
-# cycled: counters over power cycles of one process, whose file is kept: they go on, and the next first value is behind the greatest.
+# cycled: counters over power cycles of one process, whose file is kept: they go on, and the next first value is behind
+# the greatest.
 cycled() {
     rm -f "$room/state.life"
     begin emulator --startup --state "$room/state.life" || return 1
@@ -534,21 +597,26 @@ cycled() {
         ask 0 $read $increment $read
         ask 3 00000002 00000001
         ask 0 $read 80020000001f00000122400000010180000100000009400000090000010000 $define $increment $read
-    } | sed -n 's/^8002........00000000........0008\(.\{16\}\).*/\1/p' | tr '\n' ' ' >"$room/values"
+    } | sed -n 's/^8002........00000000........0008000000000000\(....\).*/\1/p' | tr '\n' ' ' >"$room/values"
     end
-    [ "$(cat "$room/values")" = '0000000000000002 0000000000000002 0000000000000003 0000000000000003 0000000000000004 ' ] || { cat "$room/values" && return 1; }
+    [ "$(cat "$room/values")" = '0002 0002 0003 0003 0004 ' ] || { cat "$room/values" && return 1; }
 }
 
-# synced: before a reply says that a counter has changed, the file is on the disk, has its name, and its folder is on the disk.
+# synced: before a reply says that a counter has changed, the file is on the disk, has its name, and its folder is on
+# the disk.
 synced() {
     rm -f "$room/state.traced"
     printf '%s\n' $define $increment | xxd -r -p |
-        strace -f -o "$room/trace" -e trace=openat,fsync,rename,renameat,renameat2,write "$room/emulator" --stdio --startup --state "$room/state.traced" >"$room/out" || return 1
+        strace -f -o "$room/trace" -e trace=openat,fsync,rename,renameat,renameat2,write \
+            "$room/emulator" --stdio --startup --state "$room/state.traced" >"$room/out" || return 1
     awk -v folder="\"$room\"" '
         { sub(/^[0-9]+ +/, "") }
         /^openat/ && index($0, folder ",") { place = $NF }
         /^openat.*state.traced.new"/ { file = $NF; order = "" }
-        /^fsync/ { split($0, part, /[()]/); order = order (part[2] == place ? "folder " : part[2] == file ? "file " : "other ") }
+        /^fsync/ {
+            split($0, part, /[()]/)
+            order = order (part[2] == place ? "folder " : part[2] == file ? "file " : "other ")
+        }
         /^rename/ { order = order "name " }
         /^write\(1,/ { if (order != "file name folder ") { print "before a reply: " order; bad = 1 } else good++ }
         END { exit bad || good < 2 }' "$room/trace" || { tail -n 12 "$room/trace" && return 1; }
@@ -577,7 +645,8 @@ at_channel() {
     return 1
 }
 
-# channelled: each message of checks/channel.txt is answered as its row says; the last one ends the emulator, and its socket is gone.
+# channelled: each message of checks/channel.txt is answered as its row says; the last one ends the emulator, and its
+# socket is gone.
 channelled() {
     at_channel emulator || return 1
     rows checks/channel.txt | cut -d ' ' -f 1 | timeout 60 "$room/client" channel "$room/channel" >"$room/answers"
@@ -585,7 +654,8 @@ channelled() {
     rows checks/channel.txt | cut -d ' ' -f 2 | diff - "$room/answers" && [ ! -e "$room/channel" ]
 }
 
-# one_channel: a second emulator does not take the socket of another; one that was left by a killed process is taken over.
+# one_channel: a second emulator does not take the socket of another; one that was left by a killed process is taken
+# over.
 one_channel() {
     at_channel emulator || return 1
     "$room/emulator" --unixio "$room/channel" 2>"$room/err"
@@ -594,14 +664,15 @@ one_channel() {
     kill -KILL "$server"
     wait "$server" 2>/dev/null
     [ -S "$room/channel" ] || return 1
-    at_channel emulator && sleep 0.3 && printf '00000001\n' | timeout 20 "$room/client" channel "$room/channel" | grep -q -x 0000000000003caf && end
+    at_channel emulator && sleep 0.3 &&
+        printf '00000001\n' | timeout 20 "$room/client" channel "$room/channel" | grep -q -x 0000000000003caf && end
 }
 
 # harmless_channel: random messages, cut ones, and descriptors; none stays open.
 harmless_channel() {
     build_sanitized && at_channel sanitized || return 1
     open=$(find "/proc/$server/fd" 2>/dev/null | wc -l)
-    timeout 900 "$room/client" messages "$room/channel" "${MESSAGES:-100000}" "${SEED:-1}"
+    timeout 900 "$room/client" messages "$room/channel" "${MESSAGES:-1000000}" "${SEED:-1}"
     said=$?
     for wait in $(seq 40); do
         left=$(find "/proc/$server/fd" 2>/dev/null | wc -l)
@@ -614,11 +685,13 @@ harmless_channel() {
 
 # ---- the program
 
-# in_the_background: --daemon returns when it listens, its number is in the file, and the file goes with it; a fault is its status.
+# in_the_background: --daemon returns when it listens, its number is in the file, and the file goes with it; a fault is
+# its status.
 in_the_background() {
     rm -f "$room/state.back" "$room/pid"
     port=$((port + 8))
-    "$room/emulator" --swtpm "$port" --state "$room/state.back" --daemon --pid "$room/pid" >"$room/out" 2>&1 || { cat "$room/out" && return 1; }
+    "$room/emulator" --swtpm "$port" --state "$room/state.back" --daemon --pid "$room/pid" >"$room/out" 2>&1 ||
+        { cat "$room/out" && return 1; }
     "$room/client" listens "$port" >/dev/null && kill -0 "$(cat "$room/pid")" || return 1
     "$room/emulator" --swtpm $((port + 4)) --state "$room/state.back" --daemon 2>"$room/err"
     [ $? -eq 3 ] && grep -q 'another emulator holds it' "$room/err" || return 1
@@ -637,7 +710,8 @@ in_the_background() {
 # its_words: the version, words that collide, and words that are none.
 its_words() {
     version=$(awk '$2 == "VINJAKWE_VERSION" { gsub(/"/, ""); print $3 }' include/vinjakwe.h)
-    [ "$("$room/emulator" --version)" = "vinjakwe-emulator $version" ] && "$room/emulator" --help | grep -q -e '--unixio PATH' || return 1
+    [ "$("$room/emulator" --version)" = "vinjakwe-emulator $version" ] &&
+        "$room/emulator" --help | grep -q -e '--unixio PATH' || return 1
     for words in '--mssim 24376 --swtpm 24377' '--mssim 24376 --swtpm 24375' '--mssim 24376 --swtpm 24376'; do
         "$room/emulator" $words 2>"$room/err"
         [ $? -eq 2 ] && grep -q 'they collide' "$room/err" || { echo "$words" && return 1; }
@@ -650,9 +724,11 @@ its_words() {
 
 # recorded: each frame and its answer are in the record, a line each, which the program tells.
 recorded() {
-    printf '%s\n' 80010000000c000001440000 $registers_0 $session 80010000000a00000181 | tee "$room/in.frames" | xxd -r -p |
+    printf '%s\n' 80010000000c000001440000 $registers_0 $session 80010000000a00000181 | tee "$room/in.frames" |
+        xxd -r -p |
         "$room/emulator" --stdio --record "$room/frames" | xxd -p | tr -d '\n' >"$room/out" || return 1
-    sed -n 's/^> //p' "$room/frames" | diff "$room/in.frames" - && [ "$(sed -n 's/^< //p' "$room/frames" | tr -d '\n')" = "$(cat "$room/out")" ] &&
+    sed -n 's/^> //p' "$room/frames" | diff "$room/in.frames" - &&
+        [ "$(sed -n 's/^< //p' "$room/frames" | tr -d '\n')" = "$(cat "$room/out")" ] &&
         [ "$(wc -l <"$room/frames")" -eq 8 ] || return 1
     [ ! -x "$program" ] || "$program" show --file "$room/frames" | grep -q StartAuthSession || return 1
     "$room/emulator" --stdio --record "$room/no/frames" </dev/null 2>/dev/null
@@ -661,7 +737,8 @@ recorded() {
 
 # by_links: emulator/run works through symbolic links, and without `rt` where it is built.
 by_links() {
-    mkdir -p "$room/links/more" && ln -sf "$PWD/emulator/run" "$room/links/one" && ln -sf ../one "$room/links/more/two" || return 1
+    mkdir -p "$room/links/more" && ln -sf "$PWD/emulator/run" "$room/links/one" &&
+        ln -sf ../one "$room/links/more/two" || return 1
     for link in "$room/links/one" "$room/links/more/two"; do
         PATH=/usr/bin:/bin "$link" --version | grep -q '^vinjakwe-emulator ' || { echo "$link" && return 1; }
     done
@@ -687,7 +764,8 @@ by_tools() {
         skip "the emulator by tpm2-tools" "there are no tpm2-tools"
         return
     fi
-    emulates "tpm2-tools over mssim print what they print over swtpm" script_gives emulator mssim --state "$room/state.script"
+    emulates "tpm2-tools over mssim print what they print over swtpm" \
+        script_gives emulator mssim --state "$room/state.script"
     emulates "tpm2-tools over swtpm's protocol print what they print over swtpm" script_gives emulator swtpm
     if command -v swtpm >/dev/null 2>&1; then
         emulates "tpm2-tools over swtpm print what is kept of it" script_gives swtpm swtpm
@@ -704,6 +782,7 @@ by_tools() {
         skip "the control channel is spoken to by swtpm_ioctl" "there is no swtpm_ioctl"
     fi
     emulates "the device alone answers its own commands" the_device_alone
+    emulates "sessions audit what the host answers" audited
 }
 
 if [ -z "$compiler" ]; then
@@ -713,7 +792,8 @@ elif [ ! -f "$archive" ]; then
 elif ! command -v xxd >/dev/null 2>&1; then
     skip "the emulator" "there is no xxd"
 elif ! "$compiler" $flags -O2 -o "$room/emulator" emulator/*.c "$archive" >"$room/said" 2>&1 ||
-    ! "$compiler" -std=c99 -D_POSIX_C_SOURCE=200809L -Wall -Wextra -Werror -O2 -o "$room/client" checks/emulator.c >>"$room/said" 2>&1; then
+    ! "$compiler" -std=c99 -D_POSIX_C_SOURCE=200809L -Wall -Wextra -Werror -O2 -o "$room/client" checks/emulator.c \
+        >>"$room/said" 2>&1; then
     fail "the emulator" "it isn't built: $(head -n 5 "$room/said")"
 else
     by_tools

@@ -128,9 +128,24 @@ END
         diff "$room/wanted" -
 }
 
-# page: man formats the page and complains of nothing.
+# emulated: the installed emulator runs outside of the sources, and its page has its words.
+emulated() {
+    version=$(awk '$2 == "VINJAKWE_VERSION" { gsub(/"/, ""); print $3 }' "$installed/include/vinjakwe.h")
+    grep -q "\"vinjakwe $version\"" "$installed/share/man/man1/vinjakwe-emulator.1" || return 1
+    (
+        cd "$elsewhere" && [ "$("$installed/bin/vinjakwe-emulator" --version)" = "vinjakwe-emulator $version" ] &&
+            bytes_of $startup | "$installed/bin/vinjakwe-emulator" --stdio --state kept | od -An -tx1 |
+            grep -q ' 80 01 00 00 00 0a 00 00 00 00' && [ -s kept ]
+    ) || return 1
+    sed 's/\\-/-/g' "$installed/share/man/man1/vinjakwe-emulator.1" >"$room/page"
+    "$installed/bin/vinjakwe-emulator" --help | grep -o -e '--[a-z-]*' | sort -u | while read -r word; do
+        grep -q -e "$word" "$room/page" || { echo "the page lacks $word" && exit 1; }
+    done
+}
+
+# page NAME: man formats the page and complains of nothing.
 page() {
-    MANWIDTH=80 man --warnings -E UTF-8 -l "$installed/share/man/man1/tpmtool.1" \
+    MANWIDTH=80 man --warnings -E UTF-8 -l "$installed/share/man/man1/$1.1" \
         >"$room/page.text" 2>"$room/page.err" && [ ! -s "$room/page.err" ] && grep -q 'EXIT STATUS' "$room/page.text"
 }
 
@@ -197,7 +212,12 @@ else
         holds "a C program over the installed archive without a C library" freestanding_linked
 fi
 name="the page of the program"
-there man "$name" && holds "$name" page
+there man "$name" && holds "$name" page tpmtool
+if [ -x "$installed/bin/vinjakwe-emulator" ]; then
+    holds "the installed emulator" emulated
+    name="the page of the emulator"
+    there man "$name" && holds "$name" page vinjakwe-emulator
+fi
 name="the words that bash completes"
 there bash "$name" && holds "$name" completed
 name="the completions for zsh are read"
