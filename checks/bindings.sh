@@ -242,8 +242,9 @@ def refuses(kind, call, *words):
     raise SystemExit(f"{call} {words}")
 
 for it in ("80", 5, None, object(), 1.5, (b"",), [b""]):
-    for call in (v.decode_command, v.replay, v.Framer().push, v.Device, v.Device().execute):
+    for call in (v.decode_command, v.Framer().push, v.Device, v.Device().execute):
         refuses((TypeError, AttributeError), call, it)
+    refuses((TypeError, AttributeError, FileNotFoundError), v.replay, it)
 refuses(BufferError, v.decode_command, memoryview(b"1234")[::2])
 refuses(ValueError, v.decode_response, "GetRandom", b"")
 refuses(ValueError, v.decode_response, -1, b"")
