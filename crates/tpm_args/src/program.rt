@@ -15,7 +15,7 @@ const VERSION: &str = "0.1.0";
 const LONG_VERSION: &str = "0.1.0
 profile: 18 commands; SHA-1, SHA-256 and SHA-384; counters; event logs
 library: TPM 2.0, revision 1.59
-toolchain: rattle-kit-13f";
+logic: dac8208d650f15bf";
 
 const AFTER_HELP: &str = "Examples:
   tpmtool show 80010000000c000001440000
