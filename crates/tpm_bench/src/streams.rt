@@ -70,7 +70,8 @@ impl Source for Pieces<'_> {
 
     fn read(&mut self, room: &mut [u8]) -> Result<usize, ReadFailed>
         ensures bound { ReadsAtMost result room.new }
-        ensures bytes { ReadConsumes (Some self.old.rest.now) (Some self.new.rest.now) result room.new }
+        ensures bytes { ReadConsumes
+            (Some self.old.rest.now) (Some self.new.rest.now) result room.new }
         ensures count { CountsFailures 0 0 result }
         ensures stop { IfErr result (λ _. IsWhereItFailed true) }
         ensures never_fails { IsOk result }

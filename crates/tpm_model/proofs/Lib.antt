@@ -3,6 +3,7 @@ pub mod Cuts
 pub mod Runs
 pub mod Rising
 pub mod Restored
+pub mod Kept
 pub mod Spelled
 pub mod Slots
 pub mod Nonces

@@ -99,11 +99,17 @@ kept_magic = 0x564A4E56
 abbrev pub kept_version : ℕ
 kept_version = 1
 
+unfoldable pub magic_number : Layout ℕ
+magic_number = number_in 4 (λ n. n == kept_magic) rc_value
+
+unfoldable pub version_number : Layout ℕ
+version_number = number_in 2 (λ n. n == kept_version) rc_value
+
 -- magic number, version, the greatest value, the counters behind their count
 unfoldable pub kept_contents : Layout NvMemory
 kept_contents =
-    field (λ _. kept_magic) (number_in 4 (λ n. n == kept_magic) rc_value) (λ _.
-    field (λ _. kept_version) (number_in 2 (λ n. n == kept_version) rc_value) (λ _.
+    field (λ _. kept_magic) magic_number (λ _.
+    field (λ _. kept_version) version_number (λ _.
     field (λ nv. nv.greatest) (any_number 8) (λ greatest.
     field (λ nv. nv.counters) (counted 0 most_counters kept_counter) (λ counters.
     field (λ _. tt) (judged (check_counters greatest counters)) (λ _.
@@ -120,11 +126,14 @@ kept_digest nv = digest Sha256 (spelling kept_contents nv)
 abbrev pub judge_digest : NvMemory → List ℕ → Result (List ℕ) ℕ
 judge_digest nv bytes = if bytes_eq bytes (kept_digest nv) then Ok bytes else Err rc_integrity
 
+unfoldable pub digest_behind : NvMemory → Layout (List ℕ)
+digest_behind nv = text 32 (judge_digest nv) (λ bytes. bytes)
+
 -- NV memory as it is kept: the contents, and as the last 32 bytes the SHA-256 digest of all before them
 unfoldable pub kept_memory : Layout NvMemory
 kept_memory =
     field (λ nv. nv) kept_contents (λ nv.
-    field kept_digest (text 32 (judge_digest nv) (λ bytes. bytes)) (λ _.
+    field kept_digest (digest_behind nv) (λ _.
     done nv))
 
 -- ---- the device that is made again

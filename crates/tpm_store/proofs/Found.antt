@@ -6,20 +6,8 @@ use Rattle.std.proofs.lemmas.List.{get_or_at, set_at, take_more, drop_more, take
 use Rattle.std.specs.Prelude.{◌^◌, nat_le, if◌then◌else◌}
 use Rattle.tpm_model.specs.Counters.{Counter, has_index, counter_in, next_value, written, incremented, with_increment}
 use Rattle.tpm_model.specs.Counters.{NvMemory}
+use Rattle.tpm_model.proofs.Kept.{or_others, found_after}
 use Rattle.tpm_store.specs.Places.{IsPlace}
-
--- a counter before others, of which none is of the index
-or_others : (i : ℕ) (c : Counter) (others : Option Counter) → (if has_index i c then Some c else others) ≡ None → (has_index i c ≡ false) × (others ≡ None)
-or_others i c others none =
-    elim (has_index i c) as
-    (λ b. has_index i c ≡ b → (if b then Some c else others) ≡ None → (has_index i c ≡ false) × (others ≡ None)) [
-      | true ↦ λ is e. absurd (let k : ⊥ = cc in k)
-      | false ↦ λ is e. (is, e)
-    ] refl none
-
-found_after : (i : ℕ) (xs ys : List Counter) → counter_in xs i ≡ None → counter_in (xs ++ ys) i ≡ counter_in ys i
-found_after i [] ys none = refl
-found_after i (x ∷ xs) ys none = let both = or_others i x (counter_in xs i) none in rw both.0 (found_after i xs ys both.1)
 
 split_at : (xs : List Counter) (k : ℕ) (d : Counter) → k < length xs → xs ≡ take k xs ++ get_or xs k d ∷ drop (k + 1) xs
 split_at xs k d lt = sym (take-append-drop k xs) ∙ ap (λ (r : List Counter). take k xs ++ r) (drop_more xs k d lt)

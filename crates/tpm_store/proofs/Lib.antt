@@ -4,3 +4,4 @@ pub mod Stands
 pub mod Choice
 pub mod Entries
 pub mod Found
+pub mod Memory

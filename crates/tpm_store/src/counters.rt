@@ -1,7 +1,7 @@
 //! Counters in non-volatile memory (Part 1, "NV Memory"; Part 3, "Non-volatile Storage").
 
 ghost use Rattle.std.specs.Prelude.{◌≡◌, ℕ, ◌^◌, ◌<◌, ◌≤◌, nat_le, set, List, [], ◌++◌, length, slice_index_or, Some};
-ghost use Rattle.std.specs.Prelude.{None, option_map, IfSome, IfNone, OnOk, OnErr, if◌then◌else◌};
+ghost use Rattle.std.specs.Prelude.{None, not, option_map, IfSome, IfNone, OnOk, OnErr, if◌then◌else◌};
 ghost use Rattle.tpm_types.specs.Limits.{digest_bytes};
 ghost use Rattle.tpm_types.specs.declared.tpms.NvPublic.{NvPublic as Public};
 ghost use Rattle.tpm_commands.specs.declared.command.CommandBody.TheVariants as bodies;
@@ -10,6 +10,8 @@ ghost use Rattle.tpm_model.specs.Counters.{has_index, counter_in, next_value, wr
 ghost use Rattle.tpm_model.specs.Entities.{nv_name};
 ghost use Rattle.tpm_model.specs.Actions.{is_definable, check_define, may as may_by, increment as increment_of};
 ghost use Rattle.tpm_model.specs.Actions.{read_counter};
+ghost use Rattle.tpm_model.specs.Authorization.{is_empty};
+ghost use Rattle.tpm_model.specs.Kept.{IsKept};
 ghost use Rattle.tpm_model.specs.Counters as model;
 ghost use Rattle.tpm_store.specs.Answers.{check_undefine};
 ghost use Rattle.tpm_store.specs.Places.{IsPlace};
@@ -36,36 +38,49 @@ pub const MOST_COUNTERS: usize = 8;
 /// How many bytes the value of a counter has.
 pub const COUNTER_BYTES: usize = 8;
 
+/// A counter that its owner reads and writes.
+const BLANK_ATTRS: u32 = 0x0002_0012;
+
 /// An index that is defined.
 #[derive(Drop)]
-struct Counter {
+pub struct Counter {
     // Its public area as it is now: WRITTEN is set from the first increment on.
-    public: NvPublic,
+    pub(crate) public: NvPublic,
     // Without trailing zeros.
-    auth: AuthValue,
+    pub(crate) auth: AuthValue,
     // Its value, where it was incremented.
-    value: Option<u64>,
+    pub(crate) value: Option<u64>,
 }
 
 impl Model for Counter {
     ghost use Rattle.tpm_model.specs.Counters as model;
+    ghost use Rattle.tpm_model.specs.Kept.{IsKept};
 
     ghost Value = { model.Counter };
 
     ghost view = { λ c. record { public = c.public; auth = c.auth; value = c.value } };
+
+    ghost invariant = { λ c. IsKept (record {
+      public = c.public;
+      auth = c.auth;
+      value = c.value;
+    }) };
 }
 
 /// A blank, which fills the room for counters.
 impl Default for Counter {
     fn default() -> Self {
-        match (NvIndex::from_number(0x0180_0000), NvAttrs::from_number(0)) {
+        match (
+            NvIndex::from_number(0x0180_0000),
+            NvAttrs::from_number(BLANK_ATTRS),
+        ) {
             (Some(index), Some(attrs)) => Counter {
                 public: NvPublic {
                     index,
                     alg: Alg::default(),
                     attrs,
                     policy: Digest::default(),
-                    data_size: 0,
+                    data_size: COUNTER_BYTES as u16,
                 },
                 auth: AuthValue::default(),
                 value: None,
@@ -78,7 +93,8 @@ impl Default for Counter {
 impl Counter {
     // A counter of an index that was just defined, with an authorization value without trailing zeros.
     fn defined(public: &NvPublic, auth: &[u8]) -> Self
-        requires { length auth.now ≤ digest_bytes }
+        requires short { length auth.now ≤ digest_bytes }
+        requires kept { IsKept (record { public = public.now; auth = auth.now; value = None }) }
         ensures { result ≡ record { public = public.now; auth = auth.now; value = None } }
     {
         let auth = match AuthValue::new(auth) {
@@ -111,8 +127,30 @@ impl Counter {
         joined(&alg.number().to_be_bytes(), digest.as_slice())
     }
 
+    /// Its public area as it is now: WRITTEN is set from the first increment on.
+    pub fn public(&self) -> &NvPublic
+        ensures { result.now ≡ self.now.public }
+    {
+        &self.public
+    }
+
+    /// Whether it has an authorization value that is not empty.
+    pub fn has_auth(&self) -> bool
+        ensures { result ≡ not (is_empty self.now.auth) }
+    {
+        !self.auth.as_slice().is_empty()
+    }
+
+    /// Its value, where it was incremented since its definition.
+    pub fn value(&self) -> Option<u64>
+        ensures { result ≡ self.now.value }
+    {
+        self.value
+    }
+
     // Gives it a value.
     fn write(&mut self, value: u64)
+        requires { 0 < value }
         ensures { self.new
             ≡ record {
               public = written self.old.public;
@@ -165,7 +203,7 @@ fn place(counters: &[Counter], index: NvIndex) -> Option<usize>
 }
 
 // The counter of an index.
-fn entry(counters: &[Counter], index: NvIndex) -> Option<&Counter>
+pub(crate) fn entry(counters: &[Counter], index: NvIndex) -> Option<&Counter>
     ensures { option_map (λ c. c.now) result ≡ counter_in counters.now index }
 {
     match place(counters, index) {
@@ -176,7 +214,8 @@ fn entry(counters: &[Counter], index: NvIndex) -> Option<&Counter>
 
 // Gives the counter at this place a value.
 fn write(counters: &mut [Counter], k: usize, value: u64)
-    requires { k < length counters.old }
+    requires place { k < length counters.old }
+    requires above { 0 < value }
     ensures { (c : model.Counter) →
         slice_index_or counters.old k c ≡ c →
         counters.new
@@ -219,16 +258,20 @@ fn may_be_defined(attrs: NvAttrs) -> bool
 /// any had. Power cycles leave them.
 #[derive(Drop)]
 pub struct Counters {
-    counters: ArrayVec<Counter, MOST_COUNTERS>,
-    greatest: u64,
+    pub(crate) counters: ArrayVec<Counter, MOST_COUNTERS>,
+    pub(crate) greatest: u64,
 }
 
 impl Model for Counters {
+    ghost use Rattle.std.specs.Prelude.{◌≡◌, Ok};
     ghost use Rattle.tpm_model.specs.Counters.{NvMemory};
+    ghost use Rattle.tpm_model.specs.Kept.{check_counters};
 
     ghost Value = { NvMemory };
 
     ghost view = { λ c. record { counters = c.counters.items; greatest = c.greatest } };
+
+    ghost invariant = { λ c. check_counters c.greatest c.counters.items ≡ Ok tt };
 }
 
 impl Counters {

@@ -3,7 +3,9 @@
 
 mod banks;
 mod counters;
+mod kept;
 mod registers;
 
-pub use counters::{By, COUNTER_BYTES, Counters, MOST_COUNTERS};
+pub use counters::{By, COUNTER_BYTES, Counter, Counters, MOST_COUNTERS};
+pub use kept::{INTEGRITY, KEPT_BYTES};
 pub use registers::{Locality, Registers, event_digests};

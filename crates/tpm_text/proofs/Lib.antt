@@ -3,3 +3,4 @@ pub mod Listed
 pub mod InputLines
 pub mod Tables
 pub mod Joins
+pub mod LineReading

@@ -3,3 +3,5 @@ pub mod Faults
 pub mod Text
 pub mod Named
 pub mod InputLines
+pub mod LineSinks
+pub mod LineReading

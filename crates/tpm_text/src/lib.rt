@@ -4,6 +4,7 @@
 pub mod answer;
 pub mod fault;
 pub mod hexadecimal;
+pub mod lines;
 pub mod named;
 pub mod registers;
 pub mod sessions;
