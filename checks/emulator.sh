@@ -389,6 +389,16 @@ controlled() {
         ! timeout 20 tpm2_pcrread sha256:16 && timeout 20 $control -s && wait "$server"
 }
 
+# controlled_over_tcp: the same port by its bytes: no descriptors, a message that waits for its rest, and unknown ones.
+controlled_over_tcp() {
+    begin emulator || return 1
+    ask 1 00000001 00000010 0000000500 0000000503 00000004 0000000b00000000 00000009 0000000f ffffffff 00000011 00000000 \
+        0000000200000000 0000000e 00000012 00000001 >"$room/answers"
+    end
+    printf '%s\n' 0000000000002caf 0000000a 00000000 0000003d 0000000000000000 00000000 00000000 0000000000000000 \
+        0000000a - 00000000000010000000100000001000 00000000 00000000 0000000a 0000000000002caf | diff - "$room/answers"
+}
+
 # the_device_alone: with --only-device nothing is answered by the host.
 the_device_alone() {
     begin emulator --only-device || return 1
@@ -818,6 +828,7 @@ else
         skip "a counter is on the disk before the reply" "there is no strace"
     fi
     emulates "a command over mssim in two parts does not wait" in_parts
+    emulates "each message of swtpm's control port is answered" controlled_over_tcp
     emulates "each message of QEMU's channel is answered" channelled
     emulates "a Unix socket has one emulator" one_channel
     emulates "the emulator in the background" in_the_background
