@@ -1,7 +1,7 @@
 -- What is known of a command that was read, and of the checks of its sessions.
-use Rattle.std.proofs.Common.{◌≡◌, ℕ, Bool, true, false, List, [], ◌∷◌, Option, Some, None, Result, Ok, refl, sym, ap}
+use Rattle.std.proofs.Common.{◌≡◌, ℕ, Bool, true, false, List, [], ◌∷◌, Option, Some, None, Result, Ok, Err, refl, sym, ap}
 use Rattle.std.proofs.Common.{subst, ◌∙◌}
-use Rattle.std.specs.Prelude.{◌==◌, if◌then◌else◌, slice_get, IsSome}
+use Rattle.std.specs.Prelude.{◌==◌, if◌then◌else◌, slice_get}
 use Rattle.tpm_wire.specs.Buffers.{number_in, numbered}
 use Rattle.tpm_wire.specs.Token.{Here}
 use Rattle.tpm_wire.specs.Reading.{read, ◌>>=◌}
@@ -9,7 +9,7 @@ use Rattle.tpm_wire.specs.ResponseCodes.{rc_value, of_handle}
 use Rattle.tpm_wire.proofs.Agreement.{bind_ok}
 use Rattle.tpm_wire.proofs.Longer.{in_set}
 use Rattle.tpm_types.specs.declared.tpms.Auth.{Auth}
-use Rattle.tpm_types.specs.Handles.{is_owner, is_session, rs_pw}
+use Rattle.tpm_types.specs.Handles.{is_owner, rs_pw}
 use Rattle.tpm_commands.specs.declared.code.CommandCode.{CommandCode}
 use Rattle.tpm_commands.specs.declared.command_handles.HandleKind.TheVariants.{Owner, Index}
 use Rattle.tpm_commands.specs.declared.command_handles.HandleKind.{HandleKind}
@@ -19,14 +19,15 @@ use Rattle.tpm_buffer.specs.CommandAreas.{Cut}
 use Rattle.tpm_model.specs.Sessions.{Session, loaded}
 use Rattle.tpm_model.specs.Present.{Present}
 use Rattle.tpm_model.specs.Entities.{Entity, entity_of, names_of}
-use Rattle.tpm_model.specs.Authorization.{Evidence, NotAsked, Authorizer, Password, by_session, check_session}
+use Rattle.tpm_model.specs.Authorization.{Evidence, NotAsked, Authorizer, Password, by_session, check_loaded, check_session}
 use Rattle.tpm_model.specs.Authorization.{check_entity, evidence_by, check_evidence, authorize, reply_auths}
 use Rattle.tpm_model.specs.Authorization.{password_reply}
 use Rattle.tpm_model.specs.Answers.{evidence_in}
 use Rattle.tpm_model.proofs.Sealing.{okay_is}
 use Rattle.tpm_model.proofs.Refused.{handles_read, same_list}
-use Rattle.tpm_model.proofs.Replay.{no_password}
-use Rattle.tpm_device.specs.Stands.{evidence_for, sessions_checked, owner_authorizes}
+use Rattle.tpm_session.specs.Entities.{authorized}
+use Rattle.tpm_session.proofs.Authorized.{authorize_refused}
+use Rattle.tpm_device.specs.Stands.{evidence_for, sessions_checked, claim_of, owner_authorizes}
 
 -- ---- the handles
 
@@ -67,7 +68,7 @@ pub checked_by : (p : Present) (x : Cut) (a : Auth) (others : List Auth) (e : En
     (counter : ℕ) → x.auths ≡ a ∷ others
     → e ≡ entity_of p (first x.handles) → code ≡ x.header.code → params ≡ x.params → counter ≡ p.registers.update_counter →
     ((a.session == rs_pw) ≡ false → names ≡ names_of p x.handles)
-    → authorize (loaded p.sessions a.session) e code names params counter (a ∷ others) ≡ sessions_checked p x x.auths
+    → authorize (loaded p.sessions a.session) e code names params counter (a ∷ others) ≡ sessions_checked p x
 checked_by p x a others e code names params counter auths entity is_code is_params is_counter are =
     let s = loaded p.sessions a.session in
     ap (λ (f : Entity). authorize s f code names params counter (a ∷ others)) entity
@@ -75,7 +76,15 @@ checked_by p x a others e code names params counter auths entity is_code is_para
     ∙ ap (λ (ps : List ℕ). authorize s (entity_of p (first x.handles)) x.header.code names ps counter (a ∷ others)) is_params
     ∙ ap (λ (n : ℕ). authorize s (entity_of p (first x.handles)) x.header.code names x.params n (a ∷ others)) is_counter
     ∙ names_matter s (entity_of p (first x.handles)) x.header.code names (names_of p x.handles) x.params p.registers.update_counter a others are
-    ∙ ap (λ (list : List Auth). sessions_checked p x list) (sym auths)
+    ∙ ap (λ (list : List Auth). authorized p.sessions (record (claim_of p x) { auths = list })) (sym auths)
+
+-- Where the first session names nobody, that is the first refusal.
+pub unnamed : (p : Present) (x : Cut) (a : Auth) (others : List Auth) (code : ℕ) → x.auths ≡ a ∷ others
+    → check_loaded a.session (loaded p.sessions a.session) ≡ Err code → sessions_checked p x ≡ Err code
+unnamed p x a others code auths is =
+    ap (λ (list : List Auth). authorized p.sessions (record (claim_of p x) { auths = list })) auths
+    ∙ authorize_refused (loaded p.sessions a.session) (entity_of p (first x.handles)) x.header.code (names_of p x.handles) x.params
+    p.registers.update_counter a others code (sym is)
 
 -- the sessions of a command, by the first of them
 pub no_auths : (auths : List Auth) → None ≡ slice_get auths 0 → auths ≡ []
@@ -85,35 +94,6 @@ no_auths (a ∷ others) none = absurd (cc)
 pub first_auth : (auths : List Auth) (a : Auth) → Some a ≡ slice_get auths 0 → (others : List Auth) × (auths ≡ a ∷ others)
 first_auth [] a is = absurd (cc)
 first_auth (b ∷ others) a is = (others, cc)
-
--- ---- what a session's handle is
-
-named_by : (is : Bool) (n m : ℕ) → Some m ≡ (if is then Some n else None) → (m ≡ n) × (is ≡ true)
-named_by true n m e = (cc, refl)
-named_by false n m e = absurd (let z : ⊥ = cc in z)
-
-none_by : (is : Bool) (n : ℕ) → None ≡ (if is then Some n else None) → is ≡ false
-none_by true n e = absurd (let z : ⊥ = cc in z)
-none_by false n e = refl
-
-pub named_session : (n m : ℕ) → Some m ≡ (if is_session n then Some n else None) → (m ≡ n) × (is_session n ≡ true)
-named_session n m is = named_by (is_session n) n m is
-
-pub named_none : (n : ℕ) → None ≡ (if is_session n then Some n else None) → is_session n ≡ false
-named_none n is = none_by (is_session n) n is
-
--- A session that gives evidence is loaded.
-it_is : (is : Bool) (s : Option Session) (next : Authorizer → Result Evidence ℕ) (e : Evidence) → is ≡ false →
-    ((if is then Ok Password else by_session s) >>= next) ≡ Ok e → IsSome s
-it_is true s next e not is = absurd (let z : ⊥ = cc in z)
-it_is false None next e not is = absurd (let z : ⊥ = cc in z)
-it_is false (Some x) next e not is = refl
-
-pub is_loaded : (p : Present) (x : Cut) (a : Auth) (others : List Auth) (e : Evidence) → evidence_for p x ≡ Ok e → x.auths ≡ a ∷ others →
-    is_session a.session ≡ true → IsSome (loaded p.sessions a.session)
-is_loaded p x a others e gives are is =
-    it_is (a.session == rs_pw) (loaded p.sessions a.session) _ e (no_password a.session is)
-    (ap (λ (auths : List Auth). evidence_in p x.header.code x.handles x.params auths) (sym are) ∙ gives)
 
 -- ---- the reply to a password
 

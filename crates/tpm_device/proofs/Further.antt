@@ -3,7 +3,6 @@ use Rattle.std.proofs.Common.{◌≡◌, ℕ, Bool, true, false, List, [], ◌�
 use Rattle.std.specs.Prelude.{◌||◌, ◌++◌, OnOk}
 use Rattle.tpm_types.specs.declared.tpms.Auth.{Auth}
 use Rattle.tpm_types.specs.declared.tpms.AuthReply.{AuthReply}
-use Rattle.tpm_types.specs.Handles.{is_session}
 use Rattle.tpm_commands.specs.declared.command.Command.{Command}
 use Rattle.tpm_commands.specs.declared.command.CommandBody.{CommandBody}
 use Rattle.tpm_commands.specs.declared.response.ReplyBody.{ReplyBody}
@@ -79,14 +78,6 @@ with_sessions o h old new body reply auths replied n st started owner registers 
     (registers ∙ ap (λ (p : Present). p.registers) st)
     sessions
     (counters ∙ ap (λ (p : Present). p.nv) st)
-
--- A password leaves the sessions.
-pub by_a_password : (o : Origin) (h : History) (d : Device) (body : CommandBody) (reply : ReplyBody) (a : Auth) (others : List Auth)
-    (replied : List AuthReply) (n : List ℕ)
-    → is_session a.session ≡ false → Stands o (step_of body reply n ∷ h) d
-    → Stands o (Accepted (with_auths body (a ∷ others)) (record { body = reply; auths = replied }) n ∷ h) d
-by_a_password o h d body reply a others replied n none st =
-    with_sessions o h d d body reply (a ∷ others) replied n st refl refl refl refl (rw none (its_sessions o (step_of body reply n ∷ h) d st))
 
 -- ---- words
 

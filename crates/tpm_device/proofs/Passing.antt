@@ -1,12 +1,12 @@
 -- What was permitted and performed is the answer.
-use Rattle.std.proofs.Common.{◌≡◌, ℕ, ◌<◌, List, Option, Result, Ok, Err, refl, sym, ap, ◌∙◌}
+use Rattle.std.proofs.Common.{◌≡◌, ℕ, ◌<◌, Bool, true, false, List, [], ◌∷◌, Option, None, Some, Result, Ok, Err, refl}
+use Rattle.std.proofs.Common.{sym, ap, subst, ◌∙◌}
 use Rattle.std.specs.Prelude.{IfOk, IfErr}
 use Rattle.arrayvec.specs.ArrayVec.{ArrayVec}
 use Rattle.tpm_wire.specs.declared.refusal.Refusal.{Refusal}
 use Rattle.tpm_wire.specs.Token.{at_start}
 use Rattle.tpm_wire.specs.Reading.{read, read_all, ◌>>=◌}
 use Rattle.tpm_wire.specs.Spelling.{spelling}
-use Rattle.tpm_types.specs.declared.tpms.Auth.{Auth}
 use Rattle.tpm_types.specs.declared.tpms.AuthReply.{AuthReply}
 use Rattle.tpm_types.specs.Handles.{is_owner}
 use Rattle.tpm_commands.specs.declared.code.CommandCode.{CommandCode}
@@ -21,7 +21,7 @@ use Rattle.tpm_buffer.specs.CommandAreas.{HeaderCut, HandlesCut, Cut, head_and_r
 use Rattle.tpm_buffer.specs.Commands.{authorization, command_size, header, body_from, code_for}
 use Rattle.tpm_buffer.specs.Responses.{response_tag, response_front, response_code, response, done_with}
 use Rattle.tpm_model.specs.Present.{Present}
-use Rattle.tpm_model.specs.Sessions.{loaded}
+use Rattle.tpm_model.specs.Sessions.{Session, loaded}
 use Rattle.tpm_model.specs.Entities.{entity_of, names_of}
 use Rattle.tpm_model.specs.Authorization.{Evidence, first_loaded, reply_auths, check_evidence}
 use Rattle.tpm_model.specs.Actions.{action}
@@ -31,10 +31,11 @@ use Rattle.tpm_model.specs.Premises.{code_in}
 use Rattle.tpm_model.proofs.Accepted.{ok_is}
 use Rattle.tpm_model.proofs.Refused.{refused_with}
 use Rattle.tpm_model.proofs.OwnCode.{no_session_read, needs_it}
+use Rattle.tpm_device.specs.declared.authorization.Authorization.{Authorization}
 use Rattle.tpm_device.specs.declared.device.Device.{Device}
 use Rattle.tpm_device.specs.Stands.{holds, evidence_for, sessions_checked, owner_authorizes, IsAdmitted, IsRead}
-use Rattle.tpm_device.specs.Stands.{IsPermittedBy, presented_with, done_of, Steps, Replies, Rolls, IsReady, Performs}
-use Rattle.tpm_device.specs.Stands.{reply_bytes, told}
+use Rattle.tpm_device.specs.Stands.{IsPermittedBy, presented_with, done_of, Steps, Replies, Rolls, MayBePerformed, IsPerformed, Begin, End}
+use Rattle.tpm_device.specs.Stands.{reply_bytes, told, IsAuthorization}
 use Rattle.tpm_device.proofs.Alike.{alike}
 use Rattle.tpm_device.proofs.Checked.{owner_read}
 use Rattle.tpm_session.proofs.Authorized.{authorized}
@@ -90,11 +91,11 @@ refused_by p x (Err other) code is = cc
 
 -- What was read is refused by the checks of its sessions, or has evidence that is right.
 pub sessions_refuse : (p : Present) (bytes : List ℕ) (x : Cut) (code : ℕ) → IsRead p (presented p bytes) (Ok x)
-    → sessions_checked p x x.auths ≡ Err code → permitted p bytes ≡ Err code
+    → sessions_checked p x ≡ Err code → permitted p bytes ≡ Err code
 sessions_refuse p bytes x code read refused = rw read (refused_by p x (evidence_for p x) code refused)
 
 pub sessions_permit : (p : Present) (bytes : List ℕ) (x : Cut) → IsRead p (presented p bytes) (Ok x)
-    → sessions_checked p x x.auths ≡ Ok tt → IsPermittedBy p (permitted p bytes) x
+    → sessions_checked p x ≡ Ok tt → IsPermittedBy p (permitted p bytes) x
 sessions_permit p bytes x read met =
     let right = authorized (first_loaded (loaded p.sessions) x.auths) (entity_of p (first x.handles)) x.header.code
     (names_of p x.handles) x.params p.registers.update_counter x.auths met in
@@ -115,23 +116,26 @@ params_refuse p n x params (Err code) reads refuses = λ y own handles is.
     performed_is p n y params (rw (own, is) reads) ∙ ap (λ (hs : List ℕ). done_of p n y (body_from hs params)) handles ∙ refuses y own handles is
 
 -- What is done with the parameters that were read is performed.
-pub with_params : {old new : Device} {n : List ℕ} {before after : ArrayVec ℕ} {r : Result (Unit {0}) ℕ} (x : Cut) (params : Params) →
-    read_all (parameters x.header.code) x.params ≡ Ok params
-    → Performs old x n (λ y. done_of (holds old) n y (body_from x.handles params)) before r new after →
-    Performs old x n (performed (holds old) n) before r new after
-with_params {old} {new} {n} {before} {after} {r} x params reads did = record {
+pub with_params : {old : Begin} {new : End} (x : Cut) (params : Params) → read_all (parameters x.header.code) x.params ≡ Ok params
+    → IsPerformed x (λ y. done_of (holds old.device) old.nonce y (body_from x.handles params)) old new →
+    IsPerformed x (performed (holds old.device) old.nonce) old new
+with_params {old} {new} x params reads did = record {
   answer = λ e o h gives st. rw reads (did.answer e o h gives st);
   stands = λ e o h gives st. rw reads (did.stands e o h gives st);
-  refuses = params_refuse (holds old) n x params r reads did.refuses;
+  refuses = params_refuse (holds old.device) old.nonce x params new.result reads did.refuses;
   refused = did.refused;
   done = did.done;
   none = did.none;
 }
 
+-- A refusal leaves all as it was.
+abbrev pub refused_with_code : Begin → ℕ → End
+refused_with_code old code = record { result = Err code; device = old.device; out = old.out }
+
 -- Parameters that cannot be read refuse the command.
-pub without_params : (old : Device) (x : Cut) (n : List ℕ) (out : ArrayVec ℕ) (fault : Refusal) → read_all (parameters x.header.code) x.params ≡ Err fault
-    → Performs old x n (performed (holds old) n) out (Err fault.code) old out
-without_params old x n out fault reads = record {
+pub without_params : (old : Begin) (x : Cut) (fault : Refusal) → read_all (parameters x.header.code) x.params ≡ Err fault
+    → IsPerformed x (performed (holds old.device) old.nonce) old (refused_with_code old fault.code)
+without_params old x fault reads = record {
   answer = λ e o h gives st. rw reads refl;
   stands = λ e o h gives st. rw reads st;
   refuses = λ y own handles is. rw (own, is, reads) refl;
@@ -142,19 +146,33 @@ without_params old x n out fault reads = record {
 
 -- ---- the action
 
+by_none : (x : Cut) (s t : List (Option Session)) (needs : Bool) → (needs ≡ false → x.auths ≡ []) → (by : Option Authorization) → IsAuthorization s x by →
+    (needs ≡ true → t ≡ s) → IsAuthorization t x by
+by_none x s t needs none None is same = is
+by_none x s t true none (Some a) is same = subst (λ (u : List (Option Session)). IsAuthorization u x (Some a)) (sym (same refl)) is
+by_none x s t false none (Some a) is same = absurd (let empty : a.session ∷ is.others ≡ [] = sym is.auths ∙ none refl in cc)
+
+-- A command that has acted is authorized as before.
+pub stays_authorized : (old new : Device) (x : Cut) (by : Option Authorization) (out : ArrayVec ℕ) → MayBePerformed old x by out
+    → (needs_authorization x.header.code ≡ true → new.sessions ≡ old.sessions) → IsAuthorization new.sessions x by
+stays_authorized old new x by out ready same =
+    by_none x old.sessions new.sessions (needs_authorization x.header.code) ready.admitted.sessions by ready.authorized same
+
 -- A command that acted, was answered and rolled its session is done.
-pub was_done : (old mid new : Device) (x : Cut) (auth : Option Auth) (n : List ℕ) (body : CommandBody) (reply : ReplyBody) (before after : ArrayVec ℕ) →
-    IsReady old x auth before → code_for body ≡ x.header.code
-    → Ok reply ≡ action (holds old) body n → Steps old mid body reply n → Replies mid x n reply after.items → code_in after.items ≡ 0 → Rolls mid x.auths n new
-    → Performs old x n (λ y. done_of (holds old) n y body) before (Ok tt) new after
-was_done old mid new x auth n body reply before after ready code is steps replies done rolls = record {
+pub was_done : (old : Begin) (mid new : Device) (x : Cut) (by : Option Authorization) (body : CommandBody) (reply : ReplyBody) (after : ArrayVec ℕ) →
+    MayBePerformed old.device x by old.out → code_for body ≡ x.header.code
+    → Ok reply ≡ action (holds old.device) body old.nonce → Steps old.device mid body reply old.nonce
+    → Replies mid x (record { body = reply; nonce = old.nonce; bytes = after.items }) → code_in after.items ≡ 0 → Rolls mid x.auths old.nonce new
+    → IsPerformed x (λ y. done_of (holds old.device) old.nonce y body) old (record { result = Ok tt; device = new; out = after })
+was_done old mid new x by body reply after ready code is steps replies done rolls = record {
   answer = λ e o h gives st.
       rw (← is) (ap (λ (b : List ℕ). let r : Result (List ℕ) ℕ = Ok b in r)
-      (replies (holds old) e (λ a others are. alike o h old mid body reply n (first x.handles) st (steps o h st)
+      (replies (holds old.device) e (λ a others are. alike o h old.device mid body reply old.nonce (first x.handles) st (steps o h st)
       (ap needs_authorization code ∙ needs_it (needs_authorization x.header.code) x.auths a others ready.admitted.sessions are)
       (λ own. ready.admitted.owner (rw (← code) own))) gives));
   stands = λ e o h gives st.
-      rw (← is) (rolls o h body reply (reply_auths e x.header.code (reply_params reply) n) (λ not. ready.admitted.sessions (rw (← code) not)) (steps o h st));
+      rw (← is) (rolls o h body reply (reply_auths e x.header.code (reply_params reply) old.nonce)
+      (λ not. ready.admitted.sessions (rw (← code) not)) (steps o h st));
   refuses = tt;
   refused = tt;
   done = done;
@@ -162,10 +180,10 @@ was_done old mid new x auth n body reply before after ready code is steps replie
 }
 
 -- What the action refuses is refused.
-pub was_refused : (old new : Device) (x : Cut) (n : List ℕ) (body : CommandBody) (out : ArrayVec ℕ) (code : ℕ) →
-    Err code ≡ action (holds old) body n → new ≡ old
-    → Performs old x n (λ y. done_of (holds old) n y body) out (Err code) new out
-was_refused old new x n body out code is same = record {
+pub was_refused : (old : Begin) (new : Device) (x : Cut) (body : CommandBody) (code : ℕ) →
+    Err code ≡ action (holds old.device) body old.nonce → new ≡ old.device
+    → IsPerformed x (λ y. done_of (holds old.device) old.nonce y body) old (record { result = Err code; device = new; out = old.out })
+was_refused old new x body code is same = record {
   answer = λ e o h gives st. rw (← is) refl;
   stands = λ e o h gives st. rw (← is, same) st;
   refuses = λ y own handles params. rw (← is) refl;

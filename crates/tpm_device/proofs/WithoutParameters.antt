@@ -10,13 +10,13 @@ use Rattle.tpm_model.specs.Answers.{reply_params}
 use Rattle.tpm_device.specs.Stands.{any_bare, is_bare, reply_bytes}
 
 -- All have the same bytes.
-pub bare_bytes : (body : ReplyBody) (auths : List AuthReply) → is_bare body ≡ true →
+pub same_bytes : (body : ReplyBody) (auths : List AuthReply) → is_bare body ≡ true →
     reply_bytes (record { body = any_bare; auths = auths }) ≡ reply_bytes (record { body = body; auths = auths })
 unfolding response response_front response_tag response_code command_size with_sessions without_sessions parameter_size
-bare_bytes replies.Startup [] is = refl
-bare_bytes replies.Startup (a ∷ others) is = refl
-bare_bytes _ [] is = cc
-bare_bytes _ (a ∷ others) is = cc
+same_bytes replies.Startup [] is = refl
+same_bytes replies.Startup (a ∷ others) is = refl
+same_bytes _ [] is = cc
+same_bytes _ (a ∷ others) is = cc
 
 -- what is hashed of their parameters
 pub bare_params : (body : ReplyBody) → is_bare body ≡ true → [] ≡ reply_params body

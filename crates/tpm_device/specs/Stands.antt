@@ -1,5 +1,5 @@
 -- A device that holds what is present at a history.
-use Rattle.std.specs.Prelude.{◌≡◌, ℕ, Bool, true, false, List, [], ◌∷◌, length, slice_get, Option, None, Result, Ok}
+use Rattle.std.specs.Prelude.{◌≡◌, ℕ, Bool, true, false, List, [], ◌∷◌, length, Option, None, Some, Result, Ok}
 use Rattle.std.specs.Prelude.{Err, IfErr, OnOk, OnErr}
 use Rattle.arrayvec.specs.ArrayVec.{ArrayVec}
 use Rattle.tpm_wire.specs.Reading.{◌>>=◌}
@@ -20,12 +20,18 @@ use Rattle.tpm_buffer.specs.Commands.{code_for, with_auths}
 use Rattle.tpm_buffer.specs.Responses.{Reply, response, done_with}
 use Rattle.tpm_model.specs.Steps.{History, Origin, Step, Accepted}
 use Rattle.tpm_model.specs.Present.{Present, present}
-use Rattle.tpm_model.specs.Entities.{entity_of, names_of, auth_value, is_owner_entity}
-use Rattle.tpm_model.specs.Sessions.{Session, loaded}
-use Rattle.tpm_model.specs.Authorization.{Evidence, first_loaded, authorize, reply_auths, is_empty}
+use Rattle.tpm_model.specs.Counters.{counter_in}
+use Rattle.tpm_model.specs.Entities.Entity.{Register, Null, Owner}
+use Rattle.tpm_model.specs.Entities.{Entity, entity_of, index_entity, names_of, auth_value, is_owner_entity}
+use Rattle.tpm_model.specs.Sessions.{Session}
+use Rattle.tpm_model.specs.Authorization.{Evidence, reply_auths, is_empty}
 use Rattle.tpm_model.specs.Actions.{action}
 use Rattle.tpm_model.specs.Answers.{Presented, Done, evidence_in, reply_params, with_outcome}
 use Rattle.tpm_model.specs.Premises.{code_in}
+use Rattle.tpm_session.specs.Entities.{IsAuthority, Claim, authorized}
+use Rattle.tpm_device.specs.declared.authorization.Authorization.{Authorization}
+use Rattle.tpm_device.specs.declared.authorization.EntityHandle.{EntityHandle}
+use Rattle.tpm_device.specs.declared.authorization.EntityHandle.TheVariants as handles
 use Rattle.tpm_device.specs.declared.device.Device.{Device}
 
 -- the slots where no session is loaded
@@ -73,6 +79,30 @@ owner_authorizes codes.NvDefineSpace = true
 owner_authorizes codes.NvUndefineSpace = true
 owner_authorizes _ = false
 
+-- ---- who authorizes
+
+-- the entity of a typed handle
+abbrev pub entity_at : Present → EntityHandle → Entity
+entity_at p handles.Register = Register
+entity_at p handles.Null = Null
+entity_at p handles.Owner = Owner p.owner
+entity_at p (handles.Index index) = index_entity (counter_in p.nv.counters index)
+
+-- A command that was read is authorized so, among these sessions: by its first session, by who that
+-- names there, and for what its first handle names.
+pub record Authorizes (sessions : List (Option Session)) (x : Cut) (a : Authorization) : Type 0 where
+  pub others : List Auth
+  pub auths : x.auths ≡ a.session ∷ others
+  pub by : IsAuthority sessions a.session.session a.by
+  pub entity : (p : Present) → entity_at p a.entity ≡ entity_of p (first x.handles)
+
+-- It is authorized so, or has no session.
+abbrev pub IsAuthorization : List (Option Session) → Cut → Option Authorization → Type 0
+IsAuthorization sessions x None = x.auths ≡ []
+IsAuthorization sessions x (Some a) = Authorizes sessions x a
+
+-- ---- what the checks give
+
 -- What a command that was read is beside that: its handles are of their kinds, and it has sessions
 -- only where one authorizes it.
 pub record IsAdmitted (x : Cut) : Type 0 where
@@ -84,11 +114,25 @@ abbrev pub IsRead : Present → Result Presented ℕ → Result Cut ℕ → Type
 IsRead p r (Ok x) = r ≡ (evidence_for p x >>= λ evidence. Ok (presented_with p x evidence))
 IsRead p r (Err code) = r ≡ Err code
 
--- all checks of these sessions of a command
-abbrev pub sessions_checked : Present → Cut → List Auth → Result (Unit {0}) ℕ
-sessions_checked p x auths =
-    authorize (first_loaded (loaded p.sessions) auths) (entity_of p (first x.handles)) x.header.code
-    (names_of p x.handles) x.params p.registers.update_counter auths
+-- by what the authorization of a command that was read is judged
+abbrev pub claim_of : Present → Cut → Claim
+claim_of p x = record {
+  entity = entity_of p (first x.handles);
+  command = x.header.code;
+  names = names_of p x.handles;
+  params = x.params;
+  update_counter = p.registers.update_counter;
+  auths = x.auths;
+}
+
+-- all checks of its sessions
+abbrev pub sessions_checked : Present → Cut → Result (Unit {0}) ℕ
+sessions_checked p x = authorized p.sessions (claim_of p x)
+
+-- How it is authorized is found, or the checks of its sessions fail.
+abbrev pub IsFound : Present → Cut → Result (Option Authorization) ℕ → Type 0
+IsFound p x (Ok a) = IsAuthorization p.sessions x a
+IsFound p x (Err code) = sessions_checked p x ≡ Err code
 
 -- A command has evidence, with which all checks before the parameters are met.
 pub record IsPermittedBy (p : Present) (r : Result Presented ℕ) (x : Cut) : Type 0 where
@@ -144,6 +188,10 @@ is_bare body = is_empty (row (code_for_reply body)).reply_names
 abbrev pub any_bare : ReplyBody
 any_bare = replies.Startup
 
+-- the bytes of one with these sessions
+abbrev pub bare_bytes : List AuthReply → List ℕ
+bare_bytes auths = reply_bytes (record { body = any_bare; auths = auths })
+
 -- what a call adds to an empty buffer where it succeeds, or its code
 abbrev pub given : List ℕ → Result (Unit {0}) ℕ → Result (List ℕ) ℕ
 given bytes (Ok u) = Ok bytes
@@ -154,13 +202,19 @@ abbrev pub told : Result Done ℕ → Result (List ℕ) ℕ
 told (Ok d) = Ok (reply_bytes d.reply)
 told (Err code) = Err code
 
+-- a reply, in bytes, with the nonce that was handed in
+pub record Spelled : Type 0 where
+  pub body : ReplyBody
+  pub nonce : List ℕ
+  pub bytes : List ℕ
+
 -- These bytes are this reply to a command that was read, with the session of the device that has acted.
-abbrev pub Replies : Device → Cut → List ℕ → ReplyBody → List ℕ → Type 0
-Replies d x nonce reply bytes =
+abbrev pub Replies : Device → Cut → Spelled → Type 0
+Replies d x r =
     (p : Present) (e : Evidence) →
     ((a : Auth) (others : List Auth) → x.auths ≡ a ∷ others → IsAlike p d (first x.handles)) →
     evidence_for p x ≡ Ok e →
-    bytes ≡ reply_bytes (record { body = reply; auths = reply_auths e x.header.code (reply_params reply) nonce })
+    r.bytes ≡ reply_bytes (record { body = r.body; auths = reply_auths e x.header.code (reply_params r.body) r.nonce })
 
 -- After a command with these sessions the other device stands where this one stood without them.
 abbrev pub Rolls : Device → List Auth → List ℕ → Device → Type 0
@@ -172,27 +226,38 @@ Rolls old auths nonce new =
 
 -- ---- performing
 
--- What a command that was read has before it is performed: this is its first session, its sessions
--- give evidence, and the buffer is empty.
-pub record IsReady (d : Device) (x : Cut) (auth : Option Auth) (out : ArrayVec ℕ) : Type 0 where
-  pub first : auth ≡ slice_get x.auths 0
+-- What a command that was read has before it is performed: it is authorized so, its sessions give
+-- evidence, and the buffer is empty.
+pub record MayBePerformed (d : Device) (x : Cut) (by : Option Authorization) (out : ArrayVec ℕ) : Type 0 where
+  pub authorized : IsAuthorization d.sessions x by
   pub admitted : IsAdmitted x
   pub evidence : HasEvidence (holds d) x
   pub empty : length out.items ≡ 0
 
--- What becomes of a device and a buffer where this is done of a command that was read.
-pub record Performs (old : Device) (x : Cut) (nonce : List ℕ) (does : Presented → Result Done ℕ)
-    (before : ArrayVec ℕ) (r : Result (Unit {0}) ℕ) (new : Device) (after : ArrayVec ℕ) : Type 0 where
+-- where performing begins: the device, the nonce that is handed in, and the buffer for the answer
+pub record Begin : Type 0 where
+  pub device : Device
+  pub nonce : List ℕ
+  pub out : ArrayVec ℕ
+
+-- and where it ends: what is returned, the device, and the buffer
+pub record End : Type 0 where
+  pub result : Result (Unit {0}) ℕ
+  pub device : Device
+  pub out : ArrayVec ℕ
+
+-- From its begin to its end, this is done of a command that was read.
+pub record IsPerformed (x : Cut) (does : Presented → Result Done ℕ) (old : Begin) (new : End) : Type 0 where
   pub answer : (e : Evidence) (o : Origin) (h : History) →
-      evidence_for (holds old) x ≡ Ok e →
-      Stands o h old →
-      given after.items r ≡ told (does (presented_with (holds old) x e))
+      evidence_for (holds old.device) x ≡ Ok e →
+      Stands o h old.device →
+      given new.out.items new.result ≡ told (does (presented_with (holds old.device) x e))
   pub stands : (e : Evidence) (o : Origin) (h : History) →
-      evidence_for (holds old) x ≡ Ok e →
-      Stands o h old →
-      Stands o (with_outcome h nonce (does (presented_with (holds old) x e))) new
-  pub refuses : IfErr r (λ code.
+      evidence_for (holds old.device) x ≡ Ok e →
+      Stands o h old.device →
+      Stands o (with_outcome h old.nonce (does (presented_with (holds old.device) x e))) new.device
+  pub refuses : IfErr new.result (λ code.
       (y : Presented) → y.code ≡ x.header.code → y.handles ≡ x.handles → y.params ≡ x.params → does y ≡ Err code)
-  pub refused : OnErr r (new ≡ old)
-  pub done : OnOk r (code_in after.items ≡ 0)
-  pub none : OnErr r (after ≡ before)
+  pub refused : OnErr new.result (new.device ≡ old.device)
+  pub done : OnOk new.result (code_in new.out.items ≡ 0)
+  pub none : OnErr new.result (new.out ≡ old.out)

@@ -1,35 +1,101 @@
 //! The authorization of a command.
 
-ghost use Rattle.std.specs.Prelude.{◌≡◌, ◌==◌, ◌≤◌, false, length, slice_get, Some};
+ghost use Rattle.std.specs.Prelude.{◌≡◌, ◌==◌, ◌≤◌, false, length, slice_get, Some, Err, MatchResult};
 ghost use Rattle.tpm_types.specs.Handles.{rs_pw};
 ghost use Rattle.tpm_model.specs.Entities.{entity_of, name_of, names_of};
 ghost use Rattle.tpm_session.specs.Entities.{entity_in};
-ghost use Rattle.tpm_device.specs.Stands.{holds, sessions_checked};
+ghost use Rattle.tpm_model.specs.Present.{Present};
+ghost use Rattle.tpm_device.specs.Stands.{holds, sessions_checked, entity_at};
+ghost use Rattle.tpm_device.specs.Stands.{Authorizes, IsAuthorization, IsFound};
 
 use crate::device::Device;
 use crate::handles::first;
 use arrayvec::ArrayVec;
 use tpm_buffer::{Areas, AuthRef};
-use tpm_session::Entity;
-use tpm_types::{Name, NvIndex, PcrIndex, RH_OWNER, RS_PW, name_of_handle};
+use tpm_session::{Authority, Entity};
+use tpm_types::{Name, NvIndex, PcrIndex, RH_OWNER, name_of_handle};
 
-impl Device {
-    /// What the handle names, which authorizes a command of which it is the first.
-    pub(crate) fn entity(&self, handle: u32) -> Entity<'_>
-        ensures { entity_in result ≡ entity_of (holds self.now) handle }
+/// What a handle names that is the first of a command which needs authorization (Part 2, 7.2).
+#[derive(Clone, Copy)]
+pub(crate) enum EntityHandle {
+    Register,
+    Null,
+    Owner,
+    Index(NvIndex),
+}
+
+/// How a command is authorized: its first session, who that names, and what its first handle names.
+#[derive(Drop)]
+pub(crate) struct Authorization<'a> {
+    pub session: AuthRef<'a>,
+    pub by: Authority,
+    pub entity: EntityHandle,
+}
+
+impl EntityHandle {
+    fn of(handle: u32) -> Self
+        ensures { (p : Present) → entity_at p result ≡ entity_of p handle }
     {
         if PcrIndex::from_number(handle).is_some() {
-            return Entity::Register;
+            return EntityHandle::Register;
         }
         if handle == RH_OWNER {
-            return Entity::Owner(self.owner.as_slice());
+            return EntityHandle::Owner;
         }
         match NvIndex::from_number(handle) {
-            Some(index) => match self.counters.definition(index) {
+            Some(index) => EntityHandle::Index(index),
+            None => EntityHandle::Null,
+        }
+    }
+}
+
+impl Device {
+    /// The entity of this handle, as it is now.
+    pub(crate) fn entity(&self, handle: EntityHandle) -> Entity<'_>
+        ensures { entity_in result ≡ entity_at (holds self.now) handle }
+    {
+        match handle {
+            EntityHandle::Register => Entity::Register,
+            EntityHandle::Null => Entity::Null,
+            EntityHandle::Owner => Entity::Owner(self.owner.as_slice()),
+            EntityHandle::Index(index) => match self.counters.definition(index) {
                 Some((public, auth)) => Entity::Index(public, auth),
                 None => Entity::Null,
             },
-            None => Entity::Null,
+        }
+    }
+
+    // How the command of this first session is authorized, or REFERENCE_S0.
+    #[inline(always)]
+    fn authorization_by<'a>(
+        &self,
+        areas: &Areas<'a>,
+        session: AuthRef<'a>,
+    ) -> Result<Authorization<'a>, u32>
+        requires first { Some session ≡ slice_get areas.now.auths 0 }
+        ensures { MatchResult result (Authorizes self.now.sessions areas.now)
+            (λ code. sessions_checked (holds self.now) areas.now ≡ Err code) }
+    {
+        let by = self.sessions.authority(&session)?;
+        Ok(Authorization {
+            session,
+            by,
+            entity: EntityHandle::of(first(areas.handles())),
+        })
+    }
+
+    /// How the command is authorized, where it has sessions; or REFERENCE_S0, where the first is not
+    /// loaded.
+    #[inline(always)]
+    pub(crate) fn authorization<'a>(
+        &self,
+        areas: &Areas<'a>,
+    ) -> Result<Option<Authorization<'a>>, u32>
+        ensures { IsFound (holds self.now) areas.now result }
+    {
+        match areas.auth(0) {
+            None => Ok(None),
+            Some(session) => Ok(Some(self.authorization_by(areas, session)?)),
         }
     }
 
@@ -63,17 +129,23 @@ impl Device {
         names
     }
 
-    // All checks of the sessions, of which this is the first, with the Names that its HMAC covers.
+    // All checks of the sessions of a command that is authorized so, with the Names that its HMAC covers.
     #[inline(always)]
-    fn check_with(&self, auth: &AuthRef<'_>, areas: &Areas<'_>, names: &[Name]) -> Result<(), u32>
-        requires own { Some auth.now ≡ slice_get areas.now.auths 0 }
-        requires names { (auth.now.session == rs_pw) ≡ false →
+    fn check_with(
+        &self,
+        by: &Authorization<'_>,
+        areas: &Areas<'_>,
+        names: &[Name],
+    ) -> Result<(), u32>
+        requires own { Authorizes self.now.sessions areas.now by.now }
+        requires names { (by.now.session.session == rs_pw) ≡ false →
             names.now ≡ names_of (holds self.now) areas.now.handles }
-        ensures { result ≡ sessions_checked (holds self.now) areas.now areas.now.auths }
+        ensures { result ≡ sessions_checked (holds self.now) areas.now }
     {
-        let entity = self.entity(first(areas.handles()));
-        self.sessions.authorize_first(
-            auth,
+        let entity = self.entity(by.entity);
+        self.sessions.authorize_by(
+            by.by,
+            &by.session,
             areas.auth_count(),
             &entity,
             areas.code(),
@@ -85,42 +157,32 @@ impl Device {
 
     // The same where it is no password, which would cover no Names.
     #[inline(never)]
-    fn check_named(&self, auth: &AuthRef<'_>, areas: &Areas<'_>) -> Result<(), u32>
+    fn check_named(&self, by: &Authorization<'_>, areas: &Areas<'_>) -> Result<(), u32>
         requires few { length areas.now.handles ≤ 2 }
-        requires own { Some auth.now ≡ slice_get areas.now.auths 0 }
-        ensures { result ≡ sessions_checked (holds self.now) areas.now areas.now.auths }
+        requires own { Authorizes self.now.sessions areas.now by.now }
+        ensures { result ≡ sessions_checked (holds self.now) areas.now }
     {
         let names = self.names(areas.handles());
-        self.check_with(auth, areas, names.as_slice())
+        self.check_with(by, areas, names.as_slice())
     }
 
-    // All checks of the sessions, of which this is the first.
-    fn check_auths(&self, auth: &AuthRef<'_>, areas: &Areas<'_>) -> Result<(), u32>
-        requires few { length areas.now.handles ≤ 2 }
-        requires own { Some auth.now ≡ slice_get areas.now.auths 0 }
-        ensures { result ≡ sessions_checked (holds self.now) areas.now areas.now.auths }
-    {
-        if auth.session().number() == RS_PW {
-            self.check_with(auth, areas, &[])
-        } else {
-            self.check_named(auth, areas)
-        }
-    }
-
-    /// All checks of the sessions, of which this is the first: they are the last checks before the
-    /// parameters. A third session is refused as a second is.
+    /// All checks of the sessions: they are the last checks before the parameters. A third session is
+    /// refused as a second is.
     pub(crate) fn check_sessions(
         &self,
         areas: &Areas<'_>,
-        auth: &Option<AuthRef<'_>>,
+        by: &Option<Authorization<'_>>,
     ) -> Result<(), u32>
         requires few { length areas.now.handles ≤ 2 }
-        requires own { auth.now ≡ slice_get areas.now.auths 0 }
-        ensures { result ≡ sessions_checked (holds self.now) areas.now areas.now.auths }
+        requires own { IsAuthorization self.now.sessions areas.now by.now }
+        ensures { result ≡ sessions_checked (holds self.now) areas.now }
     {
-        match auth {
+        match by {
             None => Ok(()),
-            Some(auth) => self.check_auths(auth, areas),
+            Some(how) => match how.by {
+                Authority::Password => self.check_with(how, areas, &[]),
+                Authority::Slot(_) => self.check_named(how, areas),
+            },
         }
     }
 }

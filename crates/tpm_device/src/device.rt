@@ -7,13 +7,15 @@ ghost use Rattle.tpm_model.specs.Steps.{History, PowerCycle, Origin};
 ghost use Rattle.tpm_model.specs.Answers.{presented as presented_of, performed as performed_of, outcome as outcome_of};
 ghost use Rattle.tpm_model.specs.Answers.{answered, answer, next, with_outcome};
 ghost use Rattle.tpm_model.specs.Premises.{code_in};
-ghost use Rattle.tpm_device.specs.Stands.{none_loaded, Stands, holds, IsAdmitted, IsRead, IsReady, Performs, done_of};
+ghost use Rattle.tpm_device.specs.Stands.{none_loaded, Stands, holds, IsAdmitted, IsRead};
+ghost use Rattle.tpm_device.specs.Stands.{MayBePerformed, IsPerformed, done_of};
 ghost use Rattle.tpm_device.specs.Stands.{given, told};
 
+use crate::authorization::Authorization;
 use crate::bare::bare;
 use crate::checks::{check_started, check_tag};
 use crate::reply::put_refusal;
-use tpm_buffer::{Areas, AuthRef, CommandCode, Params, ReplyBody, decode_params_into, header};
+use tpm_buffer::{Areas, CommandCode, Params, ReplyBody, decode_params_into, header};
 use tpm_session::Sessions;
 use tpm_store::{Counters, Registers};
 use tpm_types::AuthValue;
@@ -101,21 +103,22 @@ impl Device {
     fn done(
         &mut self,
         areas: &Areas<'_>,
-        auth: &Option<AuthRef<'_>>,
+        by: &Option<Authorization<'_>>,
         params: &Params<'_>,
         nonce: &[u8; 64],
         out: &mut Buffer,
     ) -> Result<(), u32>
         requires own { params_code params.now ≡ areas.now.header.code }
-        requires ready { IsReady self.old areas.now auth.now out.old }
-        ensures { Performs self.old areas.now nonce.now (λ x.
-            done_of (holds self.old) nonce.now x (body_from areas.now.handles params.now)) out.old
-            result self.new out.new }
+        requires ready { MayBePerformed self.old areas.now by.now out.old }
+        ensures { IsPerformed areas.now
+            (λ x. done_of (holds self.old) nonce.now x (body_from areas.now.handles params.now))
+            (record { device = self.old; nonce = nonce.now; out = out.old })
+            (record { result = result; device = self.new; out = out.new }) }
     {
         let mut body = begun(areas.code());
         self.act(areas.handles(), params, nonce, &mut body)?;
-        self.put_done(&body, areas, auth, nonce, out);
-        self.roll(areas, auth, nonce);
+        self.put_done(&body, areas, by, nonce, out);
+        self.roll(by, nonce);
         Ok(())
     }
 
@@ -123,17 +126,18 @@ impl Device {
     fn performed_at_length(
         &mut self,
         areas: &Areas<'_>,
-        auth: &Option<AuthRef<'_>>,
+        by: &Option<Authorization<'_>>,
         nonce: &[u8; 64],
         out: &mut Buffer,
     ) -> Result<(), u32>
-        requires { IsReady self.old areas.now auth.now out.old }
-        ensures { Performs self.old areas.now nonce.now (performed_of (holds self.old) nonce.now)
-            out.old result self.new out.new }
+        requires { MayBePerformed self.old areas.now by.now out.old }
+        ensures { IsPerformed areas.now (performed_of (holds self.old) nonce.now)
+            (record { device = self.old; nonce = nonce.now; out = out.old })
+            (record { result = result; device = self.new; out = out.new }) }
     {
         let mut params = Params::PolicyRestart;
         match decode_params_into(areas.code(), areas.params(), &mut params) {
-            Ok(()) => self.done(areas, auth, &params, nonce, out),
+            Ok(()) => self.done(areas, by, &params, nonce, out),
             Err(refusal) => Err(refusal.code),
         }
     }
@@ -143,17 +147,18 @@ impl Device {
     fn performed_otherwise(
         &mut self,
         areas: &Areas<'_>,
-        auth: &Option<AuthRef<'_>>,
+        by: &Option<Authorization<'_>>,
         nonce: &[u8; 64],
         out: &mut Buffer,
     ) -> Result<(), u32>
-        requires { IsReady self.old areas.now auth.now out.old }
-        ensures { Performs self.old areas.now nonce.now (performed_of (holds self.old) nonce.now)
-            out.old result self.new out.new }
+        requires { MayBePerformed self.old areas.now by.now out.old }
+        ensures { IsPerformed areas.now (performed_of (holds self.old) nonce.now)
+            (record { device = self.old; nonce = nonce.now; out = out.old })
+            (record { result = result; device = self.new; out = out.new }) }
     {
         match bare(areas.code(), areas.params()) {
-            Some(params) => self.done(areas, auth, &params, nonce, out),
-            None => self.performed_at_length(areas, auth, nonce, out),
+            Some(params) => self.done(areas, by, &params, nonce, out),
+            None => self.performed_at_length(areas, by, nonce, out),
         }
     }
 
@@ -162,18 +167,19 @@ impl Device {
     fn performed(
         &mut self,
         areas: &Areas<'_>,
-        auth: &Option<AuthRef<'_>>,
+        by: &Option<Authorization<'_>>,
         nonce: &[u8; 64],
         out: &mut Buffer,
     ) -> Result<(), u32>
-        requires { IsReady self.old areas.now auth.now out.old }
-        ensures { Performs self.old areas.now nonce.now (performed_of (holds self.old) nonce.now)
-            out.old result self.new out.new }
+        requires { MayBePerformed self.old areas.now by.now out.old }
+        ensures { IsPerformed areas.now (performed_of (holds self.old) nonce.now)
+            (record { device = self.old; nonce = nonce.now; out = out.old })
+            (record { result = result; device = self.new; out = out.new }) }
     {
         if areas.code() == CommandCode::PcrExtend {
-            self.performed_extending(areas, auth, nonce, out)
+            self.performed_extending(areas, by, nonce, out)
         } else {
-            self.performed_otherwise(areas, auth, nonce, out)
+            self.performed_otherwise(areas, by, nonce, out)
         }
     }
 
@@ -195,9 +201,9 @@ impl Device {
         ensures none { OnErr result (out.new ≡ out.old) }
     {
         let areas = self.presented(bytes)?;
-        let auth = areas.auth(0);
-        self.check_sessions(&areas, &auth)?;
-        self.performed(&areas, &auth, nonce, out)
+        let by = self.authorization(&areas)?;
+        self.check_sessions(&areas, &by)?;
+        self.performed(&areas, &by, nonce, out)
     }
 
     // The response: the reply, or the code alone.

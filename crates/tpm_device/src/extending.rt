@@ -8,11 +8,12 @@ ghost use Rattle.tpm_commands.specs.declared.command_parameters.Params.TheVarian
 ghost use Rattle.tpm_commands.specs.Parameters.{parameters, pcr_extend};
 ghost use Rattle.tpm_buffer.specs.Commands.{body_from};
 ghost use Rattle.tpm_model.specs.Answers.{performed as performed_of};
-ghost use Rattle.tpm_device.specs.Stands.{holds, IsReady, Performs, done_of};
+ghost use Rattle.tpm_device.specs.Stands.{holds, MayBePerformed, IsPerformed, done_of};
 
+use crate::authorization::Authorization;
 use crate::device::Device;
 use crate::handles::register_or_null;
-use tpm_buffer::{Areas, AuthRef};
+use tpm_buffer::Areas;
 use tpm_types::DigestValues;
 use tpm_wire::response_code::{SIZE, of_parameter};
 use tpm_wire::{Buffer, Cursor, Refusal, Wire};
@@ -50,21 +51,22 @@ impl Device {
     fn done_extending(
         &mut self,
         areas: &Areas<'_>,
-        auth: &Option<AuthRef<'_>>,
+        by: &Option<Authorization<'_>>,
         digests: &DigestValues,
         nonce: &[u8; 64],
         out: &mut Buffer,
     ) -> Result<(), u32>
         requires extends { areas.now.header.code ≡ codes.PcrExtend }
-        requires ready { IsReady self.old areas.now auth.now out.old }
-        ensures { Performs self.old areas.now nonce.now (λ x.
-            done_of (holds self.old) nonce.now x
-            (body_from areas.now.handles (of_command.PcrExtend digests.now))) out.old result
-            self.new out.new }
+        requires ready { MayBePerformed self.old areas.now by.now out.old }
+        ensures { IsPerformed areas.now
+            (λ x. done_of (holds self.old) nonce.now x
+            (body_from areas.now.handles (of_command.PcrExtend digests.now)))
+            (record { device = self.old; nonce = nonce.now; out = out.old })
+            (record { result = result; device = self.new; out = out.new }) }
     {
         self.extend(register_or_null(areas.handles()), digests)?;
-        self.put_bare(areas, auth, nonce, out);
-        self.roll(areas, auth, nonce);
+        self.put_bare(areas, by, nonce, out);
+        self.roll(by, nonce);
         Ok(())
     }
 
@@ -73,18 +75,19 @@ impl Device {
     pub(crate) fn performed_extending(
         &mut self,
         areas: &Areas<'_>,
-        auth: &Option<AuthRef<'_>>,
+        by: &Option<Authorization<'_>>,
         nonce: &[u8; 64],
         out: &mut Buffer,
     ) -> Result<(), u32>
         requires extends { areas.now.header.code ≡ codes.PcrExtend }
-        requires ready { IsReady self.old areas.now auth.now out.old }
-        ensures { Performs self.old areas.now nonce.now (performed_of (holds self.old) nonce.now)
-            out.old result self.new out.new }
+        requires ready { MayBePerformed self.old areas.now by.now out.old }
+        ensures { IsPerformed areas.now (performed_of (holds self.old) nonce.now)
+            (record { device = self.old; nonce = nonce.now; out = out.old })
+            (record { result = result; device = self.new; out = out.new }) }
     {
         let mut digests = DigestValues::default();
         match decode_digests(areas.params(), &mut digests) {
-            Ok(()) => self.done_extending(areas, auth, &digests, nonce, out),
+            Ok(()) => self.done_extending(areas, by, &digests, nonce, out),
             Err(refusal) => Err(refusal.code),
         }
     }

@@ -1,5 +1,5 @@
 -- The sessions after one more step.
-use Rattle.std.proofs.Common.{get_or, ◌≡◌, ℕ, zero, suc, Bool, true, false, List, [], ◌∷◌, ◌||◌, None, Some, Option}
+use Rattle.std.proofs.Common.{get_or, ◌≡◌, ◌≤◌, ℕ, zero, suc, Bool, true, false, List, [], ◌∷◌, ◌||◌, None, Some, Option}
 use Rattle.std.proofs.Common.{option_map, IsSome, refl, sym, ap, ◌∙◌, arith}
 use Rattle.std.proofs.lemmas.Bool.Decides.{nat_tests}
 use Rattle.std.proofs.lemmas.Bool.{both_ways}
@@ -17,10 +17,11 @@ use Rattle.tpm_buffer.specs.Commands.{code_for}
 use Rattle.tpm_model.specs.Steps.{Origin, History, Accepted}
 use Rattle.tpm_model.specs.Registers.{Registers, registers_after, changes}
 use Rattle.tpm_model.specs.Policies.{Assertion}
-use Rattle.tpm_model.specs.Sessions.{Session, Start, slot_of, begun, clears, asserted_by, is_hmac, if_of_kind, loaded}
+use Rattle.tpm_model.specs.Sessions.{Session, Start, slot_of, begun, clears, asserted_by, is_hmac, if_of_kind, loaded, session_in}
 use Rattle.tpm_model.specs.Sessions.{session_at, sessions_at, as_session, last_nonce, assertions_of, lives, start_of}
 use Rattle.tpm_types.specs.declared.tpms.Auth.{Auth}
-use Rattle.tpm_types.specs.Handles.{is_session, is_hmac_session, is_policy}
+use Rattle.tpm_types.specs.Handles.{is_session, is_hmac_session, is_policy, rs_pw}
+use Rattle.tpm_model.proofs.Replay.{no_password}
 use Rattle.tpm_types.specs.Tpma.{continues}
 use Rattle.tpm_session.specs.Answers.{rolled, after_command}
 
@@ -122,6 +123,44 @@ rolled_at o h c r nonce a others keep k auths of_session kept needs =
         out.no_assertion (registers_after (changes h)) (start_of k h) (assertions_of k h),
       ) refl
     ] refl
+
+-- ---- a password that authorized
+
+no_session : (handle : ℕ) → (handle == rs_pw) ≡ true → is_session handle ≡ false
+no_session handle is = elim (is_session handle) as (λ b. is_session handle ≡ b → is_session handle ≡ false) [
+  | true ↦ λ e. let other : (handle == rs_pw) ≡ false = no_password handle e in cc
+  | false ↦ λ e. e
+] refl
+
+stayed_at : (o : Origin) (h : History) (c : Command) (r : Reply) (nonce : List ℕ) (a : Auth) (others : List Auth) (k : ℕ) →
+    c.auths.items ≡ a ∷ others → is_session a.session ≡ false → needs_authorization (code_for c.body) ≡ true →
+    session_at o h k ≡ session_at o (Accepted c r nonce ∷ h) k
+stayed_at o h c r nonce a others k auths none needs =
+    let out = stays_out k c.body r.body needs in
+    rw (out.no_start, out.no_flush, auths, none, out.no_assertion (registers_after (changes h)) (start_of k h) (assertions_of k h)) refl
+
+-- A password leaves the sessions.
+pub stayed : (o : Origin) (h : History) (c : Command) (r : Reply) (nonce : List ℕ) (a : Auth) (others : List Auth) (old : List (Option Session)) →
+    c.auths.items ≡ a ∷ others → (a.session == rs_pw) ≡ true → needs_authorization (code_for c.body) ≡ true → old ≡ sessions_at o h →
+    old ≡ sessions_at o (Accepted c r nonce ∷ h)
+stayed o h c r nonce a others old auths is needs at =
+    let none = no_session a.session is in
+    at ∙ three (stayed_at o h c r nonce a others 0 auths none needs) (stayed_at o h c r nonce a others 1 auths none needs)
+    (stayed_at o h c r nonce a others 2 auths none needs)
+
+-- ---- a session that authorized
+
+past_the_last : (a b d : Option Session) (slot : ℕ) → 3 ≤ slot → session_in (a ∷ b ∷ d ∷ []) slot ≡ None
+past_the_last a b d zero past = absurd (omega arith)
+past_the_last a b d (suc zero) past = absurd (omega arith)
+past_the_last a b d (suc (suc zero)) past = absurd (omega arith)
+past_the_last a b d (suc (suc (suc n))) past = refl
+
+-- No session is loaded past the last slot.
+pub none_past : (o : Origin) (h : History) (handle : ℕ) (old : List (Option Session)) → 3 ≤ slot_of handle → old ≡ sessions_at o h →
+    IsSome (loaded old handle) → ⊥
+none_past o h handle old past at some =
+    both_ways false refl (rw (at, past_the_last (session_at o h 0) (session_at o h 1) (session_at o h 2) (slot_of handle) past) at some)
 
 set_after : (a b d x : Option Session) (f : Option Session → Option Session) (s : ℕ) → get_or (a ∷ b ∷ d ∷ []) s x ≡ x →
     slice_set (a ∷ b ∷ d ∷ []) s (f x) ≡ put_at s (f a) 0 a ∷ put_at s (f b) 1 b ∷ put_at s (f d) 2 d ∷ []

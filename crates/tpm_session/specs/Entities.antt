@@ -1,14 +1,17 @@
 -- What authorizes a command, as it is handed in and as the code has it.
-use Rattle.std.specs.Prelude.{ℕ, List, [], Result, Ok, Err, if◌then◌else◌}
+use Rattle.std.specs.Prelude.{◌≡◌, ℕ, ◌==◌, true, false, List, [], Option, IsSome, Result, Ok, Err, if◌then◌else◌}
 use Rattle.tpm_types.specs.declared.tpms.Auth.{Auth}
 use Rattle.tpm_types.specs.declared.tpms.AuthReply.{AuthReply}
 use Rattle.tpm_commands.specs.declared.code.CommandCode.{CommandCode}
 use Rattle.tpm_hmac.specs.Hmac.{hmac}
-use Rattle.tpm_model.specs.Sessions.{Session}
+use Rattle.tpm_types.specs.Handles.{rs_pw}
+use Rattle.tpm_model.specs.Sessions.{Session, loaded, session_in, slot_of}
 use Rattle.tpm_model.specs.Entities as model
 use Rattle.tpm_model.specs.Authorization as authorization
 use Rattle.tpm_session.specs.declared.entity.Entity.{Entity}
 use Rattle.tpm_session.specs.declared.access.Access.{Access}
+use Rattle.tpm_session.specs.declared.authorize.Authority.{Authority}
+use Rattle.tpm_session.specs.declared.authorize.Authority.TheVariants as authorities
 use Rattle.tpm_session.specs.declared.authorize.Authorizer.{Authorizer}
 use Rattle.tpm_session.specs.declared.entity.Entity.TheVariants as entities
 use Rattle.tpm_session.specs.declared.access.Access.TheVariants as accesses
@@ -34,11 +37,38 @@ abbrev pub found : Result Authorizer ℕ → Result authorization.Authorizer ℕ
 found (Ok by) = Ok (authorizer_in by)
 found (Err code) = Err code
 
--- what it gives as evidence for a command, or a code
-abbrev pub given : model.Entity → CommandCode → (names : List (List ℕ)) → (params : List ℕ) → Auth →
-    Result Authorizer ℕ → Result authorization.Evidence ℕ
-given e code names params a (Ok by) = Ok (authorization.evidence_by (authorizer_in by) e code names params a)
-given e code names params a (Err code_of_failure) = Err code_of_failure
+-- Who authorizes is who a handle names among these sessions: the password, or the session that is loaded in its slot.
+abbrev pub IsAuthority : List (Option Session) → (handle : ℕ) → Authority → Type 0
+IsAuthority sessions handle authorities.Password = (handle == rs_pw) ≡ true
+IsAuthority sessions handle (authorities.Slot slot) =
+    ((handle == rs_pw) ≡ false) × (slot ≡ slot_of handle) × IsSome (loaded sessions handle)
+
+-- who that is, with the session as it is among these
+abbrev pub with_session : List (Option Session) → Authority → Result authorization.Authorizer ℕ
+with_session sessions authorities.Password = Ok authorization.Authorizer.Password
+with_session sessions (authorities.Slot slot) = authorization.by_session (session_in sessions slot)
+
+-- A command by what its authorization is judged: what its first handle names, its code, the Names of its handles and
+-- its parameters as they came, the present update counter, and its sessions.
+pub record Claim : Type 0 where
+  pub entity : model.Entity
+  pub command : CommandCode
+  pub names : List (List ℕ)
+  pub params : List ℕ
+  pub update_counter : ℕ
+  pub auths : List Auth
+
+-- the checks of its sessions but the last, among these
+abbrev pub evidence_of : List (Option Session) → Claim → Result authorization.Evidence ℕ
+evidence_of sessions c =
+    authorization.evidence_of (authorization.first_loaded (loaded sessions) c.auths) c.entity c.command c.names c.params
+    c.update_counter c.auths
+
+-- all checks of its sessions
+abbrev pub authorized : List (Option Session) → Claim → Result (Unit {0}) ℕ
+authorized sessions c =
+    authorization.authorize (authorization.first_loaded (loaded sessions) c.auths) c.entity c.command c.names c.params
+    c.update_counter c.auths
 
 -- what the HMAC of a session is made of, for a command of this entity
 abbrev pub signed_by : Session → model.Entity → (p_hash : List ℕ) → Auth → authorization.Signed

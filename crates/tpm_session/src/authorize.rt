@@ -1,24 +1,24 @@
 //! Whether a command is authorized: the checks of its sessions, in their order (Part 1,
 //! "Authorizations and Acknowledgments"; the order is this profile's).
 
-ghost use Rattle.std.specs.Prelude.{◌≡◌, ℕ, ◌<◌, suc, List, ◌∷◌, [], length, Ok, IsErr};
+ghost use Rattle.std.specs.Prelude.{◌≡◌, ℕ, ◌<◌, suc, List, ◌∷◌, [], length, Ok, Err, IfOk, IfErr, IsErr};
 ghost use Rattle.tpm_types.specs.declared.tpms.Auth.{Auth};
-ghost use Rattle.tpm_model.specs.Entities.{Entity as EntityOf, auth_value, is_owner_entity};
+ghost use Rattle.tpm_model.specs.Entities.{auth_value, is_owner_entity};
 ghost use Rattle.tpm_model.specs.Sessions.{loaded};
 ghost use Rattle.tpm_model.specs.Authorization.{Evidence, check_loaded as loaded_checked};
 ghost use Rattle.tpm_model.specs.Authorization.{check_session as session_checked, check_auth as auth_checked};
 ghost use Rattle.tpm_model.specs.Authorization.{check_policy_allowed as allowed_checked, has_policy};
 ghost use Rattle.tpm_model.specs.Authorization.{check_policy as policy_checked, check_entity as entity_checked};
-ghost use Rattle.tpm_model.specs.Authorization.{evidence_of as evidence_by_all, first_loaded, authorize as authorized};
 ghost use Rattle.tpm_model.specs.Authorization.{reply_auths};
-ghost use Rattle.tpm_session.specs.Entities.{entity_in, authorizer_in, found, given, no_reply};
+ghost use Rattle.tpm_session.specs.Entities.{entity_in, authorizer_in, found, no_reply, IsAuthority};
+ghost use Rattle.tpm_session.specs.Entities.{Claim, evidence_of, authorized, with_session};
 
 use crate::access::Access;
 use crate::entity::Entity;
 use crate::evidence::{check_evidence, no_reply, password_reply};
 use crate::policy::differs;
 use crate::session::{NONCE_BYTES, Session};
-use crate::sessions::Sessions;
+use crate::sessions::{Sessions, slot_of};
 use tpm_buffer::{AuthRef, CommandCode};
 use tpm_hmac::same;
 use tpm_types::{AuthReply, Name, RS_PW, SessionHandle, SessionType};
@@ -27,7 +27,16 @@ use tpm_wire::response_code::{
     of_session,
 };
 
-/// Who authorizes: a password, or a session that is loaded.
+/// Who authorizes a command, as its first session names it.
+#[derive(Clone, Copy, Debug, PartialEq, Eq)]
+pub enum Authority {
+    /// The password.
+    Password,
+    /// The session that is loaded in this slot, counted from 0.
+    Slot(usize),
+}
+
+/// The same, with the session as it is now.
 #[derive(Clone, Copy)]
 pub(crate) enum Authorizer<'a> {
     Password,
@@ -146,43 +155,37 @@ fn check_entity(
 }
 
 impl Sessions {
-    // The password, or the session where it is loaded; else REFERENCE_S0.
-    fn authorizer(&self, auth: &AuthRef<'_>) -> Result<Authorizer<'_>, u32>
-        ensures { found result ≡
-            loaded_checked auth.now.session (loaded self.now auth.now.session) }
+    /// Who a command's first session names: the password, or the session that is loaded; else
+    /// REFERENCE_S0 (Part 1, "Authorizations and Acknowledgments").
+    pub fn authority(&self, auth: &AuthRef<'_>) -> Result<Authority, u32>
+        ensures found { IfOk result (IsAuthority self.now auth.now.session) }
+        ensures missing { IfErr result (λ code.
+            loaded_checked auth.now.session (loaded self.now auth.now.session) ≡ Err code) }
     {
         let number = auth.session().number();
         if number == RS_PW {
-            return Ok(Authorizer::Password);
+            return Ok(Authority::Password);
         }
         let Some(session) = SessionHandle::from_number(number) else {
             unreachable!()
         };
         match self.get(session) {
-            Some(session) => Ok(Authorizer::Loaded(session)),
+            Some(_) => Ok(Authority::Slot(slot_of(session))),
             None => Err(REFERENCE_S0),
         }
     }
 
-    // All checks but the last, where there are so many sessions.
-    fn evidence_of(
-        &self,
-        auth: &AuthRef<'_>,
-        count: usize,
-        entity: &Entity<'_>,
-        command: CommandCode,
-        counter: u32,
-    ) -> Result<Authorizer<'_>, u32>
-        ensures { (others : List Auth) (names : List (List ℕ)) (params : List ℕ) →
-            count ≡ suc (length others) →
-            evidence_by_all (loaded self.now auth.now.session) (entity_in entity.now) command names
-            params counter (auth.now ∷ others) ≡
-            given (entity_in entity.now) command names params auth.now result }
+    // The authority with its session, or REFERENCE_S0 where there is none any more.
+    fn authorizer(&self, by: Authority) -> Result<Authorizer<'_>, u32>
+        ensures { found result ≡ with_session self.now by }
     {
-        let by = self.authorizer(auth)?;
-        check_session(&by, auth, count)?;
-        check_entity(&by, entity, command, counter)?;
-        Ok(by)
+        match by {
+            Authority::Password => Ok(Authorizer::Password),
+            Authority::Slot(slot) => match self.in_slot(slot) {
+                Some(session) => Ok(Authorizer::Loaded(session)),
+                None => Err(REFERENCE_S0),
+            },
+        }
     }
 
     /// Whether a command of this entity is authorized by these sessions, one at least: the first
@@ -208,12 +211,20 @@ impl Sessions {
         counter: u32,
     ) -> Result<(), u32>
         requires { 0 < length auths.now }
-        ensures { result ≡
-            authorized (first_loaded (loaded self.now) auths.now) (entity_in entity.now) command
-            names.now params.now counter auths.now }
+        ensures { result ≡ authorized self.now (record {
+          entity = entity_in entity.now;
+          command = command;
+          names = names.now;
+          params = params.now;
+          update_counter = counter;
+          auths = auths.now;
+        }) }
     {
-        self.authorize_first(
-            &auths[0],
+        let first = &auths[0];
+        let by = self.authority(first)?;
+        self.authorize_by(
+            by,
+            first,
             auths.len(),
             entity,
             command,
@@ -223,10 +234,11 @@ impl Sessions {
         )
     }
 
-    /// As `authorize`, by the first of so many sessions, at least one: of the others it matters
-    /// only whether there are any.
-    pub fn authorize_first(
+    /// As `authorize`, where this is who the first of so many sessions names: of the others it
+    /// matters only whether there are any.
+    pub fn authorize_by(
         &self,
+        by: Authority,
         auth: &AuthRef<'_>,
         count: usize,
         entity: &Entity<'_>,
@@ -235,43 +247,50 @@ impl Sessions {
         params: &[u8],
         counter: u32,
     ) -> Result<(), u32>
-        requires { 0 < count }
         ensures { (others : List Auth) →
+            IsAuthority self.now auth.now.session by →
             count ≡ suc (length others) →
-            result ≡
-            authorized (loaded self.now auth.now.session) (entity_in entity.now) command names.now
-            params.now counter (auth.now ∷ others) }
+            result ≡ authorized self.now (record {
+              entity = entity_in entity.now;
+              command = command;
+              names = names.now;
+              params = params.now;
+              update_counter = counter;
+              auths = auth.now ∷ others;
+            }) }
     {
-        let by = self.evidence_of(auth, count, entity, command, counter)?;
+        let by = self.authorizer(by)?;
+        check_session(&by, auth, count)?;
+        check_entity(&by, entity, command, counter)?;
         check_evidence(&by, auth, entity, command, names, params)
     }
 
-    /// The session of the reply to a command that this session authorized, before it rolls: a
-    /// password is answered with continueSession alone, a session with its next nonce, the
-    /// command's attributes and its HMAC over the reply's parameters. The HMAC is empty where the
-    /// command's could be. The entity is that of the command, or as it is after the command with
-    /// the same authorization value (Part 1, "HMAC Computation"). Of a session that is not loaded
-    /// it is empty: no nonce, no attributes and no HMAC.
+    /// The session of the reply to a command that this authorized, before it rolls: a password is
+    /// answered with continueSession alone, a session with its next nonce, the command's attributes
+    /// and its HMAC over the reply's parameters. The HMAC is empty where the command's could be.
+    /// The entity is that of the command, or as it is after the command with the same authorization
+    /// value (Part 1, "HMAC Computation"). Of a slot without a session it is empty: no nonce, no
+    /// attributes and no HMAC.
     pub fn reply_auth(
         &self,
+        by: Authority,
         auth: &AuthRef<'_>,
         entity: &Entity<'_>,
         command: CommandCode,
         params: &[u8],
         nonce: &[u8; NONCE_BYTES],
     ) -> AuthReply
-        ensures answer { (e : EntityOf) (names : List (List ℕ)) (sent : List ℕ) (counter : ℕ)
-            (others : List Auth) (x : Evidence) →
-            evidence_by_all (loaded self.now auth.now.session) e command names sent counter
-            (auth.now ∷ others) ≡ Ok x →
-            auth_value e ≡ auth_value (entity_in entity.now) →
-            is_owner_entity e ≡ is_owner_entity (entity_in entity.now) →
+        ensures answer { (claim : Claim) (others : List Auth) (x : Evidence) →
+            IsAuthority self.now auth.now.session by →
+            claim.auths ≡ auth.now ∷ others →
+            claim.command ≡ command →
+            auth_value claim.entity ≡ auth_value (entity_in entity.now) →
+            is_owner_entity claim.entity ≡ is_owner_entity (entity_in entity.now) →
+            evidence_of self.now claim ≡ Ok x →
             reply_auths x command params.now nonce.now ≡ result ∷ [] }
-        ensures unloaded { IsErr
-            (loaded_checked auth.now.session (loaded self.now auth.now.session)) →
-            result ≡ no_reply }
+        ensures unloaded { IsErr (with_session self.now by) → result ≡ no_reply }
     {
-        match self.authorizer(auth) {
+        match self.authorizer(by) {
             Ok(Authorizer::Loaded(session)) => session.reply(auth, entity, command, params, nonce),
             Ok(Authorizer::Password) => password_reply(),
             Err(_) => no_reply(),

@@ -9,6 +9,7 @@ mod policy;
 mod session;
 mod sessions;
 
+pub use authorize::Authority;
 pub use entity::Entity;
 pub use evidence::password_reply;
 pub use policy::{Assertion, empty_policy, extend_policy};

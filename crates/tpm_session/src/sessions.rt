@@ -10,7 +10,7 @@ ghost use Rattle.tpm_buffer.specs.Commands.{code_for};
 ghost use Rattle.tpm_hmac.specs.Sessions.{trim as trim_of};
 ghost use Rattle.tpm_model.specs.Steps.{Origin, History, PowerCycle, Accepted};
 ghost use Rattle.tpm_model.specs.Sessions.{slot_of as slot_number, handle_for as handle_of, loaded, free_slot};
-ghost use Rattle.tpm_model.specs.Sessions.{sessions_at, assertions_of};
+ghost use Rattle.tpm_model.specs.Sessions.{session_in, sessions_at, assertions_of};
 ghost use Rattle.tpm_model.specs.Actions.{check_flush, start_session, check_policy_pcr, check_policy_or};
 ghost use Rattle.tpm_model.specs.Actions.{check_policy_code};
 ghost use Rattle.tpm_model.specs.Policies.{policy_digest as digest_of};
@@ -20,8 +20,10 @@ ghost use Rattle.tpm_types.specs.declared.tpms.Auth.{Auth};
 ghost use Rattle.tpm_types.specs.Tpma.{continues};
 ghost use Rattle.tpm_types.specs.declared.handle_sets.BindHandle.TheVariants as binds;
 ghost use Rattle.tpm_session.specs.Answers.{started_reply, after_command};
+ghost use Rattle.tpm_session.specs.Entities.{IsAuthority};
 ghost use Rattle.tpm_session.specs.Policies.{for_policy, as_assertion, asserting, restarted, with_slot};
 
+use crate::authorize::Authority;
 use crate::policy::Assertion;
 use crate::session::{NONCE_BYTES, Session, first_of};
 use std::marker::Model;
@@ -61,7 +63,7 @@ impl Model for Sessions {
 }
 
 // The slot of a handle, which is none where it is past the last.
-fn slot_of(session: SessionHandle) -> usize
+pub(crate) fn slot_of(session: SessionHandle) -> usize
     ensures { result ≡ slot_number session }
 {
     (session.number() % HANDLES_OF_A_KIND) as usize
@@ -119,8 +121,18 @@ impl Sessions {
     pub fn get(&self, session: SessionHandle) -> Option<&Session>
         ensures { option_map (λ s. s.now) result ≡ loaded self.now session }
     {
-        match self.slots.get(slot_of(session)) {
-            Some(Some(found)) if found.has_handle(session) => Some(found),
+        match self.in_slot(slot_of(session)) {
+            Some(found) if found.has_handle(session) => Some(found),
+            _ => None,
+        }
+    }
+
+    // The session in this slot, where there is one.
+    pub(crate) fn in_slot(&self, slot: usize) -> Option<&Session>
+        ensures { option_map (λ s. s.now) result ≡ session_in self.now slot }
+    {
+        match self.slots.get(slot) {
+            Some(Some(found)) => Some(found),
             _ => None,
         }
     }
@@ -179,21 +191,23 @@ impl Sessions {
         Ok(())
     }
 
-    /// After a command that the session authorized: its nonce is the first of these bytes, and its
-    /// policy begins again; where continueSession is clear, its slot is freed (Part 1,
-    /// "Session-Based Authorizations").
-    pub fn roll(&mut self, session: SessionHandle, nonce: &[u8; NONCE_BYTES], keep: bool)
-        requires { IsSome (loaded self.old session) }
+    /// After a command that this authorized. The nonce of a session is then the first of these bytes,
+    /// and its policy begins again; where continueSession is clear, its slot is freed (Part 1,
+    /// "Session-Based Authorizations"). A password leaves the sessions as they are.
+    pub fn roll(&mut self, by: Authority, nonce: &[u8; NONCE_BYTES], keep: bool)
         ensures { (o : Origin) (h : History) (c : Command) (r : Reply) (a : Auth)
             (others : List Auth) →
             c.auths.items ≡ a ∷ others →
-            a.session ≡ session →
+            IsAuthority self.old a.session by →
             continues a.attrs ≡ keep →
             needs_authorization (code_for c.body) ≡ true →
             self.old ≡ sessions_at o h →
             self.new ≡ sessions_at o (Accepted c r nonce.now ∷ h) }
     {
-        roll(&mut self.slots[slot_of(session)], nonce, keep);
+        match by {
+            Authority::Slot(slot) if slot < SLOTS => roll(&mut self.slots[slot], nonce, keep),
+            Authority::Slot(_) | Authority::Password => {}
+        }
     }
 
     // The policy or trial session of this handle, where it is loaded.

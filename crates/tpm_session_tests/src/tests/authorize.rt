@@ -95,9 +95,10 @@ pub fn replies(rt: &impl Abort, bench: &Bench, rest: &str) -> bool {
     let command = bytes(rt, rest);
     let cut = areas(command.as_slice()).ok().expect(rt, "areas");
     let auth = cut.auth(0).expect(rt, "a session");
+    let by = bench.sessions.authority(&auth).ok().expect(rt, "loaded");
     let found = bench
         .sessions
-        .reply_auth(&auth, &entity, cut.code(), params.as_slice(), &NEXT);
+        .reply_auth(by, &auth, &entity, cut.code(), params.as_slice(), &NEXT);
     found.nonce.as_slice() == nonce.as_slice()
         && found.attrs.number() as u32 == attrs
         && found.hmac.as_slice() == hmac.as_slice()

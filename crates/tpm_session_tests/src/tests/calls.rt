@@ -4,7 +4,7 @@ use crate::tests::texts::{bytes, number};
 use std::process::Abort;
 use std::test::*;
 use tpm_buffer::{CommandBody, decode_command};
-use tpm_session::{NONCE_BYTES, Sessions};
+use tpm_session::{Authority, NONCE_BYTES, Sessions};
 use tpm_store::Registers;
 use tpm_testing::word;
 use tpm_types::{PcrOrNull, PolicyHandle, SessionHandle};
@@ -107,7 +107,8 @@ pub fn rolls(sessions: &mut Sessions, session: SessionHandle, keep: bool) -> boo
     if sessions.get(session).is_none() {
         return false;
     }
-    sessions.roll(session, &[0; NONCE_BYTES], keep);
+    let slot = session.number() as usize % 0x0100_0000;
+    sessions.roll(Authority::Slot(slot), &[0; NONCE_BYTES], keep);
     true
 }
 

@@ -7,7 +7,7 @@ pub performed-requires : goal.performed-requires
 performed-requires c =
     let by = sessions_permit (holds c.args.self.now) c.args.bytes.now c.in_ok-areas.areas c.in_ok-areas.ensures.reads (sym c.in_ok-check_sessions.ensures) in
     record {
-      first = c.auth-auth.ensures;
+      authorized = c.in_ok-by.ensures;
       admitted = c.in_ok-areas.ensures.admitted;
       evidence = (by.evidence, by.gives);
       empty = c.requires.empty;
@@ -34,6 +34,22 @@ returns-in_err-areas-clause-some c =
     let code = c.in_err-areas.field-0.0 in
     let is : c.from_residual.result ≡ Err code = search rules in
     rw is (some_code (holds c.args.self.now) c.args.bytes.now c.args.nonce.now code (rw c.in_err-areas.ensures.reads refl))
+
+pub returns-in_err-by : goal.returns-in_err-by
+returns-in_err-by c =
+    let p = holds c.args.self.now in
+    let code = c.in_err-by.field-0.0 in
+    let is : c.from_residual-in_err-by.result ≡ Err code = search rules in
+    let refused = sessions_refuse p c.args.bytes.now c.in_ok-areas.areas code c.in_ok-areas.ensures.reads c.in_err-by.ensures in
+    record {
+      answer = λ o h st. rw (is, refused) refl;
+      stands = λ o h st. rw refused st;
+      refuses = rw (is, refused) refl;
+      some = rw is (some_code p c.args.bytes.now c.args.nonce.now code (rw refused refl));
+      refused = rw is refl;
+      done = rw is tt;
+      none = rw is refl;
+    }
 
 pub returns-in_err-check_sessions : goal.returns-in_err-check_sessions
 returns-in_err-check_sessions c =

@@ -9,5 +9,5 @@ returns-in-Ok c =
 
 pub returns-in-Err : goal.returns-in-Err
 returns-in-Err c =
-    without_params c.args.self.now c.args.areas.now c.args.nonce.now c.args.out.now c.in-Err.refusal
+    without_params (record { device = c.args.self.now; nonce = c.args.nonce.now; out = c.args.out.now }) c.args.areas.now c.in-Err.refusal
     (rw (c.requires.extends, ← c.params.ensures.value) c.in-Err.ensures)

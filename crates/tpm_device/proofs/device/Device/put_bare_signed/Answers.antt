@@ -1,15 +1,11 @@
 use Rattle.std.proofs.Common.{List, sym, ap, ◌∙◌}
-use Rattle.tpm_types.specs.declared.tpms.AuthReply.{AuthReply}
 use Rattle.tpm_model.specs.Premises.{code_in}
-use Rattle.tpm_device.specs.Stands.{any_bare, reply_bytes}
+use Rattle.tpm_device.specs.Stands.{any_bare, bare_bytes}
 use Rattle.tpm_device.proofs.Passing.{reply_is_done}
 use Rattle.tpm_device.proofs.device.Device.put_bare_signed.Goals as goal
 
 pub returns-clause-bytes : goal.returns-clause-bytes
-returns-clause-bytes c = λ p e others alike are gives.
-    c.put_bare_sealed.ensures
-    ∙ ap (λ (auths : List AuthReply). reply_bytes (record { body = any_bare; auths = auths }))
-    (sym (c.reply_session-session.ensures p e others alike are gives))
+returns-clause-bytes c = λ p e alike gives. c.put_bare_sealed.ensures ∙ ap bare_bytes (sym (c.reply_session-session.ensures p e alike gives))
 
 pub returns-clause-done : goal.returns-clause-done
 returns-clause-done c = ap code_in c.put_bare_sealed.ensures ∙ reply_is_done any_bare _

@@ -1,0 +1,19 @@
+use Rattle.std.proofs.Common.{ℕ, List, [], ◌∷◌, Option, sym, ap, ◌∙◌}
+use Rattle.tpm_types.specs.declared.tpms.AuthReply.{AuthReply}
+use Rattle.tpm_commands.specs.declared.code.CommandCode.{CommandCode}
+use Rattle.tpm_model.specs.Sessions.{Session}
+use Rattle.tpm_model.specs.Entities.{Entity, auth_value, is_owner_entity}
+use Rattle.tpm_model.specs.Authorization.{reply_auths}
+use Rattle.tpm_session.specs.Entities.{evidence_of}
+use Rattle.tpm_device.specs.Stands.{holds, claim_of}
+use Rattle.tpm_device.proofs.device.Device.reply_session.Goals as goal
+
+pub returns : goal.returns
+returns c = λ p e alike gives.
+    let x = c.args.areas.now in
+    let own = c.requires.own in
+    let entity = sym (c.entity-entity.ensures ∙ own.entity (holds c.args.self.now)) in
+    ap (λ (code : CommandCode). reply_auths e code c.args.params.now c.args.nonce.now) (sym c.code.ensures)
+    ∙ c.reply_auth.ensures.answer (claim_of p x) own.others e own.by own.auths (sym c.code.ensures)
+    (alike.value ∙ ap auth_value entity) (alike.owner ∙ ap is_owner_entity entity)
+    (ap (λ (sessions : List (Option Session)). evidence_of sessions (claim_of p x)) (sym alike.sessions) ∙ gives)
