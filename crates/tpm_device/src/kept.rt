@@ -15,11 +15,12 @@ use tpm_types::{Alg, AuthValue, SessionHandle};
 use tpm_wire::{Buffer, Refusal, Wire};
 
 impl Device {
-    /// Writes the bytes of NV memory into this buffer, whatever is in it: 1,026 at most. At every history at which the device
-    /// stands they spell NV memory, and `from_nv` makes a device of them again. They hold authorization values.
+    /// Writes the bytes of NV memory into this buffer, whatever is in it: 1,026 at most. At every history at
+    /// which the device stands they spell NV memory, and `from_nv` makes a device of them again. They hold
+    /// authorization values.
     ///
-    /// A host that keeps them before it hands out the response of a command that changed NV memory keeps what was promised:
-    /// it makes a device of the last of them, once.
+    /// A host that keeps them before it hands out the response of a command that changed NV memory keeps what
+    /// was promised: it makes a device of the last of them, once.
     pub fn put_nv(&self, out: &mut Buffer)
         ensures bytes { out.new.items ≡ spelling kept_memory (holds self.now).nv }
         ensures spells { (o : Origin) (h : History) →
@@ -33,10 +34,10 @@ impl Device {
         self.counters.put(out);
     }
 
-    /// A device of the owner's authorization value and of the bytes of an NV memory, which is not started, has no session, and
-    /// has the counters of these bytes. Where they spell the NV memory of another device, of the same owner's value, it stands
-    /// where a power cycle leaves that one. For other bytes the response code and the position of their first fault, as
-    /// `Counters::from_bytes` has them.
+    /// A device of the owner's authorization value and of the bytes of an NV memory, which is not started, has
+    /// no session, and has the counters of these bytes. Where they spell the NV memory of another device, of
+    /// the same owner's value, it stands where a power cycle leaves that one. For other bytes the response code
+    /// and the position of their first fault, as `Counters::from_bytes` has them.
     pub fn from_nv(owner: &AuthValue, bytes: &[u8]) -> Result<Self, Refusal>
         ensures decodes { Decodes kept_memory (λ d. (holds d).nv) bytes.now result }
         ensures made { IfOk result (λ d. holds d ≡ restored owner.now (holds d).nv) }
@@ -51,7 +52,8 @@ impl Device {
         Ok(device)
     }
 
-    /// The counters that are defined, in the order of their definitions: each with its public area as it is now and its value.
+    /// The counters that are defined, in the order of their definitions: each with its public area as it is now
+    /// and its value.
     pub fn counters(&self) -> &[Counter]
         ensures { result.now ≡ (holds self.now).nv.counters }
     {

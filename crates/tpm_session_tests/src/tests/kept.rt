@@ -1,5 +1,5 @@
-//! NV memory as the bytes in which it is kept. The expected bytes are those of Python's struct and hashlib. A line of what is
-//! refused is the response code, the position and the bytes, in hexadecimal.
+//! NV memory as the bytes in which it is kept. The expected bytes are those of Python's struct and hashlib. A line
+//! of what is refused is the response code, the position and the bytes, in hexadecimal.
 
 use crate::tests::texts::{bytes, number};
 use std::process::Abort;
