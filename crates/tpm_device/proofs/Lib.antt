@@ -5,3 +5,4 @@ pub mod Further
 pub mod Own
 pub mod Passing
 pub mod Ran
+pub mod KeptAgain

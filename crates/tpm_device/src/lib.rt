@@ -8,6 +8,7 @@ mod checks;
 mod device;
 mod extending;
 mod handles;
+mod kept;
 mod laws;
 mod nv;
 mod policies;

@@ -1,5 +1,5 @@
--- A device that is kept: what its NV memory has to be, the bytes that spell it, and the device that is made of them again
--- (Part 1, "NV Memory"; the bytes are this profile's).
+-- A device that is kept: what its NV memory has to be, the bytes that spell it, and the device that is made of them
+-- again (Part 1, "NV Memory"; the bytes are this profile's).
 use Rattle.std.specs.Prelude.{◌≡◌, ℕ, ◌+◌, ◌<◌, Bool, false, not, ◌&&◌, ◌==◌, nat_lt, bytes_eq, List, [], ◌∷◌, length}
 use Rattle.std.specs.Prelude.{map, Option, Some, None, is_some, IfSome, Result, Ok, Err, if◌then◌else◌}
 use Rattle.tpm_wire.specs.Reading.{◌>>=◌}
@@ -79,7 +79,8 @@ number_of_value (Some v) = v
 
 -- a counter's value: 8 bytes where WRITTEN is set, and otherwise none
 unfoldable pub kept_value : NvPublic → Layout (Option ℕ)
-kept_value public = either (is_written public.attrs) (number 8 (λ left. value_of_number) number_of_value rc_value) (done None)
+kept_value public =
+    either (is_written public.attrs) (number 8 (λ left. value_of_number) number_of_value rc_value) (done None)
 
 -- TPM2B_NV_PUBLIC (Part 2, 13.6), TPM2B_AUTH (10.4.5), and the value
 unfoldable pub kept_counter : Layout Counter

@@ -84,9 +84,9 @@ pub fn no_counter_goes_back()
         × (o.greatest < v) }
 {}
 
-/// A device that is kept: what is made of the owner's value and of the bytes of a device's NV memory is what a power cycle
-/// leaves of that device. So making it again is one power cycle of a run: the answers and the history go on behind it, and
-/// what holds of every run holds across it.
+/// A device that is kept: what is made of the owner's value and of the bytes of a device's NV memory is what a
+/// power cycle leaves of that device. So making it again is one power cycle of a run: the answers and the
+/// history go on behind it, and what holds of every run holds across it.
 pub fn restored_is_cycled()
     ensures stands { (o : Origin) (h : History) (nv : NvMemory) (bytes : List ℕ) →
         Spells kept_memory (nv_memory o h) bytes →

@@ -3,6 +3,7 @@
 mod authorize;
 mod calls;
 mod hashes;
+mod kept;
 mod macs;
 mod policies;
 mod scripts;

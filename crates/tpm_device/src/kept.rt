@@ -1,0 +1,79 @@
+//! A device that is kept: its NV memory as bytes, and the device that is made of them again (Part 1, "NV Memory").
+
+ghost use Rattle.std.specs.Prelude.{◌≡◌, ◌∷◌, ◌≤◌, length, option_map, IfOk};
+ghost use Rattle.tpm_wire.specs.Path.{Decodes, Spells};
+ghost use Rattle.tpm_wire.specs.Spelling.{spelling};
+ghost use Rattle.tpm_model.specs.Steps.{History, PowerCycle, Origin};
+ghost use Rattle.tpm_model.specs.Sessions.{loaded};
+ghost use Rattle.tpm_model.specs.Counters.{nv_memory};
+ghost use Rattle.tpm_model.specs.Kept.{kept_memory, restored};
+ghost use Rattle.tpm_device.specs.Stands.{holds, Stands};
+
+use crate::device::Device;
+use tpm_store::{Counter, Counters, KEPT_BYTES};
+use tpm_types::{Alg, AuthValue, SessionHandle};
+use tpm_wire::{Buffer, Refusal, Wire};
+
+impl Device {
+    /// Writes the bytes of NV memory into this buffer, whatever is in it: 1,026 at most. At every history at
+    /// which the device stands they spell NV memory, and `from_nv` makes a device of them again. They hold
+    /// authorization values.
+    ///
+    /// A host that keeps them before it hands out the response of a command that changed NV memory keeps what
+    /// was promised: it makes a device of the last of them, once.
+    pub fn put_nv(&self, out: &mut Buffer)
+        ensures bytes { out.new.items ≡ spelling kept_memory (holds self.now).nv }
+        ensures spells { (o : Origin) (h : History) →
+            Stands o h self.now →
+            Spells kept_memory (nv_memory o h) out.new.items }
+        ensures few { length out.new.items ≤ 1026 }
+    {
+        out.clear();
+        self.counters.has_spelling();
+        prove!(self.counters.len() <= KEPT_BYTES);
+        self.counters.put(out);
+    }
+
+    /// A device of the owner's authorization value and of the bytes of an NV memory, which is not started, has
+    /// no session, and has the counters of these bytes. Where they spell the NV memory of another device, of
+    /// the same owner's value, it stands where a power cycle leaves that one. For other bytes the response code
+    /// and the position of their first fault, as `Counters::from_bytes` has them.
+    pub fn from_nv(owner: &AuthValue, bytes: &[u8]) -> Result<Self, Refusal>
+        ensures decodes { Decodes kept_memory (λ d. (holds d).nv) bytes.now result }
+        ensures made { IfOk result (λ d. holds d ≡ restored owner.now (holds d).nv) }
+        ensures stands { IfOk result (λ d. (o : Origin) (h : History) →
+            o.owner ≡ owner.now →
+            Spells kept_memory (nv_memory o h) bytes.now →
+            Stands o (PowerCycle ∷ h) d) }
+    {
+        let counters = Counters::from_bytes(bytes)?;
+        let mut device = Device::new(owner, counters.greatest());
+        device.counters = counters;
+        Ok(device)
+    }
+
+    /// The counters that are defined, in the order of their definitions: each with its public area as it is now
+    /// and its value.
+    pub fn counters(&self) -> &[Counter]
+        ensures { result.now ≡ (holds self.now).nv.counters }
+    {
+        self.counters.as_slice()
+    }
+
+    /// The greatest value that any counter of the device has had.
+    pub fn greatest(&self) -> u64
+        ensures { result ≡ (holds self.now).nv.greatest }
+    {
+        self.counters.greatest()
+    }
+
+    /// The hash of the session of this handle, where it is loaded: that of its HMACs and of its policy.
+    pub fn session_hash(&self, session: SessionHandle) -> Option<Alg>
+        ensures { result ≡ option_map (λ s. s.hash) (loaded (holds self.now).sessions session) }
+    {
+        match self.sessions.get(session) {
+            None => None,
+            Some(found) => Some(found.hash()),
+        }
+    }
+}
