@@ -67,6 +67,12 @@ pub record IsUnrefused (bytes : List ℕ) : Type 0 where
   pub one : HasNoFeed line
   pub most : length line ≤ most_digits
 
+-- Lines that have ended and are accepted, and a line behind them that has not ended.
+pub record AreAnswered (lines line : List ℕ) : Type 0 where
+  pub ended : AreEnded lines
+  pub accepted : AreAccepted lines
+  pub one : HasNoFeed line
+
 -- ---- what lines ask of a device, up to one that is not hexadecimal, and the number of that line, where there is one
 
 pub record Script : Type 0 where

@@ -1,25 +1,25 @@
 //! The subcommand `run`.
 
-ghost use Rattle.std.specs.Prelude.{◌≡◌, ◌+◌, ◌^◌, ◌<◌, ◌++◌, ℕ, List, [], ◌∷◌, None, IfOk, OnOk, IsErrOf, length};
+ghost use Rattle.std.specs.Prelude.{◌≡◌, ◌+◌, ◌^◌, ◌<◌, ◌≤◌, ◌++◌, ℕ, List, [], ◌∷◌, None, IfOk, OnOk, IsErrOf};
 ghost use Rattle.std.specs.Prelude.{string_bytes};
-ghost use Rattle.std.specs.Io.KnownBytes.{Appends};
+ghost use Rattle.std.specs.Io.KnownBytes.{Appends, Consumes};
 ghost use Rattle.tpm_model.specs.Steps.{History, Origin};
 ghost use Rattle.tpm_model.specs.Runs.{Given, Cycled};
 ghost use Rattle.tpm_device.specs.Stands.{Stands};
 ghost use Rattle.tpm_wire.specs.Sources.{IsWhereItFailed};
 ghost use Rattle.tpm_text.specs.declared.fault.ToolFault.TheVariants.{InputTooLong, Read};
-ghost use Rattle.tpm_text.specs.Faults.{FailsByMemoryOrWrite};
 ghost use Rattle.tpm_text.specs.InputLines.{AddedTo, CountsRead};
-ghost use Rattle.tpm_script.specs.Script.{nonce_of, line_of, refused_line, script, script_text, status_for};
+ghost use Rattle.tpm_text.specs.LineSinks.{OnTrue, some_if};
+ghost use Rattle.tpm_script.specs.Script.{AreAnswered, nonce_of, refused_line, script, script_text, status_for};
 ghost use Rattle.tpm_script.specs.Script.{ReadsNoFurther, ReadsScript, ReadsTooMuch};
-ghost use Rattle.tpm_script.specs.Progress.{place, start, IsOpen, EndsLine, Takes, Performs};
+ghost use Rattle.tpm_script.specs.Progress.{Performs, Runs};
 
 use crate::lines::{Line, MOST_DIGITS, nonce, read_line};
 use std::alloc::{AllocError, Global};
 use std::io::Write;
 use tpm_device::Device;
-use tpm_text::answer::write;
 use tpm_text::fault::ToolFault;
+use tpm_text::lines::{LineSink, take_lines};
 use tpm_text::status::Status;
 use tpm_text::text::{Pushed, push_bytes};
 use tpm_wire::Source;
@@ -27,17 +27,10 @@ use tpm_wire::Source;
 /// How many bytes a script has at most.
 const MOST_BYTES: usize = 16_777_216;
 
-/// How many bytes are asked for at a time.
-const PIECE: usize = 4096;
-
-// A script that is being run.
+// A script that is being run: its device, and the number of the next command.
 #[derive(Drop)]
 struct Run {
     device: Device,
-    // what has come of the present line, and its number
-    line: Vec<u8>,
-    number: u64,
-    // the number of the next command
     command: u64,
 }
 
@@ -49,9 +42,10 @@ fn push_response(
     k: u64,
     bytes: &[u8],
 ) -> Pushed
-    ensures { OnOk result (Performs
-        (record { events = Given bytes.now (nonce_of k) ∷ []; refused = None })
-        device.old device.new (AddedTo (string_bytes text.old) (string_bytes text.new))) }
+    ensures { OnOk result ((added : List ℕ)
+        × AddedTo (string_bytes text.old) (string_bytes text.new) added
+        × Performs (record { events = Given bytes.now (nonce_of k) ∷ []; refused = None })
+        device.old device.new added) }
 {
     let response = device.execute(bytes, &nonce(k));
     push_bytes(alloc, text, response.as_slice())?;
@@ -61,8 +55,9 @@ fn push_response(
 // Cycles the power, and adds the line of it.
 #[tactic(auto, unfolding(crate::specs::Progress::StandsAt))]
 fn push_power(text: &mut String, device: &mut Device) -> Pushed
-    ensures { OnOk result (Performs (record { events = Cycled ∷ []; refused = None })
-        device.old device.new (AddedTo (string_bytes text.old) (string_bytes text.new))) }
+    ensures { OnOk result ((added : List ℕ)
+        × AddedTo (string_bytes text.old) (string_bytes text.new) added
+        × Performs (record { events = Cycled ∷ []; refused = None }) device.old device.new added) }
 {
     device.power_cycle();
     text.push_str("power\n")?;
@@ -77,26 +72,28 @@ fn push_refused(text: &mut String, number: u64) -> Pushed
 }
 
 impl Run {
-    fn new(alloc: Global, device: Device) -> Self
-        ensures device { result.device ≡ device }
-        ensures place { place result ≡ start }
+    // Runs the line of this number, and answers whether it is accepted.
+    fn perform(
+        &mut self,
+        alloc: Global,
+        number: u64,
+        line: &[u8],
+        text: &mut String,
+    ) -> Result<bool, AllocError>
+        requires at { self.old.command ≤ number }
+        requires number { number + 1 < 2 ^ 64 }
+        ensures { IfOk result (λ goes_on. (added : List ℕ)
+            × AddedTo (string_bytes text.old) (string_bytes text.new) added
+            × Runs (record {
+              number = number;
+              old = self.old;
+              line = line.now;
+              new = some_if goes_on self.new;
+              text = added;
+            })
+            × OnTrue goes_on (self.new.command ≤ number + 1)) }
     {
-        Run {
-            device,
-            line: Vec::new(alloc),
-            number: 1,
-            command: 1,
-        }
-    }
-
-    // Runs the present line.
-    fn end_line(&mut self, alloc: Global, text: &mut String) -> Result<Status, AllocError>
-        requires open { IsOpen (place self.old) }
-        requires number { self.old.number + 1 < 2 ^ 64 }
-        ensures { IfOk result (λ status. EndsLine (line_of self.old.line.items) self.old self.new
-            (AddedTo (string_bytes text.old) (string_bytes text.new)) status) }
-    {
-        match read_line(alloc, self.line.as_slice())? {
+        match read_line(alloc, line)? {
             Line::Blank => {}
             Line::Power => push_power(text, &mut self.device)?,
             Line::Command(bytes) => {
@@ -105,80 +102,43 @@ impl Run {
                 self.command += 1;
             }
             Line::NotHexadecimal => {
-                push_refused(text, self.number)?;
-                return Ok(Status::Refused);
+                push_refused(text, number)?;
+                return Ok(false);
             }
         }
-        self.line.clear();
-        self.number += 1;
-        Ok(Status::Done)
+        Ok(true)
+    }
+}
+
+impl LineSink for Run {
+    ghost use Rattle.tpm_script.specs.Progress.{Runs, digits};
+
+    ghost limits = { digits };
+
+    ghost takes = { Runs };
+
+    ghost is_at = { λ number run. run.command ≤ number };
+
+    fn counts(_byte: u8) -> bool {
+        true
     }
 
-    // Takes the next byte.
-    fn take(&mut self, alloc: Global, byte: u8, text: &mut String) -> Result<Status, AllocError>
-        requires open { IsOpen (place self.old) }
-        requires number { self.old.number + 1 < 2 ^ 64 }
-        ensures { IfOk result (λ status. Takes (byte ∷ []) self.old self.new
-            (AddedTo (string_bytes text.old) (string_bytes text.new)) status) }
-    {
-        if byte == b'\n' {
-            return self.end_line(alloc, text);
-        }
-        if self.line.len() >= MOST_DIGITS {
-            push_refused(text, self.number)?;
-            return Ok(Status::Refused);
-        }
-        self.line.push(byte)?;
-        Ok(Status::Done)
+    fn most_line() -> usize {
+        MOST_DIGITS
     }
 
-    // Takes the next bytes, up to a line that is refused.
-    #[tactic(auto, using(crate::proofs::Scripts::ends_none))]
-    fn feed(&mut self, alloc: Global, piece: &[u8], text: &mut String) -> Result<Status, AllocError>
-        requires open { IsOpen (place self.old) }
-        requires number { self.old.number + length piece.now < 2 ^ 64 }
-        ensures { IfOk result (λ status. Takes piece.now self.old self.new
-            (AddedTo (string_bytes text.old) (string_bytes text.new)) status) }
-    {
-        for byte in piece {
-            if self.take(alloc, *byte, text)? == Status::Refused {
-                return Ok(Status::Refused);
-            }
-        }
-        Ok(Status::Done)
+    fn long_ends() -> bool {
+        true
     }
 
-    // Takes the next bytes, and prints what comes of them.
-    fn print<W: Write>(
+    fn line(
         &mut self,
         alloc: Global,
-        piece: &[u8],
-        out: &mut W,
-    ) -> Result<Status, ToolFault>
-        requires open { IsOpen (place self.old) }
-        requires number { self.old.number + length piece.now < 2 ^ 64 }
-        ensures ok { IfOk result (λ status. Takes piece.now self.old self.new
-            (Appends (W.contents out.old) (W.contents out.new)) status) }
-        ensures err { FailsByMemoryOrWrite result }
-    {
-        let mut text = String::new(alloc);
-        let status = self.feed(alloc, piece, &mut text)?;
-        write(out, &text)?;
-        Ok(status)
-    }
-
-    // Runs the last line, and prints what comes of it.
-    fn print_end<W: Write>(&mut self, alloc: Global, out: &mut W) -> Result<Status, ToolFault>
-        requires open { IsOpen (place self.old) }
-        requires number { self.old.number + 1 < 2 ^ 64 }
-        ensures ok { IfOk result (λ status. EndsLine (line_of self.old.line.items) self.old self.new
-            (Appends (W.contents out.old) (W.contents out.new)) status) }
-        ensures err { FailsByMemoryOrWrite result }
-    {
-        let mut text = String::new(alloc);
-        let status = self.end_line(alloc, &mut text)?;
-        write(out, &text)?;
-        Ok(status)
+        number: u64,
+        line: &[u8],
+        text: &mut String,
+    ) -> Result<bool, AllocError> {
+        self.perform(alloc, number, line, text)
     }
 }
 
@@ -209,6 +169,11 @@ pub fn run_script<R: Source, W: Write>(
     ensures stop { IsErrOf result Read → IsWhereItFailed (R.stopped input.new) }
     ensures further { (IsErrOf result InputTooLong → ⊥)
         → ReadsNoFurther (R.coming input.old) (R.coming input.new) }
+    ensures answered { IsErrOf result Read → (lines line : List ℕ)
+        × Consumes (R.coming input.old) (R.coming input.new) (lines ++ line)
+        × AreAnswered lines line
+        × ((o : Origin) (h : History) → Stands o h device →
+        Appends (W.contents out.old) (W.contents out.new) (script_text o h (script lines))) }
     ensures ok { IfOk result (λ status. (bytes : List ℕ)
         × ReadsScript (R.coming input.old) (R.coming input.new) bytes
         × (status ≡ status_for (script bytes).refused)
@@ -217,22 +182,9 @@ pub fn run_script<R: Source, W: Write>(
     ensures too_long { IsErrOf result InputTooLong
         → ReadsTooMuch (R.coming input.old) (R.coming input.new) }
 {
-    let mut run = Run::new(alloc, device);
-    let mut piece = [0; PIECE];
-    let mut read = 0;
-    loop {
-        // Up to the limit no byte is read together with one behind it.
-        let room = (MOST_BYTES - read).clamp(1, PIECE);
-        let count = input.read(&mut piece[..room])?;
-        read += count;
-        if read > MOST_BYTES {
-            return Err(ToolFault::InputTooLong);
-        }
-        if count == 0 {
-            return run.print_end(alloc, out);
-        }
-        if run.print(alloc, &piece[..count], out)? == Status::Refused {
-            return Ok(Status::Refused);
-        }
+    let run = Run { device, command: 1 };
+    match take_lines(alloc, input, out, run, MOST_BYTES)? {
+        Some(_) => Ok(Status::Done),
+        None => Ok(Status::Refused),
     }
 }

@@ -148,7 +148,9 @@ module _ {S : Type 0} (limits : Limits) (Takes : Step S → Type 0) where
           are = ap (λ (bytes : List ℕ). bytes ++ byte ∷ []) g.are ∙ append_assoc g.lines g.line (byte ∷ []);
           ended = g.ended;
           one = no_feed-more g.line byte g.one other;
-          short = λ ends. fits_in limits.most (filter limits.counts (g.line ++ byte ∷ [])) (subst (λ (xs : List ℕ). length xs ≤ limits.most) line (fits ends (was ends)));
+          short =
+              λ ends. fits_in limits.most (filter limits.counts (g.line ++ byte ∷ []))
+              (subst (λ (xs : List ℕ). length xs ≤ limits.most) line (fits ends (was ends)));
           sink = g.sink;
           text = g.text;
           takes = g.takes;
@@ -305,7 +307,8 @@ module _ {S : Type 0} (limits : Limits) (Takes : Step S → Type 0) where
   ends_last IsAt goes_on old new added begun ended = λ first bytes text h.
       let g = h.goes in
       let all : lines_of bytes ≡ lines_of g.lines ++ g.line ∷ [] =
-      ap lines_of g.are ∙ lines_of-append g.lines g.line g.ended ∙ ap (λ (ls : List (List ℕ)). lines_of g.lines ++ ls) (last g.line (sym h.begun ∙ begun) g.one) in
+      ap lines_of g.are ∙ lines_of-append g.lines g.line g.ended
+      ∙ ap (λ (ls : List (List ℕ)). lines_of g.lines ++ ls) (last g.line (sym h.begun ∙ begun) g.one) in
       rw all (behind first bytes text added old (g.line ∷ []) (some_if goes_on new.sink) h
       (last_takes goes_on old.number old.sink new.sink g.line added (ended.0 g.line (sym h.line))))
 

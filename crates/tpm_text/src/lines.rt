@@ -22,7 +22,8 @@ const PIECE: usize = 4096;
 
 /// What the lines of an input are given to, one after the other.
 pub trait LineSink {
-    /// Which bytes count in a line, how many it has of them at most, and whether one that has more ends what is printed.
+    /// Which bytes count in a line, how many it has of them at most, and whether one that has more ends what is
+    /// printed.
     ghost limits: { Limits };
 
     /// What comes of a line.
@@ -44,8 +45,8 @@ pub trait LineSink {
     fn long_ends() -> bool
         ensures { result ≡ limits.long_ends };
 
-    /// Takes the line of this number, of which there are the bytes that count, and one too many of them at most. It adds
-    /// what is to be printed, and answers whether it goes on.
+    /// Takes the line of this number, of which there are the bytes that count, and one too many of them at most. It
+    /// adds what is to be printed, and answers whether it goes on.
     fn line(
         &mut self,
         alloc: Global,
@@ -213,9 +214,9 @@ impl<S: LineSink + Drop> LineReader<S> {
 /// Gives the lines of an input to a sink, one after the other, and prints what it adds. It answers the sink as they
 /// leave it, or none where one of them ended what is printed.
 ///
-/// A line ends with a line feed, which is no part of it, and the last may do without. What a read gave is printed before
-/// the next read: where that fails, what was written is the text of the lines that had ended. No more than one line and
-/// one piece of 4,096 bytes is held.
+/// A line ends with a line feed, which is no part of it, and the last may do without. What a read gave is printed
+/// before the next read: where that fails, what was written is the text of the lines that had ended. No more than one
+/// line and one piece of 4,096 bytes is held.
 ///
 /// Where a request for memory is refused the answer is `Memory`, where a read fails `Read`, where the writer fails
 /// `Write`, and where more than so many bytes come before the output has ended `InputTooLong`. What was written before
@@ -245,7 +246,8 @@ pub fn take_lines<R: Source, W: Write, S: LineSink + Drop>(
         (record { first = sink; bytes = bytes; left = left; text = text })
         × Appends (W.contents out.old) (W.contents out.new) text) }
     ensures too_long { IsErrOf result InputTooLong
-        → ReadsOneMore most (GoesOn S.limits S.takes sink) (R.coming input.old) (R.coming input.new) }
+        → ReadsOneMore most (GoesOn S.limits S.takes sink) (R.coming input.old)
+        (R.coming input.new) }
 {
     let mut lines = LineReader {
         sink,

@@ -1,4 +1,4 @@
-use Rattle.std.proofs.Common.{List, ℕ, ◌++◌, ap, sym, ◌∙◌, string_bytes}
+use Rattle.std.proofs.Common.{ap, sym, ◌∙◌}
 use Rattle.std.proofs.lemmas.List.{append-nil}
 use Rattle.tpm_text.specs.Text.{bytes_line}
 use Rattle.tpm_script.specs.Progress.{StandsAt}
@@ -6,12 +6,12 @@ use Rattle.tpm_script.proofs.script.push_response.Goals as goal
 
 pub returns : goal.returns
 unfolding StandsAt
-returns c = λ o h stands.
-    let text = string_bytes c.args.text.now in
-    record {
-      stands = rw c.nonce.ensures at (c.execute-response.ensures.stands o h stands);
-      text =
-          c.in_ok-push_bytes.ensures
-          ∙ ap (λ (bytes : List ℕ). text ++ bytes_line bytes) (c.as_slice.ensures.value ∙ rw c.nonce.ensures at (c.execute-response.ensures.answer o h stands))
-          ∙ ap (λ (added : List ℕ). text ++ added) (sym (append-nil _ ∙ append-nil _));
-    }
+returns c = (
+  bytes_line c.as_slice.result.now,
+  c.in_ok-push_bytes.ensures,
+  λ o h stands. record {
+    stands = rw c.nonce.ensures at (c.execute-response.ensures.stands o h stands);
+    text = ap bytes_line (c.as_slice.ensures.value ∙ rw c.nonce.ensures at (c.execute-response.ensures.answer o h stands))
+        ∙ sym (append-nil _ ∙ append-nil _);
+  },
+)

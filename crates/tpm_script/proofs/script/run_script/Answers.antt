@@ -1,109 +1,75 @@
-use Rattle.std.proofs.Common.{◌≡◌, [], take, refl, sym, ◌∙◌, arith, rules, drop, length, length-take-le}
-use Rattle.std.proofs.lemmas.List.{take-append-le}
-use Rattle.std.proofs.lemmas.Result.{IfOk-weaker}
-use Rattle.std.specs.Io.KnownBytes.{Appends, Consumes}
-use Rattle.tpm_stream.proofs.Filled.{consumes_both}
-use Rattle.tpm_text.specs.declared.status.Status.TheVariants.{Done, Refused}
-use Rattle.tpm_text.proofs.Joins.{joins_appends}
-use Rattle.tpm_script.specs.Progress.{StandsAt, IsOpen, place}
-use Rattle.tpm_script.proofs.Scripts.{reaches_more, takes_none, unrefused, answers_at_end, answers_refused, keeps_none}
-use Rattle.tpm_script.proofs.Scripts.{no_further, no_further_in}
+use Rattle.std.proofs.Common.{◌≡◌, ℕ, List, Some, refl, subst, rules}
+use Rattle.std.specs.Prelude.{IsErrOf}
+use Rattle.std.specs.Io.KnownBytes.{Appends}
+use Rattle.tpm_text.specs.declared.fault.ToolFault.TheVariants.{InputTooLong, Read}
+use Rattle.tpm_script.specs.declared.script.Run.{Run}
+use Rattle.tpm_script.specs.Progress.{StandsAt}
+use Rattle.tpm_script.proofs.Scripts.{answered, no_further, outcome, reads_script, too_much}
 use Rattle.tpm_script.proofs.script.run_script.Goals as goal
 
-pub returns-then-read-gt-MOST_BYTES-clause-too_long : goal.returns-then-read-gt-MOST_BYTES-clause-too_long
-returns-then-read-gt-MOST_BYTES-clause-too_long g c = λ _.
-    let f = c.loop-run.invariant.reaches in
-    let count = c.in_ok-count.count in
-    let room = c.read.new.room in
-    let len : length room ≡ c.clamp-room.result = search rules in
-    let counted : length (take count room) ≡ count = length-take-le count room c.in_ok-count.ensures.bound.0 in
-    record {
-      bytes = f.bytes;
-      more = take count room;
-      read = consumes_both _ _ _ f.bytes (take count room) f.consumed c.in_ok-count.ensures.bytes.0;
-      most = omega (arith, len, f.count, c.in_ok-count.ensures.bound.0);
-      one = omega (arith, len, f.count, counted, c.in_ok-count.ensures.bound.0);
-      unrefused = unrefused f.bytes c.new-run.result c.loop-run.run _ c.new-run.ensures.place f.takes;
-    }
+pub returns-in_err-take_lines-clause-further : goal.returns-in_err-take_lines-clause-further
+returns-in_err-take_lines-clause-further g c = λ unless.
+    let run : Run = record { device = c.args.device; command = 1 } in
+    let read = c.take_lines.ensures.further (λ is. let same : IsErrOf c.from_residual.result InputTooLong = search rules in unless same) in
+    no_further run _ _ read.0 read.1
 
-pub returns-then-read-gt-MOST_BYTES-clause-further : goal.returns-then-read-gt-MOST_BYTES-clause-further
-returns-then-read-gt-MOST_BYTES-clause-further g c = λ unless. absurd (unless refl)
-
-pub returns-in_err-count-clause-further : goal.returns-in_err-count-clause-further
-returns-in_err-count-clause-further g c = λ _.
-    no_further _ _ _ c.loop-run.read 0 [] c.new-run.result c.loop-run.run _ c.new-run.ensures.place c.loop-run.invariant.reaches
-    (keeps_none _ _ c.in_err-count.ensures.bytes) refl (omega arith) (omega (arith, c.loop-run.invariant.bound))
-
-pub returns-then-count-eq0-clause-further : goal.returns-then-count-eq0-clause-further
-returns-then-count-eq0-clause-further g c = λ _.
-    let bytes = rw c.if-count-eq0.true at c.in_ok-count.ensures.bytes in
-    no_further _ _ _ c.loop-run.read 0 [] c.new-run.result c.loop-run.run _ c.new-run.ensures.place c.loop-run.invariant.reaches bytes.0 refl
-    (omega arith) (omega (arith, c.loop-run.invariant.bound))
-
-pub returns-in_err-print-clause-further : goal.returns-in_err-print-clause-further
-returns-in_err-print-clause-further g c = λ _.
-    let len : length c.read.new.room ≡ c.clamp-room.result = search rules in
-    no_further_in _ _ _ c.loop-run.read c.in_ok-count.count c.read.new.room c.new-run.result c.loop-run.run _ c.new-run.ensures.place
-    c.loop-run.invariant.reaches c.in_ok-count.ensures.bytes.0
-    c.in_ok-count.ensures.bound.0 (omega (arith, len)) (omega arith)
-
-pub returns-then-eq-clause-further : goal.returns-then-eq-clause-further
-returns-then-eq-clause-further g c = λ _.
-    let len : length c.read.new.room ≡ c.clamp-room.result = search rules in
-    no_further_in _ _ _ c.loop-run.read c.in_ok-count.count c.read.new.room c.new-run.result c.loop-run.run _ c.new-run.ensures.place
-    c.loop-run.invariant.reaches c.in_ok-count.ensures.bytes.0
-    c.in_ok-count.ensures.bound.0 (omega (arith, len)) (omega arith)
-
-pub returns-then-count-eq0-clause-ok : goal.returns-then-count-eq0-clause-ok
+pub returns-in_err-take_lines-clause-answered : goal.returns-in_err-take_lines-clause-answered
 unfolding StandsAt
-returns-then-count-eq0-clause-ok g c =
-    let bytes = rw c.if-count-eq0.true at c.in_ok-count.ensures.bytes in
-    let len : length c.read.new.room ≡ c.clamp-room.result = search rules in
-    let contents = g.W.Write.contents in
-    IfOk-weaker c.print_end.result _ _ (λ status ended.
-    answers_at_end _ _ _ _ _ c.new-run.result c.loop-run.run c.print_end.new.self _ _ (Appends (contents c.args.out.now) (contents c.print_end.new.out)) status
-    (joins_appends (contents c.args.out.now) (contents c.loop-run.out) (contents c.print_end.new.out)) c.new-run.ensures.place c.new-run.ensures.device
-    c.loop-run.invariant.reaches c.loop-run.invariant.bound bytes.0 (bytes.1 refl (omega (arith, len))) ended) c.print_end.ensures.ok
+returns-in_err-take_lines-clause-answered g c = λ is.
+    let run : Run = record { device = c.args.device; command = 1 } in
+    let same : IsErrOf c.take_lines.result Read = search rules in
+    let read = c.take_lines.ensures.answered same in
+    let goes = read.1 in (
+      goes.lines,
+      goes.line,
+      rw goes.are at read.2,
+      answered run read.0 goes,
+      λ o h stands. subst (λ (text : List ℕ). Appends (g.W.Write.contents c.args.out.now) (g.W.Write.contents c.take_lines.new.out) text)
+          ((outcome run goes.lines (Some goes.sink) goes.text refl goes.takes).is o h stands) read.3,
+    )
 
-pub returns-then-eq-clause-ok : goal.returns-then-eq-clause-ok
+pub returns-in_err-take_lines-clause-too_long : goal.returns-in_err-take_lines-clause-too_long
+returns-in_err-take_lines-clause-too_long g c = λ is.
+    let run : Run = record { device = c.args.device; command = 1 } in
+    let same : IsErrOf c.take_lines.result InputTooLong = search rules in
+    too_much run _ _ (c.take_lines.ensures.too_long same)
+
+pub returns-in-Some-clause-further : goal.returns-in-Some-clause-further
+returns-in-Some-clause-further g c = λ unless.
+    let run : Run = record { device = c.args.device; command = 1 } in
+    let read = c.in_ok-take_lines.ensures.further (λ is. let z : ⊥ = cc (is) in absurd z) in
+    no_further run _ _ read.0 read.1
+
+pub returns-in-None-clause-further : goal.returns-in-None-clause-further
+returns-in-None-clause-further g c = λ unless.
+    let run : Run = record { device = c.args.device; command = 1 } in
+    let read = c.in_ok-take_lines.ensures.further (λ is. let z : ⊥ = cc (is) in absurd z) in
+    no_further run _ _ read.0 read.1
+
+pub returns-in-Some-clause-ok : goal.returns-in-Some-clause-ok
 unfolding StandsAt
-returns-then-eq-clause-ok g c =
-    let count = c.in_ok-count.count in
-    let room = c.read.new.room in
-    let contents = g.W.Write.contents in
-    let is : c.in_ok-print.field-0 ≡ Refused = search rules in
-    let len : length room ≡ c.clamp-room.result = search rules in
-    answers_refused _ _ _ c.loop-run.read count (take count room) c.args.device c.new-run.result c.loop-run.run c.print.new.self _ _
-    (Appends (contents c.args.out.now) (contents c.print.new.out))
-    (joins_appends (contents c.args.out.now) (contents c.loop-run.out) (contents c.print.new.out)) c.new-run.ensures.place c.new-run.ensures.device
-    c.loop-run.invariant.reaches (omega arith) (omega (arith, len, c.in_ok-count.ensures.bound.0)) c.in_ok-count.ensures.bytes.0
-    (sym (length-take-le count room c.in_ok-count.ensures.bound.0))
-    (rw (is, take-append-le count room (drop c.clamp-room.result c.loop-run.piece) c.in_ok-count.ensures.bound.0) at c.in_ok-print.ensures.ok)
+returns-in-Some-clause-ok g c =
+    let run : Run = record { device = c.args.device; command = 1 } in
+    let read = c.in_ok-take_lines.ensures.ok in
+    let left = c.in_ok-take_lines.field-0 in
+    let out = outcome run read.0 left read.1 refl read.3.0 in (
+      read.0,
+      reads_script run _ _ (record { first = run; bytes = read.0; left = left; text = read.1 }) refl read.2 read.3,
+      rw c.in-Some.is at out.status,
+      λ o h stands. subst (λ (text : List ℕ). Appends (g.W.Write.contents c.args.out.now) (g.W.Write.contents c.take_lines.new.out) text)
+          (out.is o h stands) read.4,
+    )
 
-pub loop-run-preserved : goal.loop-run-preserved
-loop-run-preserved g c =
-    let count = c.in_ok-count.count in
-    let room = c.read.new.room in
-    let contents = g.W.Write.contents in
-    let is : c.in_ok-print.field-0 ≡ Done = search rules in
-    record {
-      reaches =
-          reaches_more _ _ _ c.loop-run.read count (take count room) c.new-run.result c.loop-run.run c.print.new.self _ _
-          (Appends (contents c.args.out.now) (contents c.print.new.out))
-          (joins_appends (contents c.args.out.now) (contents c.loop-run.out) (contents c.print.new.out))
-          c.loop-run.invariant.reaches c.in_ok-count.ensures.bytes.0 (sym (length-take-le count room c.in_ok-count.ensures.bound.0))
-          (rw (is, take-append-le count room (drop c.clamp-room.result c.loop-run.piece) c.in_ok-count.ensures.bound.0) at c.in_ok-print.ensures.ok);
-      bound = omega arith;
-      failures = c.in_ok-count.ensures.count ∙ c.loop-run.invariant.failures;
-    }
-
-pub loop-run-init : goal.loop-run-init
-loop-run-init g c =
-    let consumed : Consumes (g.R.Source.coming c.args.input.now) (g.R.Source.coming c.args.input.now) [] = search rules in
-    let added : Appends (g.W.Write.contents c.args.out.now) (g.W.Write.contents c.args.out.now) [] = search rules in
-    let present : IsOpen (place c.new-run.result) = rw c.new-run.ensures.place (record { line = tt; most = omega arith; command = omega arith }) in
-    record {
-      reaches = record { bytes = []; consumed = consumed; count = refl; takes = takes_none c.new-run.result _ added present };
-      bound = omega arith;
-      failures = refl;
-    }
+pub returns-in-None-clause-ok : goal.returns-in-None-clause-ok
+unfolding StandsAt
+returns-in-None-clause-ok g c =
+    let run : Run = record { device = c.args.device; command = 1 } in
+    let read = c.in_ok-take_lines.ensures.ok in
+    let left = c.in_ok-take_lines.field-0 in
+    let out = outcome run read.0 left read.1 refl read.3.0 in (
+      read.0,
+      reads_script run _ _ (record { first = run; bytes = read.0; left = left; text = read.1 }) refl read.2 read.3,
+      rw c.in-None.is at out.status,
+      λ o h stands. subst (λ (text : List ℕ). Appends (g.W.Write.contents c.args.out.now) (g.W.Write.contents c.take_lines.new.out) text)
+          (out.is o h stands) read.4,
+    )

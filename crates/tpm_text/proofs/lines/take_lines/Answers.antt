@@ -46,7 +46,8 @@ returns-then-count-eq0-clause-ok g c =
     let ended = c.in_ok-goes_on.ensures.ok in (
       inv.bytes,
       inv.text ++ ended.0,
-      reads_lines c.args.most (GoesOn S.limits S.takes c.args.sink) _ _ _ c.loop-lines.read 0 inv.bytes [] inv.bytes inv.holds.goes inv.consumed inv.count bytes.0 refl
+      reads_lines c.args.most (GoesOn S.limits S.takes c.args.sink) _ _ _ c.loop-lines.read 0 inv.bytes [] inv.bytes inv.holds.goes inv.consumed
+          inv.count bytes.0 refl
           (omega arith) (omega (arith, inv.bound)) (sym (append-nil inv.bytes)),
       (rw c.left.ensures (ended.2 c.args.sink inv.bytes inv.text inv.holds), inl (bytes.1 refl (omega (arith, len)))),
       joins_appends _ _ _ inv.text ended.0 inv.added ended.1,
@@ -60,7 +61,8 @@ returns-in_err-print-clause-further g c = λ _.
     let room = c.read.new.room in
     let len : length room ≡ c.clamp-room.result = search rules in (
       _,
-      reads_lines c.args.most (GoesOn S.limits S.takes c.args.sink) _ _ _ c.loop-lines.read count inv.bytes (take count room) _ inv.holds.goes inv.consumed inv.count
+      reads_lines c.args.most (GoesOn S.limits S.takes c.args.sink) _ _ _ c.loop-lines.read count inv.bytes (take count room) _ inv.holds.goes
+          inv.consumed inv.count
           c.in_ok-count.ensures.bytes.0 (sym (length-take-le count room c.in_ok-count.ensures.bound.0)) (omega (arith, len, c.in_ok-count.ensures.bound.0))
           (omega arith) refl,
     )
@@ -73,7 +75,8 @@ returns-then-not-branch-clause-further g c = λ _.
     let room = c.read.new.room in
     let len : length room ≡ c.clamp-room.result = search rules in (
       _,
-      reads_lines c.args.most (GoesOn S.limits S.takes c.args.sink) _ _ _ c.loop-lines.read count inv.bytes (take count room) _ inv.holds.goes inv.consumed inv.count
+      reads_lines c.args.most (GoesOn S.limits S.takes c.args.sink) _ _ _ c.loop-lines.read count inv.bytes (take count room) _ inv.holds.goes
+          inv.consumed inv.count
           c.in_ok-count.ensures.bytes.0 (sym (length-take-le count room c.in_ok-count.ensures.bound.0)) (omega (arith, len, c.in_ok-count.ensures.bound.0))
           (omega arith) refl,
     )
@@ -91,7 +94,8 @@ returns-then-not-branch-clause-ok g c =
     let over = fed.2 c.args.sink inv.bytes inv.text inv.holds in (
       all,
       inv.text ++ fed.0,
-      reads_lines c.args.most (GoesOn S.limits S.takes c.args.sink) _ _ _ c.loop-lines.read count inv.bytes (take count room) all inv.holds.goes inv.consumed inv.count
+      reads_lines c.args.most (GoesOn S.limits S.takes c.args.sink) _ _ _ c.loop-lines.read count inv.bytes (take count room) all inv.holds.goes
+          inv.consumed inv.count
           c.in_ok-count.ensures.bytes.0 (sym (length-take-le count room c.in_ok-count.ensures.bound.0)) (omega (arith, len, c.in_ok-count.ensures.bound.0))
           (omega arith) refl,
       (
