@@ -157,7 +157,8 @@ unfoldable pub line_under : Heading → List ℕ → ListLine
 line_under heading text =
     if nat_lt most_line (length text) then Wrong
     else line_told (heading_in text)
-    (if is_numbered text then numbered_under heading (number_in text) (numbered_value text) else stating (stated_in text))
+    (if is_numbered text then numbered_under heading (number_in text) (numbered_value text)
+    else stating (stated_in text))
 
 -- the heading of what is behind a line
 abbrev pub heading_behind : Heading → ListLine → Heading

@@ -199,7 +199,8 @@ fn queries_of_nv_attributes(rt: HostRuntime) {
     answers(
         &rt,
         "
-        # counter; writes: owner, auth, policy; reads: owner, auth, policy; no_da, written; writable, readable, undefinable
+        # counter; writes: owner, auth, policy; reads: owner, auth, policy; no_da, written; writable, readable,
+        # undefinable
         nv 00000000 000
         # PPWRITE, OWNERWRITE, AUTHWRITE, POLICYWRITE
         nv 00000001 004
