@@ -110,19 +110,3 @@ pub over : {A : Type 0} (more : List ℕ) → 0 < length more → (x : A) (g : H
 over more some x g =
     let n : eqb (length (g.rest ++ more)) 0 ≡ false = ne_eqb (length (g.rest ++ more)) 0 (λ e. omega (arith, some, e, length-append g.rest more)) in
     rw n refl
-
--- Of bytes that are more than any value has, the begin has their fault,
-module _ {A : Type 0} (k : ℕ) (l : Layout A) (short : TakesAtMost k l) (few : k ≤ 4096) (bytes : List ℕ) (long : 4096 < length bytes) where
-  pub fault_of_long : (e : Refusal) → read 0 l (at_start (take 4096 bytes)) ≡ Err e → read_all l bytes ≡ Err e
-  fault_of_long e is =
-      let all =
-      rw (take-append-drop 4096 bytes) at
-      (short.fault 0 (at_start (take 4096 bytes)) (drop 4096 bytes) e
-      (omega (arith, long, few, length-take 4096 bytes)) is) in
-      ap (λ o. (o >>= finish buffer) >>= λ x. ok x.0) all
-
-  -- or the bytes behind what is read are it.
-  pub left_of_long : (x : A) (g : Here) → read 0 l (at_start (take 4096 bytes)) ≡ Ok (x, g) → read_all l bytes ≡ Err (record { code = rc_size; at = g.at })
-  left_of_long x g is =
-      let all = rw (take-append-drop 4096 bytes) at (short.same 0 (at_start (take 4096 bytes)) (drop 4096 bytes) (x, g) is) in
-      ap (λ o. (o >>= finish buffer) >>= λ x. ok x.0) all ∙ over (drop 4096 bytes) (omega (arith, long, length-drop 4096 bytes)) x g

@@ -1,9 +1,9 @@
 //! A command's parameters alone (Part 3).
 
-ghost use Rattle.std.specs.Prelude.{◌≡◌, ◌≤◌, ◌<◌, length, ◌++◌, IfOk, OnOk, Err};
+ghost use Rattle.std.specs.Prelude.{◌≡◌, ◌++◌, IfOk, OnOk};
 ghost use Rattle.tpm_wire.specs.Spelling.{spelling};
 ghost use Rattle.tpm_wire.specs.Path.{Decodes};
-ghost use Rattle.tpm_wire.specs.Reading.{read_all, Gives};
+ghost use Rattle.tpm_wire.specs.Reading.{read_all};
 ghost use Rattle.tpm_wire.specs.Buffers.{TakesNumbered};
 ghost use Rattle.tpm_commands.specs.Parameters.{parameters, params_code, placed};
 
@@ -13,7 +13,6 @@ use tpm_types::{
     Alg, AuthValue, Digest, DigestValues, Nonce, NvPublic, OrDigests, Selections, SessionHandle,
     SessionType, StartupType, SymDef,
 };
-use tpm_wire::response_code::SIZE;
 use tpm_wire::{Cursor, Refusal};
 
 /// A command's parameters, without its handles and sessions. An event is lent from the bytes that they were read from.
@@ -75,42 +74,6 @@ fn read_params<'a>(
     params.read(cursor)
 }
 
-fn read_bytes<'a>(
-    code: CommandCode,
-    bytes: &'a [u8],
-    params: &mut Params<'a>,
-) -> Result<(), Refusal>
-    requires { length bytes.now ≤ 4096 }
-    ensures reads { Gives (λ _. params.new) (read_all (parameters code) bytes.now) result }
-    ensures code { OnOk result (params_code params.new ≡ code) }
-{
-    let mut cursor = Cursor::new(bytes);
-    read_params(&mut cursor, code, params)?;
-    if cursor.left() > 0 {
-        return Err(Refusal {
-            code: SIZE,
-            at: cursor.at(),
-        });
-    }
-    Ok(())
-}
-
-// No command has so many bytes of parameters: where none of them is refused, bytes are left over.
-fn long_fault(code: CommandCode, bytes: &[u8]) -> Refusal
-    requires { 4096 < length bytes.now }
-    ensures { read_all (parameters code) bytes.now ≡ Err result }
-{
-    let mut cursor = Cursor::new(&bytes[..4096]);
-    let mut params = Params::PolicyRestart;
-    match read_params(&mut cursor, code, &mut params) {
-        Ok(()) => Refusal {
-            code: SIZE,
-            at: cursor.at(),
-        },
-        Err(refusal) => refusal,
-    }
-}
-
 /// The parameters that the bytes spell, all of them, or the code and the position of their first fault, counted from
 /// the first of these bytes: INSUFFICIENT, VALUE, SIZE, HASH, SYMMETRIC, MODE or RESERVED_BITS with the parameter's
 /// number, or SIZE for bytes left over.
@@ -134,8 +97,7 @@ pub fn decode_params_into<'a>(
     ensures reads { placed params.new result ≡ read_all (parameters code) bytes.now }
     ensures code { OnOk result (params_code params.new ≡ code) }
 {
-    if bytes.len() > 4096 {
-        return Err(long_fault(code, bytes));
-    }
-    read_bytes(code, bytes, params)
+    let mut cursor = Cursor::of_whole(bytes);
+    read_params(&mut cursor, code, params)?;
+    cursor.end_of_whole(bytes)
 }

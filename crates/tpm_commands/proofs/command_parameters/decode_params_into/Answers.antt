@@ -1,25 +1,72 @@
-use Rattle.std.proofs.Common.{◌≡◌, Result, Ok, Err, sym}
+use Rattle.std.proofs.Common.{◌≡◌, Bool, true, false, cond, eqb, leb, List, ℕ, length, take, Result, Ok, Err, refl, sym}
+use Rattle.std.proofs.Common.{ap, ◌∙◌, arith}
+use Rattle.std.proofs.lemmas.Result.{err_from_is_err_and}
+use Rattle.std.specs.Prelude.{◌&&◌}
 use Rattle.tpm_wire.specs.declared.refusal.Refusal.{Refusal}
-use Rattle.tpm_wire.specs.Buffers.{buffer}
-use Rattle.tpm_wire.specs.Reading.{Gives}
-use Rattle.tpm_wire.proofs.Buffers.{buffer_sound}
-use Rattle.tpm_wire.proofs.Whole.{decodes, read_fault}
+use Rattle.tpm_wire.specs.Token.{Here, at_start}
+use Rattle.tpm_wire.specs.Reading.{read, read_all}
+use Rattle.tpm_wire.specs.Path.{Decodes}
+use Rattle.tpm_wire.specs.Buffers.{Place}
+use Rattle.tpm_wire.specs.WholeValues.{ended, left_over}
+use Rattle.tpm_wire.proofs.Alone.{whole_read, whole_refused, whole_is, whole_decodes}
+use Rattle.tpm_commands.specs.declared.code.CommandCode.{CommandCode}
 use Rattle.tpm_commands.specs.declared.command_parameters.Params.{Params}
 use Rattle.tpm_commands.specs.Parameters.{parameters, placed}
+use Rattle.tpm_commands.proofs.EachCommand.{of_parameters}
 use Rattle.tpm_commands.proofs.command_parameters.decode_params_into.Goals as goal
 
-is_placed : (p : Params) (given : Result Params Refusal) (r : Result (Unit {0}) Refusal) → Gives (λ _. p) given r → placed p r ≡ given
-is_placed p given (Ok u) is = sym is
-is_placed p given (Err e) is = sym is
+abbrev begin : List ℕ → Place
+begin bytes = record { here = at_start (take 4096 bytes); number = 0 }
 
-pub returns-clause-decodes : goal.returns-clause-decodes
-returns-clause-decodes c =
-    decodes buffer buffer_sound (parameters c.args.code) c.args.bytes.now
-    (placed c.read_bytes.new.params c.read_bytes.result)
-    (is_placed c.read_bytes.new.params _ c.read_bytes.result c.read_bytes.ensures.reads)
+-- parameters that were read in their place end where nothing does
+ends_in_place : (p : Params) (bytes : List ℕ) (h : Here)
+    → placed p (ended {A = Unit {0}} bytes (tt, h)) ≡ ended bytes (p, h)
+ends_in_place p bytes h = go (eqb (length h.rest) 0 && leb (length bytes) 4096)
+  where
+    go : (b : Bool) → placed p (cond b (Ok (tt {0})) (Err (left_over h))) ≡ cond b (Ok p) (Err (left_over h))
+    go true = refl
+    go false = refl
+
+all_read : (code : CommandCode) (bytes : List ℕ) (old : Place) (p : Params) (h : Here) (r : Result (Unit {0}) Refusal)
+    → old ≡ begin bytes → read 0 (parameters code) old.here ≡ Ok (p, h)
+    → r ≡ ended {A = Unit {0}} bytes (tt, h) → placed p r ≡ read_all (parameters code) bytes
+all_read code bytes old p h r begins is ends =
+    let from : read 0 (parameters code) (at_start (take 4096 bytes)) ≡ Ok (p, h) =
+    ap (λ (q : Place). read 0 (parameters code) q.here) (sym begins) ∙ is in
+    ap (placed p) ends
+    ∙ ends_in_place p bytes h
+    ∙ whole_read (parameters code) bytes (begin bytes) p h (ended bytes (p, h)) refl from refl
+    ∙ whole_is 1100 (parameters code) (of_parameters code) (omega arith) bytes
+
+refused : (code : CommandCode) (bytes : List ℕ) (old : Place) (e : Refusal)
+    → old ≡ begin bytes → read 0 (parameters code) old.here ≡ Err e → Err e ≡ read_all (parameters code) bytes
+refused code bytes old e begins is =
+    let from : read 0 (parameters code) (at_start (take 4096 bytes)) ≡ Err e =
+    ap (λ (q : Place). read 0 (parameters code) q.here) (sym begins) ∙ is in
+    whole_refused (parameters code) bytes (begin bytes) e refl from
+    ∙ whole_is 1100 (parameters code) (of_parameters code) (omega arith) bytes
+
+judged : (code : CommandCode) (bytes : List ℕ) (o : Result Params Refusal) → o ≡ read_all (parameters code) bytes
+    → Decodes (parameters code) (λ p. p) bytes o
+judged code bytes o is =
+    whole_decodes 1100 (parameters code) (of_parameters code) (omega arith) bytes o
+    (is ∙ sym (whole_is 1100 (parameters code) (of_parameters code) (omega arith) bytes))
 
 pub returns-clause-reads : goal.returns-clause-reads
-returns-clause-reads c = is_placed c.read_bytes.new.params _ c.read_bytes.result c.read_bytes.ensures.reads
+returns-clause-reads c =
+    all_read c.args.code c.args.bytes.now c.of_whole-cursor.result c.read_params.new.params c.read_params.new.cursor.here
+    c.end_of_whole.result c.of_whole-cursor.ensures c.in_ok-read_params.ensures.reads c.end_of_whole.ensures
 
-pub returns-then-bytes-gt4096-clause-decodes : goal.returns-then-bytes-gt4096-clause-decodes
-returns-then-bytes-gt4096-clause-decodes c = read_fault buffer buffer_sound (parameters c.args.code) c.args.bytes.now c.long_fault.result c.long_fault.ensures
+pub returns-clause-decodes : goal.returns-clause-decodes
+returns-clause-decodes c = judged c.args.code c.args.bytes.now _ (returns-clause-reads c)
+
+pub returns-in_err-read_params-clause-reads : goal.returns-in_err-read_params-clause-reads
+returns-in_err-read_params-clause-reads c =
+    let p = err_from_is_err_and c.from_residual.result c.from_residual.ensures.1 in
+    rw (p.1, p.2)
+    (refused c.args.code c.args.bytes.now c.of_whole-cursor.result c.in_err-read_params.field-0.0
+    c.of_whole-cursor.ensures c.in_err-read_params.ensures.reads)
+
+pub returns-in_err-read_params-clause-decodes : goal.returns-in_err-read_params-clause-decodes
+returns-in_err-read_params-clause-decodes c =
+    judged c.args.code c.args.bytes.now _ (returns-in_err-read_params-clause-reads c)
