@@ -1,5 +1,5 @@
 -- What is known of a command that was read, and of the checks of its sessions.
-use Rattle.std.proofs.Common.{◌≡◌, ℕ, Bool, true, false, List, [], ◌∷◌, Option, Some, None, Result, Ok, Err, refl, sym, ap}
+use Rattle.std.proofs.Common.{◌≡◌, ℕ, Bool, true, false, List, [], ◌∷◌, Option, Some, None, Ok, Err, refl, sym, ap}
 use Rattle.std.proofs.Common.{subst, ◌∙◌}
 use Rattle.std.specs.Prelude.{◌==◌, if◌then◌else◌, slice_get}
 use Rattle.tpm_wire.specs.Buffers.{number_in, numbered}
@@ -19,7 +19,7 @@ use Rattle.tpm_buffer.specs.CommandAreas.{Cut}
 use Rattle.tpm_model.specs.Sessions.{Session, loaded}
 use Rattle.tpm_model.specs.Present.{Present}
 use Rattle.tpm_model.specs.Entities.{Entity, entity_of, names_of}
-use Rattle.tpm_model.specs.Authorization.{Evidence, NotAsked, Authorizer, Password, by_session, check_loaded, check_session}
+use Rattle.tpm_model.specs.Authorization.{Evidence, NotAsked, Password, by_session, check_loaded, check_session}
 use Rattle.tpm_model.specs.Authorization.{check_entity, evidence_by, check_evidence, authorize, reply_auths}
 use Rattle.tpm_model.specs.Authorization.{password_reply}
 use Rattle.tpm_model.specs.Answers.{evidence_in}

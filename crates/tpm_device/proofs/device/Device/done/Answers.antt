@@ -1,4 +1,4 @@
-use Rattle.std.proofs.Common.{rules, ◌≡◌, Err, ap, ◌∙◌}
+use Rattle.std.proofs.Common.{rules, ◌≡◌, Err, ◌∙◌}
 use Rattle.tpm_buffer.specs.Commands.{body_from}
 use Rattle.tpm_model.proofs.OwnCode.{code_again}
 use Rattle.tpm_device.specs.Stands.{Begin}

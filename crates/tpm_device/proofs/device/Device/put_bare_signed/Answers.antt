@@ -1,4 +1,4 @@
-use Rattle.std.proofs.Common.{List, sym, ap, ◌∙◌}
+use Rattle.std.proofs.Common.{sym, ap, ◌∙◌}
 use Rattle.tpm_model.specs.Premises.{code_in}
 use Rattle.tpm_device.specs.Stands.{any_bare, bare_bytes}
 use Rattle.tpm_device.proofs.Passing.{reply_is_done}

@@ -1,8 +1,7 @@
-use Rattle.std.proofs.Common.{ℕ, List, [], ◌∷◌, Option, sym, ap, ◌∙◌}
-use Rattle.tpm_types.specs.declared.tpms.AuthReply.{AuthReply}
+use Rattle.std.proofs.Common.{List, Option, sym, ap, ◌∙◌}
 use Rattle.tpm_commands.specs.declared.code.CommandCode.{CommandCode}
 use Rattle.tpm_model.specs.Sessions.{Session}
-use Rattle.tpm_model.specs.Entities.{Entity, auth_value, is_owner_entity}
+use Rattle.tpm_model.specs.Entities.{auth_value, is_owner_entity}
 use Rattle.tpm_model.specs.Authorization.{reply_auths}
 use Rattle.tpm_session.specs.Entities.{evidence_of}
 use Rattle.tpm_device.specs.Stands.{holds, claim_of}

@@ -1,5 +1,4 @@
-use Rattle.std.proofs.Common.{List, ◌∷◌, refl, sym, subst, ap, ◌∙◌}
-use Rattle.tpm_types.specs.declared.tpms.Auth.{Auth}
+use Rattle.std.proofs.Common.{◌∷◌, refl, sym, ap, ◌∙◌}
 use Rattle.tpm_types.specs.Tpma.{continues}
 use Rattle.tpm_commands.specs.Handles.{needs_authorization}
 use Rattle.tpm_buffer.specs.Commands.{code_for, with_auths}

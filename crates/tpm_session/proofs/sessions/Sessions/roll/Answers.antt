@@ -1,5 +1,5 @@
 use Rattle.std.proofs.Common.{refl, ◌∙◌}
-use Rattle.tpm_session.proofs.Slots.{went_on, stayed, none_past}
+use Rattle.tpm_session.proofs.Slots.{went_on}
 use Rattle.tpm_session.proofs.sessions.Sessions.roll.Goals as goal
 
 pub returns-in-Slot : goal.returns-in-Slot
