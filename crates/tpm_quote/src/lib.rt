@@ -1,5 +1,5 @@
-//! A quote of a TPM's registers (Part 2, 10.12): what its bytes say, whether it is the one that was asked for, and whether
-//! its digest is that of registers.
+//! A quote of a TPM's registers (Part 2, 10.12): what its bytes say, whether it is the one that was asked for, and
+//! whether its digest is that of registers.
 #![tactic(auto)]
 
 mod attest;
