@@ -1,8 +1,9 @@
-//! Logs, quotes and event data.
+//! Logs, quotes, event data, and what logs tell of Secure Boot.
 
 mod attests;
 mod event_data;
 mod logs;
 mod pieces;
 mod quotes;
+mod secure_boots;
 mod sources;
