@@ -19,8 +19,8 @@ use Rattle.clap.specs.declared.error.kind.ErrorKind.{ErrorKind}
 use Rattle.clap.specs.Takes.{takes}
 use Rattle.clap.proofs.OnLiterals.{clap_on_literals}
 use Rattle.clap.proofs.WalkLemmas.{first_value-rows}
-use Rattle.tpm_arg_values.specs.Numbers.{IsDecimal}
-use Rattle.tpm_arg_values.specs.Owner.{IsOwner}
+use Rattle.tpm_text_values.specs.Numbers.{IsDecimal}
+use Rattle.tpm_text_values.specs.Owner.{IsOwner}
 use Rattle.tpm_args.specs.declared.task.Task.TheVariants.{Show, ShowCapture, Build, Run, Explain, Check, Events}
 use Rattle.tpm_args.specs.declared.task.Task.{Task}
 use Rattle.tpm_args.specs.declared.stop.Stop.TheVariants.{Help, Usage, Memory}

@@ -6,9 +6,9 @@ use Rattle.clap.specs.Words.{Row, Text, first_of}
 use Rattle.tpm_types.specs.declared.alg.Alg.{Alg}
 use Rattle.tpm_types.specs.declared.tpms.Selection.{Selection}
 use Rattle.tpm_commands.specs.declared.code.CommandCode.{CommandCode}
-use Rattle.tpm_arg_values.specs.Numbers.{IsDecimal, IsHexadecimal}
-use Rattle.tpm_arg_values.specs.Owner.{IsOwner}
-use Rattle.tpm_arg_values.specs.Selections.{hash_word, AreSelections}
+use Rattle.tpm_text_values.specs.Numbers.{IsDecimal, IsHexadecimal}
+use Rattle.tpm_text_values.specs.Owner.{IsOwner}
+use Rattle.tpm_text_values.specs.Selections.{hash_word, AreSelections}
 use Rattle.tpm_args.specs.declared.task.Task.TheVariants.{Show, ShowCapture, Build, Run, Explain, Check, Events}
 use Rattle.tpm_args.specs.declared.task.Task.{Task}
 use Rattle.tpm_args.specs.Names.{command_of_name}

@@ -12,7 +12,7 @@ use crate::stop::Stop;
 use crate::task::{Asked, Task};
 use clap::ArgMatches;
 use std::alloc::Global;
-use tpm_arg_values::selections;
+use tpm_text_values::selections;
 use tpm_types::{Alg, Selections};
 
 /// The task of the words of `check`.

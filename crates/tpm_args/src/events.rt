@@ -8,7 +8,7 @@ use crate::invalid::invalid_value;
 use crate::program::events_words;
 use crate::stop::Stop;
 use std::alloc::Global;
-use tpm_arg_values::decimal;
+use tpm_text_values::decimal;
 
 /// The register that alone is listed: a number of decimal digits alone, without a sign. A usage
 /// fault where it is none, or not below 2^64.

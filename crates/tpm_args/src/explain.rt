@@ -1,7 +1,7 @@
 //! The words of the subcommand `explain`.
 
 ghost use Rattle.std.specs.Prelude.{◌≡◌, ℕ, MatchOption, MatchResult, codes};
-ghost use Rattle.tpm_arg_values.specs.Numbers.{IsHexadecimal};
+ghost use Rattle.tpm_text_values.specs.Numbers.{IsHexadecimal};
 ghost use Rattle.tpm_args.specs.Stop.{IsAsked, IsMemoryOr};
 ghost use Rattle.tpm_args.specs.Task.{digits_in};
 
@@ -11,7 +11,7 @@ use crate::stop::Stop;
 use crate::task::{Asked, Task};
 use clap::ArgMatches;
 use std::alloc::Global;
-use tpm_arg_values::hexadecimal;
+use tpm_text_values::hexadecimal;
 
 /// The task of the words of `explain`.
 pub(crate) fn explain_task<'a>(alloc: Global, words: &ArgMatches<'a>) -> Asked<'a>

@@ -2,8 +2,8 @@
 
 ghost use Rattle.std.specs.Prelude.{ℕ, List, Option, MatchResult, codes};
 ghost use Rattle.clap.specs.Words.{first_value, found_of};
-ghost use Rattle.tpm_arg_values.specs.Numbers.{IsDecimal};
-ghost use Rattle.tpm_arg_values.specs.Owner.{IsOwner};
+ghost use Rattle.tpm_text_values.specs.Numbers.{IsDecimal};
+ghost use Rattle.tpm_text_values.specs.Owner.{IsOwner};
 ghost use Rattle.tpm_args.specs.Stop.{IsMemoryOr};
 ghost use Rattle.tpm_args.specs.Task.{AsksNothingWith, AsksWith};
 
@@ -13,7 +13,7 @@ use crate::stop::Stop;
 use crate::task::Task;
 use clap::ArgMatches;
 use std::alloc::{AllocError, Global};
-use tpm_arg_values::{OwnerFault, decimal, owner_value};
+use tpm_text_values::{OwnerFault, decimal, owner_value};
 use tpm_types::{AuthValue, DIGEST_BYTES};
 
 /// The task of the words of `run`.

@@ -10,7 +10,8 @@ ghost use Rattle.tpm_buffer.specs.Commands.{command as command_layout};
 ghost use Rattle.tpm_buffer.specs.Responses.{response as response_layout};
 
 use crate::out::append;
-use tpm_buffer::{Command, CommandCode, decode_command, decode_response, encode_command};
+use tpm_buffer::{decode_command, decode_response, encode_command};
+use tpm_commands::{Command, CommandCode};
 
 /// Decodes the command, and answers 0, or the code of its fault.
 #[unsafe(no_mangle)]

@@ -3,11 +3,9 @@
 ghost use Rattle.std.specs.Prelude.{◌≤◌};
 
 use arrayvec::ArrayVec;
-use tpm_buffer::{
-    Command, CommandBody, CommandCode, ReplyBody, Response, StartAuth, decode_response,
-    encode_command,
-};
+use tpm_buffer::{decode_response, encode_command};
 use tpm_caller::{Caller, CallerFault, Pending};
+use tpm_commands::{Command, CommandBody, CommandCode, ReplyBody, Response, StartAuth};
 use tpm_device::Device;
 use tpm_types::{
     Alg, AuthValue, BindHandle, DigestValues, HashedDigest, Nonce, PcrIndex, PcrOrNull,

@@ -5,7 +5,8 @@ ghost use Rattle.tpm_model.specs.Sessions.{loaded};
 ghost use Rattle.tpm_model.specs.Entities.Entity.{Register};
 ghost use Rattle.tpm_model.specs.Authorization.{authorize, first_loaded};
 
-use tpm_buffer::{Areas, AuthRef, StartAuth, areas};
+use tpm_buffer::{Areas, AuthRef, areas};
+use tpm_commands::StartAuth;
 use tpm_session::{Entity, Sessions};
 use tpm_types::{Alg, BindHandle, Name, Nonce, SessionType, SymDef, name_of_handle};
 

@@ -1,6 +1,7 @@
 //! How much room values take.
 
-use tpm_buffer::{Areas, Command};
+use tpm_buffer::Areas;
+use tpm_commands::Command;
 use tpm_device::Device;
 
 /// How many bytes a device (0), a command (1) or a command's areas (2) take.

@@ -8,7 +8,7 @@ ghost use Rattle.tpm_wire.specs.Sources.{CountsFailures, IsWhereItFailed};
 ghost use Rattle.tpm_stream.specs.Frames.{IsFrame, Frames};
 
 use crate::out::append;
-use tpm_buffer::{Framer, Status, read_frame, read_frame_into};
+use tpm_stream::{Framer, Status, read_frame, read_frame_into};
 use tpm_wire::{Buffer, ReadFailed, Source};
 
 /// Writes the frames of the stream one after the other, and answers how many bytes they have. The

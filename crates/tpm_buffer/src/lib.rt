@@ -29,11 +29,3 @@ pub use response_decode::decode_response;
 pub use response_encode::{encode_response, put_code, put_reply, put_reply_params};
 pub use response_header::RSP_COMMAND;
 pub use response_sessions::ReplyRef;
-pub use tpm_commands::{
-    Command, CommandBody, CommandCode, EVENT_BYTES, ErrorCode, Event, Header, NvData, Params,
-    ReplyBody, Response, StartAuth, StartReply, decode_params, decode_params_into,
-};
-pub use tpm_stream::{
-    Framer, ReadFault, Status, broken_for_ever, frames_of_a_stream, frames_of_pieces, frames_read,
-    read_frame, read_frame_into,
-};

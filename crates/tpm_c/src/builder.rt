@@ -6,7 +6,8 @@ ghost use Rattle.tpm_c.specs.Builds.{Builds, BuildsBytes};
 
 use crate::out::put;
 use crate::part::{DONE, NO_COMMAND, NO_ROOM, TpmRefusal, refuse};
-use tpm_buffer::{CommandCode, decode_command, join_command};
+use tpm_buffer::{decode_command, join_command};
+use tpm_commands::CommandCode;
 use tpm_wire::Refusal;
 use tpm_wire::response_code::COMMAND_SIZE;
 

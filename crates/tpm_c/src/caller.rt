@@ -20,11 +20,9 @@ ghost use Rattle.tpm_c.specs.Callers.{body_in, are_short, do_fit, seal_of, seali
 
 use crate::out::{BUFFER_BYTES, put};
 use arrayvec::ArrayVec;
-use tpm_buffer::{
-    Command, CommandBody, CommandCode, ReplyBody, Response, StartAuth, StartReply, decode_command,
-    decode_response,
-};
+use tpm_buffer::{decode_command, decode_response};
 use tpm_caller::{Caller, CallerFault, Waiting};
+use tpm_commands::{Command, CommandBody, CommandCode, ReplyBody, Response, StartAuth, StartReply};
 use tpm_types::{DIGEST_BYTES, NAME_BYTES, Name, Nonce};
 
 /// Nothing is waited for.

@@ -5,7 +5,8 @@ ghost use Rattle.tpm_c.specs.ResponseViews.{session_view, behind as behind_of, p
 ghost use Rattle.tpm_c.specs.ResponseViews.{number_of, response_view, ViewsResponse, JudgesResponse};
 
 use crate::part::{DONE, NO_COMMAND, NO_PART, TpmPart, TpmRefusal, refuse};
-use tpm_buffer::{CommandCode, ReplyAreas, ReplyRef, decode_response, reply_areas};
+use tpm_buffer::{ReplyAreas, ReplyRef, decode_response, reply_areas};
+use tpm_commands::CommandCode;
 
 /// A session of a response: its nonce and its HMAC lie in the response.
 #[repr(C)]

@@ -8,9 +8,9 @@ ghost use Rattle.tpm_c.specs.contracts.caller.Held.{the_row as held};
 ghost use Rattle.tpm_c.specs.Rooms.{room_size, room_align};
 
 use crate::caller::Held;
-use tpm_buffer::Framer;
 use tpm_device::Device;
 use tpm_log::LogReplay;
+use tpm_stream::Framer;
 
 /// How many bytes a device takes.
 #[unsafe(no_mangle)]

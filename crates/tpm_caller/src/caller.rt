@@ -17,7 +17,8 @@ use crate::pending::Pending;
 use crate::waiting::Waiting;
 use arrayvec::ArrayVec;
 use std::marker::Model;
-use tpm_buffer::{Command, CommandBody, CommandCode, StartAuth, StartReply, put_command};
+use tpm_buffer::put_command;
+use tpm_commands::{Command, CommandBody, CommandCode, StartAuth, StartReply};
 use tpm_hmac::{SessionKey, command_mac, cp_hash, hash, same, session_key, trim};
 use tpm_types::{
     Alg, Auth, AuthSession, AuthValue, BLOCK_BYTES, BindHandle, DIGEST_BYTES, Digest, Name, Nonce,

@@ -14,7 +14,8 @@ ghost use Rattle.tpm_caller.specs.Sent.{caller_with, has_no_params as has_no_par
 use crate::caller::Caller;
 use crate::waiting::CallerFault;
 use std::marker::Model;
-use tpm_buffer::{CommandCode, NO_SESSIONS, RSP_COMMAND, Response, decode_response, reply_areas};
+use tpm_buffer::{NO_SESSIONS, RSP_COMMAND, decode_response, reply_areas};
+use tpm_commands::{CommandCode, Response};
 use tpm_hmac::{rp_hash, same};
 use tpm_types::{BLOCK_BYTES, Nonce};
 use tpm_wire::Bounded;

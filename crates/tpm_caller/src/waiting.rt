@@ -7,7 +7,7 @@ ghost use Rattle.tpm_caller.specs.Faults.{opening_of, giving_up_of};
 use crate::caller::Caller;
 use crate::pending::Pending;
 use std::marker::Model;
-use tpm_buffer::{ErrorCode, Response};
+use tpm_commands::{ErrorCode, Response};
 use tpm_wire::{Buffer, Refusal};
 
 /// Why bytes are not opened, the first of these.

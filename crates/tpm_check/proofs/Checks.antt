@@ -9,14 +9,14 @@ use Rattle.tpm_log.specs.Records.{LogRecord}
 use Rattle.tpm_log.specs.Replays.{ReplaysFrom, OnDevice}
 use Rattle.tpm_log.specs.Takes.{IsOfBytes}
 use Rattle.tpm_log.specs.declared.fault.LogFaultKind.TheVariants as kinds
-use Rattle.tpm_text.specs.declared.fault.ToolFault.TheVariants.{Read, InputTooLong}
-use Rattle.tpm_text.specs.declared.fault.ToolFault.{ToolFault}
-use Rattle.tpm_text.specs.declared.status.Status.TheVariants.{Refused}
-use Rattle.tpm_text.specs.declared.status.Status.{Status}
-use Rattle.tpm_text.specs.Status.{both}
-use Rattle.tpm_text.specs.Faults.{FailsByMemoryOrWrite}
-use Rattle.tpm_text.specs.InputLines.{CountsRead}
-use Rattle.tpm_text.specs.Text.{bytes_in}
+use Rattle.tpm_lines.specs.declared.fault.ToolFault.TheVariants.{Read, InputTooLong}
+use Rattle.tpm_lines.specs.declared.fault.ToolFault.{ToolFault}
+use Rattle.tpm_lines.specs.declared.status.Status.TheVariants.{Refused}
+use Rattle.tpm_lines.specs.declared.status.Status.{Status}
+use Rattle.tpm_lines.specs.Status.{both}
+use Rattle.tpm_lines.specs.Faults.{FailsByMemoryOrWrite}
+use Rattle.tpm_lines.specs.InputLines.{CountsRead}
+use Rattle.tpm_lines.specs.Text.{bytes_in}
 use Rattle.tpm_check.specs.Compare.{Values, comparison}
 use Rattle.tpm_check.specs.Check.{ChecksQuote, ChecksBehind, ChecksValues, CountsList, CountsReads, FailsLast, IsSame}
 

@@ -22,14 +22,14 @@ use Rattle.tpm_check.specs.Comparing.{Place, next_line, heading_after, start, be
 use Rattle.tpm_check.specs.Comparing.{IsOpen, Leads, Stops, Ends, GoesOn, Takes, status_behind, EndsAs, EndsLine}
 use Rattle.tpm_check.specs.Comparing.{Reaches}
 use Rattle.tpm_stream.proofs.Filled.{consumes_both}
-use Rattle.tpm_text.specs.declared.status.Status.TheVariants.{Done, Refused}
-use Rattle.tpm_text.specs.declared.status.Status.{Status}
-use Rattle.tpm_text.specs.InputLines.{lines_of, HasNoFeed, AreEnded, most_bytes, most_piece}
-use Rattle.tpm_text.specs.Status.{both}
-use Rattle.tpm_text.proofs.InputLines.{ended_line, last_line, first_line, other_lines, longer_line, lines_of-append}
-use Rattle.tpm_text.proofs.InputLines.{ended_both}
-use Rattle.tpm_text.proofs.Tables.{position-map}
-use Rattle.tpm_text.proofs.Joins.{joins_appends}
+use Rattle.tpm_lines.specs.declared.status.Status.TheVariants.{Done, Refused}
+use Rattle.tpm_lines.specs.declared.status.Status.{Status}
+use Rattle.tpm_lines.specs.InputLines.{lines_of, HasNoFeed, AreEnded, most_bytes, most_piece}
+use Rattle.tpm_lines.specs.Status.{both}
+use Rattle.tpm_lines.proofs.InputLines.{ended_line, last_line, first_line, other_lines, longer_line, lines_of-append}
+use Rattle.tpm_lines.proofs.InputLines.{ended_both}
+use Rattle.tpm_lines.proofs.Tables.{position-map}
+use Rattle.tpm_lines.proofs.Joins.{joins_appends}
 
 -- ---- registers
 

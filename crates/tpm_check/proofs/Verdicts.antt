@@ -5,10 +5,10 @@ use Rattle.std.specs.Prelude.{suc}
 use Rattle.tpm_types.specs.declared.alg.Alg.{Alg}
 use Rattle.tpm_types.specs.declared.tpms.Selection.{Selection}
 use Rattle.tpm_types.specs.Tpms.{is_selected}
-use Rattle.tpm_text.specs.declared.status.Status.TheVariants.{Done, Refused}
-use Rattle.tpm_text.specs.declared.status.Status.{Status}
-use Rattle.tpm_text.specs.Status.{both}
-use Rattle.tpm_text.specs.Text.{bytes_in}
+use Rattle.tpm_lines.specs.declared.status.Status.TheVariants.{Done, Refused}
+use Rattle.tpm_lines.specs.declared.status.Status.{Status}
+use Rattle.tpm_lines.specs.Status.{both}
+use Rattle.tpm_lines.specs.Text.{bytes_in}
 use Rattle.tpm_check.specs.Compare.{Values}
 use Rattle.tpm_check.specs.Check.{ChecksQuote, ChecksValues}
 use Rattle.tpm_check.specs.CheckAttest.{register_word, register_words, ChecksGiven, ChecksAll}

@@ -18,10 +18,10 @@ use Rattle.tpm_log.specs.declared.fault.LogFault.{LogFault}
 use Rattle.tpm_quote.specs.declared.attest.NotSelected.{NotSelected}
 use Rattle.tpm_quote.specs.Attests.{first_not_selected, registers_of}
 use Rattle.tpm_log.specs.Takes.{IsOfBytes}
-use Rattle.tpm_text.specs.declared.status.Status.TheVariants.{Done, Refused}
-use Rattle.tpm_text.specs.declared.status.Status.{Status}
-use Rattle.tpm_text.specs.Status.{both}
-use Rattle.tpm_text.specs.Text.{bytes_in, bytes_text, hexadecimal, line, refusal_line, not_hexadecimal_line}
+use Rattle.tpm_lines.specs.declared.status.Status.TheVariants.{Done, Refused}
+use Rattle.tpm_lines.specs.declared.status.Status.{Status}
+use Rattle.tpm_lines.specs.Status.{both}
+use Rattle.tpm_lines.specs.Text.{bytes_in, bytes_text, hexadecimal, line, refusal_line, not_hexadecimal_line}
 use Rattle.tpm_check.specs.Compare.{Values, bank_name}
 use Rattle.tpm_check.specs.Check.{ChecksValues, ReadsIfList, log_fault_line}
 

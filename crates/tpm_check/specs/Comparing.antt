@@ -11,10 +11,10 @@ use Rattle.tpm_check.specs.Compare.{Values, Stated, ListLine, States, Heads, Pas
 use Rattle.tpm_check.specs.Compare.{heading_behind, lines_under, is_value, compared_line, not_a_register_line}
 use Rattle.tpm_check.specs.Compare.{comparison_from, most_line, AreRegisters}
 use Rattle.tpm_check.specs.declared.list_lines.Line.TheVariants as listed
-use Rattle.tpm_text.specs.declared.status.Status.TheVariants.{Done, Refused}
-use Rattle.tpm_text.specs.declared.status.Status.{Status}
-use Rattle.tpm_text.specs.InputLines.{lines_of, HasNoFeed, AreEnded}
-use Rattle.tpm_text.specs.Status.{both}
+use Rattle.tpm_lines.specs.declared.status.Status.TheVariants.{Done, Refused}
+use Rattle.tpm_lines.specs.declared.status.Status.{Status}
+use Rattle.tpm_lines.specs.InputLines.{lines_of, HasNoFeed, AreEnded}
+use Rattle.tpm_lines.specs.Status.{both}
 
 -- what was read of a line
 abbrev pub stated_as : RustStated → Stated

@@ -7,9 +7,9 @@ ghost use Rattle.tpm_model.specs.Registers.{value_in, Registers as RegistersValu
 ghost use Rattle.tpm_log.specs.Changes.{AreAfter};
 ghost use Rattle.tpm_log.specs.Replays.{ReplaysFrom, ReadsFrom};
 ghost use Rattle.tpm_log.specs.declared.fault.LogFault.{LogFault as LogFaultValue};
-ghost use Rattle.tpm_text.specs.declared.fault.ToolFault.TheVariants.{InputTooLong, Read};
-ghost use Rattle.tpm_text.specs.Faults.{FailsByMemoryOrWrite};
-ghost use Rattle.tpm_text.specs.InputLines.{CountsRead};
+ghost use Rattle.tpm_lines.specs.declared.fault.ToolFault.TheVariants.{InputTooLong, Read};
+ghost use Rattle.tpm_lines.specs.Faults.{FailsByMemoryOrWrite};
+ghost use Rattle.tpm_lines.specs.InputLines.{CountsRead};
 ghost use Rattle.tpm_check.specs.Compare.{ReadsList, ReadsTooMuchList};
 ghost use Rattle.tpm_check.specs.Check.{CountsReads, FailsLast, ReadsTooMuchIfList, list_before, list_after};
 ghost use Rattle.tpm_check.specs.CheckAttest.{ChecksGiven, ChecksAll, ChecksSigned};
@@ -18,10 +18,10 @@ use crate::checked::{check_stated, print_fault, print_quote};
 use crate::judged::{Signed, answer_to_given};
 use std::alloc::Global;
 use std::io::Write;
+use tpm_lines::fault::ToolFault;
+use tpm_lines::status::Status;
 use tpm_log::{LogFaultKind, replay_from};
 use tpm_store::Registers;
-use tpm_text::fault::ToolFault;
-use tpm_text::status::Status;
 use tpm_types::Alg;
 use tpm_wire::Source;
 

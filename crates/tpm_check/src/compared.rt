@@ -5,9 +5,9 @@ ghost use Rattle.std.specs.Prelude.{string_bytes};
 ghost use Rattle.std.specs.Io.KnownBytes.{Appends};
 ghost use Rattle.tpm_model.specs.Registers.{value_in};
 ghost use Rattle.tpm_wire.specs.Sources.{IsWhereItFailed};
-ghost use Rattle.tpm_text.specs.declared.fault.ToolFault.TheVariants.{InputTooLong, Read};
-ghost use Rattle.tpm_text.specs.Faults.{FailsByMemoryOrWrite};
-ghost use Rattle.tpm_text.specs.InputLines.{AddedTo, CountsRead};
+ghost use Rattle.tpm_lines.specs.declared.fault.ToolFault.TheVariants.{InputTooLong, Read};
+ghost use Rattle.tpm_lines.specs.Faults.{FailsByMemoryOrWrite};
+ghost use Rattle.tpm_lines.specs.InputLines.{AddedTo, CountsRead};
 ghost use Rattle.tpm_check.specs.Compare.{comparison, compared_line, is_value, ReadsList, ReadsTooMuchList};
 ghost use Rattle.tpm_check.specs.Comparing.{stated_as, place, start, comparison_at, IsOpen, Takes, EndsLine};
 ghost use Rattle.tpm_check.specs.Comparing.{EndsStated, next_line, status_behind};
@@ -17,11 +17,11 @@ use crate::register_text::{push_compared, push_not_a_register};
 use crate::stated::Stated;
 use std::alloc::{AllocError, Global};
 use std::io::Write;
+use tpm_lines::answer::write;
+use tpm_lines::fault::ToolFault;
+use tpm_lines::status::Status;
+use tpm_lines::text::Pushed;
 use tpm_store::Registers;
-use tpm_text::answer::write;
-use tpm_text::fault::ToolFault;
-use tpm_text::status::Status;
-use tpm_text::text::Pushed;
 use tpm_wire::Source;
 
 /// How many bytes a list has at most.

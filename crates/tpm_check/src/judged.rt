@@ -10,14 +10,14 @@ ghost use Rattle.tpm_check.specs.CheckAttest.{on_selection, on_quote, on_attest,
 use crate::register_text::bank_name;
 use crate::signed_text::push_attest;
 use std::alloc::{AllocError, Global};
+use tpm_lines::answer::Answer;
+use tpm_lines::hexadecimal::decoded;
+use tpm_lines::status::Status;
+use tpm_lines::text::Pushed;
 use tpm_quote::{
     NotSelected, check_quote, decode_attest, first_not_selected, nonce_matches, selects_none,
 };
 use tpm_store::Registers;
-use tpm_text::answer::Answer;
-use tpm_text::hexadecimal::decoded;
-use tpm_text::status::Status;
-use tpm_text::text::Pushed;
 use tpm_types::{Alg, Attest, QuoteInfo, Selections};
 
 /// A quote as it was signed, and what is expected of it.

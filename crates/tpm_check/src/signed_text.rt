@@ -8,9 +8,9 @@ ghost use Rattle.tpm_check.specs.CheckAttest.{signer_line};
 
 use crate::register_text::bank_name;
 use std::alloc::Global;
-use tpm_text::hexadecimal::shown_bytes;
-use tpm_text::registers::register;
-use tpm_text::text::Pushed;
+use tpm_lines::hexadecimal::shown_bytes;
+use tpm_lines::registers::register;
+use tpm_lines::text::Pushed;
 use tpm_types::{Attest, ClockInfo, REGISTERS, Selection};
 
 #[tactic(auto, unfolding(crate::specs::CheckAttest::signer_line))]

@@ -1,14 +1,14 @@
 //! Lines that state a register as its line is printed.
 
 ghost use Rattle.std.specs.Prelude.{◌≡◌, ◌<◌, IfOk, IfSome, Some, position, option_map};
-ghost use Rattle.tpm_text.specs.Text.{bytes_in};
+ghost use Rattle.tpm_lines.specs.Text.{bytes_in};
 ghost use Rattle.tpm_check.specs.Compare.{is_space, first_word, behind_word, bank_named, register_named, stated_of};
 ghost use Rattle.tpm_check.specs.Compare.{stated_in};
 ghost use Rattle.tpm_check.specs.Comparing.{stated_as};
 
 use crate::register_text::bank_name;
 use std::alloc::{AllocError, Global};
-use tpm_text::hexadecimal::decoded;
+use tpm_lines::hexadecimal::decoded;
 use tpm_types::{Alg, PcrIndex};
 
 const REGISTERS: [&str; 24] = [

@@ -9,7 +9,7 @@ ghost use Rattle.tpm_device.specs.Stands.{holds, acted, Steps};
 
 use crate::device::Device;
 use crate::handles::{bind, by, first_index, policy, register, register_or_null, second_index};
-use tpm_buffer::{Params, ReplyBody, StartAuth};
+use tpm_commands::{Params, ReplyBody, StartAuth};
 use tpm_wire::Duplicate;
 
 impl Device {

@@ -10,7 +10,7 @@ ghost use Rattle.tpm_commands.specs.declared.code.CommandCode.TheVariants as cod
 ghost use Rattle.tpm_commands.specs.declared.command_parameters.Params.TheVariants as of_command;
 ghost use Rattle.tpm_commands.specs.Parameters.{parameters, params_code, startup, nv_read};
 
-use tpm_buffer::{CommandCode, Params};
+use tpm_commands::{CommandCode, Params};
 use tpm_types::StartupType;
 use tpm_wire::response_code::of_parameter;
 use tpm_wire::{Cursor, Refusal, Wire};

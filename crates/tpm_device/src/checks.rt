@@ -7,7 +7,8 @@ ghost use Rattle.tpm_model.specs.Answers.{check_handles as handles_of, check_tag
 ghost use Rattle.tpm_device.specs.Stands.{holds};
 
 use crate::device::Device;
-use tpm_buffer::{CommandCode, NO_SESSIONS, SESSIONS};
+use tpm_buffer::{NO_SESSIONS, SESSIONS};
+use tpm_commands::CommandCode;
 use tpm_types::{NvIndex, PolicyHandle, SessionHandle};
 use tpm_wire::response_code::{
     AUTH_CONTEXT, AUTH_MISSING, HANDLE, INITIALIZE, REFERENCE_H0, of_handle,

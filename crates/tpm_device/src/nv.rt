@@ -6,7 +6,7 @@ ghost use Rattle.tpm_model.specs.Actions.{action};
 ghost use Rattle.tpm_device.specs.Stands.{holds, acted, Steps};
 
 use crate::device::Device;
-use tpm_buffer::{NvData, ReplyBody};
+use tpm_commands::{NvData, ReplyBody};
 use tpm_store::By;
 use tpm_types::{AuthValue, NvIndex, NvPublic};
 use tpm_wire::response_code::HANDLE;

@@ -13,7 +13,8 @@ ghost use Rattle.tpm_device.specs.Stands.{Replies, Rolls, is_bare, bare_bytes};
 
 use crate::authorization::Authorization;
 use crate::device::Device;
-use tpm_buffer::{Areas, ErrorCode, ReplyBody, SESSIONS, put_code, put_reply, put_reply_params};
+use tpm_buffer::{Areas, SESSIONS, put_code, put_reply, put_reply_params};
+use tpm_commands::{ErrorCode, ReplyBody};
 use tpm_session::{Authority, password_reply};
 use tpm_types::AuthReply;
 use tpm_wire::{Buffer, Wire, put_bytes};

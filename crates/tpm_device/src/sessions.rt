@@ -6,7 +6,7 @@ ghost use Rattle.tpm_model.specs.Actions.{action};
 ghost use Rattle.tpm_device.specs.Stands.{holds, acted, Steps};
 
 use crate::device::Device;
-use tpm_buffer::{ReplyBody, StartAuth};
+use tpm_commands::{ReplyBody, StartAuth};
 use tpm_types::SessionHandle;
 
 impl Device {

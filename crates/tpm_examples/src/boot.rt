@@ -6,8 +6,8 @@ use crate::fault::Fault;
 use crate::random::Random;
 use crate::session::{exchange, opened, start, unopened};
 use crate::tpm::Tpm;
-use tpm_buffer::{CommandBody, ReplyBody};
 use tpm_caller::{Caller, CallerFault};
+use tpm_commands::{CommandBody, ReplyBody};
 use tpm_types::{AuthValue, SessionHandle};
 
 /// A boot loader, which knows the owner's authorization value, and its TPM.

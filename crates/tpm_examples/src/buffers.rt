@@ -3,10 +3,9 @@
 use crate::print_bytes;
 use arrayvec::ArrayVec;
 use std::io;
-use tpm_buffer::{
-    Command, CommandBody, CommandCode, Framer, Response, Status, decode_command, decode_response,
-    encode_command,
-};
+use tpm_buffer::{decode_command, decode_response, encode_command};
+use tpm_commands::{Command, CommandBody, CommandCode, Response};
+use tpm_stream::{Framer, Status};
 use tpm_types::StartupType;
 
 /// A command is a value; its bytes are its only spelling.

@@ -3,8 +3,8 @@
 ghost use Rattle.std.specs.Prelude.{◌≡◌, length};
 
 use arrayvec::ArrayVec;
-use tpm_buffer::CommandBody;
 use tpm_caller::{Caller, Waiting};
+use tpm_commands::CommandBody;
 use tpm_hmac::hash;
 use tpm_types::{
     Alg, AuthValue, Digest, NAME_BYTES, Name, Nonce, NvAttrs, NvAuthHandle, NvIndex, NvPublic,

@@ -1,8 +1,8 @@
 //! What ends the program early.
 
 use std::io;
-use tpm_buffer::ErrorCode;
 use tpm_caller::CallerFault;
+use tpm_commands::ErrorCode;
 use tpm_wire::Refusal;
 
 /// Why a step was not done.

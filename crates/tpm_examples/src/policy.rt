@@ -2,7 +2,7 @@
 
 use crate::print_bytes;
 use std::io;
-use tpm_buffer::StartAuth;
+use tpm_commands::StartAuth;
 use tpm_session::Sessions;
 use tpm_types::{Alg, BindHandle, Nonce, PolicyHandle, SessionType, SymDef};
 

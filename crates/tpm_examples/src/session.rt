@@ -2,8 +2,8 @@
 
 use crate::fault::Fault;
 use crate::tpm::{Tpm, answered};
-use tpm_buffer::{CommandBody, ReplyBody, StartAuth};
 use tpm_caller::{Caller, CallerFault, Waiting};
+use tpm_commands::{CommandBody, ReplyBody, StartAuth};
 use tpm_types::{Alg, AuthValue, BindHandle, Nonce, SessionHandle, SessionType, SymDef};
 use tpm_wire::Duplicate;
 

@@ -3,7 +3,8 @@
 use crate::fault::Fault;
 use crate::random::Random;
 use arrayvec::ArrayVec;
-use tpm_buffer::{Command, CommandBody, ReplyBody, Response, decode_response, encode_command};
+use tpm_buffer::{decode_response, encode_command};
+use tpm_commands::{Command, CommandBody, ReplyBody, Response};
 use tpm_device::Device;
 use tpm_types::{AuthValue, StartupType};
 use tpm_wire::Buffer;

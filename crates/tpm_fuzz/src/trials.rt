@@ -5,9 +5,8 @@ ghost use Rattle.std.specs.Prelude.{◌≡◌};
 use crate::changes::change;
 use crate::corpus::Entry;
 use crate::dice::Dice;
-use tpm_buffer::{
-    CommandCode, decode_command, decode_response, encode_command, encode_response, header,
-};
+use tpm_buffer::{decode_command, decode_response, encode_command, encode_response, header};
+use tpm_commands::CommandCode;
 use tpm_device::Device;
 use tpm_types::AuthValue;
 use tpm_wire::Buffer;

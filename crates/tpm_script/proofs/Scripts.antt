@@ -14,13 +14,13 @@ use Rattle.tpm_script.specs.Script.{AreAccepted, AreAnswered, IsRefusedIn, IsRef
 use Rattle.tpm_script.specs.Script.{script, events_text, refused_text, script_text, status_for, ReadsNoFurther}
 use Rattle.tpm_script.specs.Script.{ReadsScript, ReadsTooMuch, most_digits}
 use Rattle.tpm_script.specs.Progress.{Runs, RunsAs, StandsAt, digits, next_command}
-use Rattle.tpm_text.specs.declared.status.Status.TheVariants.{Done, Refused}
-use Rattle.tpm_text.specs.declared.status.Status.{Status}
-use Rattle.tpm_text.specs.Text.{bytes_line, line}
-use Rattle.tpm_text.specs.InputLines.{lines_of, most_bytes}
-use Rattle.tpm_text.proofs.InputLines.{ended_line, lines_of-append}
-use Rattle.tpm_text.specs.LineSinks.{GoesOn, IsWhole, OnTrue, Reading, ReadsLines, ReadsOneMore, Step, StopsAt, TakesFrom}
-use Rattle.tpm_text.specs.LineSinks.{TakesKept, kept, some_if}
+use Rattle.tpm_lines.specs.declared.status.Status.TheVariants.{Done, Refused}
+use Rattle.tpm_lines.specs.declared.status.Status.{Status}
+use Rattle.tpm_lines.specs.Text.{bytes_line, line}
+use Rattle.tpm_lines.specs.InputLines.{lines_of, most_bytes}
+use Rattle.tpm_lines.proofs.InputLines.{ended_line, lines_of-append}
+use Rattle.tpm_lines.specs.LineSinks.{GoesOn, IsWhole, OnTrue, Reading, ReadsLines, ReadsOneMore, Step, StopsAt, TakesFrom}
+use Rattle.tpm_lines.specs.LineSinks.{TakesKept, kept, some_if}
 use Rattle.std.specs.Io.KnownBytes.{IsAtEnd}
 
 -- ---- the script of some lines

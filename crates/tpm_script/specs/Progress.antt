@@ -10,7 +10,7 @@ use Rattle.tpm_script.specs.declared.script.Run.{Run}
 use Rattle.tpm_script.specs.Script.{Line, Blank, Power, Command, NotHexadecimal, Script, events_from, line_of}
 use Rattle.tpm_script.specs.Script.{most_digits, refused_line, script_text}
 use Rattle.tpm_script.specs.declared.lines.Line.TheVariants as rust
-use Rattle.tpm_text.specs.LineSinks.{Limits, Step}
+use Rattle.tpm_lines.specs.LineSinks.{Limits, Step}
 
 -- what was read of a line
 abbrev pub read_as : RustLine → Line

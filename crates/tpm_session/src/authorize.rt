@@ -19,7 +19,8 @@ use crate::evidence::{check_evidence, no_reply, password_reply};
 use crate::policy::differs;
 use crate::session::{NONCE_BYTES, Session};
 use crate::sessions::{Sessions, slot_of};
-use tpm_buffer::{AuthRef, CommandCode};
+use tpm_buffer::AuthRef;
+use tpm_commands::CommandCode;
 use tpm_hmac::same;
 use tpm_types::{AuthReply, Name, RS_PW, SessionHandle, SessionType};
 use tpm_wire::response_code::{

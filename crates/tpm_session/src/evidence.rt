@@ -14,7 +14,8 @@ ghost use Rattle.tpm_session.specs.Entities.{entity_in, authorizer_in, signed_by
 use crate::authorize::Authorizer;
 use crate::entity::Entity;
 use crate::session::{NONCE_BYTES, Session};
-use tpm_buffer::{AuthRef, CommandCode};
+use tpm_buffer::AuthRef;
+use tpm_commands::CommandCode;
 use tpm_hmac::{cp_hash, rp_hash, same, trim};
 use tpm_types::{AuthReply, AuthValue, Name, Nonce, SessionAttrs, SessionType};
 use tpm_wire::response_code::{AUTH_FAIL, BAD_AUTH, of_session};

@@ -9,7 +9,7 @@ ghost use Rattle.tpm_session.specs.Policies.{as_assertion, policy_after};
 
 use arrayvec::ArrayVec;
 use std::marker::Model;
-use tpm_buffer::CommandCode;
+use tpm_commands::CommandCode;
 use tpm_hmac::hash;
 use tpm_types::{Alg, DIGEST_BYTES, Digest, MOST_DIGESTS, OrDigests, Selections};
 use tpm_wire::{Buffer, Wire};

@@ -14,7 +14,7 @@ ghost use Rattle.tpm_session.specs.Policies.{as_assertion, asserting, restarted}
 
 use crate::policy::{Assertion, Policy, differs, is_listed};
 use std::marker::Model;
-use tpm_buffer::StartAuth;
+use tpm_commands::StartAuth;
 use tpm_hmac::{SessionKey, session_key};
 use tpm_types::{
     Alg, BindHandle, Digest, Nonce, OrDigests, Selections, SessionHandle, SessionType,

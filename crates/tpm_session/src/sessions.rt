@@ -27,7 +27,7 @@ use crate::authorize::Authority;
 use crate::policy::Assertion;
 use crate::session::{NONCE_BYTES, Session, first_of};
 use std::marker::Model;
-use tpm_buffer::{StartAuth, StartReply};
+use tpm_commands::{StartAuth, StartReply};
 use tpm_store::Registers;
 use tpm_types::{Digest, OrDigests, PolicyHandle, Selections, SessionHandle, SessionType};
 use tpm_wire::Duplicate;

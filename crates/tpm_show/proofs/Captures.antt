@@ -7,12 +7,12 @@ use Rattle.std.proofs.lemmas.List.{append-nil, map-append, take_all, take-append
 use Rattle.std.specs.Prelude.{nat_eq}
 use Rattle.std.specs.Io.KnownBytes.{Consumes, IsAtEnd}
 use Rattle.tpm_stream.proofs.Filled.{consumes_both}
-use Rattle.tpm_text.specs.declared.status.Status.TheVariants.{Done, Refused}
-use Rattle.tpm_text.specs.declared.status.Status.{Status}
-use Rattle.tpm_text.specs.Status.{both}
-use Rattle.tpm_text.specs.InputLines.{lines_of, HasNoFeed}
-use Rattle.tpm_text.proofs.InputLines.{no_feed-more, ended_line, last_line, lines_of-append, ended_both}
-use Rattle.tpm_text.proofs.Joins.{Joins}
+use Rattle.tpm_lines.specs.declared.status.Status.TheVariants.{Done, Refused}
+use Rattle.tpm_lines.specs.declared.status.Status.{Status}
+use Rattle.tpm_lines.specs.Status.{both}
+use Rattle.tpm_lines.specs.InputLines.{lines_of, HasNoFeed}
+use Rattle.tpm_lines.proofs.InputLines.{no_feed-more, ended_line, last_line, lines_of-append, ended_both}
+use Rattle.tpm_lines.proofs.Joins.{Joins}
 use Rattle.tpm_show.specs.declared.telling.Telling.{Telling}
 use Rattle.tpm_show.specs.declared.capture.Capture.{Capture}
 use Rattle.tpm_show.specs.Capture.{Line, Place, start, is_blank, without_blanks, told_in, line_of, most_line, behind}

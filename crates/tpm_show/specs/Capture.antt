@@ -10,11 +10,11 @@ use Rattle.tpm_wire.specs.Path.{Fault}
 use Rattle.tpm_commands.specs.declared.code.CommandCode.{CommandCode}
 use Rattle.tpm_commands.specs.Codes.{code_of}
 use Rattle.tpm_buffer.specs.Commands.{command}
-use Rattle.tpm_text.specs.declared.status.Status.TheVariants.{Done, Refused}
-use Rattle.tpm_text.specs.declared.status.Status.{Status}
-use Rattle.tpm_text.specs.Status.{both}
-use Rattle.tpm_text.specs.Text.{line, bytes_in}
-use Rattle.tpm_text.specs.InputLines.{lines_of}
+use Rattle.tpm_lines.specs.declared.status.Status.TheVariants.{Done, Refused}
+use Rattle.tpm_lines.specs.declared.status.Status.{Status}
+use Rattle.tpm_lines.specs.Status.{both}
+use Rattle.tpm_lines.specs.Text.{line, bytes_in}
+use Rattle.tpm_lines.specs.InputLines.{lines_of}
 use Rattle.tpm_show.specs.declared.capture_lines.Direction.TheVariants.{Command, Reply}
 use Rattle.tpm_show.specs.declared.capture_lines.Direction.{Direction}
 use Rattle.tpm_show.specs.declared.capture_frames.Awaited.{Awaited}

@@ -3,8 +3,8 @@ use Rattle.std.specs.Prelude.{ℕ, ◌==◌, ◌&&◌, Bool, true, false, List, 
 use Rattle.std.specs.Prelude.{if◌then◌else◌}
 use Rattle.tpm_wire.specs.ResponseCodes.{rc_command_code}
 use Rattle.tpm_wire.specs.declared.refusal.Refusal.{Refusal}
-use Rattle.tpm_text.specs.Named.{Named, named, named_in}
-use Rattle.tpm_text.specs.Text.{line}
+use Rattle.tpm_lines.specs.Named.{Named, named, named_in}
+use Rattle.tpm_lines.specs.Text.{line}
 
 -- without TPM_CC_
 abbrev pub commands : List Named

@@ -7,7 +7,7 @@ use Rattle.tpm_wire.specs.Buffers.{Layout}
 use Rattle.tpm_wire.specs.Layout.Form.{field}
 use Rattle.tpm_wire.specs.Spelling.{spelling}
 pub use Rattle.tpm_commands.specs.Row.{Field, named}
-use Rattle.tpm_text.specs.Text.{comma, line, bytes_text}
+use Rattle.tpm_lines.specs.Text.{comma, line, bytes_text}
 
 -- the spelling of each part of a value, in the order of its layout: joined they are the spelling of the value
 abbrev pub parts : {A : Type 0} → Layout A → A → List (List ℕ)

@@ -9,8 +9,8 @@ use Rattle.tpm_commands.specs.Codes.{code_name}
 use Rattle.tpm_buffer.specs.CommandAreas.{Cut}
 use Rattle.tpm_buffer.specs.ResponseAreas.{handle_of}
 use Rattle.tpm_buffer.specs.Responses.{ReplyCut}
-use Rattle.tpm_text.specs.Text.{Session, handle_text, hex_member, hexadecimal, lines_from, of_command, of_reply}
-use Rattle.tpm_text.specs.Text.{session_text}
+use Rattle.tpm_lines.specs.Text.{Session, handle_text, hex_member, hexadecimal, lines_from, of_command, of_reply}
+use Rattle.tpm_lines.specs.Text.{session_text}
 use Rattle.tpm_show.specs.Fields.{command_fields, reply_fields}
 
 -- ---- refusals and faults

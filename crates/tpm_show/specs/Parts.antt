@@ -10,8 +10,8 @@ use Rattle.tpm_types.specs.Tpm2b.{digest}
 use Rattle.tpm_types.specs.Tpma.{is_set, nv_type}
 use Rattle.tpm_types.specs.Tpms.{selection, is_selected, nv_public_area}
 use Rattle.tpm_types.specs.Tpmt.{digest_value, sym_def}
-use Rattle.tpm_text.specs.Named.{Named, named as numbered}
-use Rattle.tpm_text.specs.Text.{lines_from}
+use Rattle.tpm_lines.specs.Named.{Named, named as numbered}
+use Rattle.tpm_lines.specs.Text.{lines_from}
 use Rattle.tpm_show.specs.FieldText.{Field, named, parts, fields_from, field_text, structure_text, number_text}
 
 -- ---- TPMA_NV (13.4)

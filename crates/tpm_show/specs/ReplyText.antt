@@ -3,7 +3,7 @@ use Rattle.std.specs.Prelude.{ℕ, false, List, [], ◌∷◌, codes, Option, So
 use Rattle.std.specs.Fmt.{decimal}
 use Rattle.tpm_commands.specs.declared.code.CommandCode.{CommandCode}
 use Rattle.tpm_commands.specs.Codes.{code_name}
-use Rattle.tpm_text.specs.Text.{line, hexadecimal, handle_text}
+use Rattle.tpm_lines.specs.Text.{line, hexadecimal, handle_text}
 
 unfoldable pub reply_code_line : ℕ → List ℕ
 reply_code_line code = line (codes "reply" ∷ codes "code" ∷ hexadecimal 3 code ∷ [])

@@ -12,10 +12,10 @@ use Rattle.tpm_buffer.specs.Commands.{command}
 use Rattle.tpm_buffer.specs.CommandAreas.{Cut, HasCut}
 use Rattle.tpm_buffer.specs.ResponseAreas.{handle_of}
 use Rattle.tpm_buffer.specs.Responses.{ReplyCut, reply_cut, response}
-use Rattle.tpm_text.specs.declared.status.Status.TheVariants.{Done, Refused}
-use Rattle.tpm_text.specs.declared.status.Status.{Status}
-use Rattle.tpm_text.specs.Text.{lines_from, bytes_in, command_text, of_reply, parameters_line, refusal_line}
-use Rattle.tpm_text.specs.Text.{session_text, not_hexadecimal_line}
+use Rattle.tpm_lines.specs.declared.status.Status.TheVariants.{Done, Refused}
+use Rattle.tpm_lines.specs.declared.status.Status.{Status}
+use Rattle.tpm_lines.specs.Text.{lines_from, bytes_in, command_text, of_reply, parameters_line, refusal_line}
+use Rattle.tpm_lines.specs.Text.{session_text, not_hexadecimal_line}
 use Rattle.tpm_show.specs.ReplyText.{reply_line, reply_handle_line, reply_code_line}
 use Rattle.tpm_show.specs.Fields.{command_fields, reply_fields}
 use Rattle.tpm_show.specs.FrameJson.{code_member, command_members, refusal_members, reply_members}

@@ -2,18 +2,19 @@
 
 ghost use Rattle.std.specs.Prelude.{◌≡◌, ℕ, List, IfOk, option_map, string_bytes};
 ghost use Rattle.std.specs.Io.KnownBytes.{Appends};
-ghost use Rattle.tpm_text.specs.Faults.{FailsByMemoryOrWrite};
+ghost use Rattle.tpm_lines.specs.Faults.{FailsByMemoryOrWrite};
 ghost use Rattle.tpm_buffer.specs.Parts.{joined};
 ghost use Rattle.tpm_show.specs.Build.{Builds, BuildsBuffer, BuildsBytes, part_of};
 
 use std::alloc::{AllocError, Global};
 use std::io::Write;
-use tpm_buffer::{CommandCode, decode_command, join_command};
-use tpm_text::answer::Answer;
-use tpm_text::fault::ToolFault;
-use tpm_text::hexadecimal::decoded;
-use tpm_text::status::Status;
-use tpm_text::text::push_bytes;
+use tpm_buffer::{decode_command, join_command};
+use tpm_commands::CommandCode;
+use tpm_lines::answer::Answer;
+use tpm_lines::fault::ToolFault;
+use tpm_lines::hexadecimal::decoded;
+use tpm_lines::status::Status;
+use tpm_lines::text::push_bytes;
 use tpm_wire::Refusal;
 use tpm_wire::response_code::COMMAND_SIZE;
 

@@ -4,10 +4,10 @@ ghost use Rattle.std.specs.Prelude.{◌≡◌, ◌+◌, ◌^◌, ◌<◌, ◌++�
 ghost use Rattle.std.specs.Prelude.{string_bytes};
 ghost use Rattle.std.specs.Io.KnownBytes.{Appends};
 ghost use Rattle.tpm_wire.specs.Sources.{IsWhereItFailed};
-ghost use Rattle.tpm_text.specs.declared.fault.ToolFault.TheVariants.{InputTooLong, Read};
-ghost use Rattle.tpm_text.specs.declared.status.Status.TheVariants.{Done, Refused};
-ghost use Rattle.tpm_text.specs.Faults.{FailsByMemoryOrWrite};
-ghost use Rattle.tpm_text.specs.InputLines.{AddedTo, CountsRead};
+ghost use Rattle.tpm_lines.specs.declared.fault.ToolFault.TheVariants.{InputTooLong, Read};
+ghost use Rattle.tpm_lines.specs.declared.status.Status.TheVariants.{Done, Refused};
+ghost use Rattle.tpm_lines.specs.Faults.{FailsByMemoryOrWrite};
+ghost use Rattle.tpm_lines.specs.InputLines.{AddedTo, CountsRead};
 ghost use Rattle.tpm_show.specs.declared.capture_frames.Awaited.TheVariants.{Unknown};
 ghost use Rattle.tpm_show.specs.Capture.{Frame, start, told_in, fault_text, TellsCapture, ReadsAll};
 ghost use Rattle.tpm_show.specs.Capture.{ReadsTooMuchCapture};
@@ -20,10 +20,10 @@ use crate::capture_lines::{Direction, Line, MOST_LINE, is_blank, read_line};
 use crate::telling::Telling;
 use std::alloc::Global;
 use std::io::Write;
-use tpm_text::answer::write;
-use tpm_text::fault::ToolFault;
-use tpm_text::status::Status;
-use tpm_text::text::Pushed;
+use tpm_lines::answer::write;
+use tpm_lines::fault::ToolFault;
+use tpm_lines::status::Status;
+use tpm_lines::text::Pushed;
 use tpm_wire::Source;
 
 /// How many bytes a capture has at most, which is more than any has.

@@ -4,7 +4,7 @@ ghost use Rattle.std.specs.Prelude.{◌≡◌, ◌++◌, List, ℕ, IfOk, OnOk, 
 ghost use Rattle.tpm_show.specs.Capture.{code_number_in, awaited_behind, direction_of, is_response, front};
 ghost use Rattle.tpm_show.specs.Capture.{frame_object, kind_of, numbered, fault_line, fault_text, sentence_text};
 ghost use Rattle.tpm_show.specs.Capture.{TellsCommand, TellsFrame};
-ghost use Rattle.tpm_text.specs.declared.status.Status.TheVariants.{Refused};
+ghost use Rattle.tpm_lines.specs.declared.status.Status.TheVariants.{Refused};
 
 use crate::capture_lines::Direction;
 use crate::command_names::answer_to_refused;
@@ -12,9 +12,9 @@ use crate::frame_json::push_fault_object;
 use crate::telling::Telling;
 use crate::told::{answer_of_command, answer_to_reply, command_and_areas};
 use std::alloc::{AllocError, Global};
-use tpm_buffer::CommandCode;
-use tpm_text::answer::Answer;
-use tpm_text::text::Pushed;
+use tpm_commands::CommandCode;
+use tpm_lines::answer::Answer;
+use tpm_lines::text::Pushed;
 
 /// Which reply may come next.
 #[derive(Clone, Copy, Debug, PartialEq, Eq)]

@@ -3,10 +3,10 @@
 ghost use Rattle.std.specs.Prelude.{◌≡◌, IfOk};
 ghost use Rattle.tpm_show.specs.Capture.{is_blank, told_in, frame_of, without_prefix};
 ghost use Rattle.tpm_show.specs.Capturing.{read_as};
-ghost use Rattle.tpm_text.specs.Text.{bytes_in};
+ghost use Rattle.tpm_lines.specs.Text.{bytes_in};
 
 use std::alloc::{AllocError, Global};
-use tpm_text::hexadecimal::decoded;
+use tpm_lines::hexadecimal::decoded;
 
 /// How many bytes a line has at most beside its blanks: a mark, `0x`, and the digits of a buffer of 4,096 bytes.
 pub(crate) const MOST_LINE: usize = 8195;

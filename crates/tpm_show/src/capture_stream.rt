@@ -3,10 +3,10 @@
 ghost use Rattle.std.specs.Prelude.{◌≡◌, ◌++◌, ℕ, List, IfOk, OnOk, IsErrOf, string_bytes};
 ghost use Rattle.std.specs.Io.KnownBytes.{Appends};
 ghost use Rattle.tpm_wire.specs.Sources.{IsWhereItFailed};
-ghost use Rattle.tpm_text.specs.declared.fault.ToolFault.TheVariants.{InputTooLong, Read};
-ghost use Rattle.tpm_text.specs.declared.status.Status.TheVariants.{Refused};
-ghost use Rattle.tpm_text.specs.Faults.{FailsByMemoryOrWrite};
-ghost use Rattle.tpm_text.specs.InputLines.{CountsRead};
+ghost use Rattle.tpm_lines.specs.declared.fault.ToolFault.TheVariants.{InputTooLong, Read};
+ghost use Rattle.tpm_lines.specs.declared.status.Status.TheVariants.{Refused};
+ghost use Rattle.tpm_lines.specs.Faults.{FailsByMemoryOrWrite};
+ghost use Rattle.tpm_lines.specs.InputLines.{CountsRead};
 ghost use Rattle.tpm_show.specs.Capture.{ReadsTooMuchCapture};
 ghost use Rattle.tpm_show.specs.Stream.{stop_line, stop_text, TellsRead};
 
@@ -15,11 +15,11 @@ use crate::frame_json::push_stop_object;
 use crate::telling::Telling;
 use std::alloc::Global;
 use std::io::Write;
-use tpm_buffer::{ReadFault, read_frame_into};
-use tpm_text::answer::write;
-use tpm_text::fault::ToolFault;
-use tpm_text::status::Status;
-use tpm_text::text::Pushed;
+use tpm_lines::answer::write;
+use tpm_lines::fault::ToolFault;
+use tpm_lines::status::Status;
+use tpm_lines::text::Pushed;
+use tpm_stream::{ReadFault, read_frame_into};
 use tpm_wire::{Buffer, Source};
 
 #[tactic(auto, unfolding(crate::specs::Stream::stop_line))]

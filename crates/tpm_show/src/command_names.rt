@@ -1,16 +1,16 @@
 //! The commands of the library by their names.
 
 ghost use Rattle.std.specs.Prelude.{◌≡◌, ◌++◌, Option, IfOk, OnOk, string_bytes};
-ghost use Rattle.tpm_text.specs.declared.status.Status.TheVariants.{Refused};
+ghost use Rattle.tpm_lines.specs.declared.status.Status.TheVariants.{Refused};
 ghost use Rattle.tpm_show.specs.Show.{refusal_told};
 ghost use Rattle.tpm_show.specs.CommandNames.{absent_line, absent_member, absent_named, absent_text, absent_behind};
 
 use crate::told::answer_to_refusal;
 use std::alloc::{AllocError, Global};
-use tpm_text::answer::Answer;
-use tpm_text::named::{Named, look_up};
-use tpm_text::names;
-use tpm_text::text::Pushed;
+use tpm_lines::answer::Answer;
+use tpm_lines::named::{Named, look_up};
+use tpm_lines::names;
+use tpm_lines::text::Pushed;
 use tpm_wire::Refusal;
 use tpm_wire::response_code::COMMAND_CODE;
 

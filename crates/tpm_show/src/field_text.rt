@@ -6,8 +6,8 @@ ghost use Rattle.tpm_show.specs.FieldText.{field_line, field_members, field_head
 ghost use Rattle.tpm_show.specs.FieldText.{structure_text};
 
 use std::alloc::Global;
-use tpm_text::hexadecimal::shown_bytes;
-use tpm_text::text::{Pushed, push_comma};
+use tpm_lines::hexadecimal::shown_bytes;
+use tpm_lines::text::{Pushed, push_comma};
 use tpm_wire::{Buffer, Wire};
 
 /// A value of which the parts are told under it.

@@ -9,7 +9,7 @@ ghost use Rattle.tpm_show.specs.Fields.{command_fields, reply_fields};
 
 use crate::field_text::Field;
 use std::alloc::{AllocError, Global};
-use tpm_buffer::{CommandBody, Event, ReplyBody, StartAuth};
+use tpm_commands::{CommandBody, Event, ReplyBody, StartAuth};
 use tpm_types::EncryptedSalt;
 use tpm_wire::{Buffer, Wire, put_bytes};
 

@@ -7,9 +7,9 @@ ghost use Rattle.tpm_show.specs.FrameJson.{head_members, refusal_members, sessio
 
 use crate::fields::{push_command_fields, push_reply_fields};
 use std::alloc::Global;
-use tpm_buffer::{CommandBody, CommandCode, ReplyBody};
-use tpm_text::sessions::{HasSessions, push_sessions};
-use tpm_text::text::{Pushed, push_handles};
+use tpm_commands::{CommandBody, CommandCode, ReplyBody};
+use tpm_lines::sessions::{HasSessions, push_sessions};
+use tpm_lines::text::{Pushed, push_handles};
 use tpm_wire::Refusal;
 
 // ---- refusals and faults
@@ -133,7 +133,7 @@ pub(crate) fn push_fields_member<B: HasFields>(
 // ---- a response
 
 /// Adds the member of a response code.
-#[tactic(auto, using(tpm_text::proofs::Padded::padded), unfolding(crate::specs::FrameJson::code_member))]
+#[tactic(auto, using(tpm_lines::proofs::Padded::padded), unfolding(crate::specs::FrameJson::code_member))]
 pub(crate) fn push_code_member(text: &mut String, code: u32) -> Pushed
     ensures { OnOk result (string_bytes text.new ≡ string_bytes text.old ++ code_member code) }
 {

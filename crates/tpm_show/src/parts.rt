@@ -4,8 +4,8 @@ ghost use Rattle.std.specs.Prelude.{◌≡◌, ◌++◌, ◌<◌, ◌≤◌, ℕ
 ghost use Rattle.std.specs.Int.{bytes_high_first};
 ghost use Rattle.std.specs.List.{AllByRecursion};
 ghost use Rattle.tpm_types.specs.Tpma.{is_set, nv_type};
-ghost use Rattle.tpm_text.specs.Named.{named_as};
-ghost use Rattle.tpm_text.specs.Text.{lines_from};
+ghost use Rattle.tpm_lines.specs.Named.{named_as};
+ghost use Rattle.tpm_lines.specs.Text.{lines_from};
 ghost use Rattle.tpm_show.specs.FieldText.{field_text, structure_text};
 ghost use Rattle.tpm_show.specs.Parts.{attribute_names, attribute_parts, bits_of, digest_entry, digest_value_entry};
 ghost use Rattle.tpm_show.specs.Parts.{digest_value_members, public_parts, register_parts, selection_entry};
@@ -13,10 +13,10 @@ ghost use Rattle.tpm_show.specs.Parts.{selection_members, symmetric_parts};
 
 use crate::field_text::{Field, HasParts, end_structure, push_number};
 use std::alloc::Global;
-use tpm_text::named::Named;
-use tpm_text::names;
-use tpm_text::registers::register;
-use tpm_text::text::Pushed;
+use tpm_lines::named::Named;
+use tpm_lines::names;
+use tpm_lines::registers::register;
+use tpm_lines::text::Pushed;
 use tpm_types::{Digest, HashedDigest, NvAttrs, NvPublic, SELECT_BYTES, Selection, SymDef};
 use tpm_wire::{Counted, Duplicate, Wire};
 

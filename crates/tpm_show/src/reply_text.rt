@@ -6,8 +6,8 @@ ghost use Rattle.tpm_show.specs.Show.{named_fields};
 
 use crate::fields::push_reply_fields;
 use std::alloc::Global;
-use tpm_buffer::{CommandCode, ReplyBody};
-use tpm_text::text::{Pushed, push_handle};
+use tpm_commands::{CommandCode, ReplyBody};
+use tpm_lines::text::{Pushed, push_handle};
 
 /// Adds the line of a response code.
 #[tactic(auto, unfolding(crate::specs::ReplyText::reply_code_line))]

@@ -2,19 +2,19 @@
 
 ghost use Rattle.std.specs.Prelude.{ℕ, List, IfOk, string_bytes};
 ghost use Rattle.std.specs.Io.KnownBytes.{Appends};
-ghost use Rattle.tpm_text.specs.Faults.{FailsByMemoryOrWrite};
-ghost use Rattle.tpm_text.specs.Text.{bytes_in};
+ghost use Rattle.tpm_lines.specs.Faults.{FailsByMemoryOrWrite};
+ghost use Rattle.tpm_lines.specs.Text.{bytes_in};
 ghost use Rattle.tpm_show.specs.Show.{Shows, ShowsDecoded, ShowsFields};
 
 use crate::telling::Telling;
 use crate::told::{answer_to_command, answer_to_reply};
 use std::alloc::{AllocError, Global};
 use std::io::Write;
-use tpm_buffer::CommandCode;
-use tpm_text::answer::Answer;
-use tpm_text::fault::ToolFault;
-use tpm_text::hexadecimal::decoded;
-use tpm_text::status::Status;
+use tpm_commands::CommandCode;
+use tpm_lines::answer::Answer;
+use tpm_lines::fault::ToolFault;
+use tpm_lines::hexadecimal::decoded;
+use tpm_lines::status::Status;
 
 fn answer(
     alloc: Global,

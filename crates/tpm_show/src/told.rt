@@ -5,7 +5,7 @@ ghost use Rattle.tpm_wire.specs.Path.{Fault, Spells};
 ghost use Rattle.tpm_buffer.specs.Commands.{command};
 ghost use Rattle.tpm_buffer.specs.CommandAreas.{HasCut};
 ghost use Rattle.tpm_buffer.specs.Responses.{reply_cut, response};
-ghost use Rattle.tpm_text.specs.declared.status.Status.TheVariants.{Done, Refused};
+ghost use Rattle.tpm_lines.specs.declared.status.Status.TheVariants.{Done, Refused};
 ghost use Rattle.tpm_show.specs.Show.{code_told, command_told, refusal_told, response_told, ShowsCommand, ShowsReply};
 
 use crate::fields::push_command_fields;
@@ -17,13 +17,14 @@ use crate::reply_text::{push_code_line, push_first_handle, push_name, push_named
 use crate::telling::Telling;
 use std::alloc::{AllocError, Global};
 use tpm_buffer::{
-    Areas, Command, CommandBody, CommandCode, ReplyAreas, Response, areas, areas_of_a_response,
-    decode_command, decode_response, fault_before_params, reply_areas,
+    Areas, ReplyAreas, areas, areas_of_a_response, decode_command, decode_response,
+    fault_before_params, reply_areas,
 };
-use tpm_text::answer::Answer;
-use tpm_text::hexadecimal::push_hex_member;
-use tpm_text::sessions::push_sessions;
-use tpm_text::text::{Pushed, push_command, push_parameters};
+use tpm_commands::{Command, CommandBody, CommandCode, Response};
+use tpm_lines::answer::Answer;
+use tpm_lines::hexadecimal::push_hex_member;
+use tpm_lines::sessions::push_sessions;
+use tpm_lines::text::{Pushed, push_command, push_parameters};
 use tpm_wire::Refusal;
 
 /// The line of a refusal, or its members.

@@ -4,7 +4,7 @@ use std::fmt::{self, Display, Formatter, Write};
 use std::fs;
 use std::io::ErrorKind;
 use std::rt::Files;
-use tpm_text::fault::ToolFault;
+use tpm_lines::fault::ToolFault;
 
 /// What keeps the program from its answer, as it is printed on standard error.
 #[derive(Debug, Drop)]

@@ -12,11 +12,11 @@ use std::{env, fs, io};
 use tpm_args::{Stop, Task, Words, words_not_text};
 use tpm_check::{Listing, Signed, check_log, check_signed, list_events, read_attest};
 use tpm_device::Device;
+use tpm_lines::answer::not_hexadecimal;
+use tpm_lines::fault::ToolFault;
+use tpm_lines::status::Status;
 use tpm_script::run_script;
 use tpm_show::{Telling, build, explain, show, show_fields, show_lines, show_stream};
-use tpm_text::answer::not_hexadecimal;
-use tpm_text::fault::ToolFault;
-use tpm_text::status::Status;
 use tpm_types::{Alg, AuthValue, Selections};
 use tpm_wire::{Reads, Source};
 

@@ -3,10 +3,8 @@
 use crate::tests::checks::{bytes, put, put_number};
 use std::process::Abort;
 use std::test::*;
-use tpm_buffer::{
-    AuthRef, CommandCode, Params, ReplyRef, areas, decode_params, decode_params_into, header,
-    reply_areas,
-};
+use tpm_buffer::{AuthRef, ReplyRef, areas, header, reply_areas};
+use tpm_commands::{CommandCode, Params, decode_params, decode_params_into};
 use tpm_wire::{Buffer, Refusal};
 
 // NV_Read of the index 01800001 by the owner, with a password of one byte.

@@ -3,7 +3,8 @@
 use crate::tests::checks::{bytes, put, put_number};
 use std::process::Abort;
 use std::test::*;
-use tpm_buffer::{CommandBody, CommandCode, decode_command, encode_command};
+use tpm_buffer::{decode_command, encode_command};
+use tpm_commands::{CommandBody, CommandCode};
 use tpm_types::SymDef;
 use tpm_wire::Buffer;
 

@@ -3,7 +3,7 @@
 use crate::tests::checks::bytes;
 use std::process::Abort;
 use std::test::*;
-use tpm_buffer::{Framer, ReadFault, Status, read_frame, read_frame_into};
+use tpm_stream::{Framer, ReadFault, Status, read_frame, read_frame_into};
 use tpm_testing::Pieces;
 use tpm_wire::{Buffer, Reads, Refusal, SliceSource, Source};
 

@@ -4,8 +4,8 @@ use crate::tests::sessions::{bound, bound_by_sha1, bytes, nonce, unbound};
 use arrayvec::ArrayVec;
 use std::process::Abort;
 use std::test::*;
-use tpm_buffer::{CommandBody, Event};
 use tpm_caller::{Caller, Waiting};
+use tpm_commands::{CommandBody, Event};
 use tpm_types::{
     Alg, AuthValue, Digest, DigestValues, HashedDigest, Name, Nonce, NvAttrs, NvAuthHandle,
     NvIndex, NvPublic, PcrIndex, PcrOrNull, RH_OWNER, name_of_handle,

@@ -4,8 +4,8 @@ use crate::tests::commands::{EXTEND, FIRST, SECOND, extend, reset};
 use crate::tests::sessions::{bound, bytes, nonce};
 use std::process::Abort;
 use std::test::*;
-use tpm_buffer::{ReplyBody, Response};
 use tpm_caller::{Caller, CallerFault, Waiting};
+use tpm_commands::{ReplyBody, Response};
 
 // The reply to the first extend of register 0, with the number 3 in 16 bytes as the new nonceTPM.
 const EXTENDED: &str =

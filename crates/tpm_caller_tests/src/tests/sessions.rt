@@ -2,8 +2,8 @@
 
 use std::process::Abort;
 use std::test::*;
-use tpm_buffer::{StartAuth, StartReply};
 use tpm_caller::Caller;
+use tpm_commands::{StartAuth, StartReply};
 use tpm_types::{Alg, BindHandle, Nonce, SessionHandle, SessionType, SymDef};
 use tpm_wire::Buffer;
 

@@ -4,11 +4,9 @@ use crate::tests::sessions::{OWNER, bytes, nonce};
 use arrayvec::ArrayVec;
 use std::process::Abort;
 use std::test::*;
-use tpm_buffer::{
-    Command, CommandBody, CommandCode, ReplyBody, Response, StartAuth, decode_response,
-    encode_command,
-};
+use tpm_buffer::{decode_response, encode_command};
 use tpm_caller::Caller;
+use tpm_commands::{Command, CommandBody, CommandCode, ReplyBody, Response, StartAuth};
 use tpm_device::Device;
 use tpm_types::{Alg, AuthValue, BindHandle, SessionType, SymDef};
 use tpm_wire::Buffer;

@@ -3,7 +3,8 @@
 use crate::tests::texts::{bytes, number};
 use std::process::Abort;
 use std::test::*;
-use tpm_buffer::{CommandBody, decode_command};
+use tpm_buffer::decode_command;
+use tpm_commands::CommandBody;
 use tpm_session::{Authority, NONCE_BYTES, Sessions};
 use tpm_store::Registers;
 use tpm_testing::word;

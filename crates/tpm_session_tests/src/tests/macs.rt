@@ -3,7 +3,7 @@
 use crate::tests::texts::{alg, bytes, number};
 use std::process::Abort;
 use std::test::*;
-use tpm_buffer::CommandCode;
+use tpm_commands::CommandCode;
 use tpm_hmac::{SessionKey, command_mac, cp_hash, response_mac, rp_hash};
 use tpm_testing::word;
 use tpm_types::{Alg, Digest, Name, SessionAttrs};

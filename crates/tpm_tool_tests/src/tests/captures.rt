@@ -4,9 +4,9 @@ use crate::tests::reads::{Answered, each_read_may_fail, is_answered};
 use std::alloc::Global;
 use std::process::Abort;
 use std::test::Fail;
+use tpm_lines::status::Status;
 use tpm_show::{Telling, show_lines, show_stream};
 use tpm_testing::Pieces;
-use tpm_text::status::Status;
 
 // A comment, a command and its reply, a line that isn't hexadecimal, and a reply that has no command.
 const CAPTURE: &str =

@@ -7,8 +7,8 @@ use std::io;
 use std::io::Write;
 use std::test::Fail;
 use tpm_check::{Listing, list_events};
+use tpm_lines::status::Status;
 use tpm_testing::Pieces;
-use tpm_text::status::Status;
 
 // The records of the log, by a reading of its bytes in Python.
 pub(crate) const TEXT: &str =

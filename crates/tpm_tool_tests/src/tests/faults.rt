@@ -5,14 +5,14 @@ use std::alloc::Global;
 use std::io;
 use std::io::{ErrorKind, Write};
 use std::test::Fail;
-use tpm_buffer::CommandCode;
 use tpm_check::{check_log, list_events};
+use tpm_commands::CommandCode;
 use tpm_device::Device;
+use tpm_lines::answer::not_hexadecimal;
+use tpm_lines::fault::ToolFault;
+use tpm_lines::status::Status;
 use tpm_script::run_script;
 use tpm_show::{Telling, build, show, show_fields, show_lines, show_stream};
-use tpm_text::answer::not_hexadecimal;
-use tpm_text::fault::ToolFault;
-use tpm_text::status::Status;
 use tpm_types::{Alg, AuthValue};
 use tpm_wire::SliceSource;
 

@@ -5,9 +5,9 @@ use std::alloc::Global;
 use std::process::Abort;
 use std::test::Fail;
 use tpm_check::check_log;
+use tpm_lines::fault::ToolFault;
+use tpm_lines::status::Status;
 use tpm_testing::{Pieces, bytes};
-use tpm_text::fault::ToolFault;
-use tpm_text::status::Status;
 use tpm_types::Alg;
 use tpm_wire::Buffer;
 

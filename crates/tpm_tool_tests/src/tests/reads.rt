@@ -2,9 +2,9 @@
 
 use std::process::Abort;
 use std::test::*;
+use tpm_lines::fault::ToolFault;
+use tpm_lines::status::Status;
 use tpm_testing::Pieces;
-use tpm_text::fault::ToolFault;
-use tpm_text::status::Status;
 use tpm_wire::Source;
 
 /// The status or the fault, and what was written.

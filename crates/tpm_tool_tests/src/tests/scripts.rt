@@ -5,10 +5,10 @@ use std::alloc::Global;
 use std::process::Abort;
 use std::test::*;
 use tpm_device::Device;
+use tpm_lines::fault::ToolFault;
+use tpm_lines::status::Status;
 use tpm_script::run_script;
 use tpm_testing::Pieces;
-use tpm_text::fault::ToolFault;
-use tpm_text::status::Status;
 use tpm_types::AuthValue;
 
 // Startup, a power cycle, PCR_Read before a Startup, and a line that is refused.

@@ -2,7 +2,7 @@ use Rattle.std.proofs.Common.{◌++◌, option_map}
 use Rattle.tpm_model.specs.Registers.{value_in}
 use Rattle.tpm_check.specs.Compare.{comparison}
 use Rattle.tpm_check.proofs.Checks.{stated_none, stated_alone, stated_quoted}
-use Rattle.tpm_text.proofs.Joins.{joins_appends}
+use Rattle.tpm_lines.proofs.Joins.{joins_appends}
 use Rattle.tpm_check.proofs.checked.check_stated.Goals as goal
 
 pub returns-clause-ok : goal.returns-clause-ok

@@ -3,7 +3,7 @@ use Rattle.std.proofs.lemmas.Result.{IfOk-weaker}
 use Rattle.tpm_log.specs.declared.fault.LogFaultKind.TheVariants as kinds
 use Rattle.tpm_log.specs.Changes.{AreAfter}
 use Rattle.tpm_log.specs.Takes.{IsOfBytes}
-use Rattle.tpm_text.specs.declared.status.Status.{Status}
+use Rattle.tpm_lines.specs.declared.status.Status.{Status}
 use Rattle.tpm_check.specs.Check.{log_fault_line}
 use Rattle.tpm_check.proofs.Checks.{by_list, not_too_long, counts_alone, counts_stated, counts_log, not_read, log_last}
 use Rattle.tpm_check.proofs.Checks.{stated_last, replayed, of_bytes, read_failed, no_read_failed}

@@ -1,6 +1,6 @@
 use Rattle.std.proofs.Common.{◌++◌, option_map}
 use Rattle.tpm_model.specs.Registers.{value_in}
-use Rattle.tpm_text.proofs.Joins.{joins_appends}
+use Rattle.tpm_lines.proofs.Joins.{joins_appends}
 use Rattle.tpm_check.proofs.Verdicts.{alone, with_quote}
 use Rattle.tpm_check.proofs.checked_signed.check_signed_alone.Goals as goal
 

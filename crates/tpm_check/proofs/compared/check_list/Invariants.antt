@@ -2,7 +2,7 @@ use Rattle.std.proofs.Common.{◌≡◌, ◌+◌, ◌-◌, ◌≤◌}
 use Rattle.std.specs.Io.KnownBytes.{Appends}
 use Rattle.tpm_model.specs.Registers.{value_in}
 use Rattle.tpm_check.specs.Comparing.{Reaches, place}
-use Rattle.tpm_text.specs.InputLines.{most_bytes}
+use Rattle.tpm_lines.specs.InputLines.{most_bytes}
 use Rattle.tpm_check.proofs.compared.check_list.Given as goal
 
 -- the bytes so far are taken, and are not too many

@@ -2,7 +2,7 @@ use Rattle.std.proofs.Common.{take, refl, sym, ◌∙◌, arith, length-append, 
 use Rattle.std.proofs.lemmas.Result.{IfOk-weaker}
 use Rattle.std.specs.Io.KnownBytes.{Appends}
 use Rattle.tpm_stream.proofs.Filled.{consumes_both}
-use Rattle.tpm_text.proofs.Joins.{joins_appends}
+use Rattle.tpm_lines.proofs.Joins.{joins_appends}
 use Rattle.tpm_show.proofs.Captures.{reaches_more, answers_at_end}
 use Rattle.tpm_show.proofs.capture.show_lines.Goals as goal
 

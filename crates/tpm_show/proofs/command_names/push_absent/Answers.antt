@@ -1,7 +1,7 @@
 use Rattle.std.proofs.Common.{◌≡◌, ◌++◌, ◌∙◌, ℕ, List, Option, ap, subst, sym, string_bytes}
 use Rattle.std.proofs.lemmas.List.{append-nil}
 use Rattle.std.specs.Prelude.{OnOk}
-use Rattle.tpm_text.specs.Named.{Named}
+use Rattle.tpm_lines.specs.Named.{Named}
 use Rattle.tpm_show.specs.CommandNames.{absent_of}
 use Rattle.tpm_show.proofs.command_names.push_absent.Goals as goal
 

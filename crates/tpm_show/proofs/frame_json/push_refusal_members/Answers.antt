@@ -1,6 +1,6 @@
 use Rattle.std.proofs.Common.{append_assoc}
 use Rattle.tpm_show.specs.FrameJson.{refusal_members}
-use Rattle.tpm_text.proofs.Padded.{padded_integral-zeros}
+use Rattle.tpm_lines.proofs.Padded.{padded_integral-zeros}
 use Rattle.tpm_show.proofs.frame_json.push_refusal_members.Goals as goal
 
 pub returns : goal.returns

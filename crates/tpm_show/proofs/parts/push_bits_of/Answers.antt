@@ -1,6 +1,6 @@
 use Rattle.std.proofs.Common.{◌<◌}
 use Rattle.std.proofs.lemmas.List.Elements.{All-from_recursion}
-use Rattle.tpm_text.specs.declared.named.Named.{Named}
+use Rattle.tpm_lines.specs.declared.named.Named.{Named}
 use Rattle.tpm_show.proofs.parts.push_bits_of.Goals as goal
 
 pub is_set-requires : goal.is_set-requires

@@ -1,7 +1,7 @@
 use Rattle.std.proofs.Common.{◌≡◌, ◌++◌, ◌+◌, ◌≤◌, filter, map, string_bytes, drop}
 use Rattle.tpm_types.specs.Tpma.{is_set}
-use Rattle.tpm_text.specs.Named.{named_as}
-use Rattle.tpm_text.specs.Text.{lines_from}
+use Rattle.tpm_lines.specs.Named.{named_as}
+use Rattle.tpm_lines.specs.Text.{lines_from}
 use Rattle.tpm_show.specs.Parts.{attribute_entry, bits_of}
 use Rattle.tpm_show.proofs.parts.push_bits_of.Given as goal
 

@@ -1,8 +1,8 @@
 use Rattle.std.proofs.Common.{◌≡◌, ◌<◌, ◌+◌, ◌-◌, ◌++◌, ◌∷◌, ℕ, suc, List, filter, string_bytes, sym, ap, ◌∙◌, arith}
 use Rattle.std.specs.List.{range_with_len}
 use Rattle.tpm_types.specs.Tpms.{is_selected}
-use Rattle.tpm_text.specs.Text.{lines_from}
-use Rattle.tpm_text.proofs.Listed.{filtered_further, filtered_over}
+use Rattle.tpm_lines.specs.Text.{lines_from}
+use Rattle.tpm_lines.proofs.Listed.{filtered_further, filtered_over}
 use Rattle.tpm_show.specs.Parts.{register_entry}
 use Rattle.tpm_show.proofs.parts.push_registers.Goals.{then-is_selected+in_ok-push_number, else-is_selected}
 use Rattle.tpm_show.proofs.parts.push_registers.Goals as goal

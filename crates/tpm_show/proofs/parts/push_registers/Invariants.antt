@@ -1,7 +1,7 @@
 use Rattle.std.proofs.Common.{◌≡◌, ◌++◌, ◌+◌, ◌-◌, ◌≤◌, filter, string_bytes}
 use Rattle.std.specs.List.{range_with_len}
 use Rattle.tpm_types.specs.Tpms.{is_selected}
-use Rattle.tpm_text.specs.Text.{lines_from}
+use Rattle.tpm_lines.specs.Text.{lines_from}
 use Rattle.tpm_show.specs.Parts.{register_entry, register_parts}
 use Rattle.tpm_show.proofs.parts.push_registers.Given as goal
 

@@ -1,6 +1,6 @@
 use Rattle.std.proofs.Common.{append_assoc}
 use Rattle.tpm_show.specs.ReplyText.{reply_code_line}
-use Rattle.tpm_text.proofs.Padded.{padded_integral-zeros}
+use Rattle.tpm_lines.proofs.Padded.{padded_integral-zeros}
 use Rattle.tpm_show.proofs.reply_text.push_code_line.Goals as goal
 
 pub returns : goal.returns

@@ -1,6 +1,6 @@
 use Rattle.std.proofs.Common.{◌≡◌, ◌<◌, true, false, length, rules, string_bytes}
 use Rattle.tpm_model.specs.Registers.{value_in}
-use Rattle.tpm_text.specs.InputLines.{AddedTo}
+use Rattle.tpm_lines.specs.InputLines.{AddedTo}
 use Rattle.tpm_check.specs.Comparing.{place}
 use Rattle.tpm_check.proofs.Comparisons.{at_end_line, at_end_stop}
 use Rattle.tpm_check.proofs.compared.Comparing.end.Goals as goal

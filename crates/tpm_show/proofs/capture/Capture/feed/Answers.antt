@@ -1,6 +1,6 @@
 use Rattle.std.proofs.Common.{◌<◌, length, take, get_or, [], ◌∷◌, arith}
 use Rattle.std.proofs.lemmas.List.{take_more}
-use Rattle.tpm_text.proofs.Joins.{joins_texts}
+use Rattle.tpm_lines.proofs.Joins.{joins_texts}
 use Rattle.tpm_show.proofs.Captures.{takes_both}
 use Rattle.tpm_show.proofs.capture.Capture.feed.Goals as goal
 

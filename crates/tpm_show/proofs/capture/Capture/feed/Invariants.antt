@@ -1,5 +1,5 @@
 use Rattle.std.proofs.Common.{take, string_bytes}
-use Rattle.tpm_text.specs.InputLines.{AddedTo}
+use Rattle.tpm_lines.specs.InputLines.{AddedTo}
 use Rattle.tpm_show.specs.Capturing.{Takes}
 use Rattle.tpm_show.proofs.capture.Capture.feed.Given as goal
 

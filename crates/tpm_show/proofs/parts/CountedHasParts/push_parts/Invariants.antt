@@ -1,5 +1,5 @@
 use Rattle.std.proofs.Common.{◌≡◌, ◌++◌, ◌+◌, string_bytes, drop}
-use Rattle.tpm_text.specs.Text.{lines_from}
+use Rattle.tpm_lines.specs.Text.{lines_from}
 use Rattle.tpm_show.proofs.parts.CountedHasParts.push_parts.Given as goal
 
 -- the entries so far and those of what is left are those of all
