@@ -846,7 +846,7 @@ static void start_as_qemu(const char *path) {
     if (channel < 0 || !handed(channel, data, sizeof data, 1, &before) || !received(channel, reply, 4) ||
         !handed(channel, data, sizeof data, 1, &kept) || !received(channel, reply, 4) || number32(reply) != 0)
         fail("a new channel is not served", (uint64_t)errno);
-    if (recv(before, reply, 1, 0) != 0)
+    if (recv(before, reply, 1, MSG_DONTWAIT) != 0)
         fail("the descriptor before stays open", (uint64_t)errno);
     close(before);
     if (asked_text(kept, READ_16, reply) < 0 || !sent(channel, init, sizeof init) || !received(channel, reply, 4) ||
