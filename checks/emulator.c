@@ -838,14 +838,17 @@ static size_t any_message(uint8_t *bytes) {
     return below(8) == 0 ? 1 + below(64) : number == 5 && below(2) ? 5 : lengths[number];
 }
 
-/* QEMU's first messages, and a frame over the descriptor that it hands over. */
+/* QEMU's first messages, and a frame over the descriptor that it hands over; the one before it is closed. */
 static void start_as_qemu(const char *path) {
     static const uint8_t data[4] = {0, 0, 0, 16}, init[8] = {0, 0, 0, 2};
     uint8_t reply[REPLY_BYTES];
-    int channel = opened_channel(path), kept = -1;
-    if (channel < 0 || !handed(channel, data, sizeof data, 1, &kept) || !received(channel, reply, 4) ||
-        number32(reply) != 0)
+    int channel = opened_channel(path), before = -1, kept = -1;
+    if (channel < 0 || !handed(channel, data, sizeof data, 1, &before) || !received(channel, reply, 4) ||
+        !handed(channel, data, sizeof data, 1, &kept) || !received(channel, reply, 4) || number32(reply) != 0)
         fail("a new channel is not served", (uint64_t)errno);
+    if (recv(before, reply, 1, MSG_DONTWAIT) != 0)
+        fail("the descriptor before stays open", (uint64_t)errno);
+    close(before);
     if (asked_text(kept, READ_16, reply) < 0 || !sent(channel, init, sizeof init) || !received(channel, reply, 4) ||
         number32(reply) != 0)
         fail("a new channel has no power", (uint64_t)errno);
