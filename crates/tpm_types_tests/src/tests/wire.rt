@@ -2,7 +2,7 @@
 
 use std::test::*;
 use tpm_wire::response_code::{INSUFFICIENT, SIZE, of_parameter, of_session};
-use tpm_wire::{Counted, Cursor, Refusal, Wire, take_rest};
+use tpm_wire::{Counted, Cursor, Refusal, Wire, take_rest, take_whole};
 
 const TOKENS: [u8; 19] = [
     0x01, 0x02, 0x03, 0x04, 0x05, 0x06, 0x07, 0x08, 0x09, 0x0A, 0x0B, 0x0C, 0x0D, 0x0E, 0x0F, 0x10,
@@ -122,4 +122,30 @@ fn entries_are_added_and_removed(rt: HostRuntime) {
     assert!(rt; full == (false, true, [7, 5].as_slice()));
     numbers.clear();
     assert!(rt; numbers.as_slice().is_empty());
+}
+
+// A number of four bytes: too few bytes, all of them, one too many, and more than are looked at.
+#[test]
+fn a_value_of_all_the_bytes(rt: HostRuntime) {
+    let long = [0; 5000];
+    let found = (
+        take_whole::<u32>(&TOKENS[..3]),
+        take_whole::<u32>(&TOKENS[..4]),
+        take_whole::<u32>(&TOKENS[..5]),
+        take_whole::<u32>(&long),
+    );
+    let too_few = Refusal {
+        code: INSUFFICIENT,
+        at: 0,
+    };
+    let left_over = Refusal { code: SIZE, at: 4 };
+    assert!(rt;
+        found
+            == (
+                Err(too_few),
+                Ok(0x0102_0304),
+                Err(left_over),
+                Err(left_over)
+            )
+    );
 }
