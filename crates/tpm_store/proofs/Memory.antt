@@ -28,14 +28,13 @@ use Rattle.tpm_types.specs.Limits.{digest_bytes, public_bytes}
 use Rattle.tpm_types.specs.Tpm2b.{auth_value}
 use Rattle.tpm_types.specs.Tpma.{is_written}
 use Rattle.tpm_types.specs.Tpms.{nv_public, nv_public_area}
-use Rattle.tpm_commands.proofs.Short.{and, last, fault_of_long, left_of_long}
+use Rattle.tpm_commands.proofs.Short.{and, last}
 use Rattle.tpm_hmac.proofs.DigestLengths.{length-digest}
 use Rattle.tpm_model.specs.Counters.{Counter, NvMemory}
 use Rattle.tpm_model.specs.Actions.{most_counters}
 use Rattle.tpm_model.specs.Kept.{IsKept, check_counters, judged, value_of_number, number_of_value, kept_value, kept_counter}
 use Rattle.tpm_model.specs.Kept.{kept_magic, kept_version, magic_number, version_number, kept_contents, kept_digest}
 use Rattle.tpm_model.specs.Kept.{judge_digest, digest_behind, kept_memory}
-use Rattle.tpm_store.specs.Kept.{left_over}
 
 -- ---- spellings
 
@@ -110,24 +109,11 @@ of_contents =
     and 980 0 _ _ _ (at_most_counted 0 most_counters 122 kept_counter of_counter) (λ counters.
     last 0 _ _ _ (of_judged _)))))
 
-of_memory : TakesAtMost 1026 kept_memory
+pub of_memory : TakesAtMost 1026 kept_memory
 unfolding kept_memory digest_behind
 of_memory =
     and 994 32 _ _ _ of_contents (λ nv.
     last 32 _ _ _ (at_most_text 32 (judge_digest nv) (λ bytes. bytes)))
-
--- ---- bytes that are more than any NV memory has
-
-pub long_faulty : (bytes : List ℕ) (e : Refusal) → 4096 < length bytes → e ≡ left_over (read 0 kept_memory (at_start (take 4096 bytes)))
-    → Fault kept_memory bytes e
-long_faulty bytes e long is = read_fault buffer buffer_sound kept_memory bytes e (go (read 0 kept_memory (at_start (take 4096 bytes))) refl ∙ ap err (sym is))
-  where
-    err : Refusal → Result NvMemory Refusal
-    err f = Err f
-
-    go : (o : Result (NvMemory × Here) Refusal) → read 0 kept_memory (at_start (take 4096 bytes)) ≡ o → read_all kept_memory bytes ≡ err (left_over o)
-    go (Err f) is = fault_of_long 1026 kept_memory of_memory (omega arith) bytes long f is
-    go (Ok x) is = left_of_long 1026 kept_memory of_memory (omega arith) bytes long x.0 x.1 is
 
 -- ---- parts, joined
 
