@@ -11,7 +11,7 @@ tar -c --exclude=out crates HANDLES | tar -x -C "$spent"
 cp checks/spent.txt "$spent/crates/spent/src/lib.rt"
 {
     cat crates.txt
-    echo 'spent: tpm_caller tpm_buffer tpm_types arrayvec'
+    echo 'spent: tpm_caller tpm_commands tpm_types arrayvec'
 } >"$spent/crates.txt"
 (cd "$spent/crates/spent" && rt try --test) >"$spent/said" 2>&1
 
