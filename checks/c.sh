@@ -352,6 +352,34 @@ using() {
     [ "$("$room/using")" = "$("$room/readme")" ]
 }
 
+# same_call WORD FUNCTION LEN: the call of this word in checks/same.c, which compares what it was sent with what it
+# computes, takes as many instructions where the first, the middle or the last of these LEN bytes differs.
+same_call() {
+    word=$1 function=$2
+    set -- 0 $(($3 / 2)) $(($3 - 1))
+    for at; do
+        set -- "$@" "$(count_in "$function" "$room/calls" "$word" "$at" checks/quotes/17-ovmf-secureboot.log \
+            checks/quotes/ecc-sha256.msg)"
+        shift
+    done
+    alike "instructions through C wherever it is that what was sent differs: $word" "$@"
+}
+
+# same_calls: a command's HMAC and password, a reply's HMAC, a quote's nonce and its digest.
+same_calls() {
+    if ! command -v valgrind >/dev/null 2>&1; then
+        skip "instructions through C wherever it is that what was sent differs" "there is no valgrind"
+    elif ! "$compiler" -std=c99 -O2 -Wall -Wextra -Werror -Iinclude -o "$room/calls" checks/same.c "$archive"; then
+        fail "instructions through C wherever it is that what was sent differs" "checks/same.c isn't built"
+    else
+        same_call command tpm_device_execute 32
+        same_call password tpm_device_execute 15
+        same_call reply tpm_caller_open 32
+        same_call nonce tpm_log_check_attest 20
+        same_call digest tpm_log_check_quote 32
+    fi
+}
+
 if [ -z "$compiler" ]; then
     skip "the library for C" "no C compiler was found"
 elif ! command -v nm >/dev/null 2>&1 || ! command -v xxd >/dev/null 2>&1; then
@@ -390,6 +418,7 @@ else
     holds "quotes that are changed at random through C" changed_quotes
     holds "the digest of a policy through C" same_policies
     holds "a session is held through C" same_session
+    same_calls
     name="the archive needs memcpy, memmove and memset alone"
     others=$(undefined | tr ' ' '\n' | grep -v -x -e memcpy -e memmove -e memset -e '' | tr '\n' ' ')
     if [ -z "$others" ]; then pass "$name"; else fail "$name" "it needs $others"; fi

@@ -1,18 +1,13 @@
 #!/bin/sh
 # `same` of tpm_hmac takes as many instructions wherever two lists of one length differ, and where they don't: valgrind
-# counts those of crate tpm_bench's call of it, where there is a valgrind.
+# counts those of crate tpm_bench's call of it, where there is a valgrind. The calls that compare by it are counted
+# in checks/c.sh.
 
 . "$(dirname "$0")/shared.sh"
 . checks/toolchain.sh
 
 same=$room/same
 name_of_same="same takes the same instructions wherever it is that two lists differ"
-
-# count LEN AT: the instructions for two lists of LEN bytes that differ in byte AT, or nowhere where that is LEN.
-count() {
-    valgrind --tool=callgrind --callgrind-out-file=/dev/null --toggle-collect=tpm_bench_same "$same" "$1" "$2" 2>&1 |
-        awk '/Collected : [0-9]/ { print $NF }'
-}
 
 cat >"$same.c" <<'END'
 #include <stddef.h>
@@ -33,6 +28,12 @@ int main(int argc, char **argv) {
 }
 END
 
+# same_lists LEN: lists of LEN bytes that differ in the first, in the last, and in none.
+same_lists() {
+    alike "$name_of_same, of $1 bytes" "$(count_in tpm_bench_same "$same" "$1" 0)" \
+        "$(count_in tpm_bench_same "$same" "$1" $(($1 - 1)))" "$(count_in tpm_bench_same "$same" "$1" "$1")"
+}
+
 if ! command -v valgrind >/dev/null 2>&1; then
     skip "$name_of_same" "there is no valgrind"
 elif [ -z "$compiler" ]; then
@@ -41,14 +42,6 @@ elif ! checked tpm_bench || ! compiled tpm_bench llvm ||
     ! "$compiler" -o "$same" "$same.c" crates/tpm_bench/out/libtpm_bench.a >>"$room/lib" 2>&1; then
     fail "$name_of_same" "it isn't built: $(tail -n 3 "$room/lib")"
 else
-    for len in 32 48; do
-        first=$(count "$len" 0)
-        last=$(count "$len" $((len - 1)))
-        none=$(count "$len" "$len")
-        if [ -n "$first" ] && [ "$first" = "$last" ] && [ "$first" = "$none" ]; then
-            pass "$name_of_same, of $len bytes"
-        else
-            fail "$name_of_same, of $len bytes" "$first, $last and $none"
-        fi
-    done
+    same_lists 32
+    same_lists 48
 fi

@@ -36,3 +36,23 @@ compiled() {
     rattle "$1" build --crate-checked "$room/$1.checked" --toolchain "$kit/toolchain" --backend "$2" \
         -o "out/lib$1.a" && [ -f "crates/$1/out/lib$1.a" ]
 }
+
+# count_in FUNCTION WORD..: the instructions of this function and what it calls, where these words are run.
+count_in() {
+    function=$1
+    shift
+    valgrind --tool=callgrind --callgrind-out-file=/dev/null --toggle-collect="$function" "$@" 2>&1 |
+        awk '/Collected : [0-9]/ { print $NF }'
+}
+
+# alike NAME COUNT..: all the counts are there, and are one.
+alike() {
+    name=$1
+    shift
+    for it; do
+        [ -n "$it" ] && [ "$it" -gt 0 ] && [ "$it" = "$1" ] && continue
+        fail "$name" "$*"
+        return
+    done
+    pass "$name"
+}

@@ -102,7 +102,8 @@ fn joined(front: &[u8], back: &[u8]) -> ArrayVec<u8, BLOCK_BYTES>
 impl Caller {
     /// The session that this TPM2_StartAuthSession and its reply make, bound to an entity with this authorization
     /// value, which is not looked at where bind is TPM_RH_NULL (Part 1, "sessionKey Creation"). None where the two
-    /// nonces differ in length, or have fewer than 16 bytes or more than a digest.
+    /// nonces differ in length, or have fewer than 16 bytes or more than a digest. The kinds of the session and of its
+    /// handle are not looked at: a trial's session is held, too, though it authorizes nothing.
     pub fn start(request: &StartAuth, reply: &StartReply, bind_auth: &[u8]) -> Option<Caller>
         ensures { result ≡ started_with request.now reply.now bind_auth.now }
     {
@@ -237,11 +238,12 @@ impl Caller {
     }
 
     /// The command with this session as its authorization, which is spent by it: the bytes to be sent, and what
-    /// opens their reply. `names` are the Names of the command's handles, in their order, and `auth` is what
-    /// follows the session key in that of the HMAC: the authorization value of what the first handle names, whose
-    /// trailing zeros do not count, or nothing where the rules leave it out. `nonce` is nonceCaller, a fresh
-    /// random one; with `keep` the session goes on after the command (continueSession). The HMAC is always there
-    /// (Part 1, "Session-Based Authorizations").
+    /// opens their reply. `names` are the Names of the command's handles, in their order, as many as
+    /// `CommandCode::handles` of its code says (law `as_many_handles`). `auth` is what follows the session key in
+    /// that of the HMAC: the authorization value of what the first handle names, whose trailing zeros do not count,
+    /// or nothing where the rules leave it out. `nonce` is nonceCaller, a fresh random one; with `keep` the session
+    /// goes on after the command (continueSession). The HMAC is always there (Part 1, "Session-Based
+    /// Authorizations").
     pub fn seal(
         self,
         body: CommandBody<'_>,

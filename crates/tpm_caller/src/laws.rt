@@ -6,12 +6,13 @@ ghost use Rattle.tpm_wire.specs.declared.refusal.Refusal.{Refusal};
 ghost use Rattle.tpm_wire.specs.Path.{Spells, Fault};
 ghost use Rattle.tpm_types.specs.declared.handle_sets.BindHandle.TheVariants.{Owner};
 ghost use Rattle.tpm_commands.specs.declared.command.CommandBody.TheVariants as bodies;
+ghost use Rattle.tpm_commands.specs.declared.command.CommandBody.{CommandBody};
 ghost use Rattle.tpm_commands.specs.declared.command.StartAuth.{StartAuth};
 ghost use Rattle.tpm_commands.specs.declared.response.StartReply.{StartReply};
-ghost use Rattle.tpm_commands.specs.Handles.{needs_authorization};
+ghost use Rattle.tpm_commands.specs.Handles.{needs_authorization, handle_kinds};
 ghost use Rattle.tpm_commands.specs.declared.response.ReplyBody.TheVariants as replies;
 ghost use Rattle.tpm_commands.specs.declared.response.Response.TheVariants as responses;
-ghost use Rattle.tpm_buffer.specs.Commands.{command, code_for};
+ghost use Rattle.tpm_buffer.specs.Commands.{command, code_for, handles_of};
 ghost use Rattle.tpm_buffer.specs.Responses.{response};
 ghost use Rattle.tpm_hmac.specs.Sessions.{trim};
 ghost use Rattle.tpm_model.specs.Steps.{History, Origin};
@@ -44,6 +45,12 @@ pub fn what_is_opened()
         ↔ HasWrongMac w bytes }
     ensures given_up { (w : Waiting) (bytes : List ℕ) (c : CallerSession)
         → (given_up w bytes ≡ Some c) ↔ IsGivenUp w bytes c }
+{}
+
+/// A command has as many handles as its code says (`CommandCode::handles`): so many Names are handed in where it is
+/// sealed.
+pub fn as_many_handles()
+    ensures { (body : CommandBody) → length (handles_of body) ≡ length (handle_kinds (code_for body)) }
 {}
 
 /// A key that is kept as its digest opens what the key itself would open.

@@ -7,6 +7,6 @@ mod pending;
 mod waiting;
 
 pub use caller::Caller;
-pub use laws::{no_mixed_replies, one_key, two_ends_in_step, what_is_opened};
+pub use laws::{as_many_handles, no_mixed_replies, one_key, two_ends_in_step, what_is_opened};
 pub use pending::Pending;
 pub use waiting::{CallerFault, Waiting};

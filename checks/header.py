@@ -1,0 +1,209 @@
+"""Compares include/vinjakwe.h with the sources that it declares, both ways.
+
+It reads the structures, the functions and the numbers of tpm_c, and the numbers of Part 2 where the other crates have
+them, and says what only one side has. What a C compiler knows better, the types of functions and the places and sizes of
+fields, it writes as a program of C, which only a header that agrees lets compile.
+"""
+
+import re
+import sys
+
+# The words that the header has in place of the crate's.
+FIELDS = {"kind": "type", "event": "data"}
+PLACES = {"device", "framer", "replay", "caller", "place"}
+VIEWS = {"areas", "view"}
+OPAQUE = ("device", "framer", "log_replay", "caller")
+NUMBERS = {"u8": "uint8_t", "u16": "uint16_t", "u32": "uint32_t", "u64": "uint64_t", "usize": "size_t"}
+
+faults = []
+
+
+def source(crate, file):
+    with open(f"crates/{crate}/src/{file}.rt", encoding="utf-8") as it:
+        return it.read()
+
+
+def snake(name):
+    return re.sub(r"(?<=[a-z0-9])(?=[A-Z])", "_", name).lower()
+
+
+def compare(what, header, crate):
+    """The same names on both sides, each with the same value."""
+    for name in sorted(header.keys() | crate.keys()):
+        if header.get(name) != crate.get(name):
+            faults.append(f"{what} {name}: {header.get(name, 'none')} in the header, {crate.get(name, 'none')} here")
+
+
+# ---- numbers
+
+
+def constants(crate, file, prefix="", types="u8|u16|u32|usize"):
+    """The numbers of a file's constants, by their names behind a prefix."""
+    found = re.findall(rf"const ([A-Z0-9_]+): (?:{types}) = (0x[0-9A-Fa-f_]+|[0-9_]+);", source(crate, file))
+    return {prefix + name: int(value, 0) for name, value in found}
+
+
+def arms(crate, file, owner, prefix):
+    """The numbers of an enum's variants, as `Owner::Variant => N` gives them."""
+    found = re.findall(rf"{owner}::(\w+)(?:\(_\))? => (0x[0-9A-Fa-f]+|[0-9]+),", source(crate, file))
+    numbers = {}
+    for name, value in found:
+        numbers.setdefault(prefix + snake(name).upper(), int(value, 0))
+    return numbers
+
+
+def only(numbers, *names):
+    return {name: numbers[name] for name in names if name in numbers}
+
+
+def array_len(crate, file, element):
+    return int(re.search(rf"\[{element}; ([0-9]+)\]", source(crate, file)).group(1))
+
+
+def crate_numbers():
+    statuses = only(constants("tpm_c", "part", "TPM_"), "TPM_DONE", "TPM_REFUSED", "TPM_NO_ROOM", "TPM_NO_COMMAND")
+    quotes = constants("tpm_c", "quote", "TPM_QUOTE_") | {"TPM_QUOTE_MATCHES": statuses["TPM_DONE"]}
+    attested = only(
+        constants("tpm_c", "attest", "TPM_ATTEST_"),
+        "TPM_ATTEST_NONCE", "TPM_ATTEST_LACKS", "TPM_ATTEST_EMPTY", "TPM_ATTEST_REQUIREMENT",
+    ) | {name.replace("QUOTE", "ATTEST"): value for name, value in quotes.items()}
+    faults_of_logs = arms("tpm_c", "log", "LogFaultKind", "TPM_LOG_") | {"TPM_LOG_DONE": statuses["TPM_DONE"]}
+    # What a source of the library's says of itself: no slice of bytes has this fault.
+    del faults_of_logs["TPM_LOG_DEVICE"]
+    digest = constants("tpm_types", "limits")["DIGEST_BYTES"]
+    nonce = int(re.search(r"nonce: &\[u8; ([0-9]+)\]", source("tpm_c", "device")).group(1))
+    return (
+        statuses
+        | quotes
+        | attested
+        | faults_of_logs
+        | arms("tpm_c", "framer", "Status", "TPM_FRAMER_")
+        | arms("tpm_c", "caller", "CallerFault", "TPM_CALLER_")
+        | constants("tpm_c", "caller", "TPM_CALLER_")
+        | {"TPM_CALLER_OPENED": statuses["TPM_DONE"]}
+        | constants("tpm_c", "policy", "TPM_POLICY_")
+        | only(constants("tpm_c", "log_event", "TPM_"), "TPM_EVENT")
+        | only(constants("tpm_c", "out", "TPM_"), "TPM_BUFFER_BYTES")
+        | only(constants("tpm_c", "log", "TPM_"), "TPM_REGISTERS_BYTES")
+        | {
+            "TPM_OWNER_BYTES": digest,
+            "TPM_NONCE_BYTES": nonce,
+            "TPM_POLICY_BYTES": array_len("tpm_c", "policy", "u8"),
+            "TPM_RECORD_DIGESTS": array_len("tpm_c", "log_event", "TpmLogDigest"),
+        }
+        | arms("tpm_types", "alg", "Alg", "TPM_ALG_")
+        | only(constants("tpm_types", "tpmt", "TPM_ALG_"), "TPM_ALG_AES", "TPM_ALG_XOR", "TPM_ALG_NULL", "TPM_ALG_CFB")
+        | only(constants("tpm_types", "handles", "TPM_"), "TPM_RH_OWNER", "TPM_RH_NULL", "TPM_RS_PW")
+        | only(constants("tpm_buffer", "command_header", "TPM_ST_"), "TPM_ST_NO_SESSIONS", "TPM_ST_SESSIONS")
+        | arms("tpm_types", "constants", "StartupType", "TPM_SU_")
+        | arms("tpm_types", "constants", "SessionType", "TPM_SE_")
+        | constants("tpm_wire", "response_code", "TPM_RC_")
+        | arms("tpm_commands", "code", "CommandCode", "TPM_CC_")
+        # Numbers that the sources have within others (Part 2, 6.6.2 and 6.9).
+        | {"TPM_RC_SUCCESS": 0, "TPM_RC_H": 0, "TPM_RC_P": 0x040, "TPM_RC_S": 0x800, "TPM_ST_RSP_COMMAND": 0x00C4}
+        | {f"TPM_RC_{n}": 0x100 * n for n in range(1, 8)}
+    )
+
+
+def header_numbers(header):
+    found = re.findall(r"^#define (TPM_\w+)\s+(?:\(\(uint(?:8|16|32)_t\))?(0x[0-9A-Fa-f]+|[0-9]+)\)?", header, re.M)
+    # Commands have names of several words in the header, which their variants join.
+    return {snake(name).upper() if name.startswith("TPM_CC_") else name: int(value, 0) for name, value in found}
+
+
+# ---- structures and functions
+
+
+def c_type(kind, name):
+    """The declarations of C that a parameter or a field of this type has."""
+    if kind in NUMBERS:
+        return [f"{NUMBERS[kind]} {name}"]
+    if kind in ("*mut u8", "*const u8"):
+        return [f"{'const ' if kind == '*const u8' else ''}PLACE *{name}"]
+    if found := re.fullmatch(r"\[(\w+); ([0-9]+)\]", kind):
+        return [f"{c_type(found[1], name)[0]}[{found[2]}]"]
+    if found := re.fullmatch(r"&(mut )?\[u8(; [0-9]+)?\]", kind):
+        pointer = f"{'' if found[1] else 'const '}uint8_t *{name}"
+        return [pointer] if found[2] else [pointer, f"size_t {name}_len"]
+    if found := re.fullmatch(r"&(mut )?(\w+)", kind):
+        return [f"{'' if found[1] else 'const '}{c_type(found[2], '*' + name)[0]}"]
+    return [f"struct {snake(kind)} {name}"]
+
+
+def crate_structs(text):
+    for name, body in re.findall(r"#\[repr\(C\)\]\s*(?:#\[[^\]]*\]\s*)*pub struct (\w+) \{(.*?)\n\}", text, re.S):
+        fields = re.findall(r"^    pub (\w+): ([^\n]+),$", body, re.M)
+        yield snake(name), [(FIELDS.get(field, field), kind) for field, kind in fields]
+
+
+def header_structs(header):
+    for name, body in re.findall(r"^struct (tpm_\w+) \{(.*?)^\};", header, re.M | re.S):
+        yield name, re.findall(r"(\w+)(?:\[\w+\])?;", body)
+
+
+def crate_functions(text):
+    form = r'pub (?:unsafe )?extern "C" fn (\w+)\((.*?)\)(?: -> (\w+))?\s*\n'
+    for name, arguments, result in re.findall(form, text, re.S):
+        yield name, re.findall(r"(\w+): ([^,()]+)", arguments), result
+
+
+def header_functions(header):
+    for name, arguments in re.findall(r"^\w+ (tpm_\w+)\(([^)]*)\);", header, re.M | re.S):
+        words = [re.search(r"(\w+)\s*$", it)[1] for it in arguments.split(",")]
+        yield name, [it for it in words if it != "void" and not (it.endswith("_len") or it == "len")]
+
+
+def same_words(crate, header):
+    """The parameters of a function are named alike, but for where the header says what lies at a place."""
+    return len(crate) == len(header) and all(
+        here == there or (here == "place" and there in PLACES) or (here == "view" and there in VIEWS)
+        for here, there in zip(crate, header)
+    )
+
+
+def write_structs(text, header):
+    declared = dict(header_structs(header))
+    written = dict(crate_structs(text))
+    compare("structure", declared, {name: [field for field, _ in fields] for name, fields in written.items()})
+    for name, fields in written.items():
+        if name not in declared:
+            continue
+        print(f"struct here_{name} {{ {' '.join(f'{c_type(kind, field)[0]};' for field, kind in fields)} }};")
+        same("sizeof(struct {0})", name)
+        for field, _ in fields:
+            same(f"offsetof(struct {{0}}, {field})", name)
+            same(f"sizeof(((struct {{0}} *)0)->{field})", name)
+
+
+def same(what, name):
+    print(f'_Static_assert({what.format(name)} == {what.format("here_" + name)}, "{what.format(name)}");')
+
+
+def write_functions(text, header):
+    declared = dict(header_functions(header))
+    written = {name: (arguments, result) for name, arguments, result in crate_functions(text)}
+    for name in sorted(declared.keys() ^ written.keys()):
+        faults.append(f"function {name}: only in {'the header' if name in declared else 'the crate'}")
+    for name in sorted(declared.keys() & written.keys()):
+        arguments, result = written[name]
+        if not same_words([word for word, _ in arguments], declared[name]):
+            faults.append(f"function {name}: its parameters are {declared[name]} in the header")
+        place = next((f"struct tpm_{it}" for it in OPAQUE if name.startswith(f"tpm_{it}_")), "void")
+        types = [it.replace("PLACE", place) for word, kind in arguments for it in c_type(kind.strip(), word)]
+        print(f"{NUMBERS.get(result, 'void')} {name}({', '.join(types) or 'void'});")
+
+
+def main():
+    with open("include/vinjakwe.h", encoding="utf-8") as it:
+        header = it.read()
+    text = "\n".join(source("tpm_c", file) for file in sys.argv[1:])
+    plain = re.sub(r"/\*.*?\*/", "", header, flags=re.S)
+    compare("number", header_numbers(header), crate_numbers())
+    print('#include "vinjakwe.h"\n')
+    write_structs(text, plain)
+    write_functions(text, plain)
+    print("\n".join(faults), file=sys.stderr)
+    return 1 if faults else 0
+
+
+sys.exit(main())
