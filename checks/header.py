@@ -85,7 +85,9 @@ def crate_numbers():
         | only(constants("tpm_c", "log_event", "TPM_"), "TPM_EVENT")
         | only(constants("tpm_c", "out", "TPM_"), "TPM_BUFFER_BYTES")
         | only(constants("tpm_c", "log", "TPM_"), "TPM_REGISTERS_BYTES")
+        | only(constants("tpm_c", "kept", "TPM_"), "TPM_NO_COUNTER")
         | {
+            "TPM_DEVICE_KEPT_BYTES": constants("tpm_store", "kept")["KEPT_BYTES"],
             "TPM_OWNER_BYTES": digest,
             "TPM_NONCE_BYTES": nonce,
             "TPM_POLICY_BYTES": array_len("tpm_c", "policy", "u8"),

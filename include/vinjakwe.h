@@ -51,6 +51,44 @@ void tpm_device_power_cycle(struct tpm_device *device);
  * answers 0, and nothing changes, where out_len is less than TPM_BUFFER_BYTES. */
 size_t tpm_device_execute(struct tpm_device *device, const uint8_t *command, size_t len, const uint8_t *nonce, uint8_t *out, size_t out_len);
 
+/* ---- a device that is kept */
+
+/* How many bytes NV memory has at most, as tpm_device_keep writes it. */
+#define TPM_DEVICE_KEPT_BYTES 1026
+
+/* Writes the bytes of NV memory, which is what a device keeps without power, to the beginning of `out`, and says how many they are:
+ * TPM_DEVICE_KEPT_BYTES at most. It answers 0, and nothing is written, where out_len is less. They hold authorization values. */
+size_t tpm_device_keep(const struct tpm_device *device, uint8_t *out, size_t out_len);
+
+/* The greatest value that any counter of the device has had. */
+uint64_t tpm_device_greatest(const struct tpm_device *device);
+
+/* The hash of the session of this handle, TPM_ALG_.., where it is loaded; otherwise 0. */
+uint16_t tpm_device_session_hash(const struct tpm_device *device, uint32_t session);
+
+/* There are no more counters than that. */
+#define TPM_NO_COUNTER ((uint32_t)6)
+
+/* A counter that is defined: its public area (TPMS_NV_PUBLIC; Part 2, 13.5) with the attributes as they are now, of whose policy as
+ * many bytes are there as are counted; its value, which is 0 where it was not incremented; and 1 or 0, whether it has an
+ * authorization value. */
+struct tpm_counter {
+    uint32_t index;
+    uint16_t hash;
+    uint32_t attributes;
+    uint64_t value;
+    size_t policy_len;
+    uint8_t policy[48];
+    uint32_t has_auth;
+};
+
+/* How many counters are defined: 8 at most. */
+size_t tpm_device_counters(const struct tpm_device *device);
+
+/* Tells one of them, counted from 0 in the order of their definitions. TPM_DONE: it is in `view`; TPM_NO_COUNTER: there are no more
+ * than `which`. */
+uint32_t tpm_device_counter(const struct tpm_device *device, size_t which, struct tpm_counter *view);
+
 /* ---- a framer: a stream cut into its buffers, each of which states its size (Part 1, "Command/Response Structure") */
 
 struct tpm_framer;

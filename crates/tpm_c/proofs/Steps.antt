@@ -1,5 +1,5 @@
 -- What the walks by hand are made of.
-pub use Rattle.std.proofs.Common.{◌≡◌, ℕ, List, [], ◌∷◌, length, refl, w32, w64, ◌≤◌, Bool, true, false, lit<, ltb→lt}
+pub use Rattle.std.proofs.Common.{◌≡◌, ℕ, List, [], ◌∷◌, length, refl, w16, w32, w64, ◌≤◌, Bool, true, false, lit<, ltb→lt}
 pub use Rattle.std.proofs.Common.{nltb→le, sym, arith, ap, Option, None}
 pub use seplogic.Ra.Ura.{Ura}
 pub use base.Fraction.{full_share}

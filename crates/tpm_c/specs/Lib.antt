@@ -3,6 +3,7 @@ pub mod Callers
 pub mod CommandViews
 pub mod Devices
 pub mod Framers
+pub mod KeptDevices
 pub mod LogEvents
 pub mod LogPieces
 pub mod Logs

@@ -7,6 +7,7 @@ mod caller;
 mod command;
 mod device;
 mod framer;
+mod kept;
 mod log;
 mod log_event;
 mod log_pieces;
@@ -25,6 +26,10 @@ pub use caller::{
 pub use command::{TpmCommandAreas, TpmCommandSession, tpm_command_cut, tpm_command_decode};
 pub use device::{tpm_device_execute, tpm_device_init, tpm_device_power_cycle};
 pub use framer::{tpm_framer_frame, tpm_framer_init, tpm_framer_next, tpm_framer_push};
+pub use kept::{
+    TpmCounter, tpm_device_counter, tpm_device_counters, tpm_device_greatest, tpm_device_keep,
+    tpm_device_session_hash,
+};
 pub use log::tpm_log_replay;
 pub use log_event::{TpmLogDigest, TpmLogEvent, TpmLogPlace, tpm_log_event};
 pub use log_pieces::{tpm_log_replay_end, tpm_log_replay_feed, tpm_log_replay_init};
