@@ -53,6 +53,19 @@ size_t tpm_device_execute(struct tpm_device *device, const uint8_t *command, siz
 
 /* ---- a device that is kept */
 
+/* What many of the functions below answer. What one does not say that it writes stays as it was. */
+#define TPM_DONE ((uint32_t)0)       /* the bytes are what was asked for */
+#define TPM_REFUSED ((uint32_t)1)    /* they are not: the refusal says their fault */
+#define TPM_NO_ROOM ((uint32_t)2)    /* the room is too small */
+#define TPM_NO_COMMAND ((uint32_t)3) /* no command has this number */
+#define TPM_NO_COUNTER ((uint32_t)6) /* there are no more counters */
+
+/* A fault of bytes: the response code, and how many bytes are before what is at fault. */
+struct tpm_refusal {
+    uint32_t code;
+    uint32_t at;
+};
+
 /* How many bytes NV memory has at most, as tpm_device_keep writes it. */
 #define TPM_DEVICE_KEPT_BYTES 1026
 
@@ -60,14 +73,20 @@ size_t tpm_device_execute(struct tpm_device *device, const uint8_t *command, siz
  * TPM_DEVICE_KEPT_BYTES at most. It answers 0, and nothing is written, where out_len is less. They hold authorization values. */
 size_t tpm_device_keep(const struct tpm_device *device, uint8_t *out, size_t out_len);
 
+/* Makes a device in the room of the owner's authorization value and of bytes that tpm_device_keep wrote. It is not started, and stands
+ * where a power cycle leaves the device that they were written of, of the same owner's value. TPM_DONE; TPM_REFUSED: nothing is written
+ * to the room, and `refusal` is the first fault of the bytes, or TPM_RC_SIZE at 0 for an owner's value of more than TPM_OWNER_BYTES.
+ *
+ * No counter of a device goes back where a host keeps the bytes after each response before it hands that out (only those that
+ * changed NV memory are needed), and makes a device of the last of them, once. */
+uint32_t tpm_device_restore(struct tpm_device *place, const uint8_t *owner, size_t owner_len, const uint8_t *kept, size_t kept_len,
+                            struct tpm_refusal *refusal);
+
 /* The greatest value that any counter of the device has had. */
 uint64_t tpm_device_greatest(const struct tpm_device *device);
 
 /* The hash of the session of this handle, TPM_ALG_.., where it is loaded; otherwise 0. */
 uint16_t tpm_device_session_hash(const struct tpm_device *device, uint32_t session);
-
-/* There are no more counters than that. */
-#define TPM_NO_COUNTER ((uint32_t)6)
 
 /* A counter that is defined: its public area (TPMS_NV_PUBLIC; Part 2, 13.5) with the attributes as they are now, of whose policy as
  * many bytes are there as are counted; its value, which is 0 where it was not incremented; and 1 or 0, whether it has an
@@ -117,18 +136,6 @@ size_t tpm_framer_frame(struct tpm_framer *framer, uint8_t *out, size_t out_len)
 void tpm_framer_next(struct tpm_framer *framer);
 
 /* ---- commands and responses, judged, cut into their areas, and joined from their parts */
-
-/* What the functions below answer. What one does not say that it writes stays as it was. */
-#define TPM_DONE ((uint32_t)0)       /* the bytes are what was asked for */
-#define TPM_REFUSED ((uint32_t)1)    /* they are not: the refusal says their fault */
-#define TPM_NO_ROOM ((uint32_t)2)    /* the room is too small */
-#define TPM_NO_COMMAND ((uint32_t)3) /* no command has this number */
-
-/* A fault of bytes: the response code, and how many bytes are before what is at fault. */
-struct tpm_refusal {
-    uint32_t code;
-    uint32_t at;
-};
 
 /* A part of the bytes that were handed in: how many bytes are before it, and how many it has. */
 struct tpm_part {

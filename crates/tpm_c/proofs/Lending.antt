@@ -2,13 +2,20 @@
 -- lifetime that is made for the call, to a private function or a method, and comes back as that
 -- function says. An export's own proof has the steps of its MIR, and what the function's contract
 -- gives of its own.
-use mathlib.Core.Path.{subst, ap}
+use mathlib.Core.Path.{subst, ap, ◌∙◌}
 use mir.Syntax.{Ty, ty_unit, ty_ptr, Callee, Place, place, deref, Opd as Operand, copy, opd_unit, rv_opd}
 use mir.Syntax.{Body as Code, seq, call, assign, return, Fn, local, value_local}
 use prog.{Wp.{Env, Closed}, Model.{Model}}
 use base.{Logic.{comm∗, mono_r, ex_i}, Fml.{fsep, fbor, fex, fat}}
 use borrow.Table.OneValue.{One, part_in}
 use denote.Memory.{lone}
+use mir.Val.{of_list}
+use types.Match.{live}
+use lib.Dec.{T}
+use Rattle.std.proofs.Common.{Some, None, ◌++◌, Bool, true, false, ◌&&◌}
+use Rattle.std.specs.contracts.option.Option as option
+use denote.Steps.{only}
+use types.Kit.{feq_l}
 use denote.Exit.{Kept, yes, left}
 use denote.Builtin.{RawPtr, unit}
 use denote.RattleType.{RattleType, Denots, Valss}
@@ -141,6 +148,19 @@ module _ {M : Type 1} {𝓤 : Ura M} (𝓛 : Logic 𝓤) where
         (sem 𝓛 (part_at R full_share (to x) b o)) (sep 𝓤 (sem 𝓛 (fex X (λ z. part_at R full_share (to z) b o))) (fact 𝓤 φ))
     is_one_and {X} to x y = qed 𝓛 (‵ (part_at R full_share (to x) b o) ∷ []) ∵ fpack ! X (λ z. part_at R full_share (to z) b o) x $ says ! y $ done !
 
+pub and_tt : (b : Bool) → T b → T (b && true)
+and_tt true t = tt
+and_tt false t = absurd t
+
+-- the values of one type are one
+single : (τs : List Ty) (τ : Ty) → τs ≡ τ ∷ [] → (vs : List Val) → Typed τs vs → vs ≡ only vs ∷ []
+single τs τ one vs typed = go vs (subst (λ (us : List Ty). Typed us vs) one typed)
+  where
+    go : (vs : List Val) → Typed (τ ∷ []) vs → vs ≡ only vs ∷ []
+    go [] t = absurd t
+    go (v ∷ []) t = refl
+    go (v ∷ w ∷ vs) t = absurd t.1
+
 -- ---- the call
 abbrev pub loan : {X : Type 0} → X → (b o : ℕ) → GName → MutBor X
 loan d b o δ = record { ref_ptr = (b, o); ghost_name = δ; now = d }
@@ -178,6 +198,41 @@ module _ {M : Type 1} {𝓤 : Ura M} {𝓛 : Logic 𝓤} {K : Type 0} {Γ : List
       (raw Tokens ⊛ ‵ (R.own_val x (v ∷ []))) ⊛ some (λ (us : Us). ‵ (kept us) ⊛ raw (fact 𝓤 (Says x)))))) (gives v) $
       await t tt $ pick t (λ x. split t $ move t (1 ∷ []) $ pick t (λ us. split t $ drop t $
       heard t (Says x) (λ s. split t $ move t (1 ∷ []) $ peeks t R (Is R) (shows 𝓛 R) x (v ∷ []) (λ is. go v x s (lawful.typed x (v ∷ []) is))))))
+
+  -- an export's call that answers with what is to lie there, or with none, and says something of the last values
+  pub perhaps : K → FmC 𝓤 H 𝓛.laws C → (R : RattleType) → One R → Lawful 𝓛 R
+      → (Tokens : SProp 𝓤) {First Own : Fml} {Us : Type 0} (kept : Us → Fml) (Says : (option.the_row R).Denot → Us → Type 0)
+      → (c : Contract 𝓤) → Triple 𝓤 (C fn) c → (y : c.Ghost) → ent 𝓤 (sep 𝓤 (sep 𝓤 Tokens (sem 𝓛 Own)) (emp 𝓤)) (c.pre y)
+      → ((v : Val) → ent 𝓤 (c.post y v) (mean 𝓛 (later (some (λ (x : (option.the_row R).Denot).
+      (raw Tokens ⊛ ‵ ((option.the_row R).own_val x (v ∷ []))) ⊛ some (λ (us : Us). ‵ (kept us) ⊛ raw (fact 𝓤 (Says x us))))))))
+      → Opds K 𝓛 (raw (c.pre y) ∷ Γ) E xs (c.args y)
+      → ((v u : Val) (d : R.Denot) (us : Us) → Says (Some d) us → Typed R.mir (u ∷ []) → v ≡ live 1 (of_list (u ∷ []))
+      → Seq K 𝓛 (‵ (R.own_val d (u ∷ [])) ∷ ‵ (kept us) ∷ raw Tokens ∷ Γ) (lands C Λ E dest v rest q))
+      → ((v : Val) (us : Us) → Says None us → v ≡ live 0 (of_list [])
+      → Seq K 𝓛 (‵ (kept us) ∷ raw Tokens ∷ Γ) (lands C Λ E dest v rest q))
+      → Seq K 𝓛 ((raw Tokens ⊛ ‵ (fsep First Own)) ∷ Γ) (runs C Λ E (seq (call fn xs dest) rest) q)
+  perhaps t fm R one lawful Tokens {First} {Own} {Us} kept Says c known y takes gives opds one_is none_is =
+      split t $ move t (1 ∷ []) $ fsplit t $ drop t $ move t (1 ∷ []) $ join t $ nothing t $ move t (1 ∷ []) $ use2 𝓛 (raw (c.pre y)) takes $
+      calls_at t fm c known y opds (λ v. use1 𝓛 (later (some (λ (x : Z.Denot).
+      (raw Tokens ⊛ ‵ (Z.own_val x (v ∷ []))) ⊛ some (λ (us : Us). ‵ (kept us) ⊛ raw (fact 𝓤 (Says x us)))))) (gives v) $
+      await t tt $ pick t (λ x. split t $ move t (1 ∷ []) $ pick t (λ us. split t $ move t (1 ∷ []) $
+      heard t (Says x us) (λ s. move t (1 ∷ []) $ split t $ move t (1 ∷ 2 ∷ 0 ∷ []) $ which v x us s))))
+    where
+      Z : RattleType
+      Z = option.the_row R
+
+      which : (v : Val) (x : (option.the_row R).Denot) (us : Us) → Says x us
+          → Seq K 𝓛 (‵ ((option.the_row R).own_val x (v ∷ [])) ∷ ‵ (kept us) ∷ raw Tokens ∷ Γ) (lands C Λ E dest v rest q)
+      which v None us s =
+          fpick t (λ ws. fsplit t $ feq_l t (λ is. fpick t (λ vss. fsplit t $ feq_l t (λ all. drop t $
+          none_is v us s (ap only is ∙ ap (λ (xs : List Val). live 0 (of_list xs)) all)))))
+      which v (Some d) us s =
+          fpick t (λ ws. fsplit t $ feq_l t (λ is. fpick t (λ vss. fsplit t $ feq_l t (λ all. fsplit t $ move t (1 ∷ []) $ drop t $
+          peeks t R (Is R) (shows 𝓛 R) d vss.0 (λ sh.
+          let typed = lawful.typed d vss.0 sh in let same : vss.0 ≡ only vss.0 ∷ [] = single R.mir (lone R.mir) one vss.0 typed in
+          rewrite t 0 (λ (xs : List Val). ‵ (R.own_val d xs)) same refl $
+          one_is v (only vss.0) d us s (subst (Typed R.mir) same typed)
+          (ap only is ∙ ap (λ (xs : List Val). live 1 (of_list xs)) (all ∙ ap (λ (xs : List Val). xs ++ []) same)))))))
 
 -- ---- an export whose first parameter points at what it is about
 -- its contract is over this, which is its own

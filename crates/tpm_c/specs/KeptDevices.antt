@@ -1,17 +1,30 @@
--- A device that is kept: its NV memory's bytes in memory of C's, and what is told of it.
-use Rattle.std.specs.Prelude.{◌≡◌, ℕ, not, List, [], ◌++◌, length, nat_le, replicate, drop, Option, Some, None}
-use Rattle.std.specs.Prelude.{option_map, slice_get, if◌then◌else◌}
-use Rattle.tpm_wire.specs.Path.{Spells}
+-- A device that is kept: its NV memory's bytes in memory of C's, and the device that is made of them there.
+use Rattle.std.specs.Prelude.{◌≡◌, ◌⊎◌, ◌<◌, ◌≤◌, ℕ, Bool, true, false, not, ◌&&◌, List, [], ◌∷◌, ◌++◌, length}
+use Rattle.std.specs.Prelude.{nat_le, replicate, drop}
+use Rattle.std.specs.Prelude.{Option, Some, None, option_map, slice_get, is_ok, Result, Ok, Err, if◌then◌else◌}
+use base.{Fraction.{full_share}, Fml.{Fml, ftrue, fex}}
+use denote.RawPtr.{Ptr, lies_at}
+use Rattle.tpm_wire.specs.declared.refusal.Refusal.{Refusal}
+use Rattle.tpm_wire.specs.Path.{Spells, Fault}
+use Rattle.tpm_wire.specs.Reading.{read_all}
+use Rattle.tpm_wire.specs.ResponseCodes.{rc_size}
 use Rattle.tpm_wire.specs.Spelling.{spelling}
 use Rattle.tpm_types.specs.declared.alg.Alg.{Alg}
 use Rattle.tpm_types.specs.Alg.{alg_number}
 use Rattle.tpm_types.specs.Handles.{is_session}
-use Rattle.tpm_model.specs.Steps.{History, Origin}
+use Rattle.tpm_types.specs.Limits.{digest_bytes}
+use Rattle.tpm_model.specs.Steps.{History, PowerCycle, Origin}
 use Rattle.tpm_model.specs.Sessions.{loaded, sessions_at}
 use Rattle.tpm_model.specs.Counters.{Counter, nv_memory}
-use Rattle.tpm_model.specs.Kept.{kept_memory, number_of_value}
+use Rattle.tpm_model.specs.Kept.{kept_memory, number_of_value, restored}
 use Rattle.tpm_model.specs.Authorization.{is_empty}
+use Rattle.tpm_device.specs.declared.device.Device.{Device}
+use Rattle.tpm_device.specs.contracts.device.Device.{the_row}
+use Rattle.tpm_device.specs.Stands.{Stands, holds}
+use Rattle.tpm_c.specs.declared.part.TpmRefusal.{TpmRefusal}
 use Rattle.tpm_c.specs.declared.kept.TpmCounter.{TpmCounter}
+use Rattle.tpm_c.specs.Devices.{fits, room_if}
+use Rattle.tpm_c.specs.Parts.{refusal_of}
 use Rattle.tpm_c.specs.Written.{IsIn}
 
 -- ---- the bytes
@@ -28,6 +41,58 @@ abbrev pub IsKeptIn : Origin → History → (old new : List ℕ) → (count : �
 IsKeptIn o h old new count =
     IsIn (kept_in (length old) o h) old new count
     × Spells kept_memory (nv_memory o h) (kept_bytes o h)
+
+-- ---- what is made of them
+
+-- A device of the owner's value and these bytes: it holds what they spell, and it stands where a power cycle leaves any
+-- device of this owner's value whose NV memory they spell.
+pub record IsAgain (owner kept : List ℕ) (d : Device) : Type 0 where
+  pub spelled : Spells kept_memory (holds d).nv kept
+  pub made : holds d ≡ restored owner (holds d).nv
+  pub stands : (o : Origin) (h : History)
+      → o.owner ≡ owner → Spells kept_memory (nv_memory o h) kept → Stands o (PowerCycle ∷ h) d
+
+-- The device of these bytes, or their fault.
+abbrev pub IsMadeFor : (owner kept : List ℕ) → Result Device Refusal → Type 0
+IsMadeFor owner kept (Ok d) = IsAgain owner kept d
+IsMadeFor owner kept (Err e) = Fault kept_memory kept e
+
+-- SIZE at the front: the owner's value is too long.
+abbrev pub long_owner : Refusal
+long_owner = record { code = rc_size; at = 0 }
+
+-- The first fault: the owner's value is too long, or that of the bytes.
+abbrev pub IsFaulty : (owner kept : List ℕ) → Refusal → Type 0
+IsFaulty owner kept e =
+    ((digest_bytes < length owner) × (e ≡ long_owner))
+    ⊎ ((length owner ≤ digest_bytes) × Fault kept_memory kept e)
+
+-- A device was made and the refusal is as it was, or the refusal is the first fault.
+abbrev pub IsMade : (owner kept : List ℕ) → (old new : TpmRefusal) → Option Device → Type 0
+IsMade owner kept old new (Some d) = (length owner ≤ digest_bytes) × IsAgain owner kept d × (new ≡ old)
+IsMade owner kept old new None = IsFaulty owner kept (refusal_of new)
+
+-- The owner's value fits, and the bytes spell an NV memory.
+abbrev pub is_made : (owner kept : List ℕ) → Bool
+is_made owner kept = fits owner && is_ok (read_all kept_memory kept)
+
+-- Where no device is made, no room is asked for: so nothing can be written.
+abbrev pub restore_room : (owner kept : List ℕ) → Ptr → Fml
+restore_room owner kept p = room_if (is_made owner kept) p
+
+-- The device lies there, where one was made.
+abbrev pub again_if : Bool → (owner kept : List ℕ) → Ptr → Fml
+again_if true owner kept p = fex ((d : Device) × IsAgain owner kept d) (λ d. lies_at the_row full_share p d.0)
+again_if false owner kept p = ftrue
+
+abbrev pub restored_at : (owner kept : List ℕ) → Ptr → Fml
+restored_at owner kept p = again_if (is_made owner kept) owner kept p
+
+-- 0 and the refusal as it was, where one was made; and otherwise 1 and the first fault.
+abbrev pub IsRestored : (owner kept : List ℕ) → (old new : TpmRefusal) → (answer : ℕ) → Type 0
+IsRestored owner kept old new answer =
+    ((is_made owner kept ≡ true) × (answer ≡ 0) × (new ≡ old))
+    ⊎ ((is_made owner kept ≡ false) × (answer ≡ 1) × IsFaulty owner kept (refusal_of new))
 
 -- ---- what is told of a device
 

@@ -1,26 +1,30 @@
-//! A device that is kept: its NV memory as bytes in the caller's memory (Part 1, "NV Memory").
+//! A device that is kept: its NV memory as bytes in the caller's memory, and the device that is made of them again
+//! (Part 1, "NV Memory").
 
-ghost use Rattle.std.specs.Prelude.{◌≡◌, length};
+ghost use Rattle.std.specs.Prelude.{◌≡◌, ◌≤◌, length};
 ghost use Rattle.std.specs.Borrow.{sem};
+ghost use Rattle.tpm_types.specs.Limits.{digest_bytes};
 ghost use Rattle.tpm_model.specs.Steps.{History, Origin};
 ghost use Rattle.tpm_device.specs.Stands.{Stands};
 ghost use Rattle.tpm_c.specs.Devices.{device_at};
-ghost use Rattle.tpm_c.specs.KeptDevices.{IsKeptIn, greatest_of};
-ghost use Rattle.tpm_c.specs.KeptDevices.{hash_of, session_hash_of, counters_of, counter_view, IsCounterTold};
+ghost use Rattle.tpm_c.specs.KeptDevices.{IsKeptIn, IsMade, IsMadeFor, IsRestored, restore_room};
+ghost use Rattle.tpm_c.specs.KeptDevices.{restored_at, greatest_of, hash_of, session_hash_of};
+ghost use Rattle.tpm_c.specs.KeptDevices.{counters_of, counter_view, IsCounterTold};
 
 use crate::out::put;
-use crate::part::DONE;
+use crate::part::{DONE, REFUSED, TpmRefusal, refuse};
 use tpm_device::Device;
 use tpm_store::Counter;
-use tpm_types::{Alg, DIGEST_BYTES, SessionHandle};
-use tpm_wire::Buffer;
+use tpm_types::{Alg, AuthValue, DIGEST_BYTES, SessionHandle};
+use tpm_wire::response_code::SIZE;
+use tpm_wire::{Buffer, Refusal};
 
 /// The device has fewer counters.
 const NO_COUNTER: u32 = 6;
 
 /// A counter that is defined: its index, the number of its hash, its attributes as they are now, its value, which is 0
-/// where it was not incremented, and its policy, of which as many bytes are there as are counted. `has_auth` is 1 where it
-/// has an authorization value, and otherwise 0.
+/// where it was not incremented, and its policy, of which as many bytes are there as are counted.
+/// `has_auth` is 1 where it has an authorization value, and otherwise 0.
 #[repr(C)]
 #[derive(Clone, Copy)]
 pub struct TpmCounter {
@@ -33,8 +37,9 @@ pub struct TpmCounter {
     pub has_auth: u32,
 }
 
-/// Writes the bytes of NV memory to the beginning of `out`, and says how many they are: 1,026 at most. It answers 0, and
-/// nothing is written, where `out` has room for fewer. They hold authorization values.
+/// Writes the bytes of NV memory to the beginning of `out`, and says how many they are: 1,026 at
+/// most. It answers 0, and nothing is written, where `out` has room for fewer. They hold
+/// authorization values.
 #[unsafe(no_mangle)]
 pub unsafe extern "C" fn tpm_device_keep(place: *const u8, out: &mut [u8]) -> usize
     ghost at: { Origin × History }
@@ -55,6 +60,47 @@ fn keep(device: &mut Device, out: &mut [u8]) -> usize
         return 0;
     }
     put(out, bytes.as_slice())
+}
+
+/// Makes a device in the room of the owner's authorization value and of the bytes of an NV memory,
+/// as `tpm_device_keep` wrote them, and answers 0. It is not started, has no session, and has the
+/// counters of these bytes: it stands where a power cycle leaves the device that wrote them, of the
+/// same owner's value. It answers 1, and nothing is written to the room, where the owner's value
+/// has more than 48 bytes (SIZE at 0), or with the first fault of the bytes in `refusal`.
+#[unsafe(no_mangle)]
+pub unsafe extern "C" fn tpm_device_restore(
+    place: *mut u8,
+    owner: &[u8],
+    kept: &[u8],
+    refusal: &mut TpmRefusal,
+) -> u32
+    requires* { sem 𝓛 (restore_room owner.now kept.now place) }
+    ensures* { sem 𝓛 (restored_at owner.now kept.now place)
+        ∗ ⌜ IsRestored owner.now kept.now refusal.old refusal.new result ⌝ }
+{
+    match made(owner, kept, refusal) {
+        Some(device) => {
+            std::ptr::write(place as *mut Device, device);
+            DONE
+        }
+        None => REFUSED,
+    }
+}
+
+fn made(owner: &[u8], kept: &[u8], refusal: &mut TpmRefusal) -> Option<Device>
+    ensures { IsMade owner.now kept.now refusal.old refusal.new result }
+{
+    if owner.len() > DIGEST_BYTES {
+        refuse(refusal, Refusal { code: SIZE, at: 0 });
+        return None;
+    }
+    match made_for(owner, kept) {
+        Ok(device) => Some(device),
+        Err(fault) => {
+            refuse(refusal, fault);
+            None
+        }
+    }
 }
 
 /// The greatest value that any counter of the device has had.
@@ -164,5 +210,16 @@ fn view_of(counter: &Counter) -> TpmCounter
         policy_len,
         policy,
         has_auth: if counter.has_auth() { 1 } else { 0 },
+    }
+}
+
+// The device of these, or the first fault of the bytes.
+fn made_for(owner: &[u8], kept: &[u8]) -> Result<Device, Refusal>
+    requires { length owner.now ≤ digest_bytes }
+    ensures { IsMadeFor owner.now kept.now result }
+{
+    match AuthValue::new(owner) {
+        Some(owner) => Device::from_nv(&owner, kept),
+        None => unreachable!(),
     }
 }

@@ -1,5 +1,7 @@
 -- `tpm_device_counters` meets its contract: the device is lent to `counters`, which leaves it as it was.
-use Rattle.tpm_c.proofs.Steps.{◌≡◌, refl, sym, w64, full_share, length, id⊢, ◌$◌, !, done, addr, stop, of_opd, and_then, no_more, returns, enter, alloc_all, pass_all, free_all, look_at, through, get, sets, lands_as, uint_Lawful, mut_vals, lies_at, triple_of}
+use Rattle.tpm_c.proofs.Steps.{◌≡◌, refl, sym, w64, full_share, length, id⊢, ◌$◌, !, done, addr, stop, of_opd, and_then}
+use Rattle.tpm_c.proofs.Steps.{no_more, returns, enter, alloc_all, pass_all, free_all, look_at, through, get, sets}
+use Rattle.tpm_c.proofs.Steps.{lands_as, uint_Lawful, mut_vals, lies_at, triple_of}
 use Rattle.std.proofs.Common.{subst}
 use Rattle.tpm_c.proofs.Lending.{Spelled, points, is_one_and, lent}
 use Rattle.tpm_c.proofs.kept.counters.Met.{met}

@@ -1,5 +1,8 @@
 -- `tpm_device_keep` meets its contract: the device is lent to `keep`, which leaves it as it was.
-use Rattle.tpm_c.proofs.Steps.{◌≡◌, refl, sym, w64, full_share, named, fld, hop, from, look_in_at, get_in, whole, sub, agg, u8, mut_slice_vals, mut_slice_Tells, id⊢, ◌$◌, !, done, addr, stop, of_opd, and_then, no_more, returns, enter, alloc_all, pass_all, free_all, look_at, through, get, sets, lands_as, uint_Lawful, mut_vals, lies_at, triple_of}
+use Rattle.tpm_c.proofs.Steps.{◌≡◌, refl, sym, w64, full_share, named, fld, hop, from, look_in_at, get_in, whole, sub}
+use Rattle.tpm_c.proofs.Steps.{agg, u8, mut_slice_vals, mut_slice_Tells, id⊢, ◌$◌, !, done, addr, stop, of_opd}
+use Rattle.tpm_c.proofs.Steps.{and_then, no_more, returns, enter, alloc_all, pass_all, free_all, look_at, through, get}
+use Rattle.tpm_c.proofs.Steps.{sets, lands_as, uint_Lawful, mut_vals, lies_at, triple_of}
 use Rattle.std.proofs.Common.{subst}
 use Rattle.tpm_c.proofs.Lending.{Spelled, points, is_one_and, lent}
 use Rattle.tpm_c.proofs.kept.keep.Met.{met}

@@ -1,5 +1,7 @@
 -- `tpm_device_session_hash` meets its contract: the device is lent to `session_hash`, which leaves it as it was.
-use Rattle.tpm_c.proofs.Steps.{◌≡◌, refl, sym, w16, w32, full_share, uint_vals, uint_Tells, id⊢, ◌$◌, !, done, addr, stop, of_opd, and_then, no_more, returns, enter, alloc_all, pass_all, free_all, look_at, through, get, sets, lands_as, uint_Lawful, mut_vals, lies_at, triple_of}
+use Rattle.tpm_c.proofs.Steps.{◌≡◌, refl, sym, w16, w32, full_share, uint_vals, uint_Tells, id⊢, ◌$◌, !, done, addr}
+use Rattle.tpm_c.proofs.Steps.{stop, of_opd, and_then, no_more, returns, enter, alloc_all, pass_all, free_all, look_at}
+use Rattle.tpm_c.proofs.Steps.{through, get, sets, lands_as, uint_Lawful, mut_vals, lies_at, triple_of}
 use Rattle.std.proofs.Common.{subst}
 use Rattle.tpm_c.proofs.Lending.{Spelled, points, is_one_and, lent}
 use Rattle.tpm_c.proofs.kept.session_hash.Met.{met}
