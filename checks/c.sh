@@ -352,6 +352,27 @@ using() {
     [ "$("$room/using")" = "$("$room/readme")" ]
 }
 
+# build_kept: checks/kept.c as $room/kept, with the compiler's sanitizers where it has them; and the images of
+# checks/kept.txt, with what is said of them.
+build_kept() {
+    { "$compiler" -std=c11 -O1 -g -fsanitize=address,undefined -fno-sanitize-recover=all -Wall -Wextra -Werror \
+        -Iinclude -o "$room/kept" checks/kept.c "$archive" 2>/dev/null && "$room/kept" rows </dev/null; } ||
+        "$compiler" -std=c11 -O2 -Wall -Wextra -Werror -Iinclude -o "$room/kept" checks/kept.c "$archive" || return 1
+    grep -v '^#' checks/kept.txt | sed 's/ -> .*//' >"$room/kept.in"
+    grep -v '^#' checks/kept.txt | sed 's/.* -> //' >"$room/kept.wanted"
+}
+
+# same_kept: what is said of the images of checks/kept.txt, which are those that Python makes where there is one.
+same_kept() {
+    build_kept && "$room/kept" rows <"$room/kept.in" >"$room/out" && cmp "$room/out" "$room/kept.wanted" || return 1
+    ! command -v python3 >/dev/null 2>&1 || python3 checks/kept.py | cmp - checks/kept.txt
+}
+
+# changed_kept: images that are changed at random, 100,000 of them, or as many as CHANGED_IMAGES says.
+changed_kept() {
+    "$room/kept" images "${CHANGED_IMAGES:-100000}" "${SEED:-1}" <"$room/kept.in"
+}
+
 # same_call WORD FUNCTION LEN: the call of this word in checks/same.c, which compares what it was sent with what it
 # computes, takes as many instructions where the first, the middle or the last of these LEN bytes differs.
 same_call() {
@@ -418,6 +439,9 @@ else
     holds "quotes that are changed at random through C" changed_quotes
     holds "the digest of a policy through C" same_policies
     holds "a session is held through C" same_session
+    holds "a device through C that is made again of the bytes in checks/kept.txt" same_kept
+    holds "images of a kept device that are changed at random through C" changed_kept
+    holds "a device that is kept answers through C as one whose power was cycled" "$room/kept" answers 1000 "${SEED:-1}"
     same_calls
     name="the archive needs memcpy, memmove and memset alone"
     others=$(undefined | tr ' ' '\n' | grep -v -x -e memcpy -e memmove -e memset -e '' | tr '\n' ' ')
