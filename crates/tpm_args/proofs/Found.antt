@@ -21,7 +21,8 @@ use Rattle.clap.proofs.OnLiterals.{clap_on_literals}
 use Rattle.clap.proofs.WalkLemmas.{first_value-rows}
 use Rattle.tpm_text_values.specs.Numbers.{IsDecimal}
 use Rattle.tpm_text_values.specs.Owner.{IsOwner}
-use Rattle.tpm_args.specs.declared.task.Task.TheVariants.{Show, ShowCapture, Build, Run, Explain, Check, Events}
+use Rattle.tpm_args.specs.declared.task.Task.TheVariants.{Show, ShowCapture, ShowNv, Build, Run, Explain}
+use Rattle.tpm_args.specs.declared.task.Task.TheVariants.{Check, Events}
 use Rattle.tpm_args.specs.declared.task.Task.{Task}
 use Rattle.tpm_args.specs.declared.stop.Stop.TheVariants.{Help, Usage, Memory}
 use Rattle.tpm_args.specs.declared.stop.Stop.{Stop}
@@ -45,6 +46,7 @@ agrees name v w same (Show reply fields hex) h = (
   sym (same (codes "file")) ∙ h.5,
   ap is_given (sym (same (codes "binary"))) ∙ h.6,
   ap is_given (sym (same (codes "json"))) ∙ h.7,
+  sym (same (codes "nv")) ∙ h.8,
 )
 agrees name v w same (ShowCapture file binary fields json) h = (
   h.0,
@@ -55,6 +57,17 @@ agrees name v w same (ShowCapture file binary fields json) h = (
       (same (codes "HEX")) (subst (λ (x : Option Text). IsInput (v (codes "HEX")) x) (same (codes "file")) h.4),
   h.5 ∙ ap is_given (same (codes "binary")),
   h.6 ∙ ap is_given (same (codes "json")),
+  sym (same (codes "nv")) ∙ h.7,
+)
+agrees name v w same (ShowNv file) h = (
+  h.0,
+  sym (same (codes "nv")) ∙ h.1,
+  sym (same (codes "reply")) ∙ h.2,
+  ap is_given (sym (same (codes "fields"))) ∙ h.3,
+  sym (same (codes "HEX")) ∙ h.4,
+  sym (same (codes "file")) ∙ h.5,
+  ap is_given (sym (same (codes "binary"))) ∙ h.6,
+  ap is_given (sym (same (codes "json"))) ∙ h.7,
 )
 agrees name v w same (Build code handles sessions parameters) h =
     (h.0, rw (← same (codes "NAME")) h.1, sym (same (codes "HANDLES")) ∙ h.2, sym (same (codes "SESSIONS")) ∙ h.3, sym (same (codes "PARAMETERS")) ∙ h.4)

@@ -35,11 +35,14 @@ option_rule name = record (new_rule name) { long = Some name; value_names = 1 }
 abbrev pub buffer_app : ValueParser → App
 buffer_app names = with_rule (with_rule (new_app (codes "show")) (reply_rule names)) (flag_rule (codes "fields"))
 
--- show [--reply NAME] [--fields] [--file FILE] [--binary] [--json] [HEX]
+-- show [--reply NAME] [--fields] [--file FILE] [--binary] [--json]
+abbrev pub capture_app : ValueParser → App
+capture_app names = with_rule (with_rule (with_rule (buffer_app names) (option_rule (codes "file")))
+    (flag_rule (codes "binary"))) (flag_rule (codes "json"))
+
+-- show [--reply NAME] [--fields] [--file FILE] [--binary] [--json] [--nv FILE] [HEX]
 abbrev pub show_app : ValueParser → App
-show_app names = with_rule (with_rule (with_rule (with_rule (buffer_app names) (option_rule (codes "file")))
-    (flag_rule (codes "binary"))) (flag_rule (codes "json")))
-    (optional_rule (codes "HEX"))
+show_app names = with_rule (with_rule (capture_app names) (option_rule (codes "nv"))) (optional_rule (codes "HEX"))
 
 -- build NAME HANDLES SESSIONS PARAMETERS
 abbrev pub build_app : ValueParser → App

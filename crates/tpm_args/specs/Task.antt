@@ -9,7 +9,8 @@ use Rattle.tpm_commands.specs.declared.code.CommandCode.{CommandCode}
 use Rattle.tpm_text_values.specs.Numbers.{IsDecimal, IsHexadecimal}
 use Rattle.tpm_text_values.specs.Owner.{IsOwner}
 use Rattle.tpm_text_values.specs.Selections.{hash_word, AreSelections}
-use Rattle.tpm_args.specs.declared.task.Task.TheVariants.{Show, ShowCapture, Build, Run, Explain, Check, Events}
+use Rattle.tpm_args.specs.declared.task.Task.TheVariants.{Show, ShowCapture, ShowNv, Build, Run, Explain}
+use Rattle.tpm_args.specs.declared.task.Task.TheVariants.{Check, Events}
 use Rattle.tpm_args.specs.declared.task.Task.{Task}
 use Rattle.tpm_args.specs.Names.{command_of_name}
 
@@ -75,12 +76,18 @@ AsksWith name value (Show reply fields hex) =
     × (fields ≡ is_given (value (codes "fields")))
     × (value (codes "HEX") ≡ Some hex.now) × (hex.now ≢ codes "-") × (value (codes "file") ≡ None)
     × (is_given (value (codes "binary")) ≡ false) × (is_given (value (codes "json")) ≡ false)
+    × (value (codes "nv") ≡ None)
 AsksWith name value (ShowCapture file binary fields json) =
     (name ≡ codes "show")
     × (value (codes "reply") ≡ None)
     × (fields ≡ is_given (value (codes "fields")))
     × (value (codes "file") ≡ option_map (λ f. f.now) file) × IsInput (value (codes "HEX")) (value (codes "file"))
     × (binary ≡ is_given (value (codes "binary"))) × (json ≡ is_given (value (codes "json")))
+    × (value (codes "nv") ≡ None)
+AsksWith name value (ShowNv file) =
+    (name ≡ codes "show") × (value (codes "nv") ≡ Some file.now) × (value (codes "reply") ≡ None)
+    × (is_given (value (codes "fields")) ≡ false) × (value (codes "HEX") ≡ None) × (value (codes "file") ≡ None)
+    × (is_given (value (codes "binary")) ≡ false) × (is_given (value (codes "json")) ≡ false)
 AsksWith name value (Build code handles sessions parameters) = (name ≡ codes "build")
     × (option_and_then command_of_name (value (codes "NAME")) ≡ Some code)
     × (value (codes "HANDLES") ≡ Some handles.now)

@@ -59,8 +59,8 @@ impl Words {
     /// `explain` other than hexadecimal digits, or a number above 2^32 - 1; of `check` a hash other
     /// than `sha1`, `sha256` and `sha384`, a list of no registers, or a word whose quote is not
     /// given: the nonce and the list want `--attest`, the hash one of `--quote` and `--attest`; and
-    /// of `show` where they have a buffer and a file, or neither, a capture with `--reply`, or a
-    /// buffer with `--binary` or `--json`.
+    /// of `show` where they have more than one of a buffer, a file and NV memory, or none, a
+    /// capture with `--reply`, a buffer with `--binary` or `--json`, or NV memory with any of these.
     pub fn task(&self, alloc: Global) -> Result<Task<'_>, Stop>
         ensures ok { IfOk result (λ t. (names : Bor (List (Bor (List ℕ)))) × AreAllNames names.now
             × Asks (subcommand_of (program_app (Names names)) self.now) t) }
@@ -125,7 +125,7 @@ fn asked_of<'a>(alloc: Global, name: &str, words: &ArgMatches<'a>) -> Asked<'a>
     ensures { IsAsked name.now words.now result }
 {
     match name {
-        "show" => Ok(show_task(words)),
+        "show" => show_task(alloc, words),
         "build" => Ok(build_task(words)),
         "run" => Ok(Some(run_task(alloc, words)?)),
         "explain" => explain_task(alloc, words),

@@ -1,4 +1,4 @@
-//! The usage fault of a word's value.
+//! Usage faults of words that are taken one by one.
 
 ghost use Rattle.std.specs.Prelude.{◌≡◌, IfOk};
 ghost use Rattle.clap.specs.Words.{kind_of};
@@ -38,4 +38,25 @@ fn invalid_error(
     let mut command = command?;
     let message = format!(in alloc; "invalid value '{text}' for '{word}': {reason}")?;
     command.error(ErrorKind::ValueValidation, message.as_str())
+}
+
+/// The usage fault of words that don't go together.
+pub(crate) fn wrong_words(
+    alloc: Global,
+    command: Result<Command<'_>, AllocError>,
+    reason: &str,
+) -> Stop
+    ensures { IsMemoryOr (Unit {0}) result }
+{
+    match wrong_error(command, reason) {
+        Ok(error) => Stop::of(alloc, &error),
+        Err(AllocError) => Stop::Memory,
+    }
+}
+
+fn wrong_error(command: Result<Command<'_>, AllocError>, reason: &str) -> Result<Error, AllocError>
+    ensures { IfOk result (λ e. kind_of e ≡ ValueValidation) }
+{
+    let mut command = command?;
+    command.error(ErrorKind::ValueValidation, reason)
 }

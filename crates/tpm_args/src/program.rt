@@ -5,7 +5,7 @@ ghost use Rattle.clap.specs.Words.{rule_of};
 ghost use Rattle.clap.specs.declared.builder.value_parser.ValueParser.TheVariants.{Names};
 ghost use Rattle.tpm_args.specs.Program.{required_rule, name_rule, reply_rule, flag_rule, option_rule, buffer_app};
 ghost use Rattle.tpm_args.specs.Program.{show_app, build_app, run_app, explain_app, log_app, compare_app, check_app};
-ghost use Rattle.tpm_args.specs.Program.{events_app, above_subcommands, program_app, IsApp, optional_rule};
+ghost use Rattle.tpm_args.specs.Program.{events_app, above_subcommands, program_app, IsApp, optional_rule, capture_app};
 
 use clap::{Arg, ArgAction, Command};
 use std::alloc::{AllocError, Global};
@@ -22,6 +22,7 @@ const AFTER_HELP: &str = "Examples:
   tpmtool show --reply Startup 80010000000a00000100
   tpmtool show --fields 80010000000c000001440000
   tpmtool show --file FILE
+  tpmtool show --nv FILE
   tpmtool build PCR_Reset 00000010 400000090000010000 -
   tpmtool run --greatest 7 <SCRIPT
   tpmtool explain 9a2
@@ -87,6 +88,7 @@ fn buffer_words<'a>(alloc: Global, names: &'a [&'a str]) -> Result<Command<'a>, 
     ensures { IfOk result (λ c. IsApp (buffer_app (Names names.entry)) c) }
 {
     Command::new(alloc, "show")
+        .bin_name("tpmtool show")?
         .about("Prints the command or the response that a buffer spells, or where it is refused")
         .arg(reply_word(alloc, names))?
         .arg(flag(
@@ -96,13 +98,23 @@ fn buffer_words<'a>(alloc: Global, names: &'a [&'a str]) -> Result<Command<'a>, 
         ))
 }
 
-fn show_words<'a>(alloc: Global, names: &'a [&'a str]) -> Result<Command<'a>, AllocError>
-    ensures { IfOk result (λ c. IsApp (show_app (Names names.entry)) c) }
+// The same with a capture.
+fn capture_words<'a>(alloc: Global, names: &'a [&'a str]) -> Result<Command<'a>, AllocError>
+    ensures { IfOk result (λ c. IsApp (capture_app (Names names.entry)) c) }
 {
     with_words! { alloc, buffer_words(alloc, names)?;
         option "file" "FILE" "Reads a capture: a command or a reply a line, in hexadecimal";
         flag "binary" "Reads the capture as frames one after the other, in place of lines";
         flag "json" "Prints each frame of the capture as an object of JSON, in a line";
+    }
+}
+
+/// The subcommand `show`.
+pub(crate) fn show_words<'a>(alloc: Global, names: &'a [&'a str]) -> Result<Command<'a>, AllocError>
+    ensures { IfOk result (λ c. IsApp (show_app (Names names.entry)) c) }
+{
+    with_words! { alloc, capture_words(alloc, names)?;
+        option "nv" "FILE" "Prints what a device's kept NV memory holds, in place of a buffer or a capture";
         optional "HEX" "The buffer, in hexadecimal, or - for a capture on standard input";
     }
 }

@@ -2,17 +2,21 @@
 
 ghost use Rattle.std.specs.Prelude.{MatchOption, codes};
 ghost use Rattle.clap.specs.Words.{first_value, found_of};
+ghost use Rattle.tpm_args.specs.Stop.{IsAsked};
 ghost use Rattle.tpm_args.specs.Task.{AsksNothingWith, AsksWith};
 
 use crate::given::is_given;
+use crate::invalid::wrong_words;
 use crate::names::command_named;
-use crate::task::Task;
+use crate::program::show_words;
+use crate::task::{Asked, Task};
 use clap::ArgMatches;
+use std::alloc::Global;
 
-/// The task of the words of `show`. None where they have a buffer and a file, or neither, where a capture is to be
-/// read as a response, and where a buffer is to be read as a stream or
-/// printed as JSON.
-pub(crate) fn show_task<'a>(words: &ArgMatches<'a>) -> Option<Task<'a>>
+// A buffer, a capture or kept NV memory. None where they have more than one of a buffer and two files, or none, where
+// a capture is to be read as a response, where a buffer is to be read as a stream or printed as JSON, and where NV
+// memory is to be told by another option.
+fn shown<'a>(words: &ArgMatches<'a>) -> Option<Task<'a>>
     ensures { MatchOption result (AsksNothingWith (codes "show") (first_value (found_of words.now)))
         (λ t. AsksWith (codes "show") (first_value (found_of words.now)) t) }
 {
@@ -21,8 +25,8 @@ pub(crate) fn show_task<'a>(words: &ArgMatches<'a>) -> Option<Task<'a>>
     let json = is_given(words, "json");
     let reply = words.get_str("reply");
     let file = words.get_str("file");
-    match (words.get_str("HEX"), file) {
-        (Some("-"), None) | (None, Some(_)) => {
+    match (words.get_str("HEX"), file, words.get_str("nv")) {
+        (Some("-"), None, None) | (None, Some(_), None) => {
             if reply.is_some() {
                 return None;
             }
@@ -33,13 +37,43 @@ pub(crate) fn show_task<'a>(words: &ArgMatches<'a>) -> Option<Task<'a>>
                 json,
             })
         }
-        (Some(hex), None) if !binary && !json => {
+        (Some(hex), None, None) if !binary && !json => {
             let reply = match reply {
                 Some(name) => Some(command_named(name)?),
                 None => None,
             };
             Some(Task::Show { reply, fields, hex })
         }
+        (None, None, Some(file)) if reply.is_none() && !fields && !binary && !json => {
+            Some(Task::ShowNv { file })
+        }
         _ => None,
+    }
+}
+
+// Why they ask for nothing.
+fn fault(words: &ArgMatches<'_>) -> &'static str {
+    match (
+        words.get_str("HEX"),
+        words.get_str("file"),
+        words.get_str("nv"),
+    ) {
+        (None, None, None) => "one of HEX, -, --file <FILE> and --nv <FILE> is wanted",
+        (None, None, Some(_)) => "--nv <FILE> goes with no other option",
+        (Some("-"), None, None) | (None, Some(_), None) => {
+            "--reply <NAME> goes with HEX alone, since a capture tells replies by its marks"
+        }
+        (Some(_), None, None) => "--binary and --json want a capture: - or --file <FILE>",
+        _ => "only one of HEX, -, --file <FILE> and --nv <FILE> is wanted",
+    }
+}
+
+/// The task of the words of `show`.
+pub(crate) fn show_task<'a>(alloc: Global, words: &ArgMatches<'a>) -> Asked<'a>
+    ensures { IsAsked (codes "show") words.now result }
+{
+    match shown(words) {
+        Some(task) => Ok(Some(task)),
+        None => Err(wrong_words(alloc, show_words(alloc, &[]), fault(words))),
     }
 }

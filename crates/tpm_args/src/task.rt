@@ -31,6 +31,11 @@ pub enum Task<'a> {
         /// Whether each frame is printed as an object of JSON.
         json: bool,
     },
+    /// `show --nv FILE`: print the NV memory of a device that is kept.
+    ShowNv {
+        /// The path of its bytes.
+        file: &'a str,
+    },
     /// `build NAME HANDLES SESSIONS PARAMETERS`: print the buffer of the parts.
     Build {
         /// The command.

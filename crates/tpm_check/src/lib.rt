@@ -24,4 +24,4 @@ pub use checked_signed::check_signed;
 pub use held_lines::HeldLines;
 pub use judged::Signed;
 pub use listed_events::{Listing, list_events};
-pub use reads::read_attest;
+pub use reads::{read_attest, read_up_to};

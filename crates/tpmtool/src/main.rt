@@ -10,13 +10,14 @@ use std::process::ExitCode;
 use std::rt::{Env, Files};
 use std::{env, fs, io};
 use tpm_args::{Stop, Task, Words, words_not_text};
-use tpm_check::{Listing, Signed, check_log, check_signed, list_events, read_attest};
+use tpm_check::{Listing, Signed, check_log, check_signed, list_events, read_attest, read_up_to};
 use tpm_device::Device;
 use tpm_lines::answer::not_hexadecimal;
 use tpm_lines::fault::ToolFault;
 use tpm_lines::status::Status;
 use tpm_script::run_script;
 use tpm_show::{Telling, build, explain, show, show_fields, show_lines, show_stream};
+use tpm_show_nv::{MOST_READ, show_nv};
 use tpm_types::{Alg, AuthValue, Selections};
 use tpm_wire::{Reads, Source};
 
@@ -152,6 +153,18 @@ fn show_file<'a, R: AllocGlobal + Files, W: Write>(
     ))
 }
 
+// Opens the bytes of a device's NV memory and tells what it holds.
+fn show_nv_file<'a, R: AllocGlobal + Files, W: Write>(
+    rt: &R,
+    out: &mut W,
+    path: &'a str,
+) -> Result<Status, Fault<'a>> {
+    match read_up_to(rt.alloc(), &mut opened(rt, path)?, MOST_READ) {
+        Ok(bytes) => Ok(show_nv(rt.alloc(), out, bytes.as_slice())?),
+        Err(fault) => Err(Fault::of_reading(rt, fault, path)),
+    }
+}
+
 // Runs the script on standard input.
 fn run_input<R: AllocGlobal + Input, W: Write>(
     rt: &R,
@@ -199,6 +212,7 @@ fn perform<'a, R: AllocGlobal + Files + Input + Print>(
             fields,
             json,
         } => return show_file(rt, out, path, binary, Telling { fields, json }),
+        Task::ShowNv { file } => return show_nv_file(rt, out, file),
         Task::Build {
             name,
             handles,

@@ -13,6 +13,7 @@ use tpm_lines::fault::ToolFault;
 use tpm_lines::status::Status;
 use tpm_script::run_script;
 use tpm_show::{Telling, build, show, show_fields, show_lines, show_stream};
+use tpm_show_nv::show_nv;
 use tpm_types::{Alg, AuthValue};
 use tpm_wire::SliceSource;
 
@@ -40,6 +41,7 @@ enum Call {
     ShowReplyFields(&'static str),
     ShowLines(&'static str, Telling),
     ShowStream(&'static [u8], Telling),
+    ShowNv(&'static str),
     Build(&'static str),
     Run(&'static str),
     Check(&'static str, Option<&'static str>),
@@ -58,8 +60,15 @@ const CAPTURE: &str = "80010000000c000001440000\n80010000000a00000000\n< 8001000
 // A command, and less than a frame.
 const STREAM: [u8; 13] = [0x80, 1, 0, 0, 0, 12, 0, 0, 1, 0x44, 0, 0, 0x80];
 
+// A device's NV memory with two counters, by Python's struct and hashlib.
+const NV: &str =
+    "564a4e560001000000000000000900000002000e01800001000b220600160000000800036b657900000000000000080022018000020004020200120014000102030405060708090a0b0c0d0e0f1011121300080000ac2a53e6794d51175ddaf7ebcfbc8a2adf4a9b0e49fbd605b012364d01178454";
+
+const NV_TEXT: &str =
+    "greatest 9\ncounter 1 01800001 hash sha256 attributes 22060016 policy - authorization yes value 8\ncounter 2 01800002 hash sha1 attributes 02020012 policy 000102030405060708090a0b0c0d0e0f10111213 authorization no value -\n";
+
 // Each call, and the whole text that it prints.
-const CALLS: [(Call, &str); 23] = [
+const CALLS: [(Call, &str); 25] = [
     (
         Call::Show(STARTUP),
         "command Startup size 12\nparameters 0000\n",
@@ -98,6 +107,8 @@ const CALLS: [(Call, &str); 23] = [
         Call::ShowStream(&STREAM, AS_JSON),
         "{\"number\":1,\"kind\":\"command\",\"command\":\"Startup\",\"size\":12,\"handles\":[],\"sessions\":[],\"parameters\":\"0000\",\"fields\":[{\"name\":\"startupType\",\"type\":\"TPM_SU\",\"value\":\"0000\"}]}\n{\"number\":2,\"fault\":\"cut short\",\"at\":12}\n",
     ),
+    (Call::ShowNv(NV), NV_TEXT),
+    (Call::ShowNv("564a4e56"), "refused 09a at 4\n"),
     (Call::Build("0000"), "80010000000c000001440000\n"),
     (Call::Build("0002"), "refused 1c4 at 10\n"),
     (Call::Run("power\n"), "power\n"),
@@ -149,6 +160,13 @@ fn list<W: Write>(alloc: Global, out: &mut W, log: &str) -> Result<Status, ToolF
     )
 }
 
+fn show_memory<W: Write>(alloc: Global, out: &mut W, hex: &str) -> Result<Status, ToolFault> {
+    match hex::decode(alloc, hex) {
+        Ok(bytes) => show_nv(alloc, out, bytes.as_slice()),
+        Err(_) => Err(ToolFault::Memory),
+    }
+}
+
 fn perform<W: Write>(alloc: Global, out: &mut W, call: Call) -> Result<Status, ToolFault> {
     match call {
         Call::Show(hex) => show(alloc, out, None, hex),
@@ -161,6 +179,7 @@ fn perform<W: Write>(alloc: Global, out: &mut W, call: Call) -> Result<Status, T
         Call::ShowStream(stream, how) => {
             show_stream(alloc, &mut SliceSource::new(stream), out, how)
         }
+        Call::ShowNv(hex) => show_memory(alloc, out, hex),
         Call::Build(parameters) => build(alloc, out, CommandCode::Startup, "-", "-", parameters),
         Call::Run(script) => run(alloc, out, script),
         Call::NotHexadecimal => not_hexadecimal(alloc, out),
