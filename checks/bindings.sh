@@ -219,7 +219,7 @@ for prefix, table in (("CC", v.COMMANDS), ("RC", v.CODES), ("ALG", hashes)):
         print(f"TPM_{prefix}_{name} {number}")
 for i, name in enumerate(v.LOG_FAULTS):
     print(f"TPM_LOG_{name.replace('_', '')} {i}")
-for name in ("BUFFER_BYTES", "OWNER_BYTES", "NONCE_BYTES", "REGISTERS_BYTES"):
+for name in ("BUFFER_BYTES", "OWNER_BYTES", "NONCE_BYTES", "REGISTERS_BYTES", "DEVICE_KEPT_BYTES"):
     print(f"TPM_{name} {getattr(v, name)}")
 for name in ("DONE", "REFUSED", "NO_ROOM", "NO_COMMAND", "FRAMER_MORE", "FRAMER_READY", "FRAMER_BROKEN", "EVENT",
              "CALLER_OPENED", "ATTEST_REFUSED", "ATTEST_NO_BANK", "ATTEST_REQUIREMENT", "POLICY_NO_DIGEST"):

@@ -132,6 +132,28 @@ class Devices(unittest.TestCase):
         device.power_cycle()
         self.assertEqual(device.execute(startup).hex(), "80010000000a00000000")
 
+    def test_a_device_is_made_again_of_what_it_kept(self):
+        device, answered = v.Device(b"owner", 40), "80010000000a00000000"
+        password = bytes.fromhex("0000000e" "40000009" "0000" "00" "0005") + b"owner"
+        defined = bytes.fromhex("8002" "00000033" "0000012a" "40000001") + password + bytes.fromhex(
+            "0001" "61" "000e" "01800001" "000b" "02020012" "0000" "0008")
+        increment = bytes.fromhex("8002" "00000024" "00000134" "40000001" "01800001") + password
+        session = bytes.fromhex("8001" "0000002b" "00000176" "40000007" "40000007" "0010") + bytes(16) + bytes.fromhex(
+            "0000" "01" "0010" "000b")
+        self.assertEqual(device.execute(bytes.fromhex("80010000000c000001440000")).hex(), answered)
+        for command in defined, increment, session:
+            self.assertEqual(device.execute(command)[6:10], bytes(4))
+        kept, counter = device.keep(), v.Counter(0x01800001, "sha256", 0x22020012, b"", True, 41)
+        self.assertEqual(device.session_hash(0x03000000), "sha256")
+        for again in v.Device.restore(b"owner", kept), v.Device.restore(b"owner", bytearray(kept)):
+            self.assertEqual((again.greatest, again.counters, again.keep()), (41, (counter,), kept))
+            self.assertEqual(again.session_hash(0x03000000), None)
+        for other, code, at in (kept[:-1] + bytes([kept[-1] ^ 1]), 0x09F, len(kept) - 32), (b"", 0x09A, 0):
+            with self.assertRaises(v.Refusal) as found:
+                v.Device.restore(b"owner", other)
+            self.assertEqual((found.exception.code, found.exception.at), (code, at))
+        self.assertRaises(v.Refusal, v.Device.restore, bytes(49), kept)
+
     def test_a_nonce_of_another_length_is_refused(self):
         for nonce in b"", bytes(63), bytes(65):
             self.assertRaises(ValueError, v.Device().execute, b"", nonce)

@@ -23,7 +23,7 @@ if TYPE_CHECKING:
     Selected = Union[Buffer, str]
 
 __all__ = [
-    "Attest", "BrokenStream", "BUFFER_BYTES", "Caller", "CODES", "COMMANDS", "Command", "Device", "Event", "Framer", "HASHES", "Kind",
+    "Attest", "BrokenStream", "BUFFER_BYTES", "Caller", "CODES", "COMMANDS", "Command", "Counter", "Device", "Event", "Framer", "HASHES", "Kind",
     "LibraryError", "LogFault", "NONCE_BYTES", "OWNER_BYTES", "Policy", "Refusal", "Registers", "Response", "Session", "Verdict",
     "build_command", "check", "check_quote", "code_name", "decode_attest", "decode_command", "decode_response", "events", "replay",
     "selection",
@@ -31,7 +31,7 @@ __all__ = [
 __version__ = "0.1.0"
 
 # As in vinjakwe.h, with which a test compares them.
-BUFFER_BYTES, OWNER_BYTES, NONCE_BYTES, REGISTERS_BYTES = 4096, 48, 64, 2400
+BUFFER_BYTES, OWNER_BYTES, NONCE_BYTES, REGISTERS_BYTES, DEVICE_KEPT_BYTES = 4096, 48, 64, 2400, 1026
 HASHES = {"sha1": 0x0004, "sha256": 0x000B, "sha384": 0x000C}
 COMMANDS = {
     "NV_UndefineSpace": 0x122, "NV_DefineSpace": 0x12A, "NV_Increment": 0x134, "PCR_Event": 0x13C, "PCR_Reset": 0x13D,
@@ -157,6 +157,11 @@ class _AttestFault(Structure):
     _fields_ = [("code", c_uint32), ("at", c_uint32), ("hash", c_uint16), ("pcr", c_uint32)]
 
 
+class _Counter(Structure):
+    _fields_ = [("index", c_uint32), ("hash", c_uint16), ("attributes", c_uint32), ("value", c_uint64), ("policy_len", c_size_t),
+                ("policy", c_uint8 * 48), ("has_auth", c_uint32)]
+
+
 class _Policy(Structure):
     _fields_ = [("hash", c_uint16), ("digest", c_uint8 * 48)]
 
@@ -185,7 +190,10 @@ def _load() -> tuple[ctypes.PyDLL, ctypes.CDLL]:
     rooms: list[tuple[str, Any, list[Any]]] = [(f"{state}_{what}", size, []) for state in states for what in ("size", "align")]
     for function, result, words in rooms + [
         ("device_init", number, [p, p, size, c_uint64]), ("device_power_cycle", None, [p]),
-        ("device_execute", size, [p, p, size, p, p, size]),
+        ("device_execute", size, [p, p, size, p, p, size]), ("device_keep", size, [p, p, size]),
+        ("device_restore", number, [p, p, size, p, size, refusal]), ("device_greatest", c_uint64, [p]),
+        ("device_session_hash", c_uint16, [p, number]), ("device_counters", size, [p]),
+        ("device_counter", number, [p, size, POINTER(_Counter)]),
         ("framer_init", None, [p]), ("framer_push", size, [p, p, size, count]), ("framer_frame", size, [p, p, size]),
         ("framer_next", None, [p]),
         ("command_cut", number, [p, size, POINTER(_CommandAreas), refusal]), ("command_decode", number, [p, size, refusal]),
@@ -583,6 +591,17 @@ class Policy:
         self._assert("auth_value")
 
 
+class Counter(NamedTuple):
+    """An NV counter that is defined: its hash by its name in HASHES, its attributes as they are now, and its value where it has one."""
+
+    index: int
+    hash: str
+    attributes: int
+    policy: bytes
+    has_auth: bool
+    value: int | None
+
+
 class Device:
     """A device in memory, which is not started. No counter of it has had a greater value than `greatest`."""
 
@@ -592,6 +611,38 @@ class Device:
         self._room = _room("device")
         if not _lend(_library.tpm_device_init, self._room, (owner,), greatest):
             raise ValueError(f"the owner's value has more than {OWNER_BYTES} bytes")
+
+    @classmethod
+    def restore(cls, owner: Buffer, kept: Buffer) -> Device:
+        """A device of the owner's value and of what `keep` gave, where a power cycle leaves the one that gave it. Raises Refusal."""
+        device, refusal = cls.__new__(cls), _Refusal()
+        device._room = _room("device")
+        if _lend(_library.tpm_device_restore, device._room, (owner,), (kept,), byref(refusal)) != _DONE:
+            raise Refusal(refusal.code, refusal.at)
+        return device
+
+    def keep(self) -> bytes:
+        """The bytes of NV memory, which hold authorization values."""
+        out = (c_uint8 * DEVICE_KEPT_BYTES)()
+        return bytes(out[:_library.tpm_device_keep(self._room, out, DEVICE_KEPT_BYTES)])
+
+    @property
+    def greatest(self) -> int:
+        """The greatest value that any counter of the device has had."""
+        return int(_library.tpm_device_greatest(self._room))
+
+    @property
+    def counters(self) -> tuple[Counter, ...]:
+        """The counters that are defined, in the order of their definitions."""
+        found = [_Counter() for _ in range(_library.tpm_device_counters(self._room))]
+        for which, it in enumerate(found):
+            _library.tpm_device_counter(self._room, which, byref(it))
+        return tuple(Counter(it.index, _HASH_NAMES[it.hash], it.attributes, bytes(it.policy[:it.policy_len]), bool(it.has_auth),
+                             it.value or None) for it in found)
+
+    def session_hash(self, session: int) -> str | None:
+        """The name in HASHES of the hash of the session of this handle, where it is loaded."""
+        return _HASH_NAMES.get(_library.tpm_device_session_hash(self._room, session))
 
     def power_cycle(self) -> None:
         _library.tpm_device_power_cycle(self._room)
