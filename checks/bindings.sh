@@ -181,7 +181,11 @@ make_layout() {
         function number(name, value) { printf "printf(\"%s %%lu\\n\", (unsigned long)%s);\n", name, value }
         BEGIN { print "#include \"vinjakwe.h\"\n#include <stdio.h>\nint main(void) {" }
         /^struct tpm_[a-z_]* \{/ &&
-            ($2 ~ /refusal|part|session|areas|attest|policy|log_(place|digest|event)/) { name = $2; size(name); next }
+            ($2 ~ /refusal|part|session|areas|attest|policy|counter|log_(place|digest|event)/) {
+            name = $2
+            size(name)
+            next
+        }
         /^}/ { name = "" }
         name && /;/ {
             for (i = 1; i <= NF; i++) if ($i ~ /;/) break
@@ -192,7 +196,7 @@ make_layout() {
             $2 !~ /^TPM_RC_([HPS1-7])$/ { number($2, $2) }
         /^#define TPM_(DONE|REFUSED|NO_ROOM|NO_COMMAND|EVENT|CALLER_OPENED|POLICY_NO_DIGEST) / ||
             /^#define TPM_(FRAMER_[A-Z]+|ATTEST_[A-Z_]+) / || /^#define TPM_ALG_SHA/ ||
-            /^#define TPM_(BUFFER|OWNER|NONCE|REGISTERS)_BYTES/ { number($2, $2) }
+            /^#define TPM_(BUFFER|OWNER|NONCE|REGISTERS|DEVICE_KEPT)_BYTES/ { number($2, $2) }
         /^#define TPM_LOG_/ { sub(/^TPM_LOG_/, "", $2); gsub(/_/, "", $2); number("TPM_LOG_" $2, $3) }
         END { print "return 0; }" }' include/vinjakwe.h >"$room/layout.c"
     "$compiler" -Iinclude -o "$room/c_layout" "$room/layout.c" && "$room/c_layout" | sort >"$room/layout"
@@ -208,7 +212,7 @@ for it, name in (
     (v._Refusal, "refusal"), (v._Part, "part"), (v._CommandSession, "command_session"),
     (v._CommandAreas, "command_areas"), (v._ResponseSession, "response_session"), (v._ResponseAreas, "response_areas"),
     (v._LogPlace, "log_place"), (v._LogDigest, "log_digest"), (v._LogEvent, "log_event"), (v._Attest, "attest"),
-    (v._AttestFault, "attest_fault"), (v._Policy, "policy"),
+    (v._AttestFault, "attest_fault"), (v._Policy, "policy"), (v._Counter, "counter"),
 ):
     print(f"tpm_{name} {ctypes.sizeof(it)}")
     for field, _ in it._fields_:

@@ -352,6 +352,13 @@ using() {
     [ "$("$room/using")" = "$("$room/readme")" ]
 }
 
+# keeping: the second lines of C in docs/USING.md, which keep a device.
+keeping() {
+    awk '/^```c$/ { inside = ++n == 2; next } /^```$/ { inside = 0 } inside' docs/USING.md >"$room/keeping.c"
+    [ -s "$room/keeping.c" ] &&
+        "$compiler" -std=c99 -O2 -Wall -Wextra -Werror -Iinclude -c -o "$room/keeping.o" "$room/keeping.c"
+}
+
 # build_kept: checks/kept.c as $room/kept, with the compiler's sanitizers where it has them; and the images of
 # checks/kept.txt, with what is said of them.
 build_kept() {
@@ -420,6 +427,7 @@ else
     holds "C programs with the C library are built" hosted
     holds "the lines of C in README.md print what it says" readme
     holds "the lines of C in docs/USING.md print the same" using
+    holds "the lines of C in docs/USING.md that keep a device are built" keeping
     holds "the hundred commands through C give the bytes of tpmtool" same_script
     holds "a stream of frames through C gives the bytes of tpmtool" same_stream
     holds "rows of commands and of responses through C" same_first_lines

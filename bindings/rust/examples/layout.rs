@@ -22,6 +22,7 @@ fn main() {
     tell!(tpm_attest, signer, nonce, clock, reset_count, restart_count, safe, firmware_version, selections, digest);
     tell!(tpm_attest_fault, code, at, hash, pcr);
     tell!(tpm_policy, hash, digest);
+    tell!(tpm_counter, index, hash, attributes, value, policy_len, policy, has_auth);
     for (number, name) in vinjakwe::LOG_FAULTS.iter().enumerate() {
         println!("TPM_LOG_{} {number}", name.to_uppercase());
     }

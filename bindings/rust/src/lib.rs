@@ -17,7 +17,7 @@ use core::fmt;
 pub use buffers::{build_command, Command, List, Response, Session};
 pub use logs::{check, check_quote, events, replay, Bank, Digest, Event, Events, Registers, Replay, Verdict};
 pub use quotes::{Attest, Policy, Selection};
-pub use states::{Caller, Device, Framer, Place, Room};
+pub use states::{Caller, Counter, Device, Framer, Place, Room};
 
 /// The version of this crate and of the library that it wants.
 pub const VERSION: &str = env!("CARGO_PKG_VERSION");
@@ -25,6 +25,8 @@ pub const VERSION: &str = env!("CARGO_PKG_VERSION");
 pub const BUFFER_BYTES: usize = c::TPM_BUFFER_BYTES;
 /// How many bytes the nonce of a command has that is handed to a device.
 pub const NONCE_BYTES: usize = c::TPM_NONCE_BYTES;
+/// How many bytes a device keeps at most.
+pub const DEVICE_KEPT_BYTES: usize = c::TPM_DEVICE_KEPT_BYTES;
 /// How many bytes the registers of all banks have.
 pub const REGISTERS_BYTES: usize = c::TPM_REGISTERS_BYTES;
 

@@ -1,5 +1,5 @@
 //! A framer, a device and a caller, each in memory of its own.
-use crate::{c, Fault, BUFFER_BYTES, NONCE_BYTES};
+use crate::{c, Bank, Fault, Refusal, BUFFER_BYTES, DEVICE_KEPT_BYTES, NONCE_BYTES};
 #[cfg(feature = "alloc")]
 use alloc::boxed::Box;
 use core::mem::{align_of, size_of};
@@ -83,6 +83,30 @@ impl<P: Place> Framer<P> {
     }
 }
 
+/// An NV counter that is defined.
+#[derive(Clone, Copy, Debug, PartialEq, Eq)]
+pub struct Counter {
+    /// Its index.
+    pub index: u32,
+    /// The number of its hash, TPM_ALG.
+    pub hash: u16,
+    /// Its attributes as they are now.
+    pub attributes: u32,
+    /// Whether it has an authorization value.
+    pub has_auth: bool,
+    /// Its value, where it was incremented.
+    pub value: Option<u64>,
+    policy: [u8; 48],
+    policy_len: usize,
+}
+
+impl Counter {
+    /// Its policy, which may be empty.
+    pub fn policy(&self) -> &[u8] {
+        self.policy.get(..self.policy_len).unwrap_or(&[])
+    }
+}
+
 /// A device in memory.
 pub struct Device<P: Place>(P);
 
@@ -91,6 +115,11 @@ impl Device<Box<Room>> {
     /// As `new`, of a device that owns its room.
     pub fn boxed(owner: &[u8], greatest: u64) -> Result<Self, Fault> {
         Device::new(Box::new(Room::new()), owner, greatest)
+    }
+
+    /// As `restore`, of a device that owns its room.
+    pub fn restore_boxed(owner: &[u8], kept: &[u8]) -> Result<Self, Fault> {
+        Device::restore(Box::new(Room::new()), owner, kept)
     }
 }
 
@@ -104,6 +133,52 @@ impl<P: Place> Device<P> {
             let made = c::tpm_device_init(place, owner.as_ptr(), owner.len(), greatest);
             if made == 0 { Err(Fault::Length) } else { Ok(Device(room)) }
         }
+    }
+
+    /// A device of this owner and of the bytes that `keep` gave, where a power cycle leaves the one that gave them; or Refused.
+    pub fn restore(mut room: P, owner: &[u8], kept: &[u8]) -> Result<Self, Fault> {
+        let mut refusal = c::tpm_refusal::default();
+        // SAFETY: as for a new one.
+        let answer = unsafe {
+            let place = room.fit(c::tpm_device_size(), c::tpm_device_align())?;
+            c::tpm_device_restore(place, owner.as_ptr(), owner.len(), kept.as_ptr(), kept.len(), &mut refusal)
+        };
+        if answer == c::TPM_DONE { Ok(Device(room)) } else { Err(Fault::Refused(Refusal { code: refusal.code, at: refusal.at })) }
+    }
+
+    /// The bytes of NV memory, which hold authorization values.
+    pub fn keep<'o>(&mut self, out: &'o mut [u8; DEVICE_KEPT_BYTES]) -> &'o [u8] {
+        // SAFETY: a device lies there, and the room is there for the call.
+        let count = unsafe { c::tpm_device_keep(self.0.place(), out.as_mut_ptr(), out.len()) };
+        out.get(..count).unwrap_or(&[])
+    }
+
+    /// The greatest value that any counter of the device has had.
+    pub fn greatest(&mut self) -> u64 {
+        // SAFETY: a device lies there.
+        unsafe { c::tpm_device_greatest(self.0.place()) }
+    }
+
+    /// The hash of the session of this handle, where it is loaded.
+    pub fn session_hash(&mut self, session: u32) -> Option<Bank> {
+        // SAFETY: a device lies there.
+        Bank::from_number(unsafe { c::tpm_device_session_hash(self.0.place(), session) })
+    }
+
+    /// The counter of this place among those that are defined, in the order of their definitions.
+    pub fn counter(&mut self, which: usize) -> Option<Counter> {
+        let mut it = c::tpm_counter::default();
+        // SAFETY: a device lies there, and the view is there for the call.
+        let answer = unsafe { c::tpm_device_counter(self.0.place(), which, &mut it) };
+        (answer == c::TPM_DONE).then_some(Counter {
+            index: it.index,
+            hash: it.hash,
+            attributes: it.attributes,
+            has_auth: it.has_auth != 0,
+            value: (it.value != 0).then_some(it.value),
+            policy: it.policy,
+            policy_len: it.policy_len,
+        })
     }
 
     /// The power is switched off and on: the counters stay.

@@ -2,8 +2,8 @@
 use std::fmt::Write;
 use std::fs;
 use vinjakwe::{
-    check, check_quote, check_version, events, replay, Attest, Bank, Device, Fault, LogFault, Policy, Replay, Room, Selection, Verdict,
-    BUFFER_BYTES, NONCE_BYTES,
+    check, check_quote, check_version, events, replay, Attest, Bank, Device, Fault, LogFault, Policy, Replay, Room, Selection, Verdict, BUFFER_BYTES,
+    DEVICE_KEPT_BYTES, NONCE_BYTES,
 };
 
 fn read(name: &str) -> Vec<u8> {
@@ -102,6 +102,35 @@ fn starts_once<P: vinjakwe::Place>(mut device: Device<P>) {
     assert_eq!(device.execute(&startup, &[1; NONCE_BYTES], &mut out), unhex("80010000000a00000100"));
     device.power_cycle();
     assert_eq!(device.execute(&startup, &[2; NONCE_BYTES], &mut out), unhex("80010000000a00000000"));
+}
+
+#[test]
+fn a_device_is_made_again_of_what_it_kept() {
+    let (mut room, mut second, mut out) = (Room::new(), Room::new(), [0; BUFFER_BYTES]);
+    let mut device = Device::new(&mut room, b"owner", 40).unwrap();
+    for command in [
+        "80010000000c000001440000",
+        "8002000000330000012a400000010000000e4000000900000000056f776e6572000161000e01800001000b0202001200000008",
+        "8002000000240000013440000001018000010000000e4000000900000000056f776e6572",
+        "80010000002b0000017640000007400000070010000000000000000000000000000000000000010010000b",
+    ] {
+        assert_eq!(device.execute(&unhex(command), &[7; NONCE_BYTES], &mut out)[6..10], [0; 4]);
+    }
+    let (mut kept, mut again) = ([0; DEVICE_KEPT_BYTES], [0; DEVICE_KEPT_BYTES]);
+    let kept = device.keep(&mut kept);
+    assert_eq!(device.session_hash(0x0300_0000), Some(Bank::Sha256));
+    let mut other = Device::restore(&mut second, b"owner", kept).unwrap();
+    assert_eq!((other.greatest(), other.session_hash(0x0300_0000)), (41, None));
+    let counter = other.counter(0).unwrap();
+    assert_eq!((counter.index, counter.hash, counter.attributes), (0x0180_0001, 0x000B, 0x2202_0012));
+    assert_eq!((counter.policy(), counter.has_auth, counter.value), (&[][..], true, Some(41)));
+    assert!(other.counter(1).is_none());
+    assert_eq!(other.keep(&mut again), kept);
+    for (owner, bytes) in [(&[0; 49][..], kept), (b"owner", &kept[1..]), (b"owner", &[])] {
+        assert!(matches!(Device::restore(&mut Room::new(), owner, bytes), Err(Fault::Refused(_))));
+    }
+    #[cfg(feature = "alloc")]
+    assert_eq!(Device::restore_boxed(b"owner", kept).unwrap().greatest(), 41);
 }
 
 #[test]
