@@ -1,18 +1,67 @@
 //! A device that is kept: its NV memory as bytes, and the device that is made of them again (Part 1, "NV Memory").
 
-ghost use Rattle.std.specs.Prelude.{◌≡◌, ◌∷◌, ◌≤◌, length, option_map, IfOk};
+ghost use Rattle.std.specs.Prelude.{◌≡◌, ◌↔◌, ℕ, List, false, ◌∷◌, ◌≤◌, length, option_map, IfOk};
 ghost use Rattle.tpm_wire.specs.Path.{Decodes, Spells};
 ghost use Rattle.tpm_wire.specs.Spelling.{spelling};
+ghost use Rattle.tpm_wire.specs.Token.{at_start};
+ghost use Rattle.tpm_buffer.specs.Commands.{header as header_layout};
 ghost use Rattle.tpm_model.specs.Steps.{History, PowerCycle, Origin};
 ghost use Rattle.tpm_model.specs.Sessions.{loaded};
 ghost use Rattle.tpm_model.specs.Counters.{nv_memory};
 ghost use Rattle.tpm_model.specs.Kept.{kept_memory, restored};
+ghost use Rattle.tpm_model.specs.Answers.{answer, by_grammar, next};
+ghost use Rattle.tpm_model.specs.NvChanges.{writes_nv as writes_nv_of, names_writer as names_writer_of};
+ghost use Rattle.tpm_model.specs.NvChanges.{is_success as is_success_of, changes_nv as changes_nv_of};
 ghost use Rattle.tpm_device.specs.Stands.{holds, Stands};
 
 use crate::device::Device;
+use tpm_buffer::header;
+use tpm_commands::CommandCode;
 use tpm_store::{Counter, Counters, KEPT_BYTES};
 use tpm_types::{Alg, AuthValue, SessionHandle};
 use tpm_wire::{Buffer, Refusal, Wire};
+
+// The command changes NV memory where it is done (Part 3, 31.3, 31.4 and 31.8).
+fn writes_nv(code: CommandCode) -> bool
+    ensures { result ≡ writes_nv_of code }
+{
+    matches!(
+        code,
+        CommandCode::NvDefineSpace | CommandCode::NvUndefineSpace | CommandCode::NvIncrement
+    )
+}
+
+// The bytes begin with the header of such a command, and are as many as it says.
+fn names_writer(command: &[u8]) -> bool
+    ensures { result ≡ names_writer_of (by_grammar header_layout (at_start command.now)) }
+{
+    match header(command) {
+        Ok(headed) => writes_nv(headed.code()),
+        Err(_) => false,
+    }
+}
+
+// The response has a header, and its code is 0.
+fn is_success(response: &[u8]) -> bool
+    ensures { result ≡ is_success_of response.now }
+{
+    if response.len() < 10 {
+        return false;
+    }
+    u32::from_be_bytes([response[6], response[7], response[8], response[9]]) == 0
+}
+
+/// Whether the device that answered this command with this response has changed its NV memory: the response's
+/// code is 0, and the command is TPM2_NV_DefineSpace, TPM2_NV_UndefineSpace or TPM2_NV_Increment. A host keeps
+/// the bytes of `put_nv` before it hands out such a response, and need not for any other.
+pub fn changes_nv(command: &[u8], response: &[u8]) -> bool
+    ensures value { result ≡ changes_nv_of command.now response.now }
+    ensures exact { (o : Origin) (h : History) (nonce : List ℕ) →
+        response.now ≡ answer o h command.now nonce →
+        (result ≡ false) ↔ (nv_memory o (next o h command.now nonce) ≡ nv_memory o h) }
+{
+    is_success(response) && names_writer(command)
+}
 
 impl Device {
     /// Writes the bytes of NV memory into this buffer, whatever is in it: 1,026 at most. At every history at

@@ -17,4 +17,5 @@ mod reply;
 mod sessions;
 
 pub use device::Device;
+pub use kept::changes_nv;
 pub use laws::{answers_are_the_run, no_counter_goes_back, no_replay};

@@ -22,3 +22,4 @@ pub mod OwnCode
 pub mod ReplyBytes
 pub mod Mixed
 pub mod Starting
+pub mod NvChanges

@@ -23,7 +23,7 @@ use Rattle.tpm_model.proofs.Runs.{after-append}
 
 -- ---- the value of an index after each change of NV memory
 
-abbrev value_in : List Counter → ℕ → Option ℕ
+abbrev pub value_in : List Counter → ℕ → Option ℕ
 value_in counters i = value_of (counter_in counters i)
 
 value_defined : (auth : List ℕ) (public : NvPublic) (counters : List Counter) (i : ℕ) → value_in (counters ++ defined auth public ∷ []) i ≡ value_in counters i
@@ -72,7 +72,7 @@ value_raised j most (c ∷ counters) i = go (has_index j c) (has_index i c) refl
     go false false t u later = rw (t, u) later
 
 -- the value that an increment gives an index that is defined
-value_given : (i most : ℕ) (counters : List Counter) (c : Counter) → counter_in counters i ≡ Some c
+pub value_given : (i most : ℕ) (counters : List Counter) (c : Counter) → counter_in counters i ≡ Some c
     → value_in (with_increment i most counters) i ≡ Some (next_value most (value_in counters i))
 value_given i most [] c e = absurd (let z : ⊥ = cc in z)
 value_given i most (d ∷ counters) c e =
@@ -149,7 +149,7 @@ floor_here most (Some v) w b e = let k : v ≡ w = cc in (omega (arith, b, k), o
 abbrev greatest_at : Origin → History → ℕ
 greatest_at o h = (nv_memory o h).greatest
 
-was_there : (greatest : ℕ) (there : Option Counter) (by : NvAuthHandle) (i : ℕ) (reply : ReplyBody)
+pub was_there : (greatest : ℕ) (there : Option Counter) (by : NvAuthHandle) (i : ℕ) (reply : ReplyBody)
     → then_reply (increment greatest there by i) replies.NvIncrement ≡ Ok reply → (c : Counter) × (there ≡ Some c)
 was_there greatest there by i reply e =
     let a = bind_ok (increment greatest there by i) _ reply e in

@@ -9,7 +9,7 @@ use Rattle.tpm_model.specs.Answers.{Done, outcome, answered, answer}
 use Rattle.tpm_model.specs.Premises.{code_in}
 use Rattle.tpm_model.proofs.Refused.{refused_with}
 
-zero_told : (d : Done) → code_in (answered (Ok d)) ≡ 0
+pub zero_told : (d : Done) → code_in (answered (Ok d)) ≡ 0
 unfolding response response_front response_tag response_code command_size
 zero_told d = refl
 

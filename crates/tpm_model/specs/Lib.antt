@@ -11,6 +11,7 @@ pub mod Kept
 pub mod Answers
 pub mod Runs
 pub mod Premises
+pub mod NvChanges
 pub mod InStep
 pub mod Callers
 pub mod Examples

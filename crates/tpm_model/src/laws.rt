@@ -1,6 +1,6 @@
 //! What holds of every run. Each law stands over the definitions alone.
 
-ghost use Rattle.std.specs.Prelude.{◌≡◌, true, ℕ, ◌<◌, ◌^◌, List, [], ◌∷◌, ◌++◌, Some, Ok, Err, ◌≤◌, length};
+ghost use Rattle.std.specs.Prelude.{◌≡◌, ◌↔◌, true, false, ℕ, ◌<◌, ◌^◌, List, [], ◌∷◌, ◌++◌, Some, Ok, Err, ◌≤◌, length};
 ghost use Rattle.tpm_wire.specs.Token.{Here};
 ghost use Rattle.tpm_wire.specs.Path.{Spells};
 ghost use Rattle.tpm_types.specs.declared.handle_sets.NvAuthHandle.{NvAuthHandle};
@@ -25,6 +25,7 @@ ghost use Rattle.tpm_model.specs.Kept.{kept_memory, restored};
 ghost use Rattle.tpm_model.specs.Present.{Present, present};
 ghost use Rattle.tpm_model.specs.Authorization.{check_evidence};
 ghost use Rattle.tpm_model.specs.Answers.{Presented, presented, Done, outcome, answer, next};
+ghost use Rattle.tpm_model.specs.NvChanges.{changes_nv};
 ghost use Rattle.tpm_model.specs.InStep.{CallerSession, InStep};
 ghost use Rattle.tpm_model.specs.Callers.{started_with, Seal, sealed_command, sealed, waiting, Code, Opened, opened};
 ghost use Rattle.tpm_model.specs.Callers.{given_up};
@@ -99,6 +100,14 @@ pub fn restored_is_cycled()
         × (run o [] (es ++ Cycled ∷ fs)
         ≡ run o [] es ++ run o (after o [] (es ++ Cycled ∷ [])) fs)
         × (after o [] (es ++ Cycled ∷ fs) ≡ after o (after o [] (es ++ Cycled ∷ [])) fs) }
+{}
+
+/// A command and its answer tell whether NV memory was changed: where they don't say so it is as before, and
+/// otherwise another.
+pub fn nv_changes_are_told()
+    ensures { (o : Origin) (h : History) (bytes n : List ℕ) →
+        (changes_nv bytes (answer o h bytes n) ≡ false)
+        ↔ (nv_memory o (next o h bytes n) ≡ nv_memory o h) }
 {}
 
 /// A policy serves once: a session that has authorized a command, and is still there, asserts nothing.
