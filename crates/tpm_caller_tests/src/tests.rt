@@ -2,6 +2,7 @@
 
 mod both_ends;
 mod commands;
+mod kept;
 mod replies;
 mod sessions;
 mod tpm;

@@ -1,6 +1,7 @@
 //! What holds of every run. Each law stands over the definitions alone.
 
-ghost use Rattle.std.specs.Prelude.{◌≡◌, ◌↔◌, true, false, ℕ, ◌<◌, ◌^◌, List, [], ◌∷◌, ◌++◌, Some, Ok, Err, ◌≤◌, length};
+ghost use Rattle.std.specs.Prelude.{◌≡◌, ◌↔◌, true, false, ℕ, ◌<◌, ◌^◌, List, [], ◌∷◌, ◌++◌, Some, Ok, Err, ◌≤◌};
+ghost use Rattle.std.specs.Prelude.{length};
 ghost use Rattle.tpm_wire.specs.Token.{Here};
 ghost use Rattle.tpm_wire.specs.Path.{Spells};
 ghost use Rattle.tpm_types.specs.declared.handle_sets.NvAuthHandle.{NvAuthHandle};
