@@ -77,19 +77,23 @@ fn changes_of_nv_memory_are_told(rt: HostRuntime) {
     assert!(&rt; device.greatest() == 2);
 }
 
+// Whether the call tells a change, of a command and a response.
+fn tells(rt: &impl Abort, command: &str, response: &str) -> bool {
+    changes_nv(
+        bytes(rt, command).as_slice(),
+        bytes(rt, response).as_slice(),
+    )
+}
+
 #[test]
 fn what_is_no_command_or_no_response_changes_nothing(rt: HostRuntime) {
-    let command = bytes(&rt, "8001 0000000a 00000134");
-    let response = bytes(&rt, "8001 0000000a 00000000");
-    let command = command.as_slice();
-    let response = response.as_slice();
-    assert!(&rt; changes_nv(command, response));
-    assert!(&rt; !changes_nv(&command[..9], response));
-    assert!(&rt; !changes_nv(command, &response[..9]));
-    assert!(&rt; !changes_nv(command, &[]));
-    assert!(&rt; !changes_nv(&[], response));
-    let longer = bytes(&rt, "8001 0000000b 00000134");
-    assert!(&rt; !changes_nv(longer.as_slice(), response));
+    let done = "80010000000a00000000";
+    assert!(&rt; tells(&rt, "80010000000a00000134", done));
+    assert!(&rt; !tells(&rt, "80010000000a000001", done));
+    assert!(&rt; !tells(&rt, "80010000000b00000134", done));
+    assert!(&rt; !tells(&rt, "-", done));
+    assert!(&rt; !tells(&rt, "80010000000a00000134", "80010000000a000000"));
+    assert!(&rt; !tells(&rt, "80010000000a00000134", "-"));
 }
 
 // The made device has the counter and its value, and none of the sessions.
@@ -122,7 +126,8 @@ fn a_device_is_made_again(rt: HostRuntime) {
 
 #[test]
 fn other_bytes_make_no_device(rt: HostRuntime) {
-    let memory = bytes(&rt, KEPT);
-    let found = Device::from_nv(&owner(&rt), &memory.as_slice()[..76]).err();
+    let mut memory = bytes(&rt, KEPT);
+    memory.pop();
+    let found = Device::from_nv(&owner(&rt), memory.as_slice()).err();
     assert!(&rt; found == Some(Refusal { code: 0x9A, at: 45 }));
 }
