@@ -3,7 +3,7 @@
 ghost use Rattle.std.specs.Prelude.{◌≡◌, ◌≤◌, [], ◌∷◌, length};
 ghost use Rattle.std.specs.Borrow.{sem};
 ghost use Rattle.tpm_types.specs.Limits.{digest_bytes};
-ghost use Rattle.tpm_model.specs.Steps.{History, Origin, PowerCycle};
+ghost use Rattle.tpm_model.specs.Steps.{History, Origin, PowerCycle, new_origin};
 ghost use Rattle.tpm_device.specs.Stands.{Stands};
 ghost use Rattle.tpm_c.specs.Written.{IsIn};
 ghost use Rattle.tpm_c.specs.Devices.{device_at, room_for, made_at, whether_fits, after, written, IsAnswered};
@@ -19,7 +19,7 @@ use tpm_wire::Buffer;
 #[unsafe(no_mangle)]
 pub unsafe extern "C" fn tpm_device_init(place: *mut u8, owner: &[u8], greatest: u64) -> u32
     requires* { sem 𝓛 (room_for owner.now place) }
-    ensures* { sem 𝓛 (made_at (record { owner = owner.now; greatest = greatest }) place)
+    ensures* { sem 𝓛 (made_at (new_origin owner.now greatest) place)
         ∗ ⌜ result ≡ whether_fits owner.now ⌝ }
 {
     if owner.len() > DIGEST_BYTES {
@@ -31,7 +31,7 @@ pub unsafe extern "C" fn tpm_device_init(place: *mut u8, owner: &[u8], greatest:
 
 fn made(owner: &[u8], greatest: u64) -> Device
     requires { length owner.now ≤ digest_bytes }
-    ensures { Stands (record { owner = owner.now; greatest = greatest }) [] result }
+    ensures { Stands (new_origin owner.now greatest) [] result }
 {
     match AuthValue::new(owner) {
         Some(owner) => Device::new(&owner, greatest),

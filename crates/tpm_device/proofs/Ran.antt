@@ -1,13 +1,15 @@
 -- What a device answers to events is the model's run.
-use Rattle.std.proofs.Common.{◌≡◌, ℕ, ◌<◌, List, [], ◌∷◌, ◌++◌, Some, Result, Ok, Err, refl, sym, ap, subst, ◌∙◌, arith}
+use Rattle.std.proofs.Common.{◌≡◌, ℕ, ◌<◌, List, [], ◌∷◌, ◌++◌, Some, None, Result, Ok, Err, refl, sym, ap, subst, ◌∙◌, arith}
 use Rattle.tpm_types.specs.declared.handle_sets.NvAuthHandle.{NvAuthHandle}
 use Rattle.tpm_commands.specs.declared.command.CommandBody.TheVariants.{NvIncrement}
 use Rattle.tpm_model.specs.Steps.{History, Origin, PowerCycle}
 use Rattle.tpm_model.specs.Counters.{counter_in, value_of, value_at}
+use Rattle.tpm_model.specs.Kept.{IsFair}
 use Rattle.tpm_model.specs.Present.{Present, present}
 use Rattle.tpm_model.specs.Answers.{Done, outcome, answer, next}
 use Rattle.tpm_model.specs.Runs.{Event, Given, Cycled, after, run}
 use Rattle.tpm_model.specs.Premises.{code_in, IsAccepted, HasSessionMac, NoncesDiffer, NoCollision}
+use Rattle.tpm_model.proofs.Fair.{fair_after}
 use Rattle.tpm_model.proofs.Refused.{refused_with}
 use Rattle.tpm_model.proofs.Replay.{twice}
 use Rattle.tpm_model.proofs.Rising.{more_than_had, more_than_made}
@@ -56,9 +58,9 @@ not_twice o a b c d e es fs gs rs ss bytes n m r s st first once second again no
 -- ---- no counter goes back
 
 pub rises : (o : Origin) (a b c d : Device) (es fs : List Event) (rs ss : List (List ℕ)) (bytes n r : List ℕ) (x : Done) (by : NvAuthHandle) (i w : ℕ) →
-    Stands o [] a → Answers a es rs b → value_on b i ≡ Some w → Answers b fs ss c
+    IsFair o.nv → Stands o [] a → Answers a es rs b → value_on b i ≡ Some w → Answers b fs ss c
     → Executes c bytes n r d → outcome (holds c) bytes n ≡ Ok x → x.command.body ≡ NvIncrement by i → (v : ℕ) × (value_on d i ≡ Some v) × (w < v)
-rises o a b c d es fs rs ss bytes n r x by i w st first had second last done body =
+rises o a b c d es fs rs ss bytes n r x by i w fair st first had second last done body =
     let here = after o [] es in
     let one = as_the_model o [] a b es rs st first in
     let two = as_the_model o here b c fs ss one.1 second in
@@ -66,18 +68,25 @@ rises o a b c d es fs rs ss bytes n r x by i w st first had second last done bod
     let place : there ≡ after o here fs = after-append o [] es fs in
     let stands : Stands o there c = subst (λ (h : History). Stands o h c) (sym place) two.1 in
     let value : value_at o here i ≡ Some w = sym (ap (λ (p : Present). value_of (counter_in p.nv.counters i)) one.1) ∙ had in
-    let more = more_than_had o es fs bytes n x by i w value (ap (λ (p : Present). outcome p bytes n) (sym stands) ∙ done) body in
+    let more = more_than_had o es fs bytes n x by i w fair value (ap (λ (p : Present). outcome p bytes n) (sym stands) ∙ done) body in
     let ends : Stands o (next o there bytes n) d = last.stands o there stands in
     let at_end : after o [] (es ++ fs ++ Given bytes n ∷ []) ≡ next o there bytes n = after-append o [] (es ++ fs) (Given bytes n ∷ []) in
     (more.0, ap (λ (p : Present). value_of (counter_in p.nv.counters i)) ends ∙ ap (λ (h : History). value_at o h i) (sym at_end) ∙ more.1, more.2)
 
 pub rises_from_the_start : (o : Origin) (a b c : Device) (es : List Event) (rs : List (List ℕ)) (bytes n r : List ℕ) (x : Done) (by : NvAuthHandle) (i : ℕ) →
-    Stands o [] a → Answers a es rs b
-    → Executes b bytes n r c → outcome (holds b) bytes n ≡ Ok x → x.command.body ≡ NvIncrement by i → (v : ℕ) × (value_on c i ≡ Some v) × (o.greatest < v)
-rises_from_the_start o a b c es rs bytes n r x by i st first last done body =
+    Stands o [] a → value_on a i ≡ None → Answers a es rs b
+    → Executes b bytes n r c → outcome (holds b) bytes n ≡ Ok x → x.command.body ≡ NvIncrement by i → (v : ℕ) × (value_on c i ≡ Some v) × (o.nv.greatest < v)
+rises_from_the_start o a b c es rs bytes n r x by i st none first last done body =
     let here = after o [] es in
     let one = as_the_model o [] a b es rs st first in
-    let more = more_than_made o es bytes n x by i (ap (λ (p : Present). outcome p bytes n) (sym one.1) ∙ done) body in
+    let nothing : value_at o [] i ≡ None = sym (ap (λ (p : Present). value_of (counter_in p.nv.counters i)) st) ∙ none in
+    let more = more_than_made o es bytes n x by i nothing (ap (λ (p : Present). outcome p bytes n) (sym one.1) ∙ done) body in
     let ends : Stands o (next o here bytes n) c = last.stands o here one.1 in
     let at_end : after o [] (es ++ Given bytes n ∷ []) ≡ next o here bytes n = after-append o [] es (Given bytes n ∷ []) in
     (more.0, ap (λ (p : Present). value_of (counter_in p.nv.counters i)) ends ∙ ap (λ (h : History). value_at o h i) (sym at_end) ∙ more.1, more.2)
+
+-- ---- NV memory stays fair
+
+pub stays_fair : (o : Origin) (a b : Device) (es : List Event) (rs : List (List ℕ)) → IsFair o.nv → Stands o [] a → Answers a es rs b → IsFair (holds b).nv
+stays_fair o a b es rs fair st ran =
+    subst IsFair (sym (ap (λ (p : Present). p.nv) (as_the_model o [] a b es rs st ran).1)) (fair_after o es fair)

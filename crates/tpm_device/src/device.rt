@@ -3,7 +3,7 @@
 ghost use Rattle.std.specs.Prelude.{◌≡◌, ◌<◌, [], ◌∷◌, length, Ok, Err, IfOk, IfErr, OnOk, OnErr};
 ghost use Rattle.tpm_commands.specs.Parameters.{params_code};
 ghost use Rattle.tpm_buffer.specs.Commands.{body_from};
-ghost use Rattle.tpm_model.specs.Steps.{History, PowerCycle, Origin};
+ghost use Rattle.tpm_model.specs.Steps.{History, PowerCycle, Origin, new_origin};
 ghost use Rattle.tpm_model.specs.Answers.{presented as presented_of, performed as performed_of, outcome as outcome_of};
 ghost use Rattle.tpm_model.specs.Answers.{answered, answer, next, with_outcome};
 ghost use Rattle.tpm_model.specs.Premises.{code_in};
@@ -57,7 +57,7 @@ impl Device {
     /// A device that is not started. The owner has this authorization value, of at most 48 bytes,
     /// and no counter of the device has had a greater value than this.
     pub fn new(owner: &AuthValue, greatest: u64) -> Self
-        ensures { Stands (record { owner = owner.now; greatest = greatest }) [] result }
+        ensures { Stands (new_origin owner.now greatest) [] result }
     {
         Device {
             owner: owner.duplicate(),

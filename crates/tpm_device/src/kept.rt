@@ -1,6 +1,6 @@
 //! A device that is kept: its NV memory as bytes, and the device that is made of them again (Part 1, "NV Memory").
 
-ghost use Rattle.std.specs.Prelude.{◌≡◌, ◌↔◌, ℕ, List, false, ◌∷◌, ◌≤◌, length, option_map, IfOk};
+ghost use Rattle.std.specs.Prelude.{◌≡◌, ◌↔◌, ℕ, List, false, [], ◌∷◌, ◌≤◌, length, option_map, IfOk};
 ghost use Rattle.tpm_wire.specs.Path.{Decodes, Spells};
 ghost use Rattle.tpm_wire.specs.Spelling.{spelling};
 ghost use Rattle.tpm_wire.specs.Token.{at_start};
@@ -8,7 +8,7 @@ ghost use Rattle.tpm_buffer.specs.Commands.{header as header_layout};
 ghost use Rattle.tpm_model.specs.Steps.{History, PowerCycle, Origin};
 ghost use Rattle.tpm_model.specs.Sessions.{loaded};
 ghost use Rattle.tpm_model.specs.Counters.{nv_memory};
-ghost use Rattle.tpm_model.specs.Kept.{kept_memory, restored};
+ghost use Rattle.tpm_model.specs.Kept.{IsFair, kept_memory, restored};
 ghost use Rattle.tpm_model.specs.Answers.{answer, by_grammar, next};
 ghost use Rattle.tpm_model.specs.NvChanges.{writes_nv as writes_nv_of, names_writer as names_writer_of};
 ghost use Rattle.tpm_model.specs.NvChanges.{is_success as is_success_of, changes_nv as changes_nv_of};
@@ -84,12 +84,16 @@ impl Device {
     }
 
     /// A device of the owner's authorization value and of the bytes of an NV memory, which is not started, has
-    /// no session, and has the counters of these bytes. Where they spell the NV memory of another device, of
-    /// the same owner's value, it stands where a power cycle leaves that one. For other bytes the response code
-    /// and the position of their first fault, as `Counters::from_bytes` has them.
+    /// no session, and has the counters of these bytes. Wherever they come from, their NV memory is fair, and the
+    /// device stands at the beginning of a run from it. Where they spell the NV memory of another device, of the
+    /// same owner's value, it stands where a power cycle leaves that one. For other bytes the response code and the
+    /// position of their first fault, as `Counters::from_bytes` has them.
     pub fn from_nv(owner: &AuthValue, bytes: &[u8]) -> Result<Self, Refusal>
         ensures decodes { Decodes kept_memory (λ d. (holds d).nv) bytes.now result }
         ensures made { IfOk result (λ d. holds d ≡ restored owner.now (holds d).nv) }
+        ensures fair { IfOk result (λ d. IsFair (holds d).nv) }
+        ensures begins { IfOk result (λ d.
+            Stands (record { owner = owner.now; nv = (holds d).nv }) [] d) }
         ensures stands { IfOk result (λ d. (o : Origin) (h : History) →
             o.owner ≡ owner.now →
             Spells kept_memory (nv_memory o h) bytes.now →

@@ -1,10 +1,11 @@
-//! What holds of every run of a device, from a new one on. Each law stands over what `execute` and
-//! `power_cycle` promise.
+//! What holds of every run of a device, from a new one on, or from one that was made of bytes. Each law stands
+//! over what `execute` and `power_cycle` promise.
 
-ghost use Rattle.std.specs.Prelude.{◌≡◌, ◌<◌, ℕ, List, [], ◌∷◌, ◌++◌, Some, Ok};
+ghost use Rattle.std.specs.Prelude.{◌≡◌, ◌<◌, ℕ, List, [], ◌∷◌, ◌++◌, Some, None, Ok};
 ghost use Rattle.tpm_types.specs.declared.handle_sets.NvAuthHandle.{NvAuthHandle};
 ghost use Rattle.tpm_commands.specs.declared.command.CommandBody.TheVariants.{NvIncrement};
 ghost use Rattle.tpm_model.specs.Steps.{History, Origin};
+ghost use Rattle.tpm_model.specs.Kept.{IsFair};
 ghost use Rattle.tpm_model.specs.Answers.{Done, outcome};
 ghost use Rattle.tpm_model.specs.Runs.Event.{Given};
 ghost use Rattle.tpm_model.specs.Runs.{Event, after, run};
@@ -23,7 +24,7 @@ pub fn answers_are_the_run()
         (responses ≡ run o h es) × Stands o (after o h es) new }
 {}
 
-/// No replay: where the nonces that a new device is given differ pairwise in their first 16 bytes,
+/// No replay: where the nonces that a device is given, from its origin on, differ pairwise in their first 16 bytes,
 /// and no two different texts that are checked have the same HMAC, it answers no buffer with a
 /// session's HMAC twice with code 0.
 pub fn no_replay()
@@ -42,12 +43,13 @@ pub fn no_replay()
         ⊥ }
 {}
 
-/// No counter goes back: an increment that is done leaves a value greater than each that the index
-/// had before on the device, and greater than the number that made the device, whatever was
-/// undefined, defined again or cycled in between.
+/// No counter goes back: on a device whose NV memory was fair at its origin, an increment that is done leaves a value
+/// greater than each that the index had before on the device. Where the index had none at the origin, it is
+/// greater than the origin's greatest value. What was undefined, defined again or cycled in between changes nothing.
 pub fn no_counter_goes_back()
     ensures had { (o : Origin) (a b c d : Device) (es fs : List Event) (rs ss : List (List ℕ))
         (bytes n r : List ℕ) (x : Done) (by : NvAuthHandle) (i w : ℕ) →
+        IsFair o.nv →
         Stands o [] a →
         Answers a es rs b →
         value_on b i ≡ Some w →
@@ -59,9 +61,19 @@ pub fn no_counter_goes_back()
     ensures made { (o : Origin) (a b c : Device) (es : List Event) (rs : List (List ℕ))
         (bytes n r : List ℕ) (x : Done) (by : NvAuthHandle) (i : ℕ) →
         Stands o [] a →
+        value_on a i ≡ None →
         Answers a es rs b →
         Executes b bytes n r c →
         outcome (holds b) bytes n ≡ Ok x →
         x.command.body ≡ NvIncrement by i →
-        (v : ℕ) × (value_on c i ≡ Some v) × (o.greatest < v) }
+        (v : ℕ) × (value_on c i ≡ Some v) × (o.nv.greatest < v) }
+{}
+
+/// NV memory stays fair: where it was at the origin of a device, it is after each run.
+pub fn nv_memory_stays_fair()
+    ensures { (o : Origin) (a b : Device) (es : List Event) (rs : List (List ℕ)) →
+        IsFair o.nv →
+        Stands o [] a →
+        Answers a es rs b →
+        IsFair (holds b).nv }
 {}

@@ -18,4 +18,4 @@ mod sessions;
 
 pub use device::Device;
 pub use kept::changes_nv;
-pub use laws::{answers_are_the_run, no_counter_goes_back, no_replay};
+pub use laws::{answers_are_the_run, no_counter_goes_back, no_replay, nv_memory_stays_fair};

@@ -1,11 +1,11 @@
 -- What commands do to NV memory leaves it as a device may have it.
-use Rattle.std.proofs.Common.{◌≡◌, ℕ, ◌+◌, ◌*◌, ◌/◌, ◌%◌, ◌^◌, ◌-◌, ◌<◌, ◌≤◌, min, max, List, [], ◌∷◌, ◌++◌, length}
-use Rattle.std.proofs.Common.{Ok, Err, Option, Some, None, Bool, true, false, not, bit_and, bit_or, is_some, refl, sym, ap}
+use Rattle.std.proofs.Common.{◌≡◌, ℕ, ◌+◌, ◌*◌, ◌^◌, ◌-◌, ◌<◌, ◌≤◌, min, max, List, [], ◌∷◌, ◌++◌, length}
+use Rattle.std.proofs.Common.{Ok, Option, Some, None, Bool, true, false, not, bit_and, bit_or, is_some, refl, sym, ap}
 use Rattle.std.proofs.Common.{◌∙◌, subst, arith}
 use Rattle.std.proofs.lemmas.Nat.Bits.{same_from_bits, bit_at_and, bit_at_or, bit_at-zero, bit_at-lt, and_high}
 use Rattle.std.proofs.lemmas.Bool.{and_parts, and_from, eq-eqb}
 use Rattle.std.proofs.lemmas.Bool.Decides.{nat_tests}
-use Rattle.std.specs.Prelude.{◌==◌, ◌&&◌, if◌then◌else◌, IfSome, nat_lt}
+use Rattle.std.specs.Prelude.{◌==◌, ◌&&◌, if◌then◌else◌, nat_lt}
 use Rattle.std.specs.Int.{bit_at}
 use Rattle.tpm_wire.specs.Reading.{◌>>=◌}
 use Rattle.tpm_wire.specs.ResponseCodes.{rc_attributes, rc_nv_defined, rc_nv_range, rc_size}
@@ -14,12 +14,11 @@ use Rattle.tpm_types.specs.declared.tpms.NvPublic.{NvPublic}
 use Rattle.tpm_types.specs.Alg.{digest_len}
 use Rattle.tpm_types.specs.Tpma.{mask, nv_type, is_counter, is_written, with_written, is_writable, is_readable}
 use Rattle.tpm_hmac.specs.Sessions.{trim}
-use Rattle.tpm_hmac.proofs.Trimming.{trim-trim}
 use Rattle.tpm_model.specs.Counters.{Counter, has_index, counter_in, without, next_value, value_of, written, incremented}
 use Rattle.tpm_model.specs.Counters.{with_increment}
 use Rattle.tpm_model.specs.Authorization.{refuse, is_empty}
 use Rattle.tpm_model.specs.Actions.{is_definable, counter_size}
-use Rattle.tpm_model.specs.Kept.{is_kept_attrs, check_kept_public, check_kept_auth, IsKept, is_above, check_counters}
+use Rattle.tpm_model.specs.Kept.{is_kept_attrs, IsKept, is_above, check_counters}
 
 -- ---- attributes
 
@@ -119,11 +118,11 @@ incremented_kept c v k above = record {
 
 -- ---- among counters
 
-refused_none : (b : Bool) (code : ℕ) (u : Unit {0}) → refuse b code ≡ Ok u → b ≡ false
+pub refused_none : (b : Bool) (code : ℕ) (u : Unit {0}) → refuse b code ≡ Ok u → b ≡ false
 refused_none true code u e = absurd (let z : ⊥ = cc in z)
 refused_none false code u e = refl
 
-is_none : (x : Option Counter) → is_some x ≡ false → x ≡ None
+pub is_none : (x : Option Counter) → is_some x ≡ false → x ≡ None
 is_none None e = refl
 is_none (Some c) e = absurd (let z : ⊥ = cc in z)
 
@@ -142,12 +141,12 @@ found_after i [] ys none = refl
 found_after i (x ∷ xs) ys none = let both = or_others i x (counter_in xs i) none in rw both.0 (found_after i xs ys both.1)
 
 -- what is checked of a counter before others
-record Checked (greatest : ℕ) (c : Counter) (counters : List Counter) : Type 0 where
-  once : counter_in counters c.public.index ≡ None
-  below : is_above greatest c.value ≡ false
-  others : check_counters greatest counters ≡ Ok tt
+pub record Checked (greatest : ℕ) (c : Counter) (counters : List Counter) : Type 0 where
+  pub once : counter_in counters c.public.index ≡ None
+  pub below : is_above greatest c.value ≡ false
+  pub others : check_counters greatest counters ≡ Ok tt
 
-checked : (greatest : ℕ) (c : Counter) (counters : List Counter) → check_counters greatest (c ∷ counters) ≡ Ok tt → Checked greatest c counters
+pub checked : (greatest : ℕ) (c : Counter) (counters : List Counter) → check_counters greatest (c ∷ counters) ≡ Ok tt → Checked greatest c counters
 checked greatest c counters e =
     let a = bind_ok (refuse (is_some (counter_in counters c.public.index)) rc_nv_defined) _ tt e in
     let b = bind_ok (refuse (is_above greatest c.value) rc_nv_range) _ tt a.2 in

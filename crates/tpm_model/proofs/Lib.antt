@@ -4,6 +4,7 @@ pub mod Runs
 pub mod Rising
 pub mod Restored
 pub mod Kept
+pub mod Fair
 pub mod Spelled
 pub mod Slots
 pub mod Nonces

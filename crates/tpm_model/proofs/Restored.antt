@@ -10,7 +10,7 @@ use Rattle.tpm_model.specs.Present.{present}
 use Rattle.tpm_model.specs.Kept.{kept_memory, restored}
 use Rattle.tpm_model.specs.Answers.{answer, next}
 use Rattle.tpm_model.specs.Runs.Event.{Given, Cycled}
-use Rattle.tpm_model.specs.Runs.{Event, happens, after, run}
+use Rattle.tpm_model.specs.Runs.{Event, after, run}
 use Rattle.tpm_model.proofs.Runs.{after-append}
 
 pub restored_stands : (o : Origin) (h : History) (nv : NvMemory) (bytes : List ℕ) → Spells kept_memory (nv_memory o h) bytes

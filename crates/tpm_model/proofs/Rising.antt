@@ -13,12 +13,14 @@ use Rattle.tpm_commands.specs.declared.response.ReplyBody.TheVariants as replies
 use Rattle.tpm_model.specs.Steps.{History, Accepted, Origin}
 use Rattle.tpm_model.specs.Counters.{Counter, has_index, counter_in, without, next_value, with_increment, value_of}
 use Rattle.tpm_model.specs.Counters.{NvMemory, defined, nv_by, nv_memory, value_at}
+use Rattle.tpm_model.specs.Kept.{is_above, check_counters, IsFair}
 use Rattle.tpm_model.specs.Present.{present}
 use Rattle.tpm_model.specs.Answers.{Done, outcome}
 use Rattle.tpm_model.specs.Runs.Event.{Given}
 use Rattle.tpm_model.specs.Runs.{Event, after}
 use Rattle.tpm_model.specs.Actions.{defined_counter, increment, then_reply, action}
 use Rattle.tpm_model.proofs.Accepted.{passed, along, next_is, was_some}
+use Rattle.tpm_model.proofs.Kept.{checked}
 use Rattle.tpm_model.proofs.Runs.{after-append}
 
 -- ---- the value of an index after each change of NV memory
@@ -140,6 +142,21 @@ below_more most more (Some v) f = omega (arith, f)
 below : IsKept IsBelow
 below = record { gone = λ most value f. tt; more = below_more; raised = λ most value f. omega arith }
 
+-- So it is in a fair NV memory.
+value_below : (greatest i : ℕ) (counters : List Counter) → check_counters greatest counters ≡ Ok tt → IsBelow greatest (value_in counters i)
+value_below greatest i [] e = tt
+value_below greatest i (c ∷ counters) e =
+    let h = checked greatest c counters e in go (has_index i c) (not_above greatest c.value h.below) (value_below greatest i counters h.others)
+  where
+    not_above : (greatest : ℕ) (value : Option ℕ) → is_above greatest value ≡ false → IsBelow greatest value
+    not_above greatest None e = tt
+    not_above greatest (Some v) e = grind (arith, nat_tests, e)
+
+    go : (b : Bool) → IsBelow greatest c.value → IsBelow greatest (value_in counters i)
+        → IsBelow greatest (value_of (if b then Some c else counter_in counters i))
+    go true here later = here
+    go false here later = later
+
 floor_here : (most : ℕ) (value : Option ℕ) (w : ℕ) → IsBelow most value → value ≡ Some w → IsFloor w most value
 floor_here most None w b e = absurd (let k : ⊥ = cc in k)
 floor_here most (Some v) w b e = let k : v ≡ w = cc in (omega (arith, b, k), omega (arith, k))
@@ -173,24 +190,26 @@ left_by o es bytes n d by i e is =
     ∙ gives_next o (after o [] es) i by n d (passed (present o (after o [] es)) bytes n d e).act is
 
 pub more_than_had : (o : Origin) (es fs : List Event) (bytes n : List ℕ) (d : Done) (by : NvAuthHandle) (i w : ℕ)
-    → value_at o (after o [] es) i ≡ Some w
+    → IsFair o.nv → value_at o (after o [] es) i ≡ Some w
     → outcome (present o (after o [] (es ++ fs))) bytes n ≡ Ok d → d.command.body ≡ bodies.NvIncrement by i
     → (v : ℕ) × (value_at o (after o [] (es ++ fs ++ Given bytes n ∷ [])) i ≡ Some v) × (w < v)
-more_than_had o es fs bytes n d by i w had e is =
+more_than_had o es fs bytes n d by i w fair had e is =
     let h = after o [] es in
     let g = after o [] (es ++ fs) in
-    let held = kept_along (IsFloor w) (floor w) o i fs h (floor_here (greatest_at o h) (value_at o h i) w (kept_along IsBelow below o i es [] tt) had) in (
+    let few = kept_along IsBelow below o i es [] (value_below o.nv.greatest i o.nv.counters fair.counters) in
+    let held = kept_along (IsFloor w) (floor w) o i fs h (floor_here (greatest_at o h) (value_at o h i) w few had) in (
       next_value (greatest_at o g) (value_at o g i),
       left_by o (es ++ fs) bytes n d by i e is,
       (subst (λ (l : History). HoldsOf (IsFloor w) i (nv_memory o l)) (sym (after-append o [] es fs)) held).1,
     )
 
 pub more_than_made : (o : Origin) (es : List Event) (bytes n : List ℕ) (d : Done) (by : NvAuthHandle) (i : ℕ)
-    → outcome (present o (after o [] es)) bytes n ≡ Ok d → d.command.body ≡ bodies.NvIncrement by i
-    → (v : ℕ) × (value_at o (after o [] (es ++ Given bytes n ∷ [])) i ≡ Some v) × (o.greatest < v)
-more_than_made o es bytes n d by i e is =
+    → value_at o [] i ≡ None → outcome (present o (after o [] es)) bytes n ≡ Ok d → d.command.body ≡ bodies.NvIncrement by i
+    → (v : ℕ) × (value_at o (after o [] (es ++ Given bytes n ∷ [])) i ≡ Some v) × (o.nv.greatest < v)
+more_than_made o es bytes n d by i none e is =
+    let m = o.nv.greatest in
     let g = after o [] es in (
       next_value (greatest_at o g) (value_at o g i),
       left_by o es bytes n d by i e is,
-      (kept_along (IsFloor o.greatest) (floor o.greatest) o i es [] (omega arith, omega arith)).1,
+      (kept_along (IsFloor m) (floor m) o i es [] (omega arith, subst (λ (x : Option ℕ). m < next_value m x) (sym none) (omega arith))).1,
     )

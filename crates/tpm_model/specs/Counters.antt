@@ -6,18 +6,10 @@ use Rattle.tpm_types.specs.Tpma.{with_written}
 use Rattle.tpm_commands.specs.declared.command.CommandBody.{CommandBody}
 use Rattle.tpm_commands.specs.declared.command.CommandBody.TheVariants as bodies
 use Rattle.tpm_hmac.specs.Sessions.{trim}
+pub use Rattle.tpm_model.specs.NvMemory.{Counter, NvMemory}
 use Rattle.tpm_model.specs.Steps.{History, PowerCycle, Accepted, Origin}
 
 -- ---- counters
-
--- an index that is defined
-pub record Counter : Type 0 where
-  -- its public area, with the attributes as they are now
-  pub public : NvPublic
-  -- without trailing zeros
-  pub auth : List ℕ
-  -- its value, where it was incremented since its definition
-  pub value : Option ℕ
 
 abbrev pub has_index : ℕ → Counter → Bool
 has_index i c = c.public.index == i
@@ -58,12 +50,6 @@ value_of (Some c) = c.value
 
 -- ---- NV memory
 
-pub record NvMemory : Type 0 where
-  -- those that are defined, in the order of their definitions
-  pub counters : List Counter
-  -- the greatest of the number that made the device and of all values that increments gave
-  pub greatest : ℕ
-
 -- a counter with this definition, not incremented yet
 abbrev pub defined : (auth : List ℕ) → NvPublic → Counter
 defined auth public = record { public = public; auth = trim auth; value = None }
@@ -78,9 +64,9 @@ nv_by (bodies.NvIncrement by index) nv = record {
 }
 nv_by _ nv = nv
 
--- the NV memory after the commands of a history: power cycles leave it
+-- the NV memory after the commands of a history, from that of the origin on: power cycles leave it
 abbrev pub nv_memory : Origin → History → NvMemory
-nv_memory o [] = record { counters = []; greatest = o.greatest }
+nv_memory o [] = o.nv
 nv_memory o (PowerCycle ∷ h) = nv_memory o h
 nv_memory o (Accepted c r n ∷ h) = nv_by c.body (nv_memory o h)
 

@@ -2,7 +2,7 @@
 use Prim.Native.String.{String}
 use Rattle.std.specs.Prelude.{◌≡◌, ℕ, ◌+◌, ◌-◌, ◌*◌, ◌^◌, not, nat_le, ◌==◌, List, [], ◌∷◌, ◌++◌, length, replicate}
 use Rattle.std.specs.Prelude.{filter, flat_map, codes, Some, if◌then◌else◌}
-use Rattle.tpm_model.specs.Steps.{History, Origin}
+use Rattle.tpm_model.specs.Steps.{History, Origin, new_origin}
 use Rattle.tpm_model.specs.Registers.{changes, update_counter}
 use Rattle.tpm_model.specs.Counters.{value_at}
 use Rattle.tpm_model.specs.Answers.{answer}
@@ -25,11 +25,11 @@ hex text = bytes_of (filter (λ c. not (c == 32)) (codes text))
 
 -- an empty owner value, and no counter before
 abbrev pub new : Origin
-new = record { owner = []; greatest = 0 }
+new = new_origin [] 0
 
 -- a counter has had the greatest value of 64 bits
 abbrev pub worn : Origin
-worn = record { owner = []; greatest = 2 ^ 64 - 1 }
+worn = new_origin [] (2 ^ 64 - 1)
 
 -- the k-th nonce: the number k in 16 bytes, four times
 abbrev pub nonce_front : ℕ → List ℕ

@@ -1,7 +1,7 @@
 -- A device that is kept: what its NV memory has to be, the bytes that spell it, and the device that is made of them
 -- again (Part 1, "NV Memory"; the bytes are this profile's).
-use Rattle.std.specs.Prelude.{◌≡◌, ℕ, ◌+◌, ◌<◌, Bool, false, not, ◌&&◌, ◌==◌, nat_lt, bytes_eq, List, [], ◌∷◌, length}
-use Rattle.std.specs.Prelude.{map, Option, Some, None, is_some, IfSome, Result, Ok, Err, if◌then◌else◌}
+use Rattle.std.specs.Prelude.{◌≡◌, ℕ, ◌<◌, ◌≤◌, Bool, false, not, ◌&&◌, ◌==◌, nat_lt, bytes_eq, List, [], ◌∷◌, length}
+use Rattle.std.specs.Prelude.{map, All, Option, Some, None, is_some, IfSome, Result, Ok, Err, if◌then◌else◌}
 use Rattle.tpm_wire.specs.Reading.{◌>>=◌}
 use Rattle.tpm_wire.specs.Layout.Form.{number, text, field, done}
 use Rattle.tpm_wire.specs.Layout.{either}
@@ -63,6 +63,13 @@ check_counters greatest (c ∷ counters) = do
   _ ← refuse (is_some (counter_in counters c.public.index)) rc_nv_defined
   _ ← refuse (is_above greatest c.value) rc_nv_range
   check_counters greatest counters
+
+-- What the NV memory of a device is: at most eight counters, each one that a definition and increments leave, no index
+-- twice, and no value above the greatest.
+pub record IsFair (nv : NvMemory) : Type 0 where
+  pub few : length nv.counters ≤ most_counters
+  pub counters : check_counters nv.greatest nv.counters ≡ Ok tt
+  pub each : All IsKept nv.counters
 
 -- ---- the bytes
 

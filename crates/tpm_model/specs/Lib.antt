@@ -1,3 +1,4 @@
+pub mod NvMemory
 pub mod Steps
 pub mod Registers
 pub mod Policies

@@ -4,6 +4,7 @@ use Rattle.tpm_commands.specs.declared.command.Command.{Command}
 use Rattle.tpm_commands.specs.declared.command.CommandBody.{CommandBody}
 use Rattle.tpm_commands.specs.declared.command.CommandBody.TheVariants as bodies
 use Rattle.tpm_buffer.specs.Responses.{Reply}
+use Rattle.tpm_model.specs.NvMemory.{NvMemory, new_nv}
 
 -- an accepted command, with its reply and the nonce that was handed in, or a power cycle
 pub data Step : Type 0 where
@@ -14,10 +15,14 @@ pub data Step : Type 0 where
 abbrev pub History : Type 0
 History = List Step
 
--- what made the device: the owner's authorization value, and the greatest value that a counter of it has had
+-- what made the device: the owner's authorization value, and the NV memory that it began with
 pub record Origin : Type 0 where
   pub owner : List ℕ
-  pub greatest : ℕ
+  pub nv : NvMemory
+
+-- the origin of a new device, of which no counter has had a greater value than this
+abbrev pub new_origin : (owner : List ℕ) → (greatest : ℕ) → Origin
+new_origin owner greatest = record { owner = owner; nv = new_nv greatest }
 
 -- a TPM2_Startup
 abbrev pub starts : CommandBody → Bool

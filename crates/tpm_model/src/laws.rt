@@ -1,6 +1,6 @@
 //! What holds of every run. Each law stands over the definitions alone.
 
-ghost use Rattle.std.specs.Prelude.{◌≡◌, ◌↔◌, true, false, ℕ, ◌<◌, ◌^◌, List, [], ◌∷◌, ◌++◌, Some, Ok, Err, ◌≤◌};
+ghost use Rattle.std.specs.Prelude.{◌≡◌, ◌↔◌, true, false, ℕ, ◌<◌, ◌^◌, List, [], ◌∷◌, ◌++◌, Some, None, Ok, Err, ◌≤◌};
 ghost use Rattle.std.specs.Prelude.{length};
 ghost use Rattle.tpm_wire.specs.Token.{Here};
 ghost use Rattle.tpm_wire.specs.Path.{Spells};
@@ -21,8 +21,9 @@ ghost use Rattle.tpm_hmac.specs.Sessions.{trim};
 ghost use Rattle.tpm_model.specs.Steps.{History, PowerCycle, Origin};
 ghost use Rattle.tpm_model.specs.Policies.{policy_of};
 ghost use Rattle.tpm_model.specs.Sessions.{Session, slot_of, session_at};
-ghost use Rattle.tpm_model.specs.Counters.{NvMemory, nv_memory, value_at};
-ghost use Rattle.tpm_model.specs.Kept.{kept_memory, restored};
+ghost use Rattle.tpm_model.specs.NvMemory.{NvMemory, new_nv};
+ghost use Rattle.tpm_model.specs.Counters.{nv_memory, value_at};
+ghost use Rattle.tpm_model.specs.Kept.{IsFair, kept_memory, restored};
 ghost use Rattle.tpm_model.specs.Present.{Present, present};
 ghost use Rattle.tpm_model.specs.Authorization.{check_evidence};
 ghost use Rattle.tpm_model.specs.Answers.{Presented, presented, Done, outcome, answer, next};
@@ -66,11 +67,13 @@ pub fn no_replay()
         ⊥ }
 {}
 
-/// No counter goes back: an increment that is accepted leaves a value greater than each that the index had before, and
-/// greater than the number that made the device, whatever was undefined, defined again or cycled in between.
+/// No counter goes back: on a device whose NV memory was fair at its origin, an increment that is accepted leaves a
+/// value greater than each that the index had before, at the origin too. Where the index had none there, it is
+/// greater than the origin's greatest value. What was undefined, defined again or cycled in between changes nothing.
 pub fn no_counter_goes_back()
     ensures had { (o : Origin) (es fs : List Event) (bytes n : List ℕ) →
         (d : Done) (by : NvAuthHandle) (i w : ℕ) →
+        IsFair o.nv →
         value_at o (after o [] es) i ≡ Some w →
         outcome (present o (after o [] (es ++ fs))) bytes n ≡ Ok d →
         d.command.body ≡ NvIncrement by i →
@@ -79,11 +82,22 @@ pub fn no_counter_goes_back()
         × (w < v) }
     ensures made { (o : Origin) (es : List Event) (bytes n : List ℕ) →
         (d : Done) (by : NvAuthHandle) (i : ℕ) →
+        value_at o [] i ≡ None →
         outcome (present o (after o [] es)) bytes n ≡ Ok d →
         d.command.body ≡ NvIncrement by i →
         (v : ℕ)
         × (value_at o (after o [] (es ++ Given bytes n ∷ [])) i ≡ Some v)
-        × (o.greatest < v) }
+        × (o.nv.greatest < v) }
+{}
+
+/// NV memory stays fair: that of a new device is, all that bytes spell is, and where it was at the origin it is after
+/// each run.
+pub fn nv_memory_stays_fair()
+    ensures new { (greatest : ℕ) → IsFair (new_nv greatest) }
+    ensures spelled { (nv : NvMemory) (bytes : List ℕ) → Spells kept_memory nv bytes → IsFair nv }
+    ensures stays { (o : Origin) (es : List Event) →
+        IsFair o.nv →
+        IsFair (nv_memory o (after o [] es)) }
 {}
 
 /// A device that is kept: what is made of the owner's value and of the bytes of a device's NV memory is what a
@@ -94,6 +108,8 @@ pub fn restored_is_cycled()
         Spells kept_memory (nv_memory o h) bytes →
         Spells kept_memory nv bytes →
         restored o.owner nv ≡ present o (PowerCycle ∷ h) }
+    ensures begins { (owner : List ℕ) (nv : NvMemory) →
+        restored owner nv ≡ present (record { owner = owner; nv = nv }) [] }
     ensures runs { (o : Origin) (es fs : List Event) (nv : NvMemory) (bytes : List ℕ) →
         Spells kept_memory (nv_memory o (after o [] es)) bytes →
         Spells kept_memory nv bytes →

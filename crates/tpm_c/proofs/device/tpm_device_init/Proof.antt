@@ -12,7 +12,7 @@ use Rattle.tpm_c.proofs.Lending.{stayed, goes, others, ends, entry, in_block, ma
 use Rattle.tpm_c.proofs.device.made.Met.{met}
 use Rattle.tpm_c.specs.Devices.{fits, room_if, new_if, whether_fits}
 use Rattle.tpm_types.specs.Limits.{digest_bytes}
-use Rattle.tpm_model.specs.Steps.{Origin}
+use Rattle.tpm_model.specs.Steps.{Origin, new_origin}
 use Rattle.tpm_device.specs.declared.device.Device.{Device}
 use Rattle.tpm_device.specs.contracts.device.Device.{the_row}
 use Rattle.tpm_device.specs.Stands.{Stands}
@@ -29,7 +29,7 @@ tpm_device_init_spec 𝓤 𝓛 𝓜 𝓡 wired =
     (λ κs. (rawptr_vals, (shr_slice_vals, (uint_vals w64, tt))))
     (λ κs. (rawptr_Tells, (shr_slice_Tells (named 0) κs.0 u8, (uint_Tells w64, tt))))
     (λ κs qs bounds a g are.
-    let owner = a.1.0.now in let origin : Origin = record { owner = owner; greatest = a.1.1.0 } in
+    let owner = a.1.0.now in let origin : Origin = new_origin owner a.1.1.0 in
     let vals : Valss (types_at (others f.signature.params) κs) = (shr_slice_vals a.1.0, (uint_vals w64 a.1.1.0, tt)) in
     let y : Ptr → W.Ghost = λ p. ((κs, qs, bounds, (p, a.1), (rawptr_vals p, vals)), g) in
     let unsaid : ent 𝓤 (emp 𝓤) (sem 𝓛 (lasts f.ended κs a (tt, (tt, (tt, tt))))) =
