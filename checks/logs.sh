@@ -78,6 +78,17 @@ while read -r log kind at; do
     ran "$log has no records" 1 events "$logs/$log.log"
 done <"$logs/faults.txt"
 
+for told in "$logs"/*.secure; do
+    log=${told%.secure}
+    cp "$told" "$room/out.wanted"
+    status=$(awk '$1 == "secure-boot" && $3 != "on" { status = 1 } END { print status + 0 }' "$told")
+    checked "Secure Boot by ${log##*/}" "$status" "$log.log" --secure-boot
+done
+echo 'secure-boot no bank' >"$room/out.wanted"
+checked "Secure Boot without a bank" 1 "$logs/no_bank.log" --secure-boot
+echo 'log Truncated at 211' >"$room/out.wanted"
+checked "Secure Boot by a log that is none" 1 "$logs/cut_by_a_byte.log" --secure-boot
+
 unjudged=$(ls "$logs" | sed -n 's/\.log$//p' | while read -r log; do
     [ -e "$logs/$log.registers" ] || grep -q -e "^$log " "$logs/faults.txt" || echo "$log"
 done)

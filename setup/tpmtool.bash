@@ -19,7 +19,7 @@ _tpmtool() {
             build,-* | explain,-*) words='--help' ;;
             build,*) words=$commands ;;
             run,-*) words='--owner --greatest --help' ;;
-            check,-*) words='--registers --quote --attest --nonce --require --hash --help' ;;
+            check,-*) words='--registers --quote --attest --nonce --require --hash --secure-boot --help' ;;
             events,-*) words='--register --places --digests --json --help' ;;
             check,* | events,*) files=yes ;;
             esac

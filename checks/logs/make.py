@@ -4,6 +4,7 @@
     NAME.log        the log, after the PC Client Platform Firmware Profile, "Event Logging"
     NAME.registers  all registers after it, by hashlib, a line each as `tpmtool check` prints them
     faults.txt      for each log that is none: its name, the kind of its first fault, and how many bytes precede it
+    NAME.secure     whether Secure Boot was on, as `tpmtool check --secure-boot` prints it
 
 No value is read from the program. It writes the same bytes each time.
 """
@@ -224,6 +225,89 @@ def faults():
         file.writelines(rows)
 
 
+DRIVER_CONFIG, ACTION, AUTHORITY = 0x80000001, 0x80000007, 0x800000E0
+GLOBAL = uuid.UUID("8be4df61-93ca-11d2-aa0d-00e098032b8c").bytes_le
+DATABASE = uuid.UUID("d719b2cb-3d3a-4596-a3bc-dad00e67656f").bytes_le
+
+
+def efi_variable(guid, name, value):
+    return guid + struct.pack("<QQ", len(name), len(value)) + name.encode("utf-16-le") + value
+
+
+class Boot(Log):
+    """A log of register 7, with the lines that are printed behind its state."""
+
+    def __init__(self, algorithms=None):
+        super().__init__([0x000B] if algorithms is None else algorithms)
+        self.lines = []
+
+    def config(self, guid, name, value, told=False):
+        if told:
+            of_value = hashlib.sha256(value).hexdigest()
+            self.lines.append(f"{name} at {len(self.bytes)} size {len(value)} sha256 {of_value}\n")
+        return self.record(7, DRIVER_CONFIG, efi_variable(guid, name, value))
+
+    def keys(self, switch=b"\1", pk=b"platform key", kek=b"exchange keys", db=b"allowed"):
+        self.config(GLOBAL, "SecureBoot", switch)
+        self.config(GLOBAL, "PK", pk, True)
+        self.config(GLOBAL, "KEK", kek, True)
+        self.config(DATABASE, "db", db, True)
+        return self.config(DATABASE, "dbx", b"", True)
+
+    def part(self, value=bytes(4)):
+        return self.record(7, SEPARATOR, value)
+
+    def authority(self, name, byte_more=False):
+        self.lines.append(f"authority at {len(self.bytes)} variable {name}\n")
+        data = efi_variable(DATABASE, name, b"an entry of " + name.encode())
+        return self.record(7, AUTHORITY, data + b"\n" if byte_more else data, data)
+
+    def told(self, name, state):
+        self.tell(name, "".join(f"secure-boot {BANKS[a][0]} {state}\n" + "".join(self.lines) for a in self.algorithms))
+
+    def unknown(self, name, kind, at):
+        self.tell(name, "".join(f"secure-boot {BANKS[a][0]} unknown {kind} at {at}\n" for a in self.algorithms))
+
+    def tell(self, name, text):
+        self.write(name)
+        with open(name + ".secure", "w") as file:
+            file.write(text)
+
+
+def boots():
+    Boot(THREE).keys().part().authority("db").authority("Shim", byte_more=True).told("secure_on", "on")
+    Boot().keys(switch=b"\0").part(b"\xff" * 4).told("secure_off", "off")
+    Boot().part().told("secure_unset", "unset")
+    protection = Boot().record(7, ACTION, b"DMA Protection Disabled").keys().part().authority("db")
+    protection.lines.insert(0, "dma-protection disabled\n")
+    protection.told("secure_unprotected", "on")
+
+    def fault(name, kind, boot, behind):
+        at = len(boot.bytes)
+        behind(boot)
+        boot.unknown("secure_" + name, kind, at)
+
+    # What is relabelled leaves the same value in the register.
+    data = efi_variable(GLOBAL, "Other", b"1")
+    fault("config_as_authority", "OtherType", Boot(), lambda b: b.record(7, AUTHORITY, data).keys().part())
+    fault("variable_as_action", "OtherType", Boot(), lambda b: b.record(7, ACTION, data).keys().part())
+    fault("authority_as_config", "Late", Boot().keys().part(), lambda b: b.record(7, DRIVER_CONFIG, data))
+    fault("second_separator", "Late", Boot().keys().part(), lambda b: b.part())
+    fault("separator_as_other", "OtherType", Boot().keys(), lambda b: b.record(7, IPL, bytes(4)).part())
+
+    other = efi_variable(GLOBAL, "SecureBoot", b"\0")
+    fault("not_measured", "NotMeasured", Boot(), lambda b: b.record(7, DRIVER_CONFIG, data, other).keys().part())
+    fault("no_variable", "NoVariable", Boot(), lambda b: b.record(7, DRIVER_CONFIG, data + b"\0").keys().part())
+    fault("twice", "Twice", Boot().keys(), lambda b: b.config(GLOBAL, "SecureBoot", b"\1").part().authority("db"))
+    fault("other_value", "OtherValue", Boot(), lambda b: b.keys(switch=b"\2").part())
+    fault("debugger", "Debugger", Boot().keys(), lambda b: b.record(7, ACTION, b"UEFI Debug Mode").part())
+    fault("bad_separator", "BadSeparator", Boot().keys(), lambda b: b.part(b"\1\0\0\0"))
+    fault("no_separator", "NoSeparator", Boot().keys(), lambda b: None)
+    fault("no_key", "NoKey", Boot().keys(db=b""), lambda b: b.part().authority("db"))
+    fault("no_authority", "NoAuthority", Boot().keys().part(), lambda b: None)
+
+
 if __name__ == "__main__":
     accepted()
     faults()
+    boots()

@@ -22,7 +22,7 @@ use Rattle.clap.proofs.WalkLemmas.{first_value-rows}
 use Rattle.tpm_text_values.specs.Numbers.{IsDecimal}
 use Rattle.tpm_text_values.specs.Owner.{IsOwner}
 use Rattle.tpm_args.specs.declared.task.Task.TheVariants.{Show, ShowCapture, ShowNv, Build, Run, Explain}
-use Rattle.tpm_args.specs.declared.task.Task.TheVariants.{Check, Events}
+use Rattle.tpm_args.specs.declared.task.Task.TheVariants.{Check, SecureBoot, Events}
 use Rattle.tpm_args.specs.declared.task.Task.{Task}
 use Rattle.tpm_args.specs.declared.stop.Stop.TheVariants.{Help, Usage, Memory}
 use Rattle.tpm_args.specs.declared.stop.Stop.{Stop}
@@ -79,20 +79,32 @@ agrees name v w same (Run owner greatest) h = (
 agrees name v w same (Explain code) h = (h.0, subst (λ (x : Option Text). IsCode x code) (same (codes "CODE")) h.1)
 agrees name v w same (Check log registers quote attest sent required hash) h = (
   h.0,
-  sym (same (codes "LOG")) ∙ h.1,
-  sym (same (codes "registers")) ∙ h.2,
-  sym (same (codes "quote")) ∙ h.3,
-  sym (same (codes "attest")) ∙ h.4,
-  sym (same (codes "nonce")) ∙ h.5,
+  sym (ap is_given (same (codes "secure-boot"))) ∙ h.1,
+  sym (same (codes "LOG")) ∙ h.2,
+  sym (same (codes "registers")) ∙ h.3,
+  sym (same (codes "quote")) ∙ h.4,
+  sym (same (codes "attest")) ∙ h.5,
+  sym (same (codes "nonce")) ∙ h.6,
   subst (λ (x : Option Text). IsWith x (w (codes "attest")))
-      (same (codes "nonce")) (subst (λ (x : Option Text). IsWith (v (codes "nonce")) x) (same (codes "attest")) h.6),
-  subst (λ (x : Option Text). Requires x required) (same (codes "require")) h.7,
+      (same (codes "nonce")) (subst (λ (x : Option Text). IsWith (v (codes "nonce")) x) (same (codes "attest")) h.7),
+  subst (λ (x : Option Text). Requires x required) (same (codes "require")) h.8,
   subst (λ (x : Option Text). IsWith x (w (codes "attest"))) (same (codes "require"))
-      (subst (λ (x : Option Text). IsWith (v (codes "require")) x) (same (codes "attest")) h.8),
-  subst (λ (x : Option Text). IsHash (unwrap_or x (codes "sha256")) hash) (same (codes "hash")) h.9,
+      (subst (λ (x : Option Text). IsWith (v (codes "require")) x) (same (codes "attest")) h.9),
+  subst (λ (x : Option Text). IsHash (unwrap_or x (codes "sha256")) hash) (same (codes "hash")) h.10,
   subst (λ (x : Option Text). IsWithEither x (w (codes "quote")) (w (codes "attest"))) (same (codes "hash"))
       (subst (λ (x : Option Text). IsWithEither (v (codes "hash")) x (w (codes "attest"))) (same (codes "quote"))
-      (subst (λ (x : Option Text). IsWithEither (v (codes "hash")) (v (codes "quote")) x) (same (codes "attest")) h.10)),
+      (subst (λ (x : Option Text). IsWithEither (v (codes "hash")) (v (codes "quote")) x) (same (codes "attest")) h.11)),
+)
+agrees name v w same (SecureBoot log) h = (
+  h.0,
+  sym (ap is_given (same (codes "secure-boot"))) ∙ h.1,
+  sym (same (codes "LOG")) ∙ h.2,
+  sym (same (codes "registers")) ∙ h.3,
+  sym (same (codes "quote")) ∙ h.4,
+  sym (same (codes "attest")) ∙ h.5,
+  sym (same (codes "nonce")) ∙ h.6,
+  sym (same (codes "require")) ∙ h.7,
+  sym (same (codes "hash")) ∙ h.8,
 )
 agrees name v w same (Events log register places digests json) h = (
   h.0,

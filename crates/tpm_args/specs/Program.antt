@@ -66,11 +66,14 @@ abbrev pub compare_app : App
 compare_app =
     with_rule (with_rule (log_app (codes "check")) (option_rule (codes "registers"))) (option_rule (codes "quote"))
 
--- check LOG [--registers FILE] [--quote HEX] [--attest FILE] [--nonce HEX] [--require LIST] [--hash NAME]
+-- check LOG [--registers FILE] [--quote HEX] [--attest FILE] [--nonce HEX] [--require LIST]
+abbrev pub signed_app : App
+signed_app = with_rule (with_rule (with_rule compare_app (option_rule (codes "attest")))
+    (option_rule (codes "nonce"))) (option_rule (codes "require"))
+
+-- the same with [--hash NAME] [--secure-boot]
 abbrev pub check_app : App
-check_app = with_rule (with_rule (with_rule (with_rule compare_app (option_rule (codes "attest")))
-    (option_rule (codes "nonce"))) (option_rule (codes "require")))
-    (option_rule (codes "hash"))
+check_app = with_rule (with_rule signed_app (option_rule (codes "hash"))) (flag_rule (codes "secure-boot"))
 
 -- events LOG [--register N] [--places] [--digests] [--json]
 abbrev pub events_app : App

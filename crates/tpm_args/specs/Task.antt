@@ -10,7 +10,7 @@ use Rattle.tpm_text_values.specs.Numbers.{IsDecimal, IsHexadecimal}
 use Rattle.tpm_text_values.specs.Owner.{IsOwner}
 use Rattle.tpm_text_values.specs.Selections.{hash_word, AreSelections}
 use Rattle.tpm_args.specs.declared.task.Task.TheVariants.{Show, ShowCapture, ShowNv, Build, Run, Explain}
-use Rattle.tpm_args.specs.declared.task.Task.TheVariants.{Check, Events}
+use Rattle.tpm_args.specs.declared.task.Task.TheVariants.{Check, SecureBoot, Events}
 use Rattle.tpm_args.specs.declared.task.Task.{Task}
 use Rattle.tpm_args.specs.Names.{command_of_name}
 
@@ -100,6 +100,7 @@ AsksWith name value (Run owner greatest) =
 AsksWith name value (Explain code) = (name ≡ codes "explain") × IsCode (value (codes "CODE")) code
 AsksWith name value (Check log registers quote attest sent required hash) =
     (name ≡ codes "check")
+    × (is_given (value (codes "secure-boot")) ≡ false)
     × (value (codes "LOG") ≡ Some log.now)
     × (value (codes "registers") ≡ option_map (λ r. r.now) registers)
     × (value (codes "quote") ≡ option_map (λ q. q.now) quote)
@@ -108,6 +109,12 @@ AsksWith name value (Check log registers quote attest sent required hash) =
     × Requires (value (codes "require")) required × IsWith (value (codes "require")) (value (codes "attest"))
     × IsHash (unwrap_or (value (codes "hash")) (codes "sha256")) hash
     × IsWithEither (value (codes "hash")) (value (codes "quote")) (value (codes "attest"))
+AsksWith name value (SecureBoot log) =
+    (name ≡ codes "check")
+    × (is_given (value (codes "secure-boot")) ≡ true)
+    × (value (codes "LOG") ≡ Some log.now)
+    × (value (codes "registers") ≡ None) × (value (codes "quote") ≡ None) × (value (codes "attest") ≡ None)
+    × (value (codes "nonce") ≡ None) × (value (codes "require") ≡ None) × (value (codes "hash") ≡ None)
 AsksWith name value (Events log register places digests json) =
     (name ≡ codes "events")
     × (value (codes "LOG") ≡ Some log.now)

@@ -1,11 +1,14 @@
 //! The words of the subcommand `check`.
 
-ghost use Rattle.std.specs.Prelude.{List, Option, MatchResult, codes, option_map};
+ghost use Rattle.std.specs.Prelude.{◌≡◌, true, List, Option, MatchOption, MatchResult, codes, option_map};
+ghost use Rattle.clap.specs.Words.{first_value, found_of};
 ghost use Rattle.tpm_types.specs.declared.alg.Alg.{Alg as AlgValue};
 ghost use Rattle.tpm_types.specs.declared.tpms.Selection.{Selection as SelectionValue};
 ghost use Rattle.tpm_args.specs.Stop.{IsAsked, IsMemoryOr};
+ghost use Rattle.tpm_args.specs.Task.{is_given as is_given_by, AsksNothingWith, AsksWith};
 ghost use Rattle.tpm_args.specs.Task.{IsHash, IsWith, IsWithEither, Requires};
 
+use crate::given::is_given;
 use crate::invalid::invalid_value;
 use crate::program::check_words;
 use crate::stop::Stop;
@@ -19,6 +22,9 @@ use tpm_types::{Alg, Selections};
 pub(crate) fn check_task<'a>(alloc: Global, words: &ArgMatches<'a>) -> Asked<'a>
     ensures { IsAsked (codes "check") words.now result }
 {
+    if is_given(words, "secure-boot") {
+        return Ok(secure_boot_task(words));
+    }
     let Some(log) = words.get_str("LOG") else {
         return Ok(None);
     };
@@ -41,6 +47,26 @@ pub(crate) fn check_task<'a>(alloc: Global, words: &ArgMatches<'a>) -> Asked<'a>
         required,
         hash,
     }))
+}
+
+// The task where Secure Boot is asked for: none where another word but the log is given.
+fn secure_boot_task<'a>(words: &ArgMatches<'a>) -> Option<Task<'a>>
+    ensures { is_given_by (first_value (found_of words.now) (codes "secure-boot")) ≡ true
+        → MatchOption result
+        (AsksNothingWith (codes "check") (first_value (found_of words.now)))
+        (λ t. AsksWith (codes "check") (first_value (found_of words.now)) t) }
+{
+    let log = words.get_str("LOG")?;
+    if words.get_str("registers").is_some()
+        || words.get_str("quote").is_some()
+        || words.get_str("attest").is_some()
+        || words.get_str("nonce").is_some()
+        || words.get_str("require").is_some()
+        || words.get_str("hash").is_some()
+    {
+        return None;
+    }
+    Some(Task::SecureBoot { log })
 }
 
 // A usage fault where this word is given without a quote as it was signed.

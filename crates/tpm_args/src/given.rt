@@ -57,10 +57,11 @@ impl Words {
     /// subcommand they are refused only for a value: of `run` an owner value of too many bytes, or
     /// a number that is other than decimal digits or above 2^64 - 1, and likewise of `events`; of
     /// `explain` other than hexadecimal digits, or a number above 2^32 - 1; of `check` a hash other
-    /// than `sha1`, `sha256` and `sha384`, a list of no registers, or a word whose quote is not
-    /// given: the nonce and the list want `--attest`, the hash one of `--quote` and `--attest`; and
-    /// of `show` where they have more than one of a buffer, a file and NV memory, or none, a
-    /// capture with `--reply`, a buffer with `--binary` or `--json`, or NV memory with any of these.
+    /// than `sha1`, `sha256` and `sha384`, a list of no registers, a word whose quote is not given
+    /// (the nonce and the list want `--attest`, the hash one of `--quote` and `--attest`), or
+    /// `--secure-boot` beside another; and of `show` where they have more than one of a buffer, a
+    /// file and NV memory, or none, a capture with `--reply`, a buffer with `--binary` or `--json`,
+    /// or NV memory with any of these.
     pub fn task(&self, alloc: Global) -> Result<Task<'_>, Stop>
         ensures ok { IfOk result (λ t. (names : Bor (List (Bor (List ℕ)))) × AreAllNames names.now
             × Asks (subcommand_of (program_app (Names names)) self.now) t) }

@@ -4,8 +4,9 @@ ghost use Rattle.std.specs.Prelude.{◌≡◌, IfOk, false};
 ghost use Rattle.clap.specs.Words.{rule_of};
 ghost use Rattle.clap.specs.declared.builder.value_parser.ValueParser.TheVariants.{Names};
 ghost use Rattle.tpm_args.specs.Program.{required_rule, name_rule, reply_rule, flag_rule, option_rule, buffer_app};
-ghost use Rattle.tpm_args.specs.Program.{show_app, build_app, run_app, explain_app, log_app, compare_app, check_app};
-ghost use Rattle.tpm_args.specs.Program.{events_app, above_subcommands, program_app, IsApp, optional_rule, capture_app};
+ghost use Rattle.tpm_args.specs.Program.{show_app, build_app, run_app, explain_app, log_app, compare_app, signed_app};
+ghost use Rattle.tpm_args.specs.Program.{check_app, events_app, above_subcommands, program_app, IsApp, optional_rule};
+ghost use Rattle.tpm_args.specs.Program.{capture_app};
 
 use clap::{Arg, ArgAction, Command};
 use std::alloc::{AllocError, Global};
@@ -28,6 +29,7 @@ const AFTER_HELP: &str = "Examples:
   tpmtool explain 9a2
   tpmtool check LOG --registers FILE
   tpmtool check LOG --attest FILE --nonce 6e6f
+  tpmtool check LOG --secure-boot
   tpmtool events LOG
   tpmtool events LOG --register 7 --digests
 
@@ -196,15 +198,24 @@ fn compare_words<'a>(alloc: Global) -> Result<Command<'a>, AllocError>
     }
 }
 
-/// The subcommand `check`.
-pub(crate) fn check_words<'a>(alloc: Global) -> Result<Command<'a>, AllocError>
-    ensures { IfOk result (λ c. IsApp check_app c) }
+// The same with a quote as it was signed.
+fn signed_words<'a>(alloc: Global) -> Result<Command<'a>, AllocError>
+    ensures { IfOk result (λ c. IsApp signed_app c) }
 {
     with_words! { alloc, compare_words(alloc)?;
         option "attest" "FILE" "Compares them with a quote as it was signed, a TPMS_ATTEST, and prints what it says";
         option "nonce" "HEX" "The nonce that was sent for that quote; it is not compared if it is not given";
         option "require" "LIST" "The registers that it has to select, as sha1:7+sha256:0,1,2 or sha256:all";
+    }
+}
+
+/// The subcommand `check`.
+pub(crate) fn check_words<'a>(alloc: Global) -> Result<Command<'a>, AllocError>
+    ensures { IfOk result (λ c. IsApp check_app c) }
+{
+    with_words! { alloc, signed_words(alloc)?;
         option "hash" "NAME" "The hash of the quote's digest: sha1, sha256 or sha384; sha256 if it is not given";
+        flag "secure-boot" "Prints whether Secure Boot was on, by the log alone";
     }
 }
 

@@ -77,6 +77,11 @@ pub enum Task<'a> {
         /// The hash of the quote's digest.
         hash: Alg,
     },
+    /// `check LOG --secure-boot`: print whether Secure Boot was on in the boot that a log tells of.
+    SecureBoot {
+        /// The path of the log.
+        log: &'a str,
+    },
     /// `events LOG [--register N] [--places] [--digests] [--json]`: print the records of a log.
     Events {
         /// The path of the log.

@@ -8,3 +8,4 @@ pub mod EventText
 pub mod EventJson
 pub mod ListEvents
 pub mod HeldLines
+pub mod SecureBootLines

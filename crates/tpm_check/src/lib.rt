@@ -16,8 +16,10 @@ mod listed_events;
 mod quoted;
 mod reads;
 mod register_text;
+mod secure_boot_lines;
 mod signed_text;
 mod stated;
+mod told_secure_boot;
 
 pub use checked::check_log;
 pub use checked_signed::check_signed;
@@ -25,3 +27,4 @@ pub use held_lines::HeldLines;
 pub use judged::Signed;
 pub use listed_events::{Listing, list_events};
 pub use reads::{read_attest, read_up_to};
+pub use told_secure_boot::tell_secure_boot;

@@ -10,7 +10,10 @@ use std::process::ExitCode;
 use std::rt::{Env, Files};
 use std::{env, fs, io};
 use tpm_args::{Stop, Task, Words, words_not_text};
-use tpm_check::{Listing, Signed, check_log, check_signed, list_events, read_attest, read_up_to};
+use tpm_check::{
+    Listing, Signed, check_log, check_signed, list_events, read_attest, read_up_to,
+    tell_secure_boot,
+};
 use tpm_device::Device;
 use tpm_lines::answer::not_hexadecimal;
 use tpm_lines::fault::ToolFault;
@@ -109,6 +112,16 @@ fn check<'a, R: AllocGlobal + Files, W: Write>(
         _ => log_path,
     };
     checked.map_err(|fault| Fault::of_reading(rt, fault, path))
+}
+
+// Opens a log and tells whether Secure Boot was on.
+fn check_secure_boot<'a, R: AllocGlobal + Files, W: Write>(
+    rt: &R,
+    out: &mut W,
+    path: &'a str,
+) -> Result<Status, Fault<'a>> {
+    let mut log = opened(rt, path)?;
+    tell_secure_boot(rt.alloc(), &mut log, out).map_err(|fault| Fault::of_reading(rt, fault, path))
 }
 
 // Opens a log and lists its records.
@@ -237,6 +250,7 @@ fn perform<'a, R: AllocGlobal + Files + Input + Print>(
             });
             return check(rt, out, log, registers, quote, attested, hash);
         }
+        Task::SecureBoot { log } => return check_secure_boot(rt, out, log),
         Task::Events {
             log,
             register,

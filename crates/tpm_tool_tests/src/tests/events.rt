@@ -6,7 +6,7 @@ use std::alloc::Global;
 use std::io;
 use std::io::Write;
 use std::test::Fail;
-use tpm_check::{Listing, list_events};
+use tpm_check::{Listing, list_events, tell_secure_boot};
 use tpm_lines::status::Status;
 use tpm_testing::Pieces;
 
@@ -46,6 +46,26 @@ fn a_log_is_listed_alike_in_any_pieces(rt: HostRuntime) -> Result<(), Fail> {
     Ok(())
 }
 
+// What the definition says of a separator alone in register 7.
+const UNSET: &str = "secure-boot sha1 unset\nsecure-boot sha256 unset\nsecure-boot sha384 unset\n";
+
+fn told(alloc: Global, log: &mut Pieces<'_>) -> Answered {
+    let mut out = Vec::new(alloc);
+    (tell_secure_boot(alloc, log, &mut out), out)
+}
+
+#[test]
+fn secure_boot_is_told_alike_in_any_pieces(rt: HostRuntime) -> Result<(), Fail> {
+    for (log, text) in [(LOG, UNSET), (NO_BANK, "secure-boot no bank\n")] {
+        let log = hex::decode(rt.alloc(), log)?;
+        for most in [1, 64, 215] {
+            let log = &mut Pieces::new(log.as_slice(), most);
+            is_answered(&rt, told(rt.alloc(), log), Ok(Status::Refused), text);
+        }
+    }
+    Ok(())
+}
+
 #[test]
 fn a_log_with_a_fault_is_not_listed(rt: HostRuntime) -> Result<(), Fail> {
     let log = hex::decode(rt.alloc(), LOG)?;
@@ -69,6 +89,20 @@ fn a_read_of_events_that_fails_is_answered(rt: HostRuntime) -> Result<(), Fail> 
         reads,
         "",
         |log| listed(rt.alloc(), log),
+    );
+    Ok(())
+}
+
+#[test]
+fn a_read_for_secure_boot_that_fails_is_answered(rt: HostRuntime) -> Result<(), Fail> {
+    let log = hex::decode(rt.alloc(), LOG)?;
+    let reads = log.len() + 1;
+    each_read_may_fail(
+        &rt,
+        log.as_slice(),
+        reads,
+        "",
+        |log| told(rt.alloc(), log),
     );
     Ok(())
 }
