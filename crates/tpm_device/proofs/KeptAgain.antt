@@ -1,5 +1,5 @@
 -- A device that is made of bytes is as one after a power cycle.
-use Rattle.std.proofs.Common.{◌≡◌, ℕ, List, [], ◌∷◌, sym, ap, ◌∙◌}
+use Rattle.std.proofs.Common.{◌≡◌, ℕ, List, ◌∷◌, sym, ap, ◌∙◌}
 use Rattle.tpm_wire.specs.Path.{Spells}
 use Rattle.tpm_wire.specs.Spelling.{spelling, Fits}
 use Rattle.tpm_wire.specs.Buffers.{buffer}
@@ -7,7 +7,7 @@ use Rattle.tpm_wire.proofs.Again.{read_again}
 use Rattle.tpm_wire.proofs.Buffers.{buffer_roomy, buffer_sound}
 use Rattle.tpm_wire.proofs.Whole.{read_spells}
 use Rattle.tpm_model.specs.Steps.{History, PowerCycle, Origin}
-use Rattle.tpm_model.specs.Counters.{NvMemory, nv_memory}
+use Rattle.tpm_model.specs.Counters.{nv_memory}
 use Rattle.tpm_model.specs.Present.{Present, present}
 use Rattle.tpm_model.specs.Kept.{kept_memory, restored}
 use Rattle.tpm_model.proofs.Restored.{restored_stands}
