@@ -82,6 +82,10 @@ size_t tpm_device_keep(const struct tpm_device *device, uint8_t *out, size_t out
 uint32_t tpm_device_restore(struct tpm_device *place, const uint8_t *owner, size_t owner_len, const uint8_t *kept, size_t kept_len,
                             struct tpm_refusal *refusal);
 
+/* Whether the device that answered this command with this response has changed its NV memory, 1 or 0: a host then keeps it before
+ * it hands out the response, and need not otherwise. */
+uint32_t tpm_device_changes_nv(const uint8_t *command, size_t len, const uint8_t *response, size_t response_len);
+
 /* The greatest value that any counter of the device has had. */
 uint64_t tpm_device_greatest(const struct tpm_device *device);
 

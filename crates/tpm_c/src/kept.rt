@@ -1,9 +1,10 @@
 //! A device that is kept: its NV memory as bytes in the caller's memory, and the device that is made of them again
 //! (Part 1, "NV Memory").
 
-ghost use Rattle.std.specs.Prelude.{◌≡◌, ◌≤◌, length};
+ghost use Rattle.std.specs.Prelude.{◌≡◌, ◌≤◌, length, if◌then◌else◌};
 ghost use Rattle.std.specs.Borrow.{sem};
 ghost use Rattle.tpm_types.specs.Limits.{digest_bytes};
+ghost use Rattle.tpm_model.specs.NvChanges.{changes_nv as changes_nv_of};
 ghost use Rattle.tpm_model.specs.Steps.{History, Origin};
 ghost use Rattle.tpm_device.specs.Stands.{Stands};
 ghost use Rattle.tpm_c.specs.Devices.{device_at};
@@ -13,7 +14,7 @@ ghost use Rattle.tpm_c.specs.KeptDevices.{counters_of, counter_view, IsCounterTo
 
 use crate::out::put;
 use crate::part::{DONE, REFUSED, TpmRefusal, refuse};
-use tpm_device::Device;
+use tpm_device::{Device, changes_nv};
 use tpm_store::Counter;
 use tpm_types::{Alg, AuthValue, DIGEST_BYTES, SessionHandle};
 use tpm_wire::response_code::SIZE;
@@ -101,6 +102,15 @@ fn made(owner: &[u8], kept: &[u8], refusal: &mut TpmRefusal) -> Option<Device>
             None
         }
     }
+}
+
+/// Whether the device that answered this command with this response has changed its NV memory, 1 or
+/// 0: a host then keeps it before it hands out the response, and need not otherwise.
+#[unsafe(no_mangle)]
+pub extern "C" fn tpm_device_changes_nv(command: &[u8], response: &[u8]) -> u32
+    ensures { result ≡ (if changes_nv_of command.now response.now then 1 else 0) }
+{
+    if changes_nv(command, response) { 1 } else { 0 }
 }
 
 /// The greatest value that any counter of the device has had.

@@ -27,8 +27,8 @@ pub use command::{TpmCommandAreas, TpmCommandSession, tpm_command_cut, tpm_comma
 pub use device::{tpm_device_execute, tpm_device_init, tpm_device_power_cycle};
 pub use framer::{tpm_framer_frame, tpm_framer_init, tpm_framer_next, tpm_framer_push};
 pub use kept::{
-    TpmCounter, tpm_device_counter, tpm_device_counters, tpm_device_greatest, tpm_device_keep,
-    tpm_device_restore, tpm_device_session_hash,
+    TpmCounter, tpm_device_changes_nv, tpm_device_counter, tpm_device_counters,
+    tpm_device_greatest, tpm_device_keep, tpm_device_restore, tpm_device_session_hash,
 };
 pub use log::tpm_log_replay;
 pub use log_event::{TpmLogDigest, TpmLogEvent, TpmLogPlace, tpm_log_event};
