@@ -3,6 +3,9 @@
  *     client kill PORT TIMES SEED WORD..
  *         starts the emulator (these words) so often, increments counters over swtpm's data port, and kills it at a
  *         random moment: no value comes twice, and none goes back
+ *     client full PORT TIMES SEED FILE WORD..
+ *         the same, but in place of a kill FILE takes all room that is left on its disk, until the emulator has ended:
+ *         with status 3, since it could not keep what a client would have been told
  *     client again PORT TIMES SEED WORD..
  *         starts it so often, defines, increments and undefines counters of all kinds, and ends it: each is there
  *         again, to the byte, and the next first value is behind the greatest
@@ -195,14 +198,26 @@ static pid_t started(char **words) {
     return child;
 }
 
-/* A process that kills another one after some time. */
-static pid_t killer_of(pid_t child, long microseconds) {
+/* Takes all room that is left for a file's bytes, and what becomes free, until the process is killed. */
+static void fill(const char *path) {
+    static const uint8_t zeros[4096];
+    int descriptor = open(path, O_WRONLY | O_CREAT | O_TRUNC, 0600);
+    while (descriptor >= 0)
+        if (write(descriptor, zeros, sizeof zeros) <= 0)
+            pause_for(200);
+}
+
+/* A process that kills another one after some time; or with the name of a file, fills its disk by that file. */
+static pid_t killer_of(pid_t child, long microseconds, const char *file) {
     pid_t killer = fork();
     if (killer < 0)
         fail("no process", (uint64_t)errno);
     if (killer == 0) {
         pause_for(microseconds);
-        kill(child, SIGKILL);
+        if (file)
+            fill(file);
+        else
+            kill(child, SIGKILL);
         _exit(0);
     }
     return killer;
@@ -286,10 +301,15 @@ static bool compare_known(int descriptor, struct known *known) {
     return true;
 }
 
-static void kill_once(uint16_t port, char **words, struct known *known, long most) {
+/* It ended as it has to: by the kill, or by itself, since the disk of the file was full. */
+static bool is_wanted(int status, const char *file) {
+    return file ? WIFEXITED(status) && WEXITSTATUS(status) == 3 : WIFSIGNALED(status) && WTERMSIG(status) == SIGKILL;
+}
+
+static void kill_once(uint16_t port, char **words, struct known *known, const char *file) {
     uint8_t reply[REPLY_BYTES];
     int status;
-    pid_t child = started(words), killer = killer_of(child, (long)below((uint32_t)most));
+    pid_t child = started(words), killer = killer_of(child, (long)below(80000), file);
     siginfo_t info = {0};
     int descriptor = -1;
     double end = now() + 20;
@@ -304,16 +324,19 @@ static void kill_once(uint16_t port, char **words, struct known *known, long mos
         }
     if (descriptor >= 0)
         close(descriptor);
-    waitpid(killer, NULL, 0);
-    if (waitpid(child, &status, 0) != child || !WIFSIGNALED(status) || WTERMSIG(status) != SIGKILL)
-        fail("the emulator ended by itself", (uint64_t)status);
+    if (waitpid(child, &status, 0) != child || !is_wanted(status, file))
+        fail("the emulator ended otherwise", (uint64_t)status);
     emulator = 0;
+    kill(killer, SIGKILL);
+    waitpid(killer, NULL, 0);
+    if (file && unlink(file) != 0)
+        fail("the disk was not full", (uint64_t)errno);
 }
 
-static void kill_often(uint16_t port, uint32_t times, char **words) {
+static void kill_often(uint16_t port, uint32_t times, const char *file, char **words) {
     struct known known = {.reads = 0};
     for (uint32_t i = 0; i < times; i++)
-        kill_once(port, words, &known, 80000);
+        kill_once(port, words, &known, file);
     if (known.reads < times)
         fail("hardly a counter was read", known.reads);
     printf("%u kills, %llu values read, the greatest %llu\n", times, (unsigned long long)known.reads,
@@ -518,7 +541,7 @@ static const char *const commands[] = {
     "80010000001a0000017f0300000000000000000" "1000b03000001",
     "80010000000e0000016503000000",
     "80010000000e0000016203000000",
-    "80010000004400000161000000000000000103000000400000070028" "0000000000000001"
+    "80010000003c00000161000000000000000103000000400000070020"
     "0000000000000000000000000000000000000000000000000000000000000000",
     "8001000000160000017a000000060000010000000040",
     "8001000000160000017a000000010100000000000040",
@@ -833,9 +856,27 @@ static size_t any_message(uint8_t *bytes) {
     for (size_t i = 0; i < 64; i++)
         bytes[i] = below(4) == 0 ? (uint8_t)(32 + below(224)) : 0;
     put32(bytes, below(16) == 0 ? any() | 1u << 31 : number == 3 ? 16 : number);
-    if (number == 12 || number == 13)
+    if (number == 12 || number == 13) {
+        put32(bytes + 8, below(3));
         put32(bytes + 12, below(64) == 0 ? any() | 1u << 12 : 32 + below(200));
+    }
     return below(8) == 0 ? 1 + below(64) : number == 5 && below(2) ? 5 : lengths[number];
+}
+
+/* What the device keeps is had, and set again as QEMU sets it: STOP, and then the message and the blob apart. */
+static void set_as_it_is(int channel) {
+    static const uint8_t stop[4] = {0, 0, 0, 14}, get[16] = {0, 0, 0, 12, 0, 0, 0, 0, 0, 0, 0, 1};
+    uint8_t set[16] = {0, 0, 0, 13, 0, 0, 0, 0, 0, 0, 0, 1}, reply[REPLY_BYTES];
+    if (!sent(channel, stop, sizeof stop) || !received(channel, reply, 4) || !sent(channel, get, sizeof get) ||
+        !received(channel, reply, 16) || number32(reply) != 0 || number32(reply + 12) > REPLY_BYTES - 16)
+        fail("no state blob is told", (uint64_t)errno);
+    size_t len = number32(reply + 12);
+    put32(set + 12, (uint32_t)len);
+    if (!received(channel, reply + 16, len) || !sent(channel, set, sizeof set))
+        fail("a state blob is cut", len);
+    pause_for(2000);
+    if (!sent(channel, reply + 16, len) || !received(channel, reply, 4) || number32(reply) != 0)
+        fail("a state blob is refused", number32(reply));
 }
 
 /* QEMU's first messages, and a frame over the descriptor that it hands over; the one before it is closed. */
@@ -849,6 +890,7 @@ static void start_as_qemu(const char *path) {
     if (recv(before, reply, 1, MSG_DONTWAIT) != 0)
         fail("the descriptor before stays open", (uint64_t)errno);
     close(before);
+    set_as_it_is(channel);
     if (asked_text(kept, READ_16, reply) < 0 || !sent(channel, init, sizeof init) || !received(channel, reply, 4) ||
         number32(reply) != 0)
         fail("a new channel has no power", (uint64_t)errno);
@@ -928,7 +970,10 @@ int main(int argc, char **argv) {
     uint16_t port = argc > 2 ? (uint16_t)atoi(argv[2]) : 0;
     if (strcmp(what, "kill") == 0 && argc > 5) {
         seed = strtoull(argv[4], NULL, 10) * 2 + 1;
-        kill_often(port, (uint32_t)atoi(argv[3]), argv + 5);
+        kill_often(port, (uint32_t)atoi(argv[3]), NULL, argv + 5);
+    } else if (strcmp(what, "full") == 0 && argc > 6) {
+        seed = strtoull(argv[4], NULL, 10) * 2 + 1;
+        kill_often(port, (uint32_t)atoi(argv[3]), argv[5], argv + 6);
     } else if (strcmp(what, "again") == 0 && argc > 5) {
         seed = strtoull(argv[4], NULL, 10) * 2 + 1;
         start_again(port, (uint32_t)atoi(argv[3]), argv + 5);

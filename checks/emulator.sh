@@ -344,14 +344,27 @@ refuses() {
     [ $? -eq "$wanted" ] && grep -q "$*" "$room/err" || { echo "in place of $*: $(cat "$room/err")" && return 1; }
 }
 
-# refused_states: a state that was cut or changed, and one that another emulator holds.
+# changed AT BYTE: the state with another byte at this place.
+changed() {
+    head -c "$1" "$room/state" && printf '%s' "$2" | xxd -r -p && tail -c "+$(($1 + 2))" "$room/state"
+}
+
+# refused_states: a state that was cut or changed, with its first fault and where that is; what is no state; and one
+# that another emulator holds. (Its parts: magic number, version, the greatest value, the count, counters, a digest.)
 refused_states() {
-    for cut in 0 1 30 100 "$(($(wc -c <"$room/state") - 1))"; do
-        head -c "$cut" "$room/state" >"$room/state.bad" && refuses 1 'was cut' || return 1
+    size=$(wc -c <"$room/state")
+    digest=$((size - 32))
+    for cut in '0 0' '3 0' '5 4' '13 6' '17 14' "$((size - 1)) $digest"; do
+        head -c "${cut% *}" "$room/state" >"$room/state.bad" && refuses 1 "code 09a at byte ${cut#* }\$" || return 1
     done
-    sed 's/greatest 4/greatest 5/' "$room/state" >"$room/state.bad" && refuses 1 'was cut or changed' || return 1
-    sed 's/^counter 01800001/counter 01800009/' "$room/state" >"$room/state.bad" &&
-        refuses 1 'was cut or changed' || return 1
+    changed 0 00 >"$room/state.bad" && refuses 1 'code 084 at byte 0$' || return 1
+    changed 5 02 >"$room/state.bad" && refuses 1 'code 084 at byte 4$' || return 1
+    changed 13 00 >"$room/state.bad" && refuses 1 "code 146 at byte $digest\$" || return 1
+    changed 13 ff >"$room/state.bad" && refuses 1 "code 09f at byte $digest\$" || return 1
+    changed 23 09 >"$room/state.bad" && refuses 1 "code 09f at byte $digest\$" || return 1
+    { cat "$room/state" && head -c 2000 /dev/zero; } >"$room/state.bad" && refuses 1 "code 095 at byte $size\$" ||
+        return 1
+    echo 'vinjakwe emulator state 1' >"$room/state.bad" && refuses 1 'code 084 at byte 0$' || return 1
     cp "$room/state" "$room/state.bad"
     begin emulator --state "$room/state.bad" || return 1
     refuses 3 'another emulator holds it' || { end && return 1; }
@@ -395,8 +408,8 @@ controlled_over_tcp() {
     ask 1 00000001 00000010 0000000500 0000000503 00000004 0000000b00000000 00000009 0000000f ffffffff 00000011 00000000 \
         0000000200000000 0000000e 00000012 00000001 >"$room/answers"
     end
-    printf '%s\n' 0000000000002caf 0000000a 00000000 0000003d 0000000000000000 00000000 00000000 0000000000000000 \
-        0000000a - 00000000000010000000100000001000 00000000 00000000 0000000a 0000000000002caf | diff - "$room/answers"
+    printf '%s\n' 0000000000002faf 0000000a 00000000 0000003d 0000000000000000 00000000 00000000 0000000000000000 \
+        0000000a - 00000000000010000000100000001000 00000000 00000000 0000000a 0000000000002faf | diff - "$room/answers"
 }
 
 # the_device_alone: with --only-device nothing is answered by the host.
@@ -457,7 +470,7 @@ no_random_bytes() {
 ssize_t getrandom(void *room, size_t len, unsigned flags) {
     static int times;
     (void)room, (void)flags;
-    if (++times <= 3)
+    if (++times <= 2)
         return (ssize_t)len;
     errno = ENOSYS;
     return -1;
@@ -473,6 +486,35 @@ END
 killed() {
     timeout 900 "$room/client" kill $((port + 8)) "${KILLS:-40}" "${SEED:-1}" "$room/emulator" --swtpm $((port + 8)) \
         --state "$room/state.killed"
+}
+
+# on_a_small_disk WORD..: runs the words where $room/disk is a file system of 32 KiB.
+on_a_small_disk() {
+    mkdir -p "$room/disk" &&
+        unshare --map-root-user --mount sh -c 'mount -t tmpfs -o size=32k none "$0" && exec "$@"' "$room/disk" "$@"
+}
+
+# filled: the same where the disk is full at a random moment in place of a kill: the emulator ends, and what it could not
+# keep is told to nobody.
+filled() {
+    on_a_small_disk timeout 900 "$room/client" full $((port + 24)) "${KILLS:-40}" "${SEED:-1}" "$room/disk/more" \
+        "$room/emulator" --swtpm $((port + 24)) --state "$room/disk/state"
+}
+
+# not_written: a definition and an increment that can't be kept are not answered; the file stays, and so does what was
+# told of it.
+not_written() {
+    rm -f "$room"/state.full*
+    full="$room/emulator --stdio --startup --state $room/state.full"
+    printf '%s\n' $define $increment | xxd -r -p | $full >"$room/out" && [ "$(wc -c <"$room/out")" -eq 38 ] || return 1
+    cp "$room/state.full" "$room/state.before" && ln -s /dev/full "$room/state.full.new" || return 1
+    for command in $increment $undefine; do
+        printf '%s\n' $read $command $read | xxd -r -p | $full >"$room/out" 2>"$room/err"
+        [ $? -eq 3 ] && grep -q "can't be written" "$room/err" && [ "$(wc -c <"$room/out")" -eq 29 ] &&
+            cmp "$room/state.before" "$room/state.full" || { cat "$room/err" && return 1; }
+    done
+    rm "$room/state.full.new" && printf '%s\n' $increment $read | xxd -r -p | $full | xxd -p | tr -d '\n' |
+        grep -q '^80020000001300000000000000000000010000.*00080000000000000002'
 }
 
 # there_again: counters of all kinds are there at the next start, to the byte, and the next first value is behind the
@@ -563,6 +605,7 @@ of_locality() {
 define=80020000002d0000012a40000001000000094000000900000100000000000e01800001000b0206001600000008
 increment=80020000001f00000134400000010180000100000009400000090000010000
 read=8002000000230000014e40000001018000010000000940000009000001000000080000
+undefine=80020000001f00000122400000010180000100000009400000090000010000
 
 # variables: the variable properties, each as a number.
 variables() {
@@ -606,7 +649,7 @@ cycled() {
         ask 3 00000011
         ask 0 $read $increment $read
         ask 3 00000002 00000001
-        ask 0 $read 80020000001f00000122400000010180000100000009400000090000010000 $define $increment $read
+        ask 0 $read $undefine $define $increment $read
     } | sed -n 's/^8002........00000000........0008000000000000\(....\).*/\1/p' | tr '\n' ' ' >"$room/values"
     end
     [ "$(cat "$room/values")" = '0002 0002 0003 0003 0004 ' ] || { cat "$room/values" && return 1; }
@@ -675,7 +718,7 @@ one_channel() {
     wait "$server" 2>/dev/null
     [ -S "$room/channel" ] || return 1
     at_channel emulator && sleep 0.3 &&
-        printf '00000001\n' | timeout 20 "$room/client" channel "$room/channel" | grep -q -x 0000000000003caf && end
+        printf '00000001\n' | timeout 20 "$room/client" channel "$room/channel" | grep -q -x 0000000000003faf && end
 }
 
 # harmless_channel: random messages, cut ones, and descriptors; none stays open.
@@ -838,6 +881,16 @@ else
     emulates "without random bytes the emulator ends" no_random_bytes
     emulates "counters of all kinds are there at the next start" there_again
     emulates "killed at random moments, no counter goes back" killed
+    if [ -c /dev/full ]; then
+        emulates "what can't be kept is told to nobody" not_written
+    else
+        skip "what can't be kept is told to nobody" "there is no /dev/full"
+    fi
+    if on_a_small_disk true >/dev/null 2>&1; then
+        emulates "on a disk that is full at random moments, no counter goes back" filled
+    else
+        skip "on a disk that is full at random moments, no counter goes back" "no file system can be mounted"
+    fi
     if sanitizes; then
         emulates "random messages and cut connections harm nothing" harmless
         emulates "random messages over QEMU's channel harm nothing" harmless_channel

@@ -64,11 +64,8 @@ static size_t hmac_of(struct machine *machine, uint16_t hash, const uint8_t *key
 
 /* ---- what is known of the device's sessions */
 
-static struct session_key *key_of(struct machine *machine, uint32_t handle) {
-    for (size_t i = 0; i < SESSION_SLOTS; i++)
-        if (machine->keys[i].handle == handle)
-            return &machine->keys[i];
-    return NULL;
+static uint16_t hash_of(const struct machine *machine, const struct session *session) {
+    return tpm_device_session_hash(machine->device, session->handle);
 }
 
 static size_t without_zeros(const uint8_t *bytes, size_t len) {
@@ -79,35 +76,35 @@ static size_t without_zeros(const uint8_t *bytes, size_t len) {
 
 /* The key of a session that is bound to the owner: KDFa of the owner's value with the label ATH, nonceTPM and
  * nonceCaller (Part 1, "sessionKey Creation"), one HMAC for a key as long as the digest. */
-static void make_key(struct machine *machine, struct session_key *key, const uint8_t *caller, size_t caller_len) {
-    const struct making *making = &machine->making;
+static void make_key(struct machine *machine, struct session *session, const uint8_t *caller, size_t caller_len) {
+    uint16_t hash = hash_of(machine, session);
     static const uint8_t label[4] = {'A', 'T', 'H', 0};
     struct text text = {.len = 0};
     add32(&text, 1);
     add(&text, label, sizeof label);
-    add(&text, key->nonce, key->nonce_len);
+    add(&text, session->nonce, session->nonce_len);
     add(&text, caller, caller_len);
-    add32(&text, 8 * (uint32_t)digest_bytes(key->hash));
-    key->key_len =
-        hmac_of(machine, key->hash, making->owner, without_zeros(making->owner, making->owner_len), &text, key->key);
+    add32(&text, 8 * (uint32_t)digest_bytes(hash));
+    session->key_len =
+        hmac_of(machine, hash, machine->owner, without_zeros(machine->owner, machine->owner_len), &text, session->key);
 }
 
-static void set_nonce(struct session_key *key, const uint8_t *nonce, size_t len) {
-    key->nonce_len = len <= sizeof key->nonce ? len : 0;
-    memcpy(key->nonce, nonce, key->nonce_len);
+static void set_nonce(struct session *session, const uint8_t *nonce, size_t len) {
+    session->nonce_len = len <= sizeof session->nonce ? len : 0;
+    memcpy(session->nonce, nonce, session->nonce_len);
 }
 
 /* TPM2_StartAuthSession (Part 3, 11.1) was accepted, so its parts are those of one: tpmKey, bind, nonceCaller. */
-static void see_start(struct machine *machine, const uint8_t *command, size_t len, const uint8_t *response) {
+static void see_start(struct machine *machine, const uint8_t *command, const uint8_t *response) {
     uint32_t handle = number32(response + 10);
     size_t slot = handle & 0xff;
     if (slot >= SESSION_SLOTS)
         return;
-    struct session_key *key = &machine->keys[slot];
-    *key = (struct session_key){.handle = handle, .hash = number16(command + len - 2)};
-    set_nonce(key, response + 16, number16(response + 14));
+    struct session *session = &machine->sessions[slot];
+    *session = (struct session){.handle = handle};
+    set_nonce(session, response + 16, number16(response + 14));
     if (number32(command + 14) != TPM_RH_NULL)
-        make_key(machine, key, command + 20, number16(command + 18));
+        make_key(machine, session, command + 20, number16(command + 18));
 }
 
 void carried_see(struct machine *machine, const uint8_t *command, size_t len, const uint8_t *response,
@@ -120,11 +117,11 @@ void carried_see(struct machine *machine, const uint8_t *command, size_t len, co
         tpm_response_cut(code, response, response_len, &answered, &refusal) != TPM_DONE)
         return;
     if (code == TPM_CC_StartAuthSession && asked.session_count == 0)
-        see_start(machine, command, len, response);
+        see_start(machine, command, response);
     for (size_t i = 0; i < asked.session_count && i < answered.session_count; i++) {
-        struct session_key *key = key_of(machine, asked.sessions[i].handle);
-        if (key)
-            set_nonce(key, response + answered.sessions[i].nonce.at, answered.sessions[i].nonce.len);
+        struct session *session = machine_session(machine, asked.sessions[i].handle);
+        if (session)
+            set_nonce(session, response + answered.sessions[i].nonce.at, answered.sessions[i].nonce.len);
     }
 }
 
@@ -167,31 +164,32 @@ uint32_t carried_cut(const uint8_t *bytes, size_t len, struct carried_area *area
 /* ---- judging */
 
 /* The HMAC of a command or a response: the digest of its text, the newer nonce, the older one, and the attributes. */
-static size_t mac_of(struct machine *machine, const struct session_key *key, const struct carried_text *text,
+static size_t mac_of(struct machine *machine, const struct session *known, const struct carried_text *text,
                      bool is_response, const struct carried *session, uint8_t attributes,
                      uint8_t mac[TPM_POLICY_BYTES]) {
     struct text over = {.len = 0};
     uint8_t digest[TPM_POLICY_BYTES];
+    uint16_t hash = hash_of(machine, known);
     if (is_response)
         add32(&over, TPM_RC_SUCCESS);
     add32(&over, text->code);
     if (!is_response && text->handle)
         add32(&over, text->handle);
     add(&over, text->parameters, text->len);
-    size_t count = digest_of(machine, key->hash, &over, digest);
+    size_t count = digest_of(machine, hash, &over, digest);
     if (count == 0)
         return 0;
     over.len = 0;
     add(&over, digest, count);
-    add(&over, is_response ? key->nonce : session->nonce, is_response ? key->nonce_len : session->nonce_len);
-    add(&over, is_response ? session->nonce : key->nonce, is_response ? session->nonce_len : key->nonce_len);
+    add(&over, is_response ? known->nonce : session->nonce, is_response ? known->nonce_len : session->nonce_len);
+    add(&over, is_response ? session->nonce : known->nonce, is_response ? session->nonce_len : known->nonce_len);
     add(&over, &attributes, 1);
-    return hmac_of(machine, key->hash, key->key, key->key_len, &over, mac);
+    return hmac_of(machine, hash, known->key, known->key_len, &over, mac);
 }
 
 /* Under an empty key an HMAC says nothing, and may be left out; then it is left out of the response, too. */
-static bool leaves_out(const struct session_key *key, const struct carried *session) {
-    return key->key_len == 0 && session->hmac_len == 0;
+static bool leaves_out(const struct session *known, const struct carried *session) {
+    return known->key_len == 0 && session->hmac_len == 0;
 }
 
 static bool is_same(const uint8_t *one, const uint8_t *other, size_t len) {
@@ -203,13 +201,13 @@ static bool is_same(const uint8_t *one, const uint8_t *other, size_t len) {
 
 static uint32_t check_hmac(struct machine *machine, const struct carried *session, const struct carried_text *text,
                            size_t number) {
-    const struct session_key *key = key_of(machine, session->handle);
+    const struct session *known = machine_session(machine, session->handle);
     uint8_t mac[TPM_POLICY_BYTES];
-    if (!key || session->nonce_len > TPM_POLICY_BYTES)
+    if (!known || session->nonce_len > TPM_POLICY_BYTES)
         return TPM_RC_SIZE + FOR_SESSION(number);
-    if (leaves_out(key, session))
+    if (leaves_out(known, session))
         return TPM_RC_SUCCESS;
-    size_t count = mac_of(machine, key, text, false, session, session->attributes, mac);
+    size_t count = mac_of(machine, known, text, false, session, session->attributes, mac);
     if (count == 0)
         return TPM_RC_SIZE + FOR_SESSION(number);
     if (session->hmac_len != count || !is_same(session->hmac, mac, count))
@@ -228,8 +226,8 @@ static uint32_t check_session(struct machine *machine, const struct carried *ses
         return TPM_RC_VALUE + FOR_SESSION(number);
     if (session->attributes & RESERVED)
         return TPM_RC_RESERVED_BITS + FOR_SESSION(number);
-    const struct session *loaded = record_session(&machine->record, session->handle);
-    if (!loaded || loaded->save != 0)
+    const struct session *known = machine_session(machine, session->handle);
+    if (!known || known->is_saved)
         return TPM_RC_REFERENCE_S0 + (uint32_t)number;
     if (type == 0x03 || (session->attributes & (DECRYPTS | ENCRYPTS)) || !(session->attributes & AUDITS))
         return TPM_RC_ATTRIBUTES + FOR_SESSION(number);
@@ -279,12 +277,12 @@ static size_t put_session(uint8_t *out, const uint8_t *nonce, size_t nonce_len, 
 
 static size_t answer_session(struct machine *machine, const struct carried *session, const struct carried_text *text,
                              uint8_t *out) {
-    const struct session_key *key = key_of(machine, session->handle);
+    const struct session *known = machine_session(machine, session->handle);
     uint8_t mac[TPM_POLICY_BYTES], attributes = session->attributes & (CONTINUES | AUDITS);
-    if (!key) /* a password's */
+    if (!known) /* a password's */
         return put_session(out, mac, 0, CONTINUES, mac, 0);
-    size_t count = leaves_out(key, session) ? 0 : mac_of(machine, key, text, true, session, attributes, mac);
-    return put_session(out, key->nonce, key->nonce_len, attributes, mac, count);
+    size_t count = leaves_out(known, session) ? 0 : mac_of(machine, known, text, true, session, attributes, mac);
+    return put_session(out, known->nonce, known->nonce_len, attributes, mac, count);
 }
 
 size_t carried_answer(struct machine *machine, const struct carried_area *area, const struct carried_text *text,

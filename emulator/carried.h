@@ -4,15 +4,25 @@
 #ifndef EMULATOR_CARRIED_H
 #define EMULATOR_CARRIED_H
 
-#include "record.h"
+#include "vinjakwe.h"
+
+#include <stdbool.h>
 
 struct machine;
 
-/* A session of the device: its hash, its key, which is empty where it is not bound, and nonceTPM. */
-struct session_key {
+#define SESSION_SLOTS 3
+
+/* TPMS_CONTEXT of a saved session (Part 2, 14.5): the number of the save, the session's handle, the null hierarchy,
+ * and a blob of random bytes. */
+#define SEAL_BYTES 32
+#define SAVED_BYTES (8 + 4 + 4 + 2 + SEAL_BYTES)
+
+/* What the host knows of a session that was started in a slot of the device, while the device has it loaded. */
+struct session {
     uint32_t handle;
-    uint16_t hash;
-    size_t key_len;
+    bool is_saved;
+    uint8_t saved[SAVED_BYTES]; /* what it was saved as */
+    size_t key_len;             /* of the session's key, which is empty where it is not bound */
     uint8_t key[TPM_POLICY_BYTES];
     size_t nonce_len;
     uint8_t nonce[TPM_POLICY_BYTES];

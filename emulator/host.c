@@ -117,6 +117,9 @@ static const uint32_t device_commands[] = {
     TPM_CC_PolicyGetDigest | CC_HANDLES(1),
 };
 
+/* How many counters a device has room for. */
+#define COUNTER_SLOTS 8
+
 #define COUNT(list) (sizeof(list) / sizeof *(list))
 
 /* The table of what the host answers stands at the end of this file. */
@@ -138,22 +141,33 @@ static void list_algorithms(struct entries *list) {
     add(list, TPM_ALG_SHA384, is_hash);
 }
 
-static uint32_t loaded_sessions(const struct record *record) {
+/* The session that the device has loaded in this slot, or none. */
+static const struct session *session_in(struct machine *machine, size_t slot) {
+    return machine_session(machine, machine->sessions[slot].handle);
+}
+
+static uint32_t loaded_sessions(struct machine *machine) {
     uint32_t count = 0;
     for (size_t i = 0; i < SESSION_SLOTS; i++)
-        count += record->sessions[i].loaded;
+        count += session_in(machine, i) != NULL;
     return count;
 }
 
-static uint32_t written_counters(const struct record *record) {
+static struct tpm_counter counter_of(const struct machine *machine, size_t number) {
+    struct tpm_counter counter = {.index = 0};
+    tpm_device_counter(machine->device, number, &counter);
+    return counter;
+}
+
+static uint32_t written_counters(const struct machine *machine) {
     uint32_t count = 0;
-    for (size_t i = 0; i < record->counter_count; i++)
-        count += counter_is_written(&record->counters[i]);
+    for (size_t i = 0; i < tpm_device_counters(machine->device); i++)
+        count += (counter_of(machine, i).attributes & NV_WRITTEN) != 0;
     return count;
 }
 
 /* TPM_PT (Part 2, 6.13): the limits are those of the device. */
-static void list_properties(struct entries *list, const struct machine *machine) {
+static void list_properties(struct entries *list, struct machine *machine) {
     static const struct entry fixed[] = {
         {0x100, 0x322E3000},       /* family "2.0" */
         {0x101, 0},                /* level */
@@ -183,15 +197,14 @@ static void list_properties(struct entries *list, const struct machine *machine)
         {0x120, 48},               /* bytes of a digest */
         {0x12C, 8},                /* bytes that are read of an index */
     };
-    const struct record *record = &machine->record;
-    uint32_t sessions = loaded_sessions(record), counters = (uint32_t)record->counter_count;
+    uint32_t sessions = loaded_sessions(machine), counters = (uint32_t)tpm_device_counters(machine->device);
     uint32_t commands = (uint32_t)(COUNT(device_commands) + host_command_count());
     for (size_t i = 0; i < COUNT(fixed); i++)
         add(list, fixed[i].tag, fixed[i].value);
     add(list, 0x129, commands); /* commands, those of the library, those of the vendor */
     add(list, 0x12A, commands);
     add(list, 0x12B, 0);
-    add(list, 0x200, machine->making.owner_len > 0); /* TPMA_PERMANENT: ownerAuthSet */
+    add(list, 0x200, machine->owner_len > 0); /* TPMA_PERMANENT: ownerAuthSet */
     add(list, 0x201, 1 << 1);                        /* TPMA_STARTUP_CLEAR: shEnable */
     add(list, 0x202, counters);
     add(list, 0x203, sessions);
@@ -201,27 +214,27 @@ static void list_properties(struct entries *list, const struct machine *machine)
     add(list, 0x207, 0); /* room for transient objects; persistent ones, and room for them */
     add(list, 0x208, 0);
     add(list, 0x209, 0);
-    add(list, 0x20A, written_counters(record));
+    add(list, 0x20A, written_counters(machine));
     add(list, 0x20B, COUNTER_SLOTS - counters);
 }
 
 /* The handles of a type, which is the first byte of the property (Part 2, 7.2), and whether there is such a type. A
  * session that was saved is listed as saved, as tools expect it, though it stays loaded in the device. */
-static bool list_handles(struct entries *list, const struct record *record, uint32_t type) {
+static bool list_handles(struct entries *list, struct machine *machine, uint32_t type) {
     switch (type) {
     case 0x00:
         for (uint32_t i = 0; i < 24; i++)
             add(list, i, 0);
         break;
     case 0x01:
-        for (size_t i = 0; i < record->counter_count; i++)
-            add(list, record->counters[i].index, 0);
+        for (size_t i = 0; i < tpm_device_counters(machine->device); i++)
+            add(list, counter_of(machine, i).index, 0);
         break;
     case 0x02:
     case 0x03:
         for (size_t i = 0; i < SESSION_SLOTS; i++)
-            if (record->sessions[i].loaded && (record->sessions[i].save != 0) == (type == 0x03))
-                add(list, record->sessions[i].handle, 0);
+            if (session_in(machine, i) && session_in(machine, i)->is_saved == (type == 0x03))
+                add(list, session_in(machine, i)->handle, 0);
         break;
     case 0x40:
         add(list, TPM_RH_OWNER, 0);
@@ -290,7 +303,7 @@ static uint32_t get_capability(struct machine *machine, const struct asked *aske
         list_algorithms(&list);
         break;
     case CAP_HANDLES:
-        if (!list_handles(&list, &machine->record, property >> 24))
+        if (!list_handles(&list, machine, property >> 24))
             return TPM_RC_HANDLE + FOR_PARAMETER_2;
         break;
     case CAP_COMMANDS:
@@ -320,46 +333,40 @@ static uint32_t get_capability(struct machine *machine, const struct asked *aske
 
 /* ---- TPM2_ContextSave and TPM2_ContextLoad (Part 3, 28.2 and 28.3) */
 
-/* A saved session: TPMS_CONTEXT, whose blob is the number of the session's start and an HMAC of all before it. */
-#define SAVED_BLOB (8 + SHA256_BYTES)
-#define SAVED_BYTES (8 + 4 + 4 + 2 + SAVED_BLOB)
-
-static void seal_context(const struct machine *machine, const uint8_t *context, uint8_t mac[SHA256_BYTES]) {
-    hmac_sha256(machine->key, context, SAVED_BYTES - SHA256_BYTES, mac);
+static void make_context(struct machine *machine, struct session *session) {
+    put64(session->saved, ++machine->saves);
+    put32(session->saved + 8, session->handle);
+    put32(session->saved + 12, TPM_RH_NULL);
+    put16(session->saved + 16, SEAL_BYTES);
+    random_bytes(session->saved + 18, SEAL_BYTES);
 }
 
 /* The session stays loaded in the device: what is saved names it, and is good for one load while the session lives. Of
  * a session that is saved already nothing is loaded that could be saved. */
 static uint32_t context_save(struct machine *machine, const struct asked *asked, struct reply *reply) {
-    struct session *session = record_session(&machine->record, asked->handle);
-    uint8_t *context = reply->bytes + reply->len, mac[SHA256_BYTES], type = (uint8_t)(asked->handle >> 24);
+    struct session *session = machine_session(machine, asked->handle);
+    uint8_t type = (uint8_t)(asked->handle >> 24);
     if (type != 0x02 && type != 0x03 && type != 0x80)
         return TPM_RC_VALUE + FOR_HANDLE_1;
-    if (!session || session->save != 0)
+    if (!session || session->is_saved)
         return TPM_RC_REFERENCE_H0;
-    session->save = ++machine->saves;
-    reply64(reply, session->save);
-    reply32(reply, session->handle);
-    reply32(reply, TPM_RH_NULL);
-    reply16(reply, SAVED_BLOB);
-    reply64(reply, session->start);
-    seal_context(machine, context, mac);
-    reply_bytes(reply, mac, sizeof mac);
+    session->is_saved = true;
+    make_context(machine, session);
+    reply_bytes(reply, session->saved, SAVED_BYTES);
     return TPM_RC_SUCCESS;
 }
 
+/* A context of another save than the last one is of no session; one of that save has to be that one. */
 static uint32_t context_load(struct machine *machine, const struct asked *asked, struct reply *reply) {
     const uint8_t *context = asked->parameters;
-    uint8_t mac[SHA256_BYTES];
-    if (asked->len != SAVED_BYTES || number16(context + 16) != SAVED_BLOB)
+    if (asked->len != SAVED_BYTES || number16(context + 16) != SEAL_BYTES)
         return TPM_RC_SIZE + FOR_PARAMETER_1;
-    seal_context(machine, context, mac);
-    if (memcmp(mac, context + SAVED_BYTES - SHA256_BYTES, sizeof mac) != 0)
-        return RC_INTEGRITY + FOR_PARAMETER_1;
-    struct session *session = record_session(&machine->record, number32(context + 8));
-    if (!session || session->save != number64(context) || session->start != number64(context + 18))
+    struct session *session = machine_session(machine, number32(context + 8));
+    if (!session || !session->is_saved || number64(session->saved) != number64(context))
         return TPM_RC_HANDLE + FOR_PARAMETER_1;
-    session->save = 0;
+    if (memcmp(context, session->saved, SAVED_BYTES) != 0)
+        return RC_INTEGRITY + FOR_PARAMETER_1;
+    session->is_saved = false;
     reply32(reply, session->handle);
     return TPM_RC_SUCCESS;
 }
@@ -624,7 +631,7 @@ static uint32_t missing(const struct cut *cut) {
  * parameters. */
 static uint32_t judged(struct machine *machine, struct cut *cut, const uint8_t *command, size_t len,
                        struct reply *reply) {
-    if (!machine->record.started)
+    if (!machine->started)
         return TPM_RC_INITIALIZE;
     uint32_t code = cut_areas(cut, command, len);
     if (code == TPM_RC_SUCCESS)

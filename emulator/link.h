@@ -18,7 +18,8 @@ struct link {
     struct tpm_framer *framer;
     int given;          /* a descriptor that came with what is held, or -1 */
     size_t given_count; /* how many came */
-    uint32_t blob_left; /* bytes of a state blob that are still to come */
+    uint32_t blob_left; /* bytes of a state blob that are stepped over */
+    uint32_t blob_code; /* what is then answered */
     size_t held;
     uint8_t bytes[LONGEST_MESSAGE];
     size_t owed;

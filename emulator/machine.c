@@ -6,7 +6,6 @@
 #include <string.h>
 
 void machine_begin(struct machine *machine) {
-    random_bytes(machine->key, sizeof machine->key);
     clock_gettime(CLOCK_MONOTONIC, &machine->began_at);
     machine->powered = false;
     machine_power_on(machine);
@@ -23,13 +22,29 @@ void machine_power_on(struct machine *machine) {
         machine_answer(machine, 0, startup, sizeof startup, response);
 }
 
+/* The device is not started, and has no session. */
+static void forget(struct machine *machine) {
+    machine->started = false;
+    memset(machine->sessions, 0, sizeof machine->sessions);
+}
+
 void machine_power_off(struct machine *machine) {
     if (!machine->powered)
         return;
     machine->powered = false;
     machine->power_cycles++;
-    tpm_device_power_cycle(machine->making.device);
-    record_power_cycle(&machine->record);
+    tpm_device_power_cycle(machine->device);
+    forget(machine);
+}
+
+uint32_t machine_restore(struct machine *machine, const uint8_t *kept, size_t len, struct tpm_refusal *refusal) {
+    uint32_t status = tpm_device_restore(machine->device, machine->owner, machine->owner_len, kept, len, refusal);
+    if (status != TPM_DONE)
+        return status;
+    forget(machine);
+    if (machine->state)
+        state_write(machine->state, machine->device);
+    return TPM_DONE;
 }
 
 size_t digest_bytes(uint16_t algorithm) {
@@ -53,7 +68,7 @@ size_t machine_hash(struct machine *machine, uint16_t algorithm, const uint8_t *
     put16(command + 27, (uint16_t)len);
     memcpy(command + 29, bytes, len);
     random_bytes(nonce, sizeof nonce);
-    size_t count = tpm_device_execute(machine->making.device, command, 29 + len, nonce, response, sizeof response);
+    size_t count = tpm_device_execute(machine->device, command, 29 + len, nonce, response, sizeof response);
     size_t at = 18, size;
     for (; number32(response + 6) == TPM_RC_SUCCESS && at + 2 <= count; at += 2 + size) {
         uint16_t found = number16(response + at);
@@ -68,33 +83,25 @@ size_t machine_hash(struct machine *machine, uint16_t algorithm, const uint8_t *
     return 0;
 }
 
-/* How many counters there are that only a policy made. */
-static size_t witnesses(const struct record *record) {
-    size_t count = 0;
-    for (size_t i = 0; i < record->counter_count; i++)
-        count += record->counters[i].witness.there;
-    return count;
-}
-
-/* Takes note of an accepted command. What it did to counters is in the file before anybody is told. */
-static void keep(struct machine *machine, const uint8_t *command, size_t len, const uint8_t *response, size_t count) {
-    size_t before = witnesses(&machine->record);
-    carried_see(machine, command, len, response, count);
-    if (!record_accepted(&machine->record, command, len, response, count) || !machine->state)
-        return;
-    state_compare(&machine->making, &machine->record);
-    if (witnesses(&machine->record) > before)
-        state_try(&machine->making, &machine->record);
-    state_write(machine->state, &machine->record);
-}
-
 static size_t executed(struct machine *machine, const uint8_t *command, size_t len, uint8_t *response) {
     uint8_t nonce[TPM_NONCE_BYTES];
     random_bytes(nonce, sizeof nonce);
-    size_t count = tpm_device_execute(machine->making.device, command, len, nonce, response, TPM_BUFFER_BYTES);
-    if (number32(response + 6) == TPM_RC_SUCCESS)
-        keep(machine, command, len, response, count);
+    size_t count = tpm_device_execute(machine->device, command, len, nonce, response, TPM_BUFFER_BYTES);
+    /* What was done to NV memory is in the file before anybody is told. */
+    if (machine->state && tpm_device_changes_nv(command, len, response, count))
+        state_write(machine->state, machine->device);
+    if (number32(response + 6) == TPM_RC_SUCCESS) {
+        machine->started = true;
+        carried_see(machine, command, len, response, count);
+    }
     return count;
+}
+
+struct session *machine_session(struct machine *machine, uint32_t handle) {
+    for (size_t i = 0; i < SESSION_SLOTS; i++)
+        if (machine->sessions[i].handle == handle && tpm_device_session_hash(machine->device, handle) != 0)
+            return &machine->sessions[i];
+    return NULL;
 }
 
 void machine_flush(struct machine *machine, uint32_t session) {
@@ -111,11 +118,7 @@ static size_t answered(struct machine *machine, uint8_t locality, const uint8_t 
     if (locality != 0)
         return code_alone(response, TPM_RC_LOCALITY);
     size_t count = machine->only_device ? 0 : host_answer(machine, command, len, response);
-    if (count > 0)
-        return count;
-    if (record_cannot_keep(&machine->record, command, len))
-        return code_alone(response, RC_NV_UNAVAILABLE);
-    return executed(machine, command, len, response);
+    return count > 0 ? count : executed(machine, command, len, response);
 }
 
 size_t machine_answer(struct machine *machine, uint8_t locality, const uint8_t *command, size_t len,

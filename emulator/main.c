@@ -5,6 +5,7 @@
 #include "server.h"
 
 #include <errno.h>
+#include <inttypes.h>
 #include <signal.h>
 #include <stdio.h>
 #include <stdlib.h>
@@ -39,7 +40,7 @@ static const char usage[] =
     "  --unixio PATH      serve QEMU at this Unix socket: its control channel, and the descriptor that it hands over\n"
     "  --stdio            read commands from standard input, and write responses to standard output\n"
     "  --listen ADDRESS   listen there in place of 127.0.0.1\n"
-    "  --state FILE       keep counters and the greatest value in this file\n"
+    "  --state FILE       keep NV memory in this file: the counters, and the greatest value of all\n"
     "  --owner HEX        the owner's authorization value, of at most 48 bytes; else it is empty\n"
     "  --greatest NUMBER  the greatest value that a counter has had, of a device whose file is not there yet\n"
     "  --startup          start the device whenever its power comes on\n"
@@ -164,24 +165,31 @@ static void take_words(struct words *words, char **given) {
     judge_words(words);
 }
 
+/* The device that the file keeps. */
+static void restore_device(struct machine *machine, const struct kept *kept, const struct words *words) {
+    struct tpm_refusal refusal;
+    if (words->has_greatest)
+        fail(STATUS_USAGE, "%s says the greatest value already", words->state);
+    if (machine_restore(machine, kept->bytes, kept->len, &refusal) != TPM_DONE)
+        fail(STATUS_REFUSED, "%s was cut or changed: code %03" PRIx32 " at byte %" PRIu32, words->state, refusal.code,
+             refusal.at);
+}
+
 /* A new device, or the one that the file keeps. */
 static void make_device(struct machine *machine, struct state *state, const struct words *words) {
-    struct making *making = &machine->making;
-    making->device = library_room(tpm_device_size(), tpm_device_align());
-    making->owner = words->owner;
-    making->owner_len = words->owner_len;
-    record_init(&machine->record, words->greatest, words->state != NULL);
-    tpm_device_init(making->device, making->owner, making->owner_len, words->greatest);
+    struct kept kept;
+    machine->device = library_room(tpm_device_size(), tpm_device_align());
+    machine->owner = words->owner;
+    machine->owner_len = words->owner_len;
+    tpm_device_init(machine->device, machine->owner, machine->owner_len, words->greatest);
     if (!words->state)
         return;
     state_hold(state, words->state);
-    machine->state = state;
-    if (!state_read(state, &machine->record))
-        state_write(state, &machine->record);
-    else if (words->has_greatest)
-        fail(STATUS_USAGE, "%s says the greatest value already", words->state);
+    if (state_read(state, &kept))
+        restore_device(machine, &kept, words);
     else
-        state_make(making, &machine->record);
+        state_write(state, machine->device);
+    machine->state = state;
 }
 
 /* Listens where the words say. */
@@ -241,8 +249,7 @@ static void end(struct machine *machine) {
         state_release(machine->state);
     if (machine->capture)
         capture_end(machine->capture);
-    record_free(&machine->record);
-    free(machine->making.device);
+    free(machine->device);
 }
 
 int main(int argc, char **argv) {

@@ -130,17 +130,21 @@ static size_t take_frame(struct server *server, struct link *link) {
 
 /* ---- swtpm's control port, and QEMU's control channel */
 
+/* TPM 1.2's codes, as swtpm answers them. */
 #define CONTROL_DONE ((uint32_t)0)
+#define CONTROL_BAD_PARAMETER ((uint32_t)0x03)
 #define CONTROL_BAD_NUMBER ((uint32_t)0x0A)
 #define CONTROL_BAD_LOCALITY ((uint32_t)0x3D)
 
-/* What the table below does, as PTM_CAP bits. There is none for state blobs, since no kind of them can be had. */
+/* What the table below does, as PTM_CAP bits. */
 #define CAN_INIT ((uint32_t)1 << 0)
 #define CAN_SHUTDOWN ((uint32_t)1 << 1)
 #define CAN_GET_ESTABLISHED ((uint32_t)1 << 2)
 #define CAN_SET_LOCALITY ((uint32_t)1 << 3)
 #define CAN_CANCEL ((uint32_t)1 << 5)
 #define CAN_RESET_ESTABLISHED ((uint32_t)1 << 7)
+#define CAN_GET_BLOB ((uint32_t)1 << 8)
+#define CAN_SET_BLOB ((uint32_t)1 << 9)
 #define CAN_STOP ((uint32_t)1 << 10)
 #define CAN_GET_CONFIG ((uint32_t)1 << 11)
 #define CAN_SET_DATAFD ((uint32_t)1 << 12)
@@ -148,7 +152,7 @@ static size_t take_frame(struct server *server, struct link *link) {
 
 static void control_capabilities(struct server *server, struct link *link) {
     uint32_t can = CAN_INIT | CAN_SHUTDOWN | CAN_GET_ESTABLISHED | CAN_SET_LOCALITY | CAN_CANCEL |
-                   CAN_RESET_ESTABLISHED | CAN_STOP | CAN_GET_CONFIG | CAN_SET_BUFFERSIZE;
+                   CAN_RESET_ESTABLISHED | CAN_GET_BLOB | CAN_SET_BLOB | CAN_STOP | CAN_GET_CONFIG | CAN_SET_BUFFERSIZE;
     (void)server;
     owe32(link, CONTROL_DONE);
     owe32(link, link->protocol == QEMU_CONTROL ? can | CAN_SET_DATAFD : can);
@@ -158,6 +162,7 @@ static void control_capabilities(struct server *server, struct link *link) {
 static void control_init(struct server *server, struct link *link) {
     machine_power_off(server->machine);
     machine_power_on(server->machine);
+    server->runs = true;
     owe32(link, CONTROL_DONE);
 }
 
@@ -185,6 +190,7 @@ static void control_nothing(struct server *server, struct link *link) {
 
 static void control_stop(struct server *server, struct link *link) {
     machine_power_off(server->machine);
+    server->runs = false;
     owe32(link, CONTROL_DONE);
 }
 
@@ -206,21 +212,54 @@ static void control_data(struct server *server, struct link *link) {
     link_drop_given(link);
 }
 
-/* No kind of state can be had: the answer has the form of one, so that whoever asks reads it whole. */
-static void control_get_blob(struct server *server, struct link *link) {
-    (void)server;
-    owe32(link, CONTROL_BAD_NUMBER);
-    for (int i = 0; i < 3; i++) /* flags, the whole length, and that of this part */
-        owe32(link, 0);
+/* ---- state blobs: flags, the type, and an offset or the length of what comes behind */
+
+#define BLOB_PERMANENT ((uint32_t)1)
+
+static uint32_t blob_type(const struct link *link) {
+    return number32(link->bytes + 8);
 }
 
-/* The blob comes behind the message. It is stepped over, and then refused. */
-static void control_set_blob(struct server *server, struct link *link) {
-    (void)server;
-    link->blob_left = number32(link->bytes + 12);
-    if (link->blob_left == 0)
-        owe32(link, CONTROL_BAD_NUMBER);
+/* The permanent blob is what the device keeps, from the offset on; there is no other one. The answer has the same form
+ * in any case, so that whoever asks reads it whole: flags, how long it is, and how long this part is. */
+static void control_get_blob(struct server *server, struct link *link) {
+    uint8_t kept[TPM_DEVICE_KEPT_BYTES];
+    bool there = blob_type(link) == BLOB_PERMANENT;
+    size_t len = there ? tpm_device_keep(server->machine->device, kept, sizeof kept) : 0;
+    size_t from = number32(link->bytes + 12) < len ? number32(link->bytes + 12) : len;
+    owe32(link, there ? CONTROL_DONE : CONTROL_BAD_NUMBER);
+    owe32(link, 0);
+    owe32(link, (uint32_t)(len - from));
+    owe32(link, (uint32_t)(len - from));
+    memcpy(link->answer + link->owed, kept + from, len - from);
+    link->owed += len - from;
 }
+
+/* What is set is what the next INIT begins with: a device that runs keeps what it has. */
+static uint32_t set_blob(struct server *server, const struct link *link, size_t len) {
+    struct tpm_refusal refusal;
+    if (blob_type(link) != BLOB_PERMANENT || server->runs || server->machine->started)
+        return CONTROL_BAD_NUMBER;
+    if (len > TPM_DEVICE_KEPT_BYTES ||
+        machine_restore(server->machine, link->bytes + 16, len, &refusal) != TPM_DONE)
+        return CONTROL_BAD_PARAMETER;
+    return CONTROL_DONE;
+}
+
+/* A blob that is longer than any is stepped over, and then refused. */
+static void control_set_blob(struct server *server, struct link *link) {
+    uint32_t len = number32(link->bytes + 12), code = set_blob(server, link, len);
+    if (len > TPM_DEVICE_KEPT_BYTES) {
+        link->blob_left = len;
+        link->blob_code = code;
+    } else {
+        owe32(link, code);
+    }
+}
+
+/* ---- the table */
+
+#define SET_BLOB ((uint32_t)13)
 
 static const struct control {
     uint32_t number;
@@ -235,7 +274,7 @@ static const struct control {
     {9, 0, control_nothing},
     {11, 1, control_nothing}, /* TPM_ESTABLISHED is reset */
     {12, 12, control_get_blob},
-    {13, 12, control_set_blob},
+    {SET_BLOB, 12, control_set_blob},
     {14, 0, control_stop},
     {15, 0, control_zero},
     {16, 0, control_data},
@@ -266,21 +305,30 @@ static size_t refuse_control(struct link *link) {
     return link->held;
 }
 
+/* How many bytes of a blob are waited for: all, where it may be one. */
+static size_t behind(const struct control *control, const struct link *link) {
+    uint32_t len = control->number == SET_BLOB ? number32(link->bytes + 12) : 0;
+    return len <= TPM_DEVICE_KEPT_BYTES ? len : 0;
+}
+
 static size_t answer_control(struct server *server, struct link *link) {
     const struct control *control = control_of(link);
     if (!control)
         return link->held < 4 && link->protocol != QEMU_CONTROL ? 0 : refuse_control(link);
     if (link->held < 4 + control->len)
         return link->protocol == QEMU_CONTROL ? refuse_control(link) : 0;
+    size_t len = 4 + control->len + behind(control, link);
+    if (link->held < len)
+        return 0;
     control->answer(server, link);
-    return 4 + control->len + (control->len == 1 && is_filled(link) ? 3 : 0);
+    return len + (control->len == 1 && is_filled(link) ? 3 : 0);
 }
 
 static size_t step_over_blob(struct link *link) {
     size_t len = link->blob_left < link->held ? link->blob_left : link->held;
     link->blob_left -= (uint32_t)len;
     if (link->blob_left == 0)
-        owe32(link, CONTROL_BAD_NUMBER);
+        owe32(link, link->blob_code);
     return len;
 }
 

@@ -36,6 +36,7 @@ struct server {
     const char *path;  /* of the Unix socket, or none */
     uint64_t turn;
     int signals;
+    bool runs; /* INIT has come over a control channel, and no STOP since */
     bool ended;
     int status;
 };
