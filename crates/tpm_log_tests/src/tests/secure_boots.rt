@@ -5,6 +5,7 @@ use crate::tests::logs::{bytes_of, parsed};
 use arrayvec::ArrayVec;
 use std::process::Abort;
 use std::test::*;
+use tpm_log::laws::secure_boot_of_the_register;
 use tpm_log::{
     SecureBootFault, SecureBootFaultKind, SecureBootState, SecurityVariable, secure_boot,
 };
@@ -424,4 +425,5 @@ fn the_keys_are_told_where_they_lie(rt: HostRuntime) {
     }
     assert!(rt; lengths.next().is_none());
     assert!(rt; secure_boot(&log, Alg::Sha1).is_err());
+    secure_boot_of_the_register();
 }
