@@ -386,8 +386,9 @@ same_call() {
     word=$1 function=$2
     set -- 0 $(($3 / 2)) $(($3 - 1))
     for at; do
-        set -- "$@" "$(count_in "$function" "$room/calls" "$word" "$at" checks/quotes/17-ovmf-secureboot.log \
-            checks/quotes/ecc-sha256.msg)"
+        # The words of each run have one length, since it moves the stack.
+        set -- "$@" "$(count_in "$function" "$room/calls" "$word" "$(printf %02d "$at")" \
+            checks/quotes/17-ovmf-secureboot.log checks/quotes/ecc-sha256.msg)"
         shift
     done
     alike "instructions through C wherever it is that what was sent differs: $word" "$@"

@@ -494,8 +494,8 @@ on_a_small_disk() {
         unshare --map-root-user --mount sh -c 'mount -t tmpfs -o size=32k none "$0" && exec "$@"' "$room/disk" "$@"
 }
 
-# filled: the same where the disk is full at a random moment in place of a kill: the emulator ends, and what it could not
-# keep is told to nobody.
+# filled: the same where the disk is full at a random moment in place of a kill: the emulator ends, and what it could
+# not keep is told to nobody.
 filled() {
     on_a_small_disk timeout 900 "$room/client" full $((port + 24)) "${KILLS:-40}" "${SEED:-1}" "$room/disk/more" \
         "$room/emulator" --swtpm $((port + 24)) --state "$room/disk/state"
