@@ -179,6 +179,61 @@ static size_t execute_through_c(size_t which, uint8_t *out) {
     return is_done(out, len);
 }
 
+// ---- a device that is kept, with eight counters
+
+static max_align_t kept_room[1024], made_room[1024];
+static uint8_t kept[TPM_DEVICE_KEPT_BYTES];
+static size_t kept_len;
+
+static struct tpm_device *eight_counters(void) {
+    static const uint8_t startup[] = {0x80, 0x01, 0, 0, 0, 12, 0, 0, 0x01, 0x44, 0, 0}, nonce[TPM_NONCE_BYTES];
+    static uint8_t define[] = {0x80, 0x02, 0,    0, 0, 45, 0, 0, 0x01, 0x2A, 0x40, 0,    0, 1, 0,    0, 0, 9, 0x40, 0, 0, 9, 0,
+                               0,    0,    0,    0, 0, 0,  0, 14, 1,   0x80, 0,    0,    0, 0x0B, 2, 2, 0, 0x12, 0, 0, 0, 8};
+    static uint8_t increment[] = {0x80, 0x02, 0, 0, 0, 31, 0, 0, 0x01, 0x34, 0x40, 0, 0, 1, 1, 0x80, 0, 0, 0, 0, 0, 9, 0x40, 0, 0, 9, 0, 0, 0, 0, 0};
+    struct tpm_device *device = (struct tpm_device *)kept_room;
+    uint8_t out[TPM_BUFFER_BYTES];
+    if (kept_len > 0)
+        return device;
+    want(tpm_device_size() <= sizeof kept_room && tpm_device_align() <= _Alignof(max_align_t), "the room of a kept device");
+    want(tpm_device_init(device, nonce, 0, 0) == 1, "a device to keep");
+    is_done(out, tpm_device_execute(device, startup, sizeof startup, nonce, out, sizeof out));
+    for (uint8_t i = 0; i < 8; i++) {
+        define[34] = increment[17] = i;
+        is_done(out, tpm_device_execute(device, define, sizeof define, nonce, out, sizeof out));
+        is_done(out, tpm_device_execute(device, increment, sizeof increment, nonce, out, sizeof out));
+    }
+    want(tpm_device_counters(device) == 8, "eight counters");
+    kept_len = tpm_device_keep(device, kept, sizeof kept);
+    return device;
+}
+
+static size_t keep(size_t argument, uint8_t *out) {
+    struct tpm_device *device = eight_counters();
+    size_t len = 0;
+    for (int i = 0; i < TIMES; i++)
+        len = tpm_device_keep(device, out, OUT);
+    (void)argument;
+    return len;
+}
+
+static size_t make_again(size_t argument, uint8_t *out) {
+    static const uint8_t nobody[1];
+    struct tpm_refusal refusal;
+    uint32_t answers = 0;
+    eight_counters();
+    for (int i = 0; i < TIMES; i++)
+        answers += tpm_device_restore((struct tpm_device *)made_room, nobody, 0, kept, kept_len, &refusal);
+    (void)argument, (void)out;
+    return answers == TPM_DONE;
+}
+
+// What both hash, by the library: all bytes but the digest at the end.
+static size_t hash_of_kept(size_t argument, uint8_t *out) {
+    (void)argument;
+    eight_counters();
+    return tpm_bench_hash(SHA256_ALG, kept, kept_len - SHA256_DIGEST_LENGTH, out, OUT);
+}
+
 // What PCR_Extend with two digests hashes, by the library: each register's value and the digest behind it.
 static size_t hashes_of_extend(size_t argument, uint8_t *out) {
     (void)argument;
@@ -309,6 +364,8 @@ static struct row rows[] = {
     {"both, StartAuthSession first", START_FLUSH, {execute_run, TIMES}, {NULL}},
     {"both, NV_DefineSpace first", DEFINE, {execute_run, TIMES}, {NULL}},
     {"both, NV_UndefineSpace first", UNDEFINE, {execute_run, TIMES}, {NULL}},
+    {"kept, 8 counters written", 0, {keep, TIMES}, {hash_of_kept}, 1},
+    {"kept, 8 counters read", 0, {make_again, TIMES}, {hash_of_kept}, 1},
     {"session, PCR_Extend", EXTEND_SESSION, {execute_run, TIMES}, {hashes_of_run}, 1},
     {"session, PCR_Event, 4 bytes", EVENT_SESSION, {execute_run, TIMES}, {hashes_of_run}, 1},
     {"session, PCR_Reset", RESET_SESSION, {execute_run, TIMES}, {hashes_of_run}, 1},

@@ -79,6 +79,60 @@ func NewDevice(owner []byte, greatest uint64) (*Device, error) {
 	return &Device{device}, nil
 }
 
+// RestoreDevice makes a device of this owner and of the bytes that Keep gave: it stands where a power cycle leaves the one that gave
+// them. The error is a *Refusal of other bytes, or of an owner's value of more than 48 bytes.
+func RestoreDevice(owner, kept []byte) (*Device, error) {
+	var refusal C.struct_tpm_refusal
+	device := (*C.struct_tpm_device)(room(C.tpm_device_size(), C.tpm_device_align()))
+	if err := judged(C.tpm_device_restore(device, place(owner), size(owner), place(kept), size(kept), &refusal), &refusal); err != nil {
+		return nil, err
+	}
+	return &Device{device}, nil
+}
+
+// Keep gives the bytes of NV memory, which hold authorization values.
+func (d *Device) Keep() []byte {
+	out := make([]byte, DeviceKeptBytes)
+	return out[:C.tpm_device_keep(d.device, place(out), size(out))]
+}
+
+// ChangesNV says whether the device that answered this command with this response has changed its NV memory: a host then keeps it
+// before it hands out the response.
+func ChangesNV(command, response []byte) bool {
+	return C.tpm_device_changes_nv(place(command), size(command), place(response), size(response)) != 0
+}
+
+// Greatest is the greatest value that any counter of the device has had.
+func (d *Device) Greatest() uint64 { return uint64(C.tpm_device_greatest(d.device)) }
+
+// A Counter is an NV counter that is defined: its index, the hash of its Name, its attributes as they are now, its policy, which may be
+// empty, whether it has an authorization value, and its value, which is 0 where it was not incremented.
+type Counter struct {
+	Index      uint32
+	Hash       Hash
+	Attributes uint32
+	Policy     []byte
+	HasAuth    bool
+	Value      uint64
+}
+
+// Counters gives the counters that are defined, in the order of their definitions.
+func (d *Device) Counters() []Counter {
+	found := make([]Counter, C.tpm_device_counters(d.device))
+	for which := range found {
+		var it C.struct_tpm_counter
+		C.tpm_device_counter(d.device, C.size_t(which), &it)
+		policy := C.GoBytes(unsafe.Pointer(&it.policy), C.int(it.policy_len))
+		found[which] = Counter{uint32(it.index), Hash(it.hash), uint32(it.attributes), policy, it.has_auth != 0, uint64(it.value)}
+	}
+	return found
+}
+
+// SessionHash is the hash of the session of this handle, and 0 where it is not loaded.
+func (d *Device) SessionHash(session uint32) Hash {
+	return Hash(C.tpm_device_session_hash(d.device, C.uint32_t(session)))
+}
+
 // PowerCycle switches the power off and on: the counters stay.
 func (d *Device) PowerCycle() { C.tpm_device_power_cycle(d.device) }
 

@@ -24,8 +24,10 @@ const Version = "0.1.0"
 // Many bytes of these at most, or of a nonce exactly.
 const (
 	BufferBytes = C.TPM_BUFFER_BYTES
-	OwnerBytes  = C.TPM_OWNER_BYTES
-	NonceBytes  = C.TPM_NONCE_BYTES
+	// DeviceKeptBytes is how many bytes a device keeps at most.
+	DeviceKeptBytes = C.TPM_DEVICE_KEPT_BYTES
+	OwnerBytes      = C.TPM_OWNER_BYTES
+	NonceBytes      = C.TPM_NONCE_BYTES
 )
 
 func init() {

@@ -147,6 +147,51 @@ func TestDigestOfAPolicy(t *testing.T) {
 	}
 }
 
+func TestADeviceIsMadeAgainOfWhatItKept(t *testing.T) {
+	device, err := NewDevice([]byte("owner"), 40)
+	if err != nil {
+		t.Fatal(err)
+	}
+	for _, it := range []struct {
+		command string
+		changes bool
+	}{
+		{"80010000000c000001440000", false},
+		{"8002000000330000012a400000010000000e4000000900000000056f776e6572000161000e01800001000b0202001200000008", true},
+		{"8002000000240000013440000001018000010000000e4000000900000000056f776e6572", true},
+		{"80010000002b0000017640000007400000070010000000000000000000000000000000000000010010000b", false},
+	} {
+		command, _ := hex.DecodeString(it.command)
+		reply, err := device.Execute(command, make([]byte, NonceBytes))
+		if err != nil || !bytes.Equal(reply[6:10], make([]byte, 4)) || ChangesNV(command, reply) != it.changes {
+			t.Errorf("%x %v", reply, err)
+		}
+	}
+	kept := device.Keep()
+	again, err := RestoreDevice([]byte("owner"), kept)
+	if err != nil {
+		t.Fatal(err)
+	}
+	counters := again.Counters()
+	if len(counters) != 1 || again.Greatest() != 41 || !bytes.Equal(again.Keep(), kept) {
+		t.Fatal(counters, again.Greatest())
+	}
+	if it := counters[0]; it.Index != 0x01800001 || it.Hash != SHA256 || it.Attributes != 0x22020012 || len(it.Policy) != 0 || !it.HasAuth || it.Value != 41 {
+		t.Error(it)
+	}
+	if device.SessionHash(0x03000000) != SHA256 || again.SessionHash(0x03000000) != 0 {
+		t.Error(device.SessionHash(0x03000000), again.SessionHash(0x03000000))
+	}
+	kept[len(kept)-1] ^= 1
+	var refusal *Refusal
+	if _, err := RestoreDevice([]byte("owner"), kept); !errors.As(err, &refusal) || refusal.Code != 0x09F || int(refusal.At) != len(kept)-32 {
+		t.Error(err)
+	}
+	if _, err := RestoreDevice([]byte("owner"), nil); !errors.As(err, &refusal) || refusal.Code != 0x09A || refusal.At != 0 {
+		t.Error(err)
+	}
+}
+
 func TestADeviceStartsOnce(t *testing.T) {
 	device, err := NewDevice(nil, 0)
 	if err != nil {

@@ -141,8 +141,9 @@ class Devices(unittest.TestCase):
         session = bytes.fromhex("8001" "0000002b" "00000176" "40000007" "40000007" "0010") + bytes(16) + bytes.fromhex(
             "0000" "01" "0010" "000b")
         self.assertEqual(device.execute(bytes.fromhex("80010000000c000001440000")).hex(), answered)
-        for command in defined, increment, session:
-            self.assertEqual(device.execute(command)[6:10], bytes(4))
+        for command, changes in (defined, True), (increment, True), (session, False):
+            reply = device.execute(command)
+            self.assertEqual((reply[6:10], v.changes_nv(command, reply)), (bytes(4), changes))
         kept, counter = device.keep(), v.Counter(0x01800001, "sha256", 0x22020012, b"", True, 41)
         self.assertEqual(device.session_hash(0x03000000), "sha256")
         for again in v.Device.restore(b"owner", kept), v.Device.restore(b"owner", bytearray(kept)):

@@ -25,7 +25,7 @@ if TYPE_CHECKING:
 __all__ = [
     "Attest", "BrokenStream", "BUFFER_BYTES", "Caller", "CODES", "COMMANDS", "Command", "Counter", "Device", "Event", "Framer", "HASHES", "Kind",
     "LibraryError", "LogFault", "NONCE_BYTES", "OWNER_BYTES", "Policy", "Refusal", "Registers", "Response", "Session", "Verdict",
-    "build_command", "check", "check_quote", "code_name", "decode_attest", "decode_command", "decode_response", "events", "replay",
+    "build_command", "changes_nv", "check", "check_quote", "code_name", "decode_attest", "decode_command", "decode_response", "events", "replay",
     "selection",
 ]
 __version__ = "0.1.0"
@@ -193,7 +193,7 @@ def _load() -> tuple[ctypes.PyDLL, ctypes.CDLL]:
         ("device_execute", size, [p, p, size, p, p, size]), ("device_keep", size, [p, p, size]),
         ("device_restore", number, [p, p, size, p, size, refusal]), ("device_greatest", c_uint64, [p]),
         ("device_session_hash", c_uint16, [p, number]), ("device_counters", size, [p]),
-        ("device_counter", number, [p, size, POINTER(_Counter)]),
+        ("device_counter", number, [p, size, POINTER(_Counter)]), ("device_changes_nv", number, [p, size, p, size]),
         ("framer_init", None, [p]), ("framer_push", size, [p, p, size, count]), ("framer_frame", size, [p, p, size]),
         ("framer_next", None, [p]),
         ("command_cut", number, [p, size, POINTER(_CommandAreas), refusal]), ("command_decode", number, [p, size, refusal]),
@@ -654,6 +654,11 @@ class Device:
             raise ValueError(f"a nonce has {NONCE_BYTES} bytes")
         count = _lend(_library.tpm_device_execute, self._room, (command,), (c_uint8 * NONCE_BYTES)(*nonce), out, BUFFER_BYTES)
         return bytes(out[:count])
+
+
+def changes_nv(command: Buffer, response: Buffer) -> bool:
+    """Whether the device that answered this command so has changed its NV memory: a host then keeps it before it hands out the response."""
+    return bool(_lend(_library.tpm_device_changes_nv, (command,), (response,)))
 
 
 class Caller:

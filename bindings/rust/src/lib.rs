@@ -17,7 +17,7 @@ use core::fmt;
 pub use buffers::{build_command, Command, List, Response, Session};
 pub use logs::{check, check_quote, events, replay, Bank, Digest, Event, Events, Registers, Replay, Verdict};
 pub use quotes::{Attest, Policy, Selection};
-pub use states::{Caller, Counter, Device, Framer, Place, Room};
+pub use states::{changes_nv, Caller, Counter, Device, Framer, Place, Room};
 
 /// The version of this crate and of the library that it wants.
 pub const VERSION: &str = env!("CARGO_PKG_VERSION");

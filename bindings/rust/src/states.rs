@@ -107,6 +107,13 @@ impl Counter {
     }
 }
 
+/// Whether the device that answered this command with this response has changed its NV memory: a host then keeps it before it
+/// hands out the response.
+pub fn changes_nv(command: &[u8], response: &[u8]) -> bool {
+    // SAFETY: the bytes are there for the call.
+    unsafe { c::tpm_device_changes_nv(command.as_ptr(), command.len(), response.as_ptr(), response.len()) != 0 }
+}
+
 /// A device in memory.
 pub struct Device<P: Place>(P);
 

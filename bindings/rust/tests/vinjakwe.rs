@@ -2,8 +2,8 @@
 use std::fmt::Write;
 use std::fs;
 use vinjakwe::{
-    check, check_quote, check_version, events, replay, Attest, Bank, Device, Fault, LogFault, Policy, Replay, Room, Selection, Verdict, BUFFER_BYTES,
-    DEVICE_KEPT_BYTES, NONCE_BYTES,
+    changes_nv, check, check_quote, check_version, events, replay, Attest, Bank, Device, Fault, LogFault, Policy, Replay, Room, Selection,
+    Verdict, BUFFER_BYTES, DEVICE_KEPT_BYTES, NONCE_BYTES,
 };
 
 fn read(name: &str) -> Vec<u8> {
@@ -108,13 +108,14 @@ fn starts_once<P: vinjakwe::Place>(mut device: Device<P>) {
 fn a_device_is_made_again_of_what_it_kept() {
     let (mut room, mut second, mut out) = (Room::new(), Room::new(), [0; BUFFER_BYTES]);
     let mut device = Device::new(&mut room, b"owner", 40).unwrap();
-    for command in [
-        "80010000000c000001440000",
-        "8002000000330000012a400000010000000e4000000900000000056f776e6572000161000e01800001000b0202001200000008",
-        "8002000000240000013440000001018000010000000e4000000900000000056f776e6572",
-        "80010000002b0000017640000007400000070010000000000000000000000000000000000000010010000b",
+    for (command, changes) in [
+        ("80010000000c000001440000", false),
+        ("8002000000330000012a400000010000000e4000000900000000056f776e6572000161000e01800001000b0202001200000008", true),
+        ("8002000000240000013440000001018000010000000e4000000900000000056f776e6572", true),
+        ("80010000002b0000017640000007400000070010000000000000000000000000000000000000010010000b", false),
     ] {
-        assert_eq!(device.execute(&unhex(command), &[7; NONCE_BYTES], &mut out)[6..10], [0; 4]);
+        let reply = device.execute(&unhex(command), &[7; NONCE_BYTES], &mut out);
+        assert_eq!((&reply[6..10], changes_nv(&unhex(command), reply)), (&[0; 4][..], changes));
     }
     let (mut kept, mut again) = ([0; DEVICE_KEPT_BYTES], [0; DEVICE_KEPT_BYTES]);
     let kept = device.keep(&mut kept);
