@@ -40,7 +40,7 @@ PROGRAM
     ;;
 try)
     shift 3
-    [ -z "$SLOW" ] || { touch "$SLOW" && exec sleep 60; }
+    [ -z "$SLOW" ] || { echo $$ >"$SLOW" && exec sleep 60; }
     while [ "$1" != -- ]; do
         echo "copy $2"
         shift 2
@@ -49,10 +49,11 @@ try)
     for word in "$@"; do echo "<$word>"; done
     cat
     echo complaint >&2
+    [ "$BROKEN" != other ] || { echo "run=ended status=4 runners=1 proved=no" >&2 && exit 3; }
     [ -z "$BROKEN" ] || exit 6
-    echo "checked: ended status=3" >&2
-    echo "run=ended status=3 runners=1 proved=no" >&2
-    exit 3
+    echo "checked: ended status=${ENDED:-3}" >&2
+    echo "run=ended status=${ENDED:-3} runners=1 proved=no" >&2
+    exit "${ENDED:-3}"
     ;;
 esac
 END
@@ -105,12 +106,14 @@ complains "one line says that a try proves nothing, and another what the program
     "tpmtool: this answer takes about a minute, and is not proved here: ./tpmtool --build proves and builds the program" \
     complaint
 [ ! -e "$wrapper/crates/tpmtool/out" ] || fail "a try leaves the crate as it was" "$(ls "$wrapper/crates/tpmtool/out")"
+holds "a try is given 20 minutes" grep -q "^$wrapper/crates/tpmtool try --seconds 1200 " "$wrapper/calls"
 
 anew
 wrapped run --owner 00
 wants '<run>' '<--owner>' '<00>' given
 says "a try of a script is handed standard input" 3 0 1
-for words in 'show -' 'show --fields --file=/dev/stdin' 'check log --registers /dev/stdin' 'events -'; do
+for words in 'show -' 'show --fields --file=/dev/stdin' 'check log --registers /dev/stdin' 'events -' \
+    'check /dev/fd/0' 'show --nv /dev/stdin'; do
     anew
     wrapped $words
     tail -n 1 "$wrapper/out" | grep -qx given && pass "a try of $words is handed standard input" ||
@@ -125,7 +128,8 @@ says "a try of parts that are empty takes no input" 3 0 1
 : >"$wrapper/elsewhere/check"
 : >"$wrapper/elsewhere/in/log"
 for word in 'check *' 'events *' 'check log --registers *' 'check log --registers=*' \
-    'check log --attest *' 'check log --attest=*' 'show --file *' 'show --file=*' 'show --binary --file *'; do
+    'check log --attest *' 'check log --attest=*' 'show --file *' 'show --file=*' 'show --binary --file *' \
+    'show --nv *' 'show --nv=*'; do
     name="a try of '$word'"
     anew
     set -f
@@ -158,35 +162,60 @@ wrapped check /etc/passwd --quote 00
 wants "copy 00=$wrapper/elsewhere/00" "copy check=$wrapper/elsewhere/check" '<check>' '</etc/passwd>' '<--quote>' '<00>'
 says "a try changes no word that is a file's name by chance" 3 0 1
 
+mkdir "$wrapper/elsewhere/folder"
 anew
-export BROKEN=yes
-wrapped show
-unset BROKEN
-name="a try that gave no answer says why, and its limits"
-if [ "$status" -eq 126 ] && [ ! -s "$wrapper/out" ] && grep -q '^complaint' "$wrapper/err" &&
-    grep -q ' 20 minutes' "$wrapper/err"; then
-    pass "$name"
-else
-    fail "$name" "status $status: $(cat "$wrapper/err")"
-fi
+wrapped check folder
+wants "copy check=$wrapper/elsewhere/check" '<check>' '<folder>'
+says "a try copies no folder that has the name of a word" 3 0 1
+rmdir "$wrapper/elsewhere/folder"
 
-export SLOW=$wrapper/slow
-CALLS="$wrapper/calls" PATH="$wrapper/bin:$PATH" TMPDIR="$wrapper/tmp" "$wrapper/tpmtool" run \
-    </dev/null >"$wrapper/out" 2>"$wrapper/err" &
-interrupted=$!
-waited=0
-while [ ! -e "$SLOW" ] && [ $waited -lt 100 ]; do sleep 0.1 && waited=$((waited + 1)); done
-kill -TERM $interrupted
-wait $interrupted
+for BROKEN in yes other; do
+    export BROKEN
+    anew
+    wrapped show
+    unset BROKEN
+    name="a try that gave no answer says why, and its limits"
+    if [ "$status" -eq 126 ] && [ ! -s "$wrapper/out" ] && grep -q '^complaint' "$wrapper/err" &&
+        grep -q ' 20 minutes' "$wrapper/err"; then
+        pass "$name"
+    else
+        fail "$name" "status $status: $(cat "$wrapper/err")"
+    fi
+done
+ENDED=0 CALLS="$wrapper/calls" PATH="$wrapper/bin:$PATH" TMPDIR="$wrapper/tmp" "$wrapper/tpmtool" show >&- 2>/dev/null
 status=$?
-unset SLOW
-name="a try that is ended leaves nothing behind"
-if [ "$status" -eq 143 ] && [ ! -s "$wrapper/out" ] && [ -z "$(ls "$wrapper/tmp")" ] &&
-    [ ! -e "$wrapper/crates/tpmtool/out" ]; then
-    pass "$name"
-else
-    fail "$name" "status $status: $(ls "$wrapper/tmp")"
-fi
+name="a try whose output is closed ends with 3"
+if [ $status -eq 3 ]; then pass "$name"; else fail "$name" "status $status"; fi
+
+# In the foreground, since what runs in the background hears no SIGINT; and what nobody hears here is skipped.
+for signal in 'HUP 129' 'INT 130' 'TERM 143'; do
+    name="a try that SIG${signal% *} ends leaves nothing behind"
+    if sh -c "kill -${signal% *} \$\$; exit 0" 2>/dev/null; then
+        skip "$name" "the signal is ignored here"
+        continue
+    fi
+    export SLOW="$wrapper/slow"
+    rm -f "$SLOW" "$wrapper/script"
+    {
+        for wait in $(seq 100); do
+            if [ -s "$SLOW" ]; then break; fi
+            sleep 0.1
+        done
+        kill -"${signal% *}" "$(cat "$wrapper/script")"
+    } &
+    CALLS="$wrapper/calls" PATH="$wrapper/bin:$PATH" TMPDIR="$wrapper/tmp" \
+        sh -c 'echo $$ >"$0" && exec "$@"' "$wrapper/script" "$wrapper/tpmtool" run \
+        </dev/null >"$wrapper/out" 2>"$wrapper/err"
+    status=$?
+    wait $!
+    unset SLOW
+    if [ "$status" -eq "${signal#* }" ] && [ ! -s "$wrapper/out" ] && [ -z "$(ls "$wrapper/tmp")" ] &&
+        [ ! -e "$wrapper/crates/tpmtool/out" ] && ! kill "$(cat "$wrapper/slow")" 2>/dev/null; then
+        pass "$name"
+    else
+        fail "$name" "status $status: $(ls "$wrapper/tmp")"
+    fi
+done
 
 anew
 wrapped --build show 'a  b' '' '*'
@@ -263,13 +292,15 @@ if [ "$status" -eq 126 ] && [ ! -s "$wrapper/out" ] && [ ! -e "$built" ] && grep
 else
     fail "$name" "status $status: $(cat "$wrapper/err")"
 fi
-anew
-export UNPROVED=yes
-wrapped --build show
-unset UNPROVED
+for time in first second; do
+    anew
+    export UNPROVED=yes
+    wrapped --build show
+    unset UNPROVED
+done
 name="a build stops at what is not proved, and says why"
-if [ "$status" -eq 126 ] && grep -q '^what a proof of low says' "$wrapper/err" && ! grep -q ' run ' "$wrapper/calls" &&
-    [ -z "$(ls "$wrapper/tmp")" ]; then
+if [ "$status" -eq 126 ] && [ "$(grep -c '^what a proof of low says' "$wrapper/err")" -eq 1 ] &&
+    ! grep -q ' run ' "$wrapper/calls" && [ -z "$(ls "$wrapper/tmp")" ]; then
     pass "$name"
 else
     fail "$name" "status $status: $(cat "$wrapper/err")"
