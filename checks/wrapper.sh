@@ -1,5 +1,5 @@
 #!/bin/sh
-# The script ./tpmtool, over a toolchain of its own that only says that it was called.
+# The scripts ./tpmtool, ./install and emulator/run, over a toolchain of their own that only says that it was called.
 
 . "$(dirname "$0")/shared.sh"
 
@@ -10,7 +10,8 @@ cp tpmtool "$wrapper/tpmtool"
 printf 'low:\ntpmtool: low\n' >"$wrapper/crates.txt"
 cat >"$wrapper/bin/rt" <<'END'
 #!/bin/sh
-# all: proofs; run: a build, and the program with a word; try: the program, and then what `rt try` says of it.
+# all: proofs; run: a build, and the program with a word; lib: an archive; try: the program, and then what `rt try` says
+# of it.
 echo "$PWD $*" >>"$CALLS"
 case $1 in
 all)
@@ -37,6 +38,13 @@ PROGRAM
     chmod +x out/tpmtool
     [ "$BROKEN" = killed ] && kill -9 $PPID
     [ -z "$BROKEN" ]
+    ;;
+lib)
+    echo "what an archive's build says"
+    [ -z "$SLOW" ] || { echo $$ >"$SLOW" && exec sleep 60; }
+    [ -z "$EDITED" ] || { sleep 0.1 && touch "$EDITED"; }
+    [ -z "$BROKEN" ] || exit 1
+    mkdir -p out && echo "archive by ${3:-llvm}" >out/libtpm_c.a
     ;;
 try)
     shift 3
@@ -182,18 +190,17 @@ for BROKEN in yes other; do
         fail "$name" "status $status: $(cat "$wrapper/err")"
     fi
 done
-ENDED=0 CALLS="$wrapper/calls" PATH="$wrapper/bin:$PATH" TMPDIR="$wrapper/tmp" "$wrapper/tpmtool" show >&- 2>/dev/null
+ENDED=0 CALLS="$wrapper/calls" PATH="$wrapper/bin:$PATH" TMPDIR="$wrapper/tmp" \
+    "$wrapper/tpmtool" show >&- 2>/dev/null
 status=$?
 name="a try whose output is closed ends with 3"
 if [ $status -eq 3 ]; then pass "$name"; else fail "$name" "status $status"; fi
 
-# In the foreground, since what runs in the background hears no SIGINT; and what nobody hears here is skipped.
-for signal in 'HUP 129' 'INT 130' 'TERM 143'; do
-    name="a try that SIG${signal% *} ends leaves nothing behind"
-    if sh -c "kill -${signal% *} \$\$; exit 0" 2>/dev/null; then
-        skip "$name" "the signal is ignored here"
-        continue
-    fi
+# ended_by SIGNAL WORD..: these words, which take long, are ended by a signal; their status. They run in the foreground,
+# since what runs in the background hears no SIGINT.
+ended_by() {
+    signal=$1
+    shift
     export SLOW="$wrapper/slow"
     rm -f "$SLOW" "$wrapper/script"
     {
@@ -201,20 +208,37 @@ for signal in 'HUP 129' 'INT 130' 'TERM 143'; do
             if [ -s "$SLOW" ]; then break; fi
             sleep 0.1
         done
-        kill -"${signal% *}" "$(cat "$wrapper/script")"
+        kill -"$signal" "$(cat "$wrapper/script")"
     } &
     CALLS="$wrapper/calls" PATH="$wrapper/bin:$PATH" TMPDIR="$wrapper/tmp" \
-        sh -c 'echo $$ >"$0" && exec "$@"' "$wrapper/script" "$wrapper/tpmtool" run \
-        </dev/null >"$wrapper/out" 2>"$wrapper/err"
+        sh -c 'echo $$ >"$0" && exec "$@"' "$wrapper/script" "$@" </dev/null >"$wrapper/out" 2>"$wrapper/err"
     status=$?
     wait $!
     unset SLOW
-    if [ "$status" -eq "${signal#* }" ] && [ ! -s "$wrapper/out" ] && [ -z "$(ls "$wrapper/tmp")" ] &&
-        [ ! -e "$wrapper/crates/tpmtool/out" ] && ! kill "$(cat "$wrapper/slow")" 2>/dev/null; then
+}
+
+# leaves_nothing NAME SIGNAL STATUS FOLDER WORD..: ended by the signal, the words have this status and no output,
+# nothing of theirs goes on or is left, and the folder is not there. Where nobody hears the signal it is skipped.
+leaves_nothing() {
+    name=$1 wanted=$3 folder=$4
+    if sh -c "kill -$2 \$\$; exit 0" 2>/dev/null; then
+        skip "$name" "the signal is ignored here"
+        return
+    fi
+    signal=$2
+    shift 4
+    ended_by "$signal" "$@"
+    if [ "$status" -eq "$wanted" ] && [ ! -s "$wrapper/out" ] && [ -z "$(ls "$wrapper/tmp")" ] && [ ! -e "$folder" ] &&
+        ! kill "$(cat "$wrapper/slow")" 2>/dev/null; then
         pass "$name"
     else
         fail "$name" "status $status: $(ls "$wrapper/tmp")"
     fi
+}
+
+for signal in 'HUP 129' 'INT 130' 'TERM 143'; do
+    leaves_nothing "a try that SIG${signal% *} ends leaves nothing behind" $signal "$wrapper/crates/tpmtool/out" \
+        "$wrapper/tpmtool" run
 done
 
 anew
@@ -322,4 +346,284 @@ if [ "$status" -eq 127 ] && [ ! -s "$wrapper/out" ] && grep -q '`rt`.* is not in
     pass "$name"
 else
     fail "$name" "status $status: $(cat "$wrapper/err")"
+fi
+
+# ---- ./install, with a compiler of its own
+
+cp install "$wrapper/install"
+cp -R setup include "$wrapper/"
+mkdir -p "$wrapper/crates/tpm_c/src" "$wrapper/emulator"
+cat >"$wrapper/bin/cc" <<'END'
+#!/bin/sh
+# A compiler: what it writes says its words and the mask.
+echo "cc $*" >>"$CALLS"
+[ -z "$UNLINKED" ] || { echo "what does not link" >&2 && exit 1; }
+while [ "$1" != -o ]; do shift; done
+cat >"$2" <<'PROGRAM'
+#!/bin/sh
+for word in "$@"; do echo "<$word>"; done
+umask
+exit 4
+PROGRAM
+chmod +x "$2"
+END
+chmod +x "$wrapper/bin/cc"
+: >"$wrapper/emulator/one.c"
+: >"$wrapper/emulator/one.h"
+built=$wrapper/crates/tpm_c/out
+place=$wrapper/installed
+version=$(awk '$2 == "VINJAKWE_VERSION" { gsub(/"/, ""); print $3 }' include/vinjakwe.h)
+
+# installs WORD..: runs ./install, and keeps its status, what it says, and how many archives it has built.
+installs() {
+    : >"$wrapper/calls"
+    (cd "$wrapper" && CALLS="$wrapper/calls" PATH="$wrapper/bin:$PATH" TMPDIR="$wrapper/tmp" CC= DESTDIR= \
+        ./install "$@") </dev/null >"$wrapper/out" 2>"$wrapper/err"
+    status=$?
+    archives=$(grep -c -e ' lib$' -e ' lib --backend rattle$' "$wrapper/calls")
+}
+
+# installed NAME STATUS ARCHIVES: these, and nothing of its own is left behind.
+installed() {
+    if [ "$status $archives" = "$2 $3" ] && [ ! -s "$wrapper/out" ] && [ -z "$(ls "$wrapper/tmp")" ]; then
+        pass "$1"
+    else
+        fail "$1" "status $status, $archives archives: $(cat "$wrapper/out" "$wrapper/err")"
+    fi
+}
+
+# stays NAME STATUS TEXT: ./install has this status, says this, and leaves the earlier install as it was.
+stays() {
+    name=$1
+    if [ "$status" -eq "$2" ] && grep -q -e "$3" "$wrapper/err" && diff -r "$wrapper/before" "$place" >"$wrapper/out" &&
+        [ -z "$(ls "$wrapper/tmp")" ]; then
+        pass "$name"
+    else
+        fail "$name" "status $status: $(cat "$wrapper/out" "$wrapper/err")"
+    fi
+}
+
+# files: each that is installed, with its mode, or with what it is a link to.
+files() {
+    (cd "$place" && find . -type f -exec stat -c '%a %n' {} + && find . -type l -exec stat -c '%N' {} +) |
+        sed "s,\./,,; s/'//g" | LC_ALL=C sort
+}
+
+# by_name: each file has the bytes that its name says.
+by_name() {
+    [ "$(cat "$place/lib/libvinjakwe.a")" = "archive by llvm" ] &&
+        [ "$(cat "$place/lib/libvinjakwe-freestanding.a")" = "archive by rattle" ] &&
+        cmp "$place/bin/tpmtool" "$wrapper/crates/tpmtool/out/tpmtool" &&
+        cmp "$place/include/vinjakwe.h" include/vinjakwe.h && cmp "$built/libtpm_c.a" "$built/llvm/libtpm_c.a" &&
+        cmp "$place/share/bash-completion/completions/tpmtool" setup/tpmtool.bash &&
+        cmp "$place/share/fish/vendor_completions.d/tpmtool.fish" setup/tpmtool.fish &&
+        cmp "$place/share/zsh/site-functions/_tpmtool" setup/_tpmtool &&
+        cmp "$place/share/man/man1/tpmtool.1" setup/tpmtool.1 &&
+        cmp "$place/share/man/man1/vinjakwe-emulator.1" setup/vinjakwe-emulator.1 &&
+        grep -q -x -e "prefix=$place" "$place/lib/pkgconfig/vinjakwe.pc" &&
+        grep -q -x -e "Version: $version" "$place/lib/pkgconfig/vinjakwe.pc"
+}
+
+rm -rf "$wrapper/crates/tpmtool/out"
+installs installed
+installed "./install builds what is not built" 0 2
+cat >"$wrapper/files" <<END
+644 include/vinjakwe.h
+644 lib/libvinjakwe-freestanding.a
+644 lib/libvinjakwe.a
+644 lib/pkgconfig/vinjakwe.pc
+644 share/bash-completion/completions/tpmtool
+644 share/fish/vendor_completions.d/tpmtool.fish
+644 share/man/man1/tpmtool.1
+644 share/man/man1/vinjakwe-emulator.1
+644 share/vinjakwe/installed
+644 share/zsh/site-functions/_tpmtool
+755 bin/tpmtool
+755 bin/vinjakwe-emulator
+755 lib/libvinjakwe.so.$version
+lib/libvinjakwe.so -> libvinjakwe.so.$version
+lib/libvinjakwe.so.${version%%.*} -> libvinjakwe.so.$version
+END
+files >"$wrapper/files.there"
+holds "./install writes these files" diff "$wrapper/files" "$wrapper/files.there"
+holds "./install writes to each file what its name says" by_name
+
+# aged: the program and the archives are newer than all sources.
+aged() {
+    find "$wrapper/crates.txt" "$wrapper"/crates/*/src "$wrapper"/crates/*/specs "$wrapper"/crates/*/proofs \
+        -exec touch -d '2 hours ago' {} +
+    touch -d '1 hour ago' "$wrapper/crates/tpmtool/out/tpmtool" "$built"/*/libtpm_c.a
+}
+
+aged
+rm "$built/libtpm_c.a"
+installs installed
+installed "./install builds nothing that is newer than all sources" 0 0
+holds "./install leaves LLVM's archive where the emulator wants it" by_name
+links_llvm() {
+    [ "$(grep -c "^cc .* -o [^ ]* .*$built/llvm/libtpm_c.a" "$wrapper/calls")" -eq 2 ] &&
+        grep -q -e "-soname,libvinjakwe.so.${version%%.*} -Wl,--version-script=" "$wrapper/calls"
+}
+holds "./install links LLVM's archive, and names what may be called" links_llvm
+for newer in crates.txt crates/low/src/lib.rt crates/low/specs/Lib.antt crates/low/proofs/Lib.antt; do
+    aged
+    touch "$wrapper/$newer"
+    installs installed
+    installed "./install builds archives that are older than $newer" 0 2
+done
+rm -f "$wrapper/crates/low"/*/*
+aged
+touch "$wrapper/crates/tpmtool/src/main.rt"
+installs installed
+installed "./install builds no archive for a source of the program" 0 0
+holds "./install builds the program for one" grep -q ' run -- --help$' "$wrapper/calls"
+rm "$wrapper/crates/tpmtool/src/main.rt"
+aged
+rm "$built/rattle/libtpm_c.a"
+export EDITED="$wrapper/crates/low/src/lib.rt"
+installs installed
+unset EDITED
+installed "./install goes on where a source is edited meanwhile" 0 2
+installs installed
+installed "./install builds an archive again whose source was edited meanwhile" 0 2
+
+rm "$built/rattle/libtpm_c.a"
+cp -a "$place" "$wrapper/before"
+export BROKEN=yes
+installs installed
+unset BROKEN
+stays "./install writes nothing where an archive is not built, and says why" 1 "^what an archive's build says"
+for signal in 'HUP 143' 'INT 130' 'TERM 143'; do
+    leaves_nothing "an install that SIG${signal% *} ends writes nothing" $signal "$wrapper/never" \
+        "$wrapper/install" "$wrapper/never"
+done
+installs installed
+export UNLINKED=yes
+installs installed
+unset UNLINKED
+installed "./install goes on where nothing can be linked" 0 0
+grep -v -e emulator -e '\.so' "$wrapper/files" >"$wrapper/fewer"
+files >"$wrapper/files.there"
+holds "./install removes what an earlier one had besides" diff "$wrapper/fewer" "$wrapper/files.there"
+holds "./install says what was not linked, and why" \
+    [ "$(grep -c 'cc does not link it: what does not link' "$wrapper/err")" -eq 2 ]
+
+# on_a_small_disk WORD..: runs the words where $wrapper/disk is a file system of 512 KiB.
+on_a_small_disk() {
+    mkdir -p "$wrapper/disk" &&
+        unshare --map-root-user --mount sh -c 'mount -t tmpfs -o size=512k none "$0" && exec "$@"' "$wrapper/disk" "$@"
+}
+
+# filled: an install on such a disk, and another one where it has no more room. What is there then is as it was.
+cat >"$wrapper/filled" <<'END'
+cd "$1" && ./install disk/place || exit 1
+cp -a disk/place before.filled && { cat /dev/zero >disk/more; } 2>/dev/null
+./install disk/place
+[ $? -eq 1 ] && diff -r before.filled disk/place
+END
+filled() {
+    CALLS="$wrapper/calls" PATH="$wrapper/bin:$PATH" TMPDIR="$wrapper/tmp" CC= DESTDIR= \
+        on_a_small_disk sh "$wrapper/filled" "$wrapper" && ls "$wrapper/before.filled/bin/tpmtool"
+}
+name="an earlier install stays whole on a disk that is full"
+if on_a_small_disk true >/dev/null 2>&1; then
+    holds "$name" filled
+else
+    skip "$name" "no file system can be mounted"
+fi
+
+# alone WORD..: the words without `rt`, where it is in neither of two folders.
+alone() {
+    PATH="/usr/bin:/bin" CALLS="$wrapper/calls" TMPDIR="$wrapper/tmp" CC="$wrapper/bin/cc" "$@" \
+        </dev/null >"$wrapper/out" 2>"$wrapper/err"
+    status=$?
+}
+installs installed
+rm -rf "$wrapper/before" "$built/rattle"
+cp -a "$place" "$wrapper/before"
+name="./install says that it wants a toolchain for an archive"
+if (PATH=/usr/bin:/bin && command -v rt >/dev/null); then
+    skip "$name" "there is one"
+else
+    alone "$wrapper/install" "$place"
+    stays "$name" 1 'by rattle is not built.* is not in PATH'
+fi
+
+# ---- emulator/run, by the same
+
+cp emulator/run "$wrapper/emulator/run"
+emulator=$wrapper/emulator/out/emulator
+
+# emulates STATUS ARCHIVES LINKS WORD..: emulator/run with these words has this status, builds so many archives, and
+# links so often. The mask is one under which nothing may be run.
+emulates() {
+    wanted="$1 $2 $3"
+    shift 3
+    : >"$wrapper/calls"
+    (umask 177 && cd "$wrapper/elsewhere" && CALLS="$wrapper/calls" PATH="$wrapper/bin:$PATH" CC= \
+        ../emulator/run "$@") </dev/null >"$wrapper/out" 2>"$wrapper/err"
+    status="$? $(grep -c ' lib$' "$wrapper/calls") $(grep -c '^cc ' "$wrapper/calls")"
+    [ "$status" = "$wanted" ] || { echo "$status and not $wanted:" && cat "$wrapper/err" && return 1; }
+}
+
+# told WORD..: the program was handed these words, and the mask.
+told() {
+    printf '%s\n' "$@" 0177 | diff - "$wrapper/out"
+}
+
+# linked_anew: the program is linked where a file is newer than it, by the archive that is there.
+linked_anew() {
+    for newer in emulator/one.c emulator/one.h include/vinjakwe.h "$1"; do
+        touch -d '1 hour ago' "$emulator"
+        find "$wrapper/emulator" "$wrapper/include" "$built" -name '*.[cha]' -exec touch -d '2 hours ago' {} +
+        emulates 4 0 0 && touch "$wrapper/$newer" && emulates 4 0 1 && grep -q " $wrapper/$1\$" "$wrapper/calls" ||
+            { echo "$newer" && return 1; }
+    done
+}
+
+# not_linked: what does not link is said, and what was there stays and is linked the next time.
+not_linked() {
+    touch -d '1 hour ago' "$emulator"
+    touch "$wrapper/emulator/one.c"
+    cp "$emulator" "$wrapper/emulator.before"
+    export UNLINKED=yes
+    emulates 126 0 1 --stdio
+    said=$?
+    unset UNLINKED
+    [ $said -eq 0 ] && [ ! -s "$wrapper/out" ] && grep -q -x 'what does not link' "$wrapper/err" &&
+        cmp "$emulator" "$wrapper/emulator.before" && emulates 4 0 1
+}
+
+# without_a_toolchain: what was built runs, also where a source is newer; and where nothing was, that is said.
+without_a_toolchain() {
+    rm -rf "$built"
+    touch -d '1 hour ago' "$emulator"
+    touch "$wrapper/emulator/one.c"
+    alone "$wrapper/emulator/run" --stdio
+    [ $status -eq 4 ] && grep -q 'newer than what was built' "$wrapper/err" || return 1
+    rm "$emulator"
+    alone "$wrapper/emulator/run" --stdio
+    [ $status -eq 127 ] && [ ! -s "$wrapper/out" ] && grep -q 'is not in PATH' "$wrapper/err"
+}
+
+rm -rf "$built"
+holds "emulator/run builds the archive and the program" emulates 4 1 1 --swtpm '2  3' ''
+holds "emulator/run hands on words and mask" told '<--swtpm>' '<2  3>' '<>'
+holds "emulator/run builds nothing that is there" emulates 4 0 0
+holds "emulator/run links a program that is older than a source or the archive" \
+    linked_anew crates/tpm_c/out/libtpm_c.a
+holds "emulator/run says what does not link" not_linked
+mkdir "$built/llvm" && mv "$built/libtpm_c.a" "$built/llvm/"
+holds "emulator/run takes the archive of ./install" linked_anew crates/tpm_c/out/llvm/libtpm_c.a
+rm -rf "$built" "$wrapper/emulator/out"
+export BROKEN=yes
+holds "emulator/run says what is not proved" emulates 126 1 0
+unset BROKEN
+holds "emulator/run hands on what the toolchain says" grep -q "^what an archive's build says" "$wrapper/err"
+emulates 4 1 1 >/dev/null
+name="emulator/run without a toolchain"
+if (PATH=/usr/bin:/bin && command -v rt >/dev/null); then
+    skip "$name" "there is one"
+else
+    holds "$name" without_a_toolchain
 fi
