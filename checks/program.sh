@@ -117,6 +117,7 @@ cases checks/build.txt
 cases checks/run.txt
 cases checks/explain.txt
 cases checks/check.txt
+cases checks/options.txt
 cases checks/words.txt
 
 # A frame of each code in the header of tpm2-tss: one that is refused for its code alone has its name there.
