@@ -59,7 +59,8 @@ done
 grep '"register":7,' "$logs/said.json" >"$room/out.wanted"
 ran "the objects of a register" 0 events "$logs/said.log" --json --register 7
 
-# Each option of `events`, and each two: without one, its field is not in the lines, or the records of other registers are.
+# Each option of `events`, and each two: without one, its field is not in the lines, or the records of other registers
+# are.
 without_places='s/^(([^ ]* ){4})at=[0-9]* /\1/'
 without_digests='s/^(([^ ]* ){5})[^ ]* /\1/'
 # listed FILE FILTER SED..: of what list_events.py wrote, the lines that the filter takes, without these fields.
