@@ -9,6 +9,7 @@ pub mod Spelled
 pub mod Slots
 pub mod Nonces
 pub mod Replay
+pub mod Lives
 pub mod Nonzero
 pub mod Coded
 pub mod EachCommand

@@ -43,6 +43,11 @@ pub among_later : {A : Type 0} (m : A) (xs ys : List A) → IsAmong m ys → IsA
 among_later m [] ys i = i
 among_later m (x ∷ xs) ys i = inr (among_later m xs ys i)
 
+pub among_front : {A : Type 0} (m : A) (xs ys : List A) → IsAmong m xs → IsAmong m (xs ++ ys)
+among_front m [] ys i = absurd i
+among_front m (x ∷ xs) ys (inl e) = inl e
+among_front m (x ∷ xs) ys (inr i) = inr (among_front m xs ys i)
+
 -- a nonce before and a nonce after
 pub apart_across : (xs ys : List (List ℕ)) (n m : List ℕ) → AreApart (xs ++ ys) → IsAmong n xs → IsAmong m ys → take least_nonce n ≢ take least_nonce m
 apart_across [] ys n m a i j = absurd i
@@ -56,6 +61,10 @@ from_front x (y ∷ xs) ys a = (a.0, from_front x xs ys a.1)
 pub apart_front : (xs ys : List (List ℕ)) → AreApart (xs ++ ys) → AreApart xs
 apart_front [] ys a = tt
 apart_front (x ∷ xs) ys a = (from_front x xs ys a.0, apart_front xs ys a.1)
+
+pub apart_behind : (xs ys : List (List ℕ)) → AreApart (xs ++ ys) → AreApart ys
+apart_behind [] ys a = a
+apart_behind (x ∷ xs) ys a = apart_behind xs ys a.1
 
 -- ---- the nonce of a session's last step
 

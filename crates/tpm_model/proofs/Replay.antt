@@ -32,7 +32,7 @@ use Rattle.tpm_model.specs.Authorization.{refuse, is_empty, Password, BySession,
 use Rattle.tpm_model.specs.Authorization.{check_session, check_entity, evidence_by, evidence_of, check_evidence}
 use Rattle.tpm_model.specs.Authorization.{first_loaded, failure, Signed, command_text, needs_none, is_signed, key_for}
 use Rattle.tpm_model.specs.Authorization.{Evidence, ByMac}
-use Rattle.tpm_model.specs.Answers.{Presented, presented, Done, next}
+use Rattle.tpm_model.specs.Answers.{Presented, presented, Done, outcome, next}
 use Rattle.tpm_model.specs.Runs.Event.{Given, Cycled}
 use Rattle.tpm_model.specs.Runs.{Event, after}
 use Rattle.tpm_model.specs.Premises.{IsAccepted, HasSessionMac, nonces, IsAmong, AreApart, NoncesDiffer, least_nonce}
@@ -189,42 +189,77 @@ one_nonce p q bytes other x y a v w one_text =
     let lengths = length-digest s.hash v.hashed ∙ one_length ∙ sym (length-digest t.hash w.hashed) in
     same_older (digest s.hash v.hashed) (digest t.hash w.hashed) a.nonce s.nonce t.nonce a.attrs lengths (sym v.text_is ∙ one_text ∙ w.text_is)
 
+-- a command with an HMAC that was accepted
+pub record Used (o : Origin) (h : History) (bytes n : List ℕ) (a : Auth) : Type 0 where
+  pub d : Done
+  pub done : outcome (present o h) bytes n ≡ Ok d
+  pub authorized : d.command.auths.items ≡ a ∷ []
+  pub x : Presented
+  pub by : WasSigned (present o h) bytes x a
+  pub checked : text_checked (presented (present o h) bytes) ≡ keyed by.signed ∷ []
+
+pub used : (o : Origin) (h : History) (bytes n : List ℕ) (c : Command) (a : Auth) → Spells command c bytes → c.auths.items ≡ a ∷ []
+    → is_session a.session ≡ true → 0 < length a.hmac → IsAccepted o h bytes n → Used o h bytes n a
+used o h bytes n c a spells one is some (d, e) =
+    let s = passed (present o h) bytes n d e in
+    let same = (exactly_one buffer buffer_sound command bytes).one_value d.command c (spelled_by (present o h) bytes n d s) spells in
+    let auths : d.command.auths.items ≡ a ∷ [] = ap (λ (x : Command). x.auths.items) same ∙ one in
+    let v = was_signed (present o h) bytes n d a s auths is some in
+    record { d = d; done = e; authorized = auths; x = s.x; by = v; checked = ap text_checked s.asked ∙ v.text }
+
+-- The session lives at both histories, and the nonces of its last steps begin alike.
+pub record AreAlike (k : ℕ) (h j : History) : Type 0 where
+  pub first : lives k h ≡ true
+  pub second : lives k j ≡ true
+  pub front : take least_nonce (last_nonce k h) ≡ take least_nonce (last_nonce k j)
+
+-- Two uses with one text, of one device or of two, are so.
+pub alike : (o p : Origin) (es gs : List Event) (bytes other n m : List ℕ) (a : Auth) (v : Used o (after o [] es) bytes n a)
+    (w : Used p (after p [] gs) other m a)
+    → (keyed v.by.signed).text ≡ (keyed w.by.signed).text → AreAlike (slot_of a.session) (after o [] es) (after p [] gs)
+alike o p es gs bytes other n m a v w one_text =
+    let h = after o [] es in
+    let j = after p [] gs in
+    let k = slot_of a.session in
+    let s = v.by.signed.session in
+    let t = w.by.signed.session in
+    let older = one_nonce (present o h) (present p j) bytes other v.x w.x a v.by w.by one_text in
+    let x = held o h a.session s v.by.is in
+    let y = held p j a.session t w.by.is in
+    record {
+      first = x.live;
+      second = y.live;
+      front =
+          same_front (length x.start.request.nonce_caller) (length y.start.request.nonce_caller) (last_nonce k h) (last_nonce k j)
+          (has_length o es a.session s x).0 (has_length p gs a.session t y).0
+          (sym (ap (λ (s : Session). s.nonce) x.is) ∙ older ∙ ap (λ (s : Session). s.nonce) y.is);
+    }
+
 -- One command with an HMAC is not accepted twice.
 pub twice_as : (o : Origin) (es fs gs : List Event) (bytes other n m : List ℕ) (c : Command) (a : Auth)
     → NoncesDiffer (es ++ Given bytes n ∷ fs ++ Given other m ∷ gs) → NoCollision o (es ++ Given bytes n ∷ fs ++ Given other m ∷ gs)
     → Spells command c bytes → Spells command c other → c.auths.items ≡ a ∷ [] → is_session a.session ≡ true → 0 < length a.hmac
     → IsAccepted o (after o [] es) bytes n → IsAccepted o (after o [] (es ++ Given bytes n ∷ fs)) other m → ⊥
-twice_as o es fs gs bytes other n m c a differ apart spells others one is some (d, first) (e, second) =
+twice_as o es fs gs bytes other n m c a differ apart spells others one is some first second =
     let h = after o [] es in
     let j = after o [] (es ++ Given bytes n ∷ fs) in
-    let g : History = Accepted d.command d.reply n ∷ h in
-    let s = passed (present o h) bytes n d first in
-    let t = passed (present o j) other m e second in
-    let reading = exactly_one buffer buffer_sound command in
-    let d_auths : d.command.auths.items ≡ a ∷ [] =
-    ap (λ (x : Command). x.auths.items) ((reading bytes).one_value d.command c (spelled_by (present o h) bytes n d s) spells) ∙ one in
-    let e_auths : e.command.auths.items ≡ a ∷ [] =
-    ap (λ (x : Command). x.auths.items) ((reading other).one_value e.command c (spelled_by (present o j) other m e t) others) ∙ one in
-    let v = was_signed (present o h) bytes n d a s d_auths is some in
-    let w = was_signed (present o j) other m e a t e_auths is some in
-    let among_v = subst (λ (l : List Event). IsAmong (keyed v.signed) (texts_checked o [] l)) (sym (append_assoc es (Given bytes n ∷ fs) (Given other m ∷ gs)))
-    (among_here o [] es (fs ++ Given other m ∷ gs) bytes n (keyed v.signed) (ap text_checked s.asked ∙ v.text)) in
-    let among_w = among_here o [] (es ++ Given bytes n ∷ fs) gs other m (keyed w.signed) (ap text_checked t.asked ∙ w.text) in
-    let one_text = apart (keyed v.signed) (keyed w.signed) among_v among_w (sym v.mac ∙ w.mac) in
-    let older = one_nonce (present o h) (present o j) bytes other s.x t.x a v w one_text in
+    let v = used o h bytes n c a spells one is some first in
+    let w = used o j other m c a others one is some second in
+    let among_v =
+    subst (λ (l : List Event). IsAmong (keyed v.by.signed) (texts_checked o [] l)) (sym (append_assoc es (Given bytes n ∷ fs) (Given other m ∷ gs)))
+    (among_here o [] es (fs ++ Given other m ∷ gs) bytes n (keyed v.by.signed) v.checked) in
+    let among_w = among_here o [] (es ++ Given bytes n ∷ fs) gs other m (keyed w.by.signed) w.checked in
+    let one_text = apart (keyed v.by.signed) (keyed w.by.signed) among_v among_w (sym v.by.mac ∙ w.by.mac) in
+    let both = alike o o es (es ++ Given bytes n ∷ fs) bytes other n m a v w one_text in
+    let d = v.d in
     let k = slot_of a.session in
-    let x = held o h a.session v.signed.session v.is in
-    let y = held o j a.session w.signed.session w.is in
-    let front =
-    same_front (length x.start.request.nonce_caller) (length y.start.request.nonce_caller) (last_nonce k h) (last_nonce k j)
-    (has_length o es a.session v.signed.session x).0
-    (has_length o (es ++ Given bytes n ∷ fs) a.session w.signed.session y).0
-    (sym (ap (λ (s : Session). s.nonce) x.is) ∙ older ∙ ap (λ (s : Session). s.nonce) y.is) in
-    let there : j ≡ after o g fs = after-append o [] es (Given bytes n ∷ fs) ∙ ap (λ (l : History). after o l fs) (next_is o h bytes n d first) in
-    let by_it = ap (authorizes k) d_auths ∙ its_slot a is in
-    uses_apart o es fs k n g x.live (λ _. chosen (begins k d.command.body d.reply.body) (authorizes k d.command.auths.items) n (last_nonce k h) by_it)
-    (subst (λ (l : History). lives k l ≡ true) there y.live) (first_nonces es fs gs bytes other n m differ)
-    (front ∙ ap (λ (l : History). take least_nonce (last_nonce k l)) there)
+    let g : History = Accepted d.command d.reply n ∷ h in
+    let there : j ≡ after o g fs = after-append o [] es (Given bytes n ∷ fs) ∙ ap (λ (l : History). after o l fs) (next_is o h bytes n d v.done) in
+    let by_it = ap (authorizes k) v.authorized ∙ its_slot a is in
+    uses_apart o es fs k n g both.first
+    (λ _. chosen (begins k d.command.body d.reply.body) (authorizes k d.command.auths.items) n (last_nonce k h) by_it)
+    (subst (λ (l : History). lives k l ≡ true) there both.second) (first_nonces es fs gs bytes other n m differ)
+    (both.front ∙ ap (λ (l : History). take least_nonce (last_nonce k l)) there)
 
 pub twice : (o : Origin) (es fs gs : List Event) (bytes n m : List ℕ)
     → NoncesDiffer (es ++ Given bytes n ∷ fs ++ Given bytes m ∷ gs) → NoCollision o (es ++ Given bytes n ∷ fs ++ Given bytes m ∷ gs) → HasSessionMac bytes

@@ -15,7 +15,7 @@ use Rattle.tpm_model.specs.Counters.{Counter, has_index, counter_in, without, ne
 use Rattle.tpm_model.specs.Counters.{NvMemory, defined, nv_by, nv_memory, value_at}
 use Rattle.tpm_model.specs.Kept.{is_above, check_counters, IsFair}
 use Rattle.tpm_model.specs.Present.{present}
-use Rattle.tpm_model.specs.Answers.{Done, outcome}
+use Rattle.tpm_model.specs.Answers.{Done, outcome, next}
 use Rattle.tpm_model.specs.Runs.Event.{Given}
 use Rattle.tpm_model.specs.Runs.{Event, after}
 use Rattle.tpm_model.specs.Actions.{defined_counter, increment, then_reply, action}
@@ -89,12 +89,12 @@ value_given i most (d ∷ counters) c e =
 -- ---- what holds of the greatest and of an index's value along runs
 
 -- It holds without the value, with more as the greatest, and of the next value.
-record IsKept (P : ℕ → Option ℕ → Type 0) : Type 0 where
-  gone : (most : ℕ) (value : Option ℕ) → P most value → P most None
-  more : (most n : ℕ) (value : Option ℕ) → P most value → P (max most n) value
-  raised : (most : ℕ) (value : Option ℕ) → P most value → P (max most (next_value most value)) (Some (next_value most value))
+pub record IsKept (P : ℕ → Option ℕ → Type 0) : Type 0 where
+  pub gone : (most : ℕ) (value : Option ℕ) → P most value → P most None
+  pub more : (most n : ℕ) (value : Option ℕ) → P most value → P (max most n) value
+  pub raised : (most : ℕ) (value : Option ℕ) → P most value → P (max most (next_value most value)) (Some (next_value most value))
 
-abbrev HoldsOf : (ℕ → Option ℕ → Type 0) → ℕ → NvMemory → Type 0
+abbrev pub HoldsOf : (ℕ → Option ℕ → Type 0) → ℕ → NvMemory → Type 0
 HoldsOf P i nv = P nv.greatest (value_in nv.counters i)
 
 kept_by : (P : ℕ → Option ℕ → Type 0) → IsKept P → (i : ℕ) (body : CommandBody) (nv : NvMemory) → HoldsOf P i nv → HoldsOf P i (nv_by body nv)
@@ -116,34 +116,34 @@ kept_by P k i (bodies.NvIncrement by index) nv f =
     ]
 kept_by P k i _ nv f = f
 
-kept_along : (P : ℕ → Option ℕ → Type 0) → IsKept P → (o : Origin) (i : ℕ) (es : List Event) (h : History) → HoldsOf P i (nv_memory o h)
+pub kept_along : (P : ℕ → Option ℕ → Type 0) → IsKept P → (o : Origin) (i : ℕ) (es : List Event) (h : History) → HoldsOf P i (nv_memory o h)
     → HoldsOf P i (nv_memory o (after o h es))
 kept_along P k o i = along (λ h. HoldsOf P i (nv_memory o h)) o (λ h bytes n d s f. kept_by P k i d.command.body (nv_memory o h) f) (λ h f. f)
 
 -- The next increment gives more than w, and so does each later one.
-abbrev IsFloor : ℕ → (greatest : ℕ) → Option ℕ → Type 0
+abbrev pub IsFloor : ℕ → (greatest : ℕ) → Option ℕ → Type 0
 IsFloor w most value = (w ≤ most) × (w < next_value most value)
 
 floor_more : (w most more : ℕ) (value : Option ℕ) → IsFloor w most value → IsFloor w (max most more) value
 floor_more w most more None f = (omega (arith, f.0), omega (arith, f.0))
 floor_more w most more (Some v) f = (omega (arith, f.0), f.1)
 
-floor : (w : ℕ) → IsKept (IsFloor w)
+pub floor : (w : ℕ) → IsKept (IsFloor w)
 floor w = record { gone = λ most value f. (f.0, omega (arith, f.0)); more = floor_more w; raised = λ most value f. (omega (arith, f.0), omega (arith, f.1)) }
 
 -- No value is more than the greatest.
-abbrev IsBelow : (greatest : ℕ) → Option ℕ → Type 0
+abbrev pub IsBelow : (greatest : ℕ) → Option ℕ → Type 0
 IsBelow most value = IfSome value (λ v. v ≤ most)
 
 below_more : (most more : ℕ) (value : Option ℕ) → IsBelow most value → IsBelow (max most more) value
 below_more most more None f = tt
 below_more most more (Some v) f = omega (arith, f)
 
-below : IsKept IsBelow
+pub below : IsKept IsBelow
 below = record { gone = λ most value f. tt; more = below_more; raised = λ most value f. omega arith }
 
 -- So it is in a fair NV memory.
-value_below : (greatest i : ℕ) (counters : List Counter) → check_counters greatest counters ≡ Ok tt → IsBelow greatest (value_in counters i)
+pub value_below : (greatest i : ℕ) (counters : List Counter) → check_counters greatest counters ≡ Ok tt → IsBelow greatest (value_in counters i)
 value_below greatest i [] e = tt
 value_below greatest i (c ∷ counters) e =
     let h = checked greatest c counters e in go (has_index i c) (not_above greatest c.value h.below) (value_below greatest i counters h.others)
@@ -157,13 +157,13 @@ value_below greatest i (c ∷ counters) e =
     go true here later = here
     go false here later = later
 
-floor_here : (most : ℕ) (value : Option ℕ) (w : ℕ) → IsBelow most value → value ≡ Some w → IsFloor w most value
+pub floor_here : (most : ℕ) (value : Option ℕ) (w : ℕ) → IsBelow most value → value ≡ Some w → IsFloor w most value
 floor_here most None w b e = absurd (let k : ⊥ = cc in k)
 floor_here most (Some v) w b e = let k : v ≡ w = cc in (omega (arith, b, k), omega (arith, k))
 
 -- ---- an accepted increment
 
-abbrev greatest_at : Origin → History → ℕ
+abbrev pub greatest_at : Origin → History → ℕ
 greatest_at o h = (nv_memory o h).greatest
 
 pub was_there : (greatest : ℕ) (there : Option Counter) (by : NvAuthHandle) (i : ℕ) (reply : ReplyBody)
@@ -181,13 +181,18 @@ gives_next o h i by n d act is =
     let there = was_there nv.greatest (counter_in nv.counters i) by i d.reply.body (ap (λ b. action (present o h) b n) (sym is) ∙ act) in
     ap (λ body. value_in (nv_by body nv).counters i) is ∙ value_given i nv.greatest nv.counters there.0 there.1
 
--- what the index has after the events and the buffer
+-- what the index has after the buffer
+pub given_by : (o : Origin) (h : History) (bytes n : List ℕ) (d : Done) (by : NvAuthHandle) (i : ℕ) → outcome (present o h) bytes n ≡ Ok d
+    → d.command.body ≡ bodies.NvIncrement by i → value_at o (next o h bytes n) i ≡ Some (next_value (greatest_at o h) (value_at o h i))
+given_by o h bytes n d by i e is =
+    ap (λ (g : History). value_at o g i) (next_is o h bytes n d e) ∙ gives_next o h i by n d (passed (present o h) bytes n d e).act is
+
+-- what it has after the events and the buffer
 left_by : (o : Origin) (es : List Event) (bytes n : List ℕ) (d : Done) (by : NvAuthHandle) (i : ℕ)
     → outcome (present o (after o [] es)) bytes n ≡ Ok d → d.command.body ≡ bodies.NvIncrement by i
     → value_at o (after o [] (es ++ Given bytes n ∷ [])) i ≡ Some (next_value (greatest_at o (after o [] es)) (value_at o (after o [] es) i))
 left_by o es bytes n d by i e is =
-    ap (λ (g : History). value_at o g i) (after-append o [] es (Given bytes n ∷ []) ∙ next_is o (after o [] es) bytes n d e)
-    ∙ gives_next o (after o [] es) i by n d (passed (present o (after o [] es)) bytes n d e).act is
+    ap (λ (g : History). value_at o g i) (after-append o [] es (Given bytes n ∷ [])) ∙ given_by o (after o [] es) bytes n d by i e is
 
 pub more_than_had : (o : Origin) (es fs : List Event) (bytes n : List ℕ) (d : Done) (by : NvAuthHandle) (i w : ℕ)
     → IsFair o.nv → value_at o (after o [] es) i ≡ Some w

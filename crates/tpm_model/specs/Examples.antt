@@ -8,6 +8,7 @@ use Rattle.tpm_model.specs.Counters.{value_at}
 use Rattle.tpm_model.specs.Answers.{answer}
 use Rattle.tpm_model.specs.Runs.Event.{Given, Cycled}
 use Rattle.tpm_model.specs.Runs.{Event, after}
+use Rattle.tpm_model.specs.Lives.{Life, executed, origin_behind}
 
 -- ---- bytes in hexadecimal, with spaces for reading
 
@@ -107,6 +108,16 @@ flush handle = hex "8001 0000000e 00000165" ++ hex handle
 
 abbrev pub policy_command_code : String → List ℕ
 policy_command_code code = hex "8001 00000012 0000016c 03000000" ++ hex code
+
+-- ---- lives
+
+-- one increment is kept, and a second one is lost
+abbrev pub cut_life : Life
+cut_life = record { kept = given 1 (startup ∷ nv_define ∷ nv_increment ∷ []); lost = given 4 (nv_increment ∷ []) }
+
+-- the device that is made again after it
+abbrev pub cut_off : Origin
+cut_off = origin_behind new cut_life
 
 -- ---- answers
 
@@ -232,6 +243,11 @@ pub record Examples : Type 0 where
       ≡ counter_read (hex "00000000 00000004")
   pub is_read_past : reply_to new (startup ∷ nv_define ∷ nv_increment ∷ []) (nv_read "0001") ≡ code "00000146"
   pub no_more : reply_to worn (startup ∷ nv_define ∷ []) nv_increment ≡ code "00000146"
+  -- The power took the second value, which the next life gives again: no response told it before.
+  pub value_lost : value_at new (after new [] (executed cut_life)) 0x01800001 ≡ Some 2
+  pub value_kept : value_at cut_off [] 0x01800001 ≡ Some 1
+  pub value_given_again : value_at cut_off (after cut_off [] (given 5 (startup ∷ nv_increment ∷ []))) 0x01800001
+      ≡ Some 2
   -- ---- sessions
 
   pub first_slot : reply_to new (startup ∷ []) (start_session "00") ≡ session_started 2 "02000000"

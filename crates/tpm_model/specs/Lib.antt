@@ -12,6 +12,7 @@ pub mod Kept
 pub mod Answers
 pub mod Runs
 pub mod Premises
+pub mod Lives
 pub mod NvChanges
 pub mod InStep
 pub mod Callers

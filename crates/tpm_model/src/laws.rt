@@ -33,6 +33,8 @@ ghost use Rattle.tpm_model.specs.Callers.{started_with, Seal, sealed_command, se
 ghost use Rattle.tpm_model.specs.Callers.{given_up};
 ghost use Rattle.tpm_model.specs.Runs.Event.{Given, Cycled};
 ghost use Rattle.tpm_model.specs.Runs.{Event, after, run};
+ghost use Rattle.tpm_model.specs.Lives.{Life, Execution, executions, kept_executions, WasAccepted, Increments};
+ghost use Rattle.tpm_model.specs.Lives.{value_after, NoncesDifferOver, NoCollisionOver};
 ghost use Rattle.tpm_model.specs.Examples.{Examples};
 ghost use Rattle.tpm_model.specs.Premises.{IsByGrammar, IsWholeByGrammar, code_in, IsAccepted, HasSessionMac};
 ghost use Rattle.tpm_model.specs.Premises.{NoncesDiffer, NoCollision, nonce_bytes, most_nonce, IsReady, rolled};
@@ -55,8 +57,8 @@ pub fn accepted_is_spelled()
         Spells command d.command bytes }
 {}
 
-/// No replay: in the run of a new device, where the nonces handed in differ pairwise in their first 16 bytes and no two
-/// different texts that are checked have the same HMAC, no buffer with an HMAC is accepted twice.
+/// No replay: in a run, where the nonces handed in differ pairwise in their first 16 bytes and no two different texts
+/// that are checked have the same HMAC, no buffer with an HMAC is accepted twice.
 pub fn no_replay()
     ensures { (o : Origin) (es fs gs : List Event) (bytes n m : List ℕ) →
         NoncesDiffer (es ++ Given bytes n ∷ fs ++ Given bytes m ∷ gs) →
@@ -88,6 +90,48 @@ pub fn no_counter_goes_back()
         (v : ℕ)
         × (value_at o (after o [] (es ++ Given bytes n ∷ [])) i ≡ Some v)
         × (o.nv.greatest < v) }
+{}
+
+/// No replay over a device's lives, each of which begins from the NV memory that the one before has kept: where the
+/// nonces handed in over all lives differ pairwise in their first 16 bytes and no two different texts that are checked
+/// have the same HMAC, no buffer with an HMAC is accepted twice, also where the power took what came of it.
+pub fn no_replay_over_lives()
+    ensures { (o : Origin) (lives : List Life) (xs ys zs : List Execution) (x y : Execution) →
+        executions o lives ≡ xs ++ x ∷ ys ++ y ∷ zs →
+        NoncesDifferOver lives →
+        NoCollisionOver o lives →
+        HasSessionMac x.bytes →
+        x.bytes ≡ y.bytes →
+        WasAccepted x →
+        WasAccepted y →
+        ⊥ }
+{}
+
+/// No counter goes back over a device's lives: where its NV memory was fair at its first origin, and an index has a
+/// value after a kept event, a later kept increment leaves a greater one, in the same life or in another. So it is
+/// for a value that the index had at the first origin. Where it had none there, each kept increment leaves more than
+/// the first origin's greatest value. What was lost, undefined, defined again or cycled in between changes nothing.
+pub fn no_counter_goes_back_over_lives()
+    ensures later { (o : Origin) (lives : List Life)
+        (xs ys zs : List Execution) (x y : Execution) (i w : ℕ) →
+        IsFair o.nv →
+        kept_executions o lives ≡ xs ++ x ∷ ys ++ y ∷ zs →
+        value_after x i ≡ Some w →
+        Increments y i →
+        (v : ℕ) × (value_after y i ≡ Some v) × (w < v) }
+    ensures had { (o : Origin) (lives : List Life)
+        (xs ys : List Execution) (x : Execution) (i w : ℕ) →
+        IsFair o.nv →
+        kept_executions o lives ≡ xs ++ x ∷ ys →
+        value_at o [] i ≡ Some w →
+        Increments x i →
+        (v : ℕ) × (value_after x i ≡ Some v) × (w < v) }
+    ensures made { (o : Origin) (lives : List Life)
+        (xs ys : List Execution) (x : Execution) (i : ℕ) →
+        kept_executions o lives ≡ xs ++ x ∷ ys →
+        value_at o [] i ≡ None →
+        Increments x i →
+        (v : ℕ) × (value_after x i ≡ Some v) × (o.nv.greatest < v) }
 {}
 
 /// NV memory stays fair: that of a new device is, all that bytes spell is, and where it was at the origin it is after
@@ -197,9 +241,9 @@ pub fn in_step()
         × InStep o (next o h (sealed s) n) s.caller }
 {}
 
-/// No mixed replies: in the run of a new device whose accepted commands with session HMACs are sealed by callers, with
-/// nonceCallers that differ pairwise, and where no two different texts have the same HMAC, a reply that a
-/// Waiting opens is the reply to its own buffer, and there is one such reply.
+/// No mixed replies: in a run whose accepted commands with session HMACs are sealed by callers, with nonceCallers that
+/// differ pairwise, and where no two different texts have the same HMAC, a reply that a Waiting opens is the reply to
+/// its own buffer, and there is one such reply.
 pub fn no_mixed_replies()
     ensures own { (o : Origin) (seals : List Seal) (openings : List Opening) →
         (es fs : List Event) (bytes n : List ℕ) (s : Seal) (w : Opened) →

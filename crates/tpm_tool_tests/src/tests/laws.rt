@@ -8,6 +8,8 @@ fn the_laws_return(_rt: HostRuntime) {
     tpm_model::accepted_is_spelled();
     tpm_model::no_replay();
     tpm_model::no_counter_goes_back();
+    tpm_model::no_replay_over_lives();
+    tpm_model::no_counter_goes_back_over_lives();
     tpm_model::policy_starts_again();
     tpm_model::worked_examples();
     tpm_model::done_with_code_zero();

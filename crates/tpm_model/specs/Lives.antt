@@ -1,0 +1,84 @@
+-- The lives of a device: it is made again of its NV memory after the power took what it had not kept (Part 1, "NV
+-- Memory").
+use Rattle.std.specs.Prelude.{◌≡◌, ℕ, List, [], ◌∷◌, ◌++◌, flat_map, Option, Ok}
+use Rattle.tpm_types.specs.declared.handle_sets.NvAuthHandle.{NvAuthHandle}
+use Rattle.tpm_commands.specs.declared.command.CommandBody.TheVariants.{NvIncrement}
+use Rattle.tpm_model.specs.Steps.{History, PowerCycle, Origin}
+use Rattle.tpm_model.specs.Counters.{nv_memory, value_at}
+use Rattle.tpm_model.specs.Present.{present}
+use Rattle.tpm_model.specs.Answers.{Done, outcome, next}
+use Rattle.tpm_model.specs.Runs.Event.{Given, Cycled}
+use Rattle.tpm_model.specs.Runs.{Event, after}
+use Rattle.tpm_model.specs.Premises.{IsAccepted, NoncesDiffer, Keyed, texts_checked, AreFree}
+
+-- A run of a device, until it loses its power. Each response that was handed out is to one of the kept events, and the
+-- next life begins from the NV memory after them. The lost events were executed behind them, and their responses were
+-- not handed out.
+pub record Life : Type 0 where
+  pub kept : List Event
+  pub lost : List Event
+
+-- all that was executed in a life
+abbrev pub executed : Life → List Event
+executed life = life.kept ++ life.lost
+
+-- of the device that is made for the next life: the same owner's value, and the NV memory after the kept events
+abbrev pub origin_behind : Origin → Life → Origin
+origin_behind o life = record o { nv = nv_memory o (after o [] life.kept) }
+
+-- ---- the buffers that were executed
+
+-- a buffer and its nonce, executed at a history of one of the lives, which has this origin
+pub record Execution : Type 0 where
+  pub origin : Origin
+  pub history : History
+  pub bytes : List ℕ
+  pub nonce : List ℕ
+
+-- those of events, the first of them first
+abbrev pub executions_of : Origin → History → List Event → List Execution
+executions_of o h [] = []
+executions_of o h (Given bytes nonce ∷ es) =
+    record { origin = o; history = h; bytes = bytes; nonce = nonce } ∷ executions_of o (next o h bytes nonce) es
+executions_of o h (Cycled ∷ es) = executions_of o (PowerCycle ∷ h) es
+
+-- those of one part of each life
+abbrev pub executions_in : (Life → List Event) → Origin → List Life → List Execution
+executions_in part o [] = []
+executions_in part o (life ∷ lives) = executions_of o [] (part life) ++ executions_in part (origin_behind o life) lives
+
+-- all of them
+abbrev pub executions : Origin → List Life → List Execution
+executions = executions_in executed
+
+-- those of the kept events: each whose response was handed out is one of them
+abbrev pub kept_executions : Origin → List Life → List Execution
+kept_executions = executions_in (λ life. life.kept)
+
+-- It is answered with code 0.
+abbrev pub WasAccepted : Execution → Type 0
+WasAccepted x = IsAccepted x.origin x.history x.bytes x.nonce
+
+-- It is an accepted increment of this index.
+abbrev pub Increments : Execution → ℕ → Type 0
+Increments x i = (d : Done) × (by : NvAuthHandle)
+    × (outcome (present x.origin x.history) x.bytes x.nonce ≡ Ok d) × (d.command.body ≡ NvIncrement by i)
+
+-- the value that the index has after it
+abbrev pub value_after : Execution → ℕ → Option ℕ
+value_after x = value_at x.origin (next x.origin x.history x.bytes x.nonce)
+
+-- ---- premises
+
+-- The nonces handed in over all lives are pairwise different in their first 16 bytes.
+abbrev pub NoncesDifferOver : List Life → Type 0
+NoncesDifferOver lives = NoncesDiffer (flat_map executed lives)
+
+-- the texts whose HMACs are checked in all lives
+abbrev pub texts_over : Origin → List Life → List Keyed
+texts_over o [] = []
+texts_over o (life ∷ lives) = texts_checked o [] (executed life) ++ texts_over (origin_behind o life) lives
+
+-- No two different ones have the same HMAC.
+abbrev pub NoCollisionOver : Origin → List Life → Type 0
+NoCollisionOver o lives = AreFree (texts_over o lives)
