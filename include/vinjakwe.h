@@ -283,7 +283,8 @@ struct tpm_log_event {
  * the token that has it. What isn't written so stays as it was.
  *
  * Called again and again from zeros on it tells the records of the log one by one, and then its end; or, of bytes with a fault,
- * some records and then the fault that tpm_log_replay answers. Each call reads the log's header and one record. */
+ * some records and then the fault that tpm_log_replay answers. Each call reads the log's header and one record. At a place that
+ * no call wrote the bytes are read as if a record began there. */
 uint32_t tpm_log_event(const uint8_t *log, size_t len, struct tpm_log_place *place, struct tpm_log_event *event, uint32_t *at);
 
 /* A replay of a log that comes in pieces, however it is cut. */

@@ -14,7 +14,7 @@ use Rattle.tpm_lines.specs.declared.status.Status.TheVariants.{Done, Refused}
 use Rattle.tpm_lines.specs.declared.status.Status.{Status}
 use Rattle.tpm_lines.specs.Status.{both}
 use Rattle.tpm_lines.specs.Text.{line, bytes_in}
-use Rattle.tpm_lines.specs.InputLines.{lines_of}
+use Rattle.tpm_lines.specs.InputLines.{lines_of, AreEnded, HasNoFeed}
 use Rattle.tpm_show.specs.declared.capture_lines.Direction.TheVariants.{Command, Reply}
 use Rattle.tpm_show.specs.declared.capture_lines.Direction.{Direction}
 use Rattle.tpm_show.specs.declared.capture_frames.Awaited.{Awaited}
@@ -191,6 +191,16 @@ TellsFrom how p (first ∷ others) status text = (one : Status) × (told : List 
 -- For these bytes of a capture this is the status and what is printed.
 abbrev pub TellsCapture : (how : Telling) → List ℕ → Status → List ℕ → Type 0
 TellsCapture how bytes status text = TellsFrom how start (map line_of (lines_of bytes)) status text
+
+-- Of these bytes the lines that have ended are told, and of the one that has not nothing.
+pub record TellsEnded (how : Telling) (bytes text : List ℕ) : Type 0 where
+  pub lines : List ℕ
+  pub line : List ℕ
+  pub are : bytes ≡ lines ++ line
+  pub ended : AreEnded lines
+  pub one : HasNoFeed line
+  pub status : Status
+  pub tells : TellsCapture how lines status text
 
 -- ---- what is read
 

@@ -59,6 +59,15 @@ pub record TellsStream (how : Telling) (bytes : List ℕ) (status : Status) (tex
   pub all : status ≡ both one (ending_status ending)
   pub are : text ≡ told ++ ending_text how.json ending (length frames + 1) (length (concat frames))
 
+-- Of these bytes the frames that have come are told, and of the one that has not nothing.
+pub record TellsWhole (how : Telling) (bytes text : List ℕ) : Type 0 where
+  pub frames : List (List ℕ)
+  pub rest : List ℕ
+  pub cut : Frames bytes frames rest
+  pub part : IsPart rest
+  pub status : Status
+  pub tells : TellsFrom how start (map unmarked_frame frames) status text
+
 -- ---- what is read
 
 -- These bytes of the input were read and told; and it has ended, or whatever comes makes no difference.

@@ -2,7 +2,7 @@
 
 ghost use Rattle.std.specs.Prelude.{◌≡◌, ◌+◌, ◌^◌, ◌<◌, ◌++◌, ℕ, List, ◌∷◌, [], None, IfOk, OnOk, IsErrOf, length};
 ghost use Rattle.std.specs.Prelude.{string_bytes};
-ghost use Rattle.std.specs.Io.KnownBytes.{Appends};
+ghost use Rattle.std.specs.Io.KnownBytes.{Appends, Consumes};
 ghost use Rattle.tpm_wire.specs.Sources.{IsWhereItFailed};
 ghost use Rattle.tpm_lines.specs.declared.fault.ToolFault.TheVariants.{InputTooLong, Read};
 ghost use Rattle.tpm_lines.specs.declared.status.Status.TheVariants.{Done, Refused};
@@ -10,7 +10,7 @@ ghost use Rattle.tpm_lines.specs.Faults.{FailsByMemoryOrWrite};
 ghost use Rattle.tpm_lines.specs.InputLines.{AddedTo, CountsRead};
 ghost use Rattle.tpm_show.specs.declared.capture_frames.Awaited.TheVariants.{Unknown};
 ghost use Rattle.tpm_show.specs.Capture.{Frame, start, told_in, fault_text, TellsCapture, ReadsAll};
-ghost use Rattle.tpm_show.specs.Capture.{ReadsTooMuchCapture};
+ghost use Rattle.tpm_show.specs.Capture.{ReadsTooMuchCapture, TellsEnded};
 ghost use Rattle.tpm_show.specs.Capturing.{read_as, place, Passes, Tells, EndsLine, Takes};
 
 use crate::capture_frames::{
@@ -233,7 +233,8 @@ impl Capture {
 /// no bytes are empty.
 ///
 /// The status is `Refused` where a frame or a line was refused, and else `Done`. What a read gave is answered before
-/// the next read, and no more than one line and one piece is held.
+/// the next read: where that fails, what was written is the text of the lines that had ended. No more than one line
+/// and one piece is held.
 ///
 /// Where a request for memory is refused the answer is `Memory`, where a read fails `Read`, where the writer fails
 /// `Write`, and where more than 2^62 bytes come `InputTooLong`. What was written before is then left open, and a failed
@@ -246,6 +247,10 @@ pub fn show_lines<R: Source, W: Write>(
 ) -> Result<Status, ToolFault>
     ensures failures { CountsRead (R.failed input.old) (R.failed input.new) result }
     ensures stop { IsErrOf result Read → IsWhereItFailed (R.stopped input.new) }
+    ensures answered { IsErrOf result Read → (bytes text : List ℕ)
+        × Consumes (R.coming input.old) (R.coming input.new) bytes
+        × TellsEnded how bytes text
+        × Appends (W.contents out.old) (W.contents out.new) text }
     ensures ok { IfOk result (λ status. (bytes text : List ℕ)
         × ReadsAll (R.coming input.old) (R.coming input.new) bytes
         × TellsCapture how bytes status text

@@ -1,14 +1,14 @@
 //! The subcommand `show` of a stream of frames.
 
 ghost use Rattle.std.specs.Prelude.{◌≡◌, ◌++◌, ℕ, List, IfOk, OnOk, IsErrOf, string_bytes};
-ghost use Rattle.std.specs.Io.KnownBytes.{Appends};
+ghost use Rattle.std.specs.Io.KnownBytes.{Appends, Consumes};
 ghost use Rattle.tpm_wire.specs.Sources.{IsWhereItFailed};
 ghost use Rattle.tpm_lines.specs.declared.fault.ToolFault.TheVariants.{InputTooLong, Read};
 ghost use Rattle.tpm_lines.specs.declared.status.Status.TheVariants.{Refused};
 ghost use Rattle.tpm_lines.specs.Faults.{FailsByMemoryOrWrite};
 ghost use Rattle.tpm_lines.specs.InputLines.{CountsRead};
 ghost use Rattle.tpm_show.specs.Capture.{ReadsTooMuchCapture};
-ghost use Rattle.tpm_show.specs.Stream.{stop_line, stop_text, TellsRead};
+ghost use Rattle.tpm_show.specs.Stream.{stop_line, stop_text, TellsRead, TellsWhole};
 
 use crate::capture::{Capture, MOST_BYTES};
 use crate::frame_json::push_stop_object;
@@ -73,7 +73,8 @@ fn print_stop<W: Write>(
 /// precede it. In JSON these are the members `number`, `fault` and `at`.
 ///
 /// The status is `Refused` where a frame was refused or did not come whole, and else `Done`. Each frame is answered
-/// before the next is read, and no more than one frame is held. Behind a size that no frame has nothing is read.
+/// before the next is read: where a read fails, what was written is the text of the frames that had come. No more than
+/// one frame is held. Behind a size that no frame has nothing is read.
 ///
 /// Where a request for memory is refused the answer is `Memory`, where a read fails `Read`, where the writer fails
 /// `Write`, and where more than 2^62 bytes come `InputTooLong`. What was written before is then left open, and a failed
@@ -86,6 +87,10 @@ pub fn show_stream<R: Source, W: Write>(
 ) -> Result<Status, ToolFault>
     ensures failures { CountsRead (R.failed input.old) (R.failed input.new) result }
     ensures stop { IsErrOf result Read → IsWhereItFailed (R.stopped input.new) }
+    ensures answered { IsErrOf result Read → (bytes text : List ℕ)
+        × Consumes (R.coming input.old) (R.coming input.new) bytes
+        × TellsWhole how bytes text
+        × Appends (W.contents out.old) (W.contents out.new) text }
     ensures ok { IfOk result (λ status. (text : List ℕ)
         × TellsRead how (R.coming input.old) (R.coming input.new) status text
         × Appends (W.contents out.old) (W.contents out.new) text) }

@@ -1,10 +1,31 @@
-use Rattle.std.proofs.Common.{take, refl, sym, ◌∙◌, arith, length-append, length-take-le}
+use Rattle.std.proofs.Common.{[], take, refl, sym, ◌∙◌, arith, length-append, length-take-le}
 use Rattle.std.proofs.lemmas.Result.{IfOk-weaker}
 use Rattle.std.specs.Io.KnownBytes.{Appends}
 use Rattle.tpm_stream.proofs.Filled.{consumes_both}
 use Rattle.tpm_lines.proofs.Joins.{joins_appends}
+use Rattle.tpm_lines.proofs.LineReading.{keeps_none}
+use Rattle.std.proofs.lemmas.List.{append-nil}
 use Rattle.tpm_show.proofs.Captures.{reaches_more, answers_at_end}
 use Rattle.tpm_show.proofs.capture.show_lines.Goals as goal
+
+pub returns-in_err-count-clause-answered : goal.returns-in_err-count-clause-answered
+returns-in_err-count-clause-answered g c = λ _.
+    let f = c.loop-capture.invariant.told in
+    let taken = f.taken in (
+      f.bytes,
+      f.text,
+      rw append-nil at (consumes_both _ _ _ f.bytes [] f.consumed (keeps_none _ _ c.in_err-count.ensures.bytes)),
+      record {
+        lines = taken.lines;
+        line = taken.line;
+        are = taken.are;
+        ended = taken.ended;
+        one = taken.one;
+        status = c.loop-capture.capture.status;
+        tells = taken.tells;
+      },
+      f.added,
+    )
 
 pub returns-then-read-gt-MOST_BYTES-clause-too_long : goal.returns-then-read-gt-MOST_BYTES-clause-too_long
 returns-then-read-gt-MOST_BYTES-clause-too_long g c = λ _.

@@ -20,6 +20,24 @@ loop-capture-init g c =
       failures = refl;
     }
 
+pub returns-in-Err-Device-clause-answered : goal.returns-in-Err-Device-clause-answered
+returns-in-Err-Device-clause-answered g c = λ _.
+    let f = c.loop-capture.invariant.told in
+    let is = rw c.in-Err-Device.field-0-is at c.in-Err-Device.ensures.frame in (
+      concat f.frames ++ is.0,
+      f.text,
+      consumes_both _ _ _ (concat f.frames) is.0 f.consumed is.1,
+      record {
+        frames = f.frames;
+        rest = is.0;
+        cut = record { whole = refl; each = f.each; over = is.2.no_frame };
+        part = is.2;
+        status = c.loop-capture.capture.status;
+        tells = f.tells;
+      },
+      f.added,
+    )
+
 pub returns-in-Err-EndInside-clause-ok : goal.returns-in-Err-EndInside-clause-ok
 returns-in-Err-EndInside-clause-ok g c =
     let contents = g.W.Write.contents in
