@@ -13,6 +13,8 @@ FIELDS = {"kind": "type", "event": "data"}
 PLACES = {"device", "framer", "replay", "caller", "place"}
 VIEWS = {"areas", "view"}
 OPAQUE = ("device", "framer", "log_replay", "caller")
+# How many bytes the numbers of these have where they stand in a buffer (Part 2); all others have four.
+WIDTHS = {"TPM_ST": 2, "TPM_SU": 2, "TPM_SE": 1, "TPM_ALG": 2}
 NUMBERS = {"u8": "uint8_t", "u16": "uint16_t", "u32": "uint32_t", "u64": "uint64_t", "usize": "size_t"}
 
 faults = []
@@ -108,9 +110,29 @@ def crate_numbers():
 
 
 def header_numbers(header):
-    found = re.findall(r"^#define (TPM_\w+)\s+(?:\(\(uint(?:8|16|32)_t\))?(0x[0-9A-Fa-f]+|[0-9]+)\)?", header, re.M)
-    # Commands have names of several words in the header, which their variants join.
-    return {snake(name).upper() if name.startswith("TPM_CC_") else name: int(value, 0) for name, value in found}
+    form = r"^#define (TPM_\w+)\s+(?:\(\(uint(?:8|16|32)_t\))?(0x[0-9A-Fa-f]+|[0-9]+)\)?"
+    return {name: int(value, 0) for name, value in re.findall(form, header, re.M)}
+
+
+def as_variant(name):
+    """Commands have names of several words in the header, which their variants join."""
+    return snake(name).upper() if name.startswith("TPM_CC_") else name
+
+
+def write_numbers(numbers):
+    """A number has its value as C reads it, too: no type is too narrow, or wider than the number in a buffer."""
+    for name, value in numbers.items():
+        width = WIDTHS.get("_".join(name.split("_")[:2]), 4)
+        print(f'_Static_assert({name} == {value}u && sizeof({name}) == {width}, "{name}");')
+
+
+def compare_versions(header):
+    whole = re.search(r'^#define VINJAKWE_VERSION "([0-9.]+)"$', header, re.M)[1]
+    parts = [
+        re.search(rf"^#define VINJAKWE_VERSION_{it} ([0-9]+)$", header, re.M)[1] for it in ("MAJOR", "MINOR", "PATCH")
+    ]
+    if whole != ".".join(parts):
+        faults.append(f"version {whole} has the parts {parts}")
 
 
 # ---- structures and functions
@@ -149,10 +171,17 @@ def crate_functions(text):
         yield name, re.findall(r"(\w+): ([^,()]+)", arguments), result
 
 
+def words_of(arguments):
+    """The names of a function's parameters, each slice with its length behind it."""
+    for word, kind in arguments:
+        yield from [word, f"{word}_len"] if re.fullmatch(r"&(mut )?\[u8\]", kind.strip()) else [word]
+
+
 def header_functions(header):
     for name, arguments in re.findall(r"^\w+ (tpm_\w+)\(([^)]*)\);", header, re.M | re.S):
         words = [re.search(r"(\w+)\s*$", it)[1] for it in arguments.split(",")]
-        yield name, [it for it in words if it != "void" and not (it.endswith("_len") or it == "len")]
+        # The length of the first bytes is called `len` where there is one alone.
+        yield name, [f"{words[i - 1]}_len" if it == "len" else it for i, it in enumerate(words) if it != "void"]
 
 
 def same_words(crate, header):
@@ -188,7 +217,7 @@ def write_functions(text, header):
         faults.append(f"function {name}: only in {'the header' if name in declared else 'the crate'}")
     for name in sorted(declared.keys() & written.keys()):
         arguments, result = written[name]
-        if not same_words([word for word, _ in arguments], declared[name]):
+        if not same_words(list(words_of(arguments)), declared[name]):
             faults.append(f"function {name}: its parameters are {declared[name]} in the header")
         place = next((f"struct tpm_{it}" for it in OPAQUE if name.startswith(f"tpm_{it}_")), "void")
         types = [it.replace("PLACE", place) for word, kind in arguments for it in c_type(kind.strip(), word)]
@@ -200,8 +229,11 @@ def main():
         header = it.read()
     text = "\n".join(source("tpm_c", file) for file in sys.argv[1:])
     plain = re.sub(r"/\*.*?\*/", "", header, flags=re.S)
-    compare("number", header_numbers(header), crate_numbers())
+    numbers = header_numbers(header)
+    compare("number", {as_variant(name): value for name, value in numbers.items()}, crate_numbers())
+    compare_versions(header)
     print('#include "vinjakwe.h"\n')
+    write_numbers(numbers)
     write_structs(text, plain)
     write_functions(text, plain)
     print("\n".join(faults), file=sys.stderr)
