@@ -5,4 +5,5 @@ pub mod Further
 pub mod Own
 pub mod Passing
 pub mod Ran
+pub mod Lives
 pub mod KeptAgain

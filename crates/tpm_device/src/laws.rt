@@ -5,14 +5,17 @@ ghost use Rattle.std.specs.Prelude.{◌≡◌, ◌<◌, ℕ, List, [], ◌∷◌
 ghost use Rattle.tpm_types.specs.declared.handle_sets.NvAuthHandle.{NvAuthHandle};
 ghost use Rattle.tpm_commands.specs.declared.command.CommandBody.TheVariants.{NvIncrement};
 ghost use Rattle.tpm_model.specs.Steps.{History, Origin};
+ghost use Rattle.tpm_model.specs.Counters.{value_at};
 ghost use Rattle.tpm_model.specs.Kept.{IsFair};
 ghost use Rattle.tpm_model.specs.Answers.{Done, outcome};
 ghost use Rattle.tpm_model.specs.Runs.Event.{Given};
 ghost use Rattle.tpm_model.specs.Runs.{Event, after, run};
 ghost use Rattle.tpm_model.specs.Premises.{code_in, HasSessionMac, NoncesDiffer, NoCollision};
+ghost use Rattle.tpm_model.specs.Lives.{Life, NoncesDifferOver, NoCollisionOver};
 ghost use Rattle.tpm_device.specs.declared.device.Device.{Device};
 ghost use Rattle.tpm_device.specs.Stands.{holds, Stands};
 ghost use Rattle.tpm_device.specs.Runs.{Executes, Answers, value_on};
+ghost use Rattle.tpm_device.specs.Lives.{Call, LivesThrough};
 
 /// The responses of a device to buffers, nonces and power cycles, whatever they are, are the
 /// model's run, and the device stands at the history after them.
@@ -67,6 +70,56 @@ pub fn no_counter_goes_back()
         outcome (holds b) bytes n ≡ Ok x →
         x.command.body ≡ NvIncrement by i →
         (v : ℕ) × (value_on c i ≡ Some v) × (o.nv.greatest < v) }
+{}
+
+/// No replay over a device's lives, of which each is what `from_nv` makes of the bytes that `put_nv` wrote in the one
+/// before: where the nonces of all lives differ pairwise in their first 16 bytes, and no two different texts that are
+/// checked have the same HMAC, no buffer with a session's HMAC is answered twice with code 0. Calls whose effect the
+/// power took are among those that are compared.
+pub fn no_replay_over_lives()
+    ensures { (o : Origin) (lives : List Life) (all kept xs ys zs : List Call) (x y : Call) →
+        LivesThrough (Stands o []) lives all kept →
+        all ≡ xs ++ x ∷ ys ++ y ∷ zs →
+        NoncesDifferOver lives →
+        NoCollisionOver o lives →
+        HasSessionMac x.bytes →
+        x.bytes ≡ y.bytes →
+        code_in x.response ≡ 0 →
+        code_in y.response ≡ 0 →
+        ⊥ }
+{}
+
+/// No counter goes back over a device's lives: where NV memory was fair at the first origin, and an index has a value
+/// on the device behind a kept call, an increment that is done in a later kept call leaves a greater one, in the same
+/// life or in another. Each call whose response was handed out is a kept one. So it is for a value at the first origin;
+/// where the index had none there, each leaves more than the first origin's greatest value.
+pub fn no_counter_goes_back_over_lives()
+    ensures later { (o : Origin) (lives : List Life) (all kept xs ys zs : List Call) (x y : Call)
+        (d : Done) (by : NvAuthHandle) (i w : ℕ) →
+        IsFair o.nv →
+        LivesThrough (Stands o []) lives all kept →
+        kept ≡ xs ++ x ∷ ys ++ y ∷ zs →
+        value_on x.new i ≡ Some w →
+        outcome (holds y.old) y.bytes y.nonce ≡ Ok d →
+        d.command.body ≡ NvIncrement by i →
+        (v : ℕ) × (value_on y.new i ≡ Some v) × (w < v) }
+    ensures had { (o : Origin) (lives : List Life) (all kept xs ys : List Call) (x : Call)
+        (d : Done) (by : NvAuthHandle) (i w : ℕ) →
+        IsFair o.nv →
+        LivesThrough (Stands o []) lives all kept →
+        kept ≡ xs ++ x ∷ ys →
+        value_at o [] i ≡ Some w →
+        outcome (holds x.old) x.bytes x.nonce ≡ Ok d →
+        d.command.body ≡ NvIncrement by i →
+        (v : ℕ) × (value_on x.new i ≡ Some v) × (w < v) }
+    ensures made { (o : Origin) (lives : List Life) (all kept xs ys : List Call) (x : Call)
+        (d : Done) (by : NvAuthHandle) (i : ℕ) →
+        LivesThrough (Stands o []) lives all kept →
+        kept ≡ xs ++ x ∷ ys →
+        value_at o [] i ≡ None →
+        outcome (holds x.old) x.bytes x.nonce ≡ Ok d →
+        d.command.body ≡ NvIncrement by i →
+        (v : ℕ) × (value_on x.new i ≡ Some v) × (o.nv.greatest < v) }
 {}
 
 /// NV memory stays fair: where it was at the origin of a device, it is after each run.

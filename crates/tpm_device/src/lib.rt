@@ -18,4 +18,7 @@ mod sessions;
 
 pub use device::Device;
 pub use kept::changes_nv;
-pub use laws::{answers_are_the_run, no_counter_goes_back, no_replay, nv_memory_stays_fair};
+pub use laws::{
+    answers_are_the_run, no_counter_goes_back, no_counter_goes_back_over_lives, no_replay,
+    no_replay_over_lives, nv_memory_stays_fair,
+};

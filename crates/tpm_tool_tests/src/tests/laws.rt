@@ -21,6 +21,8 @@ fn the_laws_return(_rt: HostRuntime) {
     tpm_device::answers_are_the_run();
     tpm_device::no_replay();
     tpm_device::no_counter_goes_back();
+    tpm_device::no_replay_over_lives();
+    tpm_device::no_counter_goes_back_over_lives();
     tpm_device::nv_memory_stays_fair();
     tpm_script::no_replay_in_a_script();
 }
