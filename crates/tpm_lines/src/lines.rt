@@ -6,7 +6,7 @@ ghost use Rattle.std.specs.Io.KnownBytes.{Appends, Consumes};
 ghost use Rattle.tpm_wire.specs.Sources.{IsWhereItFailed};
 ghost use Rattle.tpm_lines.specs.declared.fault.ToolFault.TheVariants.{InputTooLong, Read};
 ghost use Rattle.tpm_lines.specs.Faults.{FailsByMemoryOrWrite};
-ghost use Rattle.tpm_lines.specs.InputLines.{AddedTo, CountsRead};
+ghost use Rattle.tpm_lines.specs.InputLines.{AddedTo, CountsRead, room_behind};
 ghost use Rattle.tpm_lines.specs.LineSinks.{GoesOn, IsWhole, Limits, OnTrue, ReadsLines, ReadsOneMore, Step};
 ghost use Rattle.tpm_lines.specs.LineSinks.{TakesKept, some_if};
 ghost use Rattle.tpm_lines.specs.LineReading.{EndsLine, EndsAll, Feeds};
@@ -211,6 +211,14 @@ impl<S: LineSink + Drop> LineReader<S> {
     }
 }
 
+// How many bytes are asked for where so many were read. Up to the limit no byte is read together with one behind it.
+fn room_behind(most: usize, read: usize) -> usize
+    requires { read ≤ most }
+    ensures { result ≡ room_behind most read }
+{
+    (most - read).clamp(1, PIECE)
+}
+
 /// Gives the lines of an input to a sink, one after the other, and prints what it adds. It answers the sink as they
 /// leave it, or none where one of them ended what is printed.
 ///
@@ -258,8 +266,7 @@ pub fn take_lines<R: Source, W: Write, S: LineSink + Drop>(
     let mut piece = [0; PIECE];
     let mut read = 0;
     loop {
-        // Up to the limit no byte is read together with one behind it.
-        let room = (most - read).clamp(1, PIECE);
+        let room = room_behind(most, read);
         let count = input.read(&mut piece[..room])?;
         read += count;
         if read > most {

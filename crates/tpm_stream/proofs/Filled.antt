@@ -7,6 +7,7 @@ use Rattle.std.proofs.lemmas.Slice.{take-put_mid}
 use Rattle.std.proofs.Math.Seq.{take-append-add}
 use Rattle.std.specs.List.{refill}
 use Rattle.std.specs.Io.KnownBytes.{Consumes, IsAtEnd}
+use Rattle.tpm_wire.specs.Sources.{MeetsEnds}
 use Rattle.tpm_stream.specs.Frames.{stated, IsFrame, IsPart}
 use Rattle.tpm_stream.proofs.Framed.{stated_more, short_part, sized_part}
 use borrow.Rule.Slice.PartMut.{put_mid, post_of}
@@ -21,6 +22,20 @@ consumes_both (Some l) (Some m) (Some n) xs ys f g = f ∙ ap (λ (r : List ℕ)
 pub consumes_none : (a : Option (List ℕ)) → Consumes a a []
 consumes_none None = tt
 consumes_none (Some l) = refl
+
+-- ---- how many reads met the end
+
+pub meets_none : (a : Option ℕ) → MeetsEnds a a 0
+meets_none None = tt
+meets_none (Some n) = omega arith
+
+pub meets_both : (a b c : Option ℕ) (m n : ℕ) → MeetsEnds a b m → MeetsEnds b c n → MeetsEnds a c (m + n)
+meets_both None b c m n f g = tt
+meets_both (Some i) None c m n f g = absurd f
+meets_both (Some i) (Some j) None m n f g = absurd g
+meets_both (Some i) (Some j) (Some k) m n f g = omega (arith, f, g)
+
+-- ---- rooms
 
 -- the front of a room after a read into the rest of it
 pub front_read : (count k n : ℕ) (room part : List ℕ) → count ≤ length room → n ≤ length part

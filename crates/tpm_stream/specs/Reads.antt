@@ -3,7 +3,7 @@ use Rattle.std.specs.Prelude.{◌≡◌, ℕ, ◌<◌, ◌≤◌, Bool, true, fa
 use Rattle.std.specs.Prelude.{Ok, Err}
 use Rattle.std.specs.Io.KnownBytes.{Consumes, IsAtEnd}
 use Rattle.arrayvec.specs.ArrayVec.{ArrayVec}
-use Rattle.tpm_wire.specs.Sources.{one_more}
+use Rattle.tpm_wire.specs.Sources.{one_more, MeetsEnds}
 use Rattle.tpm_stream.specs.declared.reader.ReadFault.TheVariants.{Device, EndInside, Broken}
 use Rattle.tpm_stream.specs.declared.reader.ReadFault.{ReadFault}
 use Rattle.tpm_stream.specs.Frames.{IsFrame, IsPart, IsBroken, bad_size}
@@ -38,6 +38,24 @@ abbrev pub ReadsInto : Option (List ℕ) → Option (List ℕ) → List ℕ → 
 ReadsInto old new frame (Ok true) = Consumes old new frame × IsFrame frame
 ReadsInto old new frame (Ok false) = Consumes old new [] × IsAtEnd new
 ReadsInto old new frame (Err fault) = (bytes : List ℕ) × Consumes old new bytes × IsAnswer bytes new (Err fault)
+
+-- ---- how many reads met the end
+
+-- One did where fewer bytes came than there is room for, and else none.
+abbrev pub EndsFill : {E : Type 0} → (old new : Option ℕ) → List ℕ → Result ℕ E → Type 0
+EndsFill old new room (Ok n) = (n < length room → MeetsEnds old new 1) × (length room ≤ n → MeetsEnds old new 0)
+EndsFill old new room (Err e) = MeetsEnds old new 0
+
+-- one where there is no frame, or less than one, since the input has ended
+abbrev pub ends_for : Result (Option (ArrayVec ℕ)) ReadFault → ℕ
+ends_for (Ok None) = 1
+ends_for (Err EndInside) = 1
+ends_for _ = 0
+
+abbrev pub ends_into : Result Bool ReadFault → ℕ
+ends_into (Ok false) = 1
+ends_into (Err EndInside) = 1
+ends_into _ = 0
 
 -- a buffer, in whose place a frame is read
 abbrev pub IsBuffer : Result (Option (ArrayVec ℕ)) ReadFault → Type 0

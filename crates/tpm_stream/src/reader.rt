@@ -2,8 +2,9 @@
 
 ghost use Rattle.std.specs.Prelude.{◌≡◌, ◌≤◌, ◌++◌, ◌⊎◌, ℕ, true, List, [], length, drop, Ok, IfErr, IsErrOf};
 ghost use Rattle.tpm_stream.specs.declared.reader.ReadFault.TheVariants.{Device, Broken};
-ghost use Rattle.tpm_stream.specs.Reads.{Fills, CountsDevice, ReadsFrame, ReadsInto, IsBuffer};
-ghost use Rattle.tpm_wire.specs.Sources.{CountsFailures, IsWhereItFailed};
+ghost use Rattle.tpm_stream.specs.Reads.{Fills, CountsDevice, EndsFill, ReadsFrame, ReadsInto, IsBuffer};
+ghost use Rattle.tpm_stream.specs.Reads.{ends_for, ends_into};
+ghost use Rattle.tpm_wire.specs.Sources.{CountsFailures, IsWhereItFailed, MeetsEnds};
 
 use crate::framer::{SIZE_END, stated_size};
 use tpm_wire::{Buffer, ReadFailed, Refusal, Source};
@@ -41,12 +42,13 @@ impl From<Refusal> for ReadFault {
 }
 
 /// The next frame of the input, or none at its end. No byte behind the frame is read, and where there is no frame the
-/// bytes that were read are lost. A failed read isn't tried again.
+/// bytes that were read are lost. A failed read isn't tried again, and none comes behind one that met the end.
 ///
 /// Each read that isn't the last gives at least one byte, so that there are at most 4,096.
 pub fn read_frame<R: Source>(source: &mut R) -> Result<Option<Buffer>, ReadFault>
     ensures failures { CountsDevice (R.failed source.old) (R.failed source.new) result }
     ensures stop { IsErrOf result Device → IsWhereItFailed (R.stopped source.new) }
+    ensures ends { MeetsEnds (R.ends source.old) (R.ends source.new) (ends_for result) }
     ensures frame { ReadsFrame (R.coming source.old) (R.coming source.new) result }
 {
     let mut answer = Ok(Some(Buffer::new()));
@@ -60,6 +62,7 @@ fn read_answer<R: Source>(source: &mut R, answer: &mut Result<Option<Buffer>, Re
     requires { IsBuffer answer.old }
     ensures failures { CountsDevice (R.failed source.old) (R.failed source.new) answer.new }
     ensures stop { IsErrOf answer.new Device → IsWhereItFailed (R.stopped source.new) }
+    ensures ends { MeetsEnds (R.ends source.old) (R.ends source.new) (ends_for answer.new) }
     ensures frame { ReadsFrame (R.coming source.old) (R.coming source.new) answer.new }
 {
     if let Ok(Some(frame)) = answer {
@@ -77,6 +80,7 @@ fn read_answer<R: Source>(source: &mut R, answer: &mut Result<Option<Buffer>, Re
 pub fn read_frame_into<R: Source>(source: &mut R, frame: &mut Buffer) -> Result<bool, ReadFault>
     ensures failures { CountsDevice (R.failed source.old) (R.failed source.new) result }
     ensures stop { IsErrOf result Device → IsWhereItFailed (R.stopped source.new) }
+    ensures ends { MeetsEnds (R.ends source.old) (R.ends source.new) (ends_into result) }
     ensures frame { ReadsInto (R.coming source.old) (R.coming source.new) frame.new.items result }
     ensures none { (result ≡ Ok true) ⊎ (frame.new.items ≡ []) }
 {
@@ -92,6 +96,7 @@ pub fn read_frame_into<R: Source>(source: &mut R, frame: &mut Buffer) -> Result<
 fn read_into<R: Source>(source: &mut R, frame: &mut Buffer) -> Result<bool, ReadFault>
     ensures failures { CountsDevice (R.failed source.old) (R.failed source.new) result }
     ensures stop { IsErrOf result Device → IsWhereItFailed (R.stopped source.new) }
+    ensures ends { MeetsEnds (R.ends source.old) (R.ends source.new) (ends_into result) }
     ensures frame { ReadsInto (R.coming source.old) (R.coming source.new) frame.new.items result }
 {
     let mut head = [0; SIZE_END];
@@ -145,6 +150,7 @@ fn lengthen(frame: &mut Buffer, size: usize)
 fn fill<R: Source>(source: &mut R, room: &mut [u8]) -> Result<usize, ReadFailed>
     ensures failures { CountsFailures (R.failed source.old) (R.failed source.new) result }
     ensures stop { IfErr result (λ _. IsWhereItFailed (R.stopped source.new)) }
+    ensures ends { EndsFill (R.ends source.old) (R.ends source.new) room.new result }
     ensures bytes { Fills (R.coming source.old) (R.coming source.new) room.new result }
 {
     let mut count = 0;

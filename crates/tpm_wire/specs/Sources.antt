@@ -1,5 +1,5 @@
--- What sources of bytes count, where they stop, and what is said of their bytes where they do not tell them.
-use Rattle.std.specs.Prelude.{◌≡◌, ℕ, ◌+◌, ◌-◌, ◌^◌, min, Bool, true, List, Option, Some, None, Result, Ok, Err}
+-- What sources of bytes count, where they stop and end, and what is said of their bytes where they do not tell them.
+use Rattle.std.specs.Prelude.{◌≡◌, ℕ, ◌+◌, ◌-◌, ◌^◌, ◌<◌, min, Bool, true, List, Option, Some, None, Result, Ok, Err}
 
 -- one failure more, where the count has room for it
 abbrev pub one_more : ℕ → ℕ
@@ -13,6 +13,21 @@ CountsFailures old new (Err e) = new ≡ one_more old
 -- The last read of a source is the one that failed, and none came behind it.
 abbrev pub IsWhereItFailed : Bool → Type 0
 IsWhereItFailed stopped = stopped ≡ true
+
+-- A read met the end: it gave no bytes, though it had room for so many.
+abbrev pub IsEnd : {E : Type 0} → ℕ → Result ℕ E → Type 0
+IsEnd room (Ok n) = (n ≡ 0) × (0 < room)
+IsEnd room (Err e) = ⊥
+
+-- So many reads more have met the end, where they are counted.
+abbrev pub MeetsEnds : (old new : Option ℕ) → ℕ → Type 0
+MeetsEnds None new more = Unit {0}
+MeetsEnds (Some n) None more = ⊥
+MeetsEnds (Some n) (Some m) more = m ≡ n + more
+
+-- A read that met the end alone raises the count of them, by one.
+abbrev pub CountsEnds : {E : Type 0} → (old new : Option ℕ) → ℕ → Result ℕ E → Type 0
+CountsEnds old new room read = (IsEnd room read → MeetsEnds old new 1) × ((IsEnd room read → ⊥) → MeetsEnds old new 0)
 
 -- This holds of the bytes of a source where it tells them, and else of some bytes.
 abbrev pub OfBytes : (List ℕ → Type 0) → Option (List ℕ) → Type 0

@@ -1,9 +1,9 @@
 //! Where bytes come from.
 
-ghost use Rattle.std.specs.Prelude.{◌≡◌, ℕ, Bool, true, false, min, length, List, Option, Some, Ok, IfErr};
+ghost use Rattle.std.specs.Prelude.{◌≡◌, ℕ, Bool, true, false, min, length, List, Option, Some, None, Ok, IfErr};
 ghost use Rattle.std.specs.Io.KnownBytes.{ReadConsumes};
 ghost use Rattle.std.specs.Io.{ReadsAtMost};
-ghost use Rattle.tpm_wire.specs.Sources.{CountsFailures, IsWhereItFailed};
+ghost use Rattle.tpm_wire.specs.Sources.{CountsEnds, CountsFailures, IsWhereItFailed};
 
 use std::io::Read;
 use std::marker::Model;
@@ -14,7 +14,8 @@ pub struct ReadFailed;
 
 /// Bytes that come one after the other, and a count of the reads that failed.
 pub trait Source {
-    /// The bytes that are still to come, where the source tells them.
+    /// The bytes that are still to come, where the source tells them. Where it tells none, as of a file, what a
+    /// function promises of all its bytes says only that there are such bytes.
     ghost coming: { Self → Option (List ℕ) };
 
     /// How many reads have failed.
@@ -24,6 +25,11 @@ pub trait Source {
     /// keep it, nothing is said of it, so that a function over any source which promises it reads no more.
     ghost stopped: { Self → Bool } = { λ _. true };
 
+    /// How many reads have met the end, where the source counts them: those that gave no bytes though there was room.
+    /// Where it doesn't, nothing is said of it, so that a function over any source which promises a number reads no
+    /// more behind the last of them.
+    ghost ends: { Self → Option ℕ } = { λ _. None };
+
     /// Moves the next bytes to the front of `room` and says how many these are: at most as many as have room, and none
     /// only at their end or where there is no room. A read that failed gives no bytes, and it alone raises the count of
     /// failures, by one; at 2^64 - 1 the count stays.
@@ -31,7 +37,8 @@ pub trait Source {
         ensures bound { ReadsAtMost result room.new }
         ensures bytes { ReadConsumes (coming self.old) (coming self.new) result room.new }
         ensures count { CountsFailures (failed self.old) (failed self.new) result }
-        ensures stop { IfErr result (λ _. IsWhereItFailed (stopped self.new)) };
+        ensures stop { IfErr result (λ _. IsWhereItFailed (stopped self.new)) }
+        ensures ends { CountsEnds (ends self.old) (ends self.new) (length room.new) result };
 
     /// How many reads have failed, up to 2^64 - 1.
     fn failures(&self) -> u64
@@ -73,6 +80,7 @@ impl Source for SliceSource<'_> {
         ensures bytes { ReadConsumes (Some self.old) (Some self.new) result room.new }
         ensures count { CountsFailures 0 0 result }
         ensures stop { IfErr result (λ _. IsWhereItFailed false) }
+        ensures ends { CountsEnds None None (length room.new) result }
         ensures all { result ≡ Ok (min (length self.old) (length room.old)) }
     {
         let n = self.rest.len().min(room.len());

@@ -42,7 +42,7 @@ returns-then-count-eq0-clause-ok g c =
     let S = g.S.LineSink in
     let inv = c.loop-lines.invariant in
     let bytes = rw c.if-count-eq0.true at c.in_ok-count.ensures.bytes in
-    let len : length c.read.new.room ≡ c.clamp-room.result = search rules in
+    let len : length c.read.new.room ≡ c.room_behind-room.result = search rules in
     let ended = c.in_ok-goes_on.ensures.ok in (
       inv.bytes,
       inv.text ++ ended.0,
@@ -59,7 +59,7 @@ returns-in_err-print-clause-further g c = λ _.
     let inv = c.loop-lines.invariant in
     let count = c.in_ok-count.count in
     let room = c.read.new.room in
-    let len : length room ≡ c.clamp-room.result = search rules in (
+    let len : length room ≡ c.room_behind-room.result = search rules in (
       _,
       reads_lines c.args.most (GoesOn S.limits S.takes c.args.sink) _ _ _ c.loop-lines.read count inv.bytes (take count room) _ inv.holds.goes
           inv.consumed inv.count
@@ -73,7 +73,7 @@ returns-then-not-branch-clause-further g c = λ _.
     let inv = c.loop-lines.invariant in
     let count = c.in_ok-count.count in
     let room = c.read.new.room in
-    let len : length room ≡ c.clamp-room.result = search rules in (
+    let len : length room ≡ c.room_behind-room.result = search rules in (
       _,
       reads_lines c.args.most (GoesOn S.limits S.takes c.args.sink) _ _ _ c.loop-lines.read count inv.bytes (take count room) _ inv.holds.goes
           inv.consumed inv.count
@@ -88,8 +88,9 @@ returns-then-not-branch-clause-ok g c =
     let count = c.in_ok-count.count in
     let room = c.read.new.room in
     let is : c.in_ok-print.field-0 ≡ false = search rules in
-    let len : length room ≡ c.clamp-room.result = search rules in
-    let fed = rw (is, take-append-le count room (drop c.clamp-room.result c.loop-lines.piece) c.in_ok-count.ensures.bound.0) at c.in_ok-print.ensures.ok in
+    let len : length room ≡ c.room_behind-room.result = search rules in
+    let fed =
+    rw (is, take-append-le count room (drop c.room_behind-room.result c.loop-lines.piece) c.in_ok-count.ensures.bound.0) at c.in_ok-print.ensures.ok in
     let all = inv.bytes ++ take count room in
     let over = fed.2 c.args.sink inv.bytes inv.text inv.holds in (
       all,
@@ -113,7 +114,8 @@ loop-lines-preserved g c =
     let room = c.read.new.room in
     let is : c.in_ok-print.field-0 ≡ true = search rules in
     let counted : length (take count room) ≡ count = length-take-le count room c.in_ok-count.ensures.bound.0 in
-    let fed = rw (is, take-append-le count room (drop c.clamp-room.result c.loop-lines.piece) c.in_ok-count.ensures.bound.0) at c.in_ok-print.ensures.ok in
+    let fed =
+    rw (is, take-append-le count room (drop c.room_behind-room.result c.loop-lines.piece) c.in_ok-count.ensures.bound.0) at c.in_ok-print.ensures.ok in
     record {
       bytes = inv.bytes ++ take count room;
       text = inv.text ++ fed.0;
