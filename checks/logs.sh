@@ -74,38 +74,6 @@ for objects in "$logs"/*.json; do
 done
 grep '"register":7,' "$logs/said.json" >"$room/out.wanted"
 ran "the objects of a register" 0 events "$logs/said.log" --json --register 7
-
-# Each option of `events`, and each two: without one, its field is not in the lines, or the records of other registers
-# are.
-without_places='s/^(([^ ]* ){4})at=[0-9]* /\1/'
-without_digests='s/^(([^ ]* ){5})[^ ]* /\1/'
-# listed FILE FILTER SED..: of what list_events.py wrote, the lines that the filter takes, without these fields.
-listed() {
-    file=$1 filter=$2
-    shift 2
-    awk "$filter" "$file" | sed -E "$@" >"$room/out.wanted"
-}
-for log in every_type said; do
-    lines=$logs/$log.events
-    listed "$lines" 1 -e "$without_digests" -e "$without_places"
-    ran "the lines of $log" 0 events "$logs/$log.log"
-    listed "$lines" 1 -e "$without_digests"
-    ran "the lines of $log with places" 0 events "$logs/$log.log" --places
-    listed "$lines" 1 -e "$without_places"
-    ran "the lines of $log with digests" 0 events "$logs/$log.log" --digests
-    listed "$lines" '$2 == 7' -e "$without_digests" -e "$without_places"
-    ran "the lines of $log of a register" 0 events "$logs/$log.log" --register 7
-    listed "$lines" '$2 == 7' -e "$without_digests"
-    ran "the lines of $log of a register with places" 0 events "$logs/$log.log" --register 7 --places
-    listed "$lines" '$2 == 7' -e "$without_places"
-    ran "the lines of $log of a register with digests" 0 events "$logs/$log.log" --digests --register 7
-    listed "$lines" '$2 == 7' -e ''
-    ran "the lines of $log of a register with both" 0 events "$logs/$log.log" --digests --register 7 --places
-done
-cp "$logs/said.json" "$room/out.wanted"
-for options in --json '--json --places' '--digests --json'; do
-    ran "the objects of said with $options" 0 events "$logs/said.log" $options
-done
 echo 'log Truncated at 211' >"$room/out.wanted"
 ran "a log that is none has no objects" 1 events "$logs/cut_by_a_byte.log" --json
 if python3 -m json.tool --help >"$room/out" 2>&1; then
