@@ -451,6 +451,8 @@ else
     holds "a device through C that is made again of the bytes in checks/kept.txt" same_kept
     holds "images of a kept device that are changed at random through C" changed_kept
     holds "a device that is kept answers through C as one whose power was cycled" "$room/kept" answers 1000 "${SEED:-1}"
+    holds "a change of NV memory is told through C exactly where the kept bytes differ" \
+        "$room/kept" changes 100000 "${SEED:-1}"
     same_calls
     name="the archive needs memcpy, memmove and memset alone"
     others=$(undefined | tr ' ' '\n' | grep -v -x -e memcpy -e memmove -e memset -e '' | tr '\n' ' ')

@@ -6,6 +6,8 @@
  *                          they spell; half of them with the digest that they should have, so that more than the digest is judged
  *     kept answers N SEED  after each of N random commands the device is put away and made again, and answers the next hundred
  *                          commands as the device does whose power was cycled
+ *     kept changes N SEED  of each of N random commands it is said whether it changed NV memory, which it did exactly where the
+ *                          bytes that are kept before it and behind it differ
  *
  * Its status is 0 where all is as it should be, and otherwise 1, with a line that says what is not. */
 #include "vinjakwe.h"
@@ -443,6 +445,38 @@ static int answers(unsigned long count, uint64_t seed) {
     return 0;
 }
 
+/* ---- what has changed NV memory */
+
+static int changes(unsigned long count, uint64_t seed) {
+    static uint8_t command[TPM_BUFFER_BYTES], kept[2][TPM_DEVICE_KEPT_BYTES];
+    static const uint32_t codes[] = {TPM_CC_NV_DefineSpace, TPM_CC_NV_Increment, TPM_CC_NV_UndefineSpace};
+    struct tpm_device *device = room();
+    unsigned long times[3] = {0, 0, 0}, same = 0;
+    state = seed;
+    if (!tpm_device_init(device, (const uint8_t *)OWNER, strlen(OWNER), 40))
+        wrong("no device is made");
+    for (unsigned long i = 0; i < count; i++) {
+        /* Now and then the power is cycled, and nothing is started before the next command. */
+        size_t before = tpm_device_keep(device, kept[0], sizeof kept[0]), len = random_command(command);
+        if (i % 4096 == 1)
+            tpm_device_power_cycle(device);
+        if (i % 4096 == 0 || i % 4096 == 8)
+            len = (size_t)(put_bytes(command, startup, sizeof startup) - command);
+        new_nonce();
+        size_t size = execute(device, command, len, out[0]), after = tpm_device_keep(device, kept[1], sizeof kept[1]);
+        int differ = before != after || memcmp(kept[0], kept[1], before) != 0;
+        if (tpm_device_changes_nv(command, len, out[0], size) != (uint32_t)differ)
+            wrong(differ ? "a change of NV memory is not told" : "a change of NV memory is told where there is none");
+        same += !differ;
+        for (size_t k = 0; k < 3; k++)
+            times[k] += differ && command[8] == (uint8_t)(codes[k] >> 8) && command[9] == (uint8_t)codes[k];
+    }
+    if (same == 0 || times[0] == 0 || times[1] == 0 || times[2] == 0 || same + times[0] + times[1] + times[2] != count)
+        wrong("the commands change too little");
+    free(device);
+    return 0;
+}
+
 int main(int argc, char **argv) {
     if (argc == 2 && strcmp(argv[1], "rows") == 0)
         return rows();
@@ -450,6 +484,8 @@ int main(int argc, char **argv) {
         return images(strtoul(argv[2], NULL, 10), strtoull(argv[3], NULL, 10));
     if (argc == 4 && strcmp(argv[1], "answers") == 0)
         return answers(strtoul(argv[2], NULL, 10), strtoull(argv[3], NULL, 10));
-    wrong("usage: kept rows | images N SEED | answers N SEED");
+    if (argc == 4 && strcmp(argv[1], "changes") == 0)
+        return changes(strtoul(argv[2], NULL, 10), strtoull(argv[3], NULL, 10));
+    wrong("usage: kept rows | images N SEED | answers N SEED | changes N SEED");
     return 1;
 }
