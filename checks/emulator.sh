@@ -250,7 +250,7 @@ script_gives() {
 the_records() {
     awk '$3 != "EV_NO_ACTION" {
         words = ""
-        count = split($6, digests, ",")
+        count = split($7, digests, ",")
         for (i = 1; i <= count; i++)
             if (digests[i] ~ /^sha(1|256|384)=/) words = words (words == "" ? "" : ",") digests[i]
         if (words != "") print $2 ":" words

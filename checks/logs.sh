@@ -49,13 +49,13 @@ cp "$logs/said.listed" "$room/out.wanted"
 ran "what the data of events say" 0 events "$logs/said.log"
 cp "$logs/said.register" "$room/out.wanted"
 ran "the records of a register" 0 events "$logs/said.log" --register 7
-# Each option by itself and each pair: the fifth word of a record is its place, and the sixth its digests.
+# Each option by itself and each pair: the sixth word of a record is its place, and the seventh its digests.
 of_register='$2 == 7'
-cut -d ' ' -f 1-5,7- "$logs/said.events" >"$room/out.wanted"
+cut -d ' ' -f 1-6,8- "$logs/said.events" >"$room/out.wanted"
 ran "the places of records" 0 events "$logs/said.log" --places
 awk "$of_register" "$room/out.wanted" >"$room/of_register" && mv "$room/of_register" "$room/out.wanted"
 ran "the places of records of a register" 0 events "$logs/said.log" --register 7 --places
-cut -d ' ' -f 1-4,6- "$logs/said.events" >"$room/out.wanted"
+cut -d ' ' -f 1-5,7- "$logs/said.events" >"$room/out.wanted"
 ran "the digests of records" 0 events "$logs/said.log" --digests
 awk "$of_register" "$room/out.wanted" >"$room/of_register" && mv "$room/of_register" "$room/out.wanted"
 ran "the digests of records of a register" 0 events "$logs/said.log" --digests --register 7

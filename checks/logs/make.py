@@ -23,6 +23,7 @@ EIGHT = [0x0012, 0x000D, 0x000C, 0x0027, 0x000B, 0x0028, 0x0004, 0x0029]
 
 NO_ACTION, SEPARATOR, POST_CODE, CRTM_VERSION, CRTM_CONTENTS, IPL = 3, 4, 1, 8, 7, 13
 VARIABLE, BLOB, SERVICES, HCRTM, GPT = 0x80000001, 0x80000008, 0x80000003, 0x80000010, 0x80000006
+VARIABLE_BOOT, VARIABLE_BOOT2, OLDER_ACTION = 0x80000002, 0x8000000C, 5
 
 
 def header(algorithms, vendor=b"", class_=0, version=(0, 2, 0, 2)):
@@ -50,9 +51,10 @@ class Log:
         }
 
     def record(self, register, kind, event, data=None, algorithms=None):
-        """A record with the digests of the data, which is the event where no other is given."""
+        """A record with the digests of the data, by hash or of all, which is the event where no other is given."""
         algorithms = self.algorithms if algorithms is None else algorithms
-        digests = [(a, digest(a, event if data is None else data)) for a in algorithms]
+        data = event if data is None else data
+        digests = [(a, digest(a, data[a] if isinstance(data, dict) else data)) for a in algorithms]
         self.bytes += struct.pack("<III", register, kind, len(digests))
         self.bytes += b"".join(struct.pack("<H", a) + d for a, d in digests)
         self.bytes += struct.pack("<I", len(event)) + event
@@ -142,6 +144,25 @@ def said():
     return log
 
 
+def measured():
+    """What is measured of an event's data: all, a variable's value, the text behind GRUB's prefix, or all but a byte."""
+    log = Log(THREE)
+    order = variable("BootOrder", b"\1\0\0\0")
+    log.record(1, VARIABLE_BOOT, order, b"\1\0\0\0").record(1, VARIABLE_BOOT2, order)
+    log.record(7, AUTHORITY, variable("db", b"an entry") + b"\n", variable("db", b"an entry"))
+    text = b"linux /vmlinuz root=/dev/vda1"
+    for prefix in (b"grub_cmd: ", b"kernel_cmdline: ", b"module_cmdline: ", b"grub_cmd ", b"grub_kernel_cmdline "):
+        log.record(8, IPL, prefix + text + b"\0", text).record(8, IPL, prefix + text + b"\0", text + b"\0")
+    log.record(8, IPL, b"grub_cmd: " + text, text).record(8, IPL, b"grub_cmd: \0", b"")
+    # a prefix of another type, one that is none, and one that is cut
+    log.record(8, OLDER_ACTION, b"grub_cmd: " + text, text).record(8, IPL, b"grub_cmd:" + text, text)
+    log.record(8, IPL, b"grub_cm", b"").record(8, IPL, b"MokList\0", b"MokList").record(9, IPL, b"/vmlinuz\0", b"kernel")
+    # digests of two parts, of one bank alone, and none
+    log.record(1, VARIABLE_BOOT, order, {0x0004: order, 0x000B: b"\1\0\0\0", 0x000C: b"something else"})
+    log.record(8, IPL, b"grub_cmd: " + text, text, algorithms=[0x000B]).record(8, IPL, b"", algorithms=[])
+    return log
+
+
 def accepted():
     worked().write("worked")
     Log(THREE).write("header_alone")
@@ -174,6 +195,7 @@ def accepted():
     log.write("every_type")
 
     said().write("said")
+    measured().write("measured")
 
     # SHA-512 alone: no bank is extended
     Log([0x000D]).record(0, SEPARATOR, bytes(4)).write("no_bank")

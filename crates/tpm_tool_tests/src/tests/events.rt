@@ -12,14 +12,14 @@ use tpm_testing::Pieces;
 
 // The records of the log, by a reading of its bytes in Python.
 pub(crate) const TEXT: &str =
-    "1 0 EV_NO_ACTION not-hashed at=73 - size 0\n2 7 EV_SEPARATOR hashed=sha1,sha256,sha384 at=89 sha1=9069ca78e7450a285173431b3e52c5c25299e473,sha256=df3f619804a92fdb4057192dc43dd748ea778adc52bc498ce80524c014b81119,sha384=394341b7182cd227c5c6b07ef8000cdfd86136c4292b8e576573ad7ed9ae41019f5818b4b971c9effc60e1ad9f1289f0 size 4\n";
+    "1 0 EV_NO_ACTION not-hashed measured=other at=73 - size 0\n2 7 EV_SEPARATOR hashed=sha1,sha256,sha384 measured=data at=89 sha1=9069ca78e7450a285173431b3e52c5c25299e473,sha256=df3f619804a92fdb4057192dc43dd748ea778adc52bc498ce80524c014b81119,sha384=394341b7182cd227c5c6b07ef8000cdfd86136c4292b8e576573ad7ed9ae41019f5818b4b971c9effc60e1ad9f1289f0 size 4\n";
 
 // A separator with a digest of SHA-512 alone, which has no bank, and its line.
 const NO_BANK: &str =
     "000000000300000000000000000000000000000000000000000000002100000053706563204944204576656e743033000000000000020002010000000d004000000000000004000000010000000d002248a8803402a2062fee5d37fede63ea8fb30fe502b9d6ba344c0c15c566d555612494e7e0bbc6fcf26e4b2325cb9310d99db8426e78f17ef3191b4d69adcf4a0400000000000000";
 
 const NO_BANK_TEXT: &str =
-    "1 0 EV_SEPARATOR not-hashed at=65 000d=2248a8803402a2062fee5d37fede63ea8fb30fe502b9d6ba344c0c15c566d555612494e7e0bbc6fcf26e4b2325cb9310d99db8426e78f17ef3191b4d69adcf4a size 4\n";
+    "1 0 EV_SEPARATOR not-hashed measured=other at=65 000d=2248a8803402a2062fee5d37fede63ea8fb30fe502b9d6ba344c0c15c566d555612494e7e0bbc6fcf26e4b2325cb9310d99db8426e78f17ef3191b4d69adcf4a size 4\n";
 
 // Lines with all that they may have.
 pub(crate) const ALL: Listing = Listing {
@@ -110,8 +110,8 @@ fn of_an_endless_log_one_byte_too_many_is_read(rt: HostRuntime) {
     assert_eq!(rt; log.reads, 4097);
 }
 
-// The line of the last record of `TEXT` with its line feed: all but the 43 bytes before it.
-const LINE: usize = TEXT.len() - 43;
+// The line of the last record of `TEXT` with its line feed: all but the 58 bytes before it.
+const LINE: usize = TEXT.len() - 58;
 
 // A writer that notes how many writes came, how many bytes in all, and how many in the largest.
 #[derive(Drop)]
