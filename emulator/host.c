@@ -159,13 +159,6 @@ static struct tpm_counter counter_of(const struct machine *machine, size_t numbe
     return counter;
 }
 
-static uint32_t written_counters(const struct machine *machine) {
-    uint32_t count = 0;
-    for (size_t i = 0; i < tpm_device_counters(machine->device); i++)
-        count += (counter_of(machine, i).attributes & NV_WRITTEN) != 0;
-    return count;
-}
-
 /* TPM_PT (Part 2, 6.13): the limits are those of the device. */
 static void list_properties(struct entries *list, struct machine *machine) {
     static const struct entry fixed[] = {
@@ -214,7 +207,7 @@ static void list_properties(struct entries *list, struct machine *machine) {
     add(list, 0x207, 0); /* room for transient objects; persistent ones, and room for them */
     add(list, 0x208, 0);
     add(list, 0x209, 0);
-    add(list, 0x20A, written_counters(machine));
+    add(list, 0x20A, counters);
     add(list, 0x20B, COUNTER_SLOTS - counters);
 }
 

@@ -12,9 +12,6 @@
 #define RC_TYPE ((uint32_t)0x08A)
 #define RC_INTEGRITY ((uint32_t)0x09F)
 
-/* TPMA_NV_WRITTEN (Part 2, 13.4). */
-#define NV_WRITTEN ((uint32_t)1 << 29)
-
 /* TPM_ST of a ticket of TPM2_Hash (Part 2, 6.9). */
 #define ST_HASHCHECK ((uint16_t)0x8024)
 

@@ -202,13 +202,13 @@ static bool is_tcp(enum protocol protocol) {
 static void take_connections(struct server *server, const struct listener *listener) {
     int yes = 1;
     for (int i = 0; i < ACCEPTS; i++) {
-        if (server->link_count >= server->link_most)
-            make_room(server);
         int descriptor = accept(listener->descriptor, NULL, NULL);
         if (descriptor < 0 && (errno == EMFILE || errno == ENFILE))
             make_room(server);
         if (descriptor < 0)
             return;
+        if (server->link_count >= server->link_most)
+            make_room(server);
         no_wait(descriptor);
         if (is_tcp(listener->protocol)) {
             setsockopt(descriptor, IPPROTO_TCP, TCP_NODELAY, &yes, sizeof yes);
