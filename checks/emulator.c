@@ -15,7 +15,10 @@
  *     client many PORT COUNT
  *         opens so many connections to swtpm's data port, each with a part of a frame; the emulator answers the next
  *         client, and one that sends a byte at a time
- *     client listens PORT
+ *     client hold PORT COUNT
+ *         opens so many connections, as many as there may be, and each is answered; one more closes the one that was
+ *         quiet longest, and no other
+ *     client listens PORT [ADDRESS]
  *         asks whether anybody listens there
  *     client ask PORT
  *         sends the lines of standard input, in hexadecimal digits, each as one write, and prints what is answered
@@ -111,12 +114,14 @@ static size_t bytes_of(const char *text, uint8_t *bytes) {
 
 /* ---- a connection */
 
+/* The address at which the emulator is looked for. */
+static const char *address = "127.0.0.1";
+
 static int opened(uint16_t port) {
-    struct sockaddr_in place = {
-        .sin_family = AF_INET, .sin_port = htons(port), .sin_addr.s_addr = htonl(INADDR_LOOPBACK)};
+    struct sockaddr_in place = {.sin_family = AF_INET, .sin_port = htons(port)};
     struct timeval patience = {.tv_sec = 20};
     int yes = 1, descriptor = socket(AF_INET, SOCK_STREAM, 0);
-    if (descriptor < 0)
+    if (descriptor < 0 || inet_pton(AF_INET, address, &place.sin_addr) != 1)
         fail("no socket", (uint64_t)errno);
     if (connect(descriptor, (struct sockaddr *)&place, sizeof place) != 0) {
         close(descriptor);
@@ -744,6 +749,35 @@ static void open_many(uint16_t port, uint32_t count) {
     free(descriptors);
 }
 
+static void hold_many(uint16_t port, uint32_t count) {
+    uint8_t frame[64], reply[REPLY_BYTES];
+    size_t len = bytes_of(READ_16, frame);
+    int *descriptors = calloc(count, sizeof *descriptors);
+    want_descriptors(count + 32);
+    for (uint32_t i = 0; i < count; i++) {
+        descriptors[i] = opened(port);
+        if (descriptors[i] < 0 || !sent(descriptors[i], frame, 1 + i % (len - 1)))
+            fail("no connection", i);
+    }
+    for (uint32_t i = 0; i < count; i++) {
+        size_t begun = 1 + i % (len - 1);
+        if (asked(descriptors[i], frame + begun, len - begun, reply) != 0)
+            fail("a connection is not answered", i);
+    }
+    int more = opened(port);
+    if (more < 0 || asked(more, frame, len, reply) != 0)
+        fail("one connection more is not answered", count);
+    if (recv(descriptors[0], reply, 1, 0) != 0)
+        fail("the connection that was quiet longest is not closed", 0);
+    for (uint32_t i = 1; i < count; i++)
+        if (recv(descriptors[i], reply, 1, MSG_DONTWAIT) >= 0 || errno != EAGAIN)
+            fail("another connection is closed", i);
+    for (uint32_t i = 0; i < count; i++)
+        close(descriptors[i]);
+    close(more);
+    free(descriptors);
+}
+
 /* ---- lines */
 
 /* Waits for what is answered, and prints it; a response that comes in parts is told as a whole. */
@@ -984,7 +1018,10 @@ int main(int argc, char **argv) {
         open_many(port, (uint32_t)atoi(argv[3]));
     } else if (strcmp(what, "parts") == 0 && argc == 4) {
         send_parts(port, (uint32_t)atoi(argv[3]));
-    } else if (strcmp(what, "listens") == 0 && argc == 3) {
+    } else if (strcmp(what, "hold") == 0 && argc == 4) {
+        hold_many(port, (uint32_t)atoi(argv[3]));
+    } else if (strcmp(what, "listens") == 0 && (argc == 3 || argc == 4)) {
+        address = argc == 4 ? argv[3] : address;
         return opened(port) < 0;
     } else if (strcmp(what, "ask") == 0 && argc == 3) {
         ask_lines(port);

@@ -675,6 +675,54 @@ synced() {
         END { exit bad || good < 2 }' "$room/trace" || { tail -n 12 "$room/trace" && return 1; }
 }
 
+# simulated: each message of mssim's two ports: the handshake, a command in two writes, the end, a command that is too
+# long, and what is none; the platform's signals, and what is answered without power.
+simulated() {
+    begin emulator --startup || return 1
+    nothing=80010000000c0000017b0000
+    {
+        ask 2 0000000f00000001 0000000800 0000000c$nothing 00000014
+        ask 2 000000080000001001
+        ask 2 00000005
+        ask 3 00000003 00000004 00000009 0000000a 0000000b 0000000c 00000001 00000002
+        ask 2 00000008000000000c$nothing
+        ask 0 $nothing
+        ask 3 00000001 00000014
+        ask 2 00000008000000000c$nothing
+        ask 3 00000011 00000007
+        ask 2 00000008000000000c$nothing
+    } >"$room/answers"
+    end
+    answer=0000000c80010000000c00000000000000000000
+    printf '%s\n' 000000010000000000000000 - $answer - - - 00000000 00000000 00000000 00000000 00000000 00000000 \
+        00000000 00000000 0000000000000000 80010000000a00000101 00000000 - $answer 00000000 - $answer |
+        diff - "$room/answers"
+}
+
+# held: as many connections as there may be are answered; one more closes the one that was quiet longest.
+held() {
+    begin emulator --startup || return 1
+    timeout 300 "$room/client" hold "$port" 4096
+    said=$?
+    end && return $said
+}
+
+# not_touched: the state file is written where NV memory changed, and else never; it and a record are their owner's
+# alone.
+not_touched() {
+    rm -f "$room"/state.still* "$room/frames"
+    still="$room/emulator --stdio --startup --state $room/state.still --record $room/frames"
+    printf '%s\n' $define $increment | xxd -r -p | $still >"$room/out" || return 1
+    before=$(stat -c %i "$room/state.still")
+    other=$(echo $increment | sed 's/01800001/01800009/')
+    printf '%s\n' $read $define $registers_0 $session $save 80010000000a00000181 "$other" | xxd -r -p |
+        $still >"$room/out" || return 1
+    [ "$(stat -c %i "$room/state.still")" = "$before" ] || { echo "it is written" && return 1; }
+    printf '%s\n' $increment | xxd -r -p | $still >"$room/out" || return 1
+    [ "$(stat -c %i "$room/state.still")" != "$before" ] || { echo "it is not written" && return 1; }
+    [ "$(stat -c %a "$room/state.still" "$room/frames" | tr '\n' ' ')" = '600 600 ' ]
+}
+
 # in_parts: a command over mssim whose header and body are written apart takes no 40 milliseconds.
 in_parts() {
     begin emulator --startup || return 1
@@ -705,6 +753,19 @@ channelled() {
     rows checks/channel.txt | cut -d ' ' -f 1 | timeout 60 "$room/client" channel "$room/channel" >"$room/answers"
     wait "$server" || { echo "status $?" && return 1; }
     rows checks/channel.txt | cut -d ' ' -f 2 | diff - "$room/answers" && [ ! -e "$room/channel" ]
+}
+
+# set_and_kept: a blob that is set is in the state file before that is answered, and one that is refused is not.
+set_and_kept() {
+    rm -f "$room"/state.set*
+    at_channel emulator --state "$room/state.set" || return 1
+    blob=564a4e560001000000000000002900000000974d57366103fb65af71876814798c983a63c57f2bb3f75aabc4db0d282d9ffe
+    printf '%s\n' 0000000d000000000000000100000032$blob 0000000d000000000000000100000031${blob%fe} |
+        timeout 20 "$room/client" channel "$room/channel" >"$room/answers"
+    kill -KILL "$server"
+    wait "$server" 2>/dev/null
+    rm -f "$room/channel"
+    printf '%s\n' 00000000 00000003 | diff - "$room/answers" && [ "$(xxd -p "$room/state.set" | tr -d '\n')" = $blob ]
 }
 
 # one_channel: a second emulator does not take the socket of another; one that was left by a killed process is taken
@@ -769,10 +830,49 @@ its_words() {
         "$room/emulator" $words 2>"$room/err"
         [ $? -eq 2 ] && grep -q 'they collide' "$room/err" || { echo "$words" && return 1; }
     done
-    for words in '' '--swtpm' '--swtpm 0' '--swtpm 65535' '--other' '--owner 0' "--unixio $(printf '%0200d' 0)"; do
-        timeout 20 "$room/emulator" $words 2>"$room/err"
+    for words in '' '--swtpm' '--swtpm 0' '--swtpm 65535' '--other' '--owner 0' "--unixio $(printf '%0200d' 0)" \
+        '--stdio --owner 0g' "--stdio --owner $(zeros 49)" '--stdio --greatest -1' '--stdio --greatest 1x' \
+        '--stdio --greatest 18446744073709551616' '--swtpm 24376 --listen here'; do
+        timeout 20 "$room/emulator" $words </dev/null 2>"$room/err"
         [ $? -eq 2 ] && [ -s "$room/err" ] || { echo "words $words" && return 1; }
     done
+}
+
+# its_device: the owner's value in either kind of digits, and the greatest value, which a file that is there says
+# already.
+its_device() {
+    rm -f "$room"/state.words*
+    by_owner=$(echo $define |
+        sed 's/^80020000002d/80020000002f/; s/0000000940000009\(000001\)0000/0000000b40000009\100024f6b/')
+    for owner in 4F6B 4f6b; do
+        printf '%s\n' $define "$by_owner" | xxd -r -p | "$room/emulator" --stdio --startup --owner $owner |
+            xxd -p | tr -d '\n' | grep -q '^80010000000a000009a280020000001300000000000000000000010000$' ||
+            { echo "--owner $owner" && return 1; }
+    done
+    words="--stdio --startup --greatest 18446744073709551614 --state $room/state.words"
+    printf '%s\n' $define $increment $read | xxd -r -p | "$room/emulator" $words | xxd -p | tr -d '\n' |
+        grep -q '0008ffffffffffffffff0000010000$' || return 1
+    "$room/emulator" $words </dev/null 2>"$room/err"
+    [ $? -eq 2 ] && grep -q 'says the greatest value already' "$room/err"
+}
+
+# at_its_address: it listens where it is told, and else at the loopback's first address alone.
+at_its_address() {
+    begin emulator || return 1
+    "$room/client" listens "$port" 127.0.0.2 && end && return 1
+    end || return 1
+    port=$((port + 8))
+    "$room/emulator" --swtpm "$port" --mssim $((port + 2)) --listen 127.0.0.2 2>"$room/err" &
+    server=$!
+    for wait in $(seq 100); do
+        if [ -s "$room/err" ]; then break; fi
+        sleep 0.05
+    done
+    for at in 0 1 2 3; do
+        "$room/client" listens $((port + at)) 127.0.0.2 && ! "$room/client" listens $((port + at)) ||
+            { echo "$at" && end && return 1; }
+    done
+    end
 }
 
 # recorded: each frame and its answer are in the record, a line each, which the program tells.
@@ -871,11 +971,22 @@ else
         skip "a counter is on the disk before the reply" "there is no strace"
     fi
     emulates "a command over mssim in two parts does not wait" in_parts
+    emulates "each message of mssim's two ports is answered" simulated
+    emulates "the state file is written where NV memory changed, and else never" not_touched
+    if [ "$(ulimit -Hn)" = unlimited ] || [ "$(ulimit -Hn)" -ge 4160 ]; then
+        emulates "4,096 connections are answered, and one more closes the one that was quiet longest" held
+    else
+        skip "4,096 connections are answered, and one more closes the one that was quiet longest" \
+            "there may not be so many"
+    fi
     emulates "each message of swtpm's control port is answered" controlled_over_tcp
     emulates "each message of QEMU's channel is answered" channelled
+    emulates "a state blob that is set is kept" set_and_kept
     emulates "a Unix socket has one emulator" one_channel
     emulates "the emulator in the background" in_the_background
     emulates "the emulator's words" its_words
+    emulates "the emulator's device by its words" its_device
+    emulates "the emulator's address" at_its_address
     emulates "frames are recorded" recorded
     emulates "emulator/run works through symbolic links" by_links
     emulates "without random bytes the emulator ends" no_random_bytes
