@@ -75,6 +75,8 @@ static int script(struct tpm_device *device) {
         size_t len;
         place++;
         line[strcspn(line, "\n")] = '\0';
+        if (line[0] == '\0' || line[0] == '#')
+            continue;
         if (strcmp(line, "power") == 0) {
             tpm_device_power_cycle(device);
             printf("power\n");

@@ -1,6 +1,6 @@
 -- What `run` prints (this profile).
 use Rattle.std.specs.Prelude.{◌≡◌, ◌≢◌, ◌⊎◌, ℕ, ◌+◌, ◌<◌, ◌≤◌, ◌==◌, nat_lt, List, [], ◌∷◌, ◌++◌, length, map, codes}
-use Rattle.std.specs.Prelude.{Option, Some, None, if◌then◌else◌}
+use Rattle.std.specs.Prelude.{Option, Some, None, if◌then◌else◌, Bool, true}
 use Rattle.std.specs.Int.{to_be_bytes, w128}
 use Rattle.std.specs.Str.{bytes_eq}
 use Rattle.std.specs.Fmt.{decimal}
@@ -29,10 +29,15 @@ abbrev pub command_in : Option (List ℕ) → Line
 command_in (Some bytes) = Command bytes
 command_in None = NotHexadecimal
 
+-- the empty line, and a comment behind `#`
+abbrev pub is_skipped : List ℕ → Bool
+is_skipped [] = true
+is_skipped (first ∷ rest) = first == 35
+
 abbrev pub line_of : List ℕ → Line
 line_of text =
     if nat_lt most_digits (length text) then NotHexadecimal
-    else if length text == 0 then Blank
+    else if is_skipped text then Blank
     else if bytes_eq text (codes "power") then Power
     else command_in (bytes_in text)
 

@@ -1,7 +1,7 @@
 //! The lines of a script.
 
 ghost use Rattle.std.specs.Prelude.{◌≡◌, IfOk};
-ghost use Rattle.tpm_script.specs.Script.{line_of, nonce_of};
+ghost use Rattle.tpm_script.specs.Script.{is_skipped, line_of, nonce_of};
 ghost use Rattle.tpm_script.specs.Progress.{read_as};
 
 use std::alloc::{AllocError, Global};
@@ -13,7 +13,7 @@ pub(crate) const MOST_DIGITS: usize = 8192;
 /// What a line of a script asks for.
 #[derive(Drop)]
 pub(crate) enum Line {
-    /// Nothing: the empty line.
+    /// Nothing: the empty line, or a comment.
     Blank,
     /// A power cycle.
     Power,
@@ -23,6 +23,15 @@ pub(crate) enum Line {
     NotHexadecimal,
 }
 
+fn is_skipped(text: &[u8]) -> bool
+    ensures { result ≡ is_skipped text.now }
+{
+    match text {
+        [first, ..] => *first == b'#',
+        [] => true,
+    }
+}
+
 /// What this line asks for.
 pub(crate) fn read_line(alloc: Global, text: &[u8]) -> Result<Line, AllocError>
     ensures { IfOk result (λ line. read_as line ≡ line_of text.now) }
@@ -30,7 +39,7 @@ pub(crate) fn read_line(alloc: Global, text: &[u8]) -> Result<Line, AllocError>
     if text.len() > MOST_DIGITS {
         return Ok(Line::NotHexadecimal);
     }
-    if text.is_empty() {
+    if is_skipped(text) {
         return Ok(Line::Blank);
     }
     if text == b"power".as_slice() {

@@ -146,11 +146,11 @@ impl LineSink for Run {
 ///
 /// A line of hexadecimal digits, two to a byte and in either case, is a command, and its response is
 /// printed likewise. `power` cycles the device's power and is printed itself. The empty line is
-/// skipped. The nonce of the k-th command, from 1, is the number k in sixteen bytes, most significant
-/// first, four times. Any other line, and one of more than 8,192 digits, ends the script: `line N: not
-/// hexadecimal` is printed, where N counts every line from 1, and the status is `Refused`; a command
-/// that the device refuses is no reason for that. A line ends with a line feed alone, and the last may
-/// do without.
+/// skipped, and so is one that begins with `#`. The nonce of the k-th command, from 1, is the number k
+/// in sixteen bytes, most significant first, four times. Any other line, and one of more than 8,192
+/// digits or characters, ends the script: `line N: not hexadecimal` is printed, where N counts every
+/// line from 1, and the status is `Refused`; a command that the device refuses is no reason for that.
+/// A line ends with a line feed alone, and the last may do without.
 ///
 /// What a read gave is answered before the next read, and no more than one line and one piece is held.
 /// So whatever is answered, what was read behind the end of a refused line came in one read of at most

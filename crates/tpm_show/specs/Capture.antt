@@ -15,6 +15,7 @@ use Rattle.tpm_lines.specs.declared.status.Status.{Status}
 use Rattle.tpm_lines.specs.Status.{both}
 use Rattle.tpm_lines.specs.Text.{line, bytes_in}
 use Rattle.tpm_lines.specs.InputLines.{lines_of, AreEnded, HasNoFeed}
+pub use Rattle.tpm_show.specs.Digits.{is_blank, without_blanks, without_prefix}
 use Rattle.tpm_show.specs.declared.capture_lines.Direction.TheVariants.{Command, Reply}
 use Rattle.tpm_show.specs.declared.capture_lines.Direction.{Direction}
 use Rattle.tpm_show.specs.declared.capture_frames.Awaited.{Awaited}
@@ -32,17 +33,6 @@ pub data Line : Type 0 where
   Frame : (mark : Option Direction) → (bytes : List ℕ) → Line
   NotHexadecimal : Line
   TooLong : Line
-
--- a space, a tab or a carriage return
-abbrev pub is_blank : ℕ → Bool
-is_blank byte = byte == 32 || (byte == 9 || byte == 13)
-
-abbrev pub without_blanks : List ℕ → List ℕ
-without_blanks text = filter (λ byte. not (is_blank byte)) text
-
--- the digits behind `0x`, or all where it isn't there
-abbrev pub without_prefix : List ℕ → List ℕ
-without_prefix text = if bytes_eq (take 2 text) (codes "0x") then drop 2 text else text
 
 abbrev pub frame_of : Option Direction → Option (List ℕ) → Line
 frame_of mark (Some bytes) = Frame mark bytes

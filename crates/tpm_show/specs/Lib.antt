@@ -1,3 +1,4 @@
+pub mod Digits
 pub mod ReplyText
 pub mod FieldText
 pub mod Parts

@@ -14,7 +14,8 @@ use Rattle.tpm_buffer.specs.ResponseAreas.{handle_of}
 use Rattle.tpm_buffer.specs.Responses.{ReplyCut, reply_cut, response}
 use Rattle.tpm_lines.specs.declared.status.Status.TheVariants.{Done, Refused}
 use Rattle.tpm_lines.specs.declared.status.Status.{Status}
-use Rattle.tpm_lines.specs.Text.{lines_from, bytes_in, command_text, of_reply, parameters_line, refusal_line}
+use Rattle.tpm_show.specs.Digits.{buffer_in}
+use Rattle.tpm_lines.specs.Text.{lines_from, command_text, of_reply, parameters_line, refusal_line}
 use Rattle.tpm_lines.specs.Text.{session_text, not_hexadecimal_line}
 use Rattle.tpm_show.specs.ReplyText.{reply_line, reply_handle_line, reply_code_line}
 use Rattle.tpm_show.specs.Fields.{command_fields, reply_fields}
@@ -89,8 +90,8 @@ ShowsDecoded fields (Some code) (Some bytes) status text = ShowsReply false fiel
 -- For this text of digits, read as a response to this command where one is named, this is the
 -- status and what is printed: by `show`,
 abbrev pub Shows : Option CommandCode → List ℕ → Status → List ℕ → Type 0
-Shows reply hex status text = ShowsDecoded false reply (bytes_in hex) status text
+Shows reply hex status text = ShowsDecoded false reply (buffer_in hex) status text
 
 -- and by `show --fields`
 abbrev pub ShowsFields : Option CommandCode → List ℕ → Status → List ℕ → Type 0
-ShowsFields reply hex status text = ShowsDecoded true reply (bytes_in hex) status text
+ShowsFields reply hex status text = ShowsDecoded true reply (buffer_in hex) status text

@@ -16,7 +16,8 @@ ghost use Rattle.tpm_show.specs.Capturing.{read_as, place, Passes, Tells, EndsLi
 use crate::capture_frames::{
     Awaited, answer_to_frame, awaited_behind, direction_of, push_fault, push_numbered,
 };
-use crate::capture_lines::{Direction, Line, MOST_LINE, is_blank, read_line};
+use crate::capture_lines::{Direction, Line, MOST_LINE, read_line};
+use crate::digits::is_blank;
 use crate::telling::Telling;
 use std::alloc::Global;
 use std::io::Write;

@@ -1,10 +1,12 @@
 //! The lines of a capture.
 
 ghost use Rattle.std.specs.Prelude.{◌≡◌, IfOk};
-ghost use Rattle.tpm_show.specs.Capture.{is_blank, told_in, frame_of, without_prefix};
+ghost use Rattle.tpm_show.specs.Capture.{told_in, frame_of};
+ghost use Rattle.tpm_show.specs.Digits.{without_prefix};
 ghost use Rattle.tpm_show.specs.Capturing.{read_as};
 ghost use Rattle.tpm_lines.specs.Text.{bytes_in};
 
+use crate::digits::without_prefix;
 use std::alloc::{AllocError, Global};
 use tpm_lines::hexadecimal::decoded;
 
@@ -31,23 +33,6 @@ pub(crate) enum Line {
     NotHexadecimal,
     /// It has too many bytes.
     TooLong,
-}
-
-/// Whether a byte counts for nothing in a line: a space, a tab or a carriage return.
-pub(crate) fn is_blank(byte: u8) -> bool
-    ensures { result ≡ is_blank byte }
-{
-    byte == b' ' || byte == b'\t' || byte == b'\r'
-}
-
-// The digits behind `0x`, or all where it isn't there.
-fn without_prefix(text: &[u8]) -> &[u8]
-    ensures { result.now ≡ without_prefix text.now }
-{
-    match text {
-        [b'0', b'x', digits @ ..] => digits,
-        _ => text,
-    }
 }
 
 fn read_frame(alloc: Global, mark: Option<Direction>, text: &[u8]) -> Result<Line, AllocError>

@@ -7,6 +7,7 @@ mod capture_frames;
 mod capture_lines;
 mod capture_stream;
 mod command_names;
+mod digits;
 mod explained;
 mod field_text;
 mod fields;

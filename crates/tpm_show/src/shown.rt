@@ -3,9 +3,10 @@
 ghost use Rattle.std.specs.Prelude.{ℕ, List, IfOk, string_bytes};
 ghost use Rattle.std.specs.Io.KnownBytes.{Appends};
 ghost use Rattle.tpm_lines.specs.Faults.{FailsByMemoryOrWrite};
-ghost use Rattle.tpm_lines.specs.Text.{bytes_in};
+ghost use Rattle.tpm_show.specs.Digits.{buffer_in};
 ghost use Rattle.tpm_show.specs.Show.{Shows, ShowsDecoded, ShowsFields};
 
+use crate::digits::read_buffer;
 use crate::telling::Telling;
 use crate::told::{answer_to_command, answer_to_reply};
 use std::alloc::{AllocError, Global};
@@ -13,7 +14,6 @@ use std::io::Write;
 use tpm_commands::CommandCode;
 use tpm_lines::answer::Answer;
 use tpm_lines::fault::ToolFault;
-use tpm_lines::hexadecimal::decoded;
 use tpm_lines::status::Status;
 
 fn answer(
@@ -23,9 +23,9 @@ fn answer(
     hex: &str,
 ) -> Result<Answer, AllocError>
     ensures { IfOk result
-        (λ a. ShowsDecoded fields reply (bytes_in hex.now) a.status (string_bytes a.text)) }
+        (λ a. ShowsDecoded fields reply (buffer_in hex.now) a.status (string_bytes a.text)) }
 {
-    let Some(bytes) = decoded(alloc, hex)? else {
+    let Some(bytes) = read_buffer(alloc, hex.as_bytes())? else {
         return Answer::not_hexadecimal(alloc);
     };
     let how = Telling {
@@ -46,8 +46,8 @@ fn answer(
 /// `session I nonce X attributes XX hmac X` for each session; for any other code `reply code XXX` alone.
 ///
 /// A buffer that spells neither is `refused XXX at N`, the response code and how many bytes precede the fault;
-/// and text that is not hexadecimal, two digits to a byte in either case, is `not hexadecimal`. No digits are
-/// the empty buffer.
+/// and text that is not hexadecimal, two digits to a byte in either case, is `not hexadecimal`. Spaces, tabs and
+/// carriage returns count for nothing, and `0x` may stand before the digits. No digits are the empty buffer.
 ///
 /// Where a request for memory is refused the answer is `Memory`, and where the writer fails it is
 /// `Write`. What was written before is then left open.
