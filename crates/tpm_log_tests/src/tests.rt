@@ -6,4 +6,5 @@ mod logs;
 mod pieces;
 mod quotes;
 mod secure_boots;
+mod signatures;
 mod sources;
