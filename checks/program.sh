@@ -265,6 +265,25 @@ runs_without_output "a closed standard output for a quote" - check checks/logs/w
 runs_without_output "a closed standard output for a log's records" - events checks/logs/worked.log
 runs_without_output "a closed standard output for help" - --help
 
+# An output whose reader has gone is no fault that is told: one behind `| head -1` has read what it wanted.
+runs_unread() {
+    name=$1 wanted=3
+    shift
+    : >"$room/out"
+    : >"$room/out.wanted"
+    : >"$room/err.wanted"
+    {
+        sleep 1
+        ./tpmtool "$@" 2>"$room/err"
+        echo $? >"$room/status"
+    } | :
+    check "$(cat "$room/status")"
+}
+
+runs_unread "records that nobody reads" events checks/logs/said.log
+runs_unread "a buffer that nobody reads" show $startup
+runs_unread "help that nobody reads" --help
+
 if [ -c /dev/full ]; then
     runs_without_output "a full standard output" /dev/full show $startup
 else

@@ -16,7 +16,8 @@ _tpmtool() {
         *)
             case $verb,$now in
             show,-*) words='--reply --fields --file --binary --json --nv --help' ;;
-            build,-* | explain,-*) words='--help' ;;
+            build,-*) words='--help' ;;
+            explain,-*) words='--decimal --help' ;;
             build,*) words=$commands ;;
             run,-*) words='--owner --greatest --help' ;;
             check,-*) words='--registers --quote --attest --nonce --require --hash --secure-boot --help' ;;

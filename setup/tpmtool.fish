@@ -17,6 +17,7 @@ complete -c tpmtool -n '__fish_seen_subcommand_from show events' -l json
 complete -c tpmtool -n '__fish_seen_subcommand_from build' -a "$commands"
 complete -c tpmtool -n '__fish_seen_subcommand_from run' -l owner -x
 complete -c tpmtool -n '__fish_seen_subcommand_from run' -l greatest -x
+complete -c tpmtool -n '__fish_seen_subcommand_from explain' -l decimal
 complete -c tpmtool -n '__fish_seen_subcommand_from check events' -F
 complete -c tpmtool -n '__fish_seen_subcommand_from check' -l registers -r -F
 complete -c tpmtool -n '__fish_seen_subcommand_from check' -l quote -x

@@ -18,18 +18,21 @@ def show_registers(log: BinaryIO) -> int:
     return 0
 
 
-def show_quote(log: bytes, data: bytes, nonce: str | None, require: bytes | None, hash: str) -> int:
+def hexadecimal(text: str) -> bytes:
+    if not re.fullmatch("([0-9a-fA-F]{2})*", text):
+        raise ValueError("it is not hexadecimal, two digits to a byte")
+    return bytes.fromhex(text)
+
+
+def show_quote(log: bytes, data: bytes, nonce: bytes | None, require: bytes | None, hash: str) -> int:
     replay(log)
-    if nonce is not None and not re.fullmatch("([0-9a-fA-F]{2})*", nonce):
-        print("not hexadecimal")
-        return 1
     quote = decode_attest(data)
     print("signer", quote.signer.hex() or "-")
     print("nonce", quote.nonce.hex() or "-")
     print(f"clock {quote.clock}\nresets {quote.resets}\nrestarts {quote.restarts}")
     print(f"safe {'yes' if quote.safe else 'no'}\nfirmware {quote.firmware:016x}")
     print("selection", *(word for name, registers in quote.selections for word in (name, *registers)))
-    fits = [nonce is None or bytes.fromhex(nonce) == quote.nonce]
+    fits = [nonce is None or nonce == quote.nonce]
     print("nonce", "not compared" if nonce is None else "matches" if fits[0] else "differs")
     # The quote's own nonce, so that what is said is of the selection.
     verdict = check(log, data, quote.nonce, require or b"", hash)
@@ -46,7 +49,7 @@ def main() -> int:
     of_check = words.add_subparsers(dest="verb", required=True).add_parser("check")
     of_check.add_argument("log")
     of_check.add_argument("--attest", metavar="FILE")
-    of_check.add_argument("--nonce", metavar="HEX")
+    of_check.add_argument("--nonce", metavar="HEX", type=hexadecimal)
     of_check.add_argument("--require", metavar="LIST", type=selection)
     of_check.add_argument("--hash", choices=HASHES)
     given = words.parse_args()

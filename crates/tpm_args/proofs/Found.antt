@@ -12,8 +12,6 @@ use Rattle.clap.specs.declared.parser.matches.ArgMatches.TheViews.{out-ArgMatche
 use Rattle.clap.specs.declared.parser.matches.ArgMatches.{ArgMatches}
 use Rattle.clap.specs.declared.parser.matches.SubCommand.{SubCommand}
 use Rattle.clap.specs.declared.builder.command.Command.{Command}
-use Rattle.clap.specs.declared.builder.value_parser.ValueParser.TheVariants.{Names}
-use Rattle.clap.specs.declared.builder.value_parser.ValueParser.{ValueParser}
 use Rattle.clap.specs.declared.error.kind.ErrorKind.TheVariants.{OutOfMemory}
 use Rattle.clap.specs.declared.error.kind.ErrorKind.{ErrorKind}
 use Rattle.clap.specs.Takes.{takes}
@@ -21,16 +19,15 @@ use Rattle.clap.proofs.OnLiterals.{clap_on_literals}
 use Rattle.clap.proofs.WalkLemmas.{first_value-rows}
 use Rattle.tpm_text_values.specs.Numbers.{IsDecimal}
 use Rattle.tpm_text_values.specs.Owner.{IsOwner}
-use Rattle.tpm_args.specs.declared.task.Task.TheVariants.{Show, ShowCapture, ShowNv, Build, Run, Explain}
+use Rattle.tpm_args.specs.declared.task.Task.TheVariants.{Show, ShowCapture, ShowNv, Build, Run, Explain, ExplainKind}
 use Rattle.tpm_args.specs.declared.task.Task.TheVariants.{Check, SecureBoot, Events}
 use Rattle.tpm_args.specs.declared.task.Task.{Task}
 use Rattle.tpm_args.specs.declared.stop.Stop.TheVariants.{Help, Usage, Memory}
 use Rattle.tpm_args.specs.declared.stop.Stop.{Stop}
 use Rattle.tpm_args.specs.Program.{program_app}
 use Rattle.tpm_args.specs.Task.{Asks, AsksNothing, AsksNothingWith, AsksWith, IsCode, IsHash, IsRegister, Replies}
-use Rattle.tpm_args.specs.Task.{is_given, IsWith, IsWithEither, Requires, IsInput}
+use Rattle.tpm_args.specs.Task.{is_given, IsIfBytes, IsKind, IsWith, IsWithEither, Requires, IsInput}
 use Rattle.tpm_args.specs.Stop.{IsHelp, IsMemoryOr, Refuses, StopsFor}
-use Rattle.tpm_args.specs.Names.{AreAllNames}
 
 some : {A : Type 0} (x y : A) → (let a : Option A = Some x in a) ≡ Some y → x ≡ y
 some x y e = cc
@@ -76,7 +73,16 @@ agrees name v w same (Run owner greatest) h = (
   subst (λ (x : Option Text). IsOwner (unwrap_or x (codes "")) owner) (same (codes "owner")) h.1,
   subst (λ (x : Option Text). IsDecimal (unwrap_or x (codes "0")) greatest) (same (codes "greatest")) h.2,
 )
-agrees name v w same (Explain code) h = (h.0, subst (λ (x : Option Text). IsCode x code) (same (codes "CODE")) h.1)
+agrees name v w same (Explain code) h = (
+  h.0,
+  subst (λ (x : Option Text). IsCode (is_given x) (w (codes "CODE")) code) (same (codes "decimal"))
+      (subst (λ (x : Option Text). IsCode (is_given (v (codes "decimal"))) x code) (same (codes "CODE")) h.1),
+)
+agrees name v w same (ExplainKind kind) h = (
+  h.0,
+  subst (λ (x : Option Text). IsKind (is_given x) (w (codes "CODE")) kind.now) (same (codes "decimal"))
+      (subst (λ (x : Option Text). IsKind (is_given (v (codes "decimal"))) x kind.now) (same (codes "CODE")) h.1),
+)
 agrees name v w same (Check log registers quote attest sent required hash) h = (
   h.0,
   sym (ap is_given (same (codes "secure-boot"))) ∙ h.1,
@@ -85,15 +91,16 @@ agrees name v w same (Check log registers quote attest sent required hash) h = (
   sym (same (codes "quote")) ∙ h.4,
   sym (same (codes "attest")) ∙ h.5,
   sym (same (codes "nonce")) ∙ h.6,
+  subst IsIfBytes (same (codes "nonce")) h.7,
   subst (λ (x : Option Text). IsWith x (w (codes "attest")))
-      (same (codes "nonce")) (subst (λ (x : Option Text). IsWith (v (codes "nonce")) x) (same (codes "attest")) h.7),
-  subst (λ (x : Option Text). Requires x required) (same (codes "require")) h.8,
+      (same (codes "nonce")) (subst (λ (x : Option Text). IsWith (v (codes "nonce")) x) (same (codes "attest")) h.8),
+  subst (λ (x : Option Text). Requires x required) (same (codes "require")) h.9,
   subst (λ (x : Option Text). IsWith x (w (codes "attest"))) (same (codes "require"))
-      (subst (λ (x : Option Text). IsWith (v (codes "require")) x) (same (codes "attest")) h.9),
-  subst (λ (x : Option Text). IsHash (unwrap_or x (codes "sha256")) hash) (same (codes "hash")) h.10,
+      (subst (λ (x : Option Text). IsWith (v (codes "require")) x) (same (codes "attest")) h.10),
+  subst (λ (x : Option Text). IsHash (unwrap_or x (codes "sha256")) hash) (same (codes "hash")) h.11,
   subst (λ (x : Option Text). IsWithEither x (w (codes "quote")) (w (codes "attest"))) (same (codes "hash"))
       (subst (λ (x : Option Text). IsWithEither (v (codes "hash")) x (w (codes "attest"))) (same (codes "quote"))
-      (subst (λ (x : Option Text). IsWithEither (v (codes "hash")) (v (codes "quote")) x) (same (codes "attest")) h.11)),
+      (subst (λ (x : Option Text). IsWithEither (v (codes "hash")) (v (codes "quote")) x) (same (codes "attest")) h.12)),
 )
 agrees name v w same (SecureBoot log) h = (
   h.0,
@@ -172,26 +179,25 @@ result_then (Ok asked) h f g = match_then asked h f g
 result_then (Err stop) h f g = memory_or stop f h
 
 -- clap says exactly what it finds in the program's words
-pub simple : (names : ValueParser) → is_simple (program_app names) ≡ true
+pub simple : is_simple program_app ≡ true
 unfolding clap_on_literals
-simple names = refl
+simple = refl
 
 -- what clap met in the words of these texts is what the program says
-pub met_is : {S : Type 0} (bytes : S → Text) (m : ArgMatches) (program : Command) (names : Bor (List (Bor (List ℕ))))
-    (texts all : List S) (words : List Text) → app_of program ≡ program_app (Names names)
+pub met_is : {S : Type 0} (bytes : S → Text) (m : ArgMatches) (program : Command)
+    (texts all : List S) (words : List Text) → app_of program ≡ program_app
     → HasMatchesOf (app_of program) (map bytes texts) m
-    → texts ≡ all → map bytes all ≡ words → subcommand_rows_of m ≡ subcommand_of (program_app (Names names)) words
-met_is bytes m program names texts all words same has are is =
-    (has (ap is_simple same ∙ simple (Names names))).1 ∙ ap (λ (a : App). subcommand_of a (map bytes texts)) same
-    ∙ ap (subcommand_of (program_app (Names names))) (ap (map bytes) are ∙ is)
+    → texts ≡ all → map bytes all ≡ words → subcommand_rows_of m ≡ subcommand_of program_app words
+met_is bytes m program texts all words same has are is =
+    (has (ap is_simple same ∙ simple)).1 ∙ ap (λ (a : App). subcommand_of a (map bytes texts)) same
+    ∙ ap (subcommand_of program_app) (ap (map bytes) are ∙ is)
 
 -- ---- words that are refused
 
-pub refuses : (words : List Text) (names : Bor (List (Bor (List ℕ)))) (stop : Stop) → AreAllNames names.now
-    → IsMemoryOr (AsksNothing (subcommand_of (program_app (Names names)) words)) stop → Refuses words stop
-refuses words names (Help text) all h = absurd h
-refuses words names (Usage text) all h = (names, all, λ _. h)
-refuses words names Memory all h = tt
+pub refuses : (words : List Text) (stop : Stop) → IsMemoryOr (AsksNothing (subcommand_of program_app words)) stop → Refuses words stop
+refuses words (Help text) h = absurd h
+refuses words (Usage text) h = λ _. h
+refuses words Memory h = tt
 
 is_false : (b : Bool) → (b ≡ true → ⊥) → b ≡ false
 is_false true f = absurd (f refl)
@@ -201,11 +207,11 @@ is_no_help : (kind : ErrorKind) → IsHelp kind → kind ≡ OutOfMemory → ⊥
 is_no_help kind (inl h) e = let z : ⊥ = cc in z
 is_no_help kind (inr h) e = let z : ⊥ = cc in z
 
-pub stops : (words : List Text) (names : Bor (List (Bor (List ℕ)))) (kind : ErrorKind) (stop : Stop) → AreAllNames names.now
-    → (takes (program_app (Names names)) words ≡ true → kind ≡ OutOfMemory) → StopsFor kind stop → Refuses words stop
-stops words names kind (Help text) all passes h = (names, all, is_false (takes (program_app (Names names)) words) (λ taken. is_no_help kind h (passes taken)))
-stops words names kind (Usage text) all passes h = (names, all, λ taken. absurd (h.2 (passes taken)))
-stops words names kind Memory all passes h = tt
+pub stops : (words : List Text) (kind : ErrorKind) (stop : Stop) → (takes program_app words ≡ true → kind ≡ OutOfMemory)
+    → StopsFor kind stop → Refuses words stop
+stops words kind (Help text) passes h = is_false (takes program_app words) (λ taken. is_no_help kind h (passes taken))
+stops words kind (Usage text) passes h = λ taken. absurd (h.2 (passes taken))
+stops words kind Memory passes h = tt
 
 -- ---- a register
 

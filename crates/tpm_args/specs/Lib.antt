@@ -1,4 +1,3 @@
-pub mod Names
 pub mod Program
 pub mod Task
 pub mod Stop

@@ -3,7 +3,6 @@ use Rattle.std.specs.Prelude.{◌≡◌, true, false, Some, codes}
 use Rattle.clap.specs.declared.builder.action.ArgAction.TheVariants.{SetTrue}
 use Rattle.clap.specs.declared.builder.command.Command.TheViews.{out-Command}
 use Rattle.clap.specs.declared.builder.command.Command.{Command}
-use Rattle.clap.specs.declared.builder.value_parser.ValueParser.{ValueParser}
 use Rattle.clap.specs.Words.{App, Rule, Text, app_of, new_app, new_rule, with_rule, with_subcommand}
 
 -- a word that has to be there
@@ -14,15 +13,6 @@ required_rule name = record (new_rule name) { required = true }
 abbrev pub optional_rule : Text → Rule
 optional_rule name = new_rule name
 
--- NAME, by what it may be
-abbrev pub name_rule : ValueParser → Rule
-name_rule names = record (required_rule (codes "NAME")) { parser = Some names }
-
--- --reply NAME
-abbrev pub reply_rule : ValueParser → Rule
-reply_rule names =
-    record (new_rule (codes "reply")) { long = Some (codes "reply"); value_names = 1; parser = Some names }
-
 -- a flag, as --fields
 abbrev pub flag_rule : Text → Rule
 flag_rule name = record (new_rule name) { long = Some name; action = Some SetTrue }
@@ -32,30 +22,36 @@ abbrev pub option_rule : Text → Rule
 option_rule name = record (new_rule name) { long = Some name; value_names = 1 }
 
 -- show [--reply NAME] [--fields]
-abbrev pub buffer_app : ValueParser → App
-buffer_app names = with_rule (with_rule (new_app (codes "show")) (reply_rule names)) (flag_rule (codes "fields"))
+abbrev pub buffer_app : App
+buffer_app =
+    with_rule (with_rule (new_app (codes "show")) (option_rule (codes "reply"))) (flag_rule (codes "fields"))
 
 -- show [--reply NAME] [--fields] [--file FILE] [--binary] [--json]
-abbrev pub capture_app : ValueParser → App
-capture_app names = with_rule (with_rule (with_rule (buffer_app names) (option_rule (codes "file")))
+abbrev pub capture_app : App
+capture_app = with_rule (with_rule (with_rule buffer_app (option_rule (codes "file")))
     (flag_rule (codes "binary"))) (flag_rule (codes "json"))
 
 -- show [--reply NAME] [--fields] [--file FILE] [--binary] [--json] [--nv FILE] [HEX]
-abbrev pub show_app : ValueParser → App
-show_app names = with_rule (with_rule (capture_app names) (option_rule (codes "nv"))) (optional_rule (codes "HEX"))
+abbrev pub show_app : App
+show_app = with_rule (with_rule capture_app (option_rule (codes "nv"))) (optional_rule (codes "HEX"))
+
+-- build NAME
+abbrev pub named_app : App
+named_app = with_rule (new_app (codes "build")) (required_rule (codes "NAME"))
 
 -- build NAME HANDLES SESSIONS PARAMETERS
-abbrev pub build_app : ValueParser → App
-build_app names = with_rule (with_rule (with_rule (with_rule (new_app (codes "build")) (name_rule names))
-    (required_rule (codes "HANDLES"))) (required_rule (codes "SESSIONS"))) (required_rule (codes "PARAMETERS"))
+abbrev pub build_app : App
+build_app = with_rule (with_rule (with_rule named_app (required_rule (codes "HANDLES")))
+    (required_rule (codes "SESSIONS"))) (required_rule (codes "PARAMETERS"))
 
 -- run [--owner HEX] [--greatest N]
 abbrev pub run_app : App
 run_app = with_rule (with_rule (new_app (codes "run")) (option_rule (codes "owner"))) (option_rule (codes "greatest"))
 
--- explain CODE
+-- explain [--decimal] CODE
 abbrev pub explain_app : App
-explain_app = with_rule (new_app (codes "explain")) (required_rule (codes "CODE"))
+explain_app =
+    with_rule (with_rule (new_app (codes "explain")) (flag_rule (codes "decimal"))) (required_rule (codes "CODE"))
 
 -- a subcommand on an event log, as check LOG, without its options
 abbrev pub log_app : Text → App
@@ -88,10 +84,10 @@ above_subcommands = record (new_app (codes "tpmtool")) {
       (codes "tpmtool")).top { subcommand_required = true; has_version = true; has_long_version = true };
 }
 
-abbrev pub program_app : ValueParser → App
-program_app names = with_subcommand
+abbrev pub program_app : App
+program_app = with_subcommand
     (with_subcommand (with_subcommand (with_subcommand (with_subcommand (with_subcommand above_subcommands
-    (show_app names).top) (build_app names).top) run_app.top) explain_app.top) check_app.top) events_app.top
+    show_app.top) build_app.top) run_app.top) explain_app.top) check_app.top) events_app.top
 
 -- A command has these words, and none that it shares with its subcommands.
 abbrev pub IsApp : App → Command → Type 0

@@ -1,15 +1,12 @@
 -- What becomes of the words that are refused.
-use Rattle.std.specs.Prelude.{◌≡◌, ◌≢◌, ◌⊎◌, ℕ, List, Option, Result, MatchOption, MatchResult, true, false}
-use Rattle.std.specs.Borrow.{Bor}
+use Rattle.std.specs.Prelude.{◌≡◌, ◌≢◌, ◌⊎◌, List, Option, Result, MatchOption, MatchResult, true, false}
 use Rattle.clap.specs.Words.{Text, first_value, found_of, subcommand_of, takes}
 use Rattle.clap.specs.declared.parser.matches.ArgMatches.{ArgMatches}
-use Rattle.clap.specs.declared.builder.value_parser.ValueParser.TheVariants.{Names}
 use Rattle.clap.specs.declared.error.kind.ErrorKind.TheVariants.{DisplayHelp, DisplayVersion, OutOfMemory}
 use Rattle.clap.specs.declared.error.kind.ErrorKind.{ErrorKind}
 use Rattle.tpm_args.specs.declared.stop.Stop.TheVariants.{Help, Usage, Memory}
 use Rattle.tpm_args.specs.declared.stop.Stop.{Stop}
 use Rattle.tpm_args.specs.declared.task.Task.{Task}
-use Rattle.tpm_args.specs.Names.{AreAllNames}
 use Rattle.tpm_args.specs.Program.{program_app}
 use Rattle.tpm_args.specs.Task.{AsksNothing, AsksNothingWith, AsksWith}
 
@@ -38,10 +35,6 @@ IsAsked name words asked = MatchResult asked
 
 -- Help is answered only where clap doesn't take the words, and a usage fault only there and where they ask for nothing.
 abbrev pub Refuses : List Text → Stop → Type 0
-Refuses words (Help text) =
-    (names : Bor (List (Bor (List ℕ))))
-    × AreAllNames names.now
-    × (takes (program_app (Names names)) words ≡ false)
-Refuses words (Usage text) = (names : Bor (List (Bor (List ℕ)))) × AreAllNames names.now
-    × (takes (program_app (Names names)) words ≡ true → AsksNothing (subcommand_of (program_app (Names names)) words))
+Refuses words (Help text) = takes program_app words ≡ false
+Refuses words (Usage text) = takes program_app words ≡ true → AsksNothing (subcommand_of program_app words)
 Refuses words Memory = Unit {0}

@@ -6,13 +6,13 @@ use Rattle.clap.specs.Words.{Row, Text, first_of}
 use Rattle.tpm_types.specs.declared.alg.Alg.{Alg}
 use Rattle.tpm_types.specs.declared.tpms.Selection.{Selection}
 use Rattle.tpm_commands.specs.declared.code.CommandCode.{CommandCode}
-use Rattle.tpm_text_values.specs.Numbers.{IsDecimal, IsHexadecimal}
-use Rattle.tpm_text_values.specs.Owner.{IsOwner}
+use Rattle.tpm_text_values.specs.Names.{command_of_name, is_kind}
+use Rattle.tpm_text_values.specs.Numbers.{IsDecimal, IsHexadecimal, IsShortDecimal}
+use Rattle.tpm_text_values.specs.Owner.{IsOwner, bytes_in}
 use Rattle.tpm_text_values.specs.Selections.{hash_word, AreSelections}
-use Rattle.tpm_args.specs.declared.task.Task.TheVariants.{Show, ShowCapture, ShowNv, Build, Run, Explain}
+use Rattle.tpm_args.specs.declared.task.Task.TheVariants.{Show, ShowCapture, ShowNv, Build, Run, Explain, ExplainKind}
 use Rattle.tpm_args.specs.declared.task.Task.TheVariants.{Check, SecureBoot, Events}
 use Rattle.tpm_args.specs.declared.task.Task.{Task}
-use Rattle.tpm_args.specs.Names.{command_of_name}
 
 -- the command of the option, where the option is given
 abbrev pub Replies : Option Text → Option CommandCode → Type 0
@@ -31,10 +31,18 @@ digits_in text =
     else if bytes_eq (take 2 text) (codes "0X") then drop 2 text
     else text
 
--- a response code, by a word that has to be there
-abbrev pub IsCode : Option Text → ℕ → Type 0
-IsCode None code = ⊥
-IsCode (Some text) code = IsHexadecimal (digits_in text) code
+-- a response code, in decimal or else in hexadecimal, by a word that has to be there
+abbrev pub IsCode : (decimal : Bool) → Option Text → ℕ → Type 0
+IsCode decimal None code = ⊥
+IsCode true (Some text) code = IsShortDecimal text code
+IsCode false (Some text) code = IsHexadecimal (digits_in text) code
+
+-- the kind of a fault by a word that is no code
+abbrev pub IsKind : (decimal : Bool) → Option Text → (kind : Text) → Type 0
+IsKind decimal None kind = ⊥
+IsKind true (Some text) kind = ⊥
+IsKind false (Some text) kind =
+    (text ≡ kind) × (is_kind text ≡ true) × ((code : ℕ) → IsHexadecimal (digits_in text) code → ⊥)
 
 -- the name of a hash
 abbrev pub IsHash : Text → Alg → Type 0
@@ -56,6 +64,11 @@ IsWith (Some text) (Some other) = Unit {0}
 abbrev pub IsWithEither : Option Text → (other another : Option Text) → Type 0
 IsWithEither option None another = IsWith option another
 IsWithEither option (Some text) another = Unit {0}
+
+-- bytes in hexadecimal digits, where the option is given
+abbrev pub IsIfBytes : Option Text → Type 0
+IsIfBytes None = Unit {0}
+IsIfBytes (Some text) = is_some (bytes_in text) ≡ true
 
 -- the registers that a list names, where it is given
 abbrev pub Requires : Option Text → Option (List Selection) → Type 0
@@ -97,7 +110,10 @@ AsksWith name value (Run owner greatest) =
     (name ≡ codes "run")
     × IsOwner (unwrap_or (value (codes "owner")) (codes "")) owner
     × IsDecimal (unwrap_or (value (codes "greatest")) (codes "0")) greatest
-AsksWith name value (Explain code) = (name ≡ codes "explain") × IsCode (value (codes "CODE")) code
+AsksWith name value (Explain code) =
+    (name ≡ codes "explain") × IsCode (is_given (value (codes "decimal"))) (value (codes "CODE")) code
+AsksWith name value (ExplainKind kind) =
+    (name ≡ codes "explain") × IsKind (is_given (value (codes "decimal"))) (value (codes "CODE")) kind.now
 AsksWith name value (Check log registers quote attest sent required hash) =
     (name ≡ codes "check")
     × (is_given (value (codes "secure-boot")) ≡ false)
@@ -105,7 +121,7 @@ AsksWith name value (Check log registers quote attest sent required hash) =
     × (value (codes "registers") ≡ option_map (λ r. r.now) registers)
     × (value (codes "quote") ≡ option_map (λ q. q.now) quote)
     × (value (codes "attest") ≡ option_map (λ a. a.now) attest) × (value (codes "nonce") ≡ option_map (λ s. s.now) sent)
-    × IsWith (value (codes "nonce")) (value (codes "attest"))
+    × IsIfBytes (value (codes "nonce")) × IsWith (value (codes "nonce")) (value (codes "attest"))
     × Requires (value (codes "require")) required × IsWith (value (codes "require")) (value (codes "attest"))
     × IsHash (unwrap_or (value (codes "hash")) (codes "sha256")) hash
     × IsWithEither (value (codes "hash")) (value (codes "quote")) (value (codes "attest"))

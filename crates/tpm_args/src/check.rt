@@ -6,16 +6,16 @@ ghost use Rattle.tpm_types.specs.declared.alg.Alg.{Alg as AlgValue};
 ghost use Rattle.tpm_types.specs.declared.tpms.Selection.{Selection as SelectionValue};
 ghost use Rattle.tpm_args.specs.Stop.{IsAsked, IsMemoryOr};
 ghost use Rattle.tpm_args.specs.Task.{is_given as is_given_by, AsksNothingWith, AsksWith};
-ghost use Rattle.tpm_args.specs.Task.{IsHash, IsWith, IsWithEither, Requires};
+ghost use Rattle.tpm_args.specs.Task.{IsHash, IsIfBytes, IsWith, IsWithEither, Requires};
 
 use crate::given::is_given;
-use crate::invalid::invalid_value;
+use crate::invalid::{invalid_value, not_hexadecimal, wrong_words};
 use crate::program::check_words;
 use crate::stop::Stop;
 use crate::task::{Asked, Task};
 use clap::ArgMatches;
 use std::alloc::Global;
-use tpm_text_values::selections;
+use tpm_text_values::{is_hexadecimal, selections};
 use tpm_types::{Alg, Selections};
 
 /// The task of the words of `check`.
@@ -23,7 +23,11 @@ pub(crate) fn check_task<'a>(alloc: Global, words: &ArgMatches<'a>) -> Asked<'a>
     ensures { IsAsked (codes "check") words.now result }
 {
     if is_given(words, "secure-boot") {
-        return Ok(secure_boot_task(words));
+        let Some(task) = secure_boot_task(words) else {
+            let reason = "--secure-boot goes with no other option";
+            return Err(wrong_words(alloc, check_words(alloc), reason));
+        };
+        return Ok(Some(task));
     }
     let Some(log) = words.get_str("LOG") else {
         return Ok(None);
@@ -32,6 +36,7 @@ pub(crate) fn check_task<'a>(alloc: Global, words: &ArgMatches<'a>) -> Asked<'a>
     let attest = words.get_str("attest");
     let nonce = words.get_str("nonce");
     with_attest(alloc, nonce, "--nonce <HEX>", attest)?;
+    check_nonce(alloc, nonce)?;
     let list = words.get_str("require");
     with_attest(alloc, list, "--require <LIST>", attest)?;
     let required = required(alloc, list)?;
@@ -88,6 +93,20 @@ fn with_attest(
         }
         _ => Ok(()),
     }
+}
+
+// A usage fault where the nonce is given and not hexadecimal.
+fn check_nonce(alloc: Global, nonce: Option<&str>) -> Result<(), Stop>
+    ensures { MatchResult result (λ _. IsIfBytes (option_map (λ n. n.now) nonce.entry))
+        (IsMemoryOr (IsIfBytes (option_map (λ n. n.now) nonce.entry) → ⊥)) }
+{
+    let Some(text) = nonce else {
+        return Ok(());
+    };
+    if is_hexadecimal(alloc, text)? {
+        return Ok(());
+    }
+    Err(not_hexadecimal(alloc, check_words(alloc), text, "--nonce <HEX>"))
 }
 
 // A usage fault where a hash is given without a quote.

@@ -1,27 +1,55 @@
 //! The words of the subcommand `explain`.
 
-ghost use Rattle.std.specs.Prelude.{◌≡◌, ℕ, MatchOption, MatchResult, codes};
+ghost use Rattle.std.specs.Prelude.{◌≡◌, ℕ, List, Some, MatchOption, codes};
+ghost use Rattle.clap.specs.Words.{first_value, found_of};
 ghost use Rattle.tpm_text_values.specs.Numbers.{IsHexadecimal};
 ghost use Rattle.tpm_args.specs.Stop.{IsAsked, IsMemoryOr};
-ghost use Rattle.tpm_args.specs.Task.{digits_in};
+ghost use Rattle.tpm_args.specs.Task.{digits_in, AsksNothingWith, AsksWith, IsCode, IsKind};
 
+use crate::given::is_given;
 use crate::invalid::invalid_value;
 use crate::program::explain_words;
 use crate::stop::Stop;
 use crate::task::{Asked, Task};
 use clap::ArgMatches;
 use std::alloc::Global;
-use tpm_text_values::hexadecimal;
+use tpm_text_values::{hexadecimal, is_kind, short_decimal};
 
-/// The task of the words of `explain`.
+/// The task of the words of `explain`. A usage fault where the word is no number of the radix below 2^32, and in
+/// hexadecimal no name of a kind either.
 pub(crate) fn explain_task<'a>(alloc: Global, words: &ArgMatches<'a>) -> Asked<'a>
     ensures { IsAsked (codes "explain") words.now result }
 {
-    let Some(text) = words.get_str("CODE") else {
-        return Ok(None);
-    };
-    let code = code(alloc, text)?;
-    Ok(Some(Task::Explain { code }))
+    match explained(words) {
+        Some(task) => Ok(Some(task)),
+        None => Err(no_code(alloc, words)),
+    }
+}
+
+// A code, or else the kind of a fault.
+fn explained<'a>(words: &ArgMatches<'a>) -> Option<Task<'a>>
+    ensures { MatchOption result (AsksNothingWith (codes "explain") (first_value (found_of words.now)))
+        (λ t. AsksWith (codes "explain") (first_value (found_of words.now)) t) }
+{
+    let text = words.get_str("CODE")?;
+    let decimal = is_given(words, "decimal");
+    if let Some(code) = number_in(decimal, text) {
+        return Some(Task::Explain { code });
+    }
+    Some(Task::ExplainKind {
+        kind: kind_in(decimal, text)?,
+    })
+}
+
+// The text where it is the kind of a fault and no code.
+fn kind_in(decimal: bool, text: &str) -> Option<&str>
+    ensures { MatchOption result ((kind : List ℕ) → IsKind decimal (Some text.now) kind → ⊥)
+        (λ kind. IsKind decimal (Some text.now) kind.now) }
+{
+    if decimal || !is_kind(text) || number(text).is_some() {
+        return None;
+    }
+    Some(text)
 }
 
 // What stands behind `0x` or `0X`, or all where the text begins with neither.
@@ -41,15 +69,26 @@ fn number(text: &str) -> Option<u32>
     hexadecimal(digits(text))
 }
 
-// A number of hexadecimal digits, with `0x` before them or not, and without a sign. A usage fault
-// where it is none, or not below 2^32.
-fn code(alloc: Global, text: &str) -> Result<u32, Stop>
-    ensures { MatchResult result (λ code. IsHexadecimal (digits_in text.now) code)
-        (IsMemoryOr ((code : ℕ) → IsHexadecimal (digits_in text.now) code → ⊥)) }
+// The same, or in decimal.
+fn number_in(decimal: bool, text: &str) -> Option<u32>
+    ensures { MatchOption result ((code : ℕ) → IsCode decimal (Some text.now) code → ⊥)
+        (λ code. IsCode decimal (Some text.now) code) }
 {
-    if let Some(code) = number(text) {
-        return Ok(code);
+    if decimal {
+        short_decimal(text)
+    } else {
+        number(text)
     }
-    let reason = "it is no hexadecimal number up to ffffffff";
-    Err(invalid_value(alloc, explain_words(alloc), text, "<CODE>", reason))
+}
+
+fn no_code(alloc: Global, words: &ArgMatches<'_>) -> Stop
+    ensures { IsMemoryOr (Unit {0}) result }
+{
+    let text = words.get_str("CODE").unwrap_or("");
+    let reason = if is_given(words, "decimal") {
+        "it is no decimal number up to 4294967295"
+    } else {
+        "it is no hexadecimal number up to ffffffff"
+    };
+    invalid_value(alloc, explain_words(alloc), text, "<CODE>", reason)
 }

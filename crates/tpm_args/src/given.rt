@@ -2,11 +2,8 @@
 
 ghost use Rattle.std.specs.Prelude.{◌≡◌, ℕ, List, IfOk, IfErr, IfSome, MatchOption, MatchResult, codes, map};
 ghost use Rattle.std.specs.Prelude.{string_bytes};
-ghost use Rattle.std.specs.Borrow.{Bor};
 ghost use Rattle.clap.specs.Words.{first_value, found_of, kind_of, subcommand_of, subcommand_rows_of};
 ghost use Rattle.clap.specs.declared.error.kind.ErrorKind.TheVariants.{InvalidValue};
-ghost use Rattle.clap.specs.declared.builder.value_parser.ValueParser.TheVariants.{Names};
-ghost use Rattle.tpm_args.specs.Names.{AreAllNames};
 ghost use Rattle.tpm_args.specs.Program.{program_app};
 ghost use Rattle.tpm_args.specs.Stop.{StopsFor, IsAsked, IsMemoryOr, Refuses};
 ghost use Rattle.tpm_args.specs.Task.{is_given as is_given_by, Asks, AsksNothing, AsksNothingWith, AsksWith};
@@ -14,8 +11,9 @@ ghost use Rattle.tpm_args.specs.Task.{is_given as is_given_by, Asks, AsksNothing
 use crate::check::check_task;
 use crate::events::register;
 use crate::explain::explain_task;
-use crate::names::{command_named, command_names};
-use crate::program::program;
+use crate::invalid::no_command;
+use crate::names::names_help;
+use crate::program::{build_words, program};
 use crate::run::run_task;
 use crate::show::show_task;
 use crate::stop::Stop;
@@ -24,20 +22,20 @@ use clap::error::ErrorKind;
 use clap::{ArgMatches, Error};
 use std::alloc::{AllocError, Global};
 use std::marker::Model;
+use tpm_text_values::command_named;
 
-/// The words of a run, with the names that they may give.
+/// The words of a run.
 #[derive(Drop)]
 pub struct Words {
     given: Vec<String>,
-    names: Vec<&'static str>,
+    // what help says of the names of commands
+    names: String,
 }
 
 impl Model for Words {
     ghost Value = { List (List ℕ) };
 
     ghost view = { λ w. map string_bytes w.given.items };
-
-    ghost invariant = { λ w. AreAllNames w.names.items };
 }
 
 impl Words {
@@ -47,27 +45,26 @@ impl Words {
     {
         Ok(Words {
             given,
-            names: command_names(alloc)?,
+            names: names_help(alloc)?,
         })
     }
 
     /// What they ask for.
     ///
-    /// The names that may be given are those of all commands. Where the words are those of a
-    /// subcommand they are refused only for a value: of `run` an owner value of too many bytes, or
-    /// a number that is other than decimal digits or above 2^64 - 1, and likewise of `events`; of
-    /// `explain` other than hexadecimal digits, or a number above 2^32 - 1; of `check` a hash other
-    /// than `sha1`, `sha256` and `sha384`, a list of no registers, a word whose quote is not given
-    /// (the nonce and the list want `--attest`, the hash one of `--quote` and `--attest`), or
-    /// `--secure-boot` beside another; and of `show` where they have more than one of a buffer, a
-    /// file and NV memory, or none, a capture with `--reply`, a buffer with `--binary` or `--json`,
-    /// or NV memory with any of these.
+    /// Where the words are those of a subcommand they are refused only for a value: a name that no
+    /// command has; of `run` an owner value that is not hexadecimal or has too many bytes, or a
+    /// number that is other than decimal digits or above 2^64 - 1, and likewise of `events`; of
+    /// `explain` a number above 2^32 - 1 or other digits than those of its radix, where it is no name
+    /// of a kind; of `check` a hash other than `sha1`, `sha256` and `sha384`, a nonce that is not
+    /// hexadecimal, a list of no registers, a word whose quote is not given (the nonce and the list
+    /// want `--attest`, the hash one of `--quote` and `--attest`), or `--secure-boot` beside another;
+    /// and of `show` where they have more than one of a buffer, a file and NV memory, or none, a
+    /// capture with `--reply`, a buffer with `--binary` or `--json`, or NV memory with any of these.
     pub fn task(&self, alloc: Global) -> Result<Task<'_>, Stop>
-        ensures ok { IfOk result (λ t. (names : Bor (List (Bor (List ℕ)))) × AreAllNames names.now
-            × Asks (subcommand_of (program_app (Names names)) self.now) t) }
+        ensures ok { IfOk result (λ t. Asks (subcommand_of program_app self.now) t) }
         ensures err { IfErr result (λ stop. Refuses self.now stop) }
     {
-        let mut program = program(alloc, self.names.as_slice())?;
+        let mut program = program(alloc, self.names.as_str())?;
         match program.try_get_matches_from_mut(self.given.as_slice()) {
             Ok(matches) => match asked(alloc, &matches)? {
                 Some(task) => Ok(task),
@@ -105,6 +102,19 @@ fn build_task<'a>(words: &ArgMatches<'a>) -> Option<Task<'a>>
     })
 }
 
+// The same, or a usage fault: no command has the name, since clap has seen to it that all words are there.
+fn build_asked<'a>(alloc: Global, words: &ArgMatches<'a>) -> Asked<'a>
+    ensures { IsAsked (codes "build") words.now result }
+{
+    match build_task(words) {
+        Some(task) => Ok(Some(task)),
+        None => {
+            let name = words.get_str("NAME").unwrap_or("");
+            Err(no_command(alloc, build_words(alloc, ""), name, "<NAME>"))
+        }
+    }
+}
+
 fn events_task<'a>(alloc: Global, words: &ArgMatches<'a>) -> Asked<'a>
     ensures { IsAsked (codes "events") words.now result }
 {
@@ -127,7 +137,7 @@ fn asked_of<'a>(alloc: Global, name: &str, words: &ArgMatches<'a>) -> Asked<'a>
 {
     match name {
         "show" => show_task(alloc, words),
-        "build" => Ok(build_task(words)),
+        "build" => build_asked(alloc, words),
         "run" => Ok(Some(run_task(alloc, words)?)),
         "explain" => explain_task(alloc, words),
         "check" => check_task(alloc, words),
@@ -152,7 +162,7 @@ fn not_text(alloc: Global) -> Result<Error, AllocError>
     ensures { IfOk result (λ e. kind_of e ≡ InvalidValue) }
 {
     let message = "invalid UTF-8 was detected in one or more arguments";
-    program(alloc, &[])?.error(ErrorKind::InvalidValue, message)
+    program(alloc, "")?.error(ErrorKind::InvalidValue, message)
 }
 
 /// The fault of words that are not text, of which no more can be read.

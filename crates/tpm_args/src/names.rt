@@ -1,27 +1,22 @@
-//! The commands by their names.
-
-ghost use Rattle.std.specs.Prelude.{◌≡◌, IfOk};
-ghost use Rattle.tpm_args.specs.Names.{AreAllNames, command_of_name};
+//! The names of the commands, in a text.
 
 use std::alloc::{AllocError, Global};
 use tpm_commands::CommandCode;
 
-/// The command of the profile with this name, in this letter case.
-pub(crate) fn command_named(name: &str) -> Option<CommandCode>
-    ensures { result ≡ command_of_name name.now }
-{
-    CommandCode::ALL
-        .iter()
-        .copied()
-        .find(|code| code.name() == name)
+/// The names of all commands, in the order of their numbers, with a comma between them.
+pub(crate) fn command_names(alloc: Global) -> Result<String, AllocError> {
+    let mut names = String::new(alloc);
+    for code in CommandCode::ALL {
+        if !names.is_empty() {
+            names.push_str(", ")?;
+        }
+        names.push_str(code.name())?;
+    }
+    Ok(names)
 }
 
-/// The names of all commands, in the order of their numbers.
-pub(crate) fn command_names(alloc: Global) -> Result<Vec<&'static str>, AllocError>
-    ensures { IfOk result (λ names. AreAllNames names.items) }
-{
-    CommandCode::ALL
-        .iter()
-        .map(|code| code.name())
-        .collect(alloc)
+/// What the help of a subcommand says of them.
+pub(crate) fn names_help(alloc: Global) -> Result<String, AllocError> {
+    let names = command_names(alloc)?;
+    format!(in alloc; "Names, in any letter case, with TPM2_ before them or not: {names}")
 }

@@ -2,11 +2,10 @@
 
 ghost use Rattle.std.specs.Prelude.{◌≡◌, IfOk, false};
 ghost use Rattle.clap.specs.Words.{rule_of};
-ghost use Rattle.clap.specs.declared.builder.value_parser.ValueParser.TheVariants.{Names};
-ghost use Rattle.tpm_args.specs.Program.{required_rule, name_rule, reply_rule, flag_rule, option_rule, buffer_app};
+ghost use Rattle.tpm_args.specs.Program.{required_rule, flag_rule, option_rule, buffer_app};
 ghost use Rattle.tpm_args.specs.Program.{show_app, build_app, run_app, explain_app, log_app, compare_app, signed_app};
 ghost use Rattle.tpm_args.specs.Program.{check_app, events_app, above_subcommands, program_app, IsApp, optional_rule};
-ghost use Rattle.tpm_args.specs.Program.{capture_app};
+ghost use Rattle.tpm_args.specs.Program.{capture_app, named_app};
 
 use clap::{Arg, ArgAction, Command};
 use std::alloc::{AllocError, Global};
@@ -27,6 +26,7 @@ const AFTER_HELP: &str = "Examples:
   tpmtool build PCR_Reset 00000010 400000090000010000 -
   tpmtool run --greatest 7 <SCRIPT
   tpmtool explain 9a2
+  tpmtool explain NotCryptoAgile
   tpmtool check LOG --registers FILE
   tpmtool check LOG --attest FILE --nonce 6e6f
   tpmtool check LOG --secure-boot
@@ -64,17 +64,6 @@ fn optional<'a>(alloc: Global, name: &'a str, help: &'a str) -> Arg<'a>
     Arg::new(alloc, name).help(help)
 }
 
-fn reply_word<'a>(alloc: Global, names: &'a [&'a str]) -> Arg<'a>
-    ensures rule { rule_of result ≡ reply_rule (Names names.entry) }
-    ensures local { result.global ≡ false }
-{
-    Arg::new(alloc, "reply")
-        .long("reply")
-        .value_name("NAME")
-        .value_parser(names)
-        .help("Reads the buffer as a response to this command")
-}
-
 fn flag<'a>(alloc: Global, name: &'a str, help: &'a str) -> Arg<'a>
     ensures rule { rule_of result ≡ flag_rule name.entry.now }
     ensures local { result.global ≡ false }
@@ -85,61 +74,6 @@ fn flag<'a>(alloc: Global, name: &'a str, help: &'a str) -> Arg<'a>
         .help(help)
 }
 
-// The subcommand `show`, without its capture and its buffer.
-fn buffer_words<'a>(alloc: Global, names: &'a [&'a str]) -> Result<Command<'a>, AllocError>
-    ensures { IfOk result (λ c. IsApp (buffer_app (Names names.entry)) c) }
-{
-    Command::new(alloc, "show")
-        .bin_name("tpmtool show")?
-        .about("Prints the command or the response that a buffer spells, or where it is refused")
-        .arg(reply_word(alloc, names))?
-        .arg(flag(
-            alloc,
-            "fields",
-            "Prints each parameter by its name and its type, too",
-        ))
-}
-
-// The same with a capture.
-fn capture_words<'a>(alloc: Global, names: &'a [&'a str]) -> Result<Command<'a>, AllocError>
-    ensures { IfOk result (λ c. IsApp (capture_app (Names names.entry)) c) }
-{
-    with_words! { alloc, buffer_words(alloc, names)?;
-        option "file" "FILE" "Reads a capture: a command or a reply a line, in hexadecimal";
-        flag "binary" "Reads the capture as frames one after the other, in place of lines";
-        flag "json" "Prints each frame of the capture as an object of JSON, in a line";
-    }
-}
-
-/// The subcommand `show`.
-pub(crate) fn show_words<'a>(alloc: Global, names: &'a [&'a str]) -> Result<Command<'a>, AllocError>
-    ensures { IfOk result (λ c. IsApp (show_app (Names names.entry)) c) }
-{
-    with_words! { alloc, capture_words(alloc, names)?;
-        option "nv" "FILE" "Prints what a device's kept NV memory holds, in place of a buffer or a capture";
-        optional "HEX" "The buffer, in hexadecimal, or - for a capture on standard input";
-    }
-}
-
-fn name_word<'a>(alloc: Global, names: &'a [&'a str]) -> Arg<'a>
-    ensures rule { rule_of result ≡ name_rule (Names names.entry) }
-    ensures local { result.global ≡ false }
-{
-    required(alloc, "NAME", "The command's name").value_parser(names)
-}
-
-fn build_words<'a>(alloc: Global, names: &'a [&'a str]) -> Result<Command<'a>, AllocError>
-    ensures { IfOk result (λ c. IsApp (build_app (Names names.entry)) c) }
-{
-    with_words! { alloc, Command::new(alloc, "build")
-        .about("Prints the buffer of a command, joined from its parts")
-        .arg(name_word(alloc, names))?;
-        required "HANDLES" "Its handles, in hexadecimal or - for none";
-        required "SESSIONS" "The sessions of its authorization area, in hexadecimal or - for none";
-        required "PARAMETERS" "Its parameters, in hexadecimal or - for none";
-    }
-}
-
 fn option<'a>(alloc: Global, name: &'a str, value: &'a str, help: &'a str) -> Arg<'a>
     ensures rule { rule_of result ≡ option_rule name.entry.now }
     ensures local { result.global ≡ false }
@@ -148,6 +82,63 @@ fn option<'a>(alloc: Global, name: &'a str, value: &'a str, help: &'a str) -> Ar
         .long(name)
         .value_name(value)
         .help(help)
+}
+
+// The subcommand `show`, without its capture and its buffer.
+fn buffer_words<'a>(alloc: Global, names: &'a str) -> Result<Command<'a>, AllocError>
+    ensures { IfOk result (λ c. IsApp buffer_app c) }
+{
+    let about = "Prints the command or the response that a buffer spells, or where it is refused";
+    with_words! { alloc, Command::new(alloc, "show")
+        .bin_name("tpmtool show")?
+        .about(about)
+        .after_help(names);
+        option "reply" "NAME" "Reads the buffer as a response to this command";
+        flag "fields" "Prints each parameter by its name and its type, too";
+    }
+}
+
+// The same with a capture.
+fn capture_words<'a>(alloc: Global, names: &'a str) -> Result<Command<'a>, AllocError>
+    ensures { IfOk result (λ c. IsApp capture_app c) }
+{
+    with_words! { alloc, buffer_words(alloc, names)?;
+        option "file" "FILE" "Reads a capture: a command or a reply a line, in hexadecimal";
+        flag "binary" "Reads the capture as frames one after the other, in place of lines";
+        flag "json" "Prints each frame of the capture as an object of JSON, in a line";
+    }
+}
+
+/// The subcommand `show`, with the names of the commands.
+pub(crate) fn show_words<'a>(alloc: Global, names: &'a str) -> Result<Command<'a>, AllocError>
+    ensures { IfOk result (λ c. IsApp show_app c) }
+{
+    with_words! { alloc, capture_words(alloc, names)?;
+        option "nv" "FILE" "Prints what a device's kept NV memory holds, in place of a buffer or a capture";
+        optional "HEX" "The buffer, in hexadecimal, or - for a capture on standard input";
+    }
+}
+
+// The subcommand `build`, without the parts that it joins.
+fn named_words<'a>(alloc: Global, names: &'a str) -> Result<Command<'a>, AllocError>
+    ensures { IfOk result (λ c. IsApp named_app c) }
+{
+    Command::new(alloc, "build")
+        .bin_name("tpmtool build")?
+        .about("Prints the buffer of a command, joined from its parts")
+        .after_help(names)
+        .arg(required(alloc, "NAME", "The command's name"))
+}
+
+/// The subcommand `build`, with the names of the commands.
+pub(crate) fn build_words<'a>(alloc: Global, names: &'a str) -> Result<Command<'a>, AllocError>
+    ensures { IfOk result (λ c. IsApp build_app c) }
+{
+    with_words! { alloc, named_words(alloc, names)?;
+        required "HANDLES" "Its handles, in hexadecimal or - for none";
+        required "SESSIONS" "The sessions of its authorization area, in hexadecimal or - for none";
+        required "PARAMETERS" "Its parameters, in hexadecimal or - for none";
+    }
 }
 
 /// The subcommand `run`.
@@ -166,10 +157,13 @@ pub(crate) fn run_words<'a>(alloc: Global) -> Result<Command<'a>, AllocError>
 pub(crate) fn explain_words<'a>(alloc: Global) -> Result<Command<'a>, AllocError>
     ensures { IfOk result (λ c. IsApp explain_app c) }
 {
-    Command::new(alloc, "explain")
+    let about = "Prints what a response code says, or the kind of a log's fault";
+    with_words! { alloc, Command::new(alloc, "explain")
         .bin_name("tpmtool explain")?
-        .about("Prints what a response code says")
-        .arg(required(alloc, "CODE", "The code, in hexadecimal"))
+        .about(about);
+        flag "decimal" "Takes the code in decimal, as a kernel's log has it";
+        required "CODE" "The code, in hexadecimal, or the kind of a fault, as NotCryptoAgile";
+    }
 }
 
 // A subcommand on an event log, without its options.
@@ -184,7 +178,11 @@ fn log_words<'a>(
     Command::new(alloc, name)
         .bin_name(bin_name)?
         .about(about)
-        .arg(required(alloc, "LOG", "The event log, a file"))
+        .arg(required(
+            alloc,
+            "LOG",
+            "The event log, a file, or - for standard input",
+        ))
 }
 
 // The subcommand `check`, with a list and the information of a quote.
@@ -248,8 +246,8 @@ fn above_subcommands<'a>(alloc: Global) -> Result<Command<'a>, AllocError>
 }
 
 /// The program, with the names of the commands.
-pub(crate) fn program<'a>(alloc: Global, names: &'a [&'a str]) -> Result<Command<'a>, AllocError>
-    ensures { IfOk result (λ c. IsApp (program_app (Names names.entry)) c) }
+pub(crate) fn program<'a>(alloc: Global, names: &'a str) -> Result<Command<'a>, AllocError>
+    ensures { IfOk result (λ c. IsApp program_app c) }
 {
     above_subcommands(alloc)?
         .subcommand(show_words(alloc, names)?)?

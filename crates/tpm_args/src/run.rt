@@ -1,13 +1,13 @@
 //! The words of the subcommand `run`.
 
-ghost use Rattle.std.specs.Prelude.{ℕ, List, Option, MatchResult, codes};
+ghost use Rattle.std.specs.Prelude.{ℕ, List, MatchResult, codes};
 ghost use Rattle.clap.specs.Words.{first_value, found_of};
 ghost use Rattle.tpm_text_values.specs.Numbers.{IsDecimal};
 ghost use Rattle.tpm_text_values.specs.Owner.{IsOwner};
 ghost use Rattle.tpm_args.specs.Stop.{IsMemoryOr};
 ghost use Rattle.tpm_args.specs.Task.{AsksNothingWith, AsksWith};
 
-use crate::invalid::invalid_value;
+use crate::invalid::{invalid_value, not_hexadecimal};
 use crate::program::run_words;
 use crate::stop::Stop;
 use crate::task::Task;
@@ -26,14 +26,19 @@ pub(crate) fn run_task<'a>(alloc: Global, words: &ArgMatches<'a>) -> Result<Task
     Ok(Task::Run { owner, greatest })
 }
 
-// The value that hexadecimal digits are, or none for any other text. A usage fault where it has too many bytes.
-fn owner(alloc: Global, text: &str) -> Result<Option<AuthValue>, Stop>
+// The value that hexadecimal digits are. A usage fault where the text is not hexadecimal, or has too many bytes.
+fn owner(alloc: Global, text: &str) -> Result<AuthValue, Stop>
     ensures { MatchResult result (λ owner. IsOwner text.now owner)
-        (IsMemoryOr ((owner : Option (List ℕ)) → IsOwner text.now owner → ⊥)) }
+        (IsMemoryOr ((owner : List ℕ) → IsOwner text.now owner → ⊥)) }
 {
     match owner_value(alloc, text) {
-        Ok(owner) => Ok(Some(owner)),
-        Err(OwnerFault::NotHexadecimal) => Ok(None),
+        Ok(owner) => Ok(owner),
+        Err(OwnerFault::NotHexadecimal) => Err(not_hexadecimal(
+            alloc,
+            run_words(alloc),
+            text,
+            "--owner <HEX>",
+        )),
         Err(OwnerFault::TooLong) => Err(too_long(alloc, text)),
         Err(OwnerFault::OutOfMemory) => Err(Stop::Memory),
     }

@@ -20,7 +20,17 @@ pub enum Stop {
 }
 
 impl Stop {
-    ghost use Rattle.tpm_args.specs.Stop.{StopsFor};
+    ghost use Rattle.tpm_args.specs.Stop.{IsMemoryOr, StopsFor};
+
+    // A usage fault. Words stand in it as they came, so that it may have control characters, which a terminal obeys.
+    fn usage(alloc: Global, text: &String) -> Stop
+        ensures { IsMemoryOr (Unit {0}) result }
+    {
+        match without_controls(alloc, text.as_str()) {
+            Ok(text) => Stop::Usage(text),
+            Err(AllocError) => Stop::Memory,
+        }
+    }
 
     /// What the parse of the words answered in place of matches.
     pub(crate) fn of(alloc: Global, error: &Error) -> Stop
@@ -30,11 +40,25 @@ impl Stop {
             return Stop::Memory;
         }
         match error.to_string(alloc) {
-            Ok(text) if error.use_stderr() => Stop::Usage(text),
+            Ok(text) if error.use_stderr() => Stop::usage(alloc, &text),
             Ok(text) => Stop::Help(text),
             Err(_) => Stop::Memory,
         }
     }
+}
+
+// A text with an escape for each control character but the line feed.
+fn without_controls(alloc: Global, text: &str) -> Result<String, AllocError> {
+    let mut shown = String::new(alloc);
+    for character in text.chars() {
+        if character.is_control() && character != '\n' {
+            let escape = character.escape_default();
+            write!(shown, "{escape}")?;
+        } else {
+            shown.push(character)?;
+        }
+    }
+    Ok(shown)
 }
 
 impl From<AllocError> for Stop {

@@ -7,7 +7,7 @@ use tpm_types::{Alg, AuthValue, Selections};
 /// What the words of a subcommand ask for, if anything.
 pub(crate) type Asked<'a> = Result<Option<Task<'a>>, Stop>;
 
-/// What the words ask for.
+/// What the words ask for. The path `-` is standard input.
 #[derive(Drop)]
 pub enum Task<'a> {
     /// `show [--reply NAME] [--fields] HEX`: print the command that the hexadecimal digits spell, or the response.
@@ -49,15 +49,21 @@ pub enum Task<'a> {
     },
     /// `run [--owner HEX] [--greatest N]`: run the script on standard input.
     Run {
-        /// The owner's authorization value, or none where its text is not hexadecimal.
-        owner: Option<AuthValue>,
+        /// The owner's authorization value.
+        owner: AuthValue,
         /// The greatest value that a counter of the device has had.
         greatest: u64,
     },
-    /// `explain CODE`: print what a response code says, which is in hexadecimal, with `0x` before it or not.
+    /// `explain [--decimal] CODE`: print what a response code says, which is in hexadecimal, with `0x` before it or
+    /// not, or in decimal.
     Explain {
         /// The code.
         code: u32,
+    },
+    /// `explain KIND`: print what the kind of a log's fault says. It begins with a capital letter, and is no code.
+    ExplainKind {
+        /// The kind.
+        kind: &'a str,
     },
     /// `check LOG [--registers FILE] [--quote HEX] [--attest FILE [--nonce HEX] [--require LIST]]
     /// [--hash NAME]`: print the registers that a log gives, or compare them.

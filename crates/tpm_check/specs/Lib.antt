@@ -9,3 +9,4 @@ pub mod EventJson
 pub mod ListEvents
 pub mod HeldLines
 pub mod SecureBootLines
+pub mod Kinds

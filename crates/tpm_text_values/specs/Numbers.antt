@@ -10,6 +10,10 @@ IsNumber radix bound text number = IsNumeral radix text × (number ≡ digits_va
 abbrev pub IsDecimal : List ℕ → ℕ → Type 0
 IsDecimal text number = IsNumber 10 (2 ^ 64) text number
 
+-- one below 2^32 by its decimal digits
+abbrev pub IsShortDecimal : List ℕ → ℕ → Type 0
+IsShortDecimal text number = IsNumber 10 (2 ^ 32) text number
+
 -- one below 2^32 by its hexadecimal digits
 abbrev pub IsHexadecimal : List ℕ → ℕ → Type 0
 IsHexadecimal text number = IsNumber 16 (2 ^ 32) text number

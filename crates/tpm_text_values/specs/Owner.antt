@@ -1,5 +1,5 @@
 -- An owner's authorization value by its text (this profile).
-use Rattle.std.specs.Prelude.{◌≡◌, ◌<◌, ◌≤◌, ℕ, List, Option, Some, None, IfSome, length}
+use Rattle.std.specs.Prelude.{◌≡◌, ◌<◌, ◌≤◌, ℕ, List, Option, Some, None, length}
 use Rattle.std.specs.Result.{result_ok}
 use Rattle.hex.specs.Hex.{decode_of}
 use Rattle.tpm_types.specs.Limits.{digest_bytes}
@@ -10,13 +10,12 @@ use Rattle.tpm_text_values.specs.declared.owner.OwnerFault.{OwnerFault}
 abbrev pub bytes_in : List ℕ → Option (List ℕ)
 bytes_in text = result_ok (decode_of text)
 
--- an owner's authorization value by its hexadecimal digits, of no more bytes than a digest has; or
--- none for any other text
-abbrev pub IsOwner : List ℕ → Option (List ℕ) → Type 0
-IsOwner text owner = (owner ≡ bytes_in text) × IfSome owner (λ bytes. length bytes ≤ digest_bytes)
+-- an owner's authorization value by its hexadecimal digits, of no more bytes than a digest has
+abbrev pub IsOwner : List ℕ → List ℕ → Type 0
+IsOwner text owner = (bytes_in text ≡ Some owner) × (length owner ≤ digest_bytes)
 
 -- why a text gives no such value
 abbrev pub IsOwnerFault : List ℕ → OwnerFault → Type 0
-IsOwnerFault text NotHexadecimal = IsOwner text None
+IsOwnerFault text NotHexadecimal = bytes_in text ≡ None
 IsOwnerFault text TooLong = (bytes : List ℕ) × (bytes_in text ≡ Some bytes) × (digest_bytes < length bytes)
 IsOwnerFault text OutOfMemory = Unit {0}

@@ -1,7 +1,7 @@
 //! Numbers by their digits.
 
 ghost use Rattle.std.specs.Prelude.{ℕ, ◌≤◌, ◌^◌, MatchOption};
-ghost use Rattle.tpm_text_values.specs.Numbers.{IsDecimal, IsHexadecimal, IsNumber};
+ghost use Rattle.tpm_text_values.specs.Numbers.{IsDecimal, IsHexadecimal, IsNumber, IsShortDecimal};
 
 /// The number that these decimal digits are, leading zeros too; none for any other text, as one
 /// with a sign, and for a number above 2^64 - 1.
@@ -10,6 +10,15 @@ pub fn decimal(text: &str) -> Option<u64>
         (λ number. IsDecimal text.now number) }
 {
     number(text, 10)
+}
+
+/// The number that these decimal digits are, leading zeros too; none for any other text, as one
+/// with a sign, and for a number above 2^32 - 1.
+pub fn short_decimal(text: &str) -> Option<u32>
+    ensures { MatchOption result ((number : ℕ) → IsShortDecimal text.now number → ⊥)
+        (λ number. IsShortDecimal text.now number) }
+{
+    u32::try_from(number(text, 10)?).ok()
 }
 
 /// The number that these hexadecimal digits are, in either letter case, leading zeros too; none for

@@ -1,6 +1,6 @@
 //! An owner's authorization value by its text.
 
-ghost use Rattle.std.specs.Prelude.{MatchResult, Some};
+ghost use Rattle.std.specs.Prelude.{MatchResult};
 ghost use Rattle.tpm_text_values.specs.Owner.{IsOwner, IsOwnerFault};
 
 use hex::FromHexError;
@@ -25,7 +25,7 @@ pub enum OwnerFault {
 /// bytes of the text, before they are counted.
 pub fn owner_value(alloc: Global, text: &str) -> Result<AuthValue, OwnerFault>
     ensures { MatchResult result
-        (λ value. IsOwner text.now (Some value)) (λ fault. IsOwnerFault text.now fault) }
+        (λ value. IsOwner text.now value) (λ fault. IsOwnerFault text.now fault) }
 {
     match hex::decode(alloc, text) {
         Ok(bytes) => AuthValue::new(bytes.as_slice()).ok_or(OwnerFault::TooLong),

@@ -44,10 +44,29 @@ fn cause(kind: ErrorKind) -> &'static str {
     }
 }
 
+// A name from outside, with an escape for each control character, which a terminal would obey.
+#[derive(Drop)]
+struct Escaped<'a>(&'a str);
+
+impl Display for Escaped<'_> {
+    fn fmt<W: Write>(&self, f: &mut Formatter<W>) -> Result<(), fmt::Error> {
+        for character in self.0.chars() {
+            if character.is_control() {
+                let escape = character.escape_default();
+                write!(f, "{escape}")?;
+            } else {
+                f.write_char(character)?;
+            }
+        }
+        Ok(())
+    }
+}
+
 impl Display for Fault<'_> {
     fn fmt<W: Write>(&self, f: &mut Formatter<W>) -> Result<(), fmt::Error> {
         match self {
             Fault::File { path, kind } => {
+                let path = Escaped(path);
                 let cause = cause(*kind);
                 write!(f, "cannot read {path}: {cause}")
             }

@@ -2,20 +2,21 @@
 #![tactic(auto)]
 
 mod fault;
+mod output;
 
 use crate::fault::Fault;
+use crate::output::Output;
 use std::fmt::Display;
-use std::io::Write;
+use std::io::{Read, Write};
 use std::process::ExitCode;
 use std::rt::{Env, Files};
 use std::{env, fs, io};
 use tpm_args::{Stop, Task, Words, words_not_text};
 use tpm_check::{
-    Listing, Signed, check_log, check_signed, list_events, read_attest, read_up_to,
+    Listing, Signed, check_log, check_signed, explain_kind, list_events, read_attest, read_up_to,
     tell_secure_boot,
 };
 use tpm_device::Device;
-use tpm_lines::answer::not_hexadecimal;
 use tpm_lines::fault::ToolFault;
 use tpm_lines::status::Status;
 use tpm_script::run_script;
@@ -38,10 +39,32 @@ fn words<R: Env + AllocGlobal>(rt: &R) -> Result<Words, Stop> {
     }
 }
 
-// The file at a path, opened for reading.
-fn opened<'a, R: Files>(rt: &R, path: &'a str) -> Result<Reads<R::File>, Fault<'a>> {
+// A file, or standard input.
+#[derive(Drop)]
+enum Reader<F, S> {
+    File(F),
+    Standard(S),
+}
+
+impl<F: Read, S: Read> Read for Reader<F, S> {
+    fn read(&mut self, room: &mut [u8]) -> io::Result<usize> {
+        match self {
+            Reader::File(file) => file.read(room),
+            Reader::Standard(input) => input.read(room),
+        }
+    }
+}
+
+// The file at a path, opened for reading, or standard input, which `-` names.
+fn opened<'a, R: Files + Input>(
+    rt: &R,
+    path: &'a str,
+) -> Result<Reads<Reader<R::File, R::Reader>>, Fault<'a>> {
+    if path == "-" {
+        return Ok(Reads::new(Reader::Standard(rt.reader())));
+    }
     match fs::open(rt, path) {
-        Ok(file) => Ok(Reads::new(file)),
+        Ok(file) => Ok(Reads::new(Reader::File(file))),
         Err(error) => Err(Fault::File {
             path,
             kind: error.kind(),
@@ -58,7 +81,10 @@ struct Attested<'a> {
 }
 
 // The bytes of a quote as it was signed.
-fn attest_at<'a, R: AllocGlobal + Files>(rt: &R, path: &'a str) -> Result<Vec<u8>, Fault<'a>> {
+fn attest_at<'a, R: AllocGlobal + Files + Input>(
+    rt: &R,
+    path: &'a str,
+) -> Result<Vec<u8>, Fault<'a>> {
     match read_attest(rt.alloc(), &mut opened(rt, path)?) {
         Ok(attest) => Ok(attest),
         Err(fault) => Err(Fault::of_reading(rt, fault, path)),
@@ -66,7 +92,7 @@ fn attest_at<'a, R: AllocGlobal + Files>(rt: &R, path: &'a str) -> Result<Vec<u8
 }
 
 // Opens the log and then the list of registers, and checks the one against the other and against the quotes.
-fn check<'a, R: AllocGlobal + Files, W: Write>(
+fn check<'a, R: AllocGlobal + Files + Input, W: Write>(
     rt: &R,
     out: &mut W,
     log_path: &'a str,
@@ -115,7 +141,7 @@ fn check<'a, R: AllocGlobal + Files, W: Write>(
 }
 
 // Opens a log and tells whether Secure Boot was on.
-fn check_secure_boot<'a, R: AllocGlobal + Files, W: Write>(
+fn check_secure_boot<'a, R: AllocGlobal + Files + Input, W: Write>(
     rt: &R,
     out: &mut W,
     path: &'a str,
@@ -125,7 +151,7 @@ fn check_secure_boot<'a, R: AllocGlobal + Files, W: Write>(
 }
 
 // Opens a log and lists its records.
-fn events<'a, R: AllocGlobal + Files, W: Write>(
+fn events<'a, R: AllocGlobal + Files + Input, W: Write>(
     rt: &R,
     out: &mut W,
     path: &'a str,
@@ -153,7 +179,7 @@ fn show_capture<R: AllocGlobal, S: Source, W: Write>(
 }
 
 // Opens a capture and tells its frames.
-fn show_file<'a, R: AllocGlobal + Files, W: Write>(
+fn show_file<'a, R: AllocGlobal + Files + Input, W: Write>(
     rt: &R,
     out: &mut W,
     path: &'a str,
@@ -167,7 +193,7 @@ fn show_file<'a, R: AllocGlobal + Files, W: Write>(
 }
 
 // Opens the bytes of a device's NV memory and tells what it holds.
-fn show_nv_file<'a, R: AllocGlobal + Files, W: Write>(
+fn show_nv_file<'a, R: AllocGlobal + Files + Input, W: Write>(
     rt: &R,
     out: &mut W,
     path: &'a str,
@@ -182,23 +208,18 @@ fn show_nv_file<'a, R: AllocGlobal + Files, W: Write>(
 fn run_input<R: AllocGlobal + Input, W: Write>(
     rt: &R,
     out: &mut W,
-    owner: Option<AuthValue>,
+    owner: &AuthValue,
     greatest: u64,
 ) -> Result<Status, ToolFault> {
-    match owner {
-        Some(owner) => {
-            let device = Device::new(&owner, greatest);
-            run_script(rt.alloc(), &mut Reads::new(rt.reader()), out, device)
-        }
-        None => not_hexadecimal(rt.alloc(), out),
-    }
+    let device = Device::new(owner, greatest);
+    run_script(rt.alloc(), &mut Reads::new(rt.reader()), out, device)
 }
 
-fn perform<'a, R: AllocGlobal + Files + Input + Print>(
+fn perform<'a, R: AllocGlobal + Files + Input, W: Write>(
     rt: &R,
+    out: &mut W,
     task: Task<'a>,
 ) -> Result<Status, Fault<'a>> {
-    let out = &mut io::writer(rt);
     let answered = match task {
         Task::Show {
             reply,
@@ -232,8 +253,9 @@ fn perform<'a, R: AllocGlobal + Files + Input + Print>(
             sessions,
             parameters,
         } => build(rt.alloc(), out, name, handles, sessions, parameters),
-        Task::Run { owner, greatest } => run_input(rt, out, owner, greatest),
+        Task::Run { owner, greatest } => run_input(rt, out, &owner, greatest),
         Task::Explain { code } => explain(rt.alloc(), out, code),
+        Task::ExplainKind { kind } => explain_kind(rt.alloc(), out, kind),
         Task::Check {
             log,
             registers,
@@ -278,10 +300,14 @@ fn failed<R: Eprint, F: Display + Drop>(rt: &R, fault: F) -> u8 {
 
 fn stopped<R: Print + Eprint>(rt: &R, stop: Stop) -> u8 {
     match stop {
-        Stop::Help(text) => match rt.print(text) {
-            Ok(()) => 0,
-            Err(_) => failed(rt, ToolFault::Write),
-        },
+        Stop::Help(text) => {
+            let mut out = Output::new(io::writer(rt));
+            match out.write_all(text.as_bytes()) {
+                Ok(()) => 0,
+                Err(_) if out.is_unread() => FAULT,
+                Err(_) => failed(rt, ToolFault::Write),
+            }
+        }
         Stop::Usage(text) => {
             let _ = rt.eprint(text);
             USAGE
@@ -299,8 +325,10 @@ fn run<R: Env + AllocGlobal + Files + Input + Print + Eprint>(rt: &R) -> u8 {
         Ok(task) => task,
         Err(stop) => return stopped(rt, stop),
     };
-    match perform(rt, task) {
+    let mut out = Output::new(io::writer(rt));
+    match perform(rt, &mut out, task) {
         Ok(status) => status.number(),
+        Err(_) if out.is_unread() => FAULT,
         Err(fault) => failed(rt, fault),
     }
 }

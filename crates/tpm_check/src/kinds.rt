@@ -1,0 +1,156 @@
+//! The subcommand `explain` of the kind of a log's fault.
+
+ghost use Rattle.std.specs.Prelude.{◌≡◌, ◌++◌, ℕ, List, IfOk, MatchOption, OnOk, string_bytes};
+ghost use Rattle.std.specs.Io.KnownBytes.{Appends};
+ghost use Rattle.tpm_log.specs.declared.fault.LogFaultKind.{LogFaultKind as LogFaultKindValue};
+ghost use Rattle.tpm_log.specs.declared.verdict.SecureBootFaultKind.{SecureBootFaultKind as BootFaultKindValue};
+ghost use Rattle.tpm_lines.specs.declared.status.Status.TheVariants.{Done};
+ghost use Rattle.tpm_lines.specs.Faults.{FailsByMemoryOrWrite};
+ghost use Rattle.tpm_check.specs.Check.{kind_name};
+ghost use Rattle.tpm_check.specs.SecureBootLines.{fault_name};
+ghost use Rattle.tpm_check.specs.Kinds.{boot_words, kind_line, log_words, ExplainsKind};
+
+use std::alloc::{AllocError, Global};
+use std::io::Write;
+use tpm_lines::answer::Answer;
+use tpm_lines::fault::ToolFault;
+use tpm_lines::status::Status;
+use tpm_lines::text::Pushed;
+use tpm_log::{LogFaultKind, SecureBootFaultKind};
+
+// The kind of a log's fault that has this name.
+fn log_kind(name: &str) -> Option<LogFaultKind>
+    ensures { MatchOption result ((kind : LogFaultKindValue) → kind_name kind ≡ name.now → ⊥)
+        (λ kind. kind_name kind ≡ name.now) }
+{
+    match name {
+        "Truncated" => Some(LogFaultKind::Truncated),
+        "TooLong" => Some(LogFaultKind::TooLong),
+        "NotCryptoAgile" => Some(LogFaultKind::NotCryptoAgile),
+        "BadHeader" => Some(LogFaultKind::BadHeader),
+        "DuplicateAlgorithm" => Some(LogFaultKind::DuplicateAlgorithm),
+        "WrongDigestSize" => Some(LogFaultKind::WrongDigestSize),
+        "UnknownAlgorithm" => Some(LogFaultKind::UnknownAlgorithm),
+        "RepeatedDigest" => Some(LogFaultKind::RepeatedDigest),
+        "BadRegister" => Some(LogFaultKind::BadRegister),
+        "BadLocality" => Some(LogFaultKind::BadLocality),
+        "LateLocality" => Some(LogFaultKind::LateLocality),
+        "Device" => Some(LogFaultKind::Device),
+        _ => None,
+    }
+}
+
+// The kind of a fault of Secure Boot that has this name.
+fn boot_kind(name: &str) -> Option<SecureBootFaultKind>
+    ensures { MatchOption result ((kind : BootFaultKindValue) → fault_name kind ≡ name.now → ⊥)
+        (λ kind. fault_name kind ≡ name.now) }
+{
+    match name {
+        "NotMeasured" => Some(SecureBootFaultKind::NotMeasured),
+        "OtherType" => Some(SecureBootFaultKind::OtherType),
+        "NoVariable" => Some(SecureBootFaultKind::NoVariable),
+        "Twice" => Some(SecureBootFaultKind::Twice),
+        "OtherValue" => Some(SecureBootFaultKind::OtherValue),
+        "Debugger" => Some(SecureBootFaultKind::Debugger),
+        "BadSeparator" => Some(SecureBootFaultKind::BadSeparator),
+        "NoSeparator" => Some(SecureBootFaultKind::NoSeparator),
+        "Late" => Some(SecureBootFaultKind::Late),
+        "NoKey" => Some(SecureBootFaultKind::NoKey),
+        "NoAuthority" => Some(SecureBootFaultKind::NoAuthority),
+        _ => None,
+    }
+}
+
+fn log_words(kind: LogFaultKind) -> &'static str
+    ensures { result.now ≡ log_words kind }
+{
+    match kind {
+        LogFaultKind::Truncated => "the log ends within its header or a record",
+        LogFaultKind::TooLong =>
+            "a field would end behind byte 16,777,216, up to which a log is read",
+        LogFaultKind::NotCryptoAgile =>
+            "the first record is no header of a log with digests of several hashes (Spec ID Event03)",
+        LogFaultKind::BadHeader =>
+            "the header's event has too few or too many bytes, or lists no hash or more than eight",
+        LogFaultKind::DuplicateAlgorithm => "the header lists a hash twice",
+        LogFaultKind::WrongDigestSize =>
+            "the header gives a hash another size than its digests have, or one outside of 1 to 64 bytes",
+        LogFaultKind::UnknownAlgorithm =>
+            "the record has a digest of a hash that the header does not list",
+        LogFaultKind::RepeatedDigest => "the record has two digests of one hash",
+        LogFaultKind::BadRegister =>
+            "the record is not EV_NO_ACTION, and names a register other than 0 to 16 and 23",
+        LogFaultKind::BadLocality => "the start-up locality is not 0, 3 or 4",
+        LogFaultKind::LateLocality =>
+            "the start-up locality stands behind another, or behind a record that extends register 0",
+        LogFaultKind::Device => "a read of the log failed",
+    }
+}
+
+fn boot_words(kind: SecureBootFaultKind) -> &'static str
+    ensures { result.now ≡ boot_words kind }
+{
+    match kind {
+        SecureBootFaultKind::NotMeasured =>
+            "the bank's digest of the record is not the hash of its data",
+        SecureBootFaultKind::OtherType =>
+            "before the separator, the record is no variable, none of the profile's actions and no separator",
+        SecureBootFaultKind::NoVariable =>
+            "the data of the variable's record are no UEFI_VARIABLE_DATA to their end",
+        SecureBootFaultKind::Twice =>
+            "SecureBoot, PK, KEK, db, dbx, dbt or dbr was measured before",
+        SecureBootFaultKind::OtherValue => "SecureBoot has a value other than 0 and 1",
+        SecureBootFaultKind::Debugger =>
+            "the firmware could be debugged, as the action UEFI Debug Mode says",
+        SecureBootFaultKind::BadSeparator =>
+            "the separator is neither 00000000 nor FFFFFFFF, as of firmware that failed",
+        SecureBootFaultKind::NoSeparator => "the log ends without a separator in register 7",
+        SecureBootFaultKind::Late =>
+            "behind the separator, the record is no EV_EFI_VARIABLE_AUTHORITY",
+        SecureBootFaultKind::NoKey => "Secure Boot is on, and PK, KEK or db holds nothing",
+        SecureBootFaultKind::NoAuthority =>
+            "Secure Boot is on, and the log ends without an authority",
+    }
+}
+
+#[tactic(auto, unfolding(crate::specs::Kinds::kind_line))]
+fn push_kind(text: &mut String, name: &str, words: &str) -> Pushed
+    ensures { OnOk result (string_bytes text.new
+        ≡ string_bytes text.old ++ kind_line name.now words.now) }
+{
+    writeln!(text, "{name}: {words}")
+}
+
+fn explained(alloc: Global, name: &str, words: &str) -> Result<Answer, AllocError>
+    ensures { IfOk result (λ a. (a.status ≡ Done)
+        × (string_bytes a.text ≡ kind_line name.now words.now)) }
+{
+    let mut text = String::new(alloc);
+    push_kind(&mut text, name, words)?;
+    Ok(Answer::done(text))
+}
+
+fn answer(alloc: Global, name: &str) -> Result<Answer, AllocError>
+    ensures { IfOk result (λ a. ExplainsKind name.now a.status (string_bytes a.text)) }
+{
+    if let Some(kind) = log_kind(name) {
+        return explained(alloc, name, log_words(kind));
+    }
+    match boot_kind(name) {
+        Some(kind) => explained(alloc, name, boot_words(kind)),
+        None => Answer::of(alloc, Status::Refused, "unknown kind of fault\n"),
+    }
+}
+
+/// Prints what the kind of a log's fault says, as `check` and `events` name it (`LogFaultKind`), or that of a fault
+/// of Secure Boot, as `check --secure-boot` does (`SecureBootFaultKind`): `KIND: WORDS`.
+///
+/// For any other name it is `unknown kind of fault`, and the status `Refused`. Where a request for memory is refused
+/// the answer is `Memory`, and where the writer fails it is `Write`. What was written before is then left open.
+pub fn explain_kind<W: Write>(alloc: Global, out: &mut W, name: &str) -> Result<Status, ToolFault>
+    ensures ok { IfOk result (λ status. (text : List ℕ) × ExplainsKind name.now status text
+        × Appends (W.contents out.old) (W.contents out.new) text) }
+    ensures err { FailsByMemoryOrWrite result }
+{
+    answer(alloc, name)?.print(out)
+}
