@@ -4,6 +4,7 @@ use Rattle.std.specs.Prelude.{if◌then◌else◌}
 use Rattle.tpm_wire.specs.declared.refusal.Refusal.{Refusal}
 use Rattle.tpm_wire.specs.Path.{Spells, Fault}
 use Rattle.tpm_wire.specs.Spelling.{spelling}
+use Rattle.tpm_wire.specs.WholeValues.{whole_in}
 use Rattle.tpm_types.specs.declared.alg.Alg.{Alg}
 use Rattle.tpm_types.specs.declared.tpms.Selection.{Selection}
 use Rattle.tpm_types.specs.declared.attest.Attest.{Attest}
@@ -19,7 +20,7 @@ use Rattle.tpm_c.specs.declared.part.TpmPart.{TpmPart}
 use Rattle.tpm_c.specs.declared.part.TpmRefusal.{TpmRefusal}
 use Rattle.tpm_c.specs.declared.attest.TpmAttest.{TpmAttest}
 use Rattle.tpm_c.specs.declared.attest.TpmAttestFault.{TpmAttestFault}
-use Rattle.tpm_c.specs.Parts.{part, bytes_in, refusal_of, whole_in}
+use Rattle.tpm_c.specs.Parts.{part, bytes_in, refusal_of}
 use Rattle.tpm_c.specs.Logs.{kind_number}
 
 -- ---- the parts of a quote (Part 2, 10.12): the magic and the type have 6 bytes, the size of each

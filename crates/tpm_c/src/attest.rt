@@ -10,13 +10,13 @@ ghost use Rattle.tpm_c.specs.Attests.{attest_view as attest_view_of, ViewsAttest
 ghost use Rattle.tpm_c.specs.Attests.{required_in, IsRequired, IsAttestChecked};
 
 use crate::log::kind_number;
-use crate::part::{DONE, TpmPart, TpmRefusal, refuse, whole};
+use crate::part::{DONE, TpmPart, TpmRefusal, refuse};
 use crate::quote::{DIFFERS, NO_BANK, REFUSED};
 use tpm_log::{LogFault, replay};
 use tpm_quote::{AttestFault, check_attest, decode_attest, selects_none};
 use tpm_store::Registers;
 use tpm_types::{Alg, Attest, Selections};
-use tpm_wire::{Refusal, Wire};
+use tpm_wire::{Refusal, Wire, take_whole};
 
 /// A quote as it was signed: what has a length of its own lies in its bytes.
 #[repr(C)]
@@ -190,7 +190,7 @@ fn required_in(required: &[u8]) -> Result<Selections, Refusal>
     if required.is_empty() {
         return Ok(Selections::default());
     }
-    whole::<Selections>(required)
+    take_whole::<Selections>(required)
 }
 
 fn check(

@@ -9,10 +9,10 @@ ghost use Rattle.tpm_session.specs.Policies.{as_assertion};
 ghost use Rattle.tpm_c.specs.Policies.{IsEmpty, IsAsserted, IsSpelled, IsPcrAsserted, of_registers, with_digest};
 
 use crate::out::put;
-use crate::part::{DONE, TpmRefusal, refuse, whole};
+use crate::part::{DONE, TpmRefusal, refuse};
 use tpm_session::{Assertion, extend_policy};
 use tpm_types::{Alg, DIGEST_BYTES, Digest, OrDigests, Selections};
-use tpm_wire::Refusal;
+use tpm_wire::{Refusal, take_whole};
 
 /// There is no such hash.
 const NO_HASH: u32 = 4;
@@ -32,13 +32,13 @@ pub struct TpmPolicy {
 fn or_digests_in(bytes: &[u8]) -> Result<OrDigests, Refusal>
     ensures { result ≡ read_all or_digests bytes.now }
 {
-    whole(bytes)
+    take_whole(bytes)
 }
 
 fn selections_in(bytes: &[u8]) -> Result<Selections, Refusal>
     ensures { result ≡ read_all selections_layout bytes.now }
 {
-    whole(bytes)
+    take_whole(bytes)
 }
 
 fn set(policy: &mut TpmPolicy, digest: &Digest)

@@ -1,3 +1,2 @@
 -- What contracts on quotes say.
-pub mod Quotes
 pub mod Attests
