@@ -62,6 +62,20 @@ fn a_read_that_fails_is_answered(rt: HostRuntime) {
     is_replayed(&rt, &mut reader);
 }
 
+// It is taken for the end, and no read comes behind it.
+#[test]
+fn a_read_that_gives_no_bytes_is_the_last(rt: HostRuntime) {
+    let log = bytes_of(WORKED);
+    for k in 1..5 {
+        let mut reader = Pieces::pausing(log.as_slice(), 32, k);
+        match replay_from(&mut reader) {
+            Ok(_) => panic!(rt; "{k}"),
+            Err(fault) => assert_eq!(rt; fault.kind, LogFaultKind::Truncated),
+        }
+        assert_eq!(rt; reader.reads, k);
+    }
+}
+
 #[test]
 fn a_reader_that_never_ends_is_refused(rt: HostRuntime) {
     has_fault(

@@ -15,6 +15,9 @@ const CAPTURE: &str =
 const TEXT: &str =
     "1 > command Startup size 12\nparameters 0000\n2 < reply Startup size 10\nparameters -\n3 not hexadecimal\n4 < its command is not known\n";
 
+// Behind how many bytes of the capture each line of the text is told.
+const TOLD: [usize; 5] = [38, 38, 63, 63, 67];
+
 // A command and its reply, and a size that no frame has.
 const STREAM: [u8; 28] = [
     0x80, 1, 0, 0, 0, 12, 0, 0, 1, 0x44, 0, 0, 0x80, 1, 0, 0, 0, 10, 0, 0, 0, 0, 0x80, 1, 0, 0, 0,
@@ -23,6 +26,8 @@ const STREAM: [u8; 28] = [
 
 const STREAM_TEXT: &str =
     "1 > command Startup size 12\nparameters 0000\n2 < reply Startup size 10\nparameters -\n3 bad size at 22\n";
+
+const STREAM_TOLD: [usize; 4] = [12, 12, 22, 22];
 
 const AS_LINES: Telling = Telling {
     fields: false,
@@ -84,6 +89,7 @@ fn a_read_that_fails_is_answered_and_not_tried_again(rt: HostRuntime) {
         CAPTURE.as_bytes(),
         reads,
         TEXT,
+        &TOLD,
         |input| told(rt.alloc(), input),
     );
 }
@@ -104,6 +110,7 @@ fn a_read_of_a_stream_that_fails_is_answered(rt: HostRuntime) {
         &STREAM,
         reads,
         STREAM_TEXT,
+        &STREAM_TOLD,
         |input| told_stream(rt.alloc(), input),
     );
 }

@@ -88,6 +88,7 @@ fn a_read_of_events_that_fails_is_answered(rt: HostRuntime) -> Result<(), Fail> 
         log.as_slice(),
         reads,
         "",
+        &[],
         |log| listed(rt.alloc(), log),
     );
     Ok(())
@@ -97,7 +98,14 @@ fn a_read_of_events_that_fails_is_answered(rt: HostRuntime) -> Result<(), Fail> 
 fn a_read_for_secure_boot_that_fails_is_answered(rt: HostRuntime) -> Result<(), Fail> {
     let log = hex::decode(rt.alloc(), LOG)?;
     let reads = log.len() + 1;
-    each_read_may_fail(&rt, log.as_slice(), reads, "", |log| told(rt.alloc(), log));
+    each_read_may_fail(
+        &rt,
+        log.as_slice(),
+        reads,
+        "",
+        &[],
+        |log| told(rt.alloc(), log),
+    );
     Ok(())
 }
 

@@ -59,7 +59,7 @@ fn a_log_is_checked_alike_in_any_pieces(rt: HostRuntime) {
 #[test]
 fn a_read_of_a_log_that_fails_is_answered(rt: HostRuntime) {
     let log = log(&rt);
-    each_read_may_fail(&rt, log.as_slice(), log.len() + 1, "", |log| {
+    each_read_may_fail(&rt, log.as_slice(), log.len() + 1, "", &[], |log| {
         let mut list = Pieces::new(LIST.as_bytes(), 1);
         let answered = checked(rt.alloc(), log, &mut list);
         assert_eq!(rt; list.reads, 0);
@@ -91,9 +91,14 @@ fn printed_registers_are_compared_alike_in_any_pieces(rt: HostRuntime) {
 #[test]
 fn a_read_of_a_list_that_fails_is_answered(rt: HostRuntime) {
     let log = log(&rt);
-    each_read_may_fail(&rt, LIST.as_bytes(), LIST.len() + 1, TEXT, |list| {
-        checked(rt.alloc(), &mut Pieces::new(log.as_slice(), 64), list)
-    });
+    each_read_may_fail(
+        &rt,
+        LIST.as_bytes(),
+        LIST.len() + 1,
+        TEXT,
+        &[48, 96],
+        |list| { checked(rt.alloc(), &mut Pieces::new(log.as_slice(), 64), list) },
+    );
 }
 
 #[test]

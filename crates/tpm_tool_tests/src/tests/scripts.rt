@@ -78,6 +78,7 @@ fn a_read_that_fails_is_answered_and_not_tried_again(rt: HostRuntime) {
         script.as_bytes(),
         reads,
         text,
+        &[6, 31],
         |input| ran(rt.alloc(), input),
     );
     let mut input = Pieces::failing(script.as_bytes(), 1, reads + 1);
