@@ -22,15 +22,53 @@ TELLING = bytes.fromhex("0001020304 08090a0b0c 10303140 80ff")
 
 # Part 3: each command's name, how many handles it has, and how many its reply has.
 COMMANDS = {
-    0x122: ("NV_UndefineSpace", 2, 0), 0x12A: ("NV_DefineSpace", 1, 0), 0x134: ("NV_Increment", 2, 0),
-    0x13C: ("PCR_Event", 1, 0), 0x13D: ("PCR_Reset", 1, 0), 0x144: ("Startup", 0, 0),
-    0x14E: ("NV_Read", 2, 0), 0x165: ("FlushContext", 0, 0), 0x169: ("NV_ReadPublic", 1, 0),
-    0x16B: ("PolicyAuthValue", 1, 0), 0x16C: ("PolicyCommandCode", 1, 0), 0x171: ("PolicyOR", 1, 0),
-    0x176: ("StartAuthSession", 2, 1), 0x17E: ("PCR_Read", 0, 0), 0x17F: ("PolicyPCR", 1, 0),
-    0x180: ("PolicyRestart", 1, 0), 0x182: ("PCR_Extend", 1, 0), 0x189: ("PolicyGetDigest", 1, 0),
+    0x11F: ("NV_UndefineSpaceSpecial", 2, 0), 0x120: ("EvictControl", 2, 0), 0x121: ("HierarchyControl", 1, 0),
+    0x122: ("NV_UndefineSpace", 2, 0), 0x124: ("ChangeEPS", 1, 0), 0x125: ("ChangePPS", 1, 0), 0x126: ("Clear", 1, 0),
+    0x127: ("ClearControl", 1, 0), 0x128: ("ClockSet", 1, 0), 0x129: ("HierarchyChangeAuth", 1, 0),
+    0x12A: ("NV_DefineSpace", 1, 0), 0x12B: ("PCR_Allocate", 1, 0), 0x12C: ("PCR_SetAuthPolicy", 1, 0),
+    0x12D: ("PP_Commands", 1, 0), 0x12E: ("SetPrimaryPolicy", 1, 0), 0x12F: ("FieldUpgradeStart", 2, 0),
+    0x130: ("ClockRateAdjust", 1, 0), 0x131: ("CreatePrimary", 1, 1), 0x132: ("NV_GlobalWriteLock", 1, 0),
+    0x133: ("GetCommandAuditDigest", 2, 0), 0x134: ("NV_Increment", 2, 0), 0x135: ("NV_SetBits", 2, 0),
+    0x136: ("NV_Extend", 2, 0), 0x137: ("NV_Write", 2, 0), 0x138: ("NV_WriteLock", 2, 0),
+    0x139: ("DictionaryAttackLockReset", 1, 0), 0x13A: ("DictionaryAttackParameters", 1, 0),
+    0x13B: ("NV_ChangeAuth", 1, 0), 0x13C: ("PCR_Event", 1, 0), 0x13D: ("PCR_Reset", 1, 0),
+    0x13E: ("SequenceComplete", 1, 0), 0x13F: ("SetAlgorithmSet", 1, 0), 0x140: ("SetCommandCodeAuditStatus", 1, 0),
+    0x141: ("FieldUpgradeData", 0, 0), 0x142: ("IncrementalSelfTest", 0, 0), 0x143: ("SelfTest", 0, 0),
+    0x144: ("Startup", 0, 0), 0x145: ("Shutdown", 0, 0), 0x146: ("StirRandom", 0, 0),
+    0x147: ("ActivateCredential", 2, 0), 0x148: ("Certify", 2, 0), 0x149: ("PolicyNV", 3, 0),
+    0x14A: ("CertifyCreation", 2, 0), 0x14B: ("Duplicate", 2, 0), 0x14C: ("GetTime", 2, 0),
+    0x14D: ("GetSessionAuditDigest", 3, 0), 0x14E: ("NV_Read", 2, 0), 0x14F: ("NV_ReadLock", 2, 0),
+    0x150: ("ObjectChangeAuth", 2, 0), 0x151: ("PolicySecret", 2, 0), 0x152: ("Rewrap", 2, 0),
+    0x153: ("Create", 1, 0), 0x154: ("ECDH_ZGen", 1, 0), 0x155: ("HMAC", 1, 0), 0x156: ("Import", 1, 0),
+    0x157: ("Load", 1, 1), 0x158: ("Quote", 1, 0), 0x159: ("RSA_Decrypt", 1, 0), 0x15B: ("HMAC_Start", 1, 1),
+    0x15C: ("SequenceUpdate", 1, 0), 0x15D: ("Sign", 1, 0), 0x15E: ("Unseal", 1, 0), 0x160: ("PolicySigned", 2, 0),
+    0x161: ("ContextLoad", 0, 1), 0x162: ("ContextSave", 1, 0), 0x163: ("ECDH_KeyGen", 1, 0),
+    0x164: ("EncryptDecrypt", 1, 0), 0x165: ("FlushContext", 0, 0), 0x167: ("LoadExternal", 0, 1),
+    0x168: ("MakeCredential", 1, 0), 0x169: ("NV_ReadPublic", 1, 0), 0x16A: ("PolicyAuthorize", 1, 0),
+    0x16B: ("PolicyAuthValue", 1, 0), 0x16C: ("PolicyCommandCode", 1, 0), 0x16D: ("PolicyCounterTimer", 1, 0),
+    0x16E: ("PolicyCpHash", 1, 0), 0x16F: ("PolicyLocality", 1, 0), 0x170: ("PolicyNameHash", 1, 0),
+    0x171: ("PolicyOR", 1, 0), 0x172: ("PolicyTicket", 1, 0), 0x173: ("ReadPublic", 1, 0),
+    0x174: ("RSA_Encrypt", 1, 0), 0x176: ("StartAuthSession", 2, 1), 0x177: ("VerifySignature", 1, 0),
+    0x178: ("ECC_Parameters", 0, 0), 0x179: ("FirmwareRead", 0, 0), 0x17A: ("GetCapability", 0, 0),
+    0x17B: ("GetRandom", 0, 0), 0x17C: ("GetTestResult", 0, 0), 0x17D: ("Hash", 0, 0), 0x17E: ("PCR_Read", 0, 0),
+    0x17F: ("PolicyPCR", 1, 0), 0x180: ("PolicyRestart", 1, 0), 0x181: ("ReadClock", 0, 0),
+    0x182: ("PCR_Extend", 1, 0), 0x183: ("PCR_SetAuthValue", 1, 0), 0x184: ("NV_Certify", 3, 0),
+    0x185: ("EventSequenceComplete", 2, 0), 0x186: ("HashSequenceStart", 0, 1),
+    0x187: ("PolicyPhysicalPresence", 1, 0), 0x188: ("PolicyDuplicationSelect", 1, 0),
+    0x189: ("PolicyGetDigest", 1, 0), 0x18A: ("TestParms", 0, 0), 0x18B: ("Commit", 1, 0),
+    0x18C: ("PolicyPassword", 1, 0), 0x18D: ("ZGen_2Phase", 1, 0), 0x18E: ("EC_Ephemeral", 0, 0),
+    0x18F: ("PolicyNvWritten", 1, 0), 0x190: ("PolicyTemplate", 1, 0), 0x191: ("CreateLoaded", 1, 1),
+    0x192: ("PolicyAuthorizeNV", 3, 0), 0x193: ("EncryptDecrypt2", 1, 0), 0x194: ("AC_GetCapability", 1, 0),
+    0x195: ("AC_Send", 3, 0), 0x196: ("Policy_AC_SendSelect", 1, 0), 0x197: ("CertifyX509", 2, 0),
+    0x198: ("ACT_SetTimeout", 1, 0), 0x199: ("ECC_Encrypt", 1, 0), 0x19A: ("ECC_Decrypt", 1, 0),
+    0x20000000: ("Vendor_TCG_Test", 0, 0),
 }
-CODES = {name: code for code, (name, _, _) in COMMANDS.items()}
+# Those of the profile.
+PROFILE = {0x122, 0x12A, 0x134, 0x13C, 0x13D, 0x144, 0x14E, 0x165, 0x169, 0x16B, 0x16C, 0x171, 0x176, 0x17E, 0x17F, 0x180, 0x182, 0x189}
+CODES = {COMMANDS[code][0]: code for code in sorted(PROFILE)}
 NOTHING, UNKNOWN = "no command is before it", "its command is not known"
+# Part 2: the tags of commands and responses.
+TAGS = {0x00C4: "TPM_ST_RSP_COMMAND", 0x8000: "TPM_ST_NULL", 0x8001: "TPM_ST_NO_SESSIONS", 0x8002: "TPM_ST_SESSIONS"}
 # Part 2: the types of one size, and the sizes of digests.
 SIZES = {"UINT16": 2, "UINT32": 4, "TPM_SU": 2, "TPM_SE": 1, "TPM_CC": 4, "TPMI_DH_CONTEXT": 4, "TPMI_ALG_HASH": 2}
 DIGESTS = {0x0004: 20, 0x000B: 32, 0x000C: 48}
@@ -191,39 +229,96 @@ def handles(data, at, count):
     return found, at + 4 * count
 
 
+def name_of(code):
+    """The name of a command of the library, or the number of any other."""
+    return COMMANDS[code][0] if code in COMMANDS else f"{code:08x}"
+
+
+def header(mark, awaited, data, found):
+    """The members of the header, which fewer than ten bytes haven't. Of the name of a response's code only its form is known here."""
+    if len(data) < 10:
+        return {}
+    tag, size, code = struct.unpack_from(">HII", data)
+    command = code if mark == ">" else awaited
+    members = {"size": size, "tag": f"{tag:04x}"}
+    if command not in (NOTHING, UNKNOWN):
+        members = {"command": name_of(command), **members}
+    if tag in TAGS:
+        members["tag_name"] = TAGS[tag]
+    if mark == ">":
+        return {**members, "command_code": f"{code:08x}"}
+    members["code"] = f"{code:03x}"
+    if "code_name" in found:
+        subject = "parameter" if code & 0x40 else "session" if code & 0x800 else "handle"
+        number = code >> 8 & (15 if code & 0x40 else 7)
+        behind = f" for {subject} {number}" if code & 0x80 and number else ""
+        want(re.fullmatch("TPM_RC_[A-Z0-9_]+" + behind, found["code_name"]), "the name of a response's code")
+        want((code != 0) == (found["code_name"] != "TPM_RC_SUCCESS"), "the name of the code 0")
+        members["code_name"] = found["code_name"]
+    else:
+        want(code != 0, "the code 0 has no name")
+    return members
+
+
 def command(data):
-    """The members of a command."""
-    tag, size, code = struct.unpack_from(">HII", data)
-    name, count, _ = COMMANDS[code]
-    found, at = handles(data, 10, count)
+    """The members of a command behind its header."""
+    tag, _, code = struct.unpack_from(">HII", data)
+    found, at = handles(data, 10, COMMANDS[code][1])
+    want(at <= len(data), "its handles pass it")
     sessions = []
     if tag == 0x8002:
-        size_of_area, at = struct.unpack_from(">I", data, at)[0], at + 4
-        end = at + size_of_area
-        while at < end:
-            handle, at = take(data, at, 4)
-            one, at = session(data, at, {"session": handle.hex()})
+        area, at = take(data, at, 4)
+        area, at = take(data, at, int.from_bytes(area, "big"))
+        want(area, "its area of sessions is empty")
+        inside = 0
+        while inside < len(area):
+            handle, inside = take(area, inside, 4)
+            one, inside = session(area, inside, {"session": handle.hex()})
             sessions.append(one)
-        want(at == end, "its sessions pass their area")
-    return {"command": name, "size": size, "handles": found, "sessions": sessions, "parameters": data[at:].hex()}
+        want(len(sessions) <= 3, "it has too many sessions")
+    return {"handles": found, "sessions": sessions, "parameters": data[at:].hex()}
 
 
-def reply(name, data):
-    """The members of a response to this command."""
-    tag, size, code = struct.unpack_from(">HII", data)
-    if code:
-        return {"code": f"{code:03x}"}
-    found, at = handles(data, 10, COMMANDS[CODES[name]][2])
+def reply(code, data):
+    """The members of a response to this command behind its header, which has the code 0."""
+    tag = struct.unpack_from(">H", data)[0]
+    found, at = handles(data, 10, COMMANDS[code][2])
+    want(at <= len(data), "its handle passes it")
     sessions = []
     if tag == 0x8002:
-        size_of_parameters, at = struct.unpack_from(">I", data, at)[0], at + 4
-        parameters, at = take(data, at, size_of_parameters)
+        size, at = take(data, at, 4)
+        parameters, at = take(data, at, int.from_bytes(size, "big"))
         while at < len(data):
             one, at = session(data, at, {})
             sessions.append(one)
+        want(len(sessions) <= 3, "it has too many sessions")
     else:
         parameters = data[at:]
-    return {"command": name, "size": size, "handles": found, "sessions": sessions, "parameters": parameters.hex()}
+    return {"handles": found, "sessions": sessions, "parameters": parameters.hex()}
+
+
+def may_be_told(sessions):
+    """Whether each is a session of the profile."""
+    for one in sessions:
+        want(int(one["attributes"], 16) & 0x18 == 0, "reserved bits of a session")
+        want(max(len(one["nonce"]), len(one["hmac"])) <= 96, "a nonce or an HMAC that is too long")
+        handle = int(one.get("session", "40000009"), 16)
+        want(handle == 0x40000009 or handle >> 24 in (2, 3), "a session's handle")
+
+
+def behind(mark, awaited, data):
+    """What is told by the library's table of a frame that the profile refuses, or has not; none where it isn't there."""
+    if len(data) < 10:
+        return {}
+    tag, size, code = struct.unpack_from(">HII", data)
+    if size != len(data) or tag not in (0x8001, 0x8002) or (mark == ">" and code not in COMMANDS):
+        return {}
+    try:
+        members = command(data) if mark == ">" else reply(awaited, data)
+        may_be_told(members["sessions"])
+        return members
+    except (Wrong, struct.error, IndexError):
+        return {}
 
 
 def size_of(kind, data):
@@ -337,33 +432,37 @@ class Teller:
         if not mark:
             mark = "<" if self.awaited != NOTHING and (len(data) == 10 or code == 0) else ">"
         awaited, self.awaited = self.awaited, NOTHING
-        head = {"number": self.number, "kind": "command" if mark == ">" else "response"}
+        head = {"number": self.number, "kind": "command" if mark == ">" else "response", **header(mark, awaited, data, found)}
         if mark == ">":
-            self.awaited = COMMANDS[code][0] if code in COMMANDS else UNKNOWN
-        elif awaited in (NOTHING, UNKNOWN):
+            self.awaited = UNKNOWN if code is None else code
+        elif awaited in (NOTHING, UNKNOWN) or awaited not in COMMANDS:
             self.counts("fault")
-            return same(found, dict(head, fault=awaited))
+            return same(found, dict(head, fault=awaited if awaited == NOTHING else UNKNOWN))
+        elif awaited not in PROFILE:
+            self.counts("refused")
+            return same(found, {**head, **(behind(mark, awaited, data) if code == 0 else {})})
         if "refused" in found:
             self.counts("refused")
-            return self.refused(found, head, data)
+            return self.refused(found, head, behind(mark, awaited, data) if mark == ">" else {}, len(data))
+        if mark == "<" and code:
+            self.counts("code")
+            return same(found, head)
         members = command(data) if mark == ">" else reply(awaited, data)
-        self.counts("code" if "code" in members else head["kind"])
-        if self.fields and "code" not in members:
+        self.counts(head["kind"])
+        if self.fields:
             members["fields"] = found.get("fields")
             want(isinstance(members["fields"], list), "it has no list of fields")
             check_fields(members["fields"], bytes.fromhex(members["parameters"]))
         return same(found, {**head, **members})
 
-    def refused(self, found, head, data):
+    def refused(self, found, head, members, size):
         code, at = found["refused"], found.get("at")
         want(isinstance(code, str) and re.fullmatch("[0-9a-f]{3}", code), "a refusal's code")
-        want(type(at) is int and 0 <= at <= len(data), "the place of a refusal")
+        want(type(at) is int and 0 <= at <= size, "the place of a refusal")
         head.update(refused=code, at=at)
-        if "name" in found:
-            want((head["kind"], code, at) == ("command", "143", 6), "a name of a command that is not refused for its code")
-            want(isinstance(found["name"], str) and re.fullmatch("TPM2_[A-Za-z0-9_]+", found["name"]), "a command's name")
-            head["name"] = found["name"]
-        same(found, head)
+        if head["kind"] == "command" and (code, at) == ("143", 6) and int(head["command_code"], 16) in COMMANDS:
+            head["name"] = "TPM2_" + head["command"]
+        same(found, {**head, **members})
 
 
 def told(words, path, compare, teller):

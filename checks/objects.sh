@@ -16,3 +16,13 @@ elif python3 checks/objects.py "$frames" "${SEED:-1}" >"$room/out" 2>&1; then
 else
     fail "$name" "$(cat "$room/out")"
 fi
+
+name="frames of each command of the library as tshark tells them"
+if ! command -v tshark >/dev/null || ! python3 -c 'import json' >"$room/out" 2>&1; then
+    skip "$name" "tshark or python3 is not there"
+elif python3 checks/tshark.py >"$room/out" 2>&1; then
+    pass "$name"
+    cat "$room/out"
+else
+    fail "$name" "$(cat "$room/out")"
+fi

@@ -120,7 +120,7 @@ cases checks/check.txt
 cases checks/options.txt
 cases checks/words.txt
 
-# A frame of each code in the header of tpm2-tss: one that is refused for its code alone has its name there.
+# A frame of each code in the header of tpm2-tss: its command has the name there, also where it is refused for its code.
 header=/usr/include/tss2/tss2_tpm2_types.h
 name="each command that is not in the profile has its name"
 if [ -r "$header" ]; then
@@ -135,8 +135,11 @@ if [ -r "$header" ]; then
             absent = 0
             next
         }
-        $2 == ">" { number = $1 }
-        / refused 143 at 6$/ { absent = number }
+        $2 == ">" {
+            number = $1
+            if ($4 != name[number]) print "line " FNR ": " $0
+        }
+        /^refused 143 at 6$/ { absent = number }
         END {
             if (commands < 100 || number != commands || named != commands - 18)
                 print commands " commands, " named " with names"
@@ -184,7 +187,7 @@ capture() {
 # captured N: what is told of it.
 captured() {
     awk -v frames="$1" 'BEGIN { for (i = 1; i < frames; i += 2)
-        printf "%d > command Startup size 12\nparameters 0000\n%d < reply Startup size 10\nparameters -\n", i, i + 1 }'
+        printf "%d > command Startup size 12 tag 8001\nparameters 0000\n%d < reply Startup size 10 tag 8001 code 000 TPM_RC_SUCCESS\nparameters -\n", i, i + 1 }'
 }
 
 # least_memory: the least limit, of those tried, under which $room/in is told.

@@ -9,6 +9,7 @@ use crate::text::{Pushed, push_comma};
 use std::alloc::{AllocError, Global};
 use std::marker::Model;
 use tpm_buffer::{Areas, ReplyAreas};
+use tpm_types::{Auth, AuthReply};
 
 /// A session of a command, or of a reply, where it has no handle.
 #[derive(Drop)]
@@ -30,6 +31,35 @@ impl<'a> Model for Session<'a> {
       attributes = s.attributes;
       hmac = s.hmac.now;
     } };
+}
+
+impl<'a> Session<'a> {
+    ghost use Rattle.std.specs.Prelude.{◌≡◌};
+    ghost use Rattle.tpm_lines.specs.Text.{of_command, of_reply};
+
+    /// A session of a command.
+    pub fn of_command(auth: &'a Auth) -> Self
+        ensures { result ≡ of_command auth.now }
+    {
+        Session {
+            handle: Some(auth.session.number()),
+            nonce: auth.nonce.as_slice(),
+            attributes: auth.attrs.number(),
+            hmac: auth.hmac.as_slice(),
+        }
+    }
+
+    /// A session of a reply.
+    pub fn of_reply(auth: &'a AuthReply) -> Self
+        ensures { result ≡ of_reply auth.now }
+    {
+        Session {
+            handle: None,
+            nonce: auth.nonce.as_slice(),
+            attributes: auth.attrs.number(),
+            hmac: auth.hmac.as_slice(),
+        }
+    }
 }
 
 /// The areas of a buffer that has sessions.

@@ -1,15 +1,18 @@
 -- What `show` prints of a capture: frames of both directions, each in a line (this profile).
 use Rattle.std.specs.Prelude.{◌≡◌, ◌<◌, ℕ, ◌+◌, ◌==◌, ◌||◌, nat_lt, Bool, true, false, not, List, [], ◌∷◌, ◌++◌, length}
-use Rattle.std.specs.Prelude.{take, drop, map, filter, codes, Option, Some, None, if◌then◌else◌}
+use Rattle.std.specs.Prelude.{take, drop, map, filter, codes, Option, Some, None, option_map, if◌then◌else◌}
 use Rattle.std.specs.Str.{bytes_eq}
 use Rattle.std.specs.Fmt.{decimal}
 use Rattle.std.specs.Io.KnownBytes.{Consumes, IsAtEnd}
 use Rattle.tpm_wire.specs.declared.refusal.Refusal.{Refusal}
-use Rattle.tpm_wire.specs.Token.{number_of}
-use Rattle.tpm_wire.specs.Path.{Fault}
+use Rattle.tpm_wire.specs.Path.{Spells, Fault}
 use Rattle.tpm_commands.specs.declared.code.CommandCode.{CommandCode}
-use Rattle.tpm_commands.specs.Codes.{code_of}
+use Rattle.tpm_commands.specs.declared.command.Command.{Command as CommandOf}
+use Rattle.tpm_commands.specs.declared.response.Response.{Response}
+use Rattle.tpm_commands.specs.Codes.{code_number, code_of}
 use Rattle.tpm_buffer.specs.Commands.{command}
+use Rattle.tpm_buffer.specs.CommandAreas.{Cut, HasCut}
+use Rattle.tpm_buffer.specs.Responses.{ReplyCut, reply_cut, response}
 use Rattle.tpm_lines.specs.declared.status.Status.TheVariants.{Done, Refused}
 use Rattle.tpm_lines.specs.declared.status.Status.{Status}
 use Rattle.tpm_lines.specs.Status.{both}
@@ -20,8 +23,11 @@ use Rattle.tpm_show.specs.declared.capture_lines.Direction.TheVariants.{Command,
 use Rattle.tpm_show.specs.declared.capture_lines.Direction.{Direction}
 use Rattle.tpm_show.specs.declared.capture_frames.Awaited.{Awaited}
 use Rattle.tpm_show.specs.declared.telling.Telling.{Telling}
-use Rattle.tpm_show.specs.CommandNames.{absent_behind}
-use Rattle.tpm_show.specs.Show.{refusal_told, ShowsCommand, ShowsReply}
+use Rattle.tpm_show.specs.CommandNames.{Listed, absent_behind, command_of}
+use Rattle.tpm_show.specs.declared.frame_header.FrameHeader.{FrameHeader}
+use Rattle.tpm_show.specs.Headers.{header_in, command_head, command_head_members, reply_head, reply_head_members}
+use Rattle.tpm_show.specs.Library.{library_command, library_response}
+use Rattle.tpm_show.specs.Show.{command_rest, refusal_told, response_rest}
 use Rattle.tpm_show.specs.FrameJson.{fault_member, fault_object}
 use Rattle.tpm_show.specs.declared.capture_frames.Awaited.TheVariants as awaits
 
@@ -57,9 +63,9 @@ line_of text = told_in (without_blanks text)
 
 -- ---- which way a frame went
 
--- the number behind the tag and the size: a command's code, or a response's (Part 1, 18)
+-- the number behind the tag and the size: a command's code, or a response's
 abbrev pub code_number_in : List ℕ → Option ℕ
-code_number_in bytes = if nat_lt (length bytes) 10 then None else Some (number_of (take 4 (drop 6 bytes)))
+code_number_in bytes = option_map (λ h. h.code) (header_in bytes)
 
 abbrev pub is_zero : Option ℕ → Bool
 is_zero None = false
@@ -77,41 +83,81 @@ abbrev pub direction_of : Option Direction → Awaited → List ℕ → Directio
 direction_of (Some direction) awaited bytes = direction
 direction_of None awaited bytes = unmarked awaited bytes
 
-abbrev pub awaited_of : Option CommandCode → Awaited
-awaited_of None = awaits.Unknown
-awaited_of (Some command) = awaits.Reply command
+abbrev pub awaited_named : Option CommandCode → (code : ℕ) → Awaited
+awaited_named None code = awaits.Other code
+awaited_named (Some command) code = awaits.Reply command
 
-abbrev pub command_named : Option ℕ → Option CommandCode
-command_named None = None
-command_named (Some n) = code_of n
+abbrev pub awaited_of : Option ℕ → Awaited
+awaited_of None = awaits.Unknown
+awaited_of (Some code) = awaited_named (code_of code) code
 
 -- Behind a command comes its reply.
 abbrev pub awaited_behind : Direction → List ℕ → Awaited
-awaited_behind Command bytes = awaited_of (command_named (code_number_in bytes))
+awaited_behind Command bytes = awaited_of (code_number_in bytes)
 awaited_behind Reply bytes = awaits.Nothing
+
+-- the code of the command whose reply comes, where it is known
+abbrev pub answered_code : Awaited → Option ℕ
+answered_code awaits.Nothing = None
+answered_code awaits.Unknown = None
+answered_code (awaits.Reply command) = Some (code_number command)
+answered_code (awaits.Other code) = Some code
 
 -- ---- what is told of a frame
 
--- Behind the refusal of its code alone stands which command it is.
+-- its header, in the first line or in the first members
+abbrev pub head_told : (json fields : Bool) → Direction → Awaited → Option FrameHeader → List ℕ
+head_told json fields direction awaited None = []
+head_told false fields Command awaited (Some h) = command_head fields h
+head_told true fields Command awaited (Some h) = command_head_members h
+head_told false fields Reply awaited (Some h) = reply_head fields (answered_code awaited) h
+head_told true fields Reply awaited (Some h) = reply_head_members (answered_code awaited) h
+
+-- A command that the bytes spell is told behind its header, and else their fault, and what stands behind the header
+-- by the library's tables. Behind the refusal of its code alone stands which command it is.
 abbrev pub TellsCommand : (json fields : Bool) → List ℕ → Status → List ℕ → Type 0
-TellsCommand json fields bytes Done text = ShowsCommand json fields bytes Done text
+TellsCommand json fields bytes Done text = (c : CommandOf) × (areas : Cut) × Spells command c bytes × HasCut bytes areas
+    × (text ≡ command_rest json fields areas c.body)
 TellsCommand json fields bytes Refused text = (refusal : Refusal) × Fault command bytes refusal
-    × (text ≡ refusal_told json refusal ++ absent_behind json refusal (code_number_in bytes))
+    × (text ≡ refusal_told json refusal
+    ++ (absent_behind json refusal (code_number_in bytes) ++ library_command json bytes (header_in bytes)))
+
+-- a response to this command that the bytes spell, and else their fault
+abbrev pub TellsReplyTo : (json fields : Bool) → CommandCode → List ℕ → Status → List ℕ → Type 0
+TellsReplyTo json fields code bytes Done text =
+    (r : Response) × (areas : ReplyCut) × Spells (response code) r bytes × Spells (reply_cut code) areas bytes
+    × (text ≡ response_rest json fields areas r)
+TellsReplyTo json fields code bytes Refused text = (refusal : Refusal) × Fault (response code) bytes refusal
+    × (text ≡ refusal_told json refusal)
 
 abbrev pub sentence_text : (json : Bool) → List ℕ → List ℕ
 sentence_text false sentence = sentence ++ codes "\n"
 sentence_text true sentence = fault_member sentence
 
+-- a response to a command that the profile hasn't
+abbrev pub other_reply : (json : Bool) → Option Listed → List ℕ → List ℕ
+other_reply json None bytes = sentence_text json (codes "its command is not known")
+other_reply json (Some c) bytes = library_response json c bytes (header_in bytes)
+
 abbrev pub TellsReply : (json fields : Bool) → Awaited → List ℕ → Status → List ℕ → Type 0
-TellsReply json fields (awaits.Reply command) bytes status text = ShowsReply json fields command bytes status text
+TellsReply json fields (awaits.Reply command) bytes status text =
+    TellsReplyTo json fields command bytes status text
+TellsReply json fields (awaits.Other code) bytes status text =
+    (status ≡ Refused) × (text ≡ other_reply json (command_of code) bytes)
 TellsReply json fields awaits.Unknown bytes status text =
     (status ≡ Refused) × (text ≡ sentence_text json (codes "its command is not known"))
 TellsReply json fields awaits.Nothing bytes status text =
     (status ≡ Refused) × (text ≡ sentence_text json (codes "no command is before it"))
 
+abbrev pub TellsRest : (json fields : Bool) → Direction → Awaited → List ℕ → Status → List ℕ → Type 0
+TellsRest json fields Command awaited bytes status text = TellsCommand json fields bytes status text
+TellsRest json fields Reply awaited bytes status text = TellsReply json fields awaited bytes status text
+
+-- what its header says, whatever is refused, and then what stands behind the header
 abbrev pub TellsFrame : (json fields : Bool) → Direction → Awaited → List ℕ → Status → List ℕ → Type 0
-TellsFrame json fields Command awaited bytes status text = TellsCommand json fields bytes status text
-TellsFrame json fields Reply awaited bytes status text = TellsReply json fields awaited bytes status text
+TellsFrame json fields direction awaited bytes status text =
+    (rest : List ℕ) × TellsRest json fields direction awaited bytes status rest
+    × (text ≡ head_told json fields direction awaited (header_in bytes) ++ rest)
 
 abbrev pub mark_of : Direction → List ℕ
 mark_of Command = codes ">"

@@ -13,3 +13,5 @@ pub mod Meanings
 pub mod Layers
 pub mod Explain
 pub mod CommandNames
+pub mod Headers
+pub mod Library

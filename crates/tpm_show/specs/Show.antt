@@ -14,78 +14,106 @@ use Rattle.tpm_buffer.specs.ResponseAreas.{handle_of}
 use Rattle.tpm_buffer.specs.Responses.{ReplyCut, reply_cut, response}
 use Rattle.tpm_lines.specs.declared.status.Status.TheVariants.{Done, Refused}
 use Rattle.tpm_lines.specs.declared.status.Status.{Status}
+use Rattle.tpm_lines.specs.Text.{Session, lines_from, command_text, handle_text, of_command, of_reply}
+use Rattle.tpm_lines.specs.Text.{parameters_line, refusal_line, session_text, not_hexadecimal_line}
 use Rattle.tpm_show.specs.Digits.{buffer_in}
-use Rattle.tpm_lines.specs.Text.{lines_from, command_text, of_reply, parameters_line, refusal_line}
-use Rattle.tpm_lines.specs.Text.{session_text, not_hexadecimal_line}
 use Rattle.tpm_show.specs.ReplyText.{reply_line, reply_handle_line, reply_code_line}
 use Rattle.tpm_show.specs.Fields.{command_fields, reply_fields}
-use Rattle.tpm_show.specs.FrameJson.{code_member, command_members, refusal_members, reply_members}
+use Rattle.tpm_show.specs.FrameJson.{fields_member, handles_member, handles_of, parameters_member, refusal_members}
+use Rattle.tpm_show.specs.FrameJson.{sessions_member}
 
--- ---- lines
+-- ---- behind the header
 
--- a command of so many bytes: its parameters as they came, and by their names and their types where these are asked for
-unfoldable pub command_lines : (fields : Bool) → ℕ → Cut → CommandBody → List ℕ
-command_lines false size areas body = command_text size areas
-command_lines true size areas body = command_text size areas ++ command_fields false body
+-- what stands behind a command's header: its handles, its sessions, and its parameters as they came
+unfoldable pub areas_told : (json : Bool) → (handles : List ℕ) → List Session → (params : List ℕ) → List ℕ
+areas_told false handles sessions params = lines_from (handle_text false) 1 handles
+    ++ (lines_from (session_text false) 1 sessions ++ parameters_line params)
+areas_told true handles sessions params = handles_member handles
+    ++ (sessions_member sessions ++ parameters_member params)
+
+-- what stands behind a response's header: its handles, its parameters as they came, and its sessions
+unfoldable pub reply_areas_told : (json : Bool) → (handles params : List ℕ) → List Session → List ℕ
+reply_areas_told false handles params sessions = lines_from (handle_text false) 1 handles
+    ++ (parameters_line params ++ lines_from (session_text false) 1 sessions)
+reply_areas_told true handles params sessions = handles_member handles
+    ++ (parameters_member params ++ sessions_member sessions)
+
+-- the parameters by their names and their types, where these are asked for
+abbrev pub named_parameters : (fields : Bool) → CommandBody → List ℕ
+named_parameters false body = []
+named_parameters true body = command_fields false body
 
 abbrev pub named_fields : (fields : Bool) → ReplyBody → List ℕ
 named_fields false body = []
 named_fields true body = reply_fields false body
 
--- a reply to this command, of so many bytes: its handle, its parameters likewise, and its sessions
-unfoldable pub reply_lines : (fields : Bool) → CommandCode → ℕ → ReplyCut → ReplyBody → List ℕ
-reply_lines fields code size r body =
-    reply_line code size ++ (reply_handle_line (handle_of r) ++ (parameters_line r.params
-    ++ (named_fields fields body ++ lines_from (session_text false) 1 (map of_reply r.auths))))
+abbrev pub parameters_told : (json fields : Bool) → CommandBody → List ℕ
+parameters_told false fields body = named_parameters fields body
+parameters_told true fields body = fields_member fields (command_fields true body)
 
--- ---- lines, or the members of an object
+-- a command, in lines or in members of an object
+unfoldable pub command_rest : (json fields : Bool) → Cut → CommandBody → List ℕ
+command_rest json fields areas body =
+    areas_told json areas.handles (map of_command areas.auths) areas.params ++ parameters_told json fields body
 
-abbrev pub command_told : (json fields : Bool) → ℕ → Cut → CommandBody → List ℕ
-command_told false fields size areas body = command_lines fields size areas body
-command_told true fields size areas body = command_members fields size areas body
+-- a reply: its handle, its parameters likewise, and its sessions
+unfoldable pub reply_rest : (json fields : Bool) → ReplyCut → ReplyBody → List ℕ
+reply_rest false fields r body =
+    reply_handle_line (handle_of r)
+    ++ (parameters_line r.params
+    ++ (named_fields fields body ++ lines_from (session_text false) 1 (map of_reply r.auths)))
+reply_rest true fields r body =
+    handles_member (handles_of (handle_of r))
+    ++ (parameters_member r.params
+    ++ (fields_member fields (reply_fields true body) ++ sessions_member (map of_reply r.auths)))
 
-abbrev pub code_told : (json : Bool) → ℕ → List ℕ
-code_told false code = reply_code_line code
-code_told true code = code_member code
-
-abbrev pub reply_told : (json fields : Bool) → CommandCode → ℕ → ReplyCut → ReplyBody → List ℕ
-reply_told false fields code size r body = reply_lines fields code size r body
-reply_told true fields code size r body = reply_members fields code size r body
-
-abbrev pub response_told : (json fields : Bool) → CommandCode → ℕ → ReplyCut → Response → List ℕ
-response_told json fields code size r (responses.Code n) = code_told json n
-response_told json fields code size r (responses.Done body auths) = reply_told json fields code size r body
+-- A response of another code than 0 has nothing there.
+abbrev pub response_rest : (json fields : Bool) → ReplyCut → Response → List ℕ
+response_rest json fields r (responses.Code n) = []
+response_rest json fields r (responses.Done body auths) = reply_rest json fields r body
 
 abbrev pub refusal_told : (json : Bool) → Refusal → List ℕ
 refusal_told false refusal = refusal_line refusal
 refusal_told true refusal = refusal_members refusal
 
+-- ---- lines
+
+-- a command of so many bytes: its parameters as they came, and by their names and their types where these are asked for
+unfoldable pub command_lines : (fields : Bool) → ℕ → Cut → CommandBody → List ℕ
+command_lines fields size areas body = command_text size areas ++ named_parameters fields body
+
+-- a response to this command, of so many bytes
+unfoldable pub response_lines : (fields : Bool) → CommandCode → ℕ → ReplyCut → Response → List ℕ
+response_lines fields code size r (responses.Code n) = reply_code_line n
+response_lines fields code size r (responses.Done body auths) =
+    reply_line code size ++ reply_rest false fields r body
+
 -- ---- what is shown
 
 -- a command that the bytes spell is shown, and else their fault
-abbrev pub ShowsCommand : (json fields : Bool) → List ℕ → Status → List ℕ → Type 0
-ShowsCommand json fields bytes Done text = (c : Command) × (areas : Cut) × Spells command c bytes × HasCut bytes areas
-    × (text ≡ command_told json fields (length bytes) areas c.body)
-ShowsCommand json fields bytes Refused text =
+abbrev pub ShowsCommand : (fields : Bool) → List ℕ → Status → List ℕ → Type 0
+ShowsCommand fields bytes Done text = (c : Command) × (areas : Cut) × Spells command c bytes × HasCut bytes areas
+    × (text ≡ command_lines fields (length bytes) areas c.body)
+ShowsCommand fields bytes Refused text =
     (refusal : Refusal) × Fault command bytes refusal
-    × (text ≡ refusal_told json refusal)
+    × (text ≡ refusal_line refusal)
 
 -- a response to this command that the bytes spell is shown, and else their fault
-abbrev pub ShowsReply : (json fields : Bool) → CommandCode → List ℕ → Status → List ℕ → Type 0
-ShowsReply json fields code bytes Done text =
+abbrev pub ShowsReply : (fields : Bool) → CommandCode → List ℕ → Status → List ℕ → Type 0
+ShowsReply fields code bytes Done text =
     (r : Response) × (areas : ReplyCut) × Spells (response code) r bytes
     × Spells (reply_cut code) areas bytes
-    × (text ≡ response_told json fields code (length bytes) areas r)
-ShowsReply json fields code bytes Refused text =
+    × (text ≡ response_lines fields code (length bytes) areas r)
+ShowsReply fields code bytes Refused text =
     (refusal : Refusal) × Fault (response code) bytes refusal
-    × (text ≡ refusal_told json refusal)
+    × (text ≡ refusal_line refusal)
 
 -- Where a command is named the bytes are taken for a response to it, and else for a command; any
 -- other text is not hexadecimal.
 abbrev pub ShowsDecoded : (fields : Bool) → Option CommandCode → Option (List ℕ) → Status → List ℕ → Type 0
 ShowsDecoded fields reply None status text = (status ≡ Refused) × (text ≡ not_hexadecimal_line)
-ShowsDecoded fields None (Some bytes) status text = ShowsCommand false fields bytes status text
-ShowsDecoded fields (Some code) (Some bytes) status text = ShowsReply false fields code bytes status text
+ShowsDecoded fields None (Some bytes) status text = ShowsCommand fields bytes status text
+ShowsDecoded fields (Some code) (Some bytes) status text = ShowsReply fields code bytes status text
 
 -- For this text of digits, read as a response to this command where one is named, this is the
 -- status and what is printed: by `show`,

@@ -217,21 +217,30 @@ impl Capture {
 /// reply. A line that is empty, or begins with `#`, is skipped. A line ends with a line feed, and the last may do
 /// without.
 ///
-/// In front of what is told of a frame stand its number, from 1, and its mark. A reply is read as one to the command
-/// before it, by the code of that; with none before it the line is `N < no command is before it`, and with a code that
-/// the profile hasn't `N < its command is not known`. Where a command is refused for its code alone, and the library
-/// has one with that code (Part 2, 6.5.2), the line `TPM2_NAME is not in this profile` follows. A line of other text
-/// is `N not hexadecimal`, and one of more than 8,195 bytes beside its blanks `N too long`; the next is read all the
-/// same.
+/// The first line of a frame begins with its number, from 1, and its mark, and tells its header, whatever is refused:
+/// `command NAME size N tag XXXX`, or `reply NAME size N tag XXXX code XXX TPM_RC_NAME` (Part 1, "Command/Response
+/// Structure"). NAME is that of the library's command with this code, or the code in eight digits. Fewer than ten
+/// bytes have no header. Behind it stands what `show` tells of a command or of a response, but for its first line.
 ///
-/// The object has the members `number` and `kind`, which is `command` or `response`. A command has its name as
-/// `command`, `size`, `handles`, `sessions` and `parameters`, and a reply the same; a response of another code than 0
-/// has `code`. What is refused has `refused` and `at`, and `name` where the profile hasn't the command; a reply
-/// without its command has `fault`. Where parameters are told by their names there is `fields`, a list of objects
-/// with `name`, `type` and `value`. That of a structure has `fields` likewise, of its members or entries; bits that
-/// are set, and registers, are objects with `name` and `number`, which is decimal. A line without a frame has
-/// `number` and `fault`. Each says what its line says: bytes, handles, attributes and codes are in hexadecimal, and
-/// no bytes are empty.
+/// A command that is refused has the line of its refusal, and where that is for its code alone, and the library has one
+/// with that code (Part 2, 6.5.2), the line `TPM2_NAME is not in this profile`. Then stand its handles, by Part 3's
+/// number of them, its sessions and its parameters, where the header has the frame's size and a command's tag, and
+/// they are there.
+///
+/// A reply is read as one to the command before it, by the code of that. To a command that the profile hasn't it is
+/// told by the library's table likewise. With no command before it the line `no command is before it` follows its
+/// header, and with a command whose code the library hasn't, or that has no code, `its command is not known`. A line of
+/// other text is `N not hexadecimal`, and one of more than 8,195 bytes beside its blanks `N too long`; the next is read
+/// all the same.
+///
+/// The object has the members `number` and `kind`, which is `command` or `response`. A header has `command`, where a
+/// reply has one before it, `size`, `tag` and `tag_name`; then a command `command_code`, and a response `code` and
+/// `code_name`, where these have names. What stands behind it has `handles`, `sessions` and `parameters`. What is
+/// refused has `refused` and `at`, and `name` where the profile hasn't the command; a reply without its command has
+/// `fault`. Where parameters are told by their names there is `fields`, a list of objects with `name`, `type` and
+/// `value`. That of a structure has `fields` likewise, of its members or entries; bits that are set, and registers, are
+/// objects with `name` and `number`, which is decimal. A line without a frame has `number` and `fault`. Each says what
+/// its line says: bytes, handles, attributes and codes are in hexadecimal, and no bytes are empty.
 ///
 /// The status is `Refused` where a frame or a line was refused, and else `Done`. What a read gave is answered before
 /// the next read: where that fails, what was written is the text of the lines that had ended. No more than one line

@@ -1,20 +1,34 @@
 //! The frames of a capture.
 
 ghost use Rattle.std.specs.Prelude.{◌≡◌, ◌++◌, List, ℕ, IfOk, OnOk, string_bytes};
-ghost use Rattle.tpm_show.specs.Capture.{code_number_in, awaited_behind, direction_of, is_response, front};
+ghost use Rattle.tpm_show.specs.Capture.{code_number_in, answered_code, awaited_behind, direction_of};
+ghost use Rattle.tpm_show.specs.Capture.{is_response, front};
 ghost use Rattle.tpm_show.specs.Capture.{frame_object, kind_of, numbered, fault_line, fault_text, sentence_text};
-ghost use Rattle.tpm_show.specs.Capture.{TellsCommand, TellsFrame};
+ghost use Rattle.tpm_show.specs.CommandNames.{absent_behind, command_of};
+ghost use Rattle.tpm_show.specs.Headers.{header_in};
+ghost use Rattle.tpm_show.specs.Library.{library_command};
+ghost use Rattle.tpm_show.specs.Show.{refusal_told};
+ghost use Rattle.tpm_show.specs.Capture.{head_told, other_reply, TellsCommand, TellsReplyTo, TellsRest, TellsFrame};
 ghost use Rattle.tpm_lines.specs.declared.status.Status.TheVariants.{Refused};
 
 use crate::capture_lines::Direction;
-use crate::command_names::answer_to_refused;
+use crate::command_names::{command_of, push_refused_command};
+use crate::frame_header::{
+    FrameHeader, header_in, push_command_head, push_command_head_members, push_reply_head,
+    push_reply_head_members,
+};
 use crate::frame_json::push_fault_object;
+use crate::library::{push_library_command, push_library_response};
 use crate::telling::Telling;
-use crate::told::{answer_of_command, answer_to_reply, command_and_areas};
+use crate::told::{
+    command_and_areas, push_command_rest, push_refused, push_response_rest, response_and_areas,
+};
 use std::alloc::{AllocError, Global};
 use tpm_commands::CommandCode;
 use tpm_lines::answer::Answer;
+use tpm_lines::status::Status;
 use tpm_lines::text::Pushed;
+use tpm_wire::Refusal;
 
 /// Which reply may come next.
 #[derive(Clone, Copy, Debug, PartialEq, Eq)]
@@ -25,6 +39,8 @@ pub(crate) enum Awaited {
     Unknown,
     /// That to this command.
     Reply(CommandCode),
+    /// That to a command with this code, which the profile hasn't.
+    Other(u32),
 }
 
 // ---- which way a frame went
@@ -33,10 +49,10 @@ pub(crate) enum Awaited {
 fn code_number(bytes: &[u8]) -> Option<u32>
     ensures { result ≡ code_number_in bytes.now }
 {
-    if bytes.len() < 10 {
-        return None;
+    match header_in(bytes) {
+        Some(header) => Some(header.code),
+        None => None,
     }
-    Some(u32::from_be_bytes([bytes[6], bytes[7], bytes[8], bytes[9]]))
 }
 
 fn is_response(bytes: &[u8]) -> bool
@@ -64,21 +80,106 @@ pub(crate) fn awaited_behind(direction: Direction, bytes: &[u8]) -> Awaited
     if direction == Direction::Reply {
         return Awaited::Nothing;
     }
-    match code_number(bytes).and_then(CommandCode::from_number) {
+    let Some(code) = code_number(bytes) else {
+        return Awaited::Unknown;
+    };
+    match CommandCode::from_number(code) {
         Some(command) => Awaited::Reply(command),
-        None => Awaited::Unknown,
+        None => Awaited::Other(code),
+    }
+}
+
+// The code of the command whose reply comes.
+fn answered_code(awaited: Awaited) -> Option<u32>
+    ensures { result ≡ answered_code awaited }
+{
+    match awaited {
+        Awaited::Nothing | Awaited::Unknown => None,
+        Awaited::Reply(command) => Some(command.number()),
+        Awaited::Other(code) => Some(code),
     }
 }
 
 // ---- what is told of it
 
-fn answer_to_a_command(alloc: Global, how: Telling, bytes: &[u8]) -> Result<Answer, AllocError>
-    ensures { IfOk result
-        (λ a. TellsCommand how.json how.fields bytes.now a.status (string_bytes a.text)) }
+// Adds what the header says.
+fn push_head(
+    text: &mut String,
+    how: Telling,
+    direction: Direction,
+    awaited: Awaited,
+    header: Option<FrameHeader>,
+) -> Pushed
+    ensures { OnOk result (string_bytes text.new ≡ string_bytes text.old
+        ++ head_told how.json how.fields direction awaited header) }
+{
+    let Some(header) = &header else {
+        return Ok(());
+    };
+    match (direction, how.json) {
+        (Direction::Command, false) => push_command_head(text, how.fields, header),
+        (Direction::Command, true) => push_command_head_members(text, header),
+        (Direction::Reply, false) => {
+            push_reply_head(text, how.fields, answered_code(awaited), header)
+        }
+        (Direction::Reply, true) => push_reply_head_members(text, answered_code(awaited), header),
+    }
+}
+
+#[tactic(auto, using(std::proofs::Common::append_assoc))]
+fn push_refused_whole(
+    alloc: Global,
+    text: &mut String,
+    json: bool,
+    refusal: &Refusal,
+    bytes: &[u8],
+) -> Result<Status, AllocError>
+    ensures { IfOk result (λ status. (status ≡ Refused)
+        × (string_bytes text.new ≡ string_bytes text.old ++ (refusal_told json refusal.now
+        ++ (absent_behind json refusal.now (code_number_in bytes.now)
+        ++ library_command json bytes.now (header_in bytes.now))))) }
+{
+    let status = push_refused_command(text, json, refusal, code_number(bytes))?;
+    push_library_command(alloc, text, json, bytes)?;
+    Ok(status)
+}
+
+fn push_command(
+    alloc: Global,
+    text: &mut String,
+    how: Telling,
+    bytes: &[u8],
+) -> Result<Status, AllocError>
+    ensures { IfOk result (λ status. (rest : List ℕ)
+        × TellsCommand how.json how.fields bytes.now status rest
+        × (string_bytes text.new ≡ string_bytes text.old ++ rest)) }
 {
     match command_and_areas(bytes) {
-        Ok((command, areas)) => answer_of_command(alloc, how, bytes.len(), &areas, &command.body),
-        Err(refusal) => answer_to_refused(alloc, how.json, &refusal, code_number(bytes)),
+        Ok((command, areas)) => {
+            push_command_rest(alloc, text, how, &areas, &command.body)?;
+            Ok(Status::Done)
+        }
+        Err(refusal) => push_refused_whole(alloc, text, how.json, &refusal, bytes),
+    }
+}
+
+fn push_reply_to(
+    alloc: Global,
+    text: &mut String,
+    how: Telling,
+    command: CommandCode,
+    bytes: &[u8],
+) -> Result<Status, AllocError>
+    ensures { IfOk result (λ status. (rest : List ℕ)
+        × TellsReplyTo how.json how.fields command bytes.now status rest
+        × (string_bytes text.new ≡ string_bytes text.old ++ rest)) }
+{
+    match response_and_areas(command, bytes) {
+        Ok((response, areas)) => {
+            push_response_rest(alloc, text, how, &areas, &response)?;
+            Ok(Status::Done)
+        }
+        Err(refusal) => push_refused(text, how.json, &refusal),
     }
 }
 
@@ -93,14 +194,63 @@ fn push_sentence(text: &mut String, json: bool, sentence: &str) -> Pushed
     }
 }
 
-// That a frame is told by this sentence alone.
-fn answer_by_sentence(alloc: Global, json: bool, sentence: &str) -> Result<Answer, AllocError>
-    ensures { IfOk result (λ a. (a.status ≡ Refused)
-        × (string_bytes a.text ≡ sentence_text json sentence.now)) }
+// Adds why a reply is not told.
+fn push_untold(text: &mut String, json: bool, sentence: &str) -> Result<Status, AllocError>
+    ensures { IfOk result (λ status. (status ≡ Refused)
+        × (string_bytes text.new
+        ≡ string_bytes text.old ++ sentence_text json sentence.now)) }
 {
-    let mut text = String::new(alloc);
-    push_sentence(&mut text, json, sentence)?;
-    Ok(Answer::refused(text))
+    push_sentence(text, json, sentence)?;
+    Ok(Status::Refused)
+}
+
+// Adds what is told of a reply to a command with this code, which the profile hasn't.
+fn push_other_reply(
+    alloc: Global,
+    text: &mut String,
+    json: bool,
+    code: u32,
+    bytes: &[u8],
+) -> Result<Status, AllocError>
+    ensures { IfOk result (λ status. (status ≡ Refused)
+        × (string_bytes text.new
+        ≡ string_bytes text.old ++ other_reply json (command_of code) bytes.now)) }
+{
+    let Some(command) = command_of(code) else {
+        return push_untold(text, json, "its command is not known");
+    };
+    push_library_response(alloc, text, json, command, bytes)?;
+    Ok(Status::Refused)
+}
+
+// Adds what stands behind the header.
+fn push_rest(
+    alloc: Global,
+    text: &mut String,
+    how: Telling,
+    direction: Direction,
+    awaited: Awaited,
+    bytes: &[u8],
+) -> Result<Status, AllocError>
+    ensures { IfOk result (λ status. (rest : List ℕ)
+        × TellsRest how.json how.fields direction awaited bytes.now status rest
+        × (string_bytes text.new ≡ string_bytes text.old ++ rest)) }
+{
+    match (direction, awaited) {
+        (Direction::Command, _) => push_command(alloc, text, how, bytes),
+        (Direction::Reply, Awaited::Reply(command)) => {
+            push_reply_to(alloc, text, how, command, bytes)
+        }
+        (Direction::Reply, Awaited::Other(code)) => {
+            push_other_reply(alloc, text, how.json, code, bytes)
+        }
+        (Direction::Reply, Awaited::Unknown) => {
+            push_untold(text, how.json, "its command is not known")
+        }
+        (Direction::Reply, Awaited::Nothing) => {
+            push_untold(text, how.json, "no command is before it")
+        }
+    }
 }
 
 /// What is told of a frame.
@@ -114,18 +264,10 @@ pub(crate) fn answer_to_frame(
     ensures { IfOk result (λ a.
         TellsFrame how.json how.fields direction awaited bytes.now a.status (string_bytes a.text)) }
 {
-    match (direction, awaited) {
-        (Direction::Command, _) => answer_to_a_command(alloc, how, bytes),
-        (Direction::Reply, Awaited::Reply(command)) => {
-            answer_to_reply(alloc, how, command, bytes)
-        }
-        (Direction::Reply, Awaited::Unknown) => {
-            answer_by_sentence(alloc, how.json, "its command is not known")
-        }
-        (Direction::Reply, Awaited::Nothing) => {
-            answer_by_sentence(alloc, how.json, "no command is before it")
-        }
-    }
+    let mut text = String::new(alloc);
+    push_head(&mut text, how, direction, awaited, header_in(bytes))?;
+    let status = push_rest(alloc, &mut text, how, direction, awaited, bytes)?;
+    Ok(Answer { status, text })
 }
 
 // Adds the number of a frame, and which way it went.

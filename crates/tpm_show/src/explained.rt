@@ -136,8 +136,8 @@ const WITH_NUMBER: [Meaning; 33] = meanings![
     0x27 "ECC_POINT" "the point is not on the curve",
 ];
 
-// What a response code says, whatever its number.
-fn code_meaning(code: u32) -> Option<&'static Meaning>
+/// What a response code says, whatever its number.
+pub(crate) fn code_meaning(code: u32) -> Option<&'static Meaning>
     ensures { option_map (λ m. meaning_as m.now) result ≡ meaning_of code }
 {
     if code & FORMAT_ONE == 0 {
@@ -173,8 +173,8 @@ fn number(code: u32) -> u32
     }
 }
 
-// Adds what the code is about, if it has a number.
-fn push_subject(text: &mut String, code: u32) -> Pushed
+/// Adds what the code is about, if it has a number.
+pub(crate) fn push_subject(text: &mut String, code: u32) -> Pushed
     ensures { OnOk result (string_bytes text.new ≡ string_bytes text.old ++ subject_text code) }
 {
     if code & FORMAT_ONE == 0 {

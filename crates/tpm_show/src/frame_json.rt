@@ -2,12 +2,12 @@
 
 ghost use Rattle.std.specs.Prelude.{◌≡◌, ◌++◌, ℕ, List, true, OnOk, string_bytes};
 ghost use Rattle.tpm_show.specs.Fields.{command_fields, reply_fields};
-ghost use Rattle.tpm_show.specs.FrameJson.{code_member, fault_object, fields_member, handles_member, handles_of};
-ghost use Rattle.tpm_show.specs.FrameJson.{head_members, refusal_members, sessions_member, stop_object};
+ghost use Rattle.tpm_show.specs.FrameJson.{fault_object, fields_member, handles_member, handles_of};
+ghost use Rattle.tpm_show.specs.FrameJson.{refusal_members, sessions_member, stop_object};
 
 use crate::fields::{push_command_fields, push_reply_fields};
 use std::alloc::Global;
-use tpm_commands::{CommandBody, CommandCode, ReplyBody};
+use tpm_commands::{CommandBody, ReplyBody};
 use tpm_lines::sessions::{HasSessions, push_sessions};
 use tpm_lines::text::{Pushed, push_handles};
 use tpm_wire::Refusal;
@@ -45,17 +45,7 @@ pub(crate) fn push_stop_object(text: &mut String, number: u64, fault: &str, at: 
     )
 }
 
-// ---- what commands and replies share
-
-/// Adds the name of the command, and the size.
-#[tactic(auto, unfolding(crate::specs::FrameJson::head_members))]
-pub(crate) fn push_head(text: &mut String, command: CommandCode, size: usize) -> Pushed
-    ensures { OnOk result
-        (string_bytes text.new ≡ string_bytes text.old ++ head_members command size) }
-{
-    let name = command.name();
-    write!(text, ",\"command\":\"{name}\",\"size\":{size}")
-}
+// ---- what stands behind the header
 
 /// Adds the handles.
 #[tactic(auto, unfolding(crate::specs::FrameJson::handles_member))]
@@ -131,14 +121,6 @@ pub(crate) fn push_fields_member<B: HasFields>(
 }
 
 // ---- a response
-
-/// Adds the member of a response code.
-#[tactic(auto, using(tpm_lines::proofs::Padded::padded), unfolding(crate::specs::FrameJson::code_member))]
-pub(crate) fn push_code_member(text: &mut String, code: u32) -> Pushed
-    ensures { OnOk result (string_bytes text.new ≡ string_bytes text.old ++ code_member code) }
-{
-    write!(text, ",\"code\":\"{code:03x}\"")
-}
 
 /// Adds the handle of a reply, where it has one.
 pub(crate) fn push_reply_handle(text: &mut String, handle: Option<u32>) -> Pushed

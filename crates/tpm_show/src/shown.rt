@@ -7,7 +7,6 @@ ghost use Rattle.tpm_show.specs.Digits.{buffer_in};
 ghost use Rattle.tpm_show.specs.Show.{Shows, ShowsDecoded, ShowsFields};
 
 use crate::digits::read_buffer;
-use crate::telling::Telling;
 use crate::told::{answer_to_command, answer_to_reply};
 use std::alloc::{AllocError, Global};
 use std::io::Write;
@@ -28,13 +27,9 @@ fn answer(
     let Some(bytes) = read_buffer(alloc, hex.as_bytes())? else {
         return Answer::not_hexadecimal(alloc);
     };
-    let how = Telling {
-        fields,
-        json: false,
-    };
     match reply {
-        Some(command) => answer_to_reply(alloc, how, command, bytes.as_slice()),
-        None => answer_to_command(alloc, how, bytes.as_slice()),
+        Some(command) => answer_to_reply(alloc, fields, command, bytes.as_slice()),
+        None => answer_to_command(alloc, fields, bytes.as_slice()),
     }
 }
 

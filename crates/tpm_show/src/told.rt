@@ -5,13 +5,15 @@ ghost use Rattle.tpm_wire.specs.Path.{Fault, Spells};
 ghost use Rattle.tpm_buffer.specs.Commands.{command};
 ghost use Rattle.tpm_buffer.specs.CommandAreas.{HasCut};
 ghost use Rattle.tpm_buffer.specs.Responses.{reply_cut, response};
-ghost use Rattle.tpm_lines.specs.declared.status.Status.TheVariants.{Done, Refused};
-ghost use Rattle.tpm_show.specs.Show.{code_told, command_told, refusal_told, response_told, ShowsCommand, ShowsReply};
+ghost use Rattle.tpm_lines.specs.declared.status.Status.TheVariants.{Refused};
+ghost use Rattle.tpm_show.specs.Show.{areas_told, reply_areas_told, named_parameters, parameters_told};
+ghost use Rattle.tpm_show.specs.Show.{command_rest, command_lines, reply_rest, response_rest, response_lines};
+ghost use Rattle.tpm_show.specs.Show.{refusal_told, ShowsCommand, ShowsReply};
 
 use crate::fields::push_command_fields;
 use crate::frame_json::{
-    push_code_member, push_fields_member, push_handles_member, push_head, push_refusal_members,
-    push_reply_handle, push_sessions_member,
+    push_fields_member, push_handles_member, push_refusal_members, push_reply_handle,
+    push_sessions_member,
 };
 use crate::reply_text::{push_code_line, push_first_handle, push_name, push_named_fields};
 use crate::telling::Telling;
@@ -20,28 +22,29 @@ use tpm_buffer::{
     Areas, ReplyAreas, areas, areas_of_a_response, decode_command, decode_response,
     fault_before_params, reply_areas,
 };
-use tpm_commands::{Command, CommandBody, CommandCode, Response};
+use tpm_commands::{Command, CommandBody, CommandCode, ReplyBody, Response};
 use tpm_lines::answer::Answer;
 use tpm_lines::hexadecimal::push_hex_member;
-use tpm_lines::sessions::push_sessions;
-use tpm_lines::text::{Pushed, push_command, push_parameters};
+use tpm_lines::sessions::{HasSessions, push_sessions};
+use tpm_lines::status::Status;
+use tpm_lines::text::{Pushed, push_command, push_handles, push_parameters, push_refusal};
 use tpm_wire::Refusal;
 
-/// The line of a refusal, or its members.
-pub(crate) fn answer_to_refusal(
-    alloc: Global,
+/// Adds the line of a refusal, or its members.
+pub(crate) fn push_refused(
+    text: &mut String,
     json: bool,
     refusal: &Refusal,
-) -> Result<Answer, AllocError>
-    ensures { IfOk result (λ a. (a.status ≡ Refused)
-        × (string_bytes a.text ≡ refusal_told json refusal.now)) }
+) -> Result<Status, AllocError>
+    ensures { IfOk result (λ status. (status ≡ Refused)
+        × (string_bytes text.new ≡ string_bytes text.old ++ refusal_told json refusal.now)) }
 {
-    if !json {
-        return Answer::refusal(alloc, refusal);
+    if json {
+        push_refusal_members(text, refusal)?;
+    } else {
+        push_refusal(text, refusal)?;
     }
-    let mut text = String::new(alloc);
-    push_refusal_members(&mut text, refusal)?;
-    Ok(Answer::refused(text))
+    Ok(Status::Refused)
 }
 
 // ---- a command
@@ -57,77 +60,144 @@ pub(crate) fn command_and_areas(bytes: &[u8]) -> Result<(Command<'_>, Areas<'_>)
     Ok((command, areas))
 }
 
-#[tactic(auto, unfolding(crate::specs::Show::command_lines, crate::specs::FrameJson::command_members))]
-fn push_command_told(
+/// Adds what stands behind a command's header: its handles, its sessions, and its parameters as they came.
+#[tactic(auto, unfolding(crate::specs::Show::areas_told))]
+pub(crate) fn push_areas<A: HasSessions>(
     alloc: Global,
     text: &mut String,
-    how: Telling,
-    size: usize,
-    areas: &Areas<'_>,
+    json: bool,
+    handles: &[u32],
+    sessions: &A,
+    params: &[u8],
+) -> Pushed
+    ensures { OnOk result (string_bytes text.new ≡ string_bytes text.old
+        ++ areas_told json handles.now (A.sessions sessions.now) params.now) }
+{
+    if json {
+        push_handles_member(text, handles)?;
+        push_sessions_member(alloc, text, sessions)?;
+        return push_hex_member(alloc, text, "parameters", params);
+    }
+    push_handles(text, false, handles)?;
+    push_sessions(alloc, text, false, sessions)?;
+    push_parameters(alloc, text, params)
+}
+
+/// Adds what stands behind a response's header: its handles, its parameters as they came, and its sessions.
+#[tactic(auto, unfolding(crate::specs::Show::reply_areas_told))]
+pub(crate) fn push_reply_areas<A: HasSessions>(
+    alloc: Global,
+    text: &mut String,
+    json: bool,
+    handles: &[u32],
+    params: &[u8],
+    sessions: &A,
+) -> Pushed
+    ensures { OnOk result (string_bytes text.new ≡ string_bytes text.old
+        ++ reply_areas_told json handles.now params.now (A.sessions sessions.now)) }
+{
+    if json {
+        push_handles_member(text, handles)?;
+        push_hex_member(alloc, text, "parameters", params)?;
+        return push_sessions_member(alloc, text, sessions);
+    }
+    push_handles(text, false, handles)?;
+    push_parameters(alloc, text, params)?;
+    push_sessions(alloc, text, false, sessions)
+}
+
+fn push_named_parameters(
+    alloc: Global,
+    text: &mut String,
+    fields: bool,
     body: &CommandBody<'_>,
 ) -> Pushed
-    ensures { OnOk result (string_bytes text.new
-        ≡ string_bytes text.old ++ command_told how.json how.fields size areas.now body.now) }
+    ensures { OnOk result
+        (string_bytes text.new ≡ string_bytes text.old ++ named_parameters fields body.now) }
 {
-    if how.json {
-        push_head(text, areas.code(), size)?;
-        push_handles_member(text, areas.handles())?;
-        push_sessions_member(alloc, text, areas)?;
-        push_hex_member(alloc, text, "parameters", areas.params())?;
-        return push_fields_member(alloc, text, how.fields, body);
-    }
-    push_command(alloc, text, size, areas)?;
-    if !how.fields {
+    if !fields {
         return Ok(());
     }
     push_command_fields(alloc, text, false, body)
 }
 
-/// What is told of a command of so many bytes.
-pub(crate) fn answer_of_command(
+fn push_parameters_told(
     alloc: Global,
+    text: &mut String,
     how: Telling,
+    body: &CommandBody<'_>,
+) -> Pushed
+    ensures { OnOk result (string_bytes text.new
+        ≡ string_bytes text.old ++ parameters_told how.json how.fields body.now) }
+{
+    if how.json {
+        push_fields_member(alloc, text, how.fields, body)
+    } else {
+        push_named_parameters(alloc, text, how.fields, body)
+    }
+}
+
+/// Adds what stands behind the header of a command.
+#[tactic(auto, unfolding(crate::specs::Show::command_rest))]
+pub(crate) fn push_command_rest(
+    alloc: Global,
+    text: &mut String,
+    how: Telling,
+    areas: &Areas<'_>,
+    body: &CommandBody<'_>,
+) -> Pushed
+    ensures { OnOk result (string_bytes text.new
+        ≡ string_bytes text.old ++ command_rest how.json how.fields areas.now body.now) }
+{
+    push_areas(
+        alloc,
+        text,
+        how.json,
+        areas.handles(),
+        areas,
+        areas.params(),
+    )?;
+    push_parameters_told(alloc, text, how, body)
+}
+
+#[tactic(auto, unfolding(crate::specs::Show::command_lines))]
+fn push_command_lines(
+    alloc: Global,
+    text: &mut String,
+    fields: bool,
     size: usize,
     areas: &Areas<'_>,
     body: &CommandBody<'_>,
-) -> Result<Answer, AllocError>
-    ensures { IfOk result (λ a. (a.status ≡ Done)
-        × (string_bytes a.text ≡ command_told how.json how.fields size areas.now body.now)) }
+) -> Pushed
+    ensures { OnOk result (string_bytes text.new
+        ≡ string_bytes text.old ++ command_lines fields size areas.now body.now) }
 {
-    let mut text = String::new(alloc);
-    push_command_told(alloc, &mut text, how, size, areas, body)?;
-    Ok(Answer::done(text))
+    push_command(alloc, text, size, areas)?;
+    push_named_parameters(alloc, text, fields, body)
 }
 
-/// What is told of bytes that are taken for a command.
+/// The lines of bytes that are taken for a command.
 pub(crate) fn answer_to_command(
     alloc: Global,
-    how: Telling,
+    fields: bool,
     bytes: &[u8],
 ) -> Result<Answer, AllocError>
-    ensures { IfOk result
-        (λ a. ShowsCommand how.json how.fields bytes.now a.status (string_bytes a.text)) }
+    ensures { IfOk result (λ a. ShowsCommand fields bytes.now a.status (string_bytes a.text)) }
 {
     match command_and_areas(bytes) {
-        Ok((command, areas)) => answer_of_command(alloc, how, bytes.len(), &areas, &command.body),
-        Err(refusal) => answer_to_refusal(alloc, how.json, &refusal),
+        Ok((command, areas)) => {
+            let mut text = String::new(alloc);
+            push_command_lines(alloc, &mut text, fields, bytes.len(), &areas, &command.body)?;
+            Ok(Answer::done(text))
+        }
+        Err(refusal) => Answer::refusal(alloc, &refusal),
     }
 }
 
 // ---- a response
 
-fn push_code(text: &mut String, json: bool, code: u32) -> Pushed
-    ensures { OnOk result (string_bytes text.new ≡ string_bytes text.old ++ code_told json code) }
-{
-    if json {
-        push_code_member(text, code)
-    } else {
-        push_code_line(text, code)
-    }
-}
-
-// The response to this command that the bytes spell, and its areas.
-fn response_and_areas(
+/// The response to this command that the bytes spell, and its areas.
+pub(crate) fn response_and_areas(
     command: CommandCode,
     bytes: &[u8],
 ) -> Result<(Response, ReplyAreas<'_>), Refusal>
@@ -141,55 +211,89 @@ fn response_and_areas(
     Ok((response, areas))
 }
 
-#[tactic(auto, unfolding(crate::specs::Show::reply_lines, crate::specs::FrameJson::reply_members))]
-fn push_response_told(
+#[tactic(auto, unfolding(crate::specs::Show::reply_rest))]
+fn push_reply_rest(
     alloc: Global,
     text: &mut String,
     how: Telling,
+    areas: &ReplyAreas<'_>,
+    body: &ReplyBody,
+) -> Pushed
+    ensures { OnOk result (string_bytes text.new
+        ≡ string_bytes text.old ++ reply_rest how.json how.fields areas.now body.now) }
+{
+    if how.json {
+        push_reply_handle(text, areas.handle())?;
+        push_hex_member(alloc, text, "parameters", areas.params())?;
+        push_fields_member(alloc, text, how.fields, body)?;
+        return push_sessions_member(alloc, text, areas);
+    }
+    push_first_handle(text, areas.handle())?;
+    push_parameters(alloc, text, areas.params())?;
+    push_named_fields(alloc, text, how.fields, body)?;
+    push_sessions(alloc, text, false, areas)
+}
+
+/// Adds what stands behind the header of a response.
+pub(crate) fn push_response_rest(
+    alloc: Global,
+    text: &mut String,
+    how: Telling,
+    areas: &ReplyAreas<'_>,
+    response: &Response,
+) -> Pushed
+    ensures { OnOk result (string_bytes text.new
+        ≡ string_bytes text.old ++ response_rest how.json how.fields areas.now response.now) }
+{
+    match response {
+        Response::Code(_) => Ok(()),
+        Response::Done { body, .. } => push_reply_rest(alloc, text, how, areas, body),
+    }
+}
+
+#[tactic(auto, unfolding(crate::specs::Show::response_lines))]
+fn push_response_lines(
+    alloc: Global,
+    text: &mut String,
+    fields: bool,
     command: CommandCode,
     size: usize,
     areas: &ReplyAreas<'_>,
     response: &Response,
 ) -> Pushed
     ensures { OnOk result (string_bytes text.new ≡ string_bytes text.old
-        ++ response_told how.json how.fields command size areas.now response.now) }
+        ++ response_lines fields command size areas.now response.now) }
 {
     match response {
-        Response::Code(code) => push_code(text, how.json, code.number()),
-        Response::Done { body, .. } if how.json => {
-            push_head(text, command, size)?;
-            push_reply_handle(text, areas.handle())?;
-            push_hex_member(alloc, text, "parameters", areas.params())?;
-            push_fields_member(alloc, text, how.fields, body)?;
-            push_sessions_member(alloc, text, areas)
-        }
+        Response::Code(code) => push_code_line(text, code.number()),
         Response::Done { body, .. } => {
             push_name(text, command, size)?;
-            push_first_handle(text, areas.handle())?;
-            push_parameters(alloc, text, areas.params())?;
-            push_named_fields(alloc, text, how.fields, body)?;
-            push_sessions(alloc, text, false, areas)
+            let how = Telling {
+                fields,
+                json: false,
+            };
+            push_reply_rest(alloc, text, how, areas, body)
         }
     }
 }
 
-/// What is told of bytes that are taken for a response to this command.
+/// The lines of bytes that are taken for a response to this command.
 pub(crate) fn answer_to_reply(
     alloc: Global,
-    how: Telling,
+    fields: bool,
     command: CommandCode,
     bytes: &[u8],
 ) -> Result<Answer, AllocError>
     ensures { IfOk result
-        (λ a. ShowsReply how.json how.fields command bytes.now a.status (string_bytes a.text)) }
+        (λ a. ShowsReply fields command bytes.now a.status (string_bytes a.text)) }
 {
     match response_and_areas(command, bytes) {
         Ok((response, areas)) => {
             let mut text = String::new(alloc);
-            push_response_told(
+            push_response_lines(
                 alloc,
                 &mut text,
-                how,
+                fields,
                 command,
                 bytes.len(),
                 &areas,
@@ -197,6 +301,6 @@ pub(crate) fn answer_to_reply(
             )?;
             Ok(Answer::done(text))
         }
-        Err(refusal) => answer_to_refusal(alloc, how.json, &refusal),
+        Err(refusal) => Answer::refusal(alloc, &refusal),
     }
 }

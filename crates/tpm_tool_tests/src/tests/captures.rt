@@ -13,7 +13,7 @@ const CAPTURE: &str =
     "# boot\n> 8001 0000000C 00000144 0000\r\n<\t0x80010000000a00000000\n\nno\n< 80010000000a00000000";
 
 const TEXT: &str =
-    "1 > command Startup size 12\nparameters 0000\n2 < reply Startup size 10\nparameters -\n3 not hexadecimal\n4 < its command is not known\n";
+    "1 > command Startup size 12 tag 8001\nparameters 0000\n2 < reply Startup size 10 tag 8001 code 000 TPM_RC_SUCCESS\nparameters -\n3 not hexadecimal\n4 < reply size 10 tag 8001 code 000 TPM_RC_SUCCESS\nits command is not known\n";
 
 // Behind how many bytes of the capture each line of the text is told.
 const TOLD: [usize; 5] = [38, 38, 63, 63, 67];
@@ -25,7 +25,7 @@ const STREAM: [u8; 28] = [
 ];
 
 const STREAM_TEXT: &str =
-    "1 > command Startup size 12\nparameters 0000\n2 < reply Startup size 10\nparameters -\n3 bad size at 22\n";
+    "1 > command Startup size 12 tag 8001\nparameters 0000\n2 < reply Startup size 10 tag 8001 code 000 TPM_RC_SUCCESS\nparameters -\n3 bad size at 22\n";
 
 const STREAM_TOLD: [usize; 4] = [12, 12, 22, 22];
 
@@ -63,7 +63,7 @@ fn a_capture_is_the_same_in_any_pieces(rt: HostRuntime) {
 #[test]
 fn a_line_may_have_so_many_bytes(rt: HostRuntime) -> Result<(), Fail> {
     let behind = "\n> 80010000000c000001440000";
-    let startup = "> command Startup size 12\nparameters 0000\n";
+    let startup = "> command Startup size 12 tag 8001\nparameters 0000\n";
     let first = format!(in rt.alloc(); "1 {startup}")?;
     let blanks = Pieces::behind(b' ', 100_000, behind.as_bytes(), 4096);
     check(&rt, blanks, Status::Done, first.as_str());

@@ -1,8 +1,7 @@
 use Rattle.std.proofs.Common.{◌≡◌, ◌++◌, ◌∙◌, ℕ, List, Option, ap, subst, sym, string_bytes}
 use Rattle.std.proofs.lemmas.List.{append-nil}
 use Rattle.std.specs.Prelude.{OnOk}
-use Rattle.tpm_lines.specs.Named.{Named}
-use Rattle.tpm_show.specs.CommandNames.{absent_of}
+use Rattle.tpm_show.specs.CommandNames.{absent_of, Listed}
 use Rattle.tpm_show.proofs.command_names.push_absent.Goals as goal
 
 pub returns-in-Some : goal.returns-in-Some
@@ -12,4 +11,4 @@ returns-in-Some c =
 
 pub returns-in-None : goal.returns-in-None
 returns-in-None c = sym (append-nil (string_bytes c.args.text.now))
-    ∙ ap (λ (o : Option Named). string_bytes c.args.text.now ++ absent_of c.args.json o) c.in-None.ensures
+    ∙ ap (λ (o : Option Listed). string_bytes c.args.text.now ++ absent_of c.args.json o) c.in-None.ensures

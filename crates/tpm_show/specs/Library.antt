@@ -1,0 +1,111 @@
+-- What stands behind the header of a frame, by how many handles a command of the library or its response has (Part 1,
+-- "Command/Response Structure"; Part 3, the tables of each). Its parameters are not judged.
+use Rattle.std.specs.Prelude.{ℕ, ◌*◌, ◌+◌, Bool, true, List, [], length, drop, map, Option, Some, None, ◌==◌, ◌&&◌}
+use Rattle.std.specs.Prelude.{false, Result, Ok, Err, nat_le, if◌then◌else◌}
+use Rattle.tpm_wire.specs.declared.refusal.Refusal.{Refusal}
+use Rattle.tpm_wire.specs.Buffers.{Layout, any_number, numbered}
+use Rattle.tpm_wire.specs.Layout.Form.{done, field, area, list}
+use Rattle.tpm_wire.specs.Layout.{raw, remaining, either}
+use Rattle.tpm_wire.specs.Reading.{read_all}
+use Rattle.tpm_wire.specs.ResponseCodes.{rc_authsize}
+use Rattle.tpm_wire.specs.Spelling.{spelling}
+use Rattle.tpm_types.specs.declared.tpms.Auth.{Auth}
+use Rattle.tpm_types.specs.declared.tpms.AuthReply.{AuthReply}
+use Rattle.tpm_types.specs.Tpms.{auth_command, auth_response}
+use Rattle.tpm_buffer.specs.Commands.{is_tag, authorization_size}
+use Rattle.tpm_buffer.specs.Responses.{parameter_size}
+use Rattle.tpm_lines.specs.Text.{of_command, of_reply}
+use Rattle.tpm_show.specs.declared.frame_header.FrameHeader.{FrameHeader}
+use Rattle.tpm_show.specs.CommandNames.{Listed, command_of}
+use Rattle.tpm_show.specs.Show.{areas_told, reply_areas_told}
+
+-- ---- what commands and responses share
+
+-- so many handles, whatever they are
+unfoldable pub any_handles : ℕ → Layout (List ℕ)
+any_handles n = list n false (λ _. any_number 4)
+
+-- what stands behind a header that has the size of the frame, and a tag of a command or a response
+unfoldable pub behind_whole : List ℕ → FrameHeader → Option (List ℕ)
+behind_whole bytes h =
+    if (h.size == length bytes && is_tag h.tag) && nat_le 10 (length bytes) then Some (drop 10 bytes) else None
+
+-- ---- a command
+
+-- the area of sessions where the tag is TPM_ST_SESSIONS: at most three, to its end
+unfoldable pub command_sessions : Layout (List Auth)
+command_sessions = list 3 true (λ before. numbered (0x900 + 0x100 * length before) auth_command)
+
+unfoldable pub sessions_area : (tag : ℕ) → Layout (List Auth)
+sessions_area tag = either (tag == 0x8002)
+    (field (λ auths. length (spelling command_sessions auths)) authorization_size
+    (λ n. area n rc_authsize command_sessions))
+    (done [])
+
+pub record CommandAreas : Type 0 where
+  pub handles : List ℕ
+  pub auths : List Auth
+  pub params : List ℕ
+
+unfoldable pub command_areas : (handles tag : ℕ) → Layout CommandAreas
+command_areas handles tag =
+    field (λ a. a.handles) (any_handles handles) (λ hs.
+    field (λ a. a.auths) (sessions_area tag) (λ auths.
+    field (λ a. a.params) remaining (λ params.
+    done (record { handles = hs; auths = auths; params = params }))))
+
+-- ---- a response of code 0
+
+unfoldable pub response_sessions : Layout (List AuthReply)
+response_sessions = list 3 true (λ before. numbered (0x900 + 0x100 * length before) auth_response)
+
+pub record ResponseAreas : Type 0 where
+  pub handles : List ℕ
+  pub params : List ℕ
+  pub auths : List AuthReply
+
+unfoldable pub with_sessions : List ℕ → Layout ResponseAreas
+with_sessions handles =
+    field (λ a. length a.params) parameter_size (λ size.
+    field (λ a. a.params) (raw size) (λ params.
+    field (λ a. a.auths) response_sessions (λ auths.
+    done (record { handles = handles; params = params; auths = auths }))))
+
+unfoldable pub without_sessions : List ℕ → Layout ResponseAreas
+without_sessions handles =
+    field (λ a. a.params) remaining (λ params. done (record { handles = handles; params = params; auths = [] }))
+
+abbrev pub behind_handles : List ℕ → (tag : ℕ) → Layout ResponseAreas
+behind_handles handles tag = either (tag == 0x8002) (with_sessions handles) (without_sessions handles)
+
+unfoldable pub response_areas : (handles tag : ℕ) → Layout ResponseAreas
+response_areas handles tag = field (λ a. a.handles) (any_handles handles) (λ hs. behind_handles hs tag)
+
+-- ---- what is told of them
+
+abbrev pub command_areas_read : (json : Bool) → Result CommandAreas Refusal → List ℕ
+command_areas_read json (Ok a) = areas_told json a.handles (map of_command a.auths) a.params
+command_areas_read json (Err e) = []
+
+abbrev pub command_areas_of : (json : Bool) → Option Listed → (tag : ℕ) → Option (List ℕ) → List ℕ
+command_areas_of json (Some c) tag (Some rest) = command_areas_read json (read_all (command_areas c.handles tag) rest)
+command_areas_of json _ tag _ = []
+
+-- of a command of the library, where its handles and its sessions are there
+abbrev pub library_command : (json : Bool) → List ℕ → Option FrameHeader → List ℕ
+library_command json bytes None = []
+library_command json bytes (Some h) = command_areas_of json (command_of h.code) h.tag (behind_whole bytes h)
+
+abbrev pub response_areas_read : (json : Bool) → Result ResponseAreas Refusal → List ℕ
+response_areas_read json (Ok a) = reply_areas_told json a.handles a.params (map of_reply a.auths)
+response_areas_read json (Err e) = []
+
+abbrev pub response_areas_of : (json : Bool) → Listed → (tag : ℕ) → Option (List ℕ) → List ℕ
+response_areas_of json c tag None = []
+response_areas_of json c tag (Some rest) = response_areas_read json (read_all (response_areas c.reply_handles tag) rest)
+
+-- of a response of code 0 that is to this command of the library, where they are there
+abbrev pub library_response : (json : Bool) → Listed → List ℕ → Option FrameHeader → List ℕ
+library_response json c bytes None = []
+library_response json c bytes (Some h) =
+    if h.code == 0 then response_areas_of json c h.tag (behind_whole bytes h) else []
