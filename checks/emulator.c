@@ -22,7 +22,7 @@
  *         asks whether anybody listens there
  *     client ask PORT
  *         sends the lines of standard input, in hexadecimal digits, each as one write, and prints what is answered
- *         to each, a line each; an answer that does not come is a `-`
+ *         to each, a line each; an answer that does not come is a `-`, and `closed` stands where the connection is
  *     client channel PATH
  *         the same over QEMU's channel at this Unix socket. Before a line `N+` hands N descriptors over with it, and
  *         `@` sends it over the one that was handed over alone
@@ -784,10 +784,10 @@ static void hold_many(uint16_t port, uint32_t count) {
 static void print_answer(int descriptor) {
     uint8_t bytes[REPLY_BYTES];
     struct pollfd polled = {.fd = descriptor, .events = POLLIN};
-    ssize_t count = poll(&polled, 1, 2000) > 0 ? recv(descriptor, bytes, sizeof bytes, 0) : 0;
+    ssize_t count = poll(&polled, 1, 2000) > 0 ? recv(descriptor, bytes, sizeof bytes, 0) : -1;
     for (ssize_t i = 0; i < count; i++)
         printf("%02x", bytes[i]);
-    puts(count > 0 ? "" : "-");
+    puts(count > 0 ? "" : count == 0 ? "closed" : "-");
     fflush(stdout);
 }
 

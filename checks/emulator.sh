@@ -694,9 +694,11 @@ simulated() {
     } >"$room/answers"
     end
     answer=0000000c80010000000c00000000000000000000
-    printf '%s\n' 000000010000000000000000 - $answer - - - 00000000 00000000 00000000 00000000 00000000 00000000 \
-        00000000 00000000 0000000000000000 80010000000a00000101 00000000 - $answer 00000000 - $answer |
-        diff - "$room/answers"
+    {
+        printf '%s\n' 000000010000000000000000 - $answer closed closed closed
+        printf '00000000\n00000000\n00000000\n00000000\n00000000\n00000000\n00000000\n00000000\n'
+        printf '%s\n' 0000000000000000 80010000000a00000101 00000000 closed $answer 00000000 closed $answer
+    } | diff - "$room/answers"
 }
 
 # held: as many connections as there may be are answered; one more closes the one that was quiet longest.
@@ -718,7 +720,10 @@ not_touched() {
     printf '%s\n' $read $define $registers_0 $session $save 80010000000a00000181 "$other" | xxd -r -p |
         $still >"$room/out" || return 1
     [ "$(stat -c %i "$room/state.still")" = "$before" ] || { echo "it is written" && return 1; }
+    # What a process has left that was killed as it wrote is in no state.
+    (umask 077 && head -c 2000 /dev/zero >"$room/state.still.new") || return 1
     printf '%s\n' $increment | xxd -r -p | $still >"$room/out" || return 1
+    printf '%s\n' $read | xxd -r -p | $still | xxd -p | tr -d '\n' | grep -q '00080000000000000002' || return 1
     [ "$(stat -c %i "$room/state.still")" != "$before" ] || { echo "it is not written" && return 1; }
     [ "$(stat -c %a "$room/state.still" "$room/frames" | tr '\n' ' ')" = '600 600 ' ]
 }
