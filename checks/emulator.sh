@@ -416,11 +416,12 @@ controlled_over_tcp() {
 the_device_alone() {
     begin emulator --only-device || return 1
     over swtpm
+    timeout 20 tpm2_startup -c || { end && return 1; }
     for tool in 'getcap pcrs' 'getrandom 8' selftest gettestresult 'shutdown -c' readclock; do
         if timeout 20 tpm2_$tool >"$room/out" 2>&1; then echo "tpm2_$tool" && end && return 1; fi
-        grep -q -i -e 0x143 -e 0x100 "$room/out" || { cat "$room/out" && end && return 1; }
+        grep -q -i -e 0x143 "$room/out" || { cat "$room/out" && end && return 1; }
     done
-    timeout 20 tpm2_startup -c && timeout 20 tpm2_pcrextend "16:sha256=$(letters 32 62)" && end
+    timeout 20 tpm2_pcrextend "16:sha256=$(letters 32 62)" && end
 }
 
 # audits CONTEXT: random bytes under this session, which audits; twice.
