@@ -1,10 +1,10 @@
 //! Frames of a stream.
 
-ghost use Rattle.std.specs.Prelude.{◌≡◌, ◌≤◌, ◌+◌, ◌++◌, ℕ, List, [], true, Some, IsOk, IfErr, length, take};
+ghost use Rattle.std.specs.Prelude.{◌≡◌, ◌≤◌, ◌+◌, ◌++◌, ℕ, List, [], true, Some, None, IsOk, IfErr, length, take};
 ghost use Rattle.std.specs.List.{concat};
 ghost use Rattle.std.specs.Io.KnownBytes.{ReadConsumes};
 ghost use Rattle.std.specs.Io.{ReadsAtMost};
-ghost use Rattle.tpm_wire.specs.Sources.{CountsFailures, IsWhereItFailed};
+ghost use Rattle.tpm_wire.specs.Sources.{CountsEnds, CountsFailures, IsWhereItFailed};
 ghost use Rattle.tpm_stream.specs.Frames.{IsFrame, Frames};
 
 use crate::out::append;
@@ -74,6 +74,7 @@ impl Source for Pieces<'_> {
             (Some self.old.rest.now) (Some self.new.rest.now) result room.new }
         ensures count { CountsFailures 0 0 result }
         ensures stop { IfErr result (λ _. IsWhereItFailed true) }
+        ensures ends { CountsEnds None None (length room.new) result }
         ensures never_fails { IsOk result }
     {
         let n = self.most.max(1).min(self.rest.len()).min(room.len());

@@ -1,0 +1,160 @@
+-- What a check prints, and what keeps it from that.
+use Rattle.std.proofs.Common.{◌≡◌, ◌⊎◌, inl, inr, ℕ, zero, suc, List, Option, Some, None, option_map, Result, Ok, subst, sym, refl}
+use Rattle.std.specs.Borrow.{Bor}
+use Rattle.tpm_types.specs.declared.alg.Alg.{Alg}
+use Rattle.tpm_types.specs.declared.tpms.Selection.{Selection}
+use Rattle.tpm_model.specs.Registers.{Registers}
+use Rattle.tpm_log.specs.declared.fault.LogFault.{LogFault}
+use Rattle.tpm_log.specs.Changes.{AreAfter}
+use Rattle.tpm_log.specs.Replays.{ReadsFrom, ReplaysFrom}
+use Rattle.tpm_lines.specs.declared.fault.ToolFault.TheVariants.{Memory, Read, Write, InputTooLong}
+use Rattle.tpm_lines.specs.declared.fault.ToolFault.{ToolFault}
+use Rattle.tpm_lines.specs.declared.status.Status.{Status}
+use Rattle.tpm_args.specs.declared.task.Task.TheVariants.{Check}
+use Rattle.tpm_check.specs.Check.{ChecksLog, ReadsTooMuchIfList}
+use Rattle.tpm_check.specs.CheckAttest.{ChecksSigned}
+use Rattle.tpm_program.specs.declared.fault.Fault.TheVariants.{File, Tool}
+use Rattle.tpm_program.specs.declared.fault.Fault.{Fault}
+use Rattle.tpm_program.specs.Offered.{Offered, OfFileIf}
+use Rattle.tpm_program.specs.Performs.{PrintsCompared, Quoted, is_coming}
+use Rattle.tpm_program.specs.Fails.{Beside, Fails, FailsAt, FailsAtIf, FailsBeside, IsNotOpened, IsNotOpenedIf, IsOfReading, IsOpened, read_last}
+use Rattle.tpm_program.proofs.ByBytes.{log_by_bytes, signed_by_bytes}
+
+-- ---- what is printed
+
+replayed : (coming : Option (List ℕ)) (old new : ℕ) (found : Result Registers LogFault) → old ≡ 0 → new ≡ old
+    → ReplaysFrom AreAfter coming old new found → ReplaysFrom AreAfter coming 0 0 found
+replayed coming old new found f g h =
+    subst (λ (n : ℕ). ReplaysFrom AreAfter coming n n found) f (subst (λ (n : ℕ). ReplaysFrom AreAfter coming old n found) g h)
+
+pub plain : {F : Type 0} (coming : F → Option (List ℕ)) (log log-2 : Option (List ℕ)) (old new : ℕ) (before after : Option F)
+    (quote : Option (List ℕ)) (hash : Alg) (status : Status) (text : List ℕ) (found : Result Registers LogFault)
+    → old ≡ 0 → new ≡ old
+    → ReplaysFrom AreAfter log old new found → ReadsFrom AreAfter log log-2 found
+    → ChecksLog found hash coming before after quote status text
+    → PrintsCompared (record { log = log; list = option_map coming before; signed = None; quote = quote; hash = hash }) status text
+plain coming log log-2 old new before after quote hash status text found f g replays reads checks = (
+  found,
+  log-2,
+  option_map coming after,
+  replayed log old new found f g replays,
+  reads,
+  log_by_bytes found hash coming before after quote status text checks,
+)
+
+pub attested : {F : Type 0} (coming : F → Option (List ℕ)) (log log-2 : Option (List ℕ)) (old new : ℕ) (before after : Option F)
+    (q : Quoted) (quote : Option (List ℕ)) (hash : Alg) (status : Status) (text : List ℕ) (found : Result Registers LogFault)
+    → old ≡ 0 → new ≡ old
+    → ReplaysFrom AreAfter log old new found → ReadsFrom AreAfter log log-2 found
+    → ChecksSigned found hash q.sent q.required q.bytes coming before after quote status text
+    → PrintsCompared (record { log = log; list = option_map coming before; signed = Some q; quote = quote; hash = hash }) status text
+attested coming log log-2 old new before after q quote hash status text found f g replays reads checks = (
+  found,
+  log-2,
+  option_map coming after,
+  replayed log old new found f g replays,
+  reads,
+  signed_by_bytes found hash q.sent q.required q.bytes coming before after quote status text checks,
+)
+
+-- ---- what keeps it from that
+
+pub beside : (offered : Offered) (b : Beside) (tool : ToolFault) (fault : Fault)
+    → (tool ≡ InputTooLong → (rest : Option (Option (List ℕ))) × ReadsTooMuchIfList is_coming b.coming rest)
+    → IsOfReading offered (read_last b.failures b.log b.list) tool fault → FailsBeside offered b fault
+beside offered b Read (File at cause) k h = h
+beside offered b Read (Tool tool) k h = absurd h
+beside offered b Memory fault k h = subst (FailsBeside offered b) (sym h) tt
+beside offered b Write fault k h = subst (FailsBeside offered b) (sym h) tt
+beside offered b InputTooLong fault k h = subst (FailsBeside offered b) (sym h) (k refl)
+
+pub log_not_opened : (offered : Offered) (log : Bor (List ℕ)) (registers quote attest sent : Option (Bor (List ℕ)))
+    (required : Option (List Selection)) (hash : Alg) (fault : Fault)
+    → IsNotOpened offered log.now fault → Fails offered (Check log registers quote attest sent required hash) fault
+log_not_opened offered log registers quote attest sent required hash (File at cause) h = inl (h.0, inl h.1)
+log_not_opened offered log registers quote attest sent required hash (Tool tool) h = absurd h
+
+pub list_not_opened : (offered : Offered) (log list : Bor (List ℕ)) (quote attest sent : Option (Bor (List ℕ)))
+    (required : Option (List Selection)) (hash : Alg) (fault : Fault) → IsOpened offered log.now
+    → IsNotOpened offered list.now fault → Fails offered (Check log (Some list) quote attest sent required hash) fault
+list_not_opened offered log list quote attest sent required hash (File at cause) opened h = inr (opened, inl (h.0, inl h.1))
+list_not_opened offered log list quote attest sent required hash (Tool tool) opened h = absurd h
+
+pub fails_alone : (offered : Offered) (log : Bor (List ℕ)) (quote attest sent : Option (Bor (List ℕ)))
+    (required : Option (List Selection)) (hash : Alg) (failures : ℕ) (fault : Fault) → IsOpened offered log.now
+    → FailsBeside offered (record { log = log.now; list = None; failures = failures; coming = None }) fault
+    ⊎ FailsAtIf offered attest fault
+    → Fails offered (Check log None quote attest sent required hash) fault
+fails_alone offered log quote attest sent required hash zero (File at cause) opened (inl h) = inl (h.0, inr (opened, h.1))
+fails_alone offered log quote attest sent required hash (suc n) (File at cause) opened (inl h) = inl (h.0, inr (opened, h.1))
+fails_alone offered log quote None sent required hash failures (File at cause) opened (inr h) = absurd h
+fails_alone offered log quote (Some path) sent required hash failures (File at cause) opened (inr h) = inr (opened, inl h)
+fails_alone offered log quote attest sent required hash failures (Tool Memory) opened h = tt
+fails_alone offered log quote attest sent required hash failures (Tool Write) opened h = tt
+fails_alone offered log quote attest sent required hash failures (Tool Read) opened (inl h) = absurd h
+fails_alone offered log quote None sent required hash failures (Tool Read) opened (inr h) = absurd h
+fails_alone offered log quote (Some path) sent required hash failures (Tool Read) opened (inr h) = absurd h
+fails_alone offered log quote attest sent required hash failures (Tool InputTooLong) opened (inl h) = absurd h.1
+fails_alone offered log quote None sent required hash failures (Tool InputTooLong) opened (inr h) = absurd h
+fails_alone offered log quote (Some path) sent required hash failures (Tool InputTooLong) opened (inr h) = absurd h
+
+pub fails_listed : (offered : Offered) (log list : Bor (List ℕ)) (quote attest sent : Option (Bor (List ℕ)))
+    (required : Option (List Selection)) (hash : Alg) (failures : ℕ) (coming : Option (List ℕ)) (fault : Fault)
+    → IsOpened offered log.now → offered.opens list.now (Ok coming)
+    → FailsBeside offered (record { log = log.now; list = Some list; failures = failures; coming = Some coming }) fault
+    ⊎ FailsAtIf offered attest fault
+    → Fails offered (Check log (Some list) quote attest sent required hash) fault
+fails_listed offered log list quote attest sent required hash zero coming (File at cause) opened opens (inl h) =
+    inr (opened, inl (h.0, inr ((coming, opens), h.1)))
+fails_listed offered log list quote attest sent required hash (suc n) coming (File at cause) opened opens (inl h) =
+    inl (h.0, inr (opened, h.1))
+fails_listed offered log list quote None sent required hash failures coming (File at cause) opened opens (inr h) = absurd h
+fails_listed offered log list quote (Some path) sent required hash failures coming (File at cause) opened opens (inr h) =
+    inr (opened, inr ((coming, opens), inl h))
+fails_listed offered log list quote attest sent required hash failures coming (Tool Memory) opened opens h = tt
+fails_listed offered log list quote attest sent required hash failures coming (Tool Write) opened opens h = tt
+fails_listed offered log list quote attest sent required hash failures coming (Tool Read) opened opens (inl h) = absurd h
+fails_listed offered log list quote None sent required hash failures coming (Tool Read) opened opens (inr h) = absurd h
+fails_listed offered log list quote (Some path) sent required hash failures coming (Tool Read) opened opens (inr h) = absurd h
+fails_listed offered log list quote attest sent required hash failures coming (Tool InputTooLong) opened opens (inl h) =
+    (opened, (coming, opens, h))
+fails_listed offered log list quote None sent required hash failures coming (Tool InputTooLong) opened opens (inr h) = absurd h
+fails_listed offered log list quote (Some path) sent required hash failures coming (Tool InputTooLong) opened opens (inr h) =
+    absurd h
+
+pub at_reading : (offered : Offered) (path : List ℕ) (tool : ToolFault) (fault : Fault) → IsOpened offered path
+    → (tool ≡ InputTooLong → ⊥) → IsOfReading offered path tool fault → FailsAt offered path fault
+at_reading offered path Read (File at cause) opened k h = (h.0, inr (opened, h.1))
+at_reading offered path Read (Tool tool) opened k h = absurd h
+at_reading offered path Memory fault opened k h = subst (FailsAt offered path) (sym h) tt
+at_reading offered path Write fault opened k h = subst (FailsAt offered path) (sym h) tt
+at_reading offered path InputTooLong fault opened k h = absurd (k refl)
+
+-- ---- a list that may be there
+
+pub of_if : (offered : Offered) (path : Option (Bor (List ℕ))) (x : Option (Option (List ℕ)))
+    (Q : Option (Option (List ℕ)) → Type 0) → OfFileIf offered path (λ coming. coming ≡ x) → Q x → OfFileIf offered path Q
+of_if offered None x Q h q = subst Q (sym h) q
+of_if offered (Some path) x Q h q = (h.0, h.1, subst Q (sym h.2) q)
+
+pub if_not_opened : (offered : Offered) (log : Bor (List ℕ)) (registers quote attest sent : Option (Bor (List ℕ)))
+    (required : Option (List Selection)) (hash : Alg) (fault : Fault) → IsOpened offered log.now
+    → IsNotOpenedIf offered registers fault → Fails offered (Check log registers quote attest sent required hash) fault
+if_not_opened offered log None quote attest sent required hash fault opened h = absurd h
+if_not_opened offered log (Some list) quote attest sent required hash fault opened h =
+    list_not_opened offered log list quote attest sent required hash fault opened h
+
+pub fails_if : (offered : Offered) (log : Bor (List ℕ)) (registers quote attest sent : Option (Bor (List ℕ)))
+    (required : Option (List Selection)) (hash : Alg) (failures : ℕ) (x : Option (Option (List ℕ))) (fault : Fault)
+    → IsOpened offered log.now → OfFileIf offered registers (λ coming. coming ≡ x)
+    → FailsBeside offered (record { log = log.now; list = registers; failures = failures; coming = x }) fault
+    ⊎ FailsAtIf offered attest fault
+    → Fails offered (Check log registers quote attest sent required hash) fault
+fails_if offered log None quote attest sent required hash failures x fault opened h f =
+    fails_alone offered log quote attest sent required hash failures fault opened
+    (subst (λ (c : Option (Option (List ℕ))).
+    FailsBeside offered (record { log = log.now; list = None; failures = failures; coming = c }) fault ⊎ FailsAtIf offered attest fault) (sym h) f)
+fails_if offered log (Some list) quote attest sent required hash failures x fault opened h f =
+    fails_listed offered log list quote attest sent required hash failures h.0 fault opened h.1
+    (subst (λ (c : Option (Option (List ℕ))).
+    FailsBeside offered (record { log = log.now; list = Some list; failures = failures; coming = c }) fault ⊎ FailsAtIf offered attest fault) (sym h.2) f)

@@ -1,0 +1,2 @@
+mod ByBytes
+mod Checks

@@ -1,0 +1,77 @@
+-- How the program ends: its status, and what it writes on each stream (this profile).
+use Rattle.std.specs.Prelude.{◌≡◌, ◌⊎◌, ◌++◌, ℕ, Bool, true, List, Option, codes, string_bytes}
+use Rattle.std.specs.Io.KnownBytes.{Appends}
+use Rattle.std.specs.declared.io.ErrorKind.TheVariants.{OutOfMemory}
+use Rattle.std.specs.declared.io.ErrorKind.{ErrorKind}
+use Rattle.clap.specs.declared.error.kind.ErrorKind.TheVariants.{InvalidValue}
+use Rattle.clap.specs.Words.{Text, subcommand_of}
+use Rattle.tpm_lines.specs.declared.status.Status.{Status}
+use Rattle.tpm_lines.specs.declared.fault.ToolFault.TheVariants as faults
+use Rattle.tpm_lines.specs.Status.{status_number}
+use Rattle.tpm_args.specs.declared.stop.Stop.TheVariants.{Help, Usage, Memory}
+use Rattle.tpm_args.specs.declared.stop.Stop.{Stop}
+use Rattle.tpm_args.specs.declared.task.Task.{Task}
+use Rattle.tpm_args.specs.Program.{program_app}
+use Rattle.tpm_args.specs.Stop.{Refuses, StopsFor}
+use Rattle.tpm_args.specs.Task.{Asks}
+use Rattle.tpm_program.specs.declared.ended.Ended.{Ended}
+use Rattle.tpm_program.specs.declared.fault.Fault.TheVariants.{Tool}
+use Rattle.tpm_program.specs.declared.fault.Fault.{Fault}
+use Rattle.tpm_program.specs.FaultText.{fault_text}
+use Rattle.tpm_program.specs.Fails.{Fails}
+use Rattle.tpm_program.specs.Offered.{Offered}
+use Rattle.tpm_program.specs.Performs.{Performs}
+
+-- ---- streams
+
+-- what standard output and standard error hold before a run, and behind it
+pub record Streams : Type 0 where
+  pub out : Option (List ℕ)
+  pub out-behind : Option (List ℕ)
+  pub errors : Option (List ℕ)
+  pub errors-behind : Option (List ℕ)
+
+-- The text is on standard output, and nothing is on standard error.
+abbrev pub Prints : Streams → List ℕ → Type 0
+Prints s text = Appends s.out s.out-behind text × (s.errors-behind ≡ s.errors)
+
+-- The text is on standard error, where that took it.
+abbrev pub Tells : Streams → (told : Bool) → List ℕ → Type 0
+Tells s told text = told ≡ true → Appends s.errors s.errors-behind text
+
+abbrev pub fault_line : Fault → List ℕ
+fault_line fault = fault_text fault ++ codes "\n"
+
+-- ---- words that ask for a task
+
+abbrev pub AskFor : List Text → Task → Type 0
+AskFor words task = Asks (subcommand_of program_app words) task
+
+abbrev pub EndsFor : Offered → Task → Streams → Ended → Type 0
+EndsFor offered task s ended =
+    ((status : Status) × (text : List ℕ) × Performs offered task status text
+    × (ended.status ≡ status_number status) × Prints s text)
+    ⊎ ((fault : Fault) × Fails offered task fault × (ended.status ≡ 3) × Tells s ended.told (fault_line fault))
+
+-- ---- words that ask for none
+
+abbrev pub EndsBy : Stop → Streams → Ended → Type 0
+EndsBy (Help text) s ended = ((ended.status ≡ 0) × Prints s (string_bytes text))
+    ⊎ ((ended.status ≡ 3) × Tells s ended.told (fault_line (Tool faults.Write)))
+EndsBy (Usage text) s ended = (ended.status ≡ 2) × (s.out-behind ≡ s.out) × Tells s ended.told (string_bytes text)
+EndsBy Memory s ended =
+    (ended.status ≡ 3) × (s.out-behind ≡ s.out) × Tells s ended.told (fault_line (Tool faults.Memory))
+
+-- ---- any words
+
+abbrev pub Ends : Offered → List Text → Streams → Ended → Type 0
+Ends offered words s ended =
+    ((task : Task) × AskFor words task × EndsFor offered task s ended)
+    ⊎ ((stop : Stop) × Refuses words stop × EndsBy stop s ended)
+
+-- ---- words that can't be read
+
+-- memory is wanted, or they are not text
+abbrev pub EndsUnread : ErrorKind → Streams → Ended → Type 0
+EndsUnread OutOfMemory s ended = EndsBy Memory s ended
+EndsUnread kind s ended = (stop : Stop) × StopsFor InvalidValue stop × EndsBy stop s ended

@@ -1,0 +1,140 @@
+-- What keeps the program from an answer, by each task (this profile).
+use Rattle.std.specs.Prelude.{◌≡◌, ◌⊎◌, ◌++◌, ℕ, zero, Bool, true, false, List, [], ◌∷◌, Option, Some, None}
+use Rattle.std.specs.Prelude.{Ok, Err}
+use Rattle.std.specs.Borrow.{Bor}
+use Rattle.tpm_lines.specs.declared.fault.ToolFault.TheVariants.{Memory, Read, Write, InputTooLong}
+use Rattle.tpm_lines.specs.declared.fault.ToolFault.{ToolFault}
+use Rattle.tpm_args.specs.declared.task.Task.TheVariants.{ShowCapture, ShowNv, Run}
+use Rattle.tpm_args.specs.declared.task.Task.TheVariants.{Check, SecureBoot, Events}
+use Rattle.tpm_args.specs.declared.task.Task.{Task}
+use Rattle.tpm_check.specs.Check.{ReadsTooMuchIfList}
+use Rattle.tpm_show.specs.Capture.{ReadsTooMuchCapture}
+use Rattle.tpm_script.specs.Script.{ReadsTooMuch}
+use Rattle.tpm_program.specs.declared.cause.Cause.TheVariants.{Directory, Other}
+use Rattle.tpm_program.specs.declared.cause.Cause.{Cause}
+use Rattle.tpm_program.specs.declared.fault.Fault.TheVariants.{File, Tool}
+use Rattle.tpm_program.specs.declared.fault.Fault.{Fault}
+use Rattle.tpm_program.specs.Offered.{Offered, OfFileIf, OfPlace}
+use Rattle.tpm_program.specs.Performs.{is_coming}
+
+-- ---- files
+
+abbrev pub path_if : Option (Bor (List ℕ)) → List (List ℕ)
+path_if None = []
+path_if (Some path) = path.now ∷ []
+
+-- the paths of the files that a task opens, in this order
+abbrev pub files_of : Task → List (List ℕ)
+files_of (ShowCapture file binary fields json) = path_if file
+files_of (ShowNv file) = file.now ∷ []
+files_of (Check log registers quote attest sent required hash) = log.now ∷ (path_if registers ++ path_if attest)
+files_of (SecureBoot log) = log.now ∷ []
+files_of (Events log register places digests json) = log.now ∷ []
+files_of _ = []
+
+-- why no more could be read: a folder has no bytes
+abbrev pub unread_cause : (is_folder : Bool) → Cause
+unread_cause true = Directory
+unread_cause false = Other
+
+-- The file at this path is opened.
+abbrev pub IsOpened : Offered → (path : List ℕ) → Type 0
+IsOpened offered path = (coming : Option (List ℕ)) × offered.opens path (Ok coming)
+
+-- A read of it failed.
+abbrev pub ReadFails : Offered → (path : List ℕ) → Cause → Type 0
+ReadFails offered path cause = (folder : Bool) × offered.is_folder path folder × (cause ≡ unread_cause folder)
+
+-- The file at this path is not opened, or a read of it failed.
+abbrev pub IsUnread : Offered → (path : List ℕ) → Cause → Type 0
+IsUnread offered path cause =
+    offered.opens path (Err cause) ⊎ (IsOpened offered path × ReadFails offered path cause)
+
+-- One of these files is not read, and those before it are opened.
+abbrev pub IsUnreadOf : Offered → List (List ℕ) → (path : List ℕ) → Cause → Type 0
+IsUnreadOf offered [] path cause = ⊥
+IsUnreadOf offered (file ∷ files) path cause =
+    ((path ≡ file) × IsUnread offered file cause) ⊎ (IsOpened offered file × IsUnreadOf offered files path cause)
+
+-- ---- standard input
+
+abbrev pub ReadsInput : Task → Type 0
+ReadsInput (ShowCapture None binary fields json) = Unit {0}
+ReadsInput (Run owner greatest) = Unit {0}
+ReadsInput _ = ⊥
+
+-- ---- more than is taken
+
+abbrev pub IsTooLong : Offered → Task → Type 0
+IsTooLong offered (ShowCapture file binary fields json) =
+    OfPlace offered file (λ capture. (rest : Option (List ℕ)) × ReadsTooMuchCapture capture rest)
+IsTooLong offered (Run owner greatest) =
+    OfPlace offered None (λ input. (rest : Option (List ℕ)) × ReadsTooMuch input rest)
+IsTooLong offered (Check log registers quote attest sent required hash) =
+    IsOpened offered log.now
+    × OfFileIf offered registers (λ list. (rest : Option (Option (List ℕ))) × ReadsTooMuchIfList is_coming list rest)
+IsTooLong offered _ = ⊥
+
+-- ---- each task
+
+abbrev pub Fails : Offered → Task → Fault → Type 0
+Fails offered task (File path cause) = IsUnreadOf offered (files_of task) path.now cause
+Fails offered task (Tool Read) = ReadsInput task
+Fails offered task (Tool InputTooLong) = IsTooLong offered task
+Fails offered task (Tool Memory) = Unit {0}
+Fails offered task (Tool Write) = Unit {0}
+
+-- ---- one file
+
+-- It is not opened.
+abbrev pub IsNotOpened : Offered → (path : List ℕ) → Fault → Type 0
+IsNotOpened offered path (File at cause) = (at.now ≡ path) × offered.opens path (Err cause)
+IsNotOpened offered path (Tool fault) = ⊥
+
+abbrev pub IsNotOpenedIf : Offered → (path : Option (Bor (List ℕ))) → Fault → Type 0
+IsNotOpenedIf offered None fault = ⊥
+IsNotOpenedIf offered (Some path) fault = IsNotOpened offered path.now fault
+
+-- A read of it failed.
+abbrev pub IsNotRead : Offered → (path : List ℕ) → Fault → Type 0
+IsNotRead offered path (File at cause) = (at.now ≡ path) × ReadFails offered path cause
+IsNotRead offered path (Tool fault) = ⊥
+
+-- where a subcommand has no answer for this fault, and a read that failed was one of this file
+abbrev pub IsOfReading : Offered → (path : List ℕ) → ToolFault → Fault → Type 0
+IsOfReading offered path Read fault = IsNotRead offered path fault
+IsOfReading offered path other fault = fault ≡ Tool other
+
+-- It is not opened or not read, or memory is wanted; `Write` is what any subcommand may answer.
+abbrev pub FailsAt : Offered → (path : List ℕ) → Fault → Type 0
+FailsAt offered path (File at cause) = (at.now ≡ path) × IsUnread offered path cause
+FailsAt offered path (Tool Memory) = Unit {0}
+FailsAt offered path (Tool Write) = Unit {0}
+FailsAt offered path (Tool _) = ⊥
+
+abbrev pub FailsAtIf : Offered → (path : Option (Bor (List ℕ))) → Fault → Type 0
+FailsAtIf offered None fault = ⊥
+FailsAtIf offered (Some path) fault = FailsAt offered path.now fault
+
+-- ---- a log and a list that are opened
+
+-- which of them was read last: the list is read behind the log, where no read of that failed
+abbrev pub read_last : (failures : ℕ) → (log : List ℕ) → (list : Option (Bor (List ℕ))) → List ℕ
+read_last zero log (Some list) = list.now
+read_last _ log list = log
+
+-- their paths, how many reads of the log failed, and the bytes of the list
+pub record Beside : Type 0 where
+  pub log : List ℕ
+  pub list : Option (Bor (List ℕ))
+  pub failures : ℕ
+  pub coming : Option (Option (List ℕ))
+
+-- why they are not compared
+abbrev pub FailsBeside : Offered → Beside → Fault → Type 0
+FailsBeside offered b (File at cause) = IsNotRead offered (read_last b.failures b.log b.list) (File at cause)
+FailsBeside offered b (Tool InputTooLong) =
+    (rest : Option (Option (List ℕ))) × ReadsTooMuchIfList is_coming b.coming rest
+FailsBeside offered b (Tool Memory) = Unit {0}
+FailsBeside offered b (Tool Write) = Unit {0}
+FailsBeside offered b (Tool Read) = ⊥

@@ -1,0 +1,33 @@
+-- What is told of a fault on standard error (this profile).
+use Rattle.std.specs.Prelude.{ℕ, List, ◌++◌, codes}
+use Rattle.std.specs.declared.io.ErrorKind.TheVariants.{NotFound, PermissionDenied, IsADirectory}
+use Rattle.std.specs.declared.io.ErrorKind.{ErrorKind}
+use Rattle.tpm_lines.specs.declared.fault.ToolFault.TheVariants.{Memory, Read, Write, InputTooLong}
+use Rattle.tpm_lines.specs.declared.fault.ToolFault.{ToolFault}
+use Rattle.tpm_program.specs.declared.cause.Cause.TheVariants.{Missing, Denied, Directory, Other}
+use Rattle.tpm_program.specs.declared.cause.Cause.{Cause}
+use Rattle.tpm_program.specs.declared.fault.Fault.TheVariants.{File, Tool}
+use Rattle.tpm_program.specs.declared.fault.Fault.{Fault}
+
+-- the cause by the kind of the error
+abbrev pub cause_of : ErrorKind → Cause
+cause_of NotFound = Missing
+cause_of PermissionDenied = Denied
+cause_of IsADirectory = Directory
+cause_of _ = Other
+
+abbrev pub cause_text : Cause → List ℕ
+cause_text Missing = codes "it is not there"
+cause_text Denied = codes "permission is denied"
+cause_text Directory = codes "it is a directory"
+cause_text Other = codes "reading failed"
+
+abbrev pub tool_text : ToolFault → List ℕ
+tool_text Memory = codes "out of memory"
+tool_text Read = codes "reading failed"
+tool_text Write = codes "writing failed"
+tool_text InputTooLong = codes "input too long"
+
+abbrev pub fault_text : Fault → List ℕ
+fault_text (File path cause) = codes "cannot read " ++ (path.now ++ (codes ": " ++ cause_text cause))
+fault_text (Tool fault) = tool_text fault

@@ -1,0 +1,5 @@
+pub mod Offered
+pub mod Performs
+pub mod Fails
+pub mod FaultText
+pub mod Ends

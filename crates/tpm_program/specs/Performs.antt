@@ -1,0 +1,137 @@
+-- What the program does for each task (this profile): the status and what it prints.
+use Rattle.std.specs.Prelude.{◌≡◌, ℕ, Bool, true, false, List, [], Option, Some, None, option_map, Result}
+use Rattle.std.specs.Borrow.{Bor}
+use Rattle.tpm_types.specs.declared.alg.Alg.{Alg}
+use Rattle.tpm_types.specs.declared.tpms.Selection.{Selection}
+use Rattle.tpm_model.specs.Registers.{Registers}
+use Rattle.tpm_model.specs.Steps.{new_origin}
+use Rattle.tpm_log.specs.declared.fault.LogFault.{LogFault}
+use Rattle.tpm_log.specs.Changes.{AreAfter}
+use Rattle.tpm_log.specs.Replays.{ReadsFrom, ReplaysFrom}
+use Rattle.tpm_lines.specs.declared.status.Status.{Status}
+use Rattle.tpm_show.specs.declared.telling.Telling.{Telling}
+use Rattle.tpm_show.specs.Build.{Builds}
+use Rattle.tpm_show.specs.Capture.{ReadsAll, TellsCapture}
+use Rattle.tpm_show.specs.Explain.{explain_status, explanation}
+use Rattle.tpm_show.specs.Show.{Shows, ShowsFields}
+use Rattle.tpm_show.specs.Stream.{TellsRead}
+use Rattle.tpm_show_nv.specs.ShowNv.{ShowsNv}
+use Rattle.tpm_check.specs.Check.{ChecksLog}
+use Rattle.tpm_check.specs.CheckAttest.{ChecksSigned}
+use Rattle.tpm_check.specs.Kinds.{ExplainsKind}
+use Rattle.tpm_check.specs.ListEvents.{ListsEvents, most_read}
+use Rattle.tpm_check.specs.Reads.{ReadsUpTo, most_attest}
+use Rattle.tpm_check.specs.SecureBootLines.{TellsSecureBoot}
+use Rattle.tpm_script.specs.Script.{ReadsScript, script, script_text, status_for}
+use Rattle.tpm_args.specs.declared.task.Task.TheVariants.{Show, ShowCapture, ShowNv, Build, Run, Explain}
+use Rattle.tpm_args.specs.declared.task.Task.TheVariants.{ExplainKind, Check, SecureBoot, Events}
+use Rattle.tpm_args.specs.declared.task.Task.{Task}
+use Rattle.tpm_program.specs.Offered.{Offered, OfFile, OfFileIf, OfPlace}
+
+-- ---- what is read
+
+-- This holds of all bytes that come, or of the first of them, so many.
+abbrev pub OfFirst : (most : ℕ) → (List ℕ → Type 0) → Option (List ℕ) → Type 0
+OfFirst most P coming = (bytes : List ℕ) × (rest : Option (List ℕ)) × ReadsUpTo most coming rest bytes × P bytes
+
+-- one more than any NV memory takes
+abbrev pub most_kept : ℕ
+most_kept = 1027
+
+-- ---- frames
+
+-- those of a stream where the capture is binary, and else those in its lines
+abbrev pub TellsFrames : (binary : Bool) → Telling → Option (List ℕ) → Status → List ℕ → Type 0
+TellsFrames true how coming status text = (rest : Option (List ℕ)) × TellsRead how coming rest status text
+TellsFrames false how coming status text =
+    (bytes : List ℕ) × (rest : Option (List ℕ)) × ReadsAll coming rest bytes × TellsCapture how bytes status text
+
+-- ---- a script
+
+-- on a new device whose owner has this authorization value, and whose counters have had no greater value than this
+abbrev pub RunsScript : (owner : List ℕ) → (greatest : ℕ) → Option (List ℕ) → Status → List ℕ → Type 0
+RunsScript owner greatest coming status text =
+    (bytes : List ℕ) × (rest : Option (List ℕ)) × ReadsScript coming rest bytes
+    × (status ≡ status_for (script bytes).refused)
+    × (text ≡ script_text (new_origin owner greatest) [] (script bytes))
+
+-- ---- a log beside a list of registers and quotes
+
+-- a quote as it was signed: its bytes, the nonce that was sent and the registers that are required
+pub record Quoted : Type 0 where
+  pub bytes : List ℕ
+  pub sent : Option (List ℕ)
+  pub required : Option (List Selection)
+
+-- what is compared: the bytes of a log and of a list, a quote as it was signed, and a quote's information and its hash
+pub record Compared : Type 0 where
+  pub log : Option (List ℕ)
+  pub list : Option (Option (List ℕ))
+  pub signed : Option Quoted
+  pub quote : Option (List ℕ)
+  pub hash : Alg
+
+-- The bytes of a list are those that come.
+abbrev pub is_coming : Option (List ℕ) → Option (List ℕ)
+is_coming coming = coming
+
+-- what is printed for what the log gives, with a quote as it was signed or without
+abbrev pub PrintsFor : Compared → Option Quoted → Result Registers LogFault → (rest : Option (Option (List ℕ)))
+    → Status → List ℕ → Type 0
+PrintsFor c None found rest status text = ChecksLog found c.hash is_coming c.list rest c.quote status text
+PrintsFor c (Some q) found rest status text =
+    ChecksSigned found c.hash q.sent q.required q.bytes is_coming c.list rest c.quote status text
+
+abbrev pub PrintsCompared : Compared → Status → List ℕ → Type 0
+PrintsCompared c status text =
+    (found : Result Registers LogFault) × (log : Option (List ℕ)) × (list : Option (Option (List ℕ)))
+    × ReplaysFrom AreAfter c.log 0 0 found
+    × ReadsFrom AreAfter c.log log found
+    × PrintsFor c c.signed found list status text
+
+-- what is expected of a quote as it was signed
+pub record Expected : Type 0 where
+  pub sent : Option (Bor (List ℕ))
+  pub required : Option (List Selection)
+
+abbrev pub quoted : Expected → List ℕ → Quoted
+quoted e bytes = record { bytes = bytes; sent = option_map (λ s. s.now) e.sent; required = e.required }
+
+-- This holds of a quote as it was signed, where it has a path.
+abbrev pub OfSigned : Offered → (path : Option (Bor (List ℕ))) → Expected → (Option Quoted → Type 0) → Type 0
+OfSigned offered None e P = P None
+OfSigned offered (Some path) e P = OfFile offered path.now (OfFirst most_attest (λ bytes. P (Some (quoted e bytes))))
+
+-- ---- each task
+
+-- For what is read this is the status and what is printed.
+abbrev pub Performs : Offered → Task → Status → List ℕ → Type 0
+Performs offered (Show reply true hex) status text = ShowsFields reply hex.now status text
+Performs offered (Show reply false hex) status text = Shows reply hex.now status text
+Performs offered (ShowCapture file binary fields json) status text =
+    OfPlace offered file (λ capture.
+    TellsFrames binary (record { fields = fields; json = json }) capture status text)
+Performs offered (ShowNv file) status text =
+    OfFile offered file.now (OfFirst most_kept (λ bytes. ShowsNv bytes status text))
+Performs offered (Build name handles sessions parameters) status text =
+    Builds name handles.now sessions.now parameters.now status text
+Performs offered (Run owner greatest) status text =
+    OfPlace offered None (λ input. RunsScript owner greatest input status text)
+Performs offered (Explain code) status text = (status ≡ explain_status code) × (text ≡ explanation code)
+Performs offered (ExplainKind kind) status text = ExplainsKind kind.now status text
+Performs offered (Check log registers quote attest sent required hash) status text =
+    OfFile offered log.now (λ log-bytes.
+    OfFileIf offered registers (λ list.
+    OfSigned offered attest (record { sent = sent; required = required }) (λ signed.
+    PrintsCompared (record {
+      log = log-bytes;
+      list = list;
+      signed = signed;
+      quote = option_map (λ q. q.now) quote;
+      hash = hash;
+    }) status text)))
+Performs offered (SecureBoot log) status text =
+    OfFile offered log.now (OfFirst most_read (λ bytes. TellsSecureBoot bytes status text))
+Performs offered (Events log register places digests json) status text =
+    OfFile offered log.now (OfFirst most_read (λ bytes.
+    ListsEvents (record { register = register; places = places; digests = digests; json = json }) bytes status text))

@@ -1,0 +1,151 @@
+//! A run of the program, from its words to its status.
+
+ghost use Rattle.std.specs.Prelude.{◌≡◌, true, map, string_bytes};
+ghost use Rattle.std.specs.Io.KnownBytes.{Appends};
+ghost use Rattle.tpm_args.specs.declared.stop.Stop.TheVariants.{Help};
+ghost use Rattle.tpm_program.specs.Ends.{Ends, EndsBy, EndsFor, EndsUnread, fault_line};
+
+use crate::ended::Ended;
+use crate::fault::Fault;
+use crate::inputs::Inputs;
+use crate::performed::perform;
+use std::alloc::Global;
+use std::io::{ErrorKind, Write};
+use tpm_args::{Stop, Task, Words, words_not_text};
+use tpm_lines::fault::ToolFault;
+
+/// The status of words at fault.
+const USAGE: u8 = 2;
+
+/// The status of a reading or writing fault, of want of memory and of input too long.
+const FAULT: u8 = 3;
+
+// Tells a fault, and answers whether it was taken.
+fn tells<E: Write>(errors: &mut E, fault: Fault<'_>) -> bool
+    ensures { result ≡ true
+        → Appends (E.contents errors.old) (E.contents errors.new) (fault_line fault.entry) }
+{
+    writeln!(errors, "{fault}").is_ok()
+}
+
+fn failed<E: Write>(errors: &mut E, fault: Fault<'_>) -> Ended
+    ensures status { result.status ≡ 3 }
+    ensures told { result.told ≡ true
+        → Appends (E.contents errors.old) (E.contents errors.new) (fault_line fault.entry) }
+{
+    Ended {
+        status: FAULT,
+        told: tells(errors, fault),
+    }
+}
+
+fn helped<W: Write, E: Write>(out: &mut W, errors: &mut E, text: &String) -> Ended
+    ensures { EndsBy (Help text.now) (record {
+      out = W.contents out.old;
+      out-behind = W.contents out.new;
+      errors = E.contents errors.old;
+      errors-behind = E.contents errors.new;
+    }) result }
+{
+    match out.write_all(text.as_bytes()) {
+        Ok(()) => Ended {
+            status: 0,
+            told: true,
+        },
+        Err(_) => failed(errors, Fault::Tool(ToolFault::Write)),
+    }
+}
+
+// Ends where the words ask for nothing to be done.
+fn stopped<W: Write, E: Write>(out: &mut W, errors: &mut E, stop: &Stop) -> Ended
+    ensures { EndsBy stop.now (record {
+      out = W.contents out.old;
+      out-behind = W.contents out.new;
+      errors = E.contents errors.old;
+      errors-behind = E.contents errors.new;
+    }) result }
+{
+    match stop {
+        Stop::Help(text) => helped(out, errors, text),
+        Stop::Usage(text) => Ended {
+            status: USAGE,
+            told: errors.write_all(text.as_bytes()).is_ok(),
+        },
+        Stop::Memory => failed(errors, Fault::Tool(ToolFault::Memory)),
+    }
+}
+
+// Performs a task, and ends.
+fn performed_for<I: Inputs, W: Write, E: Write>(
+    alloc: Global,
+    inputs: &I,
+    out: &mut W,
+    errors: &mut E,
+    task: Task<'_>,
+) -> Ended
+    ensures { EndsFor (I.offers inputs.now) task.entry (record {
+      out = W.contents out.old;
+      out-behind = W.contents out.new;
+      errors = E.contents errors.old;
+      errors-behind = E.contents errors.new;
+    }) result }
+{
+    match perform(alloc, inputs, out, task) {
+        Ok(status) => Ended {
+            status: status.number(),
+            told: true,
+        },
+        Err(fault) => failed(errors, fault),
+    }
+}
+
+/// Runs the program on its words, of which the first is its name.
+///
+/// What the words ask for (`Words::task`) is performed, as `perform` says: what it prints is written to `out`, and the
+/// status is 0, or 1 where something was refused or differs. What keeps it from its answer is told on `errors`, in a
+/// line, and the status is 3. Where help is asked for the text goes to `out`, and the status is 0; where the words are
+/// at fault it goes to `errors`, and the status is 2.
+pub fn run<I: Inputs, W: Write, E: Write>(
+    alloc: Global,
+    words: Vec<String>,
+    inputs: &I,
+    out: &mut W,
+    errors: &mut E,
+) -> Ended
+    ensures { Ends (I.offers inputs.now) (map string_bytes words.items) (record {
+      out = W.contents out.old;
+      out-behind = W.contents out.new;
+      errors = E.contents errors.old;
+      errors-behind = E.contents errors.new;
+    }) result }
+{
+    let words = match Words::new(alloc, words) {
+        Ok(words) => words,
+        Err(_) => return stopped(out, errors, &Stop::Memory),
+    };
+    match words.task(alloc) {
+        Ok(task) => performed_for(alloc, inputs, out, errors, task),
+        Err(stop) => stopped(out, errors, &stop),
+    }
+}
+
+/// Ends where the words can't be read, by this kind of error: memory is wanted, or they are not text.
+pub fn run_without_words<W: Write, E: Write>(
+    alloc: Global,
+    kind: ErrorKind,
+    out: &mut W,
+    errors: &mut E,
+) -> Ended
+    ensures { EndsUnread kind (record {
+      out = W.contents out.old;
+      out-behind = W.contents out.new;
+      errors = E.contents errors.old;
+      errors-behind = E.contents errors.new;
+    }) result }
+{
+    let stop = match kind {
+        ErrorKind::OutOfMemory => Stop::Memory,
+        _ => words_not_text(alloc),
+    };
+    stopped(out, errors, &stop)
+}
