@@ -65,11 +65,22 @@ ROWS
         awk -F '\t' '$3 != $2 && !($2 == "taken" && $3 ~ /^(command|reply) /) { print $1 ": " $3; wrong = 1 } END { exit wrong }'
 }
 
+# plain TEXT: the digits of a buffer, without the blanks and the 0x that the C program does not take.
+plain() {
+    printf '%s' "$1" | tr -d ' \t\r' | sed 's/^0x//'
+}
+
 # view_line WORD..: what the C program is asked in place of tpmtool with these words; nothing where it has no such line.
 view_line() {
     case "$# $1 $2" in
-    '2 show '*) echo "command ${2:--}" ;;
-    '4 show --reply') echo "reply $3 ${4:--}" ;;
+    '2 show '*)
+        digits=$(plain "$2")
+        echo "command ${digits:--}"
+        ;;
+    '4 show --reply')
+        digits=$(plain "$4")
+        echo "reply $3 ${digits:--}"
+        ;;
     '5 build '*) echo "build $2 ${3:--} ${4:--} ${5:--}" ;;
     esac
 }
