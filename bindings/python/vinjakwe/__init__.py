@@ -594,7 +594,7 @@ class Policy:
 class Counter(NamedTuple):
     """An NV counter that is defined: its hash by its name in HASHES, its attributes as they are now, and its value where it has one."""
 
-    index: int
+    index: int  # type: ignore[assignment]  # the field stands in the place of a tuple's method
     hash: str
     attributes: int
     policy: bytes
