@@ -20,11 +20,11 @@ use Rattle.tpm_commands.specs.declared.response.ReplyBody.TheVariants as replies
 use Rattle.tpm_buffer.specs.Commands.{command, code_for, handles_of}
 use Rattle.tpm_buffer.specs.Responses.{response}
 use Rattle.tpm_model.specs.InStep.{CallerSession}
-use Rattle.tpm_model.specs.Callers.{started_with, Seal, sealed, Opened, opened, given_up}
+use Rattle.tpm_model.specs.Callers.{started_with, Seal, sealed, Waiting, Opened, opened, given_up}
 use Rattle.tpm_model.specs.Callers as model
 use Rattle.tpm_caller.specs.declared.waiting.CallerFault.{CallerFault}
 use Rattle.tpm_caller.specs.Faults.{fault_of}
-use Rattle.tpm_caller.specs.Sent.{Sent, sent}
+use Rattle.tpm_caller.specs.Sent.{sent}
 use Rattle.tpm_caller.specs.declared.waiting.CallerFault.TheVariants as faults
 use Rattle.tpm_c.specs.declared.caller.Held.TheVariants.{Spent, Free, Sealed}
 use Rattle.tpm_c.specs.declared.caller.Held.{Held}
@@ -117,7 +117,7 @@ sealed_bytes (Some s) = sealed s
 sealed_bytes None = []
 
 abbrev pub after_seal : Held → Option Seal → Held
-after_seal held (Some s) = Sealed (sent s)
+after_seal held (Some s) = Sealed (sent s).waiting
 after_seal held None = held
 
 -- ---- opening
@@ -134,7 +134,7 @@ opened_code (Ok x) = 0
 opened_code (Err fault) = fault_number (fault_of fault)
 
 abbrev pub open_code : Held → List ℕ → ℕ
-open_code (Sealed w) bytes = opened_code (opened w.waiting bytes)
+open_code (Sealed w) bytes = opened_code (opened w bytes)
 open_code _ bytes = 5
 
 -- free with the caller, where it is kept
@@ -142,20 +142,20 @@ abbrev pub kept : Option CallerSession → Held
 kept (Some c) = Free c
 kept None = Spent
 
-abbrev pub after_opened : Sent → Result Opened model.CallerFault → Held
+abbrev pub after_opened : Waiting → Result Opened model.CallerFault → Held
 after_opened w (Ok x) = kept x.caller
 after_opened w (Err fault) = Sealed w
 
 abbrev pub after_open : Held → List ℕ → Held
-after_open (Sealed w) bytes = after_opened w (opened w.waiting bytes)
+after_open (Sealed w) bytes = after_opened w (opened w bytes)
 after_open held bytes = held
 
 -- ---- giving up
 
 abbrev pub give_up_code : Held → List ℕ → ℕ
-give_up_code (Sealed w) bytes = start_code (given_up w.waiting bytes)
+give_up_code (Sealed w) bytes = start_code (given_up w bytes)
 give_up_code _ bytes = 0
 
 abbrev pub after_give_up : Held → List ℕ → Held
-after_give_up (Sealed w) bytes = after_start (Sealed w) (given_up w.waiting bytes)
+after_give_up (Sealed w) bytes = after_start (Sealed w) (given_up w bytes)
 after_give_up held bytes = held

@@ -9,6 +9,7 @@ ghost use Rattle.tpm_commands.specs.Codes.{code_number};
 ghost use Rattle.tpm_commands.specs.Handles.{needs_authorization};
 ghost use Rattle.tpm_buffer.specs.Commands.{command as command_layout, code_for, handles_of};
 ghost use Rattle.tpm_buffer.specs.Responses.{response};
+ghost use Rattle.tpm_model.specs.Callers.{sealed as sealed_of};
 ghost use Rattle.tpm_caller.specs.Sent.{sent};
 ghost use Rattle.tpm_c.specs.declared.caller.Held.TheVariants.{Spent};
 ghost use Rattle.tpm_c.specs.declared.caller.Held.{Held as HeldOf};
@@ -21,9 +22,10 @@ ghost use Rattle.tpm_c.specs.Callers.{body_in, are_short, do_fit, seal_of, seali
 use crate::out::{BUFFER_BYTES, put};
 use arrayvec::ArrayVec;
 use tpm_buffer::{decode_command, decode_response};
-use tpm_caller::{Caller, CallerFault, Waiting};
+use tpm_caller::{Caller, CallerFault, Pending};
 use tpm_commands::{Command, CommandBody, CommandCode, ReplyBody, Response, StartAuth, StartReply};
 use tpm_types::{DIGEST_BYTES, NAME_BYTES, Name, Nonce};
+use tpm_wire::Buffer;
 
 /// Nothing is waited for.
 const NOT_WAITING: u32 = 5;
@@ -35,8 +37,8 @@ pub(crate) enum Held {
     Spent,
     /// A session that is free for its next command.
     Free(Caller),
-    /// A sealed command, which waits for its reply.
-    Sealed(Waiting),
+    /// What waits for the reply to a sealed command.
+    Sealed(Pending),
 }
 
 fn nothing() -> Held
@@ -181,6 +183,7 @@ fn names(count: usize, first: &[u8], second: &[u8]) -> ArrayVec<Name, 2>
     names
 }
 
+// The sealed command is in `bytes`, whatever was in it.
 fn sealed(
     caller: Caller,
     body: CommandBody<'_>,
@@ -189,15 +192,18 @@ fn sealed(
     auth: &[u8],
     nonce: &[u8],
     keep: bool,
-) -> Waiting
+    bytes: &mut Buffer,
+) -> Pending
     requires authorized { needs_authorization (code_for body) ≡ true }
     requires fit { do_fit (names_of body first.now second.now) nonce.now ≡ true }
-    ensures sealed { result
-        ≡ sent (seal_of caller body.entry first.now second.now auth.now nonce.now keep) }
-    ensures short { length result.bytes ≤ 4096 }
+    ensures waits { result
+        ≡ (sent
+        (seal_of caller body.entry first.now second.now auth.now nonce.now keep)).waiting }
+    ensures bytes { bytes.new.items
+        ≡ sealed_of (seal_of caller body.entry first.now second.now auth.now nonce.now keep) }
 {
     let names = names(body.code().handles(), first, second);
-    caller.seal(body, names, auth, nonce_of(nonce), keep)
+    caller.seal_into(body, names, auth, nonce_of(nonce), keep, bytes)
 }
 
 fn seal(
@@ -226,10 +232,19 @@ fn seal(
     }
     match std::mem::replace(held, Held::Spent) {
         Held::Free(caller) => {
-            let waiting = sealed(caller, body, first, second, auth, nonce, keep != 0);
-            let count = put(out, waiting.bytes());
+            let mut bytes = Buffer::new();
+            let waiting = sealed(
+                caller,
+                body,
+                first,
+                second,
+                auth,
+                nonce,
+                keep != 0,
+                &mut bytes,
+            );
             *held = Held::Sealed(waiting);
-            count
+            put(out, bytes.as_slice())
         }
         other => {
             *held = other;
