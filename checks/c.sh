@@ -329,9 +329,16 @@ same_policies() {
 }
 
 # same_session: a caller and a device in one process, by C and by crate tpm_examples, which writes these seven lines
-# last.
+# last. Then two sessions at once: the register as Python's hashlib gives it, and a counter that begins one above the
+# greatest value (Part 3, 31.8).
 same_session() {
-    "$room/session" >"$room/out" && tail -n 7 crates/tpm_examples/stdout | cmp - "$room/out"
+    {
+        tail -n 7 crates/tpm_examples/stdout
+        echo session 03000001 is started
+        echo register 16 is 52afce43e9aec885add0b10a096c09c306ae572917bb73dc4753cb9d039845fd
+        echo the second counter is 4
+    } >"$room/out.wanted"
+    "$room/session" >"$room/out" && cmp "$room/out" "$room/out.wanted"
 }
 
 # freestanding: the program without a C library, of which no name is left undefined.
