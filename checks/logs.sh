@@ -76,14 +76,25 @@ grep '"register":7,' "$logs/said.json" >"$room/out.wanted"
 ran "the objects of a register" 0 events "$logs/said.log" --json --register 7
 echo 'log Truncated at 211' >"$room/out.wanted"
 ran "a log that is none has no objects" 1 events "$logs/cut_by_a_byte.log" --json
-if python3 -m json.tool --help >"$room/out" 2>&1; then
-    while read -r object; do
-        printf '%s\n' "$object" | python3 -m json.tool >"$room/out" || echo "$object"
-    done <"$logs/said.json" >"$room/refused" 2>&1
-    name="each object is JSON"
-    if [ -s "$room/refused" ]; then fail "$name" "$(cat "$room/refused")"; else pass "$name"; fi
+# Each object by itself, and each string of it as it goes into UTF-8, which half a surrogate pair does not.
+if python3 -c 'import json' >"$room/out" 2>&1; then
+    holds "each object is JSON" python3 -c 'if True:
+        import json, sys
+        for name in sys.argv[1:]:
+            for line in open(name, encoding="ascii"):
+                json.dumps(json.loads(line), ensure_ascii=False).encode()' "$logs"/*.json
 else
     skip "each object is JSON" "python3 is not there"
+fi
+if command -v jq >"$room/out" 2>&1; then
+    for objects in "$logs"/*.json; do
+        ./tpmtool events "${objects%.json}.log" --json </dev/null | jq .number >"$room/out" 2>&1
+        seq 1 "$(wc -l <"$objects")" >"$room/out.wanted"
+        name="jq reads each object of ${objects##*/}"
+        if cmp -s "$room/out" "$room/out.wanted"; then pass "$name"; else fail "$name" "$(tail -n 1 "$room/out")"; fi
+    done
+else
+    skip "jq reads each object" "jq is not there"
 fi
 name="lines are printable"
 if LC_ALL=C grep -q '[^ -~]' "$logs/said.listed"; then fail "$name" ""; else pass "$name"; fi

@@ -144,6 +144,20 @@ def said():
     return log
 
 
+def halves():
+    """Text in UTF-16 with halves of surrogate pairs that are without the other half, and pairs beside them."""
+    log = Log(THREE)
+    high, low, other, a = b"\x3d\xd8", b"\x12\xdd", b"\xff\xdb", b"a\0"
+    alone = (high, low, a + high, high + a, a + low + a, low + high, high + high, high + other + low, high + low + low)
+    pairs = (high + low, high + low + high + low, b"\0\xd8\0\xdc", b"\xff\xdb\xff\xdf", b"\xff\xd7\0\xe0\xfd\xff")
+    # the first and the last of each kind, alone
+    ends = (b"\0\xd8", b"\xff\xdb", b"\0\xdc", b"\xff\xdf", b"\xff\xdb\0\xe0", b"\xff\xd7\0\xdc")
+    for name in alone + pairs + ends:
+        log.record(7, VARIABLE, variable(name, b"\x01"))
+    log.record(0, CRTM_VERSION, a + high + a).record(0, CRTM_VERSION, a + high + low)
+    return log.record(7, SEPARATOR, bytes(4))
+
+
 def measured():
     """What is measured of an event's data: all, a variable's value, the text behind GRUB's prefix, or all but a byte."""
     log = Log(THREE)
@@ -195,6 +209,7 @@ def accepted():
     log.write("every_type")
 
     said().write("said")
+    halves().write("halves")
     measured().write("measured")
 
     # SHA-512 alone: no bank is extended

@@ -4,3 +4,4 @@ mod Verdicts
 mod EventSizes
 mod EventLines
 mod Pushed
+mod Characters

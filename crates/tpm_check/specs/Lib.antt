@@ -4,7 +4,9 @@ pub mod Check
 pub mod CheckAttest
 pub mod EventTypes
 pub mod Reads
+pub mod Utf16
 pub mod EventText
+pub mod JsonText
 pub mod EventJson
 pub mod ListEvents
 pub mod HeldLines

@@ -10,6 +10,7 @@ mod event_lines;
 mod event_text;
 mod event_types;
 mod held_lines;
+mod json_text;
 mod judged;
 mod kinds;
 mod list_lines;
