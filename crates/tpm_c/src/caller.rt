@@ -56,6 +56,8 @@ pub unsafe extern "C" fn tpm_caller_init(place: *mut u8)
     std::ptr::write(place as *mut Held, nothing());
 }
 
+// It is out of line, as is what decodes the reply: so their room is free again before the key is made.
+#[inline(never)]
 fn request_in(command: &[u8]) -> Option<StartAuth>
     ensures { result ≡ request_in (read_all command_layout command.now) }
 {
@@ -68,6 +70,7 @@ fn request_in(command: &[u8]) -> Option<StartAuth>
     }
 }
 
+#[inline(never)]
 fn start_reply_in(reply: &[u8]) -> Option<StartReply>
     ensures { result ≡ start_reply_in reply.now }
 {
