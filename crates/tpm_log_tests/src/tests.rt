@@ -1,6 +1,7 @@
 //! Logs, quotes, event data, and what logs tell of Secure Boot.
 
 mod attests;
+mod device_paths;
 mod event_data;
 mod logs;
 mod pieces;
