@@ -1,0 +1,102 @@
+//! What the bytes of a way of a connection are.
+
+ghost use Rattle.std.specs.Prelude.{◌≡◌, ◌≤◌};
+ghost use Rattle.tpm_pcap.specs.Messages.{is_tag, measured, of_size, bare, to_simulator, from_simulator};
+
+use crate::numbers::{number2, number4};
+
+/// The greatest size of a frame.
+const MOST: usize = 4096;
+
+/// What bytes are, from the begin of a message.
+#[derive(Clone, Copy, Debug, PartialEq, Eq)]
+pub(crate) enum Measure {
+    /// Less than a message.
+    More,
+    /// A message with a frame behind so many bytes, which has so many.
+    Frame(usize, usize),
+    /// A message without a frame.
+    Silent,
+    /// The begin of no message.
+    Broken,
+}
+
+fn is_tag(tag: u32) -> bool
+    ensures { result ≡ is_tag tag }
+{
+    tag == 0x8001 || tag == 0x8002 || tag == 0x00c4
+}
+
+// A message of a frame of so many bytes, with bytes before it and behind.
+fn of_size(before: usize, size: usize, behind: usize, held: &[u8]) -> Measure
+    requires before { before ≤ 9 }
+    requires behind { behind ≤ 4 }
+    ensures { result ≡ of_size before size behind held.now }
+{
+    if MOST < size {
+        return Measure::Broken;
+    }
+    if held.len() == before + size + behind {
+        Measure::Frame(before, size)
+    } else {
+        Measure::More
+    }
+}
+
+fn bare(held: &[u8]) -> Measure
+    ensures { result ≡ bare held.now }
+{
+    if held.len() < 6 {
+        return Measure::More;
+    }
+    let size = number4(held, 2) as usize;
+    if size < 10 {
+        return Measure::Broken;
+    }
+    of_size(0, size, 0, held)
+}
+
+fn to_simulator(held: &[u8]) -> Measure
+    ensures { result ≡ to_simulator held.now }
+{
+    if held.len() < 4 {
+        return Measure::More;
+    }
+    match number4(held, 0) {
+        20 => Measure::Silent,
+        8 if held.len() < 9 => Measure::More,
+        8 => of_size(9, number4(held, 5) as usize, 0, held),
+        _ => Measure::Broken,
+    }
+}
+
+fn from_simulator(held: &[u8]) -> Measure
+    ensures { result ≡ from_simulator held.now }
+{
+    if held.len() < 4 {
+        return Measure::More;
+    }
+    of_size(4, number4(held, 0) as usize, 4, held)
+}
+
+/// What bytes of a way are, from the begin of a message.
+#[tactic(auto, unfolding(crate::specs::Messages::measured))]
+pub(crate) fn measured(to_tpm: bool, held: &[u8]) -> Measure
+    ensures { result ≡ measured to_tpm held.now }
+{
+    if held.len() < 2 {
+        return Measure::More;
+    }
+    let begin = number2(held, 0);
+    if is_tag(begin) {
+        return bare(held);
+    }
+    if begin != 0 {
+        return Measure::Broken;
+    }
+    if to_tpm {
+        to_simulator(held)
+    } else {
+        from_simulator(held)
+    }
+}

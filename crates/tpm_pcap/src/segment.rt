@@ -1,0 +1,258 @@
+//! Segments of TCP.
+
+ghost use Rattle.std.specs.Prelude.{◌≡◌, ◌<◌, take, drop};
+ghost use Rattle.tpm_pcap.specs.Segments.{fragment, found_as, found_in, in_internet, in_tcp, in_version4, in_version6};
+ghost use Rattle.tpm_pcap.specs.Segments.{is_on_port, lacking, IsSmall, opens, segment_as, segment_of, tcp_head};
+
+use crate::link::{Link, carries_internet, head_size};
+use crate::numbers::{byte_at, number2, number4};
+
+/// The port of a simulator: mssim's for commands, and swtpm's for data.
+const PORT: u32 = 2321;
+
+/// A segment on the port.
+#[derive(Drop, Clone, Copy)]
+pub(crate) struct Segment<'a> {
+    /// Whether it goes to the TPM.
+    pub(crate) to_tpm: bool,
+    /// The client's address.
+    pub(crate) client: &'a [u8],
+    /// The simulator's address.
+    pub(crate) simulator: &'a [u8],
+    /// The client's port.
+    pub(crate) port: u32,
+    /// The number of its first byte.
+    pub(crate) number: u32,
+    /// Whether it opens its way of the connection.
+    pub(crate) opens: bool,
+    /// How many bytes it carries.
+    pub(crate) size: usize,
+    /// Those of them that were captured.
+    pub(crate) payload: &'a [u8],
+}
+
+/// What was found in a packet.
+#[derive(Drop, Clone, Copy)]
+pub(crate) enum Found<'a> {
+    /// Nothing of the port.
+    Other,
+    /// Too little of it was captured.
+    Lacking,
+    /// A part of a packet.
+    Fragment,
+    /// A segment on the port.
+    Segment(Segment<'a>),
+}
+
+// What a packet is that ends before a header does.
+fn lacking<'a>(whole: bool) -> Found<'a>
+    ensures found { found_as result ≡ lacking whole }
+    ensures small { IsSmall (found_as result) }
+{
+    if whole { Found::Other } else { Found::Lacking }
+}
+
+// ---- TCP
+
+// Whether SYN is set.
+fn opens(flags: u8) -> bool
+    ensures { result ≡ opens flags }
+{
+    flags / 2 % 2 == 1
+}
+
+fn is_on_port(tcp: &[u8]) -> bool
+    ensures { result ≡ is_on_port tcp.now }
+{
+    number2(tcp, 0) == PORT || number2(tcp, 2) == PORT
+}
+
+// How many bytes the header has.
+fn tcp_head(tcp: &[u8]) -> usize
+    ensures { result ≡ tcp_head tcp.now }
+{
+    byte_at(tcp, 12) as usize / 16 * 4
+}
+
+// The segment with this header, of so many bytes, from an address to another.
+fn segment_of<'a>(
+    source: &'a [u8],
+    target: &'a [u8],
+    tcp: &'a [u8],
+    size: usize,
+    payload: &'a [u8],
+) -> Segment<'a>
+    ensures { segment_as result ≡ segment_of source.now target.now tcp.now size payload.now }
+{
+    let number = number4(tcp, 4);
+    let opens = opens(byte_at(tcp, 13));
+    if number2(tcp, 2) == PORT {
+        Segment {
+            to_tpm: true,
+            client: source,
+            simulator: target,
+            port: number2(tcp, 0),
+            number,
+            opens,
+            size,
+            payload,
+        }
+    } else {
+        Segment {
+            to_tpm: false,
+            client: target,
+            simulator: source,
+            port: number2(tcp, 2),
+            number,
+            opens,
+            size,
+            payload,
+        }
+    }
+}
+
+/// The first bytes, so many of them or all.
+pub(crate) fn front(bytes: &[u8], most: usize) -> &[u8]
+    ensures { result.now ≡ take most bytes.now }
+{
+    if bytes.len() < most {
+        bytes
+    } else {
+        &bytes[..most]
+    }
+}
+
+/// What is behind so many bytes, if anything.
+pub(crate) fn behind(bytes: &[u8], count: usize) -> &[u8]
+    ensures { result.now ≡ drop count bytes.now }
+{
+    if bytes.len() < count {
+        &[]
+    } else {
+        &bytes[count..]
+    }
+}
+
+// What is in so many bytes of TCP, of which these were captured.
+#[tactic(auto, unfolding(crate::specs::Segments::in_tcp))]
+fn in_tcp<'a>(
+    whole: bool,
+    source: &'a [u8],
+    target: &'a [u8],
+    size: usize,
+    tcp: &'a [u8],
+) -> Found<'a>
+    requires { size < 65536 }
+    ensures found { found_as result ≡ in_tcp whole source.now target.now size tcp.now }
+    ensures small { IsSmall (found_as result) }
+{
+    if tcp.len() < 20 {
+        return lacking(whole);
+    }
+    if !is_on_port(tcp) {
+        return Found::Other;
+    }
+    let head = tcp_head(tcp);
+    if head < 20 || size < head {
+        return Found::Other;
+    }
+    let payload = front(behind(tcp, head), size - head);
+    Found::Segment(segment_of(source, target, tcp, size - head, payload))
+}
+
+// ---- IP
+
+// What is in a packet of IPv4.
+#[tactic(auto, unfolding(crate::specs::Segments::in_version4))]
+fn in_version4<'a>(whole: bool, bytes: &'a [u8]) -> Found<'a>
+    ensures found { found_as result ≡ in_version4 whole bytes.now }
+    ensures small { IsSmall (found_as result) }
+{
+    if bytes.len() < 20 {
+        return lacking(whole);
+    }
+    if byte_at(bytes, 9) != 6 {
+        return Found::Other;
+    }
+    if number2(bytes, 6) % 16384 != 0 {
+        return Found::Fragment;
+    }
+    let head = byte_at(bytes, 0) as usize % 16 * 4;
+    let size = (number2(bytes, 2) as usize).saturating_sub(head);
+    in_tcp(
+        whole,
+        &bytes[12..16],
+        &bytes[16..20],
+        size,
+        behind(bytes, head),
+    )
+}
+
+// What a fragment of IPv6 is, by the protocol of what it is a part of.
+fn fragment<'a>(protocol: u8) -> Found<'a>
+    ensures found { found_as result ≡ fragment protocol }
+    ensures small { IsSmall (found_as result) }
+{
+    if protocol == 6 {
+        Found::Fragment
+    } else {
+        Found::Other
+    }
+}
+
+// What is in a packet of IPv6.
+#[tactic(auto, unfolding(crate::specs::Segments::in_version6))]
+fn in_version6<'a>(whole: bool, bytes: &'a [u8]) -> Found<'a>
+    ensures found { found_as result ≡ in_version6 whole bytes.now }
+    ensures small { IsSmall (found_as result) }
+{
+    if bytes.len() < 40 {
+        return lacking(whole);
+    }
+    let next = byte_at(bytes, 6);
+    if next == 44 {
+        return fragment(byte_at(bytes, 40));
+    }
+    if next != 6 {
+        return Found::Other;
+    }
+    let size = number2(bytes, 4) as usize;
+    in_tcp(
+        whole,
+        &bytes[8..24],
+        &bytes[24..40],
+        size,
+        behind(bytes, 40),
+    )
+}
+
+// What is in a packet of the internet.
+#[tactic(auto, unfolding(crate::specs::Segments::in_internet))]
+fn in_internet<'a>(whole: bool, bytes: &'a [u8]) -> Found<'a>
+    ensures found { found_as result ≡ in_internet whole bytes.now }
+    ensures small { IsSmall (found_as result) }
+{
+    match byte_at(bytes, 0) / 16 {
+        4 => in_version4(whole, bytes),
+        6 => in_version6(whole, bytes),
+        _ if bytes.is_empty() => lacking(whole),
+        _ => Found::Other,
+    }
+}
+
+// ---- a packet
+
+/// What is in a packet of this kind of link, all of which was captured or not.
+#[tactic(auto, unfolding(crate::specs::Segments::found_in))]
+pub(crate) fn found_in<'a>(link: Link, whole: bool, bytes: &'a [u8]) -> Found<'a>
+    ensures found { found_as result ≡ found_in link whole bytes.now }
+    ensures small { IsSmall (found_as result) }
+{
+    if bytes.len() < head_size(link) {
+        return lacking(whole);
+    }
+    if !carries_internet(link, bytes) {
+        return Found::Other;
+    }
+    in_internet(whole, &bytes[head_size(link)..])
+}

@@ -1,0 +1,155 @@
+//! The connection that is told.
+
+ghost use Rattle.std.specs.Prelude.{◌≡◌, ◌<◌, ◌++◌, OnOk};
+ghost use Rattle.tpm_pcap.specs.Entries.{entries_as};
+ghost use Rattle.tpm_pcap.specs.Segments.{found_as, segment_as, IsSmall};
+ghost use Rattle.tpm_pcap.specs.Talks.{after_found, after_matter, after_same, found_told, is_same};
+ghost use Rattle.tpm_pcap.specs.Talks.{matter_told, matters, new_talk, same_told, talk_as, talk_of, unfinished};
+
+use crate::entry::{Entry, Reason};
+use crate::segment::{Found, Segment};
+use crate::way::Way;
+use std::alloc::{AllocError, Global};
+
+/// A connection of a client with a simulator.
+#[derive(Drop)]
+pub(crate) struct Talk<'a> {
+    client: &'a [u8],
+    simulator: &'a [u8],
+    port: u32,
+    to: Way,
+    back: Way,
+}
+
+// Whether a segment carries bytes, or opens its way.
+fn matters(segment: &Segment<'_>) -> bool
+    ensures { result ≡ matters (segment_as segment.now) }
+{
+    segment.opens || segment.size != 0
+}
+
+impl<'a> Talk<'a> {
+    /// No connection.
+    pub(crate) fn new(alloc: Global) -> Self
+        ensures { talk_as result ≡ new_talk }
+    {
+        Talk {
+            client: &[],
+            simulator: &[],
+            port: 0,
+            to: Way::new(alloc),
+            back: Way::new(alloc),
+        }
+    }
+
+    // The connection of a segment, of which nothing has come.
+    fn begun(alloc: Global, segment: &Segment<'a>) -> Self
+        ensures { talk_as result ≡ talk_of (segment_as segment.now) }
+    {
+        Talk {
+            client: segment.client,
+            simulator: segment.simulator,
+            port: segment.port,
+            to: Way::new(alloc),
+            back: Way::new(alloc),
+        }
+    }
+
+    fn is_same(&self, segment: &Segment<'_>) -> bool
+        ensures { result ≡ is_same (talk_as self.now) (segment_as segment.now) }
+    {
+        self.client == segment.client
+            && self.simulator == segment.simulator
+            && self.port == segment.port
+    }
+
+    /// Tells that a message did not come whole.
+    pub(crate) fn end(&self, packet: u64, entries: &mut Vec<Entry>) -> Result<(), AllocError>
+        ensures { OnOk result (entries_as entries.new.items
+            ≡ entries_as entries.old.items ++ unfinished packet (talk_as self.now)) }
+    {
+        if !self.to.is_unfinished() && !self.back.is_unfinished() {
+            return Ok(());
+        }
+        entries.push(Entry::Untold(packet, Reason::Unfinished))?;
+        Ok(())
+    }
+
+    // Takes a segment of this connection.
+    fn take_same(
+        &mut self,
+        alloc: Global,
+        packet: u64,
+        segment: &Segment<'a>,
+        entries: &mut Vec<Entry>,
+    ) -> Result<(), AllocError>
+        requires { segment.now.size < 65536 }
+        ensures { OnOk result ((talk_as self.new
+            ≡ after_same (talk_as self.old) (segment_as segment.now))
+            × (entries_as entries.new.items ≡ entries_as entries.old.items
+            ++ same_told packet (talk_as self.old) (segment_as segment.now))) }
+    {
+        if segment.to_tpm {
+            self.to.segment(alloc, packet, segment, entries)
+        } else {
+            self.back.segment(alloc, packet, segment, entries)
+        }
+    }
+
+    // Takes a segment that carries bytes, or opens its way.
+    fn take_matter(
+        &mut self,
+        alloc: Global,
+        packet: u64,
+        segment: &Segment<'a>,
+        entries: &mut Vec<Entry>,
+    ) -> Result<(), AllocError>
+        requires { segment.now.size < 65536 }
+        ensures { OnOk result ((talk_as self.new
+            ≡ after_matter (talk_as self.old) (segment_as segment.now))
+            × (entries_as entries.new.items ≡ entries_as entries.old.items
+            ++ matter_told packet (talk_as self.old) (segment_as segment.now))) }
+    {
+        if self.is_same(segment) {
+            return self.take_same(alloc, packet, segment, entries);
+        }
+        self.end(packet, entries)?;
+        entries.push(Entry::Connection)?;
+        *self = Talk::begun(alloc, segment);
+        self.take_same(alloc, packet, segment, entries)
+    }
+
+    /// Takes what was found in a packet.
+    pub(crate) fn take(
+        &mut self,
+        alloc: Global,
+        packet: u64,
+        found: &Found<'a>,
+        entries: &mut Vec<Entry>,
+    ) -> Result<(), AllocError>
+        requires { IsSmall (found_as found.now) }
+        ensures { OnOk result ((talk_as self.new
+            ≡ after_found (talk_as self.old) (found_as found.now))
+            × (entries_as entries.new.items ≡ entries_as entries.old.items
+            ++ found_told packet (talk_as self.old) (found_as found.now))) }
+    {
+        match found {
+            Found::Other => Ok(()),
+            Found::Lacking => {
+                entries.push(Entry::Untold(packet, Reason::CutShort))?;
+                Ok(())
+            }
+            Found::Fragment => {
+                entries.push(Entry::Untold(packet, Reason::Fragment))?;
+                Ok(())
+            }
+            Found::Segment(segment) => {
+                if matters(segment) {
+                    self.take_matter(alloc, packet, segment, entries)
+                } else {
+                    Ok(())
+                }
+            }
+        }
+    }
+}
