@@ -41,7 +41,7 @@ as_bytes() {
 
 # hosted: the programs with the C library, over the archive.
 hosted() {
-    for example in attest device events log policy session view; do
+    for example in attest device events log policy secure_boot session view; do
         "$compiler" -std=c99 -O2 -Wall -Wextra -pedantic -Werror -Iinclude -o "$room/$example" "examples/$example.c" "$archive" || return 1
     done
 }
@@ -205,6 +205,38 @@ same_events() {
         "$room/events" <"checks/logs/$log.log" >"$room/out"
         [ $? -eq 1 ] && [ "$(tail -n 1 "$room/out")" = "log $kind at $at" ] || return 1
     done <checks/logs/faults.txt
+}
+
+# same_boots: what each log of checks/logs that has a list says of Secure Boot, without what the variables hold, in the
+# banks of its list; and a log that is none, a bank that there is not, and more authorities than the first room has.
+same_boots() {
+    for list in checks/logs/*.secure; do
+        log=${list%.secure}
+        sed -e 's/ size .*//' -e 's/ variable .*//' "$list" >"$room/out.wanted"
+        banks=$(sed -n 's/^secure-boot \([a-z0-9]*\) .*/\1/p' "$list")
+        # shellcheck disable=SC2086
+        "$room/secure_boot" $banks <"$log.log" >"$room/out"
+        status=$?
+        cmp "$room/out" "$room/out.wanted" || { echo "$log: $(cat "$room/out")" && return 1; }
+        if grep '^secure-boot' "$list" | grep -q -v ' on$'; then wanted=1; else wanted=0; fi
+        [ "$status" -eq "$wanted" ] || { echo "$log: the status is $status" && return 1; }
+    done
+    while read -r log kind at; do
+        echo "log $kind at $at" >"$room/out.wanted"
+        "$room/secure_boot" sha256 <"checks/logs/$log.log" >"$room/out"
+        [ $? -eq 1 ] && cmp "$room/out" "$room/out.wanted" || return 1
+    done <checks/logs/faults.txt
+    cp checks/logs/secure_on.log "$room/in.told"
+    is_told 1 'no bank' "$room/secure_boot" md5 && more_authorities
+}
+
+# more_authorities: a log whose last record, an authority of 179 bytes, stands there four times more.
+more_authorities() {
+    log=checks/logs/secure_on.log
+    { cat "$log" && for again in 1 2 3 4; do tail -c +1215 "$log"; done; } >"$room/more.log"
+    "$program" check "$room/more.log" --secure-boot | sed -e 's/ size .*//' -e 's/ variable .*//' >"$room/out.wanted"
+    "$room/secure_boot" sha1 sha256 sha384 <"$room/more.log" >"$room/out" && cmp "$room/out" "$room/out.wanted" &&
+        [ "$(grep -c '^authority' "$room/out")" -eq 18 ]
 }
 
 # device_faults: words that the device does not know, text that is no hexadecimal, and streams that end too early.
@@ -459,6 +491,7 @@ else
     holds "the logs through C in pieces of 100 bytes" same_logs 100
     holds "a log of 1.1 MB through C" same_long_log
     holds "the records of the logs through C" same_events
+    holds "whether Secure Boot was on through C" same_boots
     holds "a device through C tells what it does not know" device_faults
     holds "the power of a device behind a stream" same_power
     holds "quotes beside a log through C" same_quotes

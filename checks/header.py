@@ -85,6 +85,10 @@ def crate_numbers():
         | {"TPM_CALLER_OPENED": statuses["TPM_DONE"]}
         | constants("tpm_c", "policy", "TPM_POLICY_")
         | only(constants("tpm_c", "log_event", "TPM_"), "TPM_EVENT")
+        | arms("tpm_c", "secure_boot", "SecureBootState", "TPM_SECURE_BOOT_")
+        | arms("tpm_c", "secure_boot", "SecureBootFaultKind", "TPM_SECURE_BOOT_")
+        | constants("tpm_c", "secure_boot", "TPM_SECURE_BOOT_")
+        | {"TPM_SECURE_BOOT_NO_BANK": quotes["TPM_QUOTE_NO_BANK"]}
         | only(constants("tpm_c", "out", "TPM_"), "TPM_BUFFER_BYTES")
         | only(constants("tpm_c", "log", "TPM_"), "TPM_REGISTERS_BYTES")
         | only(constants("tpm_c", "kept", "TPM_"), "TPM_NO_COUNTER")
@@ -146,9 +150,9 @@ def c_type(kind, name):
         return [f"{'const ' if kind == '*const u8' else ''}PLACE *{name}"]
     if found := re.fullmatch(r"\[(\w+); ([0-9]+)\]", kind):
         return [f"{c_type(found[1], name)[0]}[{found[2]}]"]
-    if found := re.fullmatch(r"&(mut )?\[u8(; [0-9]+)?\]", kind):
-        pointer = f"{'' if found[1] else 'const '}uint8_t *{name}"
-        return [pointer] if found[2] else [pointer, f"size_t {name}_len"]
+    if found := re.fullmatch(r"&(mut )?\[(\w+)(; [0-9]+)?\]", kind):
+        pointer = f"{'' if found[1] else 'const '}{NUMBERS[found[2]]} *{name}"
+        return [pointer] if found[3] else [pointer, f"size_t {name}_len"]
     if found := re.fullmatch(r"&(mut )?(\w+)", kind):
         return [f"{'' if found[1] else 'const '}{c_type(found[2], '*' + name)[0]}"]
     return [f"struct {snake(kind)} {name}"]
@@ -174,7 +178,7 @@ def crate_functions(text):
 def words_of(arguments):
     """The names of a function's parameters, each slice with its length behind it."""
     for word, kind in arguments:
-        yield from [word, f"{word}_len"] if re.fullmatch(r"&(mut )?\[u8\]", kind.strip()) else [word]
+        yield from [word, f"{word}_len"] if re.fullmatch(r"&(mut )?\[\w+\]", kind.strip()) else [word]
 
 
 def header_functions(header):

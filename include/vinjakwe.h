@@ -287,6 +287,50 @@ struct tpm_log_event {
  * no call wrote the bytes are read as if a record began there. */
 uint32_t tpm_log_event(const uint8_t *log, size_t len, struct tpm_log_place *place, struct tpm_log_event *event, uint32_t *at);
 
+/* What a log tells of Secure Boot besides its state: 1 where DMA protection was disabled, else 0; and how many bytes of the log
+ * precede the records of PK, KEK, db and dbx, or 0 where one was not measured. tpm_log_event tells the record at such a place, where
+ * `late` is 0. */
+struct tpm_secure_boot {
+    uint32_t dma_protection_disabled;
+    uint32_t pk;
+    uint32_t kek;
+    uint32_t db;
+    uint32_t dbx;
+};
+
+/* What is said of Secure Boot, besides the faults of the log. */
+#define TPM_SECURE_BOOT_ON ((uint32_t)48)            /* SecureBoot was 1, PK, KEK and db held something, and there is an authority */
+#define TPM_SECURE_BOOT_OFF ((uint32_t)49)           /* SecureBoot was 0 */
+#define TPM_SECURE_BOOT_UNSET ((uint32_t)50)         /* SecureBoot had no byte, or was not measured */
+#define TPM_SECURE_BOOT_NO_ROOM ((uint32_t)51)       /* there are more authorities than places for them */
+#define TPM_SECURE_BOOT_NO_BANK ((uint32_t)18)       /* no bank has this hash */
+#define TPM_SECURE_BOOT_NOT_MEASURED ((uint32_t)64)  /* no digest of the bank is the hash of the record's data */
+#define TPM_SECURE_BOOT_OTHER_TYPE ((uint32_t)65)    /* before the separator, no variable, action of the profile or separator */
+#define TPM_SECURE_BOOT_NO_VARIABLE ((uint32_t)66)   /* the data are no UEFI_VARIABLE_DATA to their end */
+#define TPM_SECURE_BOOT_TWICE ((uint32_t)67)         /* SecureBoot, PK, KEK, db, dbx, dbt or dbr for the second time */
+#define TPM_SECURE_BOOT_OTHER_VALUE ((uint32_t)68)   /* SecureBoot has a byte, and is neither 0 nor 1 */
+#define TPM_SECURE_BOOT_DEBUGGER ((uint32_t)69)      /* the firmware could be debugged */
+#define TPM_SECURE_BOOT_BAD_SEPARATOR ((uint32_t)70) /* the separator is neither 00000000 nor FFFFFFFF */
+#define TPM_SECURE_BOOT_NO_SEPARATOR ((uint32_t)71)  /* the log ends without a separator */
+#define TPM_SECURE_BOOT_LATE ((uint32_t)72)          /* behind the separator, another type than EV_EFI_VARIABLE_AUTHORITY */
+#define TPM_SECURE_BOOT_NO_KEY ((uint32_t)73)        /* SecureBoot is 1, and PK, KEK or db holds nothing */
+#define TPM_SECURE_BOOT_NO_AUTHORITY ((uint32_t)74)  /* SecureBoot is 1, and the log ends without an authority */
+
+/* Tells whether Secure Boot was on, by the records of register 7 in the bank of this hash (TPM_ALG_SHA1, TPM_ALG_SHA256 or
+ * TPM_ALG_SHA384; PC Client Platform Firmware Profile, "PCR[7]"). The first of these is answered: TPM_SECURE_BOOT_NO_BANK; the log's
+ * first fault, TPM_LOG_..; the first fault of what the records tell, TPM_SECURE_BOOT_NOT_MEASURED to TPM_SECURE_BOOT_NO_AUTHORITY;
+ * TPM_SECURE_BOOT_NO_ROOM; TPM_SECURE_BOOT_ON, TPM_SECURE_BOOT_OFF or TPM_SECURE_BOOT_UNSET.
+ *
+ * With a state, the rest is in `view`, and `authorities` has at its beginning how many bytes of the log precede each authority (the
+ * records of EV_EFI_VARIABLE_AUTHORITY), as many as `count` says. `authorities_len` is how many places there is room for. With
+ * TPM_SECURE_BOOT_NO_ROOM, `count` alone is written, and says how many there are. With a fault, `at` says how many bytes of the log
+ * precede the token or the record that has it, or how many bytes there are, where something is missing at the end. What isn't written
+ * so stays as it was.
+ *
+ * What is told is as true as register 7: a quote that selects it vouches for it, and this call looks at no quote. */
+uint32_t tpm_log_secure_boot(const uint8_t *log, size_t len, uint16_t hash, struct tpm_secure_boot *view, uint32_t *authorities,
+                             size_t authorities_len, size_t *count, uint32_t *at);
+
 /* A replay of a log that comes in pieces, however it is cut. */
 struct tpm_log_replay;
 

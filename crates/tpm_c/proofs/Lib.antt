@@ -6,6 +6,7 @@ pub mod Lending
 pub mod Lengths
 pub mod Lists
 pub mod Parts
+pub mod Placing
 pub mod Quoting
 pub mod Replies
 pub mod Sealing

@@ -12,5 +12,6 @@ pub mod Policies
 pub mod Quotes
 pub mod ResponseViews
 pub mod Rooms
+pub mod SecureBoots
 pub mod Written
 pub mod Attests

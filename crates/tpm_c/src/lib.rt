@@ -17,6 +17,7 @@ mod policy;
 mod quote;
 mod response;
 mod rooms;
+mod secure_boot;
 
 pub use attest::{TpmAttest, TpmAttestFault, tpm_attest_decode, tpm_log_check_attest};
 pub use builder::tpm_command_build;
@@ -44,3 +45,4 @@ pub use rooms::{
     tpm_caller_align, tpm_caller_size, tpm_device_align, tpm_device_size, tpm_framer_align,
     tpm_framer_size, tpm_log_replay_align, tpm_log_replay_size,
 };
+pub use secure_boot::{TpmSecureBoot, tpm_log_secure_boot};

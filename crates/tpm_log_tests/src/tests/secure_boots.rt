@@ -427,3 +427,26 @@ fn the_keys_are_told_where_they_lie(rt: HostRuntime) {
     assert!(rt; secure_boot(&log, Alg::Sha1).is_err());
     secure_boot_of_the_register();
 }
+
+#[test]
+fn the_places_of_authorities_are_told(rt: HostRuntime) {
+    let bytes = log_of(&[
+        SECURE_BOOT_ON,
+        PK,
+        KEK,
+        DB,
+        DBX,
+        SEPARATOR,
+        IN_REGISTER_1,
+        AUTHORITY,
+        AUTHORITY_CUT,
+    ]);
+    let log = parsed(&rt, bytes.as_slice());
+    let mut places = [1u32; 3];
+    assert_eq!(&rt; log.authorities(&mut places), 2);
+    assert!(&rt; places == [631, 719, 1]);
+    let mut first = [1u32; 1];
+    assert_eq!(&rt; log.authorities(&mut first), 2);
+    assert!(&rt; first == [631]);
+    assert_eq!(&rt; log.authorities(&mut []), 2);
+}
