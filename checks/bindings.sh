@@ -5,6 +5,7 @@
 #     command HEX, reply NAME HEX, build NAME HANDLES SESSIONS PARAMETERS      as examples/view.c
 #     log FILE, pieces FILE                               `tpmtool check FILE`, whole and from a reader
 #     events FILE                                         as examples/events.c, which checks/c.sh compares
+#     boot FILE BANK                                      as examples/secure_boot.c, which checks/c.sh compares
 #     quote FILE HEX HASH                                 as examples/log.c
 #     attest LOG HEX NONCE REQUIRE HASH                   a quote as it was signed
 #     frames SIZE HEX                                     a stream in pieces of so many bytes
@@ -109,6 +110,10 @@ ROWS
         cat "$room/out" "$room/out" >>"$table.wanted"
         echo "events $log" >>"$table"
         "$room/c_events" bytes <"$log" >>"$table.wanted"
+        for bank in sha1 sha256 sha384; do
+            echo "boot $log $bank" >>"$table"
+            "$room/c_boot" "$bank" <"$log" >>"$table.wanted"
+        done
     done
     quoted=00000001000b03810000
     digest=002029007275b14d167931c84e098e48fbede947a9cc74f672be54fcb83ed9d07a5c
@@ -181,7 +186,7 @@ make_layout() {
         function number(name, value) { printf "printf(\"%s %%lu\\n\", (unsigned long)%s);\n", name, value }
         BEGIN { print "#include \"vinjakwe.h\"\n#include <stdio.h>\nint main(void) {" }
         /^struct tpm_[a-z_]* \{/ &&
-            ($2 ~ /refusal|part|session|areas|attest|policy|counter|log_(place|digest|event)/) {
+            ($2 ~ /refusal|part|session|areas|attest|policy|counter|secure_boot|log_(place|digest|event)/) {
             name = $2
             size(name)
             next
@@ -197,6 +202,7 @@ make_layout() {
         /^#define TPM_(DONE|REFUSED|NO_ROOM|NO_COMMAND|EVENT|CALLER_OPENED|POLICY_NO_DIGEST) / ||
             /^#define TPM_(FRAMER_[A-Z]+|ATTEST_[A-Z_]+) / || /^#define TPM_ALG_SHA/ ||
             /^#define TPM_(BUFFER|OWNER|NONCE|REGISTERS|DEVICE_KEPT)_BYTES/ { number($2, $2) }
+        /^#define TPM_SECURE_BOOT_/ && $2 !~ /NO_BANK$/ { number($2, $2) }
         /^#define TPM_LOG_/ { sub(/^TPM_LOG_/, "", $2); gsub(/_/, "", $2); number("TPM_LOG_" $2, $3) }
         END { print "return 0; }" }' include/vinjakwe.h >"$room/layout.c"
     "$compiler" -Iinclude -o "$room/c_layout" "$room/layout.c" && "$room/c_layout" | sort >"$room/layout"
@@ -212,7 +218,7 @@ for it, name in (
     (v._Refusal, "refusal"), (v._Part, "part"), (v._CommandSession, "command_session"),
     (v._CommandAreas, "command_areas"), (v._ResponseSession, "response_session"), (v._ResponseAreas, "response_areas"),
     (v._LogPlace, "log_place"), (v._LogDigest, "log_digest"), (v._LogEvent, "log_event"), (v._Attest, "attest"),
-    (v._AttestFault, "attest_fault"), (v._Policy, "policy"), (v._Counter, "counter"),
+    (v._AttestFault, "attest_fault"), (v._Policy, "policy"), (v._Counter, "counter"), (v._SecureBoot, "secure_boot"),
 ):
     print(f"tpm_{name} {ctypes.sizeof(it)}")
     for field, _ in it._fields_:
@@ -230,6 +236,11 @@ for name in ("DONE", "REFUSED", "NO_ROOM", "NO_COMMAND", "FRAMER_MORE", "FRAMER_
     print(f"TPM_{name} {getattr(v, '_' + name)}")
 for kind in v.Kind:
     print(f"TPM_ATTEST_{kind.name} {kind.value}")
+for state in v.SecureBootState:
+    print(f"TPM_SECURE_BOOT_{state.name} {state.value}")
+print(f"TPM_SECURE_BOOT_NO_ROOM {v._SECURE_BOOT_NO_ROOM}")
+for i, name in enumerate(v.SECURE_BOOT_FAULTS, v._SECURE_BOOT_NOT_MEASURED):
+    print(f"TPM_SECURE_BOOT_{name} {i}")
 END
 }
 
@@ -415,6 +426,7 @@ elif ! ./install "$prefix" >"$room/said" 2>&1 || [ ! -e "$prefix/lib/libvinjakwe
 elif ! "$compiler" -O2 -Iinclude -o "$room/c_view" examples/view.c "$prefix/lib/libvinjakwe.a" ||
     ! "$compiler" -O2 -Iinclude -o "$room/c_log" examples/log.c "$prefix/lib/libvinjakwe.a" ||
     ! "$compiler" -O2 -Iinclude -o "$room/c_events" examples/events.c "$prefix/lib/libvinjakwe.a" ||
+    ! "$compiler" -O2 -Iinclude -o "$room/c_boot" examples/secure_boot.c "$prefix/lib/libvinjakwe.a" ||
     ! make_table || ! make_changed || ! make_layout; then
     fail "the bindings" "the table was not made"
 else

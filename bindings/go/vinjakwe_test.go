@@ -6,6 +6,7 @@ import (
 	"errors"
 	"fmt"
 	"os"
+	"path/filepath"
 	"strings"
 	"testing"
 )
@@ -70,6 +71,84 @@ func TestFaultOfALogThatIsCut(t *testing.T) {
 	var fault *LogFault
 	if _, err := Replay(read(t, "logs/cut_by_a_byte.log")); !errors.As(err, &fault) || *fault != (LogFault{"Truncated", 211}) {
 		t.Error(err)
+	}
+}
+
+// boots gives what the lists beside the logs say of Secure Boot: the lines of each bank, without what the variables hold.
+func boots(t *testing.T) map[string]map[string][]string {
+	t.Helper()
+	files, err := filepath.Glob(checks + "logs/*.secure")
+	if err != nil || len(files) == 0 {
+		t.Fatal(files, err)
+	}
+	found := map[string]map[string][]string{}
+	for _, file := range files {
+		name, bank := "logs/"+strings.TrimSuffix(filepath.Base(file), ".secure"), ""
+		found[name] = map[string][]string{}
+		for _, line := range strings.Split(strings.TrimSpace(string(read(t, name+".secure"))), "\n") {
+			if words := strings.Fields(line); words[0] == "secure-boot" {
+				bank, line = words[1], strings.Join(words[2:], " ")
+			}
+			line, _, _ = strings.Cut(line, " size ")
+			line, _, _ = strings.Cut(line, " variable ")
+			found[name][bank] = append(found[name][bank], line)
+		}
+	}
+	return found
+}
+
+func bootLines(log []byte, hash Hash) (lines []string) {
+	var fault *BootFault
+	it, err := SecureBoot(log, hash)
+	if errors.As(err, &fault) {
+		return []string{fmt.Sprintf("unknown %s at %d", fault.Kind, fault.At)}
+	} else if err != nil {
+		return []string{err.Error()}
+	}
+	lines = append(lines, it.State.String())
+	if it.DMAProtectionDisabled {
+		lines = append(lines, "dma-protection disabled")
+	}
+	for i, at := range []uint32{it.PK, it.KEK, it.DB, it.DBX} {
+		if at != 0 {
+			lines = append(lines, fmt.Sprintf("%s at %d", []string{"PK", "KEK", "db", "dbx"}[i], at))
+		}
+	}
+	for _, at := range it.Authorities {
+		lines = append(lines, fmt.Sprintf("authority at %d", at))
+	}
+	return lines
+}
+
+func TestSecureBootOfEachLogWithAList(t *testing.T) {
+	for name, banks := range boots(t) {
+		log := read(t, name+".log")
+		for _, hash := range hashes {
+			wanted, listed := banks[hash.String()]
+			if found := bootLines(log, hash); listed && strings.Join(found, "\n") != strings.Join(wanted, "\n") {
+				t.Error(name, hash, found, wanted)
+			}
+		}
+	}
+}
+
+func TestSecureBootOfOtherLogs(t *testing.T) {
+	var fault *LogFault
+	if _, err := SecureBoot(read(t, "logs/cut_by_a_byte.log"), SHA256); !errors.As(err, &fault) || *fault != (LogFault{"Truncated", 211}) {
+		t.Error(err)
+	}
+	if _, err := SecureBoot(nil, 5); !errors.Is(err, ErrNoBank) {
+		t.Error(err)
+	}
+	log := read(t, "logs/secure_on.log")
+	it, err := SecureBoot(log, SHA256)
+	if err != nil {
+		t.Fatal(err)
+	}
+	last := log[it.Authorities[len(it.Authorities)-1]:]
+	more, err := SecureBoot(append(log, bytes.Repeat(last, 40)...), SHA256)
+	if err != nil || len(more.Authorities) != len(it.Authorities)+40 || more.Authorities[len(it.Authorities)] != uint32(len(log)) {
+		t.Error(more, err)
 	}
 }
 

@@ -47,6 +47,21 @@ def events(log):
         yield f"{it.register} {it.type:08x} {text(it.data)}{''.join(digests)}"
 
 
+def boot(log, bank):
+    try:
+        it = vinjakwe.secure_boot(log, bank)
+    except vinjakwe.SecureBootFault as fault:
+        yield f"secure-boot {bank} unknown {fault.kind} at {fault.at}"
+        return
+    yield f"secure-boot {bank} {it.state.name.lower()}"
+    if it.dma_protection_disabled:
+        yield "dma-protection disabled"
+    for name, at in ("PK", it.pk), ("KEK", it.kek), ("db", it.db), ("dbx", it.dbx):
+        if at is not None:
+            yield f"{name} at {at}"
+    yield from (f"authority at {at}" for at in it.authorities)
+
+
 def frames(size, stream):
     framer = vinjakwe.Framer()
     for at in range(0, len(stream), size):
@@ -104,6 +119,8 @@ class Answers:
             yield from opened(*words)
         elif verb == "events":
             yield from events(whole(*words))
+        elif verb == "boot":
+            yield from boot(whole(words[0]), words[1])
         elif verb == "quote":
             yield "quote " + ("matches" if vinjakwe.check_quote(whole(words[0]), unhex(words[1]), words[2]) else "differs")
         elif verb == "attest":

@@ -180,6 +180,8 @@ func main() {
 			file.Close()
 		case "events":
 			events(read(words[1]))
+		case "boot":
+			boot(words)
 		case "quote":
 			matches, err := vinjakwe.CheckQuote(read(words[1]), unhex(words[2]), hashes[words[3]])
 			if err != nil {

@@ -55,6 +55,47 @@ class Logs(unittest.TestCase):
             self.assertEqual(list(pool.map(v.replay, logs)), [v.replay(LOG)] * 64)
 
 
+def boots():
+    """What the lists beside the logs say of Secure Boot: of each bank its state or fault, and its lines by name and place."""
+    for path in sorted((CHECKS / "logs").glob("*.secure")):
+        found = {}
+        for line in path.read_text().splitlines():
+            words = line.split()
+            if words[0] == "secure-boot":
+                lines = found[words[1]] = []
+            lines.append(words[2:] if words[0] == "secure-boot" else words)
+        yield path.with_suffix(".log"), found
+
+
+class SecureBoots(unittest.TestCase):
+    def test_each_log_with_a_list(self):
+        for path, banks in boots():
+            for bank, (said, *lines) in banks.items():
+                if said[0] == "unknown":
+                    with self.assertRaises(v.SecureBootFault) as caught:
+                        v.secure_boot(path, bank)
+                    self.assertEqual((caught.exception.kind, caught.exception.at), (said[1], int(said[3])))
+                    continue
+                found = v.secure_boot(path.read_bytes(), bank)
+                self.assertEqual((found.state.name.lower(), bool(found)), (said[0], said[0] == "on"))
+                self.assertEqual(found.dma_protection_disabled, ["dma-protection", "disabled"] in lines)
+                places = [(name, int(at)) for name, word, at, *_ in (line for line in lines if line[0] != "dma-protection")]
+                named = [(name, at) for name, at in zip(("PK", "KEK", "db", "dbx"), found[2:6]) if at is not None]
+                self.assertEqual(named + [("authority", at) for at in found.authorities], places)
+
+    def test_a_log_that_is_none_and_another_hash(self):
+        with self.assertRaises(v.LogFault):
+            v.secure_boot(LOG.with_name("cut_by_a_byte.log"))
+        with self.assertRaisesRegex(ValueError, "md5"):
+            v.secure_boot(LOG, "md5")
+
+    def test_more_authorities_than_the_first_room(self):
+        log = LOG.with_name("secure_on.log").read_bytes()
+        last = v.secure_boot(log).authorities[-1]
+        found = v.secure_boot(log + 40 * log[last:])
+        self.assertEqual(found.authorities[2:], tuple(range(len(log), len(log) + 40 * len(log[last:]), len(log[last:]))))
+
+
 class Quotes(unittest.TestCase):
     def test_each_quote_matches_its_log(self):
         for log, quote, nonce, selected, hash in quotes():
@@ -80,7 +121,7 @@ class Quotes(unittest.TestCase):
 
 class Faults(unittest.TestCase):
     def test_faults_are_pickled_and_copied(self):
-        for fault in v.Refusal(0x1C4, 10), v.LogFault(1, 211), v.BrokenStream([b"frame"]):
+        for fault in v.Refusal(0x1C4, 10), v.LogFault(1, 211), v.SecureBootFault(67, 548), v.BrokenStream([b"frame"]):
             for made in pickle.loads(pickle.dumps(fault)), copy.copy(fault):
                 self.assertEqual((type(made), str(made), vars(made)), (type(fault), str(fault), vars(fault)))
 

@@ -24,9 +24,10 @@ if TYPE_CHECKING:
 
 __all__ = [
     "Attest", "BrokenStream", "BUFFER_BYTES", "Caller", "CODES", "COMMANDS", "Command", "Counter", "Device", "Event", "Framer", "HASHES", "Kind",
-    "LibraryError", "LogFault", "NONCE_BYTES", "OWNER_BYTES", "Policy", "Refusal", "Registers", "Response", "Session", "Verdict",
+    "LibraryError", "LogFault", "NONCE_BYTES", "OWNER_BYTES", "Policy", "Refusal", "Registers", "Response", "SecureBoot", "SecureBootFault",
+    "SecureBootState", "Session", "Verdict",
     "build_command", "changes_nv", "check", "check_quote", "code_name", "decode_attest", "decode_command", "decode_response", "events", "replay",
-    "selection",
+    "secure_boot", "selection",
 ]
 __version__ = "0.1.0"
 
@@ -50,11 +51,14 @@ CODES = {
 }
 LOG_FAULTS = ("DONE", "TRUNCATED", "TOO_LONG", "NOT_CRYPTO_AGILE", "BAD_HEADER", "DUPLICATE_ALGORITHM", "WRONG_DIGEST_SIZE",
               "UNKNOWN_ALGORITHM", "REPEATED_DIGEST", "BAD_REGISTER", "BAD_LOCALITY", "LATE_LOCALITY")
+SECURE_BOOT_FAULTS = ("NOT_MEASURED", "OTHER_TYPE", "NO_VARIABLE", "TWICE", "OTHER_VALUE", "DEBUGGER", "BAD_SEPARATOR", "NO_SEPARATOR",
+                      "LATE", "NO_KEY", "NO_AUTHORITY")
 _DONE, _REFUSED, _NO_ROOM, _NO_COMMAND = range(4)
 _FRAMER_MORE, _FRAMER_READY, _FRAMER_BROKEN = range(3)
 _EVENT, _CALLER_OPENED = 32, 0
 _ATTEST_REFUSED, _ATTEST_NO_BANK, _ATTEST_REQUIREMENT = 17, 18, 22
 _POLICY_NO_DIGEST = 5
+_SECURE_BOOT_NO_ROOM, _SECURE_BOOT_NOT_MEASURED = 51, 64
 _DIGESTS = {"sha1": (0, 20), "sha256": (480, 32), "sha384": (1248, 48)}
 _COMMAND_NAMES = {number: name for name, number in COMMANDS.items()}
 _CODE_NAMES = {number: name for name, number in CODES.items()}
@@ -97,6 +101,20 @@ class LogFault(ValueError):
 
     def __reduce__(self) -> tuple[type[LogFault], tuple[int, int]]:
         return LogFault, (self._number, self.at)
+
+
+class SecureBootFault(ValueError):
+    """The records of register 7 tell nothing of Secure Boot: the kind of the first fault, as `NotMeasured`, and how many bytes of the log
+    precede the record that has it, or how many there are, where something is missing at the end."""
+
+    def __init__(self, kind: int, at: int) -> None:
+        name = SECURE_BOOT_FAULTS[kind - _SECURE_BOOT_NOT_MEASURED]
+        self.kind, self.at = "".join(word.capitalize() for word in name.split("_")), at
+        super().__init__(f"secure boot unknown {self.kind} at {at}")
+        self._number = kind
+
+    def __reduce__(self) -> tuple[type[SecureBootFault], tuple[int, int]]:
+        return SecureBootFault, (self._number, self.at)
 
 
 class BrokenStream(ValueError):
@@ -146,6 +164,10 @@ class _LogDigest(Structure):
 
 class _LogEvent(Structure):
     _fields_ = [("pcr", c_uint32), ("type", c_uint32), ("digest_count", c_size_t), ("digests", _LogDigest * 8), ("data", _Part)]
+
+
+class _SecureBoot(Structure):
+    _fields_ = [("dma_protection_disabled", c_uint32), ("pk", c_uint32), ("kek", c_uint32), ("db", c_uint32), ("dbx", c_uint32)]
 
 
 class _Attest(Structure):
@@ -203,6 +225,7 @@ def _load() -> tuple[ctypes.PyDLL, ctypes.CDLL]:
         ("log_replay", number, [p, size, p, count]), ("log_replay_init", None, [p]),
         ("log_replay_feed", number, [p, p, size, count]), ("log_replay_end", number, [p, p, count]),
         ("log_event", number, [p, size, POINTER(_LogPlace), POINTER(_LogEvent), count]),
+        ("log_secure_boot", number, [p, size, c_uint16, POINTER(_SecureBoot), p, size, POINTER(size), count]),
         ("log_check_quote", number, [p, size, p, size, c_uint16, count]),
         ("log_check_attest", number, [p, size, p, size, c_uint16, p, size, p, size, POINTER(_AttestFault)]),
         ("attest_decode", number, [p, size, POINTER(_Attest), refusal]),
@@ -449,6 +472,46 @@ def events(log: Log) -> Iterator[Event]:
             digests, data = {name: _part(view, it.digest) for name, it in found}, _part(view, event.data)
         yield Event(number, event.pcr, event.type, digests, data, tuple(name for name, it in found if it.hashed))
     _raise_fault(said, at.value)
+
+
+class SecureBootState(enum.Enum):
+    """SecureBoot was 1, and PK, KEK, db and an authority are there; it was 0; or it had no byte, or was not measured."""
+
+    ON, OFF, UNSET = 48, 49, 50
+
+
+class SecureBoot(NamedTuple):
+    """What a log tells of Secure Boot: its state, whether DMA protection was disabled, and how many bytes of the log precede the records
+    of PK, KEK, db and dbx, or None where one was not measured, and of each authority. It is true where the state is ON."""
+
+    state: SecureBootState
+    dma_protection_disabled: bool
+    pk: int | None
+    kek: int | None
+    db: int | None
+    dbx: int | None
+    authorities: tuple[int, ...]
+
+    def __bool__(self) -> bool:
+        return self.state is SecureBootState.ON
+
+
+def secure_boot(log: Log, bank: str = "sha256") -> SecureBoot:
+    """Whether Secure Boot was on, by the records of register 7 in the bank of this hash (PC Client Platform Firmware Profile, "PCR[7]").
+    The log is given by its bytes, its path, or a file that is read to its end. Raises LogFault, SecureBootFault for the first fault of
+    what the records tell, and ValueError for another hash. It is as true as register 7, for which `check` asks a quote."""
+    view, count, at, whole, room = _SecureBoot(), c_size_t(), c_uint32(), _whole(log), 16
+    while True:
+        places = (c_uint32 * room)()
+        answer = _lend_long("tpm_log_secure_boot", (whole,), _hash(bank), byref(view), places, room, byref(count), byref(at))
+        if answer != _SECURE_BOOT_NO_ROOM:
+            break
+        room = count.value
+    _raise_fault(answer, at.value)
+    if answer >= _SECURE_BOOT_NOT_MEASURED:
+        raise SecureBootFault(answer, at.value)
+    return SecureBoot(SecureBootState(answer), view.dma_protection_disabled != 0, view.pk or None, view.kek or None, view.db or None,
+                      view.dbx or None, tuple(places[:count.value]))
 
 
 # How each TPMS_ATTEST begins: TPM_GENERATED_VALUE (Part 2, 6.2).

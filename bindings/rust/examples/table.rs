@@ -87,6 +87,28 @@ fn tell_events(out: &mut impl Write, log: &[u8]) -> std::io::Result<()> {
     Ok(())
 }
 
+fn tell_boot(out: &mut impl Write, log: &[u8], name: &str) -> std::io::Result<()> {
+    let mut room = vec![0; 2];
+    if let Err(Fault::Room(count)) = secure_boot(log, bank(name), &mut room) {
+        room = vec![0; count];
+    }
+    let it = match secure_boot(log, bank(name), &mut room) {
+        Ok(it) => it,
+        Err(Fault::SecureBoot(fault)) => return writeln!(out, "secure-boot {name} unknown {} at {}", fault.kind, fault.at),
+        Err(fault) => return writeln!(out, "{fault}"),
+    };
+    writeln!(out, "secure-boot {name} {}", it.state)?;
+    if it.dma_protection_disabled {
+        writeln!(out, "dma-protection disabled")?;
+    }
+    for (name, at) in [("PK", it.pk), ("KEK", it.kek), ("db", it.db), ("dbx", it.dbx)] {
+        if let Some(at) = at {
+            writeln!(out, "{name} at {at}")?;
+        }
+    }
+    it.authorities.iter().try_for_each(|at| writeln!(out, "authority at {at}"))
+}
+
 fn pieces(name: &str) -> Result<Registers, Fault> {
     let (mut room, mut file, mut piece) = (Room::new(), File::open(name).unwrap(), [0; 1000]);
     let mut replay = Replay::new(&mut room).unwrap();
@@ -147,6 +169,7 @@ fn main() -> std::io::Result<()> {
             "log" => registers(out, replay(&std::fs::read(words[1])?))?,
             "pieces" => registers(out, pieces(words[1]))?,
             "events" => tell_events(out, &std::fs::read(words[1])?)?,
+            "boot" => tell_boot(out, &std::fs::read(words[1])?, words[2])?,
             "quote" => match check_quote(&std::fs::read(words[1])?, &unhex(words[2]), bank(words[3])) {
                 Ok(matches) => writeln!(out, "quote {}", if matches { "matches" } else { "differs" })?,
                 Err(fault) => writeln!(out, "{fault}")?,

@@ -3,6 +3,7 @@
 #![no_std]
 #![warn(missing_docs)]
 
+mod boots;
 mod buffers;
 #[cfg(feature = "alloc")]
 extern crate alloc;
@@ -14,6 +15,7 @@ mod states;
 
 use core::fmt;
 
+pub use boots::{secure_boot, SecureBoot, SecureBootFault, SecureBootState, SECURE_BOOT_FAULTS};
 pub use buffers::{build_command, Command, List, Response, Session};
 pub use logs::{check, check_quote, events, replay, Bank, Digest, Event, Events, Registers, Replay, Verdict};
 pub use quotes::{Attest, Policy, Selection};
@@ -80,6 +82,10 @@ pub enum Fault {
     Refused(Refusal),
     /// The log is none.
     Log(LogFault),
+    /// The records of register 7 tell nothing of Secure Boot.
+    SecureBoot(SecureBootFault),
+    /// There are more authorities, so many, than room for their places.
+    Room(usize),
     /// No command has this number.
     NoCommand,
     /// The room or a value has another length than is wanted.
@@ -102,6 +108,8 @@ impl fmt::Display for Fault {
             Fault::Version => f.write_str("the library has another version than the crate"),
             Fault::Refused(it) => it.fmt(f),
             Fault::Log(it) => it.fmt(f),
+            Fault::SecureBoot(it) => it.fmt(f),
+            Fault::Room(count) => write!(f, "there are {count} authorities, and less room"),
             Fault::Attest => f.write_str("this is a whole TPMS_ATTEST, which check takes"),
             Fault::NoCommand => f.write_str("no command has this number"),
             Fault::Length => f.write_str("the room or a value has another length than is wanted"),

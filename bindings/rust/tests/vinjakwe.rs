@@ -2,8 +2,8 @@
 use std::fmt::Write;
 use std::fs;
 use vinjakwe::{
-    changes_nv, check, check_quote, check_version, events, replay, Attest, Bank, Device, Fault, LogFault, Policy, Replay, Room, Selection,
-    Verdict, BUFFER_BYTES, DEVICE_KEPT_BYTES, NONCE_BYTES,
+    changes_nv, check, check_quote, check_version, events, replay, secure_boot, Attest, Bank, Device, Fault, LogFault, Policy, Replay, Room,
+    Selection, Verdict, BUFFER_BYTES, DEVICE_KEPT_BYTES, NONCE_BYTES,
 };
 
 fn read(name: &str) -> Vec<u8> {
@@ -44,6 +44,52 @@ fn fault_of_a_log_that_is_cut() {
     let fault = replay(&read("logs/cut_by_a_byte.log")).unwrap_err();
     assert_eq!(fault, Fault::Log(LogFault { kind: "Truncated", at: 211 }));
     assert_eq!(fault.to_string(), "log Truncated at 211");
+}
+
+// What is said of Secure Boot in a bank, as the lists beside the logs have it, without what the variables hold.
+fn boot_lines(log: &[u8], bank: Bank) -> String {
+    let mut room = [0; 8];
+    let it = match secure_boot(log, bank, &mut room) {
+        Ok(it) => it,
+        Err(Fault::SecureBoot(fault)) => return format!("secure-boot {bank} unknown {} at {}\n", fault.kind, fault.at),
+        Err(fault) => return format!("{fault}\n"),
+    };
+    let mut lines = format!("secure-boot {bank} {}\n", it.state);
+    if it.dma_protection_disabled {
+        lines += "dma-protection disabled\n";
+    }
+    for (name, at) in [("PK", it.pk), ("KEK", it.kek), ("db", it.db), ("dbx", it.dbx)] {
+        at.into_iter().for_each(|at| writeln!(lines, "{name} at {at}").unwrap());
+    }
+    it.authorities.iter().for_each(|at| writeln!(lines, "authority at {at}").unwrap());
+    lines
+}
+
+#[test]
+fn secure_boot_of_each_log_with_a_list() {
+    let logs = format!("{}/../../checks/logs", env!("CARGO_MANIFEST_DIR"));
+    let lists = fs::read_dir(logs).unwrap().map(|it| it.unwrap().path()).filter(|it| it.extension().is_some_and(|it| it == "secure"));
+    let mut count = 0;
+    for list in lists {
+        let log = fs::read(list.with_extension("log")).unwrap();
+        let (mut found, mut wanted) = (String::new(), String::new());
+        for line in fs::read_to_string(&list).unwrap().lines() {
+            if let Some(bank) = Bank::ALL.into_iter().find(|it| line.starts_with(&format!("secure-boot {it} "))) {
+                found += &boot_lines(&log, bank);
+            }
+            writeln!(wanted, "{}", line.split(" size ").next().unwrap().split(" variable ").next().unwrap()).unwrap();
+        }
+        assert_eq!(found, wanted, "{}", list.display());
+        count += 1;
+    }
+    assert!(count > 0);
+}
+
+#[test]
+fn secure_boot_of_other_logs() {
+    let cut = secure_boot(&read("logs/cut_by_a_byte.log"), Bank::Sha256, &mut []).unwrap_err();
+    assert_eq!(cut, Fault::Log(LogFault { kind: "Truncated", at: 211 }));
+    assert_eq!(secure_boot(&read("logs/secure_on.log"), Bank::Sha256, &mut [0; 1]), Err(Fault::Room(2)));
 }
 
 #[test]
