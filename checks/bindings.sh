@@ -186,7 +186,7 @@ make_layout() {
         function number(name, value) { printf "printf(\"%s %%lu\\n\", (unsigned long)%s);\n", name, value }
         BEGIN { print "#include \"vinjakwe.h\"\n#include <stdio.h>\nint main(void) {" }
         /^struct tpm_[a-z_]* \{/ &&
-            ($2 ~ /refusal|part|session|areas|attest|policy|counter|secure_boot|log_(place|digest|event)/) {
+            ($2 ~ /refusal|part|session|areas|attest|policy|counter|secure_boot|variable|log_(place|digest|event)/) {
             name = $2
             size(name)
             next
@@ -199,7 +199,7 @@ make_layout() {
         }
         /^#define TPM_(CC|RC)_/ &&
             $2 !~ /^TPM_RC_([HPS1-7])$/ { number($2, $2) }
-        /^#define TPM_(DONE|REFUSED|NO_ROOM|NO_COMMAND|EVENT|CALLER_OPENED|POLICY_NO_DIGEST) / ||
+        /^#define TPM_(DONE|REFUSED|NO_ROOM|NO_COMMAND|EVENT|VARIABLE|CALLER_OPENED|POLICY_NO_DIGEST) / ||
             /^#define TPM_(FRAMER_[A-Z]+|ATTEST_[A-Z_]+) / || /^#define TPM_ALG_SHA/ ||
             /^#define TPM_(BUFFER|OWNER|NONCE|REGISTERS|DEVICE_KEPT)_BYTES/ { number($2, $2) }
         /^#define TPM_SECURE_BOOT_/ && $2 !~ /NO_BANK$/ { number($2, $2) }
@@ -219,6 +219,7 @@ for it, name in (
     (v._CommandAreas, "command_areas"), (v._ResponseSession, "response_session"), (v._ResponseAreas, "response_areas"),
     (v._LogPlace, "log_place"), (v._LogDigest, "log_digest"), (v._LogEvent, "log_event"), (v._Attest, "attest"),
     (v._AttestFault, "attest_fault"), (v._Policy, "policy"), (v._Counter, "counter"), (v._SecureBoot, "secure_boot"),
+    (v._Variable, "variable"),
 ):
     print(f"tpm_{name} {ctypes.sizeof(it)}")
     for field, _ in it._fields_:
@@ -232,7 +233,7 @@ for i, name in enumerate(v.LOG_FAULTS):
 for name in ("BUFFER_BYTES", "OWNER_BYTES", "NONCE_BYTES", "REGISTERS_BYTES", "DEVICE_KEPT_BYTES"):
     print(f"TPM_{name} {getattr(v, name)}")
 for name in ("DONE", "REFUSED", "NO_ROOM", "NO_COMMAND", "FRAMER_MORE", "FRAMER_READY", "FRAMER_BROKEN", "EVENT",
-             "CALLER_OPENED", "ATTEST_REFUSED", "ATTEST_NO_BANK", "ATTEST_REQUIREMENT", "POLICY_NO_DIGEST"):
+             "VARIABLE", "CALLER_OPENED", "ATTEST_REFUSED", "ATTEST_NO_BANK", "ATTEST_REQUIREMENT", "POLICY_NO_DIGEST"):
     print(f"TPM_{name} {getattr(v, '_' + name)}")
 for kind in v.Kind:
     print(f"TPM_ATTEST_{kind.name} {kind.value}")

@@ -207,6 +207,17 @@ same_events() {
     done <checks/logs/faults.txt
 }
 
+# same_variables: the variables of each log that has a list of registers, by their places.
+same_variables() {
+    : >"$room/out"
+    for list in checks/logs/*.registers; do
+        log=${list%.registers}
+        echo "log ${log##*/}" >>"$room/out"
+        "$room/events" variables <"$log.log" >>"$room/out" || return 1
+    done
+    cmp "$room/out" checks/logs/variables.txt
+}
+
 # same_boots: what each log of checks/logs that has a list says of Secure Boot, without what the variables hold, in the
 # banks of its list; and a log that is none, a bank that there is not, and more authorities than the first room has.
 same_boots() {
@@ -491,6 +502,7 @@ else
     holds "the logs through C in pieces of 100 bytes" same_logs 100
     holds "a log of 1.1 MB through C" same_long_log
     holds "the records of the logs through C" same_events
+    holds "the variables of the logs through C" same_variables
     holds "whether Secure Boot was on through C" same_boots
     holds "a device through C tells what it does not know" device_faults
     holds "the power of a device behind a stream" same_power

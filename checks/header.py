@@ -85,6 +85,7 @@ def crate_numbers():
         | {"TPM_CALLER_OPENED": statuses["TPM_DONE"]}
         | constants("tpm_c", "policy", "TPM_POLICY_")
         | only(constants("tpm_c", "log_event", "TPM_"), "TPM_EVENT")
+        | only(constants("tpm_c", "variable", "TPM_"), "TPM_VARIABLE")
         | arms("tpm_c", "secure_boot", "SecureBootState", "TPM_SECURE_BOOT_")
         | arms("tpm_c", "secure_boot", "SecureBootFaultKind", "TPM_SECURE_BOOT_")
         | constants("tpm_c", "secure_boot", "TPM_SECURE_BOOT_")

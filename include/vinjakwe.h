@@ -287,6 +287,22 @@ struct tpm_log_event {
  * no call wrote the bytes are read as if a record began there. */
 uint32_t tpm_log_event(const uint8_t *log, size_t len, struct tpm_log_place *place, struct tpm_log_event *event, uint32_t *at);
 
+/* A variable of the firmware, by its parts in the data of a record: the vendor's GUID, 16 bytes as they lie in memory; the name in
+ * UTF-16, with the less significant byte of each unit first; and the value. */
+struct tpm_variable {
+    struct tpm_part guid;
+    struct tpm_part name;
+    struct tpm_part value;
+};
+
+/* A variable was told. */
+#define TPM_VARIABLE ((uint32_t)33)
+
+/* Tells the variable that these bytes, the data of a record of this type, are, all of them (UEFI_VARIABLE_DATA; PC Client Platform Firmware
+ * Profile, "Event Types"). TPM_VARIABLE: it is in `view`. TPM_LOG_DONE: they are none, or the type is another than
+ * EV_EFI_VARIABLE_DRIVER_CONFIG, EV_EFI_VARIABLE_BOOT, EV_EFI_VARIABLE_BOOT2 and EV_EFI_VARIABLE_AUTHORITY; `view` stays as it was. */
+uint32_t tpm_log_variable(uint32_t kind, const uint8_t *bytes, size_t len, struct tpm_variable *view);
+
 /* What a log tells of Secure Boot besides its state: 1 where DMA protection was disabled, else 0; and how many bytes of the log
  * precede the records of PK, KEK, db and dbx, or 0 where one was not measured. tpm_log_event tells the record at such a place, where
  * `late` is 0. */

@@ -10,8 +10,10 @@ import "C"
 
 import (
 	"bytes"
+	"encoding/binary"
 	"fmt"
 	"io"
+	"unicode/utf16"
 )
 
 // LogFault says that a log is none: the kind of its first fault, as "Truncated", and how many bytes are before it.
@@ -123,6 +125,31 @@ type Event struct {
 	Type     uint32
 	Digests  []Digest
 	Data     []byte
+}
+
+// A Variable of the firmware: its vendor's GUID as it lies in memory, its name, in which a unit that is no UTF-16 is U+FFFD, and its
+// value, which is lent from the event's data.
+type Variable struct {
+	GUID  [16]byte
+	Name  string
+	Value []byte
+}
+
+// Variable is the one that the event's data are, all of them (UEFI_VARIABLE_DATA; PC Client Platform Firmware Profile, "Event Types"),
+// and false where they are none, or the type is another than EV_EFI_VARIABLE_DRIVER_CONFIG, _BOOT, _BOOT2 and _AUTHORITY.
+func (e Event) Variable() (found Variable, is bool) {
+	var it C.struct_tpm_variable
+	if C.tpm_log_variable(C.uint32_t(e.Type), place(e.Data), size(e.Data), &it) != C.TPM_VARIABLE {
+		return found, false
+	}
+	name := part(e.Data, it.name)
+	units := make([]uint16, len(name)/2)
+	for i := range units {
+		units[i] = binary.LittleEndian.Uint16(name[2*i:])
+	}
+	copy(found.GUID[:], part(e.Data, it.guid))
+	found.Name, found.Value = string(utf16.Decode(units)), part(e.Data, it.value)
+	return found, true
 }
 
 // Events goes over the records of a log, as a bufio.Scanner over lines: Next, Event, and Err behind the last.

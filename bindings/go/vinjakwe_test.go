@@ -74,6 +74,23 @@ func TestFaultOfALogThatIsCut(t *testing.T) {
 	}
 }
 
+// The last record of the log, of Shim, has a byte behind its variable.
+func TestVariablesOfALog(t *testing.T) {
+	var names []string
+	events := NewEvents(read(t, "logs/secure_on.log"))
+	for events.Next() {
+		if it, is := events.Event().Variable(); is {
+			names = append(names, it.Name)
+			if it.Name == "SecureBoot" && !bytes.Equal(it.Value, []byte{1}) {
+				t.Error(it)
+			}
+		}
+	}
+	if found := strings.Join(names, " "); events.Err() != nil || found != "SecureBoot PK KEK db dbx db" {
+		t.Error(found, events.Err())
+	}
+}
+
 // boots gives what the lists beside the logs say of Secure Boot: the lines of each bank, without what the variables hold.
 func boots(t *testing.T) map[string]map[string][]string {
 	t.Helper()

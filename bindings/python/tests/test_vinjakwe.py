@@ -55,6 +55,33 @@ class Logs(unittest.TestCase):
             self.assertEqual(list(pool.map(v.replay, logs)), [v.replay(LOG)] * 64)
 
 
+def variables():
+    """What checks/logs/variables.txt says: of each log the places of the variables that its records' data are."""
+    found = {}
+    for line in (CHECKS / "logs" / "variables.txt").read_text().splitlines():
+        words = line.split()
+        if words[0] == "log":
+            listed = found[words[1]] = []
+        else:
+            listed.append([tuple(int(it) for it in word.split("+")) for word in words[2:]])
+    return found
+
+
+class Variables(unittest.TestCase):
+    def test_each_log_with_a_list(self):
+        for name, listed in variables().items():
+            path = CHECKS / "logs" / f"{name}.log"
+            log = path.read_bytes()
+            wanted = [[log[at:at + size] for at, size in parts] for parts in listed]
+            told = [it for it in map(v.variable, v.events(path)) if it]
+            self.assertEqual([[it.vendor.bytes_le, it.name.encode("utf-16-le", "surrogatepass"), it.value] for it in told], wanted)
+
+    def test_the_key_that_secure_boot_tells(self):
+        log = LOG.with_name("secure_on.log")
+        names = {it.name for it in map(v.variable, v.events(log)) if it}
+        self.assertLessEqual({"SecureBoot", "PK", "KEK", "db", "dbx"}, names)
+
+
 def boots():
     """What the lists beside the logs say of Secure Boot: of each bank its state or fault, and its lines by name and place."""
     for path in sorted((CHECKS / "logs").glob("*.secure")):

@@ -10,6 +10,7 @@ import ctypes
 import enum
 import os
 import re
+import uuid
 from ctypes import POINTER, Structure, byref, c_size_t, c_uint8, c_uint16, c_uint32, c_uint64, c_void_p
 from ctypes.util import find_library
 from mmap import mmap
@@ -25,9 +26,9 @@ if TYPE_CHECKING:
 __all__ = [
     "Attest", "BrokenStream", "BUFFER_BYTES", "Caller", "CODES", "COMMANDS", "Command", "Counter", "Device", "Event", "Framer", "HASHES", "Kind",
     "LibraryError", "LogFault", "NONCE_BYTES", "OWNER_BYTES", "Policy", "Refusal", "Registers", "Response", "SecureBoot", "SecureBootFault",
-    "SecureBootState", "Session", "Verdict",
+    "SecureBootState", "Session", "Variable", "Verdict",
     "build_command", "changes_nv", "check", "check_quote", "code_name", "decode_attest", "decode_command", "decode_response", "events", "replay",
-    "secure_boot", "selection",
+    "secure_boot", "selection", "variable",
 ]
 __version__ = "0.1.0"
 
@@ -55,7 +56,7 @@ SECURE_BOOT_FAULTS = ("NOT_MEASURED", "OTHER_TYPE", "NO_VARIABLE", "TWICE", "OTH
                       "LATE", "NO_KEY", "NO_AUTHORITY")
 _DONE, _REFUSED, _NO_ROOM, _NO_COMMAND = range(4)
 _FRAMER_MORE, _FRAMER_READY, _FRAMER_BROKEN = range(3)
-_EVENT, _CALLER_OPENED = 32, 0
+_EVENT, _VARIABLE, _CALLER_OPENED = 32, 33, 0
 _ATTEST_REFUSED, _ATTEST_NO_BANK, _ATTEST_REQUIREMENT = 17, 18, 22
 _POLICY_NO_DIGEST = 5
 _SECURE_BOOT_NO_ROOM, _SECURE_BOOT_NOT_MEASURED = 51, 64
@@ -166,6 +167,10 @@ class _LogEvent(Structure):
     _fields_ = [("pcr", c_uint32), ("type", c_uint32), ("digest_count", c_size_t), ("digests", _LogDigest * 8), ("data", _Part)]
 
 
+class _Variable(Structure):
+    _fields_ = [("guid", _Part), ("name", _Part), ("value", _Part)]
+
+
 class _SecureBoot(Structure):
     _fields_ = [("dma_protection_disabled", c_uint32), ("pk", c_uint32), ("kek", c_uint32), ("db", c_uint32), ("dbx", c_uint32)]
 
@@ -225,6 +230,7 @@ def _load() -> tuple[ctypes.PyDLL, ctypes.CDLL]:
         ("log_replay", number, [p, size, p, count]), ("log_replay_init", None, [p]),
         ("log_replay_feed", number, [p, p, size, count]), ("log_replay_end", number, [p, p, count]),
         ("log_event", number, [p, size, POINTER(_LogPlace), POINTER(_LogEvent), count]),
+        ("log_variable", number, [number, p, size, POINTER(_Variable)]),
         ("log_secure_boot", number, [p, size, c_uint16, POINTER(_SecureBoot), p, size, POINTER(size), count]),
         ("log_check_quote", number, [p, size, p, size, c_uint16, count]),
         ("log_check_attest", number, [p, size, p, size, c_uint16, p, size, p, size, POINTER(_AttestFault)]),
@@ -472,6 +478,25 @@ def events(log: Log) -> Iterator[Event]:
             digests, data = {name: _part(view, it.digest) for name, it in found}, _part(view, event.data)
         yield Event(number, event.pcr, event.type, digests, data, tuple(name for name, it in found if it.hashed))
     _raise_fault(said, at.value)
+
+
+class Variable(NamedTuple):
+    """A variable of the firmware: its vendor, its name and its value. Units of the name that are no UTF-16 stay as they are."""
+
+    vendor: uuid.UUID
+    name: str
+    value: bytes
+
+
+def variable(event: Event) -> Variable | None:
+    """The variable that the data of a record are, all of them (UEFI_VARIABLE_DATA; PC Client Platform Firmware Profile, "Event Types"), or
+    None where they are none, or the type is another than EV_EFI_VARIABLE_DRIVER_CONFIG, _BOOT, _BOOT2 and _AUTHORITY."""
+    view = _Variable()
+    if _lend(_library.tpm_log_variable, event.type, (event.data,), byref(view)) != _VARIABLE:
+        return None
+    with memoryview(event.data) as data:
+        name = _part(data, view.name).decode("utf-16-le", "surrogatepass")
+        return Variable(uuid.UUID(bytes_le=_part(data, view.guid)), name, _part(data, view.value))
 
 
 class SecureBootState(enum.Enum):

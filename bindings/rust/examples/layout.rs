@@ -19,6 +19,7 @@ fn main() {
     tell!(tpm_log_place, at, late);
     tell!(tpm_log_digest, hash, hashed, digest);
     tell!(tpm_log_event, pcr, r#type, digest_count, digests, data);
+    tell!(tpm_variable, guid, name, value);
     tell!(tpm_secure_boot, dma_protection_disabled, pk, kek, db, dbx);
     tell!(tpm_attest, signer, nonce, clock, reset_count, restart_count, safe, firmware_version, selections, digest);
     tell!(tpm_attest_fault, code, at, hash, pcr);

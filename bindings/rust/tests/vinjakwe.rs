@@ -46,6 +46,16 @@ fn fault_of_a_log_that_is_cut() {
     assert_eq!(fault.to_string(), "log Truncated at 211");
 }
 
+// The last record of the log, of Shim, has a byte behind its variable.
+#[test]
+fn variables_of_a_log() {
+    let log = read("logs/secure_on.log");
+    let found: Vec<_> = events(&log).filter_map(|it| it.unwrap().variable()).collect();
+    let names: Vec<String> = found.iter().map(|it| it.name_chars().collect()).collect();
+    assert_eq!(names, ["SecureBoot", "PK", "KEK", "db", "dbx", "db"]);
+    assert_eq!((found[0].guid.len(), found[0].value), (16, &[1][..]));
+}
+
 // What is said of Secure Boot in a bank, as the lists beside the logs have it, without what the variables hold.
 fn boot_lines(log: &[u8], bank: Bank) -> String {
     let mut room = [0; 8];

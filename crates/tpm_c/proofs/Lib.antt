@@ -12,3 +12,4 @@ pub mod Replies
 pub mod Sealing
 pub mod Steps
 pub mod Telling
+pub mod Varying

@@ -13,5 +13,6 @@ pub mod Quotes
 pub mod ResponseViews
 pub mod Rooms
 pub mod SecureBoots
+pub mod Variables
 pub mod Written
 pub mod Attests

@@ -18,6 +18,7 @@ mod quote;
 mod response;
 mod rooms;
 mod secure_boot;
+mod variable;
 
 pub use attest::{TpmAttest, TpmAttestFault, tpm_attest_decode, tpm_log_check_attest};
 pub use builder::tpm_command_build;
@@ -46,3 +47,4 @@ pub use rooms::{
     tpm_framer_size, tpm_log_replay_align, tpm_log_replay_size,
 };
 pub use secure_boot::{TpmSecureBoot, tpm_log_secure_boot};
+pub use variable::{TpmVariable, tpm_log_variable};

@@ -1,0 +1,58 @@
+//! The variable that the data of a record are (PC Client Platform Firmware Profile, "UEFI_VARIABLE_DATA").
+
+ghost use Rattle.std.specs.Prelude.{◌≡◌};
+ghost use Rattle.tpm_log.specs.EventData.{variable_of};
+ghost use Rattle.tpm_c.specs.Variables.{IsVariableTold};
+
+use crate::part::TpmPart;
+use arrayvec::ArrayVec;
+use tpm_log::Event;
+
+/// A variable was told.
+const VARIABLE: u32 = 33;
+
+/// A variable, by its parts in the data: the vendor's GUID as it lies in memory, the name in UTF-16
+/// with the less significant byte of each unit first, and the value.
+#[repr(C)]
+#[derive(Clone, Copy)]
+pub struct TpmVariable {
+    pub guid: TpmPart,
+    pub name: TpmPart,
+    pub value: TpmPart,
+}
+
+/// Tells the variable that these bytes, the data of a record of this type, are, all of them, and
+/// answers 33; or answers 0 where they are none, or records of the type have none. `view` is then
+/// as it was.
+#[unsafe(no_mangle)]
+pub extern "C" fn tpm_log_variable(kind: u32, bytes: &[u8], view: &mut TpmVariable) -> u32
+    ensures { IsVariableTold (variable_of kind bytes.now) bytes.now view.old view.new result }
+{
+    let event = Event {
+        register: 0,
+        kind,
+        digests: ArrayVec::new(),
+        event: bytes,
+    };
+    match event.variable() {
+        Some(variable) => {
+            let behind = bytes.len() - variable.value.len();
+            *view = TpmVariable {
+                guid: TpmPart {
+                    at: 0,
+                    len: variable.guid.len(),
+                },
+                name: TpmPart {
+                    at: behind - variable.name.len(),
+                    len: variable.name.len(),
+                },
+                value: TpmPart {
+                    at: behind,
+                    len: variable.value.len(),
+                },
+            };
+            VARIABLE
+        }
+        None => 0,
+    }
+}
