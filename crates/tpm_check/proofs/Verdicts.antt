@@ -1,9 +1,9 @@
 -- A quote as it was signed.
-use Rattle.std.proofs.Common.{◌≡◌, ℕ, ◌+◌, List, [], ◌++◌, cond, Option, Some, None, refl, sym, arith}
+use Rattle.std.proofs.Common.{◌≡◌, ℕ, ◌+◌, List, [], ◌++◌, cond, Option, Some, None, option_map, refl, sym, subst, arith}
 use Rattle.std.proofs.lemmas.List.{append-nil}
-use Rattle.std.specs.Prelude.{suc}
+use Rattle.std.specs.Prelude.{suc, MatchOption}
+use Rattle.std.specs.Borrow.{Bor}
 use Rattle.tpm_types.specs.declared.alg.Alg.{Alg}
-use Rattle.tpm_types.specs.declared.tpms.Selection.{Selection}
 use Rattle.tpm_types.specs.Tpms.{is_selected}
 use Rattle.tpm_lines.specs.declared.status.Status.TheVariants.{Done, Refused}
 use Rattle.tpm_lines.specs.declared.status.Status.{Status}
@@ -11,7 +11,9 @@ use Rattle.tpm_lines.specs.Status.{both}
 use Rattle.tpm_lines.specs.Text.{bytes_in}
 use Rattle.tpm_check.specs.Compare.{Values}
 use Rattle.tpm_check.specs.Check.{ChecksQuote, ChecksValues}
-use Rattle.tpm_check.specs.CheckAttest.{register_word, register_words, ChecksGiven, ChecksAll}
+use Rattle.tpm_check.specs.CheckAttest.{register_word, register_words, ChecksGiven, Quoted}
+use Rattle.tpm_check.specs.Checked.{ChecksAll, ChecksBesides, quote_of}
+use Rattle.tpm_check.specs.declared.checked.Compared.{Compared}
 
 pub words-more : (select : List ℕ) (n : ℕ) → register_words select (n + 1) ≡ register_words select n ++ cond (is_selected select n) (register_word n) []
 words-more select n = let e : n + 1 ≡ suc n = omega arith in rw e refl
@@ -22,15 +24,38 @@ both-done Refused = refl
 
 -- ---- what comes behind the verdicts
 
-module _ (value : Values) (hash : Alg) (nonce : Option (List ℕ)) (required : Option (List Selection)) (bytes : List ℕ) (first : Status) (said : List ℕ)
-    (given : ChecksGiven value hash nonce required bytes first said) where
-  pub alone : ChecksAll value hash nonce required bytes None None first said
-  alone = (first, Done, said, [], given, (refl, refl), sym (both-done first), sym (append-nil said))
+besides_none : (value : Values) (hash : Alg) (quote : Option (Bor (List ℕ))) → quote ≡ None
+    → ChecksBesides value hash None (option_map (λ q. q.now) quote) Done []
+besides_none value hash None none = (refl, refl)
+besides_none value hash (Some quote) none = absurd cc
 
-  pub with_quote : (quote more : List ℕ) (second : Status) → ChecksQuote value hash (bytes_in quote) second more
-      → ChecksAll value hash nonce required bytes None (Some quote) (both first second) (said ++ more)
-  with_quote quote more second checks = (first, second, said, more, given, checks, refl, refl)
+besides_quote : (value : Values) (hash : Alg) (quote : Option (Bor (List ℕ))) (x : Bor (List ℕ)) (status : Status) (text : List ℕ) → quote ≡ Some x
+    → ChecksQuote value hash (bytes_in x.now) status text → ChecksBesides value hash None (option_map (λ q. q.now) quote) status text
+besides_quote value hash quote x status text some checks =
+    subst (λ (o : Option (Bor (List ℕ))). ChecksBesides value hash None (option_map (λ q. q.now) o) status text) (sym some) checks
 
-  pub with_list : (list : List ℕ) (quote : Option (List ℕ)) (more : List ℕ) (second : Status) → ChecksValues value hash (Some list) quote second more
-      → ChecksAll value hash nonce required bytes (Some list) quote (both first second) (said ++ more)
-  with_list list quote more second checks = (first, second, said, more, given, checks, refl, refl)
+by_some : {X : Type 0} (o : Option X) (x : X) (P : Type 0) (Q : X → Type 0) → o ≡ Some x → Q x → MatchOption o P Q
+by_some o x P Q is q = subst (λ p. MatchOption p P Q) (sym is) q
+
+module _ (value : Values) (c : Compared) (q : Quoted) (is : c.signed ≡ Some q) (first : Status) (said : List ℕ)
+    (given : ChecksGiven value c.hash q first said) where
+  behind : (list : Option (List ℕ)) (second : Status) (more : List ℕ) → ChecksBesides value c.hash list (quote_of c) second more
+      → ChecksAll value c list (both first second) (said ++ more)
+  behind list second more besides = by_some c.signed q _ _ is (first, second, said, more, given, besides, refl, refl)
+
+  pub alone : c.quote ≡ None → ChecksAll value c None first said
+  alone none =
+      by_some c.signed q _ _ is (first, Done, said, [], given, besides_none value c.hash c.quote none, sym (both-done first), sym (append-nil said))
+
+  pub with_quote : (quote : Bor (List ℕ)) (more : List ℕ) (second : Status) → c.quote ≡ Some quote
+      → ChecksQuote value c.hash (bytes_in quote.now) second more → ChecksAll value c None (both first second) (said ++ more)
+  with_quote quote more second some checks = behind None second more (besides_quote value c.hash c.quote quote second more some checks)
+
+  pub with_list : (list more : List ℕ) (second : Status) → ChecksValues value c.hash (Some list) (quote_of c) second more
+      → ChecksAll value c (Some list) (both first second) (said ++ more)
+  with_list list more second checks = behind (Some list) second more checks
+
+-- A status that is the same.
+pub with_status : (value : Values) (c : Compared) (list : Option (List ℕ)) (status other : Status) (text : List ℕ) → status ≡ other
+    → ChecksAll value c list other text → ChecksAll value c list status text
+with_status value c list status other text same checks = subst (λ (s : Status). ChecksAll value c list s text) (sym same) checks

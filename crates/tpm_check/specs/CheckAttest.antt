@@ -1,6 +1,6 @@
 -- What `check` prints of a quote as it was signed (this profile).
 use Rattle.std.specs.Prelude.{◌≡◌, ◌⊎◌, ℕ, zero, suc, Bool, true, false, List, [], ◌∷◌, ◌++◌, codes, Option, Some, None}
-use Rattle.std.specs.Prelude.{Result, Ok, Err, if◌then◌else◌}
+use Rattle.std.specs.Prelude.{if◌then◌else◌, MatchOption}
 use Rattle.std.specs.Str.{bytes_eq}
 use Rattle.std.specs.Fmt.{decimal}
 use Rattle.std.specs.List.{flat_map}
@@ -13,17 +13,14 @@ use Rattle.tpm_types.specs.declared.attest.ClockInfo.{ClockInfo}
 use Rattle.tpm_types.specs.declared.attest.Attest.{Attest}
 use Rattle.tpm_types.specs.Attest.{attest}
 use Rattle.tpm_types.specs.Tpms.{is_selected}
-use Rattle.tpm_model.specs.Registers.{Registers, composite, value_in}
-use Rattle.tpm_log.specs.declared.fault.LogFault.{LogFault}
+use Rattle.tpm_model.specs.Registers.{composite}
 use Rattle.tpm_quote.specs.declared.attest.NotSelected.{NotSelected}
 use Rattle.tpm_quote.specs.Attests.{first_not_selected, registers_of}
-use Rattle.tpm_log.specs.Takes.{IsOfBytes}
 use Rattle.tpm_lines.specs.declared.status.Status.TheVariants.{Done, Refused}
 use Rattle.tpm_lines.specs.declared.status.Status.{Status}
 use Rattle.tpm_lines.specs.Status.{both}
 use Rattle.tpm_lines.specs.Text.{bytes_in, bytes_text, hexadecimal, line, refusal_line, not_hexadecimal_line}
 use Rattle.tpm_check.specs.Compare.{Values, bank_name}
-use Rattle.tpm_check.specs.Check.{ChecksValues, ReadsIfList, log_fault_line}
 
 -- ---- what the quote says: TPMS_ATTEST (Part 2, 10.12)
 
@@ -128,46 +125,27 @@ Adds v status old new = (status ≡ v.status) × (new ≡ old ++ v.text)
 abbrev pub Says : Verdict → Status → List ℕ → Type 0
 Says v status text = (status ≡ v.status) × (text ≡ v.text)
 
--- the quote that the bytes spell, and else their fault
-abbrev pub ChecksAttest : Values → Alg → (sent : Option (List ℕ)) → (required : Option (List Selection))
-    → (bytes : List ℕ) → Status → List ℕ → Type 0
-ChecksAttest value hash sent required bytes status text =
-    ((a : Attest) × Spells attest a bytes × Says (on_attest value hash sent required a) status text)
-    ⊎ ((refusal : Refusal) × Fault attest bytes refusal × (status ≡ Refused) × (text ≡ refusal_line refusal))
+-- a quote as it was signed: its bytes, the nonce that was sent and the registers that are required
+pub record Quoted : Type 0 where
+  pub bytes : List ℕ
+  pub sent : Option (List ℕ)
+  pub required : Option (List Selection)
 
-abbrev pub ChecksDecoded : Values → Alg → (sent : Option (List ℕ)) → (required : Option (List Selection))
-    → (bytes : List ℕ) → Status → List ℕ → Type 0
-ChecksDecoded value hash None required bytes status text = (status ≡ Refused) × (text ≡ not_hexadecimal_line)
-ChecksDecoded value hash (Some sent) required bytes status text =
-    ChecksAttest value hash (Some sent) required bytes status text
+-- the same with this nonce
+abbrev pub sent_with : Quoted → Option (List ℕ) → Quoted
+sent_with q sent = record { bytes = q.bytes; sent = sent; required = q.required }
+
+-- the quote that the bytes spell, and else their fault
+abbrev pub ChecksAttest : Values → Alg → Quoted → Status → List ℕ → Type 0
+ChecksAttest value hash q status text =
+    ((a : Attest) × Spells attest a q.bytes × Says (on_attest value hash q.sent q.required a) status text)
+    ⊎ ((refusal : Refusal) × Fault attest q.bytes refusal × (status ≡ Refused) × (text ≡ refusal_line refusal))
 
 -- the same with the nonce by its hexadecimal digits
-abbrev pub ChecksGiven : Values → Alg → (sent : Option (List ℕ)) → (required : Option (List Selection))
-    → (bytes : List ℕ) → Status → List ℕ → Type 0
-ChecksGiven value hash None required bytes status text = ChecksAttest value hash None required bytes status text
-ChecksGiven value hash (Some sent) required bytes status text =
-    ChecksDecoded value hash (bytes_in sent) required bytes status text
-
--- Besides: a list of registers and the information of a quote, where one of them is given.
-abbrev pub ChecksBesides : Values → Alg → (list quote : Option (List ℕ)) → Status → List ℕ → Type 0
-ChecksBesides value hash None None status text = (status ≡ Done) × (text ≡ [])
-ChecksBesides value hash None (Some quote) status text = ChecksValues value hash None (Some quote) status text
-ChecksBesides value hash (Some list) quote status text = ChecksValues value hash (Some list) quote status text
-
--- What was printed of the quote as it was signed, with its status, comes before that.
-abbrev pub ChecksAll : Values → Alg → (sent : Option (List ℕ)) → (required : Option (List Selection))
-    → (bytes : List ℕ) → (list quote : Option (List ℕ)) → Status → List ℕ → Type 0
-ChecksAll value hash sent required bytes list quote status text = (first second : Status) × (said more : List ℕ)
-    × ChecksGiven value hash sent required bytes first said × ChecksBesides value hash list quote second more
-    × (status ≡ both first second) × (text ≡ said ++ more)
-
--- For what the log gives this is the status and the text; a list is not read behind a fault.
-abbrev pub ChecksSigned : {F : Type 0} → Result Registers LogFault → Alg → (sent : Option (List ℕ))
-    → (required : Option (List Selection)) → (bytes : List ℕ)
-    → (coming : F → Option (List ℕ)) → (old new : Option F) → (quote : Option (List ℕ)) → Status → List ℕ → Type 0
-ChecksSigned (Ok found) hash sent required bytes coming old new quote status text =
-    (list : Option (List ℕ))
-    × ReadsIfList (value_in found.banks) coming old new list
-    × ChecksAll (value_in found.banks) hash sent required bytes list quote status text
-ChecksSigned (Err fault) hash sent required bytes coming old new quote status text =
-    (new ≡ old) × IsOfBytes fault.kind × (status ≡ Refused) × (text ≡ log_fault_line fault)
+abbrev pub ChecksGiven : Values → Alg → Quoted → Status → List ℕ → Type 0
+ChecksGiven value hash q status text =
+    MatchOption q.sent
+    (ChecksAttest value hash (sent_with q None) status text)
+    (λ digits. MatchOption (bytes_in digits)
+    ((status ≡ Refused) × (text ≡ not_hexadecimal_line))
+    (λ sent. ChecksAttest value hash (sent_with q (Some sent)) status text))

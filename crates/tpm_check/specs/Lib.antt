@@ -2,6 +2,7 @@ pub mod Compare
 pub mod Comparing
 pub mod Check
 pub mod CheckAttest
+pub mod Checked
 pub mod EventTypes
 pub mod Reads
 pub mod Utf16

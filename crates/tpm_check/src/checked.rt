@@ -9,14 +9,17 @@ ghost use Rattle.tpm_lines.specs.Faults.{FailsByMemoryOrWrite};
 ghost use Rattle.tpm_lines.specs.Text.{bytes_in};
 ghost use Rattle.tpm_lines.specs.InputLines.{CountsRead};
 ghost use Rattle.tpm_check.specs.Compare.{registers_text, ReadsList, ReadsTooMuchList};
-ghost use Rattle.tpm_check.specs.Check.{ChecksQuote, ChecksValues, ChecksLog, CountsReads, FailsLast};
+ghost use Rattle.tpm_check.specs.Check.{ChecksQuote, ChecksValues, CountsReads, FailsLast};
 ghost use Rattle.tpm_check.specs.Check.{ReadsTooMuchIfList, list_before, list_after, log_fault_line};
+ghost use Rattle.tpm_check.specs.CheckAttest.{ChecksGiven};
+ghost use Rattle.tpm_check.specs.Checked.{ChecksAll, ChecksLog, quote_of};
 ghost use Rattle.tpm_log.specs.Changes.{AreAfter};
 ghost use Rattle.tpm_log.specs.Replays.{ReplaysFrom, ReadsFrom};
 ghost use Rattle.tpm_log.specs.declared.fault.LogFault.{LogFault as LogFaultValue};
 ghost use Rattle.tpm_wire.specs.Sources.{IsWhereItFailed};
 
 use crate::compared::check_list;
+use crate::judged::{Signed, answer_to_given};
 use crate::quoted::answer_to_quote;
 use crate::register_text::{push_log_fault, push_registers};
 use std::alloc::Global;
@@ -28,6 +31,17 @@ use tpm_log::{LogFault, LogFaultKind, replay_from};
 use tpm_store::Registers;
 use tpm_types::Alg;
 use tpm_wire::Source;
+
+/// What the registers of a log are compared with, besides a list of them.
+#[derive(Drop)]
+pub struct Compared<'a> {
+    /// A quote as it was signed, and what is expected of it.
+    pub signed: Option<Signed<'a>>,
+    /// The information of a quote (TPMS_QUOTE_INFO; Part 2, 10.12.4), in hexadecimal digits.
+    pub quote: Option<&'a str>,
+    /// The hash of the digests in both.
+    pub hash: Alg,
+}
 
 /// Prints the fault of a log.
 pub(crate) fn print_fault<W: Write>(
@@ -61,8 +75,8 @@ fn print_registers<W: Write>(
     Ok(Status::Done)
 }
 
-/// Prints what a quote's information in hexadecimal says of registers.
-pub(crate) fn print_quote<W: Write>(
+// Prints what a quote's information in hexadecimal says of registers.
+fn print_quote<W: Write>(
     alloc: Global,
     found: &Registers,
     hash: Alg,
@@ -77,41 +91,54 @@ pub(crate) fn print_quote<W: Write>(
     answer_to_quote(alloc, found, hash, quote)?.print(out)
 }
 
-// Prints registers without a list: what the quote says of them, or the registers.
-fn check_alone<W: Write>(
+// Prints what a quote as it was signed says of registers.
+fn print_signed<W: Write>(
     alloc: Global,
     found: &Registers,
-    quote: Option<&str>,
     hash: Alg,
+    signed: &Signed<'_>,
     out: &mut W,
 ) -> Result<Status, ToolFault>
     ensures ok { IfOk result (λ status. (text : List ℕ)
-        × ChecksValues (value_in found.now.banks) hash None
-        (option_map (λ q. q.now) quote.entry) status text
+        × ChecksGiven (value_in found.now.banks) hash signed.now status text
         × Appends (W.contents out.old) (W.contents out.new) text) }
     ensures err { FailsByMemoryOrWrite result }
 {
-    match quote {
-        Some(quote) => print_quote(alloc, found, hash, quote, out),
+    answer_to_given(alloc, found, hash, signed)?.print(out)
+}
+
+// Prints what a quote's information says of registers, or the registers where there is none.
+fn print_values<W: Write>(
+    alloc: Global,
+    found: &Registers,
+    compared: &Compared<'_>,
+    out: &mut W,
+) -> Result<Status, ToolFault>
+    ensures ok { IfOk result (λ status. (text : List ℕ)
+        × ChecksValues (value_in found.now.banks) compared.now.hash None (quote_of compared.now) status text
+        × Appends (W.contents out.old) (W.contents out.new) text) }
+    ensures err { FailsByMemoryOrWrite result }
+{
+    match compared.quote {
+        Some(quote) => print_quote(alloc, found, compared.hash, quote, out),
         None => print_registers(alloc, found, out),
     }
 }
 
-/// Prints each line of a list beside registers, and then what the quote says of them.
-pub(crate) fn check_stated<F: Source, W: Write>(
+// Prints each line of a list beside registers, and then what a quote's information says of them.
+fn print_compared<F: Source, W: Write>(
     alloc: Global,
     found: &Registers,
+    compared: &Compared<'_>,
     list: &mut F,
-    quote: Option<&str>,
-    hash: Alg,
     out: &mut W,
 ) -> Result<Status, ToolFault>
     ensures failures { CountsRead (F.failed list.old) (F.failed list.new) result }
     ensures stop { IsErrOf result Read → IsWhereItFailed (F.stopped list.new) }
     ensures ok { IfOk result (λ status. (bytes : List ℕ) × (text : List ℕ)
         × ReadsList (value_in found.now.banks) (F.coming list.old) (F.coming list.new) bytes
-        × ChecksValues (value_in found.now.banks) hash (Some bytes)
-        (option_map (λ q. q.now) quote.entry) status text
+        × ChecksValues (value_in found.now.banks) compared.now.hash (Some bytes)
+        (quote_of compared.now) status text
         × Appends (W.contents out.old) (W.contents out.new) text) }
     ensures too_long { IsErrOf result InputTooLong
         → ReadsTooMuchList (F.coming list.old) (F.coming list.new) }
@@ -119,24 +146,82 @@ pub(crate) fn check_stated<F: Source, W: Write>(
     let Some(first) = check_list(alloc, found, list, out)? else {
         return Ok(Status::Refused);
     };
-    let Some(quote) = quote else {
+    let Some(quote) = compared.quote else {
         return Ok(first);
     };
-    let second = print_quote(alloc, found, hash, quote, out)?;
+    let second = print_quote(alloc, found, compared.hash, quote, out)?;
     Ok(first.both(second))
 }
 
-/// Replays a log of a measured boot, and prints the registers that it gives, or compares them with a list and with a
-/// quote.
+// Compares registers with the quotes that are given.
+fn check_alone<W: Write>(
+    alloc: Global,
+    found: &Registers,
+    compared: &Compared<'_>,
+    out: &mut W,
+) -> Result<Status, ToolFault>
+    ensures ok { IfOk result (λ status. (text : List ℕ)
+        × ChecksAll (value_in found.now.banks) compared.now None status text
+        × Appends (W.contents out.old) (W.contents out.new) text) }
+    ensures err { FailsByMemoryOrWrite result }
+{
+    let Some(signed) = &compared.signed else {
+        return print_values(alloc, found, compared, out);
+    };
+    let first = print_signed(alloc, found, compared.hash, signed, out)?;
+    let Some(quote) = compared.quote else {
+        return Ok(first);
+    };
+    let second = print_quote(alloc, found, compared.hash, quote, out)?;
+    Ok(first.both(second))
+}
+
+// Compares registers with the quotes that are given, and with a list.
+fn check_stated<F: Source, W: Write>(
+    alloc: Global,
+    found: &Registers,
+    compared: &Compared<'_>,
+    list: &mut F,
+    out: &mut W,
+) -> Result<Status, ToolFault>
+    ensures failures { CountsRead (F.failed list.old) (F.failed list.new) result }
+    ensures stop { IsErrOf result Read → IsWhereItFailed (F.stopped list.new) }
+    ensures ok { IfOk result (λ status. (bytes : List ℕ) × (text : List ℕ)
+        × ReadsList (value_in found.now.banks) (F.coming list.old) (F.coming list.new) bytes
+        × ChecksAll (value_in found.now.banks) compared.now (Some bytes) status text
+        × Appends (W.contents out.old) (W.contents out.new) text) }
+    ensures too_long { IsErrOf result InputTooLong
+        → ReadsTooMuchList (F.coming list.old) (F.coming list.new) }
+{
+    let Some(signed) = &compared.signed else {
+        return print_compared(alloc, found, compared, list, out);
+    };
+    let first = print_signed(alloc, found, compared.hash, signed, out)?;
+    let second = print_compared(alloc, found, compared, list, out)?;
+    Ok(first.both(second))
+}
+
+/// Replays a log of a measured boot, and prints the registers that it gives, or compares them with what is given: a
+/// quote as it was signed, a list of registers, and the information of a quote.
 ///
-/// A fault of the log is `log KIND at N`, the kind and how many bytes precede it, and ends the output. Without a list
-/// and a quote the registers are printed, `sha1 I X` for each of the 24, then `sha256 I X` and `sha384 I X`. For each
-/// line of a list that states a register, in that form or as `tpm2_pcrread` prints it below the bank's heading,
-/// `match BANK I` or `differs BANK I` is printed, and nothing for a heading and for a register below that of SHA-512,
-/// SM3 or SHA-3; any other line is `line N: not a register`, which ends the output. The quote, the information of one
-/// (TPMS_QUOTE_INFO; Part 2, 10.12.4) in hexadecimal, comes last: `quote matches` or `quote differs`, by its digest
-/// under this hash; where it is not hexadecimal `not hexadecimal`, and where the bytes spell none `refused XXX at N`.
-/// The status is `Refused` for a fault, for what differs and for what is refused.
+/// A fault of the log is `log KIND at N`, the kind and how many bytes precede it, and ends the output. Where nothing
+/// is given the registers are printed, `sha1 I X` for each of the 24, then `sha256 I X` and `sha384 I X`.
+///
+/// The quote as it was signed comes first. Where the nonce is not hexadecimal `not hexadecimal` is printed, and where
+/// the bytes spell no quote `refused XXX at N`. Else a line each says what the quote does (TPMS_ATTEST; Part 2,
+/// 10.12): `signer`, `nonce`, `clock`, `resets`, `restarts`, `safe`, `firmware`, and `selection` with each bank and
+/// its registers. Then come the verdicts: `nonce matches`, `nonce differs`, or without a nonce `nonce not compared`;
+/// `selection covers`, or `selection lacks BANK I` for the first register that is required and not selected, or where
+/// none is required `selection not compared`, and `selection empty` for a quote that selects none; and `quote matches`
+/// or `quote differs`, by its digest under the hash. The signature is not looked at.
+///
+/// For each line of a list that states a register, in the form of above or as `tpm2_pcrread` prints it below the
+/// bank's heading, `match BANK I` or `differs BANK I` is printed, and nothing for a heading and for a register below
+/// that of SHA-512, SM3 or SHA-3; any other line is `line N: not a register`, which ends the output.
+///
+/// The quote's information comes last: `quote matches` or `quote differs`, by its digest under the hash; where it is
+/// not hexadecimal `not hexadecimal`, and where the bytes spell none `refused XXX at N`. The status is `Refused` for a
+/// fault, for what differs, for what is lacking and for what is refused.
 ///
 /// Where a request for memory is refused the answer is `Memory`, where a read of the log or of the list fails `Read`,
 /// where the writer fails `Write`, and where more than 16,777,216 bytes of a list come before its output has ended
@@ -144,33 +229,36 @@ pub(crate) fn check_stated<F: Source, W: Write>(
 pub fn check_log<L: Source, F: Source, W: Write>(
     alloc: Global,
     log: &mut L,
-    registers: Option<&mut F>,
-    quote: Option<&str>,
-    hash: Alg,
+    compared: &Compared<'_>,
+    list: Option<&mut F>,
     out: &mut W,
 ) -> Result<Status, ToolFault>
     ensures failures { CountsReads F.failed (L.failed log.old) (L.failed log.new)
-        (list_before registers.entry) (list_after registers.exit) result }
+        (list_before list.entry) (list_after list.exit) result }
     ensures stop { IsErrOf result Read
         → FailsLast F.failed F.stopped (L.failed log.old) (L.failed log.new) (L.stopped log.new)
-        (list_before registers.entry) (list_after registers.exit) }
+        (list_before list.entry) (list_after list.exit) }
     ensures ok { IfOk result (λ status. (found : Result RegistersValue LogFaultValue)
         × (text : List ℕ)
         × ReplaysFrom AreAfter (L.coming log.old) (L.failed log.old) (L.failed log.new) found
         × ReadsFrom AreAfter (L.coming log.old) (L.coming log.new) found
-        × ChecksLog found hash F.coming (list_before registers.entry)
-        (list_after registers.exit) (option_map (λ q. q.now) quote.entry) status text
+        × ChecksLog (record {
+          compared = compared.now;
+          coming = F.coming;
+          list = list_before list.entry;
+          list-behind = list_after list.exit;
+        }) found status text
         × Appends (W.contents out.old) (W.contents out.new) text) }
     ensures too_long { IsErrOf result InputTooLong
-        → ReadsTooMuchIfList F.coming (list_before registers.entry) (list_after registers.exit) }
+        → ReadsTooMuchIfList F.coming (list_before list.entry) (list_after list.exit) }
 {
     let found = match replay_from(log) {
         Ok(found) => found,
         Err(fault) if fault.kind == LogFaultKind::Device => return Err(ToolFault::Read),
         Err(fault) => return print_fault(alloc, &fault, out),
     };
-    match registers {
-        Some(list) => check_stated(alloc, &found, list, quote, hash, out),
-        None => check_alone(alloc, &found, quote, hash, out),
+    match list {
+        Some(list) => check_stated(alloc, &found, compared, list, out),
+        None => check_alone(alloc, &found, compared, out),
     }
 }

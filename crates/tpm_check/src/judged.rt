@@ -10,6 +10,7 @@ ghost use Rattle.tpm_check.specs.CheckAttest.{on_selection, on_quote, on_attest,
 use crate::register_text::bank_name;
 use crate::signed_text::push_attest;
 use std::alloc::{AllocError, Global};
+use std::marker::Model;
 use tpm_lines::answer::Answer;
 use tpm_lines::hexadecimal::decoded;
 use tpm_lines::status::Status;
@@ -29,6 +30,19 @@ pub struct Signed<'a> {
     pub nonce: Option<&'a str>,
     /// The registers that have to be selected at least. Without them a quote has to select a register, whichever it is.
     pub required: Option<Selections>,
+}
+
+impl<'a> Model for Signed<'a> {
+    ghost use Rattle.std.specs.Prelude.{option_map};
+    ghost use Rattle.tpm_check.specs.CheckAttest.{Quoted};
+
+    ghost Value = { Quoted };
+
+    ghost view = { λ s. record {
+      bytes = s.attest.now;
+      sent = option_map (λ n. n.now) s.nonce;
+      required = s.required;
+    } };
 }
 
 // Adds the line that says whether what this word names is the same, and answers its status.
@@ -178,9 +192,11 @@ fn answer_to_attest(
     required: Option<&Selections>,
     bytes: &[u8],
 ) -> Result<Answer, AllocError>
-    ensures { IfOk result (λ a. ChecksAttest (value_in found.now.banks) hash
-        (option_map (λ s. s.now) sent.entry) (option_map (λ r. r.now) required.entry) bytes.now
-        a.status (string_bytes a.text)) }
+    ensures { IfOk result (λ a. ChecksAttest (value_in found.now.banks) hash (record {
+      bytes = bytes.now;
+      sent = option_map (λ s. s.now) sent.entry;
+      required = option_map (λ r. r.now) required.entry;
+    }) a.status (string_bytes a.text)) }
 {
     match decode_attest(bytes) {
         Ok(attest) => answer_to_signed(alloc, found, hash, sent, required, &attest),
@@ -195,8 +211,7 @@ pub(crate) fn answer_to_given(
     hash: Alg,
     signed: &Signed<'_>,
 ) -> Result<Answer, AllocError>
-    ensures { IfOk result (λ a. ChecksGiven (value_in found.now.banks) hash
-        (option_map (λ n. n.now) signed.now.nonce) signed.now.required signed.now.attest.now
+    ensures { IfOk result (λ a. ChecksGiven (value_in found.now.banks) hash signed.now
         a.status (string_bytes a.text)) }
 {
     let required = signed.required.as_ref();

@@ -3,7 +3,6 @@
 #![tactic(auto)]
 
 mod checked;
-mod checked_signed;
 mod compared;
 mod event_json;
 mod event_lines;
@@ -23,8 +22,7 @@ mod signed_text;
 mod stated;
 mod told_secure_boot;
 
-pub use checked::check_log;
-pub use checked_signed::check_signed;
+pub use checked::{Compared, check_log};
 pub use held_lines::HeldLines;
 pub use judged::Signed;
 pub use kinds::explain_kind;

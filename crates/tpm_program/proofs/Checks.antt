@@ -11,14 +11,15 @@ use Rattle.tpm_lines.specs.declared.fault.ToolFault.TheVariants.{Memory, Read, W
 use Rattle.tpm_lines.specs.declared.fault.ToolFault.{ToolFault}
 use Rattle.tpm_lines.specs.declared.status.Status.{Status}
 use Rattle.tpm_args.specs.declared.task.Task.TheVariants.{Check}
-use Rattle.tpm_check.specs.Check.{ChecksLog, ReadsTooMuchIfList}
-use Rattle.tpm_check.specs.CheckAttest.{ChecksSigned}
+use Rattle.tpm_check.specs.Check.{ReadsTooMuchIfList}
+use Rattle.tpm_check.specs.Checked.{ChecksLog}
+use Rattle.tpm_check.specs.declared.checked.Compared.{Compared}
 use Rattle.tpm_program.specs.declared.fault.Fault.TheVariants.{File, Tool}
 use Rattle.tpm_program.specs.declared.fault.Fault.{Fault}
 use Rattle.tpm_program.specs.Offered.{Offered, OfFileIf}
-use Rattle.tpm_program.specs.Performs.{PrintsCompared, Quoted, is_coming}
+use Rattle.tpm_program.specs.Performs.{PrintsCompared, is_coming}
 use Rattle.tpm_program.specs.Fails.{Beside, Fails, FailsAt, FailsAtIf, FailsBeside, IsNotOpened, IsNotOpenedIf, IsOfReading, IsOpened, read_last}
-use Rattle.tpm_program.proofs.ByBytes.{log_by_bytes, signed_by_bytes}
+use Rattle.tpm_program.proofs.ByBytes.{log_by_bytes}
 
 -- ---- what is printed
 
@@ -27,34 +28,19 @@ replayed : (coming : Option (List ℕ)) (old new : ℕ) (found : Result Register
 replayed coming old new found f g h =
     subst (λ (n : ℕ). ReplaysFrom AreAfter coming n n found) f (subst (λ (n : ℕ). ReplaysFrom AreAfter coming old n found) g h)
 
-pub plain : {F : Type 0} (coming : F → Option (List ℕ)) (log log-2 : Option (List ℕ)) (old new : ℕ) (before after : Option F)
-    (quote : Option (List ℕ)) (hash : Alg) (status : Status) (text : List ℕ) (found : Result Registers LogFault)
+pub printed : {F : Type 0} (coming : F → Option (List ℕ)) (log log-2 : Option (List ℕ)) (old new : ℕ) (before after : Option F)
+    (c : Compared) (status : Status) (text : List ℕ) (found : Result Registers LogFault)
     → old ≡ 0 → new ≡ old
     → ReplaysFrom AreAfter log old new found → ReadsFrom AreAfter log log-2 found
-    → ChecksLog found hash coming before after quote status text
-    → PrintsCompared (record { log = log; list = option_map coming before; signed = None; quote = quote; hash = hash }) status text
-plain coming log log-2 old new before after quote hash status text found f g replays reads checks = (
+    → ChecksLog (record { compared = c; coming = coming; list = before; list-behind = after }) found status text
+    → PrintsCompared (record { log = log; list = option_map coming before; compared = c }) status text
+printed coming log log-2 old new before after c status text found f g replays reads checks = (
   found,
   log-2,
   option_map coming after,
   replayed log old new found f g replays,
   reads,
-  log_by_bytes found hash coming before after quote status text checks,
-)
-
-pub attested : {F : Type 0} (coming : F → Option (List ℕ)) (log log-2 : Option (List ℕ)) (old new : ℕ) (before after : Option F)
-    (q : Quoted) (quote : Option (List ℕ)) (hash : Alg) (status : Status) (text : List ℕ) (found : Result Registers LogFault)
-    → old ≡ 0 → new ≡ old
-    → ReplaysFrom AreAfter log old new found → ReadsFrom AreAfter log log-2 found
-    → ChecksSigned found hash q.sent q.required q.bytes coming before after quote status text
-    → PrintsCompared (record { log = log; list = option_map coming before; signed = Some q; quote = quote; hash = hash }) status text
-attested coming log log-2 old new before after q quote hash status text found f g replays reads checks = (
-  found,
-  log-2,
-  option_map coming after,
-  replayed log old new found f g replays,
-  reads,
-  signed_by_bytes found hash q.sent q.required q.bytes coming before after quote status text checks,
+  log_by_bytes c coming before after found status text checks,
 )
 
 -- ---- what keeps it from that

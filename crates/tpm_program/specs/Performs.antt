@@ -1,7 +1,6 @@
 -- What the program does for each task (this profile): the status and what it prints.
 use Rattle.std.specs.Prelude.{◌≡◌, ℕ, Bool, true, false, List, [], Option, Some, None, option_map, Result}
 use Rattle.std.specs.Borrow.{Bor}
-use Rattle.tpm_types.specs.declared.alg.Alg.{Alg}
 use Rattle.tpm_types.specs.declared.tpms.Selection.{Selection}
 use Rattle.tpm_model.specs.Registers.{Registers}
 use Rattle.tpm_model.specs.Steps.{new_origin}
@@ -16,8 +15,9 @@ use Rattle.tpm_show.specs.Explain.{explain_status, explanation}
 use Rattle.tpm_show.specs.Show.{Shows, ShowsFields}
 use Rattle.tpm_show.specs.Stream.{TellsRead}
 use Rattle.tpm_show_nv.specs.ShowNv.{ShowsNv}
-use Rattle.tpm_check.specs.Check.{ChecksLog}
-use Rattle.tpm_check.specs.CheckAttest.{ChecksSigned}
+use Rattle.tpm_check.specs.CheckAttest.{Quoted}
+use Rattle.tpm_check.specs.Checked.{ChecksLog}
+use Rattle.tpm_check.specs.declared.checked.Compared.{Compared}
 use Rattle.tpm_check.specs.Kinds.{ExplainsKind}
 use Rattle.tpm_check.specs.ListEvents.{ListsEvents, most_read}
 use Rattle.tpm_check.specs.Reads.{ReadsUpTo, most_attest}
@@ -57,37 +57,23 @@ RunsScript owner greatest coming status text =
 
 -- ---- a log beside a list of registers and quotes
 
--- a quote as it was signed: its bytes, the nonce that was sent and the registers that are required
-pub record Quoted : Type 0 where
-  pub bytes : List ℕ
-  pub sent : Option (List ℕ)
-  pub required : Option (List Selection)
-
--- what is compared: the bytes of a log and of a list, a quote as it was signed, and a quote's information and its hash
-pub record Compared : Type 0 where
+-- what is opened: the bytes of a log and of a list, and what is compared besides
+pub record Opened : Type 0 where
   pub log : Option (List ℕ)
   pub list : Option (Option (List ℕ))
-  pub signed : Option Quoted
-  pub quote : Option (List ℕ)
-  pub hash : Alg
+  pub compared : Compared
 
 -- The bytes of a list are those that come.
 abbrev pub is_coming : Option (List ℕ) → Option (List ℕ)
 is_coming coming = coming
 
--- what is printed for what the log gives, with a quote as it was signed or without
-abbrev pub PrintsFor : Compared → Option Quoted → Result Registers LogFault → (rest : Option (Option (List ℕ)))
-    → Status → List ℕ → Type 0
-PrintsFor c None found rest status text = ChecksLog found c.hash is_coming c.list rest c.quote status text
-PrintsFor c (Some q) found rest status text =
-    ChecksSigned found c.hash q.sent q.required q.bytes is_coming c.list rest c.quote status text
-
-abbrev pub PrintsCompared : Compared → Status → List ℕ → Type 0
-PrintsCompared c status text =
+abbrev pub PrintsCompared : Opened → Status → List ℕ → Type 0
+PrintsCompared o status text =
     (found : Result Registers LogFault) × (log : Option (List ℕ)) × (list : Option (Option (List ℕ)))
-    × ReplaysFrom AreAfter c.log 0 0 found
-    × ReadsFrom AreAfter c.log log found
-    × PrintsFor c c.signed found list status text
+    × ReplaysFrom AreAfter o.log 0 0 found
+    × ReadsFrom AreAfter o.log log found
+    × ChecksLog (record { compared = o.compared; coming = is_coming; list = o.list; list-behind = list }) found
+    status text
 
 -- what is expected of a quote as it was signed
 pub record Expected : Type 0 where
@@ -126,9 +112,7 @@ Performs offered (Check log registers quote attest sent required hash) status te
     PrintsCompared (record {
       log = log-bytes;
       list = list;
-      signed = signed;
-      quote = option_map (λ q. q.now) quote;
-      hash = hash;
+      compared = record { signed = signed; quote = quote; hash = hash };
     }) status text)))
 Performs offered (SecureBoot log) status text =
     OfFile offered log.now (OfFirst most_read (λ bytes. TellsSecureBoot bytes status text))

@@ -14,9 +14,7 @@ use crate::files::{of_reading, opened, opened_if};
 use crate::inputs::Inputs;
 use std::alloc::Global;
 use std::io::Write;
-use tpm_check::{
-    Listing, Signed, check_log, check_signed, list_events, read_attest, tell_secure_boot,
-};
+use tpm_check::{Compared, Listing, Signed, check_log, list_events, read_attest, tell_secure_boot};
 use tpm_lines::status::Status;
 use tpm_types::{Alg, Selections};
 use tpm_wire::Source;
@@ -97,12 +95,13 @@ fn attest_at<'a, I: Inputs>(alloc: Global, inputs: &I, path: &'a str) -> Result<
     }
 }
 
-// Checks a log that is opened beside a list and a quote's information.
-fn check_plain<'a, I: Inputs, W: Write>(
+// Checks a log that is opened, beside a list and what is compared besides.
+fn check_compared<'a, I: Inputs, W: Write>(
     alloc: Global,
     inputs: &I,
     out: &mut W,
     checking: &Checking<'a>,
+    compared: &Compared<'_>,
     log: &mut I::Source,
     list: Option<&mut I::Source>,
 ) -> Result<Status, Fault<'a>>
@@ -111,9 +110,7 @@ fn check_plain<'a, I: Inputs, W: Write>(
         × PrintsCompared (record {
           log = I.Source.coming log.old;
           list = option_map I.Source.coming (list_before list.entry);
-          signed = None;
-          quote = option_map (λ q. q.now) checking.now.quote;
-          hash = checking.now.hash;
+          compared = compared.now;
         }) status text
         × Appends (W.contents out.old) (W.contents out.new) text) }
     ensures err { IfErr result (λ fault. FailsBeside (I.offers inputs.now) (record {
@@ -123,47 +120,7 @@ fn check_plain<'a, I: Inputs, W: Write>(
       coming = option_map I.Source.coming (list_before list.entry);
     }) fault) }
 {
-    match check_log(alloc, log, list, checking.quote, checking.hash, out) {
-        Ok(status) => Ok(status),
-        Err(fault) => {
-            let path = read_last(log.failures(), checking.log, checking.registers);
-            Err(of_reading(inputs, fault, path))
-        }
-    }
-}
-
-// Checks the same, and a quote as it was signed.
-fn check_attest<'a, I: Inputs, W: Write>(
-    alloc: Global,
-    inputs: &I,
-    out: &mut W,
-    checking: &Checking<'a>,
-    signed: &Signed<'_>,
-    log: &mut I::Source,
-    list: Option<&mut I::Source>,
-) -> Result<Status, Fault<'a>>
-    requires { I.Source.failed log.now ≡ 0 }
-    ensures ok { IfOk result (λ status. (text : List ℕ)
-        × PrintsCompared (record {
-          log = I.Source.coming log.old;
-          list = option_map I.Source.coming (list_before list.entry);
-          signed = Some (record {
-            bytes = signed.now.attest.now;
-            sent = option_map (λ n. n.now) signed.now.nonce;
-            required = signed.now.required;
-          });
-          quote = option_map (λ q. q.now) checking.now.quote;
-          hash = checking.now.hash;
-        }) status text
-        × Appends (W.contents out.old) (W.contents out.new) text) }
-    ensures err { IfErr result (λ fault. FailsBeside (I.offers inputs.now) (record {
-      log = checking.now.log.now;
-      list = checking.now.registers;
-      failures = I.Source.failed log.new;
-      coming = option_map I.Source.coming (list_before list.entry);
-    }) fault) }
-{
-    match check_signed(alloc, log, signed, list, checking.quote, checking.hash, out) {
+    match check_log(alloc, log, compared, list, out) {
         Ok(status) => Ok(status),
         Err(fault) => {
             let path = read_last(log.failures(), checking.log, checking.registers);
@@ -189,9 +146,11 @@ fn check_opened<'a, I: Inputs, W: Write>(
         (λ signed. PrintsCompared (record {
           log = I.Source.coming log.old;
           list = option_map I.Source.coming (list_before list.entry);
-          signed = signed;
-          quote = option_map (λ q. q.now) checking.now.quote;
-          hash = checking.now.hash;
+          compared = record {
+            signed = signed;
+            quote = checking.now.quote;
+            hash = checking.now.hash;
+          };
         }) status text)
         × Appends (W.contents out.old) (W.contents out.new) text) }
     ensures err { IfErr result (λ fault. FailsBeside (I.offers inputs.now) (record {
@@ -202,16 +161,27 @@ fn check_opened<'a, I: Inputs, W: Write>(
     }) fault
         ⊎ FailsAtIf (I.offers inputs.now) checking.now.attest fault) }
 {
+    let quote = checking.quote;
+    let hash = checking.hash;
     let Some(path) = checking.attest else {
-        return check_plain(alloc, inputs, out, checking, log, list);
+        let compared = Compared {
+            signed: None,
+            quote,
+            hash,
+        };
+        return check_compared(alloc, inputs, out, checking, &compared, log, list);
     };
     let attest = attest_at(alloc, inputs, path)?;
-    let signed = Signed {
-        attest: attest.as_slice(),
-        nonce: checking.nonce,
-        required,
+    let compared = Compared {
+        signed: Some(Signed {
+            attest: attest.as_slice(),
+            nonce: checking.nonce,
+            required,
+        }),
+        quote,
+        hash,
     };
-    check_attest(alloc, inputs, out, checking, &signed, log, list)
+    check_compared(alloc, inputs, out, checking, &compared, log, list)
 }
 
 /// Checks a log beside what is given of a list of registers and of quotes.

@@ -19,7 +19,7 @@ use tpm_show::{Telling, build, explain, show, show_fields};
 /// Performs a task: prints what it asks for, and answers whether all was done.
 ///
 /// What is printed is what the subcommand prints: `show` and `show_fields`, `show_lines` and `show_stream`, `show_nv`,
-/// `build`, `run_script`, `explain` and `explain_kind`, `check_log` and `check_signed`, `tell_secure_boot`, and
+/// `build`, `run_script`, `explain` and `explain_kind`, `check_log`, `tell_secure_boot`, and
 /// `list_events`. The files of a check are opened in this order: the log, the list of registers, and the quote as it
 /// was signed, of which at most 4,096 bytes are read before the log.
 ///

@@ -10,8 +10,8 @@ ghost use Rattle.tpm_lines.specs.InputLines.{most_bytes};
 ghost use Rattle.tpm_script.specs.Script.{script};
 
 /// The nonces of a script, of at most 16,777,216 bytes, differ pairwise in their first 16 bytes. So there is no
-/// replay in a script that is run on a new device: where no two different texts that are checked have the same HMAC,
-/// no buffer with a session's HMAC is answered twice with code 0.
+/// replay in a script, whatever the origin of the device that it is run on: where no two different texts that are
+/// checked have the same HMAC, no buffer with a session's HMAC is answered twice with code 0.
 pub fn no_replay_in_a_script()
     ensures differ { (text : List ℕ) → length text ≤ most_bytes
         → NoncesDiffer (script text).events }

@@ -14,7 +14,7 @@ use tpm_lines::status::Status;
 use tpm_script::run_script;
 use tpm_show::{Telling, build, show, show_fields, show_lines, show_stream};
 use tpm_show_nv::show_nv;
-use tpm_types::{Alg, AuthValue};
+use tpm_types::AuthValue;
 use tpm_wire::SliceSource;
 
 const AS_LINES: Telling = Telling {
@@ -143,8 +143,7 @@ fn check<W: Write>(
     };
     let log = &mut SliceSource::new(log.as_slice());
     let mut list = list.map(|list| SliceSource::new(list.as_bytes()));
-    let quote = Some(logs::QUOTE);
-    check_log(alloc, log, list.as_mut(), quote, Alg::Sha256, out)
+    check_log(alloc, log, &logs::compared(), list.as_mut(), out)
 }
 
 fn list<W: Write>(alloc: Global, out: &mut W, log: &str) -> Result<Status, ToolFault> {

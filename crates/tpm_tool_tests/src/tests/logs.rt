@@ -4,7 +4,7 @@ use crate::tests::reads::{Answered, each_read_may_fail, is_answered};
 use std::alloc::Global;
 use std::process::Abort;
 use std::test::Fail;
-use tpm_check::check_log;
+use tpm_check::{Compared, check_log};
 use tpm_lines::fault::ToolFault;
 use tpm_lines::status::Status;
 use tpm_testing::{Pieces, bytes};
@@ -29,10 +29,19 @@ fn log(rt: &impl Abort) -> Buffer {
     bytes(LOG).expect(rt, "a log")
 }
 
+// What is compared besides a list: a quote's information.
+pub(crate) fn compared() -> Compared<'static> {
+    Compared {
+        signed: None,
+        quote: Some(QUOTE),
+        hash: Alg::Sha256,
+    }
+}
+
 // What a log, a list and the quote answer, and what was written.
 fn checked(alloc: Global, log: &mut Pieces<'_>, list: &mut Pieces<'_>) -> Answered {
     let mut out = Vec::new(alloc);
-    let status = check_log(alloc, log, Some(list), Some(QUOTE), Alg::Sha256, &mut out);
+    let status = check_log(alloc, log, &compared(), Some(list), &mut out);
     (status, out)
 }
 

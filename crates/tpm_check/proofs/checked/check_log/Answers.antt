@@ -16,7 +16,7 @@ returns-in-Err-clause-failures g c =
     let new = g.L.Source.failed c.replay_from.new.source in
     let is : c.in-Err.fault.kind ≡ kinds.Device = search rules in
     let more = read_failed AreAfter coming old new c.in-Err.fault is c.in-Err.ensures.replays in
-    by_list c.args.registers (λ e. rw e (counts_log Status g.F.Source.failed old new None more))
+    by_list c.args.list (λ e. rw e (counts_log Status g.F.Source.failed old new None more))
     (λ list e. rw e (counts_log Status g.F.Source.failed old new (Some list.now) more))
 
 pub returns-in-Err-2-clause-failures : goal.returns-in-Err-2-clause-failures
@@ -26,19 +26,19 @@ returns-in-Err-2-clause-failures g c =
     let new = g.L.Source.failed c.replay_from.new.source in
     let other : IsOfBytes c.in-Err-2.fault.kind = of_bytes c.in-Err-2.fault.kind (search rules) in
     let same = no_read_failed AreAfter coming old new c.in-Err-2.fault other c.in-Err-2.ensures.replays in
-    by_list c.args.registers (λ e. rw e (counts_alone g.F.Source.failed old new None c.print_fault.result c.print_fault.ensures.err same))
+    by_list c.args.list (λ e. rw e (counts_alone g.F.Source.failed old new None c.print_fault.result c.print_fault.ensures.err same))
     (λ list e. rw e (counts_alone g.F.Source.failed old new (Some list.now) c.print_fault.result c.print_fault.ensures.err same))
 
 pub returns-in-Err-2-clause-ok : goal.returns-in-Err-2-clause-ok
 returns-in-Err-2-clause-ok g c =
     let fault = c.in-Err.fault in
     let other : IsOfBytes fault.kind = of_bytes fault.kind (search rules) in
-    by_list c.args.registers
+    by_list c.args.list
     (λ e. rw e (IfOk-weaker c.print_fault.result _ _ (λ status printed.
-    (Err fault, log_fault_line fault, c.in-Err.ensures.replays, c.in-Err.ensures.reads, (refl, other, (printed.0, refl)), printed.1))
+    (Err fault, log_fault_line fault, c.in-Err.ensures.replays, c.in-Err.ensures.reads, (refl, other, printed.0, refl), printed.1))
     c.print_fault.ensures.ok))
     (λ list e. rw e (IfOk-weaker c.print_fault.result _ _ (λ status printed.
-    (Err fault, log_fault_line fault, c.in-Err.ensures.replays, c.in-Err.ensures.reads, (refl, other, (printed.0, refl)), printed.1))
+    (Err fault, log_fault_line fault, c.in-Err.ensures.replays, c.in-Err.ensures.reads, (refl, other, printed.0, refl), printed.1))
     c.print_fault.ensures.ok))
 
 pub returns-in-Err-2-clause-too_long : goal.returns-in-Err-2-clause-too_long
@@ -69,7 +69,7 @@ returns-in-Err-clause-stop g c =
     let is : c.in-Err.fault.kind ≡ kinds.Device = search rules in
     let more = read_failed AreAfter coming old new c.in-Err.fault is c.in-Err.ensures.replays in
     let ends = c.in-Err.ensures.stop is in
-    by_list c.args.registers (λ e. rw e (λ fails. log_last g.F.Source.failed g.F.Source.stopped old new last None more ends))
+    by_list c.args.list (λ e. rw e (λ fails. log_last g.F.Source.failed g.F.Source.stopped old new last None more ends))
     (λ list e. rw e (λ fails. log_last g.F.Source.failed g.F.Source.stopped old new last (Some list.now) more ends))
 
 pub returns-in-Err-2-clause-stop : goal.returns-in-Err-2-clause-stop

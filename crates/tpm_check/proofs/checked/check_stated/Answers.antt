@@ -1,38 +1,19 @@
-use Rattle.std.proofs.Common.{◌++◌, option_map}
+use Rattle.std.proofs.Common.{◌++◌, Some}
 use Rattle.tpm_model.specs.Registers.{value_in}
-use Rattle.tpm_check.specs.Compare.{comparison}
-use Rattle.tpm_check.proofs.Checks.{stated_none, stated_alone, stated_quoted}
 use Rattle.tpm_lines.proofs.Joins.{joins_appends}
+use Rattle.tpm_check.proofs.Verdicts.{with_list, with_status}
 use Rattle.tpm_check.proofs.checked.check_stated.Goals as goal
 
 pub returns-clause-ok : goal.returns-clause-ok
 returns-clause-ok g c =
-    let value = value_in c.args.found.now.banks in
     let contents = g.W.Write.contents in
-    let listed = rw c.in-Some.is at c.in_ok-first.ensures.ok in
-    let quoted = c.in_ok-second.ensures.ok in
-    let text = (comparison value listed.0).text in (
-      listed.0,
-      text ++ quoted.0,
-      listed.1,
-      rw (c.in-Some-quote.is, c.both.ensures) (stated_quoted value c.args.hash listed.0 c.in-Some-quote.quote.now quoted.0 c.in-Some.first
-          c.in_ok-second.second listed.2 quoted.1),
-      joins_appends (contents c.args.out.now) (contents c.check_list.new.out) (contents c.print_quote.new.out) text quoted.0 listed.3 quoted.2,
-    )
-
-pub returns-in_default-clause-ok : goal.returns-in_default-clause-ok
-returns-in_default-clause-ok g c =
-    let value = value_in c.args.found.now.banks in
-    let listed = rw c.in_default.is at c.in_ok-first.ensures.ok in
-    (listed.0, (comparison value listed.0).text, listed.1, stated_none value c.args.hash listed.0 (option_map (λ q. q.now) c.args.quote) listed.2, listed.3)
-
-pub returns-in_default-quote-clause-ok : goal.returns-in_default-quote-clause-ok
-returns-in_default-quote-clause-ok g c =
-    let value = value_in c.args.found.now.banks in
-    let listed = rw c.in-Some.is at c.in_ok-first.ensures.ok in (
-      listed.0,
-      (comparison value listed.0).text,
-      listed.1,
-      rw c.in_default-quote.is (stated_alone value c.args.hash listed.0 c.in-Some.first listed.2),
-      listed.3,
+    let said = c.in_ok-first.ensures.ok in
+    let checked = c.in_ok-second.ensures.ok in (
+      checked.0,
+      said.0 ++ checked.1,
+      checked.2,
+      with_status (value_in c.args.found.now.banks) c.args.compared.now (Some checked.0) _ _ (said.0 ++ checked.1) c.both.ensures
+          (with_list (value_in c.args.found.now.banks) c.args.compared.now _ c.in-Some.is c.in_ok-first.first said.0 said.1 checked.0
+          checked.1 c.in_ok-second.second checked.3),
+      joins_appends (contents c.args.out.now) (contents c.print_signed.new.out) (contents c.print_compared-2.new.out) said.0 checked.1 said.2 checked.4,
     )

@@ -1,25 +1,19 @@
 use Rattle.std.proofs.Common.{ℕ, List, Err, ap, option_map, subst}
 use Rattle.tpm_lines.specs.declared.fault.ToolFault.{ToolFault}
 use Rattle.tpm_check.specs.Check.{list_before}
-use Rattle.tpm_program.specs.Performs.{Quoted}
 use Rattle.tpm_program.specs.Fails.{IsOfReading, read_last}
 use Rattle.tpm_program.proofs.ByBytes.{too_much_by_bytes}
-use Rattle.tpm_program.proofs.Checks.{attested, beside}
-use Rattle.tpm_program.proofs.logs.check_attest.Goals as goal
+use Rattle.tpm_program.proofs.Checks.{printed, beside}
+use Rattle.tpm_program.proofs.logs.check_compared.Goals as goal
 
 pub returns-in-Ok-clause-ok : goal.returns-in-Ok-clause-ok
 returns-in-Ok-clause-ok g c =
     let coming = g.I.Source.Source.coming in
     let failed = g.I.Source.Source.failed in
-    let said = c.in-Ok.ensures.ok in
-    let q : Quoted = record {
-      bytes = c.args.signed.now.attest.now;
-      sent = option_map (λ n. n.now) c.args.signed.now.nonce;
-      required = c.args.signed.now.required;
-    } in (
+    let said = c.in-Ok.ensures.ok in (
       said.1,
-      attested coming (coming c.args.log.now) (coming c.check_signed.new.log) (failed c.args.log.now) (failed c.check_signed.new.log) (list_before c.args.list)
-          _ q (option_map (λ q. q.now) c.args.checking.now.quote) c.args.checking.now.hash c.in-Ok.status said.1 said.0
+      printed coming (coming c.args.log.now) (coming c.check_log.new.log) (failed c.args.log.now) (failed c.check_log.new.log) (list_before c.args.list)
+          _ c.args.compared.now c.in-Ok.status said.1 said.0
           c.requires c.in-Ok.ensures.failures.0 said.2 said.3 said.4,
       said.5,
     )
@@ -34,7 +28,7 @@ returns-in-Err-clause-err g c =
     beside offered (record {
       log = log;
       list = list;
-      failures = g.I.Source.Source.failed c.check_signed.new.log;
+      failures = g.I.Source.Source.failed c.check_log.new.log;
       coming = option_map coming before;
     }) c.in-Err.fault c.of_reading.result
     (λ h. (option_map coming _, too_much_by_bytes coming before _ (c.in-Err.ensures.too_long (ap (λ (e : ToolFault). Err e) h))))
