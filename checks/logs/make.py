@@ -177,6 +177,81 @@ def measured():
     return log
 
 
+def node(kind, subtype, data=b""):
+    """A node of a device path (UEFI Specification, "Generic Device Path Structures")."""
+    return struct.pack("<BBH", kind, subtype, 4 + len(data)) + data
+
+
+END, NEXT = node(0x7F, 0xFF), node(0x7F, 1)
+
+
+def acpi(name, unique):
+    """An ACPI device path of a hardware ID PNPxxxx."""
+    return node(2, 1, struct.pack("<II", name << 16 | 0x41D0, unique))
+
+
+def pci(device, function):
+    return node(1, 1, bytes([function, device]))
+
+
+def drive(number, start, size, format_, kind, signature):
+    return node(4, 1, struct.pack("<IQQ16sBB", number, start, size, signature, format_, kind))
+
+
+def file(name):
+    return node(4, 4, (name + "\0").encode("utf-16-le", "surrogatepass"))
+
+
+def loaded(path, length=None, address=0x7E5D3000, size=0x123000, link=0x180000000):
+    """UEFI_IMAGE_LOAD_EVENT, whose path may be counted wrongly."""
+    return struct.pack("<QQQQ", address, size, link, len(path) if length is None else length) + path
+
+
+def images():
+    """Images by their device paths, and data that are no image or no path."""
+    guid = uuid.UUID("c12a7328-f81f-11d2-ba4b-00a0c93ec93b").bytes_le
+    other = uuid.UUID("00112233-4455-6677-8899-aabbccddeeff").bytes_le
+    mbr = struct.pack("<I", 0x0234ABCD) + bytes(range(12))
+    log = Log([0x000B])
+
+    def image(*nodes, register=2, kind=SERVICES, end=END, **of_event):
+        log.record(register, kind, loaded(b"".join(nodes) + end, **of_event), b"the image")
+
+    boot = file("\\EFI\\BOOT\\BOOTX64.EFI")
+    image(acpi(0x0A03, 0), pci(1, 0), drive(1, 0x800, 0x100000, 2, 2, guid), boot, register=4)
+    image(acpi(0x0A08, 0x1F), pci(0x1F, 7), drive(2, 0, 2**64 - 1, 1, 1, mbr), file("a"), address=0, size=0, link=0)
+    image(drive(2**32 - 1, 63, 1, 1, 0, bytes(16)), address=2**64 - 1, size=2**64 - 1, link=2**64 - 1)
+    image(node(4, 7, guid), node(4, 6, other), kind=SERVICES + 1)
+    image(acpi(0x0604, 0), acpi(0x0301, 1), acpi(0x0501, 10), acpi(0x0401, 2**32 - 1), kind=SERVICES + 2)
+    image(acpi(0x0C02, 1), node(2, 1, struct.pack("<II", 0x0002, 0x12345678)))
+    image(node(1, 4, guid), node(3, 10, other + b"\1\xff"), node(4, 3, guid + b"\0"))
+    image(acpi(0x0A03, 0), pci(2, 0), NEXT, acpi(0x0A03, 1), NEXT, NEXT, boot)
+    image(file("\x1b[2J\n\x7f\x9b\u202e\"\\/"), file("\ud83d"), file("\U0001f512"), file("a\0b"), node(4, 4, b"a\0"))
+    image(node(3, 99, b"\1\2"), node(5, 1, bytes(5)), node(0, 0), node(255, 255, b"\xff"), node(0x7F, 2), node(0x7F, 1, b"\0"))
+    # of other sizes than these nodes have, and of other subtypes
+    image(node(1, 1, b"\0"), node(1, 1, bytes(3)), node(1, 4, bytes(15)), node(1, 2, bytes(2)), node(2, 1, bytes(7)))
+    image(node(2, 1, bytes(12)), node(2, 2, bytes(8)), node(3, 10, bytes(15)), node(3, 1, bytes(16)), node(4, 1, bytes(37)))
+    image(node(4, 3, bytes(15)), node(4, 6, bytes(15)), node(4, 7, bytes(17)), node(4, 4, b"abc"), node(4, 4), node(4, 5))
+    image()
+    image(end=b"")
+    log.record(2, GPT, loaded(boot + END))
+    # what is no image, and what is no path
+    log.record(2, SERVICES, loaded(b"")[:31]).record(2, SERVICES, b"")
+    image(boot, length=len(boot) + 5)
+    image(boot, length=len(boot) + 3)
+    image(length=2**64 - 28)
+    image(boot, end=b"")
+    image(boot, end=END[:3])
+    image(boot, end=END + b"\0")
+    image(boot, end=END + END)
+    image(boot, end=NEXT)
+    image(boot, end=b"\x7f\xff\5\0\0")
+    image(boot[:2] + b"\3" + boot[3:])
+    image(boot[:2] + b"\0" + boot[3:])
+    image(boot[:3] + b"\1" + boot[4:])
+    return log
+
+
 def accepted():
     worked().write("worked")
     Log(THREE).write("header_alone")
@@ -211,6 +286,7 @@ def accepted():
     said().write("said")
     halves().write("halves")
     measured().write("measured")
+    images().write("images")
 
     # SHA-512 alone: no bank is extended
     Log([0x000D]).record(0, SEPARATOR, bytes(4)).write("no_bank")

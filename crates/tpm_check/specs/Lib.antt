@@ -7,6 +7,9 @@ pub mod EventTypes
 pub mod Reads
 pub mod Utf16
 pub mod EventText
+pub mod Guids
+pub mod DevicePathText
+pub mod EventSaid
 pub mod JsonText
 pub mod EventJson
 pub mod ListEvents

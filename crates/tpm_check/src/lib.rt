@@ -4,10 +4,12 @@
 
 mod checked;
 mod compared;
+mod device_path_text;
 mod event_json;
 mod event_lines;
 mod event_text;
 mod event_types;
+mod guid_text;
 mod held_lines;
 mod json_text;
 mod judged;
