@@ -74,8 +74,6 @@ for objects in "$logs"/*.json; do
 done
 grep '"register":7,' "$logs/said.json" >"$room/out.wanted"
 ran "the objects of a register" 0 events "$logs/said.log" --json --register 7
-echo 'log Truncated at 211' >"$room/out.wanted"
-ran "a log that is none has no objects" 1 events "$logs/cut_by_a_byte.log" --json
 # Each object by itself, and each string of it as it goes into UTF-8, which half a surrogate pair does not.
 if python3 -c 'import json' >"$room/out" 2>&1; then
     holds "each object is JSON" python3 -c 'if True:
@@ -103,6 +101,8 @@ while read -r log kind at; do
     echo "log $kind at $at" >"$room/out.wanted"
     checked "$log is none" 1 "$logs/$log.log"
     ran "$log has no records" 1 events "$logs/$log.log"
+    echo "{\"fault\":\"$kind\",\"at\":$at}" >"$room/out.wanted"
+    ran "the fault of $log is an object" 1 events "$logs/$log.log" --json
 done <"$logs/faults.txt"
 
 for told in "$logs"/*.secure; do
