@@ -77,6 +77,16 @@ NUMBERS = {
     "BYTE": lambda number, octets: [i for i in range(8 * len(octets)) if octets[i // 8] >> i % 8 & 1],
     "TPMA_NV": lambda number, octets: [number >> 4 & 15] + [1] * bin(number & ~0xF0).count("1"),
 }
+# The names that Part 2 gives to numbers (6.3, 6.10, 6.11), by the types of the fields that they stand in.
+ALGORITHMS = {0x0004: "SHA1", 0x0006: "AES", 0x000A: "XOR", 0x000B: "SHA256", 0x000C: "SHA384", 0x0010: "NULL", 0x0043: "CFB"}
+ALGORITHMS = {number: "TPM_ALG_" + name for number, name in ALGORITHMS.items()}
+VALUE_NAMES = {
+    "TPMI_ALG_HASH": ALGORITHMS,
+    "TPMI_ALG_SYM": ALGORITHMS,
+    "TPMU_SYM_MODE": ALGORITHMS,
+    "TPM_SU": {0: "TPM_SU_CLEAR", 1: "TPM_SU_STATE"},
+    "TPM_SE": {0: "TPM_SE_HMAC", 1: "TPM_SE_POLICY", 3: "TPM_SE_TRIAL"},
+}
 
 
 class Wrong(Exception):
@@ -390,9 +400,11 @@ def check_fields(fields, data):
 
 def check_field(field):
     """The bytes of a field, which may have a list of its parts: fields, whose bytes are its own behind a size or a count, or numbers."""
-    want(isinstance(field, dict) and set(field) - {"fields"} == {"name", "type", "value"}, f"the members of a field: {field}")
+    want(isinstance(field, dict) and set(field) - {"fields", "value_name"} == {"name", "type", "value"}, f"the members of a field: {field}")
     want(all(isinstance(field[key], str) and field[key] for key in ("name", "type")), f"a field's name and type: {field}")
     value = hexadecimal(field["value"])
+    names = VALUE_NAMES.get(field["type"], {})
+    want(field.get("value_name") == names.get(int.from_bytes(value, "big")), f"the name of a value: {field}")
     parts = field.get("fields")
     want(parts is None or isinstance(parts, list), "fields that are no list")
     if parts is not None and field["type"] in NUMBERS:

@@ -1,5 +1,5 @@
--- The text of a field of a buffer: its name, its type and its bytes, and what is told of its parts
--- (this profile; RFC 8259).
+-- The text of a field of a buffer: its name, its type, its bytes and the name that Part 2 gives them, and what is told
+-- of its parts (this profile; RFC 8259).
 use Rattle.std.specs.Prelude.{ℕ, ◌+◌, Bool, true, false, List, [], ◌∷◌, ◌++◌, codes as text, Option, Some, None}
 use Rattle.std.specs.Fmt.{decimal}
 use Rattle.hex.specs.Hex.{encode_lower}
@@ -8,6 +8,7 @@ use Rattle.tpm_wire.specs.Layout.Form.{field}
 use Rattle.tpm_wire.specs.Spelling.{spelling}
 pub use Rattle.tpm_commands.specs.Row.{Field, named}
 use Rattle.tpm_lines.specs.Text.{comma, line, bytes_text}
+use Rattle.tpm_show.specs.FieldNames.{value_name}
 
 -- the spelling of each part of a value, in the order of its layout: joined they are the spelling of the value
 abbrev pub parts : {A : Type 0} → Layout A → A → List (List ℕ)
@@ -17,7 +18,8 @@ parts _ x = []
 -- ---- one field
 
 unfoldable pub field_line : (indent : List ℕ) → List ℕ → List ℕ → List ℕ → List ℕ
-field_line indent name type bytes = indent ++ line (name ∷ type ∷ bytes_text bytes ∷ [])
+field_line indent name type bytes = indent
+    ++ (name ++ (text " " ++ (type ++ (text " " ++ (bytes_text bytes ++ (value_name false type bytes ++ text "\n"))))))
 
 unfoldable pub field_members : List ℕ → List ℕ → List ℕ → List ℕ
 field_members name type bytes = text "{\"name\":\""
@@ -26,7 +28,7 @@ field_members name type bytes = text "{\"name\":\""
 -- its line, so far in, or the first members of its object, as an entry of a list
 unfoldable pub field_head : (json : Bool) → (indent : List ℕ) → ℕ → List ℕ → List ℕ → List ℕ → List ℕ
 field_head false indent i name type bytes = field_line indent name type bytes
-field_head true indent i name type bytes = comma i ++ field_members name type bytes
+field_head true indent i name type bytes = comma i ++ (field_members name type bytes ++ value_name true type bytes)
 
 -- what its object has, and its line has not
 abbrev pub in_object : (json : Bool) → List ℕ → List ℕ

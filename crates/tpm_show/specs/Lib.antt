@@ -1,5 +1,6 @@
 pub mod Digits
 pub mod ReplyText
+pub mod FieldNames
 pub mod FieldText
 pub mod Parts
 pub mod Fields

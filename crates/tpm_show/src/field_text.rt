@@ -5,6 +5,7 @@ ghost use Rattle.tpm_wire.specs.Spelling.{spelling};
 ghost use Rattle.tpm_show.specs.FieldText.{field_line, field_members, field_head, field_text, in_object, number_text};
 ghost use Rattle.tpm_show.specs.FieldText.{structure_text};
 
+use crate::field_names::push_value_name;
 use std::alloc::Global;
 use tpm_lines::hexadecimal::shown_bytes;
 use tpm_lines::text::{Pushed, push_comma};
@@ -65,8 +66,10 @@ impl Field {
             ≡ string_bytes text.old ++ field_line self.0.now self.2.now self.3.now bytes.now) }
     {
         let Field(indent, _, name, kind) = self;
-        let bytes = shown_bytes(alloc, bytes)?;
-        writeln!(text, "{indent}{name} {kind} {bytes}")
+        let value = shown_bytes(alloc, bytes)?;
+        write!(text, "{indent}{name} {kind} {value}")?;
+        push_value_name(text, false, kind, bytes)?;
+        text.push_str("\n")
     }
 
     #[tactic(auto, unfolding(crate::specs::FieldText::field_members))]
@@ -91,7 +94,8 @@ impl Field {
             return self.push_line(alloc, text, bytes);
         }
         push_comma(text, self.1)?;
-        self.push_members(alloc, text, bytes)
+        self.push_members(alloc, text, bytes)?;
+        push_value_name(text, true, self.3, bytes)
     }
 
     /// Adds its line or its object, of these bytes.

@@ -9,6 +9,7 @@ mod capture_stream;
 mod command_names;
 mod digits;
 mod explained;
+mod field_names;
 mod field_text;
 mod fields;
 mod frame_header;

@@ -80,7 +80,7 @@ const CALLS: [(Call, &str); 25] = [
     ),
     (
         Call::ShowFields(STARTUP),
-        "command Startup size 12\nparameters 0000\n  startupType TPM_SU 0000\n",
+        "command Startup size 12\nparameters 0000\n  startupType TPM_SU 0000 TPM_SU_CLEAR\n",
     ),
     (
         Call::ShowReplyFields(READ_REPLY),
@@ -92,11 +92,11 @@ const CALLS: [(Call, &str); 25] = [
     ),
     (
         Call::ShowLines(CAPTURE, BY_FIELDS),
-        "1 > command Startup size 12 tag 8001 TPM_ST_NO_SESSIONS\nparameters 0000\n  startupType TPM_SU 0000\n2 < reply Startup size 10 tag 8001 TPM_ST_NO_SESSIONS code 000 TPM_RC_SUCCESS\nparameters -\n3 < reply size 10 tag 8001 TPM_ST_NO_SESSIONS code 000 TPM_RC_SUCCESS\nno command is before it\n",
+        "1 > command Startup size 12 tag 8001 TPM_ST_NO_SESSIONS\nparameters 0000\n  startupType TPM_SU 0000 TPM_SU_CLEAR\n2 < reply Startup size 10 tag 8001 TPM_ST_NO_SESSIONS code 000 TPM_RC_SUCCESS\nparameters -\n3 < reply size 10 tag 8001 TPM_ST_NO_SESSIONS code 000 TPM_RC_SUCCESS\nno command is before it\n",
     ),
     (
         Call::ShowLines(CAPTURE, AS_JSON),
-        "{\"number\":1,\"kind\":\"command\",\"command\":\"Startup\",\"size\":12,\"tag\":\"8001\",\"tag_name\":\"TPM_ST_NO_SESSIONS\",\"command_code\":\"00000144\",\"handles\":[],\"sessions\":[],\"parameters\":\"0000\",\"fields\":[{\"name\":\"startupType\",\"type\":\"TPM_SU\",\"value\":\"0000\"}]}\n{\"number\":2,\"kind\":\"response\",\"command\":\"Startup\",\"size\":10,\"tag\":\"8001\",\"tag_name\":\"TPM_ST_NO_SESSIONS\",\"code\":\"000\",\"code_name\":\"TPM_RC_SUCCESS\",\"handles\":[],\"parameters\":\"\",\"fields\":[],\"sessions\":[]}\n{\"number\":3,\"kind\":\"response\",\"size\":10,\"tag\":\"8001\",\"tag_name\":\"TPM_ST_NO_SESSIONS\",\"code\":\"000\",\"code_name\":\"TPM_RC_SUCCESS\",\"fault\":\"no command is before it\"}\n",
+        "{\"number\":1,\"kind\":\"command\",\"command\":\"Startup\",\"size\":12,\"tag\":\"8001\",\"tag_name\":\"TPM_ST_NO_SESSIONS\",\"command_code\":\"00000144\",\"handles\":[],\"sessions\":[],\"parameters\":\"0000\",\"fields\":[{\"name\":\"startupType\",\"type\":\"TPM_SU\",\"value\":\"0000\",\"value_name\":\"TPM_SU_CLEAR\"}]}\n{\"number\":2,\"kind\":\"response\",\"command\":\"Startup\",\"size\":10,\"tag\":\"8001\",\"tag_name\":\"TPM_ST_NO_SESSIONS\",\"code\":\"000\",\"code_name\":\"TPM_RC_SUCCESS\",\"handles\":[],\"parameters\":\"\",\"fields\":[],\"sessions\":[]}\n{\"number\":3,\"kind\":\"response\",\"size\":10,\"tag\":\"8001\",\"tag_name\":\"TPM_ST_NO_SESSIONS\",\"code\":\"000\",\"code_name\":\"TPM_RC_SUCCESS\",\"fault\":\"no command is before it\"}\n",
     ),
     (Call::ShowLines("no", BY_FIELDS), "1 not hexadecimal\n"),
     (
@@ -105,7 +105,7 @@ const CALLS: [(Call, &str); 25] = [
     ),
     (
         Call::ShowStream(&STREAM, AS_JSON),
-        "{\"number\":1,\"kind\":\"command\",\"command\":\"Startup\",\"size\":12,\"tag\":\"8001\",\"tag_name\":\"TPM_ST_NO_SESSIONS\",\"command_code\":\"00000144\",\"handles\":[],\"sessions\":[],\"parameters\":\"0000\",\"fields\":[{\"name\":\"startupType\",\"type\":\"TPM_SU\",\"value\":\"0000\"}]}\n{\"number\":2,\"fault\":\"cut short\",\"at\":12}\n",
+        "{\"number\":1,\"kind\":\"command\",\"command\":\"Startup\",\"size\":12,\"tag\":\"8001\",\"tag_name\":\"TPM_ST_NO_SESSIONS\",\"command_code\":\"00000144\",\"handles\":[],\"sessions\":[],\"parameters\":\"0000\",\"fields\":[{\"name\":\"startupType\",\"type\":\"TPM_SU\",\"value\":\"0000\",\"value_name\":\"TPM_SU_CLEAR\"}]}\n{\"number\":2,\"fault\":\"cut short\",\"at\":12}\n",
     ),
     (Call::ShowNv(NV), NV_TEXT),
     (Call::ShowNv("564a4e56"), "refused 09a at 4\n"),
