@@ -90,9 +90,9 @@ pub fn two_ends_in_step()
         × InStep o (next o h (sent s).bytes n) s.caller }
 {}
 
-/// No mixed replies: in the run of a new device whose accepted commands with session HMACs are sealed by callers, with
-/// nonceCallers that differ pairwise, and where no two different texts have the same HMAC, a reply that a `Waiting`
-/// opens is the reply to its own buffer, and there is one such reply.
+/// No mixed replies: in a device's run from its origin whose accepted commands with session HMACs are sealed by
+/// callers, with nonceCallers that differ pairwise, and where no two different texts have the same HMAC, a reply that
+/// a `Waiting` opens is the reply to its own buffer, and there is one such reply.
 pub fn no_mixed_replies()
     ensures own { (o : Origin) (seals : List Seal) (openings : List Opening) (es fs : List Event)
         (bytes n : List ℕ) (s : Seal) (w : Opened) →

@@ -128,7 +128,7 @@ IsAmong x (y ∷ ys) = (x ≡ y) ⊎ IsAmong x ys
 abbrev pub AreFree : List Keyed → Type 0
 AreFree texts = (x y : Keyed) → IsAmong x texts → IsAmong y texts → mac_of x ≡ mac_of y → x.text ≡ y.text
 
--- those that are checked in the run of a new device
+-- those that are checked in a device's run from this origin
 abbrev pub NoCollision : Origin → List Event → Type 0
 NoCollision o es = AreFree (texts_checked o [] es)
 
@@ -245,13 +245,13 @@ texts_opened [] = []
 texts_opened (x ∷ xs) =
     text_opened (waiting x.seal) (read_all (response (code_for x.seal.body)) x.bytes) ++ texts_opened xs
 
--- The same of the texts that are checked in the run of a new device, those of its replies, and those that opening
--- checks.
+-- The same of the texts that are checked in a device's run from this origin, those of its replies, and those that
+-- opening checks.
 abbrev pub NoCollisionWith : Origin → List Event → List Opening → Type 0
 NoCollisionWith o es xs = AreFree (texts_checked o [] es ++ (texts_replied o [] es ++ texts_opened xs))
 
--- A run of a new device: its accepted commands with session HMACs are sealed by callers, the nonceCallers are
--- pairwise different, and no two different texts have the same HMAC.
+-- A device's run from this origin: its accepted commands with session HMACs are sealed by callers, the nonceCallers
+-- are pairwise different, and no two different texts have the same HMAC.
 pub record IsOfCallers (o : Origin) (seals : List Seal) (xs : List Opening) (es : List Event) : Type 0 where
   pub sealed : AreSealed o seals [] es
   pub differ : SealsDiffer seals
