@@ -1,7 +1,10 @@
-"""Writes the rows of checks/kept.txt: bytes of NV memories, by struct and hashlib, and what they spell or their first fault."""
+"""NV memories, by struct and hashlib. Without a word it writes the rows of checks/kept.txt: their bytes, and what they
+spell or their first fault. With a folder it writes the files there that checks/nv.txt tells."""
 
 import hashlib
+import pathlib
 import struct
+import sys
 
 MAGIC = 0x564A4E56
 HASHES = {0x0004: 20, 0x000B: 32, 0x000C: 48}
@@ -69,35 +72,65 @@ largest = [
     for i in range(8)
 ]
 
-print("# Bytes of NV memories and what a device that is made of them has, or their first fault: the lines that")
-print("# `python3 checks/kept.py` writes, by struct and hashlib.")
-print("# none, one and eight counters, and the most bytes that there are")
-taken(0, [])
-taken(2**64 - 1, [], b"")
-taken(41, [one], b"\x01" * 48)
-taken(2**64 - 1, eight)
-taken(9, largest)
-print("# the owner's value")
-refused(digested(contents(0, [])), SIZE, 0, b"\x01" * 49)
-print("# the front")
-refused(b"", INSUFFICIENT, 0)
-refused(digested(contents(0, [], magic=MAGIC + 1)), VALUE, 0)
-refused(digested(contents(0, [], version=2)), VALUE, 4)
-refused(contents(0, [])[:13], INSUFFICIENT, 6)
-refused(digested(contents(9, largest + [Counter(0x01900000)])), SIZE, 14)
-print("# a counter: its attributes, its policy, its size, its authorization value and its value")
-behind = 18 + 2 + len(one.public())
-refused(digested(contents(41, [Counter(0x01800000, attributes=0x02000012)])), ATTRIBUTES, behind)
-refused(digested(contents(41, [Counter(0x01800000, attributes=0x02020012 | 1 << 30)])), ATTRIBUTES, behind)
-refused(digested(contents(41, [Counter(0x01800000, policy=bytes(31))])), SIZE, behind + 31)
-refused(digested(contents(41, [Counter(0x01800000, size=9)])), SIZE, behind)
-refused(digested(contents(41, [Counter(0x01800000, auth=b"\x01" * 33)])), SIZE, behind + 2 + 33)
-refused(digested(contents(41, [Counter(0x01800000, auth=b"\x01\x00")])), VALUE, behind + 2 + 2)
-refused(digested(contents(41, [Counter(0x01800000, attributes=0x02020012 | WRITTEN)])), VALUE, behind + 2)
-print("# counters beside one another")
-refused(digested(contents(41, [one, one])), NV_DEFINED, 18 + 2 * len(one.spelled()))
-refused(digested(contents(40, [one])), NV_RANGE, 18 + len(one.spelled()))
-print("# the digest, and what is behind it")
-refused(contents(41, [one]) + bytes(32), INTEGRITY, 18 + len(one.spelled()))
-refused(digested(contents(41, [one]))[:-1], INSUFFICIENT, 18 + len(one.spelled()))
-refused(digested(contents(41, [one])) + b"\x00", SIZE, 18 + len(one.spelled()) + 32)
+
+def rows():
+    print("# Bytes of NV memories and what a device that is made of them has, or their first fault: the lines that")
+    print("# `python3 checks/kept.py` writes, by struct and hashlib.")
+    print("# none, one and eight counters, and the most bytes that there are")
+    taken(0, [])
+    taken(2**64 - 1, [], b"")
+    taken(41, [one], b"\x01" * 48)
+    taken(2**64 - 1, eight)
+    taken(9, largest)
+    print("# the owner's value")
+    refused(digested(contents(0, [])), SIZE, 0, b"\x01" * 49)
+    print("# the front")
+    refused(b"", INSUFFICIENT, 0)
+    refused(digested(contents(0, [], magic=MAGIC + 1)), VALUE, 0)
+    refused(digested(contents(0, [], version=2)), VALUE, 4)
+    refused(contents(0, [])[:13], INSUFFICIENT, 6)
+    refused(digested(contents(9, largest + [Counter(0x01900000)])), SIZE, 14)
+    print("# a counter: its attributes, its policy, its size, its authorization value and its value")
+    behind = 18 + 2 + len(one.public())
+    refused(digested(contents(41, [Counter(0x01800000, attributes=0x02000012)])), ATTRIBUTES, behind)
+    refused(digested(contents(41, [Counter(0x01800000, attributes=0x02020012 | 1 << 30)])), ATTRIBUTES, behind)
+    refused(digested(contents(41, [Counter(0x01800000, policy=bytes(31))])), SIZE, behind + 31)
+    refused(digested(contents(41, [Counter(0x01800000, size=9)])), SIZE, behind)
+    refused(digested(contents(41, [Counter(0x01800000, auth=b"\x01" * 33)])), SIZE, behind + 2 + 33)
+    refused(digested(contents(41, [Counter(0x01800000, auth=b"\x01\x00")])), VALUE, behind + 2 + 2)
+    refused(digested(contents(41, [Counter(0x01800000, attributes=0x02020012 | WRITTEN)])), VALUE, behind + 2)
+    print("# counters beside one another")
+    refused(digested(contents(41, [one, one])), NV_DEFINED, 18 + 2 * len(one.spelled()))
+    refused(digested(contents(40, [one])), NV_RANGE, 18 + len(one.spelled()))
+    print("# the digest, and what is behind it")
+    refused(contents(41, [one]) + bytes(32), INTEGRITY, 18 + len(one.spelled()))
+    refused(digested(contents(41, [one]))[:-1], INSUFFICIENT, 18 + len(one.spelled()))
+    refused(digested(contents(41, [one])) + b"\x00", SIZE, 18 + len(one.spelled()) + 32)
+
+
+def files(folder):
+    def bound(index, value):
+        return Counter(index, 0x020A001A, hash=0x000C, policy=bytes(range(48)), auth=48 * b"k", value=value)
+
+    owner = Counter(0x01800001, value=7)
+    keyed = Counter(0x01800002, attributes=0x02060016, hash=0x0004, auth=b"key")
+    three = digested(contents(2**64 - 1, [owner, keyed, bound(0x01C00003, 2**64 - 1)]))
+    for name, kept in {
+        "none": digested(contents(0, [])),
+        "three": three,
+        "eight": digested(contents(0x01800007, [bound(n, n) for n in range(0x01800000, 0x01800008)])),
+        "nine": digested(contents(9, 9 * [owner])),
+        "version": digested(contents(7, [owner], version=2)),
+        "twice": digested(contents(7, [owner, keyed, owner])),
+        "above": digested(contents(6, [owner])),
+        "plain": digested(contents(7, [Counter(0x01800001, attributes=0x02020002, value=7)])),
+        "zero": digested(contents(7, [Counter(0x01800001, attributes=0x02020012 | WRITTEN)])),
+        "cut": three[:-1],
+        "longer": three + b"\0",
+        "changed": three[:13] + bytes([three[13] ^ 1]) + three[14:],
+        "empty": b"",
+    }.items():
+        pathlib.Path(folder, name + ".nv").write_bytes(kept)
+
+
+files(sys.argv[1]) if sys.argv[1:] else rows()

@@ -75,40 +75,7 @@ else
 fi
 # The NV memory of devices, whose bytes are those of Python's struct and hashlib.
 if python3 -c pass 2>/dev/null; then
-    python3 - "$room" <<'END'
-import hashlib, struct, sys
-
-def counter(index, hash, attributes, policy=b"", auth=b"", value=None):
-    public = struct.pack(">IHIH", index, hash, attributes, len(policy)) + policy + struct.pack(">H", 8)
-    written = b"" if value is None else struct.pack(">Q", value)
-    return struct.pack(">H", len(public)) + public + struct.pack(">H", len(auth)) + auth + written
-
-def memory(greatest, *counters, version=1):
-    contents = struct.pack(">IHQI", 0x564A4E56, version, greatest, len(counters)) + b"".join(counters)
-    return contents + hashlib.sha256(contents).digest()
-
-def kept(name, memory):
-    open(sys.argv[1] + "/" + name + ".nv", "wb").write(memory)
-
-owner = counter(0x01800001, 0x000B, 0x22020012, value=7)
-keyed = counter(0x01800002, 0x0004, 0x02060016, auth=b"key")
-bound = counter(0x01C00003, 0x000C, 0x220A001A, bytes(range(48)), 48 * b"k", 2**64 - 1)
-three = memory(2**64 - 1, owner, keyed, bound)
-kept("none", memory(0))
-kept("three", three)
-full = [counter(n, 0x000C, 0x220A001A, bytes(range(48)), 48 * b"k", n) for n in range(0x01800000, 0x01800008)]
-kept("eight", memory(0x01800007, *full))
-kept("nine", memory(9, *(9 * [owner])))
-kept("version", memory(7, owner, version=2))
-kept("twice", memory(7, owner, keyed, owner))
-kept("above", memory(6, owner))
-kept("plain", memory(7, counter(0x01800001, 0x000B, 0x22020002, value=7)))
-kept("zero", memory(7, counter(0x01800001, 0x000B, 0x22020012, value=0)))
-kept("cut", three[:-1])
-kept("longer", three + b"\0")
-kept("changed", three[:13] + bytes([three[13] ^ 1]) + three[14:])
-kept("empty", b"")
-END
+    python3 checks/kept.py "$room"
     cases checks/nv.txt
 else
     skip "the NV memory of devices" "python3 is not there"

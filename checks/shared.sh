@@ -44,6 +44,33 @@ holds() {
     if "$@" >"$room/said" 2>&1; then pass "$holds"; else fail "$holds" "$(head -n 5 "$room/said")"; fi
 }
 
+# holds_by TOOL NAME WORD..: the same, where there is such a command; else it is skipped.
+holds_by() {
+    if command -v "$1" >/dev/null 2>&1; then
+        shift
+        holds "$@"
+    else
+        skip "$2" "there is no $1"
+    fi
+}
+
+# comes WORD..: waits until the words succeed, for ten seconds.
+comes() {
+    for wait in $(seq 200); do
+        if "$@"; then return 0; fi
+        sleep 0.05
+    done
+    return 1
+}
+
+# on_a_small_disk FOLDER SIZE WORD..: runs the words where the folder is a file system of this size.
+on_a_small_disk() {
+    disk=$1 size=$2
+    shift 2
+    mkdir -p "$disk" && unshare --map-root-user --mount \
+        sh -c 'mount -t tmpfs -o "size=$0" none "$1" && shift && exec "$@"' "$size" "$disk" "$@"
+}
+
 finish() {
     rm -rf "$room"
     echo "$passed passed, $failed failed"

@@ -508,13 +508,7 @@ holds "./install removes what an earlier one had besides" diff "$wrapper/fewer" 
 holds "./install says what was not linked, and why" \
     [ "$(grep -c 'cc does not link it: what does not link' "$wrapper/err")" -eq 2 ]
 
-# on_a_small_disk WORD..: runs the words where $wrapper/disk is a file system of 512 KiB.
-on_a_small_disk() {
-    mkdir -p "$wrapper/disk" &&
-        unshare --map-root-user --mount sh -c 'mount -t tmpfs -o size=512k none "$0" && exec "$@"' "$wrapper/disk" "$@"
-}
-
-# filled: an install on such a disk, and another one where it has no more room. What is there then is as it was.
+# filled: an install on a small disk, and another one where it has no more room. What is there then is as it was.
 cat >"$wrapper/filled" <<'END'
 cd "$1" && ./install disk/place || exit 1
 cp -a disk/place before.filled && { cat /dev/zero >disk/more; } 2>/dev/null
@@ -523,10 +517,10 @@ cp -a disk/place before.filled && { cat /dev/zero >disk/more; } 2>/dev/null
 END
 filled() {
     CALLS="$wrapper/calls" PATH="$wrapper/bin:$PATH" TMPDIR="$wrapper/tmp" CC= DESTDIR= \
-        on_a_small_disk sh "$wrapper/filled" "$wrapper" && ls "$wrapper/before.filled/bin/tpmtool"
+        on_a_small_disk "$wrapper/disk" 512k sh "$wrapper/filled" "$wrapper" && ls "$wrapper/before.filled/bin/tpmtool"
 }
 name="an earlier install stays whole on a disk that is full"
-if on_a_small_disk true >/dev/null 2>&1; then
+if on_a_small_disk "$wrapper/disk" 512k true >/dev/null 2>&1; then
     holds "$name" filled
 else
     skip "$name" "no file system can be mounted"
