@@ -63,6 +63,7 @@ fn begun_sha256(block: &[u8; BLOCK_BYTES], pad: u8) -> sha2::Sha256
     hasher
 }
 
+#[inline(never)]
 fn states_of(hash: Alg, key: &[u8]) -> Kept
     ensures { IsKept hash key.now result }
 {
@@ -77,6 +78,8 @@ fn states_of(hash: Alg, key: &[u8]) -> Kept
     }
 }
 
+// The HMACs are out of line, so that only the hashers that are used are on the stack.
+#[inline(never)]
 fn mac_sha1(inner: &sha1::Sha1, outer: &sha1::Sha1, parts: &[&[u8]]) -> Digest
     ensures { (i o : List ℕ) →
         Holds inner.now i →
@@ -96,6 +99,7 @@ fn mac_sha1(inner: &sha1::Sha1, outer: &sha1::Sha1, parts: &[&[u8]]) -> Digest
     digest_of(&behind.finalize())
 }
 
+#[inline(never)]
 fn mac_sha256(inner: &sha2::Sha256, outer: &sha2::Sha256, parts: &[&[u8]]) -> Digest
     ensures { (i o : List ℕ) →
         Holds256 inner.now i →

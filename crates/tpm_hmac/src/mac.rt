@@ -110,6 +110,7 @@ impl Mac {
 
 /// The HMAC under the key of the parts, joined (RFC 2104). A key longer than the hash's block is hashed first.
 #[tactic(auto, using(crate::proofs::DigestLengths::lengths))]
+#[inline(never)]
 pub fn hmac(alg: Alg, key: &[u8], parts: &[&[u8]]) -> Digest
     ensures value { result ≡ hmac_of alg key.now (flat_map (λ p. p.now) parts.now) }
     ensures len { length result ≡ digest_len alg }

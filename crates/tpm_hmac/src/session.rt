@@ -91,17 +91,19 @@ pub fn rp_hash(alg: Alg, code: CommandCode, params: &[u8]) -> Digest
         }
     }
     let success: u32 = 0;
-    let mut hasher = Hasher::new(alg);
-    hasher.update(&success.to_be_bytes());
-    hasher.update(&code.number().to_be_bytes());
-    hasher.update(params);
-    hasher.finish()
+    hash_of_three(
+        alg,
+        &success.to_be_bytes(),
+        &code.number().to_be_bytes(),
+        params,
+    )
 }
 
 /// The MAC of a command, under the session key followed by the trimmed authorization value.
 /// `p_hash` is its cpHash, `newer` its nonceCaller, and `older` the session's nonceTPM (Part 1,
 /// "HMAC Computation").
 #[tactic(auto, using(crate::proofs::DigestLengths::lengths))]
+#[inline(never)]
 pub fn command_mac(
     alg: Alg,
     session_key: &[u8],

@@ -2,3 +2,4 @@ pub mod Authorized
 pub mod Keys
 pub mod Slots
 pub mod Asserted
+pub mod Spelled

@@ -1,6 +1,9 @@
 //! What a policy session asserts (Part 1, "Enhanced Authorization"; Part 3, 23).
 
-ghost use Rattle.std.specs.Prelude.{◌≡◌, []};
+ghost use Rattle.std.specs.Prelude.{◌≡◌, ◌+◌, ◌≤◌, [], ◌++◌, length};
+ghost use Rattle.tpm_wire.specs.Spelling.{spelling};
+ghost use Rattle.tpm_types.specs.Tpml.{selections as selections_layout};
+ghost use Rattle.tpm_types.specs.Tpms.{selection as selection_layout};
 ghost use Rattle.tpm_model.specs.Policies.Assertion.{PcrAsserted, OrAsserted};
 ghost use Rattle.tpm_model.specs.Policies.{asserted, policy_of, policy_digest};
 ghost use Rattle.tpm_model.specs.Actions.{is_listed as listed};
@@ -11,11 +14,18 @@ use arrayvec::ArrayVec;
 use std::marker::Model;
 use tpm_commands::CommandCode;
 use tpm_hmac::hash;
-use tpm_types::{Alg, DIGEST_BYTES, Digest, MOST_DIGESTS, OrDigests, Selections};
-use tpm_wire::{Buffer, Wire};
+use tpm_types::{
+    Alg, BANKS, DIGEST_BYTES, Digest, MOST_DIGESTS, OrDigests, SELECT_BYTES, Selection, Selections,
+};
 
 // How many parts the text of TPM2_PolicyOR has at most: zeros, the command's code, and the digests.
 const OR_PARTS: usize = MOST_DIGESTS + 2;
+
+// How many bytes a selection has: the number of a hash, how many bytes its bits are, and the bits.
+const SELECTION_BYTES: usize = 2 + 1 + SELECT_BYTES;
+
+// How many bytes a list of selections has at most: their number, and one for each bank.
+const SELECTIONS_BYTES: usize = 4 + BANKS * SELECTION_BYTES;
 
 /// What a policy session holds of its assertions.
 #[derive(Drop)]
@@ -125,14 +135,46 @@ pub fn extend_policy(alg: Alg, assertion: &Assertion<'_>, old: &[u8]) -> Digest
     }
 }
 
+// How a selection lies in bytes, TPMS_PCR_SELECTION (Part 2, 10.6.2).
+#[tactic(auto, unfolding(tpm_types::specs::Tpms::selection, tpm_types::specs::Alg::hash))]
+fn selection_bytes(selection: &Selection) -> [u8; SELECTION_BYTES]
+    ensures value { result ≡ spelling selection_layout selection.now }
+    ensures len { length result ≡ 6 }
+{
+    let [high, low] = selection.hash.number().to_be_bytes();
+    let [first, second, third] = selection.select;
+    [high, low, SELECT_BYTES as u8, first, second, third]
+}
+
+// Adds the bytes at the end.
+fn add(out: &mut ArrayVec<u8, SELECTIONS_BYTES>, bytes: &[u8])
+    requires { length out.old.items + length bytes.now ≤ 22 }
+    ensures items { out.new.items ≡ out.old.items ++ bytes.now }
+    ensures len { length out.new.items ≡ length out.old.items + length bytes.now }
+{
+    let _ = out.try_extend_from_slice(bytes);
+}
+
+// How they lie in bytes, TPML_PCR_SELECTION (Part 2, 10.9.7), in the room of the longest.
+#[tactic(auto, unfolding(tpm_types::specs::Tpml::selections, tpm_wire::specs::Structures::counted))]
+fn selections_bytes(selections: &Selections) -> ArrayVec<u8, SELECTIONS_BYTES>
+    ensures { result.items ≡ spelling selections_layout selections.now }
+{
+    let entries = selections.as_slice();
+    let mut bytes = ArrayVec::new();
+    add(&mut bytes, &(entries.len() as u32).to_be_bytes());
+    for entry in entries {
+        add(&mut bytes, &selection_bytes(entry));
+    }
+    bytes
+}
+
 // That after TPM2_PolicyPCR (Part 3, 23.7).
 fn after_registers(alg: Alg, selections: &Selections, pcr_digest: &[u8], old: &[u8]) -> Digest
     ensures { result ≡ asserted alg (PcrAsserted selections.now pcr_digest.now None) old.now }
 {
     let code = CommandCode::PolicyPcr.number().to_be_bytes();
-    let mut spelled = Buffer::new();
-    prove!(selections.len() <= 64);
-    selections.put(&mut spelled);
+    let spelled = selections_bytes(selections);
     hash(alg, &[old, &code, spelled.as_slice(), pcr_digest])
 }
 

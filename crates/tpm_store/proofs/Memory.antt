@@ -2,31 +2,33 @@
 use Rattle.std.proofs.Common.{◌≡◌, ℕ, ◌+◌, ◌<◌, ◌≤◌, ◌^◌, Bool, true, false, List, [], length, take, drop, Option, Some}
 use Rattle.std.proofs.Common.{None, Result, Ok, Err, is_some, option_map, refl, sym, ap, ◌∙◌, arith, inl, All}
 use Rattle.std.proofs.Common.{◌++◌, append_assoc}
-use Rattle.std.proofs.lemmas.List.{take-append-drop, length-append, append-nil}
+use Rattle.std.proofs.lemmas.List.{take-append-drop, length-append, append-nil, take_at}
 use Rattle.std.proofs.lemmas.Bool.{ne_eqb}
 use Rattle.std.proofs.lemmas.Bool.Decides.{nat_tests}
 use Rattle.std.proofs.lemmas.Slice.Eq.{bytes_eq-Decides}
 use Rattle.std.specs.Prelude.{IfSome, bytes_eq, nat_le, ◌&&◌, ◌-◌}
 use Rattle.tpm_wire.specs.declared.refusal.Refusal.{Refusal}
 use Rattle.tpm_wire.specs.ResponseCodes.{rc_value}
-use Rattle.std.specs.Int.{bytes_high_first}
+use Rattle.std.specs.Int.{bytes_high_first, to_be_bytes, w16, w32}
 use Rattle.tpm_wire.specs.Token.{Here, at_start, past}
 use Rattle.tpm_wire.specs.Layout.{Form, either, raw}
-use Rattle.tpm_wire.specs.Reading.{read, read_all, unless, found}
-use Rattle.tpm_wire.specs.Buffers.{buffer, too_few}
+use Rattle.tpm_wire.specs.Reading.{read, unless, found}
+use Rattle.tpm_wire.specs.Buffers.{buffer, too_few, Place}
+use Rattle.tpm_wire.specs.WholeValues.{ended}
 use Rattle.tpm_wire.specs.Spelling.{spelling, Fits, IsSpelled}
-use Rattle.tpm_wire.specs.Structures.{counted}
-use Rattle.tpm_wire.specs.Path.{Fault}
+use Rattle.tpm_wire.specs.Structures.{counted, sized_bytes}
+use Rattle.tpm_wire.specs.Path.{Decodes}
+use Rattle.tpm_wire.proofs.Alone.{ends_so, goes_on_so, whole_decodes, whole_read, whole_refused}
 use Rattle.tpm_wire.proofs.Again.{fit_list}
-use Rattle.tpm_wire.proofs.Buffers.{buffer_sound}
-use Rattle.tpm_wire.proofs.Whole.{read_fault}
 use Rattle.tpm_wire.proofs.Longer.{TakesAtMost, at_most_more, at_most_done, at_most_number, at_most_number_in, at_most_text}
 use Rattle.tpm_wire.proofs.Longer.{at_most_sized_bytes, at_most_sized, at_most_counted}
 use Rattle.tpm_types.specs.declared.alg.Alg.TheVariants.{Sha256}
 use Rattle.tpm_types.specs.declared.tpms.NvPublic.{NvPublic}
 use Rattle.tpm_types.specs.Limits.{digest_bytes, public_bytes}
 use Rattle.tpm_types.specs.Tpm2b.{auth_value}
-use Rattle.tpm_types.specs.Tpma.{is_written}
+use Rattle.tpm_types.specs.Alg.{alg_number, hash}
+use Rattle.tpm_types.specs.Handles.{nv_index}
+use Rattle.tpm_types.specs.Tpma.{is_written, nv_attrs}
 use Rattle.tpm_types.specs.Tpms.{nv_public, nv_public_area}
 use Rattle.tpm_commands.proofs.Short.{and, last}
 use Rattle.tpm_hmac.proofs.DigestLengths.{length-digest}
@@ -159,6 +161,44 @@ pub digest_taken : (mark : ℕ) (h g : Here) (d k : List ℕ) → read {r = buff
 digest_taken mark h g d k e is =
     let t = taken (too_few mark h.at 32 (length h.rest)) mark 32 h (d, g) e in
     sym (take-append-drop 32 h.rest) ∙ ap (λ (f : List ℕ). f ++ drop 32 h.rest) (t.0 ∙ is) ∙ ap (λ (x : Here). k ++ x.rest) t.1
+
+-- the bytes that were read of the first 4,096, by how many are left of these
+pub front_is : (bytes contents rest : List ℕ) (n : ℕ) → take 4096 bytes ≡ contents ++ rest
+    → n ≡ length (take 4096 bytes) - length rest → take n bytes ≡ contents
+front_is bytes contents rest n e f =
+    let long : length contents ≡ n = omega (arith, f, ap length e, length-append contents rest) in
+    let whole : bytes ≡ contents ++ (rest ++ drop 4096 bytes) =
+    sym (take-append-drop 4096 bytes) ∙ ap (λ (r : List ℕ). r ++ drop 4096 bytes) e ∙ append_assoc contents rest (drop 4096 bytes) in
+    ap (take n) whole ∙ take_at contents (rest ++ drop 4096 bytes) n long
+
+-- the fields of a public area, joined
+pub area_is : (p : NvPublic) (a b c d policy e : List ℕ) → a ≡ to_be_bytes w32 p.index → b ≡ to_be_bytes w16 (alg_number p.alg)
+    → c ≡ to_be_bytes w32 p.attrs → d ≡ to_be_bytes w16 (length p.policy) → policy ≡ p.policy → e ≡ to_be_bytes w16 p.data_size
+    → a ++ (b ++ (c ++ (d ++ (policy ++ (e ++ []))))) ≡ spelling nv_public_area p
+unfolding nv_public_area nv_index hash nv_attrs sized_bytes
+area_is p a b c d policy e ea eb ec ed ep ee =
+    rw (ea, eb, ec, ed, ep, ee)
+    (ap (λ (t : List ℕ). to_be_bytes w32 p.index ++ (to_be_bytes w16 (alg_number p.alg) ++ (to_be_bytes w32 p.attrs ++ t)))
+    (sym (append_assoc (to_be_bytes w16 (length p.policy)) p.policy (to_be_bytes w16 p.data_size ++ []))))
+
+-- ---- all of the bytes
+
+-- What was read from the begin of the bytes is what all of them spell, or they go on behind it.
+pub memory_decodes : (bytes : List ℕ) (nv : NvMemory) (old : Place) (h : Here) (o : Result (Unit {0}) Refusal)
+    → old ≡ record { here = at_start (take 4096 bytes); number = 0 } → read old.number kept_memory old.here ≡ Ok (nv, h)
+    → o ≡ ended bytes (tt, h) → Decodes {X = Unit {0}} kept_memory (λ _. nv) bytes o
+memory_decodes bytes nv old h (Ok u) begins is ends =
+    whole_decodes 1026 kept_memory of_memory (omega arith) bytes (Ok nv)
+    (whole_read kept_memory bytes old nv h (Ok nv) begins is (ends_so bytes h nv u (sym ends)))
+memory_decodes bytes nv old h (Err e) begins is ends =
+    whole_decodes 1026 kept_memory of_memory (omega arith) bytes (Err e)
+    (whole_read kept_memory bytes old nv h (Err e) begins is (goes_on_so bytes h nv e (sym ends)))
+
+pub memory_refused : (bytes : List ℕ) (nv : NvMemory) (old : Place) (e : Refusal)
+    → old ≡ record { here = at_start (take 4096 bytes); number = 0 } → read old.number kept_memory old.here ≡ Err e
+    → Decodes {X = Unit {0}} kept_memory (λ _. nv) bytes (Err e)
+memory_refused bytes nv old e begins is =
+    whole_decodes 1026 kept_memory of_memory (omega arith) bytes (Err e) (whole_refused kept_memory bytes old e begins is)
 
 -- ---- looking up
 

@@ -2,9 +2,12 @@
 
 ghost use Rattle.std.specs.Prelude.{◌≡◌, ℕ, ◌^◌, ◌<◌, ◌≤◌, nat_le, set, List, [], ◌++◌, length, slice_index_or, Some};
 ghost use Rattle.std.specs.Prelude.{None, not, option_map, IfSome, IfNone, OnOk, OnErr, if◌then◌else◌};
+ghost use Rattle.tpm_wire.specs.Spelling.{spelling};
 ghost use Rattle.tpm_types.specs.Limits.{digest_bytes};
+ghost use Rattle.tpm_types.specs.Tpms.{nv_public_area};
 ghost use Rattle.tpm_types.specs.declared.tpms.NvPublic.{NvPublic as Public};
 ghost use Rattle.tpm_commands.specs.declared.command.CommandBody.TheVariants as bodies;
+ghost use Rattle.tpm_hmac.specs.Hashes.{digest as digest_of};
 ghost use Rattle.tpm_hmac.specs.Sessions.{trim as trim_of};
 ghost use Rattle.tpm_model.specs.Counters.{has_index, counter_in, next_value, written, nv_by};
 ghost use Rattle.tpm_model.specs.Entities.{nv_name};
@@ -21,13 +24,12 @@ use std::marker::Model;
 use tpm_hmac::{hash, trim};
 use tpm_types::{
     Alg, AuthValue, Digest, NAME_BYTES, Name, NvAttrs, NvAuthHandle, NvIndex, NvPublic,
-    PUBLIC_BYTES,
 };
 use tpm_wire::response_code::{
     ATTRIBUTES, HANDLE, NV_AUTHORIZATION, NV_DEFINED, NV_RANGE, NV_SPACE, NV_UNINITIALIZED, SIZE,
     of_parameter,
 };
-use tpm_wire::{Bounded, Buffer, Duplicate};
+use tpm_wire::{Bounded, Duplicate};
 
 /// Who authorizes a command on an index: the owner, or an index itself.
 pub type By = NvAuthHandle;
@@ -115,16 +117,34 @@ impl Counter {
         self.public.index == index
     }
 
+    // The hash of its public area, TPMS_NV_PUBLIC (Part 2, 13.5). The area is hashed field by field, and not made.
+    fn area_digest(&self) -> Digest
+        ensures { result ≡
+            digest_of self.now.public.alg (spelling nv_public_area self.now.public) }
+    {
+        let public = &self.public;
+        let policy = public.policy.as_slice();
+        hash(
+            public.alg,
+            &[
+                &public.index.number().to_be_bytes(),
+                &public.alg.number().to_be_bytes(),
+                &public.attrs.number().to_be_bytes(),
+                &(policy.len() as u16).to_be_bytes(),
+                policy,
+                &public.data_size.to_be_bytes(),
+            ],
+        )
+    }
+
     // Its Name: the number of its hash, and the hash of its public area.
     fn name(&self) -> Name
         ensures { result ≡ nv_name self.now.public }
     {
-        let alg = self.public.alg;
-        let mut area = Buffer::new();
-        prove!(self.public.area_len() <= PUBLIC_BYTES);
-        self.public.put_area(&mut area);
-        let digest = hash(alg, &[area.as_slice()]);
-        joined(&alg.number().to_be_bytes(), digest.as_slice())
+        joined(
+            &self.public.alg.number().to_be_bytes(),
+            self.area_digest().as_slice(),
+        )
     }
 
     /// Its public area as it is now: WRITTEN is set from the first increment on.
