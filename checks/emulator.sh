@@ -489,16 +489,10 @@ killed() {
         --state "$room/state.killed"
 }
 
-# on_a_small_disk WORD..: runs the words where $room/disk is a file system of 32 KiB.
-on_a_small_disk() {
-    mkdir -p "$room/disk" &&
-        unshare --map-root-user --mount sh -c 'mount -t tmpfs -o size=32k none "$0" && exec "$@"' "$room/disk" "$@"
-}
-
 # filled: the same where the disk is full at a random moment in place of a kill: the emulator ends, and what it could
 # not keep is told to nobody.
 filled() {
-    on_a_small_disk timeout 900 "$room/client" full $((port + 24)) "${KILLS:-40}" "${SEED:-1}" "$room/disk/more" \
+    on_a_small_disk "$room/disk" 32k timeout 900 "$room/client" full $((port + 24)) "${KILLS:-40}" "${SEED:-1}" "$room/disk/more" \
         "$room/emulator" --swtpm $((port + 24)) --state "$room/disk/state"
 }
 
@@ -745,11 +739,7 @@ at_channel() {
     shift
     "$room/$kind" --unixio "$room/channel" "$@" >"$room/served" 2>&1 &
     server=$!
-    for wait in $(seq 200); do
-        if [ -S "$room/channel" ]; then return 0; fi
-        sleep 0.05
-    done
-    return 1
+    comes [ -S "$room/channel" ]
 }
 
 # channelled: each message of checks/channel.txt is answered as its row says; the last one ends the emulator, and its
@@ -788,17 +778,19 @@ one_channel() {
         printf '00000001\n' | timeout 20 "$room/client" channel "$room/channel" | grep -q -x 0000000000003faf && end
 }
 
+# has_open N: the server has so many open descriptors.
+has_open() {
+    left=$(find "/proc/$server/fd" 2>/dev/null | wc -l)
+    [ "$left" -eq "$1" ]
+}
+
 # harmless_channel: random messages, cut ones, and descriptors; none stays open.
 harmless_channel() {
     build_sanitized && at_channel sanitized || return 1
     open=$(find "/proc/$server/fd" 2>/dev/null | wc -l)
     timeout 900 "$room/client" messages "$room/channel" "${MESSAGES:-1000000}" "${SEED:-1}"
     said=$?
-    for wait in $(seq 40); do
-        left=$(find "/proc/$server/fd" 2>/dev/null | wc -l)
-        if [ "$left" -eq "$open" ]; then break; fi
-        sleep 0.05
-    done
+    comes has_open "$open"
     end && [ $said -eq 0 ] && [ "$left" -eq "$open" ] && ! grep -q -e ERROR -e 'runtime error' "$room/served" ||
         { echo "$open descriptors before, $left behind" && cat "$room/served" && return 1; }
 }
@@ -819,12 +811,7 @@ in_the_background() {
     [ $? -eq 3 ] || return 1
     "$room/emulator" --stdio --daemon 2>/dev/null
     [ $? -eq 2 ] || return 1
-    kill "$(cat "$room/pid")" || return 1
-    for wait in $(seq 100); do
-        if [ ! -e "$room/pid" ]; then return 0; fi
-        sleep 0.05
-    done
-    return 1
+    kill "$(cat "$room/pid")" && comes [ ! -e "$room/pid" ]
 }
 
 # its_words: the version, words that collide, and words that are none.
@@ -870,10 +857,7 @@ at_its_address() {
     port=$((port + 8))
     "$room/emulator" --swtpm "$port" --mssim $((port + 2)) --listen 127.0.0.2 2>"$room/err" &
     server=$!
-    for wait in $(seq 100); do
-        if [ -s "$room/err" ]; then break; fi
-        sleep 0.05
-    done
+    comes [ -s "$room/err" ]
     for at in 0 1 2 3; do
         "$room/client" listens $((port + at)) 127.0.0.2 && ! "$room/client" listens $((port + at)) ||
             { echo "$at" && end && return 1; }
@@ -910,38 +894,23 @@ sanitizes() {
     "$compiler" -fsanitize=address,undefined -o "$room/empty" "$room/empty.c" >/dev/null 2>&1 && "$room/empty"
 }
 
-# emulates NAME WORD..: the check NAME passes where the words succeed.
-emulates() {
-    name=$1
-    shift
-    if "$@" >"$room/said" 2>&1; then pass "$name"; else fail "$name" "$(head -n 5 "$room/said")"; fi
-}
-
 # by_tools: what the tools of TPM software show.
 by_tools() {
     if ! command -v tpm2_startup >/dev/null 2>&1 || ! command -v tpm2_getpolicydigest >/dev/null 2>&1; then
         skip "the emulator by tpm2-tools" "there are no tpm2-tools"
         return
     fi
-    emulates "tpm2-tools over mssim print what they print over swtpm" \
+    holds "tpm2-tools over mssim print what they print over swtpm" \
         script_gives emulator mssim --state "$room/state.script"
-    emulates "tpm2-tools over swtpm's protocol print what they print over swtpm" script_gives emulator swtpm
-    if command -v swtpm >/dev/null 2>&1; then
-        emulates "tpm2-tools over swtpm print what is kept of it" script_gives swtpm swtpm
-    else
-        skip "tpm2-tools over swtpm print what is kept of it" "there is no swtpm"
-    fi
-    emulates "logs that tpm2_pcrextend sends leave their registers" logs_leave
-    emulates "counters outlive the process, one of a policy among them" kept
-    emulates "a state that was cut or changed, or that is held, is refused" refused_states
-    emulates "tools that start the emulator themselves find their counters" by_itself
-    if command -v swtpm_ioctl >/dev/null 2>&1; then
-        emulates "the control channel is spoken to by swtpm_ioctl" controlled
-    else
-        skip "the control channel is spoken to by swtpm_ioctl" "there is no swtpm_ioctl"
-    fi
-    emulates "the device alone answers its own commands" the_device_alone
-    emulates "sessions audit what the host answers" audited
+    holds "tpm2-tools over swtpm's protocol print what they print over swtpm" script_gives emulator swtpm
+    holds_by swtpm "tpm2-tools over swtpm print what is kept of it" script_gives swtpm swtpm
+    holds "logs that tpm2_pcrextend sends leave their registers" logs_leave
+    holds "counters outlive the process, one of a policy among them" kept
+    holds "a state that was cut or changed, or that is held, is refused" refused_states
+    holds "tools that start the emulator themselves find their counters" by_itself
+    holds_by swtpm_ioctl "the control channel is spoken to by swtpm_ioctl" controlled
+    holds "the device alone answers its own commands" the_device_alone
+    holds "sessions audit what the host answers" audited
 }
 
 if [ -z "$compiler" ]; then
@@ -957,60 +926,52 @@ elif ! "$compiler" $flags -O2 -o "$room/emulator" emulator/*.c "$archive" >"$roo
 else
     by_tools
     if [ -x "$program" ]; then
-        emulates "commands over standard input give the bytes of tpmtool" streamed
+        holds "commands over standard input give the bytes of tpmtool" streamed
     else
         skip "commands over standard input give the bytes of tpmtool" "the program is not built"
     fi
-    emulates "the host answers as swtpm does, field by field" answers_of emulator --startup
-    if command -v swtpm >/dev/null 2>&1; then
-        emulates "swtpm answers as is kept of it" answers_of swtpm
-    else
-        skip "swtpm answers as is kept of it" "there is no swtpm"
-    fi
-    emulates "a session is saved once, and its context loaded once" saved_once
-    emulates "another locality over mssim is refused" of_locality
-    emulates "a power cycle within one process is counted" in_one_life
-    emulates "counters go on over power cycles of one process" cycled
-    if command -v strace >/dev/null 2>&1; then
-        emulates "a counter is on the disk before the reply" synced
-    else
-        skip "a counter is on the disk before the reply" "there is no strace"
-    fi
-    emulates "a command over mssim in two parts does not wait" in_parts
-    emulates "each message of mssim's two ports is answered" simulated
-    emulates "the state file is written where NV memory changed, and else never" not_touched
+    holds "the host answers as swtpm does, field by field" answers_of emulator --startup
+    holds_by swtpm "swtpm answers as is kept of it" answers_of swtpm
+    holds "a session is saved once, and its context loaded once" saved_once
+    holds "another locality over mssim is refused" of_locality
+    holds "a power cycle within one process is counted" in_one_life
+    holds "counters go on over power cycles of one process" cycled
+    holds_by strace "a counter is on the disk before the reply" synced
+    holds "a command over mssim in two parts does not wait" in_parts
+    holds "each message of mssim's two ports is answered" simulated
+    holds "the state file is written where NV memory changed, and else never" not_touched
     if [ "$(ulimit -Hn)" = unlimited ] || [ "$(ulimit -Hn)" -ge 4160 ]; then
-        emulates "4,096 connections are answered, and one more closes the one that was quiet longest" held
+        holds "4,096 connections are answered, and one more closes the one that was quiet longest" held
     else
         skip "4,096 connections are answered, and one more closes the one that was quiet longest" \
             "there may not be so many"
     fi
-    emulates "each message of swtpm's control port is answered" controlled_over_tcp
-    emulates "each message of QEMU's channel is answered" channelled
-    emulates "a state blob that is set is kept" set_and_kept
-    emulates "a Unix socket has one emulator" one_channel
-    emulates "the emulator in the background" in_the_background
-    emulates "the emulator's words" its_words
-    emulates "the emulator's device by its words" its_device
-    emulates "the emulator's address" at_its_address
-    emulates "frames are recorded" recorded
-    emulates "emulator/run works through symbolic links" by_links
-    emulates "without random bytes the emulator ends" no_random_bytes
-    emulates "counters of all kinds are there at the next start" there_again
-    emulates "killed at random moments, no counter goes back" killed
+    holds "each message of swtpm's control port is answered" controlled_over_tcp
+    holds "each message of QEMU's channel is answered" channelled
+    holds "a state blob that is set is kept" set_and_kept
+    holds "a Unix socket has one emulator" one_channel
+    holds "the emulator in the background" in_the_background
+    holds "the emulator's words" its_words
+    holds "the emulator's device by its words" its_device
+    holds "the emulator's address" at_its_address
+    holds "frames are recorded" recorded
+    holds "emulator/run works through symbolic links" by_links
+    holds "without random bytes the emulator ends" no_random_bytes
+    holds "counters of all kinds are there at the next start" there_again
+    holds "killed at random moments, no counter goes back" killed
     if [ -c /dev/full ]; then
-        emulates "what can't be kept is told to nobody" not_written
+        holds "what can't be kept is told to nobody" not_written
     else
         skip "what can't be kept is told to nobody" "there is no /dev/full"
     fi
-    if on_a_small_disk true >/dev/null 2>&1; then
-        emulates "on a disk that is full at random moments, no counter goes back" filled
+    if on_a_small_disk "$room/disk" 32k true >/dev/null 2>&1; then
+        holds "on a disk that is full at random moments, no counter goes back" filled
     else
         skip "on a disk that is full at random moments, no counter goes back" "no file system can be mounted"
     fi
     if sanitizes; then
-        emulates "random messages and cut connections harm nothing" harmless
-        emulates "random messages over QEMU's channel harm nothing" harmless_channel
+        holds "random messages and cut connections harm nothing" harmless
+        holds "random messages over QEMU's channel harm nothing" harmless_channel
     else
         skip "random messages and cut connections harm nothing" "the compiler has no sanitizers"
     fi

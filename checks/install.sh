@@ -9,13 +9,6 @@ installed=$room/installed
 elsewhere=$room/elsewhere
 mkdir -p "$installed" "$elsewhere"
 
-# there PROGRAM NAME: whether the program is there; else the check NAME is skipped.
-there() {
-    command -v "$1" >/dev/null 2>&1 && return 0
-    skip "$2" "there is no $1"
-    return 1
-}
-
 # one_version: the header, the program, pkg-config and the library, where they are there, give one version.
 one_version() {
     version=$(awk '$2 == "VINJAKWE_VERSION" { gsub(/"/, ""); print $3 }' "$installed/include/vinjakwe.h")
@@ -205,25 +198,20 @@ holds "the page and the completions have the program's words" told
 if [ -z "$compiler" ]; then
     skip "C programs over what is installed" "no C compiler was found"
 else
-    there pkg-config "a C program by pkg-config" && holds "a C program by pkg-config" linked_by_name
+    holds_by pkg-config "a C program by pkg-config" linked_by_name
     holds "a C program over the installed archive" linked -I "$installed/include" "$installed/lib/libvinjakwe.a"
-    there nm "the names of the shared library" && holds "the names of the shared library" exported
+    holds_by nm "the names of the shared library" exported
     [ "$(uname -s) $(uname -m)" = "Linux x86_64" ] &&
         holds "a C program over the installed archive without a C library" freestanding_linked
 fi
-name="the page of the program"
-there man "$name" && holds "$name" page tpmtool
+holds_by man "the page of the program" page tpmtool
 if [ -x "$installed/bin/vinjakwe-emulator" ]; then
     holds "the installed emulator" emulated
-    name="the page of the emulator"
-    there man "$name" && holds "$name" page vinjakwe-emulator
+    holds_by man "the page of the emulator" page vinjakwe-emulator
 fi
-name="the words that bash completes"
-there bash "$name" && holds "$name" completed
-name="the completions for zsh are read"
-there zsh "$name" && holds "$name" zsh -n "$installed/share/zsh/site-functions/_tpmtool"
-name="the words that fish completes"
-there fish "$name" && holds "$name" fish_offers
+holds_by bash "the words that bash completes" completed
+holds_by zsh "the completions for zsh are read" zsh -n "$installed/share/zsh/site-functions/_tpmtool"
+holds_by fish "the words that fish completes" fish_offers
 holds "an earlier install stays whole where one can't be written" kept_whole
 holds "an install below another root, through a link, and again" again
 holds "what was installed is removed" removed

@@ -49,17 +49,22 @@ cp "$logs/said.listed" "$room/out.wanted"
 ran "what the data of events say" 0 events "$logs/said.log"
 cp "$logs/said.register" "$room/out.wanted"
 ran "the records of a register" 0 events "$logs/said.log" --register 7
+# of_register: of the records that are wanted, those of register 7.
+of_register() {
+    awk '$2 == 7' "$room/out.wanted" >"$room/of_register" && mv "$room/of_register" "$room/out.wanted"
+}
+
 # Each option by itself and each pair: the sixth word of a record is its place, and the seventh its digests.
-of_register='$2 == 7'
 cut -d ' ' -f 1-6,8- "$logs/said.events" >"$room/out.wanted"
 ran "the places of records" 0 events "$logs/said.log" --places
-awk "$of_register" "$room/out.wanted" >"$room/of_register" && mv "$room/of_register" "$room/out.wanted"
+of_register
 ran "the places of records of a register" 0 events "$logs/said.log" --register 7 --places
 cut -d ' ' -f 1-5,7- "$logs/said.events" >"$room/out.wanted"
 ran "the digests of records" 0 events "$logs/said.log" --digests
-awk "$of_register" "$room/out.wanted" >"$room/of_register" && mv "$room/of_register" "$room/out.wanted"
+of_register
 ran "the digests of records of a register" 0 events "$logs/said.log" --digests --register 7
-awk "$of_register" "$logs/said.events" >"$room/out.wanted"
+cp "$logs/said.events" "$room/out.wanted"
+of_register
 ran "places and digests of records of a register" 0 events --places --register 7 --digests "$logs/said.log"
 cp "$logs/said.json" "$room/out.wanted"
 for words in --json '--json --places' '--digests --json'; do
