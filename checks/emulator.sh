@@ -492,8 +492,8 @@ killed() {
 # filled: the same where the disk is full at a random moment in place of a kill: the emulator ends, and what it could
 # not keep is told to nobody.
 filled() {
-    on_a_small_disk "$room/disk" 32k timeout 900 "$room/client" full $((port + 24)) "${KILLS:-40}" "${SEED:-1}" "$room/disk/more" \
-        "$room/emulator" --swtpm $((port + 24)) --state "$room/disk/state"
+    on_a_small_disk "$room/disk" 32k timeout 900 "$room/client" full $((port + 24)) "${KILLS:-40}" "${SEED:-1}" \
+        "$room/disk/more" "$room/emulator" --swtpm $((port + 24)) --state "$room/disk/state"
 }
 
 # not_written: a definition and an increment that can't be kept are not answered; the file stays, and so does what was
