@@ -22,5 +22,5 @@ find crates -name out -prune -o -name proofs -prune -o \( -name '*.rt' -o -name 
 short "sources, definitions and tests" 120
 find crates -name out -prune -o -path '*/proofs/*.antt' -print >"$room/files"
 short "proofs" 160
-ls checks/*.sh test tpmtool install >"$room/files"
+ls checks/*.sh test tpmtool install emulator/run >"$room/files"
 short "scripts" 120
