@@ -129,15 +129,7 @@ ROWS
         printf '%s\n' 'frame 80010000000c000001440000' 'no buffer has the size that was stated' >>"$table.wanted"
     done
     echo "device 6f776e6572" >>"$table"
-    : >"$room/in"
-    : >"$room/out.wanted"
-    set -f
-    while IFS= read -r line; do
-        case $line in
-        'execute '* | power) row "$line" ;;
-        esac
-    done <checks/hundred.txt
-    set +f
+    write_hundred
     sed '/^power$/!s/^/execute /' "$room/in" >>"$table"
     "$program" run --owner 6f776e6572 <"$room/in" >>"$table.wanted" || return 1
     echo "zeros 4294967308 80010000000c000001440000" >>"$table"

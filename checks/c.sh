@@ -21,19 +21,6 @@ undefined() {
     nm --defined-only "$archive" 2>/dev/null | awk 'NF == 3 { print $3 }' | sort -u | comm -23 "$room/needed" - | tr '\n' ' '
 }
 
-# write_hundred: the hundred commands as a script in $room/in, and their answers in $room/out.wanted.
-write_hundred() {
-    : >"$room/in"
-    : >"$room/out.wanted"
-    set -f
-    while IFS= read -r line; do
-        case $line in
-        'execute '* | power) row "$line" ;;
-        esac
-    done <checks/hundred.txt
-    set +f
-}
-
 # as_bytes: hexadecimal text on standard input as bytes.
 as_bytes() {
     xxd -r -p

@@ -91,3 +91,16 @@ row() {
         ;;
     esac
 }
+
+# write_hundred: the hundred commands as a script in $room/in, and their answers in $room/out.wanted.
+write_hundred() {
+    : >"$room/in"
+    : >"$room/out.wanted"
+    set -f
+    while IFS= read -r line; do
+        case $line in
+        'execute '* | power) row "$line" ;;
+        esac
+    done <checks/hundred.txt
+    set +f
+}
