@@ -269,11 +269,14 @@ check $?
 name="a log that may not be read" wanted=3
 : >"$room/closed.log"
 chmod 000 "$room/closed.log"
-if [ -r "$room/closed.log" ]; then
-    skip "$name" "this user may read every file"
+# Root may read every file, so there the program runs as nobody.
+as=
+[ ! -r "$room/closed.log" ] || as="setpriv --reuid=65534 --regid=65534 --clear-groups"
+if [ -n "$as" ] && ! $as ./tpmtool --version >"$room/out" 2>&1; then
+    skip "$name" "this user may read every file, and nobody can't run the program"
 else
     : >"$room/out.wanted"
     echo "cannot read $room/closed.log: permission is denied" >"$room/err.wanted"
-    ./tpmtool check "$room/closed.log" >"$room/out" 2>"$room/err"
+    $as ./tpmtool check "$room/closed.log" >"$room/out" 2>"$room/err"
     check $?
 fi
