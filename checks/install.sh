@@ -16,7 +16,7 @@ one_version() {
     echo "header $version $numbers" && [ "$version" = "$numbers" ] || return 1
     "$installed/bin/tpmtool" --version | head -n 1
     "$installed/bin/tpmtool" --version | head -n 1 | grep -q -F -w -e "$version" || return 1
-    grep -q "^Version: $version\$" "$installed/lib/pkgconfig/vinjakwe.pc" || return 1
+    [ "$(cat "$installed"/lib/pkgconfig/*.pc | grep -c "^Version: $version\$")" = 2 ] || return 1
     [ ! -e "$installed/lib/libvinjakwe.so" ] ||
         [ "$(readlink "$installed/lib/libvinjakwe.so")" = "libvinjakwe.so.$version" ] || return 1
     grep -q "\"vinjakwe $version\"" "$installed/share/man/man1/tpmtool.1"
@@ -29,10 +29,26 @@ linked() {
     env -u LD_LIBRARY_PATH "$elsewhere/log" <checks/logs/worked.log | cmp - checks/logs/worked.registers
 }
 
-# linked_by_name: the same with the words of pkg-config, over the shared library, which no path of the loader has.
+# linked_by_name NAME: the same with the words of pkg-config for this name: vinjakwe, over the shared library, which no
+# path of the loader has, or vinjakwe-static, over the archive.
 linked_by_name() {
-    PKG_CONFIG_PATH="$installed/lib/pkgconfig" pkg-config --cflags --libs vinjakwe >"$room/flags" || return 1
+    PKG_CONFIG_PATH="$installed/lib/pkgconfig" pkg-config --cflags --libs "$1" >"$room/flags" || return 1
     eval "linked $(cat "$room/flags")"
+}
+
+# archived: the archive has the version too, and a program that holds it needs no shared library.
+archived() {
+    cat >"$elsewhere/version.c" <<'END'
+#include <stdio.h>
+extern const char vinjakwe_version[];
+int main(void) { return puts(vinjakwe_version) < 0; }
+END
+    version=$(sed -n 's/^Version: //p' "$installed/lib/pkgconfig/vinjakwe.pc")
+    for archive in libvinjakwe.a libvinjakwe-freestanding.a; do
+        "$compiler" -o "$elsewhere/version" "$elsewhere/version.c" "$installed/lib/$archive" &&
+            [ "$("$elsewhere/version")" = "$version" ] || return 1
+    done
+    linked_by_name vinjakwe-static && ! ldd "$elsewhere/log" | grep vinjakwe
 }
 
 # freestanding_linked: a program without a C library over the other archive.
@@ -198,7 +214,8 @@ holds "the page and the completions have the program's words" told
 if [ -z "$compiler" ]; then
     skip "C programs over what is installed" "no C compiler was found"
 else
-    holds_by pkg-config "a C program by pkg-config" linked_by_name
+    holds_by pkg-config "a C program by pkg-config" linked_by_name vinjakwe
+    holds_by pkg-config "a C program by pkg-config that holds the archive, which has the version" archived
     holds "a C program over the installed archive" linked -I "$installed/include" "$installed/lib/libvinjakwe.a"
     holds_by nm "the names of the shared library" exported
     [ "$(uname -s) $(uname -m)" = "Linux x86_64" ] &&

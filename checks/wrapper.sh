@@ -420,8 +420,10 @@ by_name() {
         cmp "$place/share/zsh/site-functions/_tpmtool" setup/_tpmtool &&
         cmp "$place/share/man/man1/tpmtool.1" setup/tpmtool.1 &&
         cmp "$place/share/man/man1/vinjakwe-emulator.1" setup/vinjakwe-emulator.1 &&
-        grep -q -x -e "prefix=$place" "$place/lib/pkgconfig/vinjakwe.pc" &&
-        grep -q -x -e "Version: $version" "$place/lib/pkgconfig/vinjakwe.pc"
+        for name in vinjakwe vinjakwe-static; do
+            grep -q -x -e "prefix=$place" "$place/lib/pkgconfig/$name.pc" &&
+                grep -q -x -e "Version: $version" "$place/lib/pkgconfig/$name.pc" || return 1
+        done
 }
 
 rm -rf "$wrapper/crates/tpmtool/out"
@@ -431,6 +433,7 @@ cat >"$wrapper/files" <<END
 644 include/vinjakwe.h
 644 lib/libvinjakwe-freestanding.a
 644 lib/libvinjakwe.a
+644 lib/pkgconfig/vinjakwe-static.pc
 644 lib/pkgconfig/vinjakwe.pc
 644 share/bash-completion/completions/tpmtool
 644 share/fish/vendor_completions.d/tpmtool.fish
@@ -506,7 +509,7 @@ grep -v -e emulator -e '\.so' "$wrapper/files" >"$wrapper/fewer"
 files >"$wrapper/files.there"
 holds "./install removes what an earlier one had besides" diff "$wrapper/fewer" "$wrapper/files.there"
 holds "./install says what was not linked, and why" \
-    [ "$(grep -c 'cc does not link it: what does not link' "$wrapper/err")" -eq 2 ]
+    [ "$(grep -c 'cc does not link it: what does not link' "$wrapper/err")" -eq 3 ]
 
 # filled: an install on a small disk, and another one where it has no more room. What is there then is as it was.
 cat >"$wrapper/filled" <<'END'

@@ -4,7 +4,6 @@
 package vinjakwe
 
 /*
-#cgo pkg-config: vinjakwe
 #include "vinjakwe.h"
 extern const char vinjakwe_version[];
 static const char *header_version(void) { return VINJAKWE_VERSION; }

@@ -78,6 +78,8 @@ fn main() {
     if let Some(folder) = &library {
         println!("cargo:rustc-link-search=native={}", folder.display());
     }
+    let kind = if env::var_os("CARGO_FEATURE_STATIC").is_some() { "static" } else { "dylib" };
+    println!("cargo:rustc-link-lib={kind}=vinjakwe");
     let installed = library.map(|it| it.join("../include/vinjakwe.h")).filter(|it| it.exists());
     let header = installed.unwrap_or_else(|| "../../include/vinjakwe.h".into());
     println!("cargo:rerun-if-changed={}", header.display());

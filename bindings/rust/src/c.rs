@@ -1,7 +1,6 @@
 //! The declarations of vinjakwe.h, as build.rs reads them there.
 #![allow(missing_docs, non_camel_case_types, non_upper_case_globals)]
 
-#[link(name = "vinjakwe")]
 extern "C" {
     pub static vinjakwe_version: [u8; 6];
 }

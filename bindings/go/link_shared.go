@@ -1,0 +1,6 @@
+//go:build !vinjakwe_static
+
+package vinjakwe
+
+// #cgo pkg-config: vinjakwe
+import "C"
