@@ -888,6 +888,35 @@ by_links() {
     (cd "$room/links/more" && ./two --version) | grep -q '^vinjakwe-emulator '
 }
 
+# tss_built: the tests of checks/tss.c are built over tpm2-tss' libraries.
+tss_built() {
+    "$compiler" -std=c11 -O2 -w $(pkg-config --cflags $tss) -o "$room/tss" checks/tss.c $(pkg-config --libs $tss)
+}
+
+# tested KIND PROTOCOL: each of them passes over the emulator or swtpm.
+tested() {
+    begin "$1" || return 1
+    over "$2"
+    "$room/tss" "$TPM2TOOLS_TCTI" >"$room/out" 2>"$room/err"
+    grep -v '^ok ' "$room/out"
+    end && [ "$(grep -c '^ok ' "$room/out")" -eq 19 ] && [ "$(wc -l <"$room/out")" -eq 19 ]
+}
+
+# by_libraries: what programs over tpm2-tss' libraries ask.
+by_libraries() {
+    tss="tss2-esys tss2-sys tss2-mu tss2-tctildr"
+    name="tpm2-tss' integration tests"
+    if ! command -v pkg-config >/dev/null 2>&1 || ! pkg-config --exists $tss; then
+        skip "$name" "there are no libraries of tpm2-tss to build with"
+    elif ! tss_built >"$room/said" 2>&1; then
+        fail "$name" "they are not built: $(head -n 5 "$room/said")"
+    else
+        holds "$name over mssim" tested emulator mssim
+        holds "$name over swtpm's protocol" tested emulator swtpm
+        holds_by swtpm "$name over swtpm" tested swtpm swtpm
+    fi
+}
+
 # sanitizes: whether the compiler has sanitizers.
 sanitizes() {
     echo 'int main(void) { return 0; }' >"$room/empty.c"
@@ -925,6 +954,7 @@ elif ! "$compiler" $flags -O2 -o "$room/emulator" emulator/*.c "$archive" >"$roo
     fail "the emulator" "it isn't built: $(head -n 5 "$room/said")"
 else
     by_tools
+    by_libraries
     if [ -x "$program" ]; then
         holds "commands over standard input give the bytes of tpmtool" streamed
     else
