@@ -5,6 +5,7 @@
 #     command HEX, reply NAME HEX, build NAME HANDLES SESSIONS PARAMETERS      as examples/view.c
 #     log FILE, pieces FILE                               `tpmtool check FILE`, whole and from a reader
 #     events FILE                                         as examples/events.c, which checks/c.sh compares
+#     texts FILE                                          as examples/events.c, which checks/c.sh compares
 #     boot FILE BANK                                      as examples/secure_boot.c, which checks/c.sh compares
 #     quote FILE HEX HASH                                 as examples/log.c
 #     attest LOG HEX NONCE REQUIRE HASH                   a quote as it was signed
@@ -110,6 +111,12 @@ ROWS
         cat "$room/out" "$room/out" >>"$table.wanted"
         echo "events $log" >>"$table"
         "$room/c_events" bytes <"$log" >>"$table.wanted"
+        # Half of a pair in UTF-16 is U+FFFD for Go and Rust.
+        case $log in */halves.log) ;; *)
+            echo "texts $log" >>"$table"
+            "$room/c_events" texts <"$log" >>"$table.wanted"
+            ;;
+        esac
         for bank in sha1 sha256 sha384; do
             echo "boot $log $bank" >>"$table"
             "$room/c_boot" "$bank" <"$log" >>"$table.wanted"
@@ -191,9 +198,10 @@ make_layout() {
         }
         /^#define TPM_(CC|RC)_/ &&
             $2 !~ /^TPM_RC_([HPS1-7])$/ { number($2, $2) }
-        /^#define TPM_(DONE|REFUSED|NO_ROOM|NO_COMMAND|EVENT|VARIABLE|CALLER_OPENED|POLICY_NO_DIGEST) / ||
+        /^#define TPM_(DONE|REFUSED|NO_ROOM|NO_COMMAND|EVENT|VARIABLE|TEXT|TEXT_UTF16|CALLER_OPENED) / ||
+            /^#define TPM_POLICY_NO_DIGEST / ||
             /^#define TPM_(FRAMER_[A-Z]+|ATTEST_[A-Z_]+) / || /^#define TPM_ALG_SHA/ ||
-            /^#define TPM_(BUFFER|OWNER|NONCE|REGISTERS|DEVICE_KEPT)_BYTES/ { number($2, $2) }
+            /^#define TPM_(BUFFER|OWNER|NONCE|REGISTERS|DEVICE_KEPT|EVENT_TYPE)_BYTES/ { number($2, $2) }
         /^#define TPM_SECURE_BOOT_/ && $2 !~ /NO_BANK$/ { number($2, $2) }
         /^#define TPM_LOG_/ { sub(/^TPM_LOG_/, "", $2); gsub(/_/, "", $2); number("TPM_LOG_" $2, $3) }
         END { print "return 0; }" }' include/vinjakwe.h >"$room/layout.c"
@@ -222,10 +230,12 @@ for prefix, table in (("CC", v.COMMANDS), ("RC", v.CODES), ("ALG", hashes)):
         print(f"TPM_{prefix}_{name} {number}")
 for i, name in enumerate(v.LOG_FAULTS):
     print(f"TPM_LOG_{name.replace('_', '')} {i}")
-for name in ("BUFFER_BYTES", "OWNER_BYTES", "NONCE_BYTES", "REGISTERS_BYTES", "DEVICE_KEPT_BYTES"):
+for name in ("BUFFER_BYTES", "OWNER_BYTES", "NONCE_BYTES", "REGISTERS_BYTES", "DEVICE_KEPT_BYTES",
+             "EVENT_TYPE_BYTES"):
     print(f"TPM_{name} {getattr(v, name)}")
 for name in ("DONE", "REFUSED", "NO_ROOM", "NO_COMMAND", "FRAMER_MORE", "FRAMER_READY", "FRAMER_BROKEN", "EVENT",
-             "VARIABLE", "CALLER_OPENED", "ATTEST_REFUSED", "ATTEST_NO_BANK", "ATTEST_REQUIREMENT", "POLICY_NO_DIGEST"):
+             "VARIABLE", "TEXT", "TEXT_UTF16", "CALLER_OPENED", "ATTEST_REFUSED", "ATTEST_NO_BANK",
+             "ATTEST_REQUIREMENT", "POLICY_NO_DIGEST"):
     print(f"TPM_{name} {getattr(v, '_' + name)}")
 for kind in v.Kind:
     print(f"TPM_ATTEST_{kind.name} {kind.value}")
@@ -349,6 +359,19 @@ go_built() {
     (cd bindings/go && in_place go vet ./... && in_place go build -o "$room/go_table" ./table)
 }
 
+# go_static, rust_static: the program holds the archive, and needs no shared library.
+go_static() {
+    (cd bindings/go && in_place go build -tags vinjakwe_static -o "$room/go_static" ./table) &&
+        ! ldd "$room/go_static" | grep vinjakwe && answers "$room/go_static"
+}
+
+rust_static() {
+    (cd bindings/rust && in_place cargo build --offline --locked --features static --examples \
+        --target-dir "$room/rust_static") &&
+        ! ldd "$room/rust_static/debug/examples/table" | grep vinjakwe &&
+        answers "$room/rust_static/debug/examples/table" $(numbers)
+}
+
 # go_names: the package has the name of each response code of the header.
 go_names() {
     echo codes | in_place "$room/go_table" | sort >"$room/out"
@@ -467,6 +490,7 @@ else
         else
             skip "Go answers them beside an address sanitizer" "$(head -n 1 "$room/said")"
         fi
+        holds "Go answers the table by the archive" go_static
         holds "the example in Go" go_example
         holds "the tests of the package for Go" go_tests
     fi
@@ -483,6 +507,7 @@ else
         else
             skip "Rust answers them under valgrind" "there is no valgrind"
         fi
+        holds "Rust answers the table by the archive" rust_static
         holds "the example in Rust" rust_example
         holds "the tests of the crate for Rust" rust_tests
     fi

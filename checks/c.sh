@@ -205,6 +205,15 @@ same_variables() {
     cmp "$room/out" checks/logs/variables.txt
 }
 
+# same_texts: the types of records by their names, and their text, of each log that has a list of lines.
+same_texts() {
+    for list in checks/logs/*.events; do
+        "$room/events" texts <"${list%.events}.log" >"$room/out"
+        sed -E '/^log /!s/^[0-9]+ ([0-9]+ [^ ]+) [^ ]+ [^ ]+ [^ ]+ [^ ]+( text .*)?.*/\1\2/' "$list" >"$room/out.wanted"
+        cmp "$room/out" "$room/out.wanted" || { echo "$list: $(cat "$room/out")" && return 1; }
+    done
+}
+
 # same_boots: what each log of checks/logs that has a list says of Secure Boot, without what the variables hold, in the
 # banks of its list; and a log that is none, a bank that there is not, and more authorities than the first room has.
 same_boots() {
@@ -490,6 +499,7 @@ else
     holds "a log of 1.1 MB through C" same_long_log
     holds "the records of the logs through C" same_events
     holds "the variables of the logs through C" same_variables
+    holds "the names of types and the texts of the logs through C" same_texts
     holds "whether Secure Boot was on through C" same_boots
     holds "a device through C tells what it does not know" device_faults
     holds "the power of a device behind a stream" same_power

@@ -85,6 +85,7 @@ def crate_numbers():
         | {"TPM_CALLER_OPENED": statuses["TPM_DONE"]}
         | constants("tpm_c", "policy", "TPM_POLICY_")
         | only(constants("tpm_c", "log_event", "TPM_"), "TPM_EVENT")
+        | only(constants("tpm_c", "record_text", "TPM_"), "TPM_TEXT", "TPM_TEXT_UTF16")
         | only(constants("tpm_c", "variable", "TPM_"), "TPM_VARIABLE")
         | arms("tpm_c", "secure_boot", "SecureBootState", "TPM_SECURE_BOOT_")
         | arms("tpm_c", "secure_boot", "SecureBootFaultKind", "TPM_SECURE_BOOT_")
@@ -99,6 +100,7 @@ def crate_numbers():
             "TPM_NONCE_BYTES": nonce,
             "TPM_POLICY_BYTES": array_len("tpm_c", "policy", "u8"),
             "TPM_RECORD_DIGESTS": array_len("tpm_c", "log_event", "TpmLogDigest"),
+            "TPM_EVENT_TYPE_BYTES": max(map(len, re.findall(r'"(EV_\w+)"\),', source("tpm_log", "event_types")))),
         }
         | arms("tpm_types", "alg", "Alg", "TPM_ALG_")
         | only(constants("tpm_types", "tpmt", "TPM_ALG_"), "TPM_ALG_AES", "TPM_ALG_XOR", "TPM_ALG_NULL", "TPM_ALG_CFB")

@@ -289,16 +289,13 @@ static int esys_tr_get_name_hierarchy(void) {
 
 static int esys_tr_from_tpm_public_session(void) {
     TPMT_SYM_DEF none = {.algorithm = TPM2_ALG_NULL};
-    TPM2B_AUTH auth = {.size = 0};
-    TPM2B_NV_PUBLIC public = counter_public();
-    ESYS_TR counter, again, session;
-    if (!start(none, TPM2_ALG_SHA256, TPMA_SESSION_CONTINUESESSION | TPMA_SESSION_AUDIT, &session))
+    TPM2_HANDLE handle;
+    ESYS_TR session, again;
+    if (!start(none, TPM2_ALG_SHA256, TPMA_SESSION_CONTINUESESSION, &session))
         return 0;
-    DOES(Esys_NV_DefineSpace(esys, ESYS_TR_RH_OWNER, BY_PASSWORD, &auth, &public, &counter));
-    DOES(Esys_TR_Close(esys, &counter));
-    DOES(Esys_TR_FromTPMPublic(esys, TPM2_NV_INDEX_FIRST, BY(session), &again));
-    DOES(Esys_NV_UndefineSpace(esys, ESYS_TR_RH_OWNER, again, BY_PASSWORD));
-    DOES(Esys_FlushContext(esys, session));
+    DOES(Esys_TR_GetTpmHandle(esys, session, &handle));
+    DOES(Esys_TR_FromTPMPublic(esys, handle, NONE, &again));
+    DOES(Esys_FlushContext(esys, again));
     return 1;
 }
 

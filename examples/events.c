@@ -3,8 +3,9 @@
  *     events             REGISTER TYPE AT+LENGTH HASH:AT+LENGTH[*] ..
  *     events bytes       REGISTER TYPE DATA HASH:DIGEST[*] ..
  *     events variables   REGISTER TYPE GUID NAME VALUE, where each lies, of the records whose data are a variable
+ *     events texts       REGISTER NAME [text TEXT], the type by its name where it has one, and the data where they are text
  *
- * The type and the numbers of the hashes are hexadecimal; first come the event's data, or where they are, and then each digest. A
+ * A type and the numbers of the hashes are hexadecimal; first come the event's data, or where they are, and then each digest. A
  * star says that the digest is the hash of the data: firmware measures some events by the hash of something else, as of a program.
  */
 #include "vinjakwe.h"
@@ -54,23 +55,62 @@ static void print_variable(const struct tpm_log_event *event) {
     printf("\n");
 }
 
+/* A unit of a text, which is escaped as in JSON where it is no printable character of ASCII. */
+static void print_unit(int unit) {
+    if (unit == '"' || unit == '\\')
+        printf("\\%c", unit);
+    else if (unit >= 0x20 && unit <= 0x7e)
+        printf("%c", unit);
+    else
+        printf("\\u%04x", (unsigned)unit);
+}
+
+static void print_text(const struct tpm_log_event *event) {
+    const uint8_t *data = bytes + event->data.at;
+    struct tpm_part text;
+    uint32_t said = tpm_log_text(event->type, data, event->data.len, &text);
+    if (said == TPM_LOG_DONE)
+        return;
+    printf(" text ");
+    for (size_t i = text.at; said == TPM_TEXT && i < text.at + text.len; i++)
+        print_unit(data[i]);
+    for (size_t i = text.at; said == TPM_TEXT_UTF16 && i < text.at + text.len; i += 2)
+        print_unit(data[i] | data[i + 1] << 8);
+}
+
+/* The record by the name of its type, and the text that its data are, if they are one. */
+static void print_names(const struct tpm_log_event *event) {
+    uint8_t name[TPM_EVENT_TYPE_BYTES];
+    size_t len = tpm_event_type_name(event->type, name, sizeof name);
+    printf("%lu ", (unsigned long)event->pcr);
+    if (len == 0)
+        printf("%08lx", (unsigned long)event->type);
+    else
+        printf("%.*s", (int)len, (const char *)name);
+    print_text(event);
+    printf("\n");
+}
+
 int main(int argc, char **argv) {
+    const char *words = argc == 2 ? argv[1] : "";
     size_t len = fread(bytes, 1, sizeof bytes, stdin);
     struct tpm_log_place place = {0, 0};
     struct tpm_log_event event;
     uint32_t at, said;
-    int variables = argc == 2 && strcmp(argv[1], "variables") == 0;
+    int variables = strcmp(words, "variables") == 0, texts = strcmp(words, "texts") == 0;
     if (ferror(stdin)) {
         fprintf(stderr, "events: standard input can't be read\n");
         return 3;
     }
-    if (argc > 2 || (argc == 2 && !variables && strcmp(argv[1], "bytes") != 0)) {
-        fprintf(stderr, "usage: events [bytes | variables]\n");
+    if (argc > 2 || (argc == 2 && !variables && !texts && strcmp(words, "bytes") != 0)) {
+        fprintf(stderr, "usage: events [bytes | variables | texts]\n");
         return 2;
     }
     while ((said = tpm_log_event(bytes, len, &place, &event, &at)) == TPM_EVENT) {
         if (variables)
             print_variable(&event);
+        else if (texts)
+            print_names(&event);
         else
             print_event(&event, argc == 2);
     }

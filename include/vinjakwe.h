@@ -287,6 +287,24 @@ struct tpm_log_event {
  * no call wrote the bytes are read as if a record began there. */
 uint32_t tpm_log_event(const uint8_t *log, size_t len, struct tpm_log_place *place, struct tpm_log_event *event, uint32_t *at);
 
+/* How many bytes the name of a type of records has at most. */
+#define TPM_EVENT_TYPE_BYTES 32
+
+/* Writes the name of this type of records, as EV_SEPARATOR, to the beginning of `out`, with no zero behind it, and says how many bytes
+ * it has: TPM_EVENT_TYPE_BYTES at most. It answers 0, and nothing is written, where out_len is less, or where the PC Client Platform
+ * Firmware Profile ("Event Types") names no such type. */
+size_t tpm_event_type_name(uint32_t kind, uint8_t *out, size_t out_len);
+
+/* A text was told: in ASCII, or in UTF-16 with the less significant byte of each unit first. */
+#define TPM_TEXT ((uint32_t)34)
+#define TPM_TEXT_UTF16 ((uint32_t)35)
+
+/* Tells the text that these bytes, the data of a record of this type, are, all of them but for a zero that ends it. TPM_TEXT: it is
+ * in `view`, and the type is EV_POST_CODE, EV_ACTION, EV_IPL or EV_EFI_ACTION: printable ASCII, a character or more. TPM_TEXT_UTF16:
+ * it is in `view`, and the type is EV_S_CRTM_VERSION: a unit or more, and whether they are characters is not judged. TPM_LOG_DONE:
+ * they are none, or the type is another; `view` stays as it was. */
+uint32_t tpm_log_text(uint32_t kind, const uint8_t *bytes, size_t len, struct tpm_part *view);
+
 /* A variable of the firmware, by its parts in the data of a record: the vendor's GUID, 16 bytes as they lie in memory; the name in
  * UTF-16, with the less significant byte of each unit first; and the value. */
 struct tpm_variable {

@@ -127,6 +127,38 @@ type Event struct {
 	Data     []byte
 }
 
+// EventTypeName is the name of a type of records, as "EV_SEPARATOR", or "" where the PC Client Platform Firmware Profile names none.
+func EventTypeName(kind uint32) string {
+	var name [C.TPM_EVENT_TYPE_BYTES]byte
+	return string(name[:C.tpm_event_type_name(C.uint32_t(kind), place(name[:]), size(name[:]))])
+}
+
+// TypeName is the name of the record's type, as "EV_SEPARATOR", or "" where the profile names none.
+func (e Event) TypeName() string { return EventTypeName(e.Type) }
+
+// Text is the one that the event's data are, without a zero that ends it: printable ASCII of EV_POST_CODE, EV_ACTION, EV_IPL and
+// EV_EFI_ACTION, or UTF-16 of EV_S_CRTM_VERSION, in which a unit that is none is U+FFFD. It is false where they are no text, or the type
+// is another.
+func (e Event) Text() (text string, is bool) {
+	var it C.struct_tpm_part
+	switch C.tpm_log_text(C.uint32_t(e.Type), place(e.Data), size(e.Data), &it) {
+	case C.TPM_TEXT:
+		return string(part(e.Data, it)), true
+	case C.TPM_TEXT_UTF16:
+		return wide(part(e.Data, it)), true
+	}
+	return "", false
+}
+
+// wide is the text of UTF-16, in which a unit that is none is U+FFFD.
+func wide(bytes []byte) string {
+	units := make([]uint16, len(bytes)/2)
+	for i := range units {
+		units[i] = binary.LittleEndian.Uint16(bytes[2*i:])
+	}
+	return string(utf16.Decode(units))
+}
+
 // A Variable of the firmware: its vendor's GUID as it lies in memory, its name, in which a unit that is no UTF-16 is U+FFFD, and its
 // value, which is lent from the event's data.
 type Variable struct {
@@ -142,13 +174,8 @@ func (e Event) Variable() (found Variable, is bool) {
 	if C.tpm_log_variable(C.uint32_t(e.Type), place(e.Data), size(e.Data), &it) != C.TPM_VARIABLE {
 		return found, false
 	}
-	name := part(e.Data, it.name)
-	units := make([]uint16, len(name)/2)
-	for i := range units {
-		units[i] = binary.LittleEndian.Uint16(name[2*i:])
-	}
 	copy(found.GUID[:], part(e.Data, it.guid))
-	found.Name, found.Value = string(utf16.Decode(units)), part(e.Data, it.value)
+	found.Name, found.Value = wide(part(e.Data, it.name)), part(e.Data, it.value)
 	return found, true
 }
 

@@ -91,6 +91,38 @@ func TestVariablesOfALog(t *testing.T) {
 	}
 }
 
+// Each list beside a log has a line for a record, whose third word is the type's name and whose eighth may be "text".
+func TestNamesAndTextsOfEachLogWithAList(t *testing.T) {
+	lists, err := filepath.Glob(checks + "logs/*.events")
+	if err != nil || len(lists) == 0 {
+		t.Fatal(lists, err)
+	}
+	for _, list := range lists {
+		name := strings.TrimSuffix(filepath.Base(list), ".events")
+		events := NewEvents(read(t, "logs/"+name+".log"))
+		for _, line := range strings.Split(strings.TrimSpace(string(read(t, "logs/"+name+".events"))), "\n") {
+			words := strings.SplitN(line, " ", 9)
+			if len(words) < 9 {
+				continue
+			}
+			if !events.Next() {
+				t.Fatal(name, line)
+			}
+			it := events.Event()
+			found, wanted := it.TypeName(), words[2]
+			if found == "" {
+				found = fmt.Sprintf("%08x", it.Type)
+			}
+			text, is := it.Text()
+			if found != wanted || is != (words[7] == "text") {
+				t.Error(name, line, found, text)
+			} else if is && !strings.Contains(words[8], `\`) && text != words[8] {
+				t.Error(name, line, text)
+			}
+		}
+	}
+}
+
 // boots gives what the lists beside the logs say of Secure Boot: the lines of each bank, without what the variables hold.
 func boots(t *testing.T) map[string]map[string][]string {
 	t.Helper()

@@ -47,6 +47,20 @@ def events(log):
         yield f"{it.register} {it.type:08x} {text(it.data)}{''.join(digests)}"
 
 
+def escaped(unit):
+    if unit in (0x22, 0x5C):
+        return "\\" + chr(unit)
+    return chr(unit) if 0x20 <= unit <= 0x7E else f"\\u{unit:04x}"
+
+
+def texts(log):
+    for it in vinjakwe.events(log):
+        said, name = vinjakwe.text(it), vinjakwe.event_type_name(it.type) or f"{it.type:08x}"
+        units = (said or "").encode("utf-16-le", "surrogatepass")
+        shown = "".join(escaped(int.from_bytes(units[at:at + 2], "little")) for at in range(0, len(units), 2))
+        yield f"{it.register} {name}" + (f" text {shown}" if said else "")
+
+
 def boot(log, bank):
     try:
         it = vinjakwe.secure_boot(log, bank)
@@ -119,6 +133,8 @@ class Answers:
             yield from opened(*words)
         elif verb == "events":
             yield from events(whole(*words))
+        elif verb == "texts":
+            yield from texts(whole(*words))
         elif verb == "boot":
             yield from boot(whole(words[0]), words[1])
         elif verb == "quote":

@@ -11,6 +11,7 @@ import (
 	"sort"
 	"strconv"
 	"strings"
+	"unicode/utf16"
 
 	"vinjakwe"
 )
@@ -122,6 +123,36 @@ func events(log []byte) {
 	}
 }
 
+// texts prints each record by the name of its type, with its text as JSON escapes it.
+func texts(log []byte) {
+	it := vinjakwe.NewEvents(log)
+	for it.Next() {
+		event := it.Event()
+		name := event.TypeName()
+		if name == "" {
+			name = fmt.Sprintf("%08x", event.Type)
+		}
+		fmt.Fprintf(out, "%d %s", event.Register, name)
+		if text, is := event.Text(); is {
+			fmt.Fprint(out, " text ")
+			for _, unit := range utf16.Encode([]rune(text)) {
+				switch {
+				case unit == '"' || unit == '\\':
+					fmt.Fprintf(out, "\\%c", unit)
+				case unit >= 0x20 && unit <= 0x7e:
+					fmt.Fprintf(out, "%c", unit)
+				default:
+					fmt.Fprintf(out, "\\u%04x", unit)
+				}
+			}
+		}
+		fmt.Fprintln(out)
+	}
+	if it.Err() != nil {
+		tell(it.Err())
+	}
+}
+
 func frames(size int, stream []byte) {
 	framer := vinjakwe.NewFramer()
 	for len(stream) > 0 {
@@ -180,6 +211,8 @@ func main() {
 			file.Close()
 		case "events":
 			events(read(words[1]))
+		case "texts":
+			texts(read(words[1]))
 		case "boot":
 			boot(words)
 		case "quote":

@@ -1,6 +1,7 @@
 """What the package answers, beside hashlib and the logs and quotes of the repository: `python -m unittest` in bindings/python."""
 import copy
 import hashlib
+import json
 import pickle
 import sys
 import unittest
@@ -82,6 +83,28 @@ class Variables(unittest.TestCase):
         self.assertLessEqual({"SecureBoot", "PK", "KEK", "db", "dbx"}, names)
 
 
+def said():
+    """What the lists beside the logs say of records: of each log the names of their types, and which data are text."""
+    for path in sorted((CHECKS / "logs").glob("*.events")):
+        lines = [line.split(" ", 7) for line in path.read_text().splitlines() if not line.startswith("log ")]
+        yield path.with_suffix(".log"), [(line[2], line[7]) for line in lines]
+
+
+class Texts(unittest.TestCase):
+    def test_each_log_with_a_list(self):
+        for path, wanted in said():
+            events = list(v.events(path))
+            names = [v.event_type_name(it.type) or f"{it.type:08x}" for it in events]
+            self.assertEqual(names, [name for name, _ in wanted], path)
+            for event, (_, words) in zip(events, wanted):
+                told = json.loads(f'"{words[5:]}"') if words.startswith("text ") else None
+                self.assertEqual(v.text(event), told, path)
+
+    def test_a_type_that_the_profile_does_not_name(self):
+        for kind in 0x13, 0x8000000E, 0xFFFFFFFF, 1 << 32, -1:
+            self.assertIsNone(v.event_type_name(kind))
+
+
 def boots():
     """What the lists beside the logs say of Secure Boot: of each bank its state or fault, and its lines by name and place."""
     for path in sorted((CHECKS / "logs").glob("*.secure")):
@@ -129,6 +152,14 @@ class Quotes(unittest.TestCase):
             self.assertTrue(v.check(log, quote, nonce, selected, hash))
             self.assertTrue(v.check(log, quote, nonce, v.selection(selected), hash))
             self.assertTrue(v.check_quote(log, v.decode_attest(quote).info, hash))
+
+    def test_a_log_by_its_path(self):
+        for line in (CHECKS / "quotes" / "cases.txt").read_text().splitlines():
+            name, log, hash, nonce, selected = line.split()
+            quote = (CHECKS / "quotes" / f"{name}.msg").read_bytes()
+            self.assertTrue(v.check(CHECKS / "quotes" / log, quote, bytes.fromhex(nonce), selected, hash))
+            with open(CHECKS / "quotes" / log, "rb") as file:
+                self.assertTrue(v.check_quote(file, v.decode_attest(quote).info, hash))
 
     def test_another_nonce(self):
         for log, quote, nonce, selected, hash in quotes():

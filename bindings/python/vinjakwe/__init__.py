@@ -27,13 +27,13 @@ __all__ = [
     "Attest", "BrokenStream", "BUFFER_BYTES", "Caller", "CODES", "COMMANDS", "Command", "Counter", "Device", "Event", "Framer", "HASHES", "Kind",
     "LibraryError", "LogFault", "NONCE_BYTES", "OWNER_BYTES", "Policy", "Refusal", "Registers", "Response", "SecureBoot", "SecureBootFault",
     "SecureBootState", "Session", "Variable", "Verdict",
-    "build_command", "changes_nv", "check", "check_quote", "code_name", "decode_attest", "decode_command", "decode_response", "events", "replay",
-    "secure_boot", "selection", "variable",
+    "build_command", "changes_nv", "check", "check_quote", "code_name", "decode_attest", "decode_command", "decode_response", "event_type_name",
+    "events", "replay", "secure_boot", "selection", "text", "variable",
 ]
 __version__ = "0.1.0"
 
 # As in vinjakwe.h, with which a test compares them.
-BUFFER_BYTES, OWNER_BYTES, NONCE_BYTES, REGISTERS_BYTES, DEVICE_KEPT_BYTES = 4096, 48, 64, 2400, 1026
+BUFFER_BYTES, OWNER_BYTES, NONCE_BYTES, REGISTERS_BYTES, DEVICE_KEPT_BYTES, EVENT_TYPE_BYTES = 4096, 48, 64, 2400, 1026, 32
 HASHES = {"sha1": 0x0004, "sha256": 0x000B, "sha384": 0x000C}
 COMMANDS = {
     "NV_UndefineSpace": 0x122, "NV_DefineSpace": 0x12A, "NV_Increment": 0x134, "PCR_Event": 0x13C, "PCR_Reset": 0x13D,
@@ -56,7 +56,7 @@ SECURE_BOOT_FAULTS = ("NOT_MEASURED", "OTHER_TYPE", "NO_VARIABLE", "TWICE", "OTH
                       "LATE", "NO_KEY", "NO_AUTHORITY")
 _DONE, _REFUSED, _NO_ROOM, _NO_COMMAND = range(4)
 _FRAMER_MORE, _FRAMER_READY, _FRAMER_BROKEN = range(3)
-_EVENT, _VARIABLE, _CALLER_OPENED = 32, 33, 0
+_EVENT, _VARIABLE, _TEXT, _TEXT_UTF16, _CALLER_OPENED = 32, 33, 34, 35, 0
 _ATTEST_REFUSED, _ATTEST_NO_BANK, _ATTEST_REQUIREMENT = 17, 18, 22
 _POLICY_NO_DIGEST = 5
 _SECURE_BOOT_NO_ROOM, _SECURE_BOOT_NOT_MEASURED = 51, 64
@@ -230,6 +230,7 @@ def _load() -> tuple[ctypes.PyDLL, ctypes.CDLL]:
         ("log_replay", number, [p, size, p, count]), ("log_replay_init", None, [p]),
         ("log_replay_feed", number, [p, p, size, count]), ("log_replay_end", number, [p, p, count]),
         ("log_event", number, [p, size, POINTER(_LogPlace), POINTER(_LogEvent), count]),
+        ("event_type_name", size, [number, p, size]), ("log_text", number, [number, p, size, POINTER(_Part)]),
         ("log_variable", number, [number, p, size, POINTER(_Variable)]),
         ("log_secure_boot", number, [p, size, c_uint16, POINTER(_SecureBoot), p, size, POINTER(size), count]),
         ("log_check_quote", number, [p, size, p, size, c_uint16, count]),
@@ -480,6 +481,27 @@ def events(log: Log) -> Iterator[Event]:
     _raise_fault(said, at.value)
 
 
+def event_type_name(type: int) -> str | None:
+    """The name of a type of records, as `EV_SEPARATOR`, or None where the PC Client Platform Firmware Profile names none."""
+    if not 0 <= type < 1 << 32:
+        return None
+    out = (c_uint8 * EVENT_TYPE_BYTES)()
+    size = _library.tpm_event_type_name(type, out, EVENT_TYPE_BYTES)
+    return bytes(out[:size]).decode("ascii") or None
+
+
+def text(event: Event) -> str | None:
+    """The text that the data of a record are, without a zero that ends it: printable ASCII of EV_POST_CODE, EV_ACTION, EV_IPL and
+    EV_EFI_ACTION, or UTF-16 of EV_S_CRTM_VERSION, of which units that are no UTF-16 stay as they are. None where they are no text, or
+    the type is another."""
+    view = _Part()
+    said = _lend(_library.tpm_log_text, event.type, (event.data,), byref(view))
+    if said not in (_TEXT, _TEXT_UTF16):
+        return None
+    with memoryview(event.data) as data:
+        return _part(data, view).decode(*("ascii",) if said == _TEXT else ("utf-16-le", "surrogatepass"))
+
+
 class Variable(NamedTuple):
     """A variable of the firmware: its vendor, its name and its value. Units of the name that are no UTF-16 stay as they are."""
 
@@ -543,11 +565,12 @@ def secure_boot(log: Log, bank: str = "sha256") -> SecureBoot:
 _GENERATED = b"\xffTCG"
 
 
-def check_quote(log: Buffer, quote: Buffer, hash: str = "sha256") -> bool:
-    """Whether the digest of a quote's TPMS_QUOTE_INFO is that of a log's registers. Raises LogFault, Refusal (whose code is not told: 0),
-    and ValueError for a whole TPMS_ATTEST, which is for `check`."""
+def check_quote(log: Log, quote: Buffer, hash: str = "sha256") -> bool:
+    """Whether the digest of a quote's TPMS_QUOTE_INFO is that of a log's registers. The log is given by its bytes, its path, or a file
+    that is read to its end. Raises LogFault, Refusal (whose code is not told: 0), and ValueError for a whole TPMS_ATTEST, which is for
+    `check`."""
     at = c_uint32()
-    answer = _lend_long("tpm_log_check_quote", (log,), (quote,), _hash(hash), byref(at))
+    answer = _lend_long("tpm_log_check_quote", (_whole(log),), (quote,), _hash(hash), byref(at))
     if answer == _ATTEST_REFUSED and bytes(memoryview(quote).cast("B")[:4]) == _GENERATED:
         raise ValueError("this is a whole TPMS_ATTEST, which check() takes; its TPMS_QUOTE_INFO is decode_attest(..).info")
     _raise_fault(answer, at.value)
@@ -618,12 +641,13 @@ class Verdict(NamedTuple):
         return self.kind is Kind.MATCHES
 
 
-def check(log: Buffer, attest: Buffer, nonce: Buffer, require: Selected = b"", hash: str = "sha256") -> Verdict:
+def check(log: Log, attest: Buffer, nonce: Buffer, require: Selected = b"", hash: str = "sha256") -> Verdict:
     """Compares a log with a TPMS_ATTEST of a quote, whose signature has to be verified elsewhere: its nonce, the registers that are
-    required, and the digest under this hash. `require` is a TPML_PCR_SELECTION or a list as `sha256:0,7`. Raises LogFault, and Refusal
-    for bytes that spell no quote; ValueError where `require` is no selection."""
+    required, and the digest under this hash. The log is given by its bytes, its path, or a file that is read to its end; `require` is a
+    TPML_PCR_SELECTION or a list as `sha256:0,7`. Raises LogFault, and Refusal for bytes that spell no quote; ValueError where `require`
+    is no selection."""
     fault, listed = _AttestFault(), _selected(require)
-    answer = _lend_long("tpm_log_check_attest", (log,), (attest,), _hash(hash), (nonce,), (listed,), byref(fault))
+    answer = _lend_long("tpm_log_check_attest", (_whole(log),), (attest,), _hash(hash), (nonce,), (listed,), byref(fault))
     _raise_fault(answer, fault.at, fault.code)
     if answer == _ATTEST_REQUIREMENT:
         raise ValueError("require: " + str(Refusal(fault.code, fault.at)))

@@ -87,6 +87,29 @@ fn tell_events(out: &mut impl Write, log: &[u8]) -> std::io::Result<()> {
     Ok(())
 }
 
+// Each record by the name of its type, with its text as JSON escapes it.
+fn tell_texts(out: &mut impl Write, log: &[u8]) -> std::io::Result<()> {
+    for found in events(log) {
+        let it = match found {
+            Ok(it) => it,
+            Err(fault) => return writeln!(out, "{fault}"),
+        };
+        write!(out, "{} {}", it.register, it.type_name().map_or(format!("{:08x}", it.kind), |it| it.to_string()))?;
+        if let Some(said) = it.text() {
+            write!(out, " text ")?;
+            for unit in said.chars().collect::<String>().encode_utf16() {
+                match unit {
+                    0x22 | 0x5c => write!(out, "\\{}", unit as u8 as char)?,
+                    0x20..=0x7e => write!(out, "{}", unit as u8 as char)?,
+                    _ => write!(out, "\\u{unit:04x}")?,
+                }
+            }
+        }
+        writeln!(out)?;
+    }
+    Ok(())
+}
+
 fn tell_boot(out: &mut impl Write, log: &[u8], name: &str) -> std::io::Result<()> {
     let mut room = vec![0; 2];
     if let Err(Fault::Room(count)) = secure_boot(log, bank(name), &mut room) {
@@ -169,6 +192,7 @@ fn main() -> std::io::Result<()> {
             "log" => registers(out, replay(&std::fs::read(words[1])?))?,
             "pieces" => registers(out, pieces(words[1]))?,
             "events" => tell_events(out, &std::fs::read(words[1])?)?,
+            "texts" => tell_texts(out, &std::fs::read(words[1])?)?,
             "boot" => tell_boot(out, &std::fs::read(words[1])?, words[2])?,
             "quote" => match check_quote(&std::fs::read(words[1])?, &unhex(words[2]), bank(words[3])) {
                 Ok(matches) => writeln!(out, "quote {}", if matches { "matches" } else { "differs" })?,

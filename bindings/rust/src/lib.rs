@@ -17,7 +17,7 @@ use core::fmt;
 
 pub use boots::{secure_boot, SecureBoot, SecureBootFault, SecureBootState, SECURE_BOOT_FAULTS};
 pub use buffers::{build_command, Command, List, Response, Session};
-pub use logs::{check, check_quote, events, replay, Bank, Digest, Event, Events, Registers, Replay, Variable, Verdict};
+pub use logs::{check, check_quote, events, replay, Bank, Digest, Event, Events, Registers, Replay, Text, TypeName, Variable, Verdict};
 pub use quotes::{Attest, Policy, Selection};
 pub use states::{changes_nv, Caller, Counter, Device, Framer, Place, Room};
 

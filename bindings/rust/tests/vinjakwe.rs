@@ -56,6 +56,27 @@ fn variables_of_a_log() {
     assert_eq!((found[0].guid.len(), found[0].value), (16, &[1][..]));
 }
 
+// Each list beside a log has a line for a record, whose third word is the type's name and whose eighth may be "text".
+#[test]
+fn names_and_texts_of_each_log_with_a_list() {
+    let logs = format!("{}/../../checks/logs", env!("CARGO_MANIFEST_DIR"));
+    let lists = fs::read_dir(logs).unwrap().map(|it| it.unwrap().path()).filter(|it| it.extension().is_some_and(|it| it == "events"));
+    let mut count = 0;
+    for list in lists {
+        let (log, lines) = (fs::read(list.with_extension("log")).unwrap(), fs::read_to_string(&list).unwrap());
+        let lines = lines.lines().filter(|it| !it.starts_with("log "));
+        for (it, line) in events(&log).map_while(Result::ok).zip(lines) {
+            let words: Vec<&str> = line.splitn(9, ' ').collect();
+            assert_eq!(it.type_name().map_or(format!("{:08x}", it.kind), |it| it.to_string()), words[2], "{line}");
+            let text: Option<String> = it.text().map(|it| it.chars().collect());
+            assert_eq!(text.is_some(), words[7] == "text", "{line}");
+            assert!(text.map_or(true, |it| words[8].contains('\\') || it == words[8]), "{line}");
+            count += 1;
+        }
+    }
+    assert!(count > 0);
+}
+
 // What is said of Secure Boot in a bank, as the lists beside the logs have it, without what the variables hold.
 fn boot_lines(log: &[u8], bank: Bank) -> String {
     let mut room = [0; 8];

@@ -10,6 +10,7 @@ pub mod Logs
 pub mod Parts
 pub mod Policies
 pub mod Quotes
+pub mod RecordTexts
 pub mod ResponseViews
 pub mod Rooms
 pub mod SecureBoots

@@ -15,6 +15,7 @@ mod out;
 mod part;
 mod policy;
 mod quote;
+mod record_text;
 mod response;
 mod rooms;
 mod secure_boot;
@@ -41,6 +42,7 @@ pub use policy::{
     tpm_policy_restart, tpm_policy_start,
 };
 pub use quote::tpm_log_check_quote;
+pub use record_text::{tpm_event_type_name, tpm_log_text};
 pub use response::{TpmResponseAreas, TpmResponseSession, tpm_response_cut, tpm_response_decode};
 pub use rooms::{
     tpm_caller_align, tpm_caller_size, tpm_device_align, tpm_device_size, tpm_framer_align,
