@@ -359,6 +359,8 @@ int main(int argc, char **argv) {
         printf("failed %s: %s: %08lx\n", tests[i].name, where, (unsigned long)code);
         status = 1;
     }
+    if (Tss2_Sys_Shutdown(sys, NULL, TPM2_SU_CLEAR, NULL) != 0)
+        status = 1;
     Esys_Finalize(&esys);
     Tss2_Sys_Finalize(sys);
     free(sys);
