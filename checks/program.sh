@@ -235,6 +235,14 @@ runs_without_output "a closed standard output for a quote" - check checks/logs/w
 runs_without_output "a closed standard output for a log's records" - events checks/logs/worked.log
 runs_without_output "a closed standard output for help" - --help
 
+# A file that may have one block: the help's write comes to its end there, and the next one fails.
+name="an output that ends within a write" wanted=3
+echo 'writing failed' >"$room/err.wanted"
+(trap '' XFSZ && ulimit -f 1 && ./tpmtool --help >"$room/out" 2>"$room/err")
+status=$?
+./tpmtool --help | head -c "$(wc -c <"$room/out")" >"$room/out.wanted"
+check $status
+
 # An output whose reader has gone is no fault that is told: one behind `| head -1` has read what it wanted.
 runs_unread() {
     name=$1 wanted=3
