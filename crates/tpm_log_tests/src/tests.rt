@@ -3,6 +3,7 @@
 mod attests;
 mod device_paths;
 mod event_data;
+mod event_parts;
 mod logs;
 mod pieces;
 mod quotes;
