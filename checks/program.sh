@@ -80,6 +80,21 @@ if python3 -c pass 2>/dev/null; then
 else
     skip "the NV memory of devices" "python3 is not there"
 fi
+# Packets that Python's struct writes.
+if python3 checks/packets.py "$room" 2>"$room/err"; then
+    cases checks/packets.txt
+    for file in "$room"/*.pcap; do
+        ./tpmtool show --json --fields --pcap "$file"
+    done >"$room/objects"
+    name="each object of packets is JSON"
+    if python3 -c 'import json, sys; [json.loads(line) for line in sys.stdin]' <"$room/objects" >"$room/err" 2>&1; then
+        pass "$name"
+    else
+        fail "$name" "$(cat "$room/err")"
+    fi
+else
+    skip "packets" "python3 is not there"
+fi
 cases checks/build.txt
 cases checks/run.txt
 cases checks/explain.txt

@@ -1,4 +1,5 @@
-"""Frames as tshark tells them beside `show --json`: the same sizes, codes, names of commands, handles and sessions.
+"""Frames as tshark tells them beside `show --json`: the same sizes, codes, names of commands, handles and sessions. Those of the
+packets that tshark reads are told as those of lines.
 
     python3 checks/tshark.py [CAPTURE]
 
@@ -87,8 +88,8 @@ def by_tshark(path):
         yield one
 
 
-def ours(path):
-    run = subprocess.run([PROGRAM, "show", "--json", "--file", path], stdout=subprocess.PIPE, check=False)
+def ours(option, path):
+    run = subprocess.run([PROGRAM, "show", "--json", option, path], stdout=subprocess.PIPE, check=False)
     return [json.loads(line) for line in run.stdout.splitlines()]
 
 
@@ -122,7 +123,9 @@ def main(capture=None):
         file.flush()
         text.writelines(f"{mark} {data.hex()}\n" for mark, data in frames)
         text.flush()
-        theirs, told = list(by_tshark(file.name)), ours(text.name)
+        theirs, told, packed = list(by_tshark(file.name)), ours("--file", text.name), ours("--pcap", file.name)
+    if packed != told:
+        sys.exit("the frames of the packets are told otherwise than those of the lines")
     if not len(frames) == len(theirs) == len(told):
         sys.exit(f"{len(frames)} frames, {len(theirs)} packets, {len(told)} objects")
     wrong = 0

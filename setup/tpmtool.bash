@@ -10,12 +10,12 @@ _tpmtool() {
     else
         case $verb,$before in
         show,--reply) words=$commands ;;
-        show,--file | show,--nv | check,--registers | check,--attest) files=yes ;;
+        show,--file | show,--pcap | show,--nv | check,--registers | check,--attest) files=yes ;;
         check,--hash) words='sha1 sha256 sha384' ;;
         run,--owner | run,--greatest | check,--quote | check,--nonce | check,--require | events,--register) ;;
         *)
             case $verb,$now in
-            show,-*) words='--reply --fields --file --binary --json --nv --help' ;;
+            show,-*) words='--reply --fields --file --binary --json --pcap --nv --help' ;;
             build,-*) words='--help' ;;
             explain,-*) words='--decimal --help' ;;
             build,*) words=$commands ;;

@@ -11,6 +11,7 @@ complete -c tpmtool -l help
 complete -c tpmtool -n '__fish_seen_subcommand_from show' -l reply -x -a "$commands"
 complete -c tpmtool -n '__fish_seen_subcommand_from show' -l fields
 complete -c tpmtool -n '__fish_seen_subcommand_from show' -l file -r -F
+complete -c tpmtool -n '__fish_seen_subcommand_from show' -l pcap -r -F
 complete -c tpmtool -n '__fish_seen_subcommand_from show' -l nv -r -F
 complete -c tpmtool -n '__fish_seen_subcommand_from show' -l binary
 complete -c tpmtool -n '__fish_seen_subcommand_from show events' -l json

@@ -19,8 +19,8 @@ use Rattle.clap.proofs.OnLiterals.{clap_on_literals}
 use Rattle.clap.proofs.WalkLemmas.{first_value-rows}
 use Rattle.tpm_text_values.specs.Numbers.{IsDecimal}
 use Rattle.tpm_text_values.specs.Owner.{IsOwner}
-use Rattle.tpm_args.specs.declared.task.Task.TheVariants.{Show, ShowCapture, ShowNv, Build, Run, Explain, ExplainKind}
-use Rattle.tpm_args.specs.declared.task.Task.TheVariants.{Check, SecureBoot, Events}
+use Rattle.tpm_args.specs.declared.task.Task.TheVariants.{Show, ShowCapture, ShowPackets, ShowNv, Build, Run, Explain}
+use Rattle.tpm_args.specs.declared.task.Task.TheVariants.{ExplainKind, Check, SecureBoot, Events}
 use Rattle.tpm_args.specs.declared.task.Task.{Task}
 use Rattle.tpm_args.specs.declared.stop.Stop.TheVariants.{Help, Usage, Memory}
 use Rattle.tpm_args.specs.declared.stop.Stop.{Stop}
@@ -44,6 +44,7 @@ agrees name v w same (Show reply fields hex) h = (
   ap is_given (sym (same (codes "binary"))) ∙ h.6,
   ap is_given (sym (same (codes "json"))) ∙ h.7,
   sym (same (codes "nv")) ∙ h.8,
+  sym (same (codes "pcap")) ∙ h.9,
 )
 agrees name v w same (ShowCapture file binary fields json) h = (
   h.0,
@@ -55,6 +56,18 @@ agrees name v w same (ShowCapture file binary fields json) h = (
   h.5 ∙ ap is_given (same (codes "binary")),
   h.6 ∙ ap is_given (same (codes "json")),
   sym (same (codes "nv")) ∙ h.7,
+  sym (same (codes "pcap")) ∙ h.8,
+)
+agrees name v w same (ShowPackets file fields json) h = (
+  h.0,
+  sym (same (codes "pcap")) ∙ h.1,
+  sym (same (codes "reply")) ∙ h.2,
+  h.3 ∙ ap is_given (same (codes "fields")),
+  h.4 ∙ ap is_given (same (codes "json")),
+  sym (same (codes "HEX")) ∙ h.5,
+  sym (same (codes "file")) ∙ h.6,
+  ap is_given (sym (same (codes "binary"))) ∙ h.7,
+  sym (same (codes "nv")) ∙ h.8,
 )
 agrees name v w same (ShowNv file) h = (
   h.0,
@@ -65,6 +78,7 @@ agrees name v w same (ShowNv file) h = (
   sym (same (codes "file")) ∙ h.5,
   ap is_given (sym (same (codes "binary"))) ∙ h.6,
   ap is_given (sym (same (codes "json"))) ∙ h.7,
+  sym (same (codes "pcap")) ∙ h.8,
 )
 agrees name v w same (Build code handles sessions parameters) h =
     (h.0, rw (← same (codes "NAME")) h.1, sym (same (codes "HANDLES")) ∙ h.2, sym (same (codes "SESSIONS")) ∙ h.3, sym (same (codes "PARAMETERS")) ∙ h.4)

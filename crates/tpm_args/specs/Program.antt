@@ -31,9 +31,10 @@ abbrev pub capture_app : App
 capture_app = with_rule (with_rule (with_rule buffer_app (option_rule (codes "file")))
     (flag_rule (codes "binary"))) (flag_rule (codes "json"))
 
--- show [--reply NAME] [--fields] [--file FILE] [--binary] [--json] [--nv FILE] [HEX]
+-- show [--reply NAME] [--fields] [--file FILE] [--binary] [--json] [--pcap FILE] [--nv FILE] [HEX]
 abbrev pub show_app : App
-show_app = with_rule (with_rule capture_app (option_rule (codes "nv"))) (optional_rule (codes "HEX"))
+show_app = with_rule (with_rule (with_rule capture_app (option_rule (codes "pcap")))
+    (option_rule (codes "nv"))) (optional_rule (codes "HEX"))
 
 -- build NAME
 abbrev pub named_app : App

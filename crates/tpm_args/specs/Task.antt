@@ -10,8 +10,8 @@ use Rattle.tpm_text_values.specs.Names.{command_of_name, is_kind}
 use Rattle.tpm_text_values.specs.Numbers.{IsDecimal, IsHexadecimal, IsShortDecimal}
 use Rattle.tpm_text_values.specs.Owner.{IsOwner, bytes_in}
 use Rattle.tpm_text_values.specs.Selections.{hash_word, AreSelections}
-use Rattle.tpm_args.specs.declared.task.Task.TheVariants.{Show, ShowCapture, ShowNv, Build, Run, Explain, ExplainKind}
-use Rattle.tpm_args.specs.declared.task.Task.TheVariants.{Check, SecureBoot, Events}
+use Rattle.tpm_args.specs.declared.task.Task.TheVariants.{Show, ShowCapture, ShowPackets, ShowNv, Build, Run, Explain}
+use Rattle.tpm_args.specs.declared.task.Task.TheVariants.{ExplainKind, Check, SecureBoot, Events}
 use Rattle.tpm_args.specs.declared.task.Task.{Task}
 
 -- the command of the option, where the option is given
@@ -89,18 +89,26 @@ AsksWith name value (Show reply fields hex) =
     × (fields ≡ is_given (value (codes "fields")))
     × (value (codes "HEX") ≡ Some hex.now) × (hex.now ≢ codes "-") × (value (codes "file") ≡ None)
     × (is_given (value (codes "binary")) ≡ false) × (is_given (value (codes "json")) ≡ false)
-    × (value (codes "nv") ≡ None)
+    × (value (codes "nv") ≡ None) × (value (codes "pcap") ≡ None)
 AsksWith name value (ShowCapture file binary fields json) =
     (name ≡ codes "show")
     × (value (codes "reply") ≡ None)
     × (fields ≡ is_given (value (codes "fields")))
     × (value (codes "file") ≡ option_map (λ f. f.now) file) × IsInput (value (codes "HEX")) (value (codes "file"))
     × (binary ≡ is_given (value (codes "binary"))) × (json ≡ is_given (value (codes "json")))
-    × (value (codes "nv") ≡ None)
+    × (value (codes "nv") ≡ None) × (value (codes "pcap") ≡ None)
+AsksWith name value (ShowPackets file fields json) =
+    (name ≡ codes "show")
+    × (value (codes "pcap") ≡ Some file.now)
+    × (value (codes "reply") ≡ None)
+    × (fields ≡ is_given (value (codes "fields"))) × (json ≡ is_given (value (codes "json")))
+    × (value (codes "HEX") ≡ None) × (value (codes "file") ≡ None)
+    × (is_given (value (codes "binary")) ≡ false) × (value (codes "nv") ≡ None)
 AsksWith name value (ShowNv file) =
     (name ≡ codes "show") × (value (codes "nv") ≡ Some file.now) × (value (codes "reply") ≡ None)
     × (is_given (value (codes "fields")) ≡ false) × (value (codes "HEX") ≡ None) × (value (codes "file") ≡ None)
     × (is_given (value (codes "binary")) ≡ false) × (is_given (value (codes "json")) ≡ false)
+    × (value (codes "pcap") ≡ None)
 AsksWith name value (Build code handles sessions parameters) = (name ≡ codes "build")
     × (option_and_then command_of_name (value (codes "NAME")) ≡ Some code)
     × (value (codes "HANDLES") ≡ Some handles.now)

@@ -58,8 +58,9 @@ impl Words {
     /// of a kind; of `check` a hash other than `sha1`, `sha256` and `sha384`, a nonce that is not
     /// hexadecimal, a list of no registers, a word whose quote is not given (the nonce and the list
     /// want `--attest`, the hash one of `--quote` and `--attest`), or `--secure-boot` beside another;
-    /// and of `show` where they have more than one of a buffer, a file and NV memory, or none, a
-    /// capture with `--reply`, a buffer with `--binary` or `--json`, or NV memory with any of these.
+    /// and of `show` where they have more than one of a buffer, a capture, packets and NV memory, or
+    /// none, a capture with `--reply`, a buffer with `--binary` or `--json`, packets with `--reply` or
+    /// `--binary`, or NV memory with any of these.
     pub fn task(&self, alloc: Global) -> Result<Task<'_>, Stop>
         ensures ok { IfOk result (λ t. Asks (subcommand_of program_app self.now) t) }
         ensures err { IfErr result (λ stop. Refuses self.now stop) }

@@ -22,6 +22,7 @@ const AFTER_HELP: &str = "Examples:
   tpmtool show --reply Startup 80010000000a00000100
   tpmtool show --fields 80010000000c000001440000
   tpmtool show --file FILE
+  tpmtool show --pcap FILE
   tpmtool show --nv FILE
   tpmtool build PCR_Reset 00000010 400000090000010000 -
   tpmtool run --greatest 7 <SCRIPT
@@ -114,6 +115,7 @@ pub(crate) fn show_words<'a>(alloc: Global, names: &'a str) -> Result<Command<'a
     ensures { IfOk result (λ c. IsApp show_app c) }
 {
     with_words! { alloc, capture_words(alloc, names)?;
+        option "pcap" "FILE" "Reads the packets of a network that tcpdump wrote, in place of a capture";
         option "nv" "FILE" "Prints what a device's kept NV memory holds, in place of a buffer or a capture";
         optional "HEX" "The buffer, in hexadecimal, or - for a capture on standard input";
     }

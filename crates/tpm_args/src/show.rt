@@ -1,6 +1,6 @@
 //! The words of the subcommand `show`.
 
-ghost use Rattle.std.specs.Prelude.{MatchOption, codes};
+ghost use Rattle.std.specs.Prelude.{◌≡◌, MatchOption, None, Some, codes};
 ghost use Rattle.clap.specs.Words.{first_value, found_of};
 ghost use Rattle.tpm_args.specs.Stop.{IsAsked, IsMemoryOr};
 ghost use Rattle.tpm_args.specs.Task.{AsksNothingWith, AsksWith};
@@ -14,10 +14,33 @@ use clap::ArgMatches;
 use std::alloc::Global;
 use tpm_text_values::command_named;
 
-// A buffer, a capture or kept NV memory. None where they have more than one of a buffer and two files, or none, where
-// a capture is to be read as a response, where no command has the name of the response's, where a buffer is to be read
-// as a stream or printed as JSON, and where NV memory is to be told by another option.
-fn shown<'a>(words: &ArgMatches<'a>) -> Option<Task<'a>>
+// Packets, in this file. None where another of a buffer and three files is given, and where they are to be read as a
+// response or as a stream.
+fn shown_packets<'a>(words: &ArgMatches<'a>, file: &'a str) -> Option<Task<'a>>
+    requires { first_value (found_of words.now) (codes "pcap") ≡ Some file.now }
+    ensures { MatchOption result (AsksNothingWith (codes "show") (first_value (found_of words.now)))
+        (λ t. AsksWith (codes "show") (first_value (found_of words.now)) t) }
+{
+    if words.get_str("HEX").is_some()
+        || words.get_str("file").is_some()
+        || words.get_str("nv").is_some()
+        || words.get_str("reply").is_some()
+        || is_given(words, "binary")
+    {
+        return None;
+    }
+    Some(Task::ShowPackets {
+        file,
+        fields: is_given(words, "fields"),
+        json: is_given(words, "json"),
+    })
+}
+
+// A buffer, a capture or kept NV memory, where no packets are given. None where they have more than one of a buffer and
+// two files, or none, where a capture is to be read as a response, where no command has the name of the response's,
+// where a buffer is to be read as a stream or printed as JSON, and where NV memory is to be told by another option.
+fn shown_without<'a>(words: &ArgMatches<'a>) -> Option<Task<'a>>
+    requires { first_value (found_of words.now) (codes "pcap") ≡ None }
     ensures { MatchOption result (AsksNothingWith (codes "show") (first_value (found_of words.now)))
         (λ t. AsksWith (codes "show") (first_value (found_of words.now)) t) }
 {
@@ -52,20 +75,34 @@ fn shown<'a>(words: &ArgMatches<'a>) -> Option<Task<'a>>
     }
 }
 
+// A buffer, a capture, packets or kept NV memory.
+fn shown<'a>(words: &ArgMatches<'a>) -> Option<Task<'a>>
+    ensures { MatchOption result (AsksNothingWith (codes "show") (first_value (found_of words.now)))
+        (λ t. AsksWith (codes "show") (first_value (found_of words.now)) t) }
+{
+    match words.get_str("pcap") {
+        Some(file) => shown_packets(words, file),
+        None => shown_without(words),
+    }
+}
+
 // Why they ask for nothing.
 fn fault(words: &ArgMatches<'_>) -> &'static str {
     match (
         words.get_str("HEX"),
         words.get_str("file"),
+        words.get_str("pcap"),
         words.get_str("nv"),
     ) {
-        (None, None, None) => "one of HEX, -, --file <FILE> and --nv <FILE> is wanted",
-        (None, None, Some(_)) => "--nv <FILE> goes with no other option",
-        (Some("-"), None, None) | (None, Some(_), None) => {
+        (None, None, None, None) =>
+            "one of HEX, -, --file <FILE>, --pcap <FILE> and --nv <FILE> is wanted",
+        (None, None, Some(_), None) => "--pcap <FILE> goes with --fields and --json alone",
+        (None, None, None, Some(_)) => "--nv <FILE> goes with no other option",
+        (Some("-"), None, None, None) | (None, Some(_), None, None) => {
             "--reply <NAME> goes with HEX alone, since a capture tells replies by its marks"
         }
-        (Some(_), None, None) => "--binary and --json want a capture: - or --file <FILE>",
-        _ => "only one of HEX, -, --file <FILE> and --nv <FILE> is wanted",
+        (Some(_), None, None, None) => "--binary and --json want a capture: - or --file <FILE>",
+        _ => "only one of HEX, -, --file <FILE>, --pcap <FILE> and --nv <FILE> is wanted",
     }
 }
 

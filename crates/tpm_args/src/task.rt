@@ -31,6 +31,15 @@ pub enum Task<'a> {
         /// Whether each frame is printed as an object of JSON.
         json: bool,
     },
+    /// `show [--fields] [--json] --pcap FILE`: print each frame that went over a simulator's port.
+    ShowPackets {
+        /// The path of the packets, a file of libpcap.
+        file: &'a str,
+        /// Whether each parameter is printed by its name and its type, too.
+        fields: bool,
+        /// Whether each frame is printed as an object of JSON.
+        json: bool,
+    },
     /// `show --nv FILE`: print the NV memory of a device that is kept.
     ShowNv {
         /// The path of its bytes.

@@ -4,7 +4,7 @@ use Rattle.std.specs.Prelude.{Ok, Err}
 use Rattle.std.specs.Borrow.{Bor}
 use Rattle.tpm_lines.specs.declared.fault.ToolFault.TheVariants.{Memory, Read, Write, InputTooLong}
 use Rattle.tpm_lines.specs.declared.fault.ToolFault.{ToolFault}
-use Rattle.tpm_args.specs.declared.task.Task.TheVariants.{ShowCapture, ShowNv, Run}
+use Rattle.tpm_args.specs.declared.task.Task.TheVariants.{ShowCapture, ShowPackets, ShowNv, Run}
 use Rattle.tpm_args.specs.declared.task.Task.TheVariants.{Check, SecureBoot, Events}
 use Rattle.tpm_args.specs.declared.task.Task.{Task}
 use Rattle.tpm_check.specs.Check.{ReadsTooMuchIfList}
@@ -26,6 +26,7 @@ path_if (Some path) = path.now ∷ []
 -- the paths of the files that a task opens, in this order
 abbrev pub files_of : Task → List (List ℕ)
 files_of (ShowCapture file binary fields json) = path_if file
+files_of (ShowPackets file fields json) = file.now ∷ []
 files_of (ShowNv file) = file.now ∷ []
 files_of (Check log registers quote attest sent required hash) = log.now ∷ (path_if registers ++ path_if attest)
 files_of (SecureBoot log) = log.now ∷ []

@@ -1,5 +1,8 @@
 -- What is told of a fault on standard error (this profile).
-use Rattle.std.specs.Prelude.{ℕ, List, ◌++◌, codes}
+use Rattle.std.specs.Prelude.{ℕ, List, ◌++◌, codes, chars, encode_utf8, false, if◌then◌else◌}
+use Rattle.std.specs.Char.{is_control}
+use Rattle.std.specs.Fmt.{digits}
+use Rattle.std.specs.List.{flat_map}
 use Rattle.std.specs.declared.io.ErrorKind.TheVariants.{NotFound, PermissionDenied, IsADirectory}
 use Rattle.std.specs.declared.io.ErrorKind.{ErrorKind}
 use Rattle.tpm_lines.specs.declared.fault.ToolFault.TheVariants.{Memory, Read, Write, InputTooLong}
@@ -28,6 +31,17 @@ tool_text Read = codes "reading failed"
 tool_text Write = codes "writing failed"
 tool_text InputTooLong = codes "input too long"
 
+-- A control character, which a terminal would obey, is told by its number, in hexadecimal.
+unfoldable pub shown_character : ℕ → List ℕ
+shown_character c = if is_control c then codes "\\u{" ++ (digits 16 false c ++ codes "}") else encode_utf8 c
+
+abbrev pub shown_characters : List ℕ → List ℕ
+shown_characters characters = flat_map shown_character characters
+
+-- a path, which comes from outside
+unfoldable pub shown_path : List ℕ → List ℕ
+shown_path path = shown_characters (chars path)
+
 abbrev pub fault_text : Fault → List ℕ
-fault_text (File path cause) = codes "cannot read " ++ (path.now ++ (codes ": " ++ cause_text cause))
+fault_text (File path cause) = codes "cannot read " ++ (shown_path path.now ++ (codes ": " ++ cause_text cause))
 fault_text (Tool fault) = tool_text fault

@@ -12,6 +12,7 @@ use Rattle.tpm_show.specs.declared.telling.Telling.{Telling}
 use Rattle.tpm_show.specs.Build.{Builds}
 use Rattle.tpm_show.specs.Capture.{ReadsAll, TellsCapture}
 use Rattle.tpm_show.specs.Explain.{explain_status, explanation}
+use Rattle.tpm_show.specs.Packets.{TellsPackets}
 use Rattle.tpm_show.specs.Show.{Shows, ShowsFields}
 use Rattle.tpm_show.specs.Stream.{TellsRead}
 use Rattle.tpm_show_nv.specs.ShowNv.{ShowsNv}
@@ -23,8 +24,8 @@ use Rattle.tpm_check.specs.ListEvents.{ListsEvents, most_read}
 use Rattle.tpm_check.specs.Reads.{ReadsUpTo, most_attest}
 use Rattle.tpm_check.specs.SecureBootLines.{TellsSecureBoot}
 use Rattle.tpm_script.specs.Script.{ReadsScript, script, script_text, status_for}
-use Rattle.tpm_args.specs.declared.task.Task.TheVariants.{Show, ShowCapture, ShowNv, Build, Run, Explain}
-use Rattle.tpm_args.specs.declared.task.Task.TheVariants.{ExplainKind, Check, SecureBoot, Events}
+use Rattle.tpm_args.specs.declared.task.Task.TheVariants.{Show, ShowCapture, ShowPackets, ShowNv, Build, Run}
+use Rattle.tpm_args.specs.declared.task.Task.TheVariants.{Explain, ExplainKind, Check, SecureBoot, Events}
 use Rattle.tpm_args.specs.declared.task.Task.{Task}
 use Rattle.tpm_program.specs.Offered.{Offered, OfFile, OfFileIf, OfPlace}
 
@@ -37,6 +38,10 @@ OfFirst most P coming = (bytes : List ℕ) × (rest : Option (List ℕ)) × Read
 -- one more than any NV memory takes
 abbrev pub most_kept : ℕ
 most_kept = 1027
+
+-- 2^30
+abbrev pub most_packets : ℕ
+most_packets = 1073741824
 
 -- ---- frames
 
@@ -97,6 +102,9 @@ Performs offered (Show reply false hex) status text = Shows reply hex.now status
 Performs offered (ShowCapture file binary fields json) status text =
     OfPlace offered file (λ capture.
     TellsFrames binary (record { fields = fields; json = json }) capture status text)
+Performs offered (ShowPackets file fields json) status text =
+    OfFile offered file.now (OfFirst most_packets (λ bytes.
+    TellsPackets (record { fields = fields; json = json }) bytes status text))
 Performs offered (ShowNv file) status text =
     OfFile offered file.now (OfFirst most_kept (λ bytes. ShowsNv bytes status text))
 Performs offered (Build name handles sessions parameters) status text =

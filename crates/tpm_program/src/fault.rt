@@ -5,10 +5,12 @@ ghost use Rattle.tpm_program.specs.declared.fault.Fault.TheVariants.{Tool};
 ghost use Rattle.tpm_program.specs.FaultText.{cause_text, tool_text};
 
 use crate::cause::Cause;
+use crate::shown_path::ShownPath;
 use std::fmt::{self, Display, Formatter, Write};
 use tpm_lines::fault::ToolFault;
 
-/// What keeps the program from its answer, as it is printed on standard error.
+/// What keeps the program from its answer, as it is printed on standard error, with the control characters of a path
+/// escaped.
 #[derive(Debug, Drop)]
 pub enum Fault<'a> {
     /// The file at this path can't be read.
@@ -61,6 +63,7 @@ impl Display for Fault<'_> {
     fn fmt<W: Write>(&self, f: &mut Formatter<W>) -> Result<(), fmt::Error> {
         match self {
             Fault::File { path, cause } => {
+                let path = ShownPath { path };
                 let cause = cause_text(*cause);
                 write!(f, "cannot read {path}: {cause}")
             }

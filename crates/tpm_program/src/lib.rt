@@ -9,6 +9,7 @@ mod inputs;
 mod logs;
 mod performed;
 mod running;
+mod shown_path;
 mod shows;
 
 pub use cause::Cause;

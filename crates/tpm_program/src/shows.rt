@@ -1,10 +1,10 @@
-//! The subcommand `show` of a capture and of kept NV memory, and `run`.
+//! The subcommand `show` of a capture, of packets and of kept NV memory, and `run`.
 
 ghost use Rattle.std.specs.Prelude.{ℕ, List, Option, None, Some, IfOk, IfErr, IsErrOf};
 ghost use Rattle.std.specs.Io.KnownBytes.{Appends};
 ghost use Rattle.tpm_lines.specs.declared.fault.ToolFault.TheVariants.{InputTooLong};
 ghost use Rattle.tpm_show.specs.Capture.{ReadsTooMuchCapture};
-ghost use Rattle.tpm_args.specs.declared.task.Task.TheVariants.{Run, ShowCapture, ShowNv};
+ghost use Rattle.tpm_args.specs.declared.task.Task.TheVariants.{Run, ShowCapture, ShowNv, ShowPackets};
 ghost use Rattle.tpm_program.specs.Performs.{Performs, TellsFrames};
 ghost use Rattle.tpm_program.specs.Fails.{Fails};
 
@@ -18,10 +18,13 @@ use tpm_device::Device;
 use tpm_lines::fault::ToolFault;
 use tpm_lines::status::Status;
 use tpm_script::run_script;
-use tpm_show::{Telling, show_lines, show_stream};
+use tpm_show::{Telling, show_lines, show_packets, show_stream};
 use tpm_show_nv::{MOST_READ, show_nv};
 use tpm_types::AuthValue;
 use tpm_wire::Source;
+
+/// How many bytes of packets are read at most.
+const MOST_PACKETS: usize = 1_073_741_824;
 
 // Tells the frames of a capture: of a stream where it is binary, and else of its lines.
 fn show_frames<S: Source, W: Write>(
@@ -105,6 +108,27 @@ pub(crate) fn show_capture<'a, I: Inputs, W: Write>(
     match file {
         Some(path) => show_file(alloc, inputs, out, path, binary, how),
         None => show_input(alloc, inputs, out, binary, how),
+    }
+}
+
+/// Tells what went over a simulator's port, by the packets in a file.
+pub(crate) fn show_traffic<'a, I: Inputs, W: Write>(
+    alloc: Global,
+    inputs: &I,
+    out: &mut W,
+    path: &'a str,
+    how: Telling,
+) -> Result<Status, Fault<'a>>
+    ensures ok { IfOk result (λ status. (text : List ℕ)
+        × Performs (I.offers inputs.now) (ShowPackets path.entry how.fields how.json) status text
+        × Appends (W.contents out.old) (W.contents out.new) text) }
+    ensures err { IfErr result (λ fault.
+        Fails (I.offers inputs.now) (ShowPackets path.entry how.fields how.json) fault) }
+{
+    let mut packets = opened(inputs, path)?;
+    match read_up_to(alloc, &mut packets, MOST_PACKETS) {
+        Ok(bytes) => Ok(show_packets(alloc, out, bytes.as_slice(), how)?),
+        Err(fault) => Err(of_reading(inputs, fault, path)),
     }
 }
 

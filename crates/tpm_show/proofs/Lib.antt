@@ -1,2 +1,3 @@
 mod Captures
 mod Streams
+mod EntriesTold

@@ -9,6 +9,8 @@ pub mod Show
 pub mod Capture
 pub mod Stream
 pub mod Capturing
+pub mod Packets
+pub mod PacketsTold
 pub mod Build
 pub mod Meanings
 pub mod Layers

@@ -41,7 +41,7 @@ pub(crate) struct Capture {
     line: Vec<u8>,
     // the number of the next frame
     pub(crate) number: u64,
-    awaited: Awaited,
+    pub(crate) awaited: Awaited,
     // whether all frames so far are what they are taken for
     pub(crate) status: Status,
 }
@@ -84,7 +84,8 @@ impl Capture {
         Ok(())
     }
 
-    fn tell_frame(
+    /// Takes a frame, and adds what is told of it.
+    pub(crate) fn tell_frame(
         &mut self,
         alloc: Global,
         mark: Option<Direction>,

@@ -1,0 +1,105 @@
+"""Captures of a network for the cases of `show --pcap`, by Python's struct, as tcpdump writes them (pcap-savefile(5)).
+
+    python3 checks/packets.py FOLDER
+
+Writes FOLDER/NAME.pcap for each. The client is 127.0.0.1, port 40000 or more, and the simulator 127.0.0.2, port 2321.
+"""
+import struct
+import sys
+
+STARTUP = bytes.fromhex("8001 0000000c 00000144 0000")
+DONE = bytes.fromhex("8001 0000000a 00000000")
+GET_RANDOM = bytes.fromhex("8001 0000000c 0000017b 0008")
+EIGHT = bytes.fromhex("8001 00000014 00000000 0008 1122334455667788")
+SYN = 0x02
+
+
+def ip(to_tpm, fragment, packet):
+    ends = "7f0000017f000002" if to_tpm else "7f0000027f000001"
+    return struct.pack(">BBHHHBBH", 0x45, 0, 20 + len(packet), 1, fragment, 64, 6, 0) + bytes.fromhex(ends) + packet
+
+
+def tcp(to_tpm, number, data, client=40000, flags=0x18):
+    ports = (client, 2321) if to_tpm else (2321, client)
+    return struct.pack(">HHIIBBHHH", *ports, number % 2**32, 0, 0x50, flags, 65535, 0, 0) + data
+
+
+def to(number, data, client=40000, flags=0x18, fragment=0):
+    return ip(True, fragment, tcp(True, number, data, client, flags))
+
+
+def back(number, data, client=40000, flags=0x18):
+    return ip(False, 0, tcp(False, number, data, client, flags))
+
+
+def ether(packet):
+    return bytes(12) + struct.pack(">H", 0x0800) + packet
+
+
+def cooked(packet):
+    return bytes(14) + struct.pack(">H", 0x0800) + packet
+
+
+def savefile(link, packets, order="<", magic=0xA1B2C3D4, captured=65535):
+    yield struct.pack(order + "IHHiIII", magic, 2, 4, 0, 0, captured, link)
+    for number, packet in enumerate(packets):
+        kept = packet[:captured]
+        yield struct.pack(order + "IIII", number, 0, len(kept), len(packet)) + kept
+
+
+def sent(command):
+    """A command for mssim: TPM_SEND_COMMAND, locality 0, and the size before it."""
+    return struct.pack(">IBI", 8, 0, len(command)), command
+
+
+def given(response):
+    """A response of mssim: its size, the response, and four bytes that end it."""
+    return struct.pack(">I", len(response)), response, bytes(4)
+
+
+def in_order(first, pieces, way):
+    for piece in pieces:
+        yield way(first, piece)
+        first += len(piece)
+
+
+OVER_MSSIM = [
+    to(6, b"", flags=SYN),
+    back(9, b"", flags=SYN),
+    *in_order(7, sent(STARTUP), to),
+    *in_order(10, given(DONE), back),
+    to(7 + 9 + 12, struct.pack(">I", 20)),
+]
+SWTPM = [to(1, STARTUP), back(1, DONE), to(13, GET_RANDOM), back(11, EIGHT)]
+WRAPPED = [to(2**32 - 4, STARTUP), back(1, DONE), to(8, STARTUP), back(11, DONE)]
+
+FILES = {
+    "swtpm": savefile(101, SWTPM),
+    "mssim": savefile(1, map(ether, OVER_MSSIM), ">", 0xA1B23C4D),
+    "cooked": savefile(113, map(cooked, SWTPM)),
+    "wrapped": savefile(101, WRAPPED),
+    "pieces": savefile(101, [to(1, STARTUP[:1]), to(2, STARTUP[1:]), back(1, DONE[:7]), back(8, DONE[7:] + EIGHT)]),
+    "two": savefile(101, [to(1, STARTUP), back(1, DONE, 40001), to(1, STARTUP, 40001), back(11, DONE, 40001)]),
+    "again": savefile(101, [to(1, STARTUP), to(1, STARTUP), back(1, DONE)]),
+    "lost": savefile(101, [to(1, STARTUP), back(1, DONE), to(25, STARTUP), back(21, DONE), to(37, STARTUP), back(31, DONE)]),
+    "cut": savefile(101, [to(1, STARTUP), back(1, EIGHT), back(21, DONE)], captured=55),
+    "fragment": savefile(101, [to(1, STARTUP, fragment=0x2000), back(1, DONE)]),
+    "no_message": savefile(101, [to(1, b"GET / HTTP/1.1\r\n"), back(1, DONE)]),
+    "unfinished": savefile(101, [to(1, STARTUP[:5]), to(1, STARTUP, 40001), back(1, DONE, 40001), to(13, b"\x80", 40001)]),
+    "others": savefile(101, [ip(True, 0, struct.pack(">HH", 40000, 22) + bytes(16)), to(1, b""), to(1, STARTUP)]),
+    "empty": savefile(101, []),
+    "short": [next(savefile(101, []))[:23]],
+    "no_capture": [bytes.fromhex("0a0d0d0a"), bytes(60)],
+    "link": savefile(147, SWTPM),
+    "ended": [*savefile(101, SWTPM[:2]), bytes(15)],
+}
+
+
+def main(folder):
+    for name, parts in FILES.items():
+        with open(f"{folder}/{name}.pcap", "wb") as file:
+            file.write(b"".join(parts))
+
+
+if __name__ == "__main__":
+    main(sys.argv[1])

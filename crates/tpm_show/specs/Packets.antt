@@ -1,0 +1,94 @@
+-- What `show --pcap` prints: what went over a simulator's port, one after the other (this profile).
+use Rattle.std.specs.Prelude.{◌≡◌, ℕ, Bool, true, false, List, [], ◌∷◌, ◌++◌, codes, Some}
+use Rattle.std.specs.Fmt.{decimal}
+use Rattle.tpm_pcap.specs.declared.entry.Reason.TheVariants.{CutShort, Fragment, SentAgain, OutOfOrder, NoMessage}
+use Rattle.tpm_pcap.specs.declared.entry.Reason.TheVariants.{Unfinished}
+use Rattle.tpm_pcap.specs.declared.entry.Reason.{Reason}
+use Rattle.tpm_pcap.specs.Entries.{Entry, Connection, Untold}
+use Rattle.tpm_pcap.specs.Savefiles.{Traffic, NoCapture, OtherLink, Entries, traffic_in}
+use Rattle.tpm_lines.specs.declared.status.Status.TheVariants.{Done, Refused}
+use Rattle.tpm_lines.specs.declared.status.Status.{Status}
+use Rattle.tpm_lines.specs.Status.{both}
+use Rattle.tpm_show.specs.declared.capture_lines.Direction.TheVariants.{Command, Reply}
+use Rattle.tpm_show.specs.declared.capture_frames.Awaited.TheVariants.{Nothing, Unknown}
+use Rattle.tpm_show.specs.declared.capture_frames.Awaited.{Awaited}
+use Rattle.tpm_show.specs.declared.telling.Telling.{Telling}
+use Rattle.tpm_show.specs.Capture.{Frame, Place, start, behind, TellsLine}
+use Rattle.tpm_pcap.specs.Entries as went
+
+-- ---- a packet that is not told
+
+abbrev pub reason_text : Reason → List ℕ
+reason_text CutShort = codes "not told, cut short"
+reason_text Fragment = codes "not told, a fragment"
+reason_text SentAgain = codes "not told, sent again"
+reason_text OutOfOrder = codes "not told, out of order"
+reason_text NoMessage = codes "not told, no message begins where one should"
+reason_text Unfinished = codes "a message before it did not come whole"
+
+unfoldable pub packet_line : ℕ → List ℕ → List ℕ
+packet_line packet reason = codes "packet " ++ (decimal packet ++ (codes ": " ++ (reason ++ codes "\n")))
+
+unfoldable pub packet_object : ℕ → List ℕ → List ℕ
+packet_object packet reason =
+    codes "{\"packet\":" ++ (decimal packet ++ (codes ",\"fault\":\"" ++ (reason ++ codes "\"}\n")))
+
+abbrev pub packet_text : (json : Bool) → ℕ → List ℕ → List ℕ
+packet_text false packet reason = packet_line packet reason
+packet_text true packet reason = packet_object packet reason
+
+-- ---- what went over the port
+
+-- Of what was sent again nothing is lost. Behind another packet that is not told it is not known which reply comes.
+abbrev pub awaited_past : Reason → Awaited → Awaited
+awaited_past SentAgain awaited = awaited
+awaited_past _ awaited = Unknown
+
+-- Frames alone have numbers. A reply belongs to a command of its own connection.
+abbrev pub behind_entry : Place → Entry → Place
+behind_entry p Connection = record p { awaited = Nothing }
+behind_entry p (went.Command bytes) = behind p (Frame (Some Command) bytes)
+behind_entry p (went.Reply bytes) = behind p (Frame (Some Reply) bytes)
+behind_entry p (Untold packet reason) = record p { awaited = awaited_past reason p.awaited }
+
+-- A frame is told as that of a line with its mark.
+abbrev pub TellsEntry : (how : Telling) → Place → Entry → Status → List ℕ → Type 0
+TellsEntry how p Connection status text = (status ≡ Done) × (text ≡ [])
+TellsEntry how p (went.Command bytes) status text = TellsLine how p (Frame (Some Command) bytes) status text
+TellsEntry how p (went.Reply bytes) status text = TellsLine how p (Frame (Some Reply) bytes) status text
+TellsEntry how p (Untold packet reason) status text =
+    (status ≡ Refused) × (text ≡ packet_text how.json packet (reason_text reason))
+
+-- From this place they are told one after the other. All is done where each is.
+abbrev pub TellsEntries : (how : Telling) → Place → List Entry → Status → List ℕ → Type 0
+TellsEntries how p [] status text = (status ≡ Done) × (text ≡ [])
+TellsEntries how p (first ∷ others) status text = (one : Status) × (told : List ℕ) × (rest : Status) × (more : List ℕ)
+    × TellsEntry how p first one told
+    × TellsEntries how (behind_entry p first) others rest more
+    × (status ≡ both one rest)
+    × (text ≡ told ++ more)
+
+-- ---- a file
+
+abbrev pub no_capture_text : (json : Bool) → List ℕ
+no_capture_text false = codes "no capture of libpcap at 0\n"
+no_capture_text true = codes "{\"fault\":\"no capture of libpcap\",\"at\":0}\n"
+
+unfoldable pub link_line : ℕ → List ℕ
+link_line number = codes "link type " ++ (decimal number ++ codes " is not known at 20\n")
+
+unfoldable pub link_object : ℕ → List ℕ
+link_object number = codes "{\"fault\":\"link type " ++ (decimal number ++ codes " is not known\",\"at\":20}\n")
+
+abbrev pub link_text : (json : Bool) → ℕ → List ℕ
+link_text false number = link_line number
+link_text true number = link_object number
+
+abbrev pub TellsTraffic : (how : Telling) → Traffic → Status → List ℕ → Type 0
+TellsTraffic how NoCapture status text = (status ≡ Refused) × (text ≡ no_capture_text how.json)
+TellsTraffic how (OtherLink number) status text = (status ≡ Refused) × (text ≡ link_text how.json number)
+TellsTraffic how (Entries entries) status text = TellsEntries how start entries status text
+
+-- For the bytes of a file this is the status and what is printed.
+abbrev pub TellsPackets : (how : Telling) → List ℕ → Status → List ℕ → Type 0
+TellsPackets how bytes status text = TellsTraffic how (traffic_in bytes) status text

@@ -1,0 +1,35 @@
+-- How far what went over a port has been told.
+use Rattle.std.specs.Prelude.{◌≡◌, ℕ, ◌+◌, ◌≤◌, List, [], ◌∷◌, length}
+use Rattle.tpm_pcap.specs.Entries.{Entry}
+use Rattle.tpm_lines.specs.declared.status.Status.{Status}
+use Rattle.tpm_lines.specs.Status.{both}
+use Rattle.tpm_show.specs.declared.capture.Capture.{Capture}
+use Rattle.tpm_show.specs.Capture.{Place}
+use Rattle.tpm_show.specs.Capturing.{place}
+use Rattle.tpm_show.specs.Packets.{behind_entry, TellsEntry, TellsEntries}
+
+-- what is behind these
+abbrev pub behind_entries : Place → List Entry → Place
+behind_entries p [] = p
+behind_entries p (first ∷ others) = behind_entries (behind_entry p first) others
+
+-- This was told.
+pub record TellsOne (e : Entry) (old new : Capture) (Added : List ℕ → Type 0) : Type 0 where
+  pub status : Status
+  pub text : List ℕ
+  pub tells : TellsEntry old.how (place old) e status text
+  pub added : Added text
+  pub place : place new ≡ behind_entry (place old) e
+  pub all : new.status ≡ both old.status status
+  pub how : new.how ≡ old.how
+
+-- These were told, one after the other.
+pub record TellsMany (entries : List Entry) (old new : Capture) (Added : List ℕ → Type 0) : Type 0 where
+  pub status : Status
+  pub text : List ℕ
+  pub tells : TellsEntries old.how (place old) entries status text
+  pub added : Added text
+  pub place : place new ≡ behind_entries (place old) entries
+  pub all : new.status ≡ both old.status status
+  pub how : new.how ≡ old.how
+  pub number : new.number ≤ old.number + length entries

@@ -1,0 +1,246 @@
+//! The subcommand `show` of the packets of a network.
+
+ghost use Rattle.std.specs.Prelude.{◌≡◌, ◌++◌, ◌+◌, ◌^◌, ◌<◌, ℕ, List, IfOk, OnOk, string_bytes};
+ghost use Rattle.std.specs.Io.KnownBytes.{Appends};
+ghost use Rattle.tpm_pcap.specs.Entries.{entry_as, entries_as};
+ghost use Rattle.tpm_lines.specs.declared.status.Status.TheVariants.{Refused};
+ghost use Rattle.tpm_lines.specs.Faults.{FailsByMemoryOrWrite};
+ghost use Rattle.tpm_lines.specs.InputLines.{AddedTo};
+ghost use Rattle.tpm_show.specs.Capture.{start};
+ghost use Rattle.tpm_show.specs.Packets.{awaited_past, link_line, link_object, link_text, no_capture_text};
+ghost use Rattle.tpm_show.specs.Packets.{packet_line, packet_object, packet_text, reason_text};
+ghost use Rattle.tpm_show.specs.Packets.{TellsEntries, TellsPackets};
+ghost use Rattle.tpm_show.specs.PacketsTold.{TellsMany, TellsOne};
+
+use crate::capture::Capture;
+use crate::capture_frames::Awaited;
+use crate::capture_lines::Direction;
+use crate::telling::Telling;
+use std::alloc::Global;
+use std::io::Write;
+use tpm_lines::answer::write;
+use tpm_lines::fault::ToolFault;
+use tpm_lines::status::Status;
+use tpm_lines::text::Pushed;
+use tpm_pcap::{Entry, Reason, Traffic, traffic_in};
+
+// ---- a packet that is not told
+
+fn reason_text(reason: Reason) -> &'static str
+    ensures { result.now ≡ reason_text reason }
+{
+    match reason {
+        Reason::CutShort => "not told, cut short",
+        Reason::Fragment => "not told, a fragment",
+        Reason::SentAgain => "not told, sent again",
+        Reason::OutOfOrder => "not told, out of order",
+        Reason::NoMessage => "not told, no message begins where one should",
+        Reason::Unfinished => "a message before it did not come whole",
+    }
+}
+
+#[tactic(auto, unfolding(crate::specs::Packets::packet_line))]
+fn push_packet_line(text: &mut String, packet: u64, reason: &str) -> Pushed
+    ensures { OnOk result
+        (string_bytes text.new ≡ string_bytes text.old ++ packet_line packet reason.now) }
+{
+    writeln!(text, "packet {packet}: {reason}")
+}
+
+#[tactic(auto, unfolding(crate::specs::Packets::packet_object))]
+fn push_packet_object(text: &mut String, packet: u64, reason: &str) -> Pushed
+    ensures { OnOk result
+        (string_bytes text.new ≡ string_bytes text.old ++ packet_object packet reason.now) }
+{
+    writeln!(text, "{{\"packet\":{packet},\"fault\":\"{reason}\"}}")
+}
+
+// Adds the line or the object of a packet that is not told.
+fn push_packet(text: &mut String, json: bool, packet: u64, reason: Reason) -> Pushed
+    ensures { OnOk result (string_bytes text.new
+        ≡ string_bytes text.old ++ packet_text json packet (reason_text reason)) }
+{
+    if json {
+        push_packet_object(text, packet, reason_text(reason))
+    } else {
+        push_packet_line(text, packet, reason_text(reason))
+    }
+}
+
+fn awaited_past(reason: Reason, awaited: Awaited) -> Awaited
+    ensures { result ≡ awaited_past reason awaited }
+{
+    match reason {
+        Reason::SentAgain => awaited,
+        _ => Awaited::Unknown,
+    }
+}
+
+// ---- what went over the port
+
+// Takes what went over the port, and adds what is told of it.
+fn tell_entry(alloc: Global, capture: &mut Capture, entry: &Entry, text: &mut String) -> Pushed
+    requires { capture.old.number + 1 < 2 ^ 64 }
+    ensures { OnOk result (TellsOne (entry_as entry.now) capture.old capture.new
+        (AddedTo (string_bytes text.old) (string_bytes text.new))) }
+{
+    match entry {
+        Entry::Connection => {
+            capture.awaited = Awaited::Nothing;
+            Ok(())
+        }
+        Entry::Command(bytes) => {
+            capture.tell_frame(alloc, Some(Direction::Command), bytes.as_slice(), text)
+        }
+        Entry::Reply(bytes) => {
+            capture.tell_frame(alloc, Some(Direction::Reply), bytes.as_slice(), text)
+        }
+        Entry::Untold(packet, reason) => {
+            push_packet(text, capture.how.json, *packet, *reason)?;
+            capture.awaited = awaited_past(*reason, capture.awaited);
+            capture.status = Status::Refused;
+            Ok(())
+        }
+    }
+}
+
+// The same, and prints it.
+fn print_entry<W: Write>(
+    alloc: Global,
+    capture: &mut Capture,
+    entry: &Entry,
+    out: &mut W,
+) -> Result<(), ToolFault>
+    requires { capture.old.number + 1 < 2 ^ 64 }
+    ensures ok { OnOk result (TellsOne (entry_as entry.now) capture.old capture.new
+        (Appends (W.contents out.old) (W.contents out.new))) }
+    ensures err { FailsByMemoryOrWrite result }
+{
+    let mut text = String::new(alloc);
+    tell_entry(alloc, capture, entry, &mut text)?;
+    write(out, &text)
+}
+
+// Prints what is told of all that went over the port.
+fn print_entries<W: Write>(
+    alloc: Global,
+    how: Telling,
+    entries: &[Entry],
+    out: &mut W,
+) -> Result<Status, ToolFault>
+    ensures ok { IfOk result (λ status. (text : List ℕ)
+        × TellsEntries how start (entries_as entries.now) status text
+        × Appends (W.contents out.old) (W.contents out.new) text) }
+    ensures err { FailsByMemoryOrWrite result }
+{
+    let mut capture = Capture::new(alloc, how);
+    for entry in entries {
+        print_entry(alloc, &mut capture, entry, out)?;
+    }
+    Ok(capture.status)
+}
+
+// ---- a file
+
+fn push_no_capture(text: &mut String, json: bool) -> Pushed
+    ensures { OnOk result (string_bytes text.new ≡ string_bytes text.old ++ no_capture_text json) }
+{
+    text.push_str(if json {
+        "{\"fault\":\"no capture of libpcap\",\"at\":0}\n"
+    } else {
+        "no capture of libpcap at 0\n"
+    })
+}
+
+#[tactic(auto, unfolding(crate::specs::Packets::link_line))]
+fn push_link_line(text: &mut String, number: u32) -> Pushed
+    ensures { OnOk result (string_bytes text.new ≡ string_bytes text.old ++ link_line number) }
+{
+    writeln!(text, "link type {number} is not known at 20")
+}
+
+#[tactic(auto, unfolding(crate::specs::Packets::link_object))]
+fn push_link_object(text: &mut String, number: u32) -> Pushed
+    ensures { OnOk result (string_bytes text.new ≡ string_bytes text.old ++ link_object number) }
+{
+    writeln!(
+        text,
+        "{{\"fault\":\"link type {number} is not known\",\"at\":20}}"
+    )
+}
+
+fn push_link(text: &mut String, json: bool, number: u32) -> Pushed
+    ensures { OnOk result (string_bytes text.new ≡ string_bytes text.old ++ link_text json number) }
+{
+    if json {
+        push_link_object(text, number)
+    } else {
+        push_link_line(text, number)
+    }
+}
+
+fn print_no_capture<W: Write>(alloc: Global, json: bool, out: &mut W) -> Result<Status, ToolFault>
+    ensures ok { IfOk result (λ status. (status ≡ Refused)
+        × Appends (W.contents out.old) (W.contents out.new) (no_capture_text json)) }
+    ensures err { FailsByMemoryOrWrite result }
+{
+    let mut text = String::new(alloc);
+    push_no_capture(&mut text, json)?;
+    write(out, &text)?;
+    Ok(Status::Refused)
+}
+
+fn print_link<W: Write>(
+    alloc: Global,
+    json: bool,
+    number: u32,
+    out: &mut W,
+) -> Result<Status, ToolFault>
+    ensures ok { IfOk result (λ status. (status ≡ Refused)
+        × Appends (W.contents out.old) (W.contents out.new) (link_text json number)) }
+    ensures err { FailsByMemoryOrWrite result }
+{
+    let mut text = String::new(alloc);
+    push_link(&mut text, json, number)?;
+    write(out, &text)?;
+    Ok(Status::Refused)
+}
+
+/// Prints what `show` prints of each frame that went over a TPM simulator's port, or what `show --fields` prints, or an
+/// object of JSON in a line.
+///
+/// The bytes are those of a file of libpcap (`tpm_pcap::traffic_in`). Each frame is told as `show_lines` tells that of
+/// a line with its mark, in the order in which the frames came, with their numbers from 1. A reply belongs to the
+/// command before it on the same connection.
+///
+/// A packet that is not told has the line `packet N: not told, cut short`, or `a fragment`, `sent again`, `out of
+/// order` or `no message begins where one should`; where a message did not come whole before the connection ended, or
+/// another began, the line is `packet N: a message before it did not come whole`. N is the packet's number in the file,
+/// from 1. Behind each but one that was sent again the next reply is told as one to a command that is not known. In
+/// JSON these are the members `packet` and `fault`.
+///
+/// A file that is no capture of libpcap has the line `no capture of libpcap at 0`, and one of another kind of link
+/// `link type N is not known at 20`. In JSON these are the members `fault` and `at`, how many bytes of the file are
+/// before what is at fault.
+///
+/// The status is `Refused` where a frame was refused, a packet is not told, or the file is at fault, and else `Done`.
+///
+/// Where a request for memory is refused the answer is `Memory`, and where the writer fails `Write`. What was written
+/// before is then left open.
+pub fn show_packets<W: Write>(
+    alloc: Global,
+    out: &mut W,
+    file: &[u8],
+    how: Telling,
+) -> Result<Status, ToolFault>
+    ensures ok { IfOk result (λ status. (text : List ℕ)
+        × TellsPackets how file.now status text
+        × Appends (W.contents out.old) (W.contents out.new) text) }
+    ensures err { FailsByMemoryOrWrite result }
+{
+    match traffic_in(alloc, file)? {
+        Traffic::NoCapture => print_no_capture(alloc, how.json, out),
+        Traffic::OtherLink(number) => print_link(alloc, how.json, number, out),
+        Traffic::Entries(entries) => print_entries(alloc, how, entries.as_slice(), out),
+    }
+}
