@@ -6,7 +6,7 @@ use arrayvec::ArrayVec;
 use tpm_buffer::{decode_response, encode_command};
 use tpm_caller::{Caller, CallerFault, Pending};
 use tpm_commands::{Command, CommandBody, CommandCode, ReplyBody, Response, StartAuth};
-use tpm_device::Device;
+use tpm_device::{Device, ResponseBuffer};
 use tpm_types::{
     Alg, AuthValue, BindHandle, DigestValues, HashedDigest, Nonce, PcrIndex, PcrOrNull,
     SessionType, SymDef, name_of_handle,
@@ -145,7 +145,7 @@ pub extern "C" fn tpm_bench_both_ends(times: u32) -> u32
         return 0;
     };
     let mut sent = Buffer::new();
-    let mut reply = Buffer::new();
+    let mut reply = ResponseBuffer::new();
     for opened in 0..times {
         match both_ends(&mut device, caller, &mut sent, &mut reply) {
             Some(next) => caller = next,
@@ -160,7 +160,7 @@ fn both_ends(
     device: &mut Device,
     caller: Caller,
     sent: &mut Buffer,
-    reply: &mut Buffer,
+    reply: &mut ResponseBuffer,
 ) -> Option<Caller> {
     let pending = extend(caller, sent);
     device.execute_into(sent.as_slice(), &NONCE, reply);

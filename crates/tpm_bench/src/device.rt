@@ -6,9 +6,8 @@ ghost use Rattle.tpm_model.specs.Answers.{answer};
 ghost use Rattle.tpm_device.specs.Stands.{Stands};
 
 use crate::out::append;
-use tpm_device::Device;
+use tpm_device::{Device, ResponseBuffer};
 use tpm_types::AuthValue;
-use tpm_wire::Buffer;
 
 // TPM2_Startup with TPM_SU_CLEAR.
 const STARTUP: [u8; 12] = [
@@ -36,7 +35,7 @@ pub extern "C" fn tpm_bench_execute(
 {
     let nonce = [0; 64];
     let mut device = prepared(prepare, &nonce);
-    let mut reply = Buffer::new();
+    let mut reply = ResponseBuffer::new();
     for _ in 1..times {
         answer_both(&mut device, first, second, &nonce, &mut reply, out);
     }
@@ -54,7 +53,7 @@ pub extern "C" fn tpm_bench_start(startup: &[u8], times: u32, out: &mut [u8]) ->
 {
     let nonce = [0; 64];
     let mut device = started(&AuthValue::default(), &STARTUP, &nonce);
-    let mut reply = Buffer::new();
+    let mut reply = ResponseBuffer::new();
     for _ in 1..times {
         device.power_cycle();
         answer_once(&mut device, startup, &nonce, &mut reply, out);
@@ -100,7 +99,7 @@ fn answer_both(
     first: &[u8],
     second: &[u8],
     nonce: &[u8; 64],
-    reply: &mut Buffer,
+    reply: &mut ResponseBuffer,
     out: &mut [u8],
 )
     requires { 4096 ≤ length out.old }
@@ -120,7 +119,7 @@ fn answer_once(
     device: &mut Device,
     bytes: &[u8],
     nonce: &[u8; 64],
-    reply: &mut Buffer,
+    reply: &mut ResponseBuffer,
     out: &mut [u8],
 ) -> usize
     requires { 4096 ≤ length out.old }

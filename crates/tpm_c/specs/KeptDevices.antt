@@ -52,11 +52,6 @@ pub record IsAgain (owner kept : List ℕ) (d : Device) : Type 0 where
   pub stands : (o : Origin) (h : History)
       → o.owner ≡ owner → Spells kept_memory (nv_memory o h) kept → Stands o (PowerCycle ∷ h) d
 
--- The device of these bytes, or their fault.
-abbrev pub IsMadeFor : (owner kept : List ℕ) → Result Device Refusal → Type 0
-IsMadeFor owner kept (Ok d) = IsAgain owner kept d
-IsMadeFor owner kept (Err e) = Fault kept_memory kept e
-
 -- SIZE at the front: the owner's value is too long.
 abbrev pub long_owner : Refusal
 long_owner = record { code = rc_size; at = 0 }

@@ -33,7 +33,8 @@ pub extern "C" fn tpm_command_build(
     let Some(code) = CommandCode::from_number(command) else {
         return NO_COMMAND;
     };
-    match join_command(code, handles, sessions, parameters) {
+    let joined = join_command(code, handles, sessions, parameters);
+    match &joined {
         Some(buffer) => judge(buffer.as_slice(), out, count, refusal),
         None => {
             let fault = Refusal {

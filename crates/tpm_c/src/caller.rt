@@ -1,6 +1,6 @@
 //! A caller's session in the caller's memory (Part 1, "Session-Based Authorizations").
 
-ghost use Rattle.std.specs.Prelude.{◌≡◌, ◌≤◌, true, length, take, [], ◌∷◌, Option, Some, None};
+ghost use Rattle.std.specs.Prelude.{◌≡◌, ◌≤◌, true, length, take, [], ◌∷◌, Option, Some, None, Ok, IfOk, IfErr};
 ghost use Rattle.std.specs.Borrow.{sem};
 ghost use denote.RawPtr.{room_at};
 ghost use Rattle.tpm_wire.specs.Reading.{read_all};
@@ -9,9 +9,9 @@ ghost use Rattle.tpm_commands.specs.Codes.{code_number};
 ghost use Rattle.tpm_commands.specs.Handles.{needs_authorization};
 ghost use Rattle.tpm_buffer.specs.Commands.{command as command_layout, code_for, handles_of};
 ghost use Rattle.tpm_buffer.specs.Responses.{response};
-ghost use Rattle.tpm_model.specs.Callers.{sealed as sealed_of};
-ghost use Rattle.tpm_caller.specs.Sent.{sent};
-ghost use Rattle.tpm_c.specs.declared.caller.Held.TheVariants.{Spent};
+ghost use Rattle.tpm_model.specs.Callers.{Opened, Waiting, opened, sealed as sealed_of};
+ghost use Rattle.tpm_caller.specs.Sent.{caller_with, sent};
+ghost use Rattle.tpm_c.specs.declared.caller.Held.TheVariants.{Sealed, Spent};
 ghost use Rattle.tpm_c.specs.declared.caller.Held.{Held as HeldOf};
 ghost use Rattle.tpm_c.specs.contracts.caller.Held.{the_row};
 ghost use Rattle.tpm_c.specs.Written.{IsIn};
@@ -318,20 +318,47 @@ fn kept(caller: Option<Caller>) -> Held
 fn open(held: &mut Held, reply: &[u8]) -> u32
     ensures { (result ≡ open_code held.old reply.now) × (held.new ≡ after_open held.old reply.now) }
 {
-    match std::mem::replace(held, Held::Spent) {
-        Held::Sealed(waiting) => match waiting.open(reply) {
-            Ok((caller, _response)) => {
-                *held = kept(caller);
-                0
-            }
-            Err((waiting, fault)) => {
-                *held = Held::Sealed(waiting);
-                fault_number(fault)
-            }
+    match judged(held, reply) {
+        Ok(nonce) => {
+            move_on(held, nonce);
+            0
+        }
+        Err(code) => code,
+    }
+}
+
+// The nonceTPM with which the reply opens, or the number of its first fault, or that no command is sealed. What is
+// held stays where it is.
+fn judged<'a>(held: &Held, reply: &'a [u8]) -> Result<&'a [u8], u32>
+    ensures ok { IfOk result (λ nonce. (w : Waiting)
+        × (held.now ≡ Sealed w)
+        × (x : Opened)
+        × (opened w reply.now ≡ Ok x)
+        × (x.caller ≡ caller_with w nonce.now)) }
+    ensures err { IfErr result (λ code. (code ≡ open_code held.now reply.now)
+        × (held.now ≡ after_open held.now reply.now)) }
+    ensures fits { IfOk result (λ nonce. length nonce.now ≤ digest_bytes) }
+{
+    match held {
+        Held::Sealed(waiting) => match waiting.judge(reply) {
+            Ok(nonce) => Ok(nonce),
+            Err(fault) => Err(fault_number(fault)),
         },
+        Held::Spent | Held::Free(_) => Err(NOT_WAITING),
+    }
+}
+
+// What waits for a reply moves on with its nonceTPM.
+fn move_on(held: &mut Held, nonce: &[u8])
+    requires { length nonce.now ≤ digest_bytes }
+    ensures { (w : Waiting) → held.old ≡ Sealed w → held.new ≡ kept (caller_with w nonce.now) }
+{
+    match std::mem::replace(held, Held::Spent) {
+        Held::Sealed(waiting) => {
+            *held = kept(waiting.after(nonce));
+        }
         other => {
             *held = other;
-            NOT_WAITING
         }
     }
 }

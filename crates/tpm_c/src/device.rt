@@ -9,9 +9,8 @@ ghost use Rattle.tpm_c.specs.Written.{IsIn};
 ghost use Rattle.tpm_c.specs.Devices.{device_at, room_for, made_at, whether_fits, after, written, IsAnswered};
 
 use crate::out::{BUFFER_BYTES, put};
-use tpm_device::Device;
+use tpm_device::{Device, ResponseBuffer};
 use tpm_types::{AuthValue, DIGEST_BYTES};
-use tpm_wire::Buffer;
 
 /// Makes a device in the room, which is not started, and answers 1. The owner has this
 /// authorization value, and no counter of the device has had a greater value than this. It answers
@@ -75,7 +74,7 @@ fn execute(device: &mut Device, command: &[u8], nonce: &[u8; 64], out: &mut [u8]
     if out.len() < BUFFER_BYTES {
         return 0;
     }
-    let mut answer = Buffer::new();
+    let mut answer = ResponseBuffer::new();
     device.execute_into(command, nonce, &mut answer);
     put(out, answer.as_slice())
 }

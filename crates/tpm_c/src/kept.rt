@@ -1,21 +1,24 @@
 //! A device that is kept: its NV memory as bytes in the caller's memory, and the device that is made of them again
 //! (Part 1, "NV Memory").
 
-ghost use Rattle.std.specs.Prelude.{◌≡◌, ◌≤◌, length, if◌then◌else◌};
+ghost use Rattle.std.specs.Prelude.{◌≡◌, ◌≤◌, ℕ, List, ◌∷◌, length, if◌then◌else◌};
+ghost use Rattle.tpm_wire.specs.Path.{Spells};
 ghost use Rattle.std.specs.Borrow.{sem};
 ghost use Rattle.tpm_types.specs.Limits.{digest_bytes};
+ghost use Rattle.tpm_model.specs.Kept.{kept_memory, restored};
+ghost use Rattle.tpm_model.specs.Counters.{nv_memory};
 ghost use Rattle.tpm_model.specs.NvChanges.{changes_nv as changes_nv_of};
-ghost use Rattle.tpm_model.specs.Steps.{History, Origin};
-ghost use Rattle.tpm_device.specs.Stands.{Stands};
+ghost use Rattle.tpm_model.specs.Steps.{History, Origin, PowerCycle};
+ghost use Rattle.tpm_device.specs.Stands.{holds, Stands};
 ghost use Rattle.tpm_c.specs.Devices.{device_at};
-ghost use Rattle.tpm_c.specs.KeptDevices.{IsKeptIn, IsMade, IsMadeFor, IsRestored, restore_room};
+ghost use Rattle.tpm_c.specs.KeptDevices.{IsKeptIn, IsMade, IsRestored, restore_room};
 ghost use Rattle.tpm_c.specs.KeptDevices.{restored_at, greatest_of, hash_of, session_hash_of};
 ghost use Rattle.tpm_c.specs.KeptDevices.{counters_of, counter_view, IsCounterTold};
 
 use crate::out::put;
 use crate::part::{DONE, REFUSED, TpmRefusal, refuse};
 use tpm_device::{Device, changes_nv};
-use tpm_store::Counter;
+use tpm_store::{Counter, Counters};
 use tpm_types::{Alg, AuthValue, DIGEST_BYTES, SessionHandle};
 use tpm_wire::response_code::SIZE;
 use tpm_wire::{Buffer, Refusal};
@@ -95,8 +98,9 @@ fn made(owner: &[u8], kept: &[u8], refusal: &mut TpmRefusal) -> Option<Device>
         refuse(refusal, Refusal { code: SIZE, at: 0 });
         return None;
     }
-    match made_for(owner, kept) {
-        Ok(device) => Some(device),
+    let mut counters = Counters::new(0);
+    match counters.read_bytes(kept) {
+        Ok(()) => Some(made_for(owner, counters)),
         Err(fault) => {
             refuse(refusal, fault);
             None
@@ -223,13 +227,19 @@ fn view_of(counter: &Counter) -> TpmCounter
     }
 }
 
-// The device of these, or the first fault of the bytes.
-fn made_for(owner: &[u8], kept: &[u8]) -> Result<Device, Refusal>
+// The device of these.
+#[inline(always)]
+fn made_for(owner: &[u8], counters: Counters) -> Device
     requires { length owner.now ≤ digest_bytes }
-    ensures { IsMadeFor owner.now kept.now result }
+    ensures made { holds result ≡ restored owner.now counters }
+    ensures stands { (o : Origin) (h : History) (bytes : List ℕ) →
+        Spells kept_memory counters bytes →
+        o.owner ≡ owner.now →
+        Spells kept_memory (nv_memory o h) bytes →
+        Stands o (PowerCycle ∷ h) result }
 {
     match AuthValue::new(owner) {
-        Some(owner) => Device::from_nv(&owner, kept),
+        Some(owner) => Device::of_counters(&owner, counters),
         None => unreachable!(),
     }
 }

@@ -196,6 +196,18 @@ open_done z code bytes nonce r body auths caller same s is made opens kept =
     ap (λ (o : Option CallerSession). okay (o, r)) kept ∙ ap (λ (q : Response). okay (caller_with z nonce, q)) made
     ∙ sym (ap (opening_of z) (opened_is z code bytes r same s ∙ ap (λ (q : Response). opened_response z (Ok q)) made ∙ opens body auths x))
 
+-- The same, without the response.
+pub opens_so : (z : Waiting) (code : CommandCode) (bytes nonce : List ℕ) (r : Response) (body : ReplyBody) (auths : List AuthReply)
+    → code ≡ z.code → Spells (response code) r bytes
+    → bytes ≡ spelling (response code) r → r ≡ done_with (record { body = body; auths = auths }) → OpenFor bytes nonce z
+    → (x : Opened) × (opened z bytes ≡ Ok x) × (x.caller ≡ caller_with z nonce)
+opens_so z code bytes nonce r body auths same s is made opens = (
+  record { caller = caller_with z nonce; response = done_with (record { body = body; auths = auths }) },
+  opened_is z code bytes r same s ∙ ap (λ (q : Response). opened_response z (Ok q)) made
+      ∙ opens body auths (spelled_by z code bytes r body auths same s is made),
+  refl,
+)
+
 -- The first fault of the bytes, as it is answered.
 abbrev pub FirstFault : List ℕ → CallerFault → Waiting → Type 0
 FirstFault bytes fault z = (f : model.CallerFault) × (opened z bytes ≡ Err f) × (fault ≡ fault_of f)

@@ -6,7 +6,8 @@ ghost use Rattle.tpm_types.specs.Alg.{digest_len};
 ghost use Rattle.tpm_types.specs.Limits.{block_bytes, digest_bytes};
 ghost use Rattle.tpm_commands.specs.Codes.{code_number};
 ghost use Rattle.tpm_commands.specs.Handles.{needs_authorization};
-ghost use Rattle.tpm_buffer.specs.Commands.{code_for, handles_of};
+ghost use Rattle.tpm_wire.specs.Spelling.{spelling, Fits};
+ghost use Rattle.tpm_buffer.specs.Commands.{command as command_layout, code_for, handles_of, with_auths};
 ghost use Rattle.tpm_hmac.specs.Hmac.{hmac};
 ghost use Rattle.tpm_hmac.specs.Sessions.{session_key as session_key_of, whole_key, cp_hash as cp_hash_of, mac_text};
 ghost use Rattle.tpm_model.specs.Callers.{started_with, bound_to, attrs_for as attrs_of, with_nonce};
@@ -207,8 +208,32 @@ impl Caller {
         command
     }
 
+    // Writes that command into this buffer, whatever is in it. It is out of line, so that the command is off the stack
+    // when its HMAC is made.
+    #[inline(never)]
+    fn put_unsigned(
+        &self,
+        body: CommandBody<'_>,
+        nonce: &Nonce,
+        attrs: SessionAttrs,
+        bytes: &mut Buffer,
+    )
+        ensures { (auth : AuthOf)
+            × (auth.session ≡ self.now.handle)
+            × (auth.nonce ≡ nonce.now)
+            × (auth.attrs ≡ attrs)
+            × (length auth.hmac ≡ digest_len self.now.hash)
+            × (bytes.new.items ≡ spelling command_layout (with_auths body.entry (auth ∷ [])))
+            × Fits (length bytes.new.items) command_layout (with_auths body.entry (auth ∷ [])) }
+    {
+        let command = self.unsigned(body, nonce, attrs);
+        bytes.clear();
+        put_command(&command, bytes);
+    }
+
     // Puts the HMAC in its place: behind the header, the handles and what is before it of the
     // session, and right before the parameters.
+    #[inline(never)]
     fn sign(
         &self,
         code: CommandCode,
@@ -316,9 +341,7 @@ impl Caller {
         let mut key = Bounded::default();
         self.set_key(auth, &mut key);
         let attrs = attrs_for(keep);
-        let command = self.unsigned(body, &nonce, attrs);
-        bytes.clear();
-        put_command(&command, bytes);
+        self.put_unsigned(body, &nonce, attrs, bytes);
         self.sign(
             code,
             names.as_slice(),

@@ -1,13 +1,13 @@
 //! What is kept of a sealed command until its reply comes.
 
 ghost use Rattle.std.specs.Prelude.{◌≡◌, ◌≤◌, ◌<◌, ◌^◌, ◌++◌, ℕ, true, List, length, Some, None, Ok, Err, IfOk, IfErr};
-ghost use Rattle.std.specs.Prelude.{if◌then◌else◌};
+ghost use Rattle.std.specs.Prelude.{if◌then◌else◌, OnOk};
 ghost use Rattle.std.specs.Int.{bytes_high_first};
 ghost use Rattle.tpm_types.specs.Limits.{digest_bytes};
 ghost use Rattle.tpm_types.specs.declared.tpms.AuthReply.{AuthReply};
 ghost use Rattle.tpm_commands.specs.declared.response.ReplyBody.{ReplyBody};
 ghost use Rattle.tpm_buffer.specs.Responses.{code_tag, done_with};
-ghost use Rattle.tpm_model.specs.Callers.{CallerFault as Fault, opened, opened_session, given_up};
+ghost use Rattle.tpm_model.specs.Callers.{CallerFault as Fault, Opened, opened, opened_session, given_up};
 ghost use Rattle.tpm_caller.specs.Faults.{fault_of, opening_of, giving_up_of};
 ghost use Rattle.tpm_caller.specs.Sent.{caller_with, has_no_params as has_no_params_of, IsSpelledBy};
 
@@ -159,8 +159,8 @@ impl Pending {
         }
     }
 
-    // The caller after a reply with this nonceTPM, where it is kept.
-    fn caller_after(self, nonce: &[u8]) -> Option<Caller>
+    /// The caller after a reply with this nonceTPM, as `judge` found it, where it is kept.
+    pub fn after(self, nonce: &[u8]) -> Option<Caller>
         requires { length nonce.now ≤ digest_bytes }
         ensures { result ≡ caller_with self nonce.now }
     {
@@ -169,6 +169,54 @@ impl Pending {
             Some(caller.after(nonce))
         } else {
             None
+        }
+    }
+
+    // A reply with this nonceTPM, in which `check` finds no fault, is a response of code 0, or this is its first fault.
+    // The response is made here, and so it is off the stack again.
+    #[inline(never)]
+    fn confirm(&self, bytes: &[u8], nonce: &[u8]) -> Result<(), CallerFault>
+        requires checked { (body : ReplyBody) (auths : List AuthReply)
+            → IsSpelledBy bytes.now self.now.code body auths →
+            opened_session self.now body auths ≡ Ok (record {
+              caller = caller_with self.now nonce.now;
+              response = done_with (record { body = body; auths = auths });
+            }) }
+        ensures ok { OnOk result
+            ((x : Opened)
+            × (opened self.now bytes.now ≡ Ok x)
+            × (x.caller ≡ caller_with self.now nonce.now)) }
+        ensures err { IfErr result
+            (λ fault. (f : Fault) × (opened self.now bytes.now ≡ Err f) × (fault ≡ fault_of f)) }
+    {
+        let response = match decode_response(self.code, bytes) {
+            Ok(response) => response,
+            Err(refusal) => return Err(CallerFault::Refused(refusal)),
+        };
+        if let Response::Code(code) = &response {
+            return Err(CallerFault::Code(*code));
+        }
+        Ok(())
+    }
+
+    /// Judges a reply, as `open` does, without handing out the response: its nonceTPM, for `after`, or its first fault.
+    /// Nothing changes, and nothing large is moved.
+    pub fn judge<'a>(&self, bytes: &'a [u8]) -> Result<&'a [u8], CallerFault>
+        ensures ok { IfOk result
+            (λ nonce. (x : Opened)
+            × (opened self.now bytes.now ≡ Ok x)
+            × (x.caller ≡ caller_with self.now nonce.now)) }
+        ensures err { IfErr result
+            (λ fault. (f : Fault) × (opened self.now bytes.now ≡ Err f) × (fault ≡ fault_of f)) }
+        ensures fits { IfOk result (λ nonce. length nonce.now ≤ digest_bytes) }
+    {
+        let nonce = match self.check(bytes) {
+            Ok(nonce) => nonce,
+            Err(fault) => return Err(fault),
+        };
+        match self.confirm(bytes, nonce) {
+            Ok(()) => Ok(nonce),
+            Err(fault) => Err(fault),
         }
     }
 
@@ -196,7 +244,7 @@ impl Pending {
         if let Response::Code(code) = &response {
             return Err((self, CallerFault::Code(*code)));
         }
-        Ok((self.caller_after(nonce), response))
+        Ok((self.after(nonce), response))
     }
 
     /// Opens the reply: the response, and the caller with the session's new nonceTPM, where it was kept. What

@@ -7,7 +7,7 @@ use Rattle.tpm_wire.proofs.Again.{read_again}
 use Rattle.tpm_wire.proofs.Buffers.{buffer_roomy, buffer_sound}
 use Rattle.tpm_wire.proofs.Whole.{read_spells}
 use Rattle.tpm_model.specs.Steps.{History, PowerCycle, Origin}
-use Rattle.tpm_model.specs.Counters.{nv_memory}
+use Rattle.tpm_model.specs.Counters.{NvMemory, nv_memory}
 use Rattle.tpm_model.specs.Present.{Present, present}
 use Rattle.tpm_model.specs.Kept.{kept_memory, restored}
 use Rattle.tpm_model.proofs.Restored.{restored_stands}
@@ -22,7 +22,8 @@ spelled_nv o h d bytes fits is stands =
     rw (is, ← nv) (read_spells buffer buffer_sound kept_memory (spelling kept_memory (holds d).nv) (holds d).nv
     (read_again buffer buffer_roomy kept_memory (holds d).nv (fits _)))
 
-pub made_stands : (o : Origin) (h : History) (owner bytes : List ℕ) (p : Present) → p ≡ restored owner p.nv → Spells kept_memory p.nv bytes
-    → o.owner ≡ owner → Spells kept_memory (nv_memory o h) bytes → p ≡ present o (PowerCycle ∷ h)
-made_stands o h owner bytes p made read same kept =
-    made ∙ ap (λ (w : List ℕ). restored w p.nv) (sym same) ∙ restored_stands o h p.nv bytes kept read
+-- What was made of the NV memory that the bytes spell stands where a power cycle leaves a device whose NV memory they spell.
+pub made_stands : (o : Origin) (h : History) (owner bytes : List ℕ) (nv : NvMemory) (p : Present) → p ≡ restored owner nv
+    → Spells kept_memory nv bytes → o.owner ≡ owner → Spells kept_memory (nv_memory o h) bytes → p ≡ present o (PowerCycle ∷ h)
+made_stands o h owner bytes nv p made read same kept =
+    made ∙ ap (λ (w : List ℕ). restored w nv) (sym same) ∙ restored_stands o h nv bytes kept read

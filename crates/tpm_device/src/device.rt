@@ -1,6 +1,6 @@
 //! A device: the order of its checks.
 
-ghost use Rattle.std.specs.Prelude.{◌≡◌, ◌<◌, [], ◌∷◌, length, Ok, Err, IfOk, IfErr, OnOk, OnErr};
+ghost use Rattle.std.specs.Prelude.{◌≡◌, ◌<◌, ◌≤◌, [], ◌∷◌, length, Ok, Err, IfOk, IfErr, IfSome, IfNone, OnOk, OnErr};
 ghost use Rattle.tpm_commands.specs.Parameters.{params_code};
 ghost use Rattle.tpm_buffer.specs.Commands.{body_from};
 ghost use Rattle.tpm_model.specs.Steps.{History, PowerCycle, Origin, new_origin};
@@ -14,13 +14,13 @@ ghost use Rattle.tpm_device.specs.Stands.{given, told};
 use crate::authorization::Authorization;
 use crate::bare::bare;
 use crate::checks::{check_started, check_tag};
-use crate::reply::put_refusal;
+use crate::response::{RESPONSE_BYTES, ResponseBuffer, put_refusal};
 use tpm_buffer::{Areas, header};
 use tpm_commands::{CommandCode, Params, ReplyBody, decode_params_into};
 use tpm_session::Sessions;
 use tpm_store::{Counters, Registers};
 use tpm_types::AuthValue;
-use tpm_wire::{Buffer, Duplicate};
+use tpm_wire::Duplicate;
 
 /// A device of this profile.
 #[derive(Drop)]
@@ -33,7 +33,7 @@ pub struct Device {
 }
 
 // No session is loaded.
-fn no_sessions() -> Sessions
+pub(crate) fn no_sessions() -> Sessions
     ensures { result ≡ none_loaded }
 {
     Sessions::new()
@@ -107,7 +107,7 @@ impl Device {
         by: &Option<Authorization<'_>>,
         params: &Params<'_>,
         nonce: &[u8; 64],
-        out: &mut Buffer,
+        out: &mut ResponseBuffer,
     ) -> Result<(), u32>
         requires own { params_code params.now ≡ areas.now.header.code }
         requires ready { MayBePerformed self.old areas.now by.now out.old }
@@ -124,12 +124,13 @@ impl Device {
     }
 
     // As `performed`, whatever the parameters are.
+    #[inline(never)]
     fn performed_at_length(
         &mut self,
         areas: &Areas<'_>,
         by: &Option<Authorization<'_>>,
         nonce: &[u8; 64],
-        out: &mut Buffer,
+        out: &mut ResponseBuffer,
     ) -> Result<(), u32>
         requires { MayBePerformed self.old areas.now by.now out.old }
         ensures { IsPerformed areas.now (performed_of (holds self.old) nonce.now)
@@ -143,22 +144,45 @@ impl Device {
         }
     }
 
-    // As `performed`, where the command is another than TPM2_PCR_Extend.
+    // As `performed`, where the parameters are none, or a number or two; and otherwise nothing is done. It is out of
+    // line, so that what it makes is off the stack before the longest parameters are read.
     #[inline(never)]
+    fn performed_bare(
+        &mut self,
+        areas: &Areas<'_>,
+        by: &Option<Authorization<'_>>,
+        nonce: &[u8; 64],
+        out: &mut ResponseBuffer,
+    ) -> Option<Result<(), u32>>
+        requires { MayBePerformed self.old areas.now by.now out.old }
+        ensures some { IfSome result (λ given.
+            IsPerformed areas.now (performed_of (holds self.old) nonce.now)
+            (record { device = self.old; nonce = nonce.now; out = out.old })
+            (record { result = given; device = self.new; out = out.new })) }
+        ensures none { IfNone result ((self.new ≡ self.old) × (out.new ≡ out.old)) }
+    {
+        match bare(areas.code(), areas.params()) {
+            Some(params) => Some(self.done(areas, by, &params, nonce, out)),
+            None => None,
+        }
+    }
+
+    // As `performed`, where the command is another than TPM2_PCR_Extend.
+    #[inline(always)]
     fn performed_otherwise(
         &mut self,
         areas: &Areas<'_>,
         by: &Option<Authorization<'_>>,
         nonce: &[u8; 64],
-        out: &mut Buffer,
+        out: &mut ResponseBuffer,
     ) -> Result<(), u32>
         requires { MayBePerformed self.old areas.now by.now out.old }
         ensures { IsPerformed areas.now (performed_of (holds self.old) nonce.now)
             (record { device = self.old; nonce = nonce.now; out = out.old })
             (record { result = result; device = self.new; out = out.new }) }
     {
-        match bare(areas.code(), areas.params()) {
-            Some(params) => self.done(areas, by, &params, nonce, out),
+        match self.performed_bare(areas, by, nonce, out) {
+            Some(given) => given,
             None => self.performed_at_length(areas, by, nonce, out),
         }
     }
@@ -170,7 +194,7 @@ impl Device {
         areas: &Areas<'_>,
         by: &Option<Authorization<'_>>,
         nonce: &[u8; 64],
-        out: &mut Buffer,
+        out: &mut ResponseBuffer,
     ) -> Result<(), u32>
         requires { MayBePerformed self.old areas.now by.now out.old }
         ensures { IsPerformed areas.now (performed_of (holds self.old) nonce.now)
@@ -185,7 +209,12 @@ impl Device {
     }
 
     // The reply, or the code of the first check that fails.
-    fn outcome(&mut self, bytes: &[u8], nonce: &[u8; 64], out: &mut Buffer) -> Result<(), u32>
+    fn outcome(
+        &mut self,
+        bytes: &[u8],
+        nonce: &[u8; 64],
+        out: &mut ResponseBuffer,
+    ) -> Result<(), u32>
         requires empty { length out.old.items ≡ 0 }
         ensures answer { (o : Origin) (h : History) →
             Stands o h self.old →
@@ -209,7 +238,7 @@ impl Device {
 
     // The response: the reply, or the code alone.
     #[inline(never)]
-    fn answer(&mut self, bytes: &[u8], nonce: &[u8; 64], out: &mut Buffer)
+    fn answer(&mut self, bytes: &[u8], nonce: &[u8; 64], out: &mut ResponseBuffer)
         requires empty { length out.old.items ≡ 0 }
         ensures answer { (o : Origin) (h : History) →
             Stands o h self.old →
@@ -235,7 +264,7 @@ impl Device {
     /// sessions (tpm_session's codes, in the order of `authorize`); the parameters; and the
     /// refusals of the command's action, those of tpm_store and tpm_session, and VALUE for a start
     /// from a saved state (Part 1, "Command Processing"; the order is this profile's).
-    pub fn execute(&mut self, bytes: &[u8], nonce: &[u8; 64]) -> Buffer
+    pub fn execute(&mut self, bytes: &[u8], nonce: &[u8; 64]) -> ResponseBuffer
         ensures answer { (o : Origin) (h : History) →
             Stands o h self.old →
             result.items ≡ answer o h bytes.now nonce.now }
@@ -244,13 +273,13 @@ impl Device {
             Stands o (next o h bytes.now nonce.now) self.new }
         ensures refused { 0 < code_in result.items → self.new ≡ self.old }
     {
-        let mut out = Buffer::new();
+        let mut out = ResponseBuffer::new();
         self.execute_into(bytes, nonce, &mut out);
         out
     }
 
-    /// As `execute`, into this buffer, whatever is in it.
-    pub fn execute_into(&mut self, bytes: &[u8], nonce: &[u8; 64], out: &mut Buffer)
+    /// As `execute`, into this buffer, whatever is in it. No answer has more bytes than there is room for.
+    pub fn execute_into(&mut self, bytes: &[u8], nonce: &[u8; 64], out: &mut ResponseBuffer)
         ensures answer { (o : Origin) (h : History) →
             Stands o h self.old →
             out.new.items ≡ answer o h bytes.now nonce.now }
@@ -258,8 +287,10 @@ impl Device {
             Stands o h self.old →
             Stands o (next o h bytes.now nonce.now) self.new }
         ensures refused { 0 < code_in out.new.items → self.new ≡ self.old }
+        ensures short { length out.new.items ≤ 549 }
     {
         out.clear();
         self.answer(bytes, nonce, out);
+        prove!(out.as_slice().len() <= RESPONSE_BYTES);
     }
 }

@@ -13,10 +13,11 @@ ghost use Rattle.tpm_device.specs.Stands.{holds, MayBePerformed, IsPerformed, do
 use crate::authorization::Authorization;
 use crate::device::Device;
 use crate::handles::register_or_null;
+use crate::response::ResponseBuffer;
 use tpm_buffer::Areas;
 use tpm_types::DigestValues;
 use tpm_wire::response_code::{SIZE, of_parameter};
-use tpm_wire::{Buffer, Cursor, Refusal, Wire};
+use tpm_wire::{Cursor, Refusal, Wire};
 
 #[tactic(auto, unfolding(tpm_commands::specs::Parameters::pcr_extend))]
 #[inline(always)]
@@ -54,7 +55,7 @@ impl Device {
         by: &Option<Authorization<'_>>,
         digests: &DigestValues,
         nonce: &[u8; 64],
-        out: &mut Buffer,
+        out: &mut ResponseBuffer,
     ) -> Result<(), u32>
         requires extends { areas.now.header.code ≡ codes.PcrExtend }
         requires ready { MayBePerformed self.old areas.now by.now out.old }
@@ -77,7 +78,7 @@ impl Device {
         areas: &Areas<'_>,
         by: &Option<Authorization<'_>>,
         nonce: &[u8; 64],
-        out: &mut Buffer,
+        out: &mut ResponseBuffer,
     ) -> Result<(), u32>
         requires extends { areas.now.header.code ≡ codes.PcrExtend }
         requires ready { MayBePerformed self.old areas.now by.now out.old }

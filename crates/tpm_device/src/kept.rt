@@ -14,12 +14,12 @@ ghost use Rattle.tpm_model.specs.NvChanges.{writes_nv as writes_nv_of, names_wri
 ghost use Rattle.tpm_model.specs.NvChanges.{is_success as is_success_of, changes_nv as changes_nv_of};
 ghost use Rattle.tpm_device.specs.Stands.{holds, Stands};
 
-use crate::device::Device;
+use crate::device::{Device, no_sessions};
 use tpm_buffer::header;
 use tpm_commands::CommandCode;
-use tpm_store::{Counter, Counters, KEPT_BYTES};
+use tpm_store::{Counter, Counters, KEPT_BYTES, Registers};
 use tpm_types::{Alg, AuthValue, SessionHandle};
-use tpm_wire::{Buffer, Refusal, Wire};
+use tpm_wire::{Buffer, Duplicate, Refusal, Wire};
 
 // The command changes NV memory where it is done (Part 3, 31.3, 31.4 and 31.8).
 fn writes_nv(code: CommandCode) -> bool
@@ -99,10 +99,28 @@ impl Device {
             Spells kept_memory (nv_memory o h) bytes.now →
             Stands o (PowerCycle ∷ h) d) }
     {
-        let counters = Counters::from_bytes(bytes)?;
-        let mut device = Device::new(owner, counters.greatest());
-        device.counters = counters;
-        Ok(device)
+        let mut counters = Counters::new(0);
+        counters.read_bytes(bytes)?;
+        Ok(Device::of_counters(owner, counters))
+    }
+
+    /// A device of the owner's authorization value that has these counters, is not started and has no session. What
+    /// they are bound by is said where they were made, as by `Counters::read_bytes`.
+    pub fn of_counters(owner: &AuthValue, counters: Counters) -> Self
+        ensures made { holds result ≡ restored owner.now counters }
+        ensures stands { (o : Origin) (h : History) (bytes : List ℕ) →
+            Spells kept_memory counters bytes →
+            o.owner ≡ owner.now →
+            Spells kept_memory (nv_memory o h) bytes →
+            Stands o (PowerCycle ∷ h) result }
+    {
+        Device {
+            owner: owner.duplicate(),
+            started: false,
+            registers: Registers::new(),
+            sessions: no_sessions(),
+            counters,
+        }
     }
 
     /// The counters that are defined, in the order of their definitions: each with its public area as it is now

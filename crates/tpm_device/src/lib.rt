@@ -14,6 +14,7 @@ mod nv;
 mod policies;
 mod registers;
 mod reply;
+mod response;
 mod sessions;
 
 pub use device::Device;
@@ -22,3 +23,4 @@ pub use laws::{
     answers_are_the_run, no_counter_goes_back, no_counter_goes_back_over_lives, no_replay,
     no_replay_over_lives, nv_memory_stays_fair,
 };
+pub use response::{RESPONSE_BYTES, ResponseBuffer};

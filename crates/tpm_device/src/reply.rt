@@ -1,70 +1,26 @@
-//! The response.
+//! The reply, with the session of the command.
 
 ghost use Rattle.std.specs.Prelude.{◌≡◌, ◌<◌, true, [], ◌∷◌, length, Ok, Err};
 ghost use Rattle.tpm_commands.specs.declared.response.ReplyBody.{ReplyBody as BodyOf};
 ghost use Rattle.tpm_commands.specs.Handles.{first as first_of};
 ghost use Rattle.tpm_buffer.specs.CommandAreas.{Cut};
 ghost use Rattle.tpm_model.specs.Present.{Present};
-ghost use Rattle.tpm_model.specs.Authorization.{Evidence, reply_auths, password_reply as password_reply_of};
-ghost use Rattle.tpm_model.specs.Answers.{answered, reply_params};
+ghost use Rattle.tpm_model.specs.Authorization.{Evidence, reply_auths};
+ghost use Rattle.tpm_model.specs.Answers.{reply_params};
 ghost use Rattle.tpm_model.specs.Premises.{code_in};
 ghost use Rattle.tpm_device.specs.Stands.{evidence_for, IsAlike, Authorizes, IsAuthorization};
 ghost use Rattle.tpm_device.specs.Stands.{Replies, Rolls, is_bare, bare_bytes};
 
 use crate::authorization::Authorization;
 use crate::device::Device;
-use tpm_buffer::{Areas, SESSIONS, put_code, put_reply, put_reply_params};
-use tpm_commands::{ErrorCode, ReplyBody};
+use crate::response::{
+    ResponseBuffer, put_bare_alone, put_bare_passed, put_bare_with, put_reply, put_reply_params,
+    put_reply_with,
+};
+use tpm_buffer::Areas;
+use tpm_commands::ReplyBody;
 use tpm_session::{Authority, password_reply};
 use tpm_types::AuthReply;
-use tpm_wire::{Buffer, Wire, put_bytes};
-
-/// Adds the response that is this code.
-pub(crate) fn put_refusal(code: u32, out: &mut Buffer)
-    requires some { 0 < code }
-    requires empty { length out.old.items ≡ 0 }
-    ensures { out.new.items ≡ answered (Err code) }
-{
-    match ErrorCode::from_number(code) {
-        Some(error) => put_code(error, out),
-        None => unreachable!(),
-    }
-}
-
-// Adds the reply without parameters to a command that has no session.
-fn put_bare_alone(out: &mut Buffer)
-    requires { length out.old.items ≡ 0 }
-    ensures { out.new.items ≡ bare_bytes [] }
-{
-    put_bytes(out, &[0x80, 0x01, 0, 0, 0, 10, 0, 0, 0, 0]);
-}
-
-// That to a command that a password authorized.
-fn put_bare_passed(out: &mut Buffer)
-    requires { length out.old.items ≡ 0 }
-    ensures { out.new.items ≡
-        bare_bytes (password_reply_of ∷ []) }
-{
-    put_bytes(
-        out,
-        &[
-            0x80, 0x02, 0, 0, 0, 19, 0, 0, 0, 0, 0, 0, 0, 0, 0, 0, 0x01, 0, 0,
-        ],
-    );
-}
-
-// That with this session.
-#[tactic(auto, unfolding(tpm_buffer::specs::Responses::response, tpm_buffer::specs::Responses::response_front, tpm_buffer::specs::Responses::response_tag, tpm_buffer::specs::Responses::response_code, tpm_buffer::specs::Commands::command_size, tpm_buffer::specs::Responses::with_sessions, tpm_buffer::specs::Responses::parameter_size, tpm_buffer::specs::Responses::reply_sessions, tpm_buffer::specs::Responses::further_sessions,))]
-fn put_bare_sealed(session: &AuthReply, out: &mut Buffer)
-    requires { length out.old.items ≡ 0 }
-    ensures { out.new.items ≡ bare_bytes (session.now ∷ []) }
-{
-    SESSIONS.put(out);
-    (14 + session.len() as u32).put(out);
-    0u32.put(out);
-    0u32.put(out);
-    session.put(out);
-}
 
 impl Device {
     // The session of a reply with these parameters to a command that is authorized so.
@@ -94,7 +50,7 @@ impl Device {
         areas: &Areas<'_>,
         body: &ReplyBody,
         nonce: &[u8; 64],
-        out: &mut Buffer,
+        out: &mut ResponseBuffer,
     ) -> AuthReply
         requires own { Authorizes self.now.sessions areas.now by.now }
         requires empty { length out.old.items ≡ 0 }
@@ -117,7 +73,7 @@ impl Device {
         areas: &Areas<'_>,
         by: &Option<Authorization<'_>>,
         nonce: &[u8; 64],
-        out: &mut Buffer,
+        out: &mut ResponseBuffer,
     )
         requires own { IsAuthorization self.now.sessions areas.now by.now }
         requires empty { length out.old.items ≡ 0 }
@@ -129,12 +85,12 @@ impl Device {
         ensures done { code_in out.new.items ≡ 0 }
     {
         match by {
-            None => put_reply(body, &[], out),
+            None => put_reply(body, out),
             Some(how) => match how.by {
-                Authority::Password => put_reply(body, &[password_reply()], out),
+                Authority::Password => put_reply_with(body, &password_reply(), out),
                 Authority::Slot(_) => {
                     let session = self.sealed(how, areas, body, nonce, out);
-                    put_reply(body, &[session], out);
+                    put_reply_with(body, &session, out);
                 }
             },
         }
@@ -148,7 +104,7 @@ impl Device {
         by: &Authorization<'_>,
         areas: &Areas<'_>,
         nonce: &[u8; 64],
-        out: &mut Buffer,
+        out: &mut ResponseBuffer,
     )
         requires own { Authorizes self.now.sessions areas.now by.now }
         requires empty { length out.old.items ≡ 0 }
@@ -159,7 +115,7 @@ impl Device {
         ensures done { code_in out.new.items ≡ 0 }
     {
         let session = self.reply_session(by, areas, &[], nonce);
-        put_bare_sealed(&session, out);
+        put_bare_with(&session, out);
     }
 
     /// As `put_done`, for a reply without parameters. Nothing is made of its body.
@@ -168,7 +124,7 @@ impl Device {
         areas: &Areas<'_>,
         by: &Option<Authorization<'_>>,
         nonce: &[u8; 64],
-        out: &mut Buffer,
+        out: &mut ResponseBuffer,
     )
         requires own { IsAuthorization self.now.sessions areas.now by.now }
         requires empty { length out.old.items ≡ 0 }

@@ -5,9 +5,8 @@ use crate::random::Random;
 use arrayvec::ArrayVec;
 use tpm_buffer::{decode_response, encode_command};
 use tpm_commands::{Command, CommandBody, ReplyBody, Response};
-use tpm_device::Device;
+use tpm_device::{Device, ResponseBuffer};
 use tpm_types::{AuthValue, StartupType};
-use tpm_wire::Buffer;
 
 /// What a response answers, where its code is 0.
 pub(crate) fn answered(response: Response) -> Result<ReplyBody, Fault> {
@@ -37,7 +36,7 @@ impl Tpm {
     }
 
     /// Sends the bytes of a command, and receives those of its response.
-    pub(crate) fn transmit(&mut self, command: &[u8]) -> Buffer {
+    pub(crate) fn transmit(&mut self, command: &[u8]) -> ResponseBuffer {
         let nonce = self.random.bytes();
         self.device.execute(command, &nonce)
     }

@@ -7,9 +7,8 @@ use std::test::*;
 use tpm_buffer::{decode_response, encode_command};
 use tpm_caller::Caller;
 use tpm_commands::{Command, CommandBody, CommandCode, ReplyBody, Response, StartAuth};
-use tpm_device::Device;
+use tpm_device::{Device, ResponseBuffer};
 use tpm_types::{Alg, AuthValue, BindHandle, SessionType, SymDef};
-use tpm_wire::Buffer;
 
 const STARTUP: &str = "80010000000c000001440000";
 
@@ -77,7 +76,7 @@ impl Tpm {
     }
 
     /// What it answers to these bytes.
-    pub fn answer(&mut self, command: &[u8]) -> Buffer {
+    pub fn answer(&mut self, command: &[u8]) -> ResponseBuffer {
         let nonce = self.nonce();
         self.device.execute(command, &nonce)
     }

@@ -1,37 +1,25 @@
-use Rattle.std.proofs.Common.{◌≡◌, ℕ, List, ◌∷◌, [], length, ap, ◌∙◌, subst}
-use Rattle.tpm_types.specs.declared.tpms.Auth.{Auth}
-use Rattle.tpm_wire.specs.Spelling.{spelling, Fits}
+use Rattle.std.proofs.Common.{ℕ, List, ap, ◌∙◌}
 use Rattle.tpm_commands.specs.declared.code.CommandCode.{CommandCode}
-use Rattle.tpm_commands.specs.declared.command.Command.{Command}
-use Rattle.tpm_commands.specs.declared.command.CommandBody.{CommandBody}
-use Rattle.tpm_buffer.specs.Commands.{command, code_for, with_auths}
+use Rattle.tpm_buffer.specs.Commands.{code_for}
 use Rattle.tpm_model.specs.Callers.{Seal, seal_key}
 use Rattle.tpm_caller.specs.Sent.{Sent, hmac_key}
 use Rattle.tpm_caller.proofs.HmacPlace.{IsUnsigned, unsigned, room, signed, has_spelling}
 use Rattle.tpm_caller.proofs.caller.Caller.seal_into.Goals.{After-as_slice-3}
 use Rattle.tpm_caller.proofs.caller.Caller.seal_into.Goals as goal
 
-abbrev as_command : CommandBody → List Auth → Command
-as_command body auths = record { body = body; auths = record { items = auths } }
-
 abbrev seal_of : After-as_slice-3 → Seal
 seal_of c = record { caller = c.args.self; body = c.args.body; names = c.args.names.items; auth = c.args.auth.now; nonce = c.args.nonce; keep = c.args.keep }
 
-made : (c : After-as_slice-3) → c.unsigned-command.result ≡ with_auths c.args.body (c.unsigned-command.ensures.session.0 ∷ [])
-made c =
-    ap (λ (b : CommandBody). as_command b c.unsigned-command.result.auths.items) c.unsigned-command.ensures.body
-    ∙ ap (as_command c.args.body) c.unsigned-command.ensures.session.1
-
-put : (c : After-as_slice-3) → IsUnsigned (seal_of c) c.unsigned-command.ensures.session.0 c.put_command.new.out.items
+put : (c : After-as_slice-3) → IsUnsigned (seal_of c) c.put_unsigned.ensures.0 c.put_unsigned.new.bytes.items
 put c =
-    let x = c.unsigned-command.ensures.session in
-    unsigned (seal_of c) x.0 c.put_command.new.out.items c.attrs_for-attrs.result c.requires.named x.2 x.3 x.4
-    c.attrs_for-attrs.ensures x.5 (c.put_command.ensures.bytes ∙ ap (spelling command) (made c))
+    let x = c.put_unsigned.ensures in
+    unsigned (seal_of c) x.0 c.put_unsigned.new.bytes.items c.attrs_for-attrs.result c.requires.named x.1 x.2 x.3
+    c.attrs_for-attrs.ensures x.4 x.5
 
 pub sign-requires-clause-room : goal.sign-requires-clause-room
 sign-requires-clause-room c =
     let d = (goal.at.sign-requires-clause-room c).After-as_slice-3 in
-    rw (c.as_slice.ensures.value, c.as_slice-3.ensures.value) (room (seal_of d) c.unsigned-command.ensures.session.0 c.put_command.new.out.items (put d))
+    rw (c.as_slice.ensures.value, c.as_slice-3.ensures.value) (room (seal_of d) c.put_unsigned.ensures.0 c.put_unsigned.new.bytes.items (put d))
 
 pub returns-clause-sealed : goal.returns-clause-sealed
 returns-clause-sealed c =
@@ -45,7 +33,7 @@ returns-clause-sealed c =
     } in
     let mac = rw (c.as_slice.ensures.value, c.as_slice-2.ensures.value, c.as_slice-3.ensures.value) at c.sign.ensures in
     let done =
-    signed s c.unsigned-command.ensures.session.0 c.put_command.new.out.items c.sign.new.bytes.items
+    signed s c.put_unsigned.ensures.0 c.put_unsigned.new.bytes.items c.sign.new.bytes.items
     c.set_key.new.key c.code-code.result c.attrs_for-attrs.result (put d) c.code-code.ensures
     c.attrs_for-attrs.ensures c.set_key.ensures mac in
     ap (λ (z : CommandCode). view z c.set_key.new.key c.sign.new.bytes.items) c.code-code.ensures
@@ -55,6 +43,4 @@ returns-clause-sealed c =
 pub returns-clause-spelled : goal.returns-clause-spelled
 returns-clause-spelled c =
     let d = (goal.at.returns-clause-spelled c).After-as_slice-3 in
-    has_spelling (seal_of d) c.unsigned-command.ensures.session.0 c.put_command.new.out.items (put d)
-    (subst (λ (z : Command). Fits (length c.put_command.new.out.items) command z) (made d)
-    c.put_command.ensures.fits)
+    has_spelling (seal_of d) c.put_unsigned.ensures.0 c.put_unsigned.new.bytes.items (put d) c.put_unsigned.ensures.6

@@ -29,5 +29,5 @@ returns c =
     let code : c.self.inside.code ≡ z.code = ap (λ (s : Waiting). s.code) c.self.view_is in
     let spells = (c.decode_response.ensures.ok c.in-Ok.response).0 c.in-Ok.is in
     open_done z c.self.inside.code c.args.bytes.now c.args.nonce.now c.in-Ok.response c.in_default.field-0
-    c.in_default.field-1.items c.caller_after.result code spells c.in-Ok.ensures.spelled c.in_default.is
-    c.requires.checked c.caller_after.ensures
+    c.in_default.field-1.items c.after.result code spells c.in-Ok.ensures.spelled c.in_default.is
+    c.requires.checked c.after.ensures

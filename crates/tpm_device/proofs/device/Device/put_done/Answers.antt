@@ -9,29 +9,29 @@ use Rattle.tpm_device.proofs.device.Device.put_done.Goals as goal
 
 pub returns-in-None-clause-bytes : goal.returns-in-None-clause-bytes
 returns-in-None-clause-bytes c = λ p e alike gives.
-    c.put_reply.ensures.bytes ∙ ap (λ (auths : List AuthReply). reply_bytes (record { body = c.args.body.now; auths = auths }))
+    c.put_reply.ensures ∙ ap (λ (auths : List AuthReply). reply_bytes (record { body = c.args.body.now; auths = auths }))
     (sym (none_replied p c.args.areas.now e c.args.areas.now.header.code (reply_params c.args.body.now) c.args.nonce.now
     (rw c.in-None.is at c.requires.own) gives))
 
 pub returns-in-None-clause-done : goal.returns-in-None-clause-done
-returns-in-None-clause-done c = ap code_in c.put_reply.ensures.bytes ∙ reply_is_done c.args.body.now _
+returns-in-None-clause-done c = ap code_in c.put_reply.ensures ∙ reply_is_done c.args.body.now _
 
 pub returns-in-Password-clause-bytes : goal.returns-in-Password-clause-bytes
 returns-in-Password-clause-bytes c = λ p e alike gives.
     let own = rw c.in-Some.is at c.requires.own in
-    c.put_reply-in-Password.ensures.bytes ∙ ap (λ (auths : List AuthReply). reply_bytes (record { body = c.args.body.now; auths = auths }))
+    c.put_reply_with.ensures ∙ ap (λ (auths : List AuthReply). reply_bytes (record { body = c.args.body.now; auths = auths }))
     (ap (λ (r : AuthReply). r ∷ []) c.password_reply.ensures
     ∙ sym (password_replies p c.args.areas.now c.in-Some.how.session own.others e c.args.areas.now.header.code (reply_params c.args.body.now)
     c.args.nonce.now (rw c.in-Password.is at own.by) own.auths gives))
 
 pub returns-in-Password-clause-done : goal.returns-in-Password-clause-done
-returns-in-Password-clause-done c = ap code_in c.put_reply-in-Password.ensures.bytes ∙ reply_is_done c.args.body.now _
+returns-in-Password-clause-done c = ap code_in c.put_reply_with.ensures ∙ reply_is_done c.args.body.now _
 
 pub returns-in-Slot-clause-bytes : goal.returns-in-Slot-clause-bytes
 returns-in-Slot-clause-bytes c = λ p e alike gives.
     let own = rw c.in-Some.is at c.requires.own in
-    c.put_reply-in-Slot.ensures.bytes ∙ ap (λ (auths : List AuthReply). reply_bytes (record { body = c.args.body.now; auths = auths }))
+    c.put_reply_with-in-Slot.ensures ∙ ap (λ (auths : List AuthReply). reply_bytes (record { body = c.args.body.now; auths = auths }))
     (sym (c.sealed-session.ensures.session p e (alike c.in-Some.how.session own.others own.auths) gives))
 
 pub returns-in-Slot-clause-done : goal.returns-in-Slot-clause-done
-returns-in-Slot-clause-done c = ap code_in c.put_reply-in-Slot.ensures.bytes ∙ reply_is_done c.args.body.now _
+returns-in-Slot-clause-done c = ap code_in c.put_reply_with-in-Slot.ensures ∙ reply_is_done c.args.body.now _

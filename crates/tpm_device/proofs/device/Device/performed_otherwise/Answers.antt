@@ -1,5 +1,0 @@
-use Rattle.tpm_device.proofs.Passing.{with_params}
-use Rattle.tpm_device.proofs.device.Device.performed_otherwise.Goals as goal
-
-pub returns-in-Some : goal.returns-in-Some
-returns-in-Some c = with_params c.args.areas.now c.in-Some.params (rw (← c.code.ensures, ← c.params.ensures.value) c.in-Some.ensures.reads) c.done.ensures
