@@ -21,14 +21,31 @@ checked() {
     ran "$checked" "$status" check "$@"
 }
 
+# told NAME STATUS WORD..: the same of `check --json`, whose objects are kept for other readers.
+told() {
+    checked "$@" --json
+    cat "$room/out" >>"$room/objects"
+}
+
 logs=checks/logs
+: >"$room/objects"
 
 for list in "$logs"/*.registers; do
     log=${list%.registers}
     cp "$list" "$room/out.wanted"
     checked "the registers of ${log##*/}" 0 "$log.log"
+    awk '{ of[$1] = of[$1] (of[$1] ? "," : "") "\"" $3 "\"" }
+        END {
+            printf "{\"registers\":{"
+            printf "\"sha1\":[%s],\"sha256\":[%s],\"sha384\":[%s]", of["sha1"], of["sha256"], of["sha384"]
+            print "}}\n{\"ok\":true}"
+        }' "$list" >"$room/out.wanted"
+    told "the registers of ${log##*/} as an object" 0 "$log.log"
     awk '{ print "match", $1, $2 }' "$list" >"$room/out.wanted"
     checked "${log##*/} beside a list of its registers" 0 "$log.log" --registers "$list"
+    awk '{ printf "{\"bank\":\"%s\",\"register\":%d,\"match\":true}\n", $1, $2 } END { print "{\"ok\":true}" }' \
+        "$list" >"$room/out.wanted"
+    told "${log##*/} beside a list of its registers, as objects" 0 "$log.log" --registers "$list"
 done
 
 # What tpm2_pcrread prints of swtpm, whose registers the records of the log have extended. Of the banks in
@@ -108,6 +125,8 @@ while read -r log kind at; do
     ran "$log has no records" 1 events "$logs/$log.log"
     echo "{\"fault\":\"$kind\",\"at\":$at}" >"$room/out.wanted"
     ran "the fault of $log is an object" 1 events "$logs/$log.log" --json
+    echo '{"ok":false}' >>"$room/out.wanted"
+    told "the fault of $log is an object of check" 1 "$logs/$log.log"
 done <"$logs/faults.txt"
 
 for told in "$logs"/*.secure; do
@@ -115,11 +134,62 @@ for told in "$logs"/*.secure; do
     cp "$told" "$room/out.wanted"
     status=$(awk '$1 == "secure-boot" && $3 != "on" { status = 1 } END { print status + 0 }' "$told")
     checked "Secure Boot by ${log##*/}" "$status" "$log.log" --secure-boot
+    cp "$log.verdicts" "$room/out.wanted"
+    told "Secure Boot by ${log##*/}, as objects" "$status" "$log.log" --secure-boot
 done
 echo 'secure-boot no bank' >"$room/out.wanted"
 checked "Secure Boot without a bank" 1 "$logs/no_bank.log" --secure-boot
+printf '%s\n' '{"secure_boot":"unknown","fault":"no bank"}' '{"ok":false}' >"$room/out.wanted"
+told "Secure Boot without a bank, as an object" 1 "$logs/no_bank.log" --secure-boot
 echo 'log Truncated at 211' >"$room/out.wanted"
 checked "Secure Boot by a log that is none" 1 "$logs/cut_by_a_byte.log" --secure-boot
+printf '%s\n' '{"fault":"Truncated","at":211}' '{"ok":false}' >"$room/out.wanted"
+told "Secure Boot by a log that is none, as an object" 1 "$logs/cut_by_a_byte.log" --secure-boot
+
+# Quotes beside their logs: what each says is read by Python's struct.
+# quoted NAME STATUS QUOTE LOG NONCE SELECTION QUOTE WORD..: the objects of a quote with these verdicts.
+quoted() {
+    case=$1 ends=$2 signed=checks/quotes/$3.msg replayed=$4
+    checks/quotes/told.py "$signed" "$5" "$6" "$7" >"$room/out.wanted"
+    shift 7
+    told "$case" "$ends" "$replayed" --attest "$signed" "$@"
+}
+
+if python3 -c pass >"$room/out" 2>&1; then
+    while read -r quote log hash nonce list; do
+        of="the quote $quote as an object" log=checks/quotes/$log words="--hash $hash"
+        sent="--nonce $nonce" list="--require $list"
+        quoted "$of" 0 "$quote" "$log" matches covers matches $words $sent $list
+        quoted "$of, without a nonce" 0 "$quote" "$log" "not compared" covers matches $words $list
+        quoted "$of, of which nothing is wanted" 0 "$quote" "$log" matches "not compared" matches $words $sent
+        quoted "$of, for another nonce" 1 "$quote" "$log" differs covers matches $words ${sent}00 $list
+        quoted "$of, that lacks a register" 1 "$quote" "$log" matches "lacks sha384 9" matches $words $sent \
+            --require sha384:9
+        [ "$quote" = not-measured ] ||
+            quoted "$of, of another log" 1 "$quote" "$logs/worked.log" matches covers differs $words $sent $list
+    done <checks/quotes/cases.txt
+else
+    skip "quotes as objects" "python3 is not there"
+fi
+
+# Each object of `check`, by other readers.
+lines=$(wc -l <"$room/objects" | tr -d ' ')
+if python3 -c 'import json' >"$room/out" 2>&1; then
+    holds "Python reads the $lines objects of check" python3 -c 'if True:
+        import json, sys
+        objects = [json.loads(line) for line in open(sys.argv[1], encoding="ascii")]
+        assert all(type(o) is dict for o in objects)
+        assert sum("ok" in o for o in objects) > 100' "$room/objects"
+else
+    skip "Python reads the objects of check" "python3 is not there"
+fi
+if command -v jq >"$room/out" 2>&1; then
+    jq -c . "$room/objects" >"$room/out" 2>&1
+    name="jq reads the objects of check, and writes them alike"
+    if cmp -s "$room/out" "$room/objects"; then pass "$name"; else fail "$name" "$(tail -n 1 "$room/out")"; fi
+else
+    skip "jq reads the objects of check" "jq is not there"
+fi
 
 unjudged=$(ls "$logs" | sed -n 's/\.log$//p' | while read -r log; do
     [ -e "$logs/$log.registers" ] || grep -q -e "^$log " "$logs/faults.txt" || echo "$log"

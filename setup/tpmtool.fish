@@ -14,7 +14,7 @@ complete -c tpmtool -n '__fish_seen_subcommand_from show' -l file -r -F
 complete -c tpmtool -n '__fish_seen_subcommand_from show' -l pcap -r -F
 complete -c tpmtool -n '__fish_seen_subcommand_from show' -l nv -r -F
 complete -c tpmtool -n '__fish_seen_subcommand_from show' -l binary
-complete -c tpmtool -n '__fish_seen_subcommand_from show events' -l json
+complete -c tpmtool -n '__fish_seen_subcommand_from show check events' -l json
 complete -c tpmtool -n '__fish_seen_subcommand_from build' -a "$commands"
 complete -c tpmtool -n '__fish_seen_subcommand_from run' -l owner -x
 complete -c tpmtool -n '__fish_seen_subcommand_from run' -l greatest -x

@@ -5,10 +5,12 @@
     NAME.registers  all registers after it, by hashlib, a line each as `tpmtool check` prints them
     faults.txt      for each log that is none: its name, the kind of its first fault, and how many bytes precede it
     NAME.secure     whether Secure Boot was on, as `tpmtool check --secure-boot` prints it
+    NAME.verdicts   the same, as `tpmtool check --secure-boot --json` prints it
 
 No value is read from the program. It writes the same bytes each time.
 """
 import hashlib
+import json
 import os
 import struct
 import uuid
@@ -347,44 +349,125 @@ def efi_variable(guid, name, value):
     return guid + struct.pack("<QQ", len(name), len(value)) + name.encode("utf-16-le") + value
 
 
+# The types of signatures that the UEFI Specification names ("Signature Database").
+TYPES = {
+    "EFI_CERT_X509_GUID": "a5c059a1-94e4-4aa7-87b5-ab155c2bf072",
+    "EFI_CERT_SHA256_GUID": "c1c41626-504c-4092-aca9-41f936934328",
+    "EFI_CERT_X509_SHA256_GUID": "3bd2a492-96c0-4079-b420-fcf98ef103ed",
+    "EFI_CERT_X509_SHA384_GUID": "7076876e-80c2-4ee6-aad2-28b349a6865b",
+    "EFI_CERT_X509_SHA512_GUID": "446dbf63-2502-4cda-bcfa-2465d2b0fe9d",
+    "EFI_CERT_SHA1_GUID": "826ca512-cf10-4ac9-b187-be01496631bd",
+    "EFI_CERT_SHA224_GUID": "0b6e5233-a65c-44c9-9407-d9ab83bfc8bd",
+    "EFI_CERT_SHA384_GUID": "ff3e5307-9fd0-48c9-85f1-8ad56c701e01",
+    "EFI_CERT_SHA512_GUID": "093e0fae-a6c4-4f50-9f1b-d41e2b89c19a",
+    "EFI_CERT_RSA2048_GUID": "3c5766e8-269c-4e34-aa14-ed776e85b3b6",
+    "EFI_CERT_RSA2048_SHA1_GUID": "67f8444f-8743-48f1-a328-1eaab8736080",
+    "EFI_CERT_RSA2048_SHA256_GUID": "e2b36190-879b-4a3d-ad8d-f2e7bba32784",
+}
+
+
+def signatures(guid, *of_each, header=b"", size=None):
+    """A list of signatures of this type, whose data have these bytes each."""
+    size = 16 + len(of_each[0]) if size is None else size
+    body = header + b"".join(DATABASE + data for data in of_each)
+    return uuid.UUID(guid).bytes_le + struct.pack("<III", 28 + len(body), len(header), size) + body
+
+
+def entries(value):
+    """How many signatures a content has, in all and of each type, or its first fault."""
+    names = {uuid.UUID(guid): name for name, guid in TYPES.items()}
+    counts = {"count": 0, **dict.fromkeys(TYPES, 0), "other": 0}
+    at = 0
+    while at < len(value):
+        left = len(value) - at
+        if left < 28:
+            return {"fault": "Truncated", "at": at}
+        whole, header, size = struct.unpack_from("<III", value, at + 16)
+        if not 28 <= whole <= left:
+            return {"fault": "ListSize", "at": at + 16}
+        if 28 + header > whole:
+            return {"fault": "HeaderSize", "at": at + 20}
+        if size < 16 or (whole - 28 - header) % size:
+            return {"fault": "SignatureSize", "at": at + 24}
+        count = (whole - 28 - header) // size
+        counts["count"] += count
+        counts[names.get(uuid.UUID(bytes_le=value[at : at + 16]), "other")] += count
+        at += whole
+    return {name: count for name, count in counts.items() if count or name == "count"}
+
+
+def entries_text(told):
+    if "fault" in told:
+        return f"entries unknown {told['fault']} at {told['at']}"
+    return " ".join(["entries", str(told["count"])] + [f"{n}={c}" for n, c in told.items() if n != "count"])
+
+
+def as_json(told):
+    return json.dumps(told, separators=(",", ":")) + "\n"
+
+
 class Boot(Log):
-    """A log of register 7, with the lines that are printed behind its state."""
+    """A log of register 7, with what is printed behind its state."""
 
     def __init__(self, algorithms=None):
         super().__init__([0x000B] if algorithms is None else algorithms)
         self.lines = []
+        self.members = {"dma_protection_disabled": False}
+        self.authorities = []
 
     def config(self, guid, name, value, told=False):
         if told:
             of_value = hashlib.sha256(value).hexdigest()
-            self.lines.append(f"{name} at {len(self.bytes)} size {len(value)} sha256 {of_value}\n")
+            held = entries(value)
+            told_entries = entries_text(held)
+            self.lines.append(f"{name} at {len(self.bytes)} size {len(value)} sha256 {of_value} {told_entries}\n")
+            self.members[name] = {"at": len(self.bytes), "size": len(value), "sha256": of_value, "entries": held}
         return self.record(7, DRIVER_CONFIG, efi_variable(guid, name, value))
 
-    def keys(self, switch=b"\1", pk=b"platform key", kek=b"exchange keys", db=b"allowed"):
+    def keys(self, switch=b"\1", pk=b"platform key", kek=b"exchange keys", db=b"allowed", dbx=b""):
         self.config(GLOBAL, "SecureBoot", switch)
         self.config(GLOBAL, "PK", pk, True)
         self.config(GLOBAL, "KEK", kek, True)
         self.config(DATABASE, "db", db, True)
-        return self.config(DATABASE, "dbx", b"", True)
+        return self.config(DATABASE, "dbx", dbx, True)
 
     def part(self, value=bytes(4)):
         return self.record(7, SEPARATOR, value)
 
     def authority(self, name, byte_more=False):
         self.lines.append(f"authority at {len(self.bytes)} variable {name}\n")
-        data = efi_variable(DATABASE, name, b"an entry of " + name.encode())
+        value = b"an entry of " + name.encode()
+        vendor = str(uuid.UUID(bytes_le=DATABASE))
+        self.authorities.append({"at": len(self.bytes), "guid": vendor, "name": name, "data": value.hex()})
+        data = efi_variable(DATABASE, name, value)
         return self.record(7, AUTHORITY, data + b"\n" if byte_more else data, data)
 
     def told(self, name, state):
-        self.tell(name, "".join(f"secure-boot {BANKS[a][0]} {state}\n" + "".join(self.lines) for a in self.algorithms))
+        banks = [BANKS[a][0] for a in self.algorithms]
+        members = {**self.members, "authorities": self.authorities}
+        self.tell(
+            name,
+            "".join(f"secure-boot {bank} {state}\n" + "".join(self.lines) for bank in banks),
+            "".join(as_json({"bank": bank, "secure_boot": state, **members}) for bank in banks),
+            state == "on",
+        )
 
     def unknown(self, name, kind, at):
-        self.tell(name, "".join(f"secure-boot {BANKS[a][0]} unknown {kind} at {at}\n" for a in self.algorithms))
+        banks = [BANKS[a][0] for a in self.algorithms]
+        fault = {"secure_boot": "unknown", "fault": kind, "at": at}
+        self.tell(
+            name,
+            "".join(f"secure-boot {bank} unknown {kind} at {at}\n" for bank in banks),
+            "".join(as_json({"bank": bank, **fault}) for bank in banks),
+            False,
+        )
 
-    def tell(self, name, text):
+    def tell(self, name, lines, objects, ok):
         self.write(name)
         with open(name + ".secure", "w") as file:
-            file.write(text)
+            file.write(lines)
+        with open(name + ".verdicts", "w") as file:
+            file.write(objects + as_json({"ok": ok}))
 
 
 def boots():
@@ -393,7 +476,34 @@ def boots():
     Boot().part().told("secure_unset", "unset")
     protection = Boot().record(7, ACTION, b"DMA Protection Disabled").keys().part().authority("db")
     protection.lines.insert(0, "dma-protection disabled\n")
+    protection.members["dma_protection_disabled"] = True
     protection.told("secure_unprotected", "on")
+
+    # Certificates have lists of their own, and hashes one.
+    key, hashes = TYPES["EFI_CERT_X509_GUID"], TYPES["EFI_CERT_SHA256_GUID"]
+    keys = {
+        "pk": signatures(key, b"a platform key"),
+        "kek": signatures(key, b"an exchange key") + signatures(key, b"another exchange key"),
+        "db": signatures(key, b"one") + signatures(hashes, bytes(32), header=b"header") + signatures(key, b"another"),
+        "dbx": signatures(hashes, *(bytes([i]) * 32 for i in range(77))),
+    }
+    Boot().keys(**keys).part().authority("db").told("secure_signatures", "on")
+    # A list of each type, of which none is empty but the last
+    each = b"".join(signatures(guid, *[b"data"] * (i + 1)) for i, guid in enumerate(TYPES.values()))
+    other = signatures("00112233-4455-6677-8899-aabbccddeeff", b"", b"") + signatures(key, size=16, header=b"no more")
+    Boot().keys(pk=each + other, kek=other, db=signatures(key, b"one") + b"\0" * 27).part().authority("db").told(
+        "secure_types", "on"
+    )
+    # Each fault of what should be lists
+    first = signatures(hashes, bytes(32))
+
+    def wrong(at, number):
+        return first + first[:at] + struct.pack("<I", number) + first[at + 4 :]
+
+    Boot().keys(pk=wrong(16, 27), kek=wrong(16, 77), db=wrong(20, 49), dbx=wrong(24, 15)).part().authority("db").told(
+        "secure_sizes", "on"
+    )
+    Boot().keys(dbx=wrong(24, 47)).part().authority("db").told("secure_size", "on")
 
     def fault(name, kind, boot, behind):
         at = len(boot.bytes)

@@ -97,7 +97,7 @@ agrees name v w same (ExplainKind kind) h = (
   subst (λ (x : Option Text). IsKind (is_given x) (w (codes "CODE")) kind.now) (same (codes "decimal"))
       (subst (λ (x : Option Text). IsKind (is_given (v (codes "decimal"))) x kind.now) (same (codes "CODE")) h.1),
 )
-agrees name v w same (Check log registers quote attest sent required hash) h = (
+agrees name v w same (Check log registers quote attest sent required hash json) h = (
   h.0,
   sym (ap is_given (same (codes "secure-boot"))) ∙ h.1,
   sym (same (codes "LOG")) ∙ h.2,
@@ -115,8 +115,9 @@ agrees name v w same (Check log registers quote attest sent required hash) h = (
   subst (λ (x : Option Text). IsWithEither x (w (codes "quote")) (w (codes "attest"))) (same (codes "hash"))
       (subst (λ (x : Option Text). IsWithEither (v (codes "hash")) x (w (codes "attest"))) (same (codes "quote"))
       (subst (λ (x : Option Text). IsWithEither (v (codes "hash")) (v (codes "quote")) x) (same (codes "attest")) h.12)),
+  h.13 ∙ ap is_given (same (codes "json")),
 )
-agrees name v w same (SecureBoot log) h = (
+agrees name v w same (SecureBoot log json) h = (
   h.0,
   sym (ap is_given (same (codes "secure-boot"))) ∙ h.1,
   sym (same (codes "LOG")) ∙ h.2,
@@ -126,6 +127,7 @@ agrees name v w same (SecureBoot log) h = (
   sym (same (codes "nonce")) ∙ h.6,
   sym (same (codes "require")) ∙ h.7,
   sym (same (codes "hash")) ∙ h.8,
+  h.9 ∙ ap is_given (same (codes "json")),
 )
 agrees name v w same (Events log register places digests json) h = (
   h.0,

@@ -122,7 +122,7 @@ AsksWith name value (Explain code) =
     (name ≡ codes "explain") × IsCode (is_given (value (codes "decimal"))) (value (codes "CODE")) code
 AsksWith name value (ExplainKind kind) =
     (name ≡ codes "explain") × IsKind (is_given (value (codes "decimal"))) (value (codes "CODE")) kind.now
-AsksWith name value (Check log registers quote attest sent required hash) =
+AsksWith name value (Check log registers quote attest sent required hash json) =
     (name ≡ codes "check")
     × (is_given (value (codes "secure-boot")) ≡ false)
     × (value (codes "LOG") ≡ Some log.now)
@@ -133,12 +133,14 @@ AsksWith name value (Check log registers quote attest sent required hash) =
     × Requires (value (codes "require")) required × IsWith (value (codes "require")) (value (codes "attest"))
     × IsHash (unwrap_or (value (codes "hash")) (codes "sha256")) hash
     × IsWithEither (value (codes "hash")) (value (codes "quote")) (value (codes "attest"))
-AsksWith name value (SecureBoot log) =
+    × (json ≡ is_given (value (codes "json")))
+AsksWith name value (SecureBoot log json) =
     (name ≡ codes "check")
     × (is_given (value (codes "secure-boot")) ≡ true)
     × (value (codes "LOG") ≡ Some log.now)
     × (value (codes "registers") ≡ None) × (value (codes "quote") ≡ None) × (value (codes "attest") ≡ None)
     × (value (codes "nonce") ≡ None) × (value (codes "require") ≡ None) × (value (codes "hash") ≡ None)
+    × (json ≡ is_given (value (codes "json")))
 AsksWith name value (Events log register places digests json) =
     (name ≡ codes "events")
     × (value (codes "LOG") ≡ Some log.now)

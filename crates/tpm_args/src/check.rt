@@ -24,7 +24,7 @@ pub(crate) fn check_task<'a>(alloc: Global, words: &ArgMatches<'a>) -> Asked<'a>
 {
     if is_given(words, "secure-boot") {
         let Some(task) = secure_boot_task(words) else {
-            let reason = "--secure-boot goes with no other option";
+            let reason = "--secure-boot goes with no other option but --json";
             return Err(wrong_words(alloc, check_words(alloc), reason));
         };
         return Ok(Some(task));
@@ -51,10 +51,11 @@ pub(crate) fn check_task<'a>(alloc: Global, words: &ArgMatches<'a>) -> Asked<'a>
         nonce,
         required,
         hash,
+        json: is_given(words, "json"),
     }))
 }
 
-// The task where Secure Boot is asked for: none where another word but the log is given.
+// The task where Secure Boot is asked for: none where another word but the log and JSON is given.
 fn secure_boot_task<'a>(words: &ArgMatches<'a>) -> Option<Task<'a>>
     ensures { is_given_by (first_value (found_of words.now) (codes "secure-boot")) ≡ true
         → MatchOption result
@@ -71,7 +72,10 @@ fn secure_boot_task<'a>(words: &ArgMatches<'a>) -> Option<Task<'a>>
     {
         return None;
     }
-    Some(Task::SecureBoot { log })
+    Some(Task::SecureBoot {
+        log,
+        json: is_given(words, "json"),
+    })
 }
 
 // A usage fault where this word is given without a quote as it was signed.

@@ -216,6 +216,7 @@ pub(crate) fn check_words<'a>(alloc: Global) -> Result<Command<'a>, AllocError>
     with_words! { alloc, signed_words(alloc)?;
         option "hash" "NAME" "The hash of the quote's digest: sha1, sha256 or sha384; sha256 if it is not given";
         flag "secure-boot" "Prints whether Secure Boot was on, by the log alone";
+        flag "json" "Prints objects of JSON in place of text, each in a line";
     }
 }
 

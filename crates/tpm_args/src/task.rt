@@ -75,7 +75,7 @@ pub enum Task<'a> {
         kind: &'a str,
     },
     /// `check LOG [--registers FILE] [--quote HEX] [--attest FILE [--nonce HEX] [--require LIST]]
-    /// [--hash NAME]`: print the registers that a log gives, or compare them.
+    /// [--hash NAME] [--json]`: print the registers that a log gives, or compare them.
     Check {
         /// The path of the log.
         log: &'a str,
@@ -91,11 +91,15 @@ pub enum Task<'a> {
         required: Option<Selections>,
         /// The hash of the quote's digest.
         hash: Alg,
+        /// Whether what is printed is objects of JSON.
+        json: bool,
     },
-    /// `check LOG --secure-boot`: print whether Secure Boot was on in the boot that a log tells of.
+    /// `check LOG --secure-boot [--json]`: print whether Secure Boot was on in the boot that a log tells of.
     SecureBoot {
         /// The path of the log.
         log: &'a str,
+        /// Whether what is printed is objects of JSON.
+        json: bool,
     },
     /// `events LOG [--register N] [--places] [--digests] [--json]`: print the records of a log.
     Events {

@@ -17,27 +17,27 @@ use Rattle.tpm_lines.specs.Status.{both}
 use Rattle.tpm_lines.specs.Faults.{FailsByMemoryOrWrite}
 use Rattle.tpm_lines.specs.InputLines.{CountsRead}
 use Rattle.tpm_lines.specs.Text.{bytes_in}
-use Rattle.tpm_check.specs.Compare.{Values, comparison}
+use Rattle.tpm_check.specs.Compare.{Beside, comparison}
 use Rattle.tpm_check.specs.Check.{ChecksQuote, ChecksBehind, ChecksValues, CountsList, CountsReads, FailsLast, IsSame}
 
 -- ---- a list
 
-pub stated_none : (value : Values) (hash : Alg) (bytes : List ℕ) (quote : Option (List ℕ)) → None ≡ (comparison value bytes).status
-    → ChecksValues value hash (Some bytes) quote Refused (comparison value bytes).text
-stated_none value hash bytes quote e =
-    subst (λ (o : Option Status). ChecksBehind value hash (comparison value bytes).text o quote Refused (comparison value bytes).text) e (refl, refl)
+pub stated_none : (b : Beside) (hash : Alg) (bytes : List ℕ) (quote : Option (List ℕ)) → None ≡ (comparison b bytes).status
+    → ChecksValues b hash (Some bytes) quote Refused (comparison b bytes).text
+stated_none b hash bytes quote e =
+    subst (λ (o : Option Status). ChecksBehind b hash (comparison b bytes).text o quote Refused (comparison b bytes).text) e (refl, refl)
 
-pub stated_alone : (value : Values) (hash : Alg) (bytes : List ℕ) (first : Status) → Some first ≡ (comparison value bytes).status
-    → ChecksValues value hash (Some bytes) None first (comparison value bytes).text
-stated_alone value hash bytes first e =
-    subst (λ (o : Option Status). ChecksBehind value hash (comparison value bytes).text o None first (comparison value bytes).text) e (refl, refl)
+pub stated_alone : (b : Beside) (hash : Alg) (bytes : List ℕ) (first : Status) → Some first ≡ (comparison b bytes).status
+    → ChecksValues b hash (Some bytes) None first (comparison b bytes).text
+stated_alone b hash bytes first e =
+    subst (λ (o : Option Status). ChecksBehind b hash (comparison b bytes).text o None first (comparison b bytes).text) e (refl, refl)
 
-pub stated_quoted : (value : Values) (hash : Alg) (bytes quote more : List ℕ) (first second : Status) → Some first ≡ (comparison value bytes).status
-    → ChecksQuote value hash (bytes_in quote) second more
-    → ChecksValues value hash (Some bytes) (Some quote) (both first second) ((comparison value bytes).text ++ more)
-stated_quoted value hash bytes quote more first second e checks =
-    subst (λ (o : Option Status). ChecksBehind value hash (comparison value bytes).text o (Some quote) (both first second)
-    ((comparison value bytes).text ++ more)) e (second, more, checks, refl, refl)
+pub stated_quoted : (b : Beside) (hash : Alg) (bytes quote more : List ℕ) (first second : Status) → Some first ≡ (comparison b bytes).status
+    → ChecksQuote b hash (bytes_in quote) second more
+    → ChecksValues b hash (Some bytes) (Some quote) (both first second) ((comparison b bytes).text ++ more)
+stated_quoted b hash bytes quote more first second e checks =
+    subst (λ (o : Option Status). ChecksBehind b hash (comparison b bytes).text o (Some quote) (both first second)
+    ((comparison b bytes).text ++ more)) e (second, more, checks, refl, refl)
 
 -- ---- a list, where there is one
 

@@ -13,8 +13,8 @@ use Rattle.std.specs.Io.KnownBytes.{Consumes, IsAtEnd, Appends}
 use Rattle.tpm_types.specs.declared.alg.Alg.{Alg}
 use Rattle.tpm_check.specs.declared.stated.TheConstants.{REGISTERS}
 use Rattle.tpm_check.specs.declared.list_lines.Heading.{Heading}
-use Rattle.tpm_check.specs.Compare.{Values, Stated, Comparison, ListLine, States, Heads, Passes, Wrong, line_under}
-use Rattle.tpm_check.specs.Compare.{heading_behind, lines_under, is_value, compared_line, not_a_register_line}
+use Rattle.tpm_check.specs.Compare.{Beside, Values, Stated, Comparison, ListLine, States, Heads, Passes, Wrong, line_under}
+use Rattle.tpm_check.specs.Compare.{heading_behind, lines_under, is_value, compared_text, not_a_register_text}
 use Rattle.tpm_check.specs.Compare.{bank_lines, register_line, register_names, register_named, comparison_of}
 use Rattle.tpm_check.specs.Compare.{comparison_from, comparison, status_if, most_line, AreRegisters, IsStated}
 use Rattle.tpm_check.specs.Compare.{ReadsList, ReadsTooMuchList}
@@ -75,72 +75,74 @@ behind-behind : (text more : List ℕ) (c : Comparison) → behind text (behind 
 behind-behind text more c = ap (λ (t : List ℕ). record { text = t; status = c.status }) (sym (append_assoc text more c.text))
 
 -- a byte of a line
-pub leads_longer : (value : Values) (p : Place) (byte : ℕ)
-    → Leads value p (byte ∷ []) [] (record { line = p.line ++ byte ∷ []; number = p.number; heading = p.heading; status = p.status })
-leads_longer value p byte =
-    λ more. ap (λ (bytes : List ℕ). with_status p.status (comparison_from value p.number (lines_under p.heading (lines_of bytes)))) (sym
+pub leads_longer : (found : Beside) (p : Place) (byte : ℕ)
+    → Leads found p (byte ∷ []) [] (record { line = p.line ++ byte ∷ []; number = p.number; heading = p.heading; status = p.status })
+leads_longer found p byte =
+    λ more. ap (λ (bytes : List ℕ). with_status p.status (comparison_from found p.number (lines_under p.heading (lines_of bytes)))) (sym
     (append_assoc p.line (byte ∷ []) more))
 
 -- what is printed of a line that says this, and of those behind it
-abbrev comparison_behind : (value : Values) (p : Place) (line : ListLine) (more : List ℕ) → Comparison
-comparison_behind value p line more =
-    with_status p.status (comparison_of value p.number line (comparison_from value (p.number + 1)
+abbrev comparison_behind : (found : Beside) (p : Place) (line : ListLine) (more : List ℕ) → Comparison
+comparison_behind found p line more =
+    with_status p.status (comparison_of found p.number line (comparison_from found (p.number + 1)
     (lines_under (heading_behind p.heading line) (lines_of more))))
 
 -- the line feed of the present line
-after_feed : (value : Values) (p : Place) (line : ListLine) (more : List ℕ) → HasNoFeed p.line → line_under p.heading p.line ≡ line
-    → comparison_at value p (10 ∷ more) ≡ comparison_behind value p line more
-after_feed value p line more f is =
-    ap (λ (lines : List (List ℕ)). with_status p.status (comparison_from value p.number (lines_under p.heading lines))) (ended_line p.line more f)
-    ∙ ap (λ (line : ListLine). comparison_behind value p line more) is
+after_feed : (found : Beside) (p : Place) (line : ListLine) (more : List ℕ) → HasNoFeed p.line → line_under p.heading p.line ≡ line
+    → comparison_at found p (10 ∷ more) ≡ comparison_behind found p line more
+after_feed found p line more f is =
+    ap (λ (lines : List (List ℕ)). with_status p.status (comparison_from found p.number (lines_under p.heading lines))) (ended_line p.line more f)
+    ∙ ap (λ (line : ListLine). comparison_behind found p line more) is
 
 -- that of a line that states a register
-leads_line : (value : Values) (p q : Place) (s : Stated) → HasNoFeed p.line → line_under p.heading p.line ≡ States s
-    → q ≡ record { line = []; number = p.number + 1; heading = p.heading; status = status_behind p.status (is_value value s) }
-    → Leads value p (10 ∷ []) (compared_line (is_value value s) s.bank s.register) q
-leads_line value p q s f is there = rw there (λ more.
-    let rest = comparison_from value (p.number + 1) (lines_under p.heading (lines_of more)) in
-    after_feed value p (States s) more f is
-    ∙ ap (λ (status : Option Status). record { text = compared_line (is_value value s) s.bank s.register ++ rest.text; status = status }) (behind_line
-    p.status (is_value value s) rest.status))
+leads_line : (found : Beside) (p q : Place) (s : Stated) → HasNoFeed p.line → line_under p.heading p.line ≡ States s
+    → q ≡ record { line = []; number = p.number + 1; heading = p.heading; status = status_behind p.status (is_value found.value s) }
+    → Leads found p (10 ∷ []) (compared_text found.json (is_value found.value s) s.bank s.register) q
+leads_line found p q s f is there = rw there (λ more.
+    let rest = comparison_from found (p.number + 1) (lines_under p.heading (lines_of more)) in
+    after_feed found p (States s) more f is
+    ∙ ap (λ (status : Option Status).
+    record { text = compared_text found.json (is_value found.value s) s.bank s.register ++ rest.text; status = status }) (behind_line
+    p.status (is_value found.value s) rest.status))
 
 -- of a heading
-leads_heading : (value : Values) (p q : Place) (heading : Heading) → HasNoFeed p.line → line_under p.heading p.line ≡ Heads heading
-    → q ≡ next_line p heading → Leads value p (10 ∷ []) [] q
-leads_heading value p q heading f is there = rw there (λ more. after_feed value p (Heads heading) more f is)
+leads_heading : (found : Beside) (p q : Place) (heading : Heading) → HasNoFeed p.line → line_under p.heading p.line ≡ Heads heading
+    → q ≡ next_line p heading → Leads found p (10 ∷ []) [] q
+leads_heading found p q heading f is there = rw there (λ more. after_feed found p (Heads heading) more f is)
 
 -- of a register of another bank
-leads_passed : (value : Values) (p q : Place) → HasNoFeed p.line → line_under p.heading p.line ≡ Passes → q ≡ next_line p p.heading
-    → Leads value p (10 ∷ []) [] q
-leads_passed value p q f is there = rw there (λ more. after_feed value p Passes more f is)
+leads_passed : (found : Beside) (p q : Place) → HasNoFeed p.line → line_under p.heading p.line ≡ Passes → q ≡ next_line p p.heading
+    → Leads found p (10 ∷ []) [] q
+leads_passed found p q f is there = rw there (λ more. after_feed found p Passes more f is)
 
 -- of one that is wrong
-stops_line : (value : Values) (p : Place) → HasNoFeed p.line → line_under p.heading p.line ≡ Wrong → Stops value p (10 ∷ []) (not_a_register_line p.number)
-stops_line value p f is = λ more. after_feed value p Wrong more f is
+stops_line : (found : Beside) (p : Place) → HasNoFeed p.line → line_under p.heading p.line ≡ Wrong
+    → Stops found p (10 ∷ []) (not_a_register_text found.json p.number)
+stops_line found p f is = λ more. after_feed found p Wrong more f is
 
 -- a byte too many
-pub stops_long : (value : Values) (p : Place) (byte : ℕ) → HasNoFeed p.line → nat_eq byte 10 ≡ false → most_line ≤ length p.line
-    → Stops value p (byte ∷ []) (not_a_register_line p.number)
-stops_long value p byte f g le = λ more.
+pub stops_long : (found : Beside) (p : Place) (byte : ℕ) → HasNoFeed p.line → nat_eq byte 10 ≡ false → most_line ≤ length p.line
+    → Stops found p (byte ∷ []) (not_a_register_text found.json p.number)
+stops_long found p byte f g le = λ more.
     let long = p.line ++ byte ∷ first_line (lines_of more) in
     let is_long : most_line < length long = omega (arith, le, length-append p.line (byte ∷ first_line (lines_of more))) in
     let others = other_lines (lines_of more) in
-    ap (λ (lines : List (List ℕ)). with_status p.status (comparison_from value p.number (lines_under p.heading lines))) (longer_line p.line byte more f g)
+    ap (λ (lines : List (List ℕ)). with_status p.status (comparison_from found p.number (lines_under p.heading lines))) (longer_line p.line byte more f g)
     ∙ ap (λ (line : ListLine). with_status p.status
-    (comparison_of value p.number line (comparison_from value (p.number + 1) (lines_under (heading_behind p.heading line) others)))) (wrong-long
+    (comparison_of found p.number line (comparison_from found (p.number + 1) (lines_under (heading_behind p.heading line) others)))) (wrong-long
     p.heading long is_long)
 
-leads_both : (value : Values) (p q r : Place) (xs ys t u : List ℕ) → Leads value p xs t q → Leads value q ys u r → Leads value p (xs ++ ys) (t ++ u) r
-leads_both value p q r xs ys t u f g = λ more.
-    ap (comparison_at value p) (append_assoc xs ys more) ∙ f (ys ++ more) ∙ ap (behind t) (g more) ∙ behind-behind t u (comparison_at value r more)
+leads_both : (found : Beside) (p q r : Place) (xs ys t u : List ℕ) → Leads found p xs t q → Leads found q ys u r → Leads found p (xs ++ ys) (t ++ u) r
+leads_both found p q r xs ys t u f g = λ more.
+    ap (comparison_at found p) (append_assoc xs ys more) ∙ f (ys ++ more) ∙ ap (behind t) (g more) ∙ behind-behind t u (comparison_at found r more)
 
-stops_both : (value : Values) (p q : Place) (xs ys t u : List ℕ) → Leads value p xs t q → Stops value q ys u → Stops value p (xs ++ ys) (t ++ u)
-stops_both value p q xs ys t u f g = λ more.
-    ap (comparison_at value p) (append_assoc xs ys more) ∙ f (ys ++ more) ∙ ap (behind t) (g more)
+stops_both : (found : Beside) (p q : Place) (xs ys t u : List ℕ) → Leads found p xs t q → Stops found q ys u → Stops found p (xs ++ ys) (t ++ u)
+stops_both found p q xs ys t u f g = λ more.
+    ap (comparison_at found p) (append_assoc xs ys more) ∙ f (ys ++ more) ∙ ap (behind t) (g more)
 
 -- A list that has come to a line that is wrong is over.
-pub stops_further : (value : Values) (p : Place) (xs ys t : List ℕ) → Stops value p xs t → Stops value p (xs ++ ys) t
-stops_further value p xs ys t f = λ more. ap (comparison_at value p) (append_assoc xs ys more) ∙ f (ys ++ more)
+pub stops_further : (found : Beside) (p : Place) (xs ys t : List ℕ) → Stops found p xs t → Stops found p (xs ++ ys) t
+stops_further found p xs ys t f = λ more. ap (comparison_at found p) (append_assoc xs ys more) ∙ f (ys ++ more)
 
 -- ---- lines that are not wrong
 
@@ -189,65 +191,65 @@ ends_longer p byte = ([], refl, inl refl, tt, refl)
 
 -- ---- bytes, and then others
 
-pub goes_none : (value : Values) (p : Place) → IsOpen p → GoesOn value p [] [] p
-goes_none value p present = record {
+pub goes_none : (found : Beside) (p : Place) → IsOpen p → GoesOn found p [] [] p
+goes_none found p present = record {
   leads = λ more. refl;
   ends = ([], append-nil p.line, inl refl, tt, refl);
   number = omega arith;
   open_again = present;
 }
 
-pub takes_both : (value : Values) (p q r : Place) (xs ys t u : List ℕ) (goes_on : Bool) → GoesOn value p xs t q → Takes value q ys goes_on r u
-    → Takes value p (xs ++ ys) goes_on r (t ++ u)
-takes_both value p q r xs ys t u true f g = record {
-  leads = leads_both value p q r xs ys t u f.leads g.leads;
+pub takes_both : (found : Beside) (p q r : Place) (xs ys t u : List ℕ) (goes_on : Bool) → GoesOn found p xs t q → Takes found q ys goes_on r u
+    → Takes found p (xs ++ ys) goes_on r (t ++ u)
+takes_both found p q r xs ys t u true f g = record {
+  leads = leads_both found p q r xs ys t u f.leads g.leads;
   ends = ends_both p q r xs ys f.ends g.ends;
   number = omega (arith, f.number, g.number, length-append xs ys);
   open_again = g.open_again;
 }
-takes_both value p q r xs ys t u false f g = stops_both value p q xs ys t u f.leads g
+takes_both found p q r xs ys t u false f g = stops_both found p q xs ys t u f.leads g
 
 -- the line feed of the present line
 abbrev pub Added : (Text : List ℕ → Type 0) → (List ℕ → Type 0) → Type 0
 Added Text P = (added : List ℕ) × Text added × P added
 
 -- a line that is right
-goes_line : (value : Values) (p q : Place) (text : List ℕ) (line : ListLine) → IsOpen p → line_under p.heading p.line ≡ line → line ≢ Wrong
-    → Leads value p (10 ∷ []) text q → q.line ≡ [] → q.number ≡ p.number + 1 → q.heading ≡ heading_behind p.heading line → GoesOn value p (10 ∷ []) text q
-goes_line value p q text line present is right leads none number heading = record {
+goes_line : (found : Beside) (p q : Place) (text : List ℕ) (line : ListLine) → IsOpen p → line_under p.heading p.line ≡ line → line ≢ Wrong
+    → Leads found p (10 ∷ []) text q → q.line ≡ [] → q.number ≡ p.number + 1 → q.heading ≡ heading_behind p.heading line → GoesOn found p (10 ∷ []) text q
+goes_line found p q text line present is right leads none number heading = record {
   leads = leads;
   ends = ends_line p q line present.line is right none heading;
   number = omega (arith, number);
   open_again = record { line = rw none tt; most = rw none (omega arith) };
 }
 
-takes_line : (value : Values) (p q : Place) (Text : List ℕ → Type 0) (line : ListLine) → IsOpen p → line_under p.heading p.line ≡ line
-    → EndsAs value p line q Text → Added Text (λ text. GoesOn value p (10 ∷ []) text q)
-takes_line value p q Text (States s) present is ended = (
-  compared_line (is_value value s) s.bank s.register,
+takes_line : (found : Beside) (p q : Place) (Text : List ℕ → Type 0) (line : ListLine) → IsOpen p → line_under p.heading p.line ≡ line
+    → EndsAs found p line q Text → Added Text (λ text. GoesOn found p (10 ∷ []) text q)
+takes_line found p q Text (States s) present is ended = (
+  compared_text found.json (is_value found.value s) s.bank s.register,
   ended.0,
-  goes_line value p q (compared_line (is_value value s) s.bank s.register) (States s) present is (λ e. let z : ⊥ = cc in z)
-      (leads_line value p q s present.line is ended.1)
+  goes_line found p q (compared_text found.json (is_value found.value s) s.bank s.register) (States s) present is (λ e. let z : ⊥ = cc in z)
+      (leads_line found p q s present.line is ended.1)
       (ap (λ (r : Place). r.line) ended.1) (ap (λ (r : Place). r.number) ended.1) (ap (λ (r : Place). r.heading) ended.1),
 )
-takes_line value p q Text (Heads heading) present is ended = (
+takes_line found p q Text (Heads heading) present is ended = (
   [],
   ended.0,
-  goes_line value p q [] (Heads heading) present is (λ e. let z : ⊥ = cc in z) (leads_heading value p q heading present.line is ended.1)
+  goes_line found p q [] (Heads heading) present is (λ e. let z : ⊥ = cc in z) (leads_heading found p q heading present.line is ended.1)
       (ap (λ (r : Place). r.line) ended.1) (ap (λ (r : Place). r.number) ended.1) (ap (λ (r : Place). r.heading) ended.1),
 )
-takes_line value p q Text Passes present is ended = (
+takes_line found p q Text Passes present is ended = (
   [],
   ended.0,
-  goes_line value p q [] Passes present is (λ e. let z : ⊥ = cc in z) (leads_passed value p q present.line is ended.1)
+  goes_line found p q [] Passes present is (λ e. let z : ⊥ = cc in z) (leads_passed found p q present.line is ended.1)
       (ap (λ (r : Place). r.line) ended.1) (ap (λ (r : Place). r.number) ended.1) (ap (λ (r : Place). r.heading) ended.1),
 )
-takes_line value p q Text Wrong present is ended = absurd ended
+takes_line found p q Text Wrong present is ended = absurd ended
 
-pub takes_feed : (value : Values) (p q : Place) (goes_on : Bool) (Text : List ℕ → Type 0) → IsOpen p → EndsLine value p goes_on q Text
-    → Added Text (Takes value p (10 ∷ []) goes_on q)
-takes_feed value p q true Text present ended = takes_line value p q Text ended.0 present ended.1 ended.2
-takes_feed value p q false Text present ended = (not_a_register_line p.number, ended.1, stops_line value p present.line ended.0)
+pub takes_feed : (found : Beside) (p q : Place) (goes_on : Bool) (Text : List ℕ → Type 0) → IsOpen p → EndsLine found p goes_on q Text
+    → Added Text (Takes found p (10 ∷ []) goes_on q)
+takes_feed found p q true Text present ended = takes_line found p q Text ended.0 present ended.1 ended.2
+takes_feed found p q false Text present ended = (not_a_register_text found.json p.number, ended.1, stops_line found p present.line ended.0)
 
 -- ---- the end
 
@@ -255,51 +257,52 @@ alone : (line : List ℕ) → 0 < length line → HasNoFeed line → lines_of li
 alone [] some f = absurd (omega arith)
 alone (x ∷ line) some f = last_line x line f
 
-at_line_end : (value : Values) (p : Place) (line : ListLine) → 0 < length p.line → IsOpen p → line_under p.heading p.line ≡ line
-    → comparison_at value p [] ≡ with_status p.status (comparison_of value p.number line (record { text = []; status = Some Done }))
-at_line_end value p line some present is =
-    ap (λ (bytes : List ℕ). with_status p.status (comparison_from value p.number (lines_under p.heading (lines_of bytes)))) (append-nil p.line)
-    ∙ ap (λ (lines : List (List ℕ)). with_status p.status (comparison_from value p.number (lines_under p.heading lines))) (alone p.line some present.line)
-    ∙ ap (λ (line : ListLine). with_status p.status (comparison_of value p.number line (record { text = []; status = Some Done }))) is
+at_line_end : (found : Beside) (p : Place) (line : ListLine) → 0 < length p.line → IsOpen p → line_under p.heading p.line ≡ line
+    → comparison_at found p [] ≡ with_status p.status (comparison_of found p.number line (record { text = []; status = Some Done }))
+at_line_end found p line some present is =
+    ap (λ (bytes : List ℕ). with_status p.status (comparison_from found p.number (lines_under p.heading (lines_of bytes)))) (append-nil p.line)
+    ∙ ap (λ (lines : List (List ℕ)). with_status p.status (comparison_from found p.number (lines_under p.heading lines))) (alone p.line some present.line)
+    ∙ ap (λ (line : ListLine). with_status p.status (comparison_of found p.number line (record { text = []; status = Some Done }))) is
 
 -- behind the last line
-abbrev EndsWith : Values → Place → Place → (Text : List ℕ → Type 0) → Type 0
-EndsWith value p q Text = (Some q.status ≡ (comparison_at value p []).status) × Text (comparison_at value p []).text
+abbrev EndsWith : Beside → Place → Place → (Text : List ℕ → Type 0) → Type 0
+EndsWith found p q Text = (Some q.status ≡ (comparison_at found p []).status) × Text (comparison_at found p []).text
 
-ends_with : (value : Values) (p q : Place) (Text : List ℕ → Type 0) (text : List ℕ)
-    → comparison_at value p [] ≡ record { text = text; status = Some q.status } → Text text → EndsWith value p q Text
-ends_with value p q Text text is added = (ap (λ (c : Comparison). c.status) (sym is), subst (λ (c : Comparison). Text c.text) (sym is) added)
+ends_with : (found : Beside) (p q : Place) (Text : List ℕ → Type 0) (text : List ℕ)
+    → comparison_at found p [] ≡ record { text = text; status = Some q.status } → Text text → EndsWith found p q Text
+ends_with found p q Text text is added = (ap (λ (c : Comparison). c.status) (sym is), subst (λ (c : Comparison). Text c.text) (sym is) added)
 
-at_end_as : (value : Values) (p q : Place) (Text : List ℕ → Type 0) (line : ListLine) → 0 < length p.line → IsOpen p → line_under p.heading p.line ≡ line
-    → EndsAs value p line q Text → EndsWith value p q Text
-at_end_as value p q Text (States s) some present is ended =
-    let same = is_value value s in
-    let text = compared_line same s.bank s.register in
-    ends_with value p q Text text (
-    at_line_end value p (States s) some present is
+at_end_as : (found : Beside) (p q : Place) (Text : List ℕ → Type 0) (line : ListLine) → 0 < length p.line → IsOpen p → line_under p.heading p.line ≡ line
+    → EndsAs found p line q Text → EndsWith found p q Text
+at_end_as found p q Text (States s) some present is ended =
+    let same = is_value found.value s in
+    let text = compared_text found.json same s.bank s.register in
+    ends_with found p q Text text (
+    at_line_end found p (States s) some present is
     ∙ ap (λ (t : List ℕ). record { text = t; status = option_map (both p.status) (Some (both (status_if same) Done)) }) (append-nil text)
     ∙ ap (λ (o : Option Status). record { text = text; status = o }) (behind_line p.status same (Some Done)
     ∙ ap (λ (status : Status). Some status) (both_done (status_behind p.status same)))
     ∙ ap (λ (r : Place). record { text = text; status = Some r.status }) (sym ended.1)
     ) ended.0
-at_end_as value p q Text (Heads heading) some present is ended = ends_with value p q Text [] (
-    at_line_end value p (Heads heading) some present is
+at_end_as found p q Text (Heads heading) some present is ended = ends_with found p q Text [] (
+    at_line_end found p (Heads heading) some present is
     ∙ ap (λ (status : Status). record { text = []; status = Some status }) (both_done p.status ∙ ap (λ (r : Place). r.status) (sym ended.1))
     ) ended.0
-at_end_as value p q Text Passes some present is ended = ends_with value p q Text [] (
-    at_line_end value p Passes some present is
+at_end_as found p q Text Passes some present is ended = ends_with found p q Text [] (
+    at_line_end found p Passes some present is
     ∙ ap (λ (status : Status). record { text = []; status = Some status }) (both_done p.status ∙ ap (λ (r : Place). r.status) (sym ended.1))
     ) ended.0
-at_end_as value p q Text Wrong some present is ended = absurd ended
+at_end_as found p q Text Wrong some present is ended = absurd ended
 
-pub at_end_line : (value : Values) (p q : Place) (Text : List ℕ → Type 0) → 0 < length p.line → IsOpen p → EndsLine value p true q Text
-    → (Some q.status ≡ (comparison_at value p []).status) × Text (comparison_at value p []).text
-at_end_line value p q Text some present ended = at_end_as value p q Text ended.0 some present ended.1 ended.2
+pub at_end_line : (found : Beside) (p q : Place) (Text : List ℕ → Type 0) → 0 < length p.line → IsOpen p → EndsLine found p true q Text
+    → (Some q.status ≡ (comparison_at found p []).status) × Text (comparison_at found p []).text
+at_end_line found p q Text some present ended = at_end_as found p q Text ended.0 some present ended.1 ended.2
 
-pub at_end_stop : (value : Values) (p q : Place) (Text : List ℕ → Type 0) → 0 < length p.line → IsOpen p → EndsLine value p false q Text
-    → (None ≡ (comparison_at value p []).status) × Text (comparison_at value p []).text
-at_end_stop value p q Text some present ended =
-    let is : comparison_at value p [] ≡ record { text = not_a_register_line p.number; status = None } = at_line_end value p Wrong some present ended.0 in (
+pub at_end_stop : (found : Beside) (p q : Place) (Text : List ℕ → Type 0) → 0 < length p.line → IsOpen p → EndsLine found p false q Text
+    → (None ≡ (comparison_at found p []).status) × Text (comparison_at found p []).text
+at_end_stop found p q Text some present ended =
+    let is : comparison_at found p [] ≡ record { text = not_a_register_text found.json p.number; status = None } =
+    at_line_end found p Wrong some present ended.0 in (
       ap (λ (c : Comparison). c.status) (sym is),
       subst (λ (c : Comparison). Text c.text) (sym is) ended.1,
     )
@@ -309,18 +312,18 @@ at_end_stop value p q Text some present ended =
 with_done : (c : Comparison) → with_status Done c ≡ c
 with_done c = ap (λ (status : Option Status). record { text = c.text; status = status }) (both_none c.status)
 
-from_start : (value : Values) (bytes : List ℕ) → comparison value bytes ≡ comparison_at value start bytes
-from_start value bytes = sym (with_done (comparison value bytes))
+from_start : (found : Beside) (bytes : List ℕ) → comparison found bytes ≡ comparison_at found start bytes
+from_start found bytes = sym (with_done (comparison found bytes))
 
 -- where these bytes are all
-whole_list : (value : Values) (bytes : List ℕ) → comparison value bytes ≡ comparison_at value start (bytes ++ [])
-whole_list value bytes = from_start value bytes ∙ ap (comparison_at value start) (sym (append-nil bytes))
+whole_list : (found : Beside) (bytes : List ℕ) → comparison found bytes ≡ comparison_at found start (bytes ++ [])
+whole_list found bytes = from_start found bytes ∙ ap (comparison_at found start) (sym (append-nil bytes))
 
 -- ---- the input
 
 -- no line is wrong of what was taken
-stated : (value : Values) (bytes text : List ℕ) (p : Place) → GoesOn value start bytes text p → IsStated bytes
-stated value bytes text p f = record {
+stated : (found : Beside) (bytes text : List ℕ) (p : Place) → GoesOn found start bytes text p → IsStated bytes
+stated found bytes text p f = record {
   lines = f.ends.0;
   line = p.line;
   are = f.ends.1;
@@ -329,16 +332,16 @@ stated value bytes text p f = record {
   short = (f.open_again.line, f.open_again.most);
 }
 
-abbrev pub Answers : Values → (old new a c : Option (List ℕ)) → Option Status → Type 0
-Answers value old new a c status =
-    (bytes : List ℕ) × ReadsList value old new bytes × (status ≡ (comparison value bytes).status) × Appends a c (comparison value bytes).text
+abbrev pub Answers : Beside → (old new a c : Option (List ℕ)) → Option Status → Type 0
+Answers found old new a c status =
+    (bytes : List ℕ) × ReadsList found old new bytes × (status ≡ (comparison found bytes).status) × Appends a c (comparison found bytes).text
 
 -- at the end
-pub answers_at_end : (value : Values) (old mid new a b c : Option (List ℕ)) (read : ℕ) (p : Place) (status : Option Status)
-    → Reaches value old mid read p (Appends a b) → read ≤ most_bytes → Consumes mid new [] → IsAtEnd new
-    → (status ≡ (comparison_at value p []).status) × Appends b c (comparison_at value p []).text → Answers value old new a c status
-answers_at_end value old mid new a b c read p status f le consumed end ended =
-    let whole : comparison value f.bytes ≡ behind f.text (comparison_at value p []) = whole_list value f.bytes ∙ f.goes_on.leads [] in (
+pub answers_at_end : (found : Beside) (old mid new a b c : Option (List ℕ)) (read : ℕ) (p : Place) (status : Option Status)
+    → Reaches found old mid read p (Appends a b) → read ≤ most_bytes → Consumes mid new [] → IsAtEnd new
+    → (status ≡ (comparison_at found p []).status) × Appends b c (comparison_at found p []).text → Answers found old new a c status
+answers_at_end found old mid new a b c read p status f le consumed end ended =
+    let whole : comparison found f.bytes ≡ behind f.text (comparison_at found p []) = whole_list found f.bytes ∙ f.goes_on.leads [] in (
       f.bytes,
       record {
         read = rw append-nil at (consumes_both old mid new f.bytes [] f.consumed consumed);
@@ -346,51 +349,51 @@ answers_at_end value old mid new a b c read p status f le consumed end ended =
         whole = inl end;
       },
       ended.0 ∙ ap (λ (c : Comparison). c.status) (sym whole),
-      subst (λ (d : Comparison). Appends a c d.text) (sym whole) (joins_appends a b c f.text (comparison_at value p []).text f.added ended.1),
+      subst (λ (d : Comparison). Appends a c d.text) (sym whole) (joins_appends a b c f.text (comparison_at found p []).text f.added ended.1),
     )
 
 -- at a line that is wrong
-pub answers_stopped : (value : Values) (old mid new a b c : Option (List ℕ)) (read count : ℕ) (bytes text : List ℕ) (p : Place)
-    → Reaches value old mid read p (Appends a b) → read + count ≤ most_bytes → count ≤ most_piece → Consumes mid new bytes → count ≡ length bytes
-    → Appends b c text → Stops value p bytes text → Answers value old new a c None
-answers_stopped value old mid new a b c read count bytes text p f le few consumed counted added stops =
-    let both = stops_both value start p f.bytes bytes f.text text f.goes_on.leads stops in
+pub answers_stopped : (found : Beside) (old mid new a b c : Option (List ℕ)) (read count : ℕ) (bytes text : List ℕ) (p : Place)
+    → Reaches found old mid read p (Appends a b) → read + count ≤ most_bytes → count ≤ most_piece → Consumes mid new bytes → count ≡ length bytes
+    → Appends b c text → Stops found p bytes text → Answers found old new a c None
+answers_stopped found old mid new a b c read count bytes text p f le few consumed counted added stops =
+    let both = stops_both found start p f.bytes bytes f.text text f.goes_on.leads stops in
     let all = f.bytes ++ bytes in
-    let whole : comparison value all ≡ record { text = f.text ++ text; status = None } = whole_list value all ∙ both [] in (
+    let whole : comparison found all ≡ record { text = f.text ++ text; status = None } = whole_list found all ∙ both [] in (
       all,
       record {
         read = consumes_both old mid new f.bytes bytes f.consumed consumed;
         most = omega (arith, f.count, counted, le, length-append f.bytes bytes);
         whole = inr (
           ap (λ (c : Comparison). c.status) whole,
-          record { before = f.bytes; last = bytes; are = refl; stated = stated value f.bytes f.text p f.goes_on; most = rw counted at few },
-          λ more. from_start value (all ++ more) ∙ both more ∙ sym whole,
+          record { before = f.bytes; last = bytes; are = refl; stated = stated found f.bytes f.text p f.goes_on; most = rw counted at few },
+          λ more. from_start found (all ++ more) ∙ both more ∙ sym whole,
         );
       },
       ap (λ (c : Comparison). c.status) (sym whole),
       subst (λ (d : Comparison). Appends a c d.text) (sym whole) (joins_appends a b c f.text text f.added added),
     )
 
-pub reaches_more : (value : Values) (old mid new a b c : Option (List ℕ)) (read count : ℕ) (bytes text : List ℕ) (p q : Place)
-    → Reaches value old mid read p (Appends a b) → Consumes mid new bytes → count ≡ length bytes → Appends b c text → GoesOn value p bytes text q
-    → Reaches value old new (read + count) q (Appends a c)
-reaches_more value old mid new a b c read count bytes text p q f consumed is added goes = record {
+pub reaches_more : (found : Beside) (old mid new a b c : Option (List ℕ)) (read count : ℕ) (bytes text : List ℕ) (p q : Place)
+    → Reaches found old mid read p (Appends a b) → Consumes mid new bytes → count ≡ length bytes → Appends b c text → GoesOn found p bytes text q
+    → Reaches found old new (read + count) q (Appends a c)
+reaches_more found old mid new a b c read count bytes text p q f consumed is added goes = record {
   bytes = f.bytes ++ bytes;
   text = f.text ++ text;
   consumed = consumes_both old mid new f.bytes bytes f.consumed consumed;
   count = omega (arith, f.count, is, length-append f.bytes bytes);
   added = joins_appends a b c f.text text f.added added;
-  goes_on = takes_both value start p q f.bytes bytes f.text text true f.goes_on goes;
+  goes_on = takes_both found start p q f.bytes bytes f.text text true f.goes_on goes;
 }
 
-pub reads_too_much : (value : Values) (old mid new : Option (List ℕ)) (read : ℕ) (more : List ℕ) (p : Place) (Added : List ℕ → Type 0)
-    → Reaches value old mid read p Added
+pub reads_too_much : (found : Beside) (old mid new : Option (List ℕ)) (read : ℕ) (more : List ℕ) (p : Place) (Added : List ℕ → Type 0)
+    → Reaches found old mid read p Added
     → Consumes mid new more → length more ≡ 1 → read ≡ most_bytes → ReadsTooMuchList old new
-reads_too_much value old mid new read more p Added f consumed one is = record {
+reads_too_much found old mid new read more p Added f consumed one is = record {
   bytes = f.bytes;
   more = more;
   read = consumes_both old mid new f.bytes more f.consumed consumed;
   most = sym f.count ∙ is;
   one = one;
-  stated = stated value f.bytes f.text p f.goes_on;
+  stated = stated found f.bytes f.text p f.goes_on;
 }

@@ -1,6 +1,8 @@
 mod Comparisons
 mod Checks
 mod Verdicts
+mod JsonLists
+mod SignatureBounds
 mod EventSizes
 mod EventLines
 mod Pushed

@@ -19,8 +19,9 @@ use Rattle.tpm_quote.specs.Attests.{first_not_selected, registers_of}
 use Rattle.tpm_lines.specs.declared.status.Status.TheVariants.{Done, Refused}
 use Rattle.tpm_lines.specs.declared.status.Status.{Status}
 use Rattle.tpm_lines.specs.Status.{both}
-use Rattle.tpm_lines.specs.Text.{bytes_in, bytes_text, hexadecimal, line, refusal_line, not_hexadecimal_line}
-use Rattle.tpm_check.specs.Compare.{Values, bank_name}
+use Rattle.tpm_lines.specs.Text.{bytes_in, bytes_text, hexadecimal, line}
+use Rattle.tpm_check.specs.CheckJson.{attest_member, lacks_member, not_hexadecimal_text, refusal_text, text_member}
+use Rattle.tpm_check.specs.Compare.{Beside, bank_name}
 
 -- ---- what the quote says: TPMS_ATTEST (Part 2, 10.12)
 
@@ -78,43 +79,67 @@ pub record Verdict : Type 0 where
   pub status : Status
   pub text : List ℕ
 
-abbrev pub whether : List ℕ → Bool → Verdict
-whether word true = record { status = Done; text = line (word ∷ codes "matches" ∷ []) }
-whether word false = record { status = Refused; text = line (word ∷ codes "differs" ∷ []) }
+-- what is said of what this word names: a line, or a member behind another
+abbrev pub said : (json : Bool) → (word says : List ℕ) → List ℕ
+said false word says = line (word ∷ says ∷ [])
+said true word says = text_member word says
+
+abbrev pub whether : (json : Bool) → List ℕ → Bool → Verdict
+whether json word true = record { status = Done; text = said json word (codes "matches") }
+whether json word false = record { status = Refused; text = said json word (codes "differs") }
 
 -- extraData beside the nonce that was sent, where there is one
-abbrev pub on_nonce : (sent : Option (List ℕ)) → List ℕ → Verdict
-on_nonce None nonce = record { status = Done; text = line (codes "nonce" ∷ codes "not" ∷ codes "compared" ∷ []) }
-on_nonce (Some sent) nonce = whether (codes "nonce") (bytes_eq nonce sent)
+abbrev pub on_nonce : (json : Bool) → (sent : Option (List ℕ)) → List ℕ → Verdict
+on_nonce json None nonce = record { status = Done; text = said json (codes "nonce") (codes "not compared") }
+on_nonce json (Some sent) nonce = whether json (codes "nonce") (bytes_eq nonce sent)
 
 unfoldable pub lacks_line : NotSelected → List ℕ
 lacks_line r = line (codes "selection" ∷ codes "lacks" ∷ bank_name r.bank ∷ decimal r.register ∷ [])
 
-abbrev pub on_missing : Option NotSelected → Verdict
-on_missing None = record { status = Done; text = line (codes "selection" ∷ codes "covers" ∷ []) }
-on_missing (Some r) = record { status = Refused; text = lacks_line r }
+abbrev pub lacks_text : (json : Bool) → NotSelected → List ℕ
+lacks_text false r = lacks_line r
+lacks_text true r = lacks_member r
+
+abbrev pub on_missing : (json : Bool) → Option NotSelected → Verdict
+on_missing json None = record { status = Done; text = said json (codes "selection") (codes "covers") }
+on_missing json (Some r) = record { status = Refused; text = lacks_text json r }
 
 -- where nothing is required: a quote that selects no register says nothing of any
-abbrev pub on_registers : List NotSelected → Verdict
-on_registers [] = record { status = Refused; text = line (codes "selection" ∷ codes "empty" ∷ []) }
-on_registers (r ∷ rs) = record { status = Done; text = line (codes "selection" ∷ codes "not" ∷ codes "compared" ∷ []) }
+abbrev pub on_registers : (json : Bool) → List NotSelected → Verdict
+on_registers json [] = record { status = Refused; text = said json (codes "selection") (codes "empty") }
+on_registers json (r ∷ rs) = record { status = Done; text = said json (codes "selection") (codes "not compared") }
 
-abbrev pub on_selection : (required : Option (List Selection)) → List Selection → Verdict
-on_selection None quoted = on_registers (registers_of quoted)
-on_selection (Some required) quoted = on_missing (first_not_selected quoted required)
+abbrev pub on_selection : (json : Bool) → (required : Option (List Selection)) → List Selection → Verdict
+on_selection json None quoted = on_registers json (registers_of quoted)
+on_selection json (Some required) quoted = on_missing json (first_not_selected quoted required)
 
 -- the digest beside that of the registers under the hash (Part 1, "Selecting Multiple PCR")
-abbrev pub on_quote : Values → Alg → QuoteInfo → Verdict
-on_quote value hash quote = whether (codes "quote") (bytes_eq (composite hash value quote.selections) quote.digest)
+abbrev pub on_quote : Beside → Alg → QuoteInfo → Verdict
+on_quote b hash quote =
+    whether b.json (codes "quote") (bytes_eq (composite hash b.value quote.selections) quote.digest)
 
 abbrev pub behind : Verdict → Verdict → Verdict
 behind v w = record { status = both v.status w.status; text = v.text ++ w.text }
 
--- what the quote says, and the verdicts on its nonce, its selection and its digest
-abbrev pub on_attest : Values → Alg → (sent : Option (List ℕ)) → (required : Option (List Selection)) → Attest → Verdict
-on_attest value hash sent required a =
-    behind (record { status = Done; text = attest_text a }) (behind (on_nonce sent a.extra_data)
-    (behind (on_selection required a.quote.selections) (on_quote value hash a.quote)))
+-- what the quote says: its lines, or a member of an object
+abbrev pub attest_told : (json : Bool) → Attest → List ℕ
+attest_told false a = attest_text a
+attest_told true a = attest_member a
+
+-- what closes an object
+abbrev pub close_text : (json : Bool) → List ℕ
+close_text false = []
+close_text true = codes "}\n"
+
+abbrev pub closed : (json : Bool) → Verdict → Verdict
+closed json v = record { status = v.status; text = v.text ++ close_text json }
+
+-- what the quote says, and the verdicts on its nonce, its selection and its digest: lines, or one object
+abbrev pub on_attest : Beside → Alg → (sent : Option (List ℕ)) → (required : Option (List Selection)) → Attest → Verdict
+on_attest b hash sent required a =
+    closed b.json
+    (behind (record { status = Done; text = attest_told b.json a }) (behind (on_nonce b.json sent a.extra_data)
+    (behind (on_selection b.json required a.quote.selections) (on_quote b hash a.quote))))
 
 -- A text was added with its status.
 abbrev pub Adds : Verdict → Status → (old new : List ℕ) → Type 0
@@ -136,16 +161,17 @@ abbrev pub sent_with : Quoted → Option (List ℕ) → Quoted
 sent_with q sent = record { bytes = q.bytes; sent = sent; required = q.required }
 
 -- the quote that the bytes spell, and else their fault
-abbrev pub ChecksAttest : Values → Alg → Quoted → Status → List ℕ → Type 0
-ChecksAttest value hash q status text =
-    ((a : Attest) × Spells attest a q.bytes × Says (on_attest value hash q.sent q.required a) status text)
-    ⊎ ((refusal : Refusal) × Fault attest q.bytes refusal × (status ≡ Refused) × (text ≡ refusal_line refusal))
+abbrev pub ChecksAttest : Beside → Alg → Quoted → Status → List ℕ → Type 0
+ChecksAttest b hash q status text =
+    ((a : Attest) × Spells attest a q.bytes × Says (on_attest b hash q.sent q.required a) status text)
+    ⊎ ((refusal : Refusal) × Fault attest q.bytes refusal × (status ≡ Refused)
+    × (text ≡ refusal_text b.json refusal))
 
 -- the same with the nonce by its hexadecimal digits
-abbrev pub ChecksGiven : Values → Alg → Quoted → Status → List ℕ → Type 0
-ChecksGiven value hash q status text =
+abbrev pub ChecksGiven : Beside → Alg → Quoted → Status → List ℕ → Type 0
+ChecksGiven b hash q status text =
     MatchOption q.sent
-    (ChecksAttest value hash (sent_with q None) status text)
+    (ChecksAttest b hash (sent_with q None) status text)
     (λ digits. MatchOption (bytes_in digits)
-    ((status ≡ Refused) × (text ≡ not_hexadecimal_line))
-    (λ sent. ChecksAttest value hash (sent_with q (Some sent)) status text))
+    ((status ≡ Refused) × (text ≡ not_hexadecimal_text b.json))
+    (λ sent. ChecksAttest b hash (sent_with q (Some sent)) status text))

@@ -173,15 +173,34 @@ lines_under heading (first ∷ others) = let line = line_under heading first in
 
 -- ---- what is printed of a list
 
+-- registers by their values, and whether what is said of them is told as objects of JSON in place of lines
+pub record Beside : Type 0 where
+  pub json : Bool
+  pub value : Values
+
+abbrev pub beside : (json : Bool) → Values → Beside
+beside json value = record { json = json; value = value }
+
+-- a truth in JSON (RFC 8259, 3)
+abbrev pub truth : Bool → List ℕ
+truth true = codes "true"
+truth false = codes "false"
+
 abbrev pub compared_word : Bool → List ℕ
 compared_word true = codes "match"
 compared_word false = codes "differs"
 
-unfoldable pub compared_line : Bool → Alg → ℕ → List ℕ
-compared_line same bank register = line (compared_word same ∷ bank_name bank ∷ decimal register ∷ [])
+-- whether a register has the value: its line, or its object
+unfoldable pub compared_text : (json same : Bool) → Alg → ℕ → List ℕ
+compared_text false same bank register = line (compared_word same ∷ bank_name bank ∷ decimal register ∷ [])
+compared_text true same bank register =
+    codes "{\"bank\":\"" ++ (bank_name bank ++ (codes "\",\"register\":" ++ (decimal register
+    ++ (codes ",\"match\":" ++ (truth same ++ codes "}\n")))))
 
-unfoldable pub not_a_register_line : ℕ → List ℕ
-not_a_register_line n = line (codes "line" ∷ (decimal n ++ codes ":") ∷ codes "not" ∷ codes "a" ∷ codes "register" ∷ [])
+unfoldable pub not_a_register_text : (json : Bool) → ℕ → List ℕ
+not_a_register_text false n =
+    line (codes "line" ∷ (decimal n ++ codes ":") ∷ codes "not" ∷ codes "a" ∷ codes "register" ∷ [])
+not_a_register_text true n = codes "{\"fault\":\"not a register\",\"line\":" ++ (decimal n ++ codes "}\n")
 
 abbrev pub status_if : Bool → Status
 status_if true = Done
@@ -196,27 +215,27 @@ abbrev pub is_value : Values → Stated → Bool
 is_value value s = bytes_eq (value s.bank s.register) s.value
 
 -- a line, and what is printed of those behind it
-abbrev pub with_line : Bool → Stated → Comparison → Comparison
-with_line same s rest =
+abbrev pub with_line : (json same : Bool) → Stated → Comparison → Comparison
+with_line json same s rest =
     record {
-      text = compared_line same s.bank s.register ++ rest.text;
+      text = compared_text json same s.bank s.register ++ rest.text;
       status = option_map (both (status_if same)) rest.status;
     }
 
 -- of the line of this number, and those behind it
-abbrev pub comparison_of : Values → ℕ → ListLine → Comparison → Comparison
-comparison_of value n (States s) rest = with_line (is_value value s) s rest
-comparison_of value n (Heads heading) rest = rest
-comparison_of value n Passes rest = rest
-comparison_of value n Wrong rest = record { text = not_a_register_line n; status = None }
+abbrev pub comparison_of : Beside → ℕ → ListLine → Comparison → Comparison
+comparison_of b n (States s) rest = with_line b.json (is_value b.value s) s rest
+comparison_of b n (Heads heading) rest = rest
+comparison_of b n Passes rest = rest
+comparison_of b n Wrong rest = record { text = not_a_register_text b.json n; status = None }
 
 -- Of these lines the first has number n.
-abbrev pub comparison_from : Values → ℕ → List ListLine → Comparison
-comparison_from value n [] = record { text = []; status = Some Done }
-comparison_from value n (first ∷ others) = comparison_of value n first (comparison_from value (n + 1) others)
+abbrev pub comparison_from : Beside → ℕ → List ListLine → Comparison
+comparison_from b n [] = record { text = []; status = Some Done }
+comparison_from b n (first ∷ others) = comparison_of b n first (comparison_from b (n + 1) others)
 
-abbrev pub comparison : Values → List ℕ → Comparison
-comparison value bytes = comparison_from value 1 (lines_under NoBank (lines_of bytes))
+abbrev pub comparison : Beside → List ℕ → Comparison
+comparison b bytes = comparison_from b 1 (lines_under NoBank (lines_of bytes))
 
 -- ---- what is read of a list
 
@@ -243,13 +262,13 @@ pub record IsStatedBefore (bytes : List ℕ) : Type 0 where
 
 -- These bytes were read, not too many; and the list has ended, or a line of the last of them is wrong, and whatever
 -- comes makes no difference.
-pub record ReadsList (value : Values) (old new : Option (List ℕ)) (bytes : List ℕ) : Type 0 where
+pub record ReadsList (b : Beside) (old new : Option (List ℕ)) (bytes : List ℕ) : Type 0 where
   pub read : Consumes old new bytes
   pub most : length bytes ≤ most_bytes
   pub whole : IsAtEnd new
-      ⊎ ((comparison value bytes).status ≡ None)
+      ⊎ ((comparison b bytes).status ≡ None)
       × IsStatedBefore bytes
-      × ((more : List ℕ) → comparison value (bytes ++ more) ≡ comparison value bytes)
+      × ((more : List ℕ) → comparison b (bytes ++ more) ≡ comparison b bytes)
 
 -- One byte more was read than a list may have, and up to it no line that has ended is wrong.
 pub record ReadsTooMuchList (old new : Option (List ℕ)) : Type 0 where

@@ -7,8 +7,8 @@ use Rattle.tpm_check.specs.declared.list_lines.Heading.TheVariants.{NoBank}
 use Rattle.tpm_check.specs.declared.list_lines.Heading.{Heading}
 use Rattle.tpm_check.specs.declared.list_lines.Line.{Line}
 use Rattle.tpm_check.specs.declared.stated.Stated.{Stated as RustStated}
-use Rattle.tpm_check.specs.Compare.{Values, Stated, ListLine, States, Heads, Passes, Wrong, Comparison, line_under}
-use Rattle.tpm_check.specs.Compare.{heading_behind, lines_under, is_value, compared_line, not_a_register_line}
+use Rattle.tpm_check.specs.Compare.{Beside, Stated, ListLine, States, Heads, Passes, Wrong, Comparison, line_under}
+use Rattle.tpm_check.specs.Compare.{heading_behind, lines_under, is_value, compared_text, not_a_register_text}
 use Rattle.tpm_check.specs.Compare.{comparison_from, most_line, AreRegisters}
 use Rattle.tpm_check.specs.declared.list_lines.Line.TheVariants as listed
 use Rattle.tpm_lines.specs.declared.status.Status.TheVariants.{Done, Refused}
@@ -52,9 +52,9 @@ abbrev pub with_status : Status → Comparison → Comparison
 with_status status c = record { text = c.text; status = option_map (both status) c.status }
 
 -- what is printed from here, where these bytes are to come
-abbrev pub comparison_at : Values → Place → List ℕ → Comparison
-comparison_at value p bytes =
-    with_status p.status (comparison_from value p.number (lines_under p.heading (lines_of (p.line ++ bytes))))
+abbrev pub comparison_at : Beside → Place → List ℕ → Comparison
+comparison_at b p bytes =
+    with_status p.status (comparison_from b p.number (lines_under p.heading (lines_of (p.line ++ bytes))))
 
 -- The line has not ended, and is not too long.
 pub record IsOpen (p : Place) : Type 0 where
@@ -62,14 +62,14 @@ pub record IsOpen (p : Place) : Type 0 where
   pub most : length p.line ≤ most_line
 
 -- These bytes, and more, lead from a place to the other with this text.
-abbrev pub Leads : Values → Place → List ℕ → List ℕ → Place → Type 0
-Leads value p bytes text q =
-    (more : List ℕ) → comparison_at value p (bytes ++ more) ≡ behind text (comparison_at value q more)
+abbrev pub Leads : Beside → Place → List ℕ → List ℕ → Place → Type 0
+Leads b p bytes text q =
+    (more : List ℕ) → comparison_at b p (bytes ++ more) ≡ behind text (comparison_at b q more)
 
 -- With these bytes, and whatever follows, the output ends behind this text.
-abbrev pub Stops : Values → Place → List ℕ → List ℕ → Type 0
-Stops value p bytes text =
-    (more : List ℕ) → comparison_at value p (bytes ++ more) ≡ record { text = text; status = None }
+abbrev pub Stops : Beside → Place → List ℕ → List ℕ → Type 0
+Stops b p bytes text =
+    (more : List ℕ) → comparison_at b p (bytes ++ more) ≡ record { text = text; status = None }
 
 -- What has come of a line, and these bytes, are lines of which none is wrong, and then what has come of the other
 -- under their heading.
@@ -82,16 +82,16 @@ Ends p bytes q =
     × (q.heading ≡ heading_after p.heading (lines_of lines))
 
 -- From a place with these bytes to the other, with this text.
-pub record GoesOn (value : Values) (p : Place) (bytes text : List ℕ) (q : Place) : Type 0 where
-  pub leads : Leads value p bytes text q
+pub record GoesOn (b : Beside) (p : Place) (bytes text : List ℕ) (q : Place) : Type 0 where
+  pub leads : Leads b p bytes text q
   pub ends : Ends p bytes q
   pub number : q.number ≤ p.number + length bytes
   pub open_again : IsOpen q
 
 -- These bytes were taken with this text, and the list goes on at the other place; or a line is wrong.
-abbrev pub Takes : Values → Place → List ℕ → Bool → Place → List ℕ → Type 0
-Takes value p bytes true q text = GoesOn value p bytes text q
-Takes value p bytes false q text = Stops value p bytes text
+abbrev pub Takes : Beside → Place → List ℕ → Bool → Place → List ℕ → Type 0
+Takes b p bytes true q text = GoesOn b p bytes text q
+Takes b p bytes false q text = Stops b p bytes text
 
 -- ---- a comparison
 
@@ -104,14 +104,14 @@ status_behind status true = status
 status_behind status false = Refused
 
 -- The present line, which states this, was compared.
-abbrev pub EndsStated : Values → Place → Stated → Place → (Added : List ℕ → Type 0) → Type 0
-EndsStated value p s q Added = Added (compared_line (is_value value s) s.bank s.register)
+abbrev pub EndsStated : Beside → Place → Stated → Place → (Added : List ℕ → Type 0) → Type 0
+EndsStated b p s q Added = Added (compared_text b.json (is_value b.value s) s.bank s.register)
     × (q
     ≡ record {
       line = [];
       number = p.number + 1;
       heading = p.heading;
-      status = status_behind p.status (is_value value s);
+      status = status_behind p.status (is_value b.value s);
     })
 
 -- the next line, under this heading
@@ -119,29 +119,29 @@ abbrev pub next_line : Place → Heading → Place
 next_line p heading = record { line = []; number = p.number + 1; heading = heading; status = p.status }
 
 -- The present line says this, and was taken.
-abbrev pub EndsAs : Values → Place → ListLine → Place → (Added : List ℕ → Type 0) → Type 0
-EndsAs value p (States s) q Added = EndsStated value p s q Added
-EndsAs value p (Heads heading) q Added = Added [] × (q ≡ next_line p heading)
-EndsAs value p Passes q Added = Added [] × (q ≡ next_line p p.heading)
-EndsAs value p Wrong q Added = ⊥
+abbrev pub EndsAs : Beside → Place → ListLine → Place → (Added : List ℕ → Type 0) → Type 0
+EndsAs b p (States s) q Added = EndsStated b p s q Added
+EndsAs b p (Heads heading) q Added = Added [] × (q ≡ next_line p heading)
+EndsAs b p Passes q Added = Added [] × (q ≡ next_line p p.heading)
+EndsAs b p Wrong q Added = ⊥
 
 -- The present line was taken, or is wrong.
-abbrev pub EndsLine : Values → Place → Bool → Place → (Added : List ℕ → Type 0) → Type 0
-EndsLine value p true q Added = (line : ListLine) × (line_under p.heading p.line ≡ line) × EndsAs value p line q Added
-EndsLine value p false q Added = (line_under p.heading p.line ≡ Wrong) × Added (not_a_register_line p.number)
+abbrev pub EndsLine : Beside → Place → Bool → Place → (Added : List ℕ → Type 0) → Type 0
+EndsLine b p true q Added = (line : ListLine) × (line_under p.heading p.line ≡ line) × EndsAs b p line q Added
+EndsLine b p false q Added = (line_under p.heading p.line ≡ Wrong) × Added (not_a_register_text b.json p.number)
 
 -- So many bytes of the input were read and taken.
-pub record Reaches (value : Values) (old new : Option (List ℕ)) (read : ℕ) (p : Place)
+pub record Reaches (b : Beside) (old new : Option (List ℕ)) (read : ℕ) (p : Place)
     (Added : List ℕ → Type 0) : Type 0 where
   pub bytes : List ℕ
   pub text : List ℕ
   pub consumed : Consumes old new bytes
   pub count : read ≡ length bytes
   pub added : Added text
-  pub goes_on : GoesOn value start bytes text p
+  pub goes_on : GoesOn b start bytes text p
 
 -- Of a piece these bytes were taken.
-pub record Fed (value : Values) (p : Place) (bytes : List ℕ) (q : Place) (Added : List ℕ → Type 0) : Type 0 where
+pub record Fed (b : Beside) (p : Place) (bytes : List ℕ) (q : Place) (Added : List ℕ → Type 0) : Type 0 where
   pub text : List ℕ
   pub added : Added text
-  pub goes_on : GoesOn value p bytes text q
+  pub goes_on : GoesOn b p bytes text q

@@ -1,6 +1,8 @@
 pub mod Compare
 pub mod Comparing
+pub mod Told
 pub mod Check
+pub mod CheckJson
 pub mod CheckAttest
 pub mod Checked
 pub mod EventTypes
@@ -14,5 +16,6 @@ pub mod JsonText
 pub mod EventJson
 pub mod ListEvents
 pub mod HeldLines
+pub mod SignatureEntries
 pub mod SecureBootLines
 pub mod Kinds

@@ -1,34 +1,38 @@
 //! The subcommand `check`.
 
-ghost use Rattle.std.specs.Prelude.{◌≡◌, ℕ, List, Some, None, IfOk, IsErrOf, option_map, Result};
+ghost use Rattle.std.specs.Prelude.{◌≡◌, ◌++◌, ℕ, List, Some, None, IfOk, IsErrOf, Result};
 ghost use Rattle.std.specs.Io.KnownBytes.{Appends};
-ghost use Rattle.tpm_model.specs.Registers.{value_in, Registers as RegistersValue};
+ghost use Rattle.tpm_model.specs.Registers.{Registers as RegistersValue};
 ghost use Rattle.tpm_lines.specs.declared.status.Status.TheVariants.{Done, Refused};
 ghost use Rattle.tpm_lines.specs.declared.fault.ToolFault.TheVariants.{InputTooLong, Read};
 ghost use Rattle.tpm_lines.specs.Faults.{FailsByMemoryOrWrite};
 ghost use Rattle.tpm_lines.specs.Text.{bytes_in};
 ghost use Rattle.tpm_lines.specs.InputLines.{CountsRead};
-ghost use Rattle.tpm_check.specs.Compare.{registers_text, ReadsList, ReadsTooMuchList};
+ghost use Rattle.tpm_check.specs.Compare.{ReadsList, ReadsTooMuchList};
+ghost use Rattle.tpm_check.specs.Told.{told};
+ghost use Rattle.tpm_check.specs.CheckJson.{ok_text, registers_told};
 ghost use Rattle.tpm_check.specs.Check.{ChecksQuote, ChecksValues, CountsReads, FailsLast};
-ghost use Rattle.tpm_check.specs.Check.{ReadsTooMuchIfList, list_before, list_after, log_fault_line};
+ghost use Rattle.tpm_check.specs.Check.{ReadsTooMuchIfList, list_before, list_after};
 ghost use Rattle.tpm_check.specs.CheckAttest.{ChecksGiven};
-ghost use Rattle.tpm_check.specs.Checked.{ChecksAll, ChecksLog, quote_of};
+ghost use Rattle.tpm_check.specs.Checked.{ChecksAll, ChecksLog, ChecksToEnd, quote_of};
+ghost use Rattle.tpm_check.specs.ListEvents.{fault_text};
 ghost use Rattle.tpm_log.specs.Changes.{AreAfter};
 ghost use Rattle.tpm_log.specs.Replays.{ReplaysFrom, ReadsFrom};
 ghost use Rattle.tpm_log.specs.declared.fault.LogFault.{LogFault as LogFaultValue};
 ghost use Rattle.tpm_wire.specs.Sources.{IsWhereItFailed};
 
+use crate::beside::Beside;
+use crate::check_json::{ok_text, push_registers_told};
 use crate::compared::check_list;
 use crate::judged::{Signed, answer_to_given};
 use crate::quoted::answer_to_quote;
-use crate::register_text::{push_log_fault, push_registers};
+use crate::register_text::push_fault;
 use std::alloc::Global;
 use std::io::Write;
 use tpm_lines::answer::write;
 use tpm_lines::fault::ToolFault;
 use tpm_lines::status::Status;
 use tpm_log::{LogFault, LogFaultKind, replay_from};
-use tpm_store::Registers;
 use tpm_types::Alg;
 use tpm_wire::Source;
 
@@ -41,36 +45,67 @@ pub struct Compared<'a> {
     pub quote: Option<&'a str>,
     /// The hash of the digests in both.
     pub hash: Alg,
+    /// Whether what is printed is objects of JSON, one in a line, in place of lines.
+    pub json: bool,
 }
 
-/// Prints the fault of a log.
+/// Prints the fault of a log, as a line or as an object.
 pub(crate) fn print_fault<W: Write>(
     alloc: Global,
+    json: bool,
     fault: &LogFault,
     out: &mut W,
 ) -> Result<Status, ToolFault>
     ensures ok { IfOk result (λ status. (status ≡ Refused)
-        × Appends (W.contents out.old) (W.contents out.new) (log_fault_line fault.now)) }
+        × Appends (W.contents out.old) (W.contents out.new) (fault_text json fault.now)) }
     ensures err { FailsByMemoryOrWrite result }
 {
     let mut text = String::new(alloc);
-    push_log_fault(&mut text, fault)?;
+    push_fault(&mut text, json, fault)?;
     write(out, &text)?;
     Ok(Status::Refused)
 }
 
+/// Prints the fault of a log, and the status where it is told.
+pub(crate) fn tell_fault<W: Write>(
+    alloc: Global,
+    json: bool,
+    fault: &LogFault,
+    out: &mut W,
+) -> Result<Status, ToolFault>
+    ensures ok { IfOk result (λ status. (status ≡ Refused)
+        × Appends (W.contents out.old) (W.contents out.new)
+        (fault_text json fault.now ++ ok_text json Refused)) }
+    ensures err { FailsByMemoryOrWrite result }
+{
+    let status = print_fault(alloc, json, fault, out)?;
+    print_ok(json, status, out)
+}
+
+// Prints the status, where it is told.
+fn print_ok<W: Write>(json: bool, status: Status, out: &mut W) -> Result<Status, ToolFault>
+    ensures ok { IfOk result (λ same. (same ≡ status)
+        × Appends (W.contents out.old) (W.contents out.new) (ok_text json status)) }
+    ensures err { FailsByMemoryOrWrite result }
+{
+    match out.write_all(ok_text(json, status).as_bytes()) {
+        Ok(()) => Ok(status),
+        Err(_) => Err(ToolFault::Write),
+    }
+}
+
 fn print_registers<W: Write>(
     alloc: Global,
-    found: &Registers,
+    found: &Beside<'_>,
     out: &mut W,
 ) -> Result<Status, ToolFault>
     ensures ok { IfOk result (λ status. (status ≡ Done)
         × Appends (W.contents out.old) (W.contents out.new)
-        (registers_text (value_in found.now.banks))) }
+        (registers_told found.now.json (told found.now).value)) }
     ensures err { FailsByMemoryOrWrite result }
 {
     let mut text = String::new(alloc);
-    push_registers(alloc, &mut text, found)?;
+    push_registers_told(alloc, &mut text, found)?;
     write(out, &text)?;
     Ok(Status::Done)
 }
@@ -78,13 +113,13 @@ fn print_registers<W: Write>(
 // Prints what a quote's information in hexadecimal says of registers.
 fn print_quote<W: Write>(
     alloc: Global,
-    found: &Registers,
+    found: &Beside<'_>,
     hash: Alg,
     quote: &str,
     out: &mut W,
 ) -> Result<Status, ToolFault>
     ensures ok { IfOk result (λ status. (text : List ℕ)
-        × ChecksQuote (value_in found.now.banks) hash (bytes_in quote.now) status text
+        × ChecksQuote (told found.now) hash (bytes_in quote.now) status text
         × Appends (W.contents out.old) (W.contents out.new) text) }
     ensures err { FailsByMemoryOrWrite result }
 {
@@ -94,13 +129,13 @@ fn print_quote<W: Write>(
 // Prints what a quote as it was signed says of registers.
 fn print_signed<W: Write>(
     alloc: Global,
-    found: &Registers,
+    found: &Beside<'_>,
     hash: Alg,
     signed: &Signed<'_>,
     out: &mut W,
 ) -> Result<Status, ToolFault>
     ensures ok { IfOk result (λ status. (text : List ℕ)
-        × ChecksGiven (value_in found.now.banks) hash signed.now status text
+        × ChecksGiven (told found.now) hash signed.now status text
         × Appends (W.contents out.old) (W.contents out.new) text) }
     ensures err { FailsByMemoryOrWrite result }
 {
@@ -110,12 +145,12 @@ fn print_signed<W: Write>(
 // Prints what a quote's information says of registers, or the registers where there is none.
 fn print_values<W: Write>(
     alloc: Global,
-    found: &Registers,
+    found: &Beside<'_>,
     compared: &Compared<'_>,
     out: &mut W,
 ) -> Result<Status, ToolFault>
     ensures ok { IfOk result (λ status. (text : List ℕ)
-        × ChecksValues (value_in found.now.banks) compared.now.hash None (quote_of compared.now) status text
+        × ChecksValues (told found.now) compared.now.hash None (quote_of compared.now) status text
         × Appends (W.contents out.old) (W.contents out.new) text) }
     ensures err { FailsByMemoryOrWrite result }
 {
@@ -128,7 +163,7 @@ fn print_values<W: Write>(
 // Prints each line of a list beside registers, and then what a quote's information says of them.
 fn print_compared<F: Source, W: Write>(
     alloc: Global,
-    found: &Registers,
+    found: &Beside<'_>,
     compared: &Compared<'_>,
     list: &mut F,
     out: &mut W,
@@ -136,8 +171,8 @@ fn print_compared<F: Source, W: Write>(
     ensures failures { CountsRead (F.failed list.old) (F.failed list.new) result }
     ensures stop { IsErrOf result Read → IsWhereItFailed (F.stopped list.new) }
     ensures ok { IfOk result (λ status. (bytes : List ℕ) × (text : List ℕ)
-        × ReadsList (value_in found.now.banks) (F.coming list.old) (F.coming list.new) bytes
-        × ChecksValues (value_in found.now.banks) compared.now.hash (Some bytes)
+        × ReadsList (told found.now) (F.coming list.old) (F.coming list.new) bytes
+        × ChecksValues (told found.now) compared.now.hash (Some bytes)
         (quote_of compared.now) status text
         × Appends (W.contents out.old) (W.contents out.new) text) }
     ensures too_long { IsErrOf result InputTooLong
@@ -156,12 +191,12 @@ fn print_compared<F: Source, W: Write>(
 // Compares registers with the quotes that are given.
 fn check_alone<W: Write>(
     alloc: Global,
-    found: &Registers,
+    found: &Beside<'_>,
     compared: &Compared<'_>,
     out: &mut W,
 ) -> Result<Status, ToolFault>
     ensures ok { IfOk result (λ status. (text : List ℕ)
-        × ChecksAll (value_in found.now.banks) compared.now None status text
+        × ChecksAll (told found.now) compared.now None status text
         × Appends (W.contents out.old) (W.contents out.new) text) }
     ensures err { FailsByMemoryOrWrite result }
 {
@@ -179,7 +214,7 @@ fn check_alone<W: Write>(
 // Compares registers with the quotes that are given, and with a list.
 fn check_stated<F: Source, W: Write>(
     alloc: Global,
-    found: &Registers,
+    found: &Beside<'_>,
     compared: &Compared<'_>,
     list: &mut F,
     out: &mut W,
@@ -187,8 +222,8 @@ fn check_stated<F: Source, W: Write>(
     ensures failures { CountsRead (F.failed list.old) (F.failed list.new) result }
     ensures stop { IsErrOf result Read → IsWhereItFailed (F.stopped list.new) }
     ensures ok { IfOk result (λ status. (bytes : List ℕ) × (text : List ℕ)
-        × ReadsList (value_in found.now.banks) (F.coming list.old) (F.coming list.new) bytes
-        × ChecksAll (value_in found.now.banks) compared.now (Some bytes) status text
+        × ReadsList (told found.now) (F.coming list.old) (F.coming list.new) bytes
+        × ChecksAll (told found.now) compared.now (Some bytes) status text
         × Appends (W.contents out.old) (W.contents out.new) text) }
     ensures too_long { IsErrOf result InputTooLong
         → ReadsTooMuchList (F.coming list.old) (F.coming list.new) }
@@ -199,6 +234,43 @@ fn check_stated<F: Source, W: Write>(
     let first = print_signed(alloc, found, compared.hash, signed, out)?;
     let second = print_compared(alloc, found, compared, list, out)?;
     Ok(first.both(second))
+}
+
+// Compares registers with the quotes that are given, and tells the status.
+fn tell_alone<W: Write>(
+    alloc: Global,
+    found: &Beside<'_>,
+    compared: &Compared<'_>,
+    out: &mut W,
+) -> Result<Status, ToolFault>
+    ensures ok { IfOk result (λ status. (text : List ℕ)
+        × ChecksToEnd (told found.now) compared.now None status text
+        × Appends (W.contents out.old) (W.contents out.new) text) }
+    ensures err { FailsByMemoryOrWrite result }
+{
+    let status = check_alone(alloc, found, compared, out)?;
+    print_ok(found.json, status, out)
+}
+
+// Compares registers with the quotes that are given, and with a list, and tells the status.
+fn tell_stated<F: Source, W: Write>(
+    alloc: Global,
+    found: &Beside<'_>,
+    compared: &Compared<'_>,
+    list: &mut F,
+    out: &mut W,
+) -> Result<Status, ToolFault>
+    ensures failures { CountsRead (F.failed list.old) (F.failed list.new) result }
+    ensures stop { IsErrOf result Read → IsWhereItFailed (F.stopped list.new) }
+    ensures ok { IfOk result (λ status. (bytes : List ℕ) × (text : List ℕ)
+        × ReadsList (told found.now) (F.coming list.old) (F.coming list.new) bytes
+        × ChecksToEnd (told found.now) compared.now (Some bytes) status text
+        × Appends (W.contents out.old) (W.contents out.new) text) }
+    ensures too_long { IsErrOf result InputTooLong
+        → ReadsTooMuchList (F.coming list.old) (F.coming list.new) }
+{
+    let status = check_stated(alloc, found, compared, list, out)?;
+    print_ok(found.json, status, out)
 }
 
 /// Replays a log of a measured boot, and prints the registers that it gives, or compares them with what is given: a
@@ -222,6 +294,14 @@ fn check_stated<F: Source, W: Write>(
 /// The quote's information comes last: `quote matches` or `quote differs`, by its digest under the hash; where it is
 /// not hexadecimal `not hexadecimal`, and where the bytes spell none `refused XXX at N`. The status is `Refused` for a
 /// fault, for what differs, for what is lacking and for what is refused.
+///
+/// The objects of JSON say what the lines say. The registers are `registers`, an object by the banks of lists of 24
+/// values. The quote as it was signed is `attest`, an object of `signer`, `nonce`, `clock`, `resets`, `restarts`,
+/// `safe`, `firmware` and `selection`, a list of `bank` and `registers`; beside it stand `nonce`, `selection` and
+/// `quote`, the verdicts by their words, and behind a `selection` that lacks a register `lacks`, its `bank` and its
+/// `register`. A register of a list has `bank`, `register` and `match`, and a line that states none `fault` and `line`.
+/// The quote's information has `quote`. What is refused has `refused` and `at`, and a fault of the log `fault` and
+/// `at`. The last object is `ok`, whether the status is `Done`. Bytes are in hexadecimal.
 ///
 /// Where a request for memory is refused the answer is `Memory`, where a read of the log or of the list fails `Read`,
 /// where the writer fails `Write`, and where more than 16,777,216 bytes of a list come before its output has ended
@@ -255,10 +335,14 @@ pub fn check_log<L: Source, F: Source, W: Write>(
     let found = match replay_from(log) {
         Ok(found) => found,
         Err(fault) if fault.kind == LogFaultKind::Device => return Err(ToolFault::Read),
-        Err(fault) => return print_fault(alloc, &fault, out),
+        Err(fault) => return tell_fault(alloc, compared.json, &fault, out),
+    };
+    let found = Beside {
+        registers: &found,
+        json: compared.json,
     };
     match list {
-        Some(list) => check_stated(alloc, &found, compared, list, out),
-        None => check_alone(alloc, &found, compared, out),
+        Some(list) => tell_stated(alloc, &found, compared, list, out),
+        None => tell_alone(alloc, &found, compared, out),
     }
 }

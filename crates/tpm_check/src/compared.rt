@@ -3,15 +3,16 @@
 ghost use Rattle.std.specs.Prelude.{◌≡◌, ◌+◌, ◌^◌, ◌<◌, ◌++◌, ℕ, List, [], ◌∷◌, IfOk, OnOk, IsErrOf, length};
 ghost use Rattle.std.specs.Prelude.{string_bytes};
 ghost use Rattle.std.specs.Io.KnownBytes.{Appends};
-ghost use Rattle.tpm_model.specs.Registers.{value_in};
 ghost use Rattle.tpm_wire.specs.Sources.{IsWhereItFailed};
 ghost use Rattle.tpm_lines.specs.declared.fault.ToolFault.TheVariants.{InputTooLong, Read};
 ghost use Rattle.tpm_lines.specs.Faults.{FailsByMemoryOrWrite};
 ghost use Rattle.tpm_lines.specs.InputLines.{AddedTo, CountsRead};
-ghost use Rattle.tpm_check.specs.Compare.{comparison, compared_line, is_value, ReadsList, ReadsTooMuchList};
+ghost use Rattle.tpm_check.specs.Compare.{comparison, compared_text, is_value, ReadsList, ReadsTooMuchList};
 ghost use Rattle.tpm_check.specs.Comparing.{stated_as, place, start, comparison_at, IsOpen, Takes, EndsLine};
 ghost use Rattle.tpm_check.specs.Comparing.{EndsStated, next_line, status_behind};
+ghost use Rattle.tpm_check.specs.Told.{told};
 
+use crate::beside::Beside;
 use crate::list_lines::{Heading, Line, MOST_LINE, read_line};
 use crate::register_text::{push_compared, push_not_a_register};
 use crate::stated::Stated;
@@ -21,7 +22,6 @@ use tpm_lines::answer::write;
 use tpm_lines::fault::ToolFault;
 use tpm_lines::status::Status;
 use tpm_lines::text::Pushed;
-use tpm_store::Registers;
 use tpm_wire::Source;
 
 /// How many bytes a list has at most.
@@ -43,15 +43,21 @@ struct Comparing {
 }
 
 // Adds the line that says whether a register has the value that was stated, and answers whether it has.
-fn compare(text: &mut String, found: &Registers, stated: &Stated) -> Result<bool, AllocError>
+fn compare(text: &mut String, found: &Beside<'_>, stated: &Stated) -> Result<bool, AllocError>
     ensures { IfOk result (λ same. (same
-        ≡ is_value (value_in found.now.banks) (stated_as stated.now))
+        ≡ is_value (told found.now).value (stated_as stated.now))
         × (string_bytes text.new
-        ≡ string_bytes text.old ++ compared_line same stated.now.bank stated.now.register)) }
+        ≡ string_bytes text.old ++ compared_text found.now.json same stated.now.bank stated.now.register)) }
 {
-    let value = found.read(stated.bank, stated.register);
+    let value = found.registers.read(stated.bank, stated.register);
     let same = value.as_slice() == stated.value.as_slice();
-    push_compared(text, same, stated.bank, stated.register.number())?;
+    push_compared(
+        text,
+        found.json,
+        same,
+        stated.bank,
+        stated.register.number(),
+    )?;
     Ok(same)
 }
 
@@ -75,9 +81,9 @@ impl Comparing {
     }
 
     // Compares the register that the present line states.
-    fn end_stated(&mut self, found: &Registers, stated: &Stated, text: &mut String) -> Pushed
+    fn end_stated(&mut self, found: &Beside<'_>, stated: &Stated, text: &mut String) -> Pushed
         requires { self.old.number + 1 < 2 ^ 64 }
-        ensures { OnOk result (EndsStated (value_in found.now.banks) (place self.old)
+        ensures { OnOk result (EndsStated (told found.now) (place self.old)
             (stated_as stated.now) (place self.new)
             (AddedTo (string_bytes text.old) (string_bytes text.new))) }
     {
@@ -102,11 +108,11 @@ impl Comparing {
     fn end_line(
         &mut self,
         alloc: Global,
-        found: &Registers,
+        found: &Beside<'_>,
         text: &mut String,
     ) -> Result<bool, AllocError>
         requires { self.old.number + 1 < 2 ^ 64 }
-        ensures { IfOk result (λ goes_on. EndsLine (value_in found.now.banks)
+        ensures { IfOk result (λ goes_on. EndsLine (told found.now)
             (place self.old) goes_on (place self.new)
             (AddedTo (string_bytes text.old) (string_bytes text.new))) }
     {
@@ -115,7 +121,7 @@ impl Comparing {
             Line::Heading(heading) => self.end_unsaid(heading),
             Line::Passed => self.end_unsaid(self.heading),
             Line::Wrong => {
-                push_not_a_register(text, self.number)?;
+                push_not_a_register(text, found.json, self.number)?;
                 return Ok(false);
             }
         }
@@ -126,7 +132,7 @@ impl Comparing {
     fn take(
         &mut self,
         alloc: Global,
-        found: &Registers,
+        found: &Beside<'_>,
         byte: u8,
         text: &mut String,
     ) -> Result<bool, AllocError>
@@ -134,14 +140,14 @@ impl Comparing {
         requires number { self.old.number + 1 < 2 ^ 64 }
         ensures { IfOk result (λ goes_on. (added : List ℕ)
             × AddedTo (string_bytes text.old) (string_bytes text.new) added
-            × Takes (value_in found.now.banks) (place self.old) (byte ∷ []) goes_on
+            × Takes (told found.now) (place self.old) (byte ∷ []) goes_on
             (place self.new) added) }
     {
         if byte == b'\n' {
             return self.end_line(alloc, found, text);
         }
         if self.line.len() >= MOST_LINE {
-            push_not_a_register(text, self.number)?;
+            push_not_a_register(text, found.json, self.number)?;
             return Ok(false);
         }
         self.line.push(byte)?;
@@ -152,7 +158,7 @@ impl Comparing {
     fn feed(
         &mut self,
         alloc: Global,
-        found: &Registers,
+        found: &Beside<'_>,
         piece: &[u8],
         text: &mut String,
     ) -> Result<bool, AllocError>
@@ -160,7 +166,7 @@ impl Comparing {
         requires number { self.old.number + length piece.now < 2 ^ 64 }
         ensures { IfOk result (λ goes_on. (added : List ℕ)
             × AddedTo (string_bytes text.old) (string_bytes text.new) added
-            × Takes (value_in found.now.banks) (place self.old) piece.now goes_on
+            × Takes (told found.now) (place self.old) piece.now goes_on
             (place self.new) added) }
     {
         for byte in piece {
@@ -175,7 +181,7 @@ impl Comparing {
     fn print<W: Write>(
         &mut self,
         alloc: Global,
-        found: &Registers,
+        found: &Beside<'_>,
         piece: &[u8],
         out: &mut W,
     ) -> Result<bool, ToolFault>
@@ -183,7 +189,7 @@ impl Comparing {
         requires number { self.old.number + length piece.now < 2 ^ 64 }
         ensures ok { IfOk result (λ goes_on. (added : List ℕ)
             × Appends (W.contents out.old) (W.contents out.new) added
-            × Takes (value_in found.now.banks) (place self.old) piece.now goes_on
+            × Takes (told found.now) (place self.old) piece.now goes_on
             (place self.new) added) }
         ensures err { FailsByMemoryOrWrite result }
     {
@@ -197,15 +203,15 @@ impl Comparing {
     fn end(
         &mut self,
         alloc: Global,
-        found: &Registers,
+        found: &Beside<'_>,
         text: &mut String,
     ) -> Result<Option<Status>, AllocError>
         requires open { IsOpen (place self.old) }
         requires number { self.old.number + 1 < 2 ^ 64 }
         ensures { IfOk result (λ status. (status
-            ≡ (comparison_at (value_in found.now.banks) (place self.old) []).status)
+            ≡ (comparison_at (told found.now) (place self.old) []).status)
             × AddedTo (string_bytes text.old) (string_bytes text.new)
-            (comparison_at (value_in found.now.banks) (place self.old) []).text) }
+            (comparison_at (told found.now) (place self.old) []).text) }
     {
         if self.line.is_empty() {
             return Ok(Some(self.status));
@@ -220,15 +226,15 @@ impl Comparing {
     fn print_end<W: Write>(
         &mut self,
         alloc: Global,
-        found: &Registers,
+        found: &Beside<'_>,
         out: &mut W,
     ) -> Result<Option<Status>, ToolFault>
         requires open { IsOpen (place self.old) }
         requires number { self.old.number + 1 < 2 ^ 64 }
         ensures ok { IfOk result (λ status. (status
-            ≡ (comparison_at (value_in found.now.banks) (place self.old) []).status)
+            ≡ (comparison_at (told found.now) (place self.old) []).status)
             × Appends (W.contents out.old) (W.contents out.new)
-            (comparison_at (value_in found.now.banks) (place self.old) []).text) }
+            (comparison_at (told found.now) (place self.old) []).text) }
         ensures err { FailsByMemoryOrWrite result }
     {
         let mut text = String::new(alloc);
@@ -242,17 +248,17 @@ impl Comparing {
 /// match. None is answered where a line is wrong, which ends the output.
 pub(crate) fn check_list<F: Source, W: Write>(
     alloc: Global,
-    found: &Registers,
+    found: &Beside<'_>,
     list: &mut F,
     out: &mut W,
 ) -> Result<Option<Status>, ToolFault>
     ensures failures { CountsRead (F.failed list.old) (F.failed list.new) result }
     ensures stop { IsErrOf result Read → IsWhereItFailed (F.stopped list.new) }
     ensures ok { IfOk result (λ status. (bytes : List ℕ)
-        × ReadsList (value_in found.now.banks) (F.coming list.old) (F.coming list.new) bytes
-        × (status ≡ (comparison (value_in found.now.banks) bytes).status)
+        × ReadsList (told found.now) (F.coming list.old) (F.coming list.new) bytes
+        × (status ≡ (comparison (told found.now) bytes).status)
         × Appends (W.contents out.old) (W.contents out.new)
-        (comparison (value_in found.now.banks) bytes).text) }
+        (comparison (told found.now) bytes).text) }
     ensures too_long { IsErrOf result InputTooLong
         → ReadsTooMuchList (F.coming list.old) (F.coming list.new) }
 {

@@ -1,13 +1,18 @@
 //! A quote as it was signed, in the subcommand `check`.
 
-ghost use Rattle.std.specs.Prelude.{◌≡◌, ◌++◌, IfOk, OnOk, option_map, string_bytes};
+ghost use Rattle.std.specs.Prelude.{◌≡◌, ◌++◌, false, IfOk, OnOk, option_map, string_bytes};
 ghost use Rattle.std.specs.Str.{bytes_eq};
-ghost use Rattle.tpm_model.specs.Registers.{composite, value_in};
+ghost use Rattle.tpm_model.specs.Registers.{composite};
 ghost use Rattle.tpm_quote.specs.Attests.{registers_of};
-ghost use Rattle.tpm_check.specs.CheckAttest.{Adds, whether, lacks_line, on_nonce, on_missing, on_registers};
+ghost use Rattle.tpm_check.specs.CheckAttest.{Adds, attest_told, close_text, lacks_line, lacks_text};
+ghost use Rattle.tpm_check.specs.CheckAttest.{on_nonce, on_missing, on_registers, said, whether};
 ghost use Rattle.tpm_check.specs.CheckAttest.{on_selection, on_quote, on_attest, Says, ChecksAttest, ChecksGiven};
+ghost use Rattle.tpm_check.specs.Told.{told};
 
+use crate::beside::Beside;
+use crate::check_json::{not_hexadecimal_answer, push_text_member, refusal_answer};
 use crate::register_text::bank_name;
+use crate::signed_json::{push_attest_member, push_lacks_member};
 use crate::signed_text::push_attest;
 use std::alloc::{AllocError, Global};
 use std::marker::Model;
@@ -18,7 +23,6 @@ use tpm_lines::text::Pushed;
 use tpm_quote::{
     NotSelected, check_quote, decode_attest, first_not_selected, nonce_matches, selects_none,
 };
-use tpm_store::Registers;
 use tpm_types::{Alg, Attest, QuoteInfo, Selections};
 
 /// A quote as it was signed, and what is expected of it.
@@ -45,17 +49,36 @@ impl<'a> Model for Signed<'a> {
     } };
 }
 
-// Adds the line that says whether what this word names is the same, and answers its status.
-#[tactic(auto, unfolding(crate::specs::CheckAttest::whether))]
-fn push_whether(text: &mut String, word: &str, same: bool) -> Result<Status, AllocError>
-    ensures { IfOk result (λ status. Adds (whether word.now same) status
+// Adds the line of what this word names.
+fn push_said_line(text: &mut String, word: &str, says: &str) -> Pushed
+    ensures { OnOk result (string_bytes text.new
+        ≡ string_bytes text.old ++ said false word.now says.now) }
+{
+    writeln!(text, "{word} {says}")
+}
+
+// Adds what is said of what this word names, in a line or as a member.
+fn push_said(text: &mut String, json: bool, word: &str, says: &str) -> Pushed
+    ensures { OnOk result (string_bytes text.new
+        ≡ string_bytes text.old ++ said json word.now says.now) }
+{
+    if json {
+        push_text_member(text, word, says)
+    } else {
+        push_said_line(text, word, says)
+    }
+}
+
+// Adds whether what this word names is the same, and answers its status.
+fn push_whether(text: &mut String, json: bool, word: &str, same: bool) -> Result<Status, AllocError>
+    ensures { IfOk result (λ status. Adds (whether json word.now same) status
         (string_bytes text.old) (string_bytes text.new)) }
 {
     if same {
-        writeln!(text, "{word} matches")?;
+        push_said(text, json, word, "matches")?;
         Ok(Status::Done)
     } else {
-        writeln!(text, "{word} differs")?;
+        push_said(text, json, word, "differs")?;
         Ok(Status::Refused)
     }
 }
@@ -68,17 +91,18 @@ fn is_nonce(attest: &Attest<'_>, sent: &[u8]) -> bool
 
 fn push_nonce(
     text: &mut String,
+    json: bool,
     attest: &Attest<'_>,
     sent: Option<&[u8]>,
 ) -> Result<Status, AllocError>
     ensures { IfOk result (λ status. Adds
-        (on_nonce (option_map (λ s. s.now) sent.entry) attest.now.extra_data) status
+        (on_nonce json (option_map (λ s. s.now) sent.entry) attest.now.extra_data) status
         (string_bytes text.old) (string_bytes text.new)) }
 {
     match sent {
-        Some(sent) => push_whether(text, "nonce", is_nonce(attest, sent)),
+        Some(sent) => push_whether(text, json, "nonce", is_nonce(attest, sent)),
         None => {
-            text.push_str("nonce not compared\n")?;
+            push_said(text, json, "nonce", "not compared")?;
             Ok(Status::Done)
         }
     }
@@ -93,90 +117,126 @@ fn push_lacks(text: &mut String, missing: NotSelected) -> Pushed
     writeln!(text, "selection lacks {bank} {register}")
 }
 
-fn push_missing(text: &mut String, missing: Option<NotSelected>) -> Result<Status, AllocError>
-    ensures { IfOk result (λ status. Adds (on_missing missing) status (string_bytes text.old)
+// Adds a register that is lacking, in a line or as members.
+fn push_lacks_as(text: &mut String, json: bool, missing: NotSelected) -> Pushed
+    ensures { OnOk result (string_bytes text.new
+        ≡ string_bytes text.old ++ lacks_text json missing) }
+{
+    if json {
+        push_lacks_member(text, missing)
+    } else {
+        push_lacks(text, missing)
+    }
+}
+
+fn push_missing(
+    text: &mut String,
+    json: bool,
+    missing: Option<NotSelected>,
+) -> Result<Status, AllocError>
+    ensures { IfOk result (λ status. Adds (on_missing json missing) status (string_bytes text.old)
         (string_bytes text.new)) }
 {
     match missing {
         Some(missing) => {
-            push_lacks(text, missing)?;
+            push_lacks_as(text, json, missing)?;
             Ok(Status::Refused)
         }
         None => {
-            text.push_str("selection covers\n")?;
+            push_said(text, json, "selection", "covers")?;
             Ok(Status::Done)
         }
     }
 }
 
 // Adds whether a register is selected where none is required, and answers the status of that.
-fn push_any(text: &mut String, quoted: &Selections) -> Result<Status, AllocError>
-    ensures { IfOk result (λ status. Adds (on_registers (registers_of quoted.now)) status
+fn push_any(text: &mut String, json: bool, quoted: &Selections) -> Result<Status, AllocError>
+    ensures { IfOk result (λ status. Adds (on_registers json (registers_of quoted.now)) status
         (string_bytes text.old) (string_bytes text.new)) }
 {
     if selects_none(quoted) {
-        text.push_str("selection empty\n")?;
+        push_said(text, json, "selection", "empty")?;
         Ok(Status::Refused)
     } else {
-        text.push_str("selection not compared\n")?;
+        push_said(text, json, "selection", "not compared")?;
         Ok(Status::Done)
     }
 }
 
 fn push_selection(
     text: &mut String,
+    json: bool,
     quoted: &Selections,
     required: Option<&Selections>,
 ) -> Result<Status, AllocError>
     ensures { IfOk result (λ status. Adds
-        (on_selection (option_map (λ s. s.now) required.entry) quoted.now) status
+        (on_selection json (option_map (λ s. s.now) required.entry) quoted.now) status
         (string_bytes text.old) (string_bytes text.new)) }
 {
     match required {
-        Some(required) => push_missing(text, first_not_selected(quoted, required)),
-        None => push_any(text, quoted),
+        Some(required) => push_missing(text, json, first_not_selected(quoted, required)),
+        None => push_any(text, json, quoted),
     }
 }
 
-fn is_quote(found: &Registers, quote: &QuoteInfo, hash: Alg) -> bool
+fn is_quote(found: &Beside<'_>, quote: &QuoteInfo, hash: Alg) -> bool
     ensures { result
-        ≡ bytes_eq (composite hash (value_in found.now.banks)
+        ≡ bytes_eq (composite hash (told found.now).value
         quote.now.selections) quote.now.digest }
 {
-    check_quote(found, quote, hash)
+    check_quote(found.registers, quote, hash)
 }
 
 fn push_quote(
     text: &mut String,
-    found: &Registers,
+    found: &Beside<'_>,
     quote: &QuoteInfo,
     hash: Alg,
 ) -> Result<Status, AllocError>
     ensures { IfOk result (λ status. Adds
-        (on_quote (value_in found.now.banks) hash quote.now) status (string_bytes text.old)
+        (on_quote (told found.now) hash quote.now) status (string_bytes text.old)
         (string_bytes text.new)) }
 {
-    push_whether(text, "quote", is_quote(found, quote, hash))
+    push_whether(text, found.json, "quote", is_quote(found, quote, hash))
+}
+
+// Adds what a quote says, in lines or as a member.
+fn push_attest_as(alloc: Global, text: &mut String, json: bool, attest: &Attest<'_>) -> Pushed
+    ensures { OnOk result (string_bytes text.new
+        ≡ string_bytes text.old ++ attest_told json attest.now) }
+{
+    if json {
+        push_attest_member(alloc, text, attest)
+    } else {
+        push_attest(alloc, text, attest)
+    }
+}
+
+fn close_text(json: bool) -> &'static str
+    ensures { result.now ≡ close_text json }
+{
+    if json { "}\n" } else { "" }
 }
 
 // What is printed of a quote beside registers, under this hash.
 fn answer_to_signed(
     alloc: Global,
-    found: &Registers,
+    found: &Beside<'_>,
     hash: Alg,
     sent: Option<&[u8]>,
     required: Option<&Selections>,
     attest: &Attest<'_>,
 ) -> Result<Answer, AllocError>
-    ensures { IfOk result (λ a. Says (on_attest (value_in found.now.banks) hash
+    ensures { IfOk result (λ a. Says (on_attest (told found.now) hash
         (option_map (λ s. s.now) sent.entry) (option_map (λ r. r.now) required.entry)
         attest.now) a.status (string_bytes a.text)) }
 {
     let mut text = String::new(alloc);
-    push_attest(alloc, &mut text, attest)?;
-    let nonce = push_nonce(&mut text, attest, sent)?;
-    let selection = push_selection(&mut text, &attest.quote.selections, required)?;
+    push_attest_as(alloc, &mut text, found.json, attest)?;
+    let nonce = push_nonce(&mut text, found.json, attest, sent)?;
+    let selection = push_selection(&mut text, found.json, &attest.quote.selections, required)?;
     let quote = push_quote(&mut text, found, &attest.quote, hash)?;
+    text.push_str(close_text(found.json))?;
     Ok(Answer {
         status: nonce.both(selection.both(quote)),
         text,
@@ -186,13 +246,13 @@ fn answer_to_signed(
 // The same of the quote that these bytes spell, or their fault.
 fn answer_to_attest(
     alloc: Global,
-    found: &Registers,
+    found: &Beside<'_>,
     hash: Alg,
     sent: Option<&[u8]>,
     required: Option<&Selections>,
     bytes: &[u8],
 ) -> Result<Answer, AllocError>
-    ensures { IfOk result (λ a. ChecksAttest (value_in found.now.banks) hash (record {
+    ensures { IfOk result (λ a. ChecksAttest (told found.now) hash (record {
       bytes = bytes.now;
       sent = option_map (λ s. s.now) sent.entry;
       required = option_map (λ r. r.now) required.entry;
@@ -200,18 +260,18 @@ fn answer_to_attest(
 {
     match decode_attest(bytes) {
         Ok(attest) => answer_to_signed(alloc, found, hash, sent, required, &attest),
-        Err(refusal) => Answer::refusal(alloc, &refusal),
+        Err(refusal) => refusal_answer(alloc, found.json, &refusal),
     }
 }
 
 /// What is printed of a quote as it was signed, beside registers and under this hash.
 pub(crate) fn answer_to_given(
     alloc: Global,
-    found: &Registers,
+    found: &Beside<'_>,
     hash: Alg,
     signed: &Signed<'_>,
 ) -> Result<Answer, AllocError>
-    ensures { IfOk result (λ a. ChecksGiven (value_in found.now.banks) hash signed.now
+    ensures { IfOk result (λ a. ChecksGiven (told found.now) hash signed.now
         a.status (string_bytes a.text)) }
 {
     let required = signed.required.as_ref();
@@ -219,7 +279,7 @@ pub(crate) fn answer_to_given(
         return answer_to_attest(alloc, found, hash, None, required, signed.attest);
     };
     let Some(sent) = decoded(alloc, nonce)? else {
-        return Answer::not_hexadecimal(alloc);
+        return not_hexadecimal_answer(alloc, found.json);
     };
     answer_to_attest(
         alloc,

@@ -2,6 +2,8 @@
 //! records.
 #![tactic(auto)]
 
+mod beside;
+mod check_json;
 mod checked;
 mod compared;
 mod device_path_text;
@@ -20,6 +22,8 @@ mod quoted;
 mod reads;
 mod register_text;
 mod secure_boot_lines;
+mod signature_entries;
+mod signed_json;
 mod signed_text;
 mod stated;
 mod told_secure_boot;

@@ -1,5 +1,5 @@
 -- What a check prints, and what keeps it from that.
-use Rattle.std.proofs.Common.{◌≡◌, ◌⊎◌, inl, inr, ℕ, zero, suc, List, Option, Some, None, option_map, Result, Ok, subst, sym, refl}
+use Rattle.std.proofs.Common.{◌≡◌, ◌⊎◌, inl, inr, Bool, ℕ, zero, suc, List, Option, Some, None, option_map, Result, Ok, subst, sym, refl}
 use Rattle.std.specs.Borrow.{Bor}
 use Rattle.tpm_types.specs.declared.alg.Alg.{Alg}
 use Rattle.tpm_types.specs.declared.tpms.Selection.{Selection}
@@ -55,57 +55,57 @@ beside offered b Write fault k h = subst (FailsBeside offered b) (sym h) tt
 beside offered b InputTooLong fault k h = subst (FailsBeside offered b) (sym h) (k refl)
 
 pub log_not_opened : (offered : Offered) (log : Bor (List ℕ)) (registers quote attest sent : Option (Bor (List ℕ)))
-    (required : Option (List Selection)) (hash : Alg) (fault : Fault)
-    → IsNotOpened offered log.now fault → Fails offered (Check log registers quote attest sent required hash) fault
-log_not_opened offered log registers quote attest sent required hash (File at cause) h = inl (h.0, inl h.1)
-log_not_opened offered log registers quote attest sent required hash (Tool tool) h = absurd h
+    (required : Option (List Selection)) (hash : Alg) (json : Bool) (fault : Fault)
+    → IsNotOpened offered log.now fault → Fails offered (Check log registers quote attest sent required hash json) fault
+log_not_opened offered log registers quote attest sent required hash json (File at cause) h = inl (h.0, inl h.1)
+log_not_opened offered log registers quote attest sent required hash json (Tool tool) h = absurd h
 
 pub list_not_opened : (offered : Offered) (log list : Bor (List ℕ)) (quote attest sent : Option (Bor (List ℕ)))
-    (required : Option (List Selection)) (hash : Alg) (fault : Fault) → IsOpened offered log.now
-    → IsNotOpened offered list.now fault → Fails offered (Check log (Some list) quote attest sent required hash) fault
-list_not_opened offered log list quote attest sent required hash (File at cause) opened h = inr (opened, inl (h.0, inl h.1))
-list_not_opened offered log list quote attest sent required hash (Tool tool) opened h = absurd h
+    (required : Option (List Selection)) (hash : Alg) (json : Bool) (fault : Fault) → IsOpened offered log.now
+    → IsNotOpened offered list.now fault → Fails offered (Check log (Some list) quote attest sent required hash json) fault
+list_not_opened offered log list quote attest sent required hash json (File at cause) opened h = inr (opened, inl (h.0, inl h.1))
+list_not_opened offered log list quote attest sent required hash json (Tool tool) opened h = absurd h
 
 pub fails_alone : (offered : Offered) (log : Bor (List ℕ)) (quote attest sent : Option (Bor (List ℕ)))
-    (required : Option (List Selection)) (hash : Alg) (failures : ℕ) (fault : Fault) → IsOpened offered log.now
+    (required : Option (List Selection)) (hash : Alg) (json : Bool) (failures : ℕ) (fault : Fault) → IsOpened offered log.now
     → FailsBeside offered (record { log = log.now; list = None; failures = failures; coming = None }) fault
     ⊎ FailsAtIf offered attest fault
-    → Fails offered (Check log None quote attest sent required hash) fault
-fails_alone offered log quote attest sent required hash zero (File at cause) opened (inl h) = inl (h.0, inr (opened, h.1))
-fails_alone offered log quote attest sent required hash (suc n) (File at cause) opened (inl h) = inl (h.0, inr (opened, h.1))
-fails_alone offered log quote None sent required hash failures (File at cause) opened (inr h) = absurd h
-fails_alone offered log quote (Some path) sent required hash failures (File at cause) opened (inr h) = inr (opened, inl h)
-fails_alone offered log quote attest sent required hash failures (Tool Memory) opened h = tt
-fails_alone offered log quote attest sent required hash failures (Tool Write) opened h = tt
-fails_alone offered log quote attest sent required hash failures (Tool Read) opened (inl h) = absurd h
-fails_alone offered log quote None sent required hash failures (Tool Read) opened (inr h) = absurd h
-fails_alone offered log quote (Some path) sent required hash failures (Tool Read) opened (inr h) = absurd h
-fails_alone offered log quote attest sent required hash failures (Tool InputTooLong) opened (inl h) = absurd h.1
-fails_alone offered log quote None sent required hash failures (Tool InputTooLong) opened (inr h) = absurd h
-fails_alone offered log quote (Some path) sent required hash failures (Tool InputTooLong) opened (inr h) = absurd h
+    → Fails offered (Check log None quote attest sent required hash json) fault
+fails_alone offered log quote attest sent required hash json zero (File at cause) opened (inl h) = inl (h.0, inr (opened, h.1))
+fails_alone offered log quote attest sent required hash json (suc n) (File at cause) opened (inl h) = inl (h.0, inr (opened, h.1))
+fails_alone offered log quote None sent required hash json failures (File at cause) opened (inr h) = absurd h
+fails_alone offered log quote (Some path) sent required hash json failures (File at cause) opened (inr h) = inr (opened, inl h)
+fails_alone offered log quote attest sent required hash json failures (Tool Memory) opened h = tt
+fails_alone offered log quote attest sent required hash json failures (Tool Write) opened h = tt
+fails_alone offered log quote attest sent required hash json failures (Tool Read) opened (inl h) = absurd h
+fails_alone offered log quote None sent required hash json failures (Tool Read) opened (inr h) = absurd h
+fails_alone offered log quote (Some path) sent required hash json failures (Tool Read) opened (inr h) = absurd h
+fails_alone offered log quote attest sent required hash json failures (Tool InputTooLong) opened (inl h) = absurd h.1
+fails_alone offered log quote None sent required hash json failures (Tool InputTooLong) opened (inr h) = absurd h
+fails_alone offered log quote (Some path) sent required hash json failures (Tool InputTooLong) opened (inr h) = absurd h
 
 pub fails_listed : (offered : Offered) (log list : Bor (List ℕ)) (quote attest sent : Option (Bor (List ℕ)))
-    (required : Option (List Selection)) (hash : Alg) (failures : ℕ) (coming : Option (List ℕ)) (fault : Fault)
+    (required : Option (List Selection)) (hash : Alg) (json : Bool) (failures : ℕ) (coming : Option (List ℕ)) (fault : Fault)
     → IsOpened offered log.now → offered.opens list.now (Ok coming)
     → FailsBeside offered (record { log = log.now; list = Some list; failures = failures; coming = Some coming }) fault
     ⊎ FailsAtIf offered attest fault
-    → Fails offered (Check log (Some list) quote attest sent required hash) fault
-fails_listed offered log list quote attest sent required hash zero coming (File at cause) opened opens (inl h) =
+    → Fails offered (Check log (Some list) quote attest sent required hash json) fault
+fails_listed offered log list quote attest sent required hash json zero coming (File at cause) opened opens (inl h) =
     inr (opened, inl (h.0, inr ((coming, opens), h.1)))
-fails_listed offered log list quote attest sent required hash (suc n) coming (File at cause) opened opens (inl h) =
+fails_listed offered log list quote attest sent required hash json (suc n) coming (File at cause) opened opens (inl h) =
     inl (h.0, inr (opened, h.1))
-fails_listed offered log list quote None sent required hash failures coming (File at cause) opened opens (inr h) = absurd h
-fails_listed offered log list quote (Some path) sent required hash failures coming (File at cause) opened opens (inr h) =
+fails_listed offered log list quote None sent required hash json failures coming (File at cause) opened opens (inr h) = absurd h
+fails_listed offered log list quote (Some path) sent required hash json failures coming (File at cause) opened opens (inr h) =
     inr (opened, inr ((coming, opens), inl h))
-fails_listed offered log list quote attest sent required hash failures coming (Tool Memory) opened opens h = tt
-fails_listed offered log list quote attest sent required hash failures coming (Tool Write) opened opens h = tt
-fails_listed offered log list quote attest sent required hash failures coming (Tool Read) opened opens (inl h) = absurd h
-fails_listed offered log list quote None sent required hash failures coming (Tool Read) opened opens (inr h) = absurd h
-fails_listed offered log list quote (Some path) sent required hash failures coming (Tool Read) opened opens (inr h) = absurd h
-fails_listed offered log list quote attest sent required hash failures coming (Tool InputTooLong) opened opens (inl h) =
+fails_listed offered log list quote attest sent required hash json failures coming (Tool Memory) opened opens h = tt
+fails_listed offered log list quote attest sent required hash json failures coming (Tool Write) opened opens h = tt
+fails_listed offered log list quote attest sent required hash json failures coming (Tool Read) opened opens (inl h) = absurd h
+fails_listed offered log list quote None sent required hash json failures coming (Tool Read) opened opens (inr h) = absurd h
+fails_listed offered log list quote (Some path) sent required hash json failures coming (Tool Read) opened opens (inr h) = absurd h
+fails_listed offered log list quote attest sent required hash json failures coming (Tool InputTooLong) opened opens (inl h) =
     (opened, (coming, opens, h))
-fails_listed offered log list quote None sent required hash failures coming (Tool InputTooLong) opened opens (inr h) = absurd h
-fails_listed offered log list quote (Some path) sent required hash failures coming (Tool InputTooLong) opened opens (inr h) =
+fails_listed offered log list quote None sent required hash json failures coming (Tool InputTooLong) opened opens (inr h) = absurd h
+fails_listed offered log list quote (Some path) sent required hash json failures coming (Tool InputTooLong) opened opens (inr h) =
     absurd h
 
 pub at_reading : (offered : Offered) (path : List ℕ) (tool : ToolFault) (fault : Fault) → IsOpened offered path
@@ -124,23 +124,23 @@ of_if offered None x Q h q = subst Q (sym h) q
 of_if offered (Some path) x Q h q = (h.0, h.1, subst Q (sym h.2) q)
 
 pub if_not_opened : (offered : Offered) (log : Bor (List ℕ)) (registers quote attest sent : Option (Bor (List ℕ)))
-    (required : Option (List Selection)) (hash : Alg) (fault : Fault) → IsOpened offered log.now
-    → IsNotOpenedIf offered registers fault → Fails offered (Check log registers quote attest sent required hash) fault
-if_not_opened offered log None quote attest sent required hash fault opened h = absurd h
-if_not_opened offered log (Some list) quote attest sent required hash fault opened h =
-    list_not_opened offered log list quote attest sent required hash fault opened h
+    (required : Option (List Selection)) (hash : Alg) (json : Bool) (fault : Fault) → IsOpened offered log.now
+    → IsNotOpenedIf offered registers fault → Fails offered (Check log registers quote attest sent required hash json) fault
+if_not_opened offered log None quote attest sent required hash json fault opened h = absurd h
+if_not_opened offered log (Some list) quote attest sent required hash json fault opened h =
+    list_not_opened offered log list quote attest sent required hash json fault opened h
 
 pub fails_if : (offered : Offered) (log : Bor (List ℕ)) (registers quote attest sent : Option (Bor (List ℕ)))
-    (required : Option (List Selection)) (hash : Alg) (failures : ℕ) (x : Option (Option (List ℕ))) (fault : Fault)
+    (required : Option (List Selection)) (hash : Alg) (json : Bool) (failures : ℕ) (x : Option (Option (List ℕ))) (fault : Fault)
     → IsOpened offered log.now → OfFileIf offered registers (λ coming. coming ≡ x)
     → FailsBeside offered (record { log = log.now; list = registers; failures = failures; coming = x }) fault
     ⊎ FailsAtIf offered attest fault
-    → Fails offered (Check log registers quote attest sent required hash) fault
-fails_if offered log None quote attest sent required hash failures x fault opened h f =
-    fails_alone offered log quote attest sent required hash failures fault opened
+    → Fails offered (Check log registers quote attest sent required hash json) fault
+fails_if offered log None quote attest sent required hash json failures x fault opened h f =
+    fails_alone offered log quote attest sent required hash json failures fault opened
     (subst (λ (c : Option (Option (List ℕ))).
     FailsBeside offered (record { log = log.now; list = None; failures = failures; coming = c }) fault ⊎ FailsAtIf offered attest fault) (sym h) f)
-fails_if offered log (Some list) quote attest sent required hash failures x fault opened h f =
-    fails_listed offered log list quote attest sent required hash failures h.0 fault opened h.1
+fails_if offered log (Some list) quote attest sent required hash json failures x fault opened h f =
+    fails_listed offered log list quote attest sent required hash json failures h.0 fault opened h.1
     (subst (λ (c : Option (Option (List ℕ))).
     FailsBeside offered (record { log = log.now; list = Some list; failures = failures; coming = c }) fault ⊎ FailsAtIf offered attest fault) (sym h.2) f)

@@ -28,8 +28,8 @@ abbrev pub files_of : Task → List (List ℕ)
 files_of (ShowCapture file binary fields json) = path_if file
 files_of (ShowPackets file fields json) = file.now ∷ []
 files_of (ShowNv file) = file.now ∷ []
-files_of (Check log registers quote attest sent required hash) = log.now ∷ (path_if registers ++ path_if attest)
-files_of (SecureBoot log) = log.now ∷ []
+files_of (Check log registers quote attest sent required hash json) = log.now ∷ (path_if registers ++ path_if attest)
+files_of (SecureBoot log json) = log.now ∷ []
 files_of (Events log register places digests json) = log.now ∷ []
 files_of _ = []
 
@@ -71,7 +71,7 @@ IsTooLong offered (ShowCapture file binary fields json) =
     OfPlace offered file (λ capture. (rest : Option (List ℕ)) × ReadsTooMuchCapture capture rest)
 IsTooLong offered (Run owner greatest) =
     OfPlace offered None (λ input. (rest : Option (List ℕ)) × ReadsTooMuch input rest)
-IsTooLong offered (Check log registers quote attest sent required hash) =
+IsTooLong offered (Check log registers quote attest sent required hash json) =
     IsOpened offered log.now
     × OfFileIf offered registers (λ list. (rest : Option (Option (List ℕ))) × ReadsTooMuchIfList is_coming list rest)
 IsTooLong offered _ = ⊥

@@ -113,17 +113,17 @@ Performs offered (Run owner greatest) status text =
     OfPlace offered None (λ input. RunsScript owner greatest input status text)
 Performs offered (Explain code) status text = (status ≡ explain_status code) × (text ≡ explanation code)
 Performs offered (ExplainKind kind) status text = ExplainsKind kind.now status text
-Performs offered (Check log registers quote attest sent required hash) status text =
+Performs offered (Check log registers quote attest sent required hash json) status text =
     OfFile offered log.now (λ log-bytes.
     OfFileIf offered registers (λ list.
     OfSigned offered attest (record { sent = sent; required = required }) (λ signed.
     PrintsCompared (record {
       log = log-bytes;
       list = list;
-      compared = record { signed = signed; quote = quote; hash = hash };
+      compared = record { signed = signed; quote = quote; hash = hash; json = json };
     }) status text)))
-Performs offered (SecureBoot log) status text =
-    OfFile offered log.now (OfFirst most_read (λ bytes. TellsSecureBoot bytes status text))
+Performs offered (SecureBoot log json) status text =
+    OfFile offered log.now (OfFirst most_read (λ bytes. TellsSecureBoot json bytes status text))
 Performs offered (Events log register places digests json) status text =
     OfFile offered log.now (OfFirst most_read (λ bytes.
     ListsEvents (record { register = register; places = places; digests = digests; json = json }) bytes status text))

@@ -29,6 +29,7 @@ pub(crate) struct Checking<'a> {
     pub attest: Option<&'a str>,
     pub nonce: Option<&'a str>,
     pub hash: Alg,
+    pub json: bool,
 }
 
 /// Lists the records of a log.
@@ -59,14 +60,15 @@ pub(crate) fn secure_boot<'a, I: Inputs, W: Write>(
     inputs: &I,
     out: &mut W,
     path: &'a str,
+    json: bool,
 ) -> Result<Status, Fault<'a>>
     ensures ok { IfOk result (λ status. (text : List ℕ)
-        × Performs (I.offers inputs.now) (SecureBoot path.entry) status text
+        × Performs (I.offers inputs.now) (SecureBoot path.entry json) status text
         × Appends (W.contents out.old) (W.contents out.new) text) }
-    ensures err { IfErr result (λ fault. Fails (I.offers inputs.now) (SecureBoot path.entry) fault) }
+    ensures err { IfErr result (λ fault. Fails (I.offers inputs.now) (SecureBoot path.entry json) fault) }
 {
     let mut log = opened(inputs, path)?;
-    match tell_secure_boot(alloc, &mut log, out) {
+    match tell_secure_boot(alloc, &mut log, json, out) {
         Ok(status) => Ok(status),
         Err(fault) => Err(of_reading(inputs, fault, path)),
     }
@@ -150,6 +152,7 @@ fn check_opened<'a, I: Inputs, W: Write>(
             signed = signed;
             quote = checking.now.quote;
             hash = checking.now.hash;
+            json = checking.now.json;
           };
         }) status text)
         × Appends (W.contents out.old) (W.contents out.new) text) }
@@ -163,11 +166,13 @@ fn check_opened<'a, I: Inputs, W: Write>(
 {
     let quote = checking.quote;
     let hash = checking.hash;
+    let json = checking.json;
     let Some(path) = checking.attest else {
         let compared = Compared {
             signed: None,
             quote,
             hash,
+            json,
         };
         return check_compared(alloc, inputs, out, checking, &compared, log, list);
     };
@@ -180,6 +185,7 @@ fn check_opened<'a, I: Inputs, W: Write>(
         }),
         quote,
         hash,
+        json,
     };
     check_compared(alloc, inputs, out, checking, &compared, log, list)
 }
@@ -195,11 +201,11 @@ pub(crate) fn check<'a, I: Inputs, W: Write>(
     ensures ok { IfOk result (λ status. (text : List ℕ)
         × Performs (I.offers inputs.now)
         (Check checking.now.log checking.now.registers checking.now.quote checking.now.attest
-        checking.now.nonce required checking.now.hash) status text
+        checking.now.nonce required checking.now.hash checking.now.json) status text
         × Appends (W.contents out.old) (W.contents out.new) text) }
     ensures err { IfErr result (λ fault. Fails (I.offers inputs.now)
         (Check checking.now.log checking.now.registers checking.now.quote checking.now.attest
-        checking.now.nonce required checking.now.hash) fault) }
+        checking.now.nonce required checking.now.hash checking.now.json) fault) }
 {
     let mut log = opened(inputs, checking.log)?;
     let mut list = opened_if(inputs, checking.registers)?;

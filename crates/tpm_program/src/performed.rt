@@ -73,6 +73,7 @@ pub fn perform<'a, I: Inputs, W: Write>(
             nonce,
             required,
             hash,
+            json,
         } => {
             let checking = Checking {
                 log,
@@ -81,10 +82,11 @@ pub fn perform<'a, I: Inputs, W: Write>(
                 attest,
                 nonce,
                 hash,
+                json,
             };
             check(alloc, inputs, out, &checking, required)
         }
-        Task::SecureBoot { log } => secure_boot(alloc, inputs, out, log),
+        Task::SecureBoot { log, json } => secure_boot(alloc, inputs, out, log, json),
         Task::Events {
             log,
             register,

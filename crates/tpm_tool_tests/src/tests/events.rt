@@ -51,7 +51,7 @@ const UNSET: &str = "secure-boot sha1 unset\nsecure-boot sha256 unset\nsecure-bo
 
 fn told(alloc: Global, log: &mut Pieces<'_>) -> Answered {
     let mut out = Vec::new(alloc);
-    (tell_secure_boot(alloc, log, &mut out), out)
+    (tell_secure_boot(alloc, log, false, &mut out), out)
 }
 
 #[test]

@@ -35,6 +35,7 @@ pub(crate) fn compared() -> Compared<'static> {
         signed: None,
         quote: Some(QUOTE),
         hash: Alg::Sha256,
+        json: false,
     }
 }
 

@@ -2,7 +2,7 @@ use Rattle.std.proofs.Common.{◌≡◌, true, false, [], take, refl, sym, ◌�
 use Rattle.std.proofs.lemmas.List.{take-append-le}
 use Rattle.std.proofs.lemmas.Result.{IfOk-weaker}
 use Rattle.std.specs.Io.KnownBytes.{Appends, Consumes}
-use Rattle.tpm_model.specs.Registers.{value_in}
+use Rattle.tpm_check.specs.Told.{told}
 use Rattle.tpm_check.specs.Comparing.{IsOpen, place, start}
 use Rattle.tpm_check.proofs.Comparisons.{answers_at_end, answers_stopped, goes_none, reaches_more, reads_too_much}
 use Rattle.tpm_check.proofs.compared.check_list.Goals as goal
@@ -13,7 +13,7 @@ returns-then-read-gt-MOST_BYTES-clause-too_long g c = λ _.
     let room = c.read.new.room in
     let len : length room ≡ c.clamp-room.result = search rules in
     let counted : length (take count room) ≡ count = length-take-le count room c.in_ok-count.ensures.bound.0 in
-    reads_too_much (value_in c.args.found.now.banks) _ _ _ c.loop-comparing.read (take count room) (place c.loop-comparing.comparing) _
+    reads_too_much (told c.args.found.now) _ _ _ c.loop-comparing.read (take count room) (place c.loop-comparing.comparing) _
     c.loop-comparing.invariant.reaches
     c.in_ok-count.ensures.bytes.0 (omega (arith, len, counted, c.in_ok-count.ensures.bound.0)) (omega (arith, len, counted, c.in_ok-count.ensures.bound.0))
 
@@ -23,7 +23,7 @@ returns-then-count-eq0-clause-ok g c =
     let len : length c.read.new.room ≡ c.clamp-room.result = search rules in
     let contents = g.W.Write.contents in
     IfOk-weaker c.print_end.result _ _ (λ status ended.
-    answers_at_end (value_in c.args.found.now.banks) _ _ _ (contents c.args.out.now) (contents c.loop-comparing.out) (contents c.print_end.new.out)
+    answers_at_end (told c.args.found.now) _ _ _ (contents c.args.out.now) (contents c.loop-comparing.out) (contents c.print_end.new.out)
     c.loop-comparing.read (place c.loop-comparing.comparing) status
     c.loop-comparing.invariant.reaches c.loop-comparing.invariant.bound bytes.0 (bytes.1 refl (omega (arith, len))) ended) c.print_end.ensures.ok
 
@@ -39,7 +39,7 @@ returns-then-not-branch-clause-ok g c =
       take-append-le count room (drop c.clamp-room.result c.loop-comparing.piece)
           c.in_ok-count.ensures.bound.0,
     ) at c.in_ok-print.ensures.ok in
-    answers_stopped (value_in c.args.found.now.banks) _ _ _ (contents c.args.out.now) (contents c.loop-comparing.out) (contents c.print.new.out)
+    answers_stopped (told c.args.found.now) _ _ _ (contents c.args.out.now) (contents c.loop-comparing.out) (contents c.print.new.out)
     c.loop-comparing.read count (take count room) taken.0 (place c.loop-comparing.comparing)
     c.loop-comparing.invariant.reaches (omega arith) (omega (arith, len, c.in_ok-count.ensures.bound.0)) c.in_ok-count.ensures.bytes.0
     (sym (length-take-le count room c.in_ok-count.ensures.bound.0)) taken.1 taken.2
@@ -57,7 +57,7 @@ loop-comparing-preserved g c =
     ) at c.in_ok-print.ensures.ok in
     record {
       reaches =
-          reaches_more (value_in c.args.found.now.banks) _ _ _ (contents c.args.out.now) (contents c.loop-comparing.out) (contents c.print.new.out)
+          reaches_more (told c.args.found.now) _ _ _ (contents c.args.out.now) (contents c.loop-comparing.out) (contents c.print.new.out)
           c.loop-comparing.read count (take count room) taken.0
           (place c.loop-comparing.comparing) (place c.print.new.self) c.loop-comparing.invariant.reaches c.in_ok-count.ensures.bytes.0
           (sym (length-take-le count room c.in_ok-count.ensures.bound.0)) taken.1 taken.2;
@@ -78,7 +78,7 @@ loop-comparing-init g c =
             consumed = consumed;
             count = refl;
             added = added;
-            goes_on = rw c.new-comparing.ensures (goes_none (value_in c.args.found.now.banks) start present);
+            goes_on = rw c.new-comparing.ensures (goes_none (told c.args.found.now) start present);
           };
       bound = omega arith;
       failures = refl;

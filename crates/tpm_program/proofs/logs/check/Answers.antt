@@ -20,14 +20,14 @@ returns-clause-ok g c =
             (λ signed. PrintsCompared (record {
               log = coming c.in_ok-log.log;
               list = list;
-              compared = record { signed = signed; quote = checking.quote; hash = checking.hash };
+              compared = record { signed = signed; quote = checking.quote; hash = checking.hash; json = checking.json };
             }) status h.0)) c.in_ok-list.ensures.opened
             (subst (λ list. OfSigned offered checking.attest
             (record { sent = checking.nonce; required = c.args.required })
             (λ signed. PrintsCompared (record {
               log = coming c.in_ok-log.log;
               list = option_map coming list;
-              compared = record { signed = signed; quote = checking.quote; hash = checking.hash };
+              compared = record { signed = signed; quote = checking.quote; hash = checking.hash; json = checking.json };
             }) status h.0)) c.as_mut.ensures.value h.1),
       ),
       h.2,

@@ -1,0 +1,58 @@
+#!/usr/bin/env python3
+"""told.py FILE NONCE SELECTION QUOTE: what `tpmtool check LOG --attest FILE --json` writes where its verdicts are these.
+
+The TPMS_ATTEST (TPM 2.0, Part 2, 10.12) is read by Python's struct, and no value from the program.
+"""
+import json
+import struct
+import sys
+
+BANKS = {0x0004: "sha1", 0x000B: "sha256", 0x000C: "sha384"}
+
+
+class Reader:
+    def __init__(self, data):
+        self.data = data
+
+    def take(self, form):
+        values = struct.unpack_from(">" + form, self.data)
+        self.data = self.data[struct.calcsize(">" + form) :]
+        return values if len(values) > 1 else values[0]
+
+    def sized(self, form="H"):
+        return self.take(f"{self.take(form)}s")
+
+
+def selection(reader):
+    number = reader.take("H")
+    select = reader.sized("B")
+    return {"bank": BANKS[number], "registers": [i for i in range(8 * len(select)) if select[i // 8] >> i % 8 & 1]}
+
+
+def attest(data):
+    reader = Reader(data)
+    assert reader.take("IH") == (0xFF544347, 0x8018)
+    told = {"signer": reader.sized().hex(), "nonce": reader.sized().hex()}
+    told["clock"], told["resets"], told["restarts"], told["safe"] = reader.take("QII?")
+    told["firmware"] = f"{reader.take('Q'):016x}"
+    told["selection"] = [selection(reader) for _ in range(reader.take("I"))]
+    reader.sized()
+    assert not reader.data
+    return told
+
+
+def main(path, nonce, covered, quote):
+    with open(path, "rb") as file:
+        told = {"attest": attest(file.read()), "nonce": nonce}
+    words = covered.split()
+    told["selection"] = words[0] if words[0] == "lacks" else covered
+    if words[0] == "lacks":
+        told["lacks"] = {"bank": words[1], "register": int(words[2])}
+    told["quote"] = quote
+    print(json.dumps(told, separators=(",", ":")))
+    right = nonce != "differs" and covered in ("covers", "not compared") and quote == "matches"
+    print(json.dumps({"ok": right}, separators=(",", ":")))
+
+
+if __name__ == "__main__":
+    main(*sys.argv[1:])

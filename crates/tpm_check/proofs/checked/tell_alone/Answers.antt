@@ -1,0 +1,19 @@
+use Rattle.std.proofs.Common.{◌++◌, None}
+use Rattle.std.proofs.lemmas.Result.{IfOk-weaker}
+use Rattle.tpm_lines.proofs.Joins.{joins_appends}
+use Rattle.tpm_check.specs.CheckJson.{ok_text}
+use Rattle.tpm_check.specs.Told.{told}
+use Rattle.tpm_check.proofs.Verdicts.{to_end}
+use Rattle.tpm_check.proofs.checked.tell_alone.Goals as goal
+
+pub returns-clause-ok : goal.returns-clause-ok
+returns-clause-ok g c =
+    let contents = g.W.Write.contents in
+    let said = c.in_ok-status.ensures.ok in
+    let status = c.in_ok-status.status in
+    let end = ok_text c.args.found.now.json status in
+    IfOk-weaker c.print_ok.result _ _ (λ same printed. (
+      said.0 ++ end,
+      to_end (told c.args.found.now) c.args.compared.now None same status said.0 printed.0 said.1,
+      joins_appends (contents c.args.out.now) (contents c.check_alone.new.out) (contents c.print_ok.new.out) said.0 end said.2 printed.1,
+    )) c.print_ok.ensures.ok

@@ -1,0 +1,187 @@
+//! What `check` says, as objects of JSON.
+
+ghost use Rattle.std.specs.Prelude.{◌≡◌, ◌<◌, ◌++◌, IfOk, OnOk, map, string_bytes};
+ghost use Rattle.tpm_types.specs.Alg.{all_algs};
+ghost use Rattle.tpm_model.specs.Registers.{value_in};
+ghost use Rattle.tpm_lines.specs.declared.status.Status.TheVariants.{Refused};
+ghost use Rattle.tpm_check.specs.Told.{told};
+ghost use Rattle.tpm_check.specs.CheckJson.{bank_begin, bank_member, not_hexadecimal_text, number_member};
+ghost use Rattle.tpm_check.specs.CheckJson.{ok_text, quote_text};
+ghost use Rattle.tpm_check.specs.CheckJson.{refusal_object, refusal_text, registers_object, registers_told};
+ghost use Rattle.tpm_check.specs.CheckJson.{text_member, value_entries, value_entry};
+ghost use Rattle.tpm_check.specs.EventText.{commas};
+
+use crate::beside::Beside;
+use crate::register_text::{bank_name, push_registers};
+use std::alloc::{AllocError, Global};
+use tpm_lines::answer::Answer;
+use tpm_lines::registers::register;
+use tpm_lines::status::Status;
+use tpm_lines::text::{Pushed, push_comma};
+use tpm_store::Registers;
+use tpm_types::{Alg, REGISTERS};
+use tpm_wire::Refusal;
+
+/// Adds a text under a name, as a member behind another.
+#[tactic(auto, unfolding(crate::specs::CheckJson::text_member))]
+pub(crate) fn push_text_member(text: &mut String, name: &str, says: &str) -> Pushed
+    ensures { OnOk result (string_bytes text.new
+        ≡ string_bytes text.old ++ text_member name.now says.now) }
+{
+    write!(text, ",\"{name}\":\"{says}\"")
+}
+
+/// Adds a number under a name, as a member behind another.
+#[tactic(auto, unfolding(crate::specs::CheckJson::number_member))]
+pub(crate) fn push_number_member(text: &mut String, name: &str, number: u64) -> Pushed
+    ensures { OnOk result (string_bytes text.new
+        ≡ string_bytes text.old ++ number_member name.now number) }
+{
+    write!(text, ",\"{name}\":{number}")
+}
+
+#[tactic(auto, unfolding(crate::specs::CheckJson::value_entry))]
+fn push_value(alloc: Global, text: &mut String, number: u32, value: &[u8]) -> Pushed
+    requires { number < 24 }
+    ensures { OnOk result (string_bytes text.new
+        ≡ string_bytes text.old ++ value_entry number value.now) }
+{
+    push_comma(text, number as usize + 1)?;
+    let value = hex::encode(alloc, value)?;
+    write!(text, "\"{value}\"")
+}
+
+// Adds the values of a bank's registers.
+fn push_values(alloc: Global, text: &mut String, found: &Registers, bank: Alg) -> Pushed
+    ensures { OnOk result (string_bytes text.new
+        ≡ string_bytes text.old ++ value_entries (value_in found.now.banks) bank 24) }
+{
+    for number in 0..REGISTERS {
+        let value = found.read(bank, register(number));
+        push_value(alloc, text, number, value.as_slice())?;
+    }
+    Ok(())
+}
+
+#[tactic(auto, unfolding(crate::specs::CheckJson::bank_begin))]
+fn push_bank_begin(text: &mut String, bank: &str) -> Pushed
+    ensures { OnOk result (string_bytes text.new ≡ string_bytes text.old ++ bank_begin bank.now) }
+{
+    write!(text, "\"{bank}\":[")
+}
+
+#[tactic(auto, unfolding(crate::specs::CheckJson::bank_member))]
+fn push_bank_member(alloc: Global, text: &mut String, found: &Registers, bank: Alg) -> Pushed
+    ensures { OnOk result (string_bytes text.new
+        ≡ string_bytes text.old ++ bank_member (value_in found.now.banks) bank) }
+{
+    push_bank_begin(text, bank_name(bank))?;
+    push_values(alloc, text, found, bank)?;
+    text.push_str("]")
+}
+
+// Adds the registers of these banks, with a comma between two.
+fn push_bank_members(alloc: Global, text: &mut String, found: &Registers, banks: &[Alg]) -> Pushed
+    ensures { OnOk result (string_bytes text.new
+        ≡ string_bytes text.old ++ commas (map (bank_member (value_in found.now.banks)) banks.now)) }
+{
+    match banks {
+        [] => Ok(()),
+        [bank] => push_bank_member(alloc, text, found, *bank),
+        [bank, others @ ..] => {
+            push_bank_member(alloc, text, found, *bank)?;
+            text.push_str(",")?;
+            push_bank_members(alloc, text, found, others)
+        }
+    }
+}
+
+// Adds those of all banks.
+fn push_all_members(alloc: Global, text: &mut String, found: &Registers) -> Pushed
+    ensures { OnOk result (string_bytes text.new
+        ≡ string_bytes text.old ++ commas (map (bank_member (value_in found.now.banks)) all_algs)) }
+{
+    push_bank_members(alloc, text, found, &Alg::ALL)
+}
+
+#[tactic(auto, unfolding(crate::specs::CheckJson::registers_object))]
+fn push_registers_object(alloc: Global, text: &mut String, found: &Registers) -> Pushed
+    ensures { OnOk result (string_bytes text.new
+        ≡ string_bytes text.old ++ registers_object (value_in found.now.banks)) }
+{
+    text.push_str("{\"registers\":{")?;
+    push_all_members(alloc, text, found)?;
+    text.push_str("}}\n")
+}
+
+/// Adds all registers, in lines or as an object.
+pub(crate) fn push_registers_told(alloc: Global, text: &mut String, found: &Beside<'_>) -> Pushed
+    ensures { OnOk result (string_bytes text.new
+        ≡ string_bytes text.old ++ registers_told found.now.json (told found.now).value) }
+{
+    if found.json {
+        push_registers_object(alloc, text, found.registers)
+    } else {
+        push_registers(alloc, text, found.registers)
+    }
+}
+
+/// Whether a quote's digest is that of the registers, in a line or as an object.
+pub(crate) fn quote_text(json: bool, same: bool) -> &'static str
+    ensures { result.now ≡ quote_text json same }
+{
+    match (json, same) {
+        (false, true) => "quote matches\n",
+        (false, false) => "quote differs\n",
+        (true, true) => "{\"quote\":\"matches\"}\n",
+        (true, false) => "{\"quote\":\"differs\"}\n",
+    }
+}
+
+#[tactic(auto, unfolding(crate::specs::CheckJson::refusal_object))]
+fn push_refusal_object(text: &mut String, refusal: &Refusal) -> Pushed
+    ensures { OnOk result (string_bytes text.new
+        ≡ string_bytes text.old ++ refusal_object refusal.now) }
+{
+    let Refusal { code, at } = *refusal;
+    writeln!(text, "{{\"refused\":\"{code:03x}\",\"at\":{at}}}")
+}
+
+/// A refusal, in a line or as an object.
+pub(crate) fn refusal_answer(
+    alloc: Global,
+    json: bool,
+    refusal: &Refusal,
+) -> Result<Answer, AllocError>
+    ensures { IfOk result (λ a. (a.status ≡ Refused)
+        × (string_bytes a.text ≡ refusal_text json refusal.now)) }
+{
+    if !json {
+        return Answer::refusal(alloc, refusal);
+    }
+    let mut text = String::new(alloc);
+    push_refusal_object(&mut text, refusal)?;
+    Ok(Answer::refused(text))
+}
+
+/// That a text is not hexadecimal, in a line or as an object.
+pub(crate) fn not_hexadecimal_answer(alloc: Global, json: bool) -> Result<Answer, AllocError>
+    ensures { IfOk result (λ a. (a.status ≡ Refused)
+        × (string_bytes a.text ≡ not_hexadecimal_text json)) }
+{
+    if !json {
+        return Answer::not_hexadecimal(alloc);
+    }
+    Answer::of(alloc, Status::Refused, "{\"fault\":\"not hexadecimal\"}\n")
+}
+
+/// The object of a status, and nothing where lines are told.
+pub(crate) fn ok_text(json: bool, status: Status) -> &'static str
+    ensures { result.now ≡ ok_text json status }
+{
+    match (json, status) {
+        (false, _) => "",
+        (true, Status::Done) => "{\"ok\":true}\n",
+        (true, Status::Refused) => "{\"ok\":false}\n",
+    }
+}
