@@ -1,4 +1,5 @@
-"""Captures of a network for the cases of `show --pcap`, by Python's struct, as tcpdump writes them (pcap-savefile(5)).
+"""Captures of a network for the cases of `show --pcap`, by Python's struct, as tcpdump writes them (pcap-savefile(5)) and as
+Wireshark does (draft-ietf-opsawg-pcapng).
 
     python3 checks/packets.py FOLDER
 
@@ -47,6 +48,29 @@ def savefile(link, packets, order="<", magic=0xA1B2C3D4, captured=65535):
         yield struct.pack(order + "IIII", number, 0, len(kept), len(packet)) + kept
 
 
+def block(kind, body, order="<"):
+    """A block of pcapng: its type, its length, what it tells, and its length again."""
+    body += bytes(-len(body) % 4)
+    length = struct.pack(order + "I", 12 + len(body))
+    return struct.pack(order + "I", kind) + length + body + length
+
+
+def section(order="<", version=1):
+    return block(0x0A0D0D0A, struct.pack(order + "IHHq", 0x1A2B3C4D, version, 0, -1), order)
+
+
+def interface(link, captured=0, order="<"):
+    return block(1, struct.pack(order + "HHI", link, 0, captured), order)
+
+
+def enhanced(packet, interface=0, order="<"):
+    return block(6, struct.pack(order + "IIIII", interface, 0, 0, len(packet), len(packet)) + packet, order)
+
+
+def simple(packet, order="<", size=None):
+    return block(3, struct.pack(order + "I", size or len(packet)) + packet, order)
+
+
 def sent(command):
     """A command for mssim: TPM_SEND_COMMAND, locality 0, and the size before it."""
     return struct.pack(">IBI", 8, 0, len(command)), command
@@ -92,6 +116,20 @@ FILES = {
     "no_capture": [bytes.fromhex("0a0d0d0a"), bytes(60)],
     "link": savefile(147, SWTPM),
     "ended": [*savefile(101, SWTPM[:2]), bytes(15)],
+    # two sections, of which the second is in the other order and has a Name Resolution Block
+    "blocks": [
+        *[section(), interface(147), interface(101), enhanced(SWTPM[0], 1), enhanced(SWTPM[1], 1)],
+        *[section(">"), block(4, bytes(4), ">"), interface(113, order=">"), interface(147, order=">")],
+        *[enhanced(cooked(SWTPM[2]), order=">"), simple(cooked(SWTPM[3]), ">")],
+    ],
+    "interfaces": [
+        *[section(), *[interface(147)] * 63, *[interface(101)] * 2],
+        *[enhanced(SWTPM[0], 63), enhanced(SWTPM[1], 64), enhanced(SWTPM[1], 0), enhanced(SWTPM[1], 65)],
+    ],
+    "simple": [section(), interface(101, 51), simple(SWTPM[0]), simple(SWTPM[1]), simple(SWTPM[2][:48], size=52)],
+    "length": [section(), interface(101), enhanced(SWTPM[0]), enhanced(SWTPM[1])[:-4], bytes(4), enhanced(SWTPM[1])],
+    "version": [section(version=2), interface(101), enhanced(SWTPM[0])],
+    "ended_block": [section(), interface(101), enhanced(SWTPM[0]), enhanced(SWTPM[1])[:-4]],
 }
 
 

@@ -92,6 +92,27 @@ if python3 checks/packets.py "$room" 2>"$room/err"; then
     else
         fail "$name" "$(cat "$room/err")"
     fi
+    # The same packets in pcapng, as Wireshark's programs write them: over one link, and over two.
+    as_file() {
+        ./tpmtool show --pcap "$room/$1.pcap" >"$room/out.wanted"
+        ./tpmtool show --pcap "$room/packets" | cmp - "$room/out.wanted"
+    }
+    in_pcapng() {
+        for packets in swtpm mssim cooked wrapped pieces two again lost cut fragment no_message unfinished; do
+            editcap -F pcapng "$room/$packets.pcap" "$room/packets" && as_file "$packets" || return 1
+        done
+        editcap -F pcap -r "$room/swtpm.pcap" "$room/first" 1-2 &&
+            editcap -F pcap -r "$room/cooked.pcap" "$room/second" 3-4 &&
+            mergecap -F pcapng -w "$room/packets" "$room/first" "$room/second" && as_file swtpm
+    }
+    name="packets in pcapng are told as those in a file of libpcap"
+    if ! command -v editcap >/dev/null || ! command -v mergecap >/dev/null; then
+        skip "$name" "editcap or mergecap is not there"
+    elif in_pcapng >"$room/out" 2>&1; then
+        pass "$name"
+    else
+        fail "$name" "$packets: $(cat "$room/out")"
+    fi
 else
     skip "packets" "python3 is not there"
 fi

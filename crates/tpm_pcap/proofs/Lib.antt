@@ -1,1 +1,1 @@
-pub mod Packets
+pub mod Reading

@@ -1,8 +1,12 @@
 pub mod Numbers
 pub mod Links
+pub mod Blocks
+pub mod Savefiles
+pub mod Pcapng
 pub mod Segments
+pub mod Sections
 pub mod Messages
 pub mod Entries
 pub mod Ways
 pub mod Talks
-pub mod Savefiles
+pub mod Files

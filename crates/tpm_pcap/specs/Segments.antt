@@ -1,6 +1,6 @@
 -- Segments of TCP on the port of a simulator (RFC 9293, 3.1; RFC 791, 3.1; RFC 8200, 3 and 4.5).
 use Rattle.std.specs.Prelude.{ℕ, ◌-◌, ◌*◌, ◌/◌, ◌%◌, ◌<◌, ◌==◌, ◌||◌, nat_lt, not, Bool, true, false, List, length}
-use Rattle.std.specs.Prelude.{take, drop, slice_index, if◌then◌else◌}
+use Rattle.std.specs.Prelude.{take, drop, slice_index, Option, Some, None, if◌then◌else◌}
 use Rattle.tpm_pcap.specs.declared.link.Link.{Link}
 use Rattle.tpm_pcap.specs.declared.segment.Found.{Found as RustFound}
 use Rattle.tpm_pcap.specs.declared.segment.Segment.{Segment as RustSegment}
@@ -21,11 +21,12 @@ pub record Segment : Type 0 where
   pub size : ℕ
   pub payload : List ℕ
 
--- nothing of the port; too little of it was captured; a part of a packet; a segment
+-- nothing of the port; too little of it was captured; a part of a packet; a link that is not known; a segment
 pub data Found : Type 0 where
   Other : Found
   Lacking : Found
   Fragment : Found
+  UnknownLink : Found
   OnPort : Segment → Found
 
 abbrev pub segment_as : RustSegment → Segment
@@ -44,6 +45,7 @@ abbrev pub found_as : RustFound → Found
 found_as rust.Other = Other
 found_as rust.Lacking = Lacking
 found_as rust.Fragment = Fragment
+found_as rust.UnknownLink = UnknownLink
 found_as (rust.Segment s) = OnPort (segment_as s)
 
 -- The packet ends before a header does. So it is, or so it was captured.
@@ -130,9 +132,14 @@ found_in link whole bytes =
     else if not (carries_internet link bytes) then Other
     else in_internet whole (drop (head_size link) bytes)
 
+abbrev pub found_by : Option Link → (whole : Bool) → List ℕ → Found
+found_by None whole bytes = UnknownLink
+found_by (Some link) whole bytes = found_in link whole bytes
+
 -- A packet of the internet has fewer than 2^16 bytes behind its header.
 abbrev pub IsSmall : Found → Type 0
 IsSmall Other = Unit {0}
 IsSmall Lacking = Unit {0}
 IsSmall Fragment = Unit {0}
+IsSmall UnknownLink = Unit {0}
 IsSmall (OnPort s) = s.size < 65536

@@ -5,7 +5,7 @@ use Rattle.std.specs.Str.{bytes_eq}
 use Rattle.tpm_pcap.specs.declared.entry.Reason.TheVariants as reasons
 use Rattle.tpm_pcap.specs.declared.talk.Talk.{Talk as RustTalk}
 use Rattle.tpm_pcap.specs.Entries.{Entry, Connection, Untold}
-use Rattle.tpm_pcap.specs.Segments.{Found, Other, Lacking, Fragment, OnPort, Segment}
+use Rattle.tpm_pcap.specs.Segments.{Found, Other, Lacking, Fragment, UnknownLink, OnPort, Segment}
 use Rattle.tpm_pcap.specs.Ways.{Way, way_as, new_way, after_segment, segment_told}
 
 -- the client's address, the simulator's and the client's port, and both ways
@@ -69,10 +69,12 @@ abbrev pub after_found : Talk → Found → Talk
 after_found t Other = t
 after_found t Lacking = t
 after_found t Fragment = t
+after_found t UnknownLink = t
 after_found t (OnPort s) = if matters s then after_matter t s else t
 
 abbrev pub found_told : (packet : ℕ) → Talk → Found → List Entry
 found_told packet t Other = []
 found_told packet t Lacking = Untold packet reasons.CutShort ∷ []
 found_told packet t Fragment = Untold packet reasons.Fragment ∷ []
+found_told packet t UnknownLink = Untold packet reasons.UnknownLink ∷ []
 found_told packet t (OnPort s) = if matters s then matter_told packet t s else []

@@ -5,6 +5,10 @@
 pub enum Reason {
     /// Not all of it was captured.
     CutShort,
+    /// The block of the file in which it would stand is not well formed.
+    Malformed,
+    /// The link that it was captured on is not known.
+    UnknownLink,
     /// It is a fragment of a packet of TCP.
     Fragment,
     /// Its bytes, or the first of them, came before.

@@ -1,14 +1,18 @@
 //! Captures of a network: the commands and the replies that went over a TPM simulator's port.
 #![tactic(auto)]
 
+mod block;
 mod entry;
+mod file;
 mod link;
 mod message;
 mod numbers;
+mod pcapng;
 mod savefile;
+mod section;
 mod segment;
 mod talk;
 mod way;
 
 pub use entry::{Entry, Reason};
-pub use savefile::{Traffic, traffic_in};
+pub use file::{Traffic, traffic_in};

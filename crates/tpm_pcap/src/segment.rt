@@ -1,8 +1,9 @@
 //! Segments of TCP.
 
 ghost use Rattle.std.specs.Prelude.{◌≡◌, ◌<◌, take, drop};
-ghost use Rattle.tpm_pcap.specs.Segments.{fragment, found_as, found_in, in_internet, in_tcp, in_version4, in_version6};
-ghost use Rattle.tpm_pcap.specs.Segments.{is_on_port, lacking, IsSmall, opens, segment_as, segment_of, tcp_head};
+ghost use Rattle.tpm_pcap.specs.Segments.{fragment, found_as, found_by, found_in, in_internet, in_tcp, in_version4};
+ghost use Rattle.tpm_pcap.specs.Segments.{in_version6, is_on_port, lacking, IsSmall, opens, segment_as, segment_of};
+ghost use Rattle.tpm_pcap.specs.Segments.{tcp_head};
 
 use crate::link::{Link, carries_internet, head_size};
 use crate::numbers::{byte_at, number2, number4};
@@ -40,6 +41,8 @@ pub(crate) enum Found<'a> {
     Lacking,
     /// A part of a packet.
     Fragment,
+    /// A packet of a kind of link that is not known.
+    UnknownLink,
     /// A segment on the port.
     Segment(Segment<'a>),
 }
@@ -242,9 +245,9 @@ fn in_internet<'a>(whole: bool, bytes: &'a [u8]) -> Found<'a>
 
 // ---- a packet
 
-/// What is in a packet of this kind of link, all of which was captured or not.
+// What is in a packet of this kind of link, all of which was captured or not.
 #[tactic(auto, unfolding(crate::specs::Segments::found_in))]
-pub(crate) fn found_in<'a>(link: Link, whole: bool, bytes: &'a [u8]) -> Found<'a>
+fn found_in<'a>(link: Link, whole: bool, bytes: &'a [u8]) -> Found<'a>
     ensures found { found_as result ≡ found_in link whole bytes.now }
     ensures small { IsSmall (found_as result) }
 {
@@ -255,4 +258,15 @@ pub(crate) fn found_in<'a>(link: Link, whole: bool, bytes: &'a [u8]) -> Found<'a
         return Found::Other;
     }
     in_internet(whole, &bytes[head_size(link)..])
+}
+
+/// What is in a packet of this kind of link, if that is known.
+pub(crate) fn found_by<'a>(link: Option<Link>, whole: bool, bytes: &'a [u8]) -> Found<'a>
+    ensures found { found_as result ≡ found_by link whole bytes.now }
+    ensures small { IsSmall (found_as result) }
+{
+    match link {
+        Some(link) => found_in(link, whole, bytes),
+        None => Found::UnknownLink,
+    }
 }

@@ -143,6 +143,10 @@ impl<'a> Talk<'a> {
                 entries.push(Entry::Untold(packet, Reason::Fragment))?;
                 Ok(())
             }
+            Found::UnknownLink => {
+                entries.push(Entry::Untold(packet, Reason::UnknownLink))?;
+                Ok(())
+            }
             Found::Segment(segment) => {
                 if matters(segment) {
                     self.take_matter(alloc, packet, segment, entries)

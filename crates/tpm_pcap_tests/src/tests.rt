@@ -66,6 +66,58 @@ const NO_TAG: &str = "\
     3f85086b0100000042000000420000002052454356002053454e440008004500003412340000ff06958d0a0000010a000002 \
     9c40091100000000000000005010200054e2000080030000000c0000017b0008";
 
+// A Section Header Block of pcapng, whose numbers have the least significant byte first.
+const SECTION: &str = "\
+    0a0d0d0a1c0000004d3c2b1a01000000ffffffffffffffff1c000000";
+
+// An Interface Description Block: Ethernet.
+const ETHERNET: &str = "\
+    0100000014000000010000000000000014000000";
+
+// The same of a kind of link that is not known, 147.
+const OTHER_LINK: &str = "\
+    0100000014000000930000000000000014000000";
+
+// Ethernet, of whose packets at most 70 bytes are captured.
+const SHORT_ETHERNET: &str = "\
+    0100000014000000010000004600000014000000";
+
+// An Interface Statistics Block.
+const OTHER_BLOCK: &str = "\
+    050000001800000000000000000000000000000018000000";
+
+// An Enhanced Packet Block: the command, on interface 0.
+const ENHANCED: &str = "\
+    060000006400000000000000000000000000000042000000420000002052454356002053454e440008004500003412340000 \
+    ff06958d0a0000010a0000029c40091100000000000000005010200054e4000080010000000c0000017b0008000064000000";
+
+// Its response.
+const ENHANCED_REPLY: &str = "\
+    060000006c0000000000000000000000000000004a0000004a0000002053454e440020524543560008004500003c12340000 \
+    ff0695850a0000020a00000109119c40000000000000000c5010200044ee0000800100000014000000000008112233445566 \
+    778800006c000000";
+
+// The command, on interface 1.
+const SECOND: &str = "\
+    060000006400000001000000000000000000000042000000420000002052454356002053454e440008004500003412340000 \
+    ff06958d0a0000010a0000029c40091100000000000000005010200054e4000080010000000c0000017b0008000064000000";
+
+// A Simple Packet Block: the response.
+const SIMPLE_REPLY: &str = "\
+    030000005c0000004a0000002053454e440020524543560008004500003c12340000ff0695850a0000020a00000109119c40 \
+    000000000000000c5010200044ee0000800100000014000000000008112233445566778800005c000000";
+
+// One with 72 of its 74 bytes.
+const SIMPLE_CUT: &str = "\
+    03000000580000004a0000002053454e440020524543560008004500003c12340000ff0695850a0000020a00000109119c40 \
+    000000000000000c5010200044ee000080010000001400000000000811223344556658000000";
+
+// A section of the other order: its interface, of IP alone, and the response.
+const BIG_SECTION: &str = "\
+    0a0d0d0a0000001c1a2b3c4d00010000ffffffffffffffff0000001c00000001000000140065000000000000000000140000 \
+    00060000005c0000000000000000000000000000003c0000003c4500003c12340000ff0695850a0000020a00000109119c40 \
+    000000000000000c5010200044ee000080010000001400000000000811223344556677880000005c";
+
 const GET_RANDOM: &str = "80010000000c0000017b0008";
 
 const EIGHT_BYTES: &str = "80010000001400000000 00081122334455667788";
@@ -73,6 +125,8 @@ const EIGHT_BYTES: &str = "80010000001400000000 00081122334455667788";
 fn mark_of(reason: Reason) -> &'static str {
     match reason {
         Reason::CutShort => "cut short",
+        Reason::Malformed => "malformed",
+        Reason::UnknownLink => "unknown link",
         Reason::Fragment => "a fragment",
         Reason::SentAgain => "sent again",
         Reason::OutOfOrder => "out of order",
@@ -140,6 +194,92 @@ fn packets_that_are_not_told(rt: HostRuntime) {
     let unfinished = [("=", "-"), ("unfinished", "02")];
     told(&rt, alloc, &[HEAD, SEND], &unfinished);
     told(&rt, alloc, &[HEAD, "00"], &[("cut short", "01")]);
+}
+
+#[test]
+fn blocks_of_pcapng(rt: HostRuntime) {
+    let alloc = rt.alloc();
+    let wanted = [("=", "-"), (">", GET_RANDOM), ("<", EIGHT_BYTES)];
+    let enhanced = [SECTION, ETHERNET, OTHER_BLOCK, ENHANCED, ENHANCED_REPLY];
+    told(&rt, alloc, &enhanced, &wanted);
+    told(
+        &rt,
+        alloc,
+        &[SECTION, ETHERNET, ENHANCED, SIMPLE_REPLY],
+        &wanted,
+    );
+    told(
+        &rt,
+        alloc,
+        &[SECTION, ETHERNET, ENHANCED, BIG_SECTION],
+        &wanted,
+    );
+    told(&rt, alloc, &[SECTION], &[]);
+}
+
+#[test]
+fn packets_by_their_interfaces(rt: HostRuntime) {
+    let alloc = rt.alloc();
+    let second = [("unknown link", "01"), ("=", "-"), (">", GET_RANDOM)];
+    told(
+        &rt,
+        alloc,
+        &[SECTION, OTHER_LINK, ETHERNET, ENHANCED, SECOND],
+        &second,
+    );
+    let none = [("unknown link", "01"), ("unknown link", "02")];
+    told(&rt, alloc, &[SECTION, ENHANCED, ETHERNET, SECOND], &none);
+    // a new section has none of those before it
+    let anew = [("=", "-"), (">", GET_RANDOM), ("unknown link", "02")];
+    told(
+        &rt,
+        alloc,
+        &[SECTION, ETHERNET, ENHANCED, SECTION, SIMPLE_REPLY],
+        &anew,
+    );
+}
+
+#[test]
+fn simple_packets_that_are_cut_short(rt: HostRuntime) {
+    let alloc = rt.alloc();
+    let cut = [("=", "-"), ("cut short", "01")];
+    told(&rt, alloc, &[SECTION, ETHERNET, SIMPLE_CUT], &cut);
+    told(&rt, alloc, &[SECTION, SHORT_ETHERNET, SIMPLE_REPLY], &cut);
+}
+
+// Behind a command these bytes are told so.
+fn behind_command(rt: &impl Abort, alloc: Global, block: &str, mark: &str) {
+    let wanted = [("=", "-"), (">", GET_RANDOM), (mark, "02")];
+    told(rt, alloc, &[SECTION, ETHERNET, ENHANCED, block], &wanted);
+}
+
+#[test]
+fn blocks_that_are_malformed(rt: HostRuntime) {
+    let alloc = rt.alloc();
+    // a length that is no multiple of four, one below 12, and one that is not repeated
+    behind_command(&rt, alloc, "050000000e00000000000e000000", "malformed");
+    behind_command(&rt, alloc, "050000000800000008000000", "malformed");
+    behind_command(&rt, alloc, "050000000c00000010000000", "malformed");
+    // an interface and packets that do not fit
+    behind_command(&rt, alloc, "01000000100000000100000010000000", "malformed");
+    behind_command(&rt, alloc, "030000000c0000000c000000", "malformed");
+    let enhanced = "0600000020000000000000000000000000000000010000000100000020000000";
+    behind_command(&rt, alloc, enhanced, "malformed");
+    // a section that does not fit, one of another magic, and one of major version 2
+    let small = "0a0d0d0a180000004d3c2b1a01000000ffffffff18000000";
+    behind_command(&rt, alloc, small, "malformed");
+    let magic = "0a0d0d0a1c0000000000000001000000ffffffffffffffff1c000000";
+    behind_command(&rt, alloc, magic, "malformed");
+    let version = "0a0d0d0a1c0000004d3c2b1a02000000ffffffffffffffff1c000000";
+    behind_command(&rt, alloc, version, "malformed");
+}
+
+#[test]
+fn blocks_that_are_cut_short(rt: HostRuntime) {
+    let alloc = rt.alloc();
+    behind_command(&rt, alloc, "0500000010000000", "cut short");
+    behind_command(&rt, alloc, "050000001000000000000000", "cut short");
+    told(&rt, alloc, &[SECTION, "00"], &[("cut short", "01")]);
 }
 
 #[test]

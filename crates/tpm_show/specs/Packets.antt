@@ -2,10 +2,10 @@
 use Rattle.std.specs.Prelude.{◌≡◌, ℕ, Bool, true, false, List, [], ◌∷◌, ◌++◌, codes, Some}
 use Rattle.std.specs.Fmt.{decimal}
 use Rattle.tpm_pcap.specs.declared.entry.Reason.TheVariants.{CutShort, Fragment, SentAgain, OutOfOrder, NoMessage}
-use Rattle.tpm_pcap.specs.declared.entry.Reason.TheVariants.{Unfinished}
+use Rattle.tpm_pcap.specs.declared.entry.Reason.TheVariants.{Malformed, UnknownLink, Unfinished}
 use Rattle.tpm_pcap.specs.declared.entry.Reason.{Reason}
 use Rattle.tpm_pcap.specs.Entries.{Entry, Connection, Untold}
-use Rattle.tpm_pcap.specs.Savefiles.{Traffic, NoCapture, OtherLink, Entries, traffic_in}
+use Rattle.tpm_pcap.specs.Files.{Traffic, NoCapture, OtherLink, Entries, traffic_in}
 use Rattle.tpm_lines.specs.declared.status.Status.TheVariants.{Done, Refused}
 use Rattle.tpm_lines.specs.declared.status.Status.{Status}
 use Rattle.tpm_lines.specs.Status.{both}
@@ -20,6 +20,8 @@ use Rattle.tpm_pcap.specs.Entries as went
 
 abbrev pub reason_text : Reason → List ℕ
 reason_text CutShort = codes "not told, cut short"
+reason_text Malformed = codes "not told, its block is malformed"
+reason_text UnknownLink = codes "not told, its link is not known"
 reason_text Fragment = codes "not told, a fragment"
 reason_text SentAgain = codes "not told, sent again"
 reason_text OutOfOrder = codes "not told, out of order"

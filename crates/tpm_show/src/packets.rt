@@ -31,6 +31,8 @@ fn reason_text(reason: Reason) -> &'static str
 {
     match reason {
         Reason::CutShort => "not told, cut short",
+        Reason::Malformed => "not told, its block is malformed",
+        Reason::UnknownLink => "not told, its link is not known",
         Reason::Fragment => "not told, a fragment",
         Reason::SentAgain => "not told, sent again",
         Reason::OutOfOrder => "not told, out of order",
@@ -209,17 +211,17 @@ fn print_link<W: Write>(
 /// Prints what `show` prints of each frame that went over a TPM simulator's port, or what `show --fields` prints, or an
 /// object of JSON in a line.
 ///
-/// The bytes are those of a file of libpcap (`tpm_pcap::traffic_in`). Each frame is told as `show_lines` tells that of
-/// a line with its mark, in the order in which the frames came, with their numbers from 1. A reply belongs to the
-/// command before it on the same connection.
+/// The bytes are those of a file of libpcap or of pcapng (`tpm_pcap::traffic_in`). Each frame is told as `show_lines`
+/// tells that of a line with its mark, in the order in which the frames came, with their numbers from 1. A reply
+/// belongs to the command before it on the same connection.
 ///
-/// A packet that is not told has the line `packet N: not told, cut short`, or `a fragment`, `sent again`, `out of
-/// order` or `no message begins where one should`; where a message did not come whole before the connection ended, or
-/// another began, the line is `packet N: a message before it did not come whole`. N is the packet's number in the file,
-/// from 1. Behind each but one that was sent again the next reply is told as one to a command that is not known. In
-/// JSON these are the members `packet` and `fault`.
+/// A packet that is not told has the line `packet N: not told, cut short`, or `its block is malformed`, `its link is
+/// not known`, `a fragment`, `sent again`, `out of order` or `no message begins where one should`; where a message did
+/// not come whole before the connection ended, or another began, the line is `packet N: a message before it did not
+/// come whole`. N is the packet's number in the file, from 1. Behind each but one that was sent again the next reply is
+/// told as one to a command that is not known. In JSON these are the members `packet` and `fault`.
 ///
-/// A file that is no capture of libpcap has the line `no capture of libpcap at 0`, and one of another kind of link
+/// A file that is a capture of neither has the line `no capture of libpcap at 0`, and libpcap's of another kind of link
 /// `link type N is not known at 20`. In JSON these are the members `fault` and `at`, how many bytes of the file are
 /// before what is at fault.
 ///

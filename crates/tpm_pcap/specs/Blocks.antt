@@ -1,0 +1,50 @@
+-- What stands in a file of either format, one behind the other.
+use Rattle.std.specs.Prelude.{ℕ, List, Result, Ok, Err}
+use Rattle.tpm_pcap.specs.declared.block.Block.{Block as RustBlock}
+use Rattle.tpm_pcap.specs.declared.block.Framed.{Framed as RustFramed}
+use Rattle.tpm_pcap.specs.declared.block.Interface.{Interface}
+use Rattle.tpm_pcap.specs.declared.block.Packet.{Packet as RustPacket}
+use Rattle.tpm_pcap.specs.declared.entry.Reason.{Reason}
+use Rattle.tpm_pcap.specs.declared.numbers.Order.{Order}
+use Rattle.tpm_pcap.specs.declared.block.Block.TheVariants as rust
+
+-- a packet: the number of its interface in the section, from 0, how many bytes it had, and those that were captured
+pub record Packet : Type 0 where
+  pub interface : ℕ
+  pub size : ℕ
+  pub bytes : List ℕ
+
+-- A section begins, whose numbers are in this order; the section has another interface; a packet; a packet of so many
+-- bytes on the section's first interface, of which as many as were captured are the first of these; nothing of packets.
+pub data Block : Type 0 where
+  Section : Order → Block
+  Describes : Interface → Block
+  Captured : Packet → Block
+  Simple : (size : ℕ) → List ℕ → Block
+  Other : Block
+
+-- a block, and how many bytes it has
+pub record Framed : Type 0 where
+  pub block : Block
+  pub size : ℕ
+
+-- a block, or why no more can be told
+abbrev pub Read : Type 0
+Read = Result Framed Reason
+
+abbrev pub packet_as : RustPacket → Packet
+packet_as p = record { interface = p.interface; size = p.size; bytes = p.bytes.now }
+
+abbrev pub block_as : RustBlock → Block
+block_as (rust.Section order) = Section order
+block_as (rust.Interface interface) = Describes interface
+block_as (rust.Packet p) = Captured (packet_as p)
+block_as (rust.Simple size bytes) = Simple size bytes.now
+block_as rust.Other = Other
+
+abbrev pub framed_as : RustFramed → Framed
+framed_as r = record { block = block_as r.block; size = r.size }
+
+abbrev pub read_as : Result RustFramed Reason → Read
+read_as (Ok r) = Ok (framed_as r)
+read_as (Err reason) = Err reason

@@ -1,0 +1,124 @@
+-- What a file tells: of libpcap's format (pcap-savefile(5)), or of pcapng (IETF draft-ietf-opsawg-pcapng).
+use Rattle.std.specs.Prelude.{ℕ, zero, suc, ◌+◌, ◌%◌, ◌==◌, nat_lt, List, [], ◌∷◌, ◌++◌, length, drop, Option, Some}
+use Rattle.std.specs.Prelude.{None, Ok, Err, if◌then◌else◌}
+use Rattle.tpm_pcap.specs.declared.file.Format.TheVariants.{Savefile, Pcapng}
+use Rattle.tpm_pcap.specs.declared.file.Format.{Format}
+use Rattle.tpm_pcap.specs.declared.file.Reader.{Reader as RustReader}
+use Rattle.tpm_pcap.specs.declared.file.Traffic.{Traffic as RustTraffic}
+use Rattle.tpm_pcap.specs.declared.link.Link.{Link}
+use Rattle.tpm_pcap.specs.declared.numbers.Order.{Order}
+use Rattle.tpm_pcap.specs.Blocks.{Block, Describes, Captured, Simple, Other, Framed, Packet, Read}
+use Rattle.tpm_pcap.specs.Entries.{Entry, Untold, entries_as}
+use Rattle.tpm_pcap.specs.Links.{link_of}
+use Rattle.tpm_pcap.specs.Numbers.{number4_in}
+use Rattle.tpm_pcap.specs.Pcapng.{block_in}
+use Rattle.tpm_pcap.specs.Savefiles.{record_in}
+use Rattle.tpm_pcap.specs.Sections.{Section, section_as, new_section, with_interface, simple_packet, found_of}
+use Rattle.tpm_pcap.specs.Talks.{Talk, talk_as, new_talk, after_found, found_told, unfinished}
+use Rattle.tpm_pcap.specs.Blocks as blocks
+use Rattle.tpm_pcap.specs.Pcapng as pcapng
+use Rattle.tpm_pcap.specs.Savefiles as savefile
+use Rattle.tpm_pcap.specs.declared.file.Traffic.TheVariants as rust
+
+-- ---- how far a file has been read
+
+-- the section, the connection that is told, and the number of the next packet
+pub record Reader : Type 0 where
+  pub section : Section
+  pub talk : Talk
+  pub packet : ℕ
+
+abbrev pub reader_as : RustReader → Reader
+reader_as r = record { section = section_as r.section; talk = talk_as r.talk; packet = r.packet }
+
+abbrev pub reader_of : Section → Reader
+reader_of s = record { section = s; talk = new_talk; packet = 1 }
+
+-- ---- a block
+
+abbrev pub after_packet : Reader → Packet → Reader
+after_packet r p = record r { talk = after_found r.talk (found_of r.section p); packet = r.packet + 1 }
+
+abbrev pub packet_told : Reader → Packet → List Entry
+packet_told r p = found_told r.packet r.talk (found_of r.section p)
+
+-- A new section has interfaces of its own.
+abbrev pub after_block : Reader → Block → Reader
+after_block r (blocks.Section order) = record r { section = new_section order }
+after_block r (Describes interface) = record r { section = with_interface r.section interface }
+after_block r (Captured p) = after_packet r p
+after_block r (Simple size bytes) = after_packet r (simple_packet r.section size bytes)
+after_block r Other = r
+
+abbrev pub block_told : Reader → Block → List Entry
+block_told r (blocks.Section order) = []
+block_told r (Describes interface) = []
+block_told r (Captured p) = packet_told r p
+block_told r (Simple size bytes) = packet_told r (simple_packet r.section size bytes)
+block_told r Other = []
+
+-- ---- blocks
+
+abbrev pub next_in : Format → Order → List ℕ → Read
+next_in Savefile order bytes = record_in order bytes
+next_in Pcapng order bytes = block_in order bytes
+
+abbrev pub ended : Reader → List Entry
+ended r = unfinished r.packet r.talk
+
+-- a block and those behind it, or that the next packet is not told, and why
+abbrev pub read_told : Reader → Read → (others : Framed → List Entry) → List Entry
+read_told r (Err reason) others = Untold r.packet reason ∷ ended r
+read_told r (Ok b) others = block_told r b.block ++ others b
+
+-- The blocks from here. There are no more of them than bytes.
+abbrev pub entries_from : Format → (most : ℕ) → Reader → List ℕ → List Entry
+entries_from format zero r bytes = ended r
+entries_from format (suc most) r bytes =
+    if length bytes == 0 then ended r
+    else read_told r (next_in format r.section.order bytes) (λ b. entries_from format most (after_block r b.block)
+    (drop b.size bytes))
+
+abbrev pub entries_of : Format → Section → List ℕ → List Entry
+entries_of format s bytes = entries_from format (length bytes) (reader_of s) bytes
+
+-- ---- a file
+
+-- what went over the port, if the file tells: it is no capture, or of a kind of link that is not known
+pub data Traffic : Type 0 where
+  NoCapture : Traffic
+  OtherLink : (number : ℕ) → Traffic
+  Entries : List Entry → Traffic
+
+abbrev pub traffic_as : RustTraffic → Traffic
+traffic_as rust.NoCapture = NoCapture
+traffic_as (rust.OtherLink number) = OtherLink number
+traffic_as (rust.Entries entries) = Entries (entries_as entries.items)
+
+-- libpcap's: behind its header, on the one interface of its kind of link
+abbrev pub on_link : Order → Link → Section
+on_link order link = with_interface (new_section order) (record { link = Some link; limit = 0 })
+
+abbrev pub savefile_over : Order → (number : ℕ) → Option Link → List ℕ → Traffic
+savefile_over order number None bytes = OtherLink number
+savefile_over order number (Some link) bytes = Entries (entries_of Savefile (on_link order link) (drop 24 bytes))
+
+abbrev pub link_number : Order → List ℕ → ℕ
+link_number order bytes = number4_in order bytes 20 % 65536
+
+abbrev pub savefile_by : Option Order → List ℕ → Traffic
+savefile_by None bytes = NoCapture
+savefile_by (Some order) bytes =
+    savefile_over order (link_number order bytes) (link_of (link_number order bytes)) bytes
+
+abbrev pub savefile_traffic : List ℕ → Traffic
+savefile_traffic bytes =
+    if nat_lt (length bytes) 24 then NoCapture else savefile_by (savefile.order_of bytes) bytes
+
+-- pcapng's, whose first block begins a section
+abbrev pub traffic_by : Option Order → List ℕ → Traffic
+traffic_by None bytes = savefile_traffic bytes
+traffic_by (Some order) bytes = Entries (entries_of Pcapng (new_section order) bytes)
+
+abbrev pub traffic_in : List ℕ → Traffic
+traffic_in bytes = traffic_by (pcapng.order_of bytes) bytes

@@ -1,0 +1,48 @@
+-- A section of a file: the order of its numbers, and its interfaces (IETF draft-ietf-opsawg-pcapng, "Physical File
+-- Layout"). A file of libpcap is one section, of one interface.
+use Rattle.std.specs.Prelude.{ℕ, ◌==◌, nat_lt, min, List, [], ◌∷◌, ◌++◌, length, take, Option, Some, None, slice_get}
+use Rattle.std.specs.Prelude.{if◌then◌else◌}
+use Rattle.tpm_pcap.specs.declared.block.Interface.{Interface}
+use Rattle.tpm_pcap.specs.declared.link.Link.{Link}
+use Rattle.tpm_pcap.specs.declared.numbers.Order.{Order}
+use Rattle.tpm_pcap.specs.declared.section.Section.{Section as RustSection}
+use Rattle.tpm_pcap.specs.Blocks.{Packet}
+use Rattle.tpm_pcap.specs.Segments.{Found, found_by}
+
+pub record Section : Type 0 where
+  pub order : Order
+  pub interfaces : List Interface
+
+abbrev pub section_as : RustSection → Section
+section_as s = record { order = s.order; interfaces = s.interfaces.items }
+
+abbrev pub new_section : Order → Section
+new_section order = record { order = order; interfaces = [] }
+
+-- The first 64 interfaces of a section are known.
+abbrev pub with_interface : Section → Interface → Section
+with_interface s interface =
+    if nat_lt (length s.interfaces) 64 then record s { interfaces = s.interfaces ++ interface ∷ [] } else s
+
+-- ---- packets
+
+abbrev pub link_of_interface : Option Interface → Option Link
+link_of_interface None = None
+link_of_interface (Some interface) = interface.link
+
+-- how many bytes are captured of a packet of so many; a limit of 0 is none
+abbrev pub captured_on : Option Interface → (size : ℕ) → ℕ
+captured_on None size = size
+captured_on (Some interface) size = if interface.limit == 0 then size else min interface.limit size
+
+-- A Simple Packet Block's packet is on interface 0.
+abbrev pub simple_packet : Section → (size : ℕ) → List ℕ → Packet
+simple_packet s size bytes = record {
+  interface = 0;
+  size = size;
+  bytes = take (captured_on (slice_get s.interfaces 0) size) bytes;
+}
+
+-- what is found in a packet
+abbrev pub found_of : Section → Packet → Found
+found_of s p = found_by (link_of_interface (slice_get s.interfaces p.interface)) (length p.bytes == p.size) p.bytes

@@ -1,0 +1,75 @@
+//! A section of a file.
+
+ghost use Rattle.std.specs.Prelude.{◌≡◌, slice_get};
+ghost use Rattle.tpm_pcap.specs.Blocks.{packet_as};
+ghost use Rattle.tpm_pcap.specs.Sections.{found_of, new_section, section_as, simple_packet, with_interface};
+ghost use Rattle.tpm_pcap.specs.Segments.{found_as, IsSmall};
+
+use crate::block::{Interface, Packet};
+use crate::numbers::Order;
+use crate::segment::{Found, found_by, front};
+use arrayvec::ArrayVec;
+
+/// The order of a section's numbers, and the first of its interfaces.
+#[derive(Drop)]
+pub(crate) struct Section {
+    /// The order of its numbers.
+    pub(crate) order: Order,
+    interfaces: ArrayVec<Interface, 64>,
+}
+
+impl Section {
+    /// A section without interfaces.
+    pub(crate) fn new(order: Order) -> Self
+        ensures { section_as result ≡ new_section order }
+    {
+        Section {
+            order,
+            interfaces: ArrayVec::new(),
+        }
+    }
+
+    /// Takes a description of the next interface.
+    pub(crate) fn describe(&mut self, interface: Interface)
+        ensures { section_as self.new ≡ with_interface (section_as self.old) interface }
+    {
+        if !self.interfaces.is_full() {
+            self.interfaces.push(interface);
+        }
+    }
+
+    // The interface with this number.
+    fn interface(&self, number: u32) -> Option<Interface>
+        ensures { result ≡ slice_get (section_as self.now).interfaces number }
+    {
+        self.interfaces.as_slice().get(number as usize).copied()
+    }
+
+    /// A packet of so many bytes on the first interface, of which as many as were captured are the first of these.
+    pub(crate) fn simple_packet<'a>(&self, size: u32, bytes: &'a [u8]) -> Packet<'a>
+        ensures { packet_as result ≡ simple_packet (section_as self.now) size bytes.now }
+    {
+        let captured = match self.interface(0) {
+            Some(interface) if interface.limit != 0 => interface.limit.min(size),
+            _ => size,
+        };
+        Packet {
+            interface: 0,
+            size,
+            bytes: front(bytes, captured as usize),
+        }
+    }
+
+    /// What is in a packet on an interface of the section.
+    pub(crate) fn found_of<'a>(&self, packet: &Packet<'a>) -> Found<'a>
+        ensures found { found_as result ≡ found_of (section_as self.now) (packet_as packet.now) }
+        ensures small { IsSmall (found_as result) }
+    {
+        let link = match self.interface(packet.interface) {
+            Some(interface) => interface.link,
+            None => None,
+        };
+        let whole = packet.bytes.len() == packet.size as usize;
+        found_by(link, whole, packet.bytes)
+    }
+}
