@@ -77,6 +77,17 @@ NUMBERS = {
     "BYTE": lambda number, octets: [i for i in range(8 * len(octets)) if octets[i // 8] >> i % 8 & 1],
     "TPMA_NV": lambda number, octets: [number >> 4 & 15] + [1] * bin(number & ~0xF0).count("1"),
 }
+# Part 2, 7.4 and 7.2: permanent handles, and kinds of handles by their first byte.
+PERMANENT = {
+    0: "SRK", 1: "OWNER", 2: "REVOKE", 3: "TRANSPORT", 4: "OPERATOR", 5: "ADMIN", 6: "EK", 7: "NULL", 8: "UNASSIGNED", 10: "LOCKOUT",
+    11: "ENDORSEMENT", 12: "PLATFORM", 13: "PLATFORM_NV", 0x10: "AUTH_00", 0x10F: "AUTH_FF", **{0x110 + i: f"ACT_{i:X}" for i in range(16)},
+}
+KINDS = {
+    0x00: "PCR", 0x01: "NV_INDEX", 0x02: "HMAC_SESSION", 0x03: "POLICY_SESSION", 0x40: "PERMANENT", 0x80: "TRANSIENT", 0x81: "PERSISTENT",
+    0x90: "AC",
+}
+# Part 2, 8.4: the bits of a session's attributes, of which two are reserved.
+ATTRIBUTES = ("continueSession", "auditExclusive", "auditReset", None, None, "decrypt", "encrypt", "audit")
 # The names that Part 2 gives to numbers (6.3, 6.10, 6.11), by the types of the fields that they stand in.
 ALGORITHMS = {0x0004: "SHA1", 0x0006: "AES", 0x000A: "XOR", 0x000B: "SHA256", 0x000C: "SHA384", 0x0010: "NULL", 0x0043: "CFB"}
 ALGORITHMS = {number: "TPM_ALG_" + name for number, name in ALGORITHMS.items()}
@@ -231,12 +242,37 @@ def session(data, at, names):
     nonce, at = sized(data, at)
     attributes, at = take(data, at, 1)
     hmac, at = sized(data, at)
-    return dict(names, nonce=nonce.hex(), attributes=attributes.hex(), hmac=hmac.hex()), at
+    attribute_names = [name for bit, name in enumerate(ATTRIBUTES) if name and attributes[0] >> bit & 1]
+    return dict(names, nonce=nonce.hex(), attributes=attributes.hex(), attribute_names=attribute_names, hmac=hmac.hex()), at
 
 
 def handles(data, at, count):
+    want(at + 4 * count <= len(data), "its handles pass it")
     found = [data[i:i + 4].hex() for i in range(at, at + 4 * count, 4)]
-    return found, at + 4 * count
+    return {"handles": found, "handle_names": [handle_name(handle) for handle in found]}, at + 4 * count
+
+
+def handle_name(handle):
+    """The name of a handle or of its kind, where it has one."""
+    number = int(handle, 16)
+    if number == 0x40000009:
+        return "TPM_RS_PW"
+    if number - 0x40000000 in PERMANENT:
+        return "TPM_RH_" + PERMANENT[number - 0x40000000]
+    return "TPM_HT_" + KINDS[number >> 24] if number >> 24 in KINDS else None
+
+
+def name_of_code(found, key, code):
+    """The name of a response code where one is told: its form alone is known here, and what the code is about."""
+    if key not in found:
+        want(code != 0, "the code 0 has no name")
+        return {}
+    subject = "parameter" if code & 0x40 else "session" if code & 0x800 else "handle"
+    number = code >> 8 & (15 if code & 0x40 else 7)
+    behind_name = f" for {subject} {number}" if code & 0x80 and number else ""
+    want(re.fullmatch("TPM_RC_[A-Z0-9_]+" + behind_name, found[key]), "the name of a response's code")
+    want((code != 0) == (found[key] != "TPM_RC_SUCCESS"), "the name of the code 0")
+    return {key: found[key]}
 
 
 def name_of(code):
@@ -257,24 +293,13 @@ def header(mark, awaited, data, found):
         members["tag_name"] = TAGS[tag]
     if mark == ">":
         return {**members, "command_code": f"{code:08x}"}
-    members["code"] = f"{code:03x}"
-    if "code_name" in found:
-        subject = "parameter" if code & 0x40 else "session" if code & 0x800 else "handle"
-        number = code >> 8 & (15 if code & 0x40 else 7)
-        behind = f" for {subject} {number}" if code & 0x80 and number else ""
-        want(re.fullmatch("TPM_RC_[A-Z0-9_]+" + behind, found["code_name"]), "the name of a response's code")
-        want((code != 0) == (found["code_name"] != "TPM_RC_SUCCESS"), "the name of the code 0")
-        members["code_name"] = found["code_name"]
-    else:
-        want(code != 0, "the code 0 has no name")
-    return members
+    return {**members, "code": f"{code:03x}", **name_of_code(found, "code_name", code)}
 
 
 def command(data):
     """The members of a command behind its header."""
     tag, _, code = struct.unpack_from(">HII", data)
     found, at = handles(data, 10, COMMANDS[code][1])
-    want(at <= len(data), "its handles pass it")
     sessions = []
     if tag == 0x8002:
         area, at = take(data, at, 4)
@@ -283,17 +308,17 @@ def command(data):
         inside = 0
         while inside < len(area):
             handle, inside = take(area, inside, 4)
-            one, inside = session(area, inside, {"session": handle.hex()})
+            names = {"session": handle.hex(), "session_name": handle_name(handle.hex())}
+            one, inside = session(area, inside, names)
             sessions.append(one)
         want(len(sessions) <= 3, "it has too many sessions")
-    return {"handles": found, "sessions": sessions, "parameters": data[at:].hex()}
+    return {**found, "sessions": sessions, "parameters": data[at:].hex()}
 
 
 def reply(code, data):
     """The members of a response to this command behind its header, which has the code 0."""
     tag = struct.unpack_from(">H", data)[0]
     found, at = handles(data, 10, COMMANDS[code][2])
-    want(at <= len(data), "its handle passes it")
     sessions = []
     if tag == 0x8002:
         size, at = take(data, at, 4)
@@ -304,7 +329,7 @@ def reply(code, data):
         want(len(sessions) <= 3, "it has too many sessions")
     else:
         parameters = data[at:]
-    return {"handles": found, "sessions": sessions, "parameters": parameters.hex()}
+    return {**found, "sessions": sessions, "parameters": parameters.hex()}
 
 
 def may_be_told(sessions):
@@ -398,13 +423,22 @@ def check_fields(fields, data):
     want(at == len(data), "the fields are not the parameters")
 
 
+def value_name(kind, value):
+    """The name of the number of a field of this type, where it has one."""
+    if kind in ("TPMI_DH_CONTEXT", "TPMI_RH_NV_INDEX"):
+        return handle_name(value)
+    number = int(value or "0", 16)
+    if kind == "TPM_CC":
+        return "TPM_CC_" + COMMANDS[number][0] if number in COMMANDS else None
+    return VALUE_NAMES.get(kind, {}).get(number)
+
+
 def check_field(field):
     """The bytes of a field, which may have a list of its parts: fields, whose bytes are its own behind a size or a count, or numbers."""
     want(isinstance(field, dict) and set(field) - {"fields", "value_name"} == {"name", "type", "value"}, f"the members of a field: {field}")
     want(all(isinstance(field[key], str) and field[key] for key in ("name", "type")), f"a field's name and type: {field}")
     value = hexadecimal(field["value"])
-    names = VALUE_NAMES.get(field["type"], {})
-    want(field.get("value_name") == names.get(int.from_bytes(value, "big")), f"the name of a value: {field}")
+    want(field.get("value_name") == value_name(field["type"], field["value"]), f"the name of a value: {field}")
     parts = field.get("fields")
     want(parts is None or isinstance(parts, list), "fields that are no list")
     if parts is not None and field["type"] in NUMBERS:
@@ -471,7 +505,7 @@ class Teller:
         code, at = found["refused"], found.get("at")
         want(isinstance(code, str) and re.fullmatch("[0-9a-f]{3}", code), "a refusal's code")
         want(type(at) is int and 0 <= at <= size, "the place of a refusal")
-        head.update(refused=code, at=at)
+        head.update(refused=code, at=at, **name_of_code(found, "fault", int(code, 16)))
         if head["kind"] == "command" and (code, at) == ("143", 6) and int(head["command_code"], 16) in COMMANDS:
             head["name"] = "TPM2_" + head["command"]
         same(found, {**head, **members})

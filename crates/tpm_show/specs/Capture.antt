@@ -120,7 +120,7 @@ TellsCommand json fields bytes Done text = (c : CommandOf) × (areas : Cut) × S
     × (text ≡ command_rest json fields areas c.body)
 TellsCommand json fields bytes Refused text = (refusal : Refusal) × Fault command bytes refusal
     × (text ≡ refusal_told json refusal
-    ++ (absent_behind json refusal (code_number_in bytes) ++ library_command json bytes (header_in bytes)))
+    ++ (absent_behind json refusal (code_number_in bytes) ++ library_command json fields bytes (header_in bytes)))
 
 -- a response to this command that the bytes spell, and else their fault
 abbrev pub TellsReplyTo : (json fields : Bool) → CommandCode → List ℕ → Status → List ℕ → Type 0
@@ -135,15 +135,15 @@ sentence_text false sentence = sentence ++ codes "\n"
 sentence_text true sentence = fault_member sentence
 
 -- a response to a command that the profile hasn't
-abbrev pub other_reply : (json : Bool) → Option Listed → List ℕ → List ℕ
-other_reply json None bytes = sentence_text json (codes "its command is not known")
-other_reply json (Some c) bytes = library_response json c bytes (header_in bytes)
+abbrev pub other_reply : (json fields : Bool) → Option Listed → List ℕ → List ℕ
+other_reply json fields None bytes = sentence_text json (codes "its command is not known")
+other_reply json fields (Some c) bytes = library_response json fields c bytes (header_in bytes)
 
 abbrev pub TellsReply : (json fields : Bool) → Awaited → List ℕ → Status → List ℕ → Type 0
 TellsReply json fields (awaits.Reply command) bytes status text =
     TellsReplyTo json fields command bytes status text
 TellsReply json fields (awaits.Other code) bytes status text =
-    (status ≡ Refused) × (text ≡ other_reply json (command_of code) bytes)
+    (status ≡ Refused) × (text ≡ other_reply json fields (command_of code) bytes)
 TellsReply json fields awaits.Unknown bytes status text =
     (status ≡ Refused) × (text ≡ sentence_text json (codes "its command is not known"))
 TellsReply json fields awaits.Nothing bytes status text =

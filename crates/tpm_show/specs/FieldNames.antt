@@ -1,8 +1,10 @@
 -- The names that Part 2 gives to numbers, by the types of the fields that they stand in (this profile; RFC 8259).
-use Rattle.std.specs.Prelude.{ℕ, ◌+◌, ◌*◌, Bool, true, false, if◌then◌else◌, List, [], ◌∷◌, ◌++◌, codes as text}
+use Rattle.std.specs.Prelude.{ℕ, ◌+◌, ◌*◌, ◌||◌, Bool, true, false, if◌then◌else◌, List, [], ◌∷◌, ◌++◌, codes as text}
 use Rattle.std.specs.Prelude.{Option, Some, None}
 use Rattle.std.specs.Str.{bytes_eq}
 use Rattle.tpm_lines.specs.Named.{Named, named, named_in}
+use Rattle.tpm_show.specs.CommandNames.{Listed, command_of}
+use Rattle.tpm_show.specs.HandleNames.{handle_named}
 
 -- ---- tables
 
@@ -69,27 +71,53 @@ names_for type =
     else if bytes_eq type (text "TPM_SE") then session_types
     else []
 
+-- the types of handles
+abbrev pub is_handle : (type : List ℕ) → Bool
+is_handle type = bytes_eq type (text "TPMI_DH_CONTEXT") || bytes_eq type (text "TPMI_RH_NV_INDEX")
+
 -- ---- the name of a field's number
 
--- the number that one or two bytes spell, the more significant first
+-- the number that one, two or four bytes spell, the most significant first
 abbrev pub number_in : List ℕ → Option ℕ
 number_in (n ∷ []) = Some n
 number_in (high ∷ low ∷ []) = Some (low + 256 * high)
+number_in (a ∷ b ∷ c ∷ d ∷ []) = Some (d + 256 * (c + 256 * (b + 256 * a)))
 number_in _ = None
 
-abbrev pub name_among : List Named → Option ℕ → Option Named
-name_among table None = None
-name_among table (Some n) = named_in table n
+-- of this type: a handle's name, or that of its table
+unfoldable pub named_of : (type : List ℕ) → ℕ → Option Named
+named_of type n = if is_handle type then handle_named n else named_in (names_for type) n
+
+abbrev pub name_among : (type : List ℕ) → Option ℕ → Option Named
+name_among type None = None
+name_among type (Some n) = named_of type n
 
 -- of a field of this type and these bytes
 abbrev pub name_of : (type bytes : List ℕ) → Option Named
-name_of type bytes = name_among (names_for type) (number_in bytes)
+name_of type bytes = name_among type (number_in bytes)
 
--- behind the bytes in a line, or behind the member of them
+-- the command of the library whose code these bytes are (TPM_CC, 6.5.2)
+abbrev pub command_among : Option ℕ → Option Listed
+command_among None = None
+command_among (Some code) = command_of code
+
+abbrev pub command_in : (bytes : List ℕ) → Option Listed
+command_in bytes = command_among (number_in bytes)
+
+-- a name of two parts behind the bytes in a line, or behind the member of them
+unfoldable pub behind_value : (json : Bool) → (front name : List ℕ) → List ℕ
+behind_value false front name = text " " ++ (front ++ name)
+behind_value true front name = text ",\"value_name\":\"" ++ (front ++ (name ++ text "\""))
+
 abbrev pub name_behind : (json : Bool) → Option Named → List ℕ
 name_behind json None = []
-name_behind false (Some n) = text " " ++ n.name
-name_behind true (Some n) = text ",\"value_name\":\"" ++ (n.name ++ text "\"")
+name_behind json (Some n) = behind_value json [] n.name
+
+abbrev pub command_behind : (json : Bool) → Option Listed → List ℕ
+command_behind json None = []
+command_behind json (Some c) = behind_value json (text "TPM_CC_") c.name
 
 unfoldable pub value_name : (json : Bool) → (type bytes : List ℕ) → List ℕ
-value_name json type bytes = name_behind json (name_of type bytes)
+value_name json type bytes =
+    if bytes_eq type (text "TPM_CC") then command_behind json (command_in bytes)
+    else name_behind json (name_of type bytes)

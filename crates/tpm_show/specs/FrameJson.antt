@@ -1,14 +1,23 @@
 -- The members of an object of `show --json` (this profile; RFC 8259).
-use Rattle.std.specs.Prelude.{ℕ, Bool, true, false, List, [], ◌∷◌, ◌++◌, codes, Option, Some, None}
+use Rattle.std.specs.Prelude.{ℕ, Bool, true, false, List, [], ◌++◌, codes}
 use Rattle.std.specs.Fmt.{decimal}
 use Rattle.tpm_wire.specs.declared.refusal.Refusal.{Refusal}
-use Rattle.tpm_lines.specs.Text.{Session, handle_text, hex_member, hexadecimal, lines_from, session_text}
+use Rattle.tpm_lines.specs.Text.{hex_member, hexadecimal}
+use Rattle.tpm_show.specs.Explain.{meaning_of}
+use Rattle.tpm_show.specs.Headers.{code_name_member}
 
 -- ---- refusals and faults
 
+unfoldable pub refused_code : ℕ → List ℕ
+refused_code code = codes ",\"refused\":\"" ++ (hexadecimal 3 code ++ codes "\"")
+
+-- a response code, and its name where Part 2 has one (6.6)
+abbrev pub refused_members : ℕ → List ℕ
+refused_members code = refused_code code ++ code_name_member (codes "fault") (meaning_of code) code
+
+-- and how many bytes precede the fault
 unfoldable pub refusal_members : Refusal → List ℕ
-refusal_members refusal =
-    codes ",\"refused\":\"" ++ (hexadecimal 3 refusal.code ++ (codes "\",\"at\":" ++ decimal refusal.at))
+refusal_members refusal = refused_members refusal.code ++ (codes ",\"at\":" ++ decimal refusal.at)
 
 abbrev pub fault_member : List ℕ → List ℕ
 fault_member fault = codes ",\"fault\":\"" ++ (fault ++ codes "\"")
@@ -24,12 +33,6 @@ stop_object number fault at = codes "{\"number\":"
 
 -- ---- what stands behind the header
 
-unfoldable pub handles_member : List ℕ → List ℕ
-handles_member handles = codes ",\"handles\":[" ++ (lines_from (handle_text true) 1 handles ++ codes "]")
-
-unfoldable pub sessions_member : List Session → List ℕ
-sessions_member sessions = codes ",\"sessions\":[" ++ (lines_from (session_text true) 1 sessions ++ codes "]")
-
 abbrev pub parameters_member : List ℕ → List ℕ
 parameters_member bytes = hex_member (codes "parameters") bytes
 
@@ -37,7 +40,3 @@ parameters_member bytes = hex_member (codes "parameters") bytes
 abbrev pub fields_member : (fields : Bool) → List ℕ → List ℕ
 fields_member false objects = []
 fields_member true objects = codes ",\"fields\":[" ++ (objects ++ codes "]")
-
-abbrev pub handles_of : Option ℕ → List ℕ
-handles_of None = []
-handles_of (Some handle) = handle ∷ []

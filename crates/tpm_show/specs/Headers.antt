@@ -94,9 +94,11 @@ abbrev pub tag_member : Option Named → List ℕ
 tag_member None = []
 tag_member (Some n) = codes ",\"tag_name\":\"" ++ (n.name ++ codes "\"")
 
-abbrev pub code_name_member : Option Meaning → ℕ → List ℕ
-code_name_member None code = []
-code_name_member (Some m) code = codes ",\"code_name\":\"" ++ (code_name code m ++ codes "\"")
+-- the name of a response code under this member
+abbrev pub code_name_member : (member : List ℕ) → Option Meaning → ℕ → List ℕ
+code_name_member member None code = []
+code_name_member member (Some m) code =
+    codes ",\"" ++ (member ++ (codes "\":\"" ++ (code_name code m ++ codes "\"")))
 
 unfoldable pub size_and_tag_members : FrameHeader → List ℕ
 size_and_tag_members h = codes ",\"size\":"
@@ -117,4 +119,4 @@ answered_member (Some code) = command_member code
 unfoldable pub reply_head_members : (command : Option ℕ) → FrameHeader → List ℕ
 reply_head_members command h = answered_member command
     ++ (size_and_tag_members h ++ (codes ",\"code\":\"" ++ (hexadecimal 3 h.code
-    ++ (codes "\"" ++ code_name_member (meaning_of h.code) h.code))))
+    ++ (codes "\"" ++ code_name_member (codes "code_name") (meaning_of h.code) h.code))))

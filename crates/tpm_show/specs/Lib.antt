@@ -1,9 +1,12 @@
 pub mod Digits
 pub mod ReplyText
+pub mod HandleNames
 pub mod FieldNames
 pub mod FieldText
+pub mod Bits
 pub mod Parts
 pub mod Fields
+pub mod Sessions
 pub mod FrameJson
 pub mod Show
 pub mod Capture

@@ -14,9 +14,9 @@ use Rattle.tpm_types.specs.declared.tpms.AuthReply.{AuthReply}
 use Rattle.tpm_types.specs.Tpms.{auth_command, auth_response}
 use Rattle.tpm_buffer.specs.Commands.{is_tag, authorization_size}
 use Rattle.tpm_buffer.specs.Responses.{parameter_size}
-use Rattle.tpm_lines.specs.Text.{of_command, of_reply}
 use Rattle.tpm_show.specs.declared.frame_header.FrameHeader.{FrameHeader}
 use Rattle.tpm_show.specs.CommandNames.{Listed, command_of}
+use Rattle.tpm_show.specs.Sessions.{of_command, of_reply}
 use Rattle.tpm_show.specs.Show.{areas_told, reply_areas_told}
 
 -- ---- what commands and responses share
@@ -83,29 +83,31 @@ response_areas handles tag = field (λ a. a.handles) (any_handles handles) (λ h
 
 -- ---- what is told of them
 
-abbrev pub command_areas_read : (json : Bool) → Result CommandAreas Refusal → List ℕ
-command_areas_read json (Ok a) = areas_told json a.handles (map of_command a.auths) a.params
-command_areas_read json (Err e) = []
+abbrev pub command_areas_read : (json names : Bool) → Result CommandAreas Refusal → List ℕ
+command_areas_read json names (Ok a) = areas_told json names a.handles (map of_command a.auths) a.params
+command_areas_read json names (Err e) = []
 
-abbrev pub command_areas_of : (json : Bool) → Option Listed → (tag : ℕ) → Option (List ℕ) → List ℕ
-command_areas_of json (Some c) tag (Some rest) = command_areas_read json (read_all (command_areas c.handles tag) rest)
-command_areas_of json _ tag _ = []
+abbrev pub command_areas_of : (json names : Bool) → Option Listed → (tag : ℕ) → Option (List ℕ) → List ℕ
+command_areas_of json names (Some c) tag (Some rest) =
+    command_areas_read json names (read_all (command_areas c.handles tag) rest)
+command_areas_of json names _ tag _ = []
 
 -- of a command of the library, where its handles and its sessions are there
-abbrev pub library_command : (json : Bool) → List ℕ → Option FrameHeader → List ℕ
-library_command json bytes None = []
-library_command json bytes (Some h) = command_areas_of json (command_of h.code) h.tag (behind_whole bytes h)
+abbrev pub library_command : (json names : Bool) → List ℕ → Option FrameHeader → List ℕ
+library_command json names bytes None = []
+library_command json names bytes (Some h) = command_areas_of json names (command_of h.code) h.tag (behind_whole bytes h)
 
-abbrev pub response_areas_read : (json : Bool) → Result ResponseAreas Refusal → List ℕ
-response_areas_read json (Ok a) = reply_areas_told json a.handles a.params (map of_reply a.auths)
-response_areas_read json (Err e) = []
+abbrev pub response_areas_read : (json names : Bool) → Result ResponseAreas Refusal → List ℕ
+response_areas_read json names (Ok a) = reply_areas_told json names a.handles a.params (map of_reply a.auths)
+response_areas_read json names (Err e) = []
 
-abbrev pub response_areas_of : (json : Bool) → Listed → (tag : ℕ) → Option (List ℕ) → List ℕ
-response_areas_of json c tag None = []
-response_areas_of json c tag (Some rest) = response_areas_read json (read_all (response_areas c.reply_handles tag) rest)
+abbrev pub response_areas_of : (json names : Bool) → Listed → (tag : ℕ) → Option (List ℕ) → List ℕ
+response_areas_of json names c tag None = []
+response_areas_of json names c tag (Some rest) =
+    response_areas_read json names (read_all (response_areas c.reply_handles tag) rest)
 
 -- of a response of code 0 that is to this command of the library, where they are there
-abbrev pub library_response : (json : Bool) → Listed → List ℕ → Option FrameHeader → List ℕ
-library_response json c bytes None = []
-library_response json c bytes (Some h) =
-    if h.code == 0 then response_areas_of json c h.tag (behind_whole bytes h) else []
+abbrev pub library_response : (json names : Bool) → Listed → List ℕ → Option FrameHeader → List ℕ
+library_response json names c bytes None = []
+library_response json names c bytes (Some h) =
+    if h.code == 0 then response_areas_of json names c h.tag (behind_whole bytes h) else []

@@ -7,11 +7,13 @@ use Rattle.tpm_types.specs.declared.tpms.NvPublic.{NvPublic}
 use Rattle.tpm_types.specs.declared.tpms.Selection.{Selection}
 use Rattle.tpm_types.specs.declared.tpmt.SymDef.{SymDef}
 use Rattle.tpm_types.specs.Tpm2b.{digest}
-use Rattle.tpm_types.specs.Tpma.{is_set, nv_type}
+use Rattle.tpm_types.specs.Tpma.{nv_type}
 use Rattle.tpm_types.specs.Tpms.{selection, is_selected, nv_public_area}
 use Rattle.tpm_types.specs.Tpmt.{digest_value, sym_def}
 use Rattle.tpm_lines.specs.Named.{Named, named as numbered}
 use Rattle.tpm_lines.specs.Text.{lines_from}
+use Rattle.tpm_show.specs.declared.bits.BitsAs.TheVariants.{Numbers}
+use Rattle.tpm_show.specs.Bits.{bits_of}
 use Rattle.tpm_show.specs.FieldText.{Field, named, parts, fields_from, field_text, structure_text, number_text}
 
 -- ---- TPMA_NV (13.4)
@@ -42,17 +44,14 @@ attribute_names =
     numbered 31 (text "TPMA_NV_READ_STCLEAR") ∷
     []
 
-abbrev pub attribute_entry : (json : Bool) → ℕ → Named → List ℕ
-attribute_entry json i bit = number_text json (text "      ") i bit.name 1
-
--- each bit of a table that is set
-abbrev pub bits_of : List Named → (json : Bool) → ℕ → List ℕ
-bits_of table json attrs = lines_from (attribute_entry json) 2 (filter (λ bit. is_set bit.number attrs) table)
+-- each of them that is set
+abbrev pub set_attributes : (json : Bool) → ℕ → List ℕ
+set_attributes json attrs = bits_of attribute_names json Numbers 2 attrs
 
 -- the field TPM_NT, whatever it is, and the bits
 abbrev pub attribute_parts : (json : Bool) → ℕ → List ℕ
 attribute_parts json attrs =
-    number_text json (text "      ") 1 (text "TPM_NT") (nv_type attrs) ++ bits_of attribute_names json attrs
+    number_text json (text "      ") 1 (text "TPM_NT") (nv_type attrs) ++ set_attributes json attrs
 
 -- ---- TPMS_NV_PUBLIC (13.5), which is what TPM2B_NV_PUBLIC (13.6) has
 

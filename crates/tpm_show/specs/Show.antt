@@ -14,29 +14,29 @@ use Rattle.tpm_buffer.specs.ResponseAreas.{handle_of}
 use Rattle.tpm_buffer.specs.Responses.{ReplyCut, reply_cut, response}
 use Rattle.tpm_lines.specs.declared.status.Status.TheVariants.{Done, Refused}
 use Rattle.tpm_lines.specs.declared.status.Status.{Status}
-use Rattle.tpm_lines.specs.Text.{Session, lines_from, command_text, handle_text, of_command, of_reply}
-use Rattle.tpm_lines.specs.Text.{parameters_line, refusal_line, session_text, not_hexadecimal_line}
+use Rattle.tpm_lines.specs.Text.{command_line, parameters_line, refusal_line, not_hexadecimal_line}
 use Rattle.tpm_show.specs.Digits.{buffer_in}
-use Rattle.tpm_show.specs.ReplyText.{reply_line, reply_handle_line, reply_code_line}
+use Rattle.tpm_show.specs.ReplyText.{handles_of, reply_line, reply_code_line}
 use Rattle.tpm_show.specs.Fields.{command_fields, reply_fields}
-use Rattle.tpm_show.specs.FrameJson.{fields_member, handles_member, handles_of, parameters_member, refusal_members}
-use Rattle.tpm_show.specs.FrameJson.{sessions_member}
+use Rattle.tpm_show.specs.FrameJson.{fields_member, parameters_member, refusal_members}
+use Rattle.tpm_show.specs.HandleNames.{handle_lines, handles_members}
+use Rattle.tpm_show.specs.Sessions.{Session, of_command, of_reply, session_lines, sessions_member}
 
 -- ---- behind the header
 
 -- what stands behind a command's header: its handles, its sessions, and its parameters as they came
-unfoldable pub areas_told : (json : Bool) → (handles : List ℕ) → List Session → (params : List ℕ) → List ℕ
-areas_told false handles sessions params = lines_from (handle_text false) 1 handles
-    ++ (lines_from (session_text false) 1 sessions ++ parameters_line params)
-areas_told true handles sessions params = handles_member handles
-    ++ (sessions_member sessions ++ parameters_member params)
+unfoldable pub areas_told : (json names : Bool) → (handles : List ℕ) → List Session → (params : List ℕ) → List ℕ
+areas_told false names handles sessions params =
+    handle_lines names handles ++ (session_lines names sessions ++ parameters_line params)
+areas_told true names handles sessions params =
+    handles_members handles ++ (sessions_member sessions ++ parameters_member params)
 
 -- what stands behind a response's header: its handles, its parameters as they came, and its sessions
-unfoldable pub reply_areas_told : (json : Bool) → (handles params : List ℕ) → List Session → List ℕ
-reply_areas_told false handles params sessions = lines_from (handle_text false) 1 handles
-    ++ (parameters_line params ++ lines_from (session_text false) 1 sessions)
-reply_areas_told true handles params sessions = handles_member handles
-    ++ (parameters_member params ++ sessions_member sessions)
+unfoldable pub reply_areas_told : (json names : Bool) → (handles params : List ℕ) → List Session → List ℕ
+reply_areas_told false names handles params sessions =
+    handle_lines names handles ++ (parameters_line params ++ session_lines names sessions)
+reply_areas_told true names handles params sessions =
+    handles_members handles ++ (parameters_member params ++ sessions_member sessions)
 
 -- the parameters by their names and their types, where these are asked for
 abbrev pub named_parameters : (fields : Bool) → CommandBody → List ℕ
@@ -54,16 +54,15 @@ parameters_told true fields body = fields_member fields (command_fields true bod
 -- a command, in lines or in members of an object
 unfoldable pub command_rest : (json fields : Bool) → Cut → CommandBody → List ℕ
 command_rest json fields areas body =
-    areas_told json areas.handles (map of_command areas.auths) areas.params ++ parameters_told json fields body
+    areas_told json fields areas.handles (map of_command areas.auths) areas.params ++ parameters_told json fields body
 
 -- a reply: its handle, its parameters likewise, and its sessions
 unfoldable pub reply_rest : (json fields : Bool) → ReplyCut → ReplyBody → List ℕ
 reply_rest false fields r body =
-    reply_handle_line (handle_of r)
-    ++ (parameters_line r.params
-    ++ (named_fields fields body ++ lines_from (session_text false) 1 (map of_reply r.auths)))
+    handle_lines fields (handles_of (handle_of r))
+    ++ (parameters_line r.params ++ (named_fields fields body ++ session_lines fields (map of_reply r.auths)))
 reply_rest true fields r body =
-    handles_member (handles_of (handle_of r))
+    handles_members (handles_of (handle_of r))
     ++ (parameters_member r.params
     ++ (fields_member fields (reply_fields true body) ++ sessions_member (map of_reply r.auths)))
 
@@ -78,9 +77,10 @@ refusal_told true refusal = refusal_members refusal
 
 -- ---- lines
 
--- a command of so many bytes: its parameters as they came, and by their names and their types where these are asked for
+-- a command of so many bytes, and where these are asked for with names
 unfoldable pub command_lines : (fields : Bool) → ℕ → Cut → CommandBody → List ℕ
-command_lines fields size areas body = command_text size areas ++ named_parameters fields body
+command_lines fields size areas body =
+    command_line areas.header.code size ++ command_rest false fields areas body
 
 -- a response to this command, of so many bytes
 unfoldable pub response_lines : (fields : Bool) → CommandCode → ℕ → ReplyCut → Response → List ℕ

@@ -236,12 +236,17 @@ impl Capture {
 ///
 /// The object has the members `number` and `kind`, which is `command` or `response`. A header has `command`, where a
 /// reply has one before it, `size`, `tag` and `tag_name`; then a command `command_code`, and a response `code` and
-/// `code_name`, where these have names. What stands behind it has `handles`, `sessions` and `parameters`. What is
-/// refused has `refused` and `at`, and `name` where the profile hasn't the command; a reply without its command has
-/// `fault`. Where parameters are told by their names there is `fields`, a list of objects with `name`, `type` and
-/// `value`. That of a structure has `fields` likewise, of its members or entries; bits that are set, and registers, are
-/// objects with `name` and `number`, which is decimal. A line without a frame has `number` and `fault`. Each says what
-/// its line says: bytes, handles, attributes and codes are in hexadecimal, and no bytes are empty.
+/// `code_name`, where these have names. What stands behind it has `handles`, `handle_names`, a list of the same length
+/// with null where a handle has no name, `sessions` and `parameters`. A session's object has `attribute_names` behind
+/// its attributes, a list of those that are set, and a command's `session_name`. What is refused has `refused`, the
+/// code's name as `fault`, `at`, and `name` where the profile hasn't the command; a reply without its command has
+/// `fault` alone.
+///
+/// Where parameters are told by their names there is `fields`, a list of objects with `name`, `type` and `value`, and
+/// `value_name` where `show_fields` has a name behind the value. That of a structure has `fields` likewise, of its
+/// members or entries; bits that are set, and registers, are objects with `name` and `number`, which is decimal. A line
+/// without a frame has `number` and `fault`. Each says what its line says: bytes, handles, attributes and codes are in
+/// hexadecimal, and no bytes are empty.
 ///
 /// The status is `Refused` where a frame or a line was refused, and else `Done`. What a read gave is answered before
 /// the next read: where that fails, what was written is the text of the lines that had ended. No more than one line

@@ -130,17 +130,17 @@ fn push_head(
 fn push_refused_whole(
     alloc: Global,
     text: &mut String,
-    json: bool,
+    how: Telling,
     refusal: &Refusal,
     bytes: &[u8],
 ) -> Result<Status, AllocError>
     ensures { IfOk result (λ status. (status ≡ Refused)
-        × (string_bytes text.new ≡ string_bytes text.old ++ (refusal_told json refusal.now
-        ++ (absent_behind json refusal.now (code_number_in bytes.now)
-        ++ library_command json bytes.now (header_in bytes.now))))) }
+        × (string_bytes text.new ≡ string_bytes text.old ++ (refusal_told how.json refusal.now
+        ++ (absent_behind how.json refusal.now (code_number_in bytes.now)
+        ++ library_command how.json how.fields bytes.now (header_in bytes.now))))) }
 {
-    let status = push_refused_command(text, json, refusal, code_number(bytes))?;
-    push_library_command(alloc, text, json, bytes)?;
+    let status = push_refused_command(text, how.json, refusal, code_number(bytes))?;
+    push_library_command(alloc, text, how, bytes)?;
     Ok(status)
 }
 
@@ -159,7 +159,7 @@ fn push_command(
             push_command_rest(alloc, text, how, &areas, &command.body)?;
             Ok(Status::Done)
         }
-        Err(refusal) => push_refused_whole(alloc, text, how.json, &refusal, bytes),
+        Err(refusal) => push_refused_whole(alloc, text, how, &refusal, bytes),
     }
 }
 
@@ -208,18 +208,18 @@ fn push_untold(text: &mut String, json: bool, sentence: &str) -> Result<Status, 
 fn push_other_reply(
     alloc: Global,
     text: &mut String,
-    json: bool,
+    how: Telling,
     code: u32,
     bytes: &[u8],
 ) -> Result<Status, AllocError>
     ensures { IfOk result (λ status. (status ≡ Refused)
         × (string_bytes text.new
-        ≡ string_bytes text.old ++ other_reply json (command_of code) bytes.now)) }
+        ≡ string_bytes text.old ++ other_reply how.json how.fields (command_of code) bytes.now)) }
 {
     let Some(command) = command_of(code) else {
-        return push_untold(text, json, "its command is not known");
+        return push_untold(text, how.json, "its command is not known");
     };
-    push_library_response(alloc, text, json, command, bytes)?;
+    push_library_response(alloc, text, how, command, bytes)?;
     Ok(Status::Refused)
 }
 
@@ -242,7 +242,7 @@ fn push_rest(
             push_reply_to(alloc, text, how, command, bytes)
         }
         (Direction::Reply, Awaited::Other(code)) => {
-            push_other_reply(alloc, text, how.json, code, bytes)
+            push_other_reply(alloc, text, how, code, bytes)
         }
         (Direction::Reply, Awaited::Unknown) => {
             push_untold(text, how.json, "its command is not known")

@@ -2,9 +2,13 @@
 
 ghost use Rattle.std.specs.Prelude.{◌≡◌, ◌++◌, map, OnOk, option_map, string_bytes};
 ghost use Rattle.tpm_lines.specs.Named.{named_as};
-ghost use Rattle.tpm_show.specs.FieldNames.{algorithms, name_behind, name_of, names_for, number_in, session_types};
+ghost use Rattle.tpm_show.specs.CommandNames.{listed_as};
+ghost use Rattle.tpm_show.specs.FieldNames.{algorithms, behind_value, command_behind, command_in, is_handle};
+ghost use Rattle.tpm_show.specs.FieldNames.{name_behind, name_of, named_of, names_for, number_in, session_types};
 ghost use Rattle.tpm_show.specs.FieldNames.{startup_types, value_name};
 
+use crate::command_names::{Listed, command_of};
+use crate::handle_names::handle_name;
 use tpm_lines::named::{Named, look_up};
 use tpm_lines::names;
 use tpm_lines::text::Pushed;
@@ -82,15 +86,32 @@ fn names_for(kind: &str) -> &'static [Named]
     }
 }
 
-// The number that one or two bytes spell.
+// The number that one, two or four bytes spell.
 fn number_in(bytes: &[u8]) -> Option<u32>
     ensures { result ≡ number_in bytes.now }
 {
     match bytes {
         [n] => Some(u32::from(*n)),
         [high, low] => Some(u32::from(u16::from_be_bytes([*high, *low]))),
+        [a, b, c, d] => Some(u32::from_be_bytes([*a, *b, *c, *d])),
         _ => None,
     }
+}
+
+fn is_handle(kind: &str) -> bool
+    ensures { result ≡ is_handle kind.now }
+{
+    kind == "TPMI_DH_CONTEXT" || kind == "TPMI_RH_NV_INDEX"
+}
+
+#[tactic(auto, unfolding(crate::specs::FieldNames::named_of))]
+fn named_of(kind: &str, number: u32) -> Option<&'static Named>
+    ensures { option_map (λ n. named_as n.now) result ≡ named_of kind.now number }
+{
+    if is_handle(kind) {
+        return handle_name(number);
+    }
+    look_up(names_for(kind), number)
 }
 
 // The name of a number of this type.
@@ -98,8 +119,30 @@ fn name_of(kind: &str, bytes: &[u8]) -> Option<&'static Named>
     ensures { option_map (λ n. named_as n.now) result ≡ name_of kind.now bytes.now }
 {
     match number_in(bytes) {
-        Some(number) => look_up(names_for(kind), number),
+        Some(number) => named_of(kind, number),
         None => None,
+    }
+}
+
+// The command whose code these bytes are.
+fn command_in(bytes: &[u8]) -> Option<&'static Listed>
+    ensures { option_map (λ c. listed_as c.now) result ≡ command_in bytes.now }
+{
+    match number_in(bytes) {
+        Some(code) => command_of(code),
+        None => None,
+    }
+}
+
+#[tactic(auto, unfolding(crate::specs::FieldNames::behind_value))]
+fn push_behind(text: &mut String, json: bool, front: &str, name: &str) -> Pushed
+    ensures { OnOk result (string_bytes text.new
+        ≡ string_bytes text.old ++ behind_value json front.now name.now) }
+{
+    if json {
+        write!(text, ",\"value_name\":\"{front}{name}\"")
+    } else {
+        write!(text, " {front}{name}")
     }
 }
 
@@ -107,15 +150,34 @@ fn push_name(text: &mut String, json: bool, named: Option<&'static Named>) -> Pu
     ensures { OnOk result (string_bytes text.new
         ≡ string_bytes text.old ++ name_behind json (option_map (λ n. named_as n.now) named.entry)) }
 {
-    let Some(named) = named else {
-        return Ok(());
-    };
-    let name = named.name;
-    if json {
-        write!(text, ",\"value_name\":\"{name}\"")
-    } else {
-        write!(text, " {name}")
+    match named {
+        Some(named) => push_behind(text, json, "", named.name),
+        None => Ok(()),
     }
+}
+
+fn push_command(text: &mut String, json: bool, command: Option<&'static Listed>) -> Pushed
+    ensures { OnOk result (string_bytes text.new ≡ string_bytes text.old
+        ++ command_behind json (option_map (λ c. listed_as c.now) command.entry)) }
+{
+    match command {
+        Some(command) => push_behind(text, json, "TPM_CC_", command.name),
+        None => Ok(()),
+    }
+}
+
+fn push_name_of(text: &mut String, json: bool, kind: &str, bytes: &[u8]) -> Pushed
+    ensures { OnOk result (string_bytes text.new
+        ≡ string_bytes text.old ++ name_behind json (name_of kind.now bytes.now)) }
+{
+    push_name(text, json, name_of(kind, bytes))
+}
+
+fn push_command_in(text: &mut String, json: bool, bytes: &[u8]) -> Pushed
+    ensures { OnOk result (string_bytes text.new
+        ≡ string_bytes text.old ++ command_behind json (command_in bytes.now)) }
+{
+    push_command(text, json, command_in(bytes))
 }
 
 /// Adds the name of a number of this type, where Part 2 has one: behind its bytes in a line, or behind the member of
@@ -125,5 +187,8 @@ pub(crate) fn push_value_name(text: &mut String, json: bool, kind: &str, bytes: 
     ensures { OnOk result (string_bytes text.new
         ≡ string_bytes text.old ++ value_name json kind.now bytes.now) }
 {
-    push_name(text, json, name_of(kind, bytes))
+    if kind == "TPM_CC" {
+        return push_command_in(text, json, bytes);
+    }
+    push_name_of(text, json, kind, bytes)
 }

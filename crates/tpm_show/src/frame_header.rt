@@ -62,7 +62,8 @@ pub(crate) fn header_in(bytes: &[u8]) -> Option<FrameHeader>
 
 // ---- in a line
 
-fn push_name_behind(text: &mut String, named: Option<&'static Named>) -> Pushed
+/// Adds a name behind its number, where there is one.
+pub(crate) fn push_name_behind(text: &mut String, named: Option<&'static Named>) -> Pushed
     ensures { OnOk result (string_bytes text.new
         ≡ string_bytes text.old ++ name_behind (option_map (λ n. named_as n.now) named.entry)) }
 {
@@ -187,24 +188,25 @@ fn push_tag_member(text: &mut String, named: Option<&'static Named>) -> Pushed
     write!(text, ",\"tag_name\":\"{name}\"")
 }
 
-fn push_known_code(text: &mut String, code: u32, meaning: &Meaning) -> Pushed
-    ensures { OnOk result (string_bytes text.new
-        ≡ string_bytes text.old ++ code_name_member (Some (meaning_as meaning.now)) code) }
+fn push_known_code(text: &mut String, member: &str, code: u32, meaning: &Meaning) -> Pushed
+    ensures { OnOk result (string_bytes text.new ≡ string_bytes text.old
+        ++ code_name_member member.now (Some (meaning_as meaning.now)) code) }
 {
-    text.push_str(",\"code_name\":\"")?;
+    write!(text, ",\"{member}\":\"")?;
     push_meaning_name(text, code, meaning)?;
     text.push_str("\"")?;
     Ok(())
 }
 
-fn push_code_name_member(text: &mut String, code: u32) -> Pushed
-    ensures { OnOk result
-        (string_bytes text.new ≡ string_bytes text.old ++ code_name_member (meaning_of code) code) }
+/// Adds the name of a response code under this member, where it has one.
+pub(crate) fn push_code_name_member(text: &mut String, member: &str, code: u32) -> Pushed
+    ensures { OnOk result (string_bytes text.new
+        ≡ string_bytes text.old ++ code_name_member member.now (meaning_of code) code) }
 {
     let Some(meaning) = code_meaning(code) else {
         return Ok(());
     };
-    push_known_code(text, code, meaning)
+    push_known_code(text, member, code, meaning)
 }
 
 fn push_tag_name_member(text: &mut String, tag: u16) -> Pushed
@@ -269,5 +271,5 @@ pub(crate) fn push_reply_head_members(
     push_size_and_tag_members(text, header)?;
     let code = header.code;
     write!(text, ",\"code\":\"{code:03x}\"")?;
-    push_code_name_member(text, code)
+    push_code_name_member(text, "code_name", code)
 }

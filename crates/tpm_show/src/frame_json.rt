@@ -2,17 +2,30 @@
 
 ghost use Rattle.std.specs.Prelude.{◌≡◌, ◌++◌, ℕ, List, true, OnOk, string_bytes};
 ghost use Rattle.tpm_show.specs.Fields.{command_fields, reply_fields};
-ghost use Rattle.tpm_show.specs.FrameJson.{fault_object, fields_member, handles_member, handles_of};
-ghost use Rattle.tpm_show.specs.FrameJson.{refusal_members, sessions_member, stop_object};
+ghost use Rattle.tpm_show.specs.FrameJson.{fault_object, fields_member, refusal_members, refused_code};
+ghost use Rattle.tpm_show.specs.FrameJson.{refused_members, stop_object};
 
 use crate::fields::{push_command_fields, push_reply_fields};
+use crate::frame_header::push_code_name_member;
 use std::alloc::Global;
 use tpm_commands::{CommandBody, ReplyBody};
-use tpm_lines::sessions::{HasSessions, push_sessions};
-use tpm_lines::text::{Pushed, push_handles};
+use tpm_lines::text::Pushed;
 use tpm_wire::Refusal;
 
 // ---- refusals and faults
+
+fn push_refused_code(text: &mut String, code: u32) -> Pushed
+    ensures { OnOk result (string_bytes text.new ≡ string_bytes text.old ++ refused_code code) }
+{
+    write!(text, ",\"refused\":\"{code:03x}\"")
+}
+
+fn push_refused_members(text: &mut String, code: u32) -> Pushed
+    ensures { OnOk result (string_bytes text.new ≡ string_bytes text.old ++ refused_members code) }
+{
+    push_refused_code(text, code)?;
+    push_code_name_member(text, "fault", code)
+}
 
 /// Adds the members of a refusal.
 #[tactic(auto, unfolding(crate::specs::FrameJson::refusal_members))]
@@ -21,7 +34,8 @@ pub(crate) fn push_refusal_members(text: &mut String, refusal: &Refusal) -> Push
         (string_bytes text.new ≡ string_bytes text.old ++ refusal_members refusal.now) }
 {
     let Refusal { code, at } = *refusal;
-    write!(text, ",\"refused\":\"{code:03x}\",\"at\":{at}")
+    push_refused_members(text, code)?;
+    write!(text, ",\"at\":{at}")
 }
 
 /// Adds the object of a line that has no frame.
@@ -46,34 +60,6 @@ pub(crate) fn push_stop_object(text: &mut String, number: u64, fault: &str, at: 
 }
 
 // ---- what stands behind the header
-
-/// Adds the handles.
-#[tactic(auto, unfolding(crate::specs::FrameJson::handles_member))]
-pub(crate) fn push_handles_member(text: &mut String, handles: &[u32]) -> Pushed
-    ensures { OnOk result
-        (string_bytes text.new ≡ string_bytes text.old ++ handles_member handles.now) }
-{
-    text.push_str(",\"handles\":[")?;
-    push_handles(text, true, handles)?;
-    text.push_str("]")?;
-    Ok(())
-}
-
-/// Adds the sessions.
-#[tactic(auto, unfolding(crate::specs::FrameJson::sessions_member))]
-pub(crate) fn push_sessions_member<A: HasSessions>(
-    alloc: Global,
-    text: &mut String,
-    areas: &A,
-) -> Pushed
-    ensures { OnOk result
-        (string_bytes text.new ≡ string_bytes text.old ++ sessions_member (A.sessions areas.now)) }
-{
-    text.push_str(",\"sessions\":[")?;
-    push_sessions(alloc, text, true, areas)?;
-    text.push_str("]")?;
-    Ok(())
-}
 
 /// The body of a command or of a reply, whose parameters are told by their names.
 pub(crate) trait HasFields {
@@ -118,17 +104,4 @@ pub(crate) fn push_fields_member<B: HasFields>(
     body.push_objects(alloc, text)?;
     text.push_str("]")?;
     Ok(())
-}
-
-// ---- a response
-
-/// Adds the handle of a reply, where it has one.
-pub(crate) fn push_reply_handle(text: &mut String, handle: Option<u32>) -> Pushed
-    ensures { OnOk result
-        (string_bytes text.new ≡ string_bytes text.old ++ handles_member (handles_of handle)) }
-{
-    match handle {
-        Some(handle) => push_handles_member(text, &[handle]),
-        None => push_handles_member(text, &[]),
-    }
 }

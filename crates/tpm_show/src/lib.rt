@@ -1,6 +1,7 @@
 //! The subcommands `show`, `build` and `explain`.
 #![tactic(auto)]
 
+mod bits;
 mod built;
 mod capture;
 mod capture_frames;
@@ -14,12 +15,14 @@ mod field_text;
 mod fields;
 mod frame_header;
 mod frame_json;
+mod handle_names;
 mod layers;
 mod library;
 mod meaning;
 mod packets;
 mod parts;
 mod reply_text;
+mod sessions;
 mod shown;
 mod telling;
 mod told;

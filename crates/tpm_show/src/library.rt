@@ -13,12 +13,13 @@ ghost use Rattle.tpm_show.specs.Library.{response_areas, response_areas_read, li
 
 use crate::command_names::{Listed, command_of};
 use crate::frame_header::{FrameHeader, header_in};
+use crate::sessions::{HasSessions, Session};
+use crate::telling::Telling;
 use crate::told::{push_areas, push_reply_areas};
 use arrayvec::ArrayVec;
 use std::alloc::Global;
 use std::marker::Model;
 use tpm_buffer::{NO_SESSIONS, SESSIONS};
-use tpm_lines::sessions::{HasSessions, Session};
 use tpm_lines::text::Pushed;
 use tpm_types::{Auth, AuthReply};
 use tpm_wire::response_code::{AUTHSIZE, SIZE};
@@ -78,7 +79,7 @@ impl<'a> Model for CommandAreas<'a> {
 
 impl HasSessions for CommandAreas<'_> {
     ghost use Rattle.std.specs.Prelude.{map};
-    ghost use Rattle.tpm_lines.specs.Text.{of_command};
+    ghost use Rattle.tpm_show.specs.Sessions.{of_command};
 
     ghost sessions = { λ areas. map of_command areas.auths };
 
@@ -170,20 +171,20 @@ fn read_command_areas(rest: &[u8], handles: u8, tag: u16) -> Result<CommandAreas
 fn push_command_areas(
     alloc: Global,
     text: &mut String,
-    json: bool,
+    how: Telling,
     handles: u8,
     tag: u16,
     rest: &[u8],
 ) -> Pushed
     requires { length rest.now < 2 ^ 32 }
     ensures { OnOk result (string_bytes text.new ≡ string_bytes text.old
-        ++ command_areas_read json (read_all (command_areas handles tag) rest.now)) }
+        ++ command_areas_read how.json how.fields (read_all (command_areas handles tag) rest.now)) }
 {
     match read_command_areas(rest, handles, tag) {
         Ok(areas) => push_areas(
             alloc,
             text,
-            json,
+            how,
             areas.handles.as_slice(),
             &areas,
             areas.params,
@@ -195,18 +196,18 @@ fn push_command_areas(
 fn push_command_of(
     alloc: Global,
     text: &mut String,
-    json: bool,
+    how: Telling,
     bytes: &[u8],
     header: &FrameHeader,
 ) -> Pushed
     ensures { OnOk result (string_bytes text.new
-        ≡ string_bytes text.old ++ library_command json bytes.now (Some header.now)) }
+        ≡ string_bytes text.old ++ library_command how.json how.fields bytes.now (Some header.now)) }
 {
     let Some(command) = command_of(header.code) else {
         return Ok(());
     };
     match behind_whole(bytes, header) {
-        Some(rest) => { push_command_areas(alloc, text, json, command.handles, header.tag, rest) }
+        Some(rest) => { push_command_areas(alloc, text, how, command.handles, header.tag, rest) }
         None => Ok(()),
     }
 }
@@ -215,14 +216,14 @@ fn push_command_of(
 pub(crate) fn push_library_command(
     alloc: Global,
     text: &mut String,
-    json: bool,
+    how: Telling,
     bytes: &[u8],
 ) -> Pushed
     ensures { OnOk result (string_bytes text.new
-        ≡ string_bytes text.old ++ library_command json bytes.now (header_in bytes.now)) }
+        ≡ string_bytes text.old ++ library_command how.json how.fields bytes.now (header_in bytes.now)) }
 {
     match header_in(bytes) {
-        Some(header) => push_command_of(alloc, text, json, bytes, &header),
+        Some(header) => push_command_of(alloc, text, how, bytes, &header),
         None => Ok(()),
     }
 }
@@ -251,7 +252,7 @@ impl<'a> Model for ResponseAreas<'a> {
 
 impl HasSessions for ResponseAreas<'_> {
     ghost use Rattle.std.specs.Prelude.{map};
-    ghost use Rattle.tpm_lines.specs.Text.{of_reply};
+    ghost use Rattle.tpm_show.specs.Sessions.{of_reply};
 
     ghost sessions = { λ areas. map of_reply areas.auths };
 
@@ -344,20 +345,20 @@ fn read_response_areas(rest: &[u8], handles: u8, tag: u16) -> Result<ResponseAre
 fn push_response_areas(
     alloc: Global,
     text: &mut String,
-    json: bool,
+    how: Telling,
     handles: u8,
     tag: u16,
     rest: &[u8],
 ) -> Pushed
     requires { length rest.now < 2 ^ 32 }
     ensures { OnOk result (string_bytes text.new ≡ string_bytes text.old
-        ++ response_areas_read json (read_all (response_areas handles tag) rest.now)) }
+        ++ response_areas_read how.json how.fields (read_all (response_areas handles tag) rest.now)) }
 {
     match read_response_areas(rest, handles, tag) {
         Ok(areas) => push_reply_areas(
             alloc,
             text,
-            json,
+            how,
             areas.handles.as_slice(),
             areas.params,
             &areas,
@@ -369,20 +370,20 @@ fn push_response_areas(
 fn push_response_of(
     alloc: Global,
     text: &mut String,
-    json: bool,
+    how: Telling,
     command: &Listed,
     bytes: &[u8],
     header: &FrameHeader,
 ) -> Pushed
     ensures { OnOk result (string_bytes text.new ≡ string_bytes text.old
-        ++ library_response json (listed_as command.now) bytes.now (Some header.now)) }
+        ++ library_response how.json how.fields (listed_as command.now) bytes.now (Some header.now)) }
 {
     if header.code != 0 {
         return Ok(());
     }
     match behind_whole(bytes, header) {
         Some(rest) => {
-            push_response_areas(alloc, text, json, command.reply_handles, header.tag, rest)
+            push_response_areas(alloc, text, how, command.reply_handles, header.tag, rest)
         }
         None => Ok(()),
     }
@@ -392,15 +393,15 @@ fn push_response_of(
 pub(crate) fn push_library_response(
     alloc: Global,
     text: &mut String,
-    json: bool,
+    how: Telling,
     command: &Listed,
     bytes: &[u8],
 ) -> Pushed
     ensures { OnOk result (string_bytes text.new ≡ string_bytes text.old
-        ++ library_response json (listed_as command.now) bytes.now (header_in bytes.now)) }
+        ++ library_response how.json how.fields (listed_as command.now) bytes.now (header_in bytes.now)) }
 {
     match header_in(bytes) {
-        Some(header) => push_response_of(alloc, text, json, command, bytes, &header),
+        Some(header) => push_response_of(alloc, text, how, command, bytes, &header),
         None => Ok(()),
     }
 }

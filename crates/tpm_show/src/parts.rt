@@ -1,16 +1,15 @@
 //! The parts of structures by the names that Part 2 gives them.
 
-ghost use Rattle.std.specs.Prelude.{◌≡◌, ◌++◌, ◌<◌, ◌≤◌, ℕ, Bool, List, OnOk, codes, length, map, string_bytes};
+ghost use Rattle.std.specs.Prelude.{◌≡◌, ◌++◌, ◌≤◌, ℕ, Bool, List, OnOk, codes, length, string_bytes};
 ghost use Rattle.std.specs.Int.{bytes_high_first};
-ghost use Rattle.std.specs.List.{AllByRecursion};
-ghost use Rattle.tpm_types.specs.Tpma.{is_set, nv_type};
-ghost use Rattle.tpm_lines.specs.Named.{named_as};
+ghost use Rattle.tpm_types.specs.Tpma.{nv_type};
 ghost use Rattle.tpm_lines.specs.Text.{lines_from};
 ghost use Rattle.tpm_show.specs.FieldText.{field_text, structure_text};
-ghost use Rattle.tpm_show.specs.Parts.{attribute_names, attribute_parts, bits_of, digest_entry, digest_value_entry};
-ghost use Rattle.tpm_show.specs.Parts.{digest_value_members, public_parts, register_parts, selection_entry};
-ghost use Rattle.tpm_show.specs.Parts.{selection_members, symmetric_parts};
+ghost use Rattle.tpm_show.specs.Parts.{attribute_parts, digest_entry, digest_value_entry, digest_value_members};
+ghost use Rattle.tpm_show.specs.Parts.{public_parts, register_parts, selection_entry, selection_members};
+ghost use Rattle.tpm_show.specs.Parts.{set_attributes, symmetric_parts};
 
+use crate::bits::{BitsAs, push_bits_of};
 use crate::field_text::{Field, HasParts, end_structure, push_number};
 use std::alloc::Global;
 use tpm_lines::named::Named;
@@ -47,36 +46,12 @@ const ATTRIBUTES: [Named; 21] = names![
     31 "TPMA_NV_READ_STCLEAR",
 ];
 
-fn is_set(attrs: u32, bit: u32) -> bool
-    requires { bit < 32 }
-    ensures { result ≡ is_set bit attrs }
-{
-    attrs & 1 << bit != 0
-}
-
-// Adds an entry for each bit of the table that is set.
-fn push_bits_of(text: &mut String, json: bool, table: &'static [Named], attrs: u32) -> Pushed
-    requires within { AllByRecursion (λ bit. bit.number < 32) table.now }
-    requires few { length table.now ≤ 32 }
-    ensures { OnOk result (string_bytes text.new
-        ≡ string_bytes text.old ++ bits_of (map named_as table.now) json attrs) }
-{
-    let mut i = 2;
-    for bit in table {
-        if is_set(attrs, bit.number) {
-            push_number(text, json, "      ", i, bit.name, 1)?;
-            i += 1;
-        }
-    }
-    Ok(())
-}
-
 // Adds an entry for each bit that is set.
 fn push_bits(text: &mut String, json: bool, attrs: u32) -> Pushed
     ensures { OnOk result
-        (string_bytes text.new ≡ string_bytes text.old ++ bits_of attribute_names json attrs) }
+        (string_bytes text.new ≡ string_bytes text.old ++ set_attributes json attrs) }
 {
-    push_bits_of(text, json, &ATTRIBUTES, attrs)
+    push_bits_of(text, json, BitsAs::Numbers, 2, &ATTRIBUTES, attrs)
 }
 
 // The field TPM_NT.

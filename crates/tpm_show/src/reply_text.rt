@@ -1,13 +1,15 @@
 //! The program's lines of a response.
 
 ghost use Rattle.std.specs.Prelude.{◌≡◌, ◌++◌, OnOk, string_bytes};
-ghost use Rattle.tpm_show.specs.ReplyText.{reply_code_line, reply_line, reply_handle_line};
+ghost use Rattle.tpm_show.specs.HandleNames.{handle_lines, handles_members};
+ghost use Rattle.tpm_show.specs.ReplyText.{handles_of, reply_code_line, reply_line};
 ghost use Rattle.tpm_show.specs.Show.{named_fields};
 
 use crate::fields::push_reply_fields;
+use crate::handle_names::{HandleAs, push_handles, push_handles_members};
 use std::alloc::Global;
 use tpm_commands::{CommandCode, ReplyBody};
-use tpm_lines::text::{Pushed, push_handle};
+use tpm_lines::text::Pushed;
 
 /// Adds the line of a response code.
 #[tactic(auto, unfolding(crate::specs::ReplyText::reply_code_line))]
@@ -28,13 +30,24 @@ pub(crate) fn push_name(text: &mut String, command: CommandCode, size: usize) ->
 }
 
 /// Adds the line of a reply's handle, where it has one.
-pub(crate) fn push_first_handle(text: &mut String, handle: Option<u32>) -> Pushed
-    ensures { OnOk result
-        (string_bytes text.new ≡ string_bytes text.old ++ reply_handle_line handle) }
+pub(crate) fn push_first_handle(text: &mut String, names: bool, handle: Option<u32>) -> Pushed
+    ensures { OnOk result (string_bytes text.new
+        ≡ string_bytes text.old ++ handle_lines names (handles_of handle)) }
 {
     match handle {
-        Some(handle) => push_handle(text, false, 1, handle),
+        Some(handle) => push_handles(text, HandleAs::Line(names), &[handle]),
         None => Ok(()),
+    }
+}
+
+/// Adds the members of a reply's handle.
+pub(crate) fn push_handle_members(text: &mut String, handle: Option<u32>) -> Pushed
+    ensures { OnOk result
+        (string_bytes text.new ≡ string_bytes text.old ++ handles_members (handles_of handle)) }
+{
+    match handle {
+        Some(handle) => push_handles_members(text, &[handle]),
+        None => push_handles_members(text, &[]),
     }
 }
 

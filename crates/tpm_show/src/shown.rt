@@ -62,6 +62,10 @@ pub fn show<W: Write>(
 /// Prints what `show` prints, and under the line of the parameters a line `  NAME TYPE X` for each of them, by its
 /// name and its type in the tables of the command (Part 3), with the bytes that spell it.
 ///
+/// Behind the number of a handle stands its name (Part 2, 7.4), or that of its kind (7.2), and behind a session's
+/// attributes the names of those that are set, with commas between them (8.4). Behind the number of an algorithm, a
+/// command, a start-up type and a type of session stands its name (6.3, 6.5.2, 6.10 and 6.11).
+///
 /// Under the line of a structure its members or entries follow likewise, two more spaces in, by
 /// their names and types in Part 2: those of TPM2B_NV_PUBLIC, TPML_PCR_SELECTION, TPML_DIGEST,
 /// TPML_DIGEST_VALUES and TPMT_SYM_DEF. Under TPMA_NV stands `TPM_NT N`, and `NAME 1` for each bit

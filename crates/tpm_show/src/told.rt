@@ -6,16 +6,18 @@ ghost use Rattle.tpm_buffer.specs.Commands.{command};
 ghost use Rattle.tpm_buffer.specs.CommandAreas.{HasCut};
 ghost use Rattle.tpm_buffer.specs.Responses.{reply_cut, response};
 ghost use Rattle.tpm_lines.specs.declared.status.Status.TheVariants.{Refused};
+ghost use Rattle.tpm_lines.specs.Text.{command_line};
 ghost use Rattle.tpm_show.specs.Show.{areas_told, reply_areas_told, named_parameters, parameters_told};
 ghost use Rattle.tpm_show.specs.Show.{command_rest, command_lines, reply_rest, response_rest, response_lines};
 ghost use Rattle.tpm_show.specs.Show.{refusal_told, ShowsCommand, ShowsReply};
 
 use crate::fields::push_command_fields;
-use crate::frame_json::{
-    push_fields_member, push_handles_member, push_refusal_members, push_reply_handle,
-    push_sessions_member,
+use crate::frame_json::{push_fields_member, push_refusal_members};
+use crate::handle_names::{HandleAs, push_handles, push_handles_members};
+use crate::reply_text::{
+    push_code_line, push_first_handle, push_handle_members, push_name, push_named_fields,
 };
-use crate::reply_text::{push_code_line, push_first_handle, push_name, push_named_fields};
+use crate::sessions::{HasSessions, push_sessions, push_sessions_member};
 use crate::telling::Telling;
 use std::alloc::{AllocError, Global};
 use tpm_buffer::{
@@ -25,9 +27,8 @@ use tpm_buffer::{
 use tpm_commands::{Command, CommandBody, CommandCode, ReplyBody, Response};
 use tpm_lines::answer::Answer;
 use tpm_lines::hexadecimal::push_hex_member;
-use tpm_lines::sessions::{HasSessions, push_sessions};
 use tpm_lines::status::Status;
-use tpm_lines::text::{Pushed, push_command, push_handles, push_parameters, push_refusal};
+use tpm_lines::text::{Pushed, push_parameters, push_refusal};
 use tpm_wire::Refusal;
 
 /// Adds the line of a refusal, or its members.
@@ -65,21 +66,21 @@ pub(crate) fn command_and_areas(bytes: &[u8]) -> Result<(Command<'_>, Areas<'_>)
 pub(crate) fn push_areas<A: HasSessions>(
     alloc: Global,
     text: &mut String,
-    json: bool,
+    how: Telling,
     handles: &[u32],
     sessions: &A,
     params: &[u8],
 ) -> Pushed
     ensures { OnOk result (string_bytes text.new ≡ string_bytes text.old
-        ++ areas_told json handles.now (A.sessions sessions.now) params.now) }
+        ++ areas_told how.json how.fields handles.now (A.sessions sessions.now) params.now) }
 {
-    if json {
-        push_handles_member(text, handles)?;
+    if how.json {
+        push_handles_members(text, handles)?;
         push_sessions_member(alloc, text, sessions)?;
         return push_hex_member(alloc, text, "parameters", params);
     }
-    push_handles(text, false, handles)?;
-    push_sessions(alloc, text, false, sessions)?;
+    push_handles(text, HandleAs::Line(how.fields), handles)?;
+    push_sessions(alloc, text, false, how.fields, sessions)?;
     push_parameters(alloc, text, params)
 }
 
@@ -88,22 +89,22 @@ pub(crate) fn push_areas<A: HasSessions>(
 pub(crate) fn push_reply_areas<A: HasSessions>(
     alloc: Global,
     text: &mut String,
-    json: bool,
+    how: Telling,
     handles: &[u32],
     params: &[u8],
     sessions: &A,
 ) -> Pushed
     ensures { OnOk result (string_bytes text.new ≡ string_bytes text.old
-        ++ reply_areas_told json handles.now params.now (A.sessions sessions.now)) }
+        ++ reply_areas_told how.json how.fields handles.now params.now (A.sessions sessions.now)) }
 {
-    if json {
-        push_handles_member(text, handles)?;
+    if how.json {
+        push_handles_members(text, handles)?;
         push_hex_member(alloc, text, "parameters", params)?;
         return push_sessions_member(alloc, text, sessions);
     }
-    push_handles(text, false, handles)?;
+    push_handles(text, HandleAs::Line(how.fields), handles)?;
     push_parameters(alloc, text, params)?;
-    push_sessions(alloc, text, false, sessions)
+    push_sessions(alloc, text, false, how.fields, sessions)
 }
 
 fn push_named_parameters(
@@ -149,15 +150,17 @@ pub(crate) fn push_command_rest(
     ensures { OnOk result (string_bytes text.new
         ≡ string_bytes text.old ++ command_rest how.json how.fields areas.now body.now) }
 {
-    push_areas(
-        alloc,
-        text,
-        how.json,
-        areas.handles(),
-        areas,
-        areas.params(),
-    )?;
+    push_areas(alloc, text, how, areas.handles(), areas, areas.params())?;
     push_parameters_told(alloc, text, how, body)
+}
+
+#[tactic(auto, unfolding(tpm_lines::specs::Text::command_line))]
+fn push_command_name(text: &mut String, code: CommandCode, size: usize) -> Pushed
+    ensures { OnOk result
+        (string_bytes text.new ≡ string_bytes text.old ++ command_line code size) }
+{
+    let name = code.name();
+    writeln!(text, "command {name} size {size}")
 }
 
 #[tactic(auto, unfolding(crate::specs::Show::command_lines))]
@@ -172,8 +175,12 @@ fn push_command_lines(
     ensures { OnOk result (string_bytes text.new
         ≡ string_bytes text.old ++ command_lines fields size areas.now body.now) }
 {
-    push_command(alloc, text, size, areas)?;
-    push_named_parameters(alloc, text, fields, body)
+    push_command_name(text, areas.code(), size)?;
+    let how = Telling {
+        fields,
+        json: false,
+    };
+    push_command_rest(alloc, text, how, areas, body)
 }
 
 /// The lines of bytes that are taken for a command.
@@ -223,15 +230,15 @@ fn push_reply_rest(
         ≡ string_bytes text.old ++ reply_rest how.json how.fields areas.now body.now) }
 {
     if how.json {
-        push_reply_handle(text, areas.handle())?;
+        push_handle_members(text, areas.handle())?;
         push_hex_member(alloc, text, "parameters", areas.params())?;
         push_fields_member(alloc, text, how.fields, body)?;
         return push_sessions_member(alloc, text, areas);
     }
-    push_first_handle(text, areas.handle())?;
+    push_first_handle(text, how.fields, areas.handle())?;
     push_parameters(alloc, text, areas.params())?;
     push_named_fields(alloc, text, how.fields, body)?;
-    push_sessions(alloc, text, false, areas)
+    push_sessions(alloc, text, false, how.fields, areas)
 }
 
 /// Adds what stands behind the header of a response.

@@ -57,6 +57,10 @@ const READ_REPLY: &str = "80020000001d000000000000000a00080000000000000004000001
 
 const CAPTURE: &str = "80010000000c000001440000\n80010000000a00000000\n< 80010000000a00000000\n";
 
+// A command with handles and a session, and one whose parameter is refused.
+const READ_AND_REFUSED: &str =
+    "8002000000230000014e 40000001 01800001 00000009 40000009 0000 01 0000 0008 0000\n80010000000c000001440002\n";
+
 // A command, and less than a frame.
 const STREAM: [u8; 13] = [0x80, 1, 0, 0, 0, 12, 0, 0, 1, 0x44, 0, 0, 0x80];
 
@@ -68,7 +72,7 @@ const NV_TEXT: &str =
     "greatest 9\ncounter 1 01800001 hash sha256 attributes 22060016 policy - authorization yes value 8\ncounter 2 01800002 hash sha1 attributes 02020012 policy 000102030405060708090a0b0c0d0e0f10111213 authorization no value -\n";
 
 // Each call, and the whole text that it prints.
-const CALLS: [(Call, &str); 25] = [
+const CALLS: [(Call, &str); 27] = [
     (
         Call::Show(STARTUP),
         "command Startup size 12\nparameters 0000\n",
@@ -84,7 +88,7 @@ const CALLS: [(Call, &str); 25] = [
     ),
     (
         Call::ShowReplyFields(READ_REPLY),
-        "reply NV_Read size 29\nparameters 00080000000000000004\n  data TPM2B_MAX_NV_BUFFER 00080000000000000004\nsession 1 nonce - attributes 01 hmac -\n",
+        "reply NV_Read size 29\nparameters 00080000000000000004\n  data TPM2B_MAX_NV_BUFFER 00080000000000000004\nsession 1 nonce - attributes 01 continueSession hmac -\n",
     ),
     (
         Call::ShowLines(CAPTURE, AS_LINES),
@@ -96,7 +100,15 @@ const CALLS: [(Call, &str); 25] = [
     ),
     (
         Call::ShowLines(CAPTURE, AS_JSON),
-        "{\"number\":1,\"kind\":\"command\",\"command\":\"Startup\",\"size\":12,\"tag\":\"8001\",\"tag_name\":\"TPM_ST_NO_SESSIONS\",\"command_code\":\"00000144\",\"handles\":[],\"sessions\":[],\"parameters\":\"0000\",\"fields\":[{\"name\":\"startupType\",\"type\":\"TPM_SU\",\"value\":\"0000\",\"value_name\":\"TPM_SU_CLEAR\"}]}\n{\"number\":2,\"kind\":\"response\",\"command\":\"Startup\",\"size\":10,\"tag\":\"8001\",\"tag_name\":\"TPM_ST_NO_SESSIONS\",\"code\":\"000\",\"code_name\":\"TPM_RC_SUCCESS\",\"handles\":[],\"parameters\":\"\",\"fields\":[],\"sessions\":[]}\n{\"number\":3,\"kind\":\"response\",\"size\":10,\"tag\":\"8001\",\"tag_name\":\"TPM_ST_NO_SESSIONS\",\"code\":\"000\",\"code_name\":\"TPM_RC_SUCCESS\",\"fault\":\"no command is before it\"}\n",
+        "{\"number\":1,\"kind\":\"command\",\"command\":\"Startup\",\"size\":12,\"tag\":\"8001\",\"tag_name\":\"TPM_ST_NO_SESSIONS\",\"command_code\":\"00000144\",\"handles\":[],\"handle_names\":[],\"sessions\":[],\"parameters\":\"0000\",\"fields\":[{\"name\":\"startupType\",\"type\":\"TPM_SU\",\"value\":\"0000\",\"value_name\":\"TPM_SU_CLEAR\"}]}\n{\"number\":2,\"kind\":\"response\",\"command\":\"Startup\",\"size\":10,\"tag\":\"8001\",\"tag_name\":\"TPM_ST_NO_SESSIONS\",\"code\":\"000\",\"code_name\":\"TPM_RC_SUCCESS\",\"handles\":[],\"handle_names\":[],\"parameters\":\"\",\"fields\":[],\"sessions\":[]}\n{\"number\":3,\"kind\":\"response\",\"size\":10,\"tag\":\"8001\",\"tag_name\":\"TPM_ST_NO_SESSIONS\",\"code\":\"000\",\"code_name\":\"TPM_RC_SUCCESS\",\"fault\":\"no command is before it\"}\n",
+    ),
+    (
+        Call::ShowLines(READ_AND_REFUSED, AS_JSON),
+        "{\"number\":1,\"kind\":\"command\",\"command\":\"NV_Read\",\"size\":35,\"tag\":\"8002\",\"tag_name\":\"TPM_ST_SESSIONS\",\"command_code\":\"0000014e\",\"handles\":[\"40000001\",\"01800001\"],\"handle_names\":[\"TPM_RH_OWNER\",\"TPM_HT_NV_INDEX\"],\"sessions\":[{\"session\":\"40000009\",\"session_name\":\"TPM_RS_PW\",\"nonce\":\"\",\"attributes\":\"01\",\"attribute_names\":[\"continueSession\"],\"hmac\":\"\"}],\"parameters\":\"00080000\",\"fields\":[{\"name\":\"size\",\"type\":\"UINT16\",\"value\":\"0008\"},{\"name\":\"offset\",\"type\":\"UINT16\",\"value\":\"0000\"}]}\n{\"number\":2,\"kind\":\"command\",\"command\":\"Startup\",\"size\":12,\"tag\":\"8001\",\"tag_name\":\"TPM_ST_NO_SESSIONS\",\"command_code\":\"00000144\",\"refused\":\"1c4\",\"fault\":\"TPM_RC_VALUE for parameter 1\",\"at\":10,\"handles\":[],\"handle_names\":[],\"sessions\":[],\"parameters\":\"0002\"}\n",
+    ),
+    (
+        Call::ShowLines(READ_AND_REFUSED, BY_FIELDS),
+        "1 > command NV_Read size 35 tag 8002 TPM_ST_SESSIONS\nhandle 1 40000001 TPM_RH_OWNER\nhandle 2 01800001 TPM_HT_NV_INDEX\nsession 1 40000009 TPM_RS_PW nonce - attributes 01 continueSession hmac -\nparameters 00080000\n  size UINT16 0008\n  offset UINT16 0000\n2 > command Startup size 12 tag 8001 TPM_ST_NO_SESSIONS\nrefused 1c4 at 10\nparameters 0002\n",
     ),
     (Call::ShowLines("no", BY_FIELDS), "1 not hexadecimal\n"),
     (
@@ -105,7 +117,7 @@ const CALLS: [(Call, &str); 25] = [
     ),
     (
         Call::ShowStream(&STREAM, AS_JSON),
-        "{\"number\":1,\"kind\":\"command\",\"command\":\"Startup\",\"size\":12,\"tag\":\"8001\",\"tag_name\":\"TPM_ST_NO_SESSIONS\",\"command_code\":\"00000144\",\"handles\":[],\"sessions\":[],\"parameters\":\"0000\",\"fields\":[{\"name\":\"startupType\",\"type\":\"TPM_SU\",\"value\":\"0000\",\"value_name\":\"TPM_SU_CLEAR\"}]}\n{\"number\":2,\"fault\":\"cut short\",\"at\":12}\n",
+        "{\"number\":1,\"kind\":\"command\",\"command\":\"Startup\",\"size\":12,\"tag\":\"8001\",\"tag_name\":\"TPM_ST_NO_SESSIONS\",\"command_code\":\"00000144\",\"handles\":[],\"handle_names\":[],\"sessions\":[],\"parameters\":\"0000\",\"fields\":[{\"name\":\"startupType\",\"type\":\"TPM_SU\",\"value\":\"0000\",\"value_name\":\"TPM_SU_CLEAR\"}]}\n{\"number\":2,\"fault\":\"cut short\",\"at\":12}\n",
     ),
     (Call::ShowNv(NV), NV_TEXT),
     (Call::ShowNv("564a4e56"), "refused 09a at 4\n"),

@@ -1,0 +1,10 @@
+use Rattle.std.proofs.Common.{◌≡◌, ◌++◌, Option, subst, string_bytes}
+use Rattle.std.specs.Prelude.{OnOk}
+use Rattle.tpm_lines.specs.Named.{Named}
+use Rattle.tpm_show.specs.HandleNames.{name_or_null}
+use Rattle.tpm_show.proofs.handle_names.push_handle_name_entry.Goals as goal
+
+pub returns : goal.returns
+returns c =
+    subst (λ (o : Option Named). OnOk c.push_name_or_null.result (string_bytes c.push_name_or_null.new.text
+    ≡ string_bytes c.args.text.now ++ name_or_null o)) c.handle_name.ensures c.push_name_or_null.ensures

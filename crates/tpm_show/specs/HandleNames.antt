@@ -1,0 +1,106 @@
+-- Handles by the names that Part 2 gives them, and what is told of a list of handles (this profile; RFC 8259).
+use Rattle.std.specs.Prelude.{ℕ, Bool, true, false, List, [], ◌∷◌, ◌++◌, codes, Option, Some, None}
+use Rattle.std.specs.Option.{option_or}
+use Rattle.std.specs.Fmt.{decimal}
+use Rattle.tpm_types.specs.Handles.{kind_of}
+use Rattle.tpm_lines.specs.Named.{Named, named, named_in}
+use Rattle.tpm_lines.specs.Text.{comma, hexadecimal, lines_from}
+use Rattle.tpm_show.specs.declared.handle_names.HandleAs.TheVariants.{Line, Number, Name}
+use Rattle.tpm_show.specs.declared.handle_names.HandleAs.{HandleAs}
+use Rattle.tpm_show.specs.Headers.{name_behind}
+
+-- ---- names
+
+-- TPM_RH (7.4): permanent handles
+abbrev pub permanent_handles : List Named
+permanent_handles =
+    named 0x40000000 (codes "TPM_RH_SRK") ∷
+    named 0x40000001 (codes "TPM_RH_OWNER") ∷
+    named 0x40000002 (codes "TPM_RH_REVOKE") ∷
+    named 0x40000003 (codes "TPM_RH_TRANSPORT") ∷
+    named 0x40000004 (codes "TPM_RH_OPERATOR") ∷
+    named 0x40000005 (codes "TPM_RH_ADMIN") ∷
+    named 0x40000006 (codes "TPM_RH_EK") ∷
+    named 0x40000007 (codes "TPM_RH_NULL") ∷
+    named 0x40000008 (codes "TPM_RH_UNASSIGNED") ∷
+    named 0x40000009 (codes "TPM_RS_PW") ∷
+    named 0x4000000a (codes "TPM_RH_LOCKOUT") ∷
+    named 0x4000000b (codes "TPM_RH_ENDORSEMENT") ∷
+    named 0x4000000c (codes "TPM_RH_PLATFORM") ∷
+    named 0x4000000d (codes "TPM_RH_PLATFORM_NV") ∷
+    named 0x40000010 (codes "TPM_RH_AUTH_00") ∷
+    named 0x4000010f (codes "TPM_RH_AUTH_FF") ∷
+    named 0x40000110 (codes "TPM_RH_ACT_0") ∷
+    named 0x40000111 (codes "TPM_RH_ACT_1") ∷
+    named 0x40000112 (codes "TPM_RH_ACT_2") ∷
+    named 0x40000113 (codes "TPM_RH_ACT_3") ∷
+    named 0x40000114 (codes "TPM_RH_ACT_4") ∷
+    named 0x40000115 (codes "TPM_RH_ACT_5") ∷
+    named 0x40000116 (codes "TPM_RH_ACT_6") ∷
+    named 0x40000117 (codes "TPM_RH_ACT_7") ∷
+    named 0x40000118 (codes "TPM_RH_ACT_8") ∷
+    named 0x40000119 (codes "TPM_RH_ACT_9") ∷
+    named 0x4000011a (codes "TPM_RH_ACT_A") ∷
+    named 0x4000011b (codes "TPM_RH_ACT_B") ∷
+    named 0x4000011c (codes "TPM_RH_ACT_C") ∷
+    named 0x4000011d (codes "TPM_RH_ACT_D") ∷
+    named 0x4000011e (codes "TPM_RH_ACT_E") ∷
+    named 0x4000011f (codes "TPM_RH_ACT_F") ∷
+    []
+
+-- TPM_HT (7.2): kinds of handles, by their most significant byte
+abbrev pub handle_kinds : List Named
+handle_kinds =
+    named 0x00 (codes "TPM_HT_PCR") ∷
+    named 0x01 (codes "TPM_HT_NV_INDEX") ∷
+    named 0x02 (codes "TPM_HT_HMAC_SESSION") ∷
+    named 0x03 (codes "TPM_HT_POLICY_SESSION") ∷
+    named 0x40 (codes "TPM_HT_PERMANENT") ∷
+    named 0x80 (codes "TPM_HT_TRANSIENT") ∷
+    named 0x81 (codes "TPM_HT_PERSISTENT") ∷
+    named 0x90 (codes "TPM_HT_AC") ∷
+    []
+
+-- of a permanent handle its own name, and else that of its kind
+unfoldable pub handle_named : ℕ → Option Named
+handle_named handle = option_or (named_in permanent_handles handle) (named_in handle_kinds (kind_of handle))
+
+-- ---- in lines
+
+-- where names are asked for
+abbrev pub handle_behind : (names : Bool) → ℕ → List ℕ
+handle_behind false handle = []
+handle_behind true handle = name_behind (handle_named handle)
+
+unfoldable pub handle_line : (names : Bool) → ℕ → ℕ → List ℕ
+handle_line names i handle = codes "handle "
+    ++ (decimal i ++ (codes " " ++ (hexadecimal 8 handle ++ (handle_behind names handle ++ codes "\n"))))
+
+-- ---- in lists
+
+unfoldable pub handle_number : ℕ → List ℕ
+handle_number handle = codes "\"" ++ (hexadecimal 8 handle ++ codes "\"")
+
+-- A handle of no kind of Part 2 has none.
+abbrev pub name_or_null : Option Named → List ℕ
+name_or_null None = codes "null"
+name_or_null (Some n) = codes "\"" ++ (n.name ++ codes "\"")
+
+-- a handle's line, or the entry of its number or of its name in a list
+abbrev pub handle_text : HandleAs → ℕ → ℕ → List ℕ
+handle_text (Line names) i handle = handle_line names i handle
+handle_text Number i handle = comma i ++ handle_number handle
+handle_text Name i handle = comma i ++ name_or_null (handle_named handle)
+
+abbrev pub handle_lines : (names : Bool) → List ℕ → List ℕ
+handle_lines names handles = lines_from (handle_text (Line names)) 1 handles
+
+unfoldable pub numbers_member : List ℕ → List ℕ
+numbers_member handles = codes ",\"handles\":[" ++ (lines_from (handle_text Number) 1 handles ++ codes "]")
+
+unfoldable pub names_member : List ℕ → List ℕ
+names_member handles = codes ",\"handle_names\":[" ++ (lines_from (handle_text Name) 1 handles ++ codes "]")
+
+-- the handles and their names, in the same order
+abbrev pub handles_members : List ℕ → List ℕ
+handles_members handles = numbers_member handles ++ names_member handles
