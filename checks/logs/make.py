@@ -26,6 +26,7 @@ EIGHT = [0x0012, 0x000D, 0x000C, 0x0027, 0x000B, 0x0028, 0x0004, 0x0029]
 NO_ACTION, SEPARATOR, POST_CODE, CRTM_VERSION, CRTM_CONTENTS, IPL = 3, 4, 1, 8, 7, 13
 VARIABLE, BLOB, SERVICES, HCRTM, GPT = 0x80000001, 0x80000008, 0x80000003, 0x80000010, 0x80000006
 VARIABLE_BOOT, VARIABLE_BOOT2, OLDER_ACTION = 0x80000002, 0x8000000C, 5
+BLOB2, HANDOFFS, HANDOFFS2, TAG = 0x8000000A, 0x80000009, 0x8000000B, 6
 
 
 def header(algorithms, vendor=b"", class_=0, version=(0, 2, 0, 2)):
@@ -254,6 +255,185 @@ def images():
     return log
 
 
+def firmware_parts():
+    """Parts of the firmware's code by their data, and data that are none."""
+    log = Log([0x000B])
+
+    def part(kind, name, base, size, length=None):
+        """UEFI_PLATFORM_FIRMWARE_BLOB, or UEFI_PLATFORM_FIRMWARE_BLOB2, whose description may be counted wrongly."""
+        described = b"" if name is None else bytes([len(name) if length is None else length]) + name
+        log.record(0, kind, described + struct.pack("<QQ", base, size), b"the code")
+
+    part(BLOB, None, 0xFF000000, 0x80000)
+    part(BLOB, None, 2**64 - 1, 2**64 - 1)
+    part(BLOB2, b"FVMAIN\0", 0xFFC40000, 0x3C0000)
+    part(BLOB2, b"", 0, 0)
+    part(BLOB2, b"\0", 1, 10)
+    part(BLOB2, b'a "part" \\ of\x1b\n\x7f\x9b\xff\0\0', 0xABCDEF, 1)
+    part(BLOB2, bytes(range(255)), 2**63, 2**63)
+    part(POST_CODE, None, 0x820000, 0xE0000)
+    part(POST_CODE, b"POST CODE", 0x820000, 0xE0000)
+    part(CRTM_CONTENTS, None, 0xFFF00000, 0x100000)
+    part(CRTM_CONTENTS, b"Boot Guard Measured S-CRTM\0", 0xFFF00000, 0x100000)
+    # what is none, and what is text
+    log.record(0, BLOB, bytes(15)).record(0, BLOB, bytes(17)).record(0, BLOB2, bytes(16)).record(0, BLOB2, b"")
+    part(BLOB2, b"name", 1, 2, length=3)
+    part(BLOB2, b"name", 1, 2, length=5)
+    part(CRTM_CONTENTS, b"name", 1, 2, length=5)
+    log.record(0, POST_CODE, b"ACPI DATA in all").record(0, POST_CODE, b"ACPI DATA").record(0, CRTM_CONTENTS, b"contents")
+    log.record(0, BLOB + 0x100, bytes(16))
+    return log
+
+
+def handoffs():
+    """Tables that firmware hands to the system, and data that are none."""
+    log = Log([0x000B])
+
+    def tables(kind, name, *entries, count=None, length=None, behind=b""):
+        """UEFI_HANDOFF_TABLE_POINTERS, or UEFI_HANDOFF_TABLE_POINTERS2; what is counted may be counted wrongly."""
+        described = b"" if name is None else bytes([len(name) if length is None else length]) + name
+        data = described + struct.pack("<Q", len(entries) if count is None else count)
+        data += b"".join(uuid.UUID(guid).bytes_le + struct.pack("<Q", address) for guid, address in entries)
+        log.record(1, kind, data + behind, b"the tables")
+
+    acpi_2, unknown = "8868e871-e4f1-11d3-bc22-0080c73c8881", "00112233-4455-6677-8899-aabbccddeeff"
+    tables(HANDOFFS, None, ("f2fd1544-9794-4a2c-992e-e5bbcf20e394", 0x7F6C0000))
+    tables(HANDOFFS, None, (acpi_2, 0x7F7FE014), (unknown, 2**64 - 1), (acpi_2, 0))
+    tables(HANDOFFS, None)
+    # UEFI Specification, "Industry Standard Configuration Tables" and those behind it
+    last = "9a16-0090273fc14d"
+    tables(
+        HANDOFFS2,
+        b"Tables\0",
+        *((f"eb9d2d{n:02x}-2d88-11d3-{last}", n) for n in (0x2F, 0x30, 0x31, 0x32, 0x33)),
+        ("b1b621d5-f19c-41a5-830b-d9152c69aae0", 1),
+        ("eb66918a-7eef-402a-842e-931d21c38ae9", 2),
+        ("dcfa911d-26eb-469f-a220-38b7dc461220", 3),
+        ("36122546-f7e7-4c8f-bd9b-eb8525b50c0b", 4),
+    )
+    tables(HANDOFFS2, b"", (unknown, 0x10))
+    tables(HANDOFFS2, b"")
+    tables(HANDOFFS2, b'"SMBIOS" \\\x1b\xe9', ("eb9d2d31-2d88-11d3-9a16-0090273fc14d", 0xF0000))
+    # what is none
+    log.record(1, HANDOFFS, bytes(7)).record(1, HANDOFFS2, b"").record(1, HANDOFFS2, bytes(8))
+    tables(HANDOFFS, None, (unknown, 1), count=2)
+    tables(HANDOFFS, None, (unknown, 1), count=0)
+    tables(HANDOFFS, None, (unknown, 1), behind=b"\0")
+    tables(HANDOFFS, None, count=2**64 - 1)
+    tables(HANDOFFS2, b"name", (unknown, 1), length=3)
+    tables(HANDOFFS2, b"name", (unknown, 1), length=40)
+    return log
+
+
+def tags():
+    """Events of operating systems, and text of loaders in UTF-16, and data that are neither."""
+    log = Log([0x000B])
+
+    def tag(number, data, length=None):
+        """TCG_PCClientTaggedEvent, whose data may be counted wrongly."""
+        log.record(12, TAG, struct.pack("<II", number, len(data) if length is None else length) + data)
+
+    line = "initrd=\\initrd.img root=\"LABEL=a b\" quiet"
+    tag(0x8F3B22ED, bytes.fromhex("00ff7f"))
+    tag(0x8F3B22EC, b"loader.conf\0")
+    tag(0x13F7C7A9, (line + "\0").encode("utf-16-le"))
+    tag(0, b"")
+    tag(1, b"\0")
+    tag(2**32 - 1, b"a")
+    tag(2, "ab\xe9".encode("utf-16-le"))
+    tag(3, b"a\0b\0")
+    tag(4, b"\0\0")
+    tag(5, b"caf\xc3\xa9")
+    log.record(12, IPL, (line + "\0").encode("utf-16-le")).record(12, IPL, "no zero".encode("utf-16-le"))
+    # what is neither
+    tag(6, b"abc", length=2)
+    tag(7, b"abc", length=4)
+    tag(8, b"", length=2**32 - 1)
+    log.record(12, TAG, bytes(7)).record(12, TAG, b"")
+    log.record(12, IPL, b"\0\0").record(12, IPL, "a\xe9".encode("utf-16-le")).record(12, IPL, b"a\0b")
+    log.record(12, POST_CODE, "units".encode("utf-16-le"))
+    return log
+
+
+def partitions():
+    """Partitions of disks, and data that are none."""
+    log = Log([0x000B])
+    disk = uuid.UUID("3e8f1a2b-4c5d-6e7f-8091-a2b3c4d5e6f7")
+    system = uuid.UUID("c12a7328-f81f-11d2-ba4b-00a0c93ec93b")
+    linux = uuid.UUID("0fc63daf-8483-4772-8e79-3d69d8477de4")
+    own = uuid.UUID("00112233-4455-6677-8899-aabbccddeeff")
+
+    def entry(kind, first, last, name, attributes=0, size=128):
+        """EFI_PARTITION_ENTRY (UEFI Specification, "GPT Partition Entry Array")."""
+        name = name.encode("utf-16-le", "surrogatepass").ljust(72, b"\0")
+        return (kind.bytes_le + own.bytes_le + struct.pack("<QQQ", first, last, attributes) + name).ljust(size, b"\xee")
+
+    def table(*entries, count=None, size=128, signature=b"EFI PART", behind=b""):
+        """UEFI_GPT_DATA (UEFI Specification, "GPT Header"), whose entries may be counted wrongly."""
+        data = struct.pack("<8sIIIIQQQQ", signature, 0x10000, 92, 0, 0, 1, 0x3FFFFF, 34, 0x3FFFDE) + disk.bytes_le
+        data += struct.pack("<QIII", 2, 128, size, 0) + struct.pack("<Q", len(entries) if count is None else count)
+        log.record(5, GPT, data + b"".join(entries) + behind)
+
+    first = entry(system, 0x800, 0x1007FF, "EFI System")
+    table(first, entry(linux, 0x100800, 0x3FFFDE, "root", attributes=1 << 60))
+    table()
+    table(entry(system, 0, 2**64 - 1, 'a "name" \\ of\x1b\n\x9b\u202e\U0001f512', attributes=2**64 - 1))
+    table(entry(uuid.UUID(int=0), 1, 1, ""), entry(linux, 2, 3, "x" * 36), entry(linux, 4, 5, "half \ud83d"))
+    table(entry(system, 6, 7, "behind\0it"), entry(linux, 8, 9, "second", size=128))
+    table(entry(system, 10, 11, "larger", size=256), entry(linux, 12, 13, "entries", size=256), size=256)
+    # what is none
+    table(first, signature=b"EFI PARt")
+    table(first[:127], size=127)
+    table(first, count=2)
+    table(first, count=0)
+    table(first, behind=b"\0")
+    table(count=2**64 - 1)
+    table(size=0)
+    log.record(5, GPT, bytes(99)).record(5, GPT, b"")
+    return log
+
+
+def boot_variables():
+    """Variables that tell what the firmware starts, and variables that don't."""
+    log = Log([0x000B])
+    guid = uuid.UUID("c12a7328-f81f-11d2-ba4b-00a0c93ec93b").bytes_le
+    disk = drive(1, 0x800, 0x100000, 2, 2, guid)
+
+    def held(name, value, guid=GLOBAL, kind=VARIABLE_BOOT):
+        log.record(1, kind, efi_variable(guid, name, value), value)
+
+    def option(name, text, path, value=b"", attributes=1, length=None, **of_variable):
+        """EFI_LOAD_OPTION (UEFI Specification, "Load Options"), whose path may be counted wrongly."""
+        data = struct.pack("<IH", attributes, len(path) if length is None else length)
+        held(name, data + (text + "\0").encode("utf-16-le", "surrogatepass") + path + value, **of_variable)
+
+    held("BootOrder", struct.pack("<4H", 1, 0, 0x1A, 0xFFFF))
+    held("BootOrder", struct.pack("<H", 0xABCD), kind=VARIABLE_BOOT2)
+    held("BootOrder", b"")
+    option("Boot0001", "ubuntu", disk + file("\\EFI\\ubuntu\\shimx64.efi") + END)
+    option("Boot0000", "UEFI QEMU DVD-ROM", acpi(0x0A03, 0) + pci(0x1F, 2) + END, bytes.fromhex("4eac0881119f594d850ee21a522c59b2"))
+    option("Boot001A", 'a "name" \\ of\x1b\u202e\U0001f512', file("a b") + END, attributes=2**32 - 1, kind=VARIABLE_BOOT2)
+    option("BootFFFF", "", b"", attributes=0)
+    option("Boot0002", "half \ud83d", file("\ud83d") + END, b"\0")
+    option("Boot0003", "several", pci(2, 0) + NEXT + pci(3, 0) + END, kind=VARIABLE)
+    # what is none, by its name, by its GUID and by its value
+    option("Boot001a", "of lower case", END)
+    option("Boot00010", "of five digits", END)
+    option("Driver0001", "a driver", END)
+    option("Boot0001", "of another GUID", END, guid=bytes(16))
+    held("BootOrder", b"\1\0\2")
+    held("BootOrder", b"\1\0", guid=bytes(16))
+    held("BootOrders", b"\1\0")
+    held("Boot0001", bytes(5))
+    held("Boot0001", struct.pack("<IH", 1, 0) + "no zero".encode("utf-16-le"))
+    option("Boot0001", "of a longer path", END, length=5)
+    # whose path has a fault
+    option("Boot0001", "without an end", pci(2, 0))
+    option("Boot0001", "of a shorter path", disk + END, length=len(disk))
+    log.record(1, IPL, efi_variable(GLOBAL, "BootOrder", b"\1\0"))
+    return log
+
+
 def accepted():
     worked().write("worked")
     Log(THREE).write("header_alone")
@@ -289,6 +469,11 @@ def accepted():
     halves().write("halves")
     measured().write("measured")
     images().write("images")
+    firmware_parts().write("firmware_parts")
+    handoffs().write("handoffs")
+    tags().write("tags")
+    partitions().write("partitions")
+    boot_variables().write("boot_variables")
 
     # SHA-512 alone: no bank is extended
     Log([0x000D]).record(0, SEPARATOR, bytes(4)).write("no_bank")
