@@ -119,7 +119,7 @@ abbrev pub TellsCommand : (json fields : Bool) → List ℕ → Status → List 
 TellsCommand json fields bytes Done text = (c : CommandOf) × (areas : Cut) × Spells command c bytes × HasCut bytes areas
     × (text ≡ command_rest json fields areas c.body)
 TellsCommand json fields bytes Refused text = (refusal : Refusal) × Fault command bytes refusal
-    × (text ≡ refusal_told json refusal
+    × (text ≡ refusal_told json fields refusal
     ++ (absent_behind json refusal (code_number_in bytes) ++ library_command json fields bytes (header_in bytes)))
 
 -- a response to this command that the bytes spell, and else their fault
@@ -128,7 +128,7 @@ TellsReplyTo json fields code bytes Done text =
     (r : Response) × (areas : ReplyCut) × Spells (response code) r bytes × Spells (reply_cut code) areas bytes
     × (text ≡ response_rest json fields areas r)
 TellsReplyTo json fields code bytes Refused text = (refusal : Refusal) × Fault (response code) bytes refusal
-    × (text ≡ refusal_told json refusal)
+    × (text ≡ refusal_told json fields refusal)
 
 abbrev pub sentence_text : (json : Bool) → List ℕ → List ℕ
 sentence_text false sentence = sentence ++ codes "\n"

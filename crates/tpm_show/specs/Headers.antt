@@ -72,6 +72,11 @@ abbrev pub code_behind : Option Meaning → ℕ → List ℕ
 code_behind None code = []
 code_behind (Some m) code = codes " " ++ code_name code m
 
+-- where names are asked for
+abbrev pub code_named : (names : Bool) → ℕ → List ℕ
+code_named false code = []
+code_named true code = code_behind (meaning_of code) code
+
 unfoldable pub size_and_tag : (names : Bool) → FrameHeader → List ℕ
 size_and_tag names h = codes " size "
     ++ (decimal h.size ++ (codes " tag " ++ (hexadecimal 4 h.tag ++ tag_behind names h.tag)))

@@ -1,12 +1,17 @@
 -- The program's lines of a response (this profile).
-use Rattle.std.specs.Prelude.{ℕ, List, [], ◌∷◌, codes, Option, Some, None}
+use Rattle.std.specs.Prelude.{ℕ, Bool, List, [], ◌∷◌, ◌++◌, codes, Option, Some, None}
 use Rattle.std.specs.Fmt.{decimal}
 use Rattle.tpm_commands.specs.declared.code.CommandCode.{CommandCode}
 use Rattle.tpm_commands.specs.Codes.{code_name}
 use Rattle.tpm_lines.specs.Text.{line, hexadecimal}
+use Rattle.tpm_show.specs.Headers.{code_named}
 
-unfoldable pub reply_code_line : ℕ → List ℕ
-reply_code_line code = line (codes "reply" ∷ codes "code" ∷ hexadecimal 3 code ∷ [])
+unfoldable pub reply_code_words : ℕ → List ℕ
+reply_code_words code = codes "reply code " ++ hexadecimal 3 code
+
+-- where names are asked for with that of the code
+abbrev pub reply_code_line : (names : Bool) → ℕ → List ℕ
+reply_code_line names code = reply_code_words code ++ (code_named names code ++ codes "\n")
 
 unfoldable pub reply_line : CommandCode → ℕ → List ℕ
 reply_line command size = line (codes "reply" ∷ code_name command ∷ codes "size" ∷ decimal size ∷ [])

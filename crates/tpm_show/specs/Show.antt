@@ -1,5 +1,6 @@
 -- What `show` prints (this profile).
-use Rattle.std.specs.Prelude.{◌≡◌, ℕ, Bool, true, false, List, [], ◌++◌, length, map, Option, Some, None}
+use Rattle.std.specs.Prelude.{◌≡◌, ℕ, Bool, true, false, List, [], ◌++◌, length, map, codes, Option, Some, None}
+use Rattle.std.specs.Fmt.{decimal}
 use Rattle.tpm_wire.specs.declared.refusal.Refusal.{Refusal}
 use Rattle.tpm_wire.specs.Path.{Spells, Fault}
 use Rattle.tpm_commands.specs.declared.code.CommandCode.{CommandCode}
@@ -14,12 +15,14 @@ use Rattle.tpm_buffer.specs.ResponseAreas.{handle_of}
 use Rattle.tpm_buffer.specs.Responses.{ReplyCut, reply_cut, response}
 use Rattle.tpm_lines.specs.declared.status.Status.TheVariants.{Done, Refused}
 use Rattle.tpm_lines.specs.declared.status.Status.{Status}
-use Rattle.tpm_lines.specs.Text.{command_line, parameters_line, refusal_line, not_hexadecimal_line}
+use Rattle.tpm_lines.specs.Text.{command_line, hexadecimal, parameters_line, refusal_line, not_hexadecimal_line}
 use Rattle.tpm_show.specs.Digits.{buffer_in}
 use Rattle.tpm_show.specs.ReplyText.{handles_of, reply_line, reply_code_line}
 use Rattle.tpm_show.specs.Fields.{command_fields, reply_fields}
 use Rattle.tpm_show.specs.FrameJson.{fields_member, parameters_member, refusal_members}
+use Rattle.tpm_show.specs.Explain.{meaning_of}
 use Rattle.tpm_show.specs.HandleNames.{handle_lines, handles_members}
+use Rattle.tpm_show.specs.Headers.{code_behind}
 use Rattle.tpm_show.specs.Sessions.{Session, of_command, of_reply, session_lines, sessions_member}
 
 -- ---- behind the header
@@ -71,9 +74,19 @@ abbrev pub response_rest : (json fields : Bool) → ReplyCut → Response → Li
 response_rest json fields r (responses.Code n) = []
 response_rest json fields r (responses.Done body auths) = reply_rest json fields r body
 
-abbrev pub refusal_told : (json : Bool) → Refusal → List ℕ
-refusal_told false refusal = refusal_line refusal
-refusal_told true refusal = refusal_members refusal
+unfoldable pub refusal_words : Refusal → List ℕ
+refusal_words refusal =
+    codes "refused " ++ (hexadecimal 3 refusal.code ++ (codes " at " ++ decimal refusal.at))
+
+-- a refusal, with the name of its code
+abbrev pub named_refusal_line : Refusal → List ℕ
+named_refusal_line refusal =
+    refusal_words refusal ++ (code_behind (meaning_of refusal.code) refusal.code ++ codes "\n")
+
+abbrev pub refusal_told : (json names : Bool) → Refusal → List ℕ
+refusal_told false false refusal = refusal_line refusal
+refusal_told false true refusal = named_refusal_line refusal
+refusal_told true names refusal = refusal_members refusal
 
 -- ---- lines
 
@@ -84,7 +97,7 @@ command_lines fields size areas body =
 
 -- a response to this command, of so many bytes
 unfoldable pub response_lines : (fields : Bool) → CommandCode → ℕ → ReplyCut → Response → List ℕ
-response_lines fields code size r (responses.Code n) = reply_code_line n
+response_lines fields code size r (responses.Code n) = reply_code_line fields n
 response_lines fields code size r (responses.Done body auths) =
     reply_line code size ++ reply_rest false fields r body
 
@@ -96,7 +109,7 @@ ShowsCommand fields bytes Done text = (c : Command) × (areas : Cut) × Spells c
     × (text ≡ command_lines fields (length bytes) areas c.body)
 ShowsCommand fields bytes Refused text =
     (refusal : Refusal) × Fault command bytes refusal
-    × (text ≡ refusal_line refusal)
+    × (text ≡ refusal_told false fields refusal)
 
 -- a response to this command that the bytes spell is shown, and else their fault
 abbrev pub ShowsReply : (fields : Bool) → CommandCode → List ℕ → Status → List ℕ → Type 0
@@ -106,7 +119,7 @@ ShowsReply fields code bytes Done text =
     × (text ≡ response_lines fields code (length bytes) areas r)
 ShowsReply fields code bytes Refused text =
     (refusal : Refusal) × Fault (response code) bytes refusal
-    × (text ≡ refusal_line refusal)
+    × (text ≡ refusal_told false fields refusal)
 
 -- Where a command is named the bytes are taken for a response to it, and else for a command; any
 -- other text is not hexadecimal.

@@ -135,11 +135,12 @@ fn push_refused_whole(
     bytes: &[u8],
 ) -> Result<Status, AllocError>
     ensures { IfOk result (λ status. (status ≡ Refused)
-        × (string_bytes text.new ≡ string_bytes text.old ++ (refusal_told how.json refusal.now
+        × (string_bytes text.new ≡ string_bytes text.old
+        ++ (refusal_told how.json how.fields refusal.now
         ++ (absent_behind how.json refusal.now (code_number_in bytes.now)
         ++ library_command how.json how.fields bytes.now (header_in bytes.now))))) }
 {
-    let status = push_refused_command(text, how.json, refusal, code_number(bytes))?;
+    let status = push_refused_command(text, how, refusal, code_number(bytes))?;
     push_library_command(alloc, text, how, bytes)?;
     Ok(status)
 }
@@ -179,7 +180,7 @@ fn push_reply_to(
             push_response_rest(alloc, text, how, &areas, &response)?;
             Ok(Status::Done)
         }
-        Err(refusal) => push_refused(text, how.json, &refusal),
+        Err(refusal) => push_refused(text, how, &refusal),
     }
 }
 

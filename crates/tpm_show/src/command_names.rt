@@ -6,6 +6,7 @@ ghost use Rattle.tpm_show.specs.Show.{refusal_told};
 ghost use Rattle.tpm_show.specs.CommandNames.{absent_line, absent_member, absent_named, absent_text, absent_behind};
 ghost use Rattle.tpm_show.specs.CommandNames.{command_of, listed_as, listed_in};
 
+use crate::telling::Telling;
 use crate::told::push_refused;
 use std::alloc::AllocError;
 use tpm_lines::status::Status;
@@ -220,19 +221,20 @@ fn push_absent(text: &mut String, json: bool, code: u32) -> Pushed
 /// Adds the line of a refusal or its members, and behind that of a command's code which command it is.
 pub(crate) fn push_refused_command(
     text: &mut String,
-    json: bool,
+    how: Telling,
     refusal: &Refusal,
     code: Option<u32>,
 ) -> Result<Status, AllocError>
     ensures { IfOk result (λ status. (status ≡ Refused)
         × (string_bytes text.new ≡ string_bytes text.old
-        ++ (refusal_told json refusal.now ++ absent_behind json refusal.now code))) }
+        ++ (refusal_told how.json how.fields refusal.now
+        ++ absent_behind how.json refusal.now code))) }
 {
-    let status = push_refused(text, json, refusal)?;
+    let status = push_refused(text, how, refusal)?;
     if *refusal == UNSUPPORTED
         && let Some(code) = code
     {
-        push_absent(text, json, code)?;
+        push_absent(text, how.json, code)?;
     }
     Ok(status)
 }

@@ -110,8 +110,9 @@ fn push_meaning_name(text: &mut String, code: u32, meaning: &Meaning) -> Pushed
     push_subject(text, code)
 }
 
+/// Adds the name of a response code behind it, where it has one.
 #[tactic(auto, using(std::proofs::Common::append_assoc))]
-fn push_code_name(text: &mut String, code: u32) -> Pushed
+pub(crate) fn push_code_name(text: &mut String, code: u32) -> Pushed
     ensures { OnOk result
         (string_bytes text.new ≡ string_bytes text.old ++ code_behind (meaning_of code) code) }
 {

@@ -1,8 +1,8 @@
 //! Handles by the names that Part 2 gives them, in lines or in lists of JSON.
 
-ghost use Rattle.std.specs.Prelude.{◌≡◌, ◌++◌, OnOk, map, option_map, string_bytes};
+ghost use Rattle.std.specs.Prelude.{◌≡◌, ◌++◌, OnOk, option_map, string_bytes};
 ghost use Rattle.tpm_lines.specs.Named.{named_as};
-ghost use Rattle.tpm_lines.specs.Text.{comma, lines_from};
+ghost use Rattle.tpm_lines.specs.Text.{lines_from};
 ghost use Rattle.tpm_show.specs.HandleNames.{handle_behind, handle_line, handle_named, handle_number, handle_text};
 ghost use Rattle.tpm_show.specs.HandleNames.{handles_members, name_or_null, names_member, numbers_member};
 ghost use Rattle.tpm_show.specs.Headers.{name_behind};

@@ -1,6 +1,6 @@
 //! The parts of structures by the names that Part 2 gives them.
 
-ghost use Rattle.std.specs.Prelude.{◌≡◌, ◌++◌, ◌≤◌, ℕ, Bool, List, OnOk, codes, length, string_bytes};
+ghost use Rattle.std.specs.Prelude.{◌≡◌, ◌++◌, ℕ, Bool, List, OnOk, codes, string_bytes};
 ghost use Rattle.std.specs.Int.{bytes_high_first};
 ghost use Rattle.tpm_types.specs.Tpma.{nv_type};
 ghost use Rattle.tpm_lines.specs.Text.{lines_from};

@@ -2,21 +2,40 @@
 
 ghost use Rattle.std.specs.Prelude.{◌≡◌, ◌++◌, OnOk, string_bytes};
 ghost use Rattle.tpm_show.specs.HandleNames.{handle_lines, handles_members};
-ghost use Rattle.tpm_show.specs.ReplyText.{handles_of, reply_code_line, reply_line};
+ghost use Rattle.tpm_show.specs.Headers.{code_named};
+ghost use Rattle.tpm_show.specs.ReplyText.{handles_of, reply_code_line, reply_code_words, reply_line};
 ghost use Rattle.tpm_show.specs.Show.{named_fields};
 
 use crate::fields::push_reply_fields;
+use crate::frame_header::push_code_name;
 use crate::handle_names::{HandleAs, push_handles, push_handles_members};
 use std::alloc::Global;
 use tpm_commands::{CommandCode, ReplyBody};
 use tpm_lines::text::Pushed;
 
-/// Adds the line of a response code.
-#[tactic(auto, unfolding(crate::specs::ReplyText::reply_code_line))]
-pub(crate) fn push_code_line(text: &mut String, code: u32) -> Pushed
-    ensures { OnOk result (string_bytes text.new ≡ string_bytes text.old ++ reply_code_line code) }
+fn push_code_words(text: &mut String, code: u32) -> Pushed
+    ensures { OnOk result (string_bytes text.new ≡ string_bytes text.old ++ reply_code_words code) }
 {
-    writeln!(text, "reply code {code:03x}")
+    write!(text, "reply code {code:03x}")
+}
+
+fn push_code_named(text: &mut String, names: bool, code: u32) -> Pushed
+    ensures { OnOk result (string_bytes text.new ≡ string_bytes text.old ++ code_named names code) }
+{
+    if !names {
+        return Ok(());
+    }
+    push_code_name(text, code)
+}
+
+/// Adds the line of a response code.
+pub(crate) fn push_code_line(text: &mut String, names: bool, code: u32) -> Pushed
+    ensures { OnOk result
+        (string_bytes text.new ≡ string_bytes text.old ++ reply_code_line names code) }
+{
+    push_code_words(text, code)?;
+    push_code_named(text, names, code)?;
+    text.push_str("\n")
 }
 
 /// Adds the first line of a reply to this command, of so many bytes.

@@ -1,6 +1,6 @@
 //! What is told of a buffer: its lines, or the members of its object.
 
-ghost use Rattle.std.specs.Prelude.{◌≡◌, ◌++◌, IfOk, IfErr, OnOk, string_bytes};
+ghost use Rattle.std.specs.Prelude.{◌≡◌, ◌++◌, IfOk, IfErr, OnOk, false, string_bytes};
 ghost use Rattle.tpm_wire.specs.Path.{Fault, Spells};
 ghost use Rattle.tpm_buffer.specs.Commands.{command};
 ghost use Rattle.tpm_buffer.specs.CommandAreas.{HasCut};
@@ -9,9 +9,10 @@ ghost use Rattle.tpm_lines.specs.declared.status.Status.TheVariants.{Refused};
 ghost use Rattle.tpm_lines.specs.Text.{command_line};
 ghost use Rattle.tpm_show.specs.Show.{areas_told, reply_areas_told, named_parameters, parameters_told};
 ghost use Rattle.tpm_show.specs.Show.{command_rest, command_lines, reply_rest, response_rest, response_lines};
-ghost use Rattle.tpm_show.specs.Show.{refusal_told, ShowsCommand, ShowsReply};
+ghost use Rattle.tpm_show.specs.Show.{named_refusal_line, refusal_told, refusal_words, ShowsCommand, ShowsReply};
 
 use crate::fields::push_command_fields;
+use crate::frame_header::push_code_name;
 use crate::frame_json::{push_fields_member, push_refusal_members};
 use crate::handle_names::{HandleAs, push_handles, push_handles_members};
 use crate::reply_text::{
@@ -31,21 +32,53 @@ use tpm_lines::status::Status;
 use tpm_lines::text::{Pushed, push_parameters, push_refusal};
 use tpm_wire::Refusal;
 
+fn push_refusal_words(text: &mut String, refusal: &Refusal) -> Pushed
+    ensures { OnOk result (string_bytes text.new
+        ≡ string_bytes text.old ++ refusal_words refusal.now) }
+{
+    let Refusal { code, at } = *refusal;
+    write!(text, "refused {code:03x} at {at}")
+}
+
+// Adds the line of a refusal with the name of its code.
+fn push_named_refusal(text: &mut String, refusal: &Refusal) -> Pushed
+    ensures { OnOk result (string_bytes text.new
+        ≡ string_bytes text.old ++ named_refusal_line refusal.now) }
+{
+    push_refusal_words(text, refusal)?;
+    push_code_name(text, refusal.code)?;
+    text.push_str("\n")
+}
+
 /// Adds the line of a refusal, or its members.
 pub(crate) fn push_refused(
     text: &mut String,
-    json: bool,
+    how: Telling,
     refusal: &Refusal,
 ) -> Result<Status, AllocError>
-    ensures { IfOk result (λ status. (status ≡ Refused)
-        × (string_bytes text.new ≡ string_bytes text.old ++ refusal_told json refusal.now)) }
+    ensures { IfOk result (λ status. (status ≡ Refused) × (string_bytes text.new
+        ≡ string_bytes text.old ++ refusal_told how.json how.fields refusal.now)) }
 {
-    if json {
-        push_refusal_members(text, refusal)?;
-    } else {
-        push_refusal(text, refusal)?;
+    match (how.json, how.fields) {
+        (true, _) => push_refusal_members(text, refusal)?,
+        (false, true) => push_named_refusal(text, refusal)?,
+        (false, false) => push_refusal(text, refusal)?,
     }
     Ok(Status::Refused)
+}
+
+// The lines of a refusal.
+fn refused_answer(alloc: Global, fields: bool, refusal: &Refusal) -> Result<Answer, AllocError>
+    ensures { IfOk result (λ a. (a.status ≡ Refused)
+        × (string_bytes a.text ≡ refusal_told false fields refusal.now)) }
+{
+    let mut text = String::new(alloc);
+    let how = Telling {
+        fields,
+        json: false,
+    };
+    let status = push_refused(&mut text, how, refusal)?;
+    Ok(Answer { status, text })
 }
 
 // ---- a command
@@ -197,7 +230,7 @@ pub(crate) fn answer_to_command(
             push_command_lines(alloc, &mut text, fields, bytes.len(), &areas, &command.body)?;
             Ok(Answer::done(text))
         }
-        Err(refusal) => Answer::refusal(alloc, &refusal),
+        Err(refusal) => refused_answer(alloc, fields, &refusal),
     }
 }
 
@@ -272,7 +305,7 @@ fn push_response_lines(
         ++ response_lines fields command size areas.now response.now) }
 {
     match response {
-        Response::Code(code) => push_code_line(text, code.number()),
+        Response::Code(code) => push_code_line(text, fields, code.number()),
         Response::Done { body, .. } => {
             push_name(text, command, size)?;
             let how = Telling {
@@ -308,6 +341,6 @@ pub(crate) fn answer_to_reply(
             )?;
             Ok(Answer::done(text))
         }
-        Err(refusal) => Answer::refusal(alloc, &refusal),
+        Err(refusal) => refused_answer(alloc, fields, &refusal),
     }
 }

@@ -108,7 +108,7 @@ const CALLS: [(Call, &str); 27] = [
     ),
     (
         Call::ShowLines(READ_AND_REFUSED, BY_FIELDS),
-        "1 > command NV_Read size 35 tag 8002 TPM_ST_SESSIONS\nhandle 1 40000001 TPM_RH_OWNER\nhandle 2 01800001 TPM_HT_NV_INDEX\nsession 1 40000009 TPM_RS_PW nonce - attributes 01 continueSession hmac -\nparameters 00080000\n  size UINT16 0008\n  offset UINT16 0000\n2 > command Startup size 12 tag 8001 TPM_ST_NO_SESSIONS\nrefused 1c4 at 10\nparameters 0002\n",
+        "1 > command NV_Read size 35 tag 8002 TPM_ST_SESSIONS\nhandle 1 40000001 TPM_RH_OWNER\nhandle 2 01800001 TPM_HT_NV_INDEX\nsession 1 40000009 TPM_RS_PW nonce - attributes 01 continueSession hmac -\nparameters 00080000\n  size UINT16 0008\n  offset UINT16 0000\n2 > command Startup size 12 tag 8001 TPM_ST_NO_SESSIONS\nrefused 1c4 at 10 TPM_RC_VALUE for parameter 1\nparameters 0002\n",
     ),
     (Call::ShowLines("no", BY_FIELDS), "1 not hexadecimal\n"),
     (
