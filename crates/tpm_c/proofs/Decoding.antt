@@ -1,33 +1,24 @@
 -- What is decoded is what the bytes are read as.
-use Rattle.std.proofs.Common.{◌≡◌, List, ℕ, Bool, Ok, Err, Some, None, refl, ap, ◌∙◌}
-use Rattle.std.specs.Prelude.{if◌then◌else◌}
+use Rattle.std.proofs.Common.{◌≡◌, List, ℕ, Ok, Err, None, refl}
 use Rattle.tpm_wire.specs.declared.refusal.Refusal.{Refusal}
 use Rattle.tpm_wire.specs.Buffers.{buffer, Layout}
 use Rattle.tpm_wire.specs.Path.{Spells, Fault}
 use Rattle.tpm_wire.specs.Reading.{read_all}
 use Rattle.tpm_wire.proofs.Buffers.{buffer_sound}
 use Rattle.tpm_wire.proofs.Whole.{spells_read, fault_read}
-use Rattle.tpm_commands.specs.declared.command.Command.{Command}
 use Rattle.tpm_commands.specs.declared.command.CommandBody.{CommandBody}
 use Rattle.tpm_commands.specs.declared.command.StartAuth.{StartAuth}
 use Rattle.tpm_commands.specs.declared.response.ReplyBody.{ReplyBody}
 use Rattle.tpm_commands.specs.declared.response.StartReply.{StartReply}
-use Rattle.tpm_commands.specs.Handles.{needs_authorization}
 use Rattle.tpm_commands.specs.declared.command.CommandBody.TheVariants as bodies
 use Rattle.tpm_commands.specs.declared.response.ReplyBody.TheVariants as replies
-use Rattle.tpm_buffer.specs.Commands.{command, code_for}
-use Rattle.tpm_c.specs.Callers.{request_of, reply_of, body_in}
+use Rattle.tpm_c.specs.Callers.{request_of, reply_of}
 
 pub is_read : {A : Type 0} (l : Layout A) (bytes : List ℕ) (x : A) → Spells l x bytes → read_all l bytes ≡ Ok x
 is_read l bytes x s = spells_read buffer buffer_sound l bytes x s
 
 pub is_refused : {A : Type 0} (l : Layout A) (bytes : List ℕ) (e : Refusal) → Fault l bytes e → read_all l bytes ≡ Err e
 is_refused l bytes e f = fault_read buffer buffer_sound l bytes e f
-
--- the body of a command, where its first handle needs authorization
-pub body_is : (bytes : List ℕ) (c : Command) (needs : Bool) → Spells command c bytes
-    → needs_authorization (code_for c.body) ≡ needs → body_in (read_all command bytes) ≡ (if needs then Some c.body else None)
-body_is bytes c needs s e = ap body_in (is_read command bytes c s) ∙ rw e refl
 
 pub no_request : (b : CommandBody) → ((q : StartAuth) → b ≡ bodies.StartAuthSession q → ⊥) → None ≡ request_of b
 no_request (bodies.StartAuthSession q) differs = absurd (differs q refl)

@@ -1,23 +1,37 @@
--- A command that has a Name or a nonce which is too long is not sealed.
-use Rattle.std.proofs.Common.{◌≡◌, ℕ, List, [], ◌∷◌, length, take, Bool, false, Some, refl, sym, ap, ◌∙◌, arith}
+-- What is sealed of a command in bytes.
+use Rattle.std.proofs.Common.{◌≡◌, ℕ, List, [], ◌∷◌, length, take, Bool, true, Option, Some, None, sym, ap}
+use Rattle.std.proofs.Common.{◌∙◌, arith}
 use Rattle.tpm_commands.specs.declared.command.CommandBody.{CommandBody}
 use Rattle.tpm_commands.specs.Handles.{handle_kinds}
 use Rattle.tpm_buffer.specs.Commands.{code_for, handles_of}
-use Rattle.tpm_c.specs.declared.caller.Held.TheVariants.{Spent, Free, Sealed}
-use Rattle.tpm_c.specs.declared.caller.Held.{Held}
+use Rattle.tpm_model.specs.InStep.{CallerSession}
+use Rattle.tpm_model.specs.Callers.{Waiting}
+use Rattle.tpm_caller.specs.Sent.{sent}
+use Rattle.tpm_caller.specs.Plain.{Parts, parts_of, parts_in, IsSentFrom}
+use Rattle.tpm_c.specs.declared.caller.Held.TheVariants.{Free, Sealed}
 use Rattle.tpm_c.specs.Written.{IsIn}
-use Rattle.tpm_c.specs.Callers.{names_of, do_fit, seal_by, sealed_bytes, after_seal}
+use Rattle.tpm_c.specs.Callers.{names_of, do_fit, seal_of, seal_by, sealed_bytes, after_seal}
 
 -- a command has as many handles as its row has kinds
 same_count : (b : CommandBody) → length (handle_kinds (code_for b)) ≡ length (handles_of b)
 same_count b = grind arith
 
-pub unsealed : (held : Held) (b : CommandBody) (first second auth nonce out : List ℕ) (keep : Bool)
-    → do_fit (take (length (handle_kinds (code_for b))) (first ∷ second ∷ [])) nonce ≡ false
-    → IsIn (sealed_bytes (seal_by held (Some b) first second auth nonce keep)) out out 0
-    × (held ≡ after_seal held (seal_by held (Some b) first second auth nonce keep))
-unsealed (Free c) b first second auth nonce out keep long =
-    let same : do_fit (names_of b first second) nonce ≡ false = ap (λ n. do_fit (take n (first ∷ second ∷ [])) nonce) (sym (same_count b)) ∙ long in
-    rw same (record { bytes = refl; count_is = refl }, refl)
-unsealed Spent b first second auth nonce out keep long = (record { bytes = refl; count_is = refl }, refl)
-unsealed (Sealed w) b first second auth nonce out keep long = (record { bytes = refl; count_is = refl }, refl)
+-- where the Names that are looked at and the nonce are short enough
+fit_is : (p : Parts) (b : CommandBody) (first second nonce : List ℕ) → p ≡ parts_of b
+    → do_fit (take (length (handle_kinds p.code)) (first ∷ second ∷ [])) nonce ≡ true
+    → do_fit (names_of b first second) nonce ≡ true
+fit_is p b first second nonce is fit =
+    ap (λ (n : ℕ). do_fit (take n (first ∷ second ∷ [])) nonce) (sym (same_count b))
+    ∙ ap (λ (q : Parts). do_fit (take (length (handle_kinds q.code)) (first ∷ second ∷ [])) nonce) (sym is)
+    ∙ fit
+
+pub is_sealed : (c : CallerSession) (o : Option CommandBody) (p : Parts) (first second auth nonce out new : List ℕ) (keep : Bool) (w : Waiting)
+    (count : ℕ) → Some p ≡ parts_in o → do_fit (take (length (handle_kinds p.code)) (first ∷ second ∷ [])) nonce ≡ true
+    → ((b : CommandBody) → p ≡ parts_of b → IsSentFrom (sent (seal_of c b first second auth nonce keep)) out new (w, count))
+    → IsIn (sealed_bytes (seal_by (Free c) o first second auth nonce keep)) out new count
+    × (Sealed w ≡ after_seal (Free c) (seal_by (Free c) o first second auth nonce keep))
+is_sealed c None p first second auth nonce out new keep w count some fits sends = absurd (let z : ⊥ = cc in z)
+is_sealed c (Some b) p first second auth nonce out new keep w count some fits sends =
+    let is : p ≡ parts_of b = cc in
+    let s = sends b is in
+    rw (fit_is p b first second nonce is fits) (record { bytes = s.1.0; count_is = s.1.1 }, ap (λ (x : Waiting). Sealed x) s.0)

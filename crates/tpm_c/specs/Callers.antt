@@ -13,11 +13,10 @@ use Rattle.tpm_commands.specs.declared.command.StartAuth.{StartAuth}
 use Rattle.tpm_commands.specs.declared.response.Response.{Response}
 use Rattle.tpm_commands.specs.declared.response.ReplyBody.{ReplyBody}
 use Rattle.tpm_commands.specs.declared.response.StartReply.{StartReply}
-use Rattle.tpm_commands.specs.Handles.{needs_authorization}
 use Rattle.tpm_commands.specs.declared.command.CommandBody.TheVariants as bodies
 use Rattle.tpm_commands.specs.declared.response.Response.TheVariants as responses
 use Rattle.tpm_commands.specs.declared.response.ReplyBody.TheVariants as replies
-use Rattle.tpm_buffer.specs.Commands.{command, code_for, handles_of}
+use Rattle.tpm_buffer.specs.Commands.{command, handles_of}
 use Rattle.tpm_buffer.specs.Responses.{response}
 use Rattle.tpm_model.specs.InStep.{CallerSession}
 use Rattle.tpm_model.specs.Callers.{started_with, Seal, sealed, Waiting, Opened, opened, given_up}
@@ -25,6 +24,7 @@ use Rattle.tpm_model.specs.Callers as model
 use Rattle.tpm_caller.specs.declared.waiting.CallerFault.{CallerFault}
 use Rattle.tpm_caller.specs.Faults.{fault_of}
 use Rattle.tpm_caller.specs.Sent.{sent}
+use Rattle.tpm_caller.specs.Plain.{body_in}
 use Rattle.tpm_caller.specs.declared.waiting.CallerFault.TheVariants as faults
 use Rattle.tpm_c.specs.declared.caller.Held.TheVariants.{Spent, Free, Sealed}
 use Rattle.tpm_c.specs.declared.caller.Held.{Held}
@@ -72,11 +72,6 @@ after_start held (Some c) = Free c
 after_start held None = held
 
 -- ---- sealing
-
--- a command whose first handle needs authorization
-abbrev pub body_in : Result Command Refusal → Option CommandBody
-body_in (Ok c) = if needs_authorization (code_for c.body) then Some c.body else None
-body_in (Err e) = None
 
 -- as many of the Names as there are handles: the second is not looked at where there is one handle
 abbrev pub names_of : CommandBody → (first second : List ℕ) → List (List ℕ)

@@ -1,7 +1,7 @@
 -- A device that is kept: its NV memory's bytes in memory of C's, and the device that is made of them there.
 use Rattle.std.specs.Prelude.{◌≡◌, ◌⊎◌, ◌<◌, ◌≤◌, ℕ, Bool, true, false, not, ◌&&◌, List, [], ◌∷◌, ◌++◌, length}
 use Rattle.std.specs.Prelude.{nat_le, replicate, drop}
-use Rattle.std.specs.Prelude.{Option, Some, None, option_map, slice_get, is_ok, Result, Ok, Err, if◌then◌else◌}
+use Rattle.std.specs.Prelude.{Option, Some, None, option_map, slice_get, is_ok, if◌then◌else◌}
 use base.{Fraction.{full_share}, Fml.{Fml, ftrue, fex}}
 use denote.RawPtr.{Ptr, lies_at}
 use Rattle.tpm_wire.specs.declared.refusal.Refusal.{Refusal}

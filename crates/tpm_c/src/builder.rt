@@ -33,8 +33,7 @@ pub extern "C" fn tpm_command_build(
     let Some(code) = CommandCode::from_number(command) else {
         return NO_COMMAND;
     };
-    let joined = join_command(code, handles, sessions, parameters);
-    match &joined {
+    match join_command(code, handles, sessions, parameters) {
         Some(buffer) => judge(buffer.as_slice(), out, count, refusal),
         None => {
             let fault = Refusal {

@@ -5,27 +5,28 @@ ghost use Rattle.std.specs.Borrow.{sem};
 ghost use denote.RawPtr.{room_at};
 ghost use Rattle.tpm_wire.specs.Reading.{read_all};
 ghost use Rattle.tpm_types.specs.Limits.{digest_bytes, name_bytes};
+ghost use Rattle.tpm_commands.specs.declared.command.CommandBody.{CommandBody as CommandBodyOf};
 ghost use Rattle.tpm_commands.specs.Codes.{code_number};
-ghost use Rattle.tpm_commands.specs.Handles.{needs_authorization};
-ghost use Rattle.tpm_buffer.specs.Commands.{command as command_layout, code_for, handles_of};
+ghost use Rattle.tpm_commands.specs.Handles.{handle_kinds};
+ghost use Rattle.tpm_buffer.specs.Commands.{command as command_layout};
 ghost use Rattle.tpm_buffer.specs.Responses.{response};
-ghost use Rattle.tpm_model.specs.Callers.{Opened, Waiting, opened, sealed as sealed_of};
+ghost use Rattle.tpm_model.specs.Callers.{Opened, Waiting, opened};
 ghost use Rattle.tpm_caller.specs.Sent.{caller_with, sent};
+ghost use Rattle.tpm_caller.specs.Plain.{parts_of, IsSentFrom};
 ghost use Rattle.tpm_c.specs.declared.caller.Held.TheVariants.{Sealed, Spent};
 ghost use Rattle.tpm_c.specs.declared.caller.Held.{Held as HeldOf};
 ghost use Rattle.tpm_c.specs.contracts.caller.Held.{the_row};
 ghost use Rattle.tpm_c.specs.Written.{IsIn};
 ghost use Rattle.tpm_c.specs.Callers.{held_at, request_in, start_reply_in, started_by, start_code, after_start};
-ghost use Rattle.tpm_c.specs.Callers.{fault_number, open_code, kept, after_open, give_up_code, after_give_up, names_of};
-ghost use Rattle.tpm_c.specs.Callers.{body_in, are_short, do_fit, seal_of, sealing, sealed_bytes, after_seal};
+ghost use Rattle.tpm_c.specs.Callers.{fault_number, open_code, kept, after_open, give_up_code, after_give_up};
+ghost use Rattle.tpm_c.specs.Callers.{are_short, do_fit, seal_of, sealing, sealed_bytes, after_seal};
 
-use crate::out::{BUFFER_BYTES, put};
+use crate::out::BUFFER_BYTES;
 use arrayvec::ArrayVec;
 use tpm_buffer::{decode_command, decode_response};
-use tpm_caller::{Caller, CallerFault, Pending};
+use tpm_caller::{Caller, CallerFault, Pending, Plain};
 use tpm_commands::{Command, CommandBody, CommandCode, ReplyBody, Response, StartAuth, StartReply};
 use tpm_types::{DIGEST_BYTES, NAME_BYTES, Name, Nonce};
-use tpm_wire::Buffer;
 
 /// Nothing is waited for.
 const NOT_WAITING: u32 = 5;
@@ -135,21 +136,6 @@ fn do_fit(count: usize, first: &[u8], second: &[u8], nonce: &[u8]) -> bool
         && nonce.len() <= DIGEST_BYTES
 }
 
-fn body_in(command: &[u8]) -> Option<CommandBody<'_>>
-    ensures { result ≡ body_in (read_all command_layout command.now) }
-{
-    match decode_command(command) {
-        Ok(Command { body, .. }) => {
-            if body.code().needs_authorization() {
-                Some(body)
-            } else {
-                None
-            }
-        }
-        Err(_) => None,
-    }
-}
-
 fn name(bytes: &[u8]) -> Name
     requires { length bytes.now ≤ name_bytes }
     ensures { result ≡ bytes.now }
@@ -186,27 +172,28 @@ fn names(count: usize, first: &[u8], second: &[u8]) -> ArrayVec<Name, 2>
     names
 }
 
-// The sealed command is in `bytes`, whatever was in it.
+// The command is sealed into `out`, at its beginning.
 fn sealed(
     caller: Caller,
-    body: CommandBody<'_>,
+    plain: &Plain<'_>,
     first: &[u8],
     second: &[u8],
     auth: &[u8],
     nonce: &[u8],
     keep: bool,
-    bytes: &mut Buffer,
-) -> Pending
-    requires authorized { needs_authorization (code_for body) ≡ true }
-    requires fit { do_fit (names_of body first.now second.now) nonce.now ≡ true }
-    ensures waits { result
-        ≡ (sent
-        (seal_of caller body.entry first.now second.now auth.now nonce.now keep)).waiting }
-    ensures bytes { bytes.new.items
-        ≡ sealed_of (seal_of caller body.entry first.now second.now auth.now nonce.now keep) }
+    out: &mut [u8],
+) -> (Pending, usize)
+    requires room { 4096 ≤ length out.old }
+    requires fit { do_fit
+        (take (length (handle_kinds plain.now.code)) (first.now ∷ second.now ∷ [])) nonce.now
+        ≡ true }
+    ensures { (body : CommandBodyOf) → plain.now ≡ parts_of body →
+        IsSentFrom
+        (sent (seal_of caller body first.now second.now auth.now nonce.now keep))
+        out.old out.new result }
 {
-    let names = names(body.code().handles(), first, second);
-    caller.seal_into(body, names, auth, nonce_of(nonce), keep, bytes)
+    let names = names(plain.code().handles(), first, second);
+    caller.seal_plain(plain, names.as_slice(), auth, nonce_of(nonce), keep, out)
 }
 
 fn seal(
@@ -227,27 +214,17 @@ fn seal(
     if out.len() < BUFFER_BYTES {
         return 0;
     }
-    let Some(body) = body_in(command) else {
+    let Some(plain) = Plain::read(command) else {
         return 0;
     };
-    if !do_fit(body.code().handles(), first, second, nonce) {
+    if !do_fit(plain.code().handles(), first, second, nonce) {
         return 0;
     }
     match std::mem::replace(held, Held::Spent) {
         Held::Free(caller) => {
-            let mut bytes = Buffer::new();
-            let waiting = sealed(
-                caller,
-                body,
-                first,
-                second,
-                auth,
-                nonce,
-                keep != 0,
-                &mut bytes,
-            );
+            let (waiting, len) = sealed(caller, &plain, first, second, auth, nonce, keep != 0, out);
             *held = Held::Sealed(waiting);
-            put(out, bytes.as_slice())
+            len
         }
         other => {
             *held = other;

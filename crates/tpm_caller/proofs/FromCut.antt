@@ -27,7 +27,6 @@ use Rattle.tpm_commands.specs.declared.response.Response.TheVariants as response
 use Rattle.tpm_buffer.specs.Responses.{parameter_size, reply_sessions, Reply, with_sessions, without_sessions}
 use Rattle.tpm_buffer.specs.Responses.{reply_behind, reply, reply_of, done_with, behind_code, response, ReplyCut}
 use Rattle.tpm_buffer.specs.Responses.{raw_with_sessions, cut_behind_code, reply_cut}
-use Rattle.tpm_hmac.specs.Hmac.{hmac}
 use Rattle.tpm_model.specs.Answers.{reply_params}
 use Rattle.tpm_model.specs.Callers.{WrongMac, Waiting, opened_response}
 use Rattle.tpm_model.proofs.Sealing.{okay, okay_is}

@@ -17,7 +17,6 @@ use Rattle.tpm_commands.specs.declared.command.Header.{Header}
 use Rattle.tpm_commands.specs.declared.command.Command.{Command}
 use Rattle.tpm_commands.specs.declared.code.CommandCode.{CommandCode}
 use Rattle.tpm_commands.specs.Codes.{command_code, code_number}
-use Rattle.tpm_commands.specs.Handles.{handles}
 use Rattle.tpm_commands.specs.Parameters.{parameters}
 use Rattle.tpm_commands.specs.declared.command.CommandBody.TheVariants as bodies
 use Rattle.tpm_buffer.specs.Commands.{tag, command_size, header, sessions, authorization_size, authorization, code_for}
@@ -28,14 +27,12 @@ use Rattle.tpm_hmac.proofs.DigestLengths.{length-hmac}
 use Rattle.tpm_model.specs.Callers.{Seal, attrs_for, command_params, seal_key, seal_text, seal_auth, sealed}
 use Rattle.tpm_model.specs.Premises.{HasSpelling}
 use Rattle.tpm_caller.specs.Sent.{hmac_key, hmac_at, with_hmac}
+use Rattle.tpm_caller.specs.Plain.{handle_bytes}
 use Rattle.tpm_caller.proofs.Keys.{one_hmac}
 
 -- ---- the parts of a command with one session
 
-abbrev handle_bytes : CommandBody → List ℕ
-handle_bytes body = spelling (handles (code_for body)) (handles_of body)
-
-abbrev session_len : List ℕ → ℕ → ℕ
+abbrev pub session_len : List ℕ → ℕ → ℕ
 session_len nonce k = 9 + length nonce + k
 
 abbrev header_for : CommandBody → ℕ → Header
@@ -99,7 +96,7 @@ handles_long : (body : CommandBody) → length (handle_bytes body) ≡ 4 * lengt
 handles_long (bodies.NvUndefineSpace index) = refl
 handles_long _ = refl
 
-header_long : (h : Header) → length (spelling header h) ≡ 10
+pub header_long : (h : Header) → length (spelling header h) ≡ 10
 unfolding header tag command_size command_code
 header_long h = refl
 
@@ -187,7 +184,7 @@ behind s a bytes u =
     ∙ ap (λ (k : ℕ). drop (hmac_at s.names a.nonce + k) bytes) (sym u.hmac)
     ∙ (places s.body s.names a bytes u.names u.spelled).params
 
-one_mac : (s : Seal) (key params : List ℕ) (code : CommandCode) (attrs : ℕ) → code ≡ code_for s.body
+pub one_mac : (s : Seal) (key params : List ℕ) (code : CommandCode) (attrs : ℕ) → code ≡ code_for s.body
     → attrs ≡ attrs_for s.keep → key ≡ hmac_key s.caller.hash (seal_key s) → params ≡ command_params s.body
     → hmac s.caller.hash (whole_key key [])
     (mac_text (cp_hash s.caller.hash (code_number code) s.names params) s.nonce s.caller.nonce attrs)
@@ -224,7 +221,7 @@ signed s a bytes new key code attrs u c k y is =
 one_length : (a : Auth) (mac : List ℕ) → length mac ≡ length a.hmac → length (one_session (re_signed a mac)) ≡ length (one_session a)
 one_length a mac same = length-session (re_signed a mac) ∙ ap (session_len a.nonce) same ∙ sym (length-session a)
 
-session_long : (a : Auth) → length (spelling auth_command a) ≡ session_len a.nonce (length a.hmac)
+pub session_long : (a : Auth) → length (spelling auth_command a) ≡ session_len a.nonce (length a.hmac)
 unfolding one_session
 session_long a = ap length (sym (append-nil (spelling auth_command a))) ∙ length-session a
 

@@ -5,3 +5,5 @@ pub mod Opening
 pub mod Kept
 pub mod Told
 pub mod FromCut
+pub mod Splicing
+pub mod PlainParts

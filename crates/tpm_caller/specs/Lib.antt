@@ -1,3 +1,4 @@
 pub mod Sent
 pub mod Faults
 pub mod Opens
+pub mod Plain

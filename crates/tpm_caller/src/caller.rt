@@ -1,24 +1,30 @@
 //! A session, as its caller holds it.
 
 ghost use Rattle.std.specs.Prelude.{◌≡◌, ◌∷◌, [], ◌+◌, ◌*◌, ◌≤◌, ◌++◌, true, length, take, drop};
+ghost use Rattle.std.specs.Int.{to_be_bytes, w8, w16, w32};
 ghost use Rattle.tpm_types.specs.declared.tpms.Auth.{Auth as AuthOf};
 ghost use Rattle.tpm_types.specs.Alg.{digest_len};
 ghost use Rattle.tpm_types.specs.Limits.{block_bytes, digest_bytes};
 ghost use Rattle.tpm_commands.specs.Codes.{code_number};
+ghost use Rattle.tpm_commands.specs.declared.command.CommandBody.{CommandBody as CommandBodyOf};
 ghost use Rattle.tpm_commands.specs.Handles.{needs_authorization};
 ghost use Rattle.tpm_wire.specs.Spelling.{spelling, Fits};
+ghost use Rattle.tpm_types.specs.Tpms.{auth_command};
 ghost use Rattle.tpm_buffer.specs.Commands.{command as command_layout, code_for, handles_of, with_auths};
+ghost use Rattle.tpm_buffer.specs.Parts.{joined as joined_of};
 ghost use Rattle.tpm_hmac.specs.Hmac.{hmac};
 ghost use Rattle.tpm_hmac.specs.Sessions.{session_key as session_key_of, whole_key, cp_hash as cp_hash_of, mac_text};
 ghost use Rattle.tpm_model.specs.Callers.{started_with, bound_to, attrs_for as attrs_of, with_nonce};
 ghost use Rattle.tpm_model.specs.Premises.{HasSpelling};
 ghost use Rattle.tpm_caller.specs.Sent.{sent, hmac_key, hmac_at, with_hmac};
+ghost use Rattle.tpm_caller.specs.Plain.{parts_of, IsAtFront, Appends, IsSentFrom};
 
 use crate::pending::Pending;
+use crate::plain::Plain;
 use crate::waiting::Waiting;
 use arrayvec::ArrayVec;
 use std::marker::Model;
-use tpm_buffer::put_command;
+use tpm_buffer::{SESSIONS, put_command};
 use tpm_commands::{Command, CommandBody, CommandCode, StartAuth, StartReply};
 use tpm_hmac::{SessionKey, command_mac, cp_hash, hash, same, session_key, trim};
 use tpm_types::{
@@ -98,6 +104,46 @@ fn joined(front: &[u8], back: &[u8]) -> ArrayVec<u8, BLOCK_BYTES>
     let _ = both.try_extend_from_slice(front);
     let _ = both.try_extend_from_slice(back);
     both
+}
+
+// Writes the bytes behind the first ones, and says how many there are then.
+fn append(out: &mut [u8], written: usize, bytes: &[u8]) -> usize
+    requires { written + length bytes.now ≤ length out.old }
+    ensures bytes { Appends bytes.now (out.old, written) (out.new, result) }
+    ensures count { result ≡ written + length bytes.now }
+    ensures room { length out.new ≡ length out.old }
+{
+    let end = written + bytes.len();
+    out[written..end].copy_from_slice(bytes);
+    end
+}
+
+// The same of a number's bytes, the highest first.
+fn append_u8(out: &mut [u8], written: usize, number: u8) -> usize
+    requires { written + 1 ≤ length out.old }
+    ensures bytes { Appends (to_be_bytes w8 number) (out.old, written) (out.new, result) }
+    ensures count { result ≡ written + 1 }
+    ensures room { length out.new ≡ length out.old }
+{
+    append(out, written, &number.to_be_bytes())
+}
+
+fn append_u16(out: &mut [u8], written: usize, number: u16) -> usize
+    requires { written + 2 ≤ length out.old }
+    ensures bytes { Appends (to_be_bytes w16 number) (out.old, written) (out.new, result) }
+    ensures count { result ≡ written + 2 }
+    ensures room { length out.new ≡ length out.old }
+{
+    append(out, written, &number.to_be_bytes())
+}
+
+fn append_u32(out: &mut [u8], written: usize, number: u32) -> usize
+    requires { written + 4 ≤ length out.old }
+    ensures bytes { Appends (to_be_bytes w32 number) (out.old, written) (out.new, result) }
+    ensures count { result ≡ written + 4 }
+    ensures room { length out.new ≡ length out.old }
+{
+    append(out, written, &number.to_be_bytes())
 }
 
 impl Caller {
@@ -357,5 +403,93 @@ impl Caller {
             nonce,
             keep,
         }
+    }
+    // Writes the command with the session behind its handles, whose HMAC this is, to the beginning of `out`, and says
+    // how many bytes it has.
+    #[inline(never)]
+    fn splice(
+        &self,
+        plain: &Plain<'_>,
+        nonce: &[u8],
+        attrs: SessionAttrs,
+        mac: &[u8],
+        out: &mut [u8],
+    ) -> usize
+        requires nonce { length nonce.now ≤ digest_bytes }
+        requires mac { length mac.now ≤ digest_bytes }
+        requires room { 4096 ≤ length out.old }
+        ensures bytes { IsAtFront
+            (joined_of plain.now.code plain.now.handles
+            (spelling auth_command
+            (record {
+              session = self.now.handle;
+              nonce = nonce.now;
+              attrs = attrs;
+              hmac = mac.now;
+            })) plain.now.params) out.old out.new result }
+        ensures few { result ≤ 4096 }
+    {
+        let session = 9 + nonce.len() + mac.len();
+        let size = 14 + plain.handles.len() + session + plain.params.len();
+        let len = append_u16(out, 0, SESSIONS);
+        let len = append_u32(out, len, size as u32);
+        let len = append_u32(out, len, plain.code.number());
+        let len = append(out, len, plain.handles);
+        let len = append_u32(out, len, session as u32);
+        let len = append_u32(out, len, self.handle.number());
+        let len = append_u16(out, len, nonce.len() as u16);
+        let len = append(out, len, nonce);
+        let len = append_u8(out, len, attrs.number());
+        let len = append_u16(out, len, mac.len() as u16);
+        let len = append(out, len, mac);
+        append(out, len, plain.params)
+    }
+
+    /// As `seal`, of a command in bytes: its handles and its parameters are copied from where they lie, and the session
+    /// is written behind the handles. The sealed command stands at the beginning of `out`, which has room for at least
+    /// 4,096 bytes. What is answered opens its reply, and says how many bytes the command has.
+    pub fn seal_plain(
+        self,
+        plain: &Plain<'_>,
+        names: &[Name],
+        auth: &[u8],
+        nonce: Nonce,
+        keep: bool,
+        out: &mut [u8],
+    ) -> (Pending, usize)
+        requires { 4096 ≤ length out.old }
+        ensures sealed { (body : CommandBodyOf) → plain.now ≡ parts_of body →
+            IsSentFrom
+            (sent
+            (record {
+              caller = self;
+              body = body;
+              names = names.now;
+              auth = auth.now;
+              nonce = nonce;
+              keep = keep;
+            })) out.old out.new result }
+        ensures few { result.1 ≤ 4096 }
+    {
+        let mut key = Bounded::default();
+        self.set_key(auth, &mut key);
+        let attrs = attrs_for(keep);
+        let p_hash = cp_hash(self.hash(), plain.code, names, plain.params);
+        let mac = self.mac(
+            key.as_slice(),
+            p_hash.as_slice(),
+            nonce.as_slice(),
+            self.nonce(),
+            attrs,
+        );
+        let len = self.splice(plain, nonce.as_slice(), attrs, mac.as_slice(), out);
+        let pending = Pending {
+            caller: self,
+            code: plain.code,
+            key,
+            nonce,
+            keep,
+        };
+        (pending, len)
     }
 }

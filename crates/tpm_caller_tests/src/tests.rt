@@ -3,6 +3,7 @@
 mod both_ends;
 mod commands;
 mod kept;
+mod plain;
 mod replies;
 mod sessions;
 mod tpm;

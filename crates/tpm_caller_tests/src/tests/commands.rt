@@ -24,9 +24,9 @@ pub const EXTEND: &str =
 const EXTEND_17: &str =
     "80020000007500000182000000110000003d02000000001411111111111111111111111111111111111111110100202d4f9bf2fb328e99c5ed2797eca125438bed7b9d01010283f9f168eb0529e2e900000001000b0000000000000000000000000000000000000000000000000000000000000000";
 
-// TPM2_NV_Increment of the index 01800001 by itself in the session that is not bound, with the first nonce and the
-// value 61.
-const INCREMENT: &str =
+/// TPM2_NV_Increment of the index 01800001 by itself in the session that is not bound, with the first nonce and the
+/// value 61.
+pub const INCREMENT: &str =
     "8002000000530000013401800001018000010000003d020000010014111111111111111111111111111111111111111101002022f63486c79cf74a2a26e998f668fe82519b794e2ee9c4c576f27166a46accbc";
 
 /// The attributes of the counter 01800001: it is written and read by the owner and by its authorization value, whose
@@ -45,9 +45,9 @@ pub const WRITTEN_NAME: &str =
 pub const COUNTED_NAME: &str =
     "000bac5735bbf7e6583829466f6d08c77c88080191fb8f42a6997f72e77920542de1";
 
-// TPM2_PCR_Reset of register 16 in the session of SHA-1, with the second nonce and seventy bytes 61 behind the session
-// key: the key is longer than a block.
-const UNDER_A_LONG_KEY: &str =
+/// TPM2_PCR_Reset of register 16 in the session of SHA-1, with the second nonce and seventy bytes 61 behind the session
+/// key: the key is longer than a block.
+pub const UNDER_A_LONG_KEY: &str =
     "80020000003f0000013d000000100000002d02000002001022222222222222222222222222222222010014de77263757b4310213c568396f6ce73f9ae0e54e";
 
 /// TPM2_PCR_Extend of a register with 32 zeros for SHA-256, sealed to keep the session.

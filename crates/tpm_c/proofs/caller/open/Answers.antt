@@ -1,5 +1,4 @@
-use Rattle.std.proofs.Common.{◌≡◌, Ok, refl, ap, ◌∙◌, sym}
-use Rattle.tpm_model.specs.Callers.{opened}
+use Rattle.std.proofs.Common.{refl, ap, ◌∙◌, sym}
 use Rattle.tpm_c.specs.Callers.{kept}
 use Rattle.tpm_c.proofs.caller.open.Goals as goal
 

@@ -1,0 +1,122 @@
+//! A command as it is handed in to be sealed: without its sessions.
+
+ghost use Rattle.std.specs.Prelude.{◌≡◌, ◌≤◌, ◌+◌, ◌*◌, true, false, length, take, drop, OnOk, Err};
+ghost use Rattle.tpm_wire.specs.declared.refusal.Refusal.{Refusal as RefusalOf};
+ghost use Rattle.tpm_wire.specs.Reading.{read_all, Gives};
+ghost use Rattle.tpm_wire.specs.Spelling.{spelling};
+ghost use Rattle.tpm_commands.specs.declared.command_parameters.Params.{Params};
+ghost use Rattle.tpm_commands.specs.Parameters.{parameters, params_code};
+ghost use Rattle.tpm_buffer.specs.Commands.{command as command_layout, code_for, params_of};
+ghost use Rattle.tpm_caller.specs.Plain.{body_in, parts_in, AreParams};
+
+use std::marker::Model;
+use tpm_buffer::areas;
+use tpm_commands::{CommandBody, CommandCode};
+use tpm_types::StartupType;
+use tpm_wire::response_code::SIZE;
+use tpm_wire::{Cursor, Refusal};
+
+// How many bytes a command's header has.
+const HEADER: usize = 10;
+
+// How many bytes a command's parameters have at most.
+const PARAMS_BYTES: usize = 3500;
+
+/// A command in bytes, whose first handle needs authorization. Its handles and its parameters lie in the bytes, and
+/// its sessions are left out.
+#[derive(Drop)]
+pub struct Plain<'a> {
+    pub(crate) code: CommandCode,
+    pub(crate) handles: &'a [u8],
+    pub(crate) params: &'a [u8],
+}
+
+impl<'a> Model for Plain<'a> {
+    ghost use Rattle.std.specs.Prelude.{◌≡◌, ◌≤◌, true, length};
+    ghost use Rattle.tpm_commands.specs.Handles.{needs_authorization};
+    ghost use Rattle.tpm_caller.specs.Plain.{Parts};
+
+    ghost Value = { Parts };
+
+    ghost view = { λ p. record { code = p.code; handles = p.handles.now; params = p.params.now } };
+
+    ghost invariant = { λ p. (needs_authorization p.code ≡ true)
+        × (length p.handles.now ≤ 8)
+        × (length p.params.now ≤ 3500) };
+}
+
+// Reads the parameters of a command with this code in the place of others, or answers their first fault. Which handles
+// the command has is not said.
+fn read_params<'a>(body: &mut CommandBody<'a>, bytes: &'a [u8]) -> Result<(), Refusal>
+    requires { length bytes.now ≤ 4096 }
+    ensures reads { Gives (λ _. params_of body.new)
+        (read_all (parameters (code_for body.old)) bytes.now) result }
+    ensures spelled { OnOk result
+        (bytes.now ≡ spelling (parameters (code_for body.old)) (params_of body.new)) }
+    ensures code { OnOk result (params_code (params_of body.new) ≡ code_for body.old) }
+{
+    let mut cursor = Cursor::new(bytes);
+    body.read(&mut cursor, &[])?;
+    if cursor.left() > 0 {
+        return Err(Refusal {
+            code: SIZE,
+            at: cursor.at(),
+        });
+    }
+    Ok(())
+}
+
+// The bytes are the parameters of a command with this code, all of them. They are so few as a command's parameters can
+// be, which their value says. It is out of line, so that the value is off the stack again.
+#[inline(never)]
+fn are_params(code: CommandCode, bytes: &[u8]) -> bool
+    requires { length bytes.now ≤ 4096 }
+    ensures yes { result ≡ true → (p : Params) × AreParams code bytes.now p }
+    ensures no { result ≡ false
+        → (e : RefusalOf) × (read_all (parameters code) bytes.now ≡ Err e) }
+{
+    let mut body = CommandBody::Startup(StartupType::Clear);
+    body.begin(code);
+    match read_params(&mut body, bytes) {
+        Ok(()) => body.params_len() <= PARAMS_BYTES,
+        Err(_) => false,
+    }
+}
+
+// So many handles, behind the header.
+fn handles_in(bytes: &[u8], count: usize) -> &[u8]
+    requires few { count ≤ 2 }
+    requires within { 10 + 4 * count ≤ length bytes.now }
+    ensures { result.now ≡ take (4 * count) (drop 10 bytes.now) }
+{
+    &bytes[HEADER..HEADER + 4 * count]
+}
+
+impl<'a> Plain<'a> {
+    /// The command in these bytes, where they spell one whose first handle needs authorization. It may have sessions,
+    /// which are not looked at further.
+    pub fn read(bytes: &'a [u8]) -> Option<Self>
+        ensures { result ≡ parts_in (body_in (read_all command_layout bytes.now)) }
+    {
+        let Ok(areas) = areas(bytes) else {
+            return None;
+        };
+        let code = areas.code();
+        let params = areas.params();
+        if !are_params(code, params) || !code.needs_authorization() {
+            return None;
+        }
+        Some(Plain {
+            code,
+            handles: handles_in(bytes, code.handles()),
+            params,
+        })
+    }
+
+    /// Its code.
+    pub fn code(&self) -> CommandCode
+        ensures { result ≡ self.now.code }
+    {
+        self.code
+    }
+}
