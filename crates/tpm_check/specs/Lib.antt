@@ -18,6 +18,7 @@ pub mod HandoffText
 pub mod ImageText
 pub mod PartitionText
 pub mod TagText
+pub mod SignatureObjects
 pub mod VariableText
 pub mod EventSaid
 pub mod EventJson

@@ -29,6 +29,7 @@ mod reads;
 mod register_text;
 mod secure_boot_lines;
 mod signature_entries;
+mod signature_objects;
 mod signed_json;
 mod signed_text;
 mod stated;
