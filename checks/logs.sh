@@ -136,6 +136,10 @@ for told in "$logs"/*.secure; do
     checked "Secure Boot by ${log##*/}" "$status" "$log.log" --secure-boot
     cp "$log.verdicts" "$room/out.wanted"
     told "Secure Boot by ${log##*/}, as objects" "$status" "$log.log" --secure-boot
+    # Any state is what is asked for: a fault is none.
+    cp "$told" "$room/out.wanted"
+    status=$(grep -c '^secure-boot [^ ]* unknown' "$told" | sed 's/[^0].*/1/')
+    checked "any state of Secure Boot by ${log##*/}" "$status" "$log.log" --secure-boot --any-state
 done
 echo 'secure-boot no bank' >"$room/out.wanted"
 checked "Secure Boot without a bank" 1 "$logs/no_bank.log" --secure-boot
@@ -168,6 +172,25 @@ if python3 -c pass >"$room/out" 2>&1; then
         [ "$quote" = not-measured ] ||
             quoted "$of, of another log" 1 "$quote" "$logs/worked.log" matches covers differs $words $sent $list
     done <checks/quotes/cases.txt
+
+    # Secure Boot by a log that a quote vouches for, in the banks whose register 7 it selects.
+    while read -r log list; do
+        checks/quotes/made.py "$logs/$log.registers" 6e6f "$list" >"$room/quote"
+        words="--secure-boot --attest $room/quote --require $list"
+        checks/quotes/told.py "$room/quote" matches covers matches "$logs/$log.verdicts" >"$room/out.wanted"
+        case $(tail -n 1 "$room/out.wanted") in *true*) status=0 ;; *) status=1 ;; esac
+        of="Secure Boot by $log and a quote of $list"
+        told "$of" $status "$logs/$log.log" $words --nonce 6e6f
+        checks/quotes/told.py "$room/quote" differs covers matches "$logs/$log.verdicts" >"$room/out.wanted"
+        told "$of, for another nonce" 1 "$logs/$log.log" $words --nonce 6e
+    done <<'    end'
+        secure_on sha1:7+sha256:0,7
+        secure_on sha384:7,8
+        secure_on sha1:0,1+sha256:0
+        secure_off sha256:7
+        secure_unset sha256:7
+        secure_twice sha256:0,7
+    end
 else
     skip "quotes as objects" "python3 is not there"
 fi

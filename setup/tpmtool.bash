@@ -20,7 +20,8 @@ _tpmtool() {
             explain,-*) words='--decimal --help' ;;
             build,*) words=$commands ;;
             run,-*) words='--owner --greatest --help' ;;
-            check,-*) words='--registers --quote --attest --nonce --require --hash --secure-boot --json --help' ;;
+            check,-*) words='--registers --quote --attest --nonce --require --hash --secure-boot --any-state --json
+                --help' ;;
             events,-*) words='--register --places --digests --json --help' ;;
             check,* | events,*) files=yes ;;
             esac

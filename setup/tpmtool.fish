@@ -27,6 +27,7 @@ complete -c tpmtool -n '__fish_seen_subcommand_from check' -l nonce -x
 complete -c tpmtool -n '__fish_seen_subcommand_from check' -l require -x
 complete -c tpmtool -n '__fish_seen_subcommand_from check' -l hash -x -a 'sha1 sha256 sha384'
 complete -c tpmtool -n '__fish_seen_subcommand_from check' -l secure-boot
+complete -c tpmtool -n '__fish_seen_subcommand_from check' -l any-state
 complete -c tpmtool -n '__fish_seen_subcommand_from events' -l register -x
 complete -c tpmtool -n '__fish_seen_subcommand_from events' -l places
 complete -c tpmtool -n '__fish_seen_subcommand_from events' -l digests

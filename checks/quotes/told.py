@@ -1,5 +1,8 @@
 #!/usr/bin/env python3
-"""told.py FILE NONCE SELECTION QUOTE: what `tpmtool check LOG --attest FILE --json` writes where its verdicts are these.
+"""told.py FILE NONCE SELECTION QUOTE [VERDICTS]: what `tpmtool check LOG --attest FILE --json` writes, by its verdicts.
+
+With a file of the verdicts on Secure Boot, as `check LOG --secure-boot --json` writes them, those that are told of the
+banks whose register 7 is selected come behind.
 
 The TPMS_ATTEST (TPM 2.0, Part 2, 10.12) is read by Python's struct, and no value from the program.
 """
@@ -41,7 +44,14 @@ def attest(data):
     return told
 
 
-def main(path, nonce, covered, quote):
+def told_of_boot(selections, path):
+    with open(path) as file:
+        verdicts = {told.get("bank"): told for told in map(json.loads, file)}
+    banks = [entry["bank"] for entry in selections if 7 in entry["registers"]]
+    return [verdicts[bank] for bank in banks] or [{"secure_boot": "unknown", "fault": "no bank"}]
+
+
+def main(path, nonce, covered, quote, verdicts=None):
     with open(path, "rb") as file:
         told = {"attest": attest(file.read()), "nonce": nonce}
     words = covered.split()
@@ -49,9 +59,11 @@ def main(path, nonce, covered, quote):
     if words[0] == "lacks":
         told["lacks"] = {"bank": words[1], "register": int(words[2])}
     told["quote"] = quote
-    print(json.dumps(told, separators=(",", ":")))
+    boots = told_of_boot(told["attest"]["selection"], verdicts) if verdicts else []
     right = nonce != "differs" and covered in ("covers", "not compared") and quote == "matches"
-    print(json.dumps({"ok": right}, separators=(",", ":")))
+    right = right and all(boot["secure_boot"] == "on" for boot in boots)
+    for line in [told, *boots, {"ok": right}]:
+        print(json.dumps(line, separators=(",", ":")))
 
 
 if __name__ == "__main__":

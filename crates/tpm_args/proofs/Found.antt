@@ -1,9 +1,10 @@
 -- What was found in the words, by the getters and by the matches.
 use Rattle.std.proofs.Common.{◌≡◌, ℕ, ap, sym, subst, refl, ◌∙◌, Bool, true, false, Bor, inl, inr, codes, List, map}
-use Rattle.std.proofs.Common.{Option, Some, None, option_map, unwrap_or}
-use Rattle.std.specs.Prelude.{Box, Result, Ok, Err, MatchResult}
+use Rattle.std.proofs.Common.{Option, Some, None, option_map, unwrap_or, ◌||◌}
+use Rattle.std.specs.Prelude.{Box, Result, Ok, Err, MatchResult, is_some}
 use Rattle.std.specs.Box.{box_value}
 use Rattle.std.specs.Option.{MatchOption}
+use Rattle.std.specs.Str.{bytes_eq}
 use Rattle.clap.specs.Matches.{subcommand_name_of, first_value}
 use Rattle.clap.specs.Walk.{Row, Text, first_of, rows_of}
 use Rattle.clap.specs.Simple.{App, HasMatchesOf, app_of, is_simple, subcommand_of, subcommand_rows, subcommand_rows_of}
@@ -19,6 +20,7 @@ use Rattle.clap.proofs.OnLiterals.{clap_on_literals}
 use Rattle.clap.proofs.WalkLemmas.{first_value-rows}
 use Rattle.tpm_text_values.specs.Numbers.{IsDecimal}
 use Rattle.tpm_text_values.specs.Owner.{IsOwner}
+use Rattle.tpm_args.specs.declared.check.SignedWords.{SignedWords}
 use Rattle.tpm_args.specs.declared.task.Task.TheVariants.{Show, ShowCapture, ShowPackets, ShowNv, Build, Run, Explain}
 use Rattle.tpm_args.specs.declared.task.Task.TheVariants.{ExplainKind, Check, SecureBoot, Events}
 use Rattle.tpm_args.specs.declared.task.Task.{Task}
@@ -26,11 +28,76 @@ use Rattle.tpm_args.specs.declared.stop.Stop.TheVariants.{Help, Usage, Memory}
 use Rattle.tpm_args.specs.declared.stop.Stop.{Stop}
 use Rattle.tpm_args.specs.Program.{program_app}
 use Rattle.tpm_args.specs.Task.{Asks, AsksNothing, AsksNothingWith, AsksWith, IsCode, IsHash, IsRegister, Replies}
-use Rattle.tpm_args.specs.Task.{is_given, IsIfBytes, IsKind, IsWith, IsWithEither, Requires, IsInput}
+use Rattle.tpm_args.specs.Task.{is_given, AreSigned, IsIfBytes, IsKind, IsWith, IsWithEither, Requires, IsInput}
 use Rattle.tpm_args.specs.Stop.{IsHelp, IsMemoryOr, Refuses, StopsFor}
 
 some : {A : Type 0} (x y : A) → (let a : Option A = Some x in a) ≡ Some y → x ≡ y
 some x y e = cc
+
+opposite_ends : true ≡ false → ⊥
+opposite_ends e = absurd cc
+
+-- The name of `check` is no other one.
+other : (name : Text) → bytes_eq name (codes "check") ≡ false → codes "check" ≡ name → ⊥
+other name differs e = opposite_ends (ap (λ (x : Text). bytes_eq x (codes "check")) e ∙ differs)
+
+opposite : (b : Bool) → b ≡ true → b ≡ false → ⊥
+opposite b t f = opposite_ends (sym t ∙ f)
+
+-- No task of `check` has a quote as it was signed whose words are not in order.
+pub not_signed : (value : Text → Option Text) → ((s : SignedWords) → AreSigned value s → ⊥) → AsksNothingWith (codes "check") value
+not_signed value none (Check log registers quote attest sent required hash json) h =
+    none (record { attest = attest; nonce = sent; required = required; hash = hash }) h.6
+not_signed value none (SecureBoot log attest sent required hash any_state json) h =
+    none (record { attest = attest; nonce = sent; required = required; hash = hash }) h.5
+not_signed value none (Show reply fields hex) h = absurd (other (codes "show") refl h.0)
+not_signed value none (ShowCapture file binary fields json) h = absurd (other (codes "show") refl h.0)
+not_signed value none (ShowPackets file fields json) h = absurd (other (codes "show") refl h.0)
+not_signed value none (ShowNv file) h = absurd (other (codes "show") refl h.0)
+not_signed value none (Build code handles sessions parameters) h = absurd (other (codes "build") refl h.0)
+not_signed value none (Run owner greatest) h = absurd (other (codes "run") refl h.0)
+not_signed value none (Explain code) h = absurd (other (codes "explain") refl h.0)
+not_signed value none (ExplainKind kind) h = absurd (other (codes "explain") refl h.0)
+not_signed value none (Events log register places digests json) h = absurd (other (codes "events") refl h.0)
+
+neither : (r q : Option Text) → r ≡ None → q ≡ None → (is_some r || is_some q) ≡ true → ⊥
+neither None None r q e = absurd cc
+neither None (Some x) r q e = absurd cc
+neither (Some x) q r s e = absurd cc
+
+-- Where Secure Boot is asked for, no task has a list of registers or the information of a quote.
+pub not_beside : (value : Text → Option Text) → is_given (value (codes "secure-boot")) ≡ true
+    → (is_some (value (codes "registers")) || is_some (value (codes "quote"))) ≡ true → AsksNothingWith (codes "check") value
+not_beside value given some (Check log registers quote attest sent required hash json) h =
+    absurd (opposite (is_given (value (codes "secure-boot"))) given h.1)
+not_beside value given some (SecureBoot log attest sent required hash any_state json) h =
+    absurd (neither (value (codes "registers")) (value (codes "quote")) h.3 h.4 some)
+not_beside value given some (Show reply fields hex) h = absurd (other (codes "show") refl h.0)
+not_beside value given some (ShowCapture file binary fields json) h = absurd (other (codes "show") refl h.0)
+not_beside value given some (ShowPackets file fields json) h = absurd (other (codes "show") refl h.0)
+not_beside value given some (ShowNv file) h = absurd (other (codes "show") refl h.0)
+not_beside value given some (Build code handles sessions parameters) h = absurd (other (codes "build") refl h.0)
+not_beside value given some (Run owner greatest) h = absurd (other (codes "run") refl h.0)
+not_beside value given some (Explain code) h = absurd (other (codes "explain") refl h.0)
+not_beside value given some (ExplainKind kind) h = absurd (other (codes "explain") refl h.0)
+not_beside value given some (Events log register places digests json) h = absurd (other (codes "events") refl h.0)
+
+-- the same words of a quote as it was signed, by values that agree
+signed_agrees : (v w : Text → Option Text) → ((id : Text) → v id ≡ w id) → (s : SignedWords) → AreSigned v s → AreSigned w s
+signed_agrees v w same s h = (
+  sym (same (codes "attest")) ∙ h.0,
+  sym (same (codes "nonce")) ∙ h.1,
+  subst IsIfBytes (same (codes "nonce")) h.2,
+  subst (λ (x : Option Text). IsWith x (w (codes "attest")))
+      (same (codes "nonce")) (subst (λ (x : Option Text). IsWith (v (codes "nonce")) x) (same (codes "attest")) h.3),
+  subst (λ (x : Option Text). Requires x s.required) (same (codes "require")) h.4,
+  subst (λ (x : Option Text). IsWith x (w (codes "attest"))) (same (codes "require"))
+      (subst (λ (x : Option Text). IsWith (v (codes "require")) x) (same (codes "attest")) h.5),
+  subst (λ (x : Option Text). IsHash (unwrap_or x (codes "sha256")) s.hash) (same (codes "hash")) h.6,
+  subst (λ (x : Option Text). IsWithEither x (w (codes "quote")) (w (codes "attest"))) (same (codes "hash"))
+      (subst (λ (x : Option Text). IsWithEither (v (codes "hash")) x (w (codes "attest"))) (same (codes "quote"))
+      (subst (λ (x : Option Text). IsWithEither (v (codes "hash")) (v (codes "quote")) x) (same (codes "attest")) h.7)),
+)
 
 -- the same task, by values that agree
 agrees : (name : Text) (v w : Text → Option Text) → ((id : Text) → v id ≡ w id) → (t : Task) → AsksWith name v t → AsksWith name w t
@@ -100,34 +167,22 @@ agrees name v w same (ExplainKind kind) h = (
 agrees name v w same (Check log registers quote attest sent required hash json) h = (
   h.0,
   sym (ap is_given (same (codes "secure-boot"))) ∙ h.1,
-  sym (same (codes "LOG")) ∙ h.2,
-  sym (same (codes "registers")) ∙ h.3,
-  sym (same (codes "quote")) ∙ h.4,
-  sym (same (codes "attest")) ∙ h.5,
-  sym (same (codes "nonce")) ∙ h.6,
-  subst IsIfBytes (same (codes "nonce")) h.7,
-  subst (λ (x : Option Text). IsWith x (w (codes "attest")))
-      (same (codes "nonce")) (subst (λ (x : Option Text). IsWith (v (codes "nonce")) x) (same (codes "attest")) h.8),
-  subst (λ (x : Option Text). Requires x required) (same (codes "require")) h.9,
-  subst (λ (x : Option Text). IsWith x (w (codes "attest"))) (same (codes "require"))
-      (subst (λ (x : Option Text). IsWith (v (codes "require")) x) (same (codes "attest")) h.10),
-  subst (λ (x : Option Text). IsHash (unwrap_or x (codes "sha256")) hash) (same (codes "hash")) h.11,
-  subst (λ (x : Option Text). IsWithEither x (w (codes "quote")) (w (codes "attest"))) (same (codes "hash"))
-      (subst (λ (x : Option Text). IsWithEither (v (codes "hash")) x (w (codes "attest"))) (same (codes "quote"))
-      (subst (λ (x : Option Text). IsWithEither (v (codes "hash")) (v (codes "quote")) x) (same (codes "attest")) h.12)),
-  h.13 ∙ ap is_given (same (codes "json")),
+  sym (ap is_given (same (codes "any-state"))) ∙ h.2,
+  sym (same (codes "LOG")) ∙ h.3,
+  sym (same (codes "registers")) ∙ h.4,
+  sym (same (codes "quote")) ∙ h.5,
+  signed_agrees v w same (record { attest = attest; nonce = sent; required = required; hash = hash }) h.6,
+  h.7 ∙ ap is_given (same (codes "json")),
 )
-agrees name v w same (SecureBoot log json) h = (
+agrees name v w same (SecureBoot log attest sent required hash any_state json) h = (
   h.0,
   sym (ap is_given (same (codes "secure-boot"))) ∙ h.1,
   sym (same (codes "LOG")) ∙ h.2,
   sym (same (codes "registers")) ∙ h.3,
   sym (same (codes "quote")) ∙ h.4,
-  sym (same (codes "attest")) ∙ h.5,
-  sym (same (codes "nonce")) ∙ h.6,
-  sym (same (codes "require")) ∙ h.7,
-  sym (same (codes "hash")) ∙ h.8,
-  h.9 ∙ ap is_given (same (codes "json")),
+  signed_agrees v w same (record { attest = attest; nonce = sent; required = required; hash = hash }) h.5,
+  h.6 ∙ ap is_given (same (codes "any-state")),
+  h.7 ∙ ap is_given (same (codes "json")),
 )
 agrees name v w same (Events log register places digests json) h = (
   h.0,

@@ -68,10 +68,10 @@ abbrev pub signed_app : App
 signed_app = with_rule (with_rule (with_rule compare_app (option_rule (codes "attest")))
     (option_rule (codes "nonce"))) (option_rule (codes "require"))
 
--- the same with [--hash NAME] [--secure-boot] [--json]
+-- the same with [--hash NAME] [--secure-boot] [--any-state] [--json]
 abbrev pub check_app : App
-check_app = with_rule (with_rule (with_rule signed_app (option_rule (codes "hash")))
-    (flag_rule (codes "secure-boot"))) (flag_rule (codes "json"))
+check_app = with_rule (with_rule (with_rule (with_rule signed_app (option_rule (codes "hash")))
+    (flag_rule (codes "secure-boot"))) (flag_rule (codes "any-state"))) (flag_rule (codes "json"))
 
 -- events LOG [--register N] [--places] [--digests] [--json]
 abbrev pub events_app : App

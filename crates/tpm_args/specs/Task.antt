@@ -10,6 +10,7 @@ use Rattle.tpm_text_values.specs.Names.{command_of_name, is_kind}
 use Rattle.tpm_text_values.specs.Numbers.{IsDecimal, IsHexadecimal, IsShortDecimal}
 use Rattle.tpm_text_values.specs.Owner.{IsOwner, bytes_in}
 use Rattle.tpm_text_values.specs.Selections.{hash_word, AreSelections}
+use Rattle.tpm_args.specs.declared.check.SignedWords.{SignedWords}
 use Rattle.tpm_args.specs.declared.task.Task.TheVariants.{Show, ShowCapture, ShowPackets, ShowNv, Build, Run, Explain}
 use Rattle.tpm_args.specs.declared.task.Task.TheVariants.{ExplainKind, Check, SecureBoot, Events}
 use Rattle.tpm_args.specs.declared.task.Task.{Task}
@@ -75,6 +76,17 @@ abbrev pub Requires : Option Text → Option (List Selection) → Type 0
 Requires None required = required ≡ None
 Requires (Some text) required = IsSomeAnd required (AreSelections text)
 
+-- a quote as it was signed, and what is expected of it: a nonce and a list of registers go with the quote, and a hash
+-- with it or with the information of a quote
+abbrev pub AreSigned : (Text → Option Text) → SignedWords → Type 0
+AreSigned value s =
+    (value (codes "attest") ≡ option_map (λ a. a.now) s.attest)
+    × (value (codes "nonce") ≡ option_map (λ n. n.now) s.nonce)
+    × IsIfBytes (value (codes "nonce")) × IsWith (value (codes "nonce")) (value (codes "attest"))
+    × Requires (value (codes "require")) s.required × IsWith (value (codes "require")) (value (codes "attest"))
+    × IsHash (unwrap_or (value (codes "hash")) (codes "sha256")) s.hash
+    × IsWithEither (value (codes "hash")) (value (codes "quote")) (value (codes "attest"))
+
 -- standard input, by the word `-`, or a file
 abbrev pub IsInput : (word file : Option Text) → Type 0
 IsInput (Some text) None = text ≡ codes "-"
@@ -124,23 +136,19 @@ AsksWith name value (ExplainKind kind) =
     (name ≡ codes "explain") × IsKind (is_given (value (codes "decimal"))) (value (codes "CODE")) kind.now
 AsksWith name value (Check log registers quote attest sent required hash json) =
     (name ≡ codes "check")
-    × (is_given (value (codes "secure-boot")) ≡ false)
+    × (is_given (value (codes "secure-boot")) ≡ false) × (is_given (value (codes "any-state")) ≡ false)
     × (value (codes "LOG") ≡ Some log.now)
     × (value (codes "registers") ≡ option_map (λ r. r.now) registers)
     × (value (codes "quote") ≡ option_map (λ q. q.now) quote)
-    × (value (codes "attest") ≡ option_map (λ a. a.now) attest) × (value (codes "nonce") ≡ option_map (λ s. s.now) sent)
-    × IsIfBytes (value (codes "nonce")) × IsWith (value (codes "nonce")) (value (codes "attest"))
-    × Requires (value (codes "require")) required × IsWith (value (codes "require")) (value (codes "attest"))
-    × IsHash (unwrap_or (value (codes "hash")) (codes "sha256")) hash
-    × IsWithEither (value (codes "hash")) (value (codes "quote")) (value (codes "attest"))
+    × AreSigned value (record { attest = attest; nonce = sent; required = required; hash = hash })
     × (json ≡ is_given (value (codes "json")))
-AsksWith name value (SecureBoot log json) =
+AsksWith name value (SecureBoot log attest sent required hash any_state json) =
     (name ≡ codes "check")
     × (is_given (value (codes "secure-boot")) ≡ true)
     × (value (codes "LOG") ≡ Some log.now)
-    × (value (codes "registers") ≡ None) × (value (codes "quote") ≡ None) × (value (codes "attest") ≡ None)
-    × (value (codes "nonce") ≡ None) × (value (codes "require") ≡ None) × (value (codes "hash") ≡ None)
-    × (json ≡ is_given (value (codes "json")))
+    × (value (codes "registers") ≡ None) × (value (codes "quote") ≡ None)
+    × AreSigned value (record { attest = attest; nonce = sent; required = required; hash = hash })
+    × (any_state ≡ is_given (value (codes "any-state"))) × (json ≡ is_given (value (codes "json")))
 AsksWith name value (Events log register places digests json) =
     (name ≡ codes "events")
     × (value (codes "LOG") ≡ Some log.now)

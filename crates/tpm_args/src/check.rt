@@ -1,11 +1,12 @@
 //! The words of the subcommand `check`.
 
-ghost use Rattle.std.specs.Prelude.{◌≡◌, true, List, Option, MatchOption, MatchResult, codes, option_map};
+ghost use Rattle.std.specs.Prelude.{◌≡◌, ◌||◌, true, List, Option, MatchResult, codes, is_some, option_map};
 ghost use Rattle.clap.specs.Words.{first_value, found_of};
 ghost use Rattle.tpm_types.specs.declared.alg.Alg.{Alg as AlgValue};
 ghost use Rattle.tpm_types.specs.declared.tpms.Selection.{Selection as SelectionValue};
 ghost use Rattle.tpm_args.specs.Stop.{IsAsked, IsMemoryOr};
-ghost use Rattle.tpm_args.specs.Task.{is_given as is_given_by, AsksNothingWith, AsksWith};
+ghost use Rattle.tpm_args.specs.declared.check.SignedWords.{SignedWords as SignedWordsValue};
+ghost use Rattle.tpm_args.specs.Task.{is_given as is_given_by, AreSigned};
 ghost use Rattle.tpm_args.specs.Task.{IsHash, IsIfBytes, IsWith, IsWithEither, Requires};
 
 use crate::given::is_given;
@@ -18,21 +19,89 @@ use std::alloc::Global;
 use tpm_text_values::{is_hexadecimal, selections};
 use tpm_types::{Alg, Selections};
 
+/// The words of a quote as it was signed.
+#[derive(Drop)]
+pub(crate) struct SignedWords<'a> {
+    /// Its path.
+    pub attest: Option<&'a str>,
+    /// The nonce that was sent for it, in hexadecimal digits.
+    pub nonce: Option<&'a str>,
+    /// The registers that it has to select.
+    pub required: Option<Selections>,
+    /// The hash of its digest.
+    pub hash: Alg,
+}
+
 /// The task of the words of `check`.
 pub(crate) fn check_task<'a>(alloc: Global, words: &ArgMatches<'a>) -> Asked<'a>
     ensures { IsAsked (codes "check") words.now result }
 {
     if is_given(words, "secure-boot") {
-        let Some(task) = secure_boot_task(words) else {
-            let reason = "--secure-boot goes with no other option but --json";
-            return Err(wrong_words(alloc, check_words(alloc), reason));
-        };
-        return Ok(Some(task));
+        return secure_boot_task(alloc, words);
+    }
+    if is_given(words, "any-state") {
+        return Err(wrong_words(
+            alloc,
+            check_words(alloc),
+            "--any-state goes with --secure-boot",
+        ));
     }
     let Some(log) = words.get_str("LOG") else {
         return Ok(None);
     };
-    let quote = words.get_str("quote");
+    let signed = signed_words(alloc, words)?;
+    Ok(Some(Task::Check {
+        log,
+        registers: words.get_str("registers"),
+        quote: words.get_str("quote"),
+        attest: signed.attest,
+        nonce: signed.nonce,
+        required: signed.required,
+        hash: signed.hash,
+        json: is_given(words, "json"),
+    }))
+}
+
+// The task of the words where Secure Boot is asked for.
+fn secure_boot_task<'a>(alloc: Global, words: &ArgMatches<'a>) -> Asked<'a>
+    requires { is_given_by (first_value (found_of words.now) (codes "secure-boot")) ≡ true }
+    ensures { IsAsked (codes "check") words.now result }
+{
+    if is_beside_others(words) {
+        let reason = "--secure-boot goes with neither --registers nor --quote";
+        return Err(wrong_words(alloc, check_words(alloc), reason));
+    }
+    let Some(log) = words.get_str("LOG") else {
+        return Ok(None);
+    };
+    let signed = signed_words(alloc, words)?;
+    Ok(Some(Task::SecureBoot {
+        log,
+        attest: signed.attest,
+        nonce: signed.nonce,
+        required: signed.required,
+        hash: signed.hash,
+        any_state: is_given(words, "any-state"),
+        json: is_given(words, "json"),
+    }))
+}
+
+// Whether a list of registers or the information of a quote is given.
+fn is_beside_others(words: &ArgMatches<'_>) -> bool
+    ensures { result
+        ≡ (is_some (first_value (found_of words.now) (codes "registers"))
+        || is_some (first_value (found_of words.now) (codes "quote"))) }
+{
+    words.get_str("registers").is_some() || words.get_str("quote").is_some()
+}
+
+// The words of a quote as it was signed. A usage fault where they are not in order.
+fn signed_words<'a>(alloc: Global, words: &ArgMatches<'a>) -> Result<SignedWords<'a>, Stop>
+    ensures { MatchResult result
+        (λ signed. AreSigned (first_value (found_of words.now)) signed)
+        (IsMemoryOr ((signed : SignedWordsValue)
+        → AreSigned (first_value (found_of words.now)) signed → ⊥)) }
+{
     let attest = words.get_str("attest");
     let nonce = words.get_str("nonce");
     with_attest(alloc, nonce, "--nonce <HEX>", attest)?;
@@ -42,39 +111,12 @@ pub(crate) fn check_task<'a>(alloc: Global, words: &ArgMatches<'a>) -> Asked<'a>
     let required = required(alloc, list)?;
     let name = words.get_str("hash");
     let hash = hash(alloc, name.unwrap_or("sha256"))?;
-    with_quote(alloc, name, quote, attest)?;
-    Ok(Some(Task::Check {
-        log,
-        registers: words.get_str("registers"),
-        quote,
+    with_quote(alloc, name, words.get_str("quote"), attest)?;
+    Ok(SignedWords {
         attest,
         nonce,
         required,
         hash,
-        json: is_given(words, "json"),
-    }))
-}
-
-// The task where Secure Boot is asked for: none where another word but the log and JSON is given.
-fn secure_boot_task<'a>(words: &ArgMatches<'a>) -> Option<Task<'a>>
-    ensures { is_given_by (first_value (found_of words.now) (codes "secure-boot")) ≡ true
-        → MatchOption result
-        (AsksNothingWith (codes "check") (first_value (found_of words.now)))
-        (λ t. AsksWith (codes "check") (first_value (found_of words.now)) t) }
-{
-    let log = words.get_str("LOG")?;
-    if words.get_str("registers").is_some()
-        || words.get_str("quote").is_some()
-        || words.get_str("attest").is_some()
-        || words.get_str("nonce").is_some()
-        || words.get_str("require").is_some()
-        || words.get_str("hash").is_some()
-    {
-        return None;
-    }
-    Some(Task::SecureBoot {
-        log,
-        json: is_given(words, "json"),
     })
 }
 

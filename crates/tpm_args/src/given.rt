@@ -57,8 +57,8 @@ impl Words {
     /// `explain` a number above 2^32 - 1 or other digits than those of its radix, where it is no name
     /// of a kind; of `check` a hash other than `sha1`, `sha256` and `sha384`, a nonce that is not
     /// hexadecimal, a list of no registers, a word whose quote is not given (the nonce and the list
-    /// want `--attest`, the hash one of `--quote` and `--attest`), or `--secure-boot` beside another
-    /// than `--json`;
+    /// want `--attest`, the hash one of `--quote` and `--attest`), `--secure-boot` beside `--registers`
+    /// or `--quote`, or `--any-state` without `--secure-boot`;
     /// and of `show` where they have more than one of a buffer, a capture, packets and NV memory, or
     /// none, a capture with `--reply`, a buffer with `--binary` or `--json`, packets with `--reply` or
     /// `--binary`, or NV memory with any of these.

@@ -31,6 +31,7 @@ const AFTER_HELP: &str = "Examples:
   tpmtool check LOG --registers FILE
   tpmtool check LOG --attest FILE --nonce 6e6f
   tpmtool check LOG --secure-boot
+  tpmtool check LOG --secure-boot --attest FILE
   tpmtool events LOG
   tpmtool events LOG --register 7 --digests
 
@@ -215,7 +216,8 @@ pub(crate) fn check_words<'a>(alloc: Global) -> Result<Command<'a>, AllocError>
 {
     with_words! { alloc, signed_words(alloc)?;
         option "hash" "NAME" "The hash of the quote's digest: sha1, sha256 or sha384; sha256 if it is not given";
-        flag "secure-boot" "Prints whether Secure Boot was on, by the log alone";
+        flag "secure-boot" "Prints whether Secure Boot was on, by the log, or by a log that --attest vouches for";
+        flag "any-state" "Takes the states off and unset of Secure Boot as well as on";
         flag "json" "Prints objects of JSON in place of text, each in a line";
     }
 }

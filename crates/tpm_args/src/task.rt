@@ -94,10 +94,21 @@ pub enum Task<'a> {
         /// Whether what is printed is objects of JSON.
         json: bool,
     },
-    /// `check LOG --secure-boot [--json]`: print whether Secure Boot was on in the boot that a log tells of.
+    /// `check LOG --secure-boot [--any-state] [--attest FILE [--nonce HEX] [--require LIST] [--hash NAME]] [--json]`:
+    /// print whether Secure Boot was on in the boot that a log tells of, alone or behind what a quote says.
     SecureBoot {
         /// The path of the log.
         log: &'a str,
+        /// That of a quote as it was signed.
+        attest: Option<&'a str>,
+        /// The nonce that was sent for it, in hexadecimal digits.
+        nonce: Option<&'a str>,
+        /// The registers that it has to select.
+        required: Option<Selections>,
+        /// The hash of its digest.
+        hash: Alg,
+        /// Whether `off` and `unset` are what is asked for, too.
+        any_state: bool,
         /// Whether what is printed is objects of JSON.
         json: bool,
     },

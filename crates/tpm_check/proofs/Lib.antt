@@ -6,4 +6,5 @@ mod SignatureBounds
 mod EventSizes
 mod EventLines
 mod Pushed
+mod QuotedBoots
 mod Characters

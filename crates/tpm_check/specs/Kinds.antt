@@ -4,11 +4,14 @@ use Rattle.tpm_log.specs.declared.fault.LogFaultKind.{LogFaultKind}
 use Rattle.tpm_log.specs.declared.fault.LogFaultKind.TheVariants as logs
 use Rattle.tpm_log.specs.declared.verdict.SecureBootFaultKind.{SecureBootFaultKind}
 use Rattle.tpm_log.specs.declared.verdict.SecureBootFaultKind.TheVariants as boots
+use Rattle.tpm_log.specs.declared.signatures.SignatureFaultKind.{SignatureFaultKind}
+use Rattle.tpm_log.specs.declared.signatures.SignatureFaultKind.TheVariants as lists
 use Rattle.tpm_lines.specs.declared.status.Status.TheVariants.{Done, Refused}
 use Rattle.tpm_lines.specs.declared.status.Status.{Status}
 use Rattle.tpm_lines.specs.Text.{line}
 use Rattle.tpm_check.specs.Check.{kind_name}
 use Rattle.tpm_check.specs.SecureBootLines.{fault_name}
+use Rattle.tpm_check.specs.SignatureEntries.{kind_name as list_kind_name}
 
 -- what is wrong with a log (PC Client Platform Firmware Profile, "Event Logging")
 abbrev pub log_words : LogFaultKind → List ℕ
@@ -39,14 +42,23 @@ boot_words boots.Late = codes "behind the separator, the record is no EV_EFI_VAR
 boot_words boots.NoKey = codes "Secure Boot is on, and PK, KEK or db holds nothing"
 boot_words boots.NoAuthority = codes "Secure Boot is on, and the log ends without an authority"
 
+-- what keeps the content of a variable from being lists of signatures (UEFI Specification, "Signature Database")
+abbrev pub list_words : SignatureFaultKind → List ℕ
+list_words lists.Truncated = codes "the lists end within the type or the sizes of one"
+list_words lists.ListSize = codes "a list has fewer bytes than its type and sizes, or more than are left"
+list_words lists.HeaderSize = codes "a list's header has more bytes than the list"
+list_words lists.SignatureSize = codes "a list's signatures have no room for their owner, or are no whole number"
+
 unfoldable pub kind_line : (name words : List ℕ) → List ℕ
 kind_line name words = line ((name ++ codes ":") ∷ words ∷ [])
 
--- One of a log's faults has this name, or one of Secure Boot's; or else none.
+-- One of a log's faults has this name, or one of Secure Boot's or of lists of signatures; or else none.
 abbrev pub ExplainsKind : (name : List ℕ) → Status → (text : List ℕ) → Type 0
 ExplainsKind name Done text =
     ((kind : LogFaultKind) × (kind_name kind ≡ name) × (text ≡ kind_line name (log_words kind)))
-    ⊎ ((kind : SecureBootFaultKind) × (fault_name kind ≡ name) × (text ≡ kind_line name (boot_words kind)))
+    ⊎ (((kind : SecureBootFaultKind) × (fault_name kind ≡ name) × (text ≡ kind_line name (boot_words kind)))
+    ⊎ ((kind : SignatureFaultKind) × (list_kind_name kind ≡ name) × (text ≡ kind_line name (list_words kind))))
 ExplainsKind name Refused text =
     ((kind : LogFaultKind) → kind_name kind ≡ name → ⊥) × ((kind : SecureBootFaultKind) → fault_name kind ≡ name → ⊥)
+    × ((kind : SignatureFaultKind) → list_kind_name kind ≡ name → ⊥)
     × (text ≡ codes "unknown kind of fault\n")

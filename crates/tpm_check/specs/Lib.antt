@@ -26,4 +26,5 @@ pub mod ListEvents
 pub mod HeldLines
 pub mod SignatureEntries
 pub mod SecureBootLines
+pub mod QuotedBoot
 pub mod Kinds

@@ -4,11 +4,13 @@ ghost use Rattle.std.specs.Prelude.{◌≡◌, ◌++◌, ℕ, List, IfOk, MatchO
 ghost use Rattle.std.specs.Io.KnownBytes.{Appends};
 ghost use Rattle.tpm_log.specs.declared.fault.LogFaultKind.{LogFaultKind as LogFaultKindValue};
 ghost use Rattle.tpm_log.specs.declared.verdict.SecureBootFaultKind.{SecureBootFaultKind as BootFaultKindValue};
+ghost use Rattle.tpm_log.specs.declared.signatures.SignatureFaultKind.{SignatureFaultKind as ListFaultKindValue};
 ghost use Rattle.tpm_lines.specs.declared.status.Status.TheVariants.{Done};
 ghost use Rattle.tpm_lines.specs.Faults.{FailsByMemoryOrWrite};
 ghost use Rattle.tpm_check.specs.Check.{kind_name};
 ghost use Rattle.tpm_check.specs.SecureBootLines.{fault_name};
-ghost use Rattle.tpm_check.specs.Kinds.{boot_words, kind_line, log_words, ExplainsKind};
+ghost use Rattle.tpm_check.specs.SignatureEntries.{kind_name as list_kind_name};
+ghost use Rattle.tpm_check.specs.Kinds.{boot_words, kind_line, list_words, log_words, ExplainsKind};
 
 use std::alloc::{AllocError, Global};
 use std::io::Write;
@@ -16,7 +18,7 @@ use tpm_lines::answer::Answer;
 use tpm_lines::fault::ToolFault;
 use tpm_lines::status::Status;
 use tpm_lines::text::Pushed;
-use tpm_log::{LogFaultKind, SecureBootFaultKind};
+use tpm_log::{LogFaultKind, SecureBootFaultKind, SignatureFaultKind};
 
 // The kind of a log's fault that has this name.
 fn log_kind(name: &str) -> Option<LogFaultKind>
@@ -57,6 +59,21 @@ fn boot_kind(name: &str) -> Option<SecureBootFaultKind>
         "Late" => Some(SecureBootFaultKind::Late),
         "NoKey" => Some(SecureBootFaultKind::NoKey),
         "NoAuthority" => Some(SecureBootFaultKind::NoAuthority),
+        _ => None,
+    }
+}
+
+// The kind of a fault of lists of signatures that has this name.
+fn list_kind(name: &str) -> Option<SignatureFaultKind>
+    ensures { MatchOption result
+        ((kind : ListFaultKindValue) → list_kind_name kind ≡ name.now → ⊥)
+        (λ kind. list_kind_name kind ≡ name.now) }
+{
+    match name {
+        "Truncated" => Some(SignatureFaultKind::Truncated),
+        "ListSize" => Some(SignatureFaultKind::ListSize),
+        "HeaderSize" => Some(SignatureFaultKind::HeaderSize),
+        "SignatureSize" => Some(SignatureFaultKind::SignatureSize),
         _ => None,
     }
 }
@@ -113,6 +130,19 @@ fn boot_words(kind: SecureBootFaultKind) -> &'static str
     }
 }
 
+fn list_words(kind: SignatureFaultKind) -> &'static str
+    ensures { result.now ≡ list_words kind }
+{
+    match kind {
+        SignatureFaultKind::Truncated => "the lists end within the type or the sizes of one",
+        SignatureFaultKind::ListSize =>
+            "a list has fewer bytes than its type and sizes, or more than are left",
+        SignatureFaultKind::HeaderSize => "a list's header has more bytes than the list",
+        SignatureFaultKind::SignatureSize =>
+            "a list's signatures have no room for their owner, or are no whole number",
+    }
+}
+
 #[tactic(auto, unfolding(crate::specs::Kinds::kind_line))]
 fn push_kind(text: &mut String, name: &str, words: &str) -> Pushed
     ensures { OnOk result (string_bytes text.new
@@ -136,14 +166,18 @@ fn answer(alloc: Global, name: &str) -> Result<Answer, AllocError>
     if let Some(kind) = log_kind(name) {
         return explained(alloc, name, log_words(kind));
     }
-    match boot_kind(name) {
-        Some(kind) => explained(alloc, name, boot_words(kind)),
+    if let Some(kind) = boot_kind(name) {
+        return explained(alloc, name, boot_words(kind));
+    }
+    match list_kind(name) {
+        Some(kind) => explained(alloc, name, list_words(kind)),
         None => Answer::of(alloc, Status::Refused, "unknown kind of fault\n"),
     }
 }
 
 /// Prints what the kind of a log's fault says, as `check` and `events` name it (`LogFaultKind`), or that of a fault
-/// of Secure Boot, as `check --secure-boot` does (`SecureBootFaultKind`): `KIND: WORDS`.
+/// of Secure Boot or of lists of signatures, as `check --secure-boot` does (`SecureBootFaultKind`,
+/// `SignatureFaultKind`): `KIND: WORDS`.
 ///
 /// For any other name it is `unknown kind of fault`, and the status `Refused`. Where a request for memory is refused
 /// the answer is `Memory`, and where the writer fails it is `Write`. What was written before is then left open.

@@ -10,15 +10,17 @@ use Rattle.tpm_log.specs.Replays.{ReadsFrom, ReplaysFrom}
 use Rattle.tpm_lines.specs.declared.fault.ToolFault.TheVariants.{Memory, Read, Write, InputTooLong}
 use Rattle.tpm_lines.specs.declared.fault.ToolFault.{ToolFault}
 use Rattle.tpm_lines.specs.declared.status.Status.{Status}
-use Rattle.tpm_args.specs.declared.task.Task.TheVariants.{Check}
+use Rattle.tpm_args.specs.declared.task.Task.TheVariants.{Check, SecureBoot}
 use Rattle.tpm_check.specs.Check.{ReadsTooMuchIfList}
 use Rattle.tpm_check.specs.Checked.{ChecksLog}
+use Rattle.tpm_check.specs.Reads.{most_attest}
 use Rattle.tpm_check.specs.declared.checked.Compared.{Compared}
 use Rattle.tpm_program.specs.declared.fault.Fault.TheVariants.{File, Tool}
 use Rattle.tpm_program.specs.declared.fault.Fault.{Fault}
-use Rattle.tpm_program.specs.Offered.{Offered, OfFileIf}
-use Rattle.tpm_program.specs.Performs.{PrintsCompared, is_coming}
-use Rattle.tpm_program.specs.Fails.{Beside, Fails, FailsAt, FailsAtIf, FailsBeside, IsNotOpened, IsNotOpenedIf, IsOfReading, IsOpened, read_last}
+use Rattle.tpm_program.specs.Offered.{Offered, OfFile, OfFileIf}
+use Rattle.tpm_program.specs.Performs.{OfFirst, PrintsCompared, is_coming}
+use Rattle.tpm_program.specs.Fails.{Beside, Fails, FailsAt, FailsAtIf, FailsBeside, IsNotOpened, IsNotOpenedIf}
+use Rattle.tpm_program.specs.Fails.{IsNotReadOr, IsOfReading, IsOpened, read_last}
 use Rattle.tpm_program.proofs.ByBytes.{log_by_bytes}
 
 -- ---- what is printed
@@ -115,6 +117,44 @@ at_reading offered path Read (Tool tool) opened k h = absurd h
 at_reading offered path Memory fault opened k h = subst (FailsAt offered path) (sym h) tt
 at_reading offered path Write fault opened k h = subst (FailsAt offered path) (sym h) tt
 at_reading offered path InputTooLong fault opened k h = absurd (k refl)
+
+-- ---- Secure Boot beside a quote
+
+pub not_read : (offered : Offered) (path : List ℕ) (tool : ToolFault) (fault : Fault) → (tool ≡ InputTooLong → ⊥)
+    → IsOfReading offered path tool fault → IsNotReadOr offered path fault
+not_read offered path Read (File at cause) k h = h
+not_read offered path Read (Tool tool) k h = absurd h
+not_read offered path Memory fault k h = subst (IsNotReadOr offered path) (sym h) tt
+not_read offered path Write fault k h = subst (IsNotReadOr offered path) (sym h) tt
+not_read offered path InputTooLong fault k h = absurd (k refl)
+
+-- What holds of the bytes that were read of a quote.
+pub of_attest : (offered : Offered) (path bytes : List ℕ) (P : List ℕ → Type 0)
+    → OfFile offered path (OfFirst most_attest (λ read. read ≡ bytes)) → P bytes → OfFile offered path (OfFirst most_attest P)
+of_attest offered path bytes P h p = (h.0, h.1, (h.2.0, h.2.1, h.2.2, subst P (sym h.2.3) p))
+
+module _ (offered : Offered) (log attest : Bor (List ℕ)) (sent : Option (Bor (List ℕ))) (required : Option (List Selection))
+    (hash : Alg) (any_state json : Bool) where
+  pub boot_not_opened : (fault : Fault) → IsNotOpened offered log.now fault
+      → Fails offered (SecureBoot log (Some attest) sent required hash any_state json) fault
+  boot_not_opened (File at cause) h = inl (h.0, inl h.1)
+  boot_not_opened (Tool tool) h = absurd h
+
+  pub boot_not_quoted : (fault : Fault) → IsOpened offered log.now → FailsAt offered attest.now fault
+      → Fails offered (SecureBoot log (Some attest) sent required hash any_state json) fault
+  boot_not_quoted (File at cause) opened h = inr (opened, inl h)
+  boot_not_quoted (Tool Memory) opened h = tt
+  boot_not_quoted (Tool Write) opened h = tt
+  boot_not_quoted (Tool Read) opened h = absurd h
+  boot_not_quoted (Tool InputTooLong) opened h = absurd h
+
+  pub boot_not_read : (fault : Fault) → IsOpened offered log.now → IsNotReadOr offered log.now fault
+      → Fails offered (SecureBoot log (Some attest) sent required hash any_state json) fault
+  boot_not_read (File at cause) opened h = inl (h.0, inr (opened, h.1))
+  boot_not_read (Tool Memory) opened h = tt
+  boot_not_read (Tool Write) opened h = tt
+  boot_not_read (Tool Read) opened h = absurd h
+  boot_not_read (Tool InputTooLong) opened h = absurd h
 
 -- ---- a list that may be there
 

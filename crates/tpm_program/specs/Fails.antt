@@ -29,7 +29,7 @@ files_of (ShowCapture file binary fields json) = path_if file
 files_of (ShowPackets file fields json) = file.now ∷ []
 files_of (ShowNv file) = file.now ∷ []
 files_of (Check log registers quote attest sent required hash json) = log.now ∷ (path_if registers ++ path_if attest)
-files_of (SecureBoot log json) = log.now ∷ []
+files_of (SecureBoot log attest sent required hash any_state json) = log.now ∷ path_if attest
 files_of (Events log register places digests json) = log.now ∷ []
 files_of _ = []
 
@@ -112,6 +112,13 @@ FailsAt offered path (File at cause) = (at.now ≡ path) × IsUnread offered pat
 FailsAt offered path (Tool Memory) = Unit {0}
 FailsAt offered path (Tool Write) = Unit {0}
 FailsAt offered path (Tool _) = ⊥
+
+-- A read of it failed, or memory is wanted, or the like.
+abbrev pub IsNotReadOr : Offered → (path : List ℕ) → Fault → Type 0
+IsNotReadOr offered path (File at cause) = IsNotRead offered path (File at cause)
+IsNotReadOr offered path (Tool Memory) = Unit {0}
+IsNotReadOr offered path (Tool Write) = Unit {0}
+IsNotReadOr offered path (Tool _) = ⊥
 
 abbrev pub FailsAtIf : Offered → (path : Option (Bor (List ℕ))) → Fault → Type 0
 FailsAtIf offered None fault = ⊥

@@ -21,6 +21,7 @@ use Rattle.tpm_check.specs.Checked.{ChecksLog}
 use Rattle.tpm_check.specs.declared.checked.Compared.{Compared}
 use Rattle.tpm_check.specs.Kinds.{ExplainsKind}
 use Rattle.tpm_check.specs.ListEvents.{ListsEvents, most_read}
+use Rattle.tpm_check.specs.QuotedBoot.{ChecksSecureBoot}
 use Rattle.tpm_check.specs.Reads.{ReadsUpTo, most_attest}
 use Rattle.tpm_check.specs.SecureBootLines.{TellsSecureBoot}
 use Rattle.tpm_script.specs.Script.{ReadsScript, script, script_text, status_for}
@@ -122,8 +123,18 @@ Performs offered (Check log registers quote attest sent required hash json) stat
       list = list;
       compared = record { signed = signed; quote = quote; hash = hash; json = json };
     }) status text)))
-Performs offered (SecureBoot log json) status text =
-    OfFile offered log.now (OfFirst most_read (λ bytes. TellsSecureBoot json bytes status text))
+Performs offered (SecureBoot log None sent required hash any_state json) status text =
+    OfFile offered log.now (OfFirst most_read (λ bytes.
+    TellsSecureBoot (record { json = json; any_state = any_state }) bytes status text))
+Performs offered (SecureBoot log (Some attest) sent required hash any_state json) status text =
+    OfFile offered log.now (λ log-bytes.
+    OfFile offered attest.now (OfFirst most_attest (λ attest-bytes.
+    OfFirst most_read (λ bytes.
+    ChecksSecureBoot (record {
+      signed = quoted (record { sent = sent; required = required }) attest-bytes;
+      hash = hash;
+      asking = record { json = json; any_state = any_state };
+    }) bytes status text) log-bytes)))
 Performs offered (Events log register places digests json) status text =
     OfFile offered log.now (OfFirst most_read (λ bytes.
     ListsEvents (record { register = register; places = places; digests = digests; json = json }) bytes status text))

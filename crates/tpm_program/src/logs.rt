@@ -3,18 +3,24 @@
 ghost use Rattle.std.specs.Prelude.{◌≡◌, ◌⊎◌, ℕ, List, None, Some, IfOk, IfErr, option_map};
 ghost use Rattle.std.specs.Io.KnownBytes.{Appends};
 ghost use Rattle.tpm_check.specs.Check.{list_before};
+ghost use Rattle.tpm_check.specs.ListEvents.{most_read};
+ghost use Rattle.tpm_check.specs.QuotedBoot.{ChecksSecureBoot};
 ghost use Rattle.tpm_check.specs.Reads.{most_attest};
+ghost use Rattle.tpm_check.specs.SecureBootLines.{TellsSecureBoot};
 ghost use Rattle.tpm_args.specs.declared.task.Task.TheVariants.{Check, Events, SecureBoot};
 ghost use Rattle.tpm_program.specs.Offered.{OfFile};
 ghost use Rattle.tpm_program.specs.Performs.{OfFirst, OfSigned, Performs, PrintsCompared};
-ghost use Rattle.tpm_program.specs.Fails.{Fails, FailsAt, FailsAtIf, FailsBeside, read_last};
+ghost use Rattle.tpm_program.specs.Fails.{Fails, FailsAt, FailsAtIf, FailsBeside, IsNotReadOr, read_last};
 
 use crate::fault::Fault;
 use crate::files::{of_reading, opened, opened_if};
 use crate::inputs::Inputs;
 use std::alloc::Global;
 use std::io::Write;
-use tpm_check::{Compared, Listing, Signed, check_log, list_events, read_attest, tell_secure_boot};
+use tpm_check::{
+    Asking, Compared, Listing, Signed, check_log, check_secure_boot, list_events, read_attest,
+    tell_secure_boot,
+};
 use tpm_lines::status::Status;
 use tpm_types::{Alg, Selections};
 use tpm_wire::Source;
@@ -30,6 +36,17 @@ pub(crate) struct Checking<'a> {
     pub nonce: Option<&'a str>,
     pub hash: Alg,
     pub json: bool,
+}
+
+/// What a log is asked of Secure Boot: the path of a quote as it was signed, what is expected of it, and how the log is
+/// asked.
+#[derive(Drop)]
+pub(crate) struct Booting<'a> {
+    pub log: &'a str,
+    pub attest: Option<&'a str>,
+    pub nonce: Option<&'a str>,
+    pub hash: Alg,
+    pub asking: Asking,
 }
 
 /// Lists the records of a log.
@@ -49,26 +66,6 @@ pub(crate) fn events<'a, I: Inputs, W: Write>(
 {
     let mut log = opened(inputs, path)?;
     match list_events(alloc, &mut log, listing, out) {
-        Ok(status) => Ok(status),
-        Err(fault) => Err(of_reading(inputs, fault, path)),
-    }
-}
-
-/// Tells by a log whether Secure Boot was on.
-pub(crate) fn secure_boot<'a, I: Inputs, W: Write>(
-    alloc: Global,
-    inputs: &I,
-    out: &mut W,
-    path: &'a str,
-    json: bool,
-) -> Result<Status, Fault<'a>>
-    ensures ok { IfOk result (λ status. (text : List ℕ)
-        × Performs (I.offers inputs.now) (SecureBoot path.entry json) status text
-        × Appends (W.contents out.old) (W.contents out.new) text) }
-    ensures err { IfErr result (λ fault. Fails (I.offers inputs.now) (SecureBoot path.entry json) fault) }
-{
-    let mut log = opened(inputs, path)?;
-    match tell_secure_boot(alloc, &mut log, json, out) {
         Ok(status) => Ok(status),
         Err(fault) => Err(of_reading(inputs, fault, path)),
     }
@@ -94,6 +91,111 @@ fn attest_at<'a, I: Inputs>(alloc: Global, inputs: &I, path: &'a str) -> Result<
     match read_attest(alloc, &mut source) {
         Ok(bytes) => Ok(bytes),
         Err(fault) => Err(of_reading(inputs, fault, path)),
+    }
+}
+
+// Tells by a log alone whether Secure Boot was on.
+fn boot_alone<'a, I: Inputs, W: Write>(
+    alloc: Global,
+    inputs: &I,
+    out: &mut W,
+    path: &'a str,
+    asking: Asking,
+) -> Result<Status, Fault<'a>>
+    ensures ok { IfOk result (λ status. (text : List ℕ)
+        × OfFile (I.offers inputs.now) path.now
+        (OfFirst most_read (λ bytes. TellsSecureBoot asking bytes status text))
+        × Appends (W.contents out.old) (W.contents out.new) text) }
+    ensures err { IfErr result (λ fault. FailsAt (I.offers inputs.now) path.now fault) }
+{
+    let mut log = opened(inputs, path)?;
+    match tell_secure_boot(alloc, &mut log, asking, out) {
+        Ok(status) => Ok(status),
+        Err(fault) => Err(of_reading(inputs, fault, path)),
+    }
+}
+
+// Tells it by a log that is opened, beside a quote as it was signed.
+fn boot_quoted<'a, I: Inputs, W: Write>(
+    alloc: Global,
+    inputs: &I,
+    out: &mut W,
+    path: &'a str,
+    log: &mut I::Source,
+    signed: &Signed<'_>,
+    hash: Alg,
+    asking: Asking,
+) -> Result<Status, Fault<'a>>
+    ensures ok { IfOk result (λ status. (text : List ℕ)
+        × OfFirst most_read (λ bytes. ChecksSecureBoot
+        (record { signed = signed.now; hash = hash; asking = asking }) bytes status text)
+        (I.Source.coming log.old)
+        × Appends (W.contents out.old) (W.contents out.new) text) }
+    ensures err { IfErr result (λ fault. IsNotReadOr (I.offers inputs.now) path.now fault) }
+{
+    match check_secure_boot(alloc, log, signed, hash, asking, out) {
+        Ok(status) => Ok(status),
+        Err(fault) => Err(of_reading(inputs, fault, path)),
+    }
+}
+
+// Tells it by a log and the quote at a path.
+fn boot_with<'a, I: Inputs, W: Write>(
+    alloc: Global,
+    inputs: &I,
+    out: &mut W,
+    booting: &Booting<'a>,
+    attest: &'a str,
+    required: Option<Selections>,
+) -> Result<Status, Fault<'a>>
+    ensures ok { IfOk result (λ status. (text : List ℕ)
+        × Performs (I.offers inputs.now) (SecureBoot booting.now.log (Some attest.entry)
+        booting.now.nonce required booting.now.hash booting.now.asking.any_state
+        booting.now.asking.json) status text
+        × Appends (W.contents out.old) (W.contents out.new) text) }
+    ensures err { IfErr result (λ fault. Fails (I.offers inputs.now) (SecureBoot booting.now.log
+        (Some attest.entry) booting.now.nonce required booting.now.hash
+        booting.now.asking.any_state booting.now.asking.json) fault) }
+{
+    let mut log = opened(inputs, booting.log)?;
+    let bytes = attest_at(alloc, inputs, attest)?;
+    let signed = Signed {
+        attest: bytes.as_slice(),
+        nonce: booting.nonce,
+        required,
+    };
+    boot_quoted(
+        alloc,
+        inputs,
+        out,
+        booting.log,
+        &mut log,
+        &signed,
+        booting.hash,
+        booting.asking,
+    )
+}
+
+/// Tells by a log whether Secure Boot was on, alone or beside a quote as it was signed.
+pub(crate) fn secure_boot<'a, I: Inputs, W: Write>(
+    alloc: Global,
+    inputs: &I,
+    out: &mut W,
+    booting: &Booting<'a>,
+    required: Option<Selections>,
+) -> Result<Status, Fault<'a>>
+    ensures ok { IfOk result (λ status. (text : List ℕ)
+        × Performs (I.offers inputs.now) (SecureBoot booting.now.log booting.now.attest
+        booting.now.nonce required booting.now.hash booting.now.asking.any_state
+        booting.now.asking.json) status text
+        × Appends (W.contents out.old) (W.contents out.new) text) }
+    ensures err { IfErr result (λ fault. Fails (I.offers inputs.now) (SecureBoot booting.now.log
+        booting.now.attest booting.now.nonce required booting.now.hash
+        booting.now.asking.any_state booting.now.asking.json) fault) }
+{
+    match booting.attest {
+        Some(attest) => boot_with(alloc, inputs, out, booting, attest, required),
+        None => boot_alone(alloc, inputs, out, booting.log, booting.asking),
     }
 }
 

@@ -7,21 +7,22 @@ ghost use Rattle.tpm_program.specs.Fails.{Fails};
 
 use crate::fault::Fault;
 use crate::inputs::Inputs;
-use crate::logs::{Checking, check, events, secure_boot};
+use crate::logs::{Booting, Checking, check, events, secure_boot};
 use crate::shows::{run_input, show_capture, show_memory, show_traffic};
 use std::alloc::Global;
 use std::io::Write;
 use tpm_args::Task;
-use tpm_check::{Listing, explain_kind};
+use tpm_check::{Asking, Listing, explain_kind};
 use tpm_lines::status::Status;
 use tpm_show::{Telling, build, explain, show, show_fields};
 
 /// Performs a task: prints what it asks for, and answers whether all was done.
 ///
 /// What is printed is what the subcommand prints: `show` and `show_fields`, `show_lines` and `show_stream`,
-/// `show_packets`, `show_nv`, `build`, `run_script`, `explain` and `explain_kind`, `check_log`, `tell_secure_boot`, and
-/// `list_events`. The files of a check are opened in this order: the log, the list of registers, and the quote as it
-/// was signed, of which at most 4,096 bytes are read before the log. Of packets at most 2^30 bytes are read.
+/// `show_packets`, `show_nv`, `build`, `run_script`, `explain` and `explain_kind`, `check_log`, `tell_secure_boot`,
+/// `check_secure_boot`, and `list_events`. The files of a check are opened in this order: the log, the list of
+/// registers, and the quote as it was signed, of which at most 4,096 bytes are read before the log. Of packets at most
+/// 2^30 bytes are read.
 ///
 /// Where a file can't be opened or read, the answer is `File` with its path; else a fault of the subcommand is `Tool`.
 pub fn perform<'a, I: Inputs, W: Write>(
@@ -86,7 +87,24 @@ pub fn perform<'a, I: Inputs, W: Write>(
             };
             check(alloc, inputs, out, &checking, required)
         }
-        Task::SecureBoot { log, json } => secure_boot(alloc, inputs, out, log, json),
+        Task::SecureBoot {
+            log,
+            attest,
+            nonce,
+            required,
+            hash,
+            any_state,
+            json,
+        } => {
+            let booting = Booting {
+                log,
+                attest,
+                nonce,
+                hash,
+                asking: Asking { json, any_state },
+            };
+            secure_boot(alloc, inputs, out, &booting, required)
+        }
         Task::Events {
             log,
             register,

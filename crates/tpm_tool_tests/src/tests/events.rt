@@ -6,7 +6,7 @@ use std::alloc::Global;
 use std::io;
 use std::io::Write;
 use std::test::Fail;
-use tpm_check::{Listing, list_events, tell_secure_boot};
+use tpm_check::{Asking, Listing, list_events, tell_secure_boot};
 use tpm_lines::status::Status;
 use tpm_testing::Pieces;
 
@@ -49,9 +49,14 @@ fn a_log_is_listed_alike_in_any_pieces(rt: HostRuntime) -> Result<(), Fail> {
 // What the definition says of a separator alone in register 7.
 const UNSET: &str = "secure-boot sha1 unset\nsecure-boot sha256 unset\nsecure-boot sha384 unset\n";
 
+const ASKING: Asking = Asking {
+    json: false,
+    any_state: false,
+};
+
 fn told(alloc: Global, log: &mut Pieces<'_>) -> Answered {
     let mut out = Vec::new(alloc);
-    (tell_secure_boot(alloc, log, false, &mut out), out)
+    (tell_secure_boot(alloc, log, ASKING, &mut out), out)
 }
 
 #[test]

@@ -1,0 +1,17 @@
+use Rattle.std.proofs.Common.{rules, ◌≡◌, ◌||◌, true, codes, is_some}
+use Rattle.std.proofs.lemmas.Result.{err_from_is_err_and}
+use Rattle.clap.specs.Words.{first_value, found_of}
+use Rattle.tpm_args.proofs.Found.{memory_or, not_beside, not_signed}
+use Rattle.tpm_args.proofs.check.secure_boot_task.Goals as goal
+
+pub returns-then-is_beside_others : goal.returns-then-is_beside_others
+returns-then-is_beside_others c =
+    let value = first_value (found_of c.args.words.now) in
+    let some : (is_some (value (codes "registers")) || is_some (value (codes "quote"))) ≡ true = search rules in
+    memory_or c.wrong_words.result (λ _. not_beside value c.requires some) c.wrong_words.ensures
+
+pub returns-in_err-signed : goal.returns-in_err-signed
+returns-in_err-signed c =
+    let value = first_value (found_of c.args.words.now) in
+    let p = err_from_is_err_and c.from_residual.result c.from_residual.ensures.1 in
+    rw (p.1, p.2) (memory_or c.in_err-signed.field-0.0 (not_signed value) c.in_err-signed.ensures)
