@@ -84,8 +84,13 @@ class Variables(unittest.TestCase):
 
 
 def said():
-    """What the lists beside the logs say of records: of each log the names of their types, and which data are text."""
+    """What the lists beside the logs say of records: of each log the names of their types, and which data are text.
+
+    tags.events is left out, which has text in UTF-16: `text` tells none.
+    """
     for path in sorted((CHECKS / "logs").glob("*.events")):
+        if path.stem == "tags":
+            continue
         lines = [line.split(" ", 7) for line in path.read_text().splitlines() if not line.startswith("log ")]
         yield path.with_suffix(".log"), [(line[2], line[7]) for line in lines]
 

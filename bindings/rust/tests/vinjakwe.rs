@@ -57,10 +57,12 @@ fn variables_of_a_log() {
 }
 
 // Each list beside a log has a line for a record, whose third word is the type's name and whose eighth may be "text".
+// tags.events is left out, which has text in UTF-16: `text` tells none.
 #[test]
 fn names_and_texts_of_each_log_with_a_list() {
     let logs = format!("{}/../../checks/logs", env!("CARGO_MANIFEST_DIR"));
     let lists = fs::read_dir(logs).unwrap().map(|it| it.unwrap().path()).filter(|it| it.extension().is_some_and(|it| it == "events"));
+    let lists = lists.filter(|it| !it.ends_with("tags.events"));
     let mut count = 0;
     for list in lists {
         let (log, lines) = (fs::read(list.with_extension("log")).unwrap(), fs::read_to_string(&list).unwrap());
