@@ -318,7 +318,8 @@ struct tpm_variable {
 
 /* Tells the variable that these bytes, the data of a record of this type, are, all of them (UEFI_VARIABLE_DATA; PC Client Platform Firmware
  * Profile, "Event Types"). TPM_VARIABLE: it is in `view`. TPM_LOG_DONE: they are none, or the type is another than
- * EV_EFI_VARIABLE_DRIVER_CONFIG, EV_EFI_VARIABLE_BOOT, EV_EFI_VARIABLE_BOOT2 and EV_EFI_VARIABLE_AUTHORITY; `view` stays as it was. */
+ * EV_EFI_VARIABLE_DRIVER_CONFIG, EV_EFI_VARIABLE_BOOT, EV_EFI_VARIABLE_BOOT2, EV_EFI_VARIABLE_AUTHORITY, EV_EFI_SPDM_DEVICE_POLICY and
+ * EV_EFI_SPDM_DEVICE_AUTHORITY; `view` stays as it was. */
 uint32_t tpm_log_variable(uint32_t kind, const uint8_t *bytes, size_t len, struct tpm_variable *view);
 
 /* What a log tells of Secure Boot besides its state: 1 where DMA protection was disabled, else 0; and how many bytes of the log

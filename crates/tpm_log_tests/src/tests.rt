@@ -2,6 +2,7 @@
 
 mod attests;
 mod device_paths;
+mod device_securities;
 mod event_data;
 mod event_parts;
 mod logs;
