@@ -3,7 +3,7 @@
 use crate::tests::logs::{HEADER, WORKED, bytes_of};
 use std::process::Abort;
 use std::test::*;
-use tpm_log::{LogFault, LogFaultKind, LogReplay};
+use tpm_log::{LogFault, LogFaultKind, LogReplay, replay_into};
 use tpm_store::Registers;
 use tpm_types::{Alg, PcrIndex};
 
@@ -24,6 +24,47 @@ pub(crate) fn fed_in_two(log: &[u8], at: usize) -> Result<Registers, LogFault> {
     let _ = replay.feed(front);
     let _ = replay.feed(back);
     replay.end()
+}
+
+// The value of register 7 in the bank of SHA-256 after the worked log.
+const SEVENTH: &str = "3d458cfe55cc03ea1f443f1562beec8df51c75e14a9fcf9a7234a13f198e7969";
+
+// Whether these are the registers after the worked log, by one of them.
+fn are_worked(rt: &impl Abort, registers: &Registers) -> bool {
+    let seventh = PcrIndex::from_number(7).expect(rt, "a register");
+    registers.read(Alg::Sha256, seventh).as_slice() == bytes_of(SEVENTH).as_slice()
+}
+
+#[test]
+fn registers_and_replays_are_used_again(rt: HostRuntime) {
+    let log = bytes_of(WORKED);
+    let mut cut = bytes_of(WORKED);
+    cut.truncate(214);
+    let (kind, at) = (LogFaultKind::Truncated, 211);
+    let mut registers = Registers::new();
+    let mut replay = LogReplay::new();
+    for _ in 0..2 {
+        assert!(rt; replay_into(log.as_slice(), &mut registers).is_ok());
+        assert!(rt; are_worked(&rt, &registers));
+        is_fault(&rt, replay_into(cut.as_slice(), &mut registers), kind, at);
+        assert!(rt; replay.feed(log.as_slice()).is_ok());
+        match replay.registers() {
+            Ok(registers) => assert!(rt; are_worked(&rt, registers)),
+            Err(fault) => panic!(rt; "{fault:?}"),
+        }
+        replay.restart();
+        assert!(rt; replay.feed(cut.as_slice()).is_ok());
+        is_fault(&rt, replay.registers(), kind, at);
+        replay.restart();
+        is_fault(
+            &rt,
+            replay.feed(&[1, 0, 0, 0]),
+            LogFaultKind::NotCryptoAgile,
+            0,
+        );
+        is_fault(&rt, replay.registers(), LogFaultKind::NotCryptoAgile, 0);
+        replay.restart();
+    }
 }
 
 // The header, of which the event has 1,000 bytes, where its list ends behind 41.
