@@ -1,6 +1,6 @@
 //! A quote as it was signed: its parts, and beside the registers after a log.
 
-ghost use Rattle.std.specs.Prelude.{◌≡◌, ◌==◌, ◌≤◌, length, Result};
+ghost use Rattle.std.specs.Prelude.{◌≡◌, ◌==◌, ◌≤◌, length, Result, Ok};
 ghost use Rattle.tpm_types.specs.Alg.{alg_of};
 ghost use Rattle.tpm_model.specs.Registers.{value_in};
 ghost use Rattle.tpm_log.specs.Changes.{AreAfter};
@@ -12,7 +12,7 @@ ghost use Rattle.tpm_c.specs.Attests.{required_in, IsRequired, IsAttestChecked};
 use crate::log::kind_number;
 use crate::part::{DONE, TpmPart, TpmRefusal, refuse};
 use crate::quote::{DIFFERS, NO_BANK, REFUSED};
-use tpm_log::{LogFault, replay};
+use tpm_log::{LogFault, replay_into};
 use tpm_quote::{AttestFault, check_attest, decode_attest, selects_none};
 use tpm_store::Registers;
 use tpm_types::{Alg, Attest, Selections};
@@ -193,6 +193,24 @@ fn required_in(required: &[u8]) -> Result<Selections, Refusal>
     take_whole::<Selections>(required)
 }
 
+fn check_required(
+    log: &[u8],
+    attest: &[u8],
+    hash: Alg,
+    nonce: &[u8],
+    required: &Selections,
+    fault: &mut TpmAttestFault,
+) -> u32
+    ensures { IsRequired (Replays AreAfter log.now) hash attest.now nonce.now
+        (Ok required.now) fault.old fault.new result }
+{
+    let mut found = Registers::new();
+    match replay_into(log, &mut found) {
+        Ok(()) => compare(&found, attest, hash, nonce, required, fault),
+        Err(found) => tell_log(fault, found),
+    }
+}
+
 fn check(
     log: &[u8],
     attest: &[u8],
@@ -205,10 +223,7 @@ fn check(
         (required_in required.now) fault.old fault.new result }
 {
     match required_in(required) {
-        Ok(required) => match replay(log) {
-            Ok(found) => compare(&found, attest, hash, nonce, &required, fault),
-            Err(found) => tell_log(fault, found),
-        },
+        Ok(required) => check_required(log, attest, hash, nonce, &required, fault),
         Err(refusal) => {
             tell_refusal(fault, refusal);
             REQUIREMENT
