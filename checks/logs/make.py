@@ -27,6 +27,7 @@ NO_ACTION, SEPARATOR, POST_CODE, CRTM_VERSION, CRTM_CONTENTS, IPL = 3, 4, 1, 8, 
 VARIABLE, BLOB, SERVICES, HCRTM, GPT = 0x80000001, 0x80000008, 0x80000003, 0x80000010, 0x80000006
 VARIABLE_BOOT, VARIABLE_BOOT2, OLDER_ACTION = 0x80000002, 0x8000000C, 5
 BLOB2, HANDOFFS, HANDOFFS2, TAG = 0x8000000A, 0x80000009, 0x8000000B, 6
+FIRMWARE, CONFIG, POLICY, DEVICE_AUTHORITY = 0x800000E1, 0x800000E2, 0x800000E3, 0x800000E4
 
 
 def header(algorithms, vendor=b"", class_=0, version=(0, 2, 0, 2)):
@@ -255,6 +256,42 @@ def images():
     return log
 
 
+def messages():
+    """Images by the messaging nodes of their device paths, by a CD-ROM and by a part of a firmware volume."""
+    log = Log([0x000B])
+    here, there = bytes([192, 0, 2, 1]), bytes([198, 51, 100, 255])
+    near, far = bytes.fromhex("20010db8000000000000000000c0ffee"), bytes.fromhex("fe80000000000000021122fffe334455")
+
+    def image(*nodes):
+        log.record(4, SERVICES, loaded(acpi(0x0A03, 0) + pci(1, 0) + b"".join(nodes) + END), b"the image")
+
+    def v4(protocol, static, gateway=b""):
+        return node(3, 12, here + there + struct.pack("<HHHB", 68, 80, protocol, static) + gateway)
+
+    def v6(protocol, origin, gateway=b""):
+        return node(3, 13, near + far + struct.pack("<HHHB", 546, 443, protocol, origin) + gateway)
+
+    # disks and busses
+    image(node(3, 2, struct.pack("<HH", 2, 0x1234)), node(3, 5, b"\3\0"), node(3, 5, b"\x10\xff"))
+    image(node(3, 18, struct.pack("<HHH", 0, 0xFFFF, 1)), node(3, 18, struct.pack("<HHH", 0xABCD, 0x8001, 0)))
+    image(node(3, 23, struct.pack("<I", 1) + bytes.fromhex("0025385b71b14b37")), node(3, 23, b"\xff" * 4 + bytes(8)))
+    # networks
+    image(node(3, 11, bytes.fromhex("525400123456") + bytes(26) + b"\1"), v4(17, 0), v6(6, 1))
+    image(node(3, 11, bytes(range(0xE0, 0x100)) + b"\x20"), node(3, 11, bytes(32) + b"\0"), node(3, 11, bytes(32) + b"\2"))
+    image(v4(6, 1, there + here), v4(1, 2, bytes(4) + b"\xff" * 4), v6(17, 0, b"\x40" + far), v6(0xFFFF, 2, b"\0" + bytes(16)))
+    image(v6(58, 3), node(3, 24, b"https://boot.example/a%20b?c=d"), node(3, 24), node(3, 24, b"\x1b[2J \"\\\x7f\x9b\n"))
+    # media
+    image(node(4, 2, struct.pack("<IQQ", 1, 0x1A5, 0x4000)), node(4, 2, b"\xff" * 20))
+    image(node(4, 8, struct.pack("<IQQ", 0xFFFFFFFF, 0x3A90, 0x1CB8F)), node(4, 8, bytes(4) + b"\xff" * 16))
+    # of a byte less and of a byte more than these nodes have
+    for subtype, *sizes in (2, 4), (5, 2), (11, 33), (12, 15, 23), (13, 39, 56), (18, 6), (23, 12):
+        image(*(node(3, subtype, bytes(size + more)) for size in sizes for more in (-1, 1)))
+    image(*(node(4, subtype, bytes(20 + more)) for subtype in (2, 8) for more in (-1, 1)))
+    # the numbers of the subtypes in another type
+    image(*(node(kind, subtype, bytes(size)) for kind in (1, 2, 5) for subtype, size in ((2, 4), (5, 2), (18, 6), (24, 3))))
+    return log
+
+
 def firmware_parts():
     """Parts of the firmware's code by their data, and data that are none."""
     log = Log([0x000B])
@@ -393,6 +430,61 @@ def partitions():
     return log
 
 
+def devices():
+    """What devices say of themselves by SPDM, data that are not that, and the variables of such devices."""
+    log = Log([0x000B])
+    context = struct.pack("<HHHHB3sHH", 0, 16, 0x8086, 0x1234, 2, b"\x00\x02\x01", 0x1028, 0xABCD)
+    path = acpi(0x0A03, 0) + pci(28, 0) + END
+
+    def block(value, specification=1, kind=1, size=None, whole=None):
+        """A measurement block of DSP0274, whose sizes may be wrong."""
+        measured = struct.pack("<BH", kind, len(value) if size is None else size) + value if specification % 2 else value
+        return struct.pack("<BBH", 1, specification, len(measured) if whole is None else whole) + measured
+
+    def first(block, context=context, kind=FIRMWARE, more=0, version=1, signature=b"SPDM Device Sec\0", type_=1):
+        data = struct.pack("<II", 1, type_) + block + context
+        log.record(2, kind, signature + struct.pack("<HH", version, 20 + len(data) + more) + data)
+
+    def second(header, path=path, context=context, kind=FIRMWARE, more=0, version=2, header_size=None, path_size=None, **of_head):
+        head = dict(state=0, type_=1, header_type=0, uid=0x0123456789ABCDEF) | of_head
+        sizes = len(header) if header_size is None else header_size, len(path) if path_size is None else path_size
+        data = struct.pack("<IIIQQ", head["type_"], head["header_type"], sizes[0], head["uid"], sizes[1]) + path + header + context
+        numbers = struct.pack("<HBBI", version, head["state"], 0, 24 + len(data) + more)
+        log.record(2, kind, b"SPDM Device Sec2" + numbers + data)
+
+    first(block(bytes(range(32))))
+    first(block(bytes(range(48)), kind=0x81), context=struct.pack("<HH", 0, 4), kind=CONFIG, type_=2)
+    first(block(b"raw", specification=2), context=b"", type_=0)
+    first(block(b"", specification=0), context=b"")
+    first(block(b""), context=b"")
+    second(struct.pack("<HBBI", 0x12, 1, 0, 2) + block(bytes(range(48))))
+    second(struct.pack("<HBBI", 0x11, 0, 0, 4) + b"chain", header_type=1, state=1, uid=0, kind=CONFIG)
+    second(b"", path=b"", context=b"", state=0xFF, type_=0, header_type=2, uid=2**64 - 1)
+    second(b"", path=file("\x1b\"") + END)
+    # what is neither
+    first(block(b"v", size=2))
+    first(block(b"v", whole=3))
+    first(block(b"v", whole=2), context=b"")
+    first(block(b"v", whole=5), context=b"")
+    first(block(b"v"), more=1)
+    first(block(b"v"), version=2)
+    first(block(b"v"), signature=b"SPDM Device Sec ")
+    first(b"\1\2\0", context=b"")
+    first(block(b"v"), kind=TAG)
+    second(b"header", more=2**32 - 200)
+    second(b"header", version=1)
+    second(b"header", header_size=7, context=b"")
+    second(b"", path_size=len(path) + 1, context=b"")
+    second(b"", path_size=2**64 - 1)
+    second(b"header", path=path[:-1])
+    second(b"header", path=pci(0, 0))
+    log.record(2, FIRMWARE, b"SPDM Device Sec2\2\0" + bytes(33)).record(2, CONFIG, b"SPDM Device Sec\0\1").record(2, CONFIG, b"")
+    # as EV_EFI_VARIABLE_DRIVER_CONFIG and EV_EFI_VARIABLE_AUTHORITY have them
+    log.record(6, POLICY, variable("devdb", b"lists")).record(6, DEVICE_AUTHORITY, variable("devdb", b"\1" * 16 + b"owned"))
+    log.record(6, POLICY, b"devdb").record(6, DEVICE_AUTHORITY, variable("devdb", b"lists") + b"\0")
+    return log
+
+
 def boot_variables():
     """Variables that tell what the firmware starts, and variables that don't."""
     log = Log([0x000B])
@@ -461,7 +553,7 @@ def accepted():
 
     # each type of a record that has a name, and two that have none
     log = Log([0x000B])
-    for kind in (*range(0x13), *range(0x80000000, 0x8000000E), 0x80000010, *range(0x800000E0, 0x800000E3), 0x13, 0xA0000001):
+    for kind in (*range(0x13), *range(0x80000000, 0x8000000E), 0x80000010, *range(0x800000E0, 0x800000E6), 0x13, 0xA0000001):
         log.record(16, kind, struct.pack("<I", kind))
     log.write("every_type")
 
@@ -469,10 +561,12 @@ def accepted():
     halves().write("halves")
     measured().write("measured")
     images().write("images")
+    messages().write("messages")
     firmware_parts().write("firmware_parts")
     handoffs().write("handoffs")
     tags().write("tags")
     partitions().write("partitions")
+    devices().write("devices")
     boot_variables().write("boot_variables")
 
     # SHA-512 alone: no bank is extended

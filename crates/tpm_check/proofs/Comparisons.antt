@@ -13,7 +13,8 @@ use Rattle.std.specs.Io.KnownBytes.{Consumes, IsAtEnd, Appends}
 use Rattle.tpm_types.specs.declared.alg.Alg.{Alg}
 use Rattle.tpm_check.specs.declared.stated.TheConstants.{REGISTERS}
 use Rattle.tpm_check.specs.declared.list_lines.Heading.{Heading}
-use Rattle.tpm_check.specs.Compare.{Beside, Values, Stated, Comparison, ListLine, States, Heads, Passes, Wrong, line_under}
+use Rattle.tpm_check.specs.Compare.{Beside, Values, Stated, Comparison, ListLine, States, Heads, Passes, Wrong}
+use Rattle.tpm_check.specs.Compare.{line_under}
 use Rattle.tpm_check.specs.Compare.{heading_behind, lines_under, is_value, compared_text, not_a_register_text}
 use Rattle.tpm_check.specs.Compare.{bank_lines, register_line, register_names, register_named, comparison_of}
 use Rattle.tpm_check.specs.Compare.{comparison_from, comparison, status_if, most_line, AreRegisters, IsStated}

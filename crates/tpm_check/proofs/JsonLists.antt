@@ -5,7 +5,6 @@ use Rattle.tpm_types.specs.declared.alg.Alg.{Alg}
 use Rattle.tpm_types.specs.Tpms.{is_selected}
 use Rattle.tpm_check.specs.CheckJson.{register_entries, register_entry, selects_any, value_entries, value_entry}
 use Rattle.tpm_check.specs.Compare.{Values}
-use Rattle.tpm_check.specs.Fields.{first_entries}
 
 pub values-more : (value : Values) (bank : Alg) (n : ℕ) → value_entries value bank (n + 1) ≡ value_entries value bank n ++ value_entry n (value bank n)
 values-more value bank n = let e : n + 1 ≡ suc n = omega arith in rw e refl
@@ -16,6 +15,3 @@ any-more select n = let e : n + 1 ≡ suc n = omega arith in rw e refl
 pub entries-more : (select : List ℕ) (n : ℕ)
     → register_entries select (n + 1) ≡ register_entries select n ++ cond (is_selected select n) (register_entry (selects_any select n) n) []
 entries-more select n = let e : n + 1 ≡ suc n = omega arith in rw e refl
-
-pub one-more : (one : ℕ → List ℕ) (n : ℕ) → first_entries one (n + 1) ≡ first_entries one n ++ one n
-one-more one n = let e : n + 1 ≡ suc n = omega arith in rw e refl

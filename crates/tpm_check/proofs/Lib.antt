@@ -2,9 +2,4 @@ mod Comparisons
 mod Checks
 mod Verdicts
 mod JsonLists
-mod SignatureBounds
-mod EventSizes
-mod EventLines
-mod Pushed
 mod QuotedBoots
-mod Characters

@@ -20,8 +20,10 @@ use Rattle.tpm_lines.specs.declared.status.Status.TheVariants.{Done, Refused}
 use Rattle.tpm_lines.specs.declared.status.Status.{Status}
 use Rattle.tpm_lines.specs.Status.{both}
 use Rattle.tpm_lines.specs.Text.{bytes_in, bytes_text, hexadecimal, line}
-use Rattle.tpm_check.specs.CheckJson.{attest_member, lacks_member, not_hexadecimal_text, refusal_text, text_member}
-use Rattle.tpm_check.specs.Compare.{Beside, bank_name}
+use Rattle.tpm_check.specs.CheckJson.{attest_member, lacks_member, not_hexadecimal_text, refusal_text}
+use Rattle.tpm_events.specs.Members.{text_member}
+use Rattle.tpm_check.specs.Compare.{Beside}
+use Rattle.tpm_events.specs.Banks.{bank_name}
 
 -- ---- what the quote says: TPMS_ATTEST (Part 2, 10.12)
 

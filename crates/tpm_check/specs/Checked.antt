@@ -10,7 +10,7 @@ use Rattle.tpm_lines.specs.declared.status.Status.{Status}
 use Rattle.tpm_lines.specs.Status.{both}
 use Rattle.tpm_check.specs.Compare.{Beside, beside}
 use Rattle.tpm_check.specs.CheckJson.{ok_text}
-use Rattle.tpm_check.specs.ListEvents.{fault_text}
+use Rattle.tpm_events.specs.LogFaults.{fault_text}
 use Rattle.tpm_check.specs.Check.{ChecksValues, ReadsIfList}
 use Rattle.tpm_check.specs.CheckAttest.{ChecksGiven}
 use Rattle.tpm_check.specs.declared.checked.Compared.{Compared}

@@ -7,7 +7,6 @@ use Rattle.std.specs.Fmt.{decimal}
 use Rattle.std.specs.List.{AllByRecursion, before_first, after_first, range_with_len}
 use Rattle.std.specs.Io.KnownBytes.{Consumes, IsAtEnd}
 use Rattle.hex.specs.Hex.{encode_lower}
-use Rattle.tpm_types.specs.declared.alg.Alg.TheVariants.{Sha1, Sha256, Sha384}
 use Rattle.tpm_types.specs.declared.alg.Alg.{Alg}
 use Rattle.tpm_types.specs.Alg.{all_algs, digest_len}
 use Rattle.tpm_check.specs.declared.list_lines.Heading.TheVariants.{NoBank, Bank, OtherBank}
@@ -16,6 +15,7 @@ use Rattle.tpm_lines.specs.declared.status.Status.TheVariants.{Done, Refused}
 use Rattle.tpm_lines.specs.declared.status.Status.{Status}
 use Rattle.tpm_lines.specs.Status.{both}
 use Rattle.tpm_lines.specs.Text.{bytes_in, line}
+use Rattle.tpm_events.specs.Banks.{bank_name}
 use Rattle.tpm_lines.specs.InputLines.{lines_of, HasNoFeed, AreEnded, most_bytes, most_piece}
 
 -- ---- registers
@@ -23,11 +23,6 @@ use Rattle.tpm_lines.specs.InputLines.{lines_of, HasNoFeed, AreEnded, most_bytes
 -- the values of registers, by bank and number
 abbrev pub Values : Type 0
 Values = Alg → ℕ → List ℕ
-
-abbrev pub bank_name : Alg → List ℕ
-bank_name Sha1 = codes "sha1"
-bank_name Sha256 = codes "sha256"
-bank_name Sha384 = codes "sha384"
 
 unfoldable pub register_line : Alg → ℕ → List ℕ → List ℕ
 register_line bank register value = line (bank_name bank ∷ decimal register ∷ encode_lower value ∷ [])

@@ -9,9 +9,9 @@ use Rattle.tpm_log.specs.declared.signatures.SignatureFaultKind.TheVariants as l
 use Rattle.tpm_lines.specs.declared.status.Status.TheVariants.{Done, Refused}
 use Rattle.tpm_lines.specs.declared.status.Status.{Status}
 use Rattle.tpm_lines.specs.Text.{line}
-use Rattle.tpm_check.specs.Check.{kind_name}
+use Rattle.tpm_events.specs.LogFaults.{kind_name}
 use Rattle.tpm_check.specs.SecureBootLines.{fault_name}
-use Rattle.tpm_check.specs.SignatureEntries.{kind_name as list_kind_name}
+use Rattle.tpm_events.specs.SignatureEntries.{kind_name as list_kind_name}
 
 -- what is wrong with a log (PC Client Platform Firmware Profile, "Event Logging")
 abbrev pub log_words : LogFaultKind → List ℕ

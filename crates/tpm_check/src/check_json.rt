@@ -5,15 +5,16 @@ ghost use Rattle.tpm_types.specs.Alg.{all_algs};
 ghost use Rattle.tpm_model.specs.Registers.{value_in};
 ghost use Rattle.tpm_lines.specs.declared.status.Status.TheVariants.{Refused};
 ghost use Rattle.tpm_check.specs.Told.{told};
-ghost use Rattle.tpm_check.specs.CheckJson.{bank_begin, bank_member, not_hexadecimal_text, number_member};
+ghost use Rattle.tpm_check.specs.CheckJson.{bank_begin, bank_member, not_hexadecimal_text};
 ghost use Rattle.tpm_check.specs.CheckJson.{ok_text, quote_text};
 ghost use Rattle.tpm_check.specs.CheckJson.{refusal_object, refusal_text, registers_object, registers_told};
-ghost use Rattle.tpm_check.specs.CheckJson.{text_member, value_entries, value_entry};
-ghost use Rattle.tpm_check.specs.EventText.{commas};
+ghost use Rattle.tpm_check.specs.CheckJson.{value_entries, value_entry};
+ghost use Rattle.tpm_events.specs.EventText.{commas};
 
 use crate::beside::Beside;
-use crate::register_text::{bank_name, push_registers};
+use crate::register_text::push_registers;
 use std::alloc::{AllocError, Global};
+use tpm_events::banks::bank_name;
 use tpm_lines::answer::Answer;
 use tpm_lines::registers::register;
 use tpm_lines::status::Status;
@@ -21,24 +22,6 @@ use tpm_lines::text::{Pushed, push_comma};
 use tpm_store::Registers;
 use tpm_types::{Alg, REGISTERS};
 use tpm_wire::Refusal;
-
-/// Adds a text under a name, as a member behind another.
-#[tactic(auto, unfolding(crate::specs::CheckJson::text_member))]
-pub(crate) fn push_text_member(text: &mut String, name: &str, says: &str) -> Pushed
-    ensures { OnOk result (string_bytes text.new
-        ≡ string_bytes text.old ++ text_member name.now says.now) }
-{
-    write!(text, ",\"{name}\":\"{says}\"")
-}
-
-/// Adds a number under a name, as a member behind another.
-#[tactic(auto, unfolding(crate::specs::CheckJson::number_member))]
-pub(crate) fn push_number_member(text: &mut String, name: &str, number: u64) -> Pushed
-    ensures { OnOk result (string_bytes text.new
-        ≡ string_bytes text.old ++ number_member name.now number) }
-{
-    write!(text, ",\"{name}\":{number}")
-}
 
 #[tactic(auto, unfolding(crate::specs::CheckJson::value_entry))]
 fn push_value(alloc: Global, text: &mut String, number: u32, value: &[u8]) -> Pushed

@@ -15,7 +15,7 @@ ghost use Rattle.tpm_check.specs.Check.{ChecksQuote, ChecksValues, CountsReads, 
 ghost use Rattle.tpm_check.specs.Check.{ReadsTooMuchIfList, list_before, list_after};
 ghost use Rattle.tpm_check.specs.CheckAttest.{ChecksGiven};
 ghost use Rattle.tpm_check.specs.Checked.{ChecksAll, ChecksLog, ChecksToEnd, quote_of};
-ghost use Rattle.tpm_check.specs.ListEvents.{fault_text};
+ghost use Rattle.tpm_events.specs.LogFaults.{fault_text};
 ghost use Rattle.tpm_log.specs.Changes.{AreAfter};
 ghost use Rattle.tpm_log.specs.Replays.{ReplaysFrom, ReadsFrom};
 ghost use Rattle.tpm_log.specs.declared.fault.LogFault.{LogFault as LogFaultValue};
@@ -26,9 +26,9 @@ use crate::check_json::{ok_text, push_registers_told};
 use crate::compared::check_list;
 use crate::judged::{Signed, answer_to_given};
 use crate::quoted::answer_to_quote;
-use crate::register_text::push_fault;
 use std::alloc::Global;
 use std::io::Write;
+use tpm_events::faults::print_fault;
 use tpm_lines::answer::write;
 use tpm_lines::fault::ToolFault;
 use tpm_lines::status::Status;
@@ -47,23 +47,6 @@ pub struct Compared<'a> {
     pub hash: Alg,
     /// Whether what is printed is objects of JSON, one in a line, in place of lines.
     pub json: bool,
-}
-
-/// Prints the fault of a log, as a line or as an object.
-pub(crate) fn print_fault<W: Write>(
-    alloc: Global,
-    json: bool,
-    fault: &LogFault,
-    out: &mut W,
-) -> Result<Status, ToolFault>
-    ensures ok { IfOk result (λ status. (status ≡ Refused)
-        × Appends (W.contents out.old) (W.contents out.new) (fault_text json fault.now)) }
-    ensures err { FailsByMemoryOrWrite result }
-{
-    let mut text = String::new(alloc);
-    push_fault(&mut text, json, fault)?;
-    write(out, &text)?;
-    Ok(Status::Refused)
 }
 
 /// Prints the fault of a log, and the status where it is told.

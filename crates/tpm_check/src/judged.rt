@@ -10,12 +10,13 @@ ghost use Rattle.tpm_check.specs.CheckAttest.{on_selection, on_quote, on_attest,
 ghost use Rattle.tpm_check.specs.Told.{told};
 
 use crate::beside::Beside;
-use crate::check_json::{not_hexadecimal_answer, push_text_member, refusal_answer};
-use crate::register_text::bank_name;
+use crate::check_json::{not_hexadecimal_answer, refusal_answer};
 use crate::signed_json::{push_attest_member, push_lacks_member};
 use crate::signed_text::push_attest;
 use std::alloc::{AllocError, Global};
 use std::marker::Model;
+use tpm_events::banks::bank_name;
+use tpm_events::members::push_text_member;
 use tpm_lines::answer::Answer;
 use tpm_lines::hexadecimal::decoded;
 use tpm_lines::status::Status;

@@ -7,9 +7,9 @@ ghost use Rattle.tpm_log.specs.declared.verdict.SecureBootFaultKind.{SecureBootF
 ghost use Rattle.tpm_log.specs.declared.signatures.SignatureFaultKind.{SignatureFaultKind as ListFaultKindValue};
 ghost use Rattle.tpm_lines.specs.declared.status.Status.TheVariants.{Done};
 ghost use Rattle.tpm_lines.specs.Faults.{FailsByMemoryOrWrite};
-ghost use Rattle.tpm_check.specs.Check.{kind_name};
+ghost use Rattle.tpm_events.specs.LogFaults.{kind_name};
 ghost use Rattle.tpm_check.specs.SecureBootLines.{fault_name};
-ghost use Rattle.tpm_check.specs.SignatureEntries.{kind_name as list_kind_name};
+ghost use Rattle.tpm_events.specs.SignatureEntries.{kind_name as list_kind_name};
 ghost use Rattle.tpm_check.specs.Kinds.{boot_words, kind_line, list_words, log_words, ExplainsKind};
 
 use std::alloc::{AllocError, Global};

@@ -2,7 +2,8 @@
 
 ghost use Rattle.std.specs.Prelude.{◌≡◌, ◌≤◌, true, IfOk, length, option_map};
 ghost use Rattle.tpm_lines.specs.Text.{bytes_in};
-ghost use Rattle.tpm_check.specs.Compare.{bank_name, heading_line, bank_headed, other_headed, heading_in, is_numbered};
+ghost use Rattle.tpm_events.specs.Banks.{bank_name};
+ghost use Rattle.tpm_check.specs.Compare.{heading_line, bank_headed, other_headed, heading_in, is_numbered};
 ghost use Rattle.tpm_check.specs.Compare.{number_in, numbered_under, stating, line_under};
 ghost use Rattle.tpm_check.specs.Comparing.{line_as, stated_as};
 

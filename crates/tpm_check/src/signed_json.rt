@@ -7,12 +7,14 @@ ghost use Rattle.tpm_lines.specs.Text.{hexadecimal};
 ghost use Rattle.tpm_check.specs.CheckJson.{attest_member, clock_members, lacks_member, lacks_words};
 ghost use Rattle.tpm_check.specs.CheckJson.{register_entries, register_entry, selection_begin};
 ghost use Rattle.tpm_check.specs.CheckJson.{selection_member, selection_object};
-ghost use Rattle.tpm_check.specs.CheckJson.{signer_member, text_member};
-ghost use Rattle.tpm_check.specs.EventText.{commas};
+ghost use Rattle.tpm_check.specs.CheckJson.{signer_member};
+ghost use Rattle.tpm_events.specs.Members.{text_member};
+ghost use Rattle.tpm_events.specs.EventText.{commas};
 
-use crate::check_json::push_number_member;
-use crate::register_text::{bank_name, truth};
+use crate::register_text::truth;
 use std::alloc::{AllocError, Global};
+use tpm_events::banks::bank_name;
+use tpm_events::members::push_number_member;
 use tpm_lines::hexadecimal::{push_hex, push_hex_member};
 use tpm_lines::registers::register;
 use tpm_lines::text::Pushed;
@@ -41,7 +43,7 @@ fn push_clock(text: &mut String, clock: &ClockInfo) -> Pushed
     text.push_str(truth(clock.safe))
 }
 
-#[tactic(auto, using(tpm_lines::proofs::Padded::padded), unfolding(crate::specs::CheckJson::text_member))]
+#[tactic(auto, using(tpm_lines::proofs::Padded::padded), unfolding(tpm_events::specs::Members::text_member))]
 fn push_firmware(text: &mut String, version: u64) -> Pushed
     ensures { OnOk result (string_bytes text.new
         ≡ string_bytes text.old ++ text_member (codes "firmware") (hexadecimal 16 version)) }

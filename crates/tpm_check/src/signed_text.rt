@@ -6,8 +6,8 @@ ghost use Rattle.tpm_check.specs.CheckAttest.{attest_text, clock_lines, entry_wo
 ghost use Rattle.tpm_check.specs.CheckAttest.{number_line, register_word, register_words, safe_line, selection_line};
 ghost use Rattle.tpm_check.specs.CheckAttest.{signer_line};
 
-use crate::register_text::bank_name;
 use std::alloc::Global;
+use tpm_events::banks::bank_name;
 use tpm_lines::hexadecimal::shown_bytes;
 use tpm_lines::registers::register;
 use tpm_lines::text::Pushed;

@@ -6,8 +6,8 @@ ghost use Rattle.tpm_check.specs.Compare.{is_space, first_word, behind_word, ban
 ghost use Rattle.tpm_check.specs.Compare.{stated_in};
 ghost use Rattle.tpm_check.specs.Comparing.{stated_as};
 
-use crate::register_text::bank_name;
 use std::alloc::{AllocError, Global};
+use tpm_events::banks::bank_name;
 use tpm_lines::hexadecimal::decoded;
 use tpm_types::{Alg, PcrIndex};
 

@@ -2,10 +2,10 @@
 
 ghost use Rattle.std.specs.Prelude.{◌≡◌, ◌⊎◌, ℕ, List, None, Some, IfOk, IfErr, option_map};
 ghost use Rattle.std.specs.Io.KnownBytes.{Appends};
+ghost use Rattle.tpm_events.specs.ListEvents.{most_read};
+ghost use Rattle.tpm_events.specs.Reads.{most_attest};
 ghost use Rattle.tpm_check.specs.Check.{list_before};
-ghost use Rattle.tpm_check.specs.ListEvents.{most_read};
 ghost use Rattle.tpm_check.specs.QuotedBoot.{ChecksSecureBoot};
-ghost use Rattle.tpm_check.specs.Reads.{most_attest};
 ghost use Rattle.tpm_check.specs.SecureBootLines.{TellsSecureBoot};
 ghost use Rattle.tpm_args.specs.declared.task.Task.TheVariants.{Check, Events, SecureBoot};
 ghost use Rattle.tpm_program.specs.Offered.{OfFile};
@@ -17,10 +17,8 @@ use crate::files::{of_reading, opened, opened_if};
 use crate::inputs::Inputs;
 use std::alloc::Global;
 use std::io::Write;
-use tpm_check::{
-    Asking, Compared, Listing, Signed, check_log, check_secure_boot, list_events, read_attest,
-    tell_secure_boot,
-};
+use tpm_check::{Asking, Compared, Signed, check_log, check_secure_boot, tell_secure_boot};
+use tpm_events::{Listing, list_events, read_attest};
 use tpm_lines::status::Status;
 use tpm_types::{Alg, Selections};
 use tpm_wire::Source;

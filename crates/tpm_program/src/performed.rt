@@ -12,7 +12,8 @@ use crate::shows::{run_input, show_capture, show_memory, show_traffic};
 use std::alloc::Global;
 use std::io::Write;
 use tpm_args::Task;
-use tpm_check::{Asking, Listing, explain_kind};
+use tpm_check::{Asking, explain_kind};
+use tpm_events::Listing;
 use tpm_lines::status::Status;
 use tpm_show::{Telling, build, explain, show, show_fields};
 

@@ -6,7 +6,8 @@ use std::alloc::Global;
 use std::io;
 use std::io::Write;
 use std::test::Fail;
-use tpm_check::{Asking, Listing, list_events, tell_secure_boot};
+use tpm_check::{Asking, tell_secure_boot};
+use tpm_events::{Listing, list_events};
 use tpm_lines::status::Status;
 use tpm_testing::Pieces;
 

@@ -6,7 +6,7 @@ use Rattle.tpm_log.specs.Takes.{IsOfBytes}
 use Rattle.tpm_lines.specs.declared.status.Status.TheVariants.{Refused}
 use Rattle.tpm_lines.specs.declared.status.Status.{Status}
 use Rattle.tpm_check.specs.CheckJson.{ok_text}
-use Rattle.tpm_check.specs.ListEvents.{fault_text}
+use Rattle.tpm_events.specs.LogFaults.{fault_text}
 use Rattle.tpm_check.proofs.Checks.{by_list, not_too_long, counts_alone, counts_stated, counts_log, not_read, log_last}
 use Rattle.tpm_check.proofs.Checks.{stated_last, replayed, of_bytes, read_failed, no_read_failed}
 use Rattle.tpm_check.proofs.checked.check_log.Goals as goal

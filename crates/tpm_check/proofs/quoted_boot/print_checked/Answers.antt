@@ -1,12 +1,7 @@
 use Rattle.std.proofs.Common.{inr, refl, string_bytes}
 use Rattle.std.proofs.lemmas.Result.{IfOk-weaker}
-use Rattle.tpm_check.proofs.EventSizes.{within_log}
 use Rattle.tpm_check.proofs.QuotedBoots.{checks_log}
 use Rattle.tpm_check.proofs.quoted_boot.print_checked.Goals as goal
-
-pub answer_to_quoted-requires-clause-within : goal.answer_to_quoted-requires-clause-within
-answer_to_quoted-requires-clause-within g c =
-    within_log c.args.bytes.now (c.in-Ok-parse.log.hashes, c.in-Ok-parse.log.records) c.in-Ok-parse.ensures.0
 
 pub returns-in_ok-answer_to_quoted-in-Ok-parse-clause-ok : goal.returns-in_ok-answer_to_quoted-in-Ok-parse-clause-ok
 returns-in_ok-answer_to_quoted-in-Ok-parse-clause-ok g c =

@@ -1,6 +1,6 @@
 use Rattle.std.proofs.Common.{append_assoc, string_bytes}
 use Rattle.tpm_check.specs.CheckJson.{selection_member}
-use Rattle.tpm_check.proofs.Pushed.{pushed}
+use Rattle.tpm_events.proofs.Pushed.{pushed}
 use Rattle.tpm_check.proofs.signed_json.push_selection.Goals as goal
 
 pub returns : goal.returns

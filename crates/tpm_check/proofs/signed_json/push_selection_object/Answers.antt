@@ -1,5 +1,5 @@
 use Rattle.tpm_check.specs.CheckJson.{selection_object}
-use Rattle.tpm_check.proofs.Pushed.{third_pushed}
+use Rattle.tpm_events.proofs.Pushed.{third_pushed}
 use Rattle.tpm_check.proofs.signed_json.push_selection_object.Goals as goal
 
 pub returns : goal.returns

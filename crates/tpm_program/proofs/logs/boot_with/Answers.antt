@@ -1,6 +1,6 @@
 use Rattle.std.proofs.Common.{ℕ, List, subst}
 use Rattle.std.proofs.lemmas.Result.{IfOk-weaker}
-use Rattle.tpm_check.specs.ListEvents.{most_read}
+use Rattle.tpm_events.specs.ListEvents.{most_read}
 use Rattle.tpm_check.specs.QuotedBoot.{ChecksSecureBoot}
 use Rattle.tpm_program.specs.Performs.{OfFirst, quoted}
 use Rattle.tpm_program.proofs.Checks.{of_attest}
