@@ -1,6 +1,7 @@
 pub mod Decoding
 pub mod Held
 pub mod HeldReplies
+pub mod Judging
 pub mod KeptDevices
 pub mod Lending
 pub mod Lengths

@@ -1,12 +1,19 @@
 //! A command's verdict, and its areas by their places in its bytes.
 
-ghost use Rattle.std.specs.Prelude.{◌≡◌, ◌≤◌, ◌+◌, ◌∷◌, [], option_map};
+ghost use Rattle.std.specs.Prelude.{◌≡◌, ◌≤◌, ◌+◌, ◌∷◌, [], option_map, length, IfOk, IfErr};
+ghost use Rattle.tpm_wire.specs.Path.{Spells, Fault};
+ghost use Rattle.tpm_commands.specs.declared.command.Command.{Command};
+ghost use Rattle.tpm_commands.specs.declared.command_parameters.Params.{Params as ParamsOf};
 ghost use Rattle.tpm_commands.specs.Handles.{first, second};
+ghost use Rattle.tpm_commands.specs.Parameters.{parameters};
+ghost use Rattle.tpm_buffer.specs.Commands.{command};
 ghost use Rattle.tpm_c.specs.CommandViews.{session_view, behind as behind_of, first_place as first_place_of};
 ghost use Rattle.tpm_c.specs.CommandViews.{session_views, command_view, ViewsCommand, JudgesCommand};
 
 use crate::part::{DONE, NO_PART, TpmPart, TpmRefusal, refuse};
-use tpm_buffer::{Areas, AuthRef, areas, decode_command};
+use tpm_buffer::{Areas, AuthRef, areas};
+use tpm_commands::{CommandCode, Params, decode_params_into};
+use tpm_wire::Refusal;
 
 /// A session of a command: its nonce and its HMAC, or password, lie in the command.
 #[repr(C)]
@@ -55,10 +62,36 @@ pub extern "C" fn tpm_command_cut(
 pub extern "C" fn tpm_command_decode(bytes: &[u8], refusal: &mut TpmRefusal) -> u32
     ensures { JudgesCommand bytes.now result refusal.old refusal.new }
 {
-    match decode_command(bytes) {
-        Ok(_) => DONE,
+    match judge(bytes) {
+        Ok(()) => DONE,
         Err(fault) => refuse(refusal, fault),
     }
+}
+
+// Whether the bytes spell a command, or their fault. The parameters are judged alone, and no command is made.
+#[inline(never)]
+fn judge(bytes: &[u8]) -> Result<(), Refusal>
+    ensures spells { IfOk result (λ _. (c : Command) × Spells command c bytes.now) }
+    ensures fault { IfErr result (λ e. Fault command bytes.now e) }
+{
+    let areas = areas(bytes)?;
+    match judge_params(areas.code(), areas.params()) {
+        Ok(()) => Ok(()),
+        Err(fault) => Err(Refusal {
+            code: fault.code,
+            at: areas.params_at() + fault.at,
+        }),
+    }
+}
+
+// Whether the bytes are parameters of a command with this code, or their fault.
+#[inline(never)]
+pub(crate) fn judge_params(code: CommandCode, bytes: &[u8]) -> Result<(), Refusal>
+    ensures spells { IfOk result (λ _. (p : ParamsOf) × Spells (parameters code) p bytes.now) }
+    ensures fault { IfErr result (λ e. Fault (parameters code) bytes.now e × (e.at ≤ length bytes.now)) }
+{
+    let mut params = Params::PolicyRestart;
+    decode_params_into(code, bytes, &mut params)
 }
 
 fn areas_view(areas: &Areas<'_>) -> TpmCommandAreas
