@@ -10,6 +10,10 @@ want_program
 
 archive=crates/tpm_c/out/libtpm_c.a
 
+# How many bytes of stack a program with a device has, by LLVM and by the toolchain's own compiler: multiples of 1,024.
+llvm_stack=10240
+rattle_stack=16384
+
 # built BACKEND: the archive by this backend, which is kept for ./install, too.
 built() {
     compiled tpm_c "$1" && mkdir -p "crates/tpm_c/out/$1" && cp "$archive" "crates/tpm_c/out/$1/libtpm_c.a"
@@ -369,17 +373,26 @@ same_policies() {
     "$room/policy" >"$room/out" && cmp "$room/out" checks/policy.txt
 }
 
-# same_session: a caller and a device in one process, by C and by crate tpm_examples, which writes these seven lines
-# last. Then two sessions at once: the register as Python's hashlib gives it, and a counter that begins one above the
-# greatest value (Part 3, 31.8).
+# session_says: what examples/session.c prints. Crate tpm_examples writes the first seven lines last; the register is as
+# Python's hashlib gives it, and a counter begins one above the greatest value (Part 3, 31.8).
+session_says() {
+    tail -n 7 crates/tpm_examples/stdout
+    echo session 03000001 is started
+    echo register 16 is 52afce43e9aec885add0b10a096c09c306ae572917bb73dc4753cb9d039845fd
+    echo the second counter is 4
+}
+
+# same_session: a caller and a device in one process, and then two sessions at once.
 same_session() {
-    {
-        tail -n 7 crates/tpm_examples/stdout
-        echo session 03000001 is started
-        echo register 16 is 52afce43e9aec885add0b10a096c09c306ae572917bb73dc4753cb9d039845fd
-        echo the second counter is 4
-    } >"$room/out.wanted"
+    session_says >"$room/out.wanted"
     "$room/session" >"$room/out" && cmp "$room/out" "$room/out.wanted"
+}
+
+# freestanding_says: what examples/freestanding.c prints, by tpmtool.
+freestanding_says() {
+    printf '%s\n' 80010000000c000001440000 \
+        8002000000350000018200000010000000094000000900000100000000000100040102030405060708090a0b0c0d0e0f1011121314 \
+        8001000000140000017e00000001000403000001 | "$program" run
 }
 
 # freestanding: the program without a C library, of which no name is left undefined.
@@ -387,10 +400,30 @@ freestanding() {
     "$compiler" -std=c99 -O2 -Wall -Wextra -Werror -ffreestanding -fno-stack-protector -nostdlib -static -Iinclude \
         -o "$room/freestanding" examples/freestanding.c "$archive" || return 1
     [ -z "$(undefined)" ] || { echo "undefined: $(undefined)" && return 1; }
-    printf '%s\n' 80010000000c000001440000 \
-        8002000000350000018200000010000000094000000900000100000000000100040102030405060708090a0b0c0d0e0f1011121314 \
-        8001000000140000017e00000001000403000001 | "$program" run >"$room/out.wanted"
+    freestanding_says >"$room/out.wanted"
     "$room/freestanding" >"$room/out" && cmp "$room/out" "$room/out.wanted"
+}
+
+# on_painted EXAMPLE BYTES WORD..: this program of examples/, compiled with the words, on a stack of so many bytes that
+# checks/painted.c has painted, which leaves a part of it untouched and prints what it should. Its frames are in the
+# measure, and its `printf` is not.
+on_painted() {
+    example=$1 bytes=$2
+    shift 2
+    "$compiler" -std=c99 -O2 -U_FORTIFY_SOURCE -Wall -Wextra -Werror "$@" -Iinclude -c -o "$room/painted_$example.o" \
+        "examples/$example.c" || return 1
+    "$compiler" -std=c99 -O2 -Wall -Wextra -pedantic -Werror -Wl,-z,now -o "$room/painted_$example" checks/painted.c \
+        "$room/painted_$example.o" "$archive" || return 1
+    "${example}_says" >"$room/out.wanted"
+    "$room/painted_$example" "$bytes" >"$room/out" && cmp "$room/out" "$room/out.wanted"
+}
+
+# on_small_stacks BACKEND BYTES: a device, and a session with one, over the archive by this backend.
+on_small_stacks() {
+    holds "a device takes a part of a painted stack of $2 bytes through C, by $1" \
+        on_painted freestanding "$2" -D_start=example -ffreestanding -fno-stack-protector
+    holds "a session and a device take a part of a painted stack of $2 bytes through C, but for printf, by $1" \
+        on_painted session "$2" -Dmain=example -Dprintf=told
 }
 
 # readme: the lines of C in README.md print what it says.
@@ -520,10 +553,14 @@ else
     others=$(undefined | tr ' ' '\n' | grep -v -x -e memcpy -e memmove -e memset -e '' | tr '\n' ' ')
     if [ -z "$others" ]; then pass "$name"; else fail "$name" "it needs $others"; fi
     if [ "$(uname -s) $(uname -m)" != "Linux x86_64" ]; then
-        skip "a C program without a C library" "it is for Linux on x86-64"
-    elif ! built rattle; then
-        fail "a C program without a C library" "the archive isn't built: $(tail -n 3 "$room/lib")"
+        skip "a C program without a C library, and small stacks" "they are for Linux on x86-64"
     else
-        holds "a C program without a C library gives the bytes of tpmtool" freestanding
+        on_small_stacks llvm $llvm_stack
+        if built rattle; then
+            holds "a C program without a C library gives the bytes of tpmtool" freestanding
+            on_small_stacks rattle $rattle_stack
+        else
+            fail "a C program without a C library" "the archive isn't built: $(tail -n 3 "$room/lib")"
+        fi
     fi
 fi
