@@ -1,3 +1,4 @@
+pub mod Acting
 pub mod Alike
 pub mod WithoutParameters
 pub mod Checked

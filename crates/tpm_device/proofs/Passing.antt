@@ -107,7 +107,8 @@ performed_is : (p : Present) (n : List ℕ) (x : Presented) (params : Params) �
     performed p n x ≡ done_of p n x (body_from x.handles params)
 performed_is p n x params reads = rw reads refl
 
-params_refuse : (p : Present) (n : List ℕ) (x : Cut) (params : Params) (r : Result (Unit {0}) ℕ) → read_all (parameters x.header.code) x.params ≡ Ok params
+-- What refuses the parameters or the action refuses what is performed.
+pub params_refuse : (p : Present) (n : List ℕ) (x : Cut) (params : Params) (r : Result (Unit {0}) ℕ) → read_all (parameters x.header.code) x.params ≡ Ok params
     → IfErr r (λ code. (y : Presented) → y.code ≡ x.header.code → y.handles ≡ x.handles → y.params ≡ x.params →
     done_of p n y (body_from x.handles params) ≡ Err code)
     → IfErr r (λ code. (y : Presented) → y.code ≡ x.header.code → y.handles ≡ x.handles → y.params ≡ x.params → performed p n y ≡ Err code)
@@ -219,3 +220,11 @@ pub reply_told : (r : Result Done ℕ) (items : List ℕ) → IfOk r (λ d. code
     Ok items ≡ told r → items ≡ answered r
 reply_told (Ok d) items own is = ok_is items _ is ∙ ap (λ (code : CommandCode). spelling (response code) (done_with d.reply)) (sym own)
 reply_told (Err e) items own is = absurd (cc)
+
+-- What is performed where nothing was done is performed from the begin.
+pub from_begin : (x : Cut) (d e : Device) (n : List ℕ) (o p : ArrayVec ℕ) (new : End) → d ≡ e → o ≡ p
+    → IsPerformed x (performed (holds d) n) (record { device = d; nonce = n; out = o }) new
+    → IsPerformed x (performed (holds e) n) (record { device = e; nonce = n; out = p }) new
+from_begin x d e n o p new same unwritten did =
+    subst (λ (a : ArrayVec ℕ). IsPerformed x (performed (holds e) n) (record { device = e; nonce = n; out = a }) new) unwritten
+    (subst (λ (a : Device). IsPerformed x (performed (holds a) n) (record { device = a; nonce = n; out = o }) new) same did)

@@ -2,21 +2,23 @@
 use Rattle.std.specs.Prelude.{◌≡◌, ℕ, Bool, true, false, List, [], ◌∷◌, length, Option, None, Some, Result, Ok}
 use Rattle.std.specs.Prelude.{Err, IfErr, OnOk, OnErr}
 use Rattle.arrayvec.specs.ArrayVec.{ArrayVec}
-use Rattle.tpm_wire.specs.Reading.{◌>>=◌}
+use Rattle.tpm_wire.specs.Reading.{read_all, ◌>>=◌}
 use Rattle.tpm_wire.specs.Spelling.{spelling}
 use Rattle.tpm_types.specs.declared.tpms.Auth.{Auth}
 use Rattle.tpm_types.specs.declared.tpms.AuthReply.{AuthReply}
 use Rattle.tpm_types.specs.Handles.{is_owner}
 use Rattle.tpm_commands.specs.declared.code.CommandCode.{CommandCode}
 use Rattle.tpm_commands.specs.declared.command.CommandBody.{CommandBody}
+use Rattle.tpm_commands.specs.declared.command_parameters.Params.{Params}
 use Rattle.tpm_commands.specs.declared.response.ReplyBody.{ReplyBody}
 use Rattle.tpm_commands.specs.Handles.{first, needs_authorization}
+use Rattle.tpm_commands.specs.Parameters.{parameters, params_code}
 use Rattle.tpm_commands.specs.Table.{row}
 use Rattle.tpm_commands.specs.Replies.{code_for_reply}
 use Rattle.tpm_commands.specs.declared.code.CommandCode.TheVariants as codes
 use Rattle.tpm_commands.specs.declared.response.ReplyBody.TheVariants as replies
 use Rattle.tpm_buffer.specs.CommandAreas.{Cut}
-use Rattle.tpm_buffer.specs.Commands.{code_for, with_auths}
+use Rattle.tpm_buffer.specs.Commands.{body_from, code_for, with_auths}
 use Rattle.tpm_buffer.specs.Responses.{Reply, response, done_with}
 use Rattle.tpm_model.specs.Steps.{History, Origin, Step, Accepted}
 use Rattle.tpm_model.specs.Present.{Present, present}
@@ -26,7 +28,7 @@ use Rattle.tpm_model.specs.Entities.{Entity, entity_of, index_entity, names_of, 
 use Rattle.tpm_model.specs.Sessions.{Session}
 use Rattle.tpm_model.specs.Authorization.{Evidence, reply_auths, is_empty}
 use Rattle.tpm_model.specs.Actions.{action}
-use Rattle.tpm_model.specs.Answers.{Presented, Done, evidence_in, reply_params, with_outcome}
+use Rattle.tpm_model.specs.Answers.{Presented, Done, evidence_in, performed, reply_params, with_outcome}
 use Rattle.tpm_model.specs.Premises.{code_in}
 use Rattle.tpm_session.specs.Entities.{IsAuthority, Claim, authorized}
 use Rattle.tpm_device.specs.declared.authorization.Authorization.{Authorization}
@@ -245,6 +247,27 @@ pub record End : Type 0 where
   pub result : Result (Unit {0}) ℕ
   pub device : Device
   pub out : ArrayVec ℕ
+
+-- an action: the device before it and behind it, the nonce that is handed in, and the reply that is left
+pub record Acting : Type 0 where
+  pub old : Device
+  pub nonce : List ℕ
+  pub reply : ReplyBody
+  pub new : Device
+
+-- Where the action of a command that was read is done, its parameters were read, and the sessions stay as they are
+-- where one of them authorized it; otherwise nothing was done, and the command is refused with this code.
+abbrev pub IsActed : Cut → Acting → Result (Unit {0}) ℕ → Type 0
+IsActed x a (Ok u) =
+    (params : Params) × (read_all (parameters x.header.code) x.params ≡ Ok params)
+    × (params_code params ≡ x.header.code)
+    × (Ok a.reply ≡ action (holds a.old) (body_from x.handles params) a.nonce)
+    × Steps a.old a.new (body_from x.handles params) a.reply a.nonce
+    × (needs_authorization x.header.code ≡ true → a.new.sessions ≡ a.old.sessions)
+IsActed x a (Err code) =
+    ((y : Presented) → y.code ≡ x.header.code → y.handles ≡ x.handles → y.params ≡ x.params →
+    performed (holds a.old) a.nonce y ≡ Err code)
+    × (a.new ≡ a.old)
 
 -- From its begin to its end, this is done of a command that was read.
 pub record IsPerformed (x : Cut) (does : Presented → Result Done ℕ) (old : Begin) (new : End) : Type 0 where

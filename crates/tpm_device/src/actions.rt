@@ -14,7 +14,7 @@ use tpm_wire::Duplicate;
 
 impl Device {
     /// Does what the command of these handles and parameters asks for, and leaves its reply in the body.
-    #[inline(always)]
+    #[inline]
     pub(crate) fn act(
         &mut self,
         handles: &[u32],
@@ -61,7 +61,10 @@ impl Device {
             Params::PolicyPcr {
                 pcr_digest,
                 selections,
-            } => self.policy_pcr(policy(handles), pcr_digest, selections, body),
+            } => {
+                *body = ReplyBody::PolicyPcr;
+                self.policy_pcr(policy(handles), pcr_digest, selections)
+            }
             Params::PolicyOr(digests) => self.policy_or(policy(handles), digests, body),
             Params::PolicyCommandCode(code) => {
                 self.policy_command_code(policy(handles), *code, body)

@@ -65,7 +65,7 @@ fn nv_read_sizes(bytes: &[u8]) -> Option<(u16, u16)>
 }
 
 /// The parameters of a command with this code that has none, or a number or two, where the bytes spell them.
-#[inline(always)]
+#[inline]
 pub(crate) fn bare(code: CommandCode, bytes: &[u8]) -> Option<Params<'static>>
     requires { length bytes.now ≤ 4096 }
     ensures reads { IfSome result (λ p. read_all (parameters code) bytes.now ≡ Ok p) }

@@ -1,14 +1,12 @@
 //! A device: the order of its checks.
 
 ghost use Rattle.std.specs.Prelude.{◌≡◌, ◌<◌, ◌≤◌, [], ◌∷◌, length, Ok, Err, IfOk, IfErr, IfSome, IfNone, OnOk, OnErr};
-ghost use Rattle.tpm_commands.specs.Parameters.{params_code};
-ghost use Rattle.tpm_buffer.specs.Commands.{body_from};
 ghost use Rattle.tpm_model.specs.Steps.{History, PowerCycle, Origin, new_origin};
 ghost use Rattle.tpm_model.specs.Answers.{presented as presented_of, performed as performed_of, outcome as outcome_of};
 ghost use Rattle.tpm_model.specs.Answers.{answered, answer, next, with_outcome};
 ghost use Rattle.tpm_model.specs.Premises.{code_in};
 ghost use Rattle.tpm_device.specs.Stands.{none_loaded, Stands, holds, IsAdmitted, IsRead};
-ghost use Rattle.tpm_device.specs.Stands.{MayBePerformed, IsPerformed, done_of};
+ghost use Rattle.tpm_device.specs.Stands.{MayBePerformed, IsPerformed, IsActed};
 ghost use Rattle.tpm_device.specs.Stands.{given, told};
 
 use crate::authorization::Authorization;
@@ -99,33 +97,65 @@ impl Device {
         }
     }
 
-    // The action of these parameters and the reply, after which the nonce of the session, the command's first, rolls.
-    #[inline(always)]
-    fn done(
+    // Reads the parameters, whatever they are, and acts. It is out of line, so that their room is off the stack before
+    // the reply is written.
+    #[inline(never)]
+    fn acted_at_length(
         &mut self,
         areas: &Areas<'_>,
-        by: &Option<Authorization<'_>>,
-        params: &Params<'_>,
         nonce: &[u8; 64],
-        out: &mut ResponseBuffer,
+        body: &mut ReplyBody,
     ) -> Result<(), u32>
-        requires own { params_code params.now ≡ areas.now.header.code }
-        requires ready { MayBePerformed self.old areas.now by.now out.old }
-        ensures { IsPerformed areas.now
-            (λ x. done_of (holds self.old) nonce.now x (body_from areas.now.handles params.now))
-            (record { device = self.old; nonce = nonce.now; out = out.old })
-            (record { result = result; device = self.new; out = out.new }) }
+        ensures { IsActed areas.now
+            (record { old = self.old; nonce = nonce.now; reply = body.new; new = self.new }) result }
     {
-        let mut body = begun(areas.code());
-        self.act(areas.handles(), params, nonce, &mut body)?;
-        self.put_done(&body, areas, by, nonce, out);
-        self.roll(by, nonce);
-        Ok(())
+        let mut params = Params::PolicyRestart;
+        match decode_params_into(areas.code(), areas.params(), &mut params) {
+            Ok(()) => self.act(areas.handles(), &params, nonce, body),
+            Err(refusal) => Err(refusal.code),
+        }
     }
 
-    // As `performed`, whatever the parameters are.
+    // As `acted`, where the parameters are none, or a number or two; and otherwise nothing is done. It is out of
+    // line, so that what it makes is off the stack before the longest parameters are read.
     #[inline(never)]
-    fn performed_at_length(
+    fn acted_bare(
+        &mut self,
+        areas: &Areas<'_>,
+        nonce: &[u8; 64],
+        body: &mut ReplyBody,
+    ) -> Option<Result<(), u32>>
+        ensures some { IfSome result (λ given. IsActed areas.now
+            (record { old = self.old; nonce = nonce.now; reply = body.new; new = self.new }) given) }
+        ensures none { IfNone result (self.new ≡ self.old) }
+    {
+        match bare(areas.code(), areas.params()) {
+            Some(params) => Some(self.act(areas.handles(), &params, nonce, body)),
+            None => None,
+        }
+    }
+
+    // The parameters and the action, which leaves its reply in the body.
+    #[inline(always)]
+    fn acted(
+        &mut self,
+        areas: &Areas<'_>,
+        nonce: &[u8; 64],
+        body: &mut ReplyBody,
+    ) -> Result<(), u32>
+        ensures { IsActed areas.now
+            (record { old = self.old; nonce = nonce.now; reply = body.new; new = self.new }) result }
+    {
+        match self.acted_bare(areas, nonce, body) {
+            Some(given) => given,
+            None => self.acted_at_length(areas, nonce, body),
+        }
+    }
+
+    // Any other command: the parameters, the action and the reply, after which
+    // the nonce of the session, the command's first, rolls.
+    #[inline(never)]
+    fn performed_otherwise(
         &mut self,
         areas: &Areas<'_>,
         by: &Option<Authorization<'_>>,
@@ -137,17 +167,16 @@ impl Device {
             (record { device = self.old; nonce = nonce.now; out = out.old })
             (record { result = result; device = self.new; out = out.new }) }
     {
-        let mut params = Params::PolicyRestart;
-        match decode_params_into(areas.code(), areas.params(), &mut params) {
-            Ok(()) => self.done(areas, by, &params, nonce, out),
-            Err(refusal) => Err(refusal.code),
-        }
+        let mut body = begun(areas.code());
+        self.acted(areas, nonce, &mut body)?;
+        self.put_done(&body, areas, by, nonce, out);
+        self.roll(by, nonce);
+        Ok(())
     }
 
-    // As `performed`, where the parameters are none, or a number or two; and otherwise nothing is done. It is out of
-    // line, so that what it makes is off the stack before the longest parameters are read.
-    #[inline(never)]
-    fn performed_bare(
+    // The parameters, and then the rest, where the command has a function of its own, which keeps what it needs of the
+    // stack and no more; and otherwise nothing is done. The session is the command's first.
+    fn performed_alone(
         &mut self,
         areas: &Areas<'_>,
         by: &Option<Authorization<'_>>,
@@ -161,50 +190,11 @@ impl Device {
             (record { result = given; device = self.new; out = out.new })) }
         ensures none { IfNone result ((self.new ≡ self.old) × (out.new ≡ out.old)) }
     {
-        match bare(areas.code(), areas.params()) {
-            Some(params) => Some(self.done(areas, by, &params, nonce, out)),
-            None => None,
-        }
-    }
-
-    // As `performed`, where the command is another than TPM2_PCR_Extend.
-    #[inline(always)]
-    fn performed_otherwise(
-        &mut self,
-        areas: &Areas<'_>,
-        by: &Option<Authorization<'_>>,
-        nonce: &[u8; 64],
-        out: &mut ResponseBuffer,
-    ) -> Result<(), u32>
-        requires { MayBePerformed self.old areas.now by.now out.old }
-        ensures { IsPerformed areas.now (performed_of (holds self.old) nonce.now)
-            (record { device = self.old; nonce = nonce.now; out = out.old })
-            (record { result = result; device = self.new; out = out.new }) }
-    {
-        match self.performed_bare(areas, by, nonce, out) {
-            Some(given) => given,
-            None => self.performed_at_length(areas, by, nonce, out),
-        }
-    }
-
-    // The parameters, and then the rest. The session is the command's first.
-    #[inline(always)]
-    fn performed(
-        &mut self,
-        areas: &Areas<'_>,
-        by: &Option<Authorization<'_>>,
-        nonce: &[u8; 64],
-        out: &mut ResponseBuffer,
-    ) -> Result<(), u32>
-        requires { MayBePerformed self.old areas.now by.now out.old }
-        ensures { IsPerformed areas.now (performed_of (holds self.old) nonce.now)
-            (record { device = self.old; nonce = nonce.now; out = out.old })
-            (record { result = result; device = self.new; out = out.new }) }
-    {
-        if areas.code() == CommandCode::PcrExtend {
-            self.performed_extending(areas, by, nonce, out)
-        } else {
-            self.performed_otherwise(areas, by, nonce, out)
+        match areas.code() {
+            CommandCode::PcrExtend => Some(self.performed_extending(areas, by, nonce, out)),
+            CommandCode::StartAuthSession => Some(self.performed_starting(areas, by, nonce, out)),
+            CommandCode::PolicyPcr => Some(self.performed_asserting(areas, by, nonce, out)),
+            _ => None,
         }
     }
 
@@ -233,7 +223,10 @@ impl Device {
         let areas = self.presented(bytes)?;
         let by = self.authorization(&areas)?;
         self.check_sessions(&areas, &by)?;
-        self.performed(&areas, &by, nonce, out)
+        match self.performed_alone(&areas, &by, nonce, out) {
+            Some(given) => given,
+            None => self.performed_otherwise(&areas, &by, nonce, out),
+        }
     }
 
     // The response: the reply, or the code alone.

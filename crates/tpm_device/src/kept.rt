@@ -1,11 +1,11 @@
 //! A device that is kept: its NV memory as bytes, and the device that is made of them again (Part 1, "NV Memory").
 
-ghost use Rattle.std.specs.Prelude.{◌≡◌, ◌↔◌, ℕ, List, false, [], ◌∷◌, ◌≤◌, length, option_map, IfOk};
+ghost use Rattle.std.specs.Prelude.{◌≡◌, ◌↔◌, ℕ, List, false, [], ◌∷◌, ◌≤◌, length, option_map, IfOk, OnOk};
 ghost use Rattle.tpm_wire.specs.Path.{Decodes, Spells};
 ghost use Rattle.tpm_wire.specs.Spelling.{spelling};
 ghost use Rattle.tpm_wire.specs.Token.{at_start};
 ghost use Rattle.tpm_buffer.specs.Commands.{header as header_layout};
-ghost use Rattle.tpm_model.specs.Steps.{History, PowerCycle, Origin};
+ghost use Rattle.tpm_model.specs.Steps.{History, PowerCycle, Origin, new_origin};
 ghost use Rattle.tpm_model.specs.Sessions.{loaded};
 ghost use Rattle.tpm_model.specs.Counters.{nv_memory};
 ghost use Rattle.tpm_model.specs.Kept.{IsFair, kept_memory, restored};
@@ -121,6 +121,23 @@ impl Device {
             sessions: no_sessions(),
             counters,
         }
+    }
+
+    /// Puts the NV memory that these bytes spell in the place of the device's own; all else stays as it is. On a device
+    /// that was just made, that is started neither nor has a session, this makes the device that `from_nv` makes of the
+    /// owner's value and these bytes. For other bytes the response code and the position of their first fault, as
+    /// `Counters::from_bytes` has them; which NV memory the device has then is not said.
+    pub fn read_nv(&mut self, bytes: &[u8]) -> Result<(), Refusal>
+        ensures decodes { Decodes kept_memory (λ _. (holds self.new).nv) bytes.now result }
+        ensures made { (owner : List ℕ) (greatest : ℕ) →
+            Stands (new_origin owner greatest) [] self.old →
+            holds self.new ≡ restored owner (holds self.new).nv }
+        ensures stands { OnOk result ((o : Origin) (h : History) (greatest : ℕ) →
+            Stands (new_origin o.owner greatest) [] self.old →
+            Spells kept_memory (nv_memory o h) bytes.now →
+            Stands o (PowerCycle ∷ h) self.new) }
+    {
+        self.counters.read_bytes(bytes)
     }
 
     /// The counters that are defined, in the order of their definitions: each with its public area as it is now

@@ -2,6 +2,7 @@
 #![tactic(auto)]
 
 mod actions;
+mod asserting;
 mod authorization;
 mod bare;
 mod checks;
@@ -16,6 +17,7 @@ mod registers;
 mod reply;
 mod response;
 mod sessions;
+mod starting;
 
 pub use device::Device;
 pub use kept::changes_nv;

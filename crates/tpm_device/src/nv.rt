@@ -13,6 +13,7 @@ use tpm_wire::response_code::HANDLE;
 
 impl Device {
     // TPM2_NV_DefineSpace (Part 3, 31.3).
+    #[inline(never)]
     pub(crate) fn define(
         &mut self,
         auth: &AuthValue,
@@ -90,6 +91,7 @@ impl Device {
     }
 
     // TPM2_NV_ReadPublic (Part 3, 31.6).
+    #[inline(never)]
     pub(crate) fn read_public(&self, index: NvIndex, body: &mut ReplyBody) -> Result<(), u32>
         ensures { (n : List ℕ) →
             acted body.new result ≡ action (holds self.now) (bodies.NvReadPublic index) n }

@@ -2,6 +2,7 @@
 
 ghost use Rattle.std.specs.Prelude.{◌≡◌, ℕ, List, OnOk, OnErr};
 ghost use Rattle.tpm_commands.specs.declared.command.CommandBody.TheVariants as bodies;
+ghost use Rattle.tpm_commands.specs.declared.response.ReplyBody.TheVariants as replies;
 ghost use Rattle.tpm_model.specs.Actions.{action};
 ghost use Rattle.tpm_device.specs.Stands.{holds, acted, Steps};
 
@@ -11,23 +12,22 @@ use tpm_types::{Digest, OrDigests, PolicyHandle, Selections};
 
 impl Device {
     // TPM2_PolicyPCR (Part 3, 23.7).
+    #[inline(never)]
     pub(crate) fn policy_pcr(
         &mut self,
         session: PolicyHandle,
         pcr_digest: &Digest,
         selections: &Selections,
-        body: &mut ReplyBody,
     ) -> Result<(), u32>
         ensures answer { (n : List ℕ) →
-            acted body.new result ≡
+            acted replies.PolicyPcr result ≡
             action (holds self.old) (bodies.PolicyPcr session pcr_digest.now selections.now) n }
         ensures stands { (n : List ℕ) →
             OnOk result
             (Steps self.old self.new (bodies.PolicyPcr session pcr_digest.now selections.now)
-            body.new n) }
+            replies.PolicyPcr n) }
         ensures refused { OnErr result (self.new ≡ self.old) }
     {
-        *body = ReplyBody::PolicyPcr;
         self.sessions
             .policy_pcr(session, pcr_digest, selections, &self.registers)?;
         Ok(())
@@ -107,6 +107,7 @@ impl Device {
     }
 
     // TPM2_PolicyGetDigest (Part 3, 23.19).
+    #[inline(never)]
     pub(crate) fn policy_digest(
         &self,
         session: PolicyHandle,

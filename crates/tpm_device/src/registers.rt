@@ -53,6 +53,7 @@ impl Device {
     }
 
     // TPM2_PCR_Event (Part 3, 22.3).
+    #[inline(never)]
     pub(crate) fn event(
         &mut self,
         register: PcrOrNull,
@@ -95,6 +96,7 @@ impl Device {
     }
 
     // TPM2_PCR_Read (Part 3, 22.4).
+    #[inline(never)]
     pub(crate) fn read_registers(&self, selections: &Selections, body: &mut ReplyBody)
         ensures { (n : List ℕ) →
             Ok body.new ≡ action (holds self.now) (bodies.PcrRead selections.now) n }

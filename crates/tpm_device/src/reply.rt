@@ -9,17 +9,17 @@ ghost use Rattle.tpm_model.specs.Authorization.{Evidence, reply_auths};
 ghost use Rattle.tpm_model.specs.Answers.{reply_params};
 ghost use Rattle.tpm_model.specs.Premises.{code_in};
 ghost use Rattle.tpm_device.specs.Stands.{evidence_for, IsAlike, Authorizes, IsAuthorization};
-ghost use Rattle.tpm_device.specs.Stands.{Replies, Rolls, is_bare, bare_bytes};
+ghost use Rattle.tpm_device.specs.Stands.{Replies, Rolls, is_bare, bare_bytes, reply_bytes};
 
 use crate::authorization::Authorization;
 use crate::device::Device;
 use crate::response::{
-    ResponseBuffer, put_bare_alone, put_bare_passed, put_bare_with, put_reply, put_reply_params,
-    put_reply_with,
+    ResponseBuffer, put_bare_alone, put_bare_passed, put_bare_with, put_passed, put_reply,
+    put_reply_params, put_reply_with,
 };
 use tpm_buffer::Areas;
 use tpm_commands::ReplyBody;
-use tpm_session::{Authority, password_reply};
+use tpm_session::Authority;
 use tpm_types::AuthReply;
 
 impl Device {
@@ -42,28 +42,32 @@ impl Device {
             .reply_auth(by.by, &by.session, &entity, areas.code(), params, nonce)
     }
 
-    // That of a session, whose HMAC covers the parameters. They are written into the answer's
-    // buffer, which is cleared again.
-    fn sealed(
+    // Adds the reply to a command that a session authorized. The HMAC covers the parameters, which are written into the
+    // answer's buffer for it; the buffer is cleared again. It is out of line, since it makes the session of the reply.
+    #[inline(never)]
+    fn put_signed(
         &self,
         by: &Authorization<'_>,
         areas: &Areas<'_>,
         body: &ReplyBody,
         nonce: &[u8; 64],
         out: &mut ResponseBuffer,
-    ) -> AuthReply
+    )
         requires own { Authorizes self.now.sessions areas.now by.now }
         requires empty { length out.old.items ≡ 0 }
-        ensures session { (p : Present) (e : Evidence) →
+        ensures bytes { (p : Present) (e : Evidence) →
             IsAlike p self.now (first_of areas.now.handles) →
             evidence_for p areas.now ≡ Ok e →
-            reply_auths e areas.now.header.code (reply_params body.now) nonce.now ≡ result ∷ [] }
-        ensures cleared { length out.new.items ≡ 0 }
+            out.new.items ≡ reply_bytes (record {
+              body = body.now;
+              auths = reply_auths e areas.now.header.code (reply_params body.now) nonce.now;
+            }) }
+        ensures done { code_in out.new.items ≡ 0 }
     {
         put_reply_params(body, out);
         let session = self.reply_session(by, areas, out.as_slice(), nonce);
         out.clear();
-        session
+        put_reply_with(body, &session, out);
     }
 
     /// Adds the reply to a command that is authorized so, has acted, and has not rolled yet.
@@ -87,11 +91,8 @@ impl Device {
         match by {
             None => put_reply(body, out),
             Some(how) => match how.by {
-                Authority::Password => put_reply_with(body, &password_reply(), out),
-                Authority::Slot(_) => {
-                    let session = self.sealed(how, areas, body, nonce, out);
-                    put_reply_with(body, &session, out);
-                }
+                Authority::Password => put_passed(body, out),
+                Authority::Slot(_) => self.put_signed(how, areas, body, nonce, out),
             },
         }
     }

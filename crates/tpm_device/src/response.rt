@@ -15,6 +15,7 @@ ghost use Rattle.tpm_device.specs.Stands.{bare_bytes, reply_bytes};
 use arrayvec::ArrayVec;
 use tpm_buffer::{NO_SESSIONS, RSP_COMMAND, SESSIONS};
 use tpm_commands::ReplyBody;
+use tpm_session::password_reply;
 use tpm_types::{
     AuthReply, Digest, DigestValues, Digests, HashedDigest, NvPublic, SELECT_BYTES, Selection,
     Selections,
@@ -319,6 +320,17 @@ pub(crate) fn put_reply_with(body: &ReplyBody, session: &AuthReply, out: &mut Re
     put(out, &(params as u32).to_be_bytes());
     put_params(body, out);
     put_session(out, session);
+}
+
+/// Adds to an empty buffer a reply to a command that a password authorized. It is out of line, since it makes the
+/// session of the reply.
+#[inline(never)]
+pub(crate) fn put_passed(body: &ReplyBody, out: &mut ResponseBuffer)
+    requires { length out.old.items ≡ 0 }
+    ensures { out.new.items
+        ≡ reply_bytes (record { body = body.now; auths = password_reply_of ∷ [] }) }
+{
+    put_reply_with(body, &password_reply(), out);
 }
 
 /// Adds to an empty buffer the reply without parameters to a command that has no session.

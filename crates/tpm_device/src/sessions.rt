@@ -1,16 +1,30 @@
 //! What the commands on sessions do (Part 3, 11.1 and 28.4).
 
-ghost use Rattle.std.specs.Prelude.{◌≡◌, ℕ, List, OnOk, OnErr};
+ghost use Rattle.std.specs.Prelude.{◌≡◌, ℕ, List, IfOk, OnOk, OnErr};
 ghost use Rattle.tpm_commands.specs.declared.command.CommandBody.TheVariants as bodies;
+ghost use Rattle.tpm_commands.specs.declared.response.ReplyBody.TheVariants as replies;
 ghost use Rattle.tpm_model.specs.Actions.{action};
+ghost use Rattle.tpm_session.specs.Answers.{started_reply};
 ghost use Rattle.tpm_device.specs.Stands.{holds, acted, Steps};
 
 use crate::device::Device;
-use tpm_commands::{ReplyBody, StartAuth};
+use tpm_commands::{ReplyBody, StartAuth, StartReply};
 use tpm_types::SessionHandle;
 
 impl Device {
     // TPM2_StartAuthSession (Part 3, 11.1).
+    pub(crate) fn started(&mut self, start: &StartAuth, nonce: &[u8; 64]) -> Result<StartReply, u32>
+        ensures answer { started_reply result ≡
+            action (holds self.old) (bodies.StartAuthSession start.now) nonce.now }
+        ensures stands { IfOk result (λ reply.
+            Steps self.old self.new (bodies.StartAuthSession start.now)
+            (replies.StartAuthSession reply) nonce.now) }
+        ensures refused { OnErr result (self.new ≡ self.old) }
+    {
+        self.sessions.start(start, self.owner.as_slice(), nonce)
+    }
+
+    // The same, which leaves its reply in the body as each action does.
     pub(crate) fn start_session(
         &mut self,
         start: &StartAuth,
@@ -23,7 +37,7 @@ impl Device {
             (Steps self.old self.new (bodies.StartAuthSession start.now) body.new nonce.now) }
         ensures refused { OnErr result (self.new ≡ self.old) }
     {
-        let reply = self.sessions.start(start, self.owner.as_slice(), nonce)?;
+        let reply = self.started(start, nonce)?;
         *body = ReplyBody::StartAuthSession(reply);
         Ok(())
     }

@@ -6,6 +6,7 @@ use Rattle.tpm_commands.specs.declared.command.CommandBody.{CommandBody}
 use Rattle.tpm_commands.specs.Handles.{first, second}
 use Rattle.tpm_commands.specs.declared.command.CommandBody.TheVariants as bodies
 use Rattle.tpm_commands.specs.declared.command_parameters.Params.TheVariants as params
+use Rattle.tpm_commands.specs.declared.response.ReplyBody.TheVariants as replies
 use Rattle.tpm_buffer.specs.Commands.{body_from, bind_in, nv_auth_in}
 use Rattle.tpm_model.specs.Actions.{action}
 use Rattle.tpm_device.specs.Stands.{holds, acted, Steps}
@@ -91,7 +92,7 @@ pub returns-in-PolicyPcr-clause-answer : goal.returns-in-PolicyPcr-clause-answer
 returns-in-PolicyPcr-clause-answer c =
     let is : bodies.PolicyPcr c.policy.result c.in-PolicyPcr.pcr_digest c.in-PolicyPcr.selections ≡ body_from c.args.handles.now c.args.params.now =
     rw c.in-PolicyPcr.is (ap (λ (s : ℕ). bodies.PolicyPcr s c.in-PolicyPcr.pcr_digest c.in-PolicyPcr.selections) c.policy.ensures) in
-    subst (λ (b : CommandBody). acted c.policy_pcr.new.body c.policy_pcr.result ≡ action (holds c.args.self.now) b c.args.nonce.now) is
+    subst (λ (b : CommandBody). acted replies.PolicyPcr c.policy_pcr.result ≡ action (holds c.args.self.now) b c.args.nonce.now) is
     (c.policy_pcr.ensures.answer c.args.nonce.now)
 
 pub returns-in-PolicyPcr-clause-stands : goal.returns-in-PolicyPcr-clause-stands

@@ -1,10 +1,12 @@
-use Rattle.std.proofs.Common.{rules, ◌≡◌, Err, refl, sym}
-use Rattle.tpm_device.specs.Stands.{holds}
-use Rattle.tpm_device.proofs.Passing.{sessions_permit, sessions_refuse, outcome_refuses, some_code, some_codes}
+use Rattle.std.proofs.Common.{rules, ◌≡◌, ℕ, Err, refl, sym, subst}
+use Rattle.arrayvec.specs.ArrayVec.{ArrayVec}
+use Rattle.tpm_device.specs.declared.device.Device.{Device}
+use Rattle.tpm_device.specs.Stands.{holds, MayBePerformed}
+use Rattle.tpm_device.proofs.Passing.{from_begin, sessions_permit, sessions_refuse, outcome_refuses, some_code, some_codes}
 use Rattle.tpm_device.proofs.device.Device.outcome.Goals as goal
 
-pub performed-requires : goal.performed-requires
-performed-requires c =
+pub performed_alone-requires : goal.performed_alone-requires
+performed_alone-requires c =
     let by = sessions_permit (holds c.args.self.now) c.args.bytes.now c.in_ok-areas.areas c.in_ok-areas.ensures.reads (sym c.in_ok-check_sessions.ensures) in
     record {
       authorized = c.in_ok-by.ensures;
@@ -13,20 +15,52 @@ performed-requires c =
       empty = c.requires.empty;
     }
 
-pub returns : goal.returns
-returns c =
+pub performed_otherwise-requires : goal.performed_otherwise-requires
+performed_otherwise-requires c =
+    let by = sessions_permit (holds c.args.self.now) c.args.bytes.now c.in_ok-areas.areas c.in_ok-areas.ensures.reads (sym c.in_ok-check_sessions.ensures) in
+    subst (λ (d : Device). MayBePerformed d c.in_ok-areas.areas c.in_ok-by.by c.performed_alone.new.out) (sym c.in-None.ensures.none.0)
+    (subst (λ (o : ArrayVec ℕ). MayBePerformed c.args.self.now c.in_ok-areas.areas c.in_ok-by.by o) (sym c.in-None.ensures.none.1)
+    (record {
+      authorized = c.in_ok-by.ensures;
+      admitted = c.in_ok-areas.ensures.admitted;
+      evidence = (by.evidence, by.gives);
+      empty = c.requires.empty;
+    }))
+
+pub returns-in-Some : goal.returns-in-Some
+returns-in-Some c =
     let p = holds c.args.self.now in
     let n = c.args.nonce.now in
+    let did = c.in-Some.ensures.some in
     let by = sessions_permit p c.args.bytes.now c.in_ok-areas.areas c.in_ok-areas.ensures.reads (sym c.in_ok-check_sessions.ensures) in
-    let refuses = outcome_refuses p c.args.bytes.now n c.in_ok-areas.areas c.performed.result by c.performed.ensures.refuses in
+    let refuses = outcome_refuses p c.args.bytes.now n c.in_ok-areas.areas c.in-Some.given by did.refuses in
     record {
-      answer = λ o h st. rw by.is (c.performed.ensures.answer by.evidence o h by.gives st);
-      stands = λ o h st. rw by.is (c.performed.ensures.stands by.evidence o h by.gives st);
+      answer = λ o h st. rw by.is (did.answer by.evidence o h by.gives st);
+      stands = λ o h st. rw by.is (did.stands by.evidence o h by.gives st);
       refuses = refuses;
-      some = some_codes p c.args.bytes.now n c.performed.result refuses;
-      refused = c.performed.ensures.refused;
-      done = c.performed.ensures.done;
-      none = c.performed.ensures.none;
+      some = some_codes p c.args.bytes.now n c.in-Some.given refuses;
+      refused = did.refused;
+      done = did.done;
+      none = did.none;
+    }
+
+pub returns-in-None : goal.returns-in-None
+returns-in-None c =
+    let p = holds c.args.self.now in
+    let n = c.args.nonce.now in
+    let did = from_begin c.in_ok-areas.areas c.performed_alone.new.self c.args.self.now n c.performed_alone.new.out c.args.out.now
+    (record { result = c.performed_otherwise.result; device = c.performed_otherwise.new.self; out = c.performed_otherwise.new.out })
+    c.in-None.ensures.none.0 c.in-None.ensures.none.1 c.performed_otherwise.ensures in
+    let by = sessions_permit p c.args.bytes.now c.in_ok-areas.areas c.in_ok-areas.ensures.reads (sym c.in_ok-check_sessions.ensures) in
+    let refuses = outcome_refuses p c.args.bytes.now n c.in_ok-areas.areas c.performed_otherwise.result by did.refuses in
+    record {
+      answer = λ o h st. rw by.is (did.answer by.evidence o h by.gives st);
+      stands = λ o h st. rw by.is (did.stands by.evidence o h by.gives st);
+      refuses = refuses;
+      some = some_codes p c.args.bytes.now n c.performed_otherwise.result refuses;
+      refused = did.refused;
+      done = did.done;
+      none = did.none;
     }
 
 pub returns-in_err-areas-clause-some : goal.returns-in_err-areas-clause-some

@@ -1,4 +1,4 @@
-use Rattle.std.proofs.Common.{List, [], ◌∷◌, sym, ap, ◌∙◌}
+use Rattle.std.proofs.Common.{List, sym, ap, ◌∙◌}
 use Rattle.tpm_types.specs.declared.tpms.AuthReply.{AuthReply}
 use Rattle.tpm_model.specs.Answers.{reply_params}
 use Rattle.tpm_model.specs.Premises.{code_in}
@@ -19,19 +19,17 @@ returns-in-None-clause-done c = ap code_in c.put_reply.ensures ∙ reply_is_done
 pub returns-in-Password-clause-bytes : goal.returns-in-Password-clause-bytes
 returns-in-Password-clause-bytes c = λ p e alike gives.
     let own = rw c.in-Some.is at c.requires.own in
-    c.put_reply_with.ensures ∙ ap (λ (auths : List AuthReply). reply_bytes (record { body = c.args.body.now; auths = auths }))
-    (ap (λ (r : AuthReply). r ∷ []) c.password_reply.ensures
-    ∙ sym (password_replies p c.args.areas.now c.in-Some.how.session own.others e c.args.areas.now.header.code (reply_params c.args.body.now)
+    c.put_passed.ensures ∙ ap (λ (auths : List AuthReply). reply_bytes (record { body = c.args.body.now; auths = auths }))
+    (sym (password_replies p c.args.areas.now c.in-Some.how.session own.others e c.args.areas.now.header.code (reply_params c.args.body.now)
     c.args.nonce.now (rw c.in-Password.is at own.by) own.auths gives))
 
 pub returns-in-Password-clause-done : goal.returns-in-Password-clause-done
-returns-in-Password-clause-done c = ap code_in c.put_reply_with.ensures ∙ reply_is_done c.args.body.now _
+returns-in-Password-clause-done c = ap code_in c.put_passed.ensures ∙ reply_is_done c.args.body.now _
 
 pub returns-in-Slot-clause-bytes : goal.returns-in-Slot-clause-bytes
 returns-in-Slot-clause-bytes c = λ p e alike gives.
     let own = rw c.in-Some.is at c.requires.own in
-    c.put_reply_with-in-Slot.ensures ∙ ap (λ (auths : List AuthReply). reply_bytes (record { body = c.args.body.now; auths = auths }))
-    (sym (c.sealed-session.ensures.session p e (alike c.in-Some.how.session own.others own.auths) gives))
+    c.put_signed.ensures.bytes p e (alike c.in-Some.how.session own.others own.auths) gives
 
 pub returns-in-Slot-clause-done : goal.returns-in-Slot-clause-done
-returns-in-Slot-clause-done c = ap code_in c.put_reply_with-in-Slot.ensures ∙ reply_is_done c.args.body.now _
+returns-in-Slot-clause-done c = c.put_signed.ensures.done

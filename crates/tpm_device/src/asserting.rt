@@ -1,0 +1,65 @@
+//! TPM2_PolicyPCR from its parameters to its reply. The room of neither is on the stack while the registers are hashed.
+
+ghost use Rattle.std.specs.Prelude.{◌≡◌, Ok, Err, IfOk, IfErr};
+ghost use Rattle.tpm_wire.specs.declared.refusal.Refusal.{Refusal as Fault};
+ghost use Rattle.tpm_wire.specs.Reading.{read_all};
+ghost use Rattle.tpm_commands.specs.declared.code.CommandCode.TheVariants as codes;
+ghost use Rattle.tpm_commands.specs.declared.command_parameters.Params.TheVariants as of_command;
+ghost use Rattle.tpm_commands.specs.Parameters.{parameters};
+ghost use Rattle.tpm_model.specs.Answers.{performed as performed_of};
+ghost use Rattle.tpm_device.specs.Stands.{holds, MayBePerformed, IsPerformed};
+
+use crate::authorization::Authorization;
+use crate::device::Device;
+use crate::handles::policy;
+use crate::response::ResponseBuffer;
+use tpm_buffer::Areas;
+use tpm_commands::{Params, decode_params_into};
+use tpm_types::{Digest, Selections};
+
+// The digest and the registers that are asserted, or the code of the parameters' first fault.
+#[inline(never)]
+fn asserted_in(areas: &Areas<'_>) -> Result<(Digest, Selections), u32>
+    requires { areas.now.header.code ≡ codes.PolicyPcr }
+    ensures read { IfOk result (λ x.
+        read_all (parameters codes.PolicyPcr) areas.now.params ≡ Ok (of_command.PolicyPcr x.0 x.1)) }
+    ensures faulty { IfErr result (λ code. (fault : Fault)
+        × (read_all (parameters codes.PolicyPcr) areas.now.params ≡ Err fault)
+        × (fault.code ≡ code)) }
+{
+    let mut params = Params::PolicyRestart;
+    match decode_params_into(areas.code(), areas.params(), &mut params) {
+        Ok(()) => match params {
+            Params::PolicyPcr {
+                pcr_digest,
+                selections,
+            } => Ok((pcr_digest, selections)),
+            _ => unreachable!(),
+        },
+        Err(refusal) => Err(refusal.code),
+    }
+}
+
+impl Device {
+    /// As `performed`, where the command is TPM2_PolicyPCR.
+    #[inline(never)]
+    pub(crate) fn performed_asserting(
+        &mut self,
+        areas: &Areas<'_>,
+        by: &Option<Authorization<'_>>,
+        nonce: &[u8; 64],
+        out: &mut ResponseBuffer,
+    ) -> Result<(), u32>
+        requires asserts { areas.now.header.code ≡ codes.PolicyPcr }
+        requires ready { MayBePerformed self.old areas.now by.now out.old }
+        ensures { IsPerformed areas.now (performed_of (holds self.old) nonce.now)
+            (record { device = self.old; nonce = nonce.now; out = out.old })
+            (record { result = result; device = self.new; out = out.new }) }
+    {
+        let asserted = asserted_in(areas)?;
+        self.policy_pcr(policy(areas.handles()), &asserted.0, &asserted.1)?;
+        self.put_bare(areas, by, nonce, out);
+        self.roll(by, nonce);
+        Ok(())
+    }
+}

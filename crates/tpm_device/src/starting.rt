@@ -1,0 +1,101 @@
+//! TPM2_StartAuthSession from its parameters to its reply. The room of neither is on the stack while the session's
+//! key is made.
+
+ghost use Rattle.std.specs.Prelude.{◌≡◌, length, Ok, Err, IfOk, IfErr};
+ghost use Rattle.tpm_wire.specs.declared.refusal.Refusal.{Refusal as Fault};
+ghost use Rattle.tpm_wire.specs.Reading.{read_all};
+ghost use Rattle.tpm_commands.specs.declared.code.CommandCode.TheVariants as codes;
+ghost use Rattle.tpm_commands.specs.declared.command.CommandBody.TheVariants as bodies;
+ghost use Rattle.tpm_commands.specs.declared.command_parameters.Params.{Params as ParamsOf};
+ghost use Rattle.tpm_commands.specs.declared.response.ReplyBody.TheVariants as replies;
+ghost use Rattle.tpm_commands.specs.Parameters.{parameters};
+ghost use Rattle.tpm_buffer.specs.Commands.{body_from};
+ghost use Rattle.tpm_model.specs.Answers.{performed as performed_of};
+ghost use Rattle.tpm_model.specs.Premises.{code_in};
+ghost use Rattle.tpm_device.specs.Stands.{holds, IsAuthorization, MayBePerformed, IsPerformed, Replies};
+
+use crate::authorization::Authorization;
+use crate::device::Device;
+use crate::handles::bind;
+use crate::response::ResponseBuffer;
+use tpm_buffer::Areas;
+use tpm_commands::{Params, ReplyBody, StartAuth, StartReply, decode_params_into};
+
+// What a session is to be started with, or the code of the parameters' first fault.
+#[inline(never)]
+fn start_in(areas: &Areas<'_>) -> Result<StartAuth, u32>
+    requires { areas.now.header.code ≡ codes.StartAuthSession }
+    ensures read { IfOk result (λ start. (params : ParamsOf)
+        × (read_all (parameters codes.StartAuthSession) areas.now.params ≡ Ok params)
+        × (body_from areas.now.handles params ≡ bodies.StartAuthSession start)) }
+    ensures faulty { IfErr result (λ code. (fault : Fault)
+        × (read_all (parameters codes.StartAuthSession) areas.now.params ≡ Err fault)
+        × (fault.code ≡ code)) }
+{
+    let mut params = Params::PolicyRestart;
+    match decode_params_into(areas.code(), areas.params(), &mut params) {
+        Ok(()) => match params {
+            Params::StartAuthSession {
+                nonce_caller,
+                session_type,
+                symmetric,
+                auth_hash,
+            } => Ok(StartAuth {
+                bind: bind(areas.handles()),
+                nonce_caller,
+                session_type,
+                symmetric,
+                auth_hash,
+            }),
+            _ => unreachable!(),
+        },
+        Err(refusal) => Err(refusal.code),
+    }
+}
+
+impl Device {
+    // Adds the reply to a command that started a session.
+    #[inline(never)]
+    fn put_started(
+        &self,
+        reply: StartReply,
+        areas: &Areas<'_>,
+        by: &Option<Authorization<'_>>,
+        nonce: &[u8; 64],
+        out: &mut ResponseBuffer,
+    )
+        requires own { IsAuthorization self.now.sessions areas.now by.now }
+        requires empty { length out.old.items ≡ 0 }
+        ensures bytes { Replies self.now areas.now (record {
+          body = replies.StartAuthSession reply;
+          nonce = nonce.now;
+          bytes = out.new.items;
+        }) }
+        ensures done { code_in out.new.items ≡ 0 }
+    {
+        let body = ReplyBody::StartAuthSession(reply);
+        self.put_done(&body, areas, by, nonce, out);
+    }
+
+    /// As `performed`, where the command is TPM2_StartAuthSession.
+    #[inline(never)]
+    pub(crate) fn performed_starting(
+        &mut self,
+        areas: &Areas<'_>,
+        by: &Option<Authorization<'_>>,
+        nonce: &[u8; 64],
+        out: &mut ResponseBuffer,
+    ) -> Result<(), u32>
+        requires starts { areas.now.header.code ≡ codes.StartAuthSession }
+        requires ready { MayBePerformed self.old areas.now by.now out.old }
+        ensures { IsPerformed areas.now (performed_of (holds self.old) nonce.now)
+            (record { device = self.old; nonce = nonce.now; out = out.old })
+            (record { result = result; device = self.new; out = out.new }) }
+    {
+        let start = start_in(areas)?;
+        let reply = self.started(&start, nonce)?;
+        self.put_started(reply, areas, by, nonce, out);
+        self.roll(by, nonce);
+        Ok(())
+    }
+}
