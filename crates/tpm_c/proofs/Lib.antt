@@ -10,6 +10,7 @@ pub mod Parts
 pub mod Placing
 pub mod Quoting
 pub mod Replies
+pub mod Restoring
 pub mod Sealing
 pub mod Steps
 pub mod Telling

@@ -15,7 +15,7 @@ use Rattle.tpm_types.specs.Handles.{is_session}
 use Rattle.tpm_types.specs.Limits.{digest_bytes}
 use Rattle.tpm_model.specs.Steps.{History, PowerCycle, Origin}
 use Rattle.tpm_model.specs.Sessions.{loaded, sessions_at}
-use Rattle.tpm_model.specs.Counters.{Counter, nv_memory}
+use Rattle.tpm_model.specs.Counters.{Counter, NvMemory, nv_memory}
 use Rattle.tpm_model.specs.Kept.{kept_memory, number_of_value, restored}
 use Rattle.tpm_model.specs.Authorization.{is_empty}
 use Rattle.tpm_device.specs.declared.device.Device.{Device}
@@ -62,10 +62,14 @@ IsFaulty owner kept e =
     ((digest_bytes < length owner) × (e ≡ long_owner))
     ⊎ ((length owner ≤ digest_bytes) × Fault kept_memory kept e)
 
--- A device was made and the refusal is as it was, or the refusal is the first fault.
-abbrev pub IsMade : (owner kept : List ℕ) → (old new : TpmRefusal) → Option Device → Type 0
-IsMade owner kept old new (Some d) = (length owner ≤ digest_bytes) × IsAgain owner kept d × (new ≡ old)
-IsMade owner kept old new None = IsFaulty owner kept (refusal_of new)
+-- The bytes spell an NV memory.
+abbrev pub IsSpelled : (kept : List ℕ) → Type 0
+IsSpelled kept = (nv : NvMemory) × Spells kept_memory nv kept
+
+-- Whether it is refused to make a device of them: the refusal is the first fault, or as it was where there is none.
+abbrev pub IsJudged : (owner kept : List ℕ) → (old new : TpmRefusal) → (is_refused : Bool) → Type 0
+IsJudged owner kept old new true = IsFaulty owner kept (refusal_of new)
+IsJudged owner kept old new false = (length owner ≤ digest_bytes) × IsSpelled kept × (new ≡ old)
 
 -- The owner's value fits, and the bytes spell an NV memory.
 abbrev pub is_made : (owner kept : List ℕ) → Bool

@@ -15,6 +15,7 @@ use tpm_types::{AuthValue, DIGEST_BYTES};
 /// Makes a device in the room, which is not started, and answers 1. The owner has this
 /// authorization value, and no counter of the device has had a greater value than this. It answers
 /// 0, and nothing is written, where the value has more than 48 bytes.
+#[inline(never)]
 #[unsafe(no_mangle)]
 pub unsafe extern "C" fn tpm_device_init(place: *mut u8, owner: &[u8], greatest: u64) -> u32
     requires* { sem 𝓛 (room_for owner.now place) }

@@ -1,25 +1,22 @@
 //! A device that is kept: its NV memory as bytes in the caller's memory, and the device that is made of them again
 //! (Part 1, "NV Memory").
 
-ghost use Rattle.std.specs.Prelude.{◌≡◌, ◌≤◌, ℕ, List, ◌∷◌, length, if◌then◌else◌};
-ghost use Rattle.tpm_wire.specs.Path.{Spells};
+ghost use Rattle.std.specs.Prelude.{◌≡◌, ◌≤◌, ℕ, List, [], length, if◌then◌else◌};
 ghost use Rattle.std.specs.Borrow.{sem};
-ghost use Rattle.tpm_types.specs.Limits.{digest_bytes};
-ghost use Rattle.tpm_model.specs.Kept.{kept_memory, restored};
-ghost use Rattle.tpm_model.specs.Counters.{nv_memory};
 ghost use Rattle.tpm_model.specs.NvChanges.{changes_nv as changes_nv_of};
-ghost use Rattle.tpm_model.specs.Steps.{History, Origin, PowerCycle};
-ghost use Rattle.tpm_device.specs.Stands.{holds, Stands};
+ghost use Rattle.tpm_model.specs.Steps.{History, Origin, new_origin};
+ghost use Rattle.tpm_device.specs.Stands.{Stands};
 ghost use Rattle.tpm_c.specs.Devices.{device_at};
-ghost use Rattle.tpm_c.specs.KeptDevices.{IsKeptIn, IsMade, IsRestored, restore_room};
+ghost use Rattle.tpm_c.specs.KeptDevices.{IsKeptIn, IsJudged, IsSpelled, IsAgain, IsRestored, restore_room};
 ghost use Rattle.tpm_c.specs.KeptDevices.{restored_at, greatest_of, hash_of, session_hash_of};
 ghost use Rattle.tpm_c.specs.KeptDevices.{counters_of, counter_view, IsCounterTold};
 
+use crate::device::tpm_device_init;
 use crate::out::put;
 use crate::part::{DONE, REFUSED, TpmRefusal, refuse};
 use tpm_device::{Device, changes_nv};
 use tpm_store::{Counter, Counters};
-use tpm_types::{Alg, AuthValue, DIGEST_BYTES, SessionHandle};
+use tpm_types::{Alg, DIGEST_BYTES, SessionHandle};
 use tpm_wire::response_code::SIZE;
 use tpm_wire::{Buffer, Refusal};
 
@@ -82,29 +79,44 @@ pub unsafe extern "C" fn tpm_device_restore(
     ensures* { sem 𝓛 (restored_at owner.now kept.now place)
         ∗ ⌜ IsRestored owner.now kept.now refusal.old refusal.new result ⌝ }
 {
-    match made(owner, kept, refusal) {
-        Some(device) => {
-            std::ptr::write(place as *mut Device, device);
-            DONE
-        }
-        None => REFUSED,
+    if is_refused(owner, kept, refusal) {
+        return REFUSED;
     }
+    tpm_device_init(place, owner, 0);
+    read(&mut *(place as *mut Device), kept);
+    DONE
 }
 
-fn made(owner: &[u8], kept: &[u8], refusal: &mut TpmRefusal) -> Option<Device>
-    ensures { IsMade owner.now kept.now refusal.old refusal.new result }
+// Whether no device is made of these, of which the first fault is told. It is out of line, so that the counters
+// that are read are off the stack before the device is made.
+#[inline(never)]
+fn is_refused(owner: &[u8], kept: &[u8], refusal: &mut TpmRefusal) -> bool
+    ensures { IsJudged owner.now kept.now refusal.old refusal.new result }
 {
     if owner.len() > DIGEST_BYTES {
         refuse(refusal, Refusal { code: SIZE, at: 0 });
-        return None;
+        return true;
     }
     let mut counters = Counters::new(0);
     match counters.read_bytes(kept) {
-        Ok(()) => Some(made_for(owner, counters)),
+        Ok(()) => false,
         Err(fault) => {
             refuse(refusal, fault);
-            None
+            true
         }
+    }
+}
+
+// The NV memory of these bytes, in the device that was just made.
+#[inline(never)]
+fn read(device: &mut Device, kept: &[u8])
+    requires { IsSpelled kept.now }
+    ensures { (owner : List ℕ) →
+        Stands (new_origin owner 0) [] device.old → IsAgain owner kept.now device.new }
+{
+    match device.read_nv(kept) {
+        Ok(()) => {}
+        Err(_) => unreachable!(),
     }
 }
 
@@ -224,22 +236,5 @@ fn view_of(counter: &Counter) -> TpmCounter
         policy_len,
         policy,
         has_auth: if counter.has_auth() { 1 } else { 0 },
-    }
-}
-
-// The device of these.
-#[inline(always)]
-fn made_for(owner: &[u8], counters: Counters) -> Device
-    requires { length owner.now ≤ digest_bytes }
-    ensures made { holds result ≡ restored owner.now counters }
-    ensures stands { (o : Origin) (h : History) (bytes : List ℕ) →
-        Spells kept_memory counters bytes →
-        o.owner ≡ owner.now →
-        Spells kept_memory (nv_memory o h) bytes →
-        Stands o (PowerCycle ∷ h) result }
-{
-    match AuthValue::new(owner) {
-        Some(owner) => Device::of_counters(&owner, counters),
-        None => unreachable!(),
     }
 }

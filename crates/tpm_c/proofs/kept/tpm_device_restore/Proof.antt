@@ -1,33 +1,37 @@
--- `tpm_device_restore` meets its contract: what `made` gives is written to the room; or it gives none, and no room is there.
-use prog.Wp.{Wp, after_seq, at_return}
-use types.Kit.{Post as After, any_q, use2}
-use types.ByLocal.{get_tag, sets_last}
-use types.Match.{vrt, in_variant}
-use types.Run.{switches_on}
-use prog.Wp.{Env}
-use mir.Syntax.{Body as Code}
-use borrow.Table.OneValue.{part_in}
-use Rattle.std.proofs.alloc.Shapes.{arm_body}
-use Rattle.std.proofs.Common.{inl, inr, ◌∙◌}
-use Rattle.tpm_c.proofs.Steps.{◌≡◌, Bool, true, false, [], ◌∷◌, refl, w32, lit<, sym, full_share, named, vint, ent}
-use Rattle.tpm_c.proofs.Steps.{sep, sem, id⊢, ftrue, Valss, ‵, at_ret, ◌$◌, ◌∵◌, !, qed, by, move, nothing, use0, fjoin}
-use Rattle.tpm_c.proofs.Steps.{fpack, rewrite, done, init, stop, of_opd, lit, fld, whole, addr, assigns, and_then}
-use Rattle.tpm_c.proofs.Steps.{no_more, first, exec, returns, enter, alloc_all, pass_all, free_all, look_at, through}
-use Rattle.tpm_c.proofs.Steps.{get, get_in, sets, lands_as, env, alive, part_at, WpFn, uint_Makes, u8, shr_slice_vals}
-use Rattle.tpm_c.proofs.Steps.{shr_slice_Tells, mut_vals, mut_Tells, Ptr, block_ptr, room_at, rawptr_vals, rawptr_Tells}
-use Rattle.tpm_c.proofs.Steps.{rawptr_Lawful, mean, says, types_at, lasts_of, u32, triple_of, walk_of, tables, proved}
-use Rattle.tpm_c.proofs.Steps.{framed}
-use Rattle.tpm_c.proofs.Lending.{stayed, goes, others, ends, entry, in_block, perhaps, and_tt}
-use Rattle.tpm_c.proofs.KeptDevices.{is_made_of, none_made_of}
-use Rattle.tpm_c.proofs.kept.made.Met.{met}
-use Rattle.tpm_c.specs.Devices.{room_if}
-use Rattle.tpm_c.specs.Parts.{refusal_of}
-use Rattle.tpm_c.specs.KeptDevices.{IsAgain, IsMade, is_made, again_if}
+-- `tpm_device_restore` meets its contract: `is_refused` refuses, and no room is there; or `tpm_device_init` makes a device
+-- in the room, which is lent to `read`.
+use denote.Slice.{ShrSlice, shr_slice_copy}
+use denote.Plain.{uint_row_laws}
+use denote.Builtin.{bool, unit, u64}
+use denote.Triple.Clauses.{Lasts}
+use contract.Lifetimes.{toks}
+use mir.Val.{vbool}
+use base.Fml.{fsep}
+use Rattle.std.proofs.Common.{inl, inr, ap, w8, ◌∙◌}
+use Rattle.tpm_c.proofs.Steps.{◌≡◌, ℕ, Bool, true, false, List, [], ◌∷◌, refl, w32, w64, lit<, sym, full_share, named, vint, ent}
+use Rattle.tpm_c.proofs.Steps.{sep, sem, id⊢, emp, ftrue, flft, fact, fact_i, mono_r, Valss, ‵, raw, ◌⊛◌, some, later, at_ret, ◌$◌, ◌∵◌, ! }
+use Rattle.tpm_c.proofs.Steps.{qed, by, move, drop, split, join, nothing, use0, use1, fsplit, fjoin, fpick, fpack, pick, await, rewrite, done}
+use Rattle.tpm_c.proofs.Steps.{stop, of_opd, lit, addr, and_then, no_more, first, branches, skips, exec, returns, returns_within, enter}
+use Rattle.tpm_c.proofs.Steps.{alloc_all, pass_all, free_all, look_at, through, get, sets, lands_as, env, alive, part_at, WpFn, Is, shows}
+use Rattle.tpm_c.proofs.Steps.{uint_Makes, uint_Lawful, u8, u32, uint_vals, shr_slice_vals, shr_slice_Tells, mut_vals, mut_Tells, Ptr, block_ptr, room_at}
+use Rattle.tpm_c.proofs.Steps.{rawptr_vals, rawptr_Tells, rawptr_Lawful, mean, says, types_at, lasts, lasts_of, only, peeks, calls_at, triple_of}
+use Rattle.tpm_c.proofs.Steps.{walk_of, tables, proved, framed, Fml}
+use Rattle.tpm_c.proofs.Lending.{stayed, goes, others, ends, entry, in_block, Given, loan}
+use Rattle.tpm_c.proofs.Restoring.{asks, lends}
+use Rattle.tpm_c.proofs.KeptDevices.{judged_made, judged_none, fits_of}
+use Rattle.tpm_c.proofs.kept.is_refused.Met.{met as judges}
+use Rattle.tpm_c.proofs.kept.read.Met.{met as reads}
+use Rattle.tpm_c.proofs.device.tpm_device_init.Met.{met as makes_one}
+use Rattle.tpm_c.specs.Devices.{fits, room_if, new_if, made_at, whether_fits}
+use Rattle.tpm_c.specs.KeptDevices.{IsAgain, IsJudged, IsSpelled, is_made, again_if}
 use Rattle.tpm_c.specs.contracts.part.TpmRefusal.{the_row as told}
+use Rattle.tpm_model.specs.Steps.{Origin, new_origin}
 use Rattle.tpm_device.specs.declared.device.Device.{Device}
 use Rattle.tpm_device.specs.contracts.device.Device.{the_row}
-use Rattle.tpm_device.proofs.device.Device.TheLaws.{the_row_laws}
-use Rattle.tpm_c.specs.contracts.kept.made as of
+use Rattle.tpm_device.specs.Stands.{Stands}
+use Rattle.tpm_c.specs.contracts.kept.is_refused as judge
+use Rattle.tpm_c.specs.contracts.kept.read as read
+use Rattle.tpm_c.specs.contracts.device.tpm_device_init as make
 use Rattle.tpm_c.specs.contracts.kept.tpm_device_restore as f
 use Rattle.tpm_c.proofs.kept.tpm_device_restore.Statement as stated
 use Rattle.tpm_c.proofs.kept.tpm_device_restore.Code as code
@@ -39,10 +43,12 @@ tpm_device_restore_spec 𝓤 𝓛 𝓜 𝓡 wired =
     (λ κs. (rawptr_vals, (shr_slice_vals, (shr_slice_vals, (mut_vals, tt)))))
     (λ κs. (rawptr_Tells, (shr_slice_Tells (named 0) κs.0 u8, (shr_slice_Tells (named 1) κs.1.0 u8, (mut_Tells (named 2) κs.1.1.0 told, tt)))))
     (λ κs qs bounds a g are.
-    let owner = a.1.0.now in let kept = a.1.1.0.now in let old = a.1.1.1.0.now in
+    let owner = a.1.0.now in let kept = a.1.1.0.now in let old = a.1.1.1.0.now in let origin : Origin = new_origin owner 0 in
     let vals : Valss (types_at (others f.signature.params) κs) = (shr_slice_vals a.1.0, (shr_slice_vals a.1.1.0, (mut_vals a.1.1.1.0, tt))) in
     let y : Ptr → W.Ghost = λ p. ((κs, qs, bounds, (p, a.1), (rawptr_vals p, vals)), g) in
-    let switched : Code = code.Mir.s-3 in
+    let Owner : Fml = (ShrSlice (named 0) κs.0 u8).own_val a.1.0 (shr_slice_vals a.1.0) in
+    let Kept : Fml = (ShrSlice (named 1) κs.1.0 u8).own_val a.1.1.0 (shr_slice_vals a.1.1.0) in
+    let lasting = lasts_of κs (others f.signature.params) (f.ended).kept.1 a.1 in
     elim (is_made owner kept) as (λ (t : Bool). is_made owner kept ≡ t → ent 𝓤 (sep 𝓤 (mean 𝓛 (entry 𝓛 f.ended c (y a.0)))
     (sem 𝓛 (room_if t a.0))) (WpFn 𝓤 𝓛.H 𝓣.C 𝓣.Λ code.function (W.args (y a.0)) (W.post (y a.0)))) [
       | true ↦ λ makes.
@@ -55,33 +61,74 @@ tpm_device_restore_spec 𝓤 𝓛 𝓜 𝓡 wired =
               ((tt, (tt, (record { fits = are.1.1.0.0.1.0 }, tt))), ((tt, tt), tt)),
             ),
           ) $
-          let En : Env 𝓤 𝓛.H = env code.Mir.locals l in
-          let Then : After 𝓤 𝓛.H = any_q (after_seq 𝓤 𝓛.H (Wp 𝓤 𝓛.H 𝓣.C 𝓣.Λ En code.Mir.t-4
-          (at_return 𝓤 𝓛.H En (W.post (y (block_ptr b o))))) (at_return 𝓤 𝓛.H En (W.post (y (block_ptr b o))))) in
           -- the refusal again
-          sets ! (addr ! (through ! refl (stop !))) refl (tt, tt) $ move ! (1 ∷ []) $
-          perhaps ! (framed 𝓤 𝓛.H 𝓜 𝓣) the_row refl (the_row_laws.lawful 𝓛) (alive 𝓛 f.signature κs qs)
-          (lasts_of κs (others f.signature.params) (f.ended).kept.1 a.1) (λ x us. IsMade owner kept old us.1.1.0 x)
-          (triple_of 𝓛 of.signature (of.spec 𝓛 𝓜.mem 𝓡.returns)) (met 𝓤 𝓛 𝓜 𝓡 (code.calls-tpm_c::kept::made 𝓡.env wired)) ((κs, qs, tt, a.1, vals), tt)
-          (id⊢ 𝓤 _) (λ v. id⊢ 𝓤 _) (and_then ! (get ! refl) (and_then ! (get ! refl) (and_then ! (get ! refl) (no_more !))))
-          (λ v u d us s wt e.
-          lands_as ! e refl (and_tt _ wt.0.0, (record { fits = lit< tt }, (wt.0.1, tt))) $ first ! $
-          switches_on ! (get_tag ! (vrt ! refl (fld ! refl (stop !))) (whole !)) $ exec ! 𝓣.C 𝓣.Λ En (arm_body 0 switched) Then $
-          sets ! (of_opd ! (get_in ! (vrt ! refl (fld ! refl (stop !))) (in_variant ! 1 0 refl refl (whole !)))) refl wt.0 $
-          -- place as *mut Device
-          sets ! (of_opd ! (get ! refl)) refl (tt, tt) $ assigns ! (of_opd ! (get ! refl)) (through ! refl (stop !)) (init ! 3 refl wt.0) $
-          sets_last ! (of_opd ! (lit ! tt)) refl (tt, record { fits = lit< tt }) $
-          exec ! 𝓣.C 𝓣.Λ En code.Mir.t-4 (at_ret En (W.post (y (block_ptr b o)))) $
-          sets ! (of_opd ! (get ! refl)) refl (tt, record { fits = lit< tt }) $ returns ! (look_at ! 0 refl) $ free_all ! refl $
-          -- [the device; what is said of the last values; the tokens; its cell]
-          move ! (1 ∷ []) $ nothing ! $ fjoin ! $ move ! (3 ∷ 1 ∷ []) $
-          use2 𝓛 (‵ (part_at the_row full_share d b o)) (part_in 𝓛 the_row refl full_share d b o u) $
-          use0 𝓛 (‵ (u32.own_val 0 (vint w32 0 ∷ []))) (uint_Makes 𝓛 w32 0 _ (refl, lit< tt)) $ move ! (3 ∷ 2 ∷ 0 ∷ 1 ∷ []) $
-          by ! (ends 𝓛 f.ended c (y (block_ptr b o)) (vint w32 0) 0 (tt, us) (part_at the_row full_share d b o)
-          (qed 𝓛 (‵ (part_at the_row full_share d b o) ∷ []) ∵
-          fpack ! ((d : Device) × IsAgain owner kept d) (λ d. part_at the_row full_share d.0 b o) (d, s.1) $
-          rewrite ! 0 (λ (t : Bool). ‵ (again_if t owner kept (block_ptr b o))) (sym makes) refl $ says ! (inl (makes, refl, s.2)) $ done !)))
-          (λ v us s e. absurd (let no : true ≡ false = sym makes ∙ none_made_of owner kept (refusal_of us.1.1.0) s in cc)))) a.0
+          sets ! (addr ! (through ! refl (stop !))) refl (tt, tt) $
+          move ! (1 ∷ []) $ split ! $ move ! (1 ∷ []) $ fsplit ! $ move ! (1 ∷ []) $ fsplit ! $ move ! (1 ∷ []) $ fsplit ! $
+          -- [the bytes; the refusal; the owner's value; the place; the tokens; the room]: the slices twice
+          use1 𝓛 (‵ Kept ⊛ ‵ Kept) ((shr_slice_copy 𝓛 (named 1) κs.1.0 u8 (uint_row_laws w8)).twice a.1.1.0 (shr_slice_vals a.1.1.0)) $ split ! $
+          move ! (3 ∷ []) $
+          use1 𝓛 (‵ Owner ⊛ ‵ Owner) ((shr_slice_copy 𝓛 (named 0) κs.0 u8 (uint_row_laws w8)).twice a.1.0 (shr_slice_vals a.1.0)) $ split ! $
+          move ! (2 ∷ 4 ∷ []) $ fjoin ! $ move ! (1 ∷ 0 ∷ []) $ fjoin ! $ move ! (4 ∷ 0 ∷ []) $
+          asks ! (framed 𝓤 𝓛.H 𝓜 𝓣) bool (alive 𝓛 f.signature κs qs) lasting (λ r us. IsJudged owner kept old us.1.1.0 r)
+          (triple_of 𝓛 judge.signature (judge.spec 𝓛 𝓜.mem 𝓡.returns)) (judges 𝓤 𝓛 𝓜 𝓡 (code.calls-tpm_c::kept::is_refused 𝓡.env wired))
+          ((κs, qs, tt, a.1, vals), tt) (id⊢ 𝓤 _) (λ v. id⊢ 𝓤 _) (and_then ! (get ! refl) (and_then ! (get ! refl) (and_then ! (get ! refl) (no_more !))))
+          (λ v r us s is.
+          let sound = judged_made owner kept old us.1.1.0 r makes s in let fit : fits owner ≡ true = fits_of owner sound.1 in
+          lands_as ! (ap only is ∙ ap vbool sound.0) refl (tt, tt) $
+          first ! $ branches ! (get ! refl) (λ refused. absurd refused) (λ _.
+          skips ! $ exec ! 𝓣.C 𝓣.Λ (env code.Mir.locals l) code.Mir.t-4 (at_ret _ (W.post (y (block_ptr b o)))) $
+          -- [of the last values; the tokens; the owner's value; the bytes; the place; the room]
+          move ! (1 ∷ []) $ use1 𝓛 (‵ (flft κs.0 qs.0) ⊛ (‵ (flft κs.1.0 qs.1.0) ⊛ (‵ (flft κs.1.1.0 qs.1.1.0) ⊛ ‵ ftrue))) (id⊢ 𝓤 _) $
+          split ! $ move ! (1 ∷ []) $ split ! $ move ! (2 ∷ []) $ nothing ! $ move ! (1 ∷ 0 ∷ []) $ join ! $
+          use0 𝓛 (‵ (u64.own_val 0 (vint w64 0 ∷ []))) (uint_Makes 𝓛 w64 0 _ (refl, lit< tt)) $ nothing ! $ move ! (1 ∷ 0 ∷ []) $ fjoin ! $
+          move ! (5 ∷ 0 ∷ []) $ fjoin ! $ move ! (6 ∷ 0 ∷ []) $ fjoin ! $ move ! (1 ∷ 0 ∷ []) $ join ! $
+          move ! (5 ∷ []) $ rewrite ! 0 (λ (t : Bool). ‵ (room_if t (block_ptr b o))) (sym fit) refl $ move ! (1 ∷ 0 ∷ []) $ join ! $
+          let G = triple_of 𝓛 make.signature (make.spec 𝓛 𝓜.mem 𝓡.returns) in
+          let z : G.Ghost = (
+            (
+              (κs.0, tt),
+              (qs.0, tt),
+              tt,
+              (block_ptr b o, (a.1.0, (0, tt))),
+              (rawptr_vals (block_ptr b o), (shr_slice_vals a.1.0, (uint_vals w64 0, tt))),
+            ),
+            tt,
+          ) in
+          use1 𝓛 (raw (G.pre z)) (id⊢ 𝓤 _) $
+          calls_at ! (framed 𝓤 𝓛.H 𝓜 𝓣) G (makes_one 𝓤 𝓛 𝓜 𝓡 (code.calls-tpm_c::device::tpm_device_init 𝓡.env wired)) z
+          (and_then ! (get ! refl) (and_then ! (get ! refl) (and_then ! (lit ! tt) (no_more !)))) (λ w.
+          use1 𝓛 (later (some (λ (n : ℕ). ((‵ (flft κs.0 qs.0) ⊛ ‵ ftrue) ⊛ ‵ (u32.own_val n (w ∷ [])))
+          ⊛ some (λ (ws : Lasts make.ended z.0.0 z.0.3). ‵ (lasts make.ended z.0.0 z.0.3 ws)
+          ⊛ (‵ (made_at origin (block_ptr b o)) ⊛ raw (fact 𝓤 (n ≡ whether_fits owner))))))) (id⊢ 𝓤 _) $
+          await ! tt $ pick ! (λ n. split ! $ split ! $ move ! (2 ∷ []) $ pick ! (λ ws. split ! $ drop ! $ split ! $ move ! (1 ∷ []) $ drop ! $
+          rewrite ! 0 (λ (t : Bool). ‵ (new_if t origin (block_ptr b o))) fit refl $ fpick ! (λ x.
+          -- [the device; a token; the result; two tokens; of the last values; the bytes]
+          move ! (2 ∷ []) $ peeks ! u32 (Is u32) (shows 𝓛 u32) n (w ∷ []) (λ one. drop ! $
+          lands_as ! refl refl ((uint_Lawful 𝓛 w32).typed n _ one).0 $
+          -- &mut *(place as *mut Device)
+          sets ! (of_opd ! (get ! refl)) refl (tt, tt) $ sets ! (addr ! (through ! refl (stop !))) refl (tt, tt) $
+          move ! (2 ∷ []) $ nothing ! $ move ! (1 ∷ 0 ∷ []) $ join ! $ use1 𝓛 (raw (toks 𝓛 1 (κs.1.0, tt) (qs.1.0, tt))) (id⊢ 𝓤 _) $
+          nothing ! $ move ! (6 ∷ 0 ∷ []) $ fjoin ! $ move ! (2 ∷ 1 ∷ 0 ∷ []) $
+          lends ! (framed 𝓤 𝓛.H 𝓜 𝓣) the_row x.0 b o unit (toks 𝓛 1 (κs.1.0, tt) (qs.1.0, tt))
+          (lasts_of (κs.1.0, (κs.1.0, tt)) (others read.signature.params) (read.ended).kept.1 (a.1.1.0, tt))
+          (λ r new us. (w : List ℕ) → Stands (new_origin w 0) [] x.0 → IsAgain w kept new)
+          (triple_of 𝓛 read.signature (read.spec 𝓛 𝓜.mem 𝓡.returns)) (reads 𝓤 𝓛 𝓜 𝓡 (code.calls-tpm_c::kept::read 𝓡.env wired))
+          (λ κ d. (((κ, (κs.1.0, tt)), (full_share, (qs.1.0, tt)), tt, (d, (a.1.1.0, tt)), (mut_vals d, (shr_slice_vals a.1.1.0, tt))), tt))
+          (λ κ δ. mono_r 𝓤 (Given 𝓛 the_row (toks 𝓛 1 (κs.1.0, tt) (qs.1.0, tt)) κ (loan x.0 b o δ) (fsep Kept ftrue))
+          (fact_i 𝓤 (IsSpelled kept) (emp 𝓤) sound.2)) (λ κ δ u. id⊢ 𝓤 _)
+          (λ κ δ. and_then ! (get ! refl) (and_then ! (get ! refl) (no_more !)))
+          (λ u r' new us' e none.
+          lands_as ! (ap only none) refl (tt, tt) $
+          sets ! (of_opd ! (lit ! tt)) refl (tt, record { fits = lit< tt }) $ returns ! (look_at ! 0 refl) $ free_all ! refl $
+          -- [the device; the second token; the first; the third; of the last values]
+          move ! (2 ∷ []) $ split ! $ move ! (1 ∷ []) $ drop ! $
+          move ! (2 ∷ []) $ use1 𝓛 (‵ (flft κs.1.0 qs.1.0) ⊛ ‵ ftrue) (id⊢ 𝓤 _) $ split ! $ move ! (1 ∷ []) $ drop ! $
+          move ! (0 ∷ 3 ∷ []) $ join ! $ move ! (1 ∷ 0 ∷ []) $ join ! $ move ! (2 ∷ []) $ nothing ! $ fjoin ! $
+          use0 𝓛 (‵ (u32.own_val 0 (vint w32 0 ∷ []))) (uint_Makes 𝓛 w32 0 _ (refl, lit< tt)) $ move ! (2 ∷ 1 ∷ 0 ∷ []) $
+          by ! (ends 𝓛 f.ended c (y (block_ptr b o)) (vint w32 0) 0 (tt, us) (part_at the_row full_share new b o)
+          (qed 𝓛 (‵ (part_at the_row full_share new b o) ∷ []) ∵
+          fpack ! ((d : Device) × IsAgain owner kept d) (λ d. part_at the_row full_share d.0 b o) (new, e owner x.1) $
+          rewrite ! 0 (λ (t : Bool). ‵ (again_if t owner kept (block_ptr b o))) (sym makes) refl $ says ! (inl (makes, refl, sound.3)) $ done !)))))))))))) a.0
       | false ↦ λ none.
           qed 𝓛 (entry 𝓛 f.ended c (y a.0) ∷ ‵ ftrue ∷ []) ∵ enter ! _ _ _ _ _ $
           alloc_all ! (λ l. pass_all ! refl (
@@ -91,22 +138,19 @@ tpm_device_restore_spec 𝓤 𝓛 𝓜 𝓡 wired =
               ((tt, (tt, (record { fits = are.1.1.0.0.1.0 }, tt))), ((tt, tt), tt)),
             ),
           ) $
-          let En : Env 𝓤 𝓛.H = env code.Mir.locals l in
-          let Then : After 𝓤 𝓛.H = any_q (after_seq 𝓤 𝓛.H (Wp 𝓤 𝓛.H 𝓣.C 𝓣.Λ En code.Mir.t-4
-          (at_return 𝓤 𝓛.H En (W.post (y a.0)))) (at_return 𝓤 𝓛.H En (W.post (y a.0)))) in
           sets ! (addr ! (through ! refl (stop !))) refl (tt, tt) $
-          perhaps ! (framed 𝓤 𝓛.H 𝓜 𝓣) the_row refl (the_row_laws.lawful 𝓛) (alive 𝓛 f.signature κs qs)
-          (lasts_of κs (others f.signature.params) (f.ended).kept.1 a.1) (λ x us. IsMade owner kept old us.1.1.0 x)
-          (triple_of 𝓛 of.signature (of.spec 𝓛 𝓜.mem 𝓡.returns)) (met 𝓤 𝓛 𝓜 𝓡 (code.calls-tpm_c::kept::made 𝓡.env wired)) ((κs, qs, tt, a.1, vals), tt)
-          (id⊢ 𝓤 _) (λ v. id⊢ 𝓤 _) (and_then ! (get ! refl) (and_then ! (get ! refl) (and_then ! (get ! refl) (no_more !))))
-          (λ v u d us s wt e. absurd (let no : true ≡ false = sym (is_made_of owner kept d s.0 s.1) ∙ none in cc))
-          (λ v us s e.
-          lands_as ! e refl (tt, (record { fits = lit< tt }, tt)) $ first ! $
-          switches_on ! (get_tag ! (vrt ! refl (fld ! refl (stop !))) (whole !)) $ exec ! 𝓣.C 𝓣.Λ En (arm_body 1 switched) Then $
-          sets_last ! (of_opd ! (lit ! tt)) refl (tt, record { fits = lit< tt }) $ exec ! 𝓣.C 𝓣.Λ En code.Mir.t-4 (at_ret En (W.post (y a.0))) $
-          sets ! (of_opd ! (get ! refl)) refl (tt, record { fits = lit< tt }) $ returns ! (look_at ! 0 refl) $ free_all ! refl $
+          split ! $ move ! (1 ∷ []) $ fsplit ! $ drop ! $ move ! (1 ∷ 0 ∷ []) $
+          asks ! (framed 𝓤 𝓛.H 𝓜 𝓣) bool (alive 𝓛 f.signature κs qs) lasting (λ r us. IsJudged owner kept old us.1.1.0 r)
+          (triple_of 𝓛 judge.signature (judge.spec 𝓛 𝓜.mem 𝓡.returns)) (judges 𝓤 𝓛 𝓜 𝓡 (code.calls-tpm_c::kept::is_refused 𝓡.env wired))
+          ((κs, qs, tt, a.1, vals), tt) (id⊢ 𝓤 _) (λ v. id⊢ 𝓤 _) (and_then ! (get ! refl) (and_then ! (get ! refl) (and_then ! (get ! refl) (no_more !))))
+          (λ v r us s is.
+          let refused = judged_none owner kept old us.1.1.0 r none s in
+          lands_as ! (ap only is ∙ ap vbool refused.0) refl (tt, tt) $
+          first ! $ branches ! (get ! refl) (λ _.
+          sets ! (of_opd ! (lit ! tt)) refl (tt, record { fits = lit< tt }) $ returns_within ! (W.post (y a.0)) refl (look_at ! 0 refl) $ free_all ! refl $
           -- [what is said of the last values; the tokens; what lay there, which is nothing]
           nothing ! $ fjoin ! $ use0 𝓛 (‵ (u32.own_val 1 (vint w32 1 ∷ []))) (uint_Makes 𝓛 w32 1 _ (refl, lit< tt)) $
           move ! (2 ∷ 1 ∷ 0 ∷ []) $ by ! (ends 𝓛 f.ended c (y a.0) (vint w32 1) 1 (tt, us) ftrue (qed 𝓛 (‵ ftrue ∷ []) ∵ rewrite ! 0
-          (λ (t : Bool). ‵ (again_if t owner kept a.0)) (sym none) refl $ says ! (inr (none, refl, s)) $ done !))))
+          (λ (t : Bool). ‵ (again_if t owner kept a.0)) (sym none) refl $ says ! (inr (none, refl, refused.1)) $ done !)))
+          (λ made. absurd made)))
     ] refl)
