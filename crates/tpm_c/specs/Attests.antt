@@ -17,10 +17,10 @@ use Rattle.tpm_quote.specs.declared.attest.AttestFault.{AttestFault}
 use Rattle.tpm_quote.specs.Attests.{SelectsNone, IsJudged}
 use Rattle.tpm_quote.specs.declared.attest.AttestFault.TheVariants as faults
 use Rattle.tpm_c.specs.declared.part.TpmPart.{TpmPart}
-use Rattle.tpm_c.specs.declared.part.TpmRefusal.{TpmRefusal}
 use Rattle.tpm_c.specs.declared.attest.TpmAttest.{TpmAttest}
 use Rattle.tpm_c.specs.declared.attest.TpmAttestFault.{TpmAttestFault}
-use Rattle.tpm_c.specs.Parts.{part, bytes_in, refusal_of}
+use Rattle.tpm_c.specs.Calls.{Call}
+use Rattle.tpm_c.specs.Parts.{part, bytes_in, refusal_of, Viewed}
 use Rattle.tpm_c.specs.Logs.{kind_number}
 
 -- ---- the parts of a quote (Part 2, 10.12): the magic and the type have 6 bytes, the size of each
@@ -61,14 +61,16 @@ pub record HoldsAttest (bytes : List ℕ) (a : Attest) : Type 0 where
   pub digest : bytes_in bytes (digest_part a) ≡ a.quote.digest
 
 -- The answer is 0 with the view of the quote that the bytes spell, or 1 with their fault; the other place is as it was.
-abbrev pub ViewsAttest : List ℕ → (answer : ℕ) → (old new : TpmAttest) → (was refusal : TpmRefusal) → Type 0
-ViewsAttest bytes answer old new was refusal =
-    ((answer ≡ 0)
+abbrev pub ViewsAttest : List ℕ → Call (Viewed TpmAttest) → Type 0
+ViewsAttest bytes call =
+    ((call.answer ≡ 0)
     × (a : Attest) × Spells attest a bytes
-    × (new ≡ attest_view a)
+    × (call.new.view ≡ attest_view a)
     × HoldsAttest bytes a
-    × (refusal ≡ was))
-    ⊎ ((answer ≡ 1) × Fault attest bytes (refusal_of refusal) × (new ≡ old))
+    × (call.new.refusal ≡ call.old.refusal))
+    ⊎ ((call.answer ≡ 1)
+    × Fault attest bytes (refusal_of call.new.refusal)
+    × (call.new.view ≡ call.old.view))
 
 -- ---- a quote beside a log
 
@@ -84,48 +86,56 @@ abbrev pub IsWhetherEmpty : List Selection → (code : ℕ) → Type 0
 IsWhetherEmpty quoted code = ((code ≡ 0) × ¬ SelectsNone quoted) ⊎ ((code ≡ 21) × SelectsNone quoted)
 
 -- the number of what was found
-abbrev pub IsTold : List Selection
-    → Result (Unit {0}) AttestFault → (fault fault-2 : TpmAttestFault) → (code : ℕ) → Type 0
-IsTold quoted (Ok _) fault fault-2 code = IsWhetherEmpty quoted code × (fault-2 ≡ fault)
-IsTold quoted (Err faults.Nonce) fault fault-2 code = (code ≡ 19) × (fault-2 ≡ fault)
-IsTold quoted (Err (faults.NotSelected r)) fault fault-2 code = (code ≡ 20) × (fault-2 ≡ lacking r.bank r.register)
-IsTold quoted (Err faults.Digest) fault fault-2 code = (code ≡ 16) × (fault-2 ≡ fault)
+abbrev pub IsTold : List Selection → Result (Unit {0}) AttestFault → Call TpmAttestFault → Type 0
+IsTold quoted (Ok _) call = IsWhetherEmpty quoted call.answer × (call.new ≡ call.old)
+IsTold quoted (Err faults.Nonce) call = (call.answer ≡ 19) × (call.new ≡ call.old)
+IsTold quoted (Err (faults.NotSelected r)) call = (call.answer ≡ 20) × (call.new ≡ lacking r.bank r.register)
+IsTold quoted (Err faults.Digest) call = (call.answer ≡ 16) × (call.new ≡ call.old)
+
+-- a quote by its bytes, and the hash and the nonce that it is to have
+pub record Asked : Type 0 where
+  pub bytes : List ℕ
+  pub hash : Alg
+  pub nonce : List ℕ
 
 -- the quote that the bytes spell, or else their fault
-abbrev pub IsAttestCompared : (Alg → ℕ → List ℕ) → Alg → (bytes nonce : List ℕ)
-    → List Selection → (fault fault-2 : TpmAttestFault) → (code : ℕ) → Type 0
-IsAttestCompared value hash bytes nonce required fault fault-2 code =
-    ((a : Attest) × Spells attest a bytes
-    × (found : Result (Unit {0}) AttestFault) × IsJudged value a hash nonce required found
-    × IsTold a.quote.selections found fault fault-2 code)
-    ⊎ ((refusal : Refusal) × Fault attest bytes refusal × (fault-2 ≡ fault_at refusal.code refusal.at) × (code ≡ 17))
+abbrev pub IsAttestCompared : (Alg → ℕ → List ℕ) → Asked → List Selection → Call TpmAttestFault → Type 0
+IsAttestCompared value asked required call =
+    ((a : Attest) × Spells attest a asked.bytes
+    × (found : Result (Unit {0}) AttestFault) × IsJudged value a asked.hash asked.nonce required found
+    × IsTold a.quote.selections found call)
+    ⊎ ((refusal : Refusal) × Fault attest asked.bytes refusal
+    × (call.new ≡ fault_at refusal.code refusal.at)
+    × (call.answer ≡ 17))
 
 -- The log's fault comes before the quote.
-abbrev pub IsAttestOf : Result Registers LogFault → Alg → (bytes nonce : List ℕ)
-    → List Selection → (fault fault-2 : TpmAttestFault) → (code : ℕ) → Type 0
-IsAttestOf (Ok found) hash bytes nonce required fault fault-2 code =
-    IsAttestCompared (value_in found.banks) hash bytes nonce required fault fault-2 code
-IsAttestOf (Err e) hash bytes nonce required fault fault-2 code =
-    (fault-2 ≡ fault_at 0 e.at)
-    × (code ≡ kind_number e.kind)
+abbrev pub IsAttestOf : Result Registers LogFault → Asked → List Selection → Call TpmAttestFault → Type 0
+IsAttestOf (Ok found) asked required call = IsAttestCompared (value_in found.banks) asked required call
+IsAttestOf (Err e) asked required call =
+    (call.new ≡ fault_at 0 e.at)
+    × (call.answer ≡ kind_number e.kind)
 
 -- what is required: nothing by no bytes
 abbrev pub required_in : List ℕ → Result (List Selection) Refusal
 required_in bytes = if length bytes == 0 then Ok [] else whole_in selections bytes
 
 -- What is required comes before the log. This is what the log gives.
-abbrev pub IsRequired : (Result Registers LogFault → Type 0) → Alg → (bytes nonce : List ℕ)
-    → Result (List Selection) Refusal → (fault fault-2 : TpmAttestFault) → (code : ℕ) → Type 0
-IsRequired Gives hash bytes nonce (Ok required) fault fault-2 code =
+abbrev pub IsRequired : (Result Registers LogFault → Type 0)
+    → Asked → Result (List Selection) Refusal → Call TpmAttestFault → Type 0
+IsRequired Gives asked (Ok required) call =
     (found : Result Registers LogFault) × Gives found
-    × IsAttestOf found hash bytes nonce required fault fault-2 code
-IsRequired Gives hash bytes nonce (Err refusal) fault fault-2 code =
-    (fault-2 ≡ fault_at refusal.code refusal.at)
-    × (code ≡ 22)
+    × IsAttestOf found asked required call
+IsRequired Gives asked (Err refusal) call =
+    (call.new ≡ fault_at refusal.code refusal.at)
+    × (call.answer ≡ 22)
+
+-- what is asked for, where the hash has a bank
+abbrev pub asked_for : Option Alg → (bytes nonce : List ℕ) → Option Asked
+asked_for None bytes nonce = None
+asked_for (Some hash) bytes nonce = Some (record { bytes = bytes; hash = hash; nonce = nonce })
 
 -- The hash comes before all.
-abbrev pub IsAttestChecked : (Result Registers LogFault → Type 0) → Option Alg → (bytes nonce : List ℕ)
-    → Result (List Selection) Refusal → (fault fault-2 : TpmAttestFault) → (code : ℕ) → Type 0
-IsAttestChecked Gives None bytes nonce required fault fault-2 code = (fault-2 ≡ fault) × (code ≡ 18)
-IsAttestChecked Gives (Some hash) bytes nonce required fault fault-2 code =
-    IsRequired Gives hash bytes nonce required fault fault-2 code
+abbrev pub IsAttestChecked : (Result Registers LogFault → Type 0)
+    → Option Asked → Result (List Selection) Refusal → Call TpmAttestFault → Type 0
+IsAttestChecked Gives None required call = (call.new ≡ call.old) × (call.answer ≡ 18)
+IsAttestChecked Gives (Some asked) required call = IsRequired Gives asked required call

@@ -1,5 +1,6 @@
 pub mod Builds
 pub mod Callers
+pub mod Calls
 pub mod CommandViews
 pub mod Devices
 pub mod Framers

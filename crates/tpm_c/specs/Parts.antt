@@ -17,3 +17,8 @@ OfThree Holds More = Holds 0 × Holds 1 × Holds 2 × More
 
 abbrev pub refusal_of : TpmRefusal → Refusal
 refusal_of r = record { code = r.code; at = r.at }
+
+-- what a call writes to that judges bytes: a view of them, and their refusal
+pub record Viewed (View : Type 0) : Type 0 where
+  pub view : View
+  pub refusal : TpmRefusal

@@ -7,7 +7,7 @@ ghost use Rattle.tpm_log.specs.Changes.{AreAfter};
 ghost use Rattle.tpm_log.specs.Replays.{Replays};
 ghost use Rattle.tpm_c.specs.Logs.{kind_number as kind_number_of};
 ghost use Rattle.tpm_c.specs.Attests.{attest_view as attest_view_of, ViewsAttest, fault_at, IsTold, IsAttestCompared};
-ghost use Rattle.tpm_c.specs.Attests.{required_in, IsRequired, IsAttestChecked};
+ghost use Rattle.tpm_c.specs.Attests.{required_in, IsRequired, asked_for, IsAttestChecked};
 
 use crate::log::kind_number;
 use crate::part::{DONE, TpmPart, TpmRefusal, refuse};
@@ -94,7 +94,11 @@ pub extern "C" fn tpm_attest_decode(
     view: &mut TpmAttest,
     refusal: &mut TpmRefusal,
 ) -> u32
-    ensures { ViewsAttest attest.now result view.old view.new refusal.old refusal.new }
+    ensures { ViewsAttest attest.now (record {
+      answer = result;
+      old = record { view = view.old; refusal = refusal.old };
+      new = record { view = view.new; refusal = refusal.new };
+    }) }
 {
     match decode_attest(attest) {
         Ok(attest) => {
@@ -142,7 +146,8 @@ const EMPTY: u32 = 21;
 const REQUIREMENT: u32 = 22;
 
 fn tell(found: Result<(), AttestFault>, quoted: &Selections, fault: &mut TpmAttestFault) -> u32
-    ensures { IsTold quoted.now found fault.old fault.new result }
+    ensures { IsTold quoted.now found
+        (record { answer = result; old = fault.old; new = fault.new }) }
 {
     match found {
         Ok(()) => { if selects_none(quoted) { EMPTY } else { 0 } }
@@ -169,7 +174,8 @@ fn compare(
     fault: &mut TpmAttestFault,
 ) -> u32
     ensures { IsAttestCompared (value_in found.now.banks)
-        hash attest.now nonce.now required.now fault.old fault.new result }
+        (record { bytes = attest.now; hash = hash; nonce = nonce.now }) required.now
+        (record { answer = result; old = fault.old; new = fault.new }) }
 {
     match decode_attest(attest) {
         Ok(attest) => tell(
@@ -201,8 +207,9 @@ fn check_required(
     required: &Selections,
     fault: &mut TpmAttestFault,
 ) -> u32
-    ensures { IsRequired (Replays AreAfter log.now) hash attest.now nonce.now
-        (Ok required.now) fault.old fault.new result }
+    ensures { IsRequired (Replays AreAfter log.now)
+        (record { bytes = attest.now; hash = hash; nonce = nonce.now }) (Ok required.now)
+        (record { answer = result; old = fault.old; new = fault.new }) }
 {
     let mut found = Registers::new();
     match replay_into(log, &mut found) {
@@ -219,8 +226,9 @@ fn check(
     required: &[u8],
     fault: &mut TpmAttestFault,
 ) -> u32
-    ensures { IsRequired (Replays AreAfter log.now) hash attest.now nonce.now
-        (required_in required.now) fault.old fault.new result }
+    ensures { IsRequired (Replays AreAfter log.now)
+        (record { bytes = attest.now; hash = hash; nonce = nonce.now }) (required_in required.now)
+        (record { answer = result; old = fault.old; new = fault.new }) }
 {
     match required_in(required) {
         Ok(required) => check_required(log, attest, hash, nonce, &required, fault),
@@ -250,7 +258,8 @@ pub extern "C" fn tpm_log_check_attest(
     fault: &mut TpmAttestFault,
 ) -> u32
     ensures { IsAttestChecked (Replays AreAfter log.now)
-        (alg_of hash) attest.now nonce.now (required_in required.now) fault.old fault.new result }
+        (asked_for (alg_of hash) attest.now nonce.now) (required_in required.now)
+        (record { answer = result; old = fault.old; new = fault.new }) }
 {
     match Alg::from_number(hash) {
         Some(hash) => check(log, attest, hash, nonce, required, fault),
