@@ -10,10 +10,17 @@ use Rattle.tpm_buffer.specs.Commands.{command}
 use Rattle.tpm_buffer.specs.CommandAreas.{Cut, HasCut}
 use Rattle.tpm_buffer.specs.Parts.{joined}
 use Rattle.tpm_c.specs.declared.part.TpmRefusal.{TpmRefusal}
+use Rattle.tpm_c.specs.Calls.{Call}
 use Rattle.tpm_c.specs.Parts.{refusal_of}
 use Rattle.tpm_c.specs.Written.{IsIn}
 
--- what a call has written to: the room, the number of the bytes in it, and the refusal
+-- the bytes of a command's parts: the handles, the sessions as the authorization area spells them, and the parameters
+pub record Parts : Type 0 where
+  pub handles : List ℕ
+  pub sessions : List ℕ
+  pub parameters : List ℕ
+
+-- what a call writes to: the room, the number of the bytes in it, and the refusal
 pub record Told : Type 0 where
   pub out : List ℕ
   pub count : ℕ
@@ -35,22 +42,25 @@ IsRefused bytes e = ((4096 < length bytes) × (e ≡ too_long)) ⊎ ((length byt
 -- The answer is 0 with the bytes at the beginning of the room, where they spell a command; 1 with
 -- their fault; or 2 where they spell a command and the room is less. What is not written so is as
 -- it was.
-abbrev pub BuildsBytes : List ℕ → (answer : ℕ) → (old new : Told) → Type 0
-BuildsBytes bytes answer old new =
-    ((answer ≡ 0)
+abbrev pub BuildsBytes : List ℕ → Call Told → Type 0
+BuildsBytes bytes call =
+    ((call.answer ≡ 0)
     × ((c : Command) × Spells command c bytes)
-    × IsIn bytes old.out new.out new.count
-    × (new.refusal ≡ old.refusal))
-    ⊎ ((answer ≡ 1) × IsRefused bytes (refusal_of new.refusal) × (new.out ≡ old.out) × (new.count ≡ old.count))
-    ⊎ ((answer ≡ 2) × ((c : Command) × Spells command c bytes) × (length old.out < length bytes) × (new ≡ old))
+    × IsIn bytes call.old.out call.new.out call.new.count
+    × (call.new.refusal ≡ call.old.refusal))
+    ⊎ ((call.answer ≡ 1)
+    × IsRefused bytes (refusal_of call.new.refusal)
+    × (call.new.out ≡ call.old.out)
+    × (call.new.count ≡ call.old.count))
+    ⊎ ((call.answer ≡ 2)
+    × ((c : Command) × Spells command c bytes)
+    × (length call.old.out < length bytes)
+    × (call.new ≡ call.old))
 
-abbrev pub BuildsOf : Option CommandCode
-    → (handles sessions parameters : List ℕ) → (answer : ℕ) → (old new : Told) → Type 0
-BuildsOf None handles sessions parameters answer old new = (answer ≡ 3) × (new ≡ old)
-BuildsOf (Some code) handles sessions parameters answer old new =
-    BuildsBytes (joined code handles sessions parameters) answer old new
+abbrev pub BuildsOf : Option CommandCode → Parts → Call Told → Type 0
+BuildsOf None parts call = (call.answer ≡ 3) × (call.new ≡ call.old)
+BuildsOf (Some code) parts call = BuildsBytes (joined code parts.handles parts.sessions parts.parameters) call
 
 -- This is answered for the command of this number and the bytes of its parts; 3 where no command has the number.
-abbrev pub Builds : ℕ → (handles sessions parameters : List ℕ) → (answer : ℕ) → (old new : Told) → Type 0
-Builds number handles sessions parameters answer old new =
-    BuildsOf (code_of number) handles sessions parameters answer old new
+abbrev pub Builds : ℕ → Parts → Call Told → Type 0
+Builds number parts call = BuildsOf (code_of number) parts call

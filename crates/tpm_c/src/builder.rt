@@ -36,9 +36,13 @@ pub extern "C" fn tpm_command_build(
     count: &mut usize,
     refusal: &mut TpmRefusal,
 ) -> u32
-    ensures { Builds command handles.now sessions.now parameters.now result
-        (record { out = out.old; count = count.old; refusal = refusal.old })
-        (record { out = out.new; count = count.new; refusal = refusal.new }) }
+    ensures { Builds command
+        (record { handles = handles.now; sessions = sessions.now; parameters = parameters.now })
+        (record {
+          answer = result;
+          old = record { out = out.old; count = count.old; refusal = refusal.old };
+          new = record { out = out.new; count = count.new; refusal = refusal.new };
+        }) }
 {
     let Some(code) = CommandCode::from_number(command) else {
         return NO_COMMAND;
@@ -238,9 +242,11 @@ impl<'a> CommandParts<'a> {
     }
 
     fn build(&self, out: &mut [u8], count: &mut usize, refusal: &mut TpmRefusal) -> u32
-        ensures { BuildsBytes self.now result
-            (record { out = out.old; count = count.old; refusal = refusal.old })
-            (record { out = out.new; count = count.new; refusal = refusal.new }) }
+        ensures { BuildsBytes self.now (record {
+          answer = result;
+          old = record { out = out.old; count = count.old; refusal = refusal.old };
+          new = record { out = out.new; count = count.new; refusal = refusal.new };
+        }) }
     {
         let len = self.len();
         match self.judge() {
