@@ -11,7 +11,8 @@ use Rattle.tpm_buffer.specs.CommandAreas.{Cut, HasCut}
 use Rattle.tpm_c.specs.declared.part.TpmRefusal.{TpmRefusal}
 use Rattle.tpm_c.specs.declared.command.TpmCommandSession.{TpmCommandSession}
 use Rattle.tpm_c.specs.declared.command.TpmCommandAreas.{TpmCommandAreas}
-use Rattle.tpm_c.specs.Parts.{part, bytes_in, OfThree, refusal_of}
+use Rattle.tpm_c.specs.Calls.{Call}
+use Rattle.tpm_c.specs.Parts.{part, bytes_in, OfThree, refusal_of, Viewed}
 
 -- A session that begins at this place: its handle, the number of the nonce's bytes, the nonce, the
 -- attributes, the number of the HMAC's bytes, and the HMAC (Part 2, 10.13.2).
@@ -68,13 +69,19 @@ HoldsParts bytes c = OfThree (λ i. HoldsSession bytes (place c i) (slice_get c.
 
 -- The answer is 0 with the view of the bytes' cut, or 1 with their first fault before the
 -- parameters; the other place is as it was.
-abbrev pub ViewsCommand : List ℕ → (answer : ℕ) → (old new : TpmCommandAreas) → (was refusal : TpmRefusal) → Type 0
-ViewsCommand bytes answer old new was refusal =
-    ((answer ≡ 0) × (c : Cut) × HasCut bytes c × (new ≡ command_view c) × HoldsParts bytes c × (refusal ≡ was))
-    ⊎ ((answer ≡ 1) × Fault (cut before_params) bytes (refusal_of refusal) × (new ≡ old))
+abbrev pub ViewsCommand : List ℕ → Call (Viewed TpmCommandAreas) → Type 0
+ViewsCommand bytes call =
+    ((call.answer ≡ 0)
+    × (c : Cut) × HasCut bytes c
+    × (call.new.view ≡ command_view c)
+    × HoldsParts bytes c
+    × (call.new.refusal ≡ call.old.refusal))
+    ⊎ ((call.answer ≡ 1)
+    × Fault (cut before_params) bytes (refusal_of call.new.refusal)
+    × (call.new.view ≡ call.old.view))
 
 -- The answer is 0 where the bytes spell a command, or 1 with their fault.
-abbrev pub JudgesCommand : List ℕ → (answer : ℕ) → (was refusal : TpmRefusal) → Type 0
-JudgesCommand bytes answer was refusal =
-    ((answer ≡ 0) × ((c : Command) × Spells command c bytes) × (refusal ≡ was))
-    ⊎ ((answer ≡ 1) × Fault command bytes (refusal_of refusal))
+abbrev pub JudgesCommand : List ℕ → Call TpmRefusal → Type 0
+JudgesCommand bytes call =
+    ((call.answer ≡ 0) × ((c : Command) × Spells command c bytes) × (call.new ≡ call.old))
+    ⊎ ((call.answer ≡ 1) × Fault command bytes (refusal_of call.new))

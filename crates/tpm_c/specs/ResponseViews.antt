@@ -10,7 +10,8 @@ use Rattle.tpm_buffer.specs.ResponseAreas.{handle_of, place_of_params}
 use Rattle.tpm_c.specs.declared.part.TpmRefusal.{TpmRefusal}
 use Rattle.tpm_c.specs.declared.response.TpmResponseSession.{TpmResponseSession}
 use Rattle.tpm_c.specs.declared.response.TpmResponseAreas.{TpmResponseAreas}
-use Rattle.tpm_c.specs.Parts.{part, bytes_in, OfThree, refusal_of}
+use Rattle.tpm_c.specs.Calls.{Call}
+use Rattle.tpm_c.specs.Parts.{part, bytes_in, OfThree, refusal_of, Viewed}
 
 -- A session that begins at this place: the number of the nonce's bytes, the nonce, the attributes,
 -- the number of the HMAC's bytes, and the HMAC (Part 2, 10.13.3).
@@ -70,28 +71,28 @@ HoldsParts bytes c = OfThree (λ i. HoldsSession bytes (place c i) (slice_get c.
 -- For the command of this number the answer is 0 with the view of the response's cut, or 1 with its
 -- first fault beside the parameters; it is 3 where no command has the number. What is not written
 -- so is as it was.
-abbrev pub ViewsResponse : ℕ
-    → List ℕ → (answer : ℕ) → (old new : TpmResponseAreas) → (was refusal : TpmRefusal) → Type 0
-ViewsResponse number bytes answer old new was refusal =
-    ((answer ≡ 0)
+abbrev pub ViewsResponse : ℕ → List ℕ → Call (Viewed TpmResponseAreas) → Type 0
+ViewsResponse number bytes call =
+    ((call.answer ≡ 0)
     × (code : CommandCode) × (code_of number ≡ Some code)
     × (c : ReplyCut) × Spells (reply_cut code) c bytes
-    × (new ≡ response_view c)
+    × (call.new.view ≡ response_view c)
     × HoldsParts bytes c
-    × (refusal ≡ was))
-    ⊎ ((answer ≡ 1)
-    × ((code : CommandCode) × (code_of number ≡ Some code) × Fault (reply_cut code) bytes (refusal_of refusal))
-    × (new ≡ old))
-    ⊎ ((answer ≡ 3) × (code_of number ≡ None) × (new ≡ old) × (refusal ≡ was))
+    × (call.new.refusal ≡ call.old.refusal))
+    ⊎ ((call.answer ≡ 1)
+    × ((code : CommandCode) × (code_of number ≡ Some code)
+    × Fault (reply_cut code) bytes (refusal_of call.new.refusal))
+    × (call.new.view ≡ call.old.view))
+    ⊎ ((call.answer ≡ 3) × (code_of number ≡ None) × (call.new ≡ call.old))
 
 -- For the command of this number the answer is 0 where the bytes spell a response to it, or 1 with
 -- their fault; it is 3 where no command has the number.
-abbrev pub JudgesResponse : ℕ → List ℕ → (answer : ℕ) → (was refusal : TpmRefusal) → Type 0
-JudgesResponse number bytes answer was refusal =
-    ((answer ≡ 0)
+abbrev pub JudgesResponse : ℕ → List ℕ → Call TpmRefusal → Type 0
+JudgesResponse number bytes call =
+    ((call.answer ≡ 0)
     × ((code : CommandCode) × (code_of number ≡ Some code) × (r : Response) × Spells (response code) r bytes)
-    × (refusal ≡ was))
-    ⊎ ((answer ≡ 1)
+    × (call.new ≡ call.old))
+    ⊎ ((call.answer ≡ 1)
     × (code : CommandCode) × (code_of number ≡ Some code)
-    × Fault (response code) bytes (refusal_of refusal))
-    ⊎ ((answer ≡ 3) × (code_of number ≡ None) × (refusal ≡ was))
+    × Fault (response code) bytes (refusal_of call.new))
+    ⊎ ((call.answer ≡ 3) × (code_of number ≡ None) × (call.new ≡ call.old))

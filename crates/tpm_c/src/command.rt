@@ -46,7 +46,11 @@ pub extern "C" fn tpm_command_cut(
     view: &mut TpmCommandAreas,
     refusal: &mut TpmRefusal,
 ) -> u32
-    ensures { ViewsCommand bytes.now result view.old view.new refusal.old refusal.new }
+    ensures { ViewsCommand bytes.now (record {
+      answer = result;
+      old = record { view = view.old; refusal = refusal.old };
+      new = record { view = view.new; refusal = refusal.new };
+    }) }
 {
     match areas(bytes) {
         Ok(areas) => {
@@ -60,7 +64,8 @@ pub extern "C" fn tpm_command_cut(
 /// Answers 0 where the bytes spell a command, all of them; or 1, and `refusal` is their fault.
 #[unsafe(no_mangle)]
 pub extern "C" fn tpm_command_decode(bytes: &[u8], refusal: &mut TpmRefusal) -> u32
-    ensures { JudgesCommand bytes.now result refusal.old refusal.new }
+    ensures { JudgesCommand bytes.now
+        (record { answer = result; old = refusal.old; new = refusal.new }) }
 {
     match judge(bytes) {
         Ok(()) => DONE,

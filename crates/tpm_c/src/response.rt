@@ -40,7 +40,11 @@ pub extern "C" fn tpm_response_cut(
     view: &mut TpmResponseAreas,
     refusal: &mut TpmRefusal,
 ) -> u32
-    ensures { ViewsResponse command bytes.now result view.old view.new refusal.old refusal.new }
+    ensures { ViewsResponse command bytes.now (record {
+      answer = result;
+      old = record { view = view.old; refusal = refusal.old };
+      new = record { view = view.new; refusal = refusal.new };
+    }) }
 {
     match CommandCode::from_number(command) {
         Some(code) => match reply_areas(code, bytes) {
@@ -58,7 +62,8 @@ pub extern "C" fn tpm_response_cut(
 /// `refusal` is their fault; or 3 where no command has the number.
 #[unsafe(no_mangle)]
 pub extern "C" fn tpm_response_decode(command: u32, bytes: &[u8], refusal: &mut TpmRefusal) -> u32
-    ensures { JudgesResponse command bytes.now result refusal.old refusal.new }
+    ensures { JudgesResponse command bytes.now
+        (record { answer = result; old = refusal.old; new = refusal.new }) }
 {
     match CommandCode::from_number(command) {
         Some(code) => match decode_response(code, bytes) {
