@@ -12,7 +12,7 @@ use Rattle.tpm_buffer.specs.Responses.{response_tag, response_front, response_co
 use Rattle.tpm_model.specs.Steps.{History, Origin}
 use Rattle.tpm_model.specs.Present.{present}
 use Rattle.tpm_model.specs.Answers.{Done, outcome, answered, answer}
-use Rattle.tpm_c.specs.Devices.{written, IsAnswered}
+use Rattle.tpm_c.specs.Devices.{Input, written, IsAnswered}
 use Rattle.tpm_c.specs.Written.{IsIn}
 
 response_long : (code : CommandCode) (r : Response) → 10 ≤ length (spelling (response code) r)
@@ -23,12 +23,12 @@ answer_long : (r : Result Done ℕ) → 10 ≤ length (answered r)
 answer_long (Ok d) = response_long (code_for d.command.body) (done_with d.reply)
 answer_long (Err code) = response_long codes.Startup (responses.Code code)
 
-pub is_answered : (o : Origin) (h : History) (bytes nonce old new : List ℕ) (count : ℕ)
-    → IsIn (written (length old) o h bytes nonce) old new count → IsAnswered o h bytes nonce old new count
-is_answered o h bytes nonce old new count i = (
+pub is_answered : (o : Origin) (h : History) (input : Input) (old new : List ℕ) (count : ℕ)
+    → IsIn (written (length old) o h input) old new count → IsAnswered o h input (record { answer = count; old = old; new = new })
+is_answered o h input old new count i = (
   i,
   λ room.
       let there : nat_le 4096 (length old) ≡ true = le-leb 4096 (length old) room in
-      let is : written (length old) o h bytes nonce ≡ answer o h bytes nonce = rw there refl in
-      omega (arith, i.count_is, ap length is, answer_long (outcome (present o h) bytes nonce)),
+      let is : written (length old) o h input ≡ answer o h input.bytes input.nonce = rw there refl in
+      omega (arith, i.count_is, ap length is, answer_long (outcome (present o h) input.bytes input.nonce)),
 )

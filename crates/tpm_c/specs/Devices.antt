@@ -8,6 +8,7 @@ use Rattle.tpm_model.specs.Answers.{answer, next}
 use Rattle.tpm_device.specs.declared.device.Device.{Device}
 use Rattle.tpm_device.specs.contracts.device.Device.{the_row}
 use Rattle.tpm_device.specs.Stands.{Stands}
+use Rattle.tpm_c.specs.Calls.{Call}
 use Rattle.tpm_c.specs.Written.{IsIn}
 
 -- A device that stands at the history lies there.
@@ -39,16 +40,21 @@ made_at o p = new_if (fits o.owner) o p
 abbrev pub whether_fits : List ℕ → ℕ
 whether_fits owner = if fits owner then 1 else 0
 
+-- what a device is given: the bytes of a command, and a nonce
+pub record Input : Type 0 where
+  pub bytes : List ℕ
+  pub nonce : List ℕ
+
 -- The history after a buffer: the model's next where there is room for any answer, and otherwise the same.
-abbrev pub after : ℕ → Origin → History → (bytes nonce : List ℕ) → History
-after room o h bytes nonce = if nat_le 4096 room then next o h bytes nonce else h
+abbrev pub after : (room : ℕ) → Origin → History → Input → History
+after room o h input = if nat_le 4096 room then next o h input.bytes input.nonce else h
 
 -- what is written: the model's answer where there is room for any, and otherwise nothing
-abbrev pub written : ℕ → Origin → History → (bytes nonce : List ℕ) → List ℕ
-written room o h bytes nonce = if nat_le 4096 room then answer o h bytes nonce else []
+abbrev pub written : (room : ℕ) → Origin → History → Input → List ℕ
+written room o h input = if nat_le 4096 room then answer o h input.bytes input.nonce else []
 
 -- The answer was written, which has 10 bytes at least; or nothing, where there is not room for any answer.
-abbrev pub IsAnswered : Origin → History → (bytes nonce : List ℕ) → (old new : List ℕ) → (count : ℕ) → Type 0
-IsAnswered o h bytes nonce old new count =
-    IsIn (written (length old) o h bytes nonce) old new count
-    × (4096 ≤ length old → 10 ≤ count)
+abbrev pub IsAnswered : Origin → History → Input → Call (List ℕ) → Type 0
+IsAnswered o h input call =
+    IsIn (written (length call.old) o h input) call.old call.new call.answer
+    × (4096 ≤ length call.old → 10 ≤ call.answer)

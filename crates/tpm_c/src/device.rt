@@ -61,16 +61,20 @@ pub unsafe extern "C" fn tpm_device_execute(
 ) -> usize
     ghost at: { Origin × History }
     requires* { sem 𝓛 (device_at at.0 at.1 place) }
-    ensures* { sem 𝓛 (device_at at.0 (after (length out.old) at.0 at.1 command.now nonce.now) place)
-        ∗ ⌜ IsAnswered at.0 at.1 command.now nonce.now out.old out.new result ⌝ }
+    ensures* { sem 𝓛 (device_at at.0 (after (length out.old) at.0 at.1
+        (record { bytes = command.now; nonce = nonce.now })) place)
+        ∗ ⌜ IsAnswered at.0 at.1 (record { bytes = command.now; nonce = nonce.now })
+        (record { answer = result; old = out.old; new = out.new }) ⌝ }
 {
     execute(&mut *(place as *mut Device), command, nonce, out)
 }
 
 fn execute(device: &mut Device, command: &[u8], nonce: &[u8; 64], out: &mut [u8]) -> usize
     ensures { (o : Origin) (h : History) → Stands o h device.old →
-        Stands o (after (length out.old) o h command.now nonce.now) device.new
-        × IsIn (written (length out.old) o h command.now nonce.now) out.old out.new result }
+        Stands o (after (length out.old) o h
+        (record { bytes = command.now; nonce = nonce.now })) device.new
+        × IsIn (written (length out.old) o h
+        (record { bytes = command.now; nonce = nonce.now })) out.old out.new result }
 {
     if out.len() < BUFFER_BYTES {
         return 0;

@@ -7,7 +7,7 @@ use Rattle.tpm_c.proofs.Steps.{whole, sub, agg, Array}
 use Rattle.tpm_c.proofs.Lending.{Spelled, points, is_one_and, lent}
 use Rattle.tpm_c.proofs.Replies.{is_answered}
 use Rattle.tpm_c.proofs.device.execute.Met.{met}
-use Rattle.tpm_c.specs.Devices.{after, written}
+use Rattle.tpm_c.specs.Devices.{Input, after, written}
 use Rattle.tpm_c.specs.Written.{IsIn}
 use Rattle.tpm_device.specs.declared.device.Device.{Device}
 use Rattle.tpm_device.specs.contracts.device.Device.{the_row}
@@ -27,7 +27,7 @@ tpm_device_execute_spec 𝓤 𝓛 𝓜 𝓡 wired =
       (shr_Tells (named 1) κs.1.0 (Array u8 64), (mut_slice_Tells (named 2) κs.1.1.0 u8, tt)),
     ))
     (λ p w. (d : Device) × Stands w.4.0 w.4.1 d) (λ p w x. lies_at the_row full_share p x.0) (λ w x. id⊢ 𝓤 _) (λ p w. id⊢ 𝓤 _) (λ b o w are d.
-    let a = w.3 in let at = w.4 in let command = a.0.now in let nonce = a.1.0.now in let out = a.1.1.0.now in
+    let a = w.3 in let at = w.4 in let input : Input = record { bytes = a.0.now; nonce = a.1.0.now } in let out = a.1.1.0.now in
     enter ! _ _ _ _ _ $ alloc_all ! (λ l. pass_all ! refl (
       (tt, tt),
       (
@@ -41,10 +41,10 @@ tpm_device_execute_spec 𝓤 𝓛 𝓜 𝓡 wired =
     sets ! (agg ! (and_then ! (get ! refl) (and_then ! (get_in ! (fld ! refl (stop !)) (sub ! 1 refl (whole !))) (no_more !))))
     refl (tt, (tt, (record { fits = are.1.1.0.0.1.0 }, tt))) $
     lent 𝓛 𝓜 𝓡 f.ended c sp ! the_row d.0 b o w (λ r new us. (o : Origin) (h : History) → Stands o h d.0
-    → Stands o (after (length out) o h command nonce) new × IsIn (written (length out) o h command nonce) out us.1.1.0 r)
+    → Stands o (after (length out) o h input) new × IsIn (written (length out) o h input) out us.1.1.0 r)
     (triple_of 𝓛 of.signature (of.spec 𝓛 𝓜.mem 𝓡.returns)) (met 𝓤 𝓛 𝓜 𝓡 (code.calls-tpm_c::device::execute 𝓡.env wired))
     (λ κ x vals. (((κ, w.0), (full_share, w.1), tt, (x, a), (mut_vals x, vals)), tt)) (λ κ δ. id⊢ 𝓤 _) (λ κ δ v. id⊢ 𝓤 _)
-    (λ r new us e. is_one_and 𝓛 the_row b o (λ (z : (d : Device) × Stands at.0 (after (length out) at.0 at.1 command nonce) d).
-    z.0) (new, (e at.0 at.1 d.1).0) (is_answered at.0 at.1 command nonce out us.1.1.0 r (e at.0 at.1 d.1).1))
+    (λ r new us e. is_one_and 𝓛 the_row b o (λ (z : (d : Device) × Stands at.0 (after (length out) at.0 at.1 input) d).
+    z.0) (new, (e at.0 at.1 d.1).0) (is_answered at.0 at.1 input out us.1.1.0 r (e at.0 at.1 d.1).1))
     (λ κ δ. and_then ! (get ! refl) (and_then ! (get ! refl) (and_then ! (get ! refl) (and_then ! (get ! refl) (no_more !)))))
     (λ v r is. lands_as ! refl refl ((uint_Lawful 𝓛 w64).typed r _ is).0 $ returns ! (look_at ! 0 refl) $ free_all ! refl $ done !)))
