@@ -27,7 +27,8 @@ pub unsafe extern "C" fn tpm_framer_init(place: *mut u8)
 pub unsafe extern "C" fn tpm_framer_push(place: *mut u8, piece: &[u8], status: &mut u32) -> usize
     ghost held: { List ℕ }
     requires* { sem 𝓛 (framer_at held place) }
-    ensures* { sem 𝓛 (pushed_at held piece.now result status.new place) }
+    ensures* { sem 𝓛 (pushed_at held
+        (record { piece = piece.now; taken = result; status = status.new }) place) }
 {
     push(&mut *(place as *mut Framer), piece, status)
 }
