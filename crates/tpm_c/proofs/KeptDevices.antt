@@ -59,14 +59,16 @@ none_made_of owner kept e (inr (short, fault)) =
     rw (fit, read) refl
 
 -- Where one is made, it was not refused.
-pub judged_made : (owner kept : List ℕ) (old new : TpmRefusal) (r : Bool) → is_made owner kept ≡ true → IsJudged owner kept old new r
+pub judged_made : (owner kept : List ℕ) (old new : TpmRefusal) (r : Bool) → is_made owner kept ≡ true
+    → IsJudged owner kept (record { is_refused = r; old = old; new = new })
     → (r ≡ false) × (length owner ≤ digest_bytes) × IsSpelled kept × (new ≡ old)
 judged_made owner kept old new true makes faulty =
     absurd (let no : true ≡ false = sym makes ∙ none_made_of owner kept (refusal_of new) faulty in cc)
 judged_made owner kept old new false makes sound = (refl, sound.0, sound.1, sound.2)
 
 -- Where none is made, it was refused.
-pub judged_none : (owner kept : List ℕ) (old new : TpmRefusal) (r : Bool) → is_made owner kept ≡ false → IsJudged owner kept old new r
+pub judged_none : (owner kept : List ℕ) (old new : TpmRefusal) (r : Bool) → is_made owner kept ≡ false
+    → IsJudged owner kept (record { is_refused = r; old = old; new = new })
     → (r ≡ true) × IsFaulty owner kept (refusal_of new)
 judged_none owner kept old new true none faulty = (refl, faulty)
 judged_none owner kept old new false none sound =

@@ -23,6 +23,7 @@ use Rattle.tpm_device.specs.contracts.device.Device.{the_row}
 use Rattle.tpm_device.specs.Stands.{Stands, holds}
 use Rattle.tpm_c.specs.declared.part.TpmRefusal.{TpmRefusal}
 use Rattle.tpm_c.specs.declared.kept.TpmCounter.{TpmCounter}
+use Rattle.tpm_c.specs.Calls.{Call}
 use Rattle.tpm_c.specs.Devices.{fits, room_if}
 use Rattle.tpm_c.specs.Parts.{refusal_of}
 use Rattle.tpm_c.specs.Written.{IsIn}
@@ -37,9 +38,9 @@ abbrev pub kept_in : ℕ → Origin → History → List ℕ
 kept_in room o h = if nat_le (length (kept_bytes o h)) room then kept_bytes o h else []
 
 -- It was written so. The bytes spell NV memory.
-abbrev pub IsKeptIn : Origin → History → (old new : List ℕ) → (count : ℕ) → Type 0
-IsKeptIn o h old new count =
-    IsIn (kept_in (length old) o h) old new count
+abbrev pub IsKeptIn : Origin → History → Call (List ℕ) → Type 0
+IsKeptIn o h call =
+    IsIn (kept_in (length call.old) o h) call.old call.new call.answer
     × Spells kept_memory (nv_memory o h) (kept_bytes o h)
 
 -- ---- what is made of them
@@ -66,10 +67,19 @@ IsFaulty owner kept e =
 abbrev pub IsSpelled : (kept : List ℕ) → Type 0
 IsSpelled kept = (nv : NvMemory) × Spells kept_memory nv kept
 
+-- whether it is refused to make a device, and the refusal before that and after it
+pub record Judged : Type 0 where
+  pub is_refused : Bool
+  pub old : TpmRefusal
+  pub new : TpmRefusal
+
+abbrev pub IsJudgedSo : (is_refused : Bool) → (owner kept : List ℕ) → Judged → Type 0
+IsJudgedSo true owner kept judged = IsFaulty owner kept (refusal_of judged.new)
+IsJudgedSo false owner kept judged = (length owner ≤ digest_bytes) × IsSpelled kept × (judged.new ≡ judged.old)
+
 -- Whether it is refused to make a device of them: the refusal is the first fault, or as it was where there is none.
-abbrev pub IsJudged : (owner kept : List ℕ) → (old new : TpmRefusal) → (is_refused : Bool) → Type 0
-IsJudged owner kept old new true = IsFaulty owner kept (refusal_of new)
-IsJudged owner kept old new false = (length owner ≤ digest_bytes) × IsSpelled kept × (new ≡ old)
+abbrev pub IsJudged : (owner kept : List ℕ) → Judged → Type 0
+IsJudged owner kept judged = IsJudgedSo judged.is_refused owner kept judged
 
 -- The owner's value fits, and the bytes spell an NV memory.
 abbrev pub is_made : (owner kept : List ℕ) → Bool
@@ -88,10 +98,10 @@ abbrev pub restored_at : (owner kept : List ℕ) → Ptr → Fml
 restored_at owner kept p = again_if (is_made owner kept) owner kept p
 
 -- 0 and the refusal as it was, where one was made; and otherwise 1 and the first fault.
-abbrev pub IsRestored : (owner kept : List ℕ) → (old new : TpmRefusal) → (answer : ℕ) → Type 0
-IsRestored owner kept old new answer =
-    ((is_made owner kept ≡ true) × (answer ≡ 0) × (new ≡ old))
-    ⊎ ((is_made owner kept ≡ false) × (answer ≡ 1) × IsFaulty owner kept (refusal_of new))
+abbrev pub IsRestored : (owner kept : List ℕ) → Call TpmRefusal → Type 0
+IsRestored owner kept call =
+    ((is_made owner kept ≡ true) × (call.answer ≡ 0) × (call.new ≡ call.old))
+    ⊎ ((is_made owner kept ≡ false) × (call.answer ≡ 1) × IsFaulty owner kept (refusal_of call.new))
 
 -- ---- what is told of a device
 
@@ -121,10 +131,10 @@ counter_view c = record {
   has_auth = if not (is_empty c.auth) then 1 else 0;
 }
 
-abbrev pub IsTold : Option Counter → (old new : TpmCounter) → (answer : ℕ) → Type 0
-IsTold (Some c) old new answer = (answer ≡ 0) × (new ≡ counter_view c)
-IsTold None old new answer = (answer ≡ 6) × (new ≡ old)
+abbrev pub IsTold : Option Counter → Call TpmCounter → Type 0
+IsTold (Some c) call = (call.answer ≡ 0) × (call.new ≡ counter_view c)
+IsTold None call = (call.answer ≡ 6) × (call.new ≡ call.old)
 
 -- The view of this counter was told, where there is one.
-abbrev pub IsCounterTold : Origin → History → (which : ℕ) → (old new : TpmCounter) → (answer : ℕ) → Type 0
-IsCounterTold o h which old new answer = IsTold (slice_get (counters_of o h) which) old new answer
+abbrev pub IsCounterTold : Origin → History → (which : ℕ) → Call TpmCounter → Type 0
+IsCounterTold o h which call = IsTold (slice_get (counters_of o h) which) call

@@ -46,14 +46,15 @@ pub unsafe extern "C" fn tpm_device_keep(place: *const u8, out: &mut [u8]) -> us
     ghost at: { Origin × History }
     requires* { sem 𝓛 (device_at at.0 at.1 place) }
     ensures* { sem 𝓛 (device_at at.0 at.1 place)
-        ∗ ⌜ IsKeptIn at.0 at.1 out.old out.new result ⌝ }
+        ∗ ⌜ IsKeptIn at.0 at.1 (record { answer = result; old = out.old; new = out.new }) ⌝ }
 {
     keep(&mut *(place as *mut Device), out)
 }
 
 fn keep(device: &mut Device, out: &mut [u8]) -> usize
     ensures { (device.new ≡ device.old)
-        × ((o : Origin) (h : History) → Stands o h device.old → IsKeptIn o h out.old out.new result) }
+        × ((o : Origin) (h : History) → Stands o h device.old
+        → IsKeptIn o h (record { answer = result; old = out.old; new = out.new })) }
 {
     let mut bytes = Buffer::new();
     device.put_nv(&mut bytes);
@@ -77,7 +78,8 @@ pub unsafe extern "C" fn tpm_device_restore(
 ) -> u32
     requires* { sem 𝓛 (restore_room owner.now kept.now place) }
     ensures* { sem 𝓛 (restored_at owner.now kept.now place)
-        ∗ ⌜ IsRestored owner.now kept.now refusal.old refusal.new result ⌝ }
+        ∗ ⌜ IsRestored owner.now kept.now
+        (record { answer = result; old = refusal.old; new = refusal.new }) ⌝ }
 {
     if is_refused(owner, kept, refusal) {
         return REFUSED;
@@ -91,7 +93,8 @@ pub unsafe extern "C" fn tpm_device_restore(
 // that are read are off the stack before the device is made.
 #[inline(never)]
 fn is_refused(owner: &[u8], kept: &[u8], refusal: &mut TpmRefusal) -> bool
-    ensures { IsJudged owner.now kept.now refusal.old refusal.new result }
+    ensures { IsJudged owner.now kept.now
+        (record { is_refused = result; old = refusal.old; new = refusal.new }) }
 {
     if owner.len() > DIGEST_BYTES {
         refuse(refusal, Refusal { code: SIZE, at: 0 });
@@ -204,14 +207,16 @@ pub unsafe extern "C" fn tpm_device_counter(
     ghost at: { Origin × History }
     requires* { sem 𝓛 (device_at at.0 at.1 place) }
     ensures* { sem 𝓛 (device_at at.0 at.1 place)
-        ∗ ⌜ IsCounterTold at.0 at.1 which view.old view.new result ⌝ }
+        ∗ ⌜ IsCounterTold at.0 at.1 which
+        (record { answer = result; old = view.old; new = view.new }) ⌝ }
 {
     counter(&mut *(place as *mut Device), which, view)
 }
 
 fn counter(device: &mut Device, which: usize, view: &mut TpmCounter) -> u32
     ensures { (device.new ≡ device.old)
-        × ((o : Origin) (h : History) → Stands o h device.old → IsCounterTold o h which view.old view.new result) }
+        × ((o : Origin) (h : History) → Stands o h device.old
+        → IsCounterTold o h which (record { answer = result; old = view.old; new = view.new })) }
 {
     match device.counters().get(which) {
         Some(counter) => {

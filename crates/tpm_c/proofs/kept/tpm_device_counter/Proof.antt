@@ -28,7 +28,8 @@ tpm_device_counter_spec 𝓤 𝓛 𝓜 𝓡 wired =
     sets ! (of_opd ! (get ! refl)) refl (tt, tt) $ sets ! (addr ! (through ! refl (stop !))) refl (tt, tt) $
     sets ! (addr ! (through ! refl (stop !))) refl (tt, tt) $
     lent 𝓛 𝓜 𝓡 f.ended c sp ! the_row d.0 b o w
-    (λ r new us. (new ≡ d.0) × ((o : Origin) (h : History) → Stands o h d.0 → IsCounterTold o h a.0 a.1.0.now us.1.0 r))
+    (λ r new us. (new ≡ d.0)
+    × ((o : Origin) (h : History) → Stands o h d.0 → IsCounterTold o h a.0 (record { answer = r; old = a.1.0.now; new = us.1.0 })))
     (triple_of 𝓛 of.signature (of.spec 𝓛 𝓜.mem 𝓡.returns)) (met 𝓤 𝓛 𝓜 𝓡 (code.calls-tpm_c::kept::counter 𝓡.env wired))
     (λ κ x vals. (((κ, w.0), (full_share, w.1), tt, (x, a), (mut_vals x, vals)), tt)) (λ κ δ. id⊢ 𝓤 _) (λ κ δ v. id⊢ 𝓤 _)
     (λ r new us e. is_one_and 𝓛 the_row b o (λ (z : (d : Device) × Stands at.0 at.1 d). z.0)

@@ -29,7 +29,8 @@ tpm_device_keep_spec 𝓤 𝓛 𝓜 𝓡 wired =
     sets ! (agg ! (and_then ! (get ! refl) (and_then ! (get_in ! (fld ! refl (stop !)) (sub ! 1 refl (whole !))) (no_more !))))
     refl (tt, (tt, (record { fits = are.0.0.1.0 }, tt))) $
     lent 𝓛 𝓜 𝓡 f.ended c sp ! the_row d.0 b o w
-    (λ r new us. (new ≡ d.0) × ((o : Origin) (h : History) → Stands o h d.0 → IsKeptIn o h a.0.now us.0 r))
+    (λ r new us. (new ≡ d.0)
+    × ((o : Origin) (h : History) → Stands o h d.0 → IsKeptIn o h (record { answer = r; old = a.0.now; new = us.0 })))
     (triple_of 𝓛 of.signature (of.spec 𝓛 𝓜.mem 𝓡.returns)) (met 𝓤 𝓛 𝓜 𝓡 (code.calls-tpm_c::kept::keep 𝓡.env wired))
     (λ κ x vals. (((κ, w.0), (full_share, w.1), tt, (x, a), (mut_vals x, vals)), tt)) (λ κ δ. id⊢ 𝓤 _) (λ κ δ v. id⊢ 𝓤 _)
     (λ r new us e. is_one_and 𝓛 the_row b o (λ (z : (d : Device) × Stands at.0 at.1 d). z.0)

@@ -69,7 +69,8 @@ tpm_device_restore_spec 𝓤 𝓛 𝓜 𝓡 wired =
           move ! (3 ∷ []) $
           use1 𝓛 (‵ Owner ⊛ ‵ Owner) ((shr_slice_copy 𝓛 (named 0) κs.0 u8 (uint_row_laws w8)).twice a.1.0 (shr_slice_vals a.1.0)) $ split ! $
           move ! (2 ∷ 4 ∷ []) $ fjoin ! $ move ! (1 ∷ 0 ∷ []) $ fjoin ! $ move ! (4 ∷ 0 ∷ []) $
-          asks ! (framed 𝓤 𝓛.H 𝓜 𝓣) bool (alive 𝓛 f.signature κs qs) lasting (λ r us. IsJudged owner kept old us.1.1.0 r)
+          asks ! (framed 𝓤 𝓛.H 𝓜 𝓣) bool (alive 𝓛 f.signature κs qs) lasting
+          (λ r us. IsJudged owner kept (record { is_refused = r; old = old; new = us.1.1.0 }))
           (triple_of 𝓛 judge.signature (judge.spec 𝓛 𝓜.mem 𝓡.returns)) (judges 𝓤 𝓛 𝓜 𝓡 (code.calls-tpm_c::kept::is_refused 𝓡.env wired))
           ((κs, qs, tt, a.1, vals), tt) (id⊢ 𝓤 _) (λ v. id⊢ 𝓤 _) (and_then ! (get ! refl) (and_then ! (get ! refl) (and_then ! (get ! refl) (no_more !))))
           (λ v r us s is.
@@ -140,7 +141,8 @@ tpm_device_restore_spec 𝓤 𝓛 𝓜 𝓡 wired =
           ) $
           sets ! (addr ! (through ! refl (stop !))) refl (tt, tt) $
           split ! $ move ! (1 ∷ []) $ fsplit ! $ drop ! $ move ! (1 ∷ 0 ∷ []) $
-          asks ! (framed 𝓤 𝓛.H 𝓜 𝓣) bool (alive 𝓛 f.signature κs qs) lasting (λ r us. IsJudged owner kept old us.1.1.0 r)
+          asks ! (framed 𝓤 𝓛.H 𝓜 𝓣) bool (alive 𝓛 f.signature κs qs) lasting
+          (λ r us. IsJudged owner kept (record { is_refused = r; old = old; new = us.1.1.0 }))
           (triple_of 𝓛 judge.signature (judge.spec 𝓛 𝓜.mem 𝓡.returns)) (judges 𝓤 𝓛 𝓜 𝓡 (code.calls-tpm_c::kept::is_refused 𝓡.env wired))
           ((κs, qs, tt, a.1, vals), tt) (id⊢ 𝓤 _) (λ v. id⊢ 𝓤 _) (and_then ! (get ! refl) (and_then ! (get ! refl) (and_then ! (get ! refl) (no_more !))))
           (λ v r us s is.
