@@ -26,7 +26,8 @@ pub struct TpmVariable {
 /// as it was.
 #[unsafe(no_mangle)]
 pub extern "C" fn tpm_log_variable(kind: u32, bytes: &[u8], view: &mut TpmVariable) -> u32
-    ensures { IsVariableTold (variable_of kind bytes.now) bytes.now view.old view.new result }
+    ensures { IsVariableTold (variable_of kind bytes.now) bytes.now
+        (record { answer = result; old = view.old; new = view.new }) }
 {
     let event = Event {
         register: 0,

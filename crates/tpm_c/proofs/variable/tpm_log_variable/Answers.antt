@@ -9,5 +9,5 @@ returns-in-Some c =
     let bytes = c.args.bytes.now in
     let found = c.in-Some.variable in
     let v : VariableData = record { guid = found.guid.now; name = found.name.now; value = found.value.now } in
-    subst (λ o. IsVariableTold o bytes c.args.view.now (variable_view (length bytes) v) 33) c.in-Some.ensures
+    subst (λ o. IsVariableTold o bytes (record { answer = 33; old = c.args.view.now; new = variable_view (length bytes) v })) c.in-Some.ensures
     (refl, views c.args.kind bytes v c.in-Some.ensures, refl)
