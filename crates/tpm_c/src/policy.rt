@@ -48,8 +48,8 @@ fn set(policy: &mut TpmPolicy, digest: &Digest)
 }
 
 fn assert(policy: &mut TpmPolicy, assertion: &Assertion<'_>) -> u32
-    ensures { IsAsserted
-        (alg_of policy.old.hash) (as_assertion assertion.now) policy.old policy.new result }
+    ensures { IsAsserted (alg_of policy.old.hash) (as_assertion assertion.now)
+        (record { answer = result; old = policy.old; new = policy.new }) }
 {
     let Some(alg) = Alg::from_number(policy.hash) else {
         return NO_HASH;
@@ -60,7 +60,8 @@ fn assert(policy: &mut TpmPolicy, assertion: &Assertion<'_>) -> u32
 }
 
 fn empty(policy: &mut TpmPolicy, hash: u16) -> u32
-    ensures { IsEmpty (alg_of hash) hash policy.old policy.new result }
+    ensures { IsEmpty (alg_of hash) hash
+        (record { answer = result; old = policy.old; new = policy.new }) }
 {
     if Alg::from_number(hash).is_none() {
         return NO_HASH;
@@ -76,7 +77,8 @@ fn empty(policy: &mut TpmPolicy, hash: u16) -> u32
 /// nothing changes, where there is no such hash.
 #[unsafe(no_mangle)]
 pub extern "C" fn tpm_policy_start(policy: &mut TpmPolicy, hash: u16) -> u32
-    ensures { IsEmpty (alg_of hash) hash policy.old policy.new result }
+    ensures { IsEmpty (alg_of hash) hash
+        (record { answer = result; old = policy.old; new = policy.new }) }
 {
     empty(policy, hash)
 }
@@ -85,7 +87,8 @@ pub extern "C" fn tpm_policy_start(policy: &mut TpmPolicy, hash: u16) -> u32
 /// nothing changes, where the policy has no hash.
 #[unsafe(no_mangle)]
 pub extern "C" fn tpm_policy_restart(policy: &mut TpmPolicy) -> u32
-    ensures { IsEmpty (alg_of policy.old.hash) policy.old.hash policy.old policy.new result }
+    ensures { IsEmpty (alg_of policy.old.hash) policy.old.hash
+        (record { answer = result; old = policy.old; new = policy.new }) }
 {
     empty(policy, policy.hash)
 }
@@ -94,7 +97,8 @@ pub extern "C" fn tpm_policy_restart(policy: &mut TpmPolicy) -> u32
 /// and nothing changes, where the policy has no hash.
 #[unsafe(no_mangle)]
 pub extern "C" fn tpm_policy_command_code(policy: &mut TpmPolicy, code: u32) -> u32
-    ensures { IsAsserted (alg_of policy.old.hash) (CodeAsserted code) policy.old policy.new result }
+    ensures { IsAsserted (alg_of policy.old.hash) (CodeAsserted code)
+        (record { answer = result; old = policy.old; new = policy.new }) }
 {
     assert(policy, &Assertion::Code(code))
 }
@@ -103,7 +107,8 @@ pub extern "C" fn tpm_policy_command_code(policy: &mut TpmPolicy, code: u32) -> 
 /// 0; or 4, and nothing changes, where the policy has no hash.
 #[unsafe(no_mangle)]
 pub extern "C" fn tpm_policy_auth_value(policy: &mut TpmPolicy) -> u32
-    ensures { IsAsserted (alg_of policy.old.hash) AuthValueAsserted policy.old policy.new result }
+    ensures { IsAsserted (alg_of policy.old.hash) AuthValueAsserted
+        (record { answer = result; old = policy.old; new = policy.new }) }
 {
     assert(policy, &Assertion::AuthValue)
 }
@@ -117,8 +122,11 @@ pub extern "C" fn tpm_policy_or(
     digests: &[u8],
     refusal: &mut TpmRefusal,
 ) -> u32
-    ensures { IsSpelled (read_all or_digests digests.now)
-        OrAsserted policy.old policy.new refusal.old refusal.new result }
+    ensures { IsSpelled (read_all or_digests digests.now) OrAsserted (record {
+      answer = result;
+      old = record { policy = policy.old; refusal = refusal.old };
+      new = record { policy = policy.new; refusal = refusal.new };
+    }) }
 {
     match or_digests_in(digests) {
         Ok(digests) => assert(policy, &Assertion::Or(&digests)),
@@ -132,8 +140,12 @@ fn pcr(
     pcr_digest: &Digest,
     refusal: &mut TpmRefusal,
 ) -> u32
-    ensures { IsSpelled (read_all selections_layout selections.now)
-        (of_registers pcr_digest.now) policy.old policy.new refusal.old refusal.new result }
+    ensures { IsSpelled (read_all selections_layout selections.now) (of_registers pcr_digest.now)
+        (record {
+          answer = result;
+          old = record { policy = policy.old; refusal = refusal.old };
+          new = record { policy = policy.new; refusal = refusal.new };
+        }) }
 {
     match selections_in(selections) {
         Ok(selections) => {
@@ -160,8 +172,12 @@ pub extern "C" fn tpm_policy_pcr(
     pcr_digest: &[u8],
     refusal: &mut TpmRefusal,
 ) -> u32
-    ensures { IsPcrAsserted (alg_of policy.old.hash) pcr_digest.now (read_all
-        selections_layout selections.now) policy.old policy.new refusal.old refusal.new result }
+    ensures { IsPcrAsserted (alg_of policy.old.hash) pcr_digest.now
+        (read_all selections_layout selections.now) (record {
+          answer = result;
+          old = record { policy = policy.old; refusal = refusal.old };
+          new = record { policy = policy.new; refusal = refusal.new };
+        }) }
 {
     let Some(alg) = Alg::from_number(policy.hash) else {
         return NO_HASH;
