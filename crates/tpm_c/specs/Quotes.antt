@@ -7,6 +7,7 @@ use Rattle.tpm_types.specs.declared.attest.QuoteInfo.{QuoteInfo}
 use Rattle.tpm_types.specs.Attest.{quote_info}
 use Rattle.tpm_model.specs.Registers.{Registers, composite, value_in}
 use Rattle.tpm_log.specs.declared.fault.LogFault.{LogFault}
+use Rattle.tpm_c.specs.Calls.{Call}
 use Rattle.tpm_c.specs.Logs.{IsFault}
 
 -- Its digest is that of the selected values, or another.
@@ -16,19 +17,21 @@ IsWhetherQuoted value hash quote code =
     ⊎ ((composite hash value quote.selections ≢ quote.digest) × (code ≡ 16))
 
 -- the information of a quote that the bytes spell, and else the position of their fault
-abbrev pub IsCompared : (Alg → ℕ → List ℕ) → Alg → List ℕ → (at at-2 : ℕ) → (code : ℕ) → Type 0
-IsCompared value hash bytes at at-2 code =
-    ((quote : QuoteInfo) × Spells quote_info quote bytes × IsWhetherQuoted value hash quote code × (at-2 ≡ at))
-    ⊎ ((refusal : Refusal) × Fault quote_info bytes refusal × (at-2 ≡ refusal.at) × (code ≡ 17))
+abbrev pub IsCompared : (Alg → ℕ → List ℕ) → Alg → List ℕ → Call ℕ → Type 0
+IsCompared value hash bytes call =
+    ((quote : QuoteInfo) × Spells quote_info quote bytes
+    × IsWhetherQuoted value hash quote call.answer
+    × (call.new ≡ call.old))
+    ⊎ ((refusal : Refusal) × Fault quote_info bytes refusal × (call.new ≡ refusal.at) × (call.answer ≡ 17))
 
 -- The log's fault comes before the quote.
-abbrev pub IsCheckedOf : Result Registers LogFault → Alg → List ℕ → (at at-2 : ℕ) → (code : ℕ) → Type 0
-IsCheckedOf (Ok found) hash quote at at-2 code = IsCompared (value_in found.banks) hash quote at at-2 code
-IsCheckedOf (Err fault) hash quote at at-2 code = IsFault fault at-2 code
+abbrev pub IsCheckedOf : Result Registers LogFault → Alg → List ℕ → Call ℕ → Type 0
+IsCheckedOf (Ok found) hash quote call = IsCompared (value_in found.banks) hash quote call
+IsCheckedOf (Err fault) hash quote call = IsFault fault call.new call.answer
 
 -- The hash comes before both. This is what the log gives.
-abbrev pub IsChecked : (Result Registers LogFault → Type 0) → Option Alg → List ℕ → (at at-2 : ℕ) → (code : ℕ) → Type 0
-IsChecked Gives None quote at at-2 code = (at-2 ≡ at) × (code ≡ 18)
-IsChecked Gives (Some hash) quote at at-2 code =
+abbrev pub IsChecked : (Result Registers LogFault → Type 0) → Option Alg → List ℕ → Call ℕ → Type 0
+IsChecked Gives None quote call = (call.new ≡ call.old) × (call.answer ≡ 18)
+IsChecked Gives (Some hash) quote call =
     (found : Result Registers LogFault) × Gives found
-    × IsCheckedOf found hash quote at at-2 code
+    × IsCheckedOf found hash quote call

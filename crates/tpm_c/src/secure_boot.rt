@@ -99,9 +99,11 @@ fn boot_of(
     at: &mut u32,
 ) -> u32
     ensures { IsBootSaid (sayings bank log.now.size (map shown log.now.records))
-        (authority_places log.now.size (map shown log.now.records)) result
-        (record { view = view.old; authorities = authorities.old; count = count.old; at = at.old })
-        (record { view = view.new; authorities = authorities.new; count = count.new; at = at.new }) }
+        (authority_places log.now.size (map shown log.now.records)) (record {
+          answer = result;
+          old = record { view = view.old; authorities = authorities.old; count = count.old; at = at.old };
+          new = record { view = view.new; authorities = authorities.new; count = count.new; at = at.new };
+        }) }
 {
     match secure_boot(log, bank) {
         Ok(found) => {
@@ -125,9 +127,11 @@ fn boot_in(
     count: &mut usize,
     at: &mut u32,
 ) -> u32
-    ensures { IsBootIn log.now bank result
-        (record { view = view.old; authorities = authorities.old; count = count.old; at = at.old })
-        (record { view = view.new; authorities = authorities.new; count = count.new; at = at.new }) }
+    ensures { IsBootIn log.now bank (record {
+      answer = result;
+      old = record { view = view.old; authorities = authorities.old; count = count.old; at = at.old };
+      new = record { view = view.new; authorities = authorities.new; count = count.new; at = at.new };
+    }) }
 {
     match Log::parse(log) {
         Ok(log) => boot_of(&log, bank, view, authorities, count, at),
@@ -152,9 +156,11 @@ pub extern "C" fn tpm_log_secure_boot(
     count: &mut usize,
     at: &mut u32,
 ) -> u32
-    ensures { IsBootChecked log.now (alg_of hash) result
-        (record { view = view.old; authorities = authorities.old; count = count.old; at = at.old })
-        (record { view = view.new; authorities = authorities.new; count = count.new; at = at.new }) }
+    ensures { IsBootChecked log.now (alg_of hash) (record {
+      answer = result;
+      old = record { view = view.old; authorities = authorities.old; count = count.old; at = at.old };
+      new = record { view = view.new; authorities = authorities.new; count = count.new; at = at.new };
+    }) }
 {
     match Alg::from_number(hash) {
         Some(bank) => boot_in(log, bank, view, authorities, count, at),

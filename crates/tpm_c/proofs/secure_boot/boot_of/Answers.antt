@@ -12,9 +12,11 @@ returns-else-count-authorities c =
     let places = authority_places log.size (map shown log.records) in
     let said = c.in-Ok.ensures.verdict in
     let fits : length places ≤ length c.args.authorities.now = omega (arith, c.authorities.ensures.count, c.if-count-authorities.false) in
-    subst (λ r. IsBootSaid r places c.state_number.result
-    (record { view = c.args.view.now; authorities = c.args.authorities.now; count = c.args.count.now; at = c.args.at.now })
-    (record { view = c.boot_view.result; authorities = c.authorities-in-Ok.new.places; count = c.authorities.result; at = c.args.at.now }))
+    subst (λ r. IsBootSaid r places (record {
+      answer = c.state_number.result;
+      old = record { view = c.args.view.now; authorities = c.args.authorities.now; count = c.args.count.now; at = c.args.at.now };
+      new = record { view = c.boot_view.result; authorities = c.authorities-in-Ok.new.places; count = c.authorities.result; at = c.args.at.now };
+    }))
     (sym said.1) (inl (
       c.state_number.ensures ∙ ap state_number said.2.state,
       c.boot_view.ensures ∙ same_view said.0 c.in-Ok.found said.2,
