@@ -1,5 +1,5 @@
 -- What is sealed of a command in bytes.
-use Rattle.std.proofs.Common.{◌≡◌, ℕ, List, [], ◌∷◌, length, take, Bool, true, Option, Some, None, sym, ap}
+use Rattle.std.proofs.Common.{◌≡◌, ℕ, List, [], ◌∷◌, length, take, true, Option, Some, None, sym, ap}
 use Rattle.std.proofs.Common.{◌∙◌, arith}
 use Rattle.tpm_commands.specs.declared.command.CommandBody.{CommandBody}
 use Rattle.tpm_commands.specs.Handles.{handle_kinds}
@@ -10,7 +10,7 @@ use Rattle.tpm_caller.specs.Sent.{sent}
 use Rattle.tpm_caller.specs.Plain.{Parts, parts_of, parts_in, IsSentFrom}
 use Rattle.tpm_c.specs.declared.caller.Held.TheVariants.{Free, Sealed}
 use Rattle.tpm_c.specs.Written.{IsIn}
-use Rattle.tpm_c.specs.Callers.{names_of, do_fit, seal_of, seal_by, sealed_bytes, after_seal}
+use Rattle.tpm_c.specs.Callers.{names_of, do_fit, SealedWith, seal_of, seal_by, sealed_bytes, after_seal}
 
 -- a command has as many handles as its row has kinds
 same_count : (b : CommandBody) → length (handle_kinds (code_for b)) ≡ length (handles_of b)
@@ -25,13 +25,13 @@ fit_is p b first second nonce is fit =
     ∙ ap (λ (q : Parts). do_fit (take (length (handle_kinds q.code)) (first ∷ second ∷ [])) nonce) (sym is)
     ∙ fit
 
-pub is_sealed : (c : CallerSession) (o : Option CommandBody) (p : Parts) (first second auth nonce out new : List ℕ) (keep : Bool) (w : Waiting)
-    (count : ℕ) → Some p ≡ parts_in o → do_fit (take (length (handle_kinds p.code)) (first ∷ second ∷ [])) nonce ≡ true
-    → ((b : CommandBody) → p ≡ parts_of b → IsSentFrom (sent (seal_of c b first second auth nonce keep)) out new (w, count))
-    → IsIn (sealed_bytes (seal_by (Free c) o first second auth nonce keep)) out new count
-    × (Sealed w ≡ after_seal (Free c) (seal_by (Free c) o first second auth nonce keep))
-is_sealed c None p first second auth nonce out new keep w count some fits sends = absurd (let z : ⊥ = cc in z)
-is_sealed c (Some b) p first second auth nonce out new keep w count some fits sends =
+pub is_sealed : (c : CallerSession) (o : Option CommandBody) (p : Parts) (means : SealedWith) (out new : List ℕ) (w : Waiting) (count : ℕ)
+    → Some p ≡ parts_in o → do_fit (take (length (handle_kinds p.code)) (means.first ∷ means.second ∷ [])) means.nonce ≡ true
+    → ((b : CommandBody) → p ≡ parts_of b → IsSentFrom (sent (seal_of c b means)) out new (w, count))
+    → IsIn (sealed_bytes (seal_by (Free c) o means)) out new count × (Sealed w ≡ after_seal (Free c) (seal_by (Free c) o means))
+is_sealed c None p means out new w count some fits sends = absurd (let z : ⊥ = cc in z)
+is_sealed c (Some b) p means out new w count some fits sends =
     let is : p ≡ parts_of b = cc in
     let s = sends b is in
-    rw (fit_is p b first second nonce is fits) (record { bytes = s.1.0; count_is = s.1.1 }, ap (λ (x : Waiting). Sealed x) s.0)
+    rw (fit_is p b means.first means.second means.nonce is fits)
+    (record { bytes = s.1.0; count_is = s.1.1 }, ap (λ (x : Waiting). Sealed x) s.0)

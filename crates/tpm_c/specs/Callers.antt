@@ -86,26 +86,38 @@ are_short (name ∷ names) = nat_le (length name) name_bytes && are_short names
 abbrev pub do_fit : (names : List (List ℕ)) → (nonce : List ℕ) → Bool
 do_fit names nonce = are_short names && nat_le (length nonce) digest_bytes
 
-abbrev pub seal_of : CallerSession → CommandBody → (first second auth nonce : List ℕ) → Bool → Seal
-seal_of c body first second auth nonce keep = record {
+-- what a command is sealed with: the Names of its handles, what follows the session key in the key of the HMAC,
+-- nonceCaller, and whether the session goes on
+pub record SealedWith : Type 0 where
+  pub first : List ℕ
+  pub second : List ℕ
+  pub auth : List ℕ
+  pub nonce : List ℕ
+  pub keep : Bool
+
+-- C says it by a number.
+abbrev pub is_set : ℕ → Bool
+is_set keep = not (keep == 0)
+
+abbrev pub seal_of : CallerSession → CommandBody → SealedWith → Seal
+seal_of c body means = record {
   caller = c;
   body = body;
-  names = names_of body first second;
-  auth = auth;
-  nonce = nonce;
-  keep = keep;
+  names = names_of body means.first means.second;
+  auth = means.auth;
+  nonce = means.nonce;
+  keep = means.keep;
 }
 
-abbrev pub seal_by : Held → Option CommandBody → (first second auth nonce : List ℕ) → Bool → Option Seal
-seal_by (Free c) (Some body) first second auth nonce keep =
-    if do_fit (names_of body first second) nonce then Some (seal_of c body first second auth nonce keep) else None
-seal_by _ _ first second auth nonce keep = None
+abbrev pub seal_by : Held → Option CommandBody → SealedWith → Option Seal
+seal_by (Free c) (Some body) means =
+    if do_fit (names_of body means.first means.second) means.nonce then Some (seal_of c body means) else None
+seal_by _ _ means = None
 
 -- what is sealed, if anything is
-abbrev pub sealing : Held → (command_bytes first second auth nonce : List ℕ) → (keep room : ℕ) → Option Seal
-sealing held bytes first second auth nonce keep room =
-    if nat_le 4096 room then seal_by held
-    (body_in (read_all command bytes)) first second auth nonce (not (keep == 0)) else None
+abbrev pub sealing : Held → (command_bytes : List ℕ) → SealedWith → (room : ℕ) → Option Seal
+sealing held bytes means room =
+    if nat_le 4096 room then seal_by held (body_in (read_all command bytes)) means else None
 
 abbrev pub sealed_bytes : Option Seal → List ℕ
 sealed_bytes (Some s) = sealed s

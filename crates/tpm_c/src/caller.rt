@@ -19,7 +19,7 @@ ghost use Rattle.tpm_c.specs.contracts.caller.Held.{the_row};
 ghost use Rattle.tpm_c.specs.Written.{IsIn};
 ghost use Rattle.tpm_c.specs.Callers.{held_at, request_in, start_reply_in, started_by, start_code, after_start};
 ghost use Rattle.tpm_c.specs.Callers.{fault_number, open_code, kept, after_open, give_up_code, after_give_up};
-ghost use Rattle.tpm_c.specs.Callers.{are_short, do_fit, seal_of, sealing, sealed_bytes, after_seal};
+ghost use Rattle.tpm_c.specs.Callers.{are_short, do_fit, is_set, seal_of, sealing, sealed_bytes, after_seal};
 
 use crate::out::BUFFER_BYTES;
 use arrayvec::ArrayVec;
@@ -188,9 +188,13 @@ fn sealed(
         (take (length (handle_kinds plain.now.code)) (first.now ∷ second.now ∷ [])) nonce.now
         ≡ true }
     ensures { (body : CommandBodyOf) → plain.now ≡ parts_of body →
-        IsSentFrom
-        (sent (seal_of caller body first.now second.now auth.now nonce.now keep))
-        out.old out.new result }
+        IsSentFrom (sent (seal_of caller body (record {
+          first = first.now;
+          second = second.now;
+          auth = auth.now;
+          nonce = nonce.now;
+          keep = keep;
+        }))) out.old out.new result }
 {
     let names = names(plain.code().handles(), first, second);
     caller.seal_plain(plain, names.as_slice(), auth, nonce_of(nonce), keep, out)
@@ -206,10 +210,15 @@ fn seal(
     keep: u32,
     out: &mut [u8],
 ) -> usize
-    ensures { IsIn (sealed_bytes (sealing held.old command.now
-        first.now second.now auth.now nonce.now keep (length out.old))) out.old out.new result
-        × (held.new ≡ after_seal held.old (sealing
-        held.old command.now first.now second.now auth.now nonce.now keep (length out.old))) }
+    ensures { let seal = sealing held.old command.now (record {
+      first = first.now;
+      second = second.now;
+      auth = auth.now;
+      nonce = nonce.now;
+      keep = is_set keep;
+    }) (length out.old) in
+        IsIn (sealed_bytes seal) out.old out.new result
+        × (held.new ≡ after_seal held.old seal) }
 {
     if out.len() < BUFFER_BYTES {
         return 0;
@@ -254,10 +263,15 @@ pub unsafe extern "C" fn tpm_caller_seal(
 ) -> usize
     ghost held: { HeldOf }
     requires* { sem 𝓛 (held_at held place) }
-    ensures* { sem 𝓛 (held_at (after_seal held (sealing
-        held command.now first.now second.now auth.now nonce.now keep (length out.old))) place)
-        ∗ ⌜ IsIn (sealed_bytes (sealing held command.now
-        first.now second.now auth.now nonce.now keep (length out.old))) out.old out.new result ⌝ }
+    ensures* { let seal = sealing held command.now (record {
+      first = first.now;
+      second = second.now;
+      auth = auth.now;
+      nonce = nonce.now;
+      keep = is_set keep;
+    }) (length out.old) in
+        sem 𝓛 (held_at (after_seal held seal) place)
+        ∗ ⌜ IsIn (sealed_bytes seal) out.old out.new result ⌝ }
 {
     seal(
         &mut *(place as *mut Held),

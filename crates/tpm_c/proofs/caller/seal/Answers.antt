@@ -5,7 +5,7 @@ use Rattle.tpm_commands.specs.Handles.{handle_kinds}
 use Rattle.tpm_buffer.specs.Commands.{command as command_layout}
 use Rattle.tpm_caller.specs.Plain.{body_in, parts_in}
 use Rattle.tpm_c.specs.declared.caller.Held.TheVariants.{Free}
-use Rattle.tpm_c.specs.Callers.{do_fit}
+use Rattle.tpm_c.specs.Callers.{do_fit, SealedWith, is_set}
 use Rattle.tpm_c.proofs.Sealing.{is_sealed}
 use Rattle.tpm_c.proofs.caller.seal.Goals as goal
 
@@ -16,6 +16,12 @@ returns-in-Free c =
     let there : parts_in (body_in (read_all command_layout c.args.command.now)) ≡ Some c.in-Some.plain = search rules in
     let fits : do_fit (take (length (handle_kinds c.in-Some.plain.code)) (c.args.first.now ∷ c.args.second.now ∷ []))
     c.args.nonce.now ≡ true = search rules in
-    rw (room, free) (is_sealed c.in-Free.caller (body_in (read_all command_layout c.args.command.now)) c.in-Some.plain
-    c.args.first.now c.args.second.now c.args.auth.now c.args.nonce.now c.args.out.now c.sealed-waiting.new.out _
-    c.sealed-waiting.result.0 c.sealed-waiting.result.1 (sym there) fits c.sealed-waiting.ensures)
+    let means : SealedWith = record {
+      first = c.args.first.now;
+      second = c.args.second.now;
+      auth = c.args.auth.now;
+      nonce = c.args.nonce.now;
+      keep = is_set c.args.keep;
+    } in
+    rw (room, free) (is_sealed c.in-Free.caller (body_in (read_all command_layout c.args.command.now)) c.in-Some.plain means
+    c.args.out.now c.sealed-waiting.new.out c.sealed-waiting.result.0 c.sealed-waiting.result.1 (sym there) fits c.sealed-waiting.ensures)

@@ -7,7 +7,7 @@ use Rattle.tpm_c.proofs.Steps.{mut_slice_Tells, triple_of, whole, sub, agg}
 use Rattle.tpm_c.proofs.Lending.{Spelled, there, points, becomes, lent}
 use Rattle.tpm_c.proofs.caller.seal.Met.{met}
 use Rattle.tpm_c.specs.contracts.caller.Held.{the_row}
-use Rattle.tpm_c.specs.Callers.{held_at, sealing, sealed_bytes, after_seal}
+use Rattle.tpm_c.specs.Callers.{held_at, SealedWith, is_set, sealing, sealed_bytes, after_seal}
 use Rattle.tpm_c.specs.Written.{IsIn}
 use Rattle.tpm_c.specs.contracts.caller.seal as of
 use Rattle.tpm_c.specs.contracts.caller.tpm_caller_seal as f
@@ -34,8 +34,15 @@ tpm_caller_seal_spec 𝓤 𝓛 𝓜 𝓡 wired =
       ),
     ))
     (λ p w. Unit {0}) (λ p w x. held_at w.4 p) (λ w x. id⊢ 𝓤 _) (λ p w. there 𝓛 (held_at w.4 p)) (λ b o w are x.
-    let a = w.3 in let held = w.4 in let out = a.1.1.1.1.1.1.0.now in let seal =
-    sealing held a.0.now a.1.0.now a.1.1.0.now a.1.1.1.0.now a.1.1.1.1.0.now a.1.1.1.1.1.0 (length out) in
+    let a = w.3 in let held = w.4 in let out = a.1.1.1.1.1.1.0.now in
+    let means : SealedWith = record {
+      first = a.1.0.now;
+      second = a.1.1.0.now;
+      auth = a.1.1.1.0.now;
+      nonce = a.1.1.1.1.0.now;
+      keep = is_set a.1.1.1.1.1.0;
+    } in
+    let seal = sealing held a.0.now means (length out) in
     enter ! _ _ _ _ _ $ alloc_all ! (λ l. pass_all ! refl (
       (tt, tt),
       (
