@@ -1,6 +1,6 @@
 //! A quote as it was signed: its parts, and beside the registers after a log.
 
-ghost use Rattle.std.specs.Prelude.{◌≡◌, ◌==◌, ◌≤◌, length, Result, Ok};
+ghost use Rattle.std.specs.Prelude.{◌≡◌, Ok};
 ghost use Rattle.tpm_types.specs.Alg.{alg_of};
 ghost use Rattle.tpm_model.specs.Registers.{value_in};
 ghost use Rattle.tpm_log.specs.Changes.{AreAfter};

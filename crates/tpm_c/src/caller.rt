@@ -1,15 +1,13 @@
 //! A caller's session in the caller's memory (Part 1, "Session-Based Authorizations").
 
-ghost use Rattle.std.specs.Prelude.{◌≡◌, ◌≤◌, true, length, take, [], ◌∷◌, Option, Some, None, Ok, IfOk, IfErr};
+ghost use Rattle.std.specs.Prelude.{◌≡◌, ◌≤◌, true, length, take, [], ◌∷◌, Ok, IfOk, IfErr};
 ghost use Rattle.std.specs.Borrow.{sem};
 ghost use denote.RawPtr.{room_at};
 ghost use Rattle.tpm_wire.specs.Reading.{read_all};
 ghost use Rattle.tpm_types.specs.Limits.{digest_bytes, name_bytes};
 ghost use Rattle.tpm_commands.specs.declared.command.CommandBody.{CommandBody as CommandBodyOf};
-ghost use Rattle.tpm_commands.specs.Codes.{code_number};
 ghost use Rattle.tpm_commands.specs.Handles.{handle_kinds};
 ghost use Rattle.tpm_buffer.specs.Commands.{command as command_layout};
-ghost use Rattle.tpm_buffer.specs.Responses.{response};
 ghost use Rattle.tpm_model.specs.Callers.{Opened, Waiting, opened};
 ghost use Rattle.tpm_caller.specs.Sent.{caller_with, sent};
 ghost use Rattle.tpm_caller.specs.Plain.{parts_of, IsSentFrom};

@@ -1,6 +1,6 @@
 //! A command's verdict, and its areas by their places in its bytes.
 
-ghost use Rattle.std.specs.Prelude.{◌≡◌, ◌≤◌, ◌+◌, ◌∷◌, [], option_map, length, IfOk, IfErr};
+ghost use Rattle.std.specs.Prelude.{◌≡◌, ◌≤◌, ◌+◌, ◌∷◌, [], length, IfOk, IfErr};
 ghost use Rattle.tpm_wire.specs.Path.{Spells, Fault};
 ghost use Rattle.tpm_commands.specs.declared.command.Command.{Command};
 ghost use Rattle.tpm_commands.specs.declared.command_parameters.Params.{Params as ParamsOf};

@@ -3,7 +3,7 @@
 ghost use Rattle.std.specs.Prelude.{◌≡◌, ℕ, List, []};
 ghost use Rattle.std.specs.Borrow.{sem};
 ghost use denote.RawPtr.{room_at};
-ghost use Rattle.tpm_stream.specs.Frames.{Pushes, Advances};
+ghost use Rattle.tpm_stream.specs.Frames.{Pushes};
 ghost use Rattle.tpm_stream.specs.declared.framer.Status.{Status as StatusOf};
 ghost use Rattle.tpm_stream.specs.contracts.framer.Framer.{the_row};
 ghost use Rattle.tpm_c.specs.Framers.{framer_at, next_at, pushed_at, status_number, FrameIn};

@@ -1,7 +1,7 @@
 //! A device that is kept: its NV memory as bytes in the caller's memory, and the device that is made of them again
 //! (Part 1, "NV Memory").
 
-ghost use Rattle.std.specs.Prelude.{◌≡◌, ◌≤◌, ℕ, List, [], length, if◌then◌else◌};
+ghost use Rattle.std.specs.Prelude.{◌≡◌, ℕ, List, [], length, if◌then◌else◌};
 ghost use Rattle.std.specs.Borrow.{sem};
 ghost use Rattle.tpm_model.specs.NvChanges.{changes_nv as changes_nv_of};
 ghost use Rattle.tpm_model.specs.Steps.{History, Origin, new_origin};

@@ -1,6 +1,6 @@
 //! What is handed to C.
 
-ghost use Rattle.std.specs.Prelude.{◌≡◌, ◌≤◌, length};
+ghost use Rattle.std.specs.Prelude.{◌≤◌, length};
 ghost use Rattle.tpm_c.specs.Written.{IsIn};
 
 /// No command and no response has more bytes.

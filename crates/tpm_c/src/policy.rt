@@ -1,8 +1,8 @@
 //! The digest of a policy, without a device (Part 1, "Enhanced Authorization"; Part 3, 23).
 
-ghost use Rattle.std.specs.Prelude.{◌≡◌, List};
+ghost use Rattle.std.specs.Prelude.{◌≡◌};
 ghost use Rattle.tpm_wire.specs.Reading.{read_all};
-ghost use Rattle.tpm_types.specs.Alg.{alg_of, digest_len};
+ghost use Rattle.tpm_types.specs.Alg.{alg_of};
 ghost use Rattle.tpm_types.specs.Tpml.{selections as selections_layout, or_digests};
 ghost use Rattle.tpm_model.specs.Policies.Assertion.{OrAsserted, CodeAsserted, AuthValueAsserted};
 ghost use Rattle.tpm_session.specs.Policies.{as_assertion};

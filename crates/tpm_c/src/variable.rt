@@ -1,6 +1,5 @@
 //! The variable that the data of a record are (PC Client Platform Firmware Profile, "UEFI_VARIABLE_DATA").
 
-ghost use Rattle.std.specs.Prelude.{◌≡◌};
 ghost use Rattle.tpm_log.specs.EventData.{variable_of};
 ghost use Rattle.tpm_c.specs.Variables.{IsVariableTold};
 
