@@ -179,6 +179,79 @@ static size_t execute_through_c(size_t which, uint8_t *out) {
     return is_done(out, len);
 }
 
+static size_t decode_through_c(size_t which, uint8_t *out) {
+    struct tpm_refusal refusal;
+    (void)out;
+    return tpm_command_decode(buffers[which].bytes, buffers[which].len, &refusal) == TPM_DONE;
+}
+
+// ---- the caller's end of a session for C, bound to the owner, and a device. The nonces are the same each time, as in crates/tpm_bench.
+
+static max_align_t bound_room[1024], caller_room[64];
+static uint8_t sealed[TPM_BUFFER_BYTES], opened[TPM_BUFFER_BYTES];
+static size_t opened_len;
+
+static struct tpm_device *bound_device(void) { return (struct tpm_device *)bound_room; }
+static struct tpm_caller *bound_caller(void) { return (struct tpm_caller *)caller_room; }
+
+static void transmit_through_c(const uint8_t *command, size_t len) {
+    static const uint8_t nonce[TPM_NONCE_BYTES];
+    opened_len = tpm_device_execute(bound_device(), command, len, nonce, opened, sizeof opened);
+}
+
+static void hold_session(void) {
+    static const uint8_t startup[] = {0x80, 0x01, 0, 0, 0, 12, 0, 0, 0x01, 0x44, 0, 0}, none[1];
+    const struct buffer *start = &buffers[START_AUTH_SESSION];
+    want(tpm_device_size() <= sizeof bound_room && tpm_caller_size() <= sizeof caller_room, "the rooms of both ends");
+    want(tpm_device_init(bound_device(), none, 0, 0) == 1, "a device for both ends");
+    transmit_through_c(startup, sizeof startup);
+    transmit_through_c(start->bytes, start->len);
+    tpm_caller_init(bound_caller());
+    want(tpm_caller_start(bound_caller(), start->bytes, start->len, opened, opened_len, none, 0) == 1, "a session for C");
+}
+
+static size_t seal_once(void) {
+    static const uint8_t register_16[] = {0, 0, 0, 16}, none[1];
+    static uint8_t nonce[NONCE];
+    const struct buffer *plain = &buffers[PCR_EXTEND_PLAIN];
+    nonce[0] = 0xC1;
+    return tpm_caller_seal(bound_caller(), plain->bytes, plain->len, register_16, 4, register_16, 0, none, 0, nonce, NONCE, 1, sealed,
+                           sizeof sealed);
+}
+
+static size_t seal_through_c(size_t argument, uint8_t *out) {
+    static const uint8_t refusal[] = {0x80, 0x01, 0, 0, 0, 10, 0, 0, 0x01, 0};
+    (void)argument, (void)out;
+    hold_session();
+    for (int i = 0; i < TIMES; i++)
+        if (seal_once() == 0 || tpm_caller_give_up(bound_caller(), refusal, sizeof refusal) != 1)
+            return 0;
+    return 1;
+}
+
+// The HMAC is wrong in its last byte, so that the reply may be opened again.
+static size_t open_through_c(size_t argument, uint8_t *out) {
+    (void)argument, (void)out;
+    hold_session();
+    transmit_through_c(sealed, seal_once());
+    opened[opened_len - 1] ^= 1;
+    for (int i = 0; i < TIMES; i++)
+        if (tpm_caller_open(bound_caller(), opened, opened_len) != TPM_CALLER_WRONG_MAC)
+            return 0;
+    return 1;
+}
+
+static size_t both_ends_through_c(size_t argument, uint8_t *out) {
+    (void)argument, (void)out;
+    hold_session();
+    for (int i = 0; i < TIMES; i++) {
+        transmit_through_c(sealed, seal_once());
+        if (tpm_caller_open(bound_caller(), opened, opened_len) != TPM_CALLER_OPENED)
+            return 0;
+    }
+    return 1;
+}
+
 // ---- a device that is kept, with eight counters
 
 static max_align_t kept_room[1024], made_room[1024];
@@ -350,6 +423,10 @@ static struct row rows[] = {
     {"execute PCR_Event, 4 bytes", PCR_EVENT, {execute, TIMES}, {hashes_of_event}, 1},
     {"C, PCR_Read", PCR_READ, {execute_through_c, TIMES}, {execute, TIMES}},
     {"C, PCR_Extend", PCR_EXTEND, {execute_through_c, TIMES}, {execute, TIMES}},
+    {"C, decode PCR_Extend", PCR_EXTEND, {decode_through_c}, {decode_command}},
+    {"C, seal PCR_Extend", 0, {seal_through_c, TIMES}, {seal, TIMES}},
+    {"C, open reply of PCR_Extend", 0, {open_through_c, TIMES}, {open_reply, TIMES}},
+    {"C, PCR_Extend at both ends", 0, {both_ends_through_c, TIMES}, {both_ends, TIMES}},
     {"execute Startup", 0, {start_device, TIMES}, {NULL}},
     {"execute PCR_Reset", RESET, {execute_run, TIMES}, {NULL}},
     {"execute PolicyPCR", POLICY_PCR, {execute_run, TIMES}, {hashes_of_run}, 1},

@@ -7,7 +7,7 @@ struct buffer {
     uint8_t bytes[4096];
 };
 
-enum { PCR_EXTEND, PCR_EXTEND_SIGNED, PCR_EXTEND_ALL, PCR_EVENT, PCR_READ, NV_READ, START_AUTH_SESSION, PCR_READ_REPLY, BUFFERS };
+enum { PCR_EXTEND, PCR_EXTEND_PLAIN, PCR_EXTEND_SIGNED, PCR_EXTEND_ALL, PCR_EVENT, PCR_READ, NV_READ, START_AUTH_SESSION, PCR_READ_REPLY, BUFFERS };
 static struct buffer buffers[BUFFERS];
 
 static void add(struct buffer *buffer, const char *hex) {
@@ -61,6 +61,11 @@ static void make_buffers(void) {
     add(b, "00000010  00000009 40000009 0000 01 0000"); // register 16; a password, which is empty
     add_two_digests(b);
     want(b->len == 0x57, "the length of PCR_Extend");
+
+    b = begin(PCR_EXTEND_PLAIN, "8001 0000004A 00000182");
+    add(b, "00000010"); // the same, without a session
+    add_two_digests(b);
+    want(b->len == 0x4A, "the length of PCR_Extend without a session");
 
     b = begin(PCR_EXTEND_SIGNED, "8002 00000097 00000182");
     add(b, "00000010  00000049"); // the same, in an HMAC session

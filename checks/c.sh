@@ -451,12 +451,19 @@ keeping() {
         "$compiler" -std=c99 -O2 -Wall -Wextra -Werror -Iinclude -c -o "$room/keeping.o" "$room/keeping.c"
 }
 
-# build_kept: checks/kept.c as $room/kept, with the compiler's sanitizers where it has them; and the images of
-# checks/kept.txt, with what is said of them.
+# sanitized NAME WORD..: checks/NAME.c as $room/NAME, with the compiler's sanitizers where it has them: with these words
+# the program does nothing.
+sanitized() {
+    one=$1
+    shift
+    { "$compiler" -std=c11 -O1 -g -fsanitize=address,undefined -fno-sanitize-recover=all -Wall -Wextra -Werror -Iinclude \
+        -o "$room/$one" "checks/$one.c" "$archive" 2>/dev/null && "$room/$one" "$@" </dev/null >/dev/null; } ||
+        "$compiler" -std=c11 -O2 -Wall -Wextra -Werror -Iinclude -o "$room/$one" "checks/$one.c" "$archive"
+}
+
+# build_kept: checks/kept.c, and the images of checks/kept.txt, with what is said of them.
 build_kept() {
-    { "$compiler" -std=c11 -O1 -g -fsanitize=address,undefined -fno-sanitize-recover=all -Wall -Wextra -Werror \
-        -Iinclude -o "$room/kept" checks/kept.c "$archive" 2>/dev/null && "$room/kept" rows </dev/null; } ||
-        "$compiler" -std=c11 -O2 -Wall -Wextra -Werror -Iinclude -o "$room/kept" checks/kept.c "$archive" || return 1
+    sanitized kept rows || return 1
     grep -v '^#' checks/kept.txt | sed 's/ -> .*//' >"$room/kept.in"
     grep -v '^#' checks/kept.txt | sed 's/.* -> //' >"$room/kept.wanted"
 }
@@ -470,6 +477,12 @@ same_kept() {
 # changed_kept: images that are changed at random, 100,000 of them, or as many as CHANGED_IMAGES says.
 changed_kept() {
     "$room/kept" images "${CHANGED_IMAGES:-100000}" "${SEED:-1}" <"$room/kept.in"
+}
+
+# same_sealed: commands sealed and replies opened, 50,000 of them, or as many as SEALED_COMMANDS says, beside the caller
+# that checks/sealed.c has.
+same_sealed() {
+    sanitized sealed 0 1 && "$room/sealed" "${SEALED_COMMANDS:-50000}" "${SEED:-1}"
 }
 
 # same_call WORD FUNCTION LEN: the call of this word in checks/same.c, which compares what it was sent with what it
@@ -543,6 +556,7 @@ else
     holds "quotes that are changed at random through C" changed_quotes
     holds "the digest of a policy through C" same_policies
     holds "a session is held through C" same_session
+    holds "random commands are sealed and their replies opened through C as Part 1 has it" same_sealed
     holds "a device through C that is made again of the bytes in checks/kept.txt" same_kept
     holds "images of a kept device that are changed at random through C" changed_kept
     holds "a device that is kept answers through C as one whose power was cycled" "$room/kept" answers 1000 "${SEED:-1}"
