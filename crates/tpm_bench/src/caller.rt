@@ -18,7 +18,7 @@ const STARTUP: [u8; 12] = [
     0x80, 0x01, 0x00, 0x00, 0x00, 0x0C, 0x00, 0x00, 0x01, 0x44, 0x00, 0x00,
 ];
 
-// A response code that is not 0.
+// The response TPM_RC_INITIALIZE.
 const REFUSAL: [u8; 10] = [0x80, 0x01, 0x00, 0x00, 0x00, 0x0A, 0x00, 0x00, 0x01, 0x00];
 
 // What the device is handed for random numbers: the same each time, so that each reply leaves the caller as it was.
@@ -85,7 +85,8 @@ fn extend(caller: Caller, sent: &mut Buffer) -> Pending {
     )
 }
 
-/// Seals the command so many times, and gives each up. It answers how many times the caller came back.
+/// Seals a TPM2_PCR_Extend of register 16 so many times, and gives each up. It answers how many times the caller came
+/// back, which is 0 too where no session is started.
 #[unsafe(no_mangle)]
 pub extern "C" fn tpm_bench_seal(times: u32) -> u32
     ensures { result ≤ times }
@@ -94,17 +95,17 @@ pub extern "C" fn tpm_bench_seal(times: u32) -> u32
         return 0;
     };
     let mut sent = Buffer::new();
-    for sealed in 0..times {
+    for given_up in 0..times {
         caller = match extend(caller, &mut sent).give_up(&REFUSAL) {
             Ok(caller) => caller,
-            Err(_) => return sealed,
+            Err(_) => return given_up,
         };
     }
     times
 }
 
-/// Opens the command's reply so many times, whose HMAC is wrong in its last byte, so that it may be
-/// opened again. It answers how many times this was found.
+/// Opens the reply to such a command so many times, whose HMAC is wrong in its last byte, so that it may be opened
+/// again. It answers how many times this was found.
 #[unsafe(no_mangle)]
 pub extern "C" fn tpm_bench_open(times: u32) -> u32
     ensures { result ≤ times }
@@ -134,8 +135,8 @@ pub extern "C" fn tpm_bench_open(times: u32) -> u32
     times
 }
 
-/// Seals the command, has a device execute it and opens the reply, so many times. It answers how
-/// many times it was opened.
+/// Seals such a command, has a device execute it and opens the reply, so many times. It answers how many times it was
+/// opened.
 #[unsafe(no_mangle)]
 pub extern "C" fn tpm_bench_both_ends(times: u32) -> u32
     ensures { result ≤ times }
