@@ -12,7 +12,7 @@
 #define GUARD 0xA5
 #define OWNER "owner"
 
-enum { DIGEST = 32, BLOCK = 64, MOST_NONCE = 48, MOST_NAME = 50, MARGIN = 16, POLICY_INDEX = 0x01800009 };
+enum { DIGEST = 32, BLOCK = 64, MOST_NONCE = 48, MOST_NAME = 50, MARGIN = 16, POLICY_INDEX = 0x01800004 };
 
 /* A list of bytes in a block of its own, so that a sanitizer sees a look behind it. */
 struct bytes {
@@ -72,6 +72,7 @@ enum phase { NONE, FREE, WAITING };
 static struct {
     enum phase phase;
     uint32_t handle;
+    int is_there; /* the device has it */
     int is_bound;
     uint8_t key[DIGEST];
     size_t key_len;
@@ -150,6 +151,7 @@ static void start(void) {
     struct bytes nonce = random_bytes(nonce_len);
     if (held.handle != 0)
         send_plain(put(to, held.handle, 4), TPM_CC_FlushContext);
+    held.is_there = 0;
     to = put(put(to, TPM_RH_NULL, 4), is_bound ? TPM_RH_OWNER : TPM_RH_NULL, 4);
     to = put_bytes(put(to, nonce_len, 2), nonce.at, nonce_len);
     send_plain(put(put(put(put(to, 0, 2), is_policy, 1), TPM_ALG_NULL, 2), TPM_ALG_SHA256, 2), TPM_CC_StartAuthSession);
@@ -161,6 +163,7 @@ static void start(void) {
         lost += held.phase == WAITING;
         held.phase = FREE;
         held.handle = number_at(reply + 10, 4);
+        held.is_there = 1;
         held.is_bound = is_bound;
         held.nonce_len = number_at(reply + 14, 2);
         memcpy(held.nonce, reply + 16, held.nonce_len);
@@ -207,7 +210,7 @@ static uint8_t *put_policy(uint8_t *to) {
 /* One of the commands that are sealed, or now and then one that can't be, with its parameters, in `command`. */
 static void random_command(void) {
     uint8_t *to = command + 10;
-    uint32_t code = 0, index = 0x01800000 + (uint32_t)below(10), by = below(2) ? TPM_RH_OWNER : index;
+    uint32_t code = 0, index = 0x01800000 + (uint32_t)below(5), by = below(2) ? TPM_RH_OWNER : index;
     switch (below(16)) {
     case 0:
     case 1:
@@ -338,7 +341,7 @@ static void assert_policy(void) {
 /* Seals a random command, and sends what comes of it. */
 static void seal(void) {
     random_command();
-    if (held.handle >> 24 == 3 && below(2) == 0) {
+    if (held.handle >> 24 == 3 && below(4) != 0) {
         assert_policy();
         end_plain(put(put(command + 10, POLICY_INDEX, 4), POLICY_INDEX, 4), TPM_CC_NV_Increment);
     }
@@ -456,15 +459,43 @@ static void give_up(const uint8_t *bytes, size_t len) {
     free(came.at);
 }
 
+/* Another reply in the place of the one that is awaited: bytes are changed, or where that is right it has no session, a session twice, or
+ * a nonce that is shorter by a byte. */
+static size_t make_other(uint8_t *other) {
+    size_t len = awaited_len, at = len < 16 ? len : 14 + number_at(awaited + 10, 4), session = len - at;
+    memcpy(other, awaited, len);
+    switch (number_at(awaited, 2) == 0x8002 ? below(6) : 5) {
+    case 0:
+        put(other, 0x8001, 2);
+        memmove(other + 10, other + 14, len - 14);
+        len = at - 4;
+        break;
+    case 1:
+        memcpy(other + len, other + at, session);
+        len += session;
+        break;
+    case 2: {
+        size_t nonce = number_at(other + at, 2);
+        put(other + at, nonce - 1, 2);
+        memmove(other + at + 1 + nonce, other + at + 2 + nonce, session - 2 - nonce);
+        len--;
+        break;
+    }
+    default:
+        change(other, &len, TPM_BUFFER_BYTES);
+        if (below(2))
+            return len;
+    }
+    if (len >= 10)
+        put(other + 2, len, 4);
+    return len;
+}
+
 /* The reply comes, and before it others do. Nothing else is sealed as long as it is awaited. */
 static void take_reply(void) {
     static uint8_t other[TPM_BUFFER_BYTES];
     for (size_t times = below(3); times > 0; times--) {
-        size_t len = awaited_len;
-        memcpy(other, awaited, len);
-        change(other, &len, sizeof other);
-        if (len >= 10 && below(2))
-            put(other + 2, len, 4);
+        size_t len = make_other(other);
         if (below(2))
             open_reply(other, len);
         else
@@ -491,7 +522,7 @@ int main(int argc, char **argv) {
     tpm_caller_init(caller);
     transmit(startup, sizeof startup);
     while (sealed_commands < count) {
-        if (held.phase == NONE && below(8) != 0)
+        if (held.phase == NONE || !held.is_there ? below(8) != 0 : below(32) == 0)
             start();
         seal();
         take_reply();
