@@ -1,15 +1,14 @@
 //! A list of registers in the subcommand `check`.
 
-ghost use Rattle.std.specs.Prelude.{◌≡◌, ◌+◌, ◌^◌, ◌<◌, ◌++◌, ℕ, List, [], ◌∷◌, IfOk, OnOk, IsErrOf, length};
-ghost use Rattle.std.specs.Prelude.{string_bytes};
+ghost use Rattle.std.specs.Prelude.{◌≡◌, ◌++◌, ℕ, List, IfOk, OnOk, IsErrOf, string_bytes};
 ghost use Rattle.std.specs.Io.KnownBytes.{Appends};
 ghost use Rattle.tpm_wire.specs.Sources.{IsWhereItFailed};
 ghost use Rattle.tpm_lines.specs.declared.fault.ToolFault.TheVariants.{InputTooLong, Read};
-ghost use Rattle.tpm_lines.specs.Faults.{FailsByMemoryOrWrite};
 ghost use Rattle.tpm_lines.specs.InputLines.{AddedTo, CountsRead};
-ghost use Rattle.tpm_check.specs.Compare.{comparison, compared_text, is_value, ReadsList, ReadsTooMuchList};
-ghost use Rattle.tpm_check.specs.Comparing.{stated_as, place, start, comparison_at, IsOpen, Takes, EndsLine};
-ghost use Rattle.tpm_check.specs.Comparing.{EndsStated, next_line, status_behind};
+ghost use Rattle.tpm_lines.specs.LineSinks.{some_if};
+ghost use Rattle.tpm_check.specs.Compare.{comparison, compared_text, is_value, line_under, ReadsList, ReadsTooMuchList};
+ghost use Rattle.tpm_check.specs.Comparing.{line_behind, line_text, stated_as, stated_behind, stated_text};
+ghost use Rattle.tpm_check.specs.Comparing.{status_behind};
 ghost use Rattle.tpm_check.specs.Told.{told};
 
 use crate::beside::Beside;
@@ -18,8 +17,8 @@ use crate::register_text::{push_compared, push_not_a_register};
 use crate::stated::Stated;
 use std::alloc::{AllocError, Global};
 use std::io::Write;
-use tpm_lines::answer::write;
 use tpm_lines::fault::ToolFault;
+use tpm_lines::lines::{LineSink, take_lines};
 use tpm_lines::status::Status;
 use tpm_lines::text::Pushed;
 use tpm_wire::Source;
@@ -27,18 +26,12 @@ use tpm_wire::Source;
 /// How many bytes a list has at most.
 const MOST_BYTES: usize = 16_777_216;
 
-/// How many bytes are asked for at a time.
-const PIECE: usize = 4096;
-
-// A list of registers that is being compared with registers that were found.
+// A list of registers that is being compared: with which registers, the heading above the next line, and whether all
+// lines before it match.
 #[derive(Drop)]
-struct Comparing {
-    // what has come of the present line, and its number
-    line: Vec<u8>,
-    number: u64,
-    // the heading above it
+struct Comparing<'a> {
+    found: &'a Beside<'a>,
     heading: Heading,
-    // whether all lines before it match
     status: Status,
 }
 
@@ -68,179 +61,81 @@ fn status_behind(status: Status, same: bool) -> Status
     if same { status } else { Status::Refused }
 }
 
-impl Comparing {
-    fn new(alloc: Global) -> Self
-        ensures { place result ≡ start }
+impl Comparing<'_> {
+    // Compares the register that a line states.
+    fn compare_stated(&mut self, stated: &Stated, text: &mut String) -> Pushed
+        ensures { OnOk result ((self.new ≡ stated_behind self.old (stated_as stated.now))
+            × AddedTo (string_bytes text.old) (string_bytes text.new)
+            (stated_text (told self.old.found.now) (stated_as stated.now))) }
     {
-        Comparing {
-            line: Vec::new(alloc),
-            number: 1,
-            heading: Heading::NoBank,
-            status: Status::Done,
-        }
-    }
-
-    // Compares the register that the present line states.
-    fn end_stated(&mut self, found: &Beside<'_>, stated: &Stated, text: &mut String) -> Pushed
-        requires { self.old.number + 1 < 2 ^ 64 }
-        ensures { OnOk result (EndsStated (told found.now) (place self.old)
-            (stated_as stated.now) (place self.new)
-            (AddedTo (string_bytes text.old) (string_bytes text.new))) }
-    {
-        let same = compare(text, found, stated)?;
+        let same = compare(text, self.found, stated)?;
         self.status = status_behind(self.status, same);
-        self.line.clear();
-        self.number += 1;
         Ok(())
     }
 
-    // Takes the present line, of which nothing is said, up to the next under this heading.
-    fn end_unsaid(&mut self, heading: Heading)
-        requires { self.old.number + 1 < 2 ^ 64 }
-        ensures { place self.new ≡ next_line (place self.old) heading }
-    {
-        self.heading = heading;
-        self.line.clear();
-        self.number += 1;
-    }
-
-    // Takes the present line, and answers whether it is right.
-    fn end_line(
+    // Compares the line of this number, and answers whether it is right.
+    fn compare_line(
         &mut self,
         alloc: Global,
-        found: &Beside<'_>,
+        number: u64,
+        line: &[u8],
         text: &mut String,
     ) -> Result<bool, AllocError>
-        requires { self.old.number + 1 < 2 ^ 64 }
-        ensures { IfOk result (λ goes_on. EndsLine (told found.now)
-            (place self.old) goes_on (place self.new)
-            (AddedTo (string_bytes text.old) (string_bytes text.new))) }
-    {
-        match read_line(alloc, self.heading, self.line.as_slice())? {
-            Line::Stated(stated) => self.end_stated(found, &stated, text)?,
-            Line::Heading(heading) => self.end_unsaid(heading),
-            Line::Passed => self.end_unsaid(self.heading),
-            Line::Wrong => {
-                push_not_a_register(text, found.json, self.number)?;
-                return Ok(false);
-            }
-        }
-        Ok(true)
-    }
-
-    // Takes the next byte, and answers whether the list goes on.
-    fn take(
-        &mut self,
-        alloc: Global,
-        found: &Beside<'_>,
-        byte: u8,
-        text: &mut String,
-    ) -> Result<bool, AllocError>
-        requires open { IsOpen (place self.old) }
-        requires number { self.old.number + 1 < 2 ^ 64 }
-        ensures { IfOk result (λ goes_on. (added : List ℕ)
-            × AddedTo (string_bytes text.old) (string_bytes text.new) added
-            × Takes (told found.now) (place self.old) (byte ∷ []) goes_on
-            (place self.new) added) }
-    {
-        if byte == b'\n' {
-            return self.end_line(alloc, found, text);
-        }
-        if self.line.len() >= MOST_LINE {
-            push_not_a_register(text, found.json, self.number)?;
-            return Ok(false);
-        }
-        self.line.push(byte)?;
-        Ok(true)
-    }
-
-    // Takes the next bytes, up to a line that is wrong.
-    fn feed(
-        &mut self,
-        alloc: Global,
-        found: &Beside<'_>,
-        piece: &[u8],
-        text: &mut String,
-    ) -> Result<bool, AllocError>
-        requires open { IsOpen (place self.old) }
-        requires number { self.old.number + length piece.now < 2 ^ 64 }
-        ensures { IfOk result (λ goes_on. (added : List ℕ)
-            × AddedTo (string_bytes text.old) (string_bytes text.new) added
-            × Takes (told found.now) (place self.old) piece.now goes_on
-            (place self.new) added) }
-    {
-        for byte in piece {
-            if !self.take(alloc, found, *byte, text)? {
-                return Ok(false);
-            }
-        }
-        Ok(true)
-    }
-
-    // Takes the next bytes, and prints what comes of them.
-    fn print<W: Write>(
-        &mut self,
-        alloc: Global,
-        found: &Beside<'_>,
-        piece: &[u8],
-        out: &mut W,
-    ) -> Result<bool, ToolFault>
-        requires open { IsOpen (place self.old) }
-        requires number { self.old.number + length piece.now < 2 ^ 64 }
-        ensures ok { IfOk result (λ goes_on. (added : List ℕ)
-            × Appends (W.contents out.old) (W.contents out.new) added
-            × Takes (told found.now) (place self.old) piece.now goes_on
-            (place self.new) added) }
-        ensures err { FailsByMemoryOrWrite result }
-    {
-        let mut text = String::new(alloc);
-        let goes_on = self.feed(alloc, found, piece, &mut text)?;
-        write(out, &text)?;
-        Ok(goes_on)
-    }
-
-    // Takes the end, and answers the status, or none where the last line is wrong.
-    fn end(
-        &mut self,
-        alloc: Global,
-        found: &Beside<'_>,
-        text: &mut String,
-    ) -> Result<Option<Status>, AllocError>
-        requires open { IsOpen (place self.old) }
-        requires number { self.old.number + 1 < 2 ^ 64 }
-        ensures { IfOk result (λ status. (status
-            ≡ (comparison_at (told found.now) (place self.old) []).status)
+        ensures { IfOk result (λ goes_on. (some_if goes_on self.new
+            ≡ line_behind self.old (line_under self.old.heading line.now))
             × AddedTo (string_bytes text.old) (string_bytes text.new)
-            (comparison_at (told found.now) (place self.old) []).text) }
+            (line_text (told self.old.found.now) number (line_under self.old.heading line.now))) }
     {
-        if self.line.is_empty() {
-            return Ok(Some(self.status));
+        match read_line(alloc, self.heading, line)? {
+            Line::Stated(stated) => self.compare_stated(&stated, text)?,
+            Line::Heading(heading) => self.heading = heading,
+            Line::Passed => {}
+            Line::Wrong => {
+                push_not_a_register(text, self.found.json, number)?;
+                return Ok(false);
+            }
         }
-        if !self.end_line(alloc, found, text)? {
-            return Ok(None);
-        }
-        Ok(Some(self.status))
+        Ok(true)
+    }
+}
+
+impl LineSink for Comparing<'_> {
+    ghost use Rattle.std.specs.Prelude.{◌≡◌, ◌+◌, ◌^◌, ◌<◌, true};
+    ghost use Rattle.tpm_check.specs.Comparing.{Compares, list_line};
+
+    ghost limits = { list_line };
+
+    ghost takes = { Compares };
+
+    ghost is_at = { λ _ _. Unit {0} };
+
+    fn counts(_byte: u8) -> bool
+        ensures { result ≡ true }
+    {
+        true
     }
 
-    // Takes the end, and prints what comes of it.
-    fn print_end<W: Write>(
+    fn most_line() -> usize
+        ensures value { result ≡ list_line.most }
+        ensures bound { list_line.most + 1 < 2 ^ 64 }
+    {
+        MOST_LINE
+    }
+
+    fn long_ends() -> bool
+        ensures { result ≡ list_line.long_ends }
+    {
+        true
+    }
+
+    fn line(
         &mut self,
         alloc: Global,
-        found: &Beside<'_>,
-        out: &mut W,
-    ) -> Result<Option<Status>, ToolFault>
-        requires open { IsOpen (place self.old) }
-        requires number { self.old.number + 1 < 2 ^ 64 }
-        ensures ok { IfOk result (λ status. (status
-            ≡ (comparison_at (told found.now) (place self.old) []).status)
-            × Appends (W.contents out.old) (W.contents out.new)
-            (comparison_at (told found.now) (place self.old) []).text) }
-        ensures err { FailsByMemoryOrWrite result }
-    {
-        let mut text = String::new(alloc);
-        let status = self.end(alloc, found, &mut text)?;
-        write(out, &text)?;
-        Ok(status)
+        number: u64,
+        line: &[u8],
+        text: &mut String,
+    ) -> Result<bool, AllocError> {
+        self.compare_line(alloc, number, line, text)
     }
 }
 
@@ -262,22 +157,13 @@ pub(crate) fn check_list<F: Source, W: Write>(
     ensures too_long { IsErrOf result InputTooLong
         → ReadsTooMuchList (F.coming list.old) (F.coming list.new) }
 {
-    let mut comparing = Comparing::new(alloc);
-    let mut piece = [0; PIECE];
-    let mut read = 0;
-    loop {
-        // Up to the limit no byte is read together with one behind it.
-        let room = (MOST_BYTES - read).clamp(1, PIECE);
-        let count = list.read(&mut piece[..room])?;
-        read += count;
-        if read > MOST_BYTES {
-            return Err(ToolFault::InputTooLong);
-        }
-        if count == 0 {
-            return comparing.print_end(alloc, found, out);
-        }
-        if !comparing.print(alloc, found, &piece[..count], out)? {
-            return Ok(None);
-        }
+    let comparing = Comparing {
+        found,
+        heading: Heading::NoBank,
+        status: Status::Done,
+    };
+    match take_lines(alloc, list, out, comparing, MOST_BYTES)? {
+        Some(comparing) => Ok(Some(comparing.status)),
+        None => Ok(None),
     }
 }
