@@ -8,6 +8,6 @@ use denote.Param.{layout}
 abbrev pub room_size : RattleType → ℕ
 room_size R = capped (size (layout R))
 
--- at a multiple of which number of bytes it lies
+-- A value of the type lies at a multiple of so many bytes.
 abbrev pub room_align : RattleType → ℕ
 room_align R = capped (align (layout R))

@@ -20,7 +20,7 @@ pub extern "C" fn tpm_device_size() -> usize
     size_of::<Device>()
 }
 
-/// At a multiple of which number of bytes a device lies.
+/// A device lies at a multiple of so many bytes.
 #[unsafe(no_mangle)]
 pub extern "C" fn tpm_device_align() -> usize
     ensures { result ≡ room_align device }
@@ -36,7 +36,7 @@ pub extern "C" fn tpm_framer_size() -> usize
     size_of::<Framer>()
 }
 
-/// At a multiple of which number of bytes a framer lies.
+/// A framer lies at a multiple of so many bytes.
 #[unsafe(no_mangle)]
 pub extern "C" fn tpm_framer_align() -> usize
     ensures { result ≡ room_align framer }
@@ -52,7 +52,7 @@ pub extern "C" fn tpm_caller_size() -> usize
     size_of::<Held>()
 }
 
-/// At a multiple of which number of bytes a caller lies.
+/// A caller lies at a multiple of so many bytes.
 #[unsafe(no_mangle)]
 pub extern "C" fn tpm_caller_align() -> usize
     ensures { result ≡ room_align held }
@@ -68,7 +68,7 @@ pub extern "C" fn tpm_log_replay_size() -> usize
     size_of::<LogReplay>()
 }
 
-/// At a multiple of which number of bytes a replay lies.
+/// A replay lies at a multiple of so many bytes.
 #[unsafe(no_mangle)]
 pub extern "C" fn tpm_log_replay_align() -> usize
     ensures { result ≡ room_align replay }
