@@ -1,10 +1,10 @@
 -- What a caller finds in the bytes of a reply.
-use Rattle.std.proofs.Common.{◌≡◌, ◌≢◌, ◌↔◌, ℕ, Bool, List, [], ◌∷◌, length, Result, Ok, Err, Some, Option, true, false}
+use Rattle.std.proofs.Common.{◌≡◌, ◌≢◌, ◌↔◌, ℕ, Bool, List, [], ◌∷◌, length, Result, Ok, Err, Some, None, Option, true, false}
 use Rattle.std.proofs.Common.{refl, sym, ap, ◌∙◌, subst, arith}
 use Rattle.std.proofs.lemmas.Bool.{eq-eqb, ne_eqb}
 use Rattle.std.proofs.lemmas.List.{append-nil}
 use Rattle.std.proofs.lemmas.Slice.Eq.{bytes_eq-Decides}
-use Rattle.std.specs.Prelude.{slice_get, bytes_eq}
+use Rattle.std.specs.Prelude.{slice_get, bytes_eq, IfOk, IfErr}
 use Rattle.tpm_wire.specs.declared.refusal.Refusal.{Refusal}
 use Rattle.tpm_wire.specs.Buffers.{buffer}
 use Rattle.tpm_wire.specs.Path.{Spells, Fault}
@@ -25,12 +25,12 @@ use Rattle.tpm_hmac.specs.Hmac.{hmac}
 use Rattle.tpm_hmac.specs.Sessions.{whole_key, rp_hash, mac_text}
 use Rattle.tpm_model.specs.Answers.{reply_params}
 use Rattle.tpm_model.specs.InStep.{CallerSession}
-use Rattle.tpm_model.specs.Callers.{NotExpected, WrongMac, Waiting, Opened, awaited_text, opened_session}
-use Rattle.tpm_model.specs.Callers.{opened_response, opened}
+use Rattle.tpm_model.specs.Callers.{Refused, Code, NotExpected, WrongMac, Waiting, Opened, awaited_text, opened_session}
+use Rattle.tpm_model.specs.Callers.{opened_response, opened, caller_of_refusal, given_up}
 use Rattle.tpm_model.proofs.RoundTrip.{open_is}
 use Rattle.tpm_model.specs.Callers as model
 use Rattle.tpm_caller.specs.declared.waiting.CallerFault.{CallerFault}
-use Rattle.tpm_caller.specs.Sent.{caller_with, IsSpelledBy}
+use Rattle.tpm_caller.specs.Sent.{caller_with, IsSpelledBy, IsTold}
 use Rattle.tpm_caller.specs.Faults.{fault_of, opening_of}
 use Rattle.tpm_caller.proofs.ReplyParams.{params_are}
 use Rattle.tpm_caller.specs.declared.waiting.CallerFault.TheVariants as faults
@@ -196,29 +196,9 @@ open_done z code bytes nonce r body auths caller same s is made opens kept =
     ap (λ (o : Option CallerSession). okay (o, r)) kept ∙ ap (λ (q : Response). okay (caller_with z nonce, q)) made
     ∙ sym (ap (opening_of z) (opened_is z code bytes r same s ∙ ap (λ (q : Response). opened_response z (Ok q)) made ∙ opens body auths x))
 
--- The same, without the response.
-pub opens_so : (z : Waiting) (code : CommandCode) (bytes nonce : List ℕ) (r : Response) (body : ReplyBody) (auths : List AuthReply)
-    → code ≡ z.code → Spells (response code) r bytes
-    → bytes ≡ spelling (response code) r → r ≡ done_with (record { body = body; auths = auths }) → OpenFor bytes nonce z
-    → (x : Opened) × (opened z bytes ≡ Ok x) × (x.caller ≡ caller_with z nonce)
-opens_so z code bytes nonce r body auths same s is made opens = (
-  record { caller = caller_with z nonce; response = done_with (record { body = body; auths = auths }) },
-  opened_is z code bytes r same s ∙ ap (λ (q : Response). opened_response z (Ok q)) made
-      ∙ opens body auths (spelled_by z code bytes r body auths same s is made),
-  refl,
-)
-
 -- The first fault of the bytes, as it is answered.
 abbrev pub FirstFault : List ℕ → CallerFault → Waiting → Type 0
 FirstFault bytes fault z = (f : model.CallerFault) × (opened z bytes ≡ Err f) × (fault ≡ fault_of f)
-
-pub first_is : (z : Waiting) (code : CommandCode) (bytes : List ℕ) (r : Response) (body : ReplyBody)
-    (auths : List AuthReply) (fault : CallerFault)
-    → code ≡ z.code → Spells (response code) r bytes
-    → bytes ≡ spelling (response code) r → r ≡ done_with (record { body = body; auths = auths }) → FaultFor bytes fault z → FirstFault bytes fault z
-first_is z code bytes r body auths fault same s is made faulty =
-    let f = faulty body auths (spelled_by z code bytes r body auths same s is made) in
-    (f.0, opened_is z code bytes r same s ∙ ap (λ (q : Response). opened_response z (Ok q)) made ∙ f.1, f.2)
 
 pub wrong_is : (z : Waiting) (bytes : List ℕ) (fault : CallerFault) → FirstFault bytes fault z → wrong (z, fault) ≡ opening_of z (opened z bytes)
 wrong_is z bytes fault f = ap (λ (x : CallerFault). wrong (z, x)) f.2 ∙ sym (ap (opening_of z) f.1)
@@ -228,13 +208,89 @@ wrong_is z bytes fault f = ap (λ (x : CallerFault). wrong (z, x)) f.2 ∙ sym (
 abbrev pub response_ok : Response → Result Response Refusal
 response_ok r = Ok r
 
+-- The bytes are read as what they were decoded as.
+pub read_as : (code : CommandCode) (bytes : List ℕ) (o : Result Response Refusal)
+    → ((r : Response) → (o ≡ Ok r) ↔ Spells (response code) r bytes)
+    → ((e : Refusal) → (o ≡ Err e) ↔ Fault (response code) bytes e)
+    → read_all (response code) bytes ≡ o
+read_as code bytes (Ok r) ok err = spells_read buffer buffer_sound (response code) bytes r ((ok r).0 refl)
+read_as code bytes (Err e) ok err = fault_read buffer buffer_sound (response code) bytes e ((err e).0 refl)
+
 pub decoded : (z : Waiting) (code : CommandCode) (bytes : List ℕ) (o : Result Response Refusal) → code ≡ z.code
     → ((r : Response) → (o ≡ Ok r) ↔ Spells (response code) r bytes)
     → ((e : Refusal) → (o ≡ Err e) ↔ Fault (response code) bytes e)
     → read_all (response z.code) bytes ≡ o
-decoded z code bytes (Ok r) same ok err =
-    ap (λ (k : CommandCode). read_all (response k) bytes) (sym same)
-    ∙ spells_read buffer buffer_sound (response code) bytes r ((ok r).0 refl)
-decoded z code bytes (Err e) same ok err =
-    ap (λ (k : CommandCode). read_all (response k) bytes) (sym same)
-    ∙ fault_read buffer buffer_sound (response code) bytes e ((err e).0 refl)
+decoded z code bytes o same ok err = ap (λ (k : CommandCode). read_all (response k) bytes) (sym same) ∙ read_as code bytes o ok err
+
+-- ---- what is told
+
+pub is_reply : (code : CommandCode) (bytes : List ℕ) (r : Response) (body : ReplyBody) (auths : List AuthReply)
+    → Spells (response code) r bytes → bytes ≡ spelling (response code) r
+    → r ≡ done_with (record { body = body; auths = auths }) → IsTold code bytes None
+is_reply code bytes r body auths s is made = (
+  body,
+  auths,
+  record {
+    spells = subst (λ (q : Response). Spells (response code) q bytes) made s;
+    is = is ∙ ap (spelling (response code)) made;
+  },
+)
+
+-- what is told, of the code of what is waited for
+pub told_of : (z : Waiting) (code : CommandCode) (bytes : List ℕ) (o given : Option CallerFault) → code ≡ z.code
+    → IsTold code bytes o → o ≡ given → IsTold z.code bytes given
+told_of z code bytes o given same told is =
+    subst (λ (k : CommandCode). IsTold k bytes given) same (subst (IsTold code bytes) is told)
+
+-- A reply is opened as its session is;
+pub reply_opened : (z : Waiting) (bytes : List ℕ) (body : ReplyBody) (auths : List AuthReply)
+    → IsSpelledBy bytes z.code body auths → opened z bytes ≡ opened_session z body auths
+reply_opened z bytes body auths s =
+    ap (opened_response z)
+    (spells_read buffer buffer_sound (response z.code) bytes (done_with (record { body = body; auths = auths })) s.spells)
+
+-- what is none has the fault that is told.
+pub told_first : (z : Waiting) (bytes : List ℕ) (fault : CallerFault) → IsTold z.code bytes (Some fault) → FirstFault bytes fault z
+told_first z bytes (faults.Refused refusal) told = (Refused refusal, ap (opened_response z) told, refl)
+told_first z bytes (faults.Code error) told = (Code error, ap (opened_response z) told, refl)
+told_first z bytes faults.NotExpected told = absurd told
+told_first z bytes faults.WrongMac told = absurd told
+
+-- what is found in the session of a reply, in each part
+pub implied : {A E : Type 0} (P Q : A → Type 0) (r : Result A E) → ((x : A) → P x → Q x) → IfOk r P → IfOk r Q
+implied P Q (Ok x) f p = f x p
+implied P Q (Err e) f p = tt
+
+pub implied_err : {A E : Type 0} (P Q : E → Type 0) (r : Result A E) → ((e : E) → P e → Q e) → IfErr r P → IfErr r Q
+implied_err P Q (Ok x) f p = tt
+implied_err P Q (Err e) f p = f e p
+
+-- The session of a reply opens with this nonceTPM, and so does the reply.
+abbrev pub SessionOpens : Waiting → ReplyBody → List AuthReply → List ℕ → Type 0
+SessionOpens z body auths nonce =
+    opened_session z body auths ≡ Ok (record { caller = caller_with z nonce; response = done_with (record { body = body; auths = auths }) })
+
+abbrev pub Opens : Waiting → List ℕ → List ℕ → Type 0
+Opens z bytes nonce = (x : Opened) × (opened z bytes ≡ Ok x) × (x.caller ≡ caller_with z nonce)
+
+pub opens_so : (z : Waiting) (bytes nonce : List ℕ) (body : ReplyBody) (auths : List AuthReply)
+    → IsSpelledBy bytes z.code body auths → SessionOpens z body auths nonce → Opens z bytes nonce
+opens_so z bytes nonce body auths s opens = (
+  record { caller = caller_with z nonce; response = done_with (record { body = body; auths = auths }) },
+  reply_opened z bytes body auths s ∙ opens,
+  refl,
+)
+
+-- The session of a reply has this fault, and so has the reply.
+abbrev pub SessionFails : Waiting → ReplyBody → List AuthReply → CallerFault → Type 0
+SessionFails z body auths fault = (f : model.CallerFault) × (opened_session z body auths ≡ Err f) × (fault ≡ fault_of f)
+
+pub fails_so : (z : Waiting) (bytes : List ℕ) (fault : CallerFault) (body : ReplyBody) (auths : List AuthReply)
+    → IsSpelledBy bytes z.code body auths → SessionFails z body auths fault → FirstFault bytes fault z
+fails_so z bytes fault body auths s f = (f.0, reply_opened z bytes body auths s ∙ f.1, f.2)
+
+-- A reply does not say that the command was refused.
+pub reply_no_refusal : (z : Waiting) (bytes : List ℕ) → IsTold z.code bytes None → given_up z bytes ≡ None
+reply_no_refusal z bytes (body, auths, s) =
+    ap (caller_of_refusal z)
+    (spells_read buffer buffer_sound (response z.code) bytes (done_with (record { body = body; auths = auths })) s.spells)

@@ -1,7 +1,8 @@
 -- What is kept of a sealed command until its reply comes.
 use Rattle.std.specs.Prelude.{◌≡◌, ℕ, Bool, true, false, ◌+◌, ◌*◌, List, ◌++◌, length, take, drop, nat_lt, Option, Some}
-use Rattle.std.specs.Prelude.{None, if◌then◌else◌}
+use Rattle.std.specs.Prelude.{None, Ok, Err, if◌then◌else◌}
 use Rattle.tpm_wire.specs.Path.{Spells}
+use Rattle.tpm_wire.specs.Reading.{read_all}
 use Rattle.tpm_wire.specs.Spelling.{spelling}
 use Rattle.tpm_types.specs.declared.tpms.AuthReply.{AuthReply}
 use Rattle.tpm_types.specs.declared.alg.Alg.{Alg}
@@ -9,10 +10,13 @@ use Rattle.tpm_types.specs.Alg.{block_len}
 use Rattle.tpm_commands.specs.declared.code.CommandCode.{CommandCode}
 use Rattle.tpm_commands.specs.declared.response.ReplyBody.{ReplyBody}
 use Rattle.tpm_commands.specs.declared.code.CommandCode.TheVariants as codes
+use Rattle.tpm_commands.specs.declared.response.Response.TheVariants as responses
 use Rattle.tpm_buffer.specs.Responses.{response, done_with}
 use Rattle.tpm_hmac.specs.Hashes.{digest}
 use Rattle.tpm_model.specs.InStep.{CallerSession}
 use Rattle.tpm_model.specs.Callers.{Seal, sealed, Waiting, waiting, with_nonce}
+use Rattle.tpm_caller.specs.declared.waiting.CallerFault.{CallerFault}
+use Rattle.tpm_caller.specs.declared.waiting.CallerFault.TheVariants as faults
 
 -- a sealed command: its bytes, and what waits for the reply
 pub record Sent : Type 0 where
@@ -55,6 +59,13 @@ has_no_params _ = false
 pub record IsSpelledBy (bytes : List ℕ) (code : CommandCode) (body : ReplyBody) (auths : List AuthReply) : Type 0 where
   pub spells : Spells (response code) (done_with (record { body = body; auths = auths })) bytes
   pub is : bytes ≡ spelling (response code) (done_with (record { body = body; auths = auths }))
+
+-- The bytes are some reply to the command, or this is the first fault of bytes that are none.
+abbrev pub IsTold : CommandCode → List ℕ → Option CallerFault → Type 0
+IsTold code bytes None = (body : ReplyBody) × (auths : List AuthReply) × IsSpelledBy bytes code body auths
+IsTold code bytes (Some (faults.Refused refusal)) = read_all (response code) bytes ≡ Err refusal
+IsTold code bytes (Some (faults.Code error)) = read_all (response code) bytes ≡ Ok (responses.Code error)
+IsTold code bytes (Some _) = ⊥
 
 -- with this nonceTPM, where it was kept
 abbrev pub caller_with : Waiting → List ℕ → Option CallerSession

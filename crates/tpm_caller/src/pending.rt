@@ -1,7 +1,7 @@
 //! What is kept of a sealed command until its reply comes.
 
 ghost use Rattle.std.specs.Prelude.{◌≡◌, ◌≤◌, ◌<◌, ◌^◌, ◌++◌, ℕ, true, List, length, Some, None, Ok, Err, IfOk, IfErr};
-ghost use Rattle.std.specs.Prelude.{if◌then◌else◌, OnOk};
+ghost use Rattle.std.specs.Prelude.{if◌then◌else◌};
 ghost use Rattle.std.specs.Int.{bytes_high_first};
 ghost use Rattle.tpm_types.specs.Limits.{digest_bytes};
 ghost use Rattle.tpm_types.specs.declared.tpms.AuthReply.{AuthReply};
@@ -9,7 +9,7 @@ ghost use Rattle.tpm_commands.specs.declared.response.ReplyBody.{ReplyBody};
 ghost use Rattle.tpm_buffer.specs.Responses.{code_tag, done_with};
 ghost use Rattle.tpm_model.specs.Callers.{CallerFault as Fault, Opened, opened, opened_session, given_up};
 ghost use Rattle.tpm_caller.specs.Faults.{fault_of, opening_of, giving_up_of};
-ghost use Rattle.tpm_caller.specs.Sent.{caller_with, has_no_params as has_no_params_of, IsSpelledBy};
+ghost use Rattle.tpm_caller.specs.Sent.{caller_with, has_no_params as has_no_params_of, IsSpelledBy, IsTold};
 
 use crate::caller::Caller;
 use crate::waiting::CallerFault;
@@ -82,34 +82,54 @@ fn is_code(bytes: &[u8]) -> bool
     }
 }
 
+// The first fault of bytes that are no reply to a command with this code: they spell no response to it, or one whose
+// code is not 0. It is out of line, since it reads a whole response.
+#[inline(never)]
+fn no_reply(code: CommandCode, bytes: &[u8]) -> Option<CallerFault>
+    ensures { IsTold code bytes.now result }
+{
+    let response = match decode_response(code, bytes) {
+        Ok(response) => response,
+        Err(refusal) => return Some(CallerFault::Refused(refusal)),
+    };
+    if let Response::Code(code) = &response {
+        return Some(CallerFault::Code(*code));
+    }
+    None
+}
+
 impl Pending {
-    // The nonceTPM of the reply, where it has one session, with a nonceTPM of the session's length and
-    // the HMAC, or else the reply's first fault. Nothing is copied. What a reply without parameters
-    // spells is known, so it is not read again.
+    // What is found in the session of a reply, if the bytes are one: its nonceTPM, where there is one session, with a
+    // nonceTPM of the session's length and the HMAC; or else the reply's fault. Nothing is copied. What a reply without
+    // parameters spells is known: its first fault is answered, and it need not be read again.
     #[inline(never)]
-    fn check<'a>(&self, bytes: &'a [u8]) -> Result<&'a [u8], CallerFault>
-        ensures ok { (body : ReplyBody) (auths : List AuthReply)
+    fn check<'a>(&self, bytes: &'a [u8]) -> Result<Result<&'a [u8], CallerFault>, CallerFault>
+        ensures opens { IfOk result (λ found. (body : ReplyBody) (auths : List AuthReply)
             → IsSpelledBy bytes.now self.now.code body auths →
-            IfOk result (λ nonce. opened_session self.now body auths ≡ Ok (record {
+            IfOk found (λ nonce. opened_session self.now body auths ≡ Ok (record {
               caller = caller_with self.now nonce.now;
               response = done_with (record { body = body; auths = auths });
-            })) }
-        ensures err { IfErr result
+            }))) }
+        ensures fails { IfOk result (λ found. (body : ReplyBody) (auths : List AuthReply)
+            → IsSpelledBy bytes.now self.now.code body auths →
+            IfErr found
+            (λ fault. (f : Fault) × (opened_session self.now body auths ≡ Err f) × (fault ≡ fault_of f))) }
+        ensures first { IfErr result
             (λ fault. (f : Fault) × (opened self.now bytes.now ≡ Err f) × (fault ≡ fault_of f)) }
-        ensures fits { IfOk result (λ nonce. length nonce.now ≤ digest_bytes) }
+        ensures fits { IfOk result (λ found. IfOk found (λ nonce. length nonce.now ≤ digest_bytes)) }
     {
         let Ok(areas) = reply_areas(self.code, bytes) else {
-            return Err(self.first_fault(bytes, CallerFault::NotExpected));
+            return Ok(Err(CallerFault::NotExpected));
         };
         if areas.auth_count() != 1 {
-            return Err(self.first_fault(bytes, CallerFault::NotExpected));
+            return Ok(Err(CallerFault::NotExpected));
         }
         let Some(session) = areas.auth(0) else {
-            return Err(self.first_fault(bytes, CallerFault::NotExpected));
+            return Ok(Err(CallerFault::NotExpected));
         };
         let nonce = session.nonce();
         if nonce.len() != self.caller.nonce().len() {
-            return Err(self.first_fault(bytes, CallerFault::NotExpected));
+            return Ok(Err(CallerFault::NotExpected));
         }
         let hash = self.caller.hash();
         let params = areas.params();
@@ -121,41 +141,37 @@ impl Pending {
             session.attrs(),
         );
         if same(session.hmac(), mac.as_slice()) {
-            return Ok(nonce);
+            return Ok(Ok(nonce));
         }
         if has_no_params(self.code) && params.is_empty() {
             return Err(CallerFault::WrongMac);
         }
-        Err(self.first_fault(bytes, CallerFault::WrongMac))
+        Ok(Err(CallerFault::WrongMac))
     }
 
-    // The first fault of a reply in which `check` finds this one. The response is made here, so that nobody moves it.
-    #[inline(never)]
+    // The first fault of bytes, of which `check` finds this one if they are a reply.
     fn first_fault(&self, bytes: &[u8], checked: CallerFault) -> CallerFault
         requires { (body : ReplyBody) (auths : List AuthReply)
             → IsSpelledBy bytes.now self.now.code body auths →
             (f : Fault) × (opened_session self.now body auths ≡ Err f) × (checked ≡ fault_of f) }
         ensures { (f : Fault) × (opened self.now bytes.now ≡ Err f) × (result ≡ fault_of f) }
     {
-        let response = match decode_response(self.code, bytes) {
-            Ok(response) => response,
-            Err(refusal) => return CallerFault::Refused(refusal),
-        };
-        if let Response::Code(code) = &response {
-            return CallerFault::Code(*code);
+        match no_reply(self.code, bytes) {
+            None => checked,
+            Some(fault) => fault,
         }
-        checked
     }
 
-    // These bytes are a response whose code is not 0. It is out of line, since it reads a whole response.
-    #[inline(never)]
+    // These bytes are a response whose code is not 0.
     fn is_refused(&self, bytes: &[u8]) -> bool
         ensures { given_up self.now bytes.now ≡ (if result then Some self.now.caller else None) }
     {
-        match decode_response(self.code, bytes) {
-            Ok(Response::Code(_)) => true,
-            Ok(Response::Done { .. }) => false,
-            Err(_) => false,
+        match no_reply(self.code, bytes) {
+            Some(CallerFault::Code(_)) => true,
+            Some(CallerFault::Refused(_)) => false,
+            Some(CallerFault::NotExpected) => false,
+            Some(CallerFault::WrongMac) => false,
+            None => false,
         }
     }
 
@@ -172,33 +188,6 @@ impl Pending {
         }
     }
 
-    // A reply with this nonceTPM, in which `check` finds no fault, is a response of code 0, or this is its first fault.
-    // The response is made here, and so it is off the stack again.
-    #[inline(never)]
-    fn confirm(&self, bytes: &[u8], nonce: &[u8]) -> Result<(), CallerFault>
-        requires checked { (body : ReplyBody) (auths : List AuthReply)
-            → IsSpelledBy bytes.now self.now.code body auths →
-            opened_session self.now body auths ≡ Ok (record {
-              caller = caller_with self.now nonce.now;
-              response = done_with (record { body = body; auths = auths });
-            }) }
-        ensures ok { OnOk result
-            ((x : Opened)
-            × (opened self.now bytes.now ≡ Ok x)
-            × (x.caller ≡ caller_with self.now nonce.now)) }
-        ensures err { IfErr result
-            (λ fault. (f : Fault) × (opened self.now bytes.now ≡ Err f) × (fault ≡ fault_of f)) }
-    {
-        let response = match decode_response(self.code, bytes) {
-            Ok(response) => response,
-            Err(refusal) => return Err(CallerFault::Refused(refusal)),
-        };
-        if let Response::Code(code) = &response {
-            return Err(CallerFault::Code(*code));
-        }
-        Ok(())
-    }
-
     /// Judges a reply, as `open` does, without handing out the response: its nonceTPM, for `after`, or its first fault.
     /// Nothing changes, and nothing large is moved.
     pub fn judge<'a>(&self, bytes: &'a [u8]) -> Result<&'a [u8], CallerFault>
@@ -210,13 +199,13 @@ impl Pending {
             (λ fault. (f : Fault) × (opened self.now bytes.now ≡ Err f) × (fault ≡ fault_of f)) }
         ensures fits { IfOk result (λ nonce. length nonce.now ≤ digest_bytes) }
     {
-        let nonce = match self.check(bytes) {
-            Ok(nonce) => nonce,
+        let found = match self.check(bytes) {
+            Ok(found) => found,
             Err(fault) => return Err(fault),
         };
-        match self.confirm(bytes, nonce) {
-            Ok(()) => Ok(nonce),
-            Err(fault) => Err(fault),
+        match no_reply(self.code, bytes) {
+            None => found,
+            Some(fault) => Err(fault),
         }
     }
 
@@ -258,11 +247,17 @@ impl Pending {
     pub fn open(self, bytes: &[u8]) -> Result<(Option<Caller>, Response), (Pending, CallerFault)>
         ensures { result ≡ opening_of self (opened self bytes.now) }
     {
-        let nonce = match self.check(bytes) {
-            Ok(nonce) => nonce,
+        let found = match self.check(bytes) {
+            Ok(found) => found,
             Err(fault) => return Err((self, fault)),
         };
-        self.accept(bytes, nonce)
+        match found {
+            Ok(nonce) => self.accept(bytes, nonce),
+            Err(fault) => {
+                let first = self.first_fault(bytes, fault);
+                Err((self, first))
+            }
+        }
     }
 
     /// The caller as it was before it sealed the command, where these bytes are a response whose

@@ -12,9 +12,10 @@ ghost use Rattle.tpm_device.specs.Stands.{holds, MayBePerformed, IsPerformed};
 use crate::authorization::Authorization;
 use crate::device::Device;
 use crate::handles::policy;
+use crate::reading::read_params;
 use crate::response::ResponseBuffer;
 use tpm_buffer::Areas;
-use tpm_commands::{Params, decode_params_into};
+use tpm_commands::Params;
 use tpm_types::{Digest, Selections};
 
 // The digest and the registers that are asserted, or the code of the parameters' first fault.
@@ -28,7 +29,7 @@ fn asserted_in(areas: &Areas<'_>) -> Result<(Digest, Selections), u32>
         × (fault.code ≡ code)) }
 {
     let mut params = Params::PolicyRestart;
-    match decode_params_into(areas.code(), areas.params(), &mut params) {
+    match read_params(areas, &mut params) {
         Ok(()) => match params {
             Params::PolicyPcr {
                 pcr_digest,
@@ -36,7 +37,7 @@ fn asserted_in(areas: &Areas<'_>) -> Result<(Digest, Selections), u32>
             } => Ok((pcr_digest, selections)),
             _ => unreachable!(),
         },
-        Err(refusal) => Err(refusal.code),
+        Err(code) => Err(code),
     }
 }
 

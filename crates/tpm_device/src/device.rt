@@ -12,9 +12,10 @@ ghost use Rattle.tpm_device.specs.Stands.{given, told};
 use crate::authorization::Authorization;
 use crate::bare::bare;
 use crate::checks::{check_started, check_tag};
+use crate::reading::read_params;
 use crate::response::{RESPONSE_BYTES, ResponseBuffer, put_refusal};
 use tpm_buffer::{Areas, header};
-use tpm_commands::{CommandCode, Params, ReplyBody, decode_params_into};
+use tpm_commands::{CommandCode, Params, ReplyBody};
 use tpm_session::Sessions;
 use tpm_store::{Counters, Registers};
 use tpm_types::AuthValue;
@@ -110,9 +111,9 @@ impl Device {
             (record { old = self.old; nonce = nonce.now; reply = body.new; new = self.new }) result }
     {
         let mut params = Params::PolicyRestart;
-        match decode_params_into(areas.code(), areas.params(), &mut params) {
+        match read_params(areas, &mut params) {
             Ok(()) => self.act(areas.handles(), &params, nonce, body),
-            Err(refusal) => Err(refusal.code),
+            Err(code) => Err(code),
         }
     }
 

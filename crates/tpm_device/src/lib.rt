@@ -13,6 +13,7 @@ mod kept;
 mod laws;
 mod nv;
 mod policies;
+mod reading;
 mod registers;
 mod reply;
 mod response;

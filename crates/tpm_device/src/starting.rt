@@ -17,9 +17,10 @@ ghost use Rattle.tpm_device.specs.Stands.{holds, IsAuthorization, MayBePerformed
 use crate::authorization::Authorization;
 use crate::device::Device;
 use crate::handles::bind;
+use crate::reading::read_params;
 use crate::response::ResponseBuffer;
 use tpm_buffer::Areas;
-use tpm_commands::{Params, ReplyBody, StartAuth, StartReply, decode_params_into};
+use tpm_commands::{Params, ReplyBody, StartAuth, StartReply};
 
 // What a session is to be started with, or the code of the parameters' first fault.
 #[inline(never)]
@@ -33,7 +34,7 @@ fn start_in(areas: &Areas<'_>) -> Result<StartAuth, u32>
         × (fault.code ≡ code)) }
 {
     let mut params = Params::PolicyRestart;
-    match decode_params_into(areas.code(), areas.params(), &mut params) {
+    match read_params(areas, &mut params) {
         Ok(()) => match params {
             Params::StartAuthSession {
                 nonce_caller,
@@ -49,7 +50,7 @@ fn start_in(areas: &Areas<'_>) -> Result<StartAuth, u32>
             }),
             _ => unreachable!(),
         },
-        Err(refusal) => Err(refusal.code),
+        Err(code) => Err(code),
     }
 }
 

@@ -40,8 +40,8 @@ made c =
           c.attrs.ensures (rw (← c.hash-hash.ensures) at c.mac-mac.ensures.value);
     })
 
-pub first_fault-requires : goal.first_fault-requires
-first_fault-requires c =
+pub returns-in_default-clause-fails : goal.returns-in_default-clause-fails
+returns-in_default-clause-fails c =
     let bytes = c.args.bytes.now in
     let z : Waiting = record {
       caller = c.self.inside.caller;
@@ -53,8 +53,8 @@ first_fault-requires c =
     subst (FaultFor bytes faults.NotExpected) c.self.view_is
     (no_cut bytes faults.NotExpected z (λ k s. c.in_default.not-Ok k ((c.reply_areas.ensures.ok k).1 s)))
 
-pub first_fault-requires-then-auth_count-ne1 : goal.first_fault-requires-then-auth_count-ne1
-first_fault-requires-then-auth_count-ne1 c =
+pub returns-then-auth_count-ne1-clause-fails : goal.returns-then-auth_count-ne1-clause-fails
+returns-then-auth_count-ne1-clause-fails c =
     let bytes = c.args.bytes.now in
     let z : Waiting = record {
       caller = c.self.inside.caller;
@@ -68,8 +68,8 @@ first_fault-requires-then-auth_count-ne1 c =
     (not_one_for bytes z cut ((c.reply_areas.ensures.ok cut).0 c.in-Ok.is)
     (λ e. c.if-auth_count-ne1.true (c.auth_count.ensures ∙ e)))
 
-pub first_fault-requires-then-nonce : goal.first_fault-requires-then-nonce
-first_fault-requires-then-nonce c =
+pub returns-then-nonce-clause-fails : goal.returns-then-nonce-clause-fails
+returns-then-nonce-clause-fails c =
     let bytes = c.args.bytes.now in
     let z : Waiting = record {
       caller = c.self.inside.caller;
@@ -89,23 +89,23 @@ first_fault-requires-then-nonce c =
     (other_length_for bytes z cut a one
     (λ e. c.if-nonce.true (ap length c.nonce-nonce.ensures.value ∙ e ∙ sym (ap length c.nonce.ensures.value))))
 
-pub returns-then-is_empty-clause-err : goal.returns-then-is_empty-clause-err
-returns-then-is_empty-clause-err c =
+pub returns-then-is_empty-clause-first : goal.returns-then-is_empty-clause-first
+returns-then-is_empty-clause-first c =
     let none = subst (λ (w : Waiting). has_no_params w.code ≡ true) c.self.view_is (sym c.has_no_params.ensures ∙ c.if-has_no_params.true) in
     let empty = ap length (sym c.params-params.ensures.value) ∙ eqb-true (length c.params-params.result.now) 0 (sym c.is_empty.ensures ∙ c.if-is_empty.true) in
     plain_wrong_mac c.args.self.now c.args.bytes.now c.in-Ok.areas c.in-Some.session c.mac-mac.result
-    (made (goal.at.returns-then-is_empty-clause-err c).After-as_slice-4)
+    (made (goal.at.returns-then-is_empty-clause-first c).After-as_slice-4)
     (λ e. both_ways c.same.result c.if-same.false (c.same.ensures.1 (c.hmac.ensures.value ∙ e ∙ sym c.as_slice-4.ensures.value))) none empty
 
-pub first_fault-requires-2 : goal.first_fault-requires-2
-first_fault-requires-2 c =
-    other_mac_for c.args.bytes.now c.args.self.now c.in-Ok.areas c.in-Some.session c.mac-mac.result (made (goal.at.first_fault-requires-2 c).After-as_slice-4)
+pub returns-clause-fails : goal.returns-clause-fails
+returns-clause-fails c =
+    other_mac_for c.args.bytes.now c.args.self.now c.in-Ok.areas c.in-Some.session c.mac-mac.result (made (goal.at.returns-clause-fails c).After-as_slice-4)
     (λ e. both_ways c.same.result c.if-same.false (c.same.ensures.1 (c.hmac.ensures.value ∙ e ∙ sym c.as_slice-4.ensures.value)))
     (subst Authorized c.self.view_is c.self.invariant)
 
-pub returns-then-same-clause-ok : goal.returns-then-same-clause-ok
-returns-then-same-clause-ok c =
+pub returns-then-same-clause-opens : goal.returns-then-same-clause-opens
+returns-then-same-clause-opens c =
     open_for c.args.bytes.now c.nonce-nonce.result.now c.args.self.now c.in-Ok.areas c.in-Some.session c.mac-mac.result
-    (made (goal.at.returns-then-same-clause-ok c).After-as_slice-4)
+    (made (goal.at.returns-then-same-clause-opens c).After-as_slice-4)
     (sym c.hmac.ensures.value ∙ c.same.ensures.0 c.if-same.true ∙ c.as_slice-4.ensures.value)
     (subst Authorized c.self.view_is c.self.invariant) c.nonce-nonce.ensures.value

@@ -1,27 +1,48 @@
-use Rattle.std.proofs.Common.{ap, ◌∙◌}
+use Rattle.std.proofs.Common.{◌≡◌, Option, Some, None, ap, ◌∙◌}
 use Rattle.tpm_model.specs.Callers.{Waiting, caller_of_refusal}
-use Rattle.tpm_caller.proofs.Opening.{response_ok, decoded}
+use Rattle.tpm_caller.specs.declared.waiting.CallerFault.{CallerFault}
+use Rattle.tpm_caller.specs.declared.waiting.CallerFault.TheVariants as faults
+use Rattle.tpm_caller.proofs.Opening.{told_of, reply_no_refusal}
 use Rattle.tpm_caller.proofs.pending.Pending.is_refused.Goals as goal
 
-pub returns-in-Ok-Code : goal.returns-in-Ok-Code
-returns-in-Ok-Code c =
-    ap (caller_of_refusal c.args.self.now)
-    (decoded c.args.self.now c.self.inside.code c.args.bytes.now c.decode_response.result
-    (ap (λ (s : Waiting). s.code) c.self.view_is) c.decode_response.ensures.ok c.decode_response.ensures.err
-    ∙ c.in-Ok-Code.is
-    ∙ ap response_ok c.in-Ok-Code.field-0-is)
+abbrev some : CallerFault → Option CallerFault
+some fault = Some fault
 
-pub returns-in-Ok-Done : goal.returns-in-Ok-Done
-returns-in-Ok-Done c =
-    ap (caller_of_refusal c.args.self.now)
-    (decoded c.args.self.now c.self.inside.code c.args.bytes.now c.decode_response.result
-    (ap (λ (s : Waiting). s.code) c.self.view_is) c.decode_response.ensures.ok c.decode_response.ensures.err
-    ∙ c.in-Ok-Done.is
-    ∙ ap response_ok c.in-Ok-Done.field-0-is)
+pub returns-in-Some-Code : goal.returns-in-Some-Code
+returns-in-Some-Code c =
+    let z = c.args.self.now in
+    let same : c.self.inside.code ≡ z.code = ap (λ (s : Waiting). s.code) c.self.view_is in
+    let told = told_of z c.self.inside.code c.args.bytes.now c.no_reply.result (Some (faults.Code c.in-Some-Code.field-0-0)) same c.no_reply.ensures
+    (c.in-Some-Code.is ∙ ap some c.in-Some-Code.field-0-is) in
+    ap (caller_of_refusal z) told
 
-pub returns-in-Err : goal.returns-in-Err
-returns-in-Err c =
-    ap (caller_of_refusal c.args.self.now)
-    (decoded c.args.self.now c.self.inside.code c.args.bytes.now c.decode_response.result
-    (ap (λ (s : Waiting). s.code) c.self.view_is) c.decode_response.ensures.ok c.decode_response.ensures.err
-    ∙ c.in-Err.is)
+pub returns-in-Some-Refused : goal.returns-in-Some-Refused
+returns-in-Some-Refused c =
+    let z = c.args.self.now in
+    let same : c.self.inside.code ≡ z.code = ap (λ (s : Waiting). s.code) c.self.view_is in
+    let told = told_of z c.self.inside.code c.args.bytes.now c.no_reply.result (Some (faults.Refused c.in-Some-Refused.field-0-0)) same c.no_reply.ensures
+    (c.in-Some-Refused.is ∙ ap some c.in-Some-Refused.field-0-is) in
+    ap (caller_of_refusal z) told
+
+pub returns-in-Some-NotExpected : goal.returns-in-Some-NotExpected
+returns-in-Some-NotExpected c =
+    let z = c.args.self.now in
+    let same : c.self.inside.code ≡ z.code = ap (λ (s : Waiting). s.code) c.self.view_is in
+    let told = told_of z c.self.inside.code c.args.bytes.now c.no_reply.result (Some faults.NotExpected) same c.no_reply.ensures
+    (c.in-Some-NotExpected.is ∙ ap some c.in-Some-NotExpected.field-0-is) in
+    absurd told
+
+pub returns-in-Some-WrongMac : goal.returns-in-Some-WrongMac
+returns-in-Some-WrongMac c =
+    let z = c.args.self.now in
+    let same : c.self.inside.code ≡ z.code = ap (λ (s : Waiting). s.code) c.self.view_is in
+    let told = told_of z c.self.inside.code c.args.bytes.now c.no_reply.result (Some faults.WrongMac) same c.no_reply.ensures
+    (c.in-Some-WrongMac.is ∙ ap some c.in-Some-WrongMac.field-0-is) in
+    absurd told
+
+pub returns-in-None : goal.returns-in-None
+returns-in-None c =
+    let z = c.args.self.now in
+    let same : c.self.inside.code ≡ z.code = ap (λ (s : Waiting). s.code) c.self.view_is in
+    reply_no_refusal z c.args.bytes.now
+    (told_of z c.self.inside.code c.args.bytes.now c.no_reply.result None same c.no_reply.ensures c.in-None.is)
