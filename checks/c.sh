@@ -12,7 +12,7 @@ archive=crates/tpm_c/out/libtpm_c.a
 
 # How many bytes of stack a program with a device has, by LLVM and by the toolchain's own compiler: multiples of 1,024.
 llvm_stack=8192
-rattle_stack=16384
+rattle_stack=12288
 
 # built BACKEND: the archive by this backend, which is kept for ./install, too.
 built() {
