@@ -76,10 +76,13 @@ attest_text a =
 
 -- ---- verdicts
 
--- a line, and the status for it
+-- what is printed, and the status for it
 pub record Verdict : Type 0 where
   pub status : Status
   pub text : List ℕ
+
+abbrev pub printed : Status → List ℕ → Verdict
+printed status text = record { status = status; text = text }
 
 -- what is said of what this word names: a line, or a member behind another
 abbrev pub said : (json : Bool) → (word says : List ℕ) → List ℕ
@@ -163,17 +166,17 @@ abbrev pub sent_with : Quoted → Option (List ℕ) → Quoted
 sent_with q sent = record { bytes = q.bytes; sent = sent; required = q.required }
 
 -- the quote that the bytes spell, and else their fault
-abbrev pub ChecksAttest : Beside → Alg → Quoted → Status → List ℕ → Type 0
-ChecksAttest b hash q status text =
-    ((a : Attest) × Spells attest a q.bytes × Says (on_attest b hash q.sent q.required a) status text)
-    ⊎ ((refusal : Refusal) × Fault attest q.bytes refusal × (status ≡ Refused)
-    × (text ≡ refusal_text b.json refusal))
+abbrev pub ChecksAttest : Beside → Alg → Quoted → Verdict → Type 0
+ChecksAttest b hash q v =
+    ((a : Attest) × Spells attest a q.bytes × Says (on_attest b hash q.sent q.required a) v.status v.text)
+    ⊎ ((refusal : Refusal) × Fault attest q.bytes refusal × (v.status ≡ Refused)
+    × (v.text ≡ refusal_text b.json refusal))
 
 -- the same with the nonce by its hexadecimal digits
-abbrev pub ChecksGiven : Beside → Alg → Quoted → Status → List ℕ → Type 0
-ChecksGiven b hash q status text =
+abbrev pub ChecksGiven : Beside → Alg → Quoted → Verdict → Type 0
+ChecksGiven b hash q v =
     MatchOption q.sent
-    (ChecksAttest b hash (sent_with q None) status text)
+    (ChecksAttest b hash (sent_with q None) v)
     (λ digits. MatchOption (bytes_in digits)
-    ((status ≡ Refused) × (text ≡ not_hexadecimal_text b.json))
-    (λ sent. ChecksAttest b hash (sent_with q (Some sent)) status text))
+    ((v.status ≡ Refused) × (v.text ≡ not_hexadecimal_text b.json))
+    (λ sent. ChecksAttest b hash (sent_with q (Some sent)) v))

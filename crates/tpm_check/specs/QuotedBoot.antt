@@ -15,7 +15,7 @@ use Rattle.tpm_log.specs.Replays.{Replays}
 use Rattle.tpm_lines.specs.declared.status.Status.{Status}
 use Rattle.tpm_check.specs.declared.told_secure_boot.Asking.{Asking}
 use Rattle.tpm_check.specs.Compare.{beside}
-use Rattle.tpm_check.specs.CheckAttest.{ChecksGiven, Quoted, Says, Verdict, behind}
+use Rattle.tpm_check.specs.CheckAttest.{ChecksGiven, Quoted, Says, Verdict, behind, printed}
 use Rattle.tpm_check.specs.SecureBootLines.{TellsFault, ended, on_log, quoted_banks}
 
 -- a quote as it was signed, the hash of its digest, and how the log that it has to vouch for is asked
@@ -32,12 +32,12 @@ Selects bytes selections =
 
 -- What the quote says beside the registers that the log gives comes first. Behind it comes the verdict of each bank
 -- whose register 7 the quote selects.
-abbrev pub SaysOfQuoted : QuotedBoot → Registers → (verdict : List Selection → Verdict) → Status → List ℕ → Type 0
-SaysOfQuoted k found verdict status text =
+abbrev pub SaysOfQuoted : QuotedBoot → Registers → (verdict : List Selection → Verdict) → Verdict → Type 0
+SaysOfQuoted k found verdict v =
     (first : Verdict) × (selections : List Selection)
-    × ChecksGiven (beside k.asking.json (value_in found.banks)) k.hash k.signed first.status first.text
+    × ChecksGiven (beside k.asking.json (value_in found.banks)) k.hash k.signed first
     × Selects k.signed.bytes selections
-    × Says (ended k.asking.json (behind first (verdict selections))) status text
+    × Says (ended k.asking.json (behind first (verdict selections))) v.status v.text
 
 -- That is printed of a log; and else its fault. Behind that stands the status, where it is told as objects.
 abbrev pub ChecksSecureBoot : QuotedBoot → List ℕ → Status → List ℕ → Type 0
@@ -46,5 +46,6 @@ ChecksSecureBoot k bytes status text =
     × Spells log (hashes, records) bytes
     × Replays AreAfter bytes (Ok found)
     × SaysOfQuoted k found
-    (λ selections. on_log k.asking (length bytes) (map shown records) (quoted_banks selections)) status text)
+    (λ selections. on_log k.asking (length bytes) (map shown records) (quoted_banks selections))
+    (printed status text))
     ⊎ TellsFault k.asking.json bytes status text

@@ -11,10 +11,10 @@ ghost use Rattle.tpm_lines.specs.InputLines.{CountsRead};
 ghost use Rattle.tpm_check.specs.Compare.{ReadsList, ReadsTooMuchList};
 ghost use Rattle.tpm_check.specs.Told.{told};
 ghost use Rattle.tpm_check.specs.CheckJson.{ok_text, registers_told};
-ghost use Rattle.tpm_check.specs.Check.{ChecksQuote, ChecksValues, CountsReads, FailsLast};
+ghost use Rattle.tpm_check.specs.Check.{ChecksQuote, CountsReads, FailsLast};
 ghost use Rattle.tpm_check.specs.Check.{ReadsTooMuchIfList, list_before, list_after};
-ghost use Rattle.tpm_check.specs.CheckAttest.{ChecksGiven};
-ghost use Rattle.tpm_check.specs.Checked.{ChecksAll, ChecksLog, ChecksToEnd, quote_of};
+ghost use Rattle.tpm_check.specs.CheckAttest.{ChecksGiven, printed};
+ghost use Rattle.tpm_check.specs.Checked.{ChecksAll, ChecksLog, ChecksToEnd, ChecksValues};
 ghost use Rattle.tpm_events.specs.LogFaults.{fault_text};
 ghost use Rattle.tpm_log.specs.Changes.{AreAfter};
 ghost use Rattle.tpm_log.specs.Replays.{ReplaysFrom, ReadsFrom};
@@ -102,7 +102,7 @@ fn print_quote<W: Write>(
     out: &mut W,
 ) -> Result<Status, ToolFault>
     ensures ok { IfOk result (λ status. (text : List ℕ)
-        × ChecksQuote (told found.now) hash (bytes_in quote.now) status text
+        × ChecksQuote (told found.now) hash (bytes_in quote.now) (printed status text)
         × Appends (W.contents out.old) (W.contents out.new) text) }
     ensures err { FailsByMemoryOrWrite result }
 {
@@ -118,7 +118,7 @@ fn print_signed<W: Write>(
     out: &mut W,
 ) -> Result<Status, ToolFault>
     ensures ok { IfOk result (λ status. (text : List ℕ)
-        × ChecksGiven (told found.now) hash signed.now status text
+        × ChecksGiven (told found.now) hash signed.now (printed status text)
         × Appends (W.contents out.old) (W.contents out.new) text) }
     ensures err { FailsByMemoryOrWrite result }
 {
@@ -133,7 +133,7 @@ fn print_values<W: Write>(
     out: &mut W,
 ) -> Result<Status, ToolFault>
     ensures ok { IfOk result (λ status. (text : List ℕ)
-        × ChecksValues (told found.now) compared.now.hash None (quote_of compared.now) status text
+        × ChecksValues (told found.now) compared.now None (printed status text)
         × Appends (W.contents out.old) (W.contents out.new) text) }
     ensures err { FailsByMemoryOrWrite result }
 {
@@ -155,8 +155,7 @@ fn print_compared<F: Source, W: Write>(
     ensures stop { IsErrOf result Read → IsWhereItFailed (F.stopped list.new) }
     ensures ok { IfOk result (λ status. (bytes : List ℕ) × (text : List ℕ)
         × ReadsList (told found.now) (F.coming list.old) (F.coming list.new) bytes
-        × ChecksValues (told found.now) compared.now.hash (Some bytes)
-        (quote_of compared.now) status text
+        × ChecksValues (told found.now) compared.now (Some bytes) (printed status text)
         × Appends (W.contents out.old) (W.contents out.new) text) }
     ensures too_long { IsErrOf result InputTooLong
         → ReadsTooMuchList (F.coming list.old) (F.coming list.new) }
@@ -179,7 +178,7 @@ fn check_alone<W: Write>(
     out: &mut W,
 ) -> Result<Status, ToolFault>
     ensures ok { IfOk result (λ status. (text : List ℕ)
-        × ChecksAll (told found.now) compared.now None status text
+        × ChecksAll (told found.now) compared.now None (printed status text)
         × Appends (W.contents out.old) (W.contents out.new) text) }
     ensures err { FailsByMemoryOrWrite result }
 {
@@ -206,7 +205,7 @@ fn check_stated<F: Source, W: Write>(
     ensures stop { IsErrOf result Read → IsWhereItFailed (F.stopped list.new) }
     ensures ok { IfOk result (λ status. (bytes : List ℕ) × (text : List ℕ)
         × ReadsList (told found.now) (F.coming list.old) (F.coming list.new) bytes
-        × ChecksAll (told found.now) compared.now (Some bytes) status text
+        × ChecksAll (told found.now) compared.now (Some bytes) (printed status text)
         × Appends (W.contents out.old) (W.contents out.new) text) }
     ensures too_long { IsErrOf result InputTooLong
         → ReadsTooMuchList (F.coming list.old) (F.coming list.new) }
@@ -227,7 +226,7 @@ fn tell_alone<W: Write>(
     out: &mut W,
 ) -> Result<Status, ToolFault>
     ensures ok { IfOk result (λ status. (text : List ℕ)
-        × ChecksToEnd (told found.now) compared.now None status text
+        × ChecksToEnd (told found.now) compared.now None (printed status text)
         × Appends (W.contents out.old) (W.contents out.new) text) }
     ensures err { FailsByMemoryOrWrite result }
 {
@@ -247,7 +246,7 @@ fn tell_stated<F: Source, W: Write>(
     ensures stop { IsErrOf result Read → IsWhereItFailed (F.stopped list.new) }
     ensures ok { IfOk result (λ status. (bytes : List ℕ) × (text : List ℕ)
         × ReadsList (told found.now) (F.coming list.old) (F.coming list.new) bytes
-        × ChecksToEnd (told found.now) compared.now (Some bytes) status text
+        × ChecksToEnd (told found.now) compared.now (Some bytes) (printed status text)
         × Appends (W.contents out.old) (W.contents out.new) text) }
     ensures too_long { IsErrOf result InputTooLong
         → ReadsTooMuchList (F.coming list.old) (F.coming list.new) }
@@ -296,11 +295,20 @@ pub fn check_log<L: Source, F: Source, W: Write>(
     list: Option<&mut F>,
     out: &mut W,
 ) -> Result<Status, ToolFault>
-    ensures failures { CountsReads F.failed (L.failed log.old) (L.failed log.new)
-        (list_before list.entry) (list_after list.exit) result }
-    ensures stop { IsErrOf result Read
-        → FailsLast F.failed F.stopped (L.failed log.old) (L.failed log.new) (L.stopped log.new)
-        (list_before list.entry) (list_after list.exit) }
+    ensures failures { CountsReads (record {
+      log = L.failed log.old;
+      log-behind = L.failed log.new;
+      failed = F.failed;
+      list = list_before list.entry;
+      list-behind = list_after list.exit;
+    }) result }
+    ensures stop { IsErrOf result Read → FailsLast F.stopped (L.stopped log.new) (record {
+      log = L.failed log.old;
+      log-behind = L.failed log.new;
+      failed = F.failed;
+      list = list_before list.entry;
+      list-behind = list_after list.exit;
+    }) }
     ensures ok { IfOk result (λ status. (found : Result RegistersValue LogFaultValue)
         × (text : List ℕ)
         × ReplaysFrom AreAfter (L.coming log.old) (L.failed log.old) (L.failed log.new) found

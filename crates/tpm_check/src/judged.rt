@@ -5,7 +5,7 @@ ghost use Rattle.std.specs.Str.{bytes_eq};
 ghost use Rattle.tpm_model.specs.Registers.{composite};
 ghost use Rattle.tpm_quote.specs.Attests.{registers_of};
 ghost use Rattle.tpm_check.specs.CheckAttest.{Adds, attest_told, close_text, lacks_line, lacks_text};
-ghost use Rattle.tpm_check.specs.CheckAttest.{on_nonce, on_missing, on_registers, said, whether};
+ghost use Rattle.tpm_check.specs.CheckAttest.{on_nonce, on_missing, on_registers, printed, said, whether};
 ghost use Rattle.tpm_check.specs.CheckAttest.{on_selection, on_quote, on_attest, Says, ChecksAttest, ChecksGiven};
 ghost use Rattle.tpm_check.specs.Told.{told};
 
@@ -257,7 +257,7 @@ fn answer_to_attest(
       bytes = bytes.now;
       sent = option_map (λ s. s.now) sent.entry;
       required = option_map (λ r. r.now) required.entry;
-    }) a.status (string_bytes a.text)) }
+    }) (printed a.status (string_bytes a.text))) }
 {
     match decode_attest(bytes) {
         Ok(attest) => answer_to_signed(alloc, found, hash, sent, required, &attest),
@@ -273,7 +273,7 @@ pub(crate) fn answer_to_given(
     signed: &Signed<'_>,
 ) -> Result<Answer, AllocError>
     ensures { IfOk result (λ a. ChecksGiven (told found.now) hash signed.now
-        a.status (string_bytes a.text)) }
+        (printed a.status (string_bytes a.text))) }
 {
     let required = signed.required.as_ref();
     let Some(nonce) = signed.nonce else {

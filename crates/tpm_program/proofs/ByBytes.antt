@@ -10,7 +10,8 @@ use Rattle.tpm_check.specs.declared.checked.Compared.{Compared}
 use Rattle.tpm_program.specs.Performs.{is_coming}
 
 reads_by_bytes : {F : Type 0} (b : Beside) (coming : F → Option (List ℕ)) (old new : Option F) (list : Option (List ℕ))
-    → ReadsIfList b coming old new list → ReadsIfList b is_coming (option_map coming old) (option_map coming new) list
+    → ReadsIfList b (option_map coming old) (option_map coming new) list
+    → ReadsIfList b (option_map is_coming (option_map coming old)) (option_map is_coming (option_map coming new)) list
 reads_by_bytes b coming None new list h = h
 reads_by_bytes b coming (Some old) (Some new) (Some bytes) h = h
 reads_by_bytes b coming (Some old) (Some new) None h = h

@@ -1,5 +1,6 @@
 use Rattle.std.proofs.Common.{◌++◌, Some}
 use Rattle.tpm_lines.proofs.Joins.{joins_appends}
+use Rattle.tpm_check.specs.CheckAttest.{printed}
 use Rattle.tpm_check.specs.Told.{told}
 use Rattle.tpm_check.proofs.Verdicts.{with_list, with_status}
 use Rattle.tpm_check.proofs.checked.check_stated.Goals as goal
@@ -13,7 +14,7 @@ returns-clause-ok g c =
       said.0 ++ checked.1,
       checked.2,
       with_status (told c.args.found.now) c.args.compared.now (Some checked.0) _ _ (said.0 ++ checked.1) c.both.ensures
-          (with_list (told c.args.found.now) c.args.compared.now _ c.in-Some.is c.in_ok-first.first said.0 said.1 checked.0
-          checked.1 c.in_ok-second.second checked.3),
+          (with_list (told c.args.found.now) c.args.compared.now _ c.in-Some.is (printed c.in_ok-first.first said.0) said.1 checked.0
+          (printed c.in_ok-second.second checked.1) checked.3),
       joins_appends (contents c.args.out.now) (contents c.print_signed.new.out) (contents c.print_compared-2.new.out) said.0 checked.1 said.2 checked.4,
     )

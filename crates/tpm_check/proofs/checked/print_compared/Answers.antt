@@ -1,7 +1,7 @@
 use Rattle.std.proofs.Common.{◌++◌}
 use Rattle.tpm_check.specs.Told.{told}
 use Rattle.tpm_check.specs.Compare.{comparison}
-use Rattle.tpm_check.specs.Checked.{quote_of}
+use Rattle.tpm_check.specs.CheckAttest.{printed}
 use Rattle.tpm_check.proofs.Checks.{stated_none, stated_alone, stated_quoted}
 use Rattle.tpm_lines.proofs.Joins.{joins_appends}
 use Rattle.tpm_check.proofs.checked.print_compared.Goals as goal
@@ -16,8 +16,8 @@ returns-clause-ok g c =
       listed.0,
       text ++ quoted.0,
       listed.1,
-      rw (c.in-Some-quote.is, c.both.ensures) (stated_quoted b c.args.compared.now.hash listed.0 c.in-Some-quote.quote.now quoted.0 c.in-Some.first
-          c.in_ok-second.second listed.2 quoted.1),
+      rw c.both.ensures (stated_quoted b c.args.compared.now listed.0 c.in-Some-quote.quote c.in-Some.first
+          (printed c.in_ok-second.second quoted.0) listed.2 c.in-Some-quote.is quoted.1),
       joins_appends (contents c.args.out.now) (contents c.check_list.new.out) (contents c.print_quote.new.out) text quoted.0 listed.3 quoted.2,
     )
 
@@ -28,7 +28,7 @@ returns-in_default-clause-ok g c =
       listed.0,
       (comparison b listed.0).text,
       listed.1,
-      stated_none b c.args.compared.now.hash listed.0 (quote_of c.args.compared.now) listed.2,
+      stated_none b c.args.compared.now listed.0 listed.2,
       listed.3,
     )
 
@@ -39,6 +39,6 @@ returns-in_default-quote-clause-ok g c =
       listed.0,
       (comparison b listed.0).text,
       listed.1,
-      rw c.in_default-quote.is (stated_alone b c.args.compared.now.hash listed.0 c.in-Some.first listed.2),
+      stated_alone b c.args.compared.now listed.0 c.in-Some.first listed.2 c.in_default-quote.is,
       listed.3,
     )
