@@ -42,28 +42,28 @@ pub behind_all-append : (p : Place) (xs ys : List Line) → behind_all p (xs ++ 
 behind_all-append p [] ys = refl
 behind_all-append p (x ∷ xs) ys = behind_all-append (behind p x) xs ys
 
-pub tells_both : (how : Telling) (p : Place) (xs ys : List Line) (s t : Status) (a b : List ℕ) → TellsFrom how p xs s a → TellsFrom how (behind_all p xs) ys t b
-    → TellsFrom how p (xs ++ ys) (both s t) (a ++ b)
-tells_both how p [] ys s t a b f g = rw (f.0, f.1) g
-tells_both how p (x ∷ xs) ys s t a b f g = (
+pub tells_both : (p : Place) (xs ys : List Line) (s t : Status) (a b : List ℕ) → TellsFrom p xs s a → TellsFrom (behind_all p xs) ys t b
+    → TellsFrom p (xs ++ ys) (both s t) (a ++ b)
+tells_both p [] ys s t a b f g = rw (f.0, f.1) g
+tells_both p (x ∷ xs) ys s t a b f g = (
   f.0,
   f.1,
   both f.2 t,
   f.3 ++ b,
   f.4,
-  tells_both how (behind p x) xs ys f.2 t f.3 b f.5 g,
+  tells_both (behind p x) xs ys f.2 t f.3 b f.5 g,
   rw f.6 (both_assoc f.0 f.2 t),
   rw f.7 (append_assoc f.1 f.3 b),
 )
 
-pub tells_one : (how : Telling) (p : Place) (l : Line) (s : Status) (a : List ℕ) → TellsLine how p l s a → TellsFrom how p (l ∷ []) s a
-tells_one how p l s a f = (s, a, Done, [], f, (refl, refl), sym (both_done s), sym (append-nil a))
+pub tells_one : (p : Place) (l : Line) (s : Status) (a : List ℕ) → TellsLine p l s a → TellsFrom p (l ∷ []) s a
+tells_one p l s a f = (s, a, Done, [], f, (refl, refl), sym (both_done s), sym (append-nil a))
 
 -- the last line, which may be empty
-tells_last : (how : Telling) (p : Place) (line : List ℕ) (s : Status) (a : List ℕ) → HasNoFeed line → TellsLine how p (line_of line) s a
-    → TellsFrom how p (map line_of (lines_of line)) s a
-tells_last how p [] s a f g = g
-tells_last how p (x ∷ line) s a f g = rw (last_line x line f) (tells_one how p (line_of (x ∷ line)) s a g)
+tells_last : (p : Place) (line : List ℕ) (s : Status) (a : List ℕ) → HasNoFeed line → TellsLine p (line_of line) s a
+    → TellsFrom p (map line_of (lines_of line)) s a
+tells_last p [] s a f g = g
+tells_last p (x ∷ line) s a f g = rw (last_line x line f) (tells_one p (line_of (x ∷ line)) s a g)
 
 -- ---- what is kept of a line
 
@@ -114,8 +114,8 @@ keeps_full byte held lt = λ kept same. kept_same kept held (without_blanks (byt
 
 -- a byte of a line
 pub takes_byte : (byte : ℕ) (c d : Capture) (A : List ℕ → Type 0) → nat_eq byte 10 ≡ false → A [] → Keeps byte c.line.items d.line.items
-    → place d ≡ place c → d.status ≡ c.status → d.how ≡ c.how → Takes (byte ∷ []) c d A
-takes_byte byte c d A other none keeps same_place same_status same_fields = record {
+    → place d ≡ place c → d.status ≡ c.status → Takes (byte ∷ []) c d A
+takes_byte byte c d A other none keeps same_place same_status = record {
   added = [];
   is_added = none;
   goes_on = λ how before text f. record {
@@ -127,7 +127,6 @@ takes_byte byte c d A other none keeps same_place same_status same_fields = reco
     held = keeps (without_blanks f.line) f.held ∙ ap (take (most_line + 1)) (sym (filter-append (λ (b : ℕ). not (is_blank b)) f.line (byte ∷ [])));
     tells = rw (same_status, append-nil text) f.tells;
     place = same_place ∙ f.place;
-    same = same_fields ∙ f.same;
   };
   number = omega (arith, ap (λ (p : Place). p.number) same_place);
 }
@@ -158,12 +157,13 @@ takes_feed c d A f = record {
         one = tt;
         held = f.line;
         tells = rw (f.tells.all, mapped)
-            (tells_both how start (map line_of (lines_of g.lines)) (line_of g.line ∷ []) c.status f.tells.status text f.tells.text g.tells
-            (tells_one how (behind_all start (map line_of (lines_of g.lines))) (line_of g.line) f.tells.status f.tells.text
-            (rw (← g.place, ← g.same, ← l) f.tells.tells)));
-        place = f.tells.place ∙ ap (λ (p : Place). behind p (told_in c.line.items)) g.place ∙ ap (behind (behind_all start (map line_of (lines_of g.lines)))) l
-            ∙ sym (behind_all-append start (map line_of (lines_of g.lines)) (line_of g.line ∷ [])) ∙ ap (behind_all start) (sym mapped);
-        same = f.tells.how ∙ g.same;
+            (tells_both (start how) (map line_of (lines_of g.lines)) (line_of g.line ∷ []) c.status f.tells.status text f.tells.text g.tells
+            (tells_one (behind_all (start how) (map line_of (lines_of g.lines))) (line_of g.line) f.tells.status f.tells.text
+            (rw (← g.place, ← l) f.tells.tells)));
+        place = f.tells.place ∙ ap (λ (p : Place). behind p (told_in c.line.items)) g.place
+            ∙ ap (behind (behind_all (start how) (map line_of (lines_of g.lines)))) l
+            ∙ sym (behind_all-append (start how) (map line_of (lines_of g.lines)) (line_of g.line ∷ []))
+            ∙ ap (behind_all (start how)) (sym mapped);
       };
   number = omega (arith, ap (λ (p : Place). p.number) f.tells.place, behind-most (place c) (told_in c.line.items));
 }
@@ -188,7 +188,8 @@ takes_both xs ys c d e A B C joins f g = record {
 -- ---- the input
 
 pub reaches_more : (how : Telling) (old mid new : Option (List ℕ)) (read count : ℕ) (bytes : List ℕ) (c d : Capture) (A B C : List ℕ → Type 0) → Joins A B C
-    → Reaches how old mid read c A → Consumes mid new bytes → count ≡ length bytes → Takes bytes c d B → Reaches how old new (read + count) d C
+    → Reaches how (record { old = old; new = mid; count = read }) c A → Consumes mid new bytes → count ≡ length bytes → Takes bytes c d B
+    → Reaches how (record { old = old; new = new; count = read + count }) d C
 reaches_more how old mid new read count bytes c d A B C joins f consumed is takes = record {
   bytes = f.bytes ++ bytes;
   text = f.text ++ takes.added;
@@ -207,7 +208,7 @@ abbrev pub Answers : (how : Telling) → (old new : Option (List ℕ)) → (A : 
 Answers how old new A status = (bytes : List ℕ) × (text : List ℕ) × ReadsAll old new bytes × TellsCapture how bytes status text × A text
 
 pub answers_at_end : (how : Telling) (old mid new : Option (List ℕ)) (read : ℕ) (c d : Capture) (A B C : List ℕ → Type 0) → Joins A B C
-    → Reaches how old mid read c A
+    → Reaches how (record { old = old; new = mid; count = read }) c A
     → Consumes mid new [] → IsAtEnd new → EndsLine (told_in c.line.items) c d B → Answers how old new C d.status
 answers_at_end how old mid new read c d A B C joins f consumed end ended =
     let g = f.taken in
@@ -219,8 +220,8 @@ answers_at_end how old mid new read c d A B C joins f consumed end ended =
       f.text ++ ended.tells.text,
       record { read = rw append-nil at (consumes_both old mid new f.bytes [] f.consumed consumed); whole = end },
       rw (ended.tells.all, mapped)
-          (tells_both how start (map line_of (lines_of g.lines)) (map line_of (lines_of g.line)) c.status ended.tells.status f.text ended.tells.text g.tells
-          (tells_last how (behind_all start (map line_of (lines_of g.lines))) g.line ended.tells.status ended.tells.text g.one
-          (rw (← g.place, ← g.same, ← l) ended.tells.tells))),
+          (tells_both (start how) (map line_of (lines_of g.lines)) (map line_of (lines_of g.line)) c.status ended.tells.status f.text ended.tells.text g.tells
+          (tells_last (behind_all (start how) (map line_of (lines_of g.lines))) g.line ended.tells.status ended.tells.text g.one
+          (rw (← g.place, ← l) ended.tells.tells))),
       joins f.text ended.tells.text f.added ended.tells.added,
     )

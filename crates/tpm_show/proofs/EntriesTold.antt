@@ -7,7 +7,6 @@ use Rattle.tpm_lines.specs.declared.status.Status.TheVariants.{Done, Refused}
 use Rattle.tpm_lines.specs.declared.status.Status.{Status}
 use Rattle.tpm_lines.specs.Status.{both}
 use Rattle.tpm_lines.proofs.Joins.{Joins}
-use Rattle.tpm_show.specs.declared.telling.Telling.{Telling}
 use Rattle.tpm_show.specs.declared.capture.Capture.{Capture}
 use Rattle.tpm_show.specs.Capture.{Place}
 use Rattle.tpm_show.specs.Capturing.{place}
@@ -26,22 +25,22 @@ behind-append : (p : Place) (xs ys : List Entry) → behind_entries p (xs ++ ys)
 behind-append p [] ys = refl
 behind-append p (x ∷ xs) ys = behind-append (behind_entry p x) xs ys
 
-tells_both : (how : Telling) (p : Place) (xs ys : List Entry) (s t : Status) (a b : List ℕ) → TellsEntries how p xs s a
-    → TellsEntries how (behind_entries p xs) ys t b → TellsEntries how p (xs ++ ys) (both s t) (a ++ b)
-tells_both how p [] ys s t a b f g = rw (f.0, f.1) g
-tells_both how p (x ∷ xs) ys s t a b f g = (
+tells_both : (p : Place) (xs ys : List Entry) (s t : Status) (a b : List ℕ) → TellsEntries p xs s a
+    → TellsEntries (behind_entries p xs) ys t b → TellsEntries p (xs ++ ys) (both s t) (a ++ b)
+tells_both p [] ys s t a b f g = rw (f.0, f.1) g
+tells_both p (x ∷ xs) ys s t a b f g = (
   f.0,
   f.1,
   both f.2 t,
   f.3 ++ b,
   f.4,
-  tells_both how (behind_entry p x) xs ys f.2 t f.3 b f.5 g,
+  tells_both (behind_entry p x) xs ys f.2 t f.3 b f.5 g,
   rw f.6 (both_assoc f.0 f.2 t),
   rw f.7 (append_assoc f.1 f.3 b),
 )
 
-tells_one : (how : Telling) (p : Place) (e : Entry) (s : Status) (a : List ℕ) → TellsEntry how p e s a → TellsEntries how p (e ∷ []) s a
-tells_one how p e s a f = (s, a, Done, [], f, (refl, refl), sym (both_done s), sym (append-nil a))
+tells_one : (p : Place) (e : Entry) (s : Status) (a : List ℕ) → TellsEntry p e s a → TellsEntries p (e ∷ []) s a
+tells_one p e s a f = (s, a, Done, [], f, (refl, refl), sym (both_done s), sym (append-nil a))
 
 -- A frame alone has a number.
 at_most : (p : Place) (e : Entry) → (behind_entry p e).number ≤ p.number + 1
@@ -58,7 +57,6 @@ many_none c A none = record {
   added = none;
   place = refl;
   all = sym (both_done c.status);
-  how = refl;
   number = omega arith;
 }
 
@@ -67,11 +65,10 @@ pub many_more : (xs : List Entry) (e : Entry) (c d n : Capture) (A B C : List �
 many_more xs e c d n A B C joins f g = record {
   status = both f.status g.status;
   text = f.text ++ g.text;
-  tells = tells_both c.how (place c) xs (e ∷ []) f.status g.status f.text g.text f.tells
-      (tells_one c.how (behind_entries (place c) xs) e g.status g.text (rw (← f.place, ← f.how) g.tells));
+  tells = tells_both (place c) xs (e ∷ []) f.status g.status f.text g.text f.tells
+      (tells_one (behind_entries (place c) xs) e g.status g.text (rw (← f.place) g.tells));
   added = joins f.text g.text f.added g.added;
   place = g.place ∙ ap (λ (p : Place). behind_entry p e) f.place ∙ sym (behind-append (place c) xs (e ∷ []));
   all = g.all ∙ ap (λ (s : Status). both s g.status) f.all ∙ both_assoc c.status f.status g.status;
-  how = g.how ∙ f.how;
   number = omega (arith, f.number, ap (λ (p : Place). p.number) g.place, at_most (place d) e, length-append xs (e ∷ []));
 }

@@ -19,7 +19,7 @@ use Rattle.tpm_show.specs.declared.capture.Capture.{Capture}
 use Rattle.tpm_show.specs.Capture.{Frame, Place, start, behind}
 use Rattle.tpm_show.specs.Capturing.{place, behind_all, Tells, Streams}
 use Rattle.tpm_show.specs.Stream.{Ending, Inside, BadSize, IsEnding, unmarked_frame, ending_text, ending_status}
-use Rattle.tpm_show.specs.Stream.{TellsStream, TellsRead}
+use Rattle.tpm_show.specs.Stream.{OfRead, TellsStream}
 use Rattle.tpm_show.proofs.Captures.{tells_both, tells_one, behind_all-append}
 
 pub appends_nothing : (a : Option (List ℕ)) → Appends a a []
@@ -28,10 +28,10 @@ appends_nothing (Some l) = sym (append-nil l)
 
 -- ---- frames
 
-pub streams_none : (how : Telling) (a : Option (List ℕ)) (c : Capture) (A : List ℕ → Type 0) → Consumes a a [] → A [] → c.how ≡ how → place c ≡ start
+pub streams_none : (how : Telling) (a : Option (List ℕ)) (c : Capture) (A : List ℕ → Type 0) → Consumes a a [] → A [] → place c ≡ start how
     → c.status ≡ Done
-    → Streams how a a 0 c A
-streams_none how a c A none added same first done = record {
+    → Streams how (record { old = a; new = a; count = 0 }) c A
+streams_none how a c A none added first done = record {
   frames = [];
   text = [];
   consumed = none;
@@ -41,7 +41,6 @@ streams_none how a c A none added same first done = record {
   place = first;
   number = ap (λ (p : Place). p.number) first;
   fewer = omega arith;
-  same = same;
   added = added;
 }
 
@@ -49,7 +48,8 @@ joined : (frames : List (List ℕ)) (frame : List ℕ) → concat (frames ++ fra
 joined frames frame = concat-append frames (frame ∷ []) ∙ ap (λ (r : List ℕ). concat frames ++ r) (append-nil frame)
 
 pub streams_more : (how : Telling) (old mid new : Option (List ℕ)) (read : ℕ) (frame : List ℕ) (c d : Capture) (A B C : List ℕ → Type 0) → Joins A B C
-    → Streams how old mid read c A → Consumes mid new frame → IsFrame frame → Tells (Frame None frame) c d B → Streams how old new (read + length frame) d C
+    → Streams how (record { old = old; new = mid; count = read }) c A → Consumes mid new frame → IsFrame frame → Tells (Frame None frame) c d B
+    → Streams how (record { old = old; new = new; count = read + length frame }) d C
 streams_more how old mid new read frame c d A B C joins f consumed is g =
     let lines = map unmarked_frame f.frames in
     let mapped : map unmarked_frame (f.frames ++ frame ∷ []) ≡ lines ++ Frame None frame ∷ [] = map-append unmarked_frame f.frames (frame ∷ []) in
@@ -60,14 +60,13 @@ streams_more how old mid new read frame c d A B C joins f consumed is g =
       each = All-push IsFrame f.frames frame f.each is;
       count = omega (arith, f.count, ap length (joined f.frames frame), length-append (concat f.frames) frame);
       tells = rw (g.all, mapped)
-          (tells_both how start lines (Frame None frame ∷ []) c.status g.status f.text g.text f.tells
-          (tells_one how (behind_all start lines) (Frame None frame) g.status g.text (rw (← f.place, ← f.same) g.tells)));
+          (tells_both (start how) lines (Frame None frame ∷ []) c.status g.status f.text g.text f.tells
+          (tells_one (behind_all (start how) lines) (Frame None frame) g.status g.text (rw (← f.place) g.tells)));
       place =
-          g.place ∙ ap (λ (p : Place). behind p (Frame None frame)) f.place ∙ sym (behind_all-append start lines (Frame None frame ∷ []))
-          ∙ ap (behind_all start) (sym mapped);
+          g.place ∙ ap (λ (p : Place). behind p (Frame None frame)) f.place ∙ sym (behind_all-append (start how) lines (Frame None frame ∷ []))
+          ∙ ap (behind_all (start how)) (sym mapped);
       number = omega (arith, ap (λ (p : Place). p.number) g.place, f.number, length-append f.frames (frame ∷ []));
       fewer = omega (arith, f.fewer, is.least, length-append f.frames (frame ∷ []));
-      same = g.how ∙ f.same;
       added = joins f.text g.text f.added g.added;
     }
 
@@ -84,7 +83,8 @@ broken_more rest more b = record {
 }
 
 -- of a stream whose frames were told
-tells_stream : (how : Telling) (old mid : Option (List ℕ)) (read : ℕ) (c : Capture) (A : List ℕ → Type 0) → (f : Streams how old mid read c A)
+tells_stream : (how : Telling) (old mid : Option (List ℕ)) (read : ℕ) (c : Capture) (A : List ℕ → Type 0)
+    → (f : Streams how (record { old = old; new = mid; count = read }) c A)
     → (rest : List ℕ) (ending : Ending) → BeginsNoFrame rest → IsEnding rest ending
     → TellsStream how (concat f.frames ++ rest) (both c.status (ending_status ending)) (f.text ++ ending_text how.json ending c.number read)
 tells_stream how old mid read c A f rest ending over ends = record {
@@ -101,18 +101,18 @@ tells_stream how old mid read c A f rest ending over ends = record {
 }
 
 abbrev pub StreamAnswers : (how : Telling) → (old new : Option (List ℕ)) → (C : List ℕ → Type 0) → Status → Type 0
-StreamAnswers how old new C status = (text : List ℕ) × TellsRead how old new status text × C text
+StreamAnswers how old new C status = (text : List ℕ) × OfRead old new (λ bytes. TellsStream how bytes status text) × C text
 
 -- inside a frame
 pub stream_cut : (how : Telling) (old mid new : Option (List ℕ)) (read : ℕ) (rest : List ℕ) (c : Capture) (A B C : List ℕ → Type 0) → Joins A B C
-    → Streams how old mid read c A → Consumes mid new rest
+    → Streams how (record { old = old; new = mid; count = read }) c A → Consumes mid new rest
     → IsEnding rest Inside → IsAtEnd new → B (ending_text how.json Inside c.number read) → StreamAnswers how old new C Refused
 stream_cut how old mid new read rest c A B C joins f consumed ends end added = (
   f.text ++ ending_text how.json Inside c.number read,
   record {
     bytes = concat f.frames ++ rest;
     read = consumes_both old mid new (concat f.frames) rest f.consumed consumed;
-    tells = subst (λ (s : Status). TellsStream how (concat f.frames ++ rest) s (f.text ++ ending_text how.json Inside c.number read)) (both_refused c.status)
+    holds = subst (λ (s : Status). TellsStream how (concat f.frames ++ rest) s (f.text ++ ending_text how.json Inside c.number read)) (both_refused c.status)
         (tells_stream how old mid read c A f rest Inside ends.0.no_frame ends);
     whole = inl end;
   },
@@ -121,7 +121,7 @@ stream_cut how old mid new read rest c A B C joins f consumed ends end added = (
 
 -- at a size that no frame has
 pub stream_breaks : (how : Telling) (old mid new : Option (List ℕ)) (read : ℕ) (rest : List ℕ) (c : Capture) (A B C : List ℕ → Type 0) → Joins A B C
-    → Streams how old mid read c A → Consumes mid new rest
+    → Streams how (record { old = old; new = mid; count = read }) c A → Consumes mid new rest
     → IsBroken rest → B (ending_text how.json BadSize c.number read) → StreamAnswers how old new C Refused
 stream_breaks how old mid new read rest c A B C joins f consumed broken added =
     let whole : (more : List ℕ) → TellsStream how (concat f.frames ++ (rest ++ more)) Refused (f.text ++ ending_text how.json BadSize c.number read) =
@@ -132,7 +132,7 @@ stream_breaks how old mid new read rest c A B C joins f consumed broken added =
       record {
         bytes = concat f.frames ++ rest;
         read = consumes_both old mid new (concat f.frames) rest f.consumed consumed;
-        tells =
+        holds =
             subst (λ (r : List ℕ). TellsStream how (concat f.frames ++ r) Refused (f.text ++ ending_text how.json BadSize c.number read)) (append-nil
             rest) (whole []);
         whole = inr (λ more. rw (append_assoc (concat f.frames) rest more) (whole more));

@@ -1,5 +1,5 @@
 -- What `build` prints (this profile).
-use Rattle.std.specs.Prelude.{◌≡◌, ◌⊎◌, ℕ, ◌<◌, ◌≤◌, List, [], length, Option, Some, codes, if◌then◌else◌}
+use Rattle.std.specs.Prelude.{◌≡◌, ◌⊎◌, ℕ, ◌<◌, ◌≤◌, List, [], length, Option, Some, None, codes, if◌then◌else◌}
 use Rattle.std.specs.Str.{bytes_eq}
 use Rattle.tpm_wire.specs.declared.refusal.Refusal.{Refusal}
 use Rattle.tpm_wire.specs.ResponseCodes.{rc_command_size}
@@ -33,12 +33,24 @@ BuildsBuffer bytes status text =
     ((4096 < length bytes) × (status ≡ Refused) × (text ≡ refusal_line too_long))
     ⊎ ((length bytes ≤ 4096) × BuildsBytes bytes status text)
 
-abbrev pub BuildsParts : CommandCode → Option (List ℕ) → Option (List ℕ) → Option (List ℕ) → Status → List ℕ → Type 0
-BuildsParts code (Some handles) (Some sessions) (Some parameters) status text =
-    BuildsBuffer (joined code handles sessions parameters) status text
-BuildsParts code _ _ _ status text = (status ≡ Refused) × (text ≡ not_hexadecimal_line)
+-- the bytes of all parts, where each is hexadecimal
+abbrev pub joined_of : CommandCode → (handles sessions parameters : Option (List ℕ)) → Option (List ℕ)
+joined_of code (Some handles) (Some sessions) (Some parameters) = Some (joined code handles sessions parameters)
+joined_of code _ _ _ = None
 
--- For this command and these texts of its handles, its sessions and its parameters, this is the status and the text.
-abbrev pub Builds : CommandCode → List ℕ → List ℕ → List ℕ → Status → List ℕ → Type 0
-Builds code handles sessions parameters status text =
-    BuildsParts code (part_of handles) (part_of sessions) (part_of parameters) status text
+abbrev pub BuildsJoined : Option (List ℕ) → Status → List ℕ → Type 0
+BuildsJoined (Some bytes) status text = BuildsBuffer bytes status text
+BuildsJoined None status text = (status ≡ Refused) × (text ≡ not_hexadecimal_line)
+
+-- a command, and the texts of its handles, its sessions and its parameters
+pub record Parts : Type 0 where
+  pub code : CommandCode
+  pub handles : List ℕ
+  pub sessions : List ℕ
+  pub parameters : List ℕ
+
+-- For these parts this is the status and what is printed.
+abbrev pub Builds : Parts → Status → List ℕ → Type 0
+Builds parts status text =
+    BuildsJoined (joined_of parts.code (part_of parts.handles) (part_of parts.sessions) (part_of parts.parameters))
+    status text

@@ -26,7 +26,7 @@ use Rattle.tpm_show.specs.CommandNames.{Listed, absent_behind, command_of}
 use Rattle.tpm_show.specs.declared.frame_header.FrameHeader.{FrameHeader}
 use Rattle.tpm_show.specs.Headers.{header_in, command_head, command_head_members, reply_head, reply_head_members}
 use Rattle.tpm_show.specs.Library.{library_command, library_response}
-use Rattle.tpm_show.specs.Show.{command_rest, refusal_told, response_rest}
+use Rattle.tpm_show.specs.Show.{Buffer, CommandBytes, ReplyBytes, command_rest, refusal_told, response_rest}
 use Rattle.tpm_show.specs.FrameJson.{fault_member, fault_object}
 use Rattle.tpm_show.specs.declared.capture_frames.Awaited.TheVariants as awaits
 
@@ -112,22 +112,23 @@ head_told true fields Command awaited (Some h) = command_head_members h
 head_told false fields Reply awaited (Some h) = reply_head fields (answered_code awaited) h
 head_told true fields Reply awaited (Some h) = reply_head_members (answered_code awaited) h
 
--- A command that the bytes spell is told behind its header, and else their fault, and what stands behind the header
--- by the library's tables. Behind the refusal of its code alone stands which command it is.
-abbrev pub TellsCommand : (json fields : Bool) → List ℕ → Status → List ℕ → Type 0
-TellsCommand json fields bytes Done text = (c : CommandOf) × (areas : Cut) × Spells command c bytes × HasCut bytes areas
-    × (text ≡ command_rest json fields areas c.body)
-TellsCommand json fields bytes Refused text = (refusal : Refusal) × Fault command bytes refusal
-    × (text ≡ refusal_told json fields refusal
-    ++ (absent_behind json refusal (code_number_in bytes) ++ library_command json fields bytes (header_in bytes)))
-
--- a response to this command that the bytes spell, and else their fault
-abbrev pub TellsReplyTo : (json fields : Bool) → CommandCode → List ℕ → Status → List ℕ → Type 0
-TellsReplyTo json fields code bytes Done text =
+-- A command or a response that the bytes spell is told behind its header, and else their fault. Then stands which
+-- command it is, where its code alone is refused, and what is behind its header by the library's tables.
+abbrev pub TellsBuffer : (how : Telling) → Buffer → Status → List ℕ → Type 0
+TellsBuffer how (CommandBytes bytes) Done text =
+    (c : CommandOf) × (areas : Cut) × Spells command c bytes × HasCut bytes areas
+    × (text ≡ command_rest how.json how.fields areas c.body)
+TellsBuffer how (CommandBytes bytes) Refused text =
+    (refusal : Refusal) × Fault command bytes refusal
+    × (text ≡ refusal_told how.json how.fields refusal
+    ++ (absent_behind how.json refusal (code_number_in bytes)
+    ++ library_command how.json how.fields bytes (header_in bytes)))
+TellsBuffer how (ReplyBytes code bytes) Done text =
     (r : Response) × (areas : ReplyCut) × Spells (response code) r bytes × Spells (reply_cut code) areas bytes
-    × (text ≡ response_rest json fields areas r)
-TellsReplyTo json fields code bytes Refused text = (refusal : Refusal) × Fault (response code) bytes refusal
-    × (text ≡ refusal_told json fields refusal)
+    × (text ≡ response_rest how.json how.fields areas r)
+TellsBuffer how (ReplyBytes code bytes) Refused text =
+    (refusal : Refusal) × Fault (response code) bytes refusal
+    × (text ≡ refusal_told how.json how.fields refusal)
 
 abbrev pub sentence_text : (json : Bool) → List ℕ → List ℕ
 sentence_text false sentence = sentence ++ codes "\n"
@@ -138,25 +139,31 @@ abbrev pub other_reply : (json fields : Bool) → Option Listed → List ℕ →
 other_reply json fields None bytes = sentence_text json (codes "its command is not known")
 other_reply json fields (Some c) bytes = library_response json fields c bytes (header_in bytes)
 
-abbrev pub TellsReply : (json fields : Bool) → Awaited → List ℕ → Status → List ℕ → Type 0
-TellsReply json fields (awaits.Reply command) bytes status text =
-    TellsReplyTo json fields command bytes status text
-TellsReply json fields (awaits.Other code) bytes status text =
-    (status ≡ Refused) × (text ≡ other_reply json fields (command_of code) bytes)
-TellsReply json fields awaits.Unknown bytes status text =
-    (status ≡ Refused) × (text ≡ sentence_text json (codes "its command is not known"))
-TellsReply json fields awaits.Nothing bytes status text =
-    (status ≡ Refused) × (text ≡ sentence_text json (codes "no command is before it"))
+-- a frame where it stands: its bytes, which reply is awaited there, and how it is told
+pub record FrameAt : Type 0 where
+  pub bytes : List ℕ
+  pub awaited : Awaited
+  pub how : Telling
 
-abbrev pub TellsRest : (json fields : Bool) → Direction → Awaited → List ℕ → Status → List ℕ → Type 0
-TellsRest json fields Command awaited bytes status text = TellsCommand json fields bytes status text
-TellsRest json fields Reply awaited bytes status text = TellsReply json fields awaited bytes status text
+abbrev pub TellsReply : Awaited → FrameAt → Status → List ℕ → Type 0
+TellsReply (awaits.Reply command) f status text = TellsBuffer f.how (ReplyBytes command f.bytes) status text
+TellsReply (awaits.Other code) f status text =
+    (status ≡ Refused) × (text ≡ other_reply f.how.json f.how.fields (command_of code) f.bytes)
+TellsReply awaits.Unknown f status text =
+    (status ≡ Refused) × (text ≡ sentence_text f.how.json (codes "its command is not known"))
+TellsReply awaits.Nothing f status text =
+    (status ≡ Refused) × (text ≡ sentence_text f.how.json (codes "no command is before it"))
+
+-- behind the header of a frame that went this way
+abbrev pub TellsRest : Direction → FrameAt → Status → List ℕ → Type 0
+TellsRest Command f status text = TellsBuffer f.how (CommandBytes f.bytes) status text
+TellsRest Reply f status text = TellsReply f.awaited f status text
 
 -- what its header says, whatever is refused, and then what stands behind the header
-abbrev pub TellsFrame : (json fields : Bool) → Direction → Awaited → List ℕ → Status → List ℕ → Type 0
-TellsFrame json fields direction awaited bytes status text =
-    (rest : List ℕ) × TellsRest json fields direction awaited bytes status rest
-    × (text ≡ head_told json fields direction awaited (header_in bytes) ++ rest)
+abbrev pub TellsFrame : Direction → FrameAt → Status → List ℕ → Type 0
+TellsFrame direction f status text =
+    (rest : List ℕ) × TellsRest direction f status rest
+    × (text ≡ head_told f.how.json f.how.fields direction f.awaited (header_in f.bytes) ++ rest)
 
 abbrev pub mark_of : Direction → List ℕ
 mark_of Command = codes ">"
@@ -189,43 +196,44 @@ fault_text true number fault = fault_object number fault
 
 -- ---- what is told of lines
 
--- the number of the next frame, and which reply may come next
+-- how frames are told, the number of the next one, and which reply may come next
 pub record Place : Type 0 where
+  pub how : Telling
   pub number : ℕ
   pub awaited : Awaited
 
-abbrev pub start : Place
-start = record { number = 1; awaited = awaits.Nothing }
+abbrev pub start : Telling → Place
+start how = record { how = how; number = 1; awaited = awaits.Nothing }
 
 abbrev pub behind : Place → Line → Place
 behind p Nothing = p
 behind p (Frame mark bytes) =
-    record { number = p.number + 1; awaited = awaited_behind (direction_of mark p.awaited bytes) bytes }
-behind p _ = record { number = p.number + 1; awaited = awaits.Unknown }
+    record p { number = p.number + 1; awaited = awaited_behind (direction_of mark p.awaited bytes) bytes }
+behind p _ = record p { number = p.number + 1; awaited = awaits.Unknown }
 
-abbrev pub TellsLine : (how : Telling) → Place → Line → Status → List ℕ → Type 0
-TellsLine how p Nothing status text = (status ≡ Done) × (text ≡ [])
-TellsLine how p (Frame mark bytes) status text =
+abbrev pub TellsLine : Place → Line → Status → List ℕ → Type 0
+TellsLine p Nothing status text = (status ≡ Done) × (text ≡ [])
+TellsLine p (Frame mark bytes) status text =
     let direction = direction_of mark p.awaited bytes in
     (told : List ℕ)
-    × TellsFrame how.json how.fields direction p.awaited bytes status told
-    × (text ≡ numbered how.json p.number direction told)
-TellsLine how p NotHexadecimal status text =
-    (status ≡ Refused) × (text ≡ fault_text how.json p.number (codes "not hexadecimal"))
-TellsLine how p TooLong status text = (status ≡ Refused) × (text ≡ fault_text how.json p.number (codes "too long"))
+    × TellsFrame direction (record { bytes = bytes; awaited = p.awaited; how = p.how }) status told
+    × (text ≡ numbered p.how.json p.number direction told)
+TellsLine p NotHexadecimal status text =
+    (status ≡ Refused) × (text ≡ fault_text p.how.json p.number (codes "not hexadecimal"))
+TellsLine p TooLong status text = (status ≡ Refused) × (text ≡ fault_text p.how.json p.number (codes "too long"))
 
 -- From this place the lines are told one after the other. All is done where each is.
-abbrev pub TellsFrom : (how : Telling) → Place → List Line → Status → List ℕ → Type 0
-TellsFrom how p [] status text = (status ≡ Done) × (text ≡ [])
-TellsFrom how p (first ∷ others) status text = (one : Status) × (told : List ℕ) × (rest : Status) × (more : List ℕ)
-    × TellsLine how p first one told
-    × TellsFrom how (behind p first) others rest more
+abbrev pub TellsFrom : Place → List Line → Status → List ℕ → Type 0
+TellsFrom p [] status text = (status ≡ Done) × (text ≡ [])
+TellsFrom p (first ∷ others) status text = (one : Status) × (told : List ℕ) × (rest : Status) × (more : List ℕ)
+    × TellsLine p first one told
+    × TellsFrom (behind p first) others rest more
     × (status ≡ both one rest)
     × (text ≡ told ++ more)
 
 -- For these bytes of a capture this is the status and what is printed.
 abbrev pub TellsCapture : (how : Telling) → List ℕ → Status → List ℕ → Type 0
-TellsCapture how bytes status text = TellsFrom how start (map line_of (lines_of bytes)) status text
+TellsCapture how bytes status text = TellsFrom (start how) (map line_of (lines_of bytes)) status text
 
 -- Of these bytes the lines that have ended are told, and of the one that has not nothing.
 pub record TellsEnded (how : Telling) (bytes text : List ℕ) : Type 0 where

@@ -23,25 +23,23 @@ read_as rust.NotHexadecimal = capture.NotHexadecimal
 read_as rust.TooLong = capture.TooLong
 
 abbrev pub place : Capture → Place
-place c = record { number = c.number; awaited = c.awaited }
+place c = record { how = c.how; number = c.number; awaited = c.awaited }
 
 -- ---- a line
 
 -- Behind a frame, with the status of it, the next has the next number.
 pub record Passes (old : Capture) (awaited : Awaited) (status : Status) (new : Capture) : Type 0 where
-  pub place : place new ≡ record { number = old.number + 1; awaited = awaited }
+  pub place : place new ≡ record { how = old.how; number = old.number + 1; awaited = awaited }
   pub all : new.status ≡ both old.status status
-  pub how : new.how ≡ old.how
 
 -- This line was told.
 pub record Tells (l : Line) (old new : Capture) (Added : List ℕ → Type 0) : Type 0 where
   pub status : Status
   pub text : List ℕ
-  pub tells : TellsLine old.how (place old) l status text
+  pub tells : TellsLine (place old) l status text
   pub added : Added text
   pub place : place new ≡ behind (place old) l
   pub all : new.status ≡ both old.status status
-  pub how : new.how ≡ old.how
 
 -- The present line, which is this, was told.
 pub record EndsLine (l : Line) (old new : Capture) (Added : List ℕ → Type 0) : Type 0 where
@@ -63,9 +61,8 @@ pub record Taken (how : Telling) (bytes text : List ℕ) (c : Capture) : Type 0 
   pub ended : AreEnded lines
   pub one : HasNoFeed line
   pub held : c.line.items ≡ take (most_line + 1) (without_blanks line)
-  pub tells : TellsFrom how start (map line_of (lines_of lines)) c.status text
-  pub place : place c ≡ behind_all start (map line_of (lines_of lines))
-  pub same : c.how ≡ how
+  pub tells : TellsFrom (start how) (map line_of (lines_of lines)) c.status text
+  pub place : place c ≡ behind_all (start how) (map line_of (lines_of lines))
 
 -- Behind whatever was taken these bytes were taken, and this was printed.
 pub record Takes (bytes : List ℕ) (old new : Capture) (Added : List ℕ → Type 0) : Type 0 where
@@ -75,30 +72,33 @@ pub record Takes (bytes : List ℕ) (old new : Capture) (Added : List ℕ → Ty
       → Taken how (before ++ bytes) (text ++ added) new
   pub number : new.number ≤ old.number + length bytes
 
--- So many bytes of the input were read and taken.
-pub record Reaches (how : Telling) (old new : Option (List ℕ)) (read : ℕ) (c : Capture)
-    (Added : List ℕ → Type 0) : Type 0 where
+-- an input that is read: what was to come of it, what is to come, and how many bytes came between
+pub record Reading : Type 0 where
+  pub old : Option (List ℕ)
+  pub new : Option (List ℕ)
+  pub count : ℕ
+
+-- The bytes that came were taken.
+pub record Reaches (how : Telling) (r : Reading) (c : Capture) (Added : List ℕ → Type 0) : Type 0 where
   pub bytes : List ℕ
   pub text : List ℕ
-  pub consumed : Consumes old new bytes
-  pub count : read ≡ length bytes
+  pub consumed : Consumes r.old r.new bytes
+  pub count : r.count ≡ length bytes
   pub taken : Taken how bytes text c
   pub added : Added text
-  pub number : c.number ≤ read + 1
+  pub number : c.number ≤ r.count + 1
 
 -- ---- frames
 
--- So many bytes of the input were read, and are frames that were told.
-pub record Streams (how : Telling) (old new : Option (List ℕ)) (read : ℕ) (c : Capture)
-    (Added : List ℕ → Type 0) : Type 0 where
+-- The bytes that came are frames that were told.
+pub record Streams (how : Telling) (r : Reading) (c : Capture) (Added : List ℕ → Type 0) : Type 0 where
   pub frames : List (List ℕ)
   pub text : List ℕ
-  pub consumed : Consumes old new (concat frames)
+  pub consumed : Consumes r.old r.new (concat frames)
   pub each : All IsFrame frames
-  pub count : read ≡ length (concat frames)
-  pub tells : TellsFrom how start (map unmarked_frame frames) c.status text
-  pub place : place c ≡ behind_all start (map unmarked_frame frames)
+  pub count : r.count ≡ length (concat frames)
+  pub tells : TellsFrom (start how) (map unmarked_frame frames) c.status text
+  pub place : place c ≡ behind_all (start how) (map unmarked_frame frames)
   pub number : c.number ≡ length frames + 1
-  pub fewer : length frames ≤ read
-  pub same : c.how ≡ how
+  pub fewer : length frames ≤ r.count
   pub added : Added text

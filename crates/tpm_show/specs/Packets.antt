@@ -54,19 +54,19 @@ behind_entry p (went.Reply bytes) = behind p (Frame (Some Reply) bytes)
 behind_entry p (Untold packet reason) = record p { awaited = awaited_past reason p.awaited }
 
 -- A frame is told as that of a line with its mark.
-abbrev pub TellsEntry : (how : Telling) → Place → Entry → Status → List ℕ → Type 0
-TellsEntry how p Connection status text = (status ≡ Done) × (text ≡ [])
-TellsEntry how p (went.Command bytes) status text = TellsLine how p (Frame (Some Command) bytes) status text
-TellsEntry how p (went.Reply bytes) status text = TellsLine how p (Frame (Some Reply) bytes) status text
-TellsEntry how p (Untold packet reason) status text =
-    (status ≡ Refused) × (text ≡ packet_text how.json packet (reason_text reason))
+abbrev pub TellsEntry : Place → Entry → Status → List ℕ → Type 0
+TellsEntry p Connection status text = (status ≡ Done) × (text ≡ [])
+TellsEntry p (went.Command bytes) status text = TellsLine p (Frame (Some Command) bytes) status text
+TellsEntry p (went.Reply bytes) status text = TellsLine p (Frame (Some Reply) bytes) status text
+TellsEntry p (Untold packet reason) status text =
+    (status ≡ Refused) × (text ≡ packet_text p.how.json packet (reason_text reason))
 
 -- From this place they are told one after the other. All is done where each is.
-abbrev pub TellsEntries : (how : Telling) → Place → List Entry → Status → List ℕ → Type 0
-TellsEntries how p [] status text = (status ≡ Done) × (text ≡ [])
-TellsEntries how p (first ∷ others) status text = (one : Status) × (told : List ℕ) × (rest : Status) × (more : List ℕ)
-    × TellsEntry how p first one told
-    × TellsEntries how (behind_entry p first) others rest more
+abbrev pub TellsEntries : Place → List Entry → Status → List ℕ → Type 0
+TellsEntries p [] status text = (status ≡ Done) × (text ≡ [])
+TellsEntries p (first ∷ others) status text = (one : Status) × (told : List ℕ) × (rest : Status) × (more : List ℕ)
+    × TellsEntry p first one told
+    × TellsEntries (behind_entry p first) others rest more
     × (status ≡ both one rest)
     × (text ≡ told ++ more)
 
@@ -89,7 +89,7 @@ link_text true number = link_object number
 abbrev pub TellsTraffic : (how : Telling) → Traffic → Status → List ℕ → Type 0
 TellsTraffic how NoCapture status text = (status ≡ Refused) × (text ≡ no_capture_text how.json)
 TellsTraffic how (OtherLink number) status text = (status ≡ Refused) × (text ≡ link_text how.json number)
-TellsTraffic how (Entries entries) status text = TellsEntries how start entries status text
+TellsTraffic how (Entries entries) status text = TellsEntries (start how) entries status text
 
 -- For the bytes of a file this is the status and what is printed.
 abbrev pub TellsPackets : (how : Telling) → List ℕ → Status → List ℕ → Type 0

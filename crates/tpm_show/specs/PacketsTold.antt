@@ -17,19 +17,17 @@ behind_entries p (first ∷ others) = behind_entries (behind_entry p first) othe
 pub record TellsOne (e : Entry) (old new : Capture) (Added : List ℕ → Type 0) : Type 0 where
   pub status : Status
   pub text : List ℕ
-  pub tells : TellsEntry old.how (place old) e status text
+  pub tells : TellsEntry (place old) e status text
   pub added : Added text
   pub place : place new ≡ behind_entry (place old) e
   pub all : new.status ≡ both old.status status
-  pub how : new.how ≡ old.how
 
 -- These were told, one after the other.
 pub record TellsMany (entries : List Entry) (old new : Capture) (Added : List ℕ → Type 0) : Type 0 where
   pub status : Status
   pub text : List ℕ
-  pub tells : TellsEntries old.how (place old) entries status text
+  pub tells : TellsEntries (place old) entries status text
   pub added : Added text
   pub place : place new ≡ behind_entries (place old) entries
   pub all : new.status ≡ both old.status status
-  pub how : new.how ≡ old.how
   pub number : new.number ≤ old.number + length entries

@@ -1,5 +1,6 @@
 -- What `show` prints (this profile).
 use Rattle.std.specs.Prelude.{◌≡◌, ℕ, Bool, true, false, List, [], ◌++◌, length, map, codes, Option, Some, None}
+use Rattle.std.specs.Prelude.{option_map}
 use Rattle.std.specs.Fmt.{decimal}
 use Rattle.tpm_wire.specs.declared.refusal.Refusal.{Refusal}
 use Rattle.tpm_wire.specs.Path.{Spells, Fault}
@@ -103,36 +104,42 @@ response_lines fields code size r (responses.Done body auths) =
 
 -- ---- what is shown
 
--- a command that the bytes spell is shown, and else their fault
-abbrev pub ShowsCommand : (fields : Bool) → List ℕ → Status → List ℕ → Type 0
-ShowsCommand fields bytes Done text = (c : Command) × (areas : Cut) × Spells command c bytes × HasCut bytes areas
+-- bytes that are taken for a command, or for a response to this one
+pub data Buffer : Type 0 where
+  CommandBytes : (bytes : List ℕ) → Buffer
+  ReplyBytes : (command : CommandCode) → (bytes : List ℕ) → Buffer
+
+-- A command or a response that the bytes spell is shown, and else their fault.
+abbrev pub ShowsBuffer : (fields : Bool) → Buffer → Status → List ℕ → Type 0
+ShowsBuffer fields (CommandBytes bytes) Done text =
+    (c : Command) × (areas : Cut) × Spells command c bytes × HasCut bytes areas
     × (text ≡ command_lines fields (length bytes) areas c.body)
-ShowsCommand fields bytes Refused text =
+ShowsBuffer fields (CommandBytes bytes) Refused text =
     (refusal : Refusal) × Fault command bytes refusal
     × (text ≡ refusal_told false fields refusal)
-
--- a response to this command that the bytes spell is shown, and else their fault
-abbrev pub ShowsReply : (fields : Bool) → CommandCode → List ℕ → Status → List ℕ → Type 0
-ShowsReply fields code bytes Done text =
+ShowsBuffer fields (ReplyBytes code bytes) Done text =
     (r : Response) × (areas : ReplyCut) × Spells (response code) r bytes
     × Spells (reply_cut code) areas bytes
     × (text ≡ response_lines fields code (length bytes) areas r)
-ShowsReply fields code bytes Refused text =
+ShowsBuffer fields (ReplyBytes code bytes) Refused text =
     (refusal : Refusal) × Fault (response code) bytes refusal
     × (text ≡ refusal_told false fields refusal)
 
--- Where a command is named the bytes are taken for a response to it, and else for a command; any
--- other text is not hexadecimal.
-abbrev pub ShowsDecoded : (fields : Bool) → Option CommandCode → Option (List ℕ) → Status → List ℕ → Type 0
-ShowsDecoded fields reply None status text = (status ≡ Refused) × (text ≡ not_hexadecimal_line)
-ShowsDecoded fields None (Some bytes) status text = ShowsCommand fields bytes status text
-ShowsDecoded fields (Some code) (Some bytes) status text = ShowsReply fields code bytes status text
+-- Where a command is named the bytes are taken for a response to it, and else for a command.
+abbrev pub taken_for : Option CommandCode → List ℕ → Buffer
+taken_for None bytes = CommandBytes bytes
+taken_for (Some code) bytes = ReplyBytes code bytes
+
+-- Text that has no buffer is not hexadecimal.
+abbrev pub ShowsDecoded : (fields : Bool) → Option Buffer → Status → List ℕ → Type 0
+ShowsDecoded fields None status text = (status ≡ Refused) × (text ≡ not_hexadecimal_line)
+ShowsDecoded fields (Some buffer) status text = ShowsBuffer fields buffer status text
 
 -- For this text of digits, read as a response to this command where one is named, this is the
 -- status and what is printed: by `show`,
 abbrev pub Shows : Option CommandCode → List ℕ → Status → List ℕ → Type 0
-Shows reply hex status text = ShowsDecoded false reply (buffer_in hex) status text
+Shows reply hex status text = ShowsDecoded false (option_map (taken_for reply) (buffer_in hex)) status text
 
 -- and by `show --fields`
 abbrev pub ShowsFields : Option CommandCode → List ℕ → Status → List ℕ → Type 0
-ShowsFields reply hex status text = ShowsDecoded true reply (buffer_in hex) status text
+ShowsFields reply hex status text = ShowsDecoded true (option_map (taken_for reply) (buffer_in hex)) status text

@@ -55,7 +55,7 @@ pub record TellsStream (how : Telling) (bytes : List ℕ) (status : Status) (tex
   pub ends : IsEnding rest ending
   pub one : Status
   pub told : List ℕ
-  pub tells : TellsFrom how start (map unmarked_frame frames) one told
+  pub tells : TellsFrom (start how) (map unmarked_frame frames) one told
   pub all : status ≡ both one (ending_status ending)
   pub are : text ≡ told ++ ending_text how.json ending (length frames + 1) (length (concat frames))
 
@@ -66,13 +66,13 @@ pub record TellsWhole (how : Telling) (bytes text : List ℕ) : Type 0 where
   pub cut : Frames bytes frames rest
   pub part : IsPart rest
   pub status : Status
-  pub tells : TellsFrom how start (map unmarked_frame frames) status text
+  pub tells : TellsFrom (start how) (map unmarked_frame frames) status text
 
 -- ---- what is read
 
--- These bytes of the input were read and told; and it has ended, or whatever comes makes no difference.
-pub record TellsRead (how : Telling) (old new : Option (List ℕ)) (status : Status) (text : List ℕ) : Type 0 where
+-- This holds of the bytes of the input that were read; and it has ended, or this holds whatever comes behind them.
+pub record OfRead (old new : Option (List ℕ)) (Holds : List ℕ → Type 0) : Type 0 where
   pub bytes : List ℕ
   pub read : Consumes old new bytes
-  pub tells : TellsStream how bytes status text
-  pub whole : IsAtEnd new ⊎ ((more : List ℕ) → TellsStream how (bytes ++ more) status text)
+  pub holds : Holds bytes
+  pub whole : IsAtEnd new ⊎ ((more : List ℕ) → Holds (bytes ++ more))

@@ -70,8 +70,12 @@ fn answer(
     sessions: &str,
     parameters: &str,
 ) -> Result<Answer, AllocError>
-    ensures { IfOk result (λ a. Builds name handles.now sessions.now parameters.now
-        a.status (string_bytes a.text)) }
+    ensures { IfOk result (λ a. Builds (record {
+      code = name;
+      handles = handles.now;
+      sessions = sessions.now;
+      parameters = parameters.now;
+    }) a.status (string_bytes a.text)) }
 {
     let handles = part(alloc, handles)?;
     let sessions = part(alloc, sessions)?;
@@ -107,7 +111,12 @@ pub fn build<W: Write>(
     parameters: &str,
 ) -> Result<Status, ToolFault>
     ensures ok { IfOk result (λ status. (text : List ℕ)
-        × Builds name handles.now sessions.now parameters.now status text
+        × Builds (record {
+          code = name;
+          handles = handles.now;
+          sessions = sessions.now;
+          parameters = parameters.now;
+        }) status text
         × Appends (W.contents out.old) (W.contents out.new) text) }
     ensures err { FailsByMemoryOrWrite result }
 {

@@ -49,9 +49,8 @@ pub(crate) struct Capture {
 impl Capture {
     /// A capture of which nothing is told.
     pub(crate) fn new(alloc: Global, how: Telling) -> Self
-        ensures how { result.how ≡ how }
         ensures line { result.line.items ≡ [] }
-        ensures place { place result ≡ start }
+        ensures place { place result ≡ start how }
         ensures status { result.status ≡ Done }
     {
         Capture {

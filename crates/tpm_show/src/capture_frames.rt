@@ -7,8 +7,8 @@ ghost use Rattle.tpm_show.specs.Capture.{frame_object, kind_of, numbered, fault_
 ghost use Rattle.tpm_show.specs.CommandNames.{absent_behind, command_of};
 ghost use Rattle.tpm_show.specs.Headers.{header_in};
 ghost use Rattle.tpm_show.specs.Library.{library_command};
-ghost use Rattle.tpm_show.specs.Show.{refusal_told};
-ghost use Rattle.tpm_show.specs.Capture.{head_told, other_reply, TellsCommand, TellsReplyTo, TellsRest, TellsFrame};
+ghost use Rattle.tpm_show.specs.Show.{CommandBytes, ReplyBytes, refusal_told};
+ghost use Rattle.tpm_show.specs.Capture.{head_told, other_reply, TellsBuffer, TellsRest, TellsFrame};
 ghost use Rattle.tpm_lines.specs.declared.status.Status.TheVariants.{Refused};
 
 use crate::capture_lines::Direction;
@@ -152,7 +152,7 @@ fn push_command(
     bytes: &[u8],
 ) -> Result<Status, AllocError>
     ensures { IfOk result (λ status. (rest : List ℕ)
-        × TellsCommand how.json how.fields bytes.now status rest
+        × TellsBuffer how (CommandBytes bytes.now) status rest
         × (string_bytes text.new ≡ string_bytes text.old ++ rest)) }
 {
     match command_and_areas(bytes) {
@@ -172,7 +172,7 @@ fn push_reply_to(
     bytes: &[u8],
 ) -> Result<Status, AllocError>
     ensures { IfOk result (λ status. (rest : List ℕ)
-        × TellsReplyTo how.json how.fields command bytes.now status rest
+        × TellsBuffer how (ReplyBytes command bytes.now) status rest
         × (string_bytes text.new ≡ string_bytes text.old ++ rest)) }
 {
     match response_and_areas(command, bytes) {
@@ -234,7 +234,8 @@ fn push_rest(
     bytes: &[u8],
 ) -> Result<Status, AllocError>
     ensures { IfOk result (λ status. (rest : List ℕ)
-        × TellsRest how.json how.fields direction awaited bytes.now status rest
+        × TellsRest direction (record { bytes = bytes.now; awaited = awaited; how = how })
+        status rest
         × (string_bytes text.new ≡ string_bytes text.old ++ rest)) }
 {
     match (direction, awaited) {
@@ -263,7 +264,8 @@ pub(crate) fn answer_to_frame(
     bytes: &[u8],
 ) -> Result<Answer, AllocError>
     ensures { IfOk result (λ a.
-        TellsFrame how.json how.fields direction awaited bytes.now a.status (string_bytes a.text)) }
+        TellsFrame direction (record { bytes = bytes.now; awaited = awaited; how = how })
+        a.status (string_bytes a.text)) }
 {
     let mut text = String::new(alloc);
     push_head(&mut text, how, direction, awaited, header_in(bytes))?;

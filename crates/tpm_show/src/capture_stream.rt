@@ -8,7 +8,7 @@ ghost use Rattle.tpm_lines.specs.declared.status.Status.TheVariants.{Refused};
 ghost use Rattle.tpm_lines.specs.Faults.{FailsByMemoryOrWrite};
 ghost use Rattle.tpm_lines.specs.InputLines.{CountsRead};
 ghost use Rattle.tpm_show.specs.Capture.{ReadsTooMuchCapture};
-ghost use Rattle.tpm_show.specs.Stream.{stop_line, stop_text, TellsRead, TellsWhole};
+ghost use Rattle.tpm_show.specs.Stream.{stop_line, stop_text, OfRead, TellsStream, TellsWhole};
 
 use crate::capture::{Capture, MOST_BYTES};
 use crate::frame_json::push_stop_object;
@@ -92,7 +92,8 @@ pub fn show_stream<R: Source, W: Write>(
         × TellsWhole how bytes text
         × Appends (W.contents out.old) (W.contents out.new) text }
     ensures ok { IfOk result (λ status. (text : List ℕ)
-        × TellsRead how (R.coming input.old) (R.coming input.new) status text
+        × OfRead (R.coming input.old) (R.coming input.new)
+        (λ bytes. TellsStream how bytes status text)
         × Appends (W.contents out.old) (W.contents out.new) text) }
     ensures too_long { IsErrOf result InputTooLong
         → ReadsTooMuchCapture (R.coming input.old) (R.coming input.new) }

@@ -131,7 +131,7 @@ fn print_entries<W: Write>(
     out: &mut W,
 ) -> Result<Status, ToolFault>
     ensures ok { IfOk result (λ status. (text : List ℕ)
-        × TellsEntries how start (entries_as entries.now) status text
+        × TellsEntries (start how) (entries_as entries.now) status text
         × Appends (W.contents out.old) (W.contents out.new) text) }
     ensures err { FailsByMemoryOrWrite result }
 {

@@ -9,7 +9,8 @@ ghost use Rattle.tpm_lines.specs.declared.status.Status.TheVariants.{Refused};
 ghost use Rattle.tpm_lines.specs.Text.{command_line};
 ghost use Rattle.tpm_show.specs.Show.{areas_told, reply_areas_told, named_parameters, parameters_told};
 ghost use Rattle.tpm_show.specs.Show.{command_rest, command_lines, reply_rest, response_rest, response_lines};
-ghost use Rattle.tpm_show.specs.Show.{named_refusal_line, refusal_told, refusal_words, ShowsCommand, ShowsReply};
+ghost use Rattle.tpm_show.specs.Show.{named_refusal_line, refusal_told, refusal_words};
+ghost use Rattle.tpm_show.specs.Show.{CommandBytes, ReplyBytes, ShowsBuffer};
 
 use crate::fields::push_command_fields;
 use crate::frame_header::push_code_name;
@@ -222,7 +223,8 @@ pub(crate) fn answer_to_command(
     fields: bool,
     bytes: &[u8],
 ) -> Result<Answer, AllocError>
-    ensures { IfOk result (λ a. ShowsCommand fields bytes.now a.status (string_bytes a.text)) }
+    ensures { IfOk result
+        (λ a. ShowsBuffer fields (CommandBytes bytes.now) a.status (string_bytes a.text)) }
 {
     match command_and_areas(bytes) {
         Ok((command, areas)) => {
@@ -325,7 +327,7 @@ pub(crate) fn answer_to_reply(
     bytes: &[u8],
 ) -> Result<Answer, AllocError>
     ensures { IfOk result
-        (λ a. ShowsReply fields command bytes.now a.status (string_bytes a.text)) }
+        (λ a. ShowsBuffer fields (ReplyBytes command bytes.now) a.status (string_bytes a.text)) }
 {
     match response_and_areas(command, bytes) {
         Ok((response, areas)) => {

@@ -15,7 +15,7 @@ loop-capture-init g c =
       told =
           streams_none c.args.how (coming c.args.input.now) c.new-capture.result (Appends (contents c.args.out.now) (contents c.args.out.now))
           (consumes_none (coming c.args.input.now))
-          (appends_nothing (contents c.args.out.now)) c.new-capture.ensures.how c.new-capture.ensures.place c.new-capture.ensures.status;
+          (appends_nothing (contents c.args.out.now)) c.new-capture.ensures.place c.new-capture.ensures.status;
       bound = omega arith;
       failures = refl;
     }

@@ -7,7 +7,7 @@ use Rattle.tpm_show.proofs.capture_stream.show_stream.Given as goal
 
 abbrev pub invariant-loop-capture : goal.invariant-loop-capture
 invariant-loop-capture g l =
-    GoesOn (Streams l.fn.how (g.R.Source.coming l.fn.input) (g.R.Source.coming l.input) l.read l.capture
+    GoesOn (Streams l.fn.how (record { old = g.R.Source.coming l.fn.input; new = g.R.Source.coming l.input; count = l.read }) l.capture
     (Appends (g.W.Write.contents l.fn.out) (g.W.Write.contents l.out))) l.read (g.R.Source.failed l.input) (g.R.Source.failed l.fn.input)
 
 abbrev pub decreases-loop-capture : goal.decreases-loop-capture

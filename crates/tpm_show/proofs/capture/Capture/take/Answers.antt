@@ -15,14 +15,14 @@ returns-then-is_blank c =
     let run = c.args.self.now in
     let other : nat_eq c.args.byte 10 ≡ false = search rules in
     let blank : is_blank c.args.byte ≡ true = search rules in
-    takes_byte c.args.byte run run _ other (sym (append-nil _)) (keeps_blank c.args.byte run.line.items blank) refl refl refl
+    takes_byte c.args.byte run run _ other (sym (append-nil _)) (keeps_blank c.args.byte run.line.items blank) refl refl
 
 pub returns-then-len-gt-MOST_LINE : goal.returns-then-len-gt-MOST_LINE
 returns-then-len-gt-MOST_LINE c =
     let run = c.args.self.now in
     let other : nat_eq c.args.byte 10 ≡ false = search rules in
     let full : most_line < length run.line.items = omega arith in
-    takes_byte c.args.byte run run _ other (sym (append-nil _)) (keeps_full c.args.byte run.line.items full) refl refl refl
+    takes_byte c.args.byte run run _ other (sym (append-nil _)) (keeps_full c.args.byte run.line.items full) refl refl
 
 pub returns : goal.returns
 returns c =
@@ -31,4 +31,4 @@ returns c =
     let counts : is_blank c.args.byte ≡ false = search rules in
     let short : length run.line.items ≤ most_line = omega arith in
     let keeps = keeps_byte c.args.byte run.line.items counts short in
-    takes_byte c.args.byte run _ _ other (sym (append-nil _)) (rw c.in_ok-push.ensures.items keeps) refl refl refl
+    takes_byte c.args.byte run _ _ other (sym (append-nil _)) (rw c.in_ok-push.ensures.items keeps) refl refl
