@@ -13,7 +13,7 @@ use Rattle.tpm_script.specs.Script.{Line, Blank, Power, Command, NotHexadecimal,
 use Rattle.tpm_script.specs.Script.{AreAccepted, AreAnswered, IsRefusedIn, IsRefusedLine, IsUnrefused, events_from, script_from}
 use Rattle.tpm_script.specs.Script.{script, events_text, refused_text, script_text, status_for, ReadsNoFurther}
 use Rattle.tpm_script.specs.Script.{ReadsScript, ReadsTooMuch, most_digits}
-use Rattle.tpm_script.specs.Progress.{Runs, RunsAs, StandsAt, digits, next_command}
+use Rattle.tpm_script.specs.Progress.{Runs, RunsTo, StandsAt, digits, next_command}
 use Rattle.tpm_lines.specs.declared.status.Status.TheVariants.{Done, Refused}
 use Rattle.tpm_lines.specs.declared.status.Status.{Status}
 use Rattle.tpm_lines.specs.Text.{bytes_line, line}
@@ -121,8 +121,14 @@ line_of-kept line = rw all_count (elim (cases_lt most_digits (length line)) [
   | inr few ↦ ap line_of (take_all (most_digits + 1) line (omega (arith, few)))
 ])
 
+-- The bytes of the line make no difference to what comes of what was read of it.
+runs_to : (l : Line) (step : Step Run) (line : List ℕ) (new : Option Run) → RunsTo l step new → RunsTo l (record step { line = line }) new
+runs_to l step line (Some new) f = f
+runs_to l step line None f = f
+
 pub takes_kept : (step : Step Run) → Runs step → TakesKept digits Runs step
-takes_kept step f = λ line same. subst (λ (l : Line). RunsAs l step.number step.old step.new step.text) (ap line_of (sym same) ∙ line_of-kept line) f
+takes_kept step f = λ line same.
+    runs_to (line_of line) step line step.new (subst (λ (l : Line). RunsTo l step step.new) (ap line_of (sym same) ∙ line_of-kept line) f)
 
 pub short : (goes_on : Bool) (n : ℕ) (old new : Run) (line text : List ℕ)
     → Runs (record { number = n; old = old; line = line; new = some_if goes_on new; text = text })

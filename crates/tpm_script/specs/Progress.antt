@@ -43,14 +43,15 @@ abbrev pub next_command : ℕ → Line → ℕ
 next_command k (Command bytes) = k + 1
 next_command k _ = k
 
--- This line was run, or it is refused.
-abbrev pub RunsAs : Line → (number : ℕ) → Run → Option Run → (text : List ℕ) → Type 0
-RunsAs l n old (Some new) text = record {
+-- What was read of the line was run, up to the other script, or it is refused.
+abbrev pub RunsTo : Line → Step Run → Option Run → Type 0
+RunsTo l step (Some new) = record {
   accepted : l ≢ NotHexadecimal;
-  performs : Performs (record { events = events_from old.command (l ∷ []); refused = None }) old.device new.device text;
-  command : new.command ≡ next_command old.command l;
+  performs : Performs (record { events = events_from step.old.command (l ∷ []); refused = None })
+      step.old.device new.device step.text;
+  command : new.command ≡ next_command step.old.command l;
 }
-RunsAs l n old None text = (l ≡ NotHexadecimal) × (text ≡ refused_line n)
+RunsTo l step None = (l ≡ NotHexadecimal) × (step.text ≡ refused_line step.number)
 
 abbrev pub Runs : Step Run → Type 0
-Runs step = RunsAs (line_of step.line) step.number step.old step.new step.text
+Runs step = RunsTo (line_of step.line) step step.new
