@@ -10,7 +10,7 @@ use Rattle.tpm_model.specs.Answers.{answer, next}
 use Rattle.tpm_model.specs.Runs.{Event, Given, Cycled, after, run}
 use Rattle.tpm_script.specs.declared.script.Run.{Run}
 use Rattle.tpm_script.specs.Script.{Line, Blank, Power, Command, NotHexadecimal, Script, line_of, nonce_of}
-use Rattle.tpm_script.specs.Script.{AreAccepted, AreAnswered, IsRefusedIn, IsRefusedLine, IsUnrefused, events_from, script_from}
+use Rattle.tpm_script.specs.Script.{AreAnswered, IsRefusedIn, IsRefusedLine, IsUnrefused, events_from, script_from}
 use Rattle.tpm_script.specs.Script.{script, events_text, refused_text, script_text, status_for, ReadsNoFurther}
 use Rattle.tpm_script.specs.Script.{ReadsScript, ReadsTooMuch, most_digits}
 use Rattle.tpm_script.specs.Progress.{Runs, RunsTo, StandsAt, digits, next_command}
@@ -21,7 +21,6 @@ use Rattle.tpm_lines.specs.InputLines.{lines_of, most_bytes}
 use Rattle.tpm_lines.proofs.InputLines.{ended_line, lines_of-append}
 use Rattle.tpm_lines.specs.LineSinks.{GoesOn, IsWhole, OnTrue, Reading, ReadsLines, ReadsOneMore, Step, StopsAt, TakesFrom}
 use Rattle.tpm_lines.specs.LineSinks.{TakesKept, kept, some_if}
-use Rattle.std.specs.Io.KnownBytes.{IsAtEnd}
 
 -- ---- the script of some lines
 

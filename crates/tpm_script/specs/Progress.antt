@@ -1,6 +1,5 @@
 -- What comes of a line of a script.
-use Rattle.std.specs.Prelude.{◌≡◌, ◌≢◌, ℕ, ◌+◌, ◌<◌, true, List, [], ◌∷◌, length, filter, Option, Some, None}
-use Rattle.std.proofs.Common.{refl}
+use Rattle.std.specs.Prelude.{◌≡◌, ◌≢◌, ℕ, ◌+◌, true, List, [], ◌∷◌, Option, Some, None}
 use Rattle.tpm_model.specs.Steps.{History, Origin}
 use Rattle.tpm_model.specs.Runs.{after}
 use Rattle.tpm_device.specs.declared.device.Device.{Device}

@@ -1,4 +1,4 @@
-use Rattle.std.proofs.Common.{◌≡◌, ℕ, List, Some, refl, subst, rules}
+use Rattle.std.proofs.Common.{ℕ, List, Some, refl, subst, rules}
 use Rattle.std.specs.Prelude.{IsErrOf}
 use Rattle.std.specs.Io.KnownBytes.{Appends}
 use Rattle.tpm_lines.specs.declared.fault.ToolFault.TheVariants.{InputTooLong, Read}
