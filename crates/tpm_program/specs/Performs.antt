@@ -3,7 +3,7 @@ use Rattle.std.specs.Prelude.{◌≡◌, ℕ, Bool, true, false, List, [], Optio
 use Rattle.std.specs.Borrow.{Bor}
 use Rattle.tpm_types.specs.declared.tpms.Selection.{Selection}
 use Rattle.tpm_model.specs.Registers.{Registers}
-use Rattle.tpm_model.specs.Steps.{new_origin}
+use Rattle.tpm_model.specs.Steps.{Origin, new_origin}
 use Rattle.tpm_log.specs.declared.fault.LogFault.{LogFault}
 use Rattle.tpm_log.specs.Changes.{AreAfter}
 use Rattle.tpm_log.specs.Replays.{ReadsFrom, ReplaysFrom}
@@ -14,7 +14,7 @@ use Rattle.tpm_show.specs.Capture.{ReadsAll, TellsCapture}
 use Rattle.tpm_show.specs.Explain.{explain_status, explanation}
 use Rattle.tpm_show.specs.Packets.{TellsPackets}
 use Rattle.tpm_show.specs.Show.{Shows, ShowsFields}
-use Rattle.tpm_show.specs.Stream.{TellsRead}
+use Rattle.tpm_show.specs.Stream.{OfRead, TellsStream}
 use Rattle.tpm_show_nv.specs.ShowNv.{ShowsNv}
 use Rattle.tpm_check.specs.CheckAttest.{Quoted}
 use Rattle.tpm_check.specs.Checked.{ChecksLog}
@@ -46,20 +46,30 @@ most_packets = 1073741824
 
 -- ---- frames
 
--- those of a stream where the capture is binary, and else those in its lines
-abbrev pub TellsFrames : (binary : Bool) → Telling → Option (List ℕ) → Status → List ℕ → Type 0
-TellsFrames true how coming status text = (rest : Option (List ℕ)) × TellsRead how coming rest status text
-TellsFrames false how coming status text =
+-- a capture that is a stream of frames, or lines, and how it is told
+pub data Form : Type 0 where
+  Stream : (how : Telling) → Form
+  Lines : (how : Telling) → Form
+
+abbrev pub form_of : (binary : Bool) → Telling → Form
+form_of true how = Stream how
+form_of false how = Lines how
+
+-- those of the stream, or those in the lines
+abbrev pub TellsFrames : Form → Option (List ℕ) → Status → List ℕ → Type 0
+TellsFrames (Stream how) coming status text =
+    (rest : Option (List ℕ)) × OfRead coming rest (λ bytes. TellsStream how bytes status text)
+TellsFrames (Lines how) coming status text =
     (bytes : List ℕ) × (rest : Option (List ℕ)) × ReadsAll coming rest bytes × TellsCapture how bytes status text
 
 -- ---- a script
 
--- on a new device whose owner has this authorization value, and whose counters have had no greater value than this
-abbrev pub RunsScript : (owner : List ℕ) → (greatest : ℕ) → Option (List ℕ) → Status → List ℕ → Type 0
-RunsScript owner greatest coming status text =
+-- on a device of this origin, before its first command
+abbrev pub RunsScript : Origin → Option (List ℕ) → Status → List ℕ → Type 0
+RunsScript origin coming status text =
     (bytes : List ℕ) × (rest : Option (List ℕ)) × ReadsScript coming rest bytes
     × (status ≡ status_for (script bytes).refused)
-    × (text ≡ script_text (new_origin owner greatest) [] (script bytes))
+    × (text ≡ script_text origin [] (script bytes))
 
 -- ---- a log beside a list of registers and quotes
 
@@ -102,16 +112,21 @@ Performs offered (Show reply true hex) status text = ShowsFields reply hex.now s
 Performs offered (Show reply false hex) status text = Shows reply hex.now status text
 Performs offered (ShowCapture file binary fields json) status text =
     OfPlace offered file (λ capture.
-    TellsFrames binary (record { fields = fields; json = json }) capture status text)
+    TellsFrames (form_of binary (record { fields = fields; json = json })) capture status text)
 Performs offered (ShowPackets file fields json) status text =
     OfFile offered file.now (OfFirst most_packets (λ bytes.
     TellsPackets (record { fields = fields; json = json }) bytes status text))
 Performs offered (ShowNv file) status text =
     OfFile offered file.now (OfFirst most_kept (λ bytes. ShowsNv bytes status text))
 Performs offered (Build name handles sessions parameters) status text =
-    Builds name handles.now sessions.now parameters.now status text
+    Builds (record {
+      code = name;
+      handles = handles.now;
+      sessions = sessions.now;
+      parameters = parameters.now;
+    }) status text
 Performs offered (Run owner greatest) status text =
-    OfPlace offered None (λ input. RunsScript owner greatest input status text)
+    OfPlace offered None (λ input. RunsScript (new_origin owner greatest) input status text)
 Performs offered (Explain code) status text = (status ≡ explain_status code) × (text ≡ explanation code)
 Performs offered (ExplainKind kind) status text = ExplainsKind kind.now status text
 Performs offered (Check log registers quote attest sent required hash json) status text =

@@ -5,7 +5,7 @@ ghost use Rattle.std.specs.Io.KnownBytes.{Appends};
 ghost use Rattle.tpm_lines.specs.declared.fault.ToolFault.TheVariants.{InputTooLong};
 ghost use Rattle.tpm_show.specs.Capture.{ReadsTooMuchCapture};
 ghost use Rattle.tpm_args.specs.declared.task.Task.TheVariants.{Run, ShowCapture, ShowNv, ShowPackets};
-ghost use Rattle.tpm_program.specs.Performs.{Performs, TellsFrames};
+ghost use Rattle.tpm_program.specs.Performs.{Performs, TellsFrames, form_of};
 ghost use Rattle.tpm_program.specs.Fails.{Fails};
 
 use crate::fault::Fault;
@@ -35,7 +35,7 @@ fn show_frames<S: Source, W: Write>(
     how: Telling,
 ) -> Result<Status, ToolFault>
     ensures ok { IfOk result (λ status. (text : List ℕ)
-        × TellsFrames binary how (S.coming input.old) status text
+        × TellsFrames (form_of binary how) (S.coming input.old) status text
         × Appends (W.contents out.old) (W.contents out.new) text) }
     ensures too_long { IsErrOf result InputTooLong → (rest : Option (List ℕ))
         × ReadsTooMuchCapture (S.coming input.old) rest }
