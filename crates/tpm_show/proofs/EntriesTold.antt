@@ -3,29 +3,22 @@ use Rattle.std.proofs.Common.{◌≡◌, ℕ, ◌+◌, ◌≤◌, List, [], ◌�
 use Rattle.std.proofs.lemmas.List.{append-nil}
 use Rattle.tpm_pcap.specs.Entries.{Entry, Connection, Untold}
 use Rattle.tpm_pcap.specs.Entries as went
-use Rattle.tpm_lines.specs.declared.status.Status.TheVariants.{Done, Refused}
+use Rattle.tpm_lines.specs.declared.status.Status.TheVariants.{Done}
 use Rattle.tpm_lines.specs.declared.status.Status.{Status}
 use Rattle.tpm_lines.specs.Status.{both}
 use Rattle.tpm_lines.proofs.Joins.{Joins}
 use Rattle.tpm_show.specs.declared.capture.Capture.{Capture}
-use Rattle.tpm_show.specs.Capture.{Place}
+use Rattle.tpm_show.specs.Capture.{CapturePlace}
 use Rattle.tpm_show.specs.Capturing.{place}
 use Rattle.tpm_show.specs.Packets.{behind_entry, TellsEntry, TellsEntries}
 use Rattle.tpm_show.specs.PacketsTold.{behind_entries, TellsOne, TellsMany}
+use Rattle.tpm_show.proofs.Captures.{both_assoc, both_done}
 
-both_assoc : (a b c : Status) → both (both a b) c ≡ both a (both b c)
-both_assoc Done b c = refl
-both_assoc Refused b c = refl
-
-both_done : (a : Status) → both a Done ≡ a
-both_done Done = refl
-both_done Refused = refl
-
-behind-append : (p : Place) (xs ys : List Entry) → behind_entries p (xs ++ ys) ≡ behind_entries (behind_entries p xs) ys
+behind-append : (p : CapturePlace) (xs ys : List Entry) → behind_entries p (xs ++ ys) ≡ behind_entries (behind_entries p xs) ys
 behind-append p [] ys = refl
 behind-append p (x ∷ xs) ys = behind-append (behind_entry p x) xs ys
 
-tells_both : (p : Place) (xs ys : List Entry) (s t : Status) (a b : List ℕ) → TellsEntries p xs s a
+tells_both : (p : CapturePlace) (xs ys : List Entry) (s t : Status) (a b : List ℕ) → TellsEntries p xs s a
     → TellsEntries (behind_entries p xs) ys t b → TellsEntries p (xs ++ ys) (both s t) (a ++ b)
 tells_both p [] ys s t a b f g = rw (f.0, f.1) g
 tells_both p (x ∷ xs) ys s t a b f g = (
@@ -39,11 +32,11 @@ tells_both p (x ∷ xs) ys s t a b f g = (
   rw f.7 (append_assoc f.1 f.3 b),
 )
 
-tells_one : (p : Place) (e : Entry) (s : Status) (a : List ℕ) → TellsEntry p e s a → TellsEntries p (e ∷ []) s a
+tells_one : (p : CapturePlace) (e : Entry) (s : Status) (a : List ℕ) → TellsEntry p e s a → TellsEntries p (e ∷ []) s a
 tells_one p e s a f = (s, a, Done, [], f, (refl, refl), sym (both_done s), sym (append-nil a))
 
 -- A frame alone has a number.
-at_most : (p : Place) (e : Entry) → (behind_entry p e).number ≤ p.number + 1
+at_most : (p : CapturePlace) (e : Entry) → (behind_entry p e).number ≤ p.number + 1
 at_most p Connection = omega arith
 at_most p (went.Command bytes) = omega arith
 at_most p (went.Reply bytes) = omega arith
@@ -68,7 +61,7 @@ many_more xs e c d n A B C joins f g = record {
   tells = tells_both (place c) xs (e ∷ []) f.status g.status f.text g.text f.tells
       (tells_one (behind_entries (place c) xs) e g.status g.text (rw (← f.place) g.tells));
   added = joins f.text g.text f.added g.added;
-  place = g.place ∙ ap (λ (p : Place). behind_entry p e) f.place ∙ sym (behind-append (place c) xs (e ∷ []));
+  place = g.place ∙ ap (λ (p : CapturePlace). behind_entry p e) f.place ∙ sym (behind-append (place c) xs (e ∷ []));
   all = g.all ∙ ap (λ (s : Status). both s g.status) f.all ∙ both_assoc c.status f.status g.status;
-  number = omega (arith, f.number, ap (λ (p : Place). p.number) g.place, at_most (place d) e, length-append xs (e ∷ []));
+  number = omega (arith, f.number, ap (λ (p : CapturePlace). p.number) g.place, at_most (place d) e, length-append xs (e ∷ []));
 }

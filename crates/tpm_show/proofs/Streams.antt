@@ -1,5 +1,5 @@
 -- Streams of frames that are told one frame after the other.
-use Rattle.std.proofs.Common.{◌≡◌, ℕ, ◌+◌, List, [], ◌∷◌, ◌++◌, length, map, Option, Some, None, refl, sym, ap, subst}
+use Rattle.std.proofs.Common.{◌≡◌, ℕ, ◌+◌, ◌≤◌, List, [], ◌∷◌, ◌++◌, length, map, Option, Some, None, refl, sym, ap, subst}
 use Rattle.std.proofs.Common.{◌∙◌, inl, inr, arith, append_assoc, length-append}
 use Rattle.std.proofs.lemmas.List.Elements.{All-nil, All-push}
 use Rattle.std.proofs.lemmas.List.Folds.{concat-append}
@@ -16,11 +16,15 @@ use Rattle.tpm_lines.specs.Status.{both}
 use Rattle.tpm_lines.proofs.Joins.{Joins}
 use Rattle.tpm_show.specs.declared.telling.Telling.{Telling}
 use Rattle.tpm_show.specs.declared.capture.Capture.{Capture}
-use Rattle.tpm_show.specs.Capture.{Frame, Place, start, behind}
-use Rattle.tpm_show.specs.Capturing.{place, behind_all, Tells, Streams}
-use Rattle.tpm_show.specs.Stream.{Ending, Inside, BadSize, IsEnding, unmarked_frame, ending_text, ending_status}
+use Rattle.tpm_show.specs.Capture.{Frame, CapturePlace, start, behind, most_bytes}
+use Rattle.tpm_show.specs.Capturing.{place, behind_all, TellsNext, Streams}
+use Rattle.tpm_show.specs.Stream.{Ending, AtEnd, Inside, BadSize, IsEnding, unmarked_frame, ending_text, ending_status}
 use Rattle.tpm_show.specs.Stream.{OfRead, TellsStream}
-use Rattle.tpm_show.proofs.Captures.{tells_both, tells_one, behind_all-append}
+use Rattle.tpm_show.proofs.Captures.{both_done, tells_both, tells_one, behind_all-append}
+
+-- What came so far is told, and is not too much, and no read of it failed.
+abbrev pub StreamGoesOn : (Told : Type 0) → (read failed failed_before : ℕ) → Type 0
+StreamGoesOn Told read failed failed_before = record { told : Told; bound : read ≤ most_bytes; failures : failed ≡ failed_before }
 
 pub appends_nothing : (a : Option (List ℕ)) → Appends a a []
 appends_nothing None = tt
@@ -39,7 +43,7 @@ streams_none how a c A none added first done = record {
   count = refl;
   tells = (done, refl);
   place = first;
-  number = ap (λ (p : Place). p.number) first;
+  number = ap (λ (p : CapturePlace). p.number) first;
   fewer = omega arith;
   added = added;
 }
@@ -48,7 +52,7 @@ joined : (frames : List (List ℕ)) (frame : List ℕ) → concat (frames ++ fra
 joined frames frame = concat-append frames (frame ∷ []) ∙ ap (λ (r : List ℕ). concat frames ++ r) (append-nil frame)
 
 pub streams_more : (how : Telling) (old mid new : Option (List ℕ)) (read : ℕ) (frame : List ℕ) (c d : Capture) (A B C : List ℕ → Type 0) → Joins A B C
-    → Streams how (record { old = old; new = mid; count = read }) c A → Consumes mid new frame → IsFrame frame → Tells (Frame None frame) c d B
+    → Streams how (record { old = old; new = mid; count = read }) c A → Consumes mid new frame → IsFrame frame → TellsNext (Frame None frame) c d B
     → Streams how (record { old = old; new = new; count = read + length frame }) d C
 streams_more how old mid new read frame c d A B C joins f consumed is g =
     let lines = map unmarked_frame f.frames in
@@ -63,9 +67,9 @@ streams_more how old mid new read frame c d A B C joins f consumed is g =
           (tells_both (start how) lines (Frame None frame ∷ []) c.status g.status f.text g.text f.tells
           (tells_one (behind_all (start how) lines) (Frame None frame) g.status g.text (rw (← f.place) g.tells)));
       place =
-          g.place ∙ ap (λ (p : Place). behind p (Frame None frame)) f.place ∙ sym (behind_all-append (start how) lines (Frame None frame ∷ []))
+          g.place ∙ ap (λ (p : CapturePlace). behind p (Frame None frame)) f.place ∙ sym (behind_all-append (start how) lines (Frame None frame ∷ []))
           ∙ ap (behind_all (start how)) (sym mapped);
-      number = omega (arith, ap (λ (p : Place). p.number) g.place, f.number, length-append f.frames (frame ∷ []));
+      number = omega (arith, ap (λ (p : CapturePlace). p.number) g.place, f.number, length-append f.frames (frame ∷ []));
       fewer = omega (arith, f.fewer, is.least, length-append f.frames (frame ∷ []));
       added = joins f.text g.text f.added g.added;
     }
@@ -102,6 +106,23 @@ tells_stream how old mid read c A f rest ending over ends = record {
 
 abbrev pub StreamAnswers : (how : Telling) → (old new : Option (List ℕ)) → (C : List ℕ → Type 0) → Status → Type 0
 StreamAnswers how old new C status = (text : List ℕ) × OfRead old new (λ bytes. TellsStream how bytes status text) × C text
+
+none_begins : BeginsNoFrame []
+none_begins frame more is e = absurd (omega (arith, is.least, ap length e, length-append frame more))
+
+-- behind a frame
+pub stream_ends : (how : Telling) (old mid new : Option (List ℕ)) (read : ℕ) (c : Capture) (A : List ℕ → Type 0)
+    → Streams how (record { old = old; new = mid; count = read }) c A → Consumes mid new [] → IsAtEnd new → StreamAnswers how old new A c.status
+stream_ends how old mid new read c A f consumed end = (
+  f.text,
+  record {
+    bytes = concat f.frames ++ [];
+    read = consumes_both old mid new (concat f.frames) [] f.consumed consumed;
+    holds = rw (both_done c.status, append-nil f.text) at (tells_stream how old mid read c A f [] AtEnd none_begins refl);
+    whole = inl end;
+  },
+  f.added,
+)
 
 -- inside a frame
 pub stream_cut : (how : Telling) (old mid new : Option (List ℕ)) (read : ℕ) (rest : List ℕ) (c : Capture) (A B C : List ℕ → Type 0) → Joins A B C

@@ -197,21 +197,21 @@ fault_text true number fault = fault_object number fault
 -- ---- what is told of lines
 
 -- how frames are told, the number of the next one, and which reply may come next
-pub record Place : Type 0 where
+pub record CapturePlace : Type 0 where
   pub how : Telling
   pub number : ℕ
   pub awaited : Awaited
 
-abbrev pub start : Telling → Place
+abbrev pub start : Telling → CapturePlace
 start how = record { how = how; number = 1; awaited = awaits.Nothing }
 
-abbrev pub behind : Place → Line → Place
+abbrev pub behind : CapturePlace → Line → CapturePlace
 behind p Nothing = p
 behind p (Frame mark bytes) =
     record p { number = p.number + 1; awaited = awaited_behind (direction_of mark p.awaited bytes) bytes }
 behind p _ = record p { number = p.number + 1; awaited = awaits.Unknown }
 
-abbrev pub TellsLine : Place → Line → Status → List ℕ → Type 0
+abbrev pub TellsLine : CapturePlace → Line → Status → List ℕ → Type 0
 TellsLine p Nothing status text = (status ≡ Done) × (text ≡ [])
 TellsLine p (Frame mark bytes) status text =
     let direction = direction_of mark p.awaited bytes in
@@ -223,7 +223,7 @@ TellsLine p NotHexadecimal status text =
 TellsLine p TooLong status text = (status ≡ Refused) × (text ≡ fault_text p.how.json p.number (codes "too long"))
 
 -- From this place the lines are told one after the other. All is done where each is.
-abbrev pub TellsFrom : Place → List Line → Status → List ℕ → Type 0
+abbrev pub TellsFrom : CapturePlace → List Line → Status → List ℕ → Type 0
 TellsFrom p [] status text = (status ≡ Done) × (text ≡ [])
 TellsFrom p (first ∷ others) status text = (one : Status) × (told : List ℕ) × (rest : Status) × (more : List ℕ)
     × TellsLine p first one told

@@ -13,7 +13,7 @@ use Rattle.tpm_show.specs.declared.capture_lines.Direction.TheVariants.{Command,
 use Rattle.tpm_show.specs.declared.capture_frames.Awaited.TheVariants.{Nothing, Unknown}
 use Rattle.tpm_show.specs.declared.capture_frames.Awaited.{Awaited}
 use Rattle.tpm_show.specs.declared.telling.Telling.{Telling}
-use Rattle.tpm_show.specs.Capture.{Frame, Place, start, behind, TellsLine}
+use Rattle.tpm_show.specs.Capture.{Frame, CapturePlace, start, behind, TellsLine}
 use Rattle.tpm_pcap.specs.Entries as went
 
 -- ---- a packet that is not told
@@ -47,14 +47,14 @@ awaited_past SentAgain awaited = awaited
 awaited_past _ awaited = Unknown
 
 -- Frames alone have numbers. A reply belongs to a command of its own connection.
-abbrev pub behind_entry : Place → Entry → Place
+abbrev pub behind_entry : CapturePlace → Entry → CapturePlace
 behind_entry p Connection = record p { awaited = Nothing }
 behind_entry p (went.Command bytes) = behind p (Frame (Some Command) bytes)
 behind_entry p (went.Reply bytes) = behind p (Frame (Some Reply) bytes)
 behind_entry p (Untold packet reason) = record p { awaited = awaited_past reason p.awaited }
 
 -- A frame is told as that of a line with its mark.
-abbrev pub TellsEntry : Place → Entry → Status → List ℕ → Type 0
+abbrev pub TellsEntry : CapturePlace → Entry → Status → List ℕ → Type 0
 TellsEntry p Connection status text = (status ≡ Done) × (text ≡ [])
 TellsEntry p (went.Command bytes) status text = TellsLine p (Frame (Some Command) bytes) status text
 TellsEntry p (went.Reply bytes) status text = TellsLine p (Frame (Some Reply) bytes) status text
@@ -62,7 +62,7 @@ TellsEntry p (Untold packet reason) status text =
     (status ≡ Refused) × (text ≡ packet_text p.how.json packet (reason_text reason))
 
 -- From this place they are told one after the other. All is done where each is.
-abbrev pub TellsEntries : Place → List Entry → Status → List ℕ → Type 0
+abbrev pub TellsEntries : CapturePlace → List Entry → Status → List ℕ → Type 0
 TellsEntries p [] status text = (status ≡ Done) × (text ≡ [])
 TellsEntries p (first ∷ others) status text = (one : Status) × (told : List ℕ) × (rest : Status) × (more : List ℕ)
     × TellsEntry p first one told

@@ -4,12 +4,12 @@ use Rattle.tpm_pcap.specs.Entries.{Entry}
 use Rattle.tpm_lines.specs.declared.status.Status.{Status}
 use Rattle.tpm_lines.specs.Status.{both}
 use Rattle.tpm_show.specs.declared.capture.Capture.{Capture}
-use Rattle.tpm_show.specs.Capture.{Place}
+use Rattle.tpm_show.specs.Capture.{CapturePlace}
 use Rattle.tpm_show.specs.Capturing.{place}
 use Rattle.tpm_show.specs.Packets.{behind_entry, TellsEntry, TellsEntries}
 
 -- what is behind these
-abbrev pub behind_entries : Place → List Entry → Place
+abbrev pub behind_entries : CapturePlace → List Entry → CapturePlace
 behind_entries p [] = p
 behind_entries p (first ∷ others) = behind_entries (behind_entry p first) others
 

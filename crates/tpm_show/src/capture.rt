@@ -1,6 +1,6 @@
 //! The subcommand `show` of a capture in lines.
 
-ghost use Rattle.std.specs.Prelude.{◌≡◌, ◌+◌, ◌^◌, ◌<◌, ◌++◌, ℕ, List, ◌∷◌, [], None, IfOk, OnOk, IsErrOf, length};
+ghost use Rattle.std.specs.Prelude.{◌≡◌, ◌+◌, ◌^◌, ◌<◌, ◌≤◌, ◌++◌, ℕ, List, None, IfOk, OnOk, IsErrOf};
 ghost use Rattle.std.specs.Prelude.{string_bytes};
 ghost use Rattle.std.specs.Io.KnownBytes.{Appends, Consumes};
 ghost use Rattle.tpm_wire.specs.Sources.{IsWhereItFailed};
@@ -9,9 +9,9 @@ ghost use Rattle.tpm_lines.specs.declared.status.Status.TheVariants.{Done, Refus
 ghost use Rattle.tpm_lines.specs.Faults.{FailsByMemoryOrWrite};
 ghost use Rattle.tpm_lines.specs.InputLines.{AddedTo, CountsRead};
 ghost use Rattle.tpm_show.specs.declared.capture_frames.Awaited.TheVariants.{Unknown};
-ghost use Rattle.tpm_show.specs.Capture.{Frame, start, told_in, fault_text, TellsCapture, ReadsAll};
+ghost use Rattle.tpm_show.specs.Capture.{Frame, start, fault_text, TellsCapture, ReadsAll};
 ghost use Rattle.tpm_show.specs.Capture.{ReadsTooMuchCapture, TellsEnded};
-ghost use Rattle.tpm_show.specs.Capturing.{read_as, place, Passes, Tells, EndsLine, Takes};
+ghost use Rattle.tpm_show.specs.Capturing.{read_as, place, Passes, TellsNext};
 
 use crate::capture_frames::{
     Awaited, answer_to_frame, awaited_behind, direction_of, push_fault, push_numbered,
@@ -19,10 +19,11 @@ use crate::capture_frames::{
 use crate::capture_lines::{Direction, Line, MOST_LINE, read_line};
 use crate::digits::is_blank;
 use crate::telling::Telling;
-use std::alloc::Global;
+use std::alloc::{AllocError, Global};
 use std::io::Write;
 use tpm_lines::answer::write;
 use tpm_lines::fault::ToolFault;
+use tpm_lines::lines::{LineSink, take_lines};
 use tpm_lines::status::Status;
 use tpm_lines::text::Pushed;
 use tpm_wire::Source;
@@ -30,15 +31,10 @@ use tpm_wire::Source;
 /// How many bytes a capture has at most, which is more than any has.
 pub(crate) const MOST_BYTES: usize = 4_611_686_018_427_387_904;
 
-/// How many bytes are asked for at a time.
-const PIECE: usize = 4096;
-
 /// A capture that is being told.
 #[derive(Drop)]
 pub(crate) struct Capture {
     pub(crate) how: Telling,
-    // what has come of the present line, without its blanks, up to a byte too many
-    line: Vec<u8>,
     // the number of the next frame
     pub(crate) number: u64,
     pub(crate) awaited: Awaited,
@@ -48,14 +44,12 @@ pub(crate) struct Capture {
 
 impl Capture {
     /// A capture of which nothing is told.
-    pub(crate) fn new(alloc: Global, how: Telling) -> Self
-        ensures line { result.line.items ≡ [] }
+    pub(crate) fn new(how: Telling) -> Self
         ensures place { place result ≡ start how }
         ensures status { result.status ≡ Done }
     {
         Capture {
             how,
-            line: Vec::new(alloc),
             number: 1,
             awaited: Awaited::Nothing,
             status: Status::Done,
@@ -92,7 +86,7 @@ impl Capture {
         text: &mut String,
     ) -> Pushed
         requires { self.old.number + 1 < 2 ^ 64 }
-        ensures { OnOk result (Tells (Frame mark bytes.now) self.old self.new
+        ensures { OnOk result (TellsNext (Frame mark bytes.now) self.old self.new
             (AddedTo (string_bytes text.old) (string_bytes text.new))) }
     {
         let direction = direction_of(mark, self.awaited, bytes);
@@ -110,7 +104,7 @@ impl Capture {
 
     fn tell(&mut self, alloc: Global, line: &Line, text: &mut String) -> Pushed
         requires { self.old.number + 1 < 2 ^ 64 }
-        ensures { OnOk result (Tells (read_as line.now) self.old self.new
+        ensures { OnOk result (TellsNext (read_as line.now) self.old self.new
             (AddedTo (string_bytes text.old) (string_bytes text.new))) }
     {
         match line {
@@ -129,7 +123,7 @@ impl Capture {
         out: &mut W,
     ) -> Result<(), ToolFault>
         requires { self.old.number + 1 < 2 ^ 64 }
-        ensures ok { OnOk result (Tells (Frame None bytes.now) self.old self.new
+        ensures ok { OnOk result (TellsNext (Frame None bytes.now) self.old self.new
             (Appends (W.contents out.old) (W.contents out.new))) }
         ensures err { FailsByMemoryOrWrite result }
     {
@@ -137,74 +131,40 @@ impl Capture {
         self.tell_frame(alloc, None, bytes, &mut text)?;
         write(out, &text)
     }
+}
 
-    // Tells the present line.
-    fn end_line(&mut self, alloc: Global, text: &mut String) -> Pushed
-        requires { self.old.number + 1 < 2 ^ 64 }
-        ensures { OnOk result (EndsLine (told_in self.old.line.items) self.old self.new
-            (AddedTo (string_bytes text.old) (string_bytes text.new))) }
-    {
-        let line = read_line(alloc, self.line.as_slice())?;
+impl LineSink for Capture {
+    ghost use Rattle.tpm_show.specs.Capturing.{TellsStep, capture_line};
+
+    ghost limits = { capture_line };
+
+    ghost takes = { TellsStep };
+
+    // There is no more than one frame in a line.
+    ghost is_at = { λ number capture. capture.number ≤ number };
+
+    fn counts(byte: u8) -> bool {
+        !is_blank(byte)
+    }
+
+    fn most_line() -> usize {
+        MOST_LINE
+    }
+
+    fn long_ends() -> bool {
+        false
+    }
+
+    fn line(
+        &mut self,
+        alloc: Global,
+        _number: u64,
+        line: &[u8],
+        text: &mut String,
+    ) -> Result<bool, AllocError> {
+        let line = read_line(alloc, line)?;
         self.tell(alloc, &line, text)?;
-        self.line.clear();
-        Ok(())
-    }
-
-    // Takes the next byte.
-    fn take(&mut self, alloc: Global, byte: u8, text: &mut String) -> Pushed
-        requires { self.old.number + 1 < 2 ^ 64 }
-        ensures { OnOk result (Takes (byte ∷ []) self.old self.new
-            (AddedTo (string_bytes text.old) (string_bytes text.new))) }
-    {
-        if byte == b'\n' {
-            return self.end_line(alloc, text);
-        }
-        if is_blank(byte) {
-            return Ok(());
-        }
-        if self.line.len() > MOST_LINE {
-            return Ok(());
-        }
-        self.line.push(byte)?;
-        Ok(())
-    }
-
-    // Takes the next bytes.
-    fn feed(&mut self, alloc: Global, piece: &[u8], text: &mut String) -> Pushed
-        requires { self.old.number + length piece.now < 2 ^ 64 }
-        ensures { OnOk result (Takes piece.now self.old self.new
-            (AddedTo (string_bytes text.old) (string_bytes text.new))) }
-    {
-        for byte in piece {
-            self.take(alloc, *byte, text)?;
-        }
-        Ok(())
-    }
-
-    // Takes the next bytes, and prints what comes of them.
-    fn print<W: Write>(&mut self, alloc: Global, piece: &[u8], out: &mut W) -> Result<(), ToolFault>
-        requires { self.old.number + length piece.now < 2 ^ 64 }
-        ensures ok { OnOk result (Takes piece.now self.old self.new
-            (Appends (W.contents out.old) (W.contents out.new))) }
-        ensures err { FailsByMemoryOrWrite result }
-    {
-        let mut text = String::new(alloc);
-        self.feed(alloc, piece, &mut text)?;
-        write(out, &text)
-    }
-
-    // Tells the last line, and prints what comes of it.
-    fn print_end<W: Write>(&mut self, alloc: Global, out: &mut W) -> Result<Status, ToolFault>
-        requires { self.old.number + 1 < 2 ^ 64 }
-        ensures ok { IfOk result (λ status. (status ≡ self.new.status)
-            × EndsLine (told_in self.old.line.items) self.old self.new
-            (Appends (W.contents out.old) (W.contents out.new))) }
-        ensures err { FailsByMemoryOrWrite result }
-    {
-        let mut text = String::new(alloc);
-        self.end_line(alloc, &mut text)?;
-        write(out, &text)?;
-        Ok(self.status)
+        Ok(true)
     }
 }
 
@@ -273,18 +233,8 @@ pub fn show_lines<R: Source, W: Write>(
     ensures too_long { IsErrOf result InputTooLong
         → ReadsTooMuchCapture (R.coming input.old) (R.coming input.new) }
 {
-    let mut capture = Capture::new(alloc, how);
-    let mut piece = [0; PIECE];
-    let mut read = 0;
-    loop {
-        let count = input.read(&mut piece)?;
-        read += count;
-        if read > MOST_BYTES {
-            return Err(ToolFault::InputTooLong);
-        }
-        if count == 0 {
-            return capture.print_end(alloc, out);
-        }
-        capture.print(alloc, &piece[..count], out)?;
+    match take_lines(alloc, input, out, Capture::new(how), MOST_BYTES)? {
+        Some(capture) => Ok(capture.status),
+        None => unreachable!(),
     }
 }

@@ -98,7 +98,7 @@ pub fn show_stream<R: Source, W: Write>(
     ensures too_long { IsErrOf result InputTooLong
         → ReadsTooMuchCapture (R.coming input.old) (R.coming input.new) }
 {
-    let mut capture = Capture::new(alloc, how);
+    let mut capture = Capture::new(how);
     let mut frame = Buffer::new();
     let mut read = 0;
     loop {

@@ -135,7 +135,7 @@ fn print_entries<W: Write>(
         × Appends (W.contents out.old) (W.contents out.new) text) }
     ensures err { FailsByMemoryOrWrite result }
 {
-    let mut capture = Capture::new(alloc, how);
+    let mut capture = Capture::new(how);
     for entry in entries {
         print_entry(alloc, &mut capture, entry, out)?;
     }
