@@ -43,14 +43,14 @@ BuildsJoined (Some bytes) status text = BuildsBuffer bytes status text
 BuildsJoined None status text = (status ≡ Refused) × (text ≡ not_hexadecimal_line)
 
 -- a command, and the texts of its handles, its sessions and its parameters
-pub record Parts : Type 0 where
+pub record CommandParts : Type 0 where
   pub code : CommandCode
   pub handles : List ℕ
   pub sessions : List ℕ
   pub parameters : List ℕ
 
 -- For these parts this is the status and what is printed.
-abbrev pub Builds : Parts → Status → List ℕ → Type 0
+abbrev pub Builds : CommandParts → Status → List ℕ → Type 0
 Builds parts status text =
     BuildsJoined (joined_of parts.code (part_of parts.handles) (part_of parts.sessions) (part_of parts.parameters))
     status text

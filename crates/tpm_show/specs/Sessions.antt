@@ -11,16 +11,16 @@ use Rattle.tpm_show.specs.Bits.{bits_of}
 use Rattle.tpm_show.specs.HandleNames.{handle_behind, handle_named}
 
 -- a session, whose handle only a command's has
-pub record Session : Type 0 where
+pub record ShownSession : Type 0 where
   pub handle : Option ℕ
   pub nonce : List ℕ
   pub attributes : ℕ
   pub hmac : List ℕ
 
-abbrev pub of_command : Auth → Session
+abbrev pub of_command : Auth → ShownSession
 of_command auth = record { handle = Some auth.session; nonce = auth.nonce; attributes = auth.attrs; hmac = auth.hmac }
 
-abbrev pub of_reply : AuthReply → Session
+abbrev pub of_reply : AuthReply → ShownSession
 of_reply auth = record { handle = None; nonce = auth.nonce; attributes = auth.attrs; hmac = auth.hmac }
 
 -- ---- TPMA_SESSION (8.4)
@@ -57,7 +57,7 @@ attributes_word attributes = codes " attributes " ++ hexadecimal 2 attributes
 abbrev pub attributes_in_line : (names : Bool) → ℕ → List ℕ
 attributes_in_line names attributes = attributes_word attributes ++ attributes_behind names attributes
 
-unfoldable pub session_line : (names : Bool) → ℕ → Session → List ℕ
+unfoldable pub session_line : (names : Bool) → ℕ → ShownSession → List ℕ
 session_line names i s = codes "session "
     ++ (decimal i ++ (codes " " ++ (handle_in_line names s.handle ++ (codes "nonce " ++ (bytes_text s.nonce
     ++ (attributes_in_line names s.attributes ++ (codes " hmac " ++ (bytes_text s.hmac ++ codes "\n"))))))))
@@ -87,7 +87,7 @@ abbrev pub attributes_in_object : ℕ → List ℕ
 attributes_in_object attributes =
     attributes_number attributes ++ (codes ",\"attribute_names\":[" ++ set_names true attributes)
 
-unfoldable pub session_object : ℕ → Session → List ℕ
+unfoldable pub session_object : ℕ → ShownSession → List ℕ
 session_object i s = object_front i s.handle
     ++ (codes "\"nonce\":\"" ++ (encode_lower s.nonce
     ++ (codes "\"," ++ (attributes_in_object s.attributes
@@ -96,12 +96,12 @@ session_object i s = object_front i s.handle
 -- ---- all of them
 
 -- the line of a session, or its object in a list
-abbrev pub session_text : (json names : Bool) → ℕ → Session → List ℕ
+abbrev pub session_text : (json names : Bool) → ℕ → ShownSession → List ℕ
 session_text false names i s = session_line names i s
 session_text true names i s = session_object i s
 
-abbrev pub session_lines : (names : Bool) → List Session → List ℕ
+abbrev pub session_lines : (names : Bool) → List ShownSession → List ℕ
 session_lines names sessions = lines_from (session_text false names) 1 sessions
 
-unfoldable pub sessions_member : List Session → List ℕ
+unfoldable pub sessions_member : List ShownSession → List ℕ
 sessions_member sessions = codes ",\"sessions\":[" ++ (lines_from (session_text true true) 1 sessions ++ codes "]")

@@ -24,19 +24,19 @@ use Rattle.tpm_show.specs.FrameJson.{fields_member, parameters_member, refusal_m
 use Rattle.tpm_show.specs.Explain.{meaning_of}
 use Rattle.tpm_show.specs.HandleNames.{handle_lines, handles_members}
 use Rattle.tpm_show.specs.Headers.{code_behind}
-use Rattle.tpm_show.specs.Sessions.{Session, of_command, of_reply, session_lines, sessions_member}
+use Rattle.tpm_show.specs.Sessions.{ShownSession, of_command, of_reply, session_lines, sessions_member}
 
 -- ---- behind the header
 
 -- what stands behind a command's header: its handles, its sessions, and its parameters as they came
-unfoldable pub areas_told : (json names : Bool) → (handles : List ℕ) → List Session → (params : List ℕ) → List ℕ
+unfoldable pub areas_told : (json names : Bool) → (handles : List ℕ) → List ShownSession → (params : List ℕ) → List ℕ
 areas_told false names handles sessions params =
     handle_lines names handles ++ (session_lines names sessions ++ parameters_line params)
 areas_told true names handles sessions params =
     handles_members handles ++ (sessions_member sessions ++ parameters_member params)
 
 -- what stands behind a response's header: its handles, its parameters as they came, and its sessions
-unfoldable pub reply_areas_told : (json names : Bool) → (handles params : List ℕ) → List Session → List ℕ
+unfoldable pub reply_areas_told : (json names : Bool) → (handles params : List ℕ) → List ShownSession → List ℕ
 reply_areas_told false names handles params sessions =
     handle_lines names handles ++ (parameters_line params ++ session_lines names sessions)
 reply_areas_told true names handles params sessions =

@@ -4,7 +4,7 @@ ghost use Rattle.std.specs.Prelude.{◌≡◌, ◌++◌, List, OnOk, length, opt
 ghost use Rattle.tpm_lines.specs.Named.{named_as};
 ghost use Rattle.tpm_lines.specs.Text.{lines_from};
 ghost use Rattle.tpm_show.specs.HandleNames.{handle_named};
-ghost use Rattle.tpm_show.specs.Sessions.{Session as SessionValue, attributes_behind, attributes_in_line};
+ghost use Rattle.tpm_show.specs.Sessions.{ShownSession, attributes_behind, attributes_in_line};
 ghost use Rattle.tpm_show.specs.Sessions.{attributes_in_object, attributes_number, handle_in_line, handle_in_object};
 ghost use Rattle.tpm_show.specs.Sessions.{handle_members, object_front, session_line, session_name, session_object};
 ghost use Rattle.tpm_show.specs.Sessions.{attributes_word, session_text, sessions_member, set_names};
@@ -40,9 +40,9 @@ pub(crate) struct Session<'a> {
 }
 
 impl<'a> Model for Session<'a> {
-    ghost use Rattle.tpm_show.specs.Sessions.{Session as SessionValue};
+    ghost use Rattle.tpm_show.specs.Sessions.{ShownSession};
 
-    ghost Value = { SessionValue };
+    ghost Value = { ShownSession };
 
     ghost view = { λ s. record {
       handle = s.handle;
@@ -84,7 +84,7 @@ impl<'a> Session<'a> {
 /// The areas of a buffer that has sessions.
 pub(crate) trait HasSessions {
     /// The sessions, in their order.
-    ghost sessions: { Self → List SessionValue };
+    ghost sessions: { Self → List ShownSession };
 
     /// How many there are.
     fn session_count(&self) -> usize
