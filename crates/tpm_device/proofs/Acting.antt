@@ -21,7 +21,7 @@ use Rattle.tpm_model.specs.Premises.{code_in}
 use Rattle.tpm_model.proofs.OwnCode.{code_again}
 use Rattle.tpm_device.specs.declared.authorization.Authorization.{Authorization}
 use Rattle.tpm_device.specs.declared.device.Device.{Device}
-use Rattle.tpm_device.specs.Stands.{holds, presented_with, done_of, acted, Steps, Stands, Replies, Rolls, told}
+use Rattle.tpm_device.specs.Stands.{holds, presented_with, done_of, acted, Steps, Stands, Replies, Rolls, told, step_of}
 use Rattle.tpm_device.specs.Stands.{MayBePerformed, IsPerformed, Begin, End, Acting, IsActed}
 use Rattle.tpm_device.proofs.Passing.{params_refuse, refused_with_code, was_done, was_refused, with_params, without_params}
 
@@ -37,7 +37,7 @@ done_refused p n y body code is = rw (← is) refl
 -- What was done with the parameters that were read has acted.
 pub acts_with : (x : Cut) (params : Params) (a : Acting) (r : Result (Unit {0}) ℕ) → read_all (parameters x.header.code) x.params ≡ Ok params
     → params_code params ≡ x.header.code → acted a.reply r ≡ action (holds a.old) (body_from x.handles params) a.nonce
-    → OnOk r (Steps a.old a.new (body_from x.handles params) a.reply a.nonce)
+    → OnOk r (Steps a.old a.new (step_of (body_from x.handles params) a.reply a.nonce))
     → (needs_authorization (params_code params) ≡ true → a.new.sessions ≡ a.old.sessions) → OnErr r (a.new ≡ a.old) → IsActed x a r
 acts_with x params a (Ok u) reads code is steps same refused =
     (params, reads, code, is, steps, λ needs. same (ap needs_authorization code ∙ needs))
@@ -92,7 +92,7 @@ acted_refused old mid x reply code did = record {
 pub body_done : (old : Begin) (mid new : Device) (x : Cut) (by : Option Authorization) (params : Params) (body : CommandBody) (reply : ReplyBody)
     (after : ArrayVec ℕ) → MayBePerformed old.device x by old.out → read_all (parameters x.header.code) x.params ≡ Ok params
     → body_from x.handles params ≡ body → code_for body ≡ x.header.code
-    → Ok reply ≡ action (holds old.device) body old.nonce → Steps old.device mid body reply old.nonce
+    → Ok reply ≡ action (holds old.device) body old.nonce → Steps old.device mid (step_of body reply old.nonce)
     → Replies mid x (record { body = reply; nonce = old.nonce; bytes = after.items }) → code_in after.items ≡ 0 → Rolls mid x.auths old.nonce new
     → IsPerformed x (performed (holds old.device) old.nonce) old (ended new after)
 body_done old mid new x by params body reply after ready reads from code is steps replies done rolls =

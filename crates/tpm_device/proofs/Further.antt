@@ -100,7 +100,7 @@ sessions_change o h d body reply n sessions st starts_none changes_none nv after
 -- A command that changes nothing takes the device one step further.
 pub unchanged : (d : Device) (body : CommandBody) (reply : ReplyBody) (n : List ℕ) → starts body ≡ false → changes_by body ≡ []
     → ((o : Origin) (h : History) → sessions_at o (step_of body reply n ∷ h) ≡ sessions_at o h) →
-    ((nv : NvMemory) → nv_by body nv ≡ nv) → Steps d d body reply n
+    ((nv : NvMemory) → nv_by body nv ≡ nv) → Steps d d (step_of body reply n)
 unchanged d body reply n starts_none changes_none sessions nv = λ o h st.
     one_more o h d d body reply n st refl (rw starts_none refl) (rw changes_none (its_registers o h d st))
     (its_sessions o h d st ∙ sym (sessions o h)) (sym (nv d.counters))

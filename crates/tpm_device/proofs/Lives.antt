@@ -19,7 +19,8 @@ use Rattle.tpm_model.proofs.Lives.{both_cut, executions-append, twice_over, more
 use Rattle.tpm_device.specs.declared.device.Device.{Device}
 use Rattle.tpm_device.specs.Stands.{holds, Stands}
 use Rattle.tpm_device.specs.Runs.{value_on}
-use Rattle.tpm_device.specs.Lives.{Call, Calls, IsMadeOf, LivesThrough}
+use Rattle.tpm_device.specs.Runs.{Call}
+use Rattle.tpm_device.specs.Lives.{Calls, IsMadeOf, LivesThrough}
 use Rattle.tpm_device.proofs.Ran.{accepted}
 
 -- ---- calls and executions

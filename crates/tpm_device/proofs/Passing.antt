@@ -33,7 +33,7 @@ use Rattle.tpm_model.proofs.Refused.{refused_with}
 use Rattle.tpm_model.proofs.OwnCode.{no_session_read, needs_it}
 use Rattle.tpm_device.specs.declared.authorization.Authorization.{Authorization}
 use Rattle.tpm_device.specs.declared.device.Device.{Device}
-use Rattle.tpm_device.specs.Stands.{holds, evidence_for, sessions_checked, owner_authorizes, IsAdmitted, IsRead}
+use Rattle.tpm_device.specs.Stands.{holds, evidence_for, sessions_checked, owner_authorizes, IsAdmitted, IsRead, step_of}
 use Rattle.tpm_device.specs.Stands.{IsPermittedBy, presented_with, done_of, Steps, Replies, Rolls, MayBePerformed, IsPerformed, Begin, End}
 use Rattle.tpm_device.specs.Stands.{reply_bytes, told, IsAuthorization}
 use Rattle.tpm_device.proofs.Alike.{alike}
@@ -162,7 +162,7 @@ stays_authorized old new x by out ready same =
 -- A command that acted, was answered and rolled its session is done.
 pub was_done : (old : Begin) (mid new : Device) (x : Cut) (by : Option Authorization) (body : CommandBody) (reply : ReplyBody) (after : ArrayVec ℕ) →
     MayBePerformed old.device x by old.out → code_for body ≡ x.header.code
-    → Ok reply ≡ action (holds old.device) body old.nonce → Steps old.device mid body reply old.nonce
+    → Ok reply ≡ action (holds old.device) body old.nonce → Steps old.device mid (step_of body reply old.nonce)
     → Replies mid x (record { body = reply; nonce = old.nonce; bytes = after.items }) → code_in after.items ≡ 0 → Rolls mid x.auths old.nonce new
     → IsPerformed x (λ y. done_of (holds old.device) old.nonce y body) old (record { result = Ok tt; device = new; out = after })
 was_done old mid new x by body reply after ready code is steps replies done rolls = record {

@@ -17,7 +17,7 @@ use Rattle.tpm_model.proofs.Runs.{after-append}
 use Rattle.tpm_model.proofs.Told.{told_refused}
 use Rattle.tpm_device.specs.declared.device.Device.{Device}
 use Rattle.tpm_device.specs.Stands.{holds, Stands}
-use Rattle.tpm_device.specs.Runs.{Executes, Answers, value_on}
+use Rattle.tpm_device.specs.Runs.{Answers, Call, Executes, given_by, value_on}
 
 pub as_the_model : (o : Origin) (h : History) (old new : Device) (es : List Event) (responses : List (List ℕ)) → Stands o h old → Answers old es responses new
     → (responses ≡ run o h es) × Stands o (after o h es) new
@@ -42,46 +42,56 @@ by_outcome o h bytes n (Err code) is zero =
 pub accepted : (o : Origin) (h : History) (bytes n response : List ℕ) → response ≡ answer o h bytes n → code_in response ≡ 0 → IsAccepted o h bytes n
 accepted o h bytes n response is zero = by_outcome o h bytes n (outcome (present o h) bytes n) refl (ap code_in (sym is) ∙ zero)
 
-pub not_twice : (o : Origin) (a b c d e : Device) (es fs gs : List Event) (rs ss : List (List ℕ)) (bytes n m r s : List ℕ) → Stands o [] a → Answers a es rs b →
-    Executes b bytes n r c → Answers c fs ss d → Executes d bytes m s e
-    → NoncesDiffer (es ++ Given bytes n ∷ fs ++ Given bytes m ∷ gs) → NoCollision o (es ++ Given bytes n ∷ fs ++ Given bytes m ∷ gs) → HasSessionMac bytes
-    → code_in r ≡ 0 → code_in s ≡ 0 → ⊥
-not_twice o a b c d e es fs gs rs ss bytes n m r s st first once second again nonces collisions mac zero zero_again =
+pub not_twice : (o : Origin) (a : Device) (es fs gs : List Event) (rs ss : List (List ℕ)) (x y : Call) → Stands o [] a → Answers a es rs x.old → Executes x
+    → Answers x.new fs ss y.old → Executes y → NoncesDiffer (es ++ given_by x ∷ fs ++ given_by y ∷ gs)
+    → NoCollision o (es ++ given_by x ∷ fs ++ given_by y ∷ gs)
+    → HasSessionMac x.bytes → x.bytes ≡ y.bytes → code_in x.response ≡ 0 → code_in y.response ≡ 0 → ⊥
+not_twice o a es fs gs rs ss x y st first once second again nonces collisions mac same zero zero_again =
     let here = after o [] es in
-    let one = as_the_model o [] a b es rs st first in
-    let there = after o (next o here bytes n) fs in
-    let two = as_the_model o (next o here bytes n) c d fs ss (once.stands o here one.1) second in
-    let place : after o [] (es ++ Given bytes n ∷ fs) ≡ there = after-append o [] es (Given bytes n ∷ fs) in
-    twice o es fs gs bytes n m nonces collisions mac (accepted o here bytes n r (once.answers o here one.1) zero)
-    (subst (λ (h : History). IsAccepted o h bytes m) (sym place) (accepted o there bytes m s (again.answers o there two.1) zero_again))
+    let one = as_the_model o [] a x.old es rs st first in
+    let there = after o (next o here x.bytes x.nonce) fs in
+    let two = as_the_model o (next o here x.bytes x.nonce) x.new y.old fs ss (once.stands o here one.1) second in
+    let place : after o [] (es ++ given_by x ∷ fs) ≡ there = after-append o [] es (given_by x ∷ fs) in
+    let events : (List ℕ → List Event) = λ bytes. es ++ given_by x ∷ fs ++ Given bytes y.nonce ∷ gs in
+    twice o es fs gs x.bytes x.nonce y.nonce (subst (λ (bytes : List ℕ). NoncesDiffer (events bytes)) (sym same) nonces)
+    (subst (λ (bytes : List ℕ). NoCollision o (events bytes)) (sym same) collisions) mac
+    (accepted o here x.bytes x.nonce x.response (once.answers o here one.1) zero)
+    (subst (λ (h : History). IsAccepted o h x.bytes y.nonce) (sym place)
+    (subst (λ (bytes : List ℕ). IsAccepted o there bytes y.nonce) (sym same)
+    (accepted o there y.bytes y.nonce y.response (again.answers o there two.1) zero_again)))
 
 -- ---- no counter goes back
 
-pub rises : (o : Origin) (a b c d : Device) (es fs : List Event) (rs ss : List (List ℕ)) (bytes n r : List ℕ) (x : Done) (by : NvAuthHandle) (i w : ℕ) →
-    IsFair o.nv → Stands o [] a → Answers a es rs b → value_on b i ≡ Some w → Answers b fs ss c
-    → Executes c bytes n r d → outcome (holds c) bytes n ≡ Ok x → x.command.body ≡ NvIncrement by i → (v : ℕ) × (value_on d i ≡ Some v) × (w < v)
-rises o a b c d es fs rs ss bytes n r x by i w fair st first had second last done body =
+pub rises : (o : Origin) (a b : Device) (es fs : List Event) (rs ss : List (List ℕ)) (c : Call) (x : Done) (by : NvAuthHandle) (i w : ℕ) →
+    IsFair o.nv → Stands o [] a → Answers a es rs b → value_on b i ≡ Some w → Answers b fs ss c.old
+    → Executes c → outcome (holds c.old) c.bytes c.nonce ≡ Ok x → x.command.body ≡ NvIncrement by i → (v : ℕ) × (value_on c.new i ≡ Some v) × (w < v)
+rises o a b es fs rs ss c x by i w fair st first had second last done body =
+    let bytes = c.bytes in
+    let n = c.nonce in
     let here = after o [] es in
     let one = as_the_model o [] a b es rs st first in
-    let two = as_the_model o here b c fs ss one.1 second in
+    let two = as_the_model o here b c.old fs ss one.1 second in
     let there = after o [] (es ++ fs) in
     let place : there ≡ after o here fs = after-append o [] es fs in
-    let stands : Stands o there c = subst (λ (h : History). Stands o h c) (sym place) two.1 in
+    let stands : Stands o there c.old = subst (λ (h : History). Stands o h c.old) (sym place) two.1 in
     let value : value_at o here i ≡ Some w = sym (ap (λ (p : Present). value_of (counter_in p.nv.counters i)) one.1) ∙ had in
     let more = more_than_had o es fs bytes n x by i w fair value (ap (λ (p : Present). outcome p bytes n) (sym stands) ∙ done) body in
-    let ends : Stands o (next o there bytes n) d = last.stands o there stands in
+    let ends : Stands o (next o there bytes n) c.new = last.stands o there stands in
     let at_end : after o [] (es ++ fs ++ Given bytes n ∷ []) ≡ next o there bytes n = after-append o [] (es ++ fs) (Given bytes n ∷ []) in
     (more.0, ap (λ (p : Present). value_of (counter_in p.nv.counters i)) ends ∙ ap (λ (h : History). value_at o h i) (sym at_end) ∙ more.1, more.2)
 
-pub rises_from_the_start : (o : Origin) (a b c : Device) (es : List Event) (rs : List (List ℕ)) (bytes n r : List ℕ) (x : Done) (by : NvAuthHandle) (i : ℕ) →
-    Stands o [] a → value_on a i ≡ None → Answers a es rs b
-    → Executes b bytes n r c → outcome (holds b) bytes n ≡ Ok x → x.command.body ≡ NvIncrement by i → (v : ℕ) × (value_on c i ≡ Some v) × (o.nv.greatest < v)
-rises_from_the_start o a b c es rs bytes n r x by i st none first last done body =
+pub rises_from_the_start : (o : Origin) (a : Device) (es : List Event) (rs : List (List ℕ)) (c : Call) (x : Done) (by : NvAuthHandle) (i : ℕ) →
+    Stands o [] a → value_on a i ≡ None → Answers a es rs c.old
+    → Executes c → outcome (holds c.old) c.bytes c.nonce ≡ Ok x → x.command.body ≡ NvIncrement by i → (v : ℕ) × (value_on c.new i ≡ Some v)
+    × (o.nv.greatest < v)
+rises_from_the_start o a es rs c x by i st none first last done body =
+    let bytes = c.bytes in
+    let n = c.nonce in
     let here = after o [] es in
-    let one = as_the_model o [] a b es rs st first in
+    let one = as_the_model o [] a c.old es rs st first in
     let nothing : value_at o [] i ≡ None = sym (ap (λ (p : Present). value_of (counter_in p.nv.counters i)) st) ∙ none in
     let more = more_than_made o es bytes n x by i nothing (ap (λ (p : Present). outcome p bytes n) (sym one.1) ∙ done) body in
-    let ends : Stands o (next o here bytes n) c = last.stands o here one.1 in
+    let ends : Stands o (next o here bytes n) c.new = last.stands o here one.1 in
     let at_end : after o [] (es ++ Given bytes n ∷ []) ≡ next o here bytes n = after-append o [] es (Given bytes n ∷ []) in
     (more.0, ap (λ (p : Present). value_of (counter_in p.nv.counters i)) ends ∙ ap (λ (h : History). value_at o h i) (sym at_end) ∙ more.1, more.2)
 

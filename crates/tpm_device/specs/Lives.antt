@@ -9,21 +9,14 @@ use Rattle.tpm_model.specs.Runs.{Event}
 use Rattle.tpm_model.specs.Lives.{Life}
 use Rattle.tpm_device.specs.declared.device.Device.{Device}
 use Rattle.tpm_device.specs.Stands.{holds, Stands}
-use Rattle.tpm_device.specs.Runs.{Executes, Cycles}
-
--- a call of `execute`, with the device before it and behind it
-pub record Call : Type 0 where
-  pub old : Device
-  pub bytes : List ℕ
-  pub nonce : List ℕ
-  pub response : List ℕ
-  pub new : Device
+use Rattle.tpm_device.specs.Runs.{Call, Executes, Cycles}
 
 -- A device is given these events by these calls, and is then the other.
 abbrev pub Calls : Device → List Event → List Call → Device → Type 0
 Calls old [] calls new = (calls ≡ []) × (old ≡ new)
 Calls old (Given bytes nonce ∷ es) calls new =
-    (response : List ℕ) × (d : Device) × (later : List Call) × Executes old bytes nonce response d
+    (response : List ℕ) × (d : Device) × (later : List Call)
+    × Executes (record { old = old; bytes = bytes; nonce = nonce; response = response; new = d })
     × (calls ≡ record { old = old; bytes = bytes; nonce = nonce; response = response; new = d } ∷ later)
     × Calls d es later new
 Calls old (Cycled ∷ es) calls new = (d : Device) × Cycles old d × Calls d es calls new

@@ -7,10 +7,22 @@ use Rattle.tpm_model.specs.Runs.{Event, Given, Cycled}
 use Rattle.tpm_device.specs.declared.device.Device.{Device}
 use Rattle.tpm_device.specs.Stands.{holds, Stands}
 
--- what a call of `execute` promises: from one device to the other, with this response
-pub record Executes (old : Device) (bytes nonce response : List ℕ) (new : Device) : Type 0 where
-  pub answers : (o : Origin) (h : History) → Stands o h old → response ≡ answer o h bytes nonce
-  pub stands : (o : Origin) (h : History) → Stands o h old → Stands o (next o h bytes nonce) new
+-- a call of `execute`, with the device before it and behind it
+pub record Call : Type 0 where
+  pub old : Device
+  pub bytes : List ℕ
+  pub nonce : List ℕ
+  pub response : List ℕ
+  pub new : Device
+
+-- what it promises: from one device to the other, with this response
+pub record Executes (c : Call) : Type 0 where
+  pub answers : (o : Origin) (h : History) → Stands o h c.old → c.response ≡ answer o h c.bytes c.nonce
+  pub stands : (o : Origin) (h : History) → Stands o h c.old → Stands o (next o h c.bytes c.nonce) c.new
+
+-- what the device was given
+abbrev pub given_by : Call → Event
+given_by c = Given c.bytes c.nonce
 
 -- what a power cycle promises
 abbrev pub Cycles : Device → Device → Type 0
@@ -21,7 +33,9 @@ abbrev pub Answers : Device → List Event → List (List ℕ) → Device → Ty
 Answers old [] responses new = (responses ≡ []) × (old ≡ new)
 Answers old (Given bytes nonce ∷ es) [] new = ⊥
 Answers old (Given bytes nonce ∷ es) (response ∷ responses) new =
-    (d : Device) × Executes old bytes nonce response d × Answers d es responses new
+    (d : Device)
+    × Executes (record { old = old; bytes = bytes; nonce = nonce; response = response; new = d })
+    × Answers d es responses new
 Answers old (Cycled ∷ es) responses new = (d : Device) × Cycles old d × Answers d es responses new
 
 -- the value of an index on a device, where it was incremented since its definition

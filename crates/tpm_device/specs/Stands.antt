@@ -171,10 +171,9 @@ acted reply (Err code) = Err code
 abbrev pub step_of : CommandBody → ReplyBody → List ℕ → Step
 step_of body reply nonce = Accepted (with_auths body []) (record { body = reply; auths = [] }) nonce
 
--- Where one device stands at a history, the other stands at the history with the command.
-abbrev pub Steps : Device → Device → CommandBody → ReplyBody → List ℕ → Type 0
-Steps old new body reply nonce =
-    (o : Origin) (h : History) → Stands o h old → Stands o (step_of body reply nonce ∷ h) new
+-- Where one device stands at a history, the other stands at the history with this step.
+abbrev pub Steps : (old new : Device) → Step → Type 0
+Steps old new step = (o : Origin) (h : History) → Stands o h old → Stands o (step ∷ h) new
 
 -- ---- answers
 
@@ -262,7 +261,7 @@ IsActed x a (Ok u) =
     (params : Params) × (read_all (parameters x.header.code) x.params ≡ Ok params)
     × (params_code params ≡ x.header.code)
     × (Ok a.reply ≡ action (holds a.old) (body_from x.handles params) a.nonce)
-    × Steps a.old a.new (body_from x.handles params) a.reply a.nonce
+    × Steps a.old a.new (step_of (body_from x.handles params) a.reply a.nonce)
     × (needs_authorization x.header.code ≡ true → a.new.sessions ≡ a.old.sessions)
 IsActed x a (Err code) =
     ((y : Presented) → y.code ≡ x.header.code → y.handles ≡ x.handles → y.params ≡ x.params →

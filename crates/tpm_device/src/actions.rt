@@ -5,7 +5,7 @@ ghost use Rattle.tpm_commands.specs.Handles.{needs_authorization};
 ghost use Rattle.tpm_commands.specs.Parameters.{params_code};
 ghost use Rattle.tpm_buffer.specs.Commands.{body_from};
 ghost use Rattle.tpm_model.specs.Actions.{action};
-ghost use Rattle.tpm_device.specs.Stands.{holds, acted, Steps};
+ghost use Rattle.tpm_device.specs.Stands.{holds, acted, step_of, Steps};
 
 use crate::device::Device;
 use crate::handles::{bind, by, first_index, policy, register, register_or_null, second_index};
@@ -25,7 +25,8 @@ impl Device {
         ensures answer { acted body.new result ≡
             action (holds self.old) (body_from handles.now params.now) nonce.now }
         ensures stands { OnOk result
-            (Steps self.old self.new (body_from handles.now params.now) body.new nonce.now) }
+            (Steps self.old self.new
+            (step_of (body_from handles.now params.now) body.new nonce.now)) }
         ensures sessions { needs_authorization (params_code params.now) ≡ true →
             self.new.sessions ≡ self.old.sessions }
         ensures refused { OnErr result (self.new ≡ self.old) }

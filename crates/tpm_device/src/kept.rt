@@ -129,6 +129,7 @@ impl Device {
     /// `Counters::from_bytes` has them; which NV memory the device has then is not said.
     pub fn read_nv(&mut self, bytes: &[u8]) -> Result<(), Refusal>
         ensures decodes { Decodes kept_memory (λ _. (holds self.new).nv) bytes.now result }
+        ensures others { holds self.new ≡ record (holds self.old) { nv = (holds self.new).nv } }
         ensures made { (owner : List ℕ) (greatest : ℕ) →
             Stands (new_origin owner greatest) [] self.old →
             holds self.new ≡ restored owner (holds self.new).nv }

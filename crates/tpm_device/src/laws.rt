@@ -8,14 +8,13 @@ ghost use Rattle.tpm_model.specs.Steps.{History, Origin};
 ghost use Rattle.tpm_model.specs.Counters.{value_at};
 ghost use Rattle.tpm_model.specs.Kept.{IsFair};
 ghost use Rattle.tpm_model.specs.Answers.{Done, outcome};
-ghost use Rattle.tpm_model.specs.Runs.Event.{Given};
 ghost use Rattle.tpm_model.specs.Runs.{Event, after, run};
 ghost use Rattle.tpm_model.specs.Premises.{code_in, HasSessionMac, NoncesDiffer, NoCollision};
 ghost use Rattle.tpm_model.specs.Lives.{Life, NoncesDifferOver, NoCollisionOver};
 ghost use Rattle.tpm_device.specs.declared.device.Device.{Device};
 ghost use Rattle.tpm_device.specs.Stands.{holds, Stands};
-ghost use Rattle.tpm_device.specs.Runs.{Executes, Answers, value_on};
-ghost use Rattle.tpm_device.specs.Lives.{Call, LivesThrough};
+ghost use Rattle.tpm_device.specs.Runs.{Answers, Call, Executes, given_by, value_on};
+ghost use Rattle.tpm_device.specs.Lives.{LivesThrough};
 
 /// The responses of a device to buffers, nonces and power cycles, whatever they are, are the
 /// model's run, and the device stands at the history after them.
@@ -31,18 +30,19 @@ pub fn answers_are_the_run()
 /// and no two different texts that are checked have the same HMAC, it answers no buffer with a
 /// session's HMAC twice with code 0.
 pub fn no_replay()
-    ensures { (o : Origin) (a b c d e : Device) (es fs gs : List Event) (rs ss : List (List ℕ))
-        (bytes n m r s : List ℕ) →
-        Stands o [] a →
-        Answers a es rs b →
-        Executes b bytes n r c →
-        Answers c fs ss d →
-        Executes d bytes m s e →
-        NoncesDiffer (es ++ Given bytes n ∷ fs ++ Given bytes m ∷ gs) →
-        NoCollision o (es ++ Given bytes n ∷ fs ++ Given bytes m ∷ gs) →
-        HasSessionMac bytes →
-        code_in r ≡ 0 →
-        code_in s ≡ 0 →
+    ensures { (o : Origin) (first : Device) (before between later : List Event)
+        (responses further : List (List ℕ)) (x y : Call) →
+        Stands o [] first →
+        Answers first before responses x.old →
+        Executes x →
+        Answers x.new between further y.old →
+        Executes y →
+        NoncesDiffer (before ++ given_by x ∷ between ++ given_by y ∷ later) →
+        NoCollision o (before ++ given_by x ∷ between ++ given_by y ∷ later) →
+        HasSessionMac x.bytes →
+        x.bytes ≡ y.bytes →
+        code_in x.response ≡ 0 →
+        code_in y.response ≡ 0 →
         ⊥ }
 {}
 
@@ -50,26 +50,26 @@ pub fn no_replay()
 /// greater than each that the index had before on the device. Where the index had none at the origin, it is
 /// greater than the origin's greatest value. What was undefined, defined again or cycled in between changes nothing.
 pub fn no_counter_goes_back()
-    ensures had { (o : Origin) (a b c d : Device) (es fs : List Event) (rs ss : List (List ℕ))
-        (bytes n r : List ℕ) (x : Done) (by : NvAuthHandle) (i w : ℕ) →
+    ensures had { (o : Origin) (first mid : Device) (before between : List Event)
+        (responses further : List (List ℕ)) (x : Call) (d : Done) (by : NvAuthHandle) (i w : ℕ) →
         IsFair o.nv →
-        Stands o [] a →
-        Answers a es rs b →
-        value_on b i ≡ Some w →
-        Answers b fs ss c →
-        Executes c bytes n r d →
-        outcome (holds c) bytes n ≡ Ok x →
-        x.command.body ≡ NvIncrement by i →
-        (v : ℕ) × (value_on d i ≡ Some v) × (w < v) }
-    ensures made { (o : Origin) (a b c : Device) (es : List Event) (rs : List (List ℕ))
-        (bytes n r : List ℕ) (x : Done) (by : NvAuthHandle) (i : ℕ) →
-        Stands o [] a →
-        value_on a i ≡ None →
-        Answers a es rs b →
-        Executes b bytes n r c →
-        outcome (holds b) bytes n ≡ Ok x →
-        x.command.body ≡ NvIncrement by i →
-        (v : ℕ) × (value_on c i ≡ Some v) × (o.nv.greatest < v) }
+        Stands o [] first →
+        Answers first before responses mid →
+        value_on mid i ≡ Some w →
+        Answers mid between further x.old →
+        Executes x →
+        outcome (holds x.old) x.bytes x.nonce ≡ Ok d →
+        d.command.body ≡ NvIncrement by i →
+        (v : ℕ) × (value_on x.new i ≡ Some v) × (w < v) }
+    ensures made { (o : Origin) (first : Device) (before : List Event) (responses : List (List ℕ))
+        (x : Call) (d : Done) (by : NvAuthHandle) (i : ℕ) →
+        Stands o [] first →
+        value_on first i ≡ None →
+        Answers first before responses x.old →
+        Executes x →
+        outcome (holds x.old) x.bytes x.nonce ≡ Ok d →
+        d.command.body ≡ NvIncrement by i →
+        (v : ℕ) × (value_on x.new i ≡ Some v) × (o.nv.greatest < v) }
 {}
 
 /// No replay over a device's lives, of which each is what `from_nv` makes of the bytes that `put_nv` wrote in the one

@@ -3,7 +3,7 @@
 ghost use Rattle.std.specs.Prelude.{◌≡◌, ℕ, List, OnOk, OnErr};
 ghost use Rattle.tpm_commands.specs.declared.command.CommandBody.TheVariants as bodies;
 ghost use Rattle.tpm_model.specs.Actions.{action};
-ghost use Rattle.tpm_device.specs.Stands.{holds, acted, Steps};
+ghost use Rattle.tpm_device.specs.Stands.{holds, acted, step_of, Steps};
 
 use crate::device::Device;
 use tpm_commands::{NvData, ReplyBody};
@@ -25,7 +25,8 @@ impl Device {
             action (holds self.old) (bodies.NvDefineSpace auth.now public.now) n }
         ensures stands { (n : List ℕ) →
             OnOk result
-            (Steps self.old self.new (bodies.NvDefineSpace auth.now public.now) body.new n) }
+            (Steps self.old self.new
+            (step_of (bodies.NvDefineSpace auth.now public.now) body.new n)) }
         ensures sessions { self.new.sessions ≡ self.old.sessions }
         ensures refused { OnErr result (self.new ≡ self.old) }
     {
@@ -40,7 +41,8 @@ impl Device {
         ensures answer { (n : List ℕ) →
             acted body.new result ≡ action (holds self.old) (bodies.NvUndefineSpace index) n }
         ensures stands { (n : List ℕ) →
-            OnOk result (Steps self.old self.new (bodies.NvUndefineSpace index) body.new n) }
+            OnOk result (Steps self.old self.new
+            (step_of (bodies.NvUndefineSpace index) body.new n)) }
         ensures sessions { self.new.sessions ≡ self.old.sessions }
         ensures refused { OnErr result (self.new ≡ self.old) }
     {
@@ -60,7 +62,8 @@ impl Device {
         ensures answer { (n : List ℕ) →
             acted body.new result ≡ action (holds self.old) (bodies.NvIncrement by index) n }
         ensures stands { (n : List ℕ) →
-            OnOk result (Steps self.old self.new (bodies.NvIncrement by index) body.new n) }
+            OnOk result (Steps self.old self.new
+            (step_of (bodies.NvIncrement by index) body.new n)) }
         ensures sessions { self.new.sessions ≡ self.old.sessions }
         ensures refused { OnErr result (self.new ≡ self.old) }
     {

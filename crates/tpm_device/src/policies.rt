@@ -4,7 +4,7 @@ ghost use Rattle.std.specs.Prelude.{◌≡◌, ℕ, List, OnOk, OnErr};
 ghost use Rattle.tpm_commands.specs.declared.command.CommandBody.TheVariants as bodies;
 ghost use Rattle.tpm_commands.specs.declared.response.ReplyBody.TheVariants as replies;
 ghost use Rattle.tpm_model.specs.Actions.{action};
-ghost use Rattle.tpm_device.specs.Stands.{holds, acted, Steps};
+ghost use Rattle.tpm_device.specs.Stands.{holds, acted, step_of, Steps};
 
 use crate::device::Device;
 use tpm_commands::ReplyBody;
@@ -24,8 +24,9 @@ impl Device {
             action (holds self.old) (bodies.PolicyPcr session pcr_digest.now selections.now) n }
         ensures stands { (n : List ℕ) →
             OnOk result
-            (Steps self.old self.new (bodies.PolicyPcr session pcr_digest.now selections.now)
-            replies.PolicyPcr n) }
+            (Steps self.old self.new
+            (step_of (bodies.PolicyPcr session pcr_digest.now selections.now)
+            replies.PolicyPcr n)) }
         ensures refused { OnErr result (self.new ≡ self.old) }
     {
         self.sessions
@@ -44,7 +45,8 @@ impl Device {
             acted body.new result ≡
             action (holds self.old) (bodies.PolicyOr session digests.now) n }
         ensures stands { (n : List ℕ) →
-            OnOk result (Steps self.old self.new (bodies.PolicyOr session digests.now) body.new n) }
+            OnOk result (Steps self.old self.new
+            (step_of (bodies.PolicyOr session digests.now) body.new n)) }
         ensures refused { OnErr result (self.new ≡ self.old) }
     {
         *body = ReplyBody::PolicyOr;
@@ -64,7 +66,8 @@ impl Device {
             action (holds self.old) (bodies.PolicyCommandCode session code) n }
         ensures stands { (n : List ℕ) →
             OnOk result
-            (Steps self.old self.new (bodies.PolicyCommandCode session code) body.new n) }
+            (Steps self.old self.new
+            (step_of (bodies.PolicyCommandCode session code) body.new n)) }
         ensures refused { OnErr result (self.new ≡ self.old) }
     {
         *body = ReplyBody::PolicyCommandCode;
@@ -81,7 +84,8 @@ impl Device {
         ensures answer { (n : List ℕ) →
             acted body.new result ≡ action (holds self.old) (bodies.PolicyAuthValue session) n }
         ensures stands { (n : List ℕ) →
-            OnOk result (Steps self.old self.new (bodies.PolicyAuthValue session) body.new n) }
+            OnOk result (Steps self.old self.new
+            (step_of (bodies.PolicyAuthValue session) body.new n)) }
         ensures refused { OnErr result (self.new ≡ self.old) }
     {
         *body = ReplyBody::PolicyAuthValue;
@@ -98,7 +102,8 @@ impl Device {
         ensures answer { (n : List ℕ) →
             acted body.new result ≡ action (holds self.old) (bodies.PolicyRestart session) n }
         ensures stands { (n : List ℕ) →
-            OnOk result (Steps self.old self.new (bodies.PolicyRestart session) body.new n) }
+            OnOk result (Steps self.old self.new
+            (step_of (bodies.PolicyRestart session) body.new n)) }
         ensures refused { OnErr result (self.new ≡ self.old) }
     {
         *body = ReplyBody::PolicyRestart;

@@ -4,7 +4,7 @@ ghost use Rattle.std.specs.Prelude.{◌≡◌, ℕ, List, Ok, OnOk, OnErr};
 ghost use Rattle.tpm_commands.specs.declared.command.CommandBody.TheVariants as bodies;
 ghost use Rattle.tpm_commands.specs.declared.response.ReplyBody.TheVariants as replies;
 ghost use Rattle.tpm_model.specs.Actions.{action};
-ghost use Rattle.tpm_device.specs.Stands.{holds, acted, Steps};
+ghost use Rattle.tpm_device.specs.Stands.{holds, acted, step_of, Steps};
 
 use crate::device::Device;
 use tpm_commands::{Event, ReplyBody};
@@ -18,7 +18,7 @@ impl Device {
         ensures answer { (n : List ℕ) →
             acted body.new result ≡ action (holds self.old) (bodies.Startup kind) n }
         ensures stands { (n : List ℕ) →
-            OnOk result (Steps self.old self.new (bodies.Startup kind) body.new n) }
+            OnOk result (Steps self.old self.new (step_of (bodies.Startup kind) body.new n)) }
         ensures refused { OnErr result (self.new ≡ self.old) }
     {
         if !matches!(body, ReplyBody::Startup) {
@@ -42,7 +42,8 @@ impl Device {
             action (holds self.old) (bodies.PcrExtend register digests.now) n }
         ensures stands { (n : List ℕ) →
             OnOk result
-            (Steps self.old self.new (bodies.PcrExtend register digests.now) replies.PcrExtend n) }
+            (Steps self.old self.new
+            (step_of (bodies.PcrExtend register digests.now) replies.PcrExtend n)) }
         ensures sessions { self.new.sessions ≡ self.old.sessions }
         ensures refused { OnErr result (self.new ≡ self.old) }
     {
@@ -63,7 +64,8 @@ impl Device {
         ensures answer { (n : List ℕ) →
             acted body.new result ≡ action (holds self.old) (bodies.PcrEvent register event.now) n }
         ensures stands { (n : List ℕ) →
-            OnOk result (Steps self.old self.new (bodies.PcrEvent register event.now) body.new n) }
+            OnOk result (Steps self.old self.new
+            (step_of (bodies.PcrEvent register event.now) body.new n)) }
         ensures sessions { self.new.sessions ≡ self.old.sessions }
         ensures refused { OnErr result (self.new ≡ self.old) }
     {
@@ -85,7 +87,8 @@ impl Device {
         ensures answer { (n : List ℕ) →
             acted body.new result ≡ action (holds self.old) (bodies.PcrReset register) n }
         ensures stands { (n : List ℕ) →
-            OnOk result (Steps self.old self.new (bodies.PcrReset register) body.new n) }
+            OnOk result (Steps self.old self.new
+            (step_of (bodies.PcrReset register) body.new n)) }
         ensures sessions { self.new.sessions ≡ self.old.sessions }
         ensures refused { OnErr result (self.new ≡ self.old) }
     {

@@ -5,7 +5,7 @@ ghost use Rattle.tpm_commands.specs.declared.command.CommandBody.TheVariants as 
 ghost use Rattle.tpm_commands.specs.declared.response.ReplyBody.TheVariants as replies;
 ghost use Rattle.tpm_model.specs.Actions.{action};
 ghost use Rattle.tpm_session.specs.Answers.{started_reply};
-ghost use Rattle.tpm_device.specs.Stands.{holds, acted, Steps};
+ghost use Rattle.tpm_device.specs.Stands.{holds, acted, step_of, Steps};
 
 use crate::device::Device;
 use tpm_commands::{ReplyBody, StartAuth, StartReply};
@@ -17,8 +17,8 @@ impl Device {
         ensures answer { started_reply result ≡
             action (holds self.old) (bodies.StartAuthSession start.now) nonce.now }
         ensures stands { IfOk result (λ reply.
-            Steps self.old self.new (bodies.StartAuthSession start.now)
-            (replies.StartAuthSession reply) nonce.now) }
+            Steps self.old self.new (step_of (bodies.StartAuthSession start.now)
+            (replies.StartAuthSession reply) nonce.now)) }
         ensures refused { OnErr result (self.new ≡ self.old) }
     {
         self.sessions.start(start, self.owner.as_slice(), nonce)
@@ -34,7 +34,8 @@ impl Device {
         ensures answer { acted body.new result ≡
             action (holds self.old) (bodies.StartAuthSession start.now) nonce.now }
         ensures stands { OnOk result
-            (Steps self.old self.new (bodies.StartAuthSession start.now) body.new nonce.now) }
+            (Steps self.old self.new
+            (step_of (bodies.StartAuthSession start.now) body.new nonce.now)) }
         ensures refused { OnErr result (self.new ≡ self.old) }
     {
         let reply = self.started(start, nonce)?;
@@ -47,7 +48,8 @@ impl Device {
         ensures answer { (n : List ℕ) →
             acted body.new result ≡ action (holds self.old) (bodies.FlushContext session) n }
         ensures stands { (n : List ℕ) →
-            OnOk result (Steps self.old self.new (bodies.FlushContext session) body.new n) }
+            OnOk result (Steps self.old self.new
+            (step_of (bodies.FlushContext session) body.new n)) }
         ensures refused { OnErr result (self.new ≡ self.old) }
     {
         if !matches!(body, ReplyBody::FlushContext) {

@@ -9,7 +9,7 @@ use Rattle.tpm_commands.specs.declared.command_parameters.Params.TheVariants as 
 use Rattle.tpm_commands.specs.declared.response.ReplyBody.TheVariants as replies
 use Rattle.tpm_buffer.specs.Commands.{body_from, bind_in, nv_auth_in}
 use Rattle.tpm_model.specs.Actions.{action}
-use Rattle.tpm_device.specs.Stands.{holds, acted, Steps}
+use Rattle.tpm_device.specs.Stands.{holds, acted, Steps, step_of}
 use Rattle.tpm_device.proofs.Further.{always, unchanged}
 use Rattle.tpm_device.proofs.device.Device.act.Goals as goal
 
@@ -158,7 +158,7 @@ returns-in-NvIncrement-clause-stands c =
     rw c.in-NvIncrement.is
     (ap (λ (a : NvAuthHandle). bodies.NvIncrement a c.second_index-in-NvIncrement.result) c.by.ensures
     ∙ ap (λ (i : ℕ). bodies.NvIncrement (nv_auth_in (first c.args.handles.now)) i) c.second_index-in-NvIncrement.ensures) in
-    subst (λ (b : CommandBody). OnOk c.increment.result (Steps c.args.self.now c.increment.new.self b c.increment.new.body c.args.nonce.now)) is
+    subst (λ (b : CommandBody). OnOk c.increment.result (Steps c.args.self.now c.increment.new.self (step_of b c.increment.new.body c.args.nonce.now))) is
     (c.increment.ensures.stands c.args.nonce.now)
 
 pub returns-in-NvRead-clause-answer : goal.returns-in-NvRead-clause-answer
