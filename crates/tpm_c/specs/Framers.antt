@@ -23,14 +23,15 @@ abbrev pub next_at : List ℕ → Ptr → Fml
 next_at held p = fex ((new : List ℕ) × Advances held new) (λ x. framer_at x.0 p)
 
 -- a piece, how many of its bytes were taken, and the status then
-pub record Push : Type 0 where
+pub record PushTold : Type 0 where
   pub piece : List ℕ
   pub taken : ℕ
   pub status : ℕ
 
 -- one that took so many bytes of a piece
-abbrev pub pushed_at : List ℕ → Push → Ptr → Fml
-pushed_at held push p = fex ((new : List ℕ) × (s : Status) × Pushes held push.piece new push.taken s
+abbrev pub pushed_at : List ℕ → PushTold → Ptr → Fml
+pushed_at held push p = fex ((new : List ℕ) × (s : Status)
+    × Pushes (record { old = held; piece = push.piece; new = new; taken = push.taken; status = s })
     × (push.status ≡ status_number s)) (λ x. framer_at x.0 p)
 
 -- A frame is held, and there is room for it.

@@ -34,7 +34,14 @@ pub unsafe extern "C" fn tpm_framer_push(place: *mut u8, piece: &[u8], status: &
 }
 
 fn push(framer: &mut Framer, piece: &[u8], status: &mut u32) -> usize
-    ensures { (s : StatusOf) × Pushes framer.old piece.now framer.new result s
+    ensures { (s : StatusOf)
+        × Pushes (record {
+          old = framer.old;
+          piece = piece.now;
+          new = framer.new;
+          taken = result;
+          status = s;
+        })
         × (status.new ≡ status_number s) }
 {
     let (taken, held) = framer.push(piece);

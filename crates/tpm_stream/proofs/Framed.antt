@@ -8,7 +8,8 @@ use Rattle.std.proofs.Math.Seq.{take-add}
 use Rattle.tpm_wire.specs.Token.{number_of}
 use Rattle.tpm_wire.specs.declared.refusal.Refusal.{Refusal}
 use Rattle.tpm_stream.specs.declared.framer.Status.TheVariants.{More, Ready, Broken}
-use Rattle.tpm_stream.specs.Frames.{stated, IsFrame, BeginsNoFrame, IsPart, IsHeld, Pushes, bad_size}
+use Rattle.tpm_stream.specs.declared.framer.Status.{Status}
+use Rattle.tpm_stream.specs.Frames.{stated, IsFrame, BeginsNoFrame, IsPart, IsHeld, Push, Pushes, bad_size}
 
 -- what comes after the size doesn't change it
 pub stated_more : (h more : List ℕ) → 6 ≤ length h → stated (h ++ more) ≡ stated h
@@ -75,9 +76,13 @@ module _ (old piece : List ℕ) (k j : ℕ) (within : k ≤ length piece) (lt : 
       ∙ sym (append_assoc old (take j piece) (drop j (take k piece))) in
       sym (ap stated regroup ∙ stated_more (old ++ take j piece) (drop j (take k piece)) (omega (arith, some, some_length)))
 
+-- a call of `push`, by what it was and what came of it
+abbrev pub push : (old piece new : List ℕ) (k : ℕ) (status : Status) → Push
+push old piece new k status = record { old = old; piece = piece; new = new; taken = k; status = status }
+
 -- too few for a size
 pub pushes_short : (old piece new : List ℕ) (k : ℕ) → k ≡ min (6 - length old) (length piece)
-    → new ≡ old ++ take k piece → length new < 6 → Pushes old piece new k More
+    → new ≡ old ++ take k piece → length new < 6 → Pushes (push old piece new k More)
 pushes_short old piece new k count held lt =
     let within : k ≤ length piece = omega (arith, count) in
     let n : length new ≡ length old + k = ap length held ∙ all_length old piece k within in
@@ -91,7 +96,7 @@ pushes_short old piece new k count held lt =
 
 -- a size, and it is bad
 pub pushes_broken : (old piece new : List ℕ) (k : ℕ) (e : Refusal) → k ≡ min (6 - length old) (length piece) → new ≡ old ++ take k piece → 6 ≤ length new
-    → (stated new < 10) ⊎ (4096 < stated new) → e ≡ bad_size → Pushes old piece new k (Broken e)
+    → (stated new < 10) ⊎ (4096 < stated new) → e ≡ bad_size → Pushes (push old piece new k (Broken e))
 pushes_broken old piece new k e count held some outside is =
     let within : k ≤ length piece = omega (arith, count) in
     record {
@@ -143,7 +148,7 @@ module _ (old piece mid new : List ℕ) (n m size : ℕ) (was : IsHeld old) (cou
         (omega (arith, same, k, sized_fits, sized_count, less))
   ]
 
-  pub pushes_part : length new < size → Pushes old piece new (n + m) More
+  pub pushes_part : length new < size → Pushes (push old piece new (n + m) More)
   pushes_part lt = record {
     within = sized_within;
     held = sized_held;
@@ -154,7 +159,7 @@ module _ (old piece mid new : List ℕ) (n m size : ℕ) (was : IsHeld old) (cou
     all = λ _. omega (arith, rest, count, length-drop n piece, sized_count, mid_count, lt);
   }
 
-  pub pushes_ready : size ≤ length new → Pushes old piece new (n + m) Ready
+  pub pushes_ready : size ≤ length new → Pushes (push old piece new (n + m) Ready)
   pushes_ready le = record {
     within = sized_within;
     held = sized_held;
@@ -184,12 +189,12 @@ module _ (piece new : List ℕ) (k size : ℕ) (some : 6 ≤ length piece) (stat
   first_length : length new ≡ k
   first_length = ap length whole ∙ length-take-le k piece (omega (arith, count))
 
-  pub begins_part : k < size → Pushes [] piece new k More
+  pub begins_part : k < size → Pushes (push [] piece new k More)
   begins_part lt = rw first_sum
       (pushes_part [] piece (take 6 piece) new 6 (k - 6) size (inl (short_part [] (omega arith))) (omega (arith, some))
       refl first_six first_mid least most first_rest first_whole (omega (arith, first_length, lt)))
 
-  pub begins_ready : size ≤ k → Pushes [] piece new k Ready
+  pub begins_ready : size ≤ k → Pushes (push [] piece new k Ready)
   begins_ready le = rw first_sum
       (pushes_ready [] piece (take 6 piece) new 6 (k - 6) size (inl (short_part [] (omega arith)))
       (omega (arith, some)) refl first_six first_mid least most first_rest first_whole

@@ -14,11 +14,11 @@ use Rattle.tpm_stream.specs.declared.framer.Status.TheVariants.{More, Ready, Bro
 use Rattle.tpm_stream.specs.declared.framer.Status.{Status}
 use Rattle.tpm_stream.specs.declared.reader.ReadFault.TheVariants.{Device, EndInside, Broken as BrokenInput}
 use Rattle.tpm_stream.specs.declared.reader.ReadFault.{ReadFault}
-use Rattle.tpm_stream.specs.Frames.{stated, IsFrame, BeginsNoFrame, IsBroken, IsPart, IsStatus, Frames, Pushes}
+use Rattle.tpm_stream.specs.Frames.{stated, IsFrame, BeginsNoFrame, IsBroken, IsPart, IsStatus, Frames, Push, Pushes}
 use Rattle.tpm_stream.specs.Frames.{Advances, bad_size}
 use Rattle.tpm_stream.specs.Reads.{ReadsFrame, IsAnswer}
-use Rattle.tpm_stream.specs.Streams.{GivenPiece, GivenPieces, ReadInTurn}
-use Rattle.tpm_stream.proofs.Framed.{stated_more, front_frame, short_part, sized_part, pushes_short, pushes_broken}
+use Rattle.tpm_stream.specs.Streams.{Framing, GivenPiece, GivenPieces, ReadInTurn, of_new}
+use Rattle.tpm_stream.proofs.Framed.{stated_more, front_frame, short_part, sized_part, push, pushes_short, pushes_broken}
 use Rattle.tpm_stream.proofs.Framed.{pushes_part, pushes_ready}
 use Rattle.arrayvec.specs.ArrayVec.{ArrayVec}
 
@@ -147,7 +147,7 @@ no_broken_frame bytes b is =
     ]
 
 -- a broken framer takes nothing
-broken_takes_none : (held piece new : List ℕ) (k : ℕ) (status : Status) → IsBroken held → Pushes held piece new k status → (k ≡ 0) × (new ≡ held)
+broken_takes_none : (held piece new : List ℕ) (k : ℕ) (status : Status) → IsBroken held → Pushes (push held piece new k status) → (k ≡ 0) × (new ≡ held)
 broken_takes_none held piece new zero status b p = (refl, p.held ∙ append-nil held)
 broken_takes_none held piece new (suc k) status b p = absurd ((p.fewest 0 (omega arith)).not_broken (subst IsBroken (sym (append-nil held)) b))
 
@@ -156,11 +156,10 @@ answers_broken new More b is = absurd (is.not_broken b)
 answers_broken new Ready b is = absurd (no_broken_frame new b is)
 answers_broken new (Broken e) b is = ap Broken is.1
 
-pub push_broken : (held piece new : List ℕ) (k : ℕ) (status : Status) → IsBroken held → Pushes held piece new k status
-    → (k ≡ 0) × (new ≡ held) × (status ≡ Broken bad_size)
-push_broken held piece new k status b p =
-    let none = broken_takes_none held piece new k status b p in
-    (none.0, none.1, answers_broken new status (subst IsBroken (sym none.1) b) p.answer)
+pub push_broken : (p : Push) → IsBroken p.old → Pushes p → (p.taken ≡ 0) × (p.new ≡ p.old) × (p.status ≡ Broken bad_size)
+push_broken p b pushed =
+    let none = broken_takes_none p.old p.piece p.new p.taken p.status b pushed in
+    (none.0, none.1, answers_broken p.new p.status (subst IsBroken (sym none.1) b) pushed.answer)
 
 pub next_broken : (held new : List ℕ) → IsBroken held → Advances held new → new ≡ held
 next_broken held new b a = a.other (no_broken_frame held b)
@@ -172,13 +171,13 @@ record Cut (stream : List ℕ) (frames : List (List ℕ)) (new left : List ℕ) 
   over : (IsPart new × (left ≡ [])) ⊎ IsBroken new
 
 -- what a push took and what it left
-pushed_whole : (held piece new : List ℕ) (k : ℕ) (status : Status) → Pushes held piece new k status → held ++ piece ≡ new ++ drop k piece
+pushed_whole : (held piece new : List ℕ) (k : ℕ) (status : Status) → Pushes (push held piece new k status) → held ++ piece ≡ new ++ drop k piece
 pushed_whole held piece new k status p =
     ap (λ (r : List ℕ). held ++ r) (sym (take-append-drop k piece))
     ∙ sym (append_assoc held (take k piece) (drop k piece))
     ∙ ap (λ (r : List ℕ). r ++ drop k piece) (sym p.held)
 
-piece_end : (held piece new left : List ℕ) (k : ℕ) (status : Status) → Pushes held piece new k status → status ≢ Ready
+piece_end : (held piece new left : List ℕ) (k : ℕ) (status : Status) → Pushes (push held piece new k status) → status ≢ Ready
     → left ≡ drop k piece → Cut (held ++ piece) [] new left
 piece_end held piece new left k More p unready is = record {
   whole = pushed_whole held piece new k More p ∙ ap (λ (r : List ℕ). new ++ r) (sym is);
@@ -192,10 +191,13 @@ piece_end held piece new left k (Broken e) p unready is = record {
   over = inr p.answer.0;
 }
 
+abbrev framing : (old new left : List ℕ) → Framing
+framing old new left = record { old = old; new = new; left = left }
+
 nothing : Between []
 nothing = inl (short_part [] (omega arith))
 
-given_piece : (frames : List (List ℕ)) (held piece new left : List ℕ) → GivenPiece held piece frames new left → Cut (held ++ piece) frames new left
+given_piece : (frames : List (List ℕ)) (held piece new left : List ℕ) → GivenPiece (framing held new left) piece frames → Cut (held ++ piece) frames new left
 given_piece [] held piece new left g = piece_end held piece new left g.0 g.1 g.2 g.3 g.4
 given_piece (frame ∷ frames) held piece new left g =
     let later = given_piece frames g.1 (drop g.0 piece) new left g.4 in
@@ -210,7 +212,7 @@ given_piece (frame ∷ frames) held piece new left g =
     }
 
 broken_piece : (frames : List (List ℕ)) (held piece new left : List ℕ) → IsBroken held
-    → GivenPiece held piece frames new left → (frames ≡ []) × (new ≡ held) × (left ≡ piece)
+    → GivenPiece (framing held new left) piece frames → (frames ≡ []) × (new ≡ held) × (left ≡ piece)
 broken_piece [] held piece new left b g =
     let none = broken_takes_none held piece new g.0 g.1 b g.2 in
     (refl, none.1, g.4 ∙ ap (λ k. drop k piece) none.0)
@@ -218,7 +220,8 @@ broken_piece (frame ∷ frames) held piece new left b g =
     let none = broken_takes_none held piece frame g.0 Ready b g.2 in
     absurd (no_broken_frame held b (subst IsFrame none.1 g.2.answer))
 
-broken_pieces : (pieces : List (List ℕ)) (held : List ℕ) (frames : List (List ℕ)) (new left : List ℕ) → IsBroken held → GivenPieces held pieces frames new left
+broken_pieces : (pieces : List (List ℕ)) (held : List ℕ) (frames : List (List ℕ)) (new left : List ℕ) → IsBroken held
+    → GivenPieces (framing held new left) pieces frames
     → (frames ≡ []) × (new ≡ held) × (left ≡ concat pieces)
 broken_pieces [] held frames new left b g = g
 broken_pieces (piece ∷ pieces) held frames new left b g =
@@ -229,7 +232,8 @@ broken_pieces (piece ∷ pieces) held frames new left b g =
       g.8 ∙ ap (λ (r : List ℕ). r ++ g.4) one.2 ∙ ap (λ (r : List ℕ). piece ++ r) more.2,
     )
 
-given_pieces : (pieces : List (List ℕ)) (held : List ℕ) (frames : List (List ℕ)) (new left : List ℕ) → Between held → GivenPieces held pieces frames new left
+given_pieces : (pieces : List (List ℕ)) (held : List ℕ) (frames : List (List ℕ)) (new left : List ℕ) → Between held
+    → GivenPieces (framing held new left) pieces frames
     → Cut (held ++ concat pieces) frames new left
 given_pieces [] held frames new left is g =
     let none : Cut (held ++ []) [] held [] =
@@ -268,7 +272,8 @@ given_pieces (piece ∷ pieces) held frames new left is g =
           }
     ]
 
-pub of_pieces : (pieces frames : List (List ℕ)) (held left : List ℕ) → GivenPieces [] pieces frames held left → Frames (concat pieces) frames (held ++ left)
+pub of_pieces : (pieces frames : List (List ℕ)) (held left : List ℕ) → GivenPieces (of_new held left) pieces frames
+    → Frames (concat pieces) frames (held ++ left)
 of_pieces pieces frames held left g =
     let cut = given_pieces pieces [] frames held left nothing g in
     record {
@@ -281,19 +286,20 @@ of_pieces pieces frames held left g =
     }
 
 pub one_of_pieces : (pieces others frames found : List (List ℕ)) (held left kept unused : List ℕ) → concat pieces ≡ concat others
-    → GivenPieces [] pieces frames held left → GivenPieces [] others found kept unused → (frames ≡ found) × (held ++ left ≡ kept ++ unused)
+    → GivenPieces (of_new held left) pieces frames → GivenPieces (of_new kept unused) others found → (frames ≡ found) × (held ++ left ≡ kept ++ unused)
 one_of_pieces pieces others frames found held left kept unused e g h =
     one (concat others) frames found (held ++ left) (kept ++ unused)
     (subst (λ (s : List ℕ). Frames s frames (held ++ left)) e (of_pieces pieces frames held left g))
     (of_pieces others found kept unused h)
 
-pub rest_of_pieces : (pieces frames : List (List ℕ)) (held left : List ℕ) → GivenPieces [] pieces frames held left → (IsPart held × (left ≡ [])) ⊎ IsBroken held
+pub rest_of_pieces : (pieces frames : List (List ℕ)) (held left : List ℕ) → GivenPieces (of_new held left) pieces frames
+    → (IsPart held × (left ≡ [])) ⊎ IsBroken held
 rest_of_pieces pieces frames held left g = (given_pieces pieces [] frames held left nothing g).over
 
 -- ---- a framer goes on to the end of the pieces
 
 abbrev SomePush : List ℕ → List ℕ → Type 0
-SomePush held piece = (new : List ℕ) × (k : ℕ) × (status : Status) × Pushes held piece new k status
+SomePush held piece = (new : List ℕ) × (k : ℕ) × (status : Status) × Pushes (push held piece new k status)
 
 push_part : (held piece : List ℕ) → IsPart held → SomePush held piece
 push_part held piece part =
@@ -317,14 +323,14 @@ push_part held piece part =
     ]
 
 abbrev SomePiece : List ℕ → List ℕ → Type 0
-SomePiece held piece = (frames : List (List ℕ)) × (new left : List ℕ) × GivenPiece held piece frames new left
+SomePiece held piece = (frames : List (List ℕ)) × (new left : List ℕ) × GivenPiece (framing held new left) piece frames
 
 -- a frame takes at least one byte
-some_taken : (held piece frame : List ℕ) (k : ℕ) → IsPart held → Pushes held piece frame k Ready → 0 < k
+some_taken : (held piece frame : List ℕ) (k : ℕ) → IsPart held → Pushes (push held piece frame k Ready) → 0 < k
 some_taken held piece frame zero part p = absurd (part.no_frame frame [] p.answer (sym (p.held ∙ append-nil held) ∙ sym (append-nil frame)))
 some_taken held piece frame (suc k) part p = omega arith
 
-after_push : (held piece new : List ℕ) (k : ℕ) (status : Status) → IsPart held → Pushes held piece new k status
+after_push : (held piece new : List ℕ) (k : ℕ) (status : Status) → IsPart held → Pushes (push held piece new k status)
     → ((k : ℕ) → 0 < k → k ≤ length piece → SomePiece [] (drop k piece)) → SomePiece held piece
 after_push held piece new k More part p go = ([], new, drop k piece, (k, More, p, (λ e. cc), refl))
 after_push held piece new k (Broken e) part p go = ([], new, drop k piece, (k, Broken e, p, (λ e. cc), refl))
@@ -355,7 +361,8 @@ given_some (suc fuel) held piece le is =
     one_piece held piece is
     (λ k pos fits. given_some fuel [] (drop k piece) (omega (arith, le, pos, fits, length-drop k piece)) nothing)
 
-pieces_some : (pieces : List (List ℕ)) (held : List ℕ) → Between held → (frames : List (List ℕ)) × (new left : List ℕ) × GivenPieces held pieces frames new left
+pieces_some : (pieces : List (List ℕ)) (held : List ℕ) → Between held → (frames : List (List ℕ)) × (new left : List ℕ)
+    × GivenPieces (framing held new left) pieces frames
 pieces_some [] held is = ([], held, [], (refl, refl, refl))
 pieces_some (piece ∷ pieces) held is =
     let one = given_some (length piece) held piece (omega arith) is in
@@ -363,7 +370,7 @@ pieces_some (piece ∷ pieces) held is =
     let more = pieces_some pieces one.1 (elim cut.over [ inl part ↦ inl part.0 | inr broken ↦ inr broken ]) in
     (one.0 ++ more.0, more.1, one.2 ++ more.2, (one.0, more.0, one.1, one.2, more.2, one.3, more.3, refl, refl))
 
-pub some_of_pieces : (pieces : List (List ℕ)) → (frames : List (List ℕ)) × (held left : List ℕ) × GivenPieces [] pieces frames held left
+pub some_of_pieces : (pieces : List (List ℕ)) → (frames : List (List ℕ)) × (held left : List ℕ) × GivenPieces (of_new held left) pieces frames
 some_of_pieces pieces = pieces_some pieces [] nothing
 
 -- ---- a reader, frame by frame

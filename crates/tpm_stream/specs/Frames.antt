@@ -50,14 +50,21 @@ IsStatus held More = IsPart held
 IsStatus held Ready = IsFrame held
 IsStatus held (Broken e) = IsBroken held × (e ≡ bad_size)
 
--- A framer that held the old bytes took k bytes of a piece, holds the new ones, and answered this status: the fewest
--- bytes after which there is a frame or a bad size, or else all.
-pub record Pushes (old piece new : List ℕ) (k : ℕ) (status : Status) : Type 0 where
-  pub within : k ≤ length piece
-  pub held : new ≡ old ++ take k piece
-  pub answer : IsStatus new status
-  pub fewest : (j : ℕ) → j < k → IsPart (old ++ take j piece)
-  pub all : status ≡ More → k ≡ length piece
+-- a call of `push`: what the framer held, the piece, what it holds then, how many bytes it took, and its answer
+pub record Push : Type 0 where
+  pub old : List ℕ
+  pub piece : List ℕ
+  pub new : List ℕ
+  pub taken : ℕ
+  pub status : Status
+
+-- It took the fewest bytes of the piece after which there is a frame or a bad size, or else all.
+pub record Pushes (p : Push) : Type 0 where
+  pub within : p.taken ≤ length p.piece
+  pub held : p.new ≡ p.old ++ take p.taken p.piece
+  pub answer : IsStatus p.new p.status
+  pub fewest : (j : ℕ) → j < p.taken → IsPart (p.old ++ take j p.piece)
+  pub all : p.status ≡ More → p.taken ≡ length p.piece
 
 -- What pushes leave: part of a frame, a frame, or a size that has just come and is bad.
 abbrev pub IsHeld : List ℕ → Type 0

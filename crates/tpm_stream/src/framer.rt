@@ -133,7 +133,13 @@ impl Framer {
     /// and what is held then. A size outside of 10 to 4,096 is refused once its last byte has come. Where a frame is
     /// held, or the framer is broken, nothing is taken.
     pub fn push(&mut self, piece: &[u8]) -> (usize, Status)
-        ensures { Pushes self.old piece.now self.new result.0 result.1 }
+        ensures { Pushes (record {
+          old = self.old;
+          piece = piece.now;
+          new = self.new;
+          taken = result.0;
+          status = result.1;
+        }) }
     {
         if self.held.len() == 0 && SIZE_END <= piece.len() {
             if let Ok(size) = stated_size(piece) {
@@ -197,7 +203,13 @@ fn begin(held: &mut Held, size: usize, piece: &[u8]) -> (usize, Status)
         × (size ≡ stated piece.now)
         × (10 ≤ size)
         × (size ≤ 4096) }
-    ensures pushes { Pushes [] piece.now held.new result.0 result.1 }
+    ensures pushes { Pushes (record {
+      old = [];
+      piece = piece.now;
+      new = held.new;
+      taken = result.0;
+      status = result.1;
+    }) }
     ensures held { IsHeld held.new }
 {
     let taken = held.take_up_to(size, piece);
@@ -212,7 +224,13 @@ fn begin(held: &mut Held, size: usize, piece: &[u8]) -> (usize, Status)
 // Takes bytes of a piece behind what is held.
 fn go_on(held: &mut Held, piece: &[u8]) -> (usize, Status)
     requires { IsHeld held.old }
-    ensures pushes { Pushes held.old piece.now held.new result.0 result.1 }
+    ensures pushes { Pushes (record {
+      old = held.old;
+      piece = piece.now;
+      new = held.new;
+      taken = result.0;
+      status = result.1;
+    }) }
     ensures held { IsHeld held.new }
 {
     let size_bytes = held.take_up_to(SIZE_END, piece);

@@ -6,9 +6,8 @@ ghost use Rattle.tpm_wire.specs.Sources.{OfBytes};
 ghost use Rattle.tpm_wire.specs.declared.refusal.Refusal.{Refusal};
 ghost use Rattle.tpm_stream.specs.declared.reader.ReadFault.TheVariants.{EndInside, Broken};
 ghost use Rattle.tpm_stream.specs.declared.framer.Status.TheVariants.{Broken as BrokenFramer};
-ghost use Rattle.tpm_stream.specs.declared.framer.Status.{Status};
-ghost use Rattle.tpm_stream.specs.Frames.{IsFrame, IsPart, IsBroken, Frames, Pushes, Advances, bad_size};
-ghost use Rattle.tpm_stream.specs.Streams.{GivenPieces, ReadInTurn};
+ghost use Rattle.tpm_stream.specs.Frames.{IsFrame, IsPart, IsBroken, Frames, Push, Pushes, Advances, bad_size};
+ghost use Rattle.tpm_stream.specs.Streams.{GivenPieces, ReadInTurn, of_new};
 
 /// Every stream is frames and a rest, in one way, and the rest is part of a frame or has a size that no frame
 /// has. A frame before a stream is its first.
@@ -29,23 +28,26 @@ pub fn frames_of_a_stream()
 /// those behind a size that no frame has.
 pub fn frames_of_pieces()
     ensures some { (pieces : List (List ℕ))
-        → (frames : List (List ℕ)) × (held left : List ℕ) × GivenPieces [] pieces frames held left }
+        → (frames : List (List ℕ)) × (held left : List ℕ)
+        × GivenPieces (of_new held left) pieces frames }
     ensures frames { (pieces frames : List (List ℕ)) (held left : List ℕ)
-        → GivenPieces [] pieces frames held left → Frames (concat pieces) frames (held ++ left) }
+        → GivenPieces (of_new held left) pieces frames
+        → Frames (concat pieces) frames (held ++ left) }
     ensures cut { (pieces others frames found : List (List ℕ)) (held left kept unused : List ℕ)
         → concat pieces ≡ concat others
-        → GivenPieces [] pieces frames held left → GivenPieces [] others found kept unused
+        → GivenPieces (of_new held left) pieces frames
+        → GivenPieces (of_new kept unused) others found
         → (frames ≡ found) × (held ++ left ≡ kept ++ unused) }
     ensures rest { (pieces frames : List (List ℕ)) (held left : List ℕ)
-        → GivenPieces [] pieces frames held left → (IsPart held × (left ≡ [])) ⊎ IsBroken held }
+        → GivenPieces (of_new held left) pieces frames
+        → (IsPart held × (left ≡ [])) ⊎ IsBroken held }
 {}
 
 /// A framer that is broken stays so for ever: a push takes nothing and gives the
 /// same refusal, and `next` changes nothing.
 pub fn broken_for_ever()
-    ensures push { (held piece new : List ℕ) (k : ℕ) (status : Status) → IsBroken held
-        → Pushes held piece new k status
-        → (k ≡ 0) × (new ≡ held) × (status ≡ BrokenFramer bad_size) }
+    ensures push { (p : Push) → IsBroken p.old → Pushes p
+        → (p.taken ≡ 0) × (p.new ≡ p.old) × (p.status ≡ BrokenFramer bad_size) }
     ensures next { (held new : List ℕ) → IsBroken held → Advances held new → new ≡ held }
 {}
 
