@@ -4,12 +4,13 @@ use Rattle.std.specs.Prelude.{Bool, true, false, unwrap_or, if◌then◌else◌,
 use Rattle.std.specs.Str.{bytes_eq}
 use Rattle.clap.specs.Words.{Row, Text, first_of}
 use Rattle.tpm_types.specs.declared.alg.Alg.{Alg}
+use Rattle.tpm_types.specs.Alg.{alg_name}
 use Rattle.tpm_types.specs.declared.tpms.Selection.{Selection}
 use Rattle.tpm_commands.specs.declared.code.CommandCode.{CommandCode}
 use Rattle.tpm_text_values.specs.Names.{command_of_name, is_kind}
 use Rattle.tpm_text_values.specs.Numbers.{IsDecimal, IsHexadecimal, IsShortDecimal}
 use Rattle.tpm_text_values.specs.Owner.{IsOwner, bytes_in}
-use Rattle.tpm_text_values.specs.Selections.{hash_word, AreSelections}
+use Rattle.tpm_text_values.specs.Selections.{AreSelections}
 use Rattle.tpm_args.specs.declared.check.SignedWords.{SignedWords}
 use Rattle.tpm_args.specs.declared.task.Task.TheVariants.{Show, ShowCapture, ShowPackets, ShowNv, Build, Run, Explain}
 use Rattle.tpm_args.specs.declared.task.Task.TheVariants.{ExplainKind, Check, SecureBoot, Events}
@@ -47,7 +48,7 @@ IsKind false (Some text) kind =
 
 -- the name of a hash
 abbrev pub IsHash : Text → Alg → Type 0
-IsHash text hash = text ≡ hash_word hash
+IsHash text hash = text ≡ alg_name hash
 
 -- a register by its number, where the option is given
 abbrev pub IsRegister : Option Text → Option ℕ → Type 0

@@ -135,8 +135,8 @@ pub extern "C" fn tpm_bench_open(times: u32) -> u32
     times
 }
 
-/// Seals such a command, has a device execute it and opens the reply, so many times. It answers how many times it was
-/// opened.
+/// Seals a TPM2_PCR_Extend of register 16, has a device execute it and opens the reply, so many times. It answers how
+/// many replies were opened, which is 0 where no session is started.
 #[unsafe(no_mangle)]
 pub extern "C" fn tpm_bench_both_ends(times: u32) -> u32
     ensures { result ≤ times }
@@ -156,7 +156,7 @@ pub extern "C" fn tpm_bench_both_ends(times: u32) -> u32
     times
 }
 
-// The caller after the command.
+// The caller after the command, or none where its reply is not opened.
 fn both_ends(
     device: &mut Device,
     caller: Caller,

@@ -1,5 +1,5 @@
 //! Hashes and HMACs.
-ghost use Rattle.std.specs.Prelude.{◌≡◌, ℕ, ◌≤◌, length, take, MatchOption};
+ghost use Rattle.std.specs.Prelude.{◌≡◌, ◌≤◌, length, take, MatchOption};
 ghost use Rattle.tpm_types.specs.Alg.{alg_of, digest_len};
 ghost use Rattle.tpm_types.specs.Limits.{digest_bytes};
 ghost use Rattle.tpm_hmac.specs.Hashes.{digest};

@@ -23,7 +23,7 @@ use Rattle.tpm_commands.specs.declared.response.Response.TheVariants as response
 use Rattle.tpm_buffer.specs.Responses.{response_front, response_code, parameter_size, reply_sessions, with_sessions}
 use Rattle.tpm_buffer.specs.Responses.{without_sessions, Reply, reply, reply_of, done_with, behind_code, response}
 use Rattle.tpm_buffer.specs.Responses.{ReplyCut, raw_with_sessions, raw_without_sessions, cut_behind_code, reply_cut}
-use Rattle.tpm_buffer.specs.Responses.{Answers}
+use Rattle.tpm_buffer.specs.Responses.{RespondsTo}
 use Rattle.tpm_buffer.specs.ResponseAreas.{IsCutOf}
 use Rattle.tpm_buffer.proofs.Places.{alone, all_read}
 
@@ -180,7 +180,7 @@ its_cut code n r c zero b =
 
 -- The same of a response to this command.
 abbrev IsOwnCut : CommandCode → Response → ReplyCut → Type 0
-IsOwnCut code r c = IsCutOf r c × Answers code r
+IsOwnCut code r c = IsCutOf r c × RespondsTo code r
 
 code_same : (code : CommandCode) (t n : ℕ) (h : Here) → Follows (IsOwnCut code) (read 0 (behind_code code t n) h) (read 0 (cut_behind_code code t n) h)
 code_same code t n h = go (eqb n 0) refl
@@ -220,5 +220,5 @@ pub has_areas : (code : CommandCode) (bytes : List ℕ) (r : Response) → Spell
 has_areas code bytes r s = let x = has_own_areas code bytes r s in (x.0, x.1, x.2.0)
 
 -- The response that bytes spell is one to the command.
-pub answers : (code : CommandCode) (bytes : List ℕ) (r : Response) → Spells (response code) r bytes → Answers code r
+pub answers : (code : CommandCode) (bytes : List ℕ) (r : Response) → Spells (response code) r bytes → RespondsTo code r
 answers code bytes r s = (has_own_areas code bytes r s).2.1

@@ -15,7 +15,7 @@ use Rattle.tpm_wire.proofs.Buffers.{buffer_sound}
 use Rattle.tpm_wire.proofs.Whole.{reads_its_path}
 use Rattle.tpm_wire.proofs.Elsewhere.{read_later, later}
 use Rattle.tpm_commands.proofs.Short.{ok}
-use Rattle.tpm_buffer.specs.ResponseAreas.{Stands}
+use Rattle.tpm_buffer.specs.ResponseAreas.{IsPlaceIn}
 
 token_mark : {A : Type 0} (o : Option ℕ) (p : Result A ℕ) (n m k : ℕ) (h : Here) (x : A × Here)
     → unless buffer o m h (found buffer p n m h) ≡ Ok x → unless buffer o k h (found buffer p n k h) ≡ Ok x
@@ -114,21 +114,21 @@ read_past m l h g x e =
     let ends = ends_same buffer buffer_sound m l h (x, g) e in
     (n, omega (arith, ends, ap (λ (p : Here). p.at) there, ap (λ (p : Here). length p.rest) there, length-drop n h.rest), there)
 
-stands_past : (bytes : List ℕ) (h : Here) (n : ℕ) → Stands bytes h → n ≤ length h.rest → Stands bytes (past n h)
+stands_past : (bytes : List ℕ) (h : Here) (n : ℕ) → IsPlaceIn bytes h → n ≤ length h.rest → IsPlaceIn bytes (past n h)
 stands_past bytes h n s le = record {
   rest = ap (drop n) s.rest ∙ drop-drop n h.at bytes;
   whole = omega (arith, s.whole, le, length-drop n h.rest);
 }
 
-pub stands_behind : {A : Type 0} (bytes : List ℕ) (m : ℕ) (l : Layout A) (h g : Here) (x : A) → Stands bytes h → read m l h ≡ Ok (x, g) → Stands bytes g
+pub stands_behind : {A : Type 0} (bytes : List ℕ) (m : ℕ) (l : Layout A) (h g : Here) (x : A) → IsPlaceIn bytes h → read m l h ≡ Ok (x, g) → IsPlaceIn bytes g
 stands_behind bytes m l h g x s e = let p = read_past m l h g x e in rw p.2 (stands_past bytes h p.0 s p.1)
 
-pub stands_first : (bytes : List ℕ) → Stands bytes (at_start bytes)
+pub stands_first : (bytes : List ℕ) → IsPlaceIn bytes (at_start bytes)
 stands_first bytes = record { rest = refl; whole = omega arith }
 
 -- the place of a cursor that was not moved yet
-pub stands_new : (bytes : List ℕ) (p : Place) → p ≡ record { here = at_start bytes; number = 0 } → Stands bytes p.here
-stands_new bytes p new = subst (λ (q : Place). Stands bytes q.here) (sym new) (stands_first bytes)
+pub stands_new : (bytes : List ℕ) (p : Place) → p ≡ record { here = at_start bytes; number = 0 } → IsPlaceIn bytes p.here
+stands_new bytes p new = subst (λ (q : Place). IsPlaceIn bytes q.here) (sym new) (stands_first bytes)
 
 -- so many bytes that were read are those at the place
 pub raw_is : (m n : ℕ) (h g : Here) (x : List ℕ) → read {r = buffer} m (raw n) h ≡ Ok (x, g) → x ≡ take n h.rest

@@ -10,15 +10,15 @@ use Rattle.tpm_types.specs.declared.tpms.AuthReply.{AuthReply}
 use Rattle.tpm_types.specs.Tpms.{auth_response}
 use Rattle.tpm_commands.proofs.Short.{ok}
 use Rattle.tpm_buffer.specs.Responses.{further_sessions, reply_sessions}
-use Rattle.tpm_buffer.specs.ResponseAreas.{Stands, IsSession, session_of, session_at, place_behind}
+use Rattle.tpm_buffer.specs.ResponseAreas.{IsPlaceIn, IsSession, session_of, session_at, place_behind}
 use Rattle.tpm_buffer.proofs.Places.{alone}
 
 -- the session that was read is that at its position
-pub is_there : (bytes : List ℕ) (m : ℕ) (h g : Here) (a : AuthReply) → Stands bytes h → read m auth_response h ≡ Ok (a, g) → session_at bytes h.at ≡ a
+pub is_there : (bytes : List ℕ) (m : ℕ) (h g : Here) (a : AuthReply) → IsPlaceIn bytes h → read m auth_response h ≡ Ok (a, g) → session_at bytes h.at ≡ a
 unfolding session_at
 is_there bytes m h g a s e = ap session_of (ap (λ (r : List ℕ). read 0 auth_response (at_start r)) (sym s.rest) ∙ (alone m 0 auth_response h g a e).1)
 
-pub begins_there : (bytes : List ℕ) (m : ℕ) (h g : Here) (a : AuthReply) → Stands bytes h → read m auth_response h ≡ Ok (a, g) → IsSession bytes h.at
+pub begins_there : (bytes : List ℕ) (m : ℕ) (h g : Here) (a : AuthReply) → IsPlaceIn bytes h → read m auth_response h ≡ Ok (a, g) → IsSession bytes h.at
 begins_there bytes m h g a s e =
     let there = alone m 0 auth_response h g a e in
     record {

@@ -6,7 +6,7 @@ use Rattle.tpm_wire.specs.Reading.{read}
 use Rattle.tpm_wire.specs.Longer.{with_more}
 use Rattle.tpm_types.specs.declared.tpms.Auth.{Auth}
 use Rattle.tpm_types.specs.Tpms.{auth_command}
-use Rattle.tpm_buffer.specs.ResponseAreas.{Stands}
+use Rattle.tpm_buffer.specs.ResponseAreas.{IsPlaceIn}
 use Rattle.tpm_buffer.specs.CommandAreas.{LiesIn, session_of, session_at, IsSession}
 use Rattle.tpm_buffer.proofs.Places.{alone, here_is, read_past}
 use Rattle.tpm_commands.proofs.Short.{of_session, ok}
@@ -23,7 +23,7 @@ lies_past bytes h n s le =
     }
 
 -- the area of n bytes that begins at a place
-pub lies_inside : (bytes : List ℕ) (h : Here) (n : ℕ) → Stands bytes h → n ≤ length h.rest → LiesIn bytes (record { rest = take n h.rest; at = h.at })
+pub lies_inside : (bytes : List ℕ) (h : Here) (n : ℕ) → IsPlaceIn bytes h → n ≤ length h.rest → LiesIn bytes (record { rest = take n h.rest; at = h.at })
 lies_inside bytes h n s le =
     let len : length (take n h.rest) ≡ n = omega (arith, le, length-take n h.rest) in
     record {
@@ -36,7 +36,7 @@ lies_inside bytes h n s le =
     }
 
 -- a place on the way through bytes, by how many of them are before it
-pub place_is : (bytes : List ℕ) (h : Here) (n : ℕ) → Stands bytes h → n ≡ h.at → h ≡ record { rest = drop n bytes; at = n }
+pub place_is : (bytes : List ℕ) (h : Here) (n : ℕ) → IsPlaceIn bytes h → n ≡ h.at → h ≡ record { rest = drop n bytes; at = n }
 place_is bytes h n s e = here_is h (drop n bytes) n (s.rest ∙ ap (λ (k : ℕ). drop k bytes) (sym e)) (sym e)
 
 -- ---- a session that is read is there by its position

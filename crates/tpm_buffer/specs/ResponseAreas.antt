@@ -31,7 +31,7 @@ HasItsParams bytes c = c.params ≡ take (length c.params) (drop (place_of_param
 -- ---- sessions by their positions
 
 -- a place in these bytes, on the way through them
-pub record Stands (bytes : List ℕ) (h : Here) : Type 0 where
+pub record IsPlaceIn (bytes : List ℕ) (h : Here) : Type 0 where
   pub rest : h.rest ≡ drop h.at bytes
   pub whole : h.at + length h.rest ≡ length bytes
 

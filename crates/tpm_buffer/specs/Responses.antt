@@ -165,6 +165,6 @@ reply_cut code =
     cut_behind_code code f.0 n))
 
 -- A response answers a command: a code answers any, and a reply its own.
-abbrev pub Answers : CommandCode → Response → Type 0
-Answers code (responses.Code n) = Unit {0}
-Answers code (responses.Done body auths) = code ≡ code_for_reply body
+abbrev pub RespondsTo : CommandCode → Response → Type 0
+RespondsTo code (responses.Code n) = Unit {0}
+RespondsTo code (responses.Done body auths) = code ≡ code_for_reply body

@@ -28,14 +28,14 @@ pub struct Headed<'a> {
 
 impl<'a> Model for Headed<'a> {
     ghost use Rattle.std.specs.Prelude.{◌≤◌, length};
-    ghost use Rattle.tpm_buffer.specs.ResponseAreas.{Stands};
+    ghost use Rattle.tpm_buffer.specs.ResponseAreas.{IsPlaceIn};
     ghost use Rattle.tpm_buffer.specs.CommandAreas.{HeaderCut};
 
     ghost Value = { HeaderCut };
 
     ghost view = { λ h. record { header = h.header; here = h.cursor.here } };
 
-    ghost invariant = { λ h. (length h.bytes.now ≤ 4096) × Stands h.bytes.now h.cursor.here };
+    ghost invariant = { λ h. (length h.bytes.now ≤ 4096) × IsPlaceIn h.bytes.now h.cursor.here };
 }
 
 /// A command whose header and handles were read.
@@ -49,7 +49,7 @@ pub struct Handled<'a> {
 
 impl<'a> Model for Handled<'a> {
     ghost use Rattle.std.specs.Prelude.{◌≤◌, length};
-    ghost use Rattle.tpm_buffer.specs.ResponseAreas.{Stands};
+    ghost use Rattle.tpm_buffer.specs.ResponseAreas.{IsPlaceIn};
     ghost use Rattle.tpm_buffer.specs.CommandAreas.{HandlesCut};
 
     ghost Value = { HandlesCut };
@@ -60,7 +60,7 @@ impl<'a> Model for Handled<'a> {
       here = h.cursor.here;
     } };
 
-    ghost invariant = { λ h. (length h.bytes.now ≤ 4096) × Stands h.bytes.now h.cursor.here };
+    ghost invariant = { λ h. (length h.bytes.now ≤ 4096) × IsPlaceIn h.bytes.now h.cursor.here };
 }
 
 /// A command whose header, handles and sessions were read, with its parameters as they came.

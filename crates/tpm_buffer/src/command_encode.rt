@@ -72,11 +72,9 @@ fn put_authorization(tag: u16, auths: &[Auth], out: &mut Buffer)
     }
 }
 
-// ---- parameters
-
 // ---- the command
 
-fn tag_for(command: &Command<'_>) -> u16
+fn tag_of(command: &Command<'_>) -> u16
     ensures { result ≡ tag_of command.now }
 {
     if command.auths.is_empty() {
@@ -139,7 +137,7 @@ pub fn put_command(command: &Command<'_>, out: &mut Buffer)
     ensures bytes { out.new.items ≡ spelling command_layout command.now }
     ensures fits { Fits (length out.new.items) command_layout command.now }
 {
-    let tag = tag_for(command);
+    let tag = tag_of(command);
     let len = rest_len(tag, command);
     known_list(command.auths.as_slice());
     put_whole(tag, len, command, out);

@@ -3,7 +3,7 @@
 ghost use Rattle.std.specs.Prelude.{◌≡◌, ◌+◌, ◌<◌, ◌≤◌, ◌++◌, MatchOption, length};
 ghost use Rattle.tpm_buffer.specs.Parts.{authorization_of, joined};
 
-use crate::command_header::tag_with;
+use crate::command_header::tag_for;
 use tpm_commands::CommandCode;
 use tpm_wire::{Buffer, put_bytes};
 
@@ -55,7 +55,7 @@ pub fn join_command(
         return None;
     }
     let mut out = Buffer::new();
-    put_bytes(&mut out, &tag_with(sessions).to_be_bytes());
+    put_bytes(&mut out, &tag_for(sessions).to_be_bytes());
     put_bytes(&mut out, &(size as u32).to_be_bytes());
     put_bytes(&mut out, &code.number().to_be_bytes());
     put_bytes(&mut out, handles);

@@ -9,7 +9,7 @@ ghost use Rattle.tpm_types.specs.Tpms.{auth_command};
 ghost use Rattle.tpm_wire.specs.Spelling.{spelling};
 ghost use Rattle.tpm_wire.specs.Buffers.{Takes, TakesNumbered};
 ghost use Rattle.tpm_buffer.specs.Commands.{sessions, authorization_size, authorization};
-ghost use Rattle.tpm_buffer.specs.ResponseAreas.{Stands};
+ghost use Rattle.tpm_buffer.specs.ResponseAreas.{IsPlaceIn};
 ghost use Rattle.tpm_buffer.specs.CommandAreas.{LiesIn, IsSession, session_at as the_session_at, sessions_at};
 
 use crate::command_header::SESSIONS;
@@ -158,7 +158,7 @@ pub(crate) fn take_authorization(
     bytes: &[u8],
     tag: u16,
 ) -> Result<ArrayVec<u32, 3>, Refusal>
-    requires { Stands bytes.now cursor.old.here }
+    requires { IsPlaceIn bytes.now cursor.old.here }
     ensures reads { TakesNumbered (λ v. sessions_at bytes.now v.items) (authorization tag)
         cursor.old cursor.new result }
     ensures spelled { IfOk result

@@ -8,7 +8,7 @@ ghost use Rattle.tpm_wire.specs.Buffers.{TakesNumbered};
 ghost use Rattle.tpm_wire.specs.Path.{Spells, Fault};
 ghost use Rattle.tpm_buffer.specs.Responses.{ReplyCut, raw_with_sessions, raw_without_sessions, cut_behind_code};
 ghost use Rattle.tpm_buffer.specs.Responses.{reply_cut};
-ghost use Rattle.tpm_buffer.specs.ResponseAreas.{Stands, handle_of, place_of_params, HasItsParams};
+ghost use Rattle.tpm_buffer.specs.ResponseAreas.{IsPlaceIn, handle_of, place_of_params, HasItsParams};
 ghost use Rattle.tpm_commands.specs.Replies.{handle_list};
 
 use crate::command_header::SESSIONS;
@@ -114,7 +114,7 @@ fn take_with_sessions<'a>(
     handle: Option<SessionHandle>,
 ) -> Result<ReplyAreas<'a>, Refusal>
     requires short { length bytes.now ≤ 4096 }
-    requires stands { Stands bytes.now cursor.old.here }
+    requires stands { IsPlaceIn bytes.now cursor.old.here }
     requires place { cursor.old.here.at ≡ 10 + 4 * length (handle_list handle) }
     ensures reads { TakesNumbered (λ c. c) (raw_with_sessions code (handle_list handle))
         cursor.old cursor.new result }
@@ -144,7 +144,7 @@ fn take_behind_code<'a>(
     code: CommandCode,
 ) -> Result<ReplyAreas<'a>, Refusal>
     requires short { length bytes.now ≤ 4096 }
-    requires stands { Stands bytes.now cursor.old.here }
+    requires stands { IsPlaceIn bytes.now cursor.old.here }
     requires place { cursor.old.here.at ≡ 10 }
     ensures reads { TakesNumbered (λ c. c) (cut_behind_code code tag number)
         cursor.old cursor.new result }

@@ -4,21 +4,20 @@ ghost use Rattle.std.specs.Prelude.{◌≡◌, ◌≤◌, ◌<◌, ◌^◌, ◌+
 ghost use Rattle.std.specs.Int.{bytes_high_first};
 ghost use Rattle.tpm_wire.specs.Spelling.{spelling, Fits};
 ghost use Rattle.tpm_wire.specs.Path.{Spells};
+ghost use Rattle.tpm_commands.specs.Limits.{most_params};
 ghost use Rattle.tpm_commands.specs.declared.code.CommandCode.{CommandCode as CodeOf};
 ghost use Rattle.tpm_commands.specs.Replies.{code_for_reply, parameters_of_reply};
 ghost use Rattle.tpm_commands.specs.declared.response.Response.TheVariants as responses;
 ghost use Rattle.tpm_buffer.specs.Responses.{code_tag, reply_sessions, reply_tag, reply_behind, reply};
-ghost use Rattle.tpm_buffer.specs.Responses.{response as response_layout, Answers};
+ghost use Rattle.tpm_buffer.specs.Responses.{response as response_layout, RespondsTo};
 
-use crate::command_header::{NO_SESSIONS, tag_with};
+use crate::command_header::{NO_SESSIONS, tag_for};
 use crate::response_header::RSP_COMMAND;
 use arrayvec::ArrayVec;
 use tpm_commands::{ErrorCode, ReplyBody, Response};
 use tpm_types::AuthReply;
 use tpm_wire::response_code::BAD_TAG;
 use tpm_wire::{Buffer, Wire, known_list, list_len, put_list};
-
-// ---- handles
 
 // ---- parameters
 
@@ -45,6 +44,7 @@ fn sessions_len(auths: &[AuthReply]) -> usize
     }
 }
 
+// Adds the spelling of the sessions, one behind the other.
 #[tactic(auto, unfolding(crate::specs::Responses::reply_sessions, crate::specs::Responses::further_sessions))]
 fn put_sessions(auths: &[AuthReply], out: &mut Buffer)
     requires some { 0 < length auths.now }
@@ -57,6 +57,7 @@ fn put_sessions(auths: &[AuthReply], out: &mut Buffer)
     }
 }
 
+// Sessions fit into an area of just their bytes. Nothing runs.
 fn known_behind(first: &AuthReply, others: &[AuthReply])
     requires { length others.now ≤ 2 }
     ensures { Fits (length (spelling reply_sessions (first.now ∷ others.now))) reply_sessions
@@ -77,6 +78,7 @@ fn known_sessions(auths: &[AuthReply])
 
 // ---- the reply
 
+// How many bytes follow the header of a reply with these sessions.
 #[tactic(auto, unfolding(crate::specs::Responses::with_sessions, crate::specs::Responses::without_sessions, crate::specs::Responses::parameter_size))]
 fn reply_len(body: &ReplyBody, auths: &[AuthReply]) -> usize
     requires { length auths.now ≤ 3 }
@@ -85,7 +87,7 @@ fn reply_len(body: &ReplyBody, auths: &[AuthReply]) -> usize
         (spelling (reply (code_for_reply body.now) (reply_tag auths.now))
         (record { body = body.now; auths = auths.now })) }
     ensures fits { result ≤ 4000 }
-    ensures params { length (spelling (parameters_of_reply body.now) body.now) ≤ 3500 }
+    ensures params { length (spelling (parameters_of_reply body.now) body.now) ≤ most_params }
 {
     let sessions = if auths.is_empty() {
         0
@@ -156,7 +158,7 @@ pub fn put_code(error: ErrorCode, out: &mut Buffer)
 
 fn known_reply(body: &ReplyBody, auths: &[AuthReply])
     requires few { length auths.now ≤ 3 }
-    requires params { length (spelling (parameters_of_reply body.now) body.now) ≤ 3500 }
+    requires params { length (spelling (parameters_of_reply body.now) body.now) ≤ most_params }
     ensures { Fits
         (length
         (spelling (reply_behind (reply_tag auths.now) (parameters_of_reply body.now))
@@ -182,9 +184,9 @@ fn put_done(body: &ReplyBody, auths: &[AuthReply], out: &mut Buffer)
         (spelling (reply (code_for_reply body.now) (reply_tag auths.now))
         (record { body = body.now; auths = auths.now }))
         ≤ 4000 }
-    ensures params { length (spelling (parameters_of_reply body.now) body.now) ≤ 3500 }
+    ensures params { length (spelling (parameters_of_reply body.now) body.now) ≤ most_params }
 {
-    tag_with(auths).put(out);
+    tag_for(auths).put(out);
     (10 + reply_len(body, auths) as u32).put(out);
     0u32.put(out);
     put_parts(body, auths, out);
@@ -208,9 +210,9 @@ pub fn put_reply(body: &ReplyBody, auths: &[AuthReply], out: &mut Buffer)
 
 fn spell(response: &Response, out: &mut Buffer)
     requires { length out.old.items ≡ 0 }
-    ensures spells { (code : CodeOf) → Answers code response.now
+    ensures spells { (code : CodeOf) → RespondsTo code response.now
         → Spells (response_layout code) response.now out.new.items }
-    ensures bytes { (code : CodeOf) → Answers code response.now
+    ensures bytes { (code : CodeOf) → RespondsTo code response.now
         → out.new.items ≡ spelling (response_layout code) response.now }
 {
     match response {
@@ -222,9 +224,9 @@ fn spell(response: &Response, out: &mut Buffer)
 /// The bytes that spell the response: a code in 10 bytes, under tag 0x00C4 where it is TPM_RC_BAD_TAG and 0x8001 else;
 /// a reply under tag 0x8001 where it has no sessions and 0x8002 else.
 pub fn encode_response(response: &Response) -> Buffer
-    ensures spells { (code : CodeOf) → Answers code response.now
+    ensures spells { (code : CodeOf) → RespondsTo code response.now
         → Spells (response_layout code) response.now result.items }
-    ensures bytes { (code : CodeOf) → Answers code response.now
+    ensures bytes { (code : CodeOf) → RespondsTo code response.now
         → result.items ≡ spelling (response_layout code) response.now }
 {
     let mut out = ArrayVec::new();

@@ -7,7 +7,7 @@ ghost use Rattle.tpm_wire.specs.Buffers.{Takes, TakesNumbered};
 ghost use Rattle.tpm_types.specs.Limits.{digest_bytes};
 ghost use Rattle.tpm_types.specs.Tpms.{auth_response};
 ghost use Rattle.tpm_buffer.specs.Responses.{further_sessions, parameter_size, reply_sessions};
-ghost use Rattle.tpm_buffer.specs.ResponseAreas.{Stands, IsSession, session_at as the_session_at, sessions_at};
+ghost use Rattle.tpm_buffer.specs.ResponseAreas.{IsPlaceIn, IsSession, session_at as the_session_at, sessions_at};
 
 use arrayvec::ArrayVec;
 use std::marker::Model;
@@ -108,7 +108,7 @@ pub(crate) fn session_at<'a>(bytes: &'a [u8], at: u32) -> ReplyRef<'a>
 /// The positions of the sessions after the first, to the end of the response: at most two.
 #[tactic(auto, unfolding(crate::specs::Responses::further_sessions))]
 fn take_further_sessions(cursor: &mut Cursor<'_>, bytes: &[u8]) -> Result<ArrayVec<u32, 3>, Refusal>
-    requires { Stands bytes.now cursor.old.here }
+    requires { IsPlaceIn bytes.now cursor.old.here }
     ensures reads { TakesNumbered (λ v. sessions_at bytes.now v.items) further_sessions
         cursor.old cursor.new result }
     ensures spelled { IfOk result
@@ -132,7 +132,7 @@ pub(crate) fn take_sessions(
     cursor: &mut Cursor<'_>,
     bytes: &[u8],
 ) -> Result<ArrayVec<u32, 3>, Refusal>
-    requires { Stands bytes.now cursor.old.here }
+    requires { IsPlaceIn bytes.now cursor.old.here }
     ensures reads { TakesNumbered (λ v. sessions_at bytes.now v.items) reply_sessions
         cursor.old cursor.new result }
     ensures spelled { IfOk result

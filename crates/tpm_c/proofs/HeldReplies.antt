@@ -25,7 +25,7 @@ use Rattle.tpm_commands.specs.Replies.{session_handle, reply_handles}
 use Rattle.tpm_commands.specs.declared.code.CommandCode.TheVariants as codes
 use Rattle.tpm_buffer.specs.Responses.{response_front, response_code, parameter_size, further_sessions, reply_sessions}
 use Rattle.tpm_buffer.specs.Responses.{ReplyCut, raw_with_sessions, raw_without_sessions, cut_behind_code, reply_cut}
-use Rattle.tpm_buffer.specs.ResponseAreas.{Stands, HasItsParams, place_behind}
+use Rattle.tpm_buffer.specs.ResponseAreas.{IsPlaceIn, HasItsParams, place_behind}
 use Rattle.tpm_buffer.proofs.Places.{stands_first, stands_behind}
 use Rattle.tpm_buffer.proofs.ReadSessions.{place_before_sessions}
 use Rattle.tpm_model.proofs.Sealing.{okay, okay_is}
@@ -42,7 +42,7 @@ record IsThere (bytes : List ℕ) (n : ℕ) (x : List ℕ) (g : Here) : Type 0 w
   is : take (length x) (drop n bytes) ≡ x
   at : g.at ≡ n + length x
 
-raw_there : (bytes : List ℕ) (m n : ℕ) (h g : Here) (x : List ℕ) → Stands bytes h → read {r = buffer} m (raw n) h ≡ Ok (x, g) → IsThere bytes h.at x g
+raw_there : (bytes : List ℕ) (m n : ℕ) (h g : Here) (x : List ℕ) → IsPlaceIn bytes h → read {r = buffer} m (raw n) h ≡ Ok (x, g) → IsThere bytes h.at x g
 raw_there bytes m n h g x s e = go (too_few m h.at n (length h.rest)) refl e
   where
     go : (o : Option ℕ) → too_few m h.at n (length h.rest) ≡ o
@@ -57,13 +57,14 @@ raw_there bytes m n h g x s e = go (too_few m h.at n (length h.rest)) refl e
           at = sym (ap (λ (p : List ℕ × Here). p.1.at) same) ∙ ap (λ (k : ℕ). h.at + k) (sym long);
         }
 
-sized_there : (bytes : List ℕ) (m most : ℕ) (h g : Here) (x : List ℕ) → Stands bytes h → read m (sized_bytes most) h ≡ Ok (x, g) → IsThere bytes (h.at + 2) x g
+sized_there : (bytes : List ℕ) (m most : ℕ) (h g : Here) (x : List ℕ) → IsPlaceIn bytes h → read m (sized_bytes most) h ≡ Ok (x, g)
+    → IsThere bytes (h.at + 2) x g
 unfolding sized_bytes
 sized_there bytes m most h g x s e =
     let size = number_in 2 (λ n. nat_le n most) rc_size in
     let a = bind_ok (read m size h) _ (pair x g) e in
     let n = number_ok buffer buffer_sound m 2 (λ left n. if nat_le n most then Some n else None) (λ n. n) rc_size h a.0 a.1 in
-    let there : Stands bytes a.0.1 = stands_behind bytes m size h a.0.1 a.0.0 s a.1 in
+    let there : IsPlaceIn bytes a.0.1 = stands_behind bytes m size h a.0.1 a.0.0 s a.1 in
     let at : a.0.1.at ≡ h.at + 2 = ap (λ (p : Here). p.at) (sym n.2) in
     subst (λ (k : ℕ). IsThere bytes k x g) at (raw_there bytes m a.0.0 a.0.1 g x there a.2)
 
@@ -76,15 +77,15 @@ session_at n f m g = (record { nonce = n; attrs = f; hmac = m }, g)
 abbrev IsHeld : List ℕ → ℕ → AuthReply × Here → Type 0
 IsHeld bytes n x = HoldsSession bytes n (Some x.0) × (x.1.at ≡ behind n (Some x.0))
 
-session_held : (bytes : List ℕ) (m : ℕ) (h : Here) (x : AuthReply × Here) → Stands bytes h → read m auth_response h ≡ Ok x → IsHeld bytes h.at x
+session_held : (bytes : List ℕ) (m : ℕ) (h : Here) (x : AuthReply × Here) → IsPlaceIn bytes h → read m auth_response h ≡ Ok x → IsHeld bytes h.at x
 unfolding auth_response session_attrs
 session_held bytes m h x s e =
     let a = bind_ok (read m nonce h) _ x e in
     let b = bind_ok (read m session_attrs a.0.1) _ x a.2 in
     let c = bind_ok (read m auth_value b.0.1) _ x b.2 in
     let same = okay_is {E = Refusal} (session_at a.0.0 b.0.0 c.0.0 c.0.1) x c.2 in
-    let behind_nonce : Stands bytes a.0.1 = stands_behind bytes m nonce h a.0.1 a.0.0 s a.1 in
-    let behind_attrs : Stands bytes b.0.1 = stands_behind bytes m session_attrs a.0.1 b.0.1 b.0.0 behind_nonce b.1 in
+    let behind_nonce : IsPlaceIn bytes a.0.1 = stands_behind bytes m nonce h a.0.1 a.0.0 s a.1 in
+    let behind_attrs : IsPlaceIn bytes b.0.1 = stands_behind bytes m session_attrs a.0.1 b.0.1 b.0.0 behind_nonce b.1 in
     let n = number_ok buffer buffer_sound m 1 (λ left n. if is_session_attrs n then Some n else None) (λ n. n) rc_reserved_bits a.0.1 b.0 b.1 in
     let one : b.0.1.at ≡ a.0.1.at + 1 = ap (λ (p : Here). p.at) (sym n.2) in
     let first = sized_there bytes m digest_bytes h a.0.1 a.0.0 s a.1 in
@@ -117,11 +118,11 @@ ended bytes before h x e =
     record { more = []; is = sym (ap (λ (p : List AuthReply × Here). p.0) same) ∙ sym (append-nil before); held = tt }
 
 more_held : (bytes : List ℕ) (n : ℕ) (before : List AuthReply) (h : Here) (x : List AuthReply × Here)
-    → Stands bytes h → entries n before true one h ≡ Ok x → GoOn bytes before x.0 h.at
+    → IsPlaceIn bytes h → entries n before true one h ≡ Ok x → GoOn bytes before x.0 h.at
 more_held bytes zero before h x s e = ended bytes before h x e
 more_held bytes (suc n) before h x s e = go (length h.rest == 0) (λ b g. more_held bytes n b g x) e
   where
-    go : (none : Bool) → ((b : List AuthReply) (g : Here) → Stands bytes g → entries n b true one g ≡ Ok x → GoOn bytes b x.0 g.at)
+    go : (none : Bool) → ((b : List AuthReply) (g : Here) → IsPlaceIn bytes g → entries n b true one g ≡ Ok x → GoOn bytes b x.0 g.at)
         → (if none then okay {E = Refusal} (listed before h)
         else (one before h >>= λ y. entries n (before ++ y.0 ∷ []) true one y.1)) ≡ Ok x → GoOn bytes before x.0 h.at
     go true again e = ended bytes before h x e
@@ -129,7 +130,7 @@ more_held bytes (suc n) before h x s e = go (length h.rest == 0) (λ b g. more_h
         let mark = of_session (2 + length before) in
         let a = bind_ok (one before h) (λ y. entries n (before ++ y.0 ∷ []) true one y.1) x e in
         let first = session_held bytes mark h a.0 s a.1 in
-        let there : Stands bytes a.0.1 = stands_behind bytes mark auth_response h a.0.1 a.0.0 s a.1 in
+        let there : IsPlaceIn bytes a.0.1 = stands_behind bytes mark auth_response h a.0.1 a.0.0 s a.1 in
         let rest = again (before ++ a.0.0 ∷ []) a.0.1 there a.2 in
         record {
           more = a.0.0 ∷ rest.more;
@@ -137,7 +138,7 @@ more_held bytes (suc n) before h x s e = go (length h.rest == 0) (λ b g. more_h
           held = (first.0, subst (λ (k : ℕ). AreIn bytes k rest.more) first.1 rest.held);
         }
 
-sessions_held : (bytes : List ℕ) (h : Here) (x : List AuthReply × Here) → Stands bytes h → read 0 reply_sessions h ≡ Ok x → AreIn bytes h.at x.0
+sessions_held : (bytes : List ℕ) (h : Here) (x : List AuthReply × Here) → IsPlaceIn bytes h → read 0 reply_sessions h ≡ Ok x → AreIn bytes h.at x.0
 unfolding reply_sessions further_sessions
 sessions_held bytes h x s e =
     let mark = of_session 1 in
@@ -145,7 +146,7 @@ sessions_held bytes h x s e =
     let b = bind_ok (read 0 further_sessions a.0.1) _ x a.2 in
     let same = okay_is {E = Refusal} (listed (a.0.0 ∷ b.0.0) b.0.1) x b.2 in
     let first = session_held bytes mark h a.0 s a.1 in
-    let there : Stands bytes a.0.1 = stands_behind bytes mark auth_response h a.0.1 a.0.0 s a.1 in
+    let there : IsPlaceIn bytes a.0.1 = stands_behind bytes mark auth_response h a.0.1 a.0.0 s a.1 in
     let rest = more_held bytes 2 [] a.0.1 b.0 there b.1 in
     let others : AreIn bytes (behind h.at (Some a.0.0)) b.0.0 =
     subst (AreIn bytes (behind h.at (Some a.0.0))) (sym rest.is) (subst (λ (k : ℕ). AreIn bytes k rest.more) first.1 rest.held) in
@@ -165,7 +166,7 @@ abbrev InPlace : List ℕ → ReplyCut × Here → Type 0
 InPlace bytes x = AreIn bytes (place x.0 0) x.0.auths
 
 with_held : (bytes : List ℕ) (n : ℕ) (hs : List ℕ) (h : Here) (x : ReplyCut × Here)
-    → Stands bytes h → h.at ≡ 10 + 4 * length hs → read 0 (raw_with_sessions n hs) h ≡ Ok x → InPlace bytes x
+    → IsPlaceIn bytes h → h.at ≡ 10 + 4 * length hs → read 0 (raw_with_sessions n hs) h ≡ Ok x → InPlace bytes x
 unfolding raw_with_sessions
 with_held bytes n hs h x s at e =
     let a = bind_ok (read 0 parameter_size h) _ x e in
@@ -173,9 +174,9 @@ with_held bytes n hs h x s at e =
     let c = bind_ok (read 0 reply_sessions b.0.1) _ x b.2 in
     let same = okay_is {E = Refusal} (cut_at n hs b.0.0 c.0.0 c.0.1) x c.2 in
     let size = size_place h a.0 a.1 in
-    let behind_size : Stands bytes a.0.1 = stands_behind bytes 0 parameter_size h a.0.1 a.0.0 s a.1 in
+    let behind_size : IsPlaceIn bytes a.0.1 = stands_behind bytes 0 parameter_size h a.0.1 a.0.0 s a.1 in
     let params = raw_there bytes 0 a.0.0 a.0.1 b.0.1 b.0.0 behind_size b.1 in
-    let behind_params : Stands bytes b.0.1 = stands_behind bytes 0 (raw a.0.0) a.0.1 b.0.1 b.0.0 behind_size b.1 in
+    let behind_params : IsPlaceIn bytes b.0.1 = stands_behind bytes 0 (raw a.0.0) a.0.1 b.0.1 b.0.0 behind_size b.1 in
     let there : b.0.1.at ≡ 10 + 4 * length hs + 4 + length b.0.0 = omega (arith, params.at, at, ap (λ (p : Here). p.at) size.1) in
     let held : AreIn bytes (10 + 4 * length hs + 4 + length b.0.0) c.0.0 =
     subst (λ (k : ℕ). AreIn bytes k c.0.0) there (sessions_held bytes b.0.1 c.0 behind_params c.1) in
@@ -188,7 +189,7 @@ without_held bytes n hs h x e =
     let same = okay_is {E = Refusal} (cut_at n hs a.0.0 [] a.0.1) x a.2 in
     subst (InPlace bytes) same tt
 
-either_held : (bytes : List ℕ) (two : Bool) (n : ℕ) (hs : List ℕ) (h : Here) (x : ReplyCut × Here) → Stands bytes h → h.at ≡ 10 + 4 * length hs
+either_held : (bytes : List ℕ) (two : Bool) (n : ℕ) (hs : List ℕ) (h : Here) (x : ReplyCut × Here) → IsPlaceIn bytes h → h.at ≡ 10 + 4 * length hs
     → read 0 (either two (raw_with_sessions n hs) (raw_without_sessions n hs)) h ≡ Ok x → InPlace bytes x
 either_held bytes true n hs h x s at e = with_held bytes n hs h x s at e
 either_held bytes false n hs h x s at e = without_held bytes n hs h x e
@@ -205,14 +206,14 @@ handles_at codes.StartAuthSession h x e =
 handles_at _ h x e = subst (HandlesAt h.at) (okay_is {E = Refusal} (pair [] h) x e) (omega arith)
 
 code_held : (bytes : List ℕ) (code : CommandCode) (t n : ℕ) (h : Here) (x : ReplyCut × Here)
-    → Stands bytes h → h.at ≡ 10 → read 0 (cut_behind_code code t n) h ≡ Ok x → InPlace bytes x
+    → IsPlaceIn bytes h → h.at ≡ 10 → read 0 (cut_behind_code code t n) h ≡ Ok x → InPlace bytes x
 code_held bytes code t n h x s ten e = go (n == 0) e
   where
     go : (done : Bool) → read 0 (either done (Form.field (λ c. c.handles) (reply_handles code) (λ hs. either (t == 0x8002)
         (raw_with_sessions n hs) (raw_without_sessions n hs))) (Form.done (cut_at n [] [] [] h).0)) h ≡ Ok x → InPlace bytes x
     go true e =
         let a = bind_ok (read 0 (reply_handles code) h) _ x e in
-        let there : Stands bytes a.0.1 = stands_behind bytes 0 (reply_handles code) h a.0.1 a.0.0 s a.1 in
+        let there : IsPlaceIn bytes a.0.1 = stands_behind bytes 0 (reply_handles code) h a.0.1 a.0.0 s a.1 in
         either_held bytes (t == 0x8002) n a.0.0 a.0.1 x there (handles_at code h a.0 a.1 ∙ ap (λ (k : ℕ). k + 4 * length a.0.0) ten) a.2
     go false e = subst (InPlace bytes) (okay_is {E = Refusal} (cut_at n [] [] [] h) x e) tt
 
@@ -224,8 +225,8 @@ in_place code bytes c e =
     let value : whole.0.0 ≡ c = ap (λ (z : ReplyCut × Here). z.0) (finished whole.0 all.0 whole.2) ∙ okay_is {E = Refusal} all.0.0 c all.2 in
     let f = bind_ok (read 0 response_front (at_start bytes)) _ whole.0 whole.1 in
     let n = bind_ok (read 0 (response_code f.0.0.0) f.0.1) _ whole.0 f.2 in
-    let front : Stands bytes f.0.1 = stands_behind bytes 0 response_front (at_start bytes) f.0.1 f.0.0 (stands_first bytes) f.1 in
-    let there : Stands bytes n.0.1 = stands_behind bytes 0 (response_code f.0.0.0) f.0.1 n.0.1 n.0.0 front n.1 in
+    let front : IsPlaceIn bytes f.0.1 = stands_behind bytes 0 response_front (at_start bytes) f.0.1 f.0.0 (stands_first bytes) f.1 in
+    let there : IsPlaceIn bytes n.0.1 = stands_behind bytes 0 (response_code f.0.0.0) f.0.1 n.0.1 n.0.0 front n.1 in
     subst (λ (z : ReplyCut). AreIn bytes (place z 0) z.auths) value (code_held bytes code f.0.0.0 n.0.0 n.0.1 whole.0 there
     (ap (λ (p : Here). p.at) (code_place f.0.0.0 f.0.1 n.0 n.1 ∙ ap (past 4) (front_place (at_start bytes) f.0 f.1))) n.2)
 

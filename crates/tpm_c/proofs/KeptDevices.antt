@@ -18,7 +18,7 @@ use Rattle.tpm_model.specs.Kept.{kept_memory, restored}
 use Rattle.tpm_c.specs.Devices.{fits}
 use Rattle.tpm_c.specs.declared.part.TpmRefusal.{TpmRefusal}
 use Rattle.tpm_c.specs.Parts.{refusal_of}
-use Rattle.tpm_c.specs.KeptDevices.{hash_of, session_hash_of, IsAgain, IsFaulty, IsSpelled, IsJudged, is_made}
+use Rattle.tpm_c.specs.KeptDevices.{hash_of, session_hash_of, IsAgain, IsFaulty, SpellsNvMemory, IsJudged, is_made}
 use Rattle.tpm_c.proofs.Decoding.{is_read, is_refused}
 
 abbrev hash_in : Present → ℕ → ℕ
@@ -41,7 +41,7 @@ session_is o h d n m r stands found is = go (is_session n) refl
     go false e = absurd (let none : Some m ≡ None = sym is ∙ found ∙ rw e refl in cc)
 
 -- A device is made of a value that fits, and of bytes that spell an NV memory.
-is_made_of : (owner kept : List ℕ) → length owner ≤ digest_bytes → IsSpelled kept → is_made owner kept ≡ true
+is_made_of : (owner kept : List ℕ) → length owner ≤ digest_bytes → SpellsNvMemory kept → is_made owner kept ≡ true
 is_made_of owner kept short (nv, spelled) =
     let fit : fits owner ≡ true = le-leb (length owner) digest_bytes short in
     let read : read_all kept_memory kept ≡ Ok nv = is_read kept_memory kept nv spelled in
@@ -61,7 +61,7 @@ none_made_of owner kept e (inr (short, fault)) =
 -- Where one is made, it was not refused.
 pub judged_made : (owner kept : List ℕ) (old new : TpmRefusal) (r : Bool) → is_made owner kept ≡ true
     → IsJudged owner kept (record { is_refused = r; old = old; new = new })
-    → (r ≡ false) × (length owner ≤ digest_bytes) × IsSpelled kept × (new ≡ old)
+    → (r ≡ false) × (length owner ≤ digest_bytes) × SpellsNvMemory kept × (new ≡ old)
 judged_made owner kept old new true makes faulty =
     absurd (let no : true ≡ false = sym makes ∙ none_made_of owner kept (refusal_of new) faulty in cc)
 judged_made owner kept old new false makes sound = (refl, sound.0, sound.1, sound.2)
@@ -81,7 +81,7 @@ fits_of owner short = le-leb (length owner) digest_bytes short
 -- ---- what is read
 
 -- Bytes that spell an NV memory have no fault.
-pub spelled_faultless : (kept : List ℕ) {e : Refusal} → IsSpelled kept → Fault kept_memory kept e → ⊥
+pub spelled_faultless : (kept : List ℕ) {e : Refusal} → SpellsNvMemory kept → Fault kept_memory kept e → ⊥
 spelled_faultless kept {e} (nv, spelled) fault =
     let read : read_all kept_memory kept ≡ Ok nv = is_read kept_memory kept nv spelled in
     let refused : read_all kept_memory kept ≡ Err e = is_refused kept_memory kept e fault in
@@ -89,7 +89,7 @@ spelled_faultless kept {e} (nv, spelled) fault =
     cc
 
 -- A device that was just made, with the NV memory that was read of them.
-pub read_again : (kept : List ℕ) (old d : Device) (r : Result (Unit {0}) Refusal) → IsSpelled kept → Decodes kept_memory (λ _. (holds d).nv) kept r
+pub read_again : (kept : List ℕ) (old d : Device) (r : Result (Unit {0}) Refusal) → SpellsNvMemory kept → Decodes kept_memory (λ _. (holds d).nv) kept r
     → ((owner : List ℕ) (greatest : ℕ) → Stands (new_origin owner greatest) [] old → holds d ≡ restored owner (holds d).nv)
     → OnOk r ((o : Origin) (h : History) (greatest : ℕ) → Stands (new_origin o.owner greatest) [] old
     → Spells kept_memory (nv_memory o h) kept → Stands o (PowerCycle ∷ h) d)

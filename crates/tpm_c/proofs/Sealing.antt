@@ -7,7 +7,7 @@ use Rattle.tpm_buffer.specs.Commands.{code_for, handles_of}
 use Rattle.tpm_model.specs.InStep.{CallerSession}
 use Rattle.tpm_model.specs.Callers.{Waiting}
 use Rattle.tpm_caller.specs.Sent.{sent}
-use Rattle.tpm_caller.specs.Plain.{Parts, parts_of, parts_in, IsSentFrom}
+use Rattle.tpm_caller.specs.Plain.{PlainParts, parts_of, parts_in, IsSentFrom}
 use Rattle.tpm_c.specs.declared.caller.Held.TheVariants.{Free, Sealed}
 use Rattle.tpm_c.specs.Written.{IsIn}
 use Rattle.tpm_c.specs.Callers.{names_of, do_fit, SealedWith, seal_of, seal_by, sealed_bytes, after_seal}
@@ -17,15 +17,15 @@ same_count : (b : CommandBody) → length (handle_kinds (code_for b)) ≡ length
 same_count b = grind arith
 
 -- where the Names that are looked at and the nonce are short enough
-fit_is : (p : Parts) (b : CommandBody) (first second nonce : List ℕ) → p ≡ parts_of b
+fit_is : (p : PlainParts) (b : CommandBody) (first second nonce : List ℕ) → p ≡ parts_of b
     → do_fit (take (length (handle_kinds p.code)) (first ∷ second ∷ [])) nonce ≡ true
     → do_fit (names_of b first second) nonce ≡ true
 fit_is p b first second nonce is fit =
     ap (λ (n : ℕ). do_fit (take n (first ∷ second ∷ [])) nonce) (sym (same_count b))
-    ∙ ap (λ (q : Parts). do_fit (take (length (handle_kinds q.code)) (first ∷ second ∷ [])) nonce) (sym is)
+    ∙ ap (λ (q : PlainParts). do_fit (take (length (handle_kinds q.code)) (first ∷ second ∷ [])) nonce) (sym is)
     ∙ fit
 
-pub is_sealed : (c : CallerSession) (o : Option CommandBody) (p : Parts) (means : SealedWith) (out new : List ℕ) (w : Waiting) (count : ℕ)
+pub is_sealed : (c : CallerSession) (o : Option CommandBody) (p : PlainParts) (means : SealedWith) (out new : List ℕ) (w : Waiting) (count : ℕ)
     → Some p ≡ parts_in o → do_fit (take (length (handle_kinds p.code)) (means.first ∷ means.second ∷ [])) means.nonce ≡ true
     → ((b : CommandBody) → p ≡ parts_of b → IsSentFrom (sent (seal_of c b means)) out new (w, count))
     → IsIn (sealed_bytes (seal_by (Free c) o means)) out new count × (Sealed w ≡ after_seal (Free c) (seal_by (Free c) o means))

@@ -86,11 +86,11 @@ abbrev pub IsWhetherEmpty : List Selection → (code : ℕ) → Type 0
 IsWhetherEmpty quoted code = ((code ≡ 0) × ¬ SelectsNone quoted) ⊎ ((code ≡ 21) × SelectsNone quoted)
 
 -- the number of what was found
-abbrev pub IsTold : List Selection → Result (Unit {0}) AttestFault → Call TpmAttestFault → Type 0
-IsTold quoted (Ok _) call = IsWhetherEmpty quoted call.answer × (call.new ≡ call.old)
-IsTold quoted (Err faults.Nonce) call = (call.answer ≡ 19) × (call.new ≡ call.old)
-IsTold quoted (Err (faults.NotSelected r)) call = (call.answer ≡ 20) × (call.new ≡ lacking r.bank r.register)
-IsTold quoted (Err faults.Digest) call = (call.answer ≡ 16) × (call.new ≡ call.old)
+abbrev pub TellsJudged : List Selection → Result (Unit {0}) AttestFault → Call TpmAttestFault → Type 0
+TellsJudged quoted (Ok _) call = IsWhetherEmpty quoted call.answer × (call.new ≡ call.old)
+TellsJudged quoted (Err faults.Nonce) call = (call.answer ≡ 19) × (call.new ≡ call.old)
+TellsJudged quoted (Err (faults.NotSelected r)) call = (call.answer ≡ 20) × (call.new ≡ lacking r.bank r.register)
+TellsJudged quoted (Err faults.Digest) call = (call.answer ≡ 16) × (call.new ≡ call.old)
 
 -- a quote by its bytes, and the hash and the nonce that it is to have
 pub record Asked : Type 0 where
@@ -102,8 +102,9 @@ pub record Asked : Type 0 where
 abbrev pub IsAttestCompared : (Alg → ℕ → List ℕ) → Asked → List Selection → Call TpmAttestFault → Type 0
 IsAttestCompared value asked required call =
     ((a : Attest) × Spells attest a asked.bytes
-    × (found : Result (Unit {0}) AttestFault) × IsJudged value a asked.hash asked.nonce required found
-    × IsTold a.quote.selections found call)
+    × (found : Result (Unit {0}) AttestFault)
+    × IsJudged value a (record { hash = asked.hash; nonce = asked.nonce; required = required }) found
+    × TellsJudged a.quote.selections found call)
     ⊎ ((refusal : Refusal) × Fault attest asked.bytes refusal
     × (call.new ≡ fault_at refusal.code refusal.at)
     × (call.answer ≡ 17))

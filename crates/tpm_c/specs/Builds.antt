@@ -15,7 +15,7 @@ use Rattle.tpm_c.specs.Parts.{refusal_of}
 use Rattle.tpm_c.specs.Written.{IsIn}
 
 -- the bytes of a command's parts: the handles, the sessions as the authorization area spells them, and the parameters
-pub record Parts : Type 0 where
+pub record GivenParts : Type 0 where
   pub handles : List ℕ
   pub sessions : List ℕ
   pub parameters : List ℕ
@@ -57,10 +57,10 @@ BuildsBytes bytes call =
     × (length call.old.out < length bytes)
     × (call.new ≡ call.old))
 
-abbrev pub BuildsOf : Option CommandCode → Parts → Call Told → Type 0
+abbrev pub BuildsOf : Option CommandCode → GivenParts → Call Told → Type 0
 BuildsOf None parts call = (call.answer ≡ 3) × (call.new ≡ call.old)
 BuildsOf (Some code) parts call = BuildsBytes (joined code parts.handles parts.sessions parts.parameters) call
 
 -- This is answered for the command of this number and the bytes of its parts; 3 where no command has the number.
-abbrev pub Builds : ℕ → Parts → Call Told → Type 0
+abbrev pub Builds : ℕ → GivenParts → Call Told → Type 0
 Builds number parts call = BuildsOf (code_of number) parts call

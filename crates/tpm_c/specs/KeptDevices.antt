@@ -64,8 +64,8 @@ IsFaulty owner kept e =
     ⊎ ((length owner ≤ digest_bytes) × Fault kept_memory kept e)
 
 -- The bytes spell an NV memory.
-abbrev pub IsSpelled : (kept : List ℕ) → Type 0
-IsSpelled kept = (nv : NvMemory) × Spells kept_memory nv kept
+abbrev pub SpellsNvMemory : (kept : List ℕ) → Type 0
+SpellsNvMemory kept = (nv : NvMemory) × Spells kept_memory nv kept
 
 -- whether it is refused to make a device, and the refusal before that and after it
 pub record Judged : Type 0 where
@@ -75,7 +75,7 @@ pub record Judged : Type 0 where
 
 abbrev pub IsJudgedSo : (is_refused : Bool) → (owner kept : List ℕ) → Judged → Type 0
 IsJudgedSo true owner kept judged = IsFaulty owner kept (refusal_of judged.new)
-IsJudgedSo false owner kept judged = (length owner ≤ digest_bytes) × IsSpelled kept × (judged.new ≡ judged.old)
+IsJudgedSo false owner kept judged = (length owner ≤ digest_bytes) × SpellsNvMemory kept × (judged.new ≡ judged.old)
 
 -- Whether it is refused to make a device of them: the refusal is the first fault, or as it was where there is none.
 abbrev pub IsJudged : (owner kept : List ℕ) → Judged → Type 0
@@ -131,10 +131,10 @@ counter_view c = record {
   has_auth = if not (is_empty c.auth) then 1 else 0;
 }
 
-abbrev pub IsTold : Option Counter → Call TpmCounter → Type 0
-IsTold (Some c) call = (call.answer ≡ 0) × (call.new ≡ counter_view c)
-IsTold None call = (call.answer ≡ 6) × (call.new ≡ call.old)
+abbrev pub TellsCounter : Option Counter → Call TpmCounter → Type 0
+TellsCounter (Some c) call = (call.answer ≡ 0) × (call.new ≡ counter_view c)
+TellsCounter None call = (call.answer ≡ 6) × (call.new ≡ call.old)
 
 -- The view of this counter was told, where there is one.
 abbrev pub IsCounterTold : Origin → History → (which : ℕ) → Call TpmCounter → Type 0
-IsCounterTold o h which call = IsTold (slice_get (counters_of o h) which) call
+IsCounterTold o h which call = TellsCounter (slice_get (counters_of o h) which) call

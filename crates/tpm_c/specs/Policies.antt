@@ -45,11 +45,11 @@ abbrev pub of_policy : Call PolicyTold → Call TpmPolicy
 of_policy call = record { answer = call.answer; old = call.old.policy; new = call.new.policy }
 
 -- What the bytes spell is asserted, or their fault is told.
-abbrev pub IsSpelled : {A : Type 0} → Result A Refusal → (A → Assertion) → Call PolicyTold → Type 0
-IsSpelled (Ok x) assertion call =
+abbrev pub AssertsSpelled : {A : Type 0} → Result A Refusal → (A → Assertion) → Call PolicyTold → Type 0
+AssertsSpelled (Ok x) assertion call =
     IsAsserted (alg_of call.old.policy.hash) (assertion x) (of_policy call)
     × (call.new.refusal ≡ call.old.refusal)
-IsSpelled (Err e) assertion call =
+AssertsSpelled (Err e) assertion call =
     (call.answer ≡ 1)
     × (refusal_of call.new.refusal ≡ e)
     × (call.new.policy ≡ call.old.policy)
@@ -67,4 +67,4 @@ IsIfLength false then call = (call.answer ≡ 5) × (call.new ≡ call.old)
 abbrev pub IsPcrAsserted : Option Alg → List ℕ → Result (List Selection) Refusal → Call PolicyTold → Type 0
 IsPcrAsserted None pcr_digest selected call = (call.answer ≡ 4) × (call.new ≡ call.old)
 IsPcrAsserted (Some alg) pcr_digest selected call =
-    IsIfLength (length pcr_digest == digest_len alg) (IsSpelled selected (of_registers pcr_digest) call) call
+    IsIfLength (length pcr_digest == digest_len alg) (AssertsSpelled selected (of_registers pcr_digest) call) call

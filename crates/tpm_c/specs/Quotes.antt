@@ -29,7 +29,7 @@ abbrev pub IsCheckedOf : Result Registers LogFault → Alg → List ℕ → Call
 IsCheckedOf (Ok found) hash quote call = IsCompared (value_in found.banks) hash quote call
 IsCheckedOf (Err fault) hash quote call = IsFault fault call.new call.answer
 
--- The hash comes before both. This is what the log gives.
+-- A hash without a bank comes before the log and the quote. This is what the log gives.
 abbrev pub IsChecked : (Result Registers LogFault → Type 0) → Option Alg → List ℕ → Call ℕ → Type 0
 IsChecked Gives None quote call = (call.new ≡ call.old) × (call.answer ≡ 18)
 IsChecked Gives (Some hash) quote call =

@@ -6,7 +6,8 @@ ghost use Rattle.tpm_model.specs.Registers.{value_in};
 ghost use Rattle.tpm_log.specs.Changes.{AreAfter};
 ghost use Rattle.tpm_log.specs.Replays.{Replays};
 ghost use Rattle.tpm_c.specs.Logs.{kind_number as kind_number_of};
-ghost use Rattle.tpm_c.specs.Attests.{attest_view as attest_view_of, ViewsAttest, fault_at, IsTold, IsAttestCompared};
+ghost use Rattle.tpm_c.specs.Attests.{attest_view as attest_view_of, ViewsAttest, fault_at, TellsJudged};
+ghost use Rattle.tpm_c.specs.Attests.{IsAttestCompared};
 ghost use Rattle.tpm_c.specs.Attests.{required_in, IsRequired, asked_for, IsAttestChecked};
 
 use crate::log::kind_number;
@@ -146,7 +147,7 @@ const EMPTY: u32 = 21;
 const REQUIREMENT: u32 = 22;
 
 fn tell(found: Result<(), AttestFault>, quoted: &Selections, fault: &mut TpmAttestFault) -> u32
-    ensures { IsTold quoted.now found
+    ensures { TellsJudged quoted.now found
         (record { answer = result; old = fault.old; new = fault.new }) }
 {
     match found {

@@ -78,7 +78,7 @@ fn joined_len(handles: &[u8], sessions: &[u8], parameters: &[u8]) -> Option<usiz
         .checked_add(10)
 }
 
-fn tag_with(sessions: &[u8]) -> u16
+fn tag_for(sessions: &[u8]) -> u16
     ensures { result ≡ tag_for sessions.now }
 {
     if sessions.is_empty() {
@@ -172,7 +172,7 @@ impl<'a> CommandParts<'a> {
         requires { out.old.items ≡ [] }
         ensures { out.new.items ≡ self.now }
     {
-        put_bytes(out, &tag_with(self.sessions).to_be_bytes());
+        put_bytes(out, &tag_for(self.sessions).to_be_bytes());
         put_bytes(out, &(self.size as u32).to_be_bytes());
         put_bytes(out, &self.code.number().to_be_bytes());
         put_bytes(out, self.handles);

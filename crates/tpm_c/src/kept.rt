@@ -7,7 +7,7 @@ ghost use Rattle.tpm_model.specs.NvChanges.{changes_nv as changes_nv_of};
 ghost use Rattle.tpm_model.specs.Steps.{History, Origin, new_origin};
 ghost use Rattle.tpm_device.specs.Stands.{Stands};
 ghost use Rattle.tpm_c.specs.Devices.{device_at};
-ghost use Rattle.tpm_c.specs.KeptDevices.{IsKeptIn, IsJudged, IsSpelled, IsAgain, IsRestored, restore_room};
+ghost use Rattle.tpm_c.specs.KeptDevices.{IsKeptIn, IsJudged, SpellsNvMemory, IsAgain, IsRestored, restore_room};
 ghost use Rattle.tpm_c.specs.KeptDevices.{restored_at, greatest_of, hash_of, session_hash_of};
 ghost use Rattle.tpm_c.specs.KeptDevices.{counters_of, counter_view, IsCounterTold};
 
@@ -113,7 +113,7 @@ fn is_refused(owner: &[u8], kept: &[u8], refusal: &mut TpmRefusal) -> bool
 // The NV memory of these bytes, in the device that was just made.
 #[inline(never)]
 fn read(device: &mut Device, kept: &[u8])
-    requires { IsSpelled kept.now }
+    requires { SpellsNvMemory kept.now }
     ensures { (owner : List ℕ) →
         Stands (new_origin owner 0) [] device.old → IsAgain owner kept.now device.new }
 {

@@ -6,7 +6,7 @@ ghost use Rattle.tpm_types.specs.Alg.{alg_of};
 ghost use Rattle.tpm_types.specs.Tpml.{selections as selections_layout, or_digests};
 ghost use Rattle.tpm_model.specs.Policies.Assertion.{OrAsserted, CodeAsserted, AuthValueAsserted};
 ghost use Rattle.tpm_session.specs.Policies.{as_assertion};
-ghost use Rattle.tpm_c.specs.Policies.{IsEmpty, IsAsserted, IsSpelled, IsPcrAsserted, of_registers, with_digest};
+ghost use Rattle.tpm_c.specs.Policies.{IsEmpty, IsAsserted, AssertsSpelled, IsPcrAsserted, of_registers, with_digest};
 
 use crate::out::put;
 use crate::part::{DONE, TpmRefusal, refuse};
@@ -122,7 +122,7 @@ pub extern "C" fn tpm_policy_or(
     digests: &[u8],
     refusal: &mut TpmRefusal,
 ) -> u32
-    ensures { IsSpelled (read_all or_digests digests.now) OrAsserted (record {
+    ensures { AssertsSpelled (read_all or_digests digests.now) OrAsserted (record {
       answer = result;
       old = record { policy = policy.old; refusal = refusal.old };
       new = record { policy = policy.new; refusal = refusal.new };
@@ -140,7 +140,7 @@ fn pcr(
     pcr_digest: &Digest,
     refusal: &mut TpmRefusal,
 ) -> u32
-    ensures { IsSpelled (read_all selections_layout selections.now) (of_registers pcr_digest.now)
+    ensures { AssertsSpelled (read_all selections_layout selections.now) (of_registers pcr_digest.now)
         (record {
           answer = result;
           old = record { policy = policy.old; refusal = refusal.old };

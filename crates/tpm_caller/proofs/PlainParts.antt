@@ -23,12 +23,12 @@ use Rattle.tpm_buffer.specs.Commands.{with_auths, before_params, command}
 use Rattle.tpm_buffer.specs.CommandAreas.{Cut, HasCut, IsSpelledBy}
 use Rattle.tpm_buffer.proofs.Staged.{of_before, of_parts, of_params}
 use Rattle.tpm_model.specs.Callers.{command_params}
-use Rattle.tpm_caller.specs.Plain.{body_in, AreParams, Parts, handle_bytes, parts_in}
+use Rattle.tpm_caller.specs.Plain.{body_in, AreParams, PlainParts, handle_bytes, parts_in}
 use Rattle.tpm_caller.proofs.HmacPlace.{header_long}
 
 -- ---- bytes that are no command
 
-abbrev parts_read : Result Command Refusal → Option Parts
+abbrev parts_read : Result Command Refusal → Option PlainParts
 parts_read r = parts_in (body_in r)
 
 refused : (bytes : List ℕ) (e : Refusal) → Fault command bytes e → None ≡ parts_read (read_all command bytes)
@@ -117,7 +117,7 @@ handles_lie bytes x n counted spelled =
     spelled.text (header_long x.header) long in
     record { within = l.0; are = l.1 }
 
-abbrev with_parts : CommandCode → List ℕ → List ℕ → Option Parts
+abbrev with_parts : CommandCode → List ℕ → List ℕ → Option PlainParts
 with_parts code handles params = Some (record { code = code; handles = handles; params = params })
 
 -- what is read of a command: its code, its handles and its parameters, where it needs authorization

@@ -18,7 +18,7 @@ use Rattle.tpm_hmac.specs.Hmac.{hmac}
 use Rattle.tpm_hmac.specs.Sessions.{whole_key, cp_hash, mac_text}
 use Rattle.tpm_model.specs.Callers.{Seal, attrs_for, command_params, seal_key, seal_text, sealed}
 use Rattle.tpm_caller.specs.Sent.{hmac_key}
-use Rattle.tpm_caller.specs.Plain.{Parts, handle_bytes, parts_of, IsAtFront}
+use Rattle.tpm_caller.specs.Plain.{PlainParts, handle_bytes, parts_of, IsAtFront}
 use Rattle.tpm_caller.proofs.HmacPlace.{session_len, session_long, one_mac}
 
 -- ---- the parts, joined
@@ -43,7 +43,7 @@ behind_long : (handles params : List ℕ) (a : Auth)
     → length (behind handles a params) ≡ length handles + (4 + session_size a) + length params
 behind_long handles params a = simp length-append (omega (arith, session_long a))
 
-joined_is : (p : Parts) (a : Auth)
+joined_is : (p : PlainParts) (a : Auth)
     → joined p.code p.handles (spelling auth_command a) p.params
     ≡ whole (code_number p.code) (behind p.handles a p.params) (14 + length p.handles + session_size a + length p.params)
 unfolding auth_command auth_session session_attrs sized_bytes
@@ -67,13 +67,13 @@ grouped : (tag size code handles number session nonce_len nonce attrs mac_len ma
 grouped tag size code handles number session nonce_len nonce attrs mac_len mac params = simp (append-nil, append_assoc)
 
 -- as they are written, where the numbers of the code, the session and the attributes are these
-abbrev text : Parts → Auth → (code session attrs : ℕ) → List ℕ
+abbrev text : PlainParts → Auth → (code session attrs : ℕ) → List ℕ
 text p a code session attrs =
     in_turn (bytes_high_first 2 0x8002) (bytes_high_first 4 (14 + length p.handles + session_size a + length p.params))
     (bytes_high_first 4 code) p.handles (bytes_high_first 4 (session_size a)) (bytes_high_first 4 session)
     (bytes_high_first 2 (length a.nonce)) a.nonce (bytes_high_first 1 attrs) (bytes_high_first 2 (length a.hmac)) a.hmac p.params
 
-spliced : (p : Parts) (a : Auth) → text p a (code_number p.code) a.session a.attrs ≡ joined p.code p.handles (spelling auth_command a) p.params
+spliced : (p : PlainParts) (a : Auth) → text p a (code_number p.code) a.session a.attrs ≡ joined p.code p.handles (spelling auth_command a) p.params
 unfolding auth_command auth_session session_attrs sized_bytes
 spliced p a =
     grouped (bytes_high_first 2 0x8002) (bytes_high_first 4 (14 + length p.handles + session_size a + length p.params))
@@ -82,7 +82,7 @@ spliced p a =
     (bytes_high_first 2 (length a.hmac)) a.hmac p.params
     ∙ sym (joined_is p a)
 
-pub written : (q p : Parts) (a : Auth) (old new : List ℕ) (code session attrs count : ℕ) → q ≡ p → code ≡ code_number q.code
+pub written : (q p : PlainParts) (a : Auth) (old new : List ℕ) (code session attrs count : ℕ) → q ≡ p → code ≡ code_number q.code
     → session ≡ a.session → attrs ≡ a.attrs → IsAtFront (text q a code session attrs) old new count
     → IsAtFront (joined p.code p.handles (spelling auth_command a) p.params) old new count
 written q p a old new code session attrs count is c n t front =
@@ -90,7 +90,7 @@ written q p a old new code session attrs count is c n t front =
     ap (λ (k : ℕ). text q a k session attrs) c
     ∙ ap (λ (k : ℕ). text q a (code_number q.code) k attrs) n
     ∙ ap (text q a (code_number q.code) a.session) t in
-    subst (λ (r : Parts). IsAtFront (joined r.code r.handles (spelling auth_command a) r.params) old new count) is
+    subst (λ (r : PlainParts). IsAtFront (joined r.code r.handles (spelling auth_command a) r.params) old new count) is
     (subst (λ (l : List ℕ). IsAtFront l old new count) (same ∙ spliced q a) front)
 
 -- ---- the sealed command
@@ -111,21 +111,21 @@ joined_command body a =
 abbrev its_auth : Seal → (nonce : List ℕ) → (attrs : ℕ) → (mac : List ℕ) → Auth
 its_auth s nonce attrs mac = record { session = s.caller.handle; nonce = nonce; attrs = attrs; hmac = mac }
 
-sealed_is : (s : Seal) (q p : Parts) (key mac : List ℕ) (attrs : ℕ) → q ≡ p → p ≡ parts_of s.body → attrs ≡ attrs_for s.keep
+sealed_is : (s : Seal) (q p : PlainParts) (key mac : List ℕ) (attrs : ℕ) → q ≡ p → p ≡ parts_of s.body → attrs ≡ attrs_for s.keep
     → key ≡ hmac_key s.caller.hash (seal_key s)
     → mac ≡ hmac s.caller.hash (whole_key key []) (mac_text (cp_hash s.caller.hash (code_number q.code) s.names q.params) s.nonce s.caller.nonce attrs)
     → joined p.code p.handles (spelling auth_command (its_auth s s.nonce attrs mac)) p.params ≡ sealed s
 sealed_is s q p key mac attrs seen is kept keyed made =
     let seen_as : q ≡ parts_of s.body = seen ∙ is in
     let signed : mac ≡ hmac s.caller.hash (seal_key s) (seal_text s) =
-    made ∙ one_mac s key q.params q.code attrs (ap (λ (r : Parts). r.code) seen_as) kept keyed (ap (λ (r : Parts). r.params) seen_as) in
-    ap (λ (r : Parts). joined r.code r.handles (spelling auth_command (its_auth s s.nonce attrs mac)) r.params) is
+    made ∙ one_mac s key q.params q.code attrs (ap (λ (r : PlainParts). r.code) seen_as) kept keyed (ap (λ (r : PlainParts). r.params) seen_as) in
+    ap (λ (r : PlainParts). joined r.code r.handles (spelling auth_command (its_auth s s.nonce attrs mac)) r.params) is
     ∙ joined_command s.body (its_auth s s.nonce attrs mac)
     ∙ ap (λ (n : ℕ). spelling command (with_auths s.body (its_auth s s.nonce n mac ∷ []))) kept
     ∙ ap (λ (m : List ℕ). spelling command (with_auths s.body (its_auth s s.nonce (attrs_for s.keep) m ∷ []))) signed
 
 -- what is written is the sealed command
-pub sealed_there : (s : Seal) (q p : Parts) (key mac nonce_there mac_there old new : List ℕ) (attrs count : ℕ) → q ≡ p → p ≡ parts_of s.body
+pub sealed_there : (s : Seal) (q p : PlainParts) (key mac nonce_there mac_there old new : List ℕ) (attrs count : ℕ) → q ≡ p → p ≡ parts_of s.body
     → attrs ≡ attrs_for s.keep → key ≡ hmac_key s.caller.hash (seal_key s)
     → mac ≡ hmac s.caller.hash (whole_key key []) (mac_text (cp_hash s.caller.hash (code_number q.code) s.names q.params) s.nonce s.caller.nonce attrs)
     → nonce_there ≡ s.nonce → mac_there ≡ mac

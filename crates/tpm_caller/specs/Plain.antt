@@ -3,6 +3,7 @@ use Rattle.std.specs.Prelude.{◌≡◌, ◌≤◌, ℕ, List, ◌++◌, length,
 use Rattle.tpm_wire.specs.declared.refusal.Refusal.{Refusal}
 use Rattle.tpm_wire.specs.Reading.{read_all}
 use Rattle.tpm_wire.specs.Spelling.{spelling}
+use Rattle.tpm_commands.specs.Limits.{most_params}
 use Rattle.tpm_commands.specs.declared.code.CommandCode.{CommandCode}
 use Rattle.tpm_commands.specs.declared.command.Command.{Command}
 use Rattle.tpm_commands.specs.declared.command.CommandBody.{CommandBody}
@@ -19,7 +20,7 @@ body_in (Ok c) = if needs_authorization (code_for c.body) then Some c.body else 
 body_in (Err e) = None
 
 -- its code, and the bytes of its handles and of its parameters
-pub record Parts : Type 0 where
+pub record PlainParts : Type 0 where
   pub code : CommandCode
   pub handles : List ℕ
   pub params : List ℕ
@@ -27,10 +28,10 @@ pub record Parts : Type 0 where
 abbrev pub handle_bytes : CommandBody → List ℕ
 handle_bytes body = spelling (handles (code_for body)) (handles_of body)
 
-abbrev pub parts_of : CommandBody → Parts
+abbrev pub parts_of : CommandBody → PlainParts
 parts_of body = record { code = code_for body; handles = handle_bytes body; params = command_params body }
 
-abbrev pub parts_in : Option CommandBody → Option Parts
+abbrev pub parts_in : Option CommandBody → Option PlainParts
 parts_in (Some body) = Some (parts_of body)
 parts_in None = None
 
@@ -39,7 +40,7 @@ pub record AreParams (code : CommandCode) (bytes : List ℕ) (p : Params) : Type
   pub read : read_all (parameters code) bytes ≡ Ok p
   pub code_is : params_code p ≡ code
   pub spelled : bytes ≡ spelling (parameters code) p
-  pub short : length bytes ≤ 3500
+  pub short : length bytes ≤ most_params
 
 -- ---- in a room of the caller's
 

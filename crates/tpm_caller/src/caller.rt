@@ -1,6 +1,6 @@
 //! A session, as its caller holds it.
 
-ghost use Rattle.std.specs.Prelude.{◌≡◌, ◌∷◌, [], ◌+◌, ◌*◌, ◌≤◌, ◌++◌, true, length, take, drop};
+ghost use Rattle.std.specs.Prelude.{◌≡◌, ◌∷◌, [], ◌+◌, ◌*◌, ◌≤◌, ◌++◌, true, length, drop};
 ghost use Rattle.std.specs.Int.{to_be_bytes, w8, w16, w32};
 ghost use Rattle.tpm_types.specs.declared.tpms.Auth.{Auth as AuthOf};
 ghost use Rattle.tpm_types.specs.Alg.{digest_len};

@@ -1,7 +1,7 @@
 //! What holds of callers and of a device. Each law stands over the definitions alone: a caller is its
 //! session, and what `seal` makes is what is sent.
 
-ghost use Rattle.std.specs.Prelude.{◌≡◌, ◌≢◌, ◌↔◌, ◌≤◌, true, ℕ, List, [], ◌∷◌, ◌++◌, length, Some, Ok, Err};
+ghost use Rattle.std.specs.Prelude.{◌≡◌, ◌↔◌, ◌≤◌, true, ℕ, List, [], ◌∷◌, ◌++◌, length, Some, Ok, Err};
 ghost use Rattle.tpm_wire.specs.declared.refusal.Refusal.{Refusal};
 ghost use Rattle.tpm_wire.specs.Path.{Spells, Fault};
 ghost use Rattle.tpm_types.specs.declared.handle_sets.BindHandle.TheVariants.{Owner};

@@ -34,15 +34,16 @@ pub struct Plain<'a> {
 impl<'a> Model for Plain<'a> {
     ghost use Rattle.std.specs.Prelude.{◌≡◌, ◌≤◌, true, length};
     ghost use Rattle.tpm_commands.specs.Handles.{needs_authorization};
-    ghost use Rattle.tpm_caller.specs.Plain.{Parts};
+    ghost use Rattle.tpm_commands.specs.Limits.{most_params};
+    ghost use Rattle.tpm_caller.specs.Plain.{PlainParts};
 
-    ghost Value = { Parts };
+    ghost Value = { PlainParts };
 
     ghost view = { λ p. record { code = p.code; handles = p.handles.now; params = p.params.now } };
 
     ghost invariant = { λ p. (needs_authorization p.code ≡ true)
         × (length p.handles.now ≤ 8)
-        × (length p.params.now ≤ 3500) };
+        × (length p.params.now ≤ most_params) };
 }
 
 // Reads the parameters of a command with this code in the place of others, or answers their first fault. Which handles

@@ -101,7 +101,7 @@ stated_last failed stopped log log-2 last old new _ f ends same is = absurd cc
 -- ---- the log
 
 module _ {X : Type 0} (P : List LogRecord → X → Type 0) (coming : Option (List ℕ)) (old new : ℕ) where
-  pub replayed : (x : X) → ReplaysFrom P coming old new (Ok x) → new ≡ old
+  pub replayed : (x : X) → ReplaysFrom P (record { coming = coming; failed = old; failed-behind = new }) (Ok x) → new ≡ old
   replayed x f = f.0
 
 pub of_bytes : (kind : LogFaultKind) → (kind ≡ kinds.Device → ⊥) → IsOfBytes kind
@@ -113,8 +113,10 @@ other_kind kinds.Device P Q f h = absurd f
 other_kind _ P Q f h = h
 
 module _ {X : Type 0} (P : List LogRecord → X → Type 0) where
-  pub read_failed : (coming : Option (List ℕ)) (old new : ℕ) (e : LogFault) → e.kind ≡ kinds.Device → ReplaysFrom P coming old new (Err e) → new ≡ one_more old
+  pub read_failed : (coming : Option (List ℕ)) (old new : ℕ) (e : LogFault) → e.kind ≡ kinds.Device
+      → ReplaysFrom P (record { coming = coming; failed = old; failed-behind = new }) (Err e) → new ≡ one_more old
   read_failed coming old new e is f = rw is at f
 
-  pub no_read_failed : (coming : Option (List ℕ)) (old new : ℕ) (e : LogFault) → IsOfBytes e.kind → ReplaysFrom P coming old new (Err e) → new ≡ old
+  pub no_read_failed : (coming : Option (List ℕ)) (old new : ℕ) (e : LogFault) → IsOfBytes e.kind
+      → ReplaysFrom P (record { coming = coming; failed = old; failed-behind = new }) (Err e) → new ≡ old
   no_read_failed coming old new e of f = (other_kind e.kind _ _ of f).0

@@ -25,7 +25,7 @@ use Rattle.tpm_check.specs.Told.{told}
 use Rattle.tpm_lines.specs.declared.status.Status.TheVariants.{Done, Refused}
 use Rattle.tpm_lines.specs.declared.status.Status.{Status}
 use Rattle.tpm_lines.specs.InputLines.{lines_of, most_bytes}
-use Rattle.tpm_lines.specs.LineSinks.{GoesOn, IsWhole, OnTrue, ReadsLines, ReadsOneMore, Step, StopsAt, TakesFrom, TakesKept}
+use Rattle.tpm_lines.specs.LineSinks.{GoesOn, IsWhole, OnTrue, ReadsLines, ReadsOneMore, LineStep, StopsAt, TakesFrom, TakesKept}
 use Rattle.tpm_lines.specs.LineSinks.{kept, some_if}
 use Rattle.tpm_lines.specs.Status.{both}
 use Rattle.tpm_lines.proofs.LineReading.{stops_whatever}
@@ -108,7 +108,7 @@ line_under-kept heading line = rw all_count (elim (cases_lt most_line (length li
   | inr few ↦ ap (line_under heading) (take_all (most_line + 1) line (omega (arith, few)))
 ])
 
-pub takes_kept : (step : Step Comparing) → Compares step → TakesKept list_line Compares step
+pub takes_kept : (step : LineStep Comparing) → Compares step → TakesKept list_line Compares step
 takes_kept step f = λ line same.
     let is : line_under step.old.heading step.line ≡ line_under step.old.heading line =
     ap (line_under step.old.heading) (sym same) ∙ line_under-kept step.old.heading line in
@@ -203,8 +203,8 @@ right_lines n c t (line ∷ others) text (inr f) = absurd (not_none t f.0)
 abbrev pub first_of : Bor InCode → Comparing
 first_of found = record { found = found; heading = NoBank; status = Done }
 
-abbrev pub Answers : Beside → (old new a c : Option (List ℕ)) → Option Status → Type 0
-Answers b old new a c status =
+abbrev pub Concludes : Beside → (old new a c : Option (List ℕ)) → Option Status → Type 0
+Concludes b old new a c status =
     (bytes : List ℕ) × ReadsList b old new bytes × (status ≡ (comparison b bytes).status) × Appends a c (comparison b bytes).text
 
 module _ (found : Bor InCode) where
@@ -262,7 +262,7 @@ module _ (found : Bor InCode) where
   pub answers : (old new a c : Option (List ℕ)) (bytes text : List ℕ) (left : Option Comparing)
       → ReadsLines most_bytes (GoesOn list_line Compares (first_of found)) old new bytes
       → IsWhole list_line Compares new (record { first = first_of found; bytes = bytes; left = left; text = text })
-      → Appends a c text → Answers (told found.now) old new a c (option_map (λ (k : Comparing). k.status) left)
+      → Appends a c text → Concludes (told found.now) old new a c (option_map (λ (k : Comparing). k.status) left)
   answers old new a c bytes text left f whole added =
       let all : told_of left text ≡ comparison (told found.now) bytes = outcome bytes left text whole.0 in (
         bytes,

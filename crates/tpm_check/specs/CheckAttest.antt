@@ -23,7 +23,7 @@ use Rattle.tpm_lines.specs.Text.{bytes_in, bytes_text, hexadecimal, line}
 use Rattle.tpm_check.specs.CheckJson.{attest_member, lacks_member, not_hexadecimal_text, refusal_text}
 use Rattle.tpm_events.specs.Members.{text_member}
 use Rattle.tpm_check.specs.Compare.{Beside}
-use Rattle.tpm_events.specs.Banks.{bank_name}
+use Rattle.tpm_types.specs.Alg.{alg_name}
 
 -- ---- what the quote says: TPMS_ATTEST (Part 2, 10.12)
 
@@ -63,7 +63,7 @@ register_words select (suc n) = register_words select n ++ (if is_selected selec
 
 -- the bank, and each register of it that is selected
 abbrev pub entry_words : Selection → List ℕ
-entry_words s = codes " " ++ (bank_name s.hash ++ register_words s.select 24)
+entry_words s = codes " " ++ (alg_name s.hash ++ register_words s.select 24)
 
 abbrev pub selection_line : List Selection → List ℕ
 selection_line sels = codes "selection" ++ (flat_map entry_words sels ++ codes "\n")
@@ -99,7 +99,7 @@ on_nonce json None nonce = record { status = Done; text = said json (codes "nonc
 on_nonce json (Some sent) nonce = whether json (codes "nonce") (bytes_eq nonce sent)
 
 unfoldable pub lacks_line : NotSelected → List ℕ
-lacks_line r = line (codes "selection" ∷ codes "lacks" ∷ bank_name r.bank ∷ decimal r.register ∷ [])
+lacks_line r = line (codes "selection" ∷ codes "lacks" ∷ alg_name r.bank ∷ decimal r.register ∷ [])
 
 abbrev pub lacks_text : (json : Bool) → NotSelected → List ℕ
 lacks_text false r = lacks_line r

@@ -15,7 +15,7 @@ use Rattle.tpm_lines.specs.declared.status.Status.TheVariants.{Done, Refused}
 use Rattle.tpm_lines.specs.declared.status.Status.{Status}
 use Rattle.tpm_lines.specs.Status.{both}
 use Rattle.tpm_lines.specs.Text.{bytes_in, line}
-use Rattle.tpm_events.specs.Banks.{bank_name}
+use Rattle.tpm_types.specs.Alg.{alg_name}
 use Rattle.tpm_lines.specs.InputLines.{lines_of, HasNoFeed, AreEnded, most_bytes, most_piece}
 
 -- ---- registers
@@ -25,7 +25,7 @@ abbrev pub Values : Type 0
 Values = Alg → ℕ → List ℕ
 
 unfoldable pub register_line : Alg → ℕ → List ℕ → List ℕ
-register_line bank register value = line (bank_name bank ∷ decimal register ∷ encode_lower value ∷ [])
+register_line bank register value = line (alg_name bank ∷ decimal register ∷ encode_lower value ∷ [])
 
 -- the lines of a bank's first registers, so many of them
 abbrev pub bank_lines : Values → Alg → ℕ → List ℕ
@@ -55,7 +55,7 @@ abbrev pub behind_word : List ℕ → List ℕ
 behind_word text = after_first is_space text
 
 abbrev pub bank_named : List ℕ → Option Alg
-bank_named word = find (λ bank. bytes_eq (bank_name bank) word) all_algs
+bank_named word = find (λ bank. bytes_eq (alg_name bank) word) all_algs
 
 -- the numbers of a bank's registers in decimal
 abbrev pub register_names : List (List ℕ)
@@ -85,7 +85,7 @@ abbrev pub heading_line : List ℕ → List ℕ
 heading_line name = codes "  " ++ (name ++ codes ":")
 
 abbrev pub bank_headed : List ℕ → Option Alg
-bank_headed text = find (λ bank. bytes_eq (heading_line (bank_name bank)) text) all_algs
+bank_headed text = find (λ bank. bytes_eq (heading_line (alg_name bank)) text) all_algs
 
 -- how many bytes a digest has of the other bank whose heading this is
 abbrev pub other_headed : List ℕ → Option ℕ
@@ -187,9 +187,9 @@ compared_word false = codes "differs"
 
 -- whether a register has the value: its line, or its object
 unfoldable pub compared_text : (json same : Bool) → Alg → ℕ → List ℕ
-compared_text false same bank register = line (compared_word same ∷ bank_name bank ∷ decimal register ∷ [])
+compared_text false same bank register = line (compared_word same ∷ alg_name bank ∷ decimal register ∷ [])
 compared_text true same bank register =
-    codes "{\"bank\":\"" ++ (bank_name bank ++ (codes "\",\"register\":" ++ (decimal register
+    codes "{\"bank\":\"" ++ (alg_name bank ++ (codes "\",\"register\":" ++ (decimal register
     ++ (codes ",\"match\":" ++ (truth same ++ codes "}\n")))))
 
 unfoldable pub not_a_register_text : (json : Bool) → ℕ → List ℕ

@@ -9,7 +9,7 @@ use Rattle.tpm_check.specs.Told.{told}
 use Rattle.tpm_check.specs.declared.list_lines.Line.TheVariants as listed
 use Rattle.tpm_lines.specs.declared.status.Status.TheVariants.{Refused}
 use Rattle.tpm_lines.specs.declared.status.Status.{Status}
-use Rattle.tpm_lines.specs.LineSinks.{Limits, Step}
+use Rattle.tpm_lines.specs.LineSinks.{Limits, LineStep}
 
 -- what was read of a line
 abbrev pub stated_as : RustStated → Stated
@@ -54,6 +54,6 @@ line_behind c Passes = Some c
 line_behind c Wrong = None
 
 -- So a line is compared.
-abbrev pub Compares : Step Comparing → Type 0
+abbrev pub Compares : LineStep Comparing → Type 0
 Compares step = let says = line_under step.old.heading step.line in
     (step.new ≡ line_behind step.old says) × (step.text ≡ line_text (told step.old.found.now) step.number says)

@@ -14,13 +14,11 @@ ghost use Rattle.tpm_events.specs.EventText.{commas};
 use crate::beside::Beside;
 use crate::register_text::push_registers;
 use std::alloc::{AllocError, Global};
-use tpm_events::banks::bank_name;
 use tpm_lines::answer::Answer;
-use tpm_lines::registers::register;
 use tpm_lines::status::Status;
 use tpm_lines::text::{Pushed, push_comma};
 use tpm_store::Registers;
-use tpm_types::{Alg, REGISTERS};
+use tpm_types::{Alg, REGISTERS, register};
 use tpm_wire::Refusal;
 
 #[tactic(auto, unfolding(crate::specs::CheckJson::value_entry))]
@@ -58,7 +56,7 @@ fn push_bank_member(alloc: Global, text: &mut String, found: &Registers, bank: A
     ensures { OnOk result (string_bytes text.new
         ≡ string_bytes text.old ++ bank_member (value_in found.now.banks) bank) }
 {
-    push_bank_begin(text, bank_name(bank))?;
+    push_bank_begin(text, bank.name())?;
     push_values(alloc, text, found, bank)?;
     text.push_str("]")
 }
@@ -130,7 +128,7 @@ fn push_refusal_object(text: &mut String, refusal: &Refusal) -> Pushed
     writeln!(text, "{{\"refused\":\"{code:03x}\",\"at\":{at}}}")
 }
 
-/// A refusal, in a line or as an object.
+/// A refusal, in a line or as an object, with the status `Refused`; or that memory was refused.
 pub(crate) fn refusal_answer(
     alloc: Global,
     json: bool,

@@ -311,7 +311,11 @@ pub fn check_log<L: Source, F: Source, W: Write>(
     }) }
     ensures ok { IfOk result (λ status. (found : Result RegistersValue LogFaultValue)
         × (text : List ℕ)
-        × ReplaysFrom AreAfter (L.coming log.old) (L.failed log.old) (L.failed log.new) found
+        × ReplaysFrom AreAfter (record {
+          coming = L.coming log.old;
+          failed = L.failed log.old;
+          failed-behind = L.failed log.new;
+        }) found
         × ReadsFrom AreAfter (L.coming log.old) (L.coming log.new) found
         × ChecksLog (record {
           compared = compared.now;

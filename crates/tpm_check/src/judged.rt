@@ -15,7 +15,6 @@ use crate::signed_json::{push_attest_member, push_lacks_member};
 use crate::signed_text::push_attest;
 use std::alloc::{AllocError, Global};
 use std::marker::Model;
-use tpm_events::banks::bank_name;
 use tpm_events::members::push_text_member;
 use tpm_lines::answer::Answer;
 use tpm_lines::hexadecimal::decoded;
@@ -113,7 +112,7 @@ fn push_nonce(
 fn push_lacks(text: &mut String, missing: NotSelected) -> Pushed
     ensures { OnOk result (string_bytes text.new ≡ string_bytes text.old ++ lacks_line missing) }
 {
-    let bank = bank_name(missing.bank);
+    let bank = missing.bank.name();
     let register = missing.register.number();
     writeln!(text, "selection lacks {bank} {register}")
 }

@@ -2,7 +2,7 @@
 
 ghost use Rattle.std.specs.Prelude.{◌≡◌, ◌≤◌, true, IfOk, length, option_map};
 ghost use Rattle.tpm_lines.specs.Text.{bytes_in};
-ghost use Rattle.tpm_events.specs.Banks.{bank_name};
+ghost use Rattle.tpm_types.specs.Alg.{alg_name};
 ghost use Rattle.tpm_check.specs.Compare.{heading_line, bank_headed, other_headed, heading_in, is_numbered};
 ghost use Rattle.tpm_check.specs.Compare.{number_in, numbered_under, stating, line_under};
 ghost use Rattle.tpm_check.specs.Comparing.{line_as, stated_as};
@@ -41,7 +41,7 @@ pub(crate) enum Line {
 
 // The heading of a bank, as `tpm2_pcrread` prints it.
 fn bank_heading(bank: Alg) -> &'static str
-    ensures { result.now ≡ heading_line (bank_name bank) }
+    ensures { result.now ≡ heading_line (alg_name bank) }
 {
     match bank {
         Alg::Sha1 => "  sha1:",

@@ -13,13 +13,11 @@ ghost use Rattle.tpm_events.specs.EventText.{commas};
 
 use crate::register_text::truth;
 use std::alloc::{AllocError, Global};
-use tpm_events::banks::bank_name;
 use tpm_events::members::push_number_member;
 use tpm_lines::hexadecimal::{push_hex, push_hex_member};
-use tpm_lines::registers::register;
 use tpm_lines::text::Pushed;
 use tpm_quote::NotSelected;
-use tpm_types::{Attest, ClockInfo, REGISTERS, Selection};
+use tpm_types::{Attest, ClockInfo, REGISTERS, Selection, register};
 
 #[tactic(auto, unfolding(crate::specs::CheckJson::signer_member))]
 fn push_signer(alloc: Global, text: &mut String, signer: &[u8]) -> Pushed
@@ -108,7 +106,7 @@ fn push_selection_object(text: &mut String, entry: &Selection) -> Pushed
     ensures { OnOk result (string_bytes text.new
         ≡ string_bytes text.old ++ selection_object entry.now) }
 {
-    push_selection_begin(text, bank_name(entry.hash))?;
+    push_selection_begin(text, entry.hash.name())?;
     push_selected(text, entry)?;
     text.push_str("]}")
 }
@@ -168,5 +166,5 @@ fn push_lacks_words(text: &mut String, bank: &str, register: u32) -> Pushed
 pub(crate) fn push_lacks_member(text: &mut String, missing: NotSelected) -> Pushed
     ensures { OnOk result (string_bytes text.new ≡ string_bytes text.old ++ lacks_member missing) }
 {
-    push_lacks_words(text, bank_name(missing.bank), missing.register.number())
+    push_lacks_words(text, missing.bank.name(), missing.register.number())
 }

@@ -7,11 +7,9 @@ ghost use Rattle.tpm_check.specs.CheckAttest.{number_line, register_word, regist
 ghost use Rattle.tpm_check.specs.CheckAttest.{signer_line};
 
 use std::alloc::Global;
-use tpm_events::banks::bank_name;
 use tpm_lines::hexadecimal::shown_bytes;
-use tpm_lines::registers::register;
 use tpm_lines::text::Pushed;
-use tpm_types::{Attest, ClockInfo, REGISTERS, Selection};
+use tpm_types::{Attest, ClockInfo, REGISTERS, Selection, register};
 
 #[tactic(auto, unfolding(crate::specs::CheckAttest::signer_line))]
 fn push_signer(alloc: Global, text: &mut String, signer: &[u8]) -> Pushed
@@ -97,7 +95,7 @@ fn push_entry(text: &mut String, entry: &Selection) -> Pushed
     ensures { OnOk result (string_bytes text.new ≡ string_bytes text.old ++ entry_words entry.now) }
 {
     text.push_str(" ")?;
-    text.push_str(bank_name(entry.hash))?;
+    text.push_str(entry.hash.name())?;
     push_words(text, entry)
 }
 

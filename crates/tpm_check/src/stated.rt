@@ -7,7 +7,6 @@ ghost use Rattle.tpm_check.specs.Compare.{stated_in};
 ghost use Rattle.tpm_check.specs.Comparing.{stated_as};
 
 use std::alloc::{AllocError, Global};
-use tpm_events::banks::bank_name;
 use tpm_lines::hexadecimal::decoded;
 use tpm_types::{Alg, PcrIndex};
 
@@ -47,7 +46,7 @@ fn bank_named(word: &[u8]) -> Option<Alg>
     Alg::ALL
         .iter()
         .copied()
-        .find(|bank| bank_name(*bank).as_bytes() == word)
+        .find(|bank| bank.name().as_bytes() == word)
 }
 
 // The place of a word in the table of numbers.

@@ -1,4 +1,5 @@
 pub mod Row
+pub mod Limits
 pub mod Table
 pub mod Codes
 pub mod Handles

@@ -3,6 +3,7 @@
 ghost use Rattle.std.specs.Prelude.{◌≡◌, ◌≤◌, ◌+◌, ◌*◌, ◌++◌, length, ℕ, IfOk, OnOk};
 ghost use Rattle.tpm_wire.specs.Spelling.{spelling, Fits};
 ghost use Rattle.tpm_wire.specs.Buffers.{TakesNumbered};
+ghost use Rattle.tpm_commands.specs.Limits.{most_params};
 ghost use Rattle.tpm_commands.specs.Codes.{code_name};
 ghost use Rattle.tpm_commands.specs.Handles.{handle_kinds, needs_authorization as does_need, handles as handles_layout};
 ghost use Rattle.tpm_commands.specs.Parameters.{params_code, parameters};
@@ -26,6 +27,9 @@ use crate::command_handles::{
 use crate::command_parameters::Params;
 use crate::response::ReplyBody;
 use arrayvec::ArrayVec;
+pub use nv::read_nv_read;
+pub use pcr::read_pcr_extend;
+pub use startup::read_startup;
 use tpm_types::{
     Alg, AuthValue, BindHandle, Digest, DigestValues, Nonce, NvAuthHandle, PcrIndex, PcrOrNull,
     RH_NULL, RH_OWNER, Selections, SessionHandle, SessionType, StartupType, SymDef,
@@ -151,7 +155,7 @@ impl CommandBody<'_> {
     pub fn params_len(&self) -> usize
         ensures value { result
             ≡ length (spelling (parameters (code_for self.now)) (params_of self.now)) }
-        ensures fits { result ≤ 3500 }
+        ensures fits { result ≤ most_params }
         ensures spelled { (left : ℕ)
             → Fits left (parameters (code_for self.now)) (params_of self.now) }
     {
@@ -642,7 +646,7 @@ impl ReplyBody {
     #[inline(always)]
     pub fn params_len(&self) -> usize
         ensures value { result ≡ length (spelling (parameters_of_reply self.now) self.now) }
-        ensures fits { result ≤ 3500 }
+        ensures fits { result ≤ most_params }
         ensures spelled { (left : ℕ) → Fits left (parameters_of_reply self.now) self.now }
     {
         match self {

@@ -14,6 +14,8 @@ pub use code::CommandCode;
 pub use command::{Command, CommandBody, Header, StartAuth};
 pub use command_handles::take_handles;
 pub use command_parameters::{Params, decode_params, decode_params_into};
-pub use commands::{read_reply_params, take_reply_handle};
+pub use commands::{
+    read_nv_read, read_pcr_extend, read_reply_params, read_startup, take_reply_handle,
+};
 pub use lent::{EVENT_BYTES, Event, take_sized};
 pub use response::{ErrorCode, NvData, ReplyBody, Response, StartReply};

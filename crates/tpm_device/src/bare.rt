@@ -5,24 +5,13 @@
 
 ghost use Rattle.std.specs.Prelude.{◌≡◌, ◌≤◌, length, Ok, IfSome};
 ghost use Rattle.tpm_wire.specs.Reading.{read_all};
-ghost use Rattle.tpm_wire.specs.Buffers.{TakesNumbered};
 ghost use Rattle.tpm_commands.specs.declared.code.CommandCode.TheVariants as codes;
 ghost use Rattle.tpm_commands.specs.declared.command_parameters.Params.TheVariants as of_command;
-ghost use Rattle.tpm_commands.specs.Parameters.{parameters, params_code, startup, nv_read};
+ghost use Rattle.tpm_commands.specs.Parameters.{parameters, params_code};
 
-use tpm_commands::{CommandCode, Params};
+use tpm_commands::{CommandCode, Params, read_nv_read, read_startup};
 use tpm_types::StartupType;
-use tpm_wire::response_code::of_parameter;
-use tpm_wire::{Cursor, Refusal, Wire};
-
-#[tactic(auto, unfolding(tpm_commands::specs::Parameters::startup))]
-#[inline(always)]
-fn take_startup(cursor: &mut Cursor<'_>) -> Result<StartupType, Refusal>
-    ensures { TakesNumbered (λ kind. of_command.Startup kind) startup cursor.old cursor.new result }
-{
-    cursor.number(of_parameter(1));
-    StartupType::take(cursor)
-}
+use tpm_wire::Cursor;
 
 // The parameter of TPM2_Startup, where the bytes spell it.
 #[inline(always)]
@@ -32,22 +21,11 @@ fn startup_kind(bytes: &[u8]) -> Option<StartupType>
         read_all (parameters codes.Startup) bytes.now ≡ Ok (of_command.Startup kind)) }
 {
     let mut cursor = Cursor::new(bytes);
-    match take_startup(&mut cursor) {
-        Ok(kind) if cursor.left() == 0 => Some(kind),
+    let mut kind = StartupType::Clear;
+    match read_startup(&mut cursor, &mut kind) {
+        Ok(()) if cursor.left() == 0 => Some(kind),
         _ => None,
     }
-}
-
-#[tactic(auto, unfolding(tpm_commands::specs::Parameters::nv_read))]
-#[inline(always)]
-fn take_nv_read(cursor: &mut Cursor<'_>) -> Result<(u16, u16), Refusal>
-    ensures { TakesNumbered (λ x. of_command.NvRead x.0 x.1) nv_read cursor.old cursor.new result }
-{
-    cursor.number(of_parameter(1));
-    let size = u16::take(cursor)?;
-    cursor.number(of_parameter(2));
-    let offset = u16::take(cursor)?;
-    Ok((size, offset))
 }
 
 // The size and the offset of TPM2_NV_Read, where the bytes spell them.
@@ -58,8 +36,9 @@ fn nv_read_sizes(bytes: &[u8]) -> Option<(u16, u16)>
         read_all (parameters codes.NvRead) bytes.now ≡ Ok (of_command.NvRead x.0 x.1)) }
 {
     let mut cursor = Cursor::new(bytes);
-    match take_nv_read(&mut cursor) {
-        Ok(sizes) if cursor.left() == 0 => Some(sizes),
+    let (mut size, mut offset) = (0, 0);
+    match read_nv_read(&mut cursor, &mut size, &mut offset) {
+        Ok(()) if cursor.left() == 0 => Some((size, offset)),
         _ => None,
     }
 }

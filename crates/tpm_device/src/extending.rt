@@ -2,10 +2,9 @@
 
 ghost use Rattle.std.specs.Prelude.{◌≡◌, ◌≤◌, length, Ok, Err};
 ghost use Rattle.tpm_wire.specs.Reading.{read_all, Gives};
-ghost use Rattle.tpm_wire.specs.Buffers.{TakesNumbered};
 ghost use Rattle.tpm_commands.specs.declared.code.CommandCode.TheVariants as codes;
 ghost use Rattle.tpm_commands.specs.declared.command_parameters.Params.TheVariants as of_command;
-ghost use Rattle.tpm_commands.specs.Parameters.{parameters, pcr_extend};
+ghost use Rattle.tpm_commands.specs.Parameters.{parameters};
 ghost use Rattle.tpm_buffer.specs.Commands.{body_from};
 ghost use Rattle.tpm_model.specs.Answers.{performed as performed_of};
 ghost use Rattle.tpm_device.specs.Stands.{holds, MayBePerformed, IsPerformed, done_of};
@@ -15,19 +14,10 @@ use crate::device::Device;
 use crate::handles::register_or_null;
 use crate::response::ResponseBuffer;
 use tpm_buffer::Areas;
+use tpm_commands::read_pcr_extend;
 use tpm_types::DigestValues;
-use tpm_wire::response_code::{SIZE, of_parameter};
-use tpm_wire::{Cursor, Refusal, Wire};
-
-#[tactic(auto, unfolding(tpm_commands::specs::Parameters::pcr_extend))]
-#[inline(always)]
-fn read_digests(cursor: &mut Cursor<'_>, digests: &mut DigestValues) -> Result<(), Refusal>
-    ensures { TakesNumbered (λ _. of_command.PcrExtend digests.new) pcr_extend cursor.old cursor.new
-        result }
-{
-    cursor.number(of_parameter(1));
-    digests.read(cursor)
-}
+use tpm_wire::response_code::SIZE;
+use tpm_wire::{Cursor, Refusal};
 
 // Reads the digests, or answers their first fault.
 fn decode_digests(bytes: &[u8], digests: &mut DigestValues) -> Result<(), Refusal>
@@ -36,7 +26,7 @@ fn decode_digests(bytes: &[u8], digests: &mut DigestValues) -> Result<(), Refusa
         (read_all (parameters codes.PcrExtend) bytes.now) result }
 {
     let mut cursor = Cursor::new(bytes);
-    read_digests(&mut cursor, digests)?;
+    read_pcr_extend(&mut cursor, digests)?;
     if cursor.left() > 0 {
         return Err(Refusal {
             code: SIZE,

@@ -44,7 +44,7 @@ pub(crate) fn register_or_null(handles: &[u32]) -> PcrOrNull
     PcrOrNull::from_number(first(handles)).unwrap_or(PcrOrNull::Null)
 }
 
-// The index of a handle, or the first index for a handle of none.
+// The NV index of a handle, or 0x01000000 where it names none, which a command that was read never does.
 fn index_of(handle: u32) -> NvIndex
     ensures { result ≡ index_in handle }
 {
@@ -54,14 +54,14 @@ fn index_of(handle: u32) -> NvIndex
     }
 }
 
-/// The index of the first handle.
+/// The NV index that the first handle names.
 pub(crate) fn first_index(handles: &[u32]) -> NvIndex
     ensures { result ≡ index_in (first_of handles.now) }
 {
     index_of(first(handles))
 }
 
-/// The index of the second handle.
+/// The NV index that the second handle names.
 pub(crate) fn second_index(handles: &[u32]) -> NvIndex
     ensures { result ≡ index_in (second_of handles.now) }
 {

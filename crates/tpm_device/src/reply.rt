@@ -1,6 +1,6 @@
 //! The reply, with the session of the command.
 
-ghost use Rattle.std.specs.Prelude.{◌≡◌, ◌<◌, true, [], ◌∷◌, length, Ok, Err};
+ghost use Rattle.std.specs.Prelude.{◌≡◌, ◌<◌, true, [], ◌∷◌, length, Ok};
 ghost use Rattle.tpm_commands.specs.declared.response.ReplyBody.{ReplyBody as BodyOf};
 ghost use Rattle.tpm_commands.specs.Handles.{first as first_of};
 ghost use Rattle.tpm_buffer.specs.CommandAreas.{Cut};

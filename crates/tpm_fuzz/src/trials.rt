@@ -1,7 +1,5 @@
 //! Buffers that are tried.
 
-ghost use Rattle.std.specs.Prelude.{◌≡◌};
-
 use crate::changes::change;
 use crate::corpus::Entry;
 use crate::dice::Dice;

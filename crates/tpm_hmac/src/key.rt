@@ -5,8 +5,7 @@ ghost use Rattle.std.specs.Prelude.{◌≡◌, ℕ, List, ◌++◌, length, take
 ghost use Rattle.std.specs.List.{flat_map};
 ghost use Rattle.tpm_types.specs.Alg.{digest_len, block_len};
 ghost use Rattle.tpm_types.specs.declared.alg.Alg.TheVariants as algs;
-ghost use Rattle.tpm_hmac.specs.Hashes.{digest};
-ghost use Rattle.tpm_hmac.specs.Hmac.{hmac as hmac_of, block_key, xored as xored_bytes};
+ghost use Rattle.tpm_hmac.specs.Hmac.{hmac as hmac_of, xored as xored_bytes};
 ghost use Rattle.tpm_hmac.specs.Keys.{IsKept};
 ghost use Rattle.sha1.specs.Sha1.{Holds, sha1};
 ghost use Rattle.sha2.specs.Hashers.{Holds256};

@@ -1,6 +1,6 @@
 //! What the HMACs of sessions are made of (Part 1, "Session-Based Authorizations").
 
-ghost use Rattle.std.specs.Prelude.{◌≡◌, ℕ, List, Some, ◌++◌, length};
+ghost use Rattle.std.specs.Prelude.{◌≡◌, Some, ◌++◌, length};
 ghost use Rattle.std.specs.List.{flat_map};
 ghost use Rattle.tpm_types.specs.Alg.{digest_len};
 ghost use Rattle.tpm_commands.specs.Codes.{code_number};

@@ -9,7 +9,7 @@ use Rattle.std.specs.Io.KnownBytes.{Consumes, Keeps}
 use Rattle.tpm_stream.proofs.Filled.{consumes_both}
 use Rattle.tpm_lines.specs.declared.lines.LineReader.{LineReader}
 use Rattle.tpm_lines.specs.InputLines.{lines_of, HasNoFeed, AreEnded, most_piece}
-use Rattle.tpm_lines.specs.LineSinks.{GoesOn, Limits, ReadsLines, Step, StopsAt, TakesFrom, kept, some_if}
+use Rattle.tpm_lines.specs.LineSinks.{GoesOn, Limits, ReadsLines, LineStep, StopsAt, TakesFrom, kept, some_if}
 use Rattle.tpm_lines.specs.LineReading.{EndsAll, EndsLine, Feeds, FeedsOn, Holds, IsOver, has_some}
 use Rattle.tpm_lines.proofs.InputLines.{no_feed-more, ended_line, ended_both, last_line, first_line, other_lines, longer_line}
 use Rattle.tpm_lines.proofs.InputLines.{lines_of-append}
@@ -77,7 +77,7 @@ none_has (x ∷ line) e = absurd (cc)
 
 -- ---- lines that are taken
 
-module _ {S : Type 0} (Takes : Step S → Type 0) where
+module _ {S : Type 0} (Takes : LineStep S → Type 0) where
   pub takes_append : (n : ℕ) (s t : S) (xs ys : List (List ℕ)) (r : Option S) (a b : List ℕ) → TakesFrom Takes n s xs (Some t) a
       → TakesFrom Takes (n + length xs) t ys r b → TakesFrom Takes n s (xs ++ ys) r (a ++ b)
   takes_append n s t [] ys r a b f g =
@@ -106,7 +106,7 @@ module _ {S : Type 0} (Takes : Step S → Type 0) where
 
 -- ---- a reader
 
-module _ {S : Type 0} (limits : Limits) (Takes : Step S → Type 0) where
+module _ {S : Type 0} (limits : Limits) (Takes : LineStep S → Type 0) where
   lines_here : (first : S) (before : List ℕ) (g : GoesOn limits Takes first before) (byte : ℕ) (more : List ℕ)
       → lines_of ((before ++ byte ∷ []) ++ more) ≡ lines_of g.lines ++ lines_of (g.line ++ byte ∷ more)
   lines_here first before g byte more =

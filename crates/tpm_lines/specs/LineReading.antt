@@ -2,13 +2,13 @@
 use Rattle.std.specs.Prelude.{◌≡◌, ℕ, ◌+◌, ◌≤◌, Bool, true, false, List, [], ◌∷◌, ◌++◌, length, Some, None}
 use Rattle.tpm_lines.specs.declared.lines.LineReader.{LineReader}
 use Rattle.tpm_lines.specs.InputLines.{lines_of}
-use Rattle.tpm_lines.specs.LineSinks.{GoesOn, Limits, OnTrue, Step, StopsAt, TakesFrom, TakesKept, kept, some_if}
+use Rattle.tpm_lines.specs.LineSinks.{GoesOn, Limits, OnTrue, LineStep, StopsAt, TakesFrom, TakesKept, kept, some_if}
 
 abbrev pub has_some : List ℕ → Bool
 has_some [] = false
 has_some (byte ∷ bytes) = true
 
-module _ {S : Type 0} (limits : Limits) (Takes : Step S → Type 0) where
+module _ {S : Type 0} (limits : Limits) (Takes : LineStep S → Type 0) where
   -- All these bytes were taken, with this text: the lines that have ended, and of the present one what is kept.
   pub record Holds (first : S) (bytes text : List ℕ) (r : LineReader S) : Type 0 where
     pub goes : GoesOn limits Takes first bytes

@@ -17,7 +17,7 @@ abbrev pub kept : Limits → List ℕ → List ℕ
 kept limits line = take (limits.most + 1) (filter limits.counts line)
 
 -- A sink is given a line of this number, and adds this text. It goes on as the other, or not at all.
-pub record Step (Sink : Type 0) : Type 0 where
+pub record LineStep (Sink : Type 0) : Type 0 where
   pub number : ℕ
   pub old : Sink
   pub line : List ℕ
@@ -33,14 +33,14 @@ OnTrue true P = P
 OnTrue false P = Unit {0}
 
 -- So is every line given of which this is kept.
-abbrev pub TakesKept : {Sink : Type 0} → Limits → (Takes : Step Sink → Type 0) → Step Sink → Type 0
+abbrev pub TakesKept : {Sink : Type 0} → Limits → (Takes : LineStep Sink → Type 0) → LineStep Sink → Type 0
 TakesKept limits Takes step = (line : List ℕ) → kept limits line ≡ step.line
     → Takes (record { number = step.number; old = step.old; line = line; new = step.new; text = step.text })
 
 -- ---- lines
 
 -- Of these lines the first has this number. They are given one after the other, up to one that ends what is printed.
-abbrev pub TakesFrom : {Sink : Type 0} → (Takes : Step Sink → Type 0) → (number : ℕ) → (old : Sink)
+abbrev pub TakesFrom : {Sink : Type 0} → (Takes : LineStep Sink → Type 0) → (number : ℕ) → (old : Sink)
     → List (List ℕ) → (new : Option Sink) → (text : List ℕ) → Type 0
 TakesFrom Takes n s [] new text = (new ≡ Some s) × (text ≡ [])
 TakesFrom {Sink = Sink} Takes n s (line ∷ others) new text =
@@ -58,11 +58,11 @@ pub record Reading (Sink : Type 0) : Type 0 where
   pub text : List ℕ
 
 -- These bytes are all that come.
-abbrev pub TakesAll : {Sink : Type 0} → (Takes : Step Sink → Type 0) → Reading Sink → Type 0
+abbrev pub TakesAll : {Sink : Type 0} → (Takes : LineStep Sink → Type 0) → Reading Sink → Type 0
 TakesAll Takes r = TakesFrom Takes 1 r.first (lines_of r.bytes) r.left r.text
 
 -- The lines that have ended were taken, with this text, and what has come of the next has not too many bytes.
-pub record GoesOn {Sink : Type 0} (limits : Limits) (Takes : Step Sink → Type 0) (first : Sink)
+pub record GoesOn {Sink : Type 0} (limits : Limits) (Takes : LineStep Sink → Type 0) (first : Sink)
     (bytes : List ℕ) : Type 0 where
   pub lines : List ℕ
   pub line : List ℕ
@@ -75,7 +75,7 @@ pub record GoesOn {Sink : Type 0} (limits : Limits) (Takes : Step Sink → Type 
   pub takes : TakesFrom Takes 1 first (lines_of lines) (Some sink) text
 
 -- Up to a line all were taken, and this line, which has ended or has too many bytes, ends what is printed.
-pub record StopsAt {Sink : Type 0} (limits : Limits) (Takes : Step Sink → Type 0) (first : Sink)
+pub record StopsAt {Sink : Type 0} (limits : Limits) (Takes : LineStep Sink → Type 0) (first : Sink)
     (bytes : List ℕ) : Type 0 where
   pub lines : List ℕ
   pub line : List ℕ
@@ -93,13 +93,13 @@ pub record StopsAt {Sink : Type 0} (limits : Limits) (Takes : Step Sink → Type
       × Takes (record { number = 1 + length (lines_of lines); old = sink; line = whole; new = None; text = last })
 
 -- So it stops, whatever comes behind these bytes.
-pub record Stops {Sink : Type 0} (limits : Limits) (Takes : Step Sink → Type 0) (r : Reading Sink) : Type 0 where
+pub record Stops {Sink : Type 0} (limits : Limits) (Takes : LineStep Sink → Type 0) (r : Reading Sink) : Type 0 where
   pub none : r.left ≡ None
   pub at : StopsAt limits Takes r.first r.bytes
   pub text : r.text ≡ at.text ++ at.last
 
 -- This is what comes of an input, of which these bytes were read and this is to come.
-abbrev pub IsWhole : {Sink : Type 0} → Limits → (Takes : Step Sink → Type 0) → (coming : Option (List ℕ))
+abbrev pub IsWhole : {Sink : Type 0} → Limits → (Takes : LineStep Sink → Type 0) → (coming : Option (List ℕ))
     → Reading Sink → Type 0
 IsWhole limits Takes coming r = TakesAll Takes r × (IsAtEnd coming ⊎ Stops limits Takes r)
 

@@ -6,7 +6,5 @@ pub mod fault;
 pub mod hexadecimal;
 pub mod lines;
 pub mod named;
-pub mod registers;
-pub mod sessions;
 pub mod status;
 pub mod text;

@@ -1,13 +1,13 @@
 //! Inputs that are read line by line: pieces, their lines with their numbers, and the end.
 
-ghost use Rattle.std.specs.Prelude.{◌≡◌, ◌+◌, ◌^◌, ◌<◌, ◌≤◌, ◌++◌, ℕ, true, List, [], ◌∷◌};
+ghost use Rattle.std.specs.Prelude.{◌≡◌, ◌+◌, ◌^◌, ◌<◌, ◌≤◌, ℕ, true, List, [], ◌∷◌};
 ghost use Rattle.std.specs.Prelude.{false, IfOk, IsErrOf, length, nat_eq, string_bytes};
 ghost use Rattle.std.specs.Io.KnownBytes.{Appends, Consumes};
 ghost use Rattle.tpm_wire.specs.Sources.{IsWhereItFailed};
 ghost use Rattle.tpm_lines.specs.declared.fault.ToolFault.TheVariants.{InputTooLong, Read};
 ghost use Rattle.tpm_lines.specs.Faults.{FailsByMemoryOrWrite};
 ghost use Rattle.tpm_lines.specs.InputLines.{AddedTo, CountsRead, room_behind};
-ghost use Rattle.tpm_lines.specs.LineSinks.{GoesOn, IsWhole, Limits, OnTrue, ReadsLines, ReadsOneMore, Step};
+ghost use Rattle.tpm_lines.specs.LineSinks.{GoesOn, IsWhole, Limits, OnTrue, ReadsLines, ReadsOneMore, LineStep};
 ghost use Rattle.tpm_lines.specs.LineSinks.{TakesKept, some_if};
 ghost use Rattle.tpm_lines.specs.LineReading.{EndsLine, EndsAll, Feeds};
 
@@ -27,7 +27,7 @@ pub trait LineSink {
     ghost limits: { Limits };
 
     /// What comes of a line.
-    ghost takes: { Step Self → Type 0 };
+    ghost takes: { LineStep Self → Type 0 };
 
     /// It may be given the line of this number.
     ghost is_at: { ℕ → Self → Type 0 };

@@ -1,14 +1,10 @@
 //! The program's lines.
 
 ghost use Rattle.std.specs.Prelude.{◌≡◌, ◌++◌, OnOk, string_bytes};
-ghost use Rattle.tpm_lines.specs.Text.{comma, lines_from, refusal_line, bytes_line, command_line, handle_text};
-ghost use Rattle.tpm_lines.specs.Text.{parameters_line, command_text};
+ghost use Rattle.tpm_lines.specs.Text.{comma, refusal_line, bytes_line, parameters_line};
 
 use crate::hexadecimal::shown_bytes;
-use crate::sessions::push_sessions;
 use std::alloc::{AllocError, Global};
-use tpm_buffer::Areas;
-use tpm_commands::CommandCode;
 use tpm_wire::Refusal;
 
 /// What adding to a text answers.
@@ -34,7 +30,7 @@ pub fn push_refusal(text: &mut String, refusal: &Refusal) -> Pushed
     writeln!(text, "refused {code:03x} at {at}")
 }
 
-/// Adds a line of bytes in hexadecimal.
+/// Adds a line of bytes in lower-case hexadecimal digits, two to a byte, and of no bytes `-`.
 #[tactic(auto, unfolding(crate::specs::Text::bytes_line))]
 pub fn push_bytes(alloc: Global, text: &mut String, bytes: &[u8]) -> Pushed
     ensures { OnOk result (string_bytes text.new ≡ string_bytes text.old ++ bytes_line bytes.now) }
@@ -43,40 +39,7 @@ pub fn push_bytes(alloc: Global, text: &mut String, bytes: &[u8]) -> Pushed
     writeln!(text, "{bytes}")
 }
 
-#[tactic(auto, unfolding(crate::specs::Text::command_line))]
-fn push_name(text: &mut String, code: CommandCode, size: usize) -> Pushed
-    ensures { OnOk result (string_bytes text.new
-        ≡ string_bytes text.old ++ command_line code size) }
-{
-    let name = code.name();
-    writeln!(text, "command {name} size {size}")
-}
-
-/// Adds the line of a handle, or its entry of a list.
-#[tactic(auto, using(crate::proofs::Padded::padded), unfolding(crate::specs::Text::handle_text))]
-pub fn push_handle(text: &mut String, json: bool, i: usize, handle: u32) -> Pushed
-    ensures { OnOk result (string_bytes text.new
-        ≡ string_bytes text.old ++ handle_text json i handle) }
-{
-    if !json {
-        return writeln!(text, "handle {i} {handle:08x}");
-    }
-    push_comma(text, i)?;
-    write!(text, "\"{handle:08x}\"")
-}
-
-/// Adds a line for each handle, or an entry of a list.
-pub fn push_handles(text: &mut String, json: bool, handles: &[u32]) -> Pushed
-    ensures { OnOk result (string_bytes text.new
-        ≡ string_bytes text.old ++ lines_from (handle_text json) 1 handles.now) }
-{
-    for (before, handle) in handles.iter().enumerate() {
-        push_handle(text, json, before + 1, *handle)?;
-    }
-    Ok(())
-}
-
-/// Adds the line of the parameters.
+/// Adds the line of the parameters: `parameters`, and their bytes in lower-case hexadecimal digits, or `-`.
 #[tactic(auto, unfolding(crate::specs::Text::parameters_line))]
 pub fn push_parameters(alloc: Global, text: &mut String, bytes: &[u8]) -> Pushed
     ensures { OnOk result (string_bytes text.new
@@ -84,17 +47,4 @@ pub fn push_parameters(alloc: Global, text: &mut String, bytes: &[u8]) -> Pushed
 {
     let bytes = shown_bytes(alloc, bytes)?;
     writeln!(text, "parameters {bytes}")
-}
-
-/// Adds the lines of a command of so many bytes.
-#[tactic(auto, unfolding(crate::specs::Text::command_text))]
-pub fn push_command(alloc: Global, text: &mut String, size: usize, areas: &Areas<'_>) -> Pushed
-    ensures { OnOk result (string_bytes text.new
-        ≡ string_bytes text.old ++ command_text size areas.now) }
-{
-    push_name(text, areas.code(), size)?;
-    push_handles(text, false, areas.handles())?;
-    push_sessions(alloc, text, false, areas)?;
-    push_parameters(alloc, text, areas.params())?;
-    Ok(())
 }

@@ -57,7 +57,7 @@ both_cut all front middle between behind x y e f =
     e ∙ ap (λ l. front ++ x ∷ l) f ∙ sym (append_assoc front (x ∷ between) (y ∷ behind))
 
 -- an execution in a run: the events before it and behind it, and what is executed behind it
-record Place (o : Origin) (h : History) (es : List Event) (x : Execution) (ys : List Execution) : Type 0 where
+record InRun (o : Origin) (h : History) (es : List Event) (x : Execution) (ys : List Execution) : Type 0 where
   before : List Event
   behind : List Event
   bytes : List ℕ
@@ -67,8 +67,8 @@ record Place (o : Origin) (h : History) (es : List Event) (x : Execution) (ys : 
   later : ys ≡ executions_of o (next o (after o h before) bytes nonce) behind
 
 -- the same with one more event before
-one_more : (o : Origin) (h : History) (e : Event) (es : List Event) (x : Execution) (ys : List Execution) → Place o (happens o h e) es x ys
-    → Place o h (e ∷ es) x ys
+one_more : (o : Origin) (h : History) (e : Event) (es : List Event) (x : Execution) (ys : List Execution) → InRun o (happens o h e) es x ys
+    → InRun o h (e ∷ es) x ys
 one_more o h e es x ys p = record {
   before = e ∷ p.before;
   behind = p.behind;
@@ -79,7 +79,7 @@ one_more o h e es x ys p = record {
   later = p.later;
 }
 
-place : (o : Origin) (h : History) (es : List Event) (xs ys : List Execution) (x : Execution) → executions_of o h es ≡ xs ++ x ∷ ys → Place o h es x ys
+place : (o : Origin) (h : History) (es : List Event) (xs ys : List Execution) (x : Execution) → executions_of o h es ≡ xs ++ x ∷ ys → InRun o h es x ys
 place o h [] xs ys x e = absurd (nothing xs ys x e)
 place o h (Given bytes n ∷ es) [] ys x e =
     let one : record { origin = o; history = h; bytes = bytes; nonce = n } ≡ x = cc in
@@ -166,7 +166,7 @@ more_than_none o ls xs ys x i e none more =
 -- ---- replays
 
 -- an execution in one of the lives: the nonces before it in its life, and its text, are among those of the lives
-record PlaceOver (o : Origin) (ls : List Life) (x : Execution) : Type 0 where
+record InLives (o : Origin) (ls : List Life) (x : Execution) : Type 0 where
   origin : Origin
   before : List Event
   bytes : List ℕ
@@ -186,7 +186,7 @@ text_at : (o : Origin) (es fs gs : List Event) (bytes n : List ℕ) (t : Keyed) 
     → text_checked (presented (present o (after o [] fs)) bytes) ≡ t ∷ [] → IsAmong t (texts_checked o [] es)
 text_at o es fs gs bytes n t e is = subst (λ (l : List Event). IsAmong t (texts_checked o [] l)) (sym e) (among_here o [] fs gs bytes n t is)
 
-place_over : (o : Origin) (ls : List Life) (xs ys : List Execution) (x : Execution) → executions o ls ≡ xs ++ x ∷ ys → PlaceOver o ls x
+place_over : (o : Origin) (ls : List Life) (xs ys : List Execution) (x : Execution) → executions o ls ≡ xs ++ x ∷ ys → InLives o ls x
 place_over o [] xs ys x e = absurd (nothing xs ys x e)
 place_over o (l ∷ ls) xs ys x e =
     let es = executed l in

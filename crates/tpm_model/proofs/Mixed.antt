@@ -247,13 +247,14 @@ one_caller a b p q newer other u v f g mac text left right same =
 -- ---- the whole
 
 -- a Waiting that opened the reply of an accepted step
-record Step (o : Origin) (h : History) (bytes n : List ℕ) (s : Seal) (d : Done) : Type 0 where
+record OpenedStep (o : Origin) (h : History) (bytes n : List ℕ) (s : Seal) (d : Done) : Type 0 where
   is : outcome (present o h) bytes n ≡ Ok d
   needs : needs_authorization (code_for s.body) ≡ true
   opening : WasOpened (waiting s) (read_all (response (code_for s.body)) (answer o h bytes n))
 
 -- its session as it was read, from bytes with these sessions
-step_lists : (o : Origin) (h : History) (bytes n : List ℕ) (s : Seal) (d : Done) (t : Step o h bytes n s d) (auths : List AuthReply) → d.reply.auths ≡ auths
+step_lists : (o : Origin) (h : History) (bytes n : List ℕ) (s : Seal) (d : Done) (t : OpenedStep o h bytes n s d) (auths : List AuthReply)
+    → d.reply.auths ≡ auths
     → Lists (session_list (spelling (response (code_for d.command.body)) (done_body d.reply.body auths))) (t.opening.auth ∷ [])
 step_lists o h bytes n s d t auths is =
     let code = code_for s.body in
@@ -265,14 +266,15 @@ step_lists o h bytes n s d t auths is =
 open_some : (w : Waiting) (r : Result Response Refusal) (t : WasOpened w r) → 0 < length t.auth.hmac
 open_some w r t = subst (λ (m : List ℕ). 0 < length m) (sym t.mac) (hmac_some w.caller.hash w.key (awaited_text w t.body t.auth))
 
-never_none : (o : Origin) (h : History) (bytes n : List ℕ) (s : Seal) (d : Done) → Step o h bytes n s d → d.reply.auths ≡ [] → ⊥
+never_none : (o : Origin) (h : History) (bytes n : List ℕ) (s : Seal) (d : Done) → OpenedStep o h bytes n s d → d.reply.auths ≡ [] → ⊥
 never_none o h bytes n s d t none =
     let b = spelling (response (code_for d.command.body)) (done_body d.reply.body []) in
     let nil = none_listed b (t.opening.auth ∷ []) (no_reply_tag (code_for d.command.body) d.reply.body) (step_lists o h bytes n s d t [] none) in
     let z : ⊥ = cc in z
 
 -- The nonce and the HMAC that were read are those of the reply.
-step_read : (o : Origin) (h : History) (bytes n : List ℕ) (s : Seal) (d : Done) (t : Step o h bytes n s d) (done : Passed (present o h) bytes n d) (auth : Auth)
+step_read : (o : Origin) (h : History) (bytes n : List ℕ) (s : Seal) (d : Done) (t : OpenedStep o h bytes n s d) (done : Passed (present o h) bytes n d)
+    (auth : Auth)
     (a : AuthReply)
     → done.x.auths ≡ auth ∷ [] → d.reply.auths ≡ a ∷ [] → length a.nonce ≤ most_nonce → length a.hmac ≤ most_nonce
     → (t.opening.auth.nonce ≡ a.nonce) × (t.opening.auth.hmac ≡ a.hmac)
@@ -287,7 +289,7 @@ step_read o h bytes n s d t done auth a one is few_nonce few_hmac =
     few_hmac
     (subst (λ (b : List ℕ). Lists (session_list b) (t.opening.auth ∷ [])) same (step_lists o h bytes n s d t (a ∷ []) is))
 
-never_word : (o : Origin) (h : History) (bytes n : List ℕ) (s : Seal) (d : Done) (t : Step o h bytes n s d) (done : Passed (present o h) bytes n d)
+never_word : (o : Origin) (h : History) (bytes n : List ℕ) (s : Seal) (d : Done) (t : OpenedStep o h bytes n s d) (done : Passed (present o h) bytes n d)
     (auth : Auth) (a : AuthReply)
     → done.x.auths ≡ auth ∷ [] → d.reply.auths ≡ a ∷ [] → length a.nonce ≤ most_nonce → a.hmac ≡ [] → ⊥
 never_word o h bytes n s d t done auth a one is few none =
@@ -317,7 +319,7 @@ module _ (o : Origin) (seals : List Seal) (xs : List Opening) (es fs : List Even
     pub given : IsAmong s seals
     pub tried : IsAmong (record { seal = s; bytes = answer o before bytes n }) xs
 
-  by_mac : (d : Done) (g : OfRun) (t : Step o before bytes n s d) (done : Passed (present o before) bytes n d) (y : Signed) → done.x.auths ≡ y.auth ∷ []
+  by_mac : (d : Done) (g : OfRun) (t : OpenedStep o before bytes n s d) (done : Passed (present o before) bytes n d) (y : Signed) → done.x.auths ≡ y.auth ∷ []
       → done.x.evidence ≡ ByMac y
       → loaded (sessions_at o before) y.auth.session ≡ Some y.session → length (nonce_next y.session n) ≤ most_nonce → needs_none y ≡ false → Own
   by_mac d g t done y one evidence is few signs =
@@ -365,7 +367,8 @@ module _ (o : Origin) (seals : List Seal) (xs : List Opening) (es fs : List Even
         subst (λ (z : Seal). is_session z.caller.handle ≡ true) (sym its) (ap (λ (b : Auth). is_session b.session) (sym auth) ∙ session),
       )
 
-  by_signed : (d : Done) (g : OfRun) (t : Step o before bytes n s d) (done : Passed (present o before) bytes n d) (y : Signed) → done.x.auths ≡ y.auth ∷ []
+  by_signed : (d : Done) (g : OfRun) (t : OpenedStep o before bytes n s d) (done : Passed (present o before) bytes n d) (y : Signed)
+      → done.x.auths ≡ y.auth ∷ []
       → done.x.evidence ≡ ByMac y
       → loaded (sessions_at o before) y.auth.session ≡ Some y.session → Own
   by_signed d g t done y one evidence is =
@@ -390,7 +393,7 @@ module _ (o : Origin) (seals : List Seal) (xs : List Opening) (es fs : List Even
         | false ↦ λ signs. by_mac d g t done y one evidence is few signs
       ] refl
 
-  own_step : (d : Done) → OfRun → Step o before bytes n s d → Own
+  own_step : (d : Done) → OfRun → OpenedStep o before bytes n s d → Own
   own_step d g t =
       let p = present o before in
       let done = passed p bytes n d t.is in

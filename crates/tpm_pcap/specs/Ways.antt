@@ -61,7 +61,7 @@ bytes_told to_tpm packet w (byte ∷ bytes) =
 
 -- ---- a segment
 
--- Numbers come round: a number is before another where fewer than 2^31 are between them.
+-- Numbers come round: a number is before another that is less than 2^31 ahead of it, or the same.
 abbrev pub is_before : (number next : ℕ) → Bool
 is_before number next = nat_lt ((next + 4294967296 - number) % 4294967296) 2147483648
 

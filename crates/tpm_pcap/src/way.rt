@@ -1,11 +1,11 @@
 //! One way of a connection.
 
-ghost use Rattle.std.specs.Prelude.{◌≡◌, ◌<◌, ◌==◌, ◌++◌, IfOk, OnOk, length, take, drop, not, []};
+ghost use Rattle.std.specs.Prelude.{◌≡◌, ◌<◌, ◌==◌, ◌++◌, IfOk, OnOk, length, take, drop, not};
 ghost use Rattle.tpm_pcap.specs.Entries.{entry_as, entries_as, frame_entry};
 ghost use Rattle.tpm_pcap.specs.Segments.{segment_as};
 ghost use Rattle.tpm_pcap.specs.Ways.{after_byte, after_bytes, after_captured, after_segment, byte_told};
-ghost use Rattle.tpm_pcap.specs.Ways.{bytes_told, captured_told, is_before, measure_told, new_way, number_behind};
-ghost use Rattle.tpm_pcap.specs.Ways.{place_of, resumed, segment_told, way_as, way_behind};
+ghost use Rattle.tpm_pcap.specs.Ways.{bytes_told, captured_told, is_before, new_way, number_behind};
+ghost use Rattle.tpm_pcap.specs.Ways.{place_of, resumed, segment_told, way_as};
 
 use crate::entry::{Entry, Reason};
 use crate::message::{Measure, measured};
@@ -19,14 +19,14 @@ pub(crate) enum Placing {
     InOrder,
     /// Before it.
     Before,
-    /// Behind it.
+    /// Past it: bytes between are missing.
     Ahead,
 }
 
 /// One way of a connection.
 #[derive(Drop)]
 pub(crate) struct Way {
-    // the number of the next byte
+    // the sequence number of the next byte, once one is known
     next: Option<u32>,
     // what has come of a message
     held: Vec<u8>,
@@ -71,7 +71,7 @@ impl Way {
         }
     }
 
-    /// Whether part of a message has come.
+    /// Whether bytes are held of a message that is not whole yet.
     pub(crate) fn is_unfinished(&self) -> bool
         ensures { result ≡ not (length (way_as self.now).held == 0) }
     {

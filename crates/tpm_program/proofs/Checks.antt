@@ -6,7 +6,7 @@ use Rattle.tpm_types.specs.declared.tpms.Selection.{Selection}
 use Rattle.tpm_model.specs.Registers.{Registers}
 use Rattle.tpm_log.specs.declared.fault.LogFault.{LogFault}
 use Rattle.tpm_log.specs.Changes.{AreAfter}
-use Rattle.tpm_log.specs.Replays.{ReadsFrom, ReplaysFrom}
+use Rattle.tpm_log.specs.Replays.{LogSource, ReadsFrom, ReplaysFrom}
 use Rattle.tpm_lines.specs.declared.fault.ToolFault.TheVariants.{Memory, Read, Write, InputTooLong}
 use Rattle.tpm_lines.specs.declared.fault.ToolFault.{ToolFault}
 use Rattle.tpm_lines.specs.declared.status.Status.{Status}
@@ -18,22 +18,26 @@ use Rattle.tpm_check.specs.declared.checked.Compared.{Compared}
 use Rattle.tpm_program.specs.declared.fault.Fault.TheVariants.{File, Tool}
 use Rattle.tpm_program.specs.declared.fault.Fault.{Fault}
 use Rattle.tpm_program.specs.Offered.{Offered, OfFile, OfFileIf}
-use Rattle.tpm_program.specs.Performs.{OfFirst, PrintsCompared, is_coming}
+use Rattle.tpm_program.specs.Performs.{OfFirst, PrintsCompared, is_coming, unfailing}
 use Rattle.tpm_program.specs.Fails.{Beside, Fails, FailsAt, FailsAtIf, FailsBeside, IsNotOpened, IsNotOpenedIf}
 use Rattle.tpm_program.specs.Fails.{IsNotReadOr, IsOfReading, IsOpened, read_last}
 use Rattle.tpm_program.proofs.ByBytes.{log_by_bytes}
 
 -- ---- what is printed
 
+abbrev source : Option (List ℕ) → (failed failed-behind : ℕ) → LogSource
+source coming failed failed-behind = record { coming = coming; failed = failed; failed-behind = failed-behind }
+
 replayed : (coming : Option (List ℕ)) (old new : ℕ) (found : Result Registers LogFault) → old ≡ 0 → new ≡ old
-    → ReplaysFrom AreAfter coming old new found → ReplaysFrom AreAfter coming 0 0 found
+    → ReplaysFrom AreAfter (source coming old new) found → ReplaysFrom AreAfter (unfailing coming) found
 replayed coming old new found f g h =
-    subst (λ (n : ℕ). ReplaysFrom AreAfter coming n n found) f (subst (λ (n : ℕ). ReplaysFrom AreAfter coming old n found) g h)
+    subst (λ (n : ℕ). ReplaysFrom AreAfter (source coming n n) found) f
+    (subst (λ (n : ℕ). ReplaysFrom AreAfter (source coming old n) found) g h)
 
 pub printed : {F : Type 0} (coming : F → Option (List ℕ)) (log log-2 : Option (List ℕ)) (old new : ℕ) (before after : Option F)
     (c : Compared) (status : Status) (text : List ℕ) (found : Result Registers LogFault)
     → old ≡ 0 → new ≡ old
-    → ReplaysFrom AreAfter log old new found → ReadsFrom AreAfter log log-2 found
+    → ReplaysFrom AreAfter (source log old new) found → ReadsFrom AreAfter log log-2 found
     → ChecksLog (record { compared = c; coming = coming; list = before; list-behind = after }) found status text
     → PrintsCompared (record { log = log; list = option_map coming before; compared = c }) status text
 printed coming log log-2 old new before after c status text found f g replays reads checks = (

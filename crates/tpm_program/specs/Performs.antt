@@ -6,7 +6,7 @@ use Rattle.tpm_model.specs.Registers.{Registers}
 use Rattle.tpm_model.specs.Steps.{Origin, new_origin}
 use Rattle.tpm_log.specs.declared.fault.LogFault.{LogFault}
 use Rattle.tpm_log.specs.Changes.{AreAfter}
-use Rattle.tpm_log.specs.Replays.{ReadsFrom, ReplaysFrom}
+use Rattle.tpm_log.specs.Replays.{LogSource, ReadsFrom, ReplaysFrom}
 use Rattle.tpm_lines.specs.declared.status.Status.{Status}
 use Rattle.tpm_show.specs.declared.telling.Telling.{Telling}
 use Rattle.tpm_show.specs.Build.{Builds}
@@ -83,10 +83,14 @@ pub record Opened : Type 0 where
 abbrev pub is_coming : Option (List ℕ) → Option (List ℕ)
 is_coming coming = coming
 
+-- a source of which no read has failed, and none fails
+abbrev pub unfailing : Option (List ℕ) → LogSource
+unfailing coming = record { coming = coming; failed = 0; failed-behind = 0 }
+
 abbrev pub PrintsCompared : Opened → Status → List ℕ → Type 0
 PrintsCompared o status text =
     (found : Result Registers LogFault) × (log : Option (List ℕ)) × (list : Option (Option (List ℕ)))
-    × ReplaysFrom AreAfter o.log 0 0 found
+    × ReplaysFrom AreAfter (unfailing o.log) found
     × ReadsFrom AreAfter o.log log found
     × ChecksLog (record { compared = o.compared; coming = is_coming; list = o.list; list-behind = list }) found
     status text

@@ -1,7 +1,6 @@
 //! Laws on quotes.
 
 ghost use Rattle.std.specs.Prelude.{ℕ, List};
-ghost use Rattle.tpm_wire.specs.Buffers.{buffer};
 ghost use Rattle.tpm_wire.specs.Path.{ExactlyOne};
 ghost use Rattle.tpm_types.specs.Attest.{attest};
 

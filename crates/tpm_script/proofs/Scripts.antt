@@ -19,7 +19,7 @@ use Rattle.tpm_lines.specs.declared.status.Status.{Status}
 use Rattle.tpm_lines.specs.Text.{bytes_line, line}
 use Rattle.tpm_lines.specs.InputLines.{lines_of, most_bytes}
 use Rattle.tpm_lines.proofs.InputLines.{ended_line, lines_of-append}
-use Rattle.tpm_lines.specs.LineSinks.{GoesOn, IsWhole, OnTrue, Reading, ReadsLines, ReadsOneMore, Step, StopsAt, TakesFrom}
+use Rattle.tpm_lines.specs.LineSinks.{GoesOn, IsWhole, OnTrue, Reading, ReadsLines, ReadsOneMore, LineStep, StopsAt, TakesFrom}
 use Rattle.tpm_lines.specs.LineSinks.{TakesKept, kept, some_if}
 
 -- ---- the script of some lines
@@ -121,11 +121,11 @@ line_of-kept line = rw all_count (elim (cases_lt most_digits (length line)) [
 ])
 
 -- The bytes of the line make no difference to what comes of what was read of it.
-runs_to : (l : Line) (step : Step Run) (line : List ℕ) (new : Option Run) → RunsTo l step new → RunsTo l (record step { line = line }) new
+runs_to : (l : Line) (step : LineStep Run) (line : List ℕ) (new : Option Run) → RunsTo l step new → RunsTo l (record step { line = line }) new
 runs_to l step line (Some new) f = f
 runs_to l step line None f = f
 
-pub takes_kept : (step : Step Run) → Runs step → TakesKept digits Runs step
+pub takes_kept : (step : LineStep Run) → Runs step → TakesKept digits Runs step
 takes_kept step f = λ line same.
     runs_to (line_of line) step line step.new (subst (λ (l : Line). RunsTo l step step.new) (ap line_of (sym same) ∙ line_of-kept line) f)
 

@@ -9,7 +9,7 @@ use Rattle.tpm_script.specs.declared.script.Run.{Run}
 use Rattle.tpm_script.specs.Script.{Line, Blank, Power, Command, NotHexadecimal, Script, events_from, line_of}
 use Rattle.tpm_script.specs.Script.{most_digits, refused_line, script_text}
 use Rattle.tpm_script.specs.declared.lines.Line.TheVariants as rust
-use Rattle.tpm_lines.specs.LineSinks.{Limits, Step}
+use Rattle.tpm_lines.specs.LineSinks.{Limits, LineStep}
 
 -- what was read of a line
 abbrev pub read_as : RustLine → Line
@@ -25,8 +25,8 @@ unfoldable pub StandsAt : Origin → History → Device → Type 0
 StandsAt o h d = Stands o h d
 
 -- The device went through the script, with this text.
-abbrev pub Performs : Script → (old new : Device) → (text : List ℕ) → Type 0
-Performs s old new text = (o : Origin) (h : History) → StandsAt o h old → record {
+abbrev pub GoesThrough : Script → (old new : Device) → (text : List ℕ) → Type 0
+GoesThrough s old new text = (o : Origin) (h : History) → StandsAt o h old → record {
   stands : StandsAt o (after o h s.events) new;
   text : text ≡ script_text o h s;
 }
@@ -43,14 +43,14 @@ next_command k (Command bytes) = k + 1
 next_command k _ = k
 
 -- What was read of the line was run, up to the other script, or it is refused.
-abbrev pub RunsTo : Line → Step Run → Option Run → Type 0
+abbrev pub RunsTo : Line → LineStep Run → Option Run → Type 0
 RunsTo l step (Some new) = record {
   accepted : l ≢ NotHexadecimal;
-  performs : Performs (record { events = events_from step.old.command (l ∷ []); refused = None })
+  performs : GoesThrough (record { events = events_from step.old.command (l ∷ []); refused = None })
       step.old.device new.device step.text;
   command : new.command ≡ next_command step.old.command l;
 }
 RunsTo l step None = (l ≡ NotHexadecimal) × (step.text ≡ refused_line step.number)
 
-abbrev pub Runs : Step Run → Type 0
+abbrev pub Runs : LineStep Run → Type 0
 Runs step = RunsTo (line_of step.line) step step.new

@@ -12,7 +12,7 @@ ghost use Rattle.tpm_lines.specs.InputLines.{AddedTo, CountsRead};
 ghost use Rattle.tpm_lines.specs.LineSinks.{OnTrue, some_if};
 ghost use Rattle.tpm_script.specs.Script.{AreAnswered, nonce_of, refused_line, script, script_text, status_for};
 ghost use Rattle.tpm_script.specs.Script.{ReadsNoFurther, ReadsScript, ReadsTooMuch};
-ghost use Rattle.tpm_script.specs.Progress.{Performs, Runs};
+ghost use Rattle.tpm_script.specs.Progress.{GoesThrough, Runs};
 
 use crate::lines::{Line, MOST_DIGITS, nonce, read_line};
 use std::alloc::{AllocError, Global};
@@ -44,7 +44,7 @@ fn push_response(
 ) -> Pushed
     ensures { OnOk result ((added : List ℕ)
         × AddedTo (string_bytes text.old) (string_bytes text.new) added
-        × Performs (record { events = Given bytes.now (nonce_of k) ∷ []; refused = None })
+        × GoesThrough (record { events = Given bytes.now (nonce_of k) ∷ []; refused = None })
         device.old device.new added) }
 {
     let response = device.execute(bytes, &nonce(k));
@@ -57,7 +57,7 @@ fn push_response(
 fn push_power(text: &mut String, device: &mut Device) -> Pushed
     ensures { OnOk result ((added : List ℕ)
         × AddedTo (string_bytes text.old) (string_bytes text.new) added
-        × Performs (record { events = Cycled ∷ []; refused = None }) device.old device.new added) }
+        × GoesThrough (record { events = Cycled ∷ []; refused = None }) device.old device.new added) }
 {
     device.power_cycle();
     text.push_str("power\n")?;

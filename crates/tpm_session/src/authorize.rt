@@ -1,7 +1,7 @@
 //! Whether a command is authorized: the checks of its sessions, in their order (Part 1,
 //! "Authorizations and Acknowledgments"; the order is this profile's).
 
-ghost use Rattle.std.specs.Prelude.{◌≡◌, ℕ, ◌<◌, suc, List, ◌∷◌, [], length, Ok, Err, IfOk, IfErr, IsErr};
+ghost use Rattle.std.specs.Prelude.{◌≡◌, ◌<◌, suc, List, ◌∷◌, [], length, Ok, Err, IfOk, IfErr, IsErr};
 ghost use Rattle.tpm_types.specs.declared.tpms.Auth.{Auth};
 ghost use Rattle.tpm_model.specs.Entities.{auth_value, is_owner_entity};
 ghost use Rattle.tpm_model.specs.Sessions.{loaded};

@@ -4,7 +4,7 @@ use Rattle.std.specs.List.{concat}
 use Rattle.std.specs.Io.KnownBytes.{Consumes}
 use Rattle.tpm_stream.specs.Frames.{IsFrame}
 use Rattle.tpm_lines.specs.declared.status.Status.{Status}
-use Rattle.tpm_lines.specs.LineSinks.{Limits, Step}
+use Rattle.tpm_lines.specs.LineSinks.{LineStep, Limits}
 use Rattle.tpm_lines.specs.Status.{both}
 use Rattle.tpm_show.specs.declared.telling.Telling.{Telling}
 use Rattle.tpm_show.specs.declared.capture.Capture.{Capture}
@@ -47,11 +47,11 @@ abbrev pub capture_line : Limits
 capture_line = record { counts = λ byte. not (is_blank byte); most = most_line; long_ends = false }
 
 -- The line was told, and whatever it is, the next is told, too.
-abbrev pub TellsTo : Line → Step Capture → Option Capture → Type 0
+abbrev pub TellsTo : Line → LineStep Capture → Option Capture → Type 0
 TellsTo l step (Some new) = TellsNext l step.old new (λ text. text ≡ step.text)
 TellsTo l step None = ⊥
 
-abbrev pub TellsStep : Step Capture → Type 0
+abbrev pub TellsStep : LineStep Capture → Type 0
 TellsStep step = TellsTo (line_of step.line) step step.new
 
 -- ---- frames

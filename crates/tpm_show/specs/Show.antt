@@ -1,5 +1,5 @@
 -- What `show` prints (this profile).
-use Rattle.std.specs.Prelude.{◌≡◌, ℕ, Bool, true, false, List, [], ◌++◌, length, map, codes, Option, Some, None}
+use Rattle.std.specs.Prelude.{◌≡◌, ℕ, Bool, true, false, List, [], ◌∷◌, ◌++◌, length, map, codes, Option, Some, None}
 use Rattle.std.specs.Prelude.{option_map}
 use Rattle.std.specs.Fmt.{decimal}
 use Rattle.tpm_wire.specs.declared.refusal.Refusal.{Refusal}
@@ -10,13 +10,14 @@ use Rattle.tpm_commands.specs.declared.command.CommandBody.{CommandBody}
 use Rattle.tpm_commands.specs.declared.response.ReplyBody.{ReplyBody}
 use Rattle.tpm_commands.specs.declared.response.Response.{Response}
 use Rattle.tpm_commands.specs.declared.response.Response.TheVariants as responses
+use Rattle.tpm_commands.specs.Codes.{code_name}
 use Rattle.tpm_buffer.specs.Commands.{command}
 use Rattle.tpm_buffer.specs.CommandAreas.{Cut, HasCut}
 use Rattle.tpm_buffer.specs.ResponseAreas.{handle_of}
 use Rattle.tpm_buffer.specs.Responses.{ReplyCut, reply_cut, response}
 use Rattle.tpm_lines.specs.declared.status.Status.TheVariants.{Done, Refused}
 use Rattle.tpm_lines.specs.declared.status.Status.{Status}
-use Rattle.tpm_lines.specs.Text.{command_line, hexadecimal, parameters_line, refusal_line, not_hexadecimal_line}
+use Rattle.tpm_lines.specs.Text.{hexadecimal, line, parameters_line, refusal_line, not_hexadecimal_line}
 use Rattle.tpm_show.specs.Digits.{buffer_in}
 use Rattle.tpm_show.specs.ReplyText.{handles_of, reply_line, reply_code_line}
 use Rattle.tpm_show.specs.Fields.{command_fields, reply_fields}
@@ -91,6 +92,10 @@ refusal_told true names refusal = refusal_members refusal
 
 -- ---- lines
 
+-- the first line of a command of so many bytes
+unfoldable pub command_line : CommandCode → ℕ → List ℕ
+command_line code size = line (codes "command" ∷ code_name code ∷ codes "size" ∷ decimal size ∷ [])
+
 -- a command of so many bytes, and where these are asked for with names
 unfoldable pub command_lines : (fields : Bool) → ℕ → Cut → CommandBody → List ℕ
 command_lines fields size areas body =
@@ -135,11 +140,11 @@ abbrev pub ShowsDecoded : (fields : Bool) → Option Buffer → Status → List 
 ShowsDecoded fields None status text = (status ≡ Refused) × (text ≡ not_hexadecimal_line)
 ShowsDecoded fields (Some buffer) status text = ShowsBuffer fields buffer status text
 
--- For this text of digits, read as a response to this command where one is named, this is the
--- status and what is printed: by `show`,
+-- For this text of digits, read as a response to this command where one is named, `show` has this status, and prints
+-- this text.
 abbrev pub Shows : Option CommandCode → List ℕ → Status → List ℕ → Type 0
 Shows reply hex status text = ShowsDecoded false (option_map (taken_for reply) (buffer_in hex)) status text
 
--- and by `show --fields`
+-- The same of `show --fields`.
 abbrev pub ShowsFields : Option CommandCode → List ℕ → Status → List ℕ → Type 0
 ShowsFields reply hex status text = ShowsDecoded true (option_map (taken_for reply) (buffer_in hex)) status text

@@ -10,7 +10,7 @@ ghost use Rattle.tpm_show.specs.Capture.{start};
 ghost use Rattle.tpm_show.specs.Packets.{awaited_past, link_line, link_object, link_text, no_capture_text};
 ghost use Rattle.tpm_show.specs.Packets.{packet_line, packet_object, packet_text, reason_text};
 ghost use Rattle.tpm_show.specs.Packets.{TellsEntries, TellsPackets};
-ghost use Rattle.tpm_show.specs.PacketsTold.{TellsMany, TellsOne};
+ghost use Rattle.tpm_show.specs.PacketsTold.{TellsOne};
 
 use crate::capture::Capture;
 use crate::capture_frames::Awaited;

@@ -14,9 +14,10 @@ use crate::field_text::{Field, HasParts, end_structure, push_number};
 use std::alloc::Global;
 use tpm_lines::named::Named;
 use tpm_lines::names;
-use tpm_lines::registers::register;
 use tpm_lines::text::Pushed;
-use tpm_types::{Digest, HashedDigest, NvAttrs, NvPublic, SELECT_BYTES, Selection, SymDef};
+use tpm_types::{
+    Digest, HashedDigest, NvAttrs, NvPublic, SELECT_BYTES, Selection, SymDef, register,
+};
 use tpm_wire::{Counted, Duplicate, Wire};
 
 // ---- TPMA_NV (Part 2, 13.4)

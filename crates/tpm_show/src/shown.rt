@@ -41,12 +41,16 @@ fn answer(
 /// code 0 they are `reply NAME size N`, `handle 1 HHHHHHHH` where it has a handle, `parameters X`, and a line
 /// `session I nonce X attributes XX hmac X` for each session; for any other code `reply code XXX` alone.
 ///
-/// A buffer that spells neither is `refused XXX at N`, the response code and how many bytes precede the fault;
-/// and text that is not hexadecimal, two digits to a byte in either case, is `not hexadecimal`. Spaces, tabs and
-/// carriage returns count for nothing, and `0x` may stand before the digits. No digits are the empty buffer.
+/// Bytes that do not spell what was asked for, a command or with `reply` a response to it, are `refused XXX at N`,
+/// the response code and how many bytes precede the fault. Text that is not hexadecimal, two digits to a byte in
+/// either case, is `not hexadecimal`. Spaces, tabs and carriage returns count for nothing, and `0x` may stand before
+/// the digits. No digits are the empty buffer.
+///
+/// X is bytes in lower-case hexadecimal digits, or `-` for none. HHHHHHHH, XXX and XX are hexadecimal; N, and I from 1,
+/// are decimal.
 ///
 /// Where a request for memory is refused the answer is `Memory`, and where the writer fails it is
-/// `Write`. What was written before is then left open.
+/// `Write`. How much of the text was written by then is not said.
 pub fn show<W: Write>(
     alloc: Global,
     out: &mut W,
@@ -74,7 +78,7 @@ pub fn show<W: Write>(
 /// that is set; under pcrSelect `PCR N` for each register that is selected. N is decimal.
 ///
 /// Where a request for memory is refused the answer is `Memory`, and where the writer fails it is
-/// `Write`. What was written before is then left open.
+/// `Write`. How much of the text was written by then is not said.
 pub fn show_fields<W: Write>(
     alloc: Global,
     out: &mut W,

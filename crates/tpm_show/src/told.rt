@@ -6,9 +6,9 @@ ghost use Rattle.tpm_buffer.specs.Commands.{command};
 ghost use Rattle.tpm_buffer.specs.CommandAreas.{HasCut};
 ghost use Rattle.tpm_buffer.specs.Responses.{reply_cut, response};
 ghost use Rattle.tpm_lines.specs.declared.status.Status.TheVariants.{Refused};
-ghost use Rattle.tpm_lines.specs.Text.{command_line};
 ghost use Rattle.tpm_show.specs.Show.{areas_told, reply_areas_told, named_parameters, parameters_told};
-ghost use Rattle.tpm_show.specs.Show.{command_rest, command_lines, reply_rest, response_rest, response_lines};
+ghost use Rattle.tpm_show.specs.Show.{command_line, command_lines, command_rest, reply_rest, response_lines};
+ghost use Rattle.tpm_show.specs.Show.{response_rest};
 ghost use Rattle.tpm_show.specs.Show.{named_refusal_line, refusal_told, refusal_words};
 ghost use Rattle.tpm_show.specs.Show.{CommandBytes, ReplyBytes, ShowsBuffer};
 
@@ -188,7 +188,7 @@ pub(crate) fn push_command_rest(
     push_parameters_told(alloc, text, how, body)
 }
 
-#[tactic(auto, unfolding(tpm_lines::specs::Text::command_line))]
+#[tactic(auto, unfolding(crate::specs::Show::command_line))]
 fn push_command_name(text: &mut String, code: CommandCode, size: usize) -> Pushed
     ensures { OnOk result
         (string_bytes text.new ≡ string_bytes text.old ++ command_line code size) }

@@ -5,7 +5,7 @@ use Rattle.tpm_types.specs.declared.alg.Alg.{Alg}
 use Rattle.tpm_types.specs.declared.tpms.NvPublic.{NvPublic}
 use Rattle.tpm_model.specs.Authorization.{is_empty}
 use Rattle.tpm_model.specs.Counters.{Counter, NvMemory}
-use Rattle.tpm_text_values.specs.Selections.{hash_word}
+use Rattle.tpm_types.specs.Alg.{alg_name}
 use Rattle.tpm_lines.specs.Text.{bytes_text, hexadecimal, line, lines_from}
 
 unfoldable pub greatest_line : ℕ → List ℕ
@@ -24,7 +24,7 @@ unfoldable pub index_text : ℕ → ℕ → List ℕ
 index_text i index = codes "counter " ++ (decimal i ++ (codes " " ++ hexadecimal 8 index))
 
 unfoldable pub hash_text : Alg → List ℕ
-hash_text hash = codes " hash " ++ hash_word hash
+hash_text hash = codes " hash " ++ alg_name hash
 
 unfoldable pub attributes_text : ℕ → List ℕ
 attributes_text attributes = codes " attributes " ++ hexadecimal 8 attributes

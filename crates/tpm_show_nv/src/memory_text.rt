@@ -1,7 +1,6 @@
 //! NV memory as lines.
 
 ghost use Rattle.std.specs.Prelude.{◌≡◌, ◌++◌, IfOk, OnOk, string_bytes};
-ghost use Rattle.tpm_text_values.specs.Selections.{hash_word};
 ghost use Rattle.tpm_lines.specs.Text.{lines_from};
 ghost use Rattle.tpm_show_nv.specs.MemoryText.{attributes_text, counter_line, greatest_line, hash_text, index_text};
 ghost use Rattle.tpm_show_nv.specs.MemoryText.{memory_text, policy_text, public_text, rest_line, value_text, yes_or_no};
@@ -11,16 +10,6 @@ use tpm_lines::hexadecimal::shown_bytes;
 use tpm_lines::text::Pushed;
 use tpm_store::{Counter, Counters};
 use tpm_types::{Alg, NvPublic};
-
-fn hash_name(hash: Alg) -> &'static str
-    ensures { result.now ≡ hash_word hash }
-{
-    match hash {
-        Alg::Sha1 => "sha1",
-        Alg::Sha256 => "sha256",
-        Alg::Sha384 => "sha384",
-    }
-}
 
 fn yes_no(whether: bool) -> &'static str
     ensures { result.now ≡ yes_or_no whether }
@@ -56,7 +45,7 @@ fn push_index(text: &mut String, i: usize, index: u32) -> Pushed
 fn push_hash(text: &mut String, hash: Alg) -> Pushed
     ensures { OnOk result (string_bytes text.new ≡ string_bytes text.old ++ hash_text hash) }
 {
-    let hash = hash_name(hash);
+    let hash = hash.name();
     write!(text, " hash {hash}")
 }
 

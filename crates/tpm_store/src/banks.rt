@@ -1,12 +1,12 @@
 //! The banks of registers in one array, which is written in place.
 
-ghost use Rattle.std.specs.Prelude.{◌≡◌, ℕ, ◌+◌, ◌<◌, ◌≤◌, ◌++◌, length};
+ghost use Rattle.std.specs.Prelude.{◌≡◌, ◌+◌, ◌<◌, ◌≤◌, ◌++◌, length};
 ghost use Rattle.tpm_types.specs.declared.alg.Alg.{Alg};
 ghost use Rattle.tpm_types.specs.Alg.{digest_len};
 ghost use Rattle.tpm_types.specs.Limits.{digest_bytes};
 ghost use Rattle.tpm_hmac.specs.Hashes.{digest as digest_of};
 ghost use Rattle.tpm_model.specs.Registers.Change.{Extend};
-ghost use Rattle.tpm_model.specs.Registers.{start_value, Change};
+ghost use Rattle.tpm_model.specs.Registers.{start_value};
 ghost use Rattle.tpm_store.specs.Banks.{registers, all_bytes, place_of, value_at, with_value, with_values};
 ghost use Rattle.tpm_store.specs.Banks.{filled_but_last, Holds, changed};
 
@@ -15,7 +15,8 @@ use tpm_types::{Alg, DIGEST_BYTES, DigestValues, REGISTERS};
 /// How many bytes the registers of all banks have.
 pub(crate) const BANKS_BYTES: usize = 2400;
 
-// Where a register of a bank begins: the banks lie one behind the other, in each the registers.
+// How many bytes precede the value of a register: the banks lie one behind the other, in each the registers. A bank of
+// SHA-1 has 480 bytes, and one of SHA-256 has 768.
 fn place(alg: Alg, register: u32) -> usize
     requires { register < registers }
     ensures value { result ≡ place_of alg register }

@@ -8,7 +8,6 @@ ghost use Rattle.tpm_types.specs.Tpms.{nv_public_area};
 ghost use Rattle.tpm_types.specs.declared.tpms.NvPublic.{NvPublic as Public};
 ghost use Rattle.tpm_commands.specs.declared.command.CommandBody.TheVariants as bodies;
 ghost use Rattle.tpm_hmac.specs.Hashes.{digest as digest_of};
-ghost use Rattle.tpm_hmac.specs.Sessions.{trim as trim_of};
 ghost use Rattle.tpm_model.specs.Counters.{has_index, counter_in, next_value, written, nv_by};
 ghost use Rattle.tpm_model.specs.Entities.{nv_name};
 ghost use Rattle.tpm_model.specs.Actions.{is_definable, check_define, may as may_by, increment as increment_of};

@@ -1,6 +1,6 @@
 //! Platform configuration registers, PCR (Part 1, "Platform Configuration Registers (PCR)").
 
-ghost use Rattle.std.specs.Prelude.{◌≡◌, ℕ, ◌+◌, ◌*◌, ◌≤◌, ◌<◌, map, List, [], ◌∷◌, ◌++◌, length, Ok, OnOk, OnErr};
+ghost use Rattle.std.specs.Prelude.{◌≡◌, ◌+◌, ◌*◌, ◌≤◌, ◌<◌, map, List, [], ◌∷◌, ◌++◌, length, Ok, OnOk, OnErr};
 ghost use Rattle.tpm_types.specs.Limits.{banks};
 ghost use Rattle.tpm_types.specs.Tpms.{is_selected as selected};
 ghost use Rattle.tpm_types.specs.declared.handle_sets.PcrOrNull.TheVariants.{Pcr};

@@ -3,18 +3,11 @@ use Rattle.std.specs.Prelude.{◌≡◌, ◌<◌, ◌==◌, ◌&&◌, ◌||◌, 
 use Rattle.std.specs.List.{AllByRecursion, list_all, list_any, slice_split, before_first, after_first}
 use Rattle.std.specs.Str.Parse.{digits_value}
 use Rattle.std.specs.Str.{bytes_eq, all_ascii_digits}
-use Rattle.tpm_types.specs.declared.alg.Alg.TheVariants.{Sha1, Sha256, Sha384}
 use Rattle.tpm_types.specs.declared.alg.Alg.{Alg}
 use Rattle.tpm_types.specs.declared.tpms.Selection.{Selection}
-use Rattle.tpm_types.specs.Alg.{all_algs}
+use Rattle.tpm_types.specs.Alg.{alg_name, all_algs}
 use Rattle.tpm_types.specs.Handles.{is_pcr}
 use Rattle.tpm_types.specs.Tpms.{is_selected}
-
--- the name of a hash, and of its bank
-abbrev pub hash_word : Alg → List ℕ
-hash_word Sha1 = codes "sha1"
-hash_word Sha256 = codes "sha256"
-hash_word Sha384 = codes "sha384"
 
 -- decimal digits, one or more
 abbrev pub is_numeral : List ℕ → Bool
@@ -43,11 +36,11 @@ registers_in part = after_first (λ b. b == 58) part
 
 -- the name of a bank, a colon, and registers of the bank
 abbrev pub is_part : List ℕ → Bool
-is_part part = list_any (λ bank. bytes_eq (name_in part) (hash_word bank)) all_algs && are_registers (registers_in part)
+is_part part = list_any (λ bank. bytes_eq (name_in part) (alg_name bank)) all_algs && are_registers (registers_in part)
 
 -- A part names this register of the bank.
 abbrev pub part_names : Alg → ℕ → List ℕ → Bool
-part_names bank register part = bytes_eq (name_in part) (hash_word bank) && name_register register (registers_in part)
+part_names bank register part = bytes_eq (name_in part) (alg_name bank) && name_register register (registers_in part)
 
 -- One of the parts does.
 abbrev pub names : List ℕ → Alg → ℕ → Bool

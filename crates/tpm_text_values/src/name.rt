@@ -1,6 +1,6 @@
 //! Names.
 
-ghost use Rattle.std.specs.Prelude.{◌≡◌, codes};
+ghost use Rattle.std.specs.Prelude.{◌≡◌};
 ghost use Rattle.tpm_text_values.specs.Names.{command_of_name, same_word, word_in, is_kind as is_kind_of};
 
 use tpm_commands::CommandCode;

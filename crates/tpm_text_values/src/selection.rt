@@ -1,15 +1,15 @@
 //! Registers of banks by their text.
 
-ghost use Rattle.std.specs.Prelude.{◌≡◌, ◌<◌, ◌+◌, ◌*◌, ◌||◌, ◌&&◌, ◌==◌, ℕ, List, MatchOption};
+ghost use Rattle.std.specs.Prelude.{◌≡◌, ◌<◌, ◌+◌, ◌||◌, ◌&&◌, ◌==◌, ℕ, List, MatchOption};
 ghost use Rattle.std.specs.List.{list_any};
 ghost use Rattle.std.specs.Str.Parse.{digits_value};
 ghost use Rattle.std.specs.Str.{bytes_eq};
 ghost use Rattle.tpm_types.specs.declared.tpms.Selection.{Selection as SelectionValue};
-ghost use Rattle.tpm_types.specs.Alg.{all_algs};
+ghost use Rattle.tpm_types.specs.Alg.{alg_name, all_algs};
 ghost use Rattle.tpm_types.specs.Handles.{is_pcr};
 ghost use Rattle.tpm_types.specs.Tpma.{is_set};
 ghost use Rattle.tpm_types.specs.Tpms.{is_selected};
-ghost use Rattle.tpm_text_values.specs.Selections.{hash_word, is_numeral, are_registers as are_registers_of};
+ghost use Rattle.tpm_text_values.specs.Selections.{is_numeral, are_registers as are_registers_of};
 ghost use Rattle.tpm_text_values.specs.Selections.{name_register as name_register_of, is_part as is_part_of};
 ghost use Rattle.tpm_text_values.specs.Selections.{part_names as part_names_of, names as names_of, AreSelections};
 
@@ -81,7 +81,7 @@ fn part_names(part: &str, bank: Alg, register: u32) -> bool
     ensures { result ≡ part_names_of bank register part.now }
 {
     match part.split_once(':') {
-        Some((name, registers)) => name == word(bank) && name_register(registers, register),
+        Some((name, registers)) => name == bank.name() && name_register(registers, register),
         None => false,
     }
 }
@@ -132,18 +132,7 @@ fn is_register(text: &str) -> bool
 
 // Whether a bank has this name.
 fn is_bank(name: &str) -> bool
-    ensures { result ≡ list_any (λ bank. bytes_eq name.now (hash_word bank)) all_algs }
+    ensures { result ≡ list_any (λ bank. bytes_eq name.now (alg_name bank)) all_algs }
 {
-    name == word(Alg::Sha1) || name == word(Alg::Sha256) || name == word(Alg::Sha384)
-}
-
-// The name of a bank.
-fn word(bank: Alg) -> &'static str
-    ensures { result.now ≡ hash_word bank }
-{
-    match bank {
-        Alg::Sha1 => "sha1",
-        Alg::Sha256 => "sha256",
-        Alg::Sha384 => "sha384",
-    }
+    name == Alg::Sha1.name() || name == Alg::Sha256.name() || name == Alg::Sha384.name()
 }

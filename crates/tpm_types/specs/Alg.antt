@@ -1,5 +1,5 @@
 -- The hash algorithms of this profile: TPMI_ALG_HASH (Part 2, 9.27, with the numbers of 6.3).
-use Rattle.std.specs.Prelude.{◌≡◌, ℕ, Option, Some, None, ◌==◌, if◌then◌else◌, List, [], ◌∷◌, length}
+use Rattle.std.specs.Prelude.{◌≡◌, ℕ, Option, Some, None, ◌==◌, if◌then◌else◌, List, [], ◌∷◌, codes, length}
 use Rattle.tpm_wire.specs.Buffers.{Layout}
 use Rattle.tpm_wire.specs.Layout.Form.{number}
 use Rattle.tpm_wire.specs.ResponseCodes.{rc_hash}
@@ -14,6 +14,12 @@ alg_number Sha384 = 0x000C
 abbrev pub alg_of : ℕ → Option Alg
 alg_of n =
     if n == 0x0004 then Some Sha1 else if n == 0x000B then Some Sha256 else if n == 0x000C then Some Sha384 else None
+
+-- its name, and that of its bank, as tpm2-tools spell it (this profile)
+abbrev pub alg_name : Alg → List ℕ
+alg_name Sha1 = codes "sha1"
+alg_name Sha256 = codes "sha256"
+alg_name Sha384 = codes "sha384"
 
 -- how many bytes its digests have
 abbrev pub digest_len : Alg → ℕ

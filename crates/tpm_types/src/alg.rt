@@ -2,7 +2,7 @@
 
 ghost use Rattle.std.specs.Prelude.{◌≡◌, ◌≤◌};
 ghost use Rattle.tpm_types.specs.Limits.{digest_bytes, block_bytes};
-ghost use Rattle.tpm_types.specs.Alg.{alg_of, alg_number, digest_len, block_len, hash};
+ghost use Rattle.tpm_types.specs.Alg.{alg_of, alg_number, alg_name, digest_len, block_len, hash};
 
 use crate::limits::BANKS;
 use tpm_wire::response_code::HASH;
@@ -55,6 +55,17 @@ impl Alg {
             Alg::Sha1 => 0x0004,
             Alg::Sha256 => 0x000B,
             Alg::Sha384 => 0x000C,
+        }
+    }
+
+    /// Its name, and that of its bank, as tpm2-tools spell it: `sha1`, `sha256` or `sha384` (this profile).
+    pub fn name(self) -> &'static str
+        ensures { result.now ≡ alg_name self }
+    {
+        match self {
+            Alg::Sha1 => "sha1",
+            Alg::Sha256 => "sha256",
+            Alg::Sha384 => "sha384",
         }
     }
 

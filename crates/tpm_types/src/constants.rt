@@ -1,6 +1,6 @@
 //! Numbers that stand for a choice (Part 2, 6 and 11.1).
 
-ghost use Rattle.std.specs.Prelude.{◌≡◌, ℕ, Some};
+ghost use Rattle.std.specs.Prelude.{◌≡◌, Some};
 
 use tpm_wire::response_code::VALUE;
 use tpm_wire::{Buffer, Cursor, Refusal, Wire};
@@ -133,7 +133,7 @@ impl Wire for SessionType {
     }
 }
 
-/// How many bits an AES key has: TPMI_AES_KEY_BITS (Part 2, 11.1.2).
+/// How many bits an AES key has: TPMI_AES_KEY_BITS (Part 2, 11.1.2), without 192 (this profile).
 #[derive(Clone, Copy, Debug, PartialEq, Eq)]
 pub enum KeyBits {
     /// 128 bits.

@@ -48,7 +48,7 @@ impl<'a, const N: usize> Lent<'a, N> {
 
     /// The bytes that begin here: their number, at most `N`, else SIZE, and the bytes.
     #[tactic(auto, unfolding(tpm_wire::specs::Structures::sized_bytes))]
-    pub(crate) fn take(cursor: &mut Cursor<'a>) -> Result<Self, Refusal>
+    pub fn take(cursor: &mut Cursor<'a>) -> Result<Self, Refusal>
         ensures reads { Takes (sized_bytes N) cursor.old cursor.new result }
         ensures spelled { IfOk result
             (λ l. cursor.old.here.rest ≡ spelling (sized_bytes N) l ++ cursor.new.here.rest) }
@@ -66,7 +66,7 @@ impl<'a, const N: usize> Lent<'a, N> {
 
     /// The bytes have a spelling. It does nothing, and is called for what it ensures.
     #[tactic(auto, unfolding(tpm_wire::specs::Structures::sized_bytes))]
-    pub(crate) fn has_spelling(&self)
+    pub fn has_spelling(&self)
         ensures { (left : ℕ) → Fits left (sized_bytes N) self.now }
     {
         prove!(self.bytes.len() <= N);
@@ -74,7 +74,7 @@ impl<'a, const N: usize> Lent<'a, N> {
 
     /// How many bytes the spelling has.
     #[tactic(auto, unfolding(tpm_wire::specs::Structures::sized_bytes))]
-    pub(crate) fn len(&self) -> usize
+    pub fn len(&self) -> usize
         ensures value { result ≡ length (spelling (sized_bytes N) self.now) }
         ensures fits { result ≤ 2 + N }
     {
@@ -83,7 +83,7 @@ impl<'a, const N: usize> Lent<'a, N> {
 
     /// Adds the spelling at the end.
     #[tactic(auto, unfolding(tpm_wire::specs::Structures::sized_bytes))]
-    pub(crate) fn put(&self, out: &mut Buffer)
+    pub fn put(&self, out: &mut Buffer)
         requires { length out.old.items + length (spelling (sized_bytes N) self.now) ≤ 4096 }
         ensures { out.new.items ≡ out.old.items ++ spelling (sized_bytes N) self.now }
     {

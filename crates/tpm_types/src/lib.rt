@@ -22,6 +22,7 @@ pub use handle_sets::{BindHandle, NvAuthHandle, PcrOrNull};
 pub use handles::{
     AuthSession, AuthSessions, Handle, HandleSet, NvIndex, NvIndices, PcrIndex, Policies,
     PolicyHandle, REGISTERS, RH_NULL, RH_OWNER, RS_PW, Registers, SessionHandle, Sessions,
+    register,
 };
 pub use laws::{same_limits, same_lists};
 pub use lent::Lent;

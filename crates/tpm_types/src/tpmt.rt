@@ -1,7 +1,7 @@
 //! Structures by a choice: TPMT (Part 2, 10.3 and 11.1).
 
-ghost use Rattle.std.specs.Prelude.{◌≡◌, ◌≢◌, ◌≤◌, length, replicate, MatchOption};
-ghost use Rattle.tpm_types.specs.Alg.{digest_len, IsDigestValue};
+ghost use Rattle.std.specs.Prelude.{◌≡◌, ◌≢◌, length, replicate, MatchOption};
+ghost use Rattle.tpm_types.specs.Alg.{digest_len};
 ghost use Rattle.tpm_types.specs.Limits.{digest_bytes};
 
 use crate::alg::Alg;

@@ -44,7 +44,7 @@ Fits left (list most stops l) xs =
 Fits left (by_left f) x = (spelling (f left) x ≡ spelling (f 0) x) × Fits left (f left) x
 Fits left (marked n l) x = Fits left l x
 
--- a value that lies in bytes, in whatever area
+-- a value that lies in bytes, in one at least, in whatever area
 pub record IsSpelled {r : Rules} {A : Type 0} (l : Form r A) (x : A) : Type 0 where
   pub fits : (left : ℕ) → Fits left l x
   pub some : 0 < length (spelling l x)

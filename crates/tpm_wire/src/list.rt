@@ -1,11 +1,11 @@
 //! Entries one after the other.
 
-ghost use Rattle.std.specs.Prelude.{◌≡◌, ◌-◌, min, ℕ, ◌+◌, ◌*◌, ◌≤◌, ◌<◌, ◌^◌, ◌++◌, length, true, false, All, IfOk};
+ghost use Rattle.std.specs.Prelude.{◌≡◌, ◌-◌, min, ◌+◌, ◌*◌, ◌≤◌, ◌<◌, ◌^◌, ◌++◌, length, true, false, All, IfOk};
 ghost use Rattle.std.specs.Prelude.{OnOk};
 ghost use Rattle.tpm_wire.specs.Layout.Form.{list};
 ghost use Rattle.tpm_wire.specs.Buffers.{TakesAs, TakesNumbered, numbered};
 ghost use Rattle.tpm_wire.specs.ResponseCodes.{greatest_number};
-ghost use Rattle.tpm_wire.specs.Spelling.{spelling, IsSpelled, joined_all};
+ghost use Rattle.tpm_wire.specs.Spelling.{IsSpelled, joined_all};
 
 use crate::cursor::Cursor;
 use crate::refusal::Refusal;

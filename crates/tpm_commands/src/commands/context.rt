@@ -3,6 +3,7 @@
 ghost use Rattle.std.specs.Prelude.{◌≡◌, ◌≤◌, ◌+◌, ◌++◌, length, ℕ, OnOk};
 ghost use Rattle.tpm_wire.specs.Spelling.{spelling, Fits};
 ghost use Rattle.tpm_wire.specs.Buffers.{TakesNumbered};
+ghost use Rattle.tpm_commands.specs.Limits.{most_params};
 ghost use Rattle.tpm_commands.specs.declared.command_parameters.Params.TheVariants as params;
 ghost use Rattle.tpm_commands.specs.Parameters.{flush_context};
 
@@ -46,7 +47,7 @@ pub(crate) fn read_flush_context(
 #[inline(always)]
 pub(crate) fn flush_context_len(session: SessionHandle) -> usize
     ensures value { result ≡ length (spelling flush_context (params.FlushContext session)) }
-    ensures fits { result ≤ 3500 }
+    ensures fits { result ≤ most_params }
     ensures spelled { (left : ℕ) → Fits left flush_context (params.FlushContext session) }
 {
     session.has_spelling();

@@ -3,6 +3,7 @@
 ghost use Rattle.std.specs.Prelude.{◌≡◌, ◌≤◌, ◌+◌, ◌++◌, length, ℕ, None, OnOk};
 ghost use Rattle.tpm_wire.specs.Spelling.{spelling, Fits};
 ghost use Rattle.tpm_wire.specs.Buffers.{TakesNumbered};
+ghost use Rattle.tpm_commands.specs.Limits.{most_params};
 ghost use Rattle.tpm_commands.specs.declared.code.CommandCode.TheVariants as codes;
 ghost use Rattle.tpm_commands.specs.declared.command_parameters.Params.TheVariants as params;
 ghost use Rattle.tpm_commands.specs.declared.response.ReplyBody.TheVariants as replies;
@@ -62,7 +63,7 @@ pub(crate) fn read_nv_define_space(
 pub(crate) fn nv_define_space_len(auth: &AuthValue, public: &NvPublic) -> usize
     ensures value { result
         ≡ length (spelling nv_define_space (params.NvDefineSpace auth.now public.now)) }
-    ensures fits { result ≤ 3500 }
+    ensures fits { result ≤ most_params }
     ensures spelled { (left : ℕ)
         → Fits left nv_define_space (params.NvDefineSpace auth.now public.now) }
 {
@@ -124,7 +125,7 @@ pub(crate) fn read_nv_read_public_reply(
 pub(crate) fn nv_read_public_reply_len(public: &NvPublic, name: &Name) -> usize
     ensures value { result
         ≡ length (spelling nv_read_public_reply (replies.NvReadPublic public.now name.now)) }
-    ensures fits { result ≤ 3500 }
+    ensures fits { result ≤ most_params }
     ensures spelled { (left : ℕ)
         → Fits left nv_read_public_reply (replies.NvReadPublic public.now name.now) }
 {
@@ -163,8 +164,10 @@ pub(crate) const NV_READ: Row = Row {
     needs_authorization: true,
 };
 
+/// Reads the size and the offset of TPM2_NV_Read in the place of others, or answers their first fault. What stands
+/// there then is not said.
 #[tactic(auto, unfolding(crate::specs::Parameters::nv_read))]
-pub(crate) fn read_nv_read(
+pub fn read_nv_read(
     cursor: &mut Cursor<'_>,
     size: &mut u16,
     offset: &mut u16,
@@ -185,7 +188,7 @@ pub(crate) fn read_nv_read(
 #[inline(always)]
 pub(crate) fn nv_read_len(size: u16, offset: u16) -> usize
     ensures value { result ≡ length (spelling nv_read (params.NvRead size offset)) }
-    ensures fits { result ≤ 3500 }
+    ensures fits { result ≤ most_params }
     ensures spelled { (left : ℕ) → Fits left nv_read (params.NvRead size offset) }
 {
     prove!(size <= u16::MAX);
@@ -222,7 +225,7 @@ pub(crate) fn read_nv_read_reply(
 #[inline(always)]
 pub(crate) fn nv_read_reply_len(bytes: &NvData) -> usize
     ensures value { result ≡ length (spelling nv_read_reply (replies.NvRead bytes.now)) }
-    ensures fits { result ≤ 3500 }
+    ensures fits { result ≤ most_params }
     ensures spelled { (left : ℕ) → Fits left nv_read_reply (replies.NvRead bytes.now) }
 {
     bytes.has_spelling();

@@ -3,6 +3,7 @@
 ghost use Rattle.std.specs.Prelude.{◌≡◌, ◌≤◌, ◌+◌, ◌++◌, length, ℕ, None, IfOk, OnOk};
 ghost use Rattle.tpm_wire.specs.Spelling.{spelling, Fits};
 ghost use Rattle.tpm_wire.specs.Buffers.{TakesNumbered};
+ghost use Rattle.tpm_commands.specs.Limits.{most_params};
 ghost use Rattle.tpm_commands.specs.declared.code.CommandCode.TheVariants as codes;
 ghost use Rattle.tpm_commands.specs.declared.command_parameters.Params.TheVariants as params;
 ghost use Rattle.tpm_commands.specs.declared.response.ReplyBody.TheVariants as replies;
@@ -25,11 +26,10 @@ pub(crate) const PCR_EXTEND: Row = Row {
     needs_authorization: true,
 };
 
+/// Reads the digests of TPM2_PCR_Extend in the place of others, or answers their first fault. What stands there then is
+/// not said.
 #[tactic(auto, unfolding(crate::specs::Parameters::pcr_extend))]
-pub(crate) fn read_pcr_extend(
-    cursor: &mut Cursor<'_>,
-    digests: &mut DigestValues,
-) -> Result<(), Refusal>
+pub fn read_pcr_extend(cursor: &mut Cursor<'_>, digests: &mut DigestValues) -> Result<(), Refusal>
     ensures reads { TakesNumbered (λ _. params.PcrExtend digests.new) pcr_extend
         cursor.old cursor.new result }
     ensures spelled { OnOk result
@@ -44,7 +44,7 @@ pub(crate) fn read_pcr_extend(
 #[inline(always)]
 pub(crate) fn pcr_extend_len(digests: &DigestValues) -> usize
     ensures value { result ≡ length (spelling pcr_extend (params.PcrExtend digests.now)) }
-    ensures fits { result ≤ 3500 }
+    ensures fits { result ≤ most_params }
     ensures spelled { (left : ℕ) → Fits left pcr_extend (params.PcrExtend digests.now) }
 {
     digests.has_spelling();
@@ -92,7 +92,7 @@ pub(crate) fn take_pcr_event<'a>(cursor: &mut Cursor<'a>) -> Result<Event<'a>, R
 #[inline(always)]
 pub(crate) fn pcr_event_len(event: &Event<'_>) -> usize
     ensures value { result ≡ length (spelling pcr_event (params.PcrEvent event.now)) }
-    ensures fits { result ≤ 3500 }
+    ensures fits { result ≤ most_params }
     ensures spelled { (left : ℕ) → Fits left pcr_event (params.PcrEvent event.now) }
 {
     event.has_spelling();
@@ -128,7 +128,7 @@ pub(crate) fn read_pcr_event_reply(
 #[inline(always)]
 pub(crate) fn pcr_event_reply_len(digests: &DigestValues) -> usize
     ensures value { result ≡ length (spelling pcr_event_reply (replies.PcrEvent digests.now)) }
-    ensures fits { result ≤ 3500 }
+    ensures fits { result ≤ most_params }
     ensures spelled { (left : ℕ) → Fits left pcr_event_reply (replies.PcrEvent digests.now) }
 {
     digests.has_spelling();
@@ -174,7 +174,7 @@ pub(crate) fn read_pcr_read(
 #[inline(always)]
 pub(crate) fn pcr_read_len(selections: &Selections) -> usize
     ensures value { result ≡ length (spelling pcr_read (params.PcrRead selections.now)) }
-    ensures fits { result ≤ 3500 }
+    ensures fits { result ≤ most_params }
     ensures spelled { (left : ℕ) → Fits left pcr_read (params.PcrRead selections.now) }
 {
     selections.has_spelling();
@@ -244,7 +244,7 @@ pub(crate) fn pcr_read_reply_len(
     ensures value { result
         ≡ length
         (spelling pcr_read_reply (replies.PcrRead update_counter selections.now digests.now)) }
-    ensures fits { result ≤ 3500 }
+    ensures fits { result ≤ most_params }
     ensures spelled { (left : ℕ)
         → Fits left pcr_read_reply (replies.PcrRead update_counter selections.now digests.now) }
 {

@@ -3,6 +3,7 @@
 ghost use Rattle.std.specs.Prelude.{◌≡◌, ◌≤◌, ◌+◌, ◌++◌, length, ℕ, None, OnOk};
 ghost use Rattle.tpm_wire.specs.Spelling.{spelling, Fits};
 ghost use Rattle.tpm_wire.specs.Buffers.{TakesNumbered};
+ghost use Rattle.tpm_commands.specs.Limits.{most_params};
 ghost use Rattle.tpm_commands.specs.declared.code.CommandCode.TheVariants as codes;
 ghost use Rattle.tpm_commands.specs.declared.command_parameters.Params.TheVariants as params;
 ghost use Rattle.tpm_commands.specs.declared.response.ReplyBody.TheVariants as replies;
@@ -51,7 +52,7 @@ pub(crate) fn read_policy_or(
 #[inline(always)]
 pub(crate) fn policy_or_len(digests: &OrDigests) -> usize
     ensures value { result ≡ length (spelling policy_or (params.PolicyOr digests.now)) }
-    ensures fits { result ≤ 3500 }
+    ensures fits { result ≤ most_params }
     ensures spelled { (left : ℕ) → Fits left policy_or (params.PolicyOr digests.now) }
 {
     digests.has_spelling();
@@ -100,7 +101,7 @@ pub(crate) fn read_policy_pcr(
 pub(crate) fn policy_pcr_len(pcr_digest: &Digest, selections: &Selections) -> usize
     ensures value { result
         ≡ length (spelling policy_pcr (params.PolicyPcr pcr_digest.now selections.now)) }
-    ensures fits { result ≤ 3500 }
+    ensures fits { result ≤ most_params }
     ensures spelled { (left : ℕ)
         → Fits left policy_pcr (params.PolicyPcr pcr_digest.now selections.now) }
 {
@@ -150,7 +151,7 @@ pub(crate) fn read_policy_command_code(
 #[inline(always)]
 pub(crate) fn policy_command_code_len(code: u32) -> usize
     ensures value { result ≡ length (spelling policy_command_code (params.PolicyCommandCode code)) }
-    ensures fits { result ≤ 3500 }
+    ensures fits { result ≤ most_params }
     ensures spelled { (left : ℕ) → Fits left policy_command_code (params.PolicyCommandCode code) }
 {
     prove!(code <= u32::MAX);
@@ -206,7 +207,7 @@ pub(crate) fn read_policy_get_digest_reply(
 pub(crate) fn policy_get_digest_reply_len(digest: &Digest) -> usize
     ensures value { result
         ≡ length (spelling policy_get_digest_reply (replies.PolicyGetDigest digest.now)) }
-    ensures fits { result ≤ 3500 }
+    ensures fits { result ≤ most_params }
     ensures spelled { (left : ℕ)
         → Fits left policy_get_digest_reply (replies.PolicyGetDigest digest.now) }
 {

@@ -3,6 +3,7 @@
 ghost use Rattle.std.specs.Prelude.{◌≡◌, ◌≤◌, ◌+◌, ◌∷◌, ◌++◌, [], length, ℕ, Some, IfOk, OnOk};
 ghost use Rattle.tpm_wire.specs.Spelling.{spelling, Fits};
 ghost use Rattle.tpm_wire.specs.Buffers.{TakesNumbered};
+ghost use Rattle.tpm_commands.specs.Limits.{most_params};
 ghost use Rattle.tpm_commands.specs.declared.code.CommandCode.TheVariants as codes;
 ghost use Rattle.tpm_commands.specs.declared.command_parameters.Params.TheVariants as params;
 ghost use Rattle.tpm_commands.specs.declared.response.ReplyBody.TheVariants as replies;
@@ -63,7 +64,7 @@ pub(crate) fn start_auth_session_len(start: &StartAuth) -> usize
         (spelling start_auth_session
         (params.StartAuthSession start.now.nonce_caller start.now.session_type
         start.now.symmetric start.now.auth_hash)) }
-    ensures fits { result ≤ 3500 }
+    ensures fits { result ≤ most_params }
     ensures spelled { (left : ℕ)
         → Fits left start_auth_session
         (params.StartAuthSession start.now.nonce_caller start.now.session_type
@@ -143,7 +144,7 @@ pub(crate) fn start_auth_session_reply_len(reply: &StartReply) -> usize
         ≡ length
         (spelling (start_auth_session_reply (reply.now.session ∷ []))
         (replies.StartAuthSession reply.now)) }
-    ensures fits { result ≤ 3500 }
+    ensures fits { result ≤ most_params }
     ensures spelled { (left : ℕ)
         → Fits left (start_auth_session_reply (reply.now.session ∷ []))
         (replies.StartAuthSession reply.now) }

@@ -3,6 +3,7 @@
 ghost use Rattle.std.specs.Prelude.{◌≡◌, ◌≤◌, ◌+◌, ◌++◌, length, ℕ, OnOk};
 ghost use Rattle.tpm_wire.specs.Spelling.{spelling, Fits};
 ghost use Rattle.tpm_wire.specs.Buffers.{TakesNumbered};
+ghost use Rattle.tpm_commands.specs.Limits.{most_params};
 ghost use Rattle.tpm_commands.specs.declared.command_parameters.Params.TheVariants as params;
 ghost use Rattle.tpm_commands.specs.Parameters.{startup};
 
@@ -19,11 +20,10 @@ pub(crate) const STARTUP: Row = Row {
     needs_authorization: false,
 };
 
+/// Reads the start-up type of TPM2_Startup in the place of another, or answers its first fault. What stands there then
+/// is not said.
 #[tactic(auto, unfolding(crate::specs::Parameters::startup))]
-pub(crate) fn read_startup(
-    cursor: &mut Cursor<'_>,
-    startup_type: &mut StartupType,
-) -> Result<(), Refusal>
+pub fn read_startup(cursor: &mut Cursor<'_>, startup_type: &mut StartupType) -> Result<(), Refusal>
     ensures reads { TakesNumbered (λ _. params.Startup startup_type.new) startup
         cursor.old cursor.new result }
     ensures spelled { OnOk result
@@ -38,7 +38,7 @@ pub(crate) fn read_startup(
 #[inline(always)]
 pub(crate) fn startup_len(startup_type: StartupType) -> usize
     ensures value { result ≡ length (spelling startup (params.Startup startup_type)) }
-    ensures fits { result ≤ 3500 }
+    ensures fits { result ≤ most_params }
     ensures spelled { (left : ℕ) → Fits left startup (params.Startup startup_type) }
 {
     startup_type.has_spelling();

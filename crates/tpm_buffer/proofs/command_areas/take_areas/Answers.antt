@@ -8,7 +8,7 @@ use Rattle.tpm_types.specs.declared.tpms.Auth.{Auth}
 use Rattle.tpm_commands.specs.declared.command.Header.{Header}
 use Rattle.tpm_commands.specs.Handles.{handles}
 use Rattle.tpm_buffer.specs.Commands.{header, authorization}
-use Rattle.tpm_buffer.specs.ResponseAreas.{Stands}
+use Rattle.tpm_buffer.specs.ResponseAreas.{IsPlaceIn}
 use Rattle.tpm_buffer.specs.CommandAreas.{session_at, sessions_at}
 use Rattle.tpm_buffer.proofs.Places.{stands_new, stands_behind}
 use Rattle.tpm_buffer.proofs.Sessions.{place_is}
@@ -17,7 +17,7 @@ use Rattle.tpm_buffer.proofs.command_areas.take_areas.Goals as goal
 -- the place behind the header and the handles
 behind : (bytes : List ℕ) (p : Place) (x : Header) (hs : List ℕ) (h g : Here)
     → p ≡ record { here = at_start bytes; number = 0 } → read 0 header p.here ≡ Ok (x, h)
-    → read 0 (handles x.code) h ≡ Ok (hs, g) → Stands bytes g
+    → read 0 (handles x.code) h ≡ Ok (hs, g) → IsPlaceIn bytes g
 behind bytes p x hs h g start one two =
     stands_behind bytes 0 (handles x.code) h g hs
     (stands_behind bytes 0 header p.here h x (stands_new bytes p start) one) two
@@ -26,7 +26,7 @@ behind bytes p x hs h g start one two =
 behind_sessions : (bytes : List ℕ) (p : Place) (x : Header) (hs : List ℕ) (auths : List Auth) (h g f : Here)
     → p ≡ record { here = at_start bytes; number = 0 } → read 0 header p.here ≡ Ok (x, h)
     → read 0 (handles x.code) h ≡ Ok (hs, g)
-    → read 0 (authorization x.tag) g ≡ Ok (auths, f) → Stands bytes f
+    → read 0 (authorization x.tag) g ≡ Ok (auths, f) → IsPlaceIn bytes f
 behind_sessions bytes p x hs auths h g f start one two three =
     stands_behind bytes 0 (authorization x.tag) g f auths (behind bytes p x hs h g start one two) three
 

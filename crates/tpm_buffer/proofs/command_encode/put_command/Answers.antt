@@ -13,7 +13,7 @@ returns-clause-fits c =
     subst (λ (auths : List Auth). All (IsSpelled auth_command) auths) c.as_slice.ensures.value
     c.known_list.ensures in
     let short : length (spelling (rest_of (code_for value.body) (tag_of value)) value) ≤ 4000 =
-    subst (λ (t : ℕ). length (spelling (rest_of (code_for value.body) t) value) ≤ 4000) c.tag_for-tag.ensures
+    subst (λ (t : ℕ). length (spelling (rest_of (code_for value.body) t) value) ≤ 4000) c.tag_of-tag.ensures
     (omega (arith, c.rest_len-len.ensures.value, c.rest_len-len.ensures.fits)) in
     let fits : Fits (length (spelling command value)) command value =
     fits_command value (search rules) short

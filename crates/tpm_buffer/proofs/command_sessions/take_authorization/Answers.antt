@@ -1,7 +1,7 @@
 use Rattle.std.proofs.Common.{sym, subst}
 use Rattle.tpm_wire.specs.Buffers.{Place}
 use Rattle.tpm_buffer.specs.Commands.{authorization_size}
-use Rattle.tpm_buffer.specs.ResponseAreas.{Stands}
+use Rattle.tpm_buffer.specs.ResponseAreas.{IsPlaceIn}
 use Rattle.tpm_buffer.specs.CommandAreas.{LiesIn}
 use Rattle.tpm_buffer.proofs.Places.{stands_behind}
 use Rattle.tpm_buffer.proofs.Sessions.{lies_inside}
@@ -10,7 +10,7 @@ use Rattle.tpm_buffer.proofs.command_sessions.take_authorization.Goals as goal
 pub take_sessions-requires : goal.take_sessions-requires
 take_sessions-requires c =
     let bytes = c.args.bytes.now in
-    let before : Stands bytes c.number.new.self.here = subst (λ (p : Place). Stands bytes p.here) (sym c.number.ensures) c.requires in
+    let before : IsPlaceIn bytes c.number.new.self.here = subst (λ (p : Place). IsPlaceIn bytes p.here) (sym c.number.ensures) c.requires in
     let behind =
     stands_behind bytes _ authorization_size c.number.new.self.here c.take_authorization_size.new.cursor.here _
     before c.in_ok-size.ensures.reads.0 in

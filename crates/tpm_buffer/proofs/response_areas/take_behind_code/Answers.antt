@@ -1,7 +1,7 @@
 use Rattle.std.proofs.Common.{◌≡◌, ◌+◌, ◌*◌, length, arith, rules}
 use Rattle.tpm_commands.specs.Replies.{reply_handles, handle_list}
 use Rattle.tpm_buffer.specs.Responses.{raw_without_sessions}
-use Rattle.tpm_buffer.specs.ResponseAreas.{Stands}
+use Rattle.tpm_buffer.specs.ResponseAreas.{IsPlaceIn}
 use Rattle.tpm_buffer.proofs.Places.{stands_behind}
 use Rattle.tpm_buffer.proofs.response_areas.take_behind_code.Goals as goal
 
@@ -20,7 +20,7 @@ take_with_sessions-requires-clause-place c =
 
 pub invariant_of-result-2 : goal.invariant_of-result-2
 invariant_of-result-2 c =
-    let stands : Stands c.args.bytes.now c.take_reply_handle.new.cursor.here =
+    let stands : IsPlaceIn c.args.bytes.now c.take_reply_handle.new.cursor.here =
     stands_behind c.args.bytes.now 0 (reply_handles c.args.code) _ _ _ c.requires.stands
     c.in_ok-handle.ensures.reads in
     let place : c.take_reply_handle.new.cursor.here.at ≡ 10 + 4 * length (handle_list c.in_ok-handle.handle) =
@@ -30,7 +30,7 @@ invariant_of-result-2 c =
 pub returns : goal.returns
 unfolding raw_without_sessions
 returns c =
-    let stands : Stands c.args.bytes.now c.take_reply_handle.new.cursor.here =
+    let stands : IsPlaceIn c.args.bytes.now c.take_reply_handle.new.cursor.here =
     stands_behind c.args.bytes.now 0 (reply_handles c.args.code) _ _ _ c.requires.stands
     c.in_ok-handle.ensures.reads in
     let place : c.take_reply_handle.new.cursor.here.at ≡ 10 + 4 * length (handle_list c.in_ok-handle.handle) =

@@ -4,7 +4,7 @@ use Rattle.tpm_wire.specs.Buffers.{Place}
 use Rattle.tpm_wire.specs.Layout.{raw}
 use Rattle.tpm_wire.proofs.Loop.{at_place}
 use Rattle.tpm_buffer.specs.Responses.{parameter_size, raw_with_sessions}
-use Rattle.tpm_buffer.specs.ResponseAreas.{Stands, session_at, sessions_at}
+use Rattle.tpm_buffer.specs.ResponseAreas.{IsPlaceIn, session_at, sessions_at}
 use Rattle.tpm_buffer.proofs.Places.{any_mark, stands_behind, raw_is}
 use Rattle.tpm_buffer.proofs.ReadSessions.{place_before_sessions, has_params}
 use Rattle.tpm_commands.specs.Replies.{handle_list}
@@ -24,7 +24,7 @@ invariant_of-result c =
     let bytes = c.args.bytes.now in
     let before = c.take_parameter_size.new.cursor in
     let size_is = at_place parameter_size c.number.new.self c.args.cursor.now.here 0 0 _ c.number.ensures refl c.in_ok-params_size.ensures.reads.0 in
-    let stands : Stands bytes before.here =
+    let stands : IsPlaceIn bytes before.here =
     stands_behind bytes 0 parameter_size c.args.cursor.now.here before.here c.in_ok-params_size.field-0
     c.requires.stands size_is in
     let four : length c.args.cursor.now.here.rest ≡ 4 + length before.here.rest =
@@ -52,7 +52,7 @@ returns-clause-reads c =
     let before = c.take_parameter_size.new.cursor in
     let size = c.in_ok-params_size.field-0 in
     let size_is = at_place parameter_size c.number.new.self c.args.cursor.now.here 0 0 _ c.number.ensures refl c.in_ok-params_size.ensures.reads.0 in
-    let stands : Stands bytes before.here = stands_behind bytes 0 parameter_size c.args.cursor.now.here before.here size c.requires.stands size_is in
+    let stands : IsPlaceIn bytes before.here = stands_behind bytes 0 parameter_size c.args.cursor.now.here before.here size c.requires.stands size_is in
     let raw_bytes = any_mark before.number 0 (raw size) before.here (c.in_ok-bytes.field-0.now, c.bytes.new.self.here) c.in_ok-bytes.ensures.0 in
     let params : c.in_ok-bytes.field-0.now ≡ take size (drop c.at-params_at.result bytes) =
     raw_is before.number size before.here c.bytes.new.self.here c.in_ok-bytes.field-0.now c.in_ok-bytes.ensures.0

@@ -8,7 +8,7 @@ use Rattle.tpm_wire.specs.ResponseCodes.{of_session}
 use Rattle.tpm_wire.specs.Buffers.{Place}
 use Rattle.tpm_wire.proofs.Loop.{at_place, goes_on, ends, is_done, joined_push}
 use Rattle.tpm_buffer.specs.Responses.{further_sessions}
-use Rattle.tpm_buffer.specs.ResponseAreas.{Stands, IsSession, session_at, sessions_at}
+use Rattle.tpm_buffer.specs.ResponseAreas.{IsPlaceIn, IsSession, session_at, sessions_at}
 use Rattle.tpm_buffer.proofs.Places.{one_more, stands_behind}
 use Rattle.tpm_buffer.proofs.ReadSessions.{is_there, begins_there}
 use Rattle.tpm_buffer.proofs.response_sessions.take_further_sessions.Goals.{then-loop-positions-test+else-len-lt2}
@@ -29,7 +29,7 @@ loop-positions-preserved c =
     at_place auth_response c.number.new.self here _ (of_session (2 + length (sessions_at bytes positions))) _
     c.number.ensures mark c.in_ok-take_session.ensures.reads.0 in
     let more : eqb (length here.rest) 0 ≡ false = ne_eqb (length here.rest) 0 (λ e. omega (arith, e)) in
-    let stands : Stands bytes here = c.loop-positions.invariant.stands in
+    let stands : IsPlaceIn bytes here = c.loop-positions.invariant.stands in
     let there = is_there bytes _ here after a stands is in
     let begins = begins_there bytes _ here after a stands is in
     let at : c.at.result ≡ here.at = c.at.ensures ∙ ap (λ (p : Place). p.here.at) c.number.ensures in

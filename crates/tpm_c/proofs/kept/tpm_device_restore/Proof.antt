@@ -23,7 +23,7 @@ use Rattle.tpm_c.proofs.kept.is_refused.Met.{met as judges}
 use Rattle.tpm_c.proofs.kept.read.Met.{met as reads}
 use Rattle.tpm_c.proofs.device.tpm_device_init.Met.{met as makes_one}
 use Rattle.tpm_c.specs.Devices.{fits, room_if, new_if, made_at, whether_fits}
-use Rattle.tpm_c.specs.KeptDevices.{IsAgain, IsJudged, IsSpelled, is_made, again_if}
+use Rattle.tpm_c.specs.KeptDevices.{IsAgain, IsJudged, SpellsNvMemory, is_made, again_if}
 use Rattle.tpm_c.specs.contracts.part.TpmRefusal.{the_row as told}
 use Rattle.tpm_model.specs.Steps.{Origin, new_origin}
 use Rattle.tpm_device.specs.declared.device.Device.{Device}
@@ -116,7 +116,7 @@ tpm_device_restore_spec 𝓤 𝓛 𝓜 𝓡 wired =
           (triple_of 𝓛 read.signature (read.spec 𝓛 𝓜.mem 𝓡.returns)) (reads 𝓤 𝓛 𝓜 𝓡 (code.calls-tpm_c::kept::read 𝓡.env wired))
           (λ κ d. (((κ, (κs.1.0, tt)), (full_share, (qs.1.0, tt)), tt, (d, (a.1.1.0, tt)), (mut_vals d, (shr_slice_vals a.1.1.0, tt))), tt))
           (λ κ δ. mono_r 𝓤 (Given 𝓛 the_row (toks 𝓛 1 (κs.1.0, tt) (qs.1.0, tt)) κ (loan x.0 b o δ) (fsep Kept ftrue))
-          (fact_i 𝓤 (IsSpelled kept) (emp 𝓤) sound.2)) (λ κ δ u. id⊢ 𝓤 _)
+          (fact_i 𝓤 (SpellsNvMemory kept) (emp 𝓤) sound.2)) (λ κ δ u. id⊢ 𝓤 _)
           (λ κ δ. and_then ! (get ! refl) (and_then ! (get ! refl) (no_more !)))
           (λ u r' new us' e none.
           lands_as ! (ap only none) refl (tt, tt) $

@@ -5,5 +5,5 @@ use Rattle.tpm_check.proofs.check_json.push_bank_member.Goals as goal
 pub returns : goal.returns
 unfolding bank_member
 returns c =
-    let begins = rw c.bank_name.ensures at c.in_ok-push_bank_begin.ensures in
+    let begins = rw c.name.ensures at c.in_ok-push_bank_begin.ensures in
     third_pushed c.push_str.result _ _ _ _ _ _ _ _ begins c.in_ok-push_values.ensures c.push_str.ensures.bytes

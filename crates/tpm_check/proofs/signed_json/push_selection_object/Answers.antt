@@ -5,5 +5,5 @@ use Rattle.tpm_check.proofs.signed_json.push_selection_object.Goals as goal
 pub returns : goal.returns
 unfolding selection_object
 returns c =
-    let begins = rw c.bank_name.ensures at c.in_ok-push_selection_begin.ensures in
+    let begins = rw c.name.ensures at c.in_ok-push_selection_begin.ensures in
     third_pushed c.push_str.result _ _ _ _ _ _ _ _ begins c.in_ok-push_selected.ensures c.push_str.ensures.bytes

@@ -2,7 +2,7 @@ use Rattle.std.proofs.Common.{List, ℕ, ap, ◌∙◌}
 use Rattle.tpm_commands.specs.declared.code.CommandCode.{CommandCode}
 use Rattle.tpm_buffer.specs.Commands.{code_for}
 use Rattle.tpm_model.specs.Callers.{Seal, Waiting}
-use Rattle.tpm_caller.specs.Plain.{Parts}
+use Rattle.tpm_caller.specs.Plain.{PlainParts}
 use Rattle.tpm_caller.proofs.Splicing.{sealed_there}
 use Rattle.tpm_caller.proofs.caller.Caller.seal_plain.Goals as goal
 
@@ -10,7 +10,7 @@ pub returns-clause-sealed : goal.returns-clause-sealed
 returns-clause-sealed c body is =
     let s : Seal =
     record { caller = c.args.self; body = body; names = c.args.names.now; auth = c.args.auth.now; nonce = c.args.nonce; keep = c.args.keep } in
-    let seen : Parts = record { code = c.plain.inside.code; handles = c.plain.inside.handles.now; params = c.plain.inside.params.now } in
+    let seen : PlainParts = record { code = c.plain.inside.code; handles = c.plain.inside.handles.now; params = c.plain.inside.params.now } in
     let waits : CommandCode → List ℕ → Waiting =
     λ code key. record { caller = s.caller; code = code; key = key; nonce = s.nonce; keep = s.keep } in
     let mac =
@@ -22,7 +22,7 @@ returns-clause-sealed c body is =
       c.cp_hash-p_hash.ensures.value,
       c.hash.ensures,
     ) at c.mac-mac.ensures.value in (
-      ap (λ (k : CommandCode). waits k c.set_key.new.key) (ap (λ (q : Parts). q.code) (c.plain.view_is ∙ is))
+      ap (λ (k : CommandCode). waits k c.set_key.new.key) (ap (λ (q : PlainParts). q.code) (c.plain.view_is ∙ is))
           ∙ ap (waits (code_for body)) c.set_key.ensures,
       sealed_there s seen c.args.plain.now c.set_key.new.key c.mac-mac.result c.as_slice-4.result.now
           c.as_slice-5.result.now c.args.out.now c.splice-len.new.out c.attrs_for-attrs.result c.splice-len.result

@@ -2,7 +2,7 @@ use Rattle.std.proofs.Common.{◌∙◌, ◌+◌, ℕ, [], ◌++◌, length, ref
 use Rattle.std.specs.Int.{to_be_bytes, w8, w16, w32}
 use Rattle.tpm_types.specs.declared.tpms.Auth.{Auth}
 use Rattle.tpm_model.specs.InStep.{CallerSession}
-use Rattle.tpm_caller.specs.Plain.{Parts}
+use Rattle.tpm_caller.specs.Plain.{PlainParts}
 use Rattle.tpm_caller.proofs.Splicing.{written}
 use Rattle.tpm_caller.proofs.caller.Caller.splice.Goals as goal
 
@@ -10,7 +10,7 @@ pub returns-clause-bytes : goal.returns-clause-bytes
 returns-clause-bytes c =
     let old = c.args.out.now in
     let auth : Auth = record { session = c.args.self.now.handle; nonce = c.args.nonce.now; attrs = c.args.attrs; hmac = c.args.mac.now } in
-    let seen : Parts = record { code = c.plain.inside.code; handles = c.plain.inside.handles.now; params = c.plain.inside.params.now } in
+    let seen : PlainParts = record { code = c.plain.inside.code; handles = c.plain.inside.handles.now; params = c.plain.inside.params.now } in
     let size : ℕ = 9 + length auth.nonce + length auth.hmac in
     let f = [] ++ to_be_bytes w16 0x8002 in
     let g = f ++ to_be_bytes w32 (14 + length seen.handles + size + length seen.params) in

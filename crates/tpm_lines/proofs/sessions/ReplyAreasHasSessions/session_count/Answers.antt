@@ -1,7 +1,0 @@
-use Rattle.std.proofs.Common.{sym, ◌∙◌}
-use Rattle.std.proofs.lemmas.List.{length-map}
-use Rattle.tpm_lines.specs.Text.{of_reply}
-use Rattle.tpm_lines.proofs.sessions.ReplyAreasHasSessions.session_count.Goals as goal
-
-pub returns : goal.returns
-returns c = c.auth_count.ensures ∙ sym (length-map c.args.self.now.auths of_reply)
