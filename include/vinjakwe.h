@@ -395,7 +395,8 @@ uint32_t tpm_log_replay_end(struct tpm_log_replay *replay, uint8_t *registers, u
 /* Replays a log, and compares the digest of a quote's information (TPMS_QUOTE_INFO; Part 2, 10.12.4) with that of the values of
  * its registers under this hash (TPM_ALG_SHA1, TPM_ALG_SHA256 or TPM_ALG_SHA384; Part 1, "Selecting Multiple PCR"). The first of
  * these is answered: TPM_QUOTE_NO_BANK; the log's first fault, with its place as above; TPM_QUOTE_REFUSED, with the position of
- * the first fault in `at`; TPM_QUOTE_MATCHES or TPM_QUOTE_DIFFERS. The quote's signature is not looked at. */
+ * the first fault in `at`; TPM_QUOTE_MATCHES or TPM_QUOTE_DIFFERS. Neither a signature nor a nonce is looked at, and a quote of no register matches every log:
+ * tpm_log_check_attest looks at both the nonce and the selection. */
 uint32_t tpm_log_check_quote(const uint8_t *log, size_t len, const uint8_t *quote, size_t quote_len, uint16_t hash, uint32_t *at);
 
 /* A quote as it was signed, TPMS_ATTEST of type TPM_ST_ATTEST_QUOTE (Part 2, 10.12), by its parts in the bytes that were handed in:
