@@ -28,7 +28,8 @@ pub(crate) fn explain_task<'a>(alloc: Global, words: &ArgMatches<'a>) -> Asked<'
 
 // A code, or else the kind of a fault.
 fn explained<'a>(words: &ArgMatches<'a>) -> Option<Task<'a>>
-    ensures { MatchOption result (AsksNothingWith (codes "explain") (first_value (found_of words.now)))
+    ensures { MatchOption result
+        (AsksNothingWith (codes "explain") (first_value (found_of words.now)))
         (λ t. AsksWith (codes "explain") (first_value (found_of words.now)) t) }
 {
     let text = words.get_str("CODE")?;

@@ -13,7 +13,8 @@ fn joined_len(handles: &[u8], sessions: &[u8], parameters: &[u8]) -> Option<usiz
         (4096
         < 10 + length handles.now + length (authorization_of sessions.now)
         + length parameters.now)
-        (λ n. n ≡ 10 + length handles.now + length (authorization_of sessions.now) + length parameters.now) }
+        (λ n. n ≡ 10 + length handles.now + length (authorization_of sessions.now)
+        + length parameters.now) }
 {
     let authorization = if sessions.is_empty() {
         0
@@ -48,7 +49,8 @@ pub fn join_command(
 ) -> Option<Buffer>
     ensures { MatchOption result
         (4096 < length (joined code handles.now sessions.now parameters.now))
-        (λ b. (length b.items ≤ 4096) × (b.items ≡ joined code handles.now sessions.now parameters.now)) }
+        (λ b. (length b.items ≤ 4096)
+        × (b.items ≡ joined code handles.now sessions.now parameters.now)) }
 {
     let size = joined_len(handles, sessions, parameters)?;
     if size > 4096 {

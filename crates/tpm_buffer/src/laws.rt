@@ -19,7 +19,7 @@ pub fn command_or_fault()
     ensures { (bytes : List ℕ) → ExactlyOne command bytes }
 {}
 
-/// One reading: no command's spelling is the begin of another's.
+/// One reading: no command's spelling is the beginning of another's.
 pub fn no_prefix()
     ensures { (bytes more : List ℕ) (c d : Command) → Spells command c bytes
         → Spells command d (bytes ++ more) → more ≡ [] }
@@ -51,7 +51,7 @@ pub fn response_or_fault()
     ensures { (code : CommandCode) (bytes : List ℕ) → ExactlyOne (response code) bytes }
 {}
 
-/// One reading: no response's spelling is the begin of that of another response to a command with the same code.
+/// One reading: no response's spelling is the beginning of that of another response to a command with the same code.
 pub fn no_response_prefix()
     ensures { (code : CommandCode) (bytes more : List ℕ) (r q : Response)
         → Spells (response code) r bytes → Spells (response code) q (bytes ++ more) → more ≡ [] }

@@ -5,8 +5,10 @@
 use mathlib.Core.Path.{subst, ap, ◌∙◌}
 use mir.Syntax.{Ty, ty_unit, ty_ptr, Callee, Place, place, deref, Opd as Operand, copy, opd_unit, rv_opd}
 use mir.Syntax.{Body as Code, seq, call, assign, return, Fn, local, value_local}
-use prog.{Wp.{Env, Closed}, Model.{Model}}
-use base.{Logic.{comm∗, mono_r, ex_i}, Fml.{fsep, fbor, fex, fat}}
+use prog.Wp.{Env, Closed}
+use prog.Model.{Model}
+use base.Logic.{comm∗, mono_r, ex_i}
+use base.Fml.{fsep, fbor, fex, fat}
 use borrow.Table.OneValue.{One, part_in}
 use denote.Memory.{lone}
 use mir.Val.{of_list}
@@ -26,8 +28,11 @@ use denote.Triple.Clauses.{Ended, Clauses, Lasts, at_exit, closing}
 use denote.Triple.Entry.{Res}
 use denote.Triple.Spec.{Spec, Meets}
 use denote.Triple.Walked.{Stay, fits_of, has_of, AllGo, says}
-use types.{Kit.{Post, Seq, Sq, Item, mean, lands, runs, prop, group, use2}, Run.{Opds}}
-use contract.{Lifetimes.{Shares, AllOutlive}, Monad.{Fun}, Running.{Running, MachineTables}}
+use types.Kit.{Post, Seq, Sq, Item, mean, lands, runs, prop, group, use2}
+use types.Run.{Opds}
+use contract.Lifetimes.{Shares, AllOutlive}
+use contract.Monad.{Fun}
+use contract.Running.{Running, MachineTables}
 use Rattle.std.proofs.raw_atomic.Walks.{leaves}
 use Rattle.tpm_c.proofs.Steps.{◌≡◌, ℕ, List, [], ◌∷◌, refl, Ura, full_share, named, Val, vptr, vunit, SProp, ent, sep}
 use Rattle.tpm_c.proofs.Steps.{via, snd∗, never, never_e, id⊢, emp, emp∗, Lft, GName, Fml, flft, flent, ftrue, fres}

@@ -1,9 +1,11 @@
 -- Calls of an export that makes a device and then lends it: each is given a part of what is owned, and gives the tokens back.
 use mir.Syntax.{Callee, Place, Opd as Operand, Body as Code, seq, call}
 use prog.Wp.{Env}
-use base.{Logic.{ent, sep, emp}, Fml.{fsep, fbor}}
+use base.Logic.{ent, sep, emp}
+use base.Fml.{fsep, fbor}
 use denote.RattleType.{RattleType}
-use types.{Kit.{Post, Seq, Item, lands, runs, use2}, Run.{Opds}}
+use types.Kit.{Post, Seq, Item, lands, runs, use2}
+use types.Run.{Opds}
 use Rattle.tpm_c.proofs.Steps.{ℕ, List, [], ◌∷◌, Ura, full_share, named, Val, vptr, SProp}
 use Rattle.tpm_c.proofs.Steps.{Lft, GName, Fml, flft, flent, fres, Calls, Loops, Logic, sem, Body, fact}
 use Rattle.tpm_c.proofs.Steps.{‵, raw, ◌⊛◌, some, later, ◌$◌, move, drop, use1, use3, split, join, pick, fsplit, fjoin, mean}

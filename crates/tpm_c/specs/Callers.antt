@@ -1,7 +1,8 @@
 -- A caller's session in memory of C's.
 use Rattle.std.specs.Prelude.{ℕ, ◌==◌, nat_le, Bool, true, not, ◌&&◌, List, [], ◌∷◌, length, take, Option, Some, None}
 use Rattle.std.specs.Prelude.{Result, Ok, Err, if◌then◌else◌}
-use base.{Fraction.{full_share}, Fml.{Fml}}
+use base.Fraction.{full_share}
+use base.Fml.{Fml}
 use denote.RawPtr.{Ptr, lies_at}
 use Rattle.tpm_wire.specs.declared.refusal.Refusal.{Refusal}
 use Rattle.tpm_wire.specs.Reading.{read_all}

@@ -1,6 +1,7 @@
 -- A device in memory of C's.
 use Rattle.std.specs.Prelude.{ℕ, ◌≤◌, Bool, true, false, List, [], length, nat_le, if◌then◌else◌}
-use base.{Fraction.{full_share}, Fml.{Fml, ftrue, fex}}
+use base.Fraction.{full_share}
+use base.Fml.{Fml, ftrue, fex}
 use denote.RawPtr.{Ptr, lies_at, room_at}
 use Rattle.tpm_types.specs.Limits.{digest_bytes}
 use Rattle.tpm_model.specs.Steps.{History, Origin}

@@ -1,6 +1,7 @@
 -- A framer in memory of C's.
 use Rattle.std.specs.Prelude.{◌≡◌, ℕ, ◌≤◌, ◌⊎◌, List, length}
-use base.{Fraction.{full_share}, Fml.{Fml, fex}}
+use base.Fraction.{full_share}
+use base.Fml.{Fml, fex}
 use denote.RawPtr.{Ptr, lies_at}
 use Rattle.tpm_stream.specs.Frames.{IsFrame, Pushes, Advances}
 use Rattle.tpm_stream.specs.declared.framer.Status.TheVariants.{More, Ready, Broken}

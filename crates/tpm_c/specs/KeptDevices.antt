@@ -2,7 +2,8 @@
 use Rattle.std.specs.Prelude.{◌≡◌, ◌⊎◌, ◌<◌, ◌≤◌, ℕ, Bool, true, false, not, ◌&&◌, List, [], ◌∷◌, ◌++◌, length}
 use Rattle.std.specs.Prelude.{nat_le, replicate, drop}
 use Rattle.std.specs.Prelude.{Option, Some, None, option_map, slice_get, is_ok, if◌then◌else◌}
-use base.{Fraction.{full_share}, Fml.{Fml, ftrue, fex}}
+use base.Fraction.{full_share}
+use base.Fml.{Fml, ftrue, fex}
 use denote.RawPtr.{Ptr, lies_at}
 use Rattle.tpm_wire.specs.declared.refusal.Refusal.{Refusal}
 use Rattle.tpm_wire.specs.Path.{Spells, Fault}

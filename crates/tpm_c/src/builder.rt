@@ -65,7 +65,8 @@ fn joined_len(handles: &[u8], sessions: &[u8], parameters: &[u8]) -> Option<usiz
         (4096
         < 10 + length handles.now + length (authorization_of sessions.now)
         + length parameters.now)
-        (λ n. n ≡ 10 + length handles.now + length (authorization_of sessions.now) + length parameters.now) }
+        (λ n. n ≡ 10 + length handles.now + length (authorization_of sessions.now)
+        + length parameters.now) }
 {
     let authorization = if sessions.is_empty() {
         0

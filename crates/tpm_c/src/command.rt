@@ -93,7 +93,8 @@ fn judge(bytes: &[u8]) -> Result<(), Refusal>
 #[inline(never)]
 pub(crate) fn judge_params(code: CommandCode, bytes: &[u8]) -> Result<(), Refusal>
     ensures spells { IfOk result (λ _. (p : ParamsOf) × Spells (parameters code) p bytes.now) }
-    ensures fault { IfErr result (λ e. Fault (parameters code) bytes.now e × (e.at ≤ length bytes.now)) }
+    ensures fault { IfErr result
+        (λ e. Fault (parameters code) bytes.now e × (e.at ≤ length bytes.now)) }
 {
     let mut params = Params::PolicyRestart;
     decode_params_into(code, bytes, &mut params)

@@ -171,7 +171,8 @@ fn number(hash: Option<Alg>) -> u16
 
 fn session_hash(device: &mut Device, session: u32) -> u16
     ensures { (device.new ≡ device.old)
-        × ((o : Origin) (h : History) → Stands o h device.old → result ≡ session_hash_of o h session) }
+        × ((o : Origin) (h : History) → Stands o h device.old
+        → result ≡ session_hash_of o h session) }
 {
     match SessionHandle::from_number(session) {
         Some(session) => number(device.session_hash(session)),

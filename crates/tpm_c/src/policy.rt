@@ -140,7 +140,8 @@ fn pcr(
     pcr_digest: &Digest,
     refusal: &mut TpmRefusal,
 ) -> u32
-    ensures { AssertsSpelled (read_all selections_layout selections.now) (of_registers pcr_digest.now)
+    ensures { AssertsSpelled (read_all selections_layout selections.now)
+        (of_registers pcr_digest.now)
         (record {
           answer = result;
           old = record { policy = policy.old; refusal = refusal.old };

@@ -101,8 +101,18 @@ fn boot_of(
     ensures { IsBootSaid (sayings bank log.now.size (map shown log.now.records))
         (authority_places log.now.size (map shown log.now.records)) (record {
           answer = result;
-          old = record { view = view.old; authorities = authorities.old; count = count.old; at = at.old };
-          new = record { view = view.new; authorities = authorities.new; count = count.new; at = at.new };
+          old = record {
+            view = view.old;
+            authorities = authorities.old;
+            count = count.old;
+            at = at.old;
+          };
+          new = record {
+            view = view.new;
+            authorities = authorities.new;
+            count = count.new;
+            at = at.new;
+          };
         }) }
 {
     match secure_boot(log, bank) {
@@ -129,8 +139,18 @@ fn boot_in(
 ) -> u32
     ensures { IsBootIn log.now bank (record {
       answer = result;
-      old = record { view = view.old; authorities = authorities.old; count = count.old; at = at.old };
-      new = record { view = view.new; authorities = authorities.new; count = count.new; at = at.new };
+      old = record {
+        view = view.old;
+        authorities = authorities.old;
+        count = count.old;
+        at = at.old;
+      };
+      new = record {
+        view = view.new;
+        authorities = authorities.new;
+        count = count.new;
+        at = at.new;
+      };
     }) }
 {
     match Log::parse(log) {
@@ -158,8 +178,18 @@ pub extern "C" fn tpm_log_secure_boot(
 ) -> u32
     ensures { IsBootChecked log.now (alg_of hash) (record {
       answer = result;
-      old = record { view = view.old; authorities = authorities.old; count = count.old; at = at.old };
-      new = record { view = view.new; authorities = authorities.new; count = count.new; at = at.new };
+      old = record {
+        view = view.old;
+        authorities = authorities.old;
+        count = count.old;
+        at = at.old;
+      };
+      new = record {
+        view = view.new;
+        authorities = authorities.new;
+        count = count.new;
+        at = at.new;
+      };
     }) }
 {
     match Alg::from_number(hash) {

@@ -404,6 +404,7 @@ impl Caller {
             keep,
         }
     }
+
     // Writes the command with the session behind its handles, whose HMAC this is, to the beginning of `out`, and says
     // how many bytes it has.
     #[inline(never)]

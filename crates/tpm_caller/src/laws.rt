@@ -50,7 +50,8 @@ pub fn what_is_opened()
 /// A command has as many handles as its code says (`CommandCode::handles`): so many Names are handed in where it is
 /// sealed.
 pub fn as_many_handles()
-    ensures { (body : CommandBody) → length (handles_of body) ≡ length (handle_kinds (code_for body)) }
+    ensures { (body : CommandBody) → length (handles_of body)
+        ≡ length (handle_kinds (code_for body)) }
 {}
 
 /// A key that is kept as its digest opens what the key itself would open.

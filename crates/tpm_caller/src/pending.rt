@@ -113,10 +113,12 @@ impl Pending {
         ensures fails { IfOk result (λ found. (body : ReplyBody) (auths : List AuthReply)
             → IsSpelledBy bytes.now self.now.code body auths →
             IfErr found
-            (λ fault. (f : Fault) × (opened_session self.now body auths ≡ Err f) × (fault ≡ fault_of f))) }
+            (λ fault. (f : Fault) × (opened_session self.now body auths ≡ Err f)
+            × (fault ≡ fault_of f))) }
         ensures first { IfErr result
             (λ fault. (f : Fault) × (opened self.now bytes.now ≡ Err f) × (fault ≡ fault_of f)) }
-        ensures fits { IfOk result (λ found. IfOk found (λ nonce. length nonce.now ≤ digest_bytes)) }
+        ensures fits { IfOk result
+            (λ found. IfOk found (λ nonce. length nonce.now ≤ digest_bytes)) }
     {
         let Ok(areas) = reply_areas(self.code, bytes) else {
             return Ok(Err(CallerFault::NotExpected));
@@ -236,11 +238,11 @@ impl Pending {
         Ok((self.after(nonce), response))
     }
 
-    /// Opens the reply: the response, and the caller with the session's new nonceTPM, where it was kept. What
-    /// is no reply is refused with the first of these faults, and leaves this unchanged: `Refused` where the
-    /// bytes do not decode as a response to the command; `Code` for a response code that is not 0;
-    /// `NotExpected` where there is not exactly one session, or its nonceTPM has another length than the
-    /// session's; `WrongMac` where its HMAC is not that of the new nonceTPM, the command's nonceCaller and the
+    /// Opens the reply: the response, and the caller with the session's new nonceTPM, where the command was sealed
+    /// with `keep`. What is no reply is refused with the first of these faults, and leaves this unchanged: `Refused`
+    /// where the bytes do not decode as a response to the command; `Code` for a response code that is not 0;
+    /// `NotExpected` where there is not exactly one session, or its nonceTPM has another length than the session's;
+    /// `WrongMac` where its HMAC is not that of the rpHash, the new nonceTPM, the command's nonceCaller and the
     /// response's attributes (Part 1, "Session-Based Authorizations").
     // It is in line, since what it answers would be copied as it is returned. What it calls is not.
     #[inline(always)]

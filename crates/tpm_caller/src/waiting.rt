@@ -46,12 +46,8 @@ impl Waiting {
         self.bytes.as_slice()
     }
 
-    /// Opens the reply: the response, and the caller with the session's new nonceTPM, where it was kept. What
-    /// is no reply is refused with the first of these faults, and leaves this unchanged: `Refused` where the
-    /// bytes do not decode as a response to the command; `Code` for a response code that is not 0;
-    /// `NotExpected` where there is not exactly one session, or its nonceTPM has another length than the
-    /// session's; `WrongMac` where its HMAC is not that of the new nonceTPM, the command's nonceCaller and the
-    /// response's attributes (Part 1, "Session-Based Authorizations").
+    /// Opens the reply: the response, and the caller with the session's new nonceTPM, where the command was sealed
+    /// with `keep`. What is no reply leaves this unchanged, with the first of the faults that `Pending::open` has.
     pub fn open(self, bytes: &[u8]) -> Result<(Option<Caller>, Response), (Waiting, CallerFault)>
         ensures { result ≡ opening_of self (opened self.waiting bytes.now) }
     {

@@ -40,7 +40,8 @@ fn compare(text: &mut String, found: &Beside<'_>, stated: &Stated) -> Result<boo
     ensures { IfOk result (λ same. (same
         ≡ is_value (told found.now).value (stated_as stated.now))
         × (string_bytes text.new
-        ≡ string_bytes text.old ++ compared_text found.now.json same stated.now.bank stated.now.register)) }
+        ≡ string_bytes text.old
+        ++ compared_text found.now.json same stated.now.bank stated.now.register)) }
 {
     let value = found.registers.read(stated.bank, stated.register);
     let same = value.as_slice() == stated.value.as_slice();

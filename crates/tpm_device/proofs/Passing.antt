@@ -221,7 +221,7 @@ pub reply_told : (r : Result Done ℕ) (items : List ℕ) → IfOk r (λ d. code
 reply_told (Ok d) items own is = ok_is items _ is ∙ ap (λ (code : CommandCode). spelling (response code) (done_with d.reply)) (sym own)
 reply_told (Err e) items own is = absurd (cc)
 
--- What is performed where nothing was done is performed from the begin.
+-- What is performed where nothing was done is performed from the beginning.
 pub from_begin : (x : Cut) (d e : Device) (n : List ℕ) (o p : ArrayVec ℕ) (new : End) → d ≡ e → o ≡ p
     → IsPerformed x (performed (holds d) n) (record { device = d; nonce = n; out = o }) new
     → IsPerformed x (performed (holds e) n) (record { device = e; nonce = n; out = p }) new

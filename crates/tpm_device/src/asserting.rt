@@ -23,7 +23,8 @@ use tpm_types::{Digest, Selections};
 fn asserted_in(areas: &Areas<'_>) -> Result<(Digest, Selections), u32>
     requires { areas.now.header.code ≡ codes.PolicyPcr }
     ensures read { IfOk result (λ x.
-        read_all (parameters codes.PolicyPcr) areas.now.params ≡ Ok (of_command.PolicyPcr x.0 x.1)) }
+        read_all (parameters codes.PolicyPcr) areas.now.params
+        ≡ Ok (of_command.PolicyPcr x.0 x.1)) }
     ensures faulty { IfErr result (λ code. (fault : Fault)
         × (read_all (parameters codes.PolicyPcr) areas.now.params ≡ Err fault)
         × (fault.code ≡ code)) }

@@ -108,7 +108,12 @@ impl Device {
         body: &mut ReplyBody,
     ) -> Result<(), u32>
         ensures { IsActed areas.now
-            (record { old = self.old; nonce = nonce.now; reply = body.new; new = self.new }) result }
+            (record {
+              old = self.old;
+              nonce = nonce.now;
+              reply = body.new;
+              new = self.new;
+            }) result }
     {
         let mut params = Params::PolicyRestart;
         match read_params(areas, &mut params) {
@@ -127,7 +132,12 @@ impl Device {
         body: &mut ReplyBody,
     ) -> Option<Result<(), u32>>
         ensures some { IfSome result (λ given. IsActed areas.now
-            (record { old = self.old; nonce = nonce.now; reply = body.new; new = self.new }) given) }
+            (record {
+              old = self.old;
+              nonce = nonce.now;
+              reply = body.new;
+              new = self.new;
+            }) given) }
         ensures none { IfNone result (self.new ≡ self.old) }
     {
         match bare(areas.code(), areas.params()) {
@@ -145,7 +155,12 @@ impl Device {
         body: &mut ReplyBody,
     ) -> Result<(), u32>
         ensures { IsActed areas.now
-            (record { old = self.old; nonce = nonce.now; reply = body.new; new = self.new }) result }
+            (record {
+              old = self.old;
+              nonce = nonce.now;
+              reply = body.new;
+              new = self.new;
+            }) result }
     {
         match self.acted_bare(areas, nonce, body) {
             Some(given) => given,

@@ -262,7 +262,8 @@ pub(crate) fn put_reply_params(body: &ReplyBody, out: &mut ResponseBuffer)
 #[tactic(auto, unfolding(tpm_commands::specs::Replies::session_handle, tpm_types::specs::Handles::session))]
 fn put_handles(body: &ReplyBody, out: &mut ResponseBuffer)
     requires { length out.old.items
-        + length (spelling (reply_handles (code_for_reply body.now)) (reply_handles_of body.now)) ≤ 549 }
+        + length (spelling (reply_handles (code_for_reply body.now)) (reply_handles_of body.now))
+        ≤ 549 }
     ensures { out.new.items
         ≡ out.old.items
         ++ spelling (reply_handles (code_for_reply body.now)) (reply_handles_of body.now) }

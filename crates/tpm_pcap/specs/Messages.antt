@@ -43,7 +43,7 @@ abbrev pub mssim : (to_tpm : Bool) → List ℕ → Measure
 mssim true held = to_simulator held
 mssim false held = from_simulator held
 
--- what bytes of a way are, from the begin of a message
+-- what bytes of a way are, from the beginning of a message
 unfoldable pub measured : (to_tpm : Bool) → List ℕ → Measure
 measured to_tpm held =
     if nat_lt (length held) 2 then More

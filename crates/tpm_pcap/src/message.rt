@@ -8,7 +8,7 @@ use crate::numbers::{number2, number4};
 /// The greatest size of a frame.
 const MOST: usize = 4096;
 
-/// What bytes are, from the begin of a message.
+/// What bytes are, from the beginning of a message.
 #[derive(Clone, Copy, Debug, PartialEq, Eq)]
 pub(crate) enum Measure {
     /// Less than a message.
@@ -17,7 +17,7 @@ pub(crate) enum Measure {
     Frame(usize, usize),
     /// A message without a frame.
     Silent,
-    /// The begin of no message.
+    /// The beginning of no message.
     Broken,
 }
 
@@ -79,7 +79,7 @@ fn from_simulator(held: &[u8]) -> Measure
     of_size(4, number4(held, 0) as usize, 4, held)
 }
 
-/// What bytes of a way are, from the begin of a message.
+/// What bytes of a way are, from the beginning of a message.
 #[tactic(auto, unfolding(crate::specs::Messages::measured))]
 pub(crate) fn measured(to_tpm: bool, held: &[u8]) -> Measure
     ensures { result ≡ measured to_tpm held.now }

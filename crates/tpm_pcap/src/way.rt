@@ -147,7 +147,8 @@ impl Way {
     ) -> Result<(), AllocError>
         ensures { OnOk result ((way_as self.new ≡ after_bytes to_tpm (way_as self.old) bytes.now)
             × (entries_as entries.new.items
-            ≡ entries_as entries.old.items ++ bytes_told to_tpm packet (way_as self.old) bytes.now)) }
+            ≡ entries_as entries.old.items
+            ++ bytes_told to_tpm packet (way_as self.old) bytes.now)) }
     {
         for byte in bytes {
             self.take(alloc, to_tpm, packet, *byte, entries)?;

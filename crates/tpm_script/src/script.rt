@@ -57,7 +57,8 @@ fn push_response(
 fn push_power(text: &mut String, device: &mut Device) -> Pushed
     ensures { OnOk result ((added : List ℕ)
         × AddedTo (string_bytes text.old) (string_bytes text.new) added
-        × GoesThrough (record { events = Cycled ∷ []; refused = None }) device.old device.new added) }
+        × GoesThrough (record { events = Cycled ∷ []; refused = None })
+        device.old device.new added) }
 {
     device.power_cycle();
     text.push_str("power\n")?;

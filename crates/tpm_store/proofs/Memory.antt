@@ -183,7 +183,7 @@ area_is p a b c d policy e ea eb ec ed ep ee =
 
 -- ---- all of the bytes
 
--- What was read from the begin of the bytes is what all of them spell, or they go on behind it.
+-- What was read from the beginning of the bytes is what all of them spell, or they go on behind it.
 pub memory_decodes : (bytes : List ℕ) (nv : NvMemory) (old : Place) (h : Here) (o : Result (Unit {0}) Refusal)
     → old ≡ record { here = at_start (take 4096 bytes); number = 0 } → read old.number kept_memory old.here ≡ Ok (nv, h)
     → o ≡ ended bytes (tt, h) → Decodes {X = Unit {0}} kept_memory (λ _. nv) bytes o

@@ -24,7 +24,7 @@ use Rattle.arrayvec.specs.ArrayVec.{ArrayVec}
 
 -- ---- one way to cut a stream
 
--- two frames at the begin of the same bytes are one
+-- two frames at the beginning of the same bytes are one
 pub one_first : (f g a b : List ℕ) → IsFrame f → IsFrame g → f ++ a ≡ g ++ b → (f ≡ g) × (a ≡ b)
 one_first f g a b x y e =
     let n : length f ≡ length g =

@@ -122,7 +122,7 @@ impl Model for Framer {
 }
 
 impl Framer {
-    /// A framer that holds nothing, at the begin of a frame.
+    /// A framer that holds nothing, at the beginning of a frame.
     pub fn new() -> Self
         ensures { result ≡ [] }
     {

@@ -46,7 +46,7 @@ pub goes_on_so : {A : Type 0} (bytes : List ℕ) (h : Here) (x : A) (e : Refusal
     → ended bytes (x, h) ≡ Err e
 goes_on_so bytes h x e is = chosen_err ((eqb (length h.rest) 0) && leb (length bytes) 4096) (tt {0}) x (left_over h) e is
 
--- What is read from the begin of the bytes is what is answered: the value, with its end,
+-- What is read from the beginning of the bytes is what is answered: the value, with its end,
 pub whole_read : {A : Type 0} (l : Layout A) (bytes : List ℕ) (old : Place) (x : A) (h : Here) (r : Result A Refusal)
     → old ≡ record { here = at_start (take 4096 bytes); number = 0 }
     → read old.number l old.here ≡ Ok (x, h) → ended bytes (x, h) ≡ r → r ≡ whole_in l bytes

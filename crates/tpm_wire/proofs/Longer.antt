@@ -1,4 +1,4 @@
--- Reading the begin of longer bytes gives what reading all of them gives, where a layout takes so many bytes at most.
+-- Reading the beginning of longer bytes gives what reading all of them gives, where a layout takes so many bytes at most.
 use Rattle.std.proofs.Common.{◌≡◌, ℕ, zero, suc, ◌+◌, ◌-◌, ◌*◌, ◌≤◌, Bool, true, false, cond, eqb, leb, List, [], ◌∷◌}
 use Rattle.std.proofs.Common.{◌++◌, length, take, Option, Some, None, Result, Ok, Err, refl, sym, ap, ◌∙◌, arith}
 use Rattle.std.proofs.lemmas.Bool.{leb-true, and_parts}
