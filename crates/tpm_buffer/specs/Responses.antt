@@ -83,9 +83,9 @@ abbrev pub reply_behind : ℕ → Layout ReplyBody → Layout Reply
 reply_behind t parameters = either (t == 0x8002) (with_sessions parameters) (without_sessions parameters)
 
 abbrev pub reply : CommandCode → ℕ → Layout Reply
-reply code t =
-    field (λ r. reply_handles_of r.body) (reply_handles code) (λ hs.
-    reply_behind t (reply_parameters code hs))
+reply command t =
+    field (λ r. reply_handles_of r.body) (reply_handles command) (λ hs.
+    reply_behind t (reply_parameters command hs))
 
 -- ---- the response
 
@@ -121,17 +121,17 @@ code_or_done None r = done_with r
 
 -- what follows the header
 abbrev pub behind_code : CommandCode → ℕ → ℕ → Layout Response
-behind_code code t n =
-    either (n == 0) (field reply_of (reply code t) (λ r. done (done_with r))) (done (responses.Code n))
+behind_code command t n =
+    either (n == 0) (field reply_of (reply command t) (λ r. done (done_with r))) (done (responses.Code n))
 
 abbrev pub size_of_response : CommandCode → Response → ℕ
-size_of_response code r = 10 + length (spelling (behind_code code (tag_of_response r) (code_of_response r)) r)
+size_of_response command r = 10 + length (spelling (behind_code command (tag_of_response r) (code_of_response r)) r)
 
 unfoldable pub response : CommandCode → Layout Response
-response code =
-    field (λ r. (tag_of_response r, size_of_response code r)) response_front (λ f.
+response command =
+    field (λ r. (tag_of_response r, size_of_response command r)) response_front (λ f.
     field code_of_response (response_code f.0) (λ n.
-    behind_code code f.0 n))
+    behind_code command f.0 n))
 
 -- ---- a response whose parameters are not judged
 
@@ -153,18 +153,18 @@ raw_without_sessions n hs =
     field (λ c. c.params) remaining (λ params. done (record { code = n; handles = hs; params = params; auths = [] }))
 
 abbrev pub cut_behind_code : CommandCode → ℕ → ℕ → Layout ReplyCut
-cut_behind_code code t n = either (n == 0)
-    (field (λ c. c.handles) (reply_handles code)
+cut_behind_code command t n = either (n == 0)
+    (field (λ c. c.handles) (reply_handles command)
     (λ hs. either (t == 0x8002) (raw_with_sessions n hs) (raw_without_sessions n hs)))
     (done (record { code = n; handles = []; params = []; auths = [] }))
 
 unfoldable pub reply_cut : CommandCode → Layout ReplyCut
-reply_cut code =
+reply_cut command =
     field (λ c. (if c.code == 0 then reply_tag c.auths else code_tag c.code, 10)) response_front (λ f.
     field (λ c. c.code) (response_code f.0) (λ n.
-    cut_behind_code code f.0 n))
+    cut_behind_code command f.0 n))
 
 -- A response answers a command: a code answers any, and a reply its own.
 abbrev pub RespondsTo : CommandCode → Response → Type 0
-RespondsTo code (responses.Code n) = Unit {0}
-RespondsTo code (responses.Done body auths) = code ≡ code_for_reply body
+RespondsTo command (responses.Code n) = Unit {0}
+RespondsTo command (responses.Done body auths) = command ≡ code_for_reply body

@@ -13,10 +13,10 @@ ghost use Rattle.tpm_buffer.specs.ResponseAreas.{IsPlaceIn};
 ghost use Rattle.tpm_buffer.specs.CommandAreas.{LiesIn, IsSession, session_at as the_session_at, sessions_at};
 
 use crate::command_header::SESSIONS;
+use crate::response_sessions::{self, ReplyRef};
 use arrayvec::ArrayVec;
 use std::marker::Model;
-use tpm_commands::take_sized;
-use tpm_types::{Auth, AuthSession, DIGEST_BYTES, SessionAttrs};
+use tpm_types::{Auth, AuthSession, SessionAttrs};
 use tpm_wire::response_code::{AUTHSIZE, of_session};
 use tpm_wire::{Cursor, Refusal, Wire};
 
@@ -24,27 +24,21 @@ use tpm_wire::{Cursor, Refusal, Wire};
 #[derive(Drop)]
 pub struct AuthRef<'a> {
     session: AuthSession,
-    nonce: &'a [u8],
-    attrs: SessionAttrs,
-    hmac: &'a [u8],
+    // what a session of a response has too: the nonce, the attributes and the HMAC
+    shared: ReplyRef<'a>,
 }
 
 impl<'a> Model for AuthRef<'a> {
-    ghost use Rattle.std.specs.Prelude.{◌≤◌, length};
-    ghost use Rattle.tpm_types.specs.Limits.{digest_bytes};
     ghost use Rattle.tpm_types.specs.declared.tpms.Auth.{Auth};
 
     ghost Value = { Auth };
 
     ghost view = { λ a. record {
       session = a.session;
-      nonce = a.nonce.now;
-      attrs = a.attrs;
-      hmac = a.hmac.now;
+      nonce = a.shared.nonce;
+      attrs = a.shared.attrs;
+      hmac = a.shared.hmac;
     } };
-
-    ghost invariant = { λ a. (length a.nonce.now ≤ digest_bytes)
-        × (length a.hmac.now ≤ digest_bytes) };
 }
 
 impl<'a> AuthRef<'a> {
@@ -60,14 +54,14 @@ impl<'a> AuthRef<'a> {
         ensures value { result.now ≡ self.now.nonce }
         ensures fits { length result.now ≤ digest_bytes }
     {
-        self.nonce
+        self.shared.nonce()
     }
 
     /// sessionAttributes.
     pub fn attrs(&self) -> SessionAttrs
         ensures { result ≡ self.now.attrs }
     {
-        self.attrs
+        self.shared.attrs()
     }
 
     /// The HMAC, or the password: at most `DIGEST_BYTES`.
@@ -75,12 +69,12 @@ impl<'a> AuthRef<'a> {
         ensures value { result.now ≡ self.now.hmac }
         ensures fits { length result.now ≤ digest_bytes }
     {
-        self.hmac
+        self.shared.hmac()
     }
 }
 
 // The session that begins here.
-#[tactic(auto, unfolding(tpm_types::specs::Tpms::auth_command))]
+#[tactic(auto, unfolding(tpm_types::specs::Tpms::auth_command, tpm_types::specs::Tpms::auth_response))]
 #[inline(always)]
 fn take_session<'a>(cursor: &mut Cursor<'a>) -> Result<AuthRef<'a>, Refusal>
     ensures reads { Takes auth_command cursor.old cursor.new result }
@@ -88,15 +82,8 @@ fn take_session<'a>(cursor: &mut Cursor<'a>) -> Result<AuthRef<'a>, Refusal>
         (λ a. cursor.old.here.rest ≡ spelling auth_command a ++ cursor.new.here.rest) }
 {
     let session = AuthSession::take(cursor)?;
-    let nonce = take_sized(cursor, DIGEST_BYTES)?;
-    let attrs = SessionAttrs::take(cursor)?;
-    let hmac = take_sized(cursor, DIGEST_BYTES)?;
-    Ok(AuthRef {
-        session,
-        nonce,
-        attrs,
-        hmac,
-    })
+    let shared = response_sessions::take_session(cursor)?;
+    Ok(AuthRef { session, shared })
 }
 
 /// The session at this position of the command, where one was read.

@@ -80,9 +80,10 @@ pub(crate) fn take_parameter_size(cursor: &mut Cursor<'_>) -> Result<u32, Refusa
     Ok(size)
 }
 
-// The session that begins here.
+/// The session that begins here.
 #[tactic(auto, unfolding(tpm_types::specs::Tpms::auth_response))]
-fn take_session<'a>(cursor: &mut Cursor<'a>) -> Result<ReplyRef<'a>, Refusal>
+#[inline(always)]
+pub(crate) fn take_session<'a>(cursor: &mut Cursor<'a>) -> Result<ReplyRef<'a>, Refusal>
     ensures reads { Takes auth_response cursor.old cursor.new result }
     ensures spelled { IfOk result
         (λ a. cursor.old.here.rest ≡ spelling auth_response a ++ cursor.new.here.rest) }
