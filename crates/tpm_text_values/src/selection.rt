@@ -134,5 +134,5 @@ fn is_register(text: &str) -> bool
 fn is_bank(name: &str) -> bool
     ensures { result ≡ list_any (λ bank. bytes_eq name.now (alg_name bank)) all_algs }
 {
-    name == Alg::Sha1.name() || name == Alg::Sha256.name() || name == Alg::Sha384.name()
+    Alg::ALL.iter().any(|bank| name == bank.name())
 }
