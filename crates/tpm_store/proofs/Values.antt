@@ -13,7 +13,7 @@ use Rattle.tpm_types.proofs.Algs.{same_bank, same_test}
 use Rattle.tpm_hmac.specs.Hashes.{digest}
 use Rattle.tpm_model.specs.Registers.Change.{StartAt, Reset, Extend}
 use Rattle.tpm_model.specs.Registers.{filled_with, zeros, extended, is_of, digests_for}
-use Rattle.tpm_store.specs.Banks.{registers, all_bytes, place_of, value_at, with_value, with_values, filled_but_last}
+use Rattle.tpm_store.specs.Banks.{registers, all_bytes, offset_of, value_at, with_value, with_values, filled_but_last}
 use Rattle.tpm_store.specs.Banks.{Holds, changed}
 use Rattle.tpm_store.proofs.Places.{fits}
 
@@ -26,8 +26,8 @@ filled_all byte a = refl
 pub zeros_at : (a : Alg) (q : ℕ) → q < registers → value_at (replicate all_bytes 0) a q ≡ zeros a
 unfolding value_at
 zeros_at a q lt =
-    ap (take (digest_len a)) (drop-replicate (place_of a q) all_bytes 0)
-    ∙ take-replicate (digest_len a) (all_bytes - place_of a q) 0 (omega (arith, fits a q lt))
+    ap (take (digest_len a)) (drop-replicate (offset_of a q) all_bytes 0)
+    ∙ take-replicate (digest_len a) (all_bytes - offset_of a q) 0 (omega (arith, fits a q lt))
 
 -- the value of a register while those of dynamic launch are filled, of which so many are done
 abbrev pub starting : ℕ → Alg → ℕ → List ℕ

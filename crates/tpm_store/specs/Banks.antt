@@ -22,12 +22,12 @@ abbrev pub bank_start : Alg → ℕ
 bank_start alg = bytes_of (take (bank_place alg) all_algs)
 
 -- where a register of a bank begins
-abbrev pub place_of : Alg → ℕ → ℕ
-place_of alg q = bank_start alg + digest_len alg * q
+abbrev pub offset_of : Alg → ℕ → ℕ
+offset_of alg q = bank_start alg + digest_len alg * q
 
 -- the value of a register in a bank
 unfoldable pub value_at : List ℕ → Alg → ℕ → List ℕ
-value_at bytes alg q = take (digest_len alg) (drop (place_of alg q) bytes)
+value_at bytes alg q = take (digest_len alg) (drop (offset_of alg q) bytes)
 
 -- these values, but for one
 abbrev pub with_value : Alg → ℕ → List ℕ → (Alg → ℕ → List ℕ) → Alg → ℕ → List ℕ

@@ -7,7 +7,7 @@ ghost use Rattle.tpm_types.specs.Limits.{digest_bytes};
 ghost use Rattle.tpm_hmac.specs.Hashes.{digest as digest_of};
 ghost use Rattle.tpm_model.specs.Registers.Change.{Extend};
 ghost use Rattle.tpm_model.specs.Registers.{start_value};
-ghost use Rattle.tpm_store.specs.Banks.{registers, all_bytes, place_of, value_at, with_value, with_values};
+ghost use Rattle.tpm_store.specs.Banks.{registers, all_bytes, offset_of, value_at, with_value, with_values};
 ghost use Rattle.tpm_store.specs.Banks.{filled_but_last, Holds, changed};
 
 use tpm_types::{Alg, DIGEST_BYTES, DigestValues, REGISTERS};
@@ -17,9 +17,9 @@ pub(crate) const BANKS_BYTES: usize = 2400;
 
 // How many bytes precede the value of a register: the banks lie one behind the other, in each the registers. A bank of
 // SHA-1 has 480 bytes, and one of SHA-256 has 768.
-fn place(alg: Alg, register: u32) -> usize
+fn offset(alg: Alg, register: u32) -> usize
     requires { register < registers }
-    ensures value { result ≡ place_of alg register }
+    ensures value { result ≡ offset_of alg register }
     ensures fits { result + digest_len alg ≤ all_bytes }
 {
     let start = match alg {
@@ -38,7 +38,7 @@ pub(crate) fn value(bytes: &[u8], alg: Alg, register: u32) -> &[u8]
     ensures length { length result.now ≡ digest_len alg }
     ensures fits { length result.now ≤ digest_bytes }
 {
-    let at = place(alg, register);
+    let at = offset(alg, register);
     &bytes[at..at + alg.digest_len()]
 }
 
@@ -49,7 +49,7 @@ fn write(bytes: &mut [u8], alg: Alg, register: u32, value: &[u8])
     requires value { length value.now ≡ digest_len alg }
     ensures { Holds bytes.new (with_value alg register value.now (value_at bytes.old)) }
 {
-    let at = place(alg, register);
+    let at = offset(alg, register);
     bytes[at..at + value.len()].copy_from_slice(value);
 }
 
@@ -97,7 +97,7 @@ fn extend_one(bytes: &mut [u8], alg: Alg, register: u32, digest: &[u8])
         (with_value alg register (digest_of alg (value_at bytes.old alg register ++ digest.now))
         (value_at bytes.old)) }
 {
-    let at = place(alg, register);
+    let at = offset(alg, register);
     tpm_hmac::extend(alg, &mut bytes[at..at + alg.digest_len()], digest);
 }
 
