@@ -20,7 +20,7 @@ pub const NO_SESSIONS: u16 = 0x8001;
 pub const SESSIONS: u16 = 0x8002;
 
 /// The tag of a buffer with these sessions, or without where there are none.
-pub(crate) fn tag_for<T>(sessions: &[T]) -> u16
+pub fn tag_for<T>(sessions: &[T]) -> u16
     ensures { result ≡ tag_for sessions.now }
 {
     if sessions.is_empty() {

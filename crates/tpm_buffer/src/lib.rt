@@ -17,7 +17,7 @@ mod response_sessions;
 pub use command_areas::{Areas, Handled, Headed, header};
 pub use command_decode::{areas, decode_command, one_spelling};
 pub use command_encode::{encode_command, put_command};
-pub use command_header::{NO_SESSIONS, SESSIONS};
+pub use command_header::{NO_SESSIONS, SESSIONS, tag_for};
 pub use command_join::join_command;
 pub use command_sessions::AuthRef;
 pub use laws::{

@@ -5,7 +5,7 @@ ghost use Rattle.std.specs.Prelude.{take, drop};
 ghost use Rattle.tpm_wire.specs.Path.{Spells, Fault};
 ghost use Rattle.tpm_commands.specs.declared.command.Command.{Command};
 ghost use Rattle.tpm_buffer.specs.Commands.{command as command_layout};
-ghost use Rattle.tpm_buffer.specs.Parts.{authorization_of, joined, tag_for};
+ghost use Rattle.tpm_buffer.specs.Parts.{authorization_of, joined};
 ghost use Rattle.tpm_c.specs.Builds.{HasFront, Builds, BuildsBytes};
 ghost use Rattle.tpm_c.specs.Written.{IsIn};
 
@@ -13,7 +13,7 @@ use crate::command::judge_params;
 use crate::out::BUFFER_BYTES;
 use crate::part::{DONE, NO_COMMAND, NO_ROOM, TpmRefusal, refuse};
 use std::marker::Model;
-use tpm_buffer::{NO_SESSIONS, SESSIONS, areas};
+use tpm_buffer::{areas, tag_for};
 use tpm_commands::CommandCode;
 use tpm_wire::response_code::COMMAND_SIZE;
 use tpm_wire::{Buffer, Refusal, put_bytes};
@@ -47,7 +47,7 @@ pub extern "C" fn tpm_command_build(
     let Some(code) = CommandCode::from_number(command) else {
         return NO_COMMAND;
     };
-    match CommandParts::new(code, handles, sessions, parameters) {
+    match UnjoinedCommand::new(code, handles, sessions, parameters) {
         Some(parts) => parts.build(out, count, refusal),
         None => {
             let fault = Refusal {
@@ -79,16 +79,6 @@ fn joined_len(handles: &[u8], sessions: &[u8], parameters: &[u8]) -> Option<usiz
         .checked_add(10)
 }
 
-fn tag_for(sessions: &[u8]) -> u16
-    ensures { result ≡ tag_for sessions.now }
-{
-    if sessions.is_empty() {
-        NO_SESSIONS
-    } else {
-        SESSIONS
-    }
-}
-
 fn put_authorization(out: &mut Buffer, sessions: &[u8])
     requires { length out.old.items + length (authorization_of sessions.now) ≤ 4096 }
     ensures { out.new.items ≡ out.old.items ++ authorization_of sessions.now }
@@ -115,7 +105,7 @@ fn judged_len(len: usize) -> usize
 // A command by its parts, which are 4,096 bytes at most when they are joined. They are joined as often as their bytes
 // are looked at.
 #[derive(Drop)]
-struct CommandParts<'a> {
+struct UnjoinedCommand<'a> {
     code: CommandCode,
     handles: &'a [u8],
     sessions: &'a [u8],
@@ -123,7 +113,7 @@ struct CommandParts<'a> {
     size: usize,
 }
 
-impl<'a> Model for CommandParts<'a> {
+impl<'a> Model for UnjoinedCommand<'a> {
     ghost use Rattle.std.specs.Prelude.{◌≡◌, ◌≤◌, ℕ, List, length};
     ghost use Rattle.tpm_buffer.specs.Parts.{joined};
 
@@ -136,7 +126,7 @@ impl<'a> Model for CommandParts<'a> {
         × (p.size ≤ 4096) };
 }
 
-impl<'a> CommandParts<'a> {
+impl<'a> UnjoinedCommand<'a> {
     fn new(
         code: CommandCode,
         handles: &'a [u8],
@@ -151,7 +141,7 @@ impl<'a> CommandParts<'a> {
         if size > BUFFER_BYTES {
             return None;
         }
-        Some(CommandParts {
+        Some(UnjoinedCommand {
             code,
             handles,
             sessions,

@@ -1,7 +1,7 @@
 use Rattle.std.proofs.Common.{rules, ◌≡◌, take, drop}
 use Rattle.std.proofs.lemmas.List.{length-take-le}
 use Rattle.tpm_c.proofs.Judging.{spells_behind, fault_behind, window_is}
-use Rattle.tpm_c.proofs.builder.CommandParts.judge_behind.Goals as goal
+use Rattle.tpm_c.proofs.builder.UnjoinedCommand.judge_behind.Goals as goal
 
 pub returns-in-Ok-clause-spells : goal.returns-in-Ok-clause-spells
 returns-in-Ok-clause-spells c =

@@ -1,7 +1,7 @@
 use Rattle.std.proofs.Common.{refl, sym, subst, inl, inr, arith}
 use Rattle.tpm_wire.specs.Path.{Fault}
 use Rattle.tpm_buffer.specs.Commands.{command}
-use Rattle.tpm_c.proofs.builder.CommandParts.build.Goals as goal
+use Rattle.tpm_c.proofs.builder.UnjoinedCommand.build.Goals as goal
 
 pub returns-in-Ok : goal.returns-in-Ok
 returns-in-Ok c = inr (inr (refl, c.in-Ok.ensures.spells, omega (arith, c.len-len.ensures.value), refl))

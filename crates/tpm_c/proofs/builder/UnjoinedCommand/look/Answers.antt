@@ -4,7 +4,7 @@ use Rattle.tpm_buffer.specs.Commands.{command}
 use Rattle.tpm_buffer.proofs.Staged.{of_before}
 use Rattle.tpm_c.specs.Builds.{HasFront}
 use Rattle.tpm_c.proofs.Judging.{front_of}
-use Rattle.tpm_c.proofs.builder.CommandParts.look.Goals as goal
+use Rattle.tpm_c.proofs.builder.UnjoinedCommand.look.Goals as goal
 
 pub returns-in-Ok-clause-front : goal.returns-in-Ok-clause-front
 returns-in-Ok-clause-front c =
