@@ -25,8 +25,8 @@ use Rattle.tpm_check.specs.Told.{told}
 use Rattle.tpm_lines.specs.declared.status.Status.TheVariants.{Done, Refused}
 use Rattle.tpm_lines.specs.declared.status.Status.{Status}
 use Rattle.tpm_lines.specs.InputLines.{lines_of, most_bytes}
-use Rattle.tpm_lines.specs.LineSinks.{GoesOn, IsWhole, OnTrue, ReadsLines, ReadsOneMore, LineStep, StopsAt, TakesFrom, TakesKept}
-use Rattle.tpm_lines.specs.LineSinks.{kept, some_if}
+use Rattle.tpm_lines.specs.LineSinks.{GoesOn, IsWhole, OnTrue, ReadsLines, ReadsOneMore, LineStep, LinesEnd, LinesStart}
+use Rattle.tpm_lines.specs.LineSinks.{StopsAt, TakesAll, TakesFrom, TakesKept, kept, some_if}
 use Rattle.tpm_lines.specs.Status.{both}
 use Rattle.tpm_lines.proofs.LineReading.{stops_whatever}
 use Rattle.tpm_lines.proofs.Tables.{position-map}
@@ -171,31 +171,36 @@ stops_line n c l text others is said =
     let wrong : l ≡ Wrong = wrong_line c l is in
     ap (told_of None) (said ∙ ap (line_text (told c.found.now) n) wrong) ∙ ap (λ (k : ListLine). from_line n c k others) (sym wrong)
 
-outcome_from : (n : ℕ) (c : Comparing) (lines : List (List ℕ)) (left : Option Comparing) (text : List ℕ) → TakesFrom Compares n c lines left text
-    → told_of left text ≡ from_here n c lines
-outcome_from n c [] left text f =
-    ap (λ (o : Option Comparing). told_of o text) f.0
-    ∙ ap (told_of (Some c)) f.1
-    ∙ ap (λ (status : Status). record { text = []; status = Some status }) (sym (both_done c.status))
-outcome_from n c (line ∷ others) left text (inl f) =
-    ap (told_of left) f.5
-    ∙ ap (behind f.1) (outcome_from (n + 1) f.0 others left f.2 f.4)
+outcome_from : (start : LinesStart Comparing) (lines : List (List ℕ)) (end : LinesEnd Comparing) → TakesFrom Compares start lines end
+    → told_of end.left end.text ≡ from_here start.number start.sink lines
+outcome_from start [] end f =
+    ap (λ (o : Option Comparing). told_of o end.text) f.0
+    ∙ ap (told_of (Some start.sink)) f.1
+    ∙ ap (λ (status : Status). record { text = []; status = Some status }) (sym (both_done start.sink.status))
+outcome_from start (line ∷ others) end (inl f) =
+    let n = start.number in
+    let c = start.sink in
+    ap (told_of end.left) f.5
+    ∙ ap (behind f.1) (outcome_from (record { number = n + 1; sink = f.0 }) others (record { left = end.left; text = f.2 }) f.4)
     ∙ goes_line n c f.0 (line_under c.heading line) f.1 others f.3.0 f.3.1
-outcome_from n c (line ∷ others) left text (inr f) =
-    ap (λ (o : Option Comparing). told_of o text) f.0 ∙ stops_line n c (line_under c.heading line) text others f.1.0 f.1.1
+outcome_from start (line ∷ others) end (inr f) =
+    let c = start.sink in
+    ap (λ (o : Option Comparing). told_of o end.text) f.0 ∙ stops_line start.number c (line_under c.heading line) end.text others f.1.0 f.1.1
 
 abbrev AreRight : List ListLine → Type 0
 AreRight lines = AllByRecursion (λ (line : ListLine). line ≢ Wrong) lines
 
-right_lines : (n : ℕ) (c t : Comparing) (lines : List (List ℕ)) (text : List ℕ) → TakesFrom Compares n c lines (Some t) text
-    → AreRight (lines_under c.heading lines)
-right_lines n c t [] text f = tt
-right_lines n c t (line ∷ others) text (inl f) =
+right_lines : (start : LinesStart Comparing) (lines : List (List ℕ)) (new : Comparing) (text : List ℕ)
+    → TakesFrom Compares start lines (record { left = Some new; text = text }) → AreRight (lines_under start.sink.heading lines)
+right_lines start [] new text f = tt
+right_lines start (line ∷ others) new text (inl f) =
+    let c = start.sink in
     let l = line_under c.heading line in (
       right_line c f.0 l f.3.0,
-      subst (λ (heading : Heading). AreRight (lines_under heading others)) (heading_is c f.0 l f.3.0) (right_lines (n + 1) f.0 t others f.2 f.4),
+      subst (λ (heading : Heading). AreRight (lines_under heading others)) (heading_is c f.0 l f.3.0)
+          (right_lines (record { number = start.number + 1; sink = f.0 }) others new f.2 f.4),
     )
-right_lines n c t (line ∷ others) text (inr f) = absurd (not_none t f.0)
+right_lines start (line ∷ others) new text (inr f) = absurd (not_none new f.0)
 
 -- ---- the input
 
@@ -209,11 +214,12 @@ Concludes b old new a c status =
 
 module _ (found : Bor InCode) where
   -- what was printed of a whole list, and the status
-  outcome : (bytes : List ℕ) (left : Option Comparing) (text : List ℕ) → TakesFrom Compares 1 (first_of found) (lines_of bytes) left text
+  outcome : (bytes : List ℕ) (left : Option Comparing) (text : List ℕ)
+      → TakesAll Compares (record { first = first_of found; bytes = bytes; left = left; text = text })
       → told_of left text ≡ comparison (told found.now) bytes
   outcome bytes left text f =
       let all = comparison (told found.now) bytes in
-      outcome_from 1 (first_of found) (lines_of bytes) left text f
+      outcome_from (record { number = 1; sink = first_of found }) (lines_of bytes) (record { left = left; text = text }) f
       ∙ ap (λ (o : Option Status). record { text = all.text; status = o }) (both_none all.status)
 
   -- no line is wrong of what was taken
@@ -223,7 +229,7 @@ module _ (found : Bor InCode) where
     line = g.line;
     are = g.are;
     ended = g.ended;
-    registers = right_lines 1 (first_of found) g.sink (lines_of g.lines) g.text g.takes;
+    registers = right_lines (record { number = 1; sink = first_of found }) (lines_of g.lines) g.sink g.text g.takes;
     short = (g.one, subst (λ (line : List ℕ). length line ≤ most_line) (all_count g.line) (g.short refl));
   }
 

@@ -8,9 +8,10 @@ use Rattle.std.specs.Prelude.{filter, nat_eq}
 use Rattle.std.specs.Io.KnownBytes.{Consumes, Keeps}
 use Rattle.tpm_stream.proofs.Filled.{consumes_both}
 use Rattle.tpm_lines.specs.declared.lines.LineReader.{LineReader}
-use Rattle.tpm_lines.specs.InputLines.{lines_of, HasNoFeed, AreEnded, most_piece}
-use Rattle.tpm_lines.specs.LineSinks.{GoesOn, Limits, ReadsLines, LineStep, StopsAt, TakesFrom, kept, some_if}
-use Rattle.tpm_lines.specs.LineReading.{EndsAll, EndsLine, Feeds, FeedsOn, Holds, IsOver, has_some}
+use Rattle.tpm_lines.specs.InputLines.{lines_of, HasNoFeed, most_piece}
+use Rattle.tpm_lines.specs.LineSinks.{GoesOn, Limits, ReadsLines, LineStep, LinesEnd, LinesStart, StopsAt, TakesAll, TakesFrom, kept}
+use Rattle.tpm_lines.specs.LineSinks.{some_if}
+use Rattle.tpm_lines.specs.LineReading.{EndsAll, EndsLine, Feeds, FeedsOn, Holds, has_some}
 use Rattle.tpm_lines.proofs.InputLines.{no_feed-more, ended_line, ended_both, last_line, first_line, other_lines, longer_line}
 use Rattle.tpm_lines.proofs.InputLines.{lines_of-append}
 
@@ -78,30 +79,39 @@ none_has (x ∷ line) e = absurd (cc)
 -- ---- lines that are taken
 
 module _ {S : Type 0} (Takes : LineStep S → Type 0) where
-  pub takes_append : (n : ℕ) (s t : S) (xs ys : List (List ℕ)) (r : Option S) (a b : List ℕ) → TakesFrom Takes n s xs (Some t) a
-      → TakesFrom Takes (n + length xs) t ys r b → TakesFrom Takes n s (xs ++ ys) r (a ++ b)
-  takes_append n s t [] ys r a b f g =
+  at_number : (m n : ℕ) (s : S) (lines : List (List ℕ)) (end : LinesEnd S) → m ≡ n
+      → TakesFrom Takes (record { number = m; sink = s }) lines end → TakesFrom Takes (record { number = n; sink = s }) lines end
+  at_number m n s lines end same f = subst (λ (number : ℕ). TakesFrom Takes (record { number = number; sink = s }) lines end) same f
+
+  pub takes_append : (start : LinesStart S) (mid : S) (one : List ℕ) (xs ys : List (List ℕ)) (end : LinesEnd S)
+      → TakesFrom Takes start xs (record { left = Some mid; text = one })
+      → TakesFrom Takes (record { number = start.number + length xs; sink = mid }) ys end
+      → TakesFrom Takes start (xs ++ ys) (record { left = end.left; text = one ++ end.text })
+  takes_append start mid one [] ys end f g =
+      let n = start.number in
       let same : n + 0 ≡ n = omega arith in
-      let is : t ≡ s = cc (f.0) in
-      rw f.1 (subst (λ (u : S). TakesFrom Takes n u ys r b) is (subst (λ (m : ℕ). TakesFrom Takes m t ys r b) same g))
-  takes_append n s t (x ∷ xs) ys r a b (inl f) g =
+      let is : mid ≡ start.sink = cc (f.0) in
+      rw f.1 (subst (λ (s : S). TakesFrom Takes (record { number = n; sink = s }) ys end) is (at_number (n + 0) n mid ys end same g))
+  takes_append start mid one (x ∷ xs) ys end (inl f) g =
+      let n = start.number in
       let same : n + length (x ∷ xs) ≡ n + 1 + length xs = omega arith in
       inl (
         f.0,
         f.1,
-        f.2 ++ b,
+        f.2 ++ end.text,
         f.3,
-        takes_append (n + 1) f.0 t xs ys r f.2 b f.4 (subst (λ (m : ℕ). TakesFrom Takes m t ys r b) same g),
-        rw f.5 (append_assoc f.1 f.2 b),
+        takes_append (record { number = n + 1; sink = f.0 }) mid f.2 xs ys end f.4 (at_number (n + length (x ∷ xs)) (n + 1 + length xs) mid ys end same g),
+        rw f.5 (append_assoc f.1 f.2 end.text),
       )
-  takes_append n s t (x ∷ xs) ys r a b (inr f) g = let z : ⊥ = cc (f.0) in absurd z
+  takes_append start mid one (x ∷ xs) ys end (inr f) g = let z : ⊥ = cc (f.0) in absurd z
 
   takes_line : (n : ℕ) (s t : S) (line added : List ℕ) → Takes (record { number = n; old = s; line = line; new = Some t; text = added })
-      → TakesFrom Takes n s (line ∷ []) (Some t) added
+      → TakesFrom Takes (record { number = n; sink = s }) (line ∷ []) (record { left = Some t; text = added })
   takes_line n s t line added f = inl (t, added, [], f, (refl, refl), sym (append-nil added))
 
   takes_stop : (n : ℕ) (s : S) (line added : List ℕ) (others : List (List ℕ))
-      → Takes (record { number = n; old = s; line = line; new = None; text = added }) → TakesFrom Takes n s (line ∷ others) None added
+      → Takes (record { number = n; old = s; line = line; new = None; text = added })
+      → TakesFrom Takes (record { number = n; sink = s }) (line ∷ others) (record { left = None; text = added })
   takes_stop n s line added others f = inr (refl, f)
 
 -- ---- a reader
@@ -118,18 +128,19 @@ module _ {S : Type 0} (limits : Limits) (Takes : LineStep S → Type 0) where
       ∙ lines_of-append g.lines (g.line ++ byte ∷ more) g.ended
 
   held : (first : S) (bytes text : List ℕ) (r : LineReader S) (h : Holds limits Takes first bytes text r)
-      → TakesFrom Takes 1 first (lines_of h.goes.lines) (Some r.sink) text
+      → TakesAll Takes (record { first = first; bytes = h.goes.lines; left = Some r.sink; text = text })
   held first bytes text r h =
-      subst (λ (s : S). TakesFrom Takes 1 first (lines_of h.goes.lines) (Some s) text) h.sink
-      (subst (λ (t : List ℕ). TakesFrom Takes 1 first (lines_of h.goes.lines) (Some h.goes.sink) t) h.same h.goes.takes)
+      subst (λ (s : S). TakesAll Takes (record { first = first; bytes = h.goes.lines; left = Some s; text = text })) h.sink
+      (subst (λ (t : List ℕ). TakesAll Takes (record { first = first; bytes = h.goes.lines; left = Some h.goes.sink; text = t })) h.same h.goes.takes)
 
   -- what comes behind the lines that have ended
-  behind : (first : S) (bytes text added : List ℕ) (r : LineReader S) (lines : List (List ℕ)) (left : Option S)
-      → (h : Holds limits Takes first bytes text r) → TakesFrom Takes r.number r.sink lines left added
-      → TakesFrom Takes 1 first (lines_of h.goes.lines ++ lines) left (text ++ added)
-  behind first bytes text added r lines left h f =
-      takes_append Takes 1 first r.sink (lines_of h.goes.lines) lines left text added (held first bytes text r h)
-      (subst (λ (n : ℕ). TakesFrom Takes n r.sink lines left added) h.number f)
+  behind : (first : S) (bytes text : List ℕ) (r : LineReader S) (lines : List (List ℕ)) (end : LinesEnd S)
+      → (h : Holds limits Takes first bytes text r) → TakesFrom Takes (record { number = r.number; sink = r.sink }) lines end
+      → TakesFrom Takes (record { number = 1; sink = first }) (lines_of h.goes.lines ++ lines) (record { left = end.left; text = text ++ end.text })
+  behind first bytes text r lines end h f =
+      let before = lines_of h.goes.lines in
+      takes_append Takes (record { number = 1; sink = first }) r.sink text before lines end (held first bytes text r h)
+      (at_number Takes r.number (1 + length before) r.sink lines end h.number f)
 
   -- a byte of a line
   pub holds_byte : (old new : LineReader S) (byte : ℕ) → nat_eq byte 10 ≡ false → new.sink ≡ old.sink → new.number ≡ old.number → new.begun ≡ true
@@ -194,7 +205,7 @@ module _ {S : Type 0} (limits : Limits) (Takes : LineStep S → Type 0) where
             short = λ _. omega arith;
             sink = new.sink;
             text = text ++ added;
-            takes = rw lines (behind first before text added old (g.line ∷ []) (Some new.sink) h
+            takes = rw lines (behind first before text old (g.line ∷ []) (record { left = Some new.sink; text = added }) h
                 (takes_line Takes old.number old.sink new.sink g.line added (ended.0 g.line (sym h.line))));
           };
           sink = refl;
@@ -278,10 +289,11 @@ module _ {S : Type 0} (limits : Limits) (Takes : LineStep S → Type 0) where
 
   -- where it stops, whatever comes
   pub stops_whatever : (first : S) (bytes : List ℕ) (at : StopsAt limits Takes first bytes) (more : List ℕ)
-      → TakesFrom Takes 1 first (lines_of (bytes ++ more)) None (at.text ++ at.last)
+      → TakesAll Takes (record { first = first; bytes = bytes ++ more; left = None; text = at.text ++ at.last })
   stops_whatever first bytes at more =
       let stop = at.stops more in
-      rw stop.2 (takes_append Takes 1 first at.sink (lines_of at.lines) (stop.0 ∷ stop.1) None at.text at.last at.takes
+      let end : LinesEnd S = record { left = None; text = at.last } in
+      rw stop.2 (takes_append Takes (record { number = 1; sink = first }) at.sink at.text (lines_of at.lines) (stop.0 ∷ stop.1) end at.takes
       (takes_stop Takes (1 + length (lines_of at.lines)) at.sink stop.0 at.last stop.1 stop.3))
 
   -- the end
@@ -298,7 +310,7 @@ module _ {S : Type 0} (limits : Limits) (Takes : LineStep S → Type 0) where
 
   last_takes : (goes_on : Bool) (n : ℕ) (s t : S) (line added : List ℕ)
       → Takes (record { number = n; old = s; line = line; new = some_if goes_on t; text = added })
-      → TakesFrom Takes n s (line ∷ []) (some_if goes_on t) added
+      → TakesFrom Takes (record { number = n; sink = s }) (line ∷ []) (record { left = some_if goes_on t; text = added })
   last_takes true n s t line added f = takes_line Takes n s t line added f
   last_takes false n s t line added f = takes_stop Takes n s line added [] f
 
@@ -309,7 +321,7 @@ module _ {S : Type 0} (limits : Limits) (Takes : LineStep S → Type 0) where
       let all : lines_of bytes ≡ lines_of g.lines ++ g.line ∷ [] =
       ap lines_of g.are ∙ lines_of-append g.lines g.line g.ended
       ∙ ap (λ (ls : List (List ℕ)). lines_of g.lines ++ ls) (last g.line (sym h.begun ∙ begun) g.one) in
-      rw all (behind first bytes text added old (g.line ∷ []) (some_if goes_on new.sink) h
+      rw all (behind first bytes text old (g.line ∷ []) (record { left = some_if goes_on new.sink; text = added }) h
       (last_takes goes_on old.number old.sink new.sink g.line added (ended.0 g.line (sym h.line))))
 
   -- nothing has come

@@ -1,8 +1,8 @@
 -- How far the lines of an input have been taken.
-use Rattle.std.specs.Prelude.{◌≡◌, ℕ, ◌+◌, ◌≤◌, Bool, true, false, List, [], ◌∷◌, ◌++◌, length, Some, None}
+use Rattle.std.specs.Prelude.{◌≡◌, ℕ, ◌+◌, ◌≤◌, Bool, true, false, List, [], ◌∷◌, ◌++◌, length}
 use Rattle.tpm_lines.specs.declared.lines.LineReader.{LineReader}
 use Rattle.tpm_lines.specs.InputLines.{lines_of}
-use Rattle.tpm_lines.specs.LineSinks.{GoesOn, Limits, OnTrue, LineStep, StopsAt, TakesFrom, TakesKept, kept, some_if}
+use Rattle.tpm_lines.specs.LineSinks.{GoesOn, Limits, OnTrue, LineStep, StopsAt, TakesAll, TakesKept, kept, some_if}
 
 abbrev pub has_some : List ℕ → Bool
 has_some [] = false
@@ -59,4 +59,9 @@ module _ {S : Type 0} (limits : Limits) (Takes : LineStep S → Type 0) where
   -- All that was taken is all there is.
   abbrev pub EndsAll : Bool → (old new : LineReader S) → (added : List ℕ) → Type 0
   EndsAll goes_on old new added = (first : S) (bytes text : List ℕ) → Holds first bytes text old
-      → TakesFrom Takes 1 first (lines_of bytes) (some_if goes_on new.sink) (text ++ added)
+      → TakesAll Takes (record {
+        first = first;
+        bytes = bytes;
+        left = some_if goes_on new.sink;
+        text = text ++ added;
+      })

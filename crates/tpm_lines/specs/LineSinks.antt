@@ -39,16 +39,27 @@ TakesKept limits Takes step = (line : List ℕ) → kept limits line ≡ step.li
 
 -- ---- lines
 
--- Of these lines the first has this number. They are given one after the other, up to one that ends what is printed.
-abbrev pub TakesFrom : {Sink : Type 0} → (Takes : LineStep Sink → Type 0) → (number : ℕ) → (old : Sink)
-    → List (List ℕ) → (new : Option Sink) → (text : List ℕ) → Type 0
-TakesFrom Takes n s [] new text = (new ≡ Some s) × (text ≡ [])
-TakesFrom {Sink = Sink} Takes n s (line ∷ others) new text =
+-- the number of the first of some lines, and the sink that it is given to
+pub record LinesStart (Sink : Type 0) : Type 0 where
+  pub number : ℕ
+  pub sink : Sink
+
+-- the sink that is left behind lines, where it goes on, and what they added
+pub record LinesEnd (Sink : Type 0) : Type 0 where
+  pub left : Option Sink
+  pub text : List ℕ
+
+-- These lines are given one after the other, up to one that ends what is printed.
+abbrev pub TakesFrom : {Sink : Type 0} → (Takes : LineStep Sink → Type 0) → LinesStart Sink → List (List ℕ)
+    → LinesEnd Sink → Type 0
+TakesFrom Takes at [] end = (end.left ≡ Some at.sink) × (end.text ≡ [])
+TakesFrom {Sink = Sink} Takes at (line ∷ others) end =
     ((mid : Sink) × (one : List ℕ) × (more : List ℕ)
-    × Takes (record { number = n; old = s; line = line; new = Some mid; text = one })
-    × TakesFrom Takes (n + 1) mid others new more
-    × (text ≡ one ++ more))
-    ⊎ (new ≡ None) × Takes (record { number = n; old = s; line = line; new = None; text = text })
+    × Takes (record { number = at.number; old = at.sink; line = line; new = Some mid; text = one })
+    × TakesFrom Takes (record { number = at.number + 1; sink = mid }) others (record { left = end.left; text = more })
+    × (end.text ≡ one ++ more))
+    ⊎ (end.left ≡ None)
+    × Takes (record { number = at.number; old = at.sink; line = line; new = None; text = end.text })
 
 -- the bytes of an input, the sink that their lines are given to, and what comes of them
 pub record Reading (Sink : Type 0) : Type 0 where
@@ -59,7 +70,10 @@ pub record Reading (Sink : Type 0) : Type 0 where
 
 -- These bytes are all that come.
 abbrev pub TakesAll : {Sink : Type 0} → (Takes : LineStep Sink → Type 0) → Reading Sink → Type 0
-TakesAll Takes r = TakesFrom Takes 1 r.first (lines_of r.bytes) r.left r.text
+TakesAll Takes r = TakesFrom Takes (record { number = 1; sink = r.first }) (lines_of r.bytes) (record {
+  left = r.left;
+  text = r.text;
+})
 
 -- The lines that have ended were taken, with this text, and what has come of the next has not too many bytes.
 pub record GoesOn {Sink : Type 0} (limits : Limits) (Takes : LineStep Sink → Type 0) (first : Sink)
@@ -72,7 +86,7 @@ pub record GoesOn {Sink : Type 0} (limits : Limits) (Takes : LineStep Sink → T
   pub short : limits.long_ends ≡ true → length (filter limits.counts line) ≤ limits.most
   pub sink : Sink
   pub text : List ℕ
-  pub takes : TakesFrom Takes 1 first (lines_of lines) (Some sink) text
+  pub takes : TakesAll Takes (record { first = first; bytes = lines; left = Some sink; text = text })
 
 -- Up to a line all were taken, and this line, which has ended or has too many bytes, ends what is printed.
 pub record StopsAt {Sink : Type 0} (limits : Limits) (Takes : LineStep Sink → Type 0) (first : Sink)
@@ -86,7 +100,7 @@ pub record StopsAt {Sink : Type 0} (limits : Limits) (Takes : LineStep Sink → 
   pub over : ((more : List ℕ) × (rest ≡ 10 ∷ more)) ⊎ (limits.most < length (filter limits.counts line))
   pub sink : Sink
   pub text : List ℕ
-  pub takes : TakesFrom Takes 1 first (lines_of lines) (Some sink) text
+  pub takes : TakesAll Takes (record { first = first; bytes = lines; left = Some sink; text = text })
   pub last : List ℕ
   pub stops : (more : List ℕ) → (whole : List ℕ) × (others : List (List ℕ))
       × (lines_of (bytes ++ more) ≡ lines_of lines ++ whole ∷ others)

@@ -1,5 +1,5 @@
 -- The program's lines (this profile).
-use Rattle.std.specs.Prelude.{ℕ, ◌+◌, ◌-◌, ◌==◌, if◌then◌else◌, Bool, true, false, List, [], ◌∷◌, ◌++◌, length, map}
+use Rattle.std.specs.Prelude.{ℕ, ◌+◌, ◌-◌, ◌==◌, if◌then◌else◌, false, List, [], ◌∷◌, ◌++◌, length}
 use Rattle.std.specs.Prelude.{replicate, codes, Option, Some, None, Result, Ok, Err}
 use Rattle.std.specs.Fmt.{decimal, digits}
 use Rattle.hex.specs.Hex.{decode_of, encode_lower}
@@ -45,6 +45,9 @@ hex_member name bytes = codes ",\"" ++ (name ++ (codes "\":\"" ++ (encode_lower 
 unfoldable pub bytes_line : List ℕ → List ℕ
 bytes_line bytes = line (bytes_text bytes ∷ [])
 
+unfoldable pub parameters_line : List ℕ → List ℕ
+parameters_line bytes = line (codes "parameters" ∷ bytes_text bytes ∷ [])
+
 -- ---- refusals
 
 unfoldable pub refusal_line : Refusal → List ℕ
@@ -52,6 +55,3 @@ refusal_line refusal = line (codes "refused" ∷ hexadecimal 3 refusal.code ∷ 
 
 abbrev pub not_hexadecimal_line : List ℕ
 not_hexadecimal_line = line (codes "not" ∷ codes "hexadecimal" ∷ [])
-
-unfoldable pub parameters_line : List ℕ → List ℕ
-parameters_line bytes = line (codes "parameters" ∷ bytes_text bytes ∷ [])

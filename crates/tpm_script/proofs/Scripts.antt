@@ -19,8 +19,8 @@ use Rattle.tpm_lines.specs.declared.status.Status.{Status}
 use Rattle.tpm_lines.specs.Text.{bytes_line, line}
 use Rattle.tpm_lines.specs.InputLines.{lines_of, most_bytes}
 use Rattle.tpm_lines.proofs.InputLines.{ended_line, lines_of-append}
-use Rattle.tpm_lines.specs.LineSinks.{GoesOn, IsWhole, OnTrue, Reading, ReadsLines, ReadsOneMore, LineStep, StopsAt, TakesFrom}
-use Rattle.tpm_lines.specs.LineSinks.{TakesKept, kept, some_if}
+use Rattle.tpm_lines.specs.LineSinks.{GoesOn, IsWhole, OnTrue, Reading, ReadsLines, ReadsOneMore, LineStep, LinesEnd}
+use Rattle.tpm_lines.specs.LineSinks.{LinesStart, StopsAt, TakesAll, TakesFrom, TakesKept, kept, some_if}
 
 -- ---- the script of some lines
 
@@ -72,13 +72,15 @@ pub record Outcome (r : Run) (left : Option Run) (text : List ℕ) (s : Script) 
   pub status : status_of left ≡ status_for s.refused
   pub is : (o : Origin) (h : History) → StandsAt o h r.device → text ≡ script_text o h s
 
-runs : (n : ℕ) (r : Run) (lines : List (List ℕ)) (left : Option Run) (text : List ℕ) → TakesFrom Runs n r lines left text
-    → Outcome r left text (script_from n r.command (map line_of lines))
-runs n r [] left text f = record { status = rw f.0 refl; is = λ o h stands. f.1 }
-runs n r (line ∷ others) left text (inl f) =
+runs : (start : LinesStart Run) (lines : List (List ℕ)) (end : LinesEnd Run) → TakesFrom Runs start lines end
+    → Outcome start.sink end.left end.text (script_from start.number start.sink.command (map line_of lines))
+runs start [] end f = record { status = rw f.0 refl; is = λ o h stands. f.1 }
+runs start (line ∷ others) end (inl f) =
+    let n = start.number in
+    let r = start.sink in
     let l = line_of line in
     let es = events_from r.command (l ∷ []) in
-    let rest = runs (n + 1) f.0 others left f.2 f.4 in
+    let rest = runs (record { number = n + 1; sink = f.0 }) others (record { left = end.left; text = f.2 }) f.4 in
     let s : Script = script_from (n + 1) f.0.command (map line_of others) in
     let whole : script_from n r.command (l ∷ map line_of others) ≡ behind es s =
     script_from-more n r.command l (map line_of others) f.3.accepted
@@ -93,17 +95,17 @@ runs n r (line ∷ others) left text (inl f) =
           ∙ script_text-append o h es s
           ∙ ap (script_text o h) (sym whole);
     }
-runs n r (line ∷ others) left text (inr f) =
-    let whole = script_from-refused n r.command (line_of line) (map line_of others) f.1.0 in
+runs start (line ∷ others) end (inr f) =
+    let whole = script_from-refused start.number start.sink.command (line_of line) (map line_of others) f.1.0 in
     record {
       status = ap status_of f.0 ∙ ap (λ (t : Script). status_for t.refused) (sym whole);
       is = λ o h stands. f.1.1 ∙ ap (script_text o h) (sym whole);
     }
 
-pub outcome : (first : Run) (bytes : List ℕ) (left : Option Run) (text : List ℕ) → first.command ≡ 1 → TakesFrom Runs 1 first (lines_of bytes) left text
-    → Outcome first left text (script bytes)
-outcome first bytes left text is f =
-    subst (λ (k : ℕ). Outcome first left text (script_from 1 k (map line_of (lines_of bytes)))) is (runs 1 first (lines_of bytes) left text f)
+pub outcome : (r : Reading Run) → r.first.command ≡ 1 → TakesAll Runs r → Outcome r.first r.left r.text (script r.bytes)
+outcome r is f =
+    subst (λ (k : ℕ). Outcome r.first r.left r.text (script_from 1 k (map line_of (lines_of r.bytes)))) is
+    (runs (record { number = 1; sink = r.first }) (lines_of r.bytes) (record { left = r.left; text = r.text }) f)
 
 -- ---- what is kept of a line
 
@@ -140,11 +142,17 @@ short false n old new line text f = tt
 
 -- ---- lines that are accepted
 
-accepts : (n : ℕ) (r t : Run) (lines : List (List ℕ)) (text : List ℕ) → TakesFrom Runs n r lines (Some t) text
+accepts : (start : LinesStart Run) (lines : List (List ℕ)) (new : Run) (text : List ℕ)
+    → TakesFrom Runs start lines (record { left = Some new; text = text })
     → AllByRecursion (λ (line : List ℕ). line_of line ≢ NotHexadecimal) lines
-accepts n r t [] text f = tt
-accepts n r t (line ∷ others) text (inl f) = (f.3.accepted, accepts (n + 1) f.0 t others f.2 f.4)
-accepts n r t (line ∷ others) text (inr f) = let z : ⊥ = cc (f.0) in absurd z
+accepts start [] new text f = tt
+accepts start (line ∷ others) new text (inl f) =
+    (f.3.accepted, accepts (record { number = start.number + 1; sink = f.0 }) others new f.2 f.4)
+accepts start (line ∷ others) new text (inr f) = let z : ⊥ = cc (f.0) in absurd z
+
+accepts_all : (first new : Run) (bytes text : List ℕ) → TakesAll Runs (record { first = first; bytes = bytes; left = Some new; text = text })
+    → AllByRecursion (λ (line : List ℕ). line_of line ≢ NotHexadecimal) (lines_of bytes)
+accepts_all first new bytes text = accepts (record { number = 1; sink = first }) (lines_of bytes) new text
 
 same_next : (xs : List (List ℕ)) (x y : List ℕ) (ys zs : List (List ℕ)) → xs ++ x ∷ ys ≡ xs ++ y ∷ zs → x ≡ y
 same_next [] x y ys zs e = cc (e)
@@ -157,13 +165,13 @@ module _ (first : Run) where
     line = g.line;
     are = g.are;
     ended = g.ended;
-    accepted = accepts 1 first g.sink (lines_of g.lines) g.text g.takes;
+    accepted = accepts_all first g.sink g.lines g.text g.takes;
     one = g.one;
     most = rw all_count at (g.short refl);
   }
 
   pub answered : (bytes : List ℕ) (g : GoesOn digits Runs first bytes) → AreAnswered g.lines g.line
-  answered bytes g = record { ended = g.ended; accepted = accepts 1 first g.sink (lines_of g.lines) g.text g.takes; one = g.one }
+  answered bytes g = record { ended = g.ended; accepted = accepts_all first g.sink g.lines g.text g.takes; one = g.one }
 
   -- ---- the input
 
@@ -210,7 +218,7 @@ module _ (first : Run) where
     rest = at.rest;
     are = at.are;
     ended = at.ended;
-    accepted = accepts 1 first at.sink (lines_of at.lines) at.text at.takes;
+    accepted = accepts_all first at.sink at.lines at.text at.takes;
     one = at.one;
     refused = refused_line bytes at;
   }

@@ -6,7 +6,7 @@ use Rattle.std.proofs.lemmas.List.{append-nil, take_all}
 use Rattle.tpm_lines.specs.declared.status.Status.TheVariants.{Done, Refused}
 use Rattle.tpm_lines.specs.declared.status.Status.{Status}
 use Rattle.tpm_lines.specs.InputLines.{lines_of}
-use Rattle.tpm_lines.specs.LineSinks.{GoesOn, IsWhole, ReadsLines, TakesFrom, TakesKept}
+use Rattle.tpm_lines.specs.LineSinks.{GoesOn, IsWhole, ReadsLines, TakesAll, TakesFrom, TakesKept}
 use Rattle.tpm_lines.specs.Status.{both}
 use Rattle.tpm_show.specs.declared.telling.Telling.{Telling}
 use Rattle.tpm_show.specs.declared.capture.Capture.{Capture}
@@ -96,8 +96,8 @@ pub record Outcome (c : Capture) (lines : List (List ℕ)) (left : Option Captur
   pub tells : TellsFrom (place c) (map line_of lines) status text
   pub all : new.status ≡ both c.status status
 
-outcome_from : (n : ℕ) (c : Capture) (lines : List (List ℕ)) (left : Option Capture) (text : List ℕ) → TakesFrom TellsStep n c lines left text
-    → Outcome c lines left text
+outcome_from : (n : ℕ) (c : Capture) (lines : List (List ℕ)) (left : Option Capture) (text : List ℕ)
+    → TakesFrom TellsStep (record { number = n; sink = c }) lines (record { left = left; text = text }) → Outcome c lines left text
 outcome_from n c [] left text f = record { new = c; is = f.0; status = Done; tells = (refl, f.1); all = sym (both_done c.status) }
 outcome_from n c (line ∷ others) left text (inl f) =
     let told = f.3 in
@@ -122,7 +122,8 @@ outcome_from n c (line ∷ others) left text (inl f) =
 outcome_from n c (line ∷ others) left text (inr f) = absurd f.1
 
 module _ (how : Telling) (first : Capture) (starts : place first ≡ start how) (done : first.status ≡ Done) where
-  outcome : (bytes : List ℕ) (left : Option Capture) (text : List ℕ) → TakesFrom TellsStep 1 first (lines_of bytes) left text
+  outcome : (bytes : List ℕ) (left : Option Capture) (text : List ℕ)
+      → TakesAll TellsStep (record { first = first; bytes = bytes; left = left; text = text })
       → (new : Capture) × (left ≡ Some new) × TellsCapture how bytes new.status text
   outcome bytes left text f =
       let out = outcome_from 1 first (lines_of bytes) left text f in

@@ -1,7 +1,7 @@
-use Rattle.std.proofs.Common.{◌≡◌, ◌≤◌, ◌<◌, ◌++◌, ℕ, List, true, false, [], length, take, drop, refl, sym, subst, ◌∙◌, arith, rules, inl, inr}
+use Rattle.std.proofs.Common.{◌≡◌, ◌++◌, ℕ, List, true, false, [], length, take, drop, refl, sym, subst, ◌∙◌, arith, rules, inl, inr}
 use Rattle.std.proofs.Common.{length-append, length-take-le}
 use Rattle.std.proofs.lemmas.List.{append-nil, take-append-le}
-use Rattle.std.specs.Io.KnownBytes.{Appends, Consumes}
+use Rattle.std.specs.Io.KnownBytes.{Appends}
 use Rattle.tpm_stream.proofs.Filled.{consumes_both, consumes_none}
 use Rattle.tpm_lines.specs.declared.lines.LineReader.{LineReader}
 use Rattle.tpm_lines.specs.LineSinks.{GoesOn}

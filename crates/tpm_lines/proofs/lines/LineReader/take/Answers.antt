@@ -1,4 +1,3 @@
-use Rattle.std.proofs.Common.{◌≡◌}
 use Rattle.std.proofs.lemmas.Result.{IfOk-weaker}
 use Rattle.tpm_lines.proofs.LineReading.{feeds_end}
 use Rattle.tpm_lines.proofs.lines.LineReader.take.Goals as goal
