@@ -64,7 +64,8 @@ nv_by (bodies.NvIncrement by index) nv = record {
 }
 nv_by _ nv = nv
 
--- the NV memory after the commands of a history, from that of the origin on: power cycles leave it
+-- the NV memory after the commands of a history, from that of the origin on: power cycles leave it. Two queries, of the
+-- counters and of the greatest value, would call one another, and double at each step.
 abbrev pub nv_memory : Origin → History → NvMemory
 nv_memory o [] = o.nv
 nv_memory o (PowerCycle ∷ h) = nv_memory o h
