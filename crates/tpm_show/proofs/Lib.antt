@@ -1,3 +1,4 @@
 mod Captures
+mod Pieces
 mod Streams
 mod EntriesTold

@@ -18,7 +18,9 @@ use Rattle.tpm_show.specs.declared.telling.Telling.{Telling}
 use Rattle.tpm_show.specs.declared.capture.Capture.{Capture}
 use Rattle.tpm_show.specs.Capture.{Frame, CapturePlace, start, behind, most_bytes}
 use Rattle.tpm_show.specs.Capturing.{place, behind_all, TellsNext, Streams}
-use Rattle.tpm_show.specs.Stream.{Ending, AtEnd, Inside, BadSize, IsEnding, unmarked_frame, ending_text, ending_status}
+use Rattle.tpm_show.specs.Reports.{IsReportOrNothing}
+use Rattle.tpm_show.specs.Reports.{IsReportOrNothing}
+use Rattle.tpm_show.specs.Stream.{Ending, AtEnd, Inside, BadSize, IsEnding, unmarked_frame, ending_report, ending_status}
 use Rattle.tpm_show.specs.Stream.{OfRead, TellsStream}
 use Rattle.tpm_show.proofs.Captures.{both_done, tells_both, tells_one, behind_all-append}
 
@@ -89,9 +91,10 @@ broken_more rest more b = record {
 -- of a stream whose frames were told
 tells_stream : (how : Telling) (old mid : Option (List ℕ)) (read : ℕ) (c : Capture) (A : List ℕ → Type 0)
     → (f : Streams how (record { old = old; new = mid; count = read }) c A)
-    → (rest : List ℕ) (ending : Ending) → BeginsNoFrame rest → IsEnding rest ending
-    → TellsStream how (concat f.frames ++ rest) (both c.status (ending_status ending)) (f.text ++ ending_text how.json ending c.number read)
-tells_stream how old mid read c A f rest ending over ends = record {
+    → (rest : List ℕ) (ending : Ending) (last : List ℕ) → BeginsNoFrame rest → IsEnding rest ending
+    → IsReportOrNothing how.json (ending_report ending c.number read) last
+    → TellsStream how (concat f.frames ++ rest) (both c.status (ending_status ending)) (f.text ++ last)
+tells_stream how old mid read c A f rest ending last over ends report = record {
   frames = f.frames;
   rest = rest;
   cut = record { whole = refl; each = f.each; over = over };
@@ -101,7 +104,10 @@ tells_stream how old mid read c A f rest ending over ends = record {
   told = f.text;
   tells = f.tells;
   all = refl;
-  are = rw (f.number, f.count) refl;
+  last = last;
+  report = subst (λ (n : ℕ). IsReportOrNothing how.json (ending_report ending n (length (concat f.frames))) last) f.number
+      (subst (λ (at_byte : ℕ). IsReportOrNothing how.json (ending_report ending c.number at_byte) last) f.count report);
+  are = refl;
 }
 
 abbrev pub StreamAnswers : (how : Telling) → (old new : Option (List ℕ)) → (C : List ℕ → Type 0) → Status → Type 0
@@ -118,45 +124,42 @@ stream_ends how old mid new read c A f consumed end = (
   record {
     bytes = concat f.frames ++ [];
     read = consumes_both old mid new (concat f.frames) [] f.consumed consumed;
-    holds = rw (both_done c.status, append-nil f.text) at (tells_stream how old mid read c A f [] AtEnd none_begins refl);
+    holds = rw (both_done c.status, append-nil f.text) at (tells_stream how old mid read c A f [] AtEnd [] none_begins refl refl);
     whole = inl end;
   },
   f.added,
 )
 
 -- inside a frame
-pub stream_cut : (how : Telling) (old mid new : Option (List ℕ)) (read : ℕ) (rest : List ℕ) (c : Capture) (A B C : List ℕ → Type 0) → Joins A B C
+pub stream_cut : (how : Telling) (old mid new : Option (List ℕ)) (read : ℕ) (rest last : List ℕ) (c : Capture) (A B C : List ℕ → Type 0) → Joins A B C
     → Streams how (record { old = old; new = mid; count = read }) c A → Consumes mid new rest
-    → IsEnding rest Inside → IsAtEnd new → B (ending_text how.json Inside c.number read) → StreamAnswers how old new C Refused
-stream_cut how old mid new read rest c A B C joins f consumed ends end added = (
-  f.text ++ ending_text how.json Inside c.number read,
+    → IsEnding rest Inside → IsAtEnd new → IsReportOrNothing how.json (ending_report Inside c.number read) last → B last → StreamAnswers how old new C Refused
+stream_cut how old mid new read rest last c A B C joins f consumed ends end report added = (
+  f.text ++ last,
   record {
     bytes = concat f.frames ++ rest;
     read = consumes_both old mid new (concat f.frames) rest f.consumed consumed;
-    holds = subst (λ (s : Status). TellsStream how (concat f.frames ++ rest) s (f.text ++ ending_text how.json Inside c.number read)) (both_refused c.status)
-        (tells_stream how old mid read c A f rest Inside ends.0.no_frame ends);
+    holds = subst (λ (s : Status). TellsStream how (concat f.frames ++ rest) s (f.text ++ last)) (both_refused c.status)
+        (tells_stream how old mid read c A f rest Inside last ends.0.no_frame ends report);
     whole = inl end;
   },
-  joins f.text (ending_text how.json Inside c.number read) f.added added,
+  joins f.text last f.added added,
 )
 
 -- at a size that no frame has
-pub stream_breaks : (how : Telling) (old mid new : Option (List ℕ)) (read : ℕ) (rest : List ℕ) (c : Capture) (A B C : List ℕ → Type 0) → Joins A B C
+pub stream_breaks : (how : Telling) (old mid new : Option (List ℕ)) (read : ℕ) (rest last : List ℕ) (c : Capture) (A B C : List ℕ → Type 0) → Joins A B C
     → Streams how (record { old = old; new = mid; count = read }) c A → Consumes mid new rest
-    → IsBroken rest → B (ending_text how.json BadSize c.number read) → StreamAnswers how old new C Refused
-stream_breaks how old mid new read rest c A B C joins f consumed broken added =
-    let whole : (more : List ℕ) → TellsStream how (concat f.frames ++ (rest ++ more)) Refused (f.text ++ ending_text how.json BadSize c.number read) =
-    λ more. subst (λ (s : Status). TellsStream how (concat f.frames ++ (rest ++ more)) s
-    (f.text ++ ending_text how.json BadSize c.number read)) (both_refused c.status)
-    (tells_stream how old mid read c A f (rest ++ more) BadSize (broken_begins rest more broken) (broken_more rest more broken)) in (
-      f.text ++ ending_text how.json BadSize c.number read,
+    → IsBroken rest → IsReportOrNothing how.json (ending_report BadSize c.number read) last → B last → StreamAnswers how old new C Refused
+stream_breaks how old mid new read rest last c A B C joins f consumed broken report added =
+    let whole : (more : List ℕ) → TellsStream how (concat f.frames ++ (rest ++ more)) Refused (f.text ++ last) =
+    λ more. subst (λ (s : Status). TellsStream how (concat f.frames ++ (rest ++ more)) s (f.text ++ last)) (both_refused c.status)
+    (tells_stream how old mid read c A f (rest ++ more) BadSize last (broken_begins rest more broken) (broken_more rest more broken) report) in (
+      f.text ++ last,
       record {
         bytes = concat f.frames ++ rest;
         read = consumes_both old mid new (concat f.frames) rest f.consumed consumed;
-        holds =
-            subst (λ (r : List ℕ). TellsStream how (concat f.frames ++ r) Refused (f.text ++ ending_text how.json BadSize c.number read)) (append-nil
-            rest) (whole []);
+        holds = subst (λ (r : List ℕ). TellsStream how (concat f.frames ++ r) Refused (f.text ++ last)) (append-nil rest) (whole []);
         whole = inr (λ more. rw (append_assoc (concat f.frames) rest more) (whole more));
       },
-      joins f.text (ending_text how.json BadSize c.number read) f.added added,
+      joins f.text last f.added added,
     )

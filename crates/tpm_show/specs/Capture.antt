@@ -1,7 +1,6 @@
 -- What `show` prints of a capture: frames of both directions, each in a line (this profile).
 use Rattle.std.specs.Prelude.{◌≡◌, ◌<◌, ℕ, ◌+◌, ◌==◌, ◌||◌, nat_lt, Bool, true, false, List, [], ◌∷◌, ◌++◌, length}
 use Rattle.std.specs.Prelude.{map, codes, Option, Some, None, option_map, if◌then◌else◌}
-use Rattle.std.specs.Fmt.{decimal}
 use Rattle.std.specs.Io.KnownBytes.{Consumes, IsAtEnd}
 use Rattle.tpm_wire.specs.declared.refusal.Refusal.{Refusal}
 use Rattle.tpm_wire.specs.Path.{Spells, Fault}
@@ -15,19 +14,20 @@ use Rattle.tpm_buffer.specs.Responses.{ReplyCut, reply_cut, response}
 use Rattle.tpm_lines.specs.declared.status.Status.TheVariants.{Done, Refused}
 use Rattle.tpm_lines.specs.declared.status.Status.{Status}
 use Rattle.tpm_lines.specs.Status.{both}
-use Rattle.tpm_lines.specs.Text.{line, bytes_in}
+use Rattle.tpm_lines.specs.Text.{bytes_in}
 use Rattle.tpm_lines.specs.InputLines.{lines_of, AreEnded, HasNoFeed}
 pub use Rattle.tpm_show.specs.Digits.{is_blank, without_blanks, without_prefix}
 use Rattle.tpm_show.specs.declared.capture_lines.Direction.TheVariants.{Command, Reply}
 use Rattle.tpm_show.specs.declared.capture_lines.Direction.{Direction}
 use Rattle.tpm_show.specs.declared.capture_frames.Awaited.{Awaited}
 use Rattle.tpm_show.specs.declared.telling.Telling.{Telling}
-use Rattle.tpm_show.specs.CommandNames.{Listed, absent_behind, command_of}
+use Rattle.tpm_show.specs.CommandNames.{Listed, absent_name, command_of}
 use Rattle.tpm_show.specs.declared.frame_header.FrameHeader.{FrameHeader}
-use Rattle.tpm_show.specs.Headers.{header_in, command_head, command_head_members, reply_head, reply_head_members}
+use Rattle.tpm_show.specs.Headers.{header_in}
 use Rattle.tpm_show.specs.Library.{library_command, library_response}
-use Rattle.tpm_show.specs.Show.{Buffer, CommandBytes, ReplyBytes, command_rest, refusal_told, response_rest}
-use Rattle.tpm_show.specs.FrameJson.{fault_member, fault_object}
+use Rattle.tpm_show.specs.Pieces.{Piece, CommandHead, ReplyHead, RefusedWith, Absent, Untold}
+use Rattle.tpm_show.specs.Reports.{IsReport, fault_report, frame_report}
+use Rattle.tpm_show.specs.Show.{Buffer, CommandBytes, ReplyBytes, command_rest, response_rest}
 use Rattle.tpm_show.specs.declared.capture_frames.Awaited.TheVariants as awaits
 
 -- ---- what a line has
@@ -104,95 +104,65 @@ answered_code (awaits.Other code) = Some code
 
 -- ---- what is told of a frame
 
--- its header, in the first line or in the first members
-abbrev pub head_told : (json fields : Bool) → Direction → Awaited → Option FrameHeader → List ℕ
-head_told json fields direction awaited None = []
-head_told false fields Command awaited (Some h) = command_head fields h
-head_told true fields Command awaited (Some h) = command_head_members h
-head_told false fields Reply awaited (Some h) = reply_head fields (answered_code awaited) h
-head_told true fields Reply awaited (Some h) = reply_head_members (answered_code awaited) h
+-- its header
+abbrev pub head_told : Direction → Awaited → Option FrameHeader → List Piece
+head_told direction awaited None = []
+head_told Command awaited (Some h) = CommandHead h ∷ []
+head_told Reply awaited (Some h) = ReplyHead (answered_code awaited) h ∷ []
 
--- A command or a response that the bytes spell is told behind its header, and else their fault. Then stands which
--- command it is, where its code alone is refused, and what is behind its header by the library's tables.
-abbrev pub TellsBuffer : (how : Telling) → Buffer → Status → List ℕ → Type 0
-TellsBuffer how (CommandBytes bytes) Done text =
+abbrev pub absent_told : Option Listed → List Piece
+absent_told None = []
+absent_told (Some c) = Absent c.name ∷ []
+
+-- Behind the refusal of a command stands which command it is, where its code alone is refused, and what is behind its
+-- header by the library's tables.
+abbrev pub refused_command : Refusal → (bytes : List ℕ) → List Piece
+refused_command refusal bytes = RefusedWith refusal
+    ∷ (absent_told (absent_name refusal (code_number_in bytes)) ++ library_command bytes (header_in bytes))
+
+-- A command or a response that the bytes spell is told behind its header, and else their fault.
+abbrev pub TellsBuffer : (fields : Bool) → Buffer → Status → List Piece → Type 0
+TellsBuffer fields (CommandBytes bytes) Done pieces =
     (c : CommandOf) × (areas : Cut) × Spells command c bytes × HasCut bytes areas
-    × (text ≡ command_rest how.json how.fields areas c.body)
-TellsBuffer how (CommandBytes bytes) Refused text =
-    (refusal : Refusal) × Fault command bytes refusal
-    × (text ≡ refusal_told how.json how.fields refusal
-    ++ (absent_behind how.json refusal (code_number_in bytes)
-    ++ library_command how.json how.fields bytes (header_in bytes)))
-TellsBuffer how (ReplyBytes code bytes) Done text =
+    × (pieces ≡ command_rest fields areas c.body)
+TellsBuffer fields (CommandBytes bytes) Refused pieces =
+    (refusal : Refusal) × Fault command bytes refusal × (pieces ≡ refused_command refusal bytes)
+TellsBuffer fields (ReplyBytes code bytes) Done pieces =
     (r : Response) × (areas : ReplyCut) × Spells (response code) r bytes × Spells (reply_cut code) areas bytes
-    × (text ≡ response_rest how.json how.fields areas r)
-TellsBuffer how (ReplyBytes code bytes) Refused text =
-    (refusal : Refusal) × Fault (response code) bytes refusal
-    × (text ≡ refusal_told how.json how.fields refusal)
-
-abbrev pub sentence_text : (json : Bool) → List ℕ → List ℕ
-sentence_text false sentence = sentence ++ codes "\n"
-sentence_text true sentence = fault_member sentence
+    × (pieces ≡ response_rest fields areas r)
+TellsBuffer fields (ReplyBytes code bytes) Refused pieces =
+    (refusal : Refusal) × Fault (response code) bytes refusal × (pieces ≡ RefusedWith refusal ∷ [])
 
 -- a response to a command that the profile hasn't
-abbrev pub other_reply : (json fields : Bool) → Option Listed → List ℕ → List ℕ
-other_reply json fields None bytes = sentence_text json (codes "its command is not known")
-other_reply json fields (Some c) bytes = library_response json fields c bytes (header_in bytes)
+abbrev pub other_reply : Option Listed → List ℕ → List Piece
+other_reply None bytes = Untold (codes "its command is not known") ∷ []
+other_reply (Some c) bytes = library_response c bytes (header_in bytes)
 
--- a frame where it stands: its bytes, which reply is awaited there, and how it is told
+-- a frame where it stands: its bytes, which reply is awaited there, and whether its fields are told
 pub record FrameAt : Type 0 where
   pub bytes : List ℕ
   pub awaited : Awaited
-  pub how : Telling
+  pub fields : Bool
 
-abbrev pub TellsReply : Awaited → FrameAt → Status → List ℕ → Type 0
-TellsReply (awaits.Reply command) f status text = TellsBuffer f.how (ReplyBytes command f.bytes) status text
-TellsReply (awaits.Other code) f status text =
-    (status ≡ Refused) × (text ≡ other_reply f.how.json f.how.fields (command_of code) f.bytes)
-TellsReply awaits.Unknown f status text =
-    (status ≡ Refused) × (text ≡ sentence_text f.how.json (codes "its command is not known"))
-TellsReply awaits.Nothing f status text =
-    (status ≡ Refused) × (text ≡ sentence_text f.how.json (codes "no command is before it"))
+abbrev pub TellsReply : Awaited → FrameAt → Status → List Piece → Type 0
+TellsReply (awaits.Reply command) f status pieces = TellsBuffer f.fields (ReplyBytes command f.bytes) status pieces
+TellsReply (awaits.Other code) f status pieces =
+    (status ≡ Refused) × (pieces ≡ other_reply (command_of code) f.bytes)
+TellsReply awaits.Unknown f status pieces =
+    (status ≡ Refused) × (pieces ≡ Untold (codes "its command is not known") ∷ [])
+TellsReply awaits.Nothing f status pieces =
+    (status ≡ Refused) × (pieces ≡ Untold (codes "no command is before it") ∷ [])
 
 -- behind the header of a frame that went this way
-abbrev pub TellsRest : Direction → FrameAt → Status → List ℕ → Type 0
-TellsRest Command f status text = TellsBuffer f.how (CommandBytes f.bytes) status text
-TellsRest Reply f status text = TellsReply f.awaited f status text
+abbrev pub TellsRest : Direction → FrameAt → Status → List Piece → Type 0
+TellsRest Command f status pieces = TellsBuffer f.fields (CommandBytes f.bytes) status pieces
+TellsRest Reply f status pieces = TellsReply f.awaited f status pieces
 
 -- what its header says, whatever is refused, and then what stands behind the header
-abbrev pub TellsFrame : Direction → FrameAt → Status → List ℕ → Type 0
-TellsFrame direction f status text =
-    (rest : List ℕ) × TellsRest direction f status rest
-    × (text ≡ head_told f.how.json f.how.fields direction f.awaited (header_in f.bytes) ++ rest)
-
-abbrev pub mark_of : Direction → List ℕ
-mark_of Command = codes ">"
-mark_of Reply = codes "<"
-
--- its number, and which way it went
-abbrev pub front : ℕ → Direction → List ℕ
-front number direction = decimal number ++ (codes " " ++ (mark_of direction ++ codes " "))
-
-abbrev pub kind_of : Direction → List ℕ
-kind_of Command = codes "command"
-kind_of Reply = codes "response"
-
--- in one object, with its number and which way it went
-unfoldable pub frame_object : ℕ → Direction → List ℕ → List ℕ
-frame_object number direction members =
-    codes "{\"number\":"
-    ++ (decimal number ++ (codes ",\"kind\":\"" ++ (kind_of direction ++ (codes "\"" ++ (members ++ codes "}\n")))))
-
-abbrev pub numbered : (json : Bool) → ℕ → Direction → List ℕ → List ℕ
-numbered false number direction told = front number direction ++ told
-numbered true number direction told = frame_object number direction told
-
-unfoldable pub fault_line : ℕ → List ℕ → List ℕ
-fault_line number fault = line (decimal number ∷ fault ∷ [])
-
-abbrev pub fault_text : (json : Bool) → ℕ → List ℕ → List ℕ
-fault_text false number fault = fault_line number fault
-fault_text true number fault = fault_object number fault
+abbrev pub TellsFrame : Direction → FrameAt → Status → List Piece → Type 0
+TellsFrame direction f status pieces =
+    (rest : List Piece) × TellsRest direction f status rest
+    × (pieces ≡ head_told direction f.awaited (header_in f.bytes) ++ rest)
 
 -- ---- what is told of lines
 
@@ -211,16 +181,20 @@ behind p (Frame mark bytes) =
     record p { number = p.number + 1; awaited = awaited_behind (direction_of mark p.awaited bytes) bytes }
 behind p _ = record p { number = p.number + 1; awaited = awaits.Unknown }
 
+abbrev pub frame_at : CapturePlace → (bytes : List ℕ) → FrameAt
+frame_at p bytes = record { bytes = bytes; awaited = p.awaited; fields = p.how.fields }
+
 abbrev pub TellsLine : CapturePlace → Line → Status → List ℕ → Type 0
 TellsLine p Nothing status text = (status ≡ Done) × (text ≡ [])
 TellsLine p (Frame mark bytes) status text =
     let direction = direction_of mark p.awaited bytes in
-    (told : List ℕ)
-    × TellsFrame direction (record { bytes = bytes; awaited = p.awaited; how = p.how }) status told
-    × (text ≡ numbered p.how.json p.number direction told)
+    (pieces : List Piece)
+    × TellsFrame direction (frame_at p bytes) status pieces
+    × IsReport p.how.json (frame_report p.how.fields p.number direction pieces) text
 TellsLine p NotHexadecimal status text =
-    (status ≡ Refused) × (text ≡ fault_text p.how.json p.number (codes "not hexadecimal"))
-TellsLine p TooLong status text = (status ≡ Refused) × (text ≡ fault_text p.how.json p.number (codes "too long"))
+    (status ≡ Refused) × IsReport p.how.json (fault_report p.number (codes "not hexadecimal")) text
+TellsLine p TooLong status text =
+    (status ≡ Refused) × IsReport p.how.json (fault_report p.number (codes "too long")) text
 
 -- From this place the lines are told one after the other. All is done where each is.
 abbrev pub TellsFrom : CapturePlace → List Line → Status → List ℕ → Type 0

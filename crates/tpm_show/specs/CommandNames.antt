@@ -157,24 +157,8 @@ unfoldable pub absent_line : List ℕ → List ℕ
 absent_line name =
     line ((codes "TPM2_" ++ name) ∷ codes "is" ∷ codes "not" ∷ codes "in" ∷ codes "this" ∷ codes "profile" ∷ [])
 
-unfoldable pub absent_member : List ℕ → List ℕ
-absent_member name = codes ",\"name\":\"TPM2_" ++ (name ++ codes "\"")
-
--- its line, or its member
-abbrev pub absent_named : (json : Bool) → List ℕ → List ℕ
-absent_named false name = absent_line name
-absent_named true name = absent_member name
-
-abbrev pub absent_of : (json : Bool) → Option Listed → List ℕ
-absent_of json None = []
-absent_of json (Some c) = absent_named json c.name
-
--- A code without a name has none.
-abbrev pub absent_text : (json : Bool) → ℕ → List ℕ
-absent_text json code = absent_of json (command_of code)
-
--- The code stands behind the tag and the size.
-abbrev pub absent_behind : (json : Bool) → Refusal → Option ℕ → List ℕ
-absent_behind json refusal None = []
-absent_behind json refusal (Some code) =
-    if refusal.code == rc_command_code && refusal.at == 6 then absent_text json code else []
+-- Where its code alone is refused: which command it is, if it has a name. The code stands behind the tag and the size.
+abbrev pub absent_name : Refusal → Option ℕ → Option Listed
+absent_name refusal None = None
+absent_name refusal (Some code) =
+    if refusal.code == rc_command_code && refusal.at == 6 then command_of code else None

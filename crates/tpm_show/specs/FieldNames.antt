@@ -1,4 +1,4 @@
--- The names that Part 2 gives to numbers, by the types of the fields that they stand in (this profile; RFC 8259).
+-- The names that Part 2 gives to numbers, by the types of the fields that they stand in (this profile).
 use Rattle.std.specs.Prelude.{ℕ, ◌+◌, ◌*◌, ◌||◌, Bool, true, false, if◌then◌else◌, List, [], ◌∷◌, ◌++◌, codes as text}
 use Rattle.std.specs.Prelude.{Option, Some, None}
 use Rattle.std.specs.Str.{bytes_eq}
@@ -104,20 +104,15 @@ command_among (Some code) = command_of code
 abbrev pub command_in : (bytes : List ℕ) → Option Listed
 command_in bytes = command_among (number_in bytes)
 
--- a name of two parts behind the bytes in a line, or behind the member of them
-unfoldable pub behind_value : (json : Bool) → (front name : List ℕ) → List ℕ
-behind_value false front name = text " " ++ (front ++ name)
-behind_value true front name = text ",\"value_name\":\"" ++ (front ++ (name ++ text "\""))
+abbrev pub name_text : Option Named → Option (List ℕ)
+name_text None = None
+name_text (Some n) = Some n.name
 
-abbrev pub name_behind : (json : Bool) → Option Named → List ℕ
-name_behind json None = []
-name_behind json (Some n) = behind_value json [] n.name
+abbrev pub command_text : Option Listed → Option (List ℕ)
+command_text None = None
+command_text (Some c) = Some (text "TPM_CC_" ++ c.name)
 
-abbrev pub command_behind : (json : Bool) → Option Listed → List ℕ
-command_behind json None = []
-command_behind json (Some c) = behind_value json (text "TPM_CC_") c.name
-
-unfoldable pub value_name : (json : Bool) → (type bytes : List ℕ) → List ℕ
-value_name json type bytes =
-    if bytes_eq type (text "TPM_CC") then command_behind json (command_in bytes)
-    else name_behind json (name_of type bytes)
+-- the name that a field of this type and these bytes has, where it has one
+unfoldable pub value_name : (type bytes : List ℕ) → Option (List ℕ)
+value_name type bytes =
+    if bytes_eq type (text "TPM_CC") then command_text (command_in bytes) else name_text (name_of type bytes)

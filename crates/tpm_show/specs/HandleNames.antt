@@ -1,13 +1,13 @@
--- Handles by the names that Part 2 gives them, and what is told of a list of handles (this profile; RFC 8259).
-use Rattle.std.specs.Prelude.{ℕ, Bool, true, false, List, [], ◌∷◌, ◌++◌, codes, Option, Some, None}
+-- Handles by the names that Part 2 gives them, and what is told of a list of handles (this profile).
+use Rattle.std.specs.Prelude.{ℕ, Bool, true, false, List, [], ◌∷◌, ◌++◌, codes, map, Option, Some, None}
 use Rattle.std.specs.Option.{option_or}
 use Rattle.std.specs.Fmt.{decimal}
+use Rattle.json.specs.Token.{Token, null, string}
 use Rattle.tpm_types.specs.Handles.{kind_of}
 use Rattle.tpm_lines.specs.Named.{Named, named, named_in}
-use Rattle.tpm_lines.specs.Text.{comma, hexadecimal, lines_from}
-use Rattle.tpm_show.specs.declared.handle_names.HandleAs.TheVariants.{Line, Number, Name}
-use Rattle.tpm_show.specs.declared.handle_names.HandleAs.{HandleAs}
+use Rattle.tpm_lines.specs.Text.{hexadecimal, lines_from}
 use Rattle.tpm_show.specs.Headers.{name_behind}
+use Rattle.tpm_show.specs.Members.{list_member}
 
 -- ---- names
 
@@ -76,31 +76,24 @@ unfoldable pub handle_line : (names : Bool) → ℕ → ℕ → List ℕ
 handle_line names i handle = codes "handle "
     ++ (decimal i ++ (codes " " ++ (hexadecimal 8 handle ++ (handle_behind names handle ++ codes "\n"))))
 
--- ---- in lists
+abbrev pub handle_lines : (names : Bool) → List ℕ → List ℕ
+handle_lines names handles = lines_from (handle_line names) 1 handles
 
-unfoldable pub handle_number : ℕ → List ℕ
-handle_number handle = codes "\"" ++ (hexadecimal 8 handle ++ codes "\"")
+-- ---- in an object
+
+abbrev pub handle_number : ℕ → Token
+handle_number handle = string (hexadecimal 8 handle)
 
 -- A handle of no kind of Part 2 has none.
-abbrev pub name_or_null : Option Named → List ℕ
-name_or_null None = codes "null"
-name_or_null (Some n) = codes "\"" ++ (n.name ++ codes "\"")
+abbrev pub name_or_null : Option Named → Token
+name_or_null None = null
+name_or_null (Some n) = string n.name
 
--- a handle's line, or the entry of its number or of its name in a list
-abbrev pub handle_text : HandleAs → ℕ → ℕ → List ℕ
-handle_text (Line names) i handle = handle_line names i handle
-handle_text Number i handle = comma i ++ handle_number handle
-handle_text Name i handle = comma i ++ name_or_null (handle_named handle)
-
-abbrev pub handle_lines : (names : Bool) → List ℕ → List ℕ
-handle_lines names handles = lines_from (handle_text (Line names)) 1 handles
-
-unfoldable pub numbers_member : List ℕ → List ℕ
-numbers_member handles = codes ",\"handles\":[" ++ (lines_from (handle_text Number) 1 handles ++ codes "]")
-
-unfoldable pub names_member : List ℕ → List ℕ
-names_member handles = codes ",\"handle_names\":[" ++ (lines_from (handle_text Name) 1 handles ++ codes "]")
+abbrev pub handle_name : ℕ → Token
+handle_name handle = name_or_null (handle_named handle)
 
 -- the handles and their names, in the same order
-abbrev pub handles_members : List ℕ → List ℕ
-handles_members handles = numbers_member handles ++ names_member handles
+abbrev pub handles_members : List ℕ → List Token
+handles_members handles =
+    list_member (codes "handles") (map handle_number handles)
+    ++ list_member (codes "handle_names") (map handle_name handles)

@@ -3,6 +3,7 @@
 use Rattle.std.specs.Prelude.{ℕ, Bool, true, false, List, [], ◌∷◌, ◌++◌, length, take, nat_lt, codes, Option, Some}
 use Rattle.std.specs.Prelude.{None, Result, Ok, Err, if◌then◌else◌}
 use Rattle.std.specs.Fmt.{decimal}
+use Rattle.json.specs.Token.{Token}
 use Rattle.tpm_wire.specs.declared.refusal.Refusal.{Refusal}
 use Rattle.tpm_wire.specs.Token.{Here, at_start}
 use Rattle.tpm_wire.specs.Layout.Form.{field, done}
@@ -14,6 +15,7 @@ use Rattle.tpm_show.specs.declared.frame_header.FrameHeader.{FrameHeader}
 use Rattle.tpm_show.specs.CommandNames.{Listed, command_of}
 use Rattle.tpm_show.specs.Explain.{meaning_of, subject_text}
 use Rattle.tpm_show.specs.Meanings.{Meaning}
+use Rattle.tpm_show.specs.Members.{name_member, number_member, text_member}
 
 -- ---- ten bytes
 
@@ -95,33 +97,28 @@ reply_head names command h = codes "reply" ++ (answered command ++ (size_and_tag
 
 -- ---- in an object
 
-abbrev pub tag_member : Option Named → List ℕ
-tag_member None = []
-tag_member (Some n) = codes ",\"tag_name\":\"" ++ (n.name ++ codes "\"")
-
 -- the name of a response code under this member
-abbrev pub code_name_member : (member : List ℕ) → Option Meaning → ℕ → List ℕ
+abbrev pub code_name_member : (member : List ℕ) → Option Meaning → ℕ → List Token
 code_name_member member None code = []
-code_name_member member (Some m) code =
-    codes ",\"" ++ (member ++ (codes "\":\"" ++ (code_name code m ++ codes "\"")))
+code_name_member member (Some m) code = text_member member (code_name code m)
 
-unfoldable pub size_and_tag_members : FrameHeader → List ℕ
-size_and_tag_members h = codes ",\"size\":"
-    ++ (decimal h.size ++ (codes ",\"tag\":\""
-    ++ (hexadecimal 4 h.tag ++ (codes "\"" ++ tag_member (named_in tag_names h.tag)))))
+unfoldable pub size_and_tag_members : FrameHeader → List Token
+size_and_tag_members h = number_member (codes "size") h.size
+    ++ (text_member (codes "tag") (hexadecimal 4 h.tag) ++ name_member (codes "tag_name") (named_in tag_names h.tag))
 
-unfoldable pub command_member : ℕ → List ℕ
-command_member code = codes ",\"command\":\"" ++ (command_name code ++ codes "\"")
+abbrev pub command_member : ℕ → List Token
+command_member code = text_member (codes "command") (command_name code)
 
-unfoldable pub command_head_members : FrameHeader → List ℕ
+unfoldable pub command_head_members : FrameHeader → List Token
 command_head_members h = command_member h.code
-    ++ (size_and_tag_members h ++ (codes ",\"command_code\":\"" ++ (hexadecimal 8 h.code ++ codes "\"")))
+    ++ (size_and_tag_members h ++ text_member (codes "command_code") (hexadecimal 8 h.code))
 
-abbrev pub answered_member : Option ℕ → List ℕ
+abbrev pub answered_member : Option ℕ → List Token
 answered_member None = []
 answered_member (Some code) = command_member code
 
-unfoldable pub reply_head_members : (command : Option ℕ) → FrameHeader → List ℕ
+unfoldable pub reply_head_members : (command : Option ℕ) → FrameHeader → List Token
 reply_head_members command h = answered_member command
-    ++ (size_and_tag_members h ++ (codes ",\"code\":\"" ++ (hexadecimal 3 h.code
-    ++ (codes "\"" ++ code_name_member (codes "code_name") (meaning_of h.code) h.code))))
+    ++ (size_and_tag_members h
+    ++ (text_member (codes "code") (hexadecimal 3 h.code)
+    ++ code_name_member (codes "code_name") (meaning_of h.code) h.code))

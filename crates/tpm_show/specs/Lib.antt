@@ -21,3 +21,8 @@ pub mod Explain
 pub mod CommandNames
 pub mod Headers
 pub mod Library
+pub mod Members
+pub mod Pieces
+pub mod FrameLines
+pub mod Reports
+pub mod Remarks

@@ -16,6 +16,7 @@ use Rattle.tpm_buffer.specs.Commands.{is_tag, authorization_size}
 use Rattle.tpm_buffer.specs.Responses.{parameter_size}
 use Rattle.tpm_show.specs.declared.frame_header.FrameHeader.{FrameHeader}
 use Rattle.tpm_show.specs.CommandNames.{Listed, command_of}
+use Rattle.tpm_show.specs.Pieces.{Piece}
 use Rattle.tpm_show.specs.Sessions.{of_command, of_reply}
 use Rattle.tpm_show.specs.Show.{areas_told, reply_areas_told}
 
@@ -83,31 +84,29 @@ response_areas handles tag = field (λ a. a.handles) (any_handles handles) (λ h
 
 -- ---- what is told of them
 
-abbrev pub command_areas_read : (json names : Bool) → Result CommandAreas Refusal → List ℕ
-command_areas_read json names (Ok a) = areas_told json names a.handles (map of_command a.auths) a.params
-command_areas_read json names (Err e) = []
+abbrev pub command_areas_read : Result CommandAreas Refusal → List Piece
+command_areas_read (Ok a) = areas_told a.handles (map of_command a.auths) a.params
+command_areas_read (Err e) = []
 
-abbrev pub command_areas_of : (json names : Bool) → Option Listed → (tag : ℕ) → Option (List ℕ) → List ℕ
-command_areas_of json names (Some c) tag (Some rest) =
-    command_areas_read json names (read_all (command_areas c.handles tag) rest)
-command_areas_of json names _ tag _ = []
+abbrev pub command_areas_of : Option Listed → (tag : ℕ) → Option (List ℕ) → List Piece
+command_areas_of (Some c) tag (Some rest) = command_areas_read (read_all (command_areas c.handles tag) rest)
+command_areas_of _ tag _ = []
 
 -- of a command of the library, where its handles and its sessions are there
-abbrev pub library_command : (json names : Bool) → List ℕ → Option FrameHeader → List ℕ
-library_command json names bytes None = []
-library_command json names bytes (Some h) = command_areas_of json names (command_of h.code) h.tag (behind_whole bytes h)
+abbrev pub library_command : List ℕ → Option FrameHeader → List Piece
+library_command bytes None = []
+library_command bytes (Some h) = command_areas_of (command_of h.code) h.tag (behind_whole bytes h)
 
-abbrev pub response_areas_read : (json names : Bool) → Result ResponseAreas Refusal → List ℕ
-response_areas_read json names (Ok a) = reply_areas_told json names a.handles a.params (map of_reply a.auths)
-response_areas_read json names (Err e) = []
+abbrev pub response_areas_read : Result ResponseAreas Refusal → List Piece
+response_areas_read (Ok a) = reply_areas_told a.handles a.params (map of_reply a.auths)
+response_areas_read (Err e) = []
 
-abbrev pub response_areas_of : (json names : Bool) → Listed → (tag : ℕ) → Option (List ℕ) → List ℕ
-response_areas_of json names c tag None = []
-response_areas_of json names c tag (Some rest) =
-    response_areas_read json names (read_all (response_areas c.reply_handles tag) rest)
+abbrev pub response_areas_of : Listed → (tag : ℕ) → Option (List ℕ) → List Piece
+response_areas_of c tag None = []
+response_areas_of c tag (Some rest) = response_areas_read (read_all (response_areas c.reply_handles tag) rest)
 
 -- of a response of code 0 that is to this command of the library, where they are there
-abbrev pub library_response : (json names : Bool) → Listed → List ℕ → Option FrameHeader → List ℕ
-library_response json names c bytes None = []
-library_response json names c bytes (Some h) =
-    if h.code == 0 then response_areas_of json names c h.tag (behind_whole bytes h) else []
+abbrev pub library_response : Listed → List ℕ → Option FrameHeader → List Piece
+library_response c bytes None = []
+library_response c bytes (Some h) =
+    if h.code == 0 then response_areas_of c h.tag (behind_whole bytes h) else []

@@ -1,6 +1,5 @@
 -- What `show --pcap` prints: what went over a simulator's port, one after the other (this profile).
-use Rattle.std.specs.Prelude.{◌≡◌, ℕ, Bool, true, false, List, [], ◌∷◌, ◌++◌, codes, Some}
-use Rattle.std.specs.Fmt.{decimal}
+use Rattle.std.specs.Prelude.{◌≡◌, ℕ, List, [], ◌∷◌, ◌++◌, codes, Some}
 use Rattle.tpm_pcap.specs.declared.entry.Reason.TheVariants.{CutShort, Fragment, SentAgain, OutOfOrder, NoMessage}
 use Rattle.tpm_pcap.specs.declared.entry.Reason.TheVariants.{Malformed, UnknownLink, Unfinished}
 use Rattle.tpm_pcap.specs.declared.entry.Reason.{Reason}
@@ -14,6 +13,7 @@ use Rattle.tpm_show.specs.declared.capture_frames.Awaited.TheVariants.{Nothing, 
 use Rattle.tpm_show.specs.declared.capture_frames.Awaited.{Awaited}
 use Rattle.tpm_show.specs.declared.telling.Telling.{Telling}
 use Rattle.tpm_show.specs.Capture.{Frame, CapturePlace, start, behind, TellsLine}
+use Rattle.tpm_show.specs.Reports.{IsReport, link_report, no_capture_report, packet_report}
 use Rattle.tpm_pcap.specs.Entries as went
 
 -- ---- a packet that is not told
@@ -27,17 +27,6 @@ reason_text SentAgain = codes "not told, sent again"
 reason_text OutOfOrder = codes "not told, out of order"
 reason_text NoMessage = codes "not told, no message begins where one should"
 reason_text Unfinished = codes "a message before it did not come whole"
-
-unfoldable pub packet_line : ℕ → List ℕ → List ℕ
-packet_line packet reason = codes "packet " ++ (decimal packet ++ (codes ": " ++ (reason ++ codes "\n")))
-
-unfoldable pub packet_object : ℕ → List ℕ → List ℕ
-packet_object packet reason =
-    codes "{\"packet\":" ++ (decimal packet ++ (codes ",\"fault\":\"" ++ (reason ++ codes "\"}\n")))
-
-abbrev pub packet_text : (json : Bool) → ℕ → List ℕ → List ℕ
-packet_text false packet reason = packet_line packet reason
-packet_text true packet reason = packet_object packet reason
 
 -- ---- what went over the port
 
@@ -59,7 +48,7 @@ TellsEntry p Connection status text = (status ≡ Done) × (text ≡ [])
 TellsEntry p (went.Command bytes) status text = TellsLine p (Frame (Some Command) bytes) status text
 TellsEntry p (went.Reply bytes) status text = TellsLine p (Frame (Some Reply) bytes) status text
 TellsEntry p (Untold packet reason) status text =
-    (status ≡ Refused) × (text ≡ packet_text p.how.json packet (reason_text reason))
+    (status ≡ Refused) × IsReport p.how.json (packet_report packet (reason_text reason)) text
 
 -- From this place they are told one after the other. All is done where each is.
 abbrev pub TellsEntries : CapturePlace → List Entry → Status → List ℕ → Type 0
@@ -72,23 +61,9 @@ TellsEntries p (first ∷ others) status text = (one : Status) × (told : List �
 
 -- ---- a file
 
-abbrev pub no_capture_text : (json : Bool) → List ℕ
-no_capture_text false = codes "no capture of libpcap at 0\n"
-no_capture_text true = codes "{\"fault\":\"no capture of libpcap\",\"at\":0}\n"
-
-unfoldable pub link_line : ℕ → List ℕ
-link_line number = codes "link type " ++ (decimal number ++ codes " is not known at 20\n")
-
-unfoldable pub link_object : ℕ → List ℕ
-link_object number = codes "{\"fault\":\"link type " ++ (decimal number ++ codes " is not known\",\"at\":20}\n")
-
-abbrev pub link_text : (json : Bool) → ℕ → List ℕ
-link_text false number = link_line number
-link_text true number = link_object number
-
 abbrev pub TellsTraffic : (how : Telling) → Traffic → Status → List ℕ → Type 0
-TellsTraffic how NoCapture status text = (status ≡ Refused) × (text ≡ no_capture_text how.json)
-TellsTraffic how (OtherLink number) status text = (status ≡ Refused) × (text ≡ link_text how.json number)
+TellsTraffic how NoCapture status text = (status ≡ Refused) × IsReport how.json no_capture_report text
+TellsTraffic how (OtherLink number) status text = (status ≡ Refused) × IsReport how.json (link_report number) text
 TellsTraffic how (Entries entries) status text = TellsEntries (start how) entries status text
 
 -- For the bytes of a file this is the status and what is printed.

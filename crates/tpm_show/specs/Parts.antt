@@ -1,5 +1,5 @@
 -- What `show --fields` tells of the parts of structures, by the names that Part 2 gives them (this profile).
-use Rattle.std.specs.Prelude.{ℕ, Bool, List, [], ◌∷◌, ◌++◌, filter, codes as text, Some, None}
+use Rattle.std.specs.Prelude.{ℕ, List, [], ◌∷◌, filter, flat_map, map, codes as text, Some, None}
 use Rattle.std.specs.List.{range_with_len}
 use Rattle.tpm_wire.specs.Spelling.{spelling}
 use Rattle.tpm_types.specs.declared.alg.Alg.{Alg}
@@ -11,10 +11,8 @@ use Rattle.tpm_types.specs.Tpma.{nv_type}
 use Rattle.tpm_types.specs.Tpms.{selection, is_selected, nv_public_area}
 use Rattle.tpm_types.specs.Tpmt.{digest_value, sym_def}
 use Rattle.tpm_lines.specs.Named.{Named, named as numbered}
-use Rattle.tpm_lines.specs.Text.{lines_from}
-use Rattle.tpm_show.specs.declared.bits.BitsAs.TheVariants.{Numbers}
-use Rattle.tpm_show.specs.Bits.{bits_of}
-use Rattle.tpm_show.specs.FieldText.{Field, named, parts, fields_from, field_text, structure_text, number_text}
+use Rattle.tpm_show.specs.Bits.{bits_set}
+use Rattle.tpm_show.specs.Pieces.{Field, Piece, Number, Value, fields_from, named, parts, structure_told}
 
 -- ---- TPMA_NV (13.4)
 
@@ -44,14 +42,16 @@ attribute_names =
     numbered 31 (text "TPMA_NV_READ_STCLEAR") ∷
     []
 
--- each of them that is set
-abbrev pub set_attributes : (json : Bool) → ℕ → List ℕ
-set_attributes json attrs = bits_of attribute_names json Numbers 2 attrs
+abbrev pub set_attribute : Named → Piece
+set_attribute bit = Number (text "      ") bit.name 1
 
--- the field TPM_NT, whatever it is, and the bits
-abbrev pub attribute_parts : (json : Bool) → ℕ → List ℕ
-attribute_parts json attrs =
-    number_text json (text "      ") 1 (text "TPM_NT") (nv_type attrs) ++ set_attributes json attrs
+unfoldable pub attributes_set : ℕ → List Named
+attributes_set attrs = bits_set attribute_names attrs
+
+-- the field TPM_NT, whatever it is, and each bit that is set
+unfoldable pub attribute_parts : ℕ → List Piece
+attribute_parts attrs =
+    Number (text "      ") (text "TPM_NT") (nv_type attrs) ∷ map set_attribute (attributes_set attrs)
 
 -- ---- TPMS_NV_PUBLIC (13.5), which is what TPM2B_NV_PUBLIC (13.6) has
 
@@ -64,9 +64,9 @@ public_names =
     named (text "dataSize") (text "UINT16") ∷
     []
 
-abbrev pub public_parts : (json : Bool) → NvPublic → List ℕ
-public_parts json p = fields_from json (text "    ") 1 public_names
-    (parts nv_public_area p) (None ∷ None ∷ Some (attribute_parts json p.attrs) ∷ [])
+abbrev pub public_parts : NvPublic → List Piece
+public_parts p = fields_from (text "    ") public_names
+    (parts nv_public_area p) (None ∷ None ∷ Some (attribute_parts p.attrs) ∷ [])
 
 -- ---- TPML_PCR_SELECTION (10.9.7), whose entries are TPMS_PCR_SELECTION (10.6.2)
 
@@ -77,46 +77,48 @@ selection_names =
     named (text "pcrSelect") (text "BYTE") ∷
     []
 
-abbrev pub register_entry : (json : Bool) → ℕ → (register : ℕ) → List ℕ
-register_entry json i register = number_text json (text "        ") i (text "PCR") register
+abbrev pub register_part : (register : ℕ) → Piece
+register_part register = Number (text "        ") (text "PCR") register
 
--- each register that is selected
-abbrev pub register_parts : (json : Bool) → (select : List ℕ) → List ℕ
-register_parts json select = lines_from (register_entry json) 1 (filter (is_selected select) (range_with_len 0 24))
+unfoldable pub selected_registers : (select : List ℕ) → List ℕ
+selected_registers select = filter (is_selected select) (range_with_len 0 24)
 
-abbrev pub selection_members : (json : Bool) → Selection → List ℕ
-selection_members json s = fields_from json (text "      ") 1 selection_names
-    (parts selection s) (None ∷ None ∷ Some (register_parts json s.select) ∷ [])
+abbrev pub register_parts : (select : List ℕ) → List Piece
+register_parts select = map register_part (selected_registers select)
 
-abbrev pub selection_entry : (json : Bool) → ℕ → Selection → List ℕ
-selection_entry json i s = structure_text json (text "    ") i (text "pcrSelections")
-    (text "TPMS_PCR_SELECTION") (spelling selection s) (selection_members json s)
+abbrev pub selection_members : Selection → List Piece
+selection_members s = fields_from (text "      ") selection_names
+    (parts selection s) (None ∷ None ∷ Some (register_parts s.select) ∷ [])
 
-abbrev pub selection_parts : (json : Bool) → List Selection → List ℕ
-selection_parts json selections = lines_from (selection_entry json) 1 selections
+abbrev pub selection_entry : Selection → List Piece
+selection_entry s = structure_told (text "    ")
+    (named (text "pcrSelections") (text "TPMS_PCR_SELECTION")) (spelling selection s) (selection_members s)
+
+abbrev pub selection_parts : List Selection → List Piece
+selection_parts selections = flat_map selection_entry selections
 
 -- ---- TPML_DIGEST (10.9.5)
 
-abbrev pub digest_entry : (json : Bool) → ℕ → List ℕ → List ℕ
-digest_entry json i d = field_text json (text "    ") i (text "digests") (text "TPM2B_DIGEST") (spelling digest d)
+abbrev pub digest_entry : List ℕ → List Piece
+digest_entry d = Value (text "    ") (named (text "digests") (text "TPM2B_DIGEST")) (spelling digest d) ∷ []
 
-abbrev pub digest_parts : (json : Bool) → List (List ℕ) → List ℕ
-digest_parts json digests = lines_from (digest_entry json) 1 digests
+abbrev pub digest_parts : List (List ℕ) → List Piece
+digest_parts digests = flat_map digest_entry digests
 
 -- ---- TPML_DIGEST_VALUES (10.9.6), whose entries are TPMT_HA (10.3.2)
 
 abbrev pub digest_value_names : List Field
 digest_value_names = named (text "hashAlg") (text "TPMI_ALG_HASH") ∷ named (text "digest") (text "TPMU_HA") ∷ []
 
-abbrev pub digest_value_members : (json : Bool) → Alg × List ℕ → List ℕ
-digest_value_members json d = fields_from json (text "      ") 1 digest_value_names (parts digest_value d) []
+abbrev pub digest_value_members : Alg × List ℕ → List Piece
+digest_value_members d = fields_from (text "      ") digest_value_names (parts digest_value d) []
 
-abbrev pub digest_value_entry : (json : Bool) → ℕ → Alg × List ℕ → List ℕ
-digest_value_entry json i d = structure_text json (text "    ") i
-    (text "digests") (text "TPMT_HA") (spelling digest_value d) (digest_value_members json d)
+abbrev pub digest_value_entry : Alg × List ℕ → List Piece
+digest_value_entry d = structure_told (text "    ")
+    (named (text "digests") (text "TPMT_HA")) (spelling digest_value d) (digest_value_members d)
 
-abbrev pub digest_value_parts : (json : Bool) → List (Alg × List ℕ) → List ℕ
-digest_value_parts json digests = lines_from (digest_value_entry json) 1 digests
+abbrev pub digest_value_parts : List (Alg × List ℕ) → List Piece
+digest_value_parts digests = flat_map digest_value_entry digests
 
 -- ---- TPMT_SYM_DEF (11.1.6)
 
@@ -127,5 +129,5 @@ symmetric_names =
     named (text "mode") (text "TPMU_SYM_MODE") ∷
     []
 
-abbrev pub symmetric_parts : (json : Bool) → SymDef → List ℕ
-symmetric_parts json s = fields_from json (text "    ") 1 symmetric_names (parts sym_def s) []
+abbrev pub symmetric_parts : SymDef → List Piece
+symmetric_parts s = fields_from (text "    ") symmetric_names (parts sym_def s) []

@@ -1,14 +1,15 @@
 -- The sessions of a command or of a reply, as lines or as objects (Part 2, 10.13.2 and 10.13.3; RFC 8259).
-use Rattle.std.specs.Prelude.{ℕ, Bool, true, false, List, [], ◌∷◌, ◌++◌, codes, Option, Some, None}
+use Rattle.std.specs.Prelude.{ℕ, ◌==◌, if◌then◌else◌, Bool, true, false, List, [], ◌∷◌, ◌++◌, codes, map, Option}
+use Rattle.std.specs.Prelude.{Some, None}
 use Rattle.std.specs.Fmt.{decimal}
-use Rattle.hex.specs.Hex.{encode_lower}
+use Rattle.json.specs.Token.{Token, string}
 use Rattle.tpm_types.specs.declared.tpms.Auth.{Auth}
 use Rattle.tpm_types.specs.declared.tpms.AuthReply.{AuthReply}
 use Rattle.tpm_lines.specs.Named.{Named, named}
-use Rattle.tpm_lines.specs.Text.{bytes_text, comma, hexadecimal, lines_from}
-use Rattle.tpm_show.specs.declared.bits.BitsAs.TheVariants.{Names}
-use Rattle.tpm_show.specs.Bits.{bits_of}
+use Rattle.tpm_lines.specs.Text.{bytes_text, hexadecimal, lines_from}
+use Rattle.tpm_show.specs.Bits.{bits_set}
 use Rattle.tpm_show.specs.HandleNames.{handle_behind, handle_named}
+use Rattle.tpm_show.specs.Members.{hex_member, list_member, name_member, text_member}
 
 -- a session, whose handle only a command's has
 pub record ShownSession : Type 0 where
@@ -36,16 +37,20 @@ attribute_names =
     named 7 (codes "audit") ∷
     []
 
--- the names of those that are set
-unfoldable pub set_names : (json : Bool) → ℕ → List ℕ
-set_names json attributes = bits_of attribute_names json Names 1 attributes
-
--- where names are asked for
-abbrev pub attributes_behind : (names : Bool) → ℕ → List ℕ
-attributes_behind false attributes = []
-attributes_behind true attributes = set_names false attributes
+-- those that are set
+unfoldable pub attributes_set : ℕ → List Named
+attributes_set attributes = bits_set attribute_names attributes
 
 -- ---- a line
+
+-- behind the number: a space before the first name, and a comma before another
+unfoldable pub name_behind_number : ℕ → Named → List ℕ
+name_behind_number i bit = (if i == 1 then codes " " else codes ",") ++ bit.name
+
+-- the names of the bits that are set, where names are asked for
+abbrev pub attributes_behind : (names : Bool) → ℕ → List ℕ
+attributes_behind false attributes = []
+attributes_behind true attributes = lines_from name_behind_number 1 (attributes_set attributes)
 
 abbrev pub handle_in_line : (names : Bool) → Option ℕ → List ℕ
 handle_in_line names None = []
@@ -64,44 +69,21 @@ session_line names i s = codes "session "
 
 -- ---- an object
 
-abbrev pub session_name : Option Named → List ℕ
-session_name None = []
-session_name (Some n) = codes ",\"session_name\":\"" ++ (n.name ++ codes "\"")
-
-unfoldable pub handle_members : ℕ → List ℕ
-handle_members handle = codes "\"session\":\""
-    ++ (hexadecimal 8 handle ++ (codes "\"" ++ session_name (handle_named handle)))
-
-abbrev pub handle_in_object : Option ℕ → List ℕ
+abbrev pub handle_in_object : Option ℕ → List Token
 handle_in_object None = []
-handle_in_object (Some handle) = handle_members handle ++ codes ","
+handle_in_object (Some handle) =
+    text_member (codes "session") (hexadecimal 8 handle) ++ name_member (codes "session_name") (handle_named handle)
 
-abbrev pub object_front : ℕ → Option ℕ → List ℕ
-object_front i handle = comma i ++ (codes "{" ++ handle_in_object handle)
+abbrev pub bit_name : Named → Token
+bit_name bit = string bit.name
 
-unfoldable pub attributes_number : ℕ → List ℕ
-attributes_number attributes = codes "\"attributes\":\"" ++ (hexadecimal 2 attributes ++ codes "\"")
+-- the attributes, and the names of the bits that are set
+unfoldable pub attributes_members : ℕ → List Token
+attributes_members attributes =
+    text_member (codes "attributes") (hexadecimal 2 attributes)
+    ++ list_member (codes "attribute_names") (map bit_name (attributes_set attributes))
 
--- The list of the names is left open.
-abbrev pub attributes_in_object : ℕ → List ℕ
-attributes_in_object attributes =
-    attributes_number attributes ++ (codes ",\"attribute_names\":[" ++ set_names true attributes)
-
-unfoldable pub session_object : ℕ → ShownSession → List ℕ
-session_object i s = object_front i s.handle
-    ++ (codes "\"nonce\":\"" ++ (encode_lower s.nonce
-    ++ (codes "\"," ++ (attributes_in_object s.attributes
-    ++ (codes "],\"hmac\":\"" ++ (encode_lower s.hmac ++ codes "\"}"))))))
-
--- ---- all of them
-
--- the line of a session, or its object in a list
-abbrev pub session_text : (json names : Bool) → ℕ → ShownSession → List ℕ
-session_text false names i s = session_line names i s
-session_text true names i s = session_object i s
-
-abbrev pub session_lines : (names : Bool) → List ShownSession → List ℕ
-session_lines names sessions = lines_from (session_text false names) 1 sessions
-
-unfoldable pub sessions_member : List ShownSession → List ℕ
-sessions_member sessions = codes ",\"sessions\":[" ++ (lines_from (session_text true true) 1 sessions ++ codes "]")
+unfoldable pub session_members : ShownSession → List Token
+session_members s = handle_in_object s.handle
+    ++ (hex_member (codes "nonce") s.nonce
+    ++ (attributes_members s.attributes ++ hex_member (codes "hmac") s.hmac))

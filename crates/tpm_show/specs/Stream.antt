@@ -1,16 +1,14 @@
 -- What `show --binary` prints of a stream of frames (this profile).
-use Rattle.std.specs.Prelude.{◌≡◌, ℕ, ◌+◌, ◌<◌, ◌⊎◌, Bool, true, false, List, [], ◌∷◌, ◌++◌, length, map, codes, Option}
-use Rattle.std.specs.Prelude.{None}
+use Rattle.std.specs.Prelude.{◌≡◌, ℕ, ◌+◌, ◌<◌, ◌⊎◌, Bool, List, [], ◌++◌, length, map, codes, Option}
+use Rattle.std.specs.Prelude.{Some, None}
 use Rattle.std.specs.List.{concat}
-use Rattle.std.specs.Fmt.{decimal}
 use Rattle.std.specs.Io.KnownBytes.{Consumes, IsAtEnd}
 use Rattle.tpm_stream.specs.Frames.{Frames, IsPart, IsBroken}
 use Rattle.tpm_lines.specs.declared.status.Status.TheVariants.{Done, Refused}
 use Rattle.tpm_lines.specs.declared.status.Status.{Status}
 use Rattle.tpm_lines.specs.Status.{both}
-use Rattle.tpm_lines.specs.Text.{line}
 use Rattle.tpm_show.specs.declared.telling.Telling.{Telling}
-use Rattle.tpm_show.specs.FrameJson.{stop_object}
+use Rattle.tpm_show.specs.Reports.{IsReportOrNothing, Report, stop_report}
 use Rattle.tpm_show.specs.Capture.{Line, Frame, start, TellsFrom}
 
 -- how a stream goes on behind its last frame: not at all, with less than a frame, or with a size that no frame has
@@ -24,19 +22,11 @@ IsEnding rest AtEnd = rest ≡ []
 IsEnding rest Inside = IsPart rest × (0 < length rest)
 IsEnding rest BadSize = IsBroken rest
 
--- that no frame comes, where the next one has this number, behind so many bytes
-unfoldable pub stop_line : ℕ → List ℕ → ℕ → List ℕ
-stop_line number fault at = line (decimal number ∷ fault ∷ codes "at" ∷ decimal at ∷ [])
-
--- its line, or its object
-abbrev pub stop_text : (json : Bool) → ℕ → List ℕ → ℕ → List ℕ
-stop_text false number fault at = stop_line number fault at
-stop_text true number fault at = stop_object number fault at
-
-abbrev pub ending_text : (json : Bool) → Ending → (number at : ℕ) → List ℕ
-ending_text json AtEnd number at = []
-ending_text json Inside number at = stop_text json number (codes "cut short") at
-ending_text json BadSize number at = stop_text json number (codes "bad size") at
+-- what is told of it, where the next frame has this number, behind so many bytes
+abbrev pub ending_report : Ending → (number at : ℕ) → Option Report
+ending_report AtEnd number at = None
+ending_report Inside number at = Some (stop_report number (codes "cut short") at)
+ending_report BadSize number at = Some (stop_report number (codes "bad size") at)
 
 abbrev pub ending_status : Ending → Status
 ending_status AtEnd = Done
@@ -57,7 +47,9 @@ pub record TellsStream (how : Telling) (bytes : List ℕ) (status : Status) (tex
   pub told : List ℕ
   pub tells : TellsFrom (start how) (map unmarked_frame frames) one told
   pub all : status ≡ both one (ending_status ending)
-  pub are : text ≡ told ++ ending_text how.json ending (length frames + 1) (length (concat frames))
+  pub last : List ℕ
+  pub report : IsReportOrNothing how.json (ending_report ending (length frames + 1) (length (concat frames))) last
+  pub are : text ≡ told ++ last
 
 -- Of these bytes the frames that have come are told, and of the one that has not nothing.
 pub record TellsWhole (how : Telling) (bytes text : List ℕ) : Type 0 where

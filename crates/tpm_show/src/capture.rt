@@ -9,15 +9,21 @@ ghost use Rattle.tpm_lines.specs.declared.status.Status.TheVariants.{Done, Refus
 ghost use Rattle.tpm_lines.specs.Faults.{FailsByMemoryOrWrite};
 ghost use Rattle.tpm_lines.specs.InputLines.{AddedTo, CountsRead};
 ghost use Rattle.tpm_show.specs.declared.capture_frames.Awaited.TheVariants.{Unknown};
-ghost use Rattle.tpm_show.specs.Capture.{Frame, start, fault_text, TellsCapture, ReadsAll};
+ghost use Rattle.tpm_show.specs.Capture.{Frame, frame_at, start, TellsCapture, TellsFrame, ReadsAll};
 ghost use Rattle.tpm_show.specs.Capture.{ReadsTooMuchCapture, TellsEnded};
 ghost use Rattle.tpm_show.specs.Capturing.{read_as, place, Passes, TellsNext};
+ghost use Rattle.tpm_show.specs.Members.{object_of};
+ghost use Rattle.tpm_show.specs.Pieces.{Piece};
+ghost use Rattle.tpm_show.specs.Reports.{IsObjectLine, IsReport, fault_report, frame_report, front, front_members};
+ghost use Rattle.tpm_show.specs.Reports.{kind_of};
 
-use crate::capture_frames::{
-    Awaited, answer_to_frame, awaited_behind, direction_of, push_fault, push_numbered,
-};
+use crate::capture_frames::{Awaited, awaited_behind, direction_of, tell_frame};
 use crate::capture_lines::{Direction, Line, MOST_LINE, read_line};
 use crate::digits::is_blank;
+use crate::lines::Lines;
+use crate::object::Object;
+use crate::remark::Remark;
+use crate::reports::push_remark;
 use crate::telling::Telling;
 use std::alloc::{AllocError, Global};
 use std::io::Write;
@@ -40,6 +46,35 @@ pub(crate) struct Capture {
     pub(crate) awaited: Awaited,
     // whether all frames so far are what they are taken for
     pub(crate) status: Status,
+}
+
+// Adds the number of a frame, and which way it went.
+fn push_front(text: &mut String, number: u64, direction: Direction) -> Pushed
+    ensures { OnOk result
+        (string_bytes text.new ≡ string_bytes text.old ++ front number direction) }
+{
+    match direction {
+        Direction::Command => write!(text, "{number} > "),
+        Direction::Reply => write!(text, "{number} < "),
+    }
+}
+
+fn kind_of(direction: Direction) -> &'static str
+    ensures { result.now ≡ kind_of direction }
+{
+    match direction {
+        Direction::Command => "command",
+        Direction::Reply => "response",
+    }
+}
+
+// Adds the same as members.
+fn tell_front(object: &mut Object, number: u64, direction: Direction) -> Pushed
+    ensures { OnOk result (object.new.writer.tokens
+        ≡ object.old.writer.tokens ++ front_members number direction) }
+{
+    object.number_member("number", number)?;
+    object.text_member("kind", kind_of(direction))
 }
 
 impl Capture {
@@ -66,15 +101,83 @@ impl Capture {
         self.status = self.status.both(status);
     }
 
-    fn tell_fault(&mut self, text: &mut String, fault: &str) -> Pushed
+    fn tell_fault(&mut self, alloc: Global, text: &mut String, fault: &'static str) -> Pushed
         requires { self.old.number + 1 < 2 ^ 64 }
-        ensures { OnOk result (string_bytes text.new
-            ≡ string_bytes text.old ++ fault_text self.old.how.json self.old.number fault.now
+        ensures { OnOk result ((report : List ℕ)
+            × IsReport self.old.how.json (fault_report self.old.number fault.now) report
+            × (string_bytes text.new ≡ string_bytes text.old ++ report)
             × Passes self.old Unknown Refused self.new) }
     {
-        push_fault(text, self.how.json, self.number, fault)?;
+        let remark = Remark::Fault(self.number, fault);
+        push_remark(alloc, text, self.how.json, remark)?;
         self.pass(Awaited::Unknown, Status::Refused);
         Ok(())
+    }
+
+    // Adds the lines of a frame.
+    fn push_lines<const FIELDS: bool>(
+        &self,
+        alloc: Global,
+        direction: Direction,
+        bytes: &[u8],
+        text: &mut String,
+    ) -> Result<Status, AllocError>
+        requires { self.now.how.fields ≡ FIELDS }
+        ensures { IfOk result (λ status. (pieces : List Piece)
+            × TellsFrame direction (frame_at (place self.now) bytes.now) status pieces
+            × (string_bytes text.new ≡ string_bytes text.old
+            ++ (frame_report FIELDS self.now.number direction pieces).lines)) }
+    {
+        let mut lines = Lines::<FIELDS>::new(alloc);
+        let status = tell_frame(&mut lines, FIELDS, direction, self.awaited, bytes)?;
+        push_front(text, self.number, direction)?;
+        text.push_str(lines.text.as_str())?;
+        Ok(status)
+    }
+
+    // Adds the object of a frame.
+    #[tactic(auto, using(std::proofs::Common::append_assoc), unfolding(crate::specs::Members::object_of))]
+    fn push_object(
+        &self,
+        alloc: Global,
+        direction: Direction,
+        bytes: &[u8],
+        text: &mut String,
+    ) -> Result<Status, AllocError>
+        ensures { IfOk result (λ status. (pieces : List Piece)
+            × TellsFrame direction (frame_at (place self.now) bytes.now) status pieces
+            × (line : List ℕ)
+            × IsObjectLine (object_of (frame_report self.now.how.fields self.now.number
+            direction pieces).members) line
+            × (string_bytes text.new ≡ string_bytes text.old ++ line)) }
+    {
+        let mut object = Object::begin(alloc)?;
+        tell_front(&mut object, self.number, direction)?;
+        let status = tell_frame(&mut object, self.how.fields, direction, self.awaited, bytes)?;
+        object.end_line(text)?;
+        Ok(status)
+    }
+
+    // Adds what is told of a frame.
+    fn push_frame(
+        &self,
+        alloc: Global,
+        direction: Direction,
+        bytes: &[u8],
+        text: &mut String,
+    ) -> Result<Status, AllocError>
+        ensures { IfOk result (λ status. (pieces : List Piece)
+            × TellsFrame direction (frame_at (place self.now) bytes.now) status pieces
+            × (report : List ℕ)
+            × IsReport self.now.how.json
+            (frame_report self.now.how.fields self.now.number direction pieces) report
+            × (string_bytes text.new ≡ string_bytes text.old ++ report)) }
+    {
+        match (self.how.json, self.how.fields) {
+            (true, _) => self.push_object(alloc, direction, bytes, text),
+            (false, true) => self.push_lines::<true>(alloc, direction, bytes, text),
+            (false, false) => self.push_lines::<false>(alloc, direction, bytes, text),
+        }
     }
 
     /// Takes a frame, and adds what is told of it.
@@ -90,15 +193,8 @@ impl Capture {
             (AddedTo (string_bytes text.old) (string_bytes text.new))) }
     {
         let direction = direction_of(mark, self.awaited, bytes);
-        let answer = answer_to_frame(alloc, self.how, direction, self.awaited, bytes)?;
-        push_numbered(
-            text,
-            self.how.json,
-            self.number,
-            direction,
-            answer.text.as_str(),
-        )?;
-        self.pass(awaited_behind(direction, bytes), answer.status);
+        let status = self.push_frame(alloc, direction, bytes, text)?;
+        self.pass(awaited_behind(direction, bytes), status);
         Ok(())
     }
 
@@ -110,8 +206,8 @@ impl Capture {
         match line {
             Line::Nothing => Ok(()),
             Line::Frame(mark, bytes) => self.tell_frame(alloc, *mark, bytes.as_slice(), text),
-            Line::NotHexadecimal => self.tell_fault(text, "not hexadecimal"),
-            Line::TooLong => self.tell_fault(text, "too long"),
+            Line::NotHexadecimal => self.tell_fault(alloc, text, "not hexadecimal"),
+            Line::TooLong => self.tell_fault(alloc, text, "too long"),
         }
     }
 

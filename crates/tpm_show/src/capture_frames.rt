@@ -1,31 +1,22 @@
 //! The frames of a capture.
 
-ghost use Rattle.std.specs.Prelude.{◌≡◌, ◌++◌, List, ℕ, IfOk, OnOk, string_bytes};
-ghost use Rattle.tpm_show.specs.Capture.{code_number_in, answered_code, awaited_behind, direction_of};
-ghost use Rattle.tpm_show.specs.Capture.{is_response, front};
-ghost use Rattle.tpm_show.specs.Capture.{frame_object, kind_of, numbered, fault_line, fault_text, sentence_text};
-ghost use Rattle.tpm_show.specs.CommandNames.{absent_behind, command_of};
-ghost use Rattle.tpm_show.specs.Headers.{header_in};
-ghost use Rattle.tpm_show.specs.Library.{library_command};
-ghost use Rattle.tpm_show.specs.Show.{CommandBytes, ReplyBytes, refusal_told};
-ghost use Rattle.tpm_show.specs.Capture.{head_told, other_reply, TellsBuffer, TellsRest, TellsFrame};
+ghost use Rattle.std.specs.Prelude.{◌≡◌, ◌++◌, [], ◌∷◌, List, IfOk, OnOk, flat_map, option_map};
+ghost use Rattle.tpm_show.specs.Capture.{absent_told, code_number_in, answered_code, awaited_behind, direction_of};
+ghost use Rattle.tpm_show.specs.Capture.{head_told, is_response, other_reply, refused_command};
+ghost use Rattle.tpm_show.specs.Capture.{TellsBuffer, TellsRest, TellsFrame};
+ghost use Rattle.tpm_show.specs.CommandNames.{absent_name, command_of, listed_as};
+ghost use Rattle.tpm_show.specs.Pieces.{Piece, RefusedWith, Untold};
 ghost use Rattle.tpm_lines.specs.declared.status.Status.TheVariants.{Refused};
+ghost use Rattle.tpm_show.specs.Show.{CommandBytes, ReplyBytes};
 
 use crate::capture_lines::Direction;
-use crate::command_names::{command_of, push_refused_command};
-use crate::frame_header::{
-    FrameHeader, header_in, push_command_head, push_command_head_members, push_reply_head,
-    push_reply_head_members,
-};
-use crate::frame_json::push_fault_object;
-use crate::library::{push_library_command, push_library_response};
-use crate::telling::Telling;
-use crate::told::{
-    command_and_areas, push_command_rest, push_refused, push_response_rest, response_and_areas,
-};
-use std::alloc::{AllocError, Global};
+use crate::command_names::{Listed, absent_name, command_of};
+use crate::frame_header::{FrameHeader, header_in};
+use crate::library::{tell_library_command, tell_library_response};
+use crate::teller::Teller;
+use crate::told::{command_and_areas, response_and_areas, tell_command_rest, tell_response_rest};
+use std::alloc::AllocError;
 use tpm_commands::CommandCode;
-use tpm_lines::answer::Answer;
 use tpm_lines::status::Status;
 use tpm_lines::text::Pushed;
 use tpm_wire::Refusal;
@@ -102,241 +93,164 @@ fn answered_code(awaited: Awaited) -> Option<u32>
 
 // ---- what is told of it
 
-// Adds what the header says.
-fn push_head(
-    text: &mut String,
-    how: Telling,
+// Tells what the header says.
+fn tell_head<T: Teller>(
+    teller: &mut T,
     direction: Direction,
     awaited: Awaited,
     header: Option<FrameHeader>,
 ) -> Pushed
-    ensures { OnOk result (string_bytes text.new ≡ string_bytes text.old
-        ++ head_told how.json how.fields direction awaited header) }
+    ensures { OnOk result (T.told teller.new
+        ≡ T.told teller.old ++ flat_map T.marks (head_told direction awaited header)) }
 {
     let Some(header) = &header else {
         return Ok(());
     };
-    match (direction, how.json) {
-        (Direction::Command, false) => push_command_head(text, how.fields, header),
-        (Direction::Command, true) => push_command_head_members(text, header),
-        (Direction::Reply, false) => {
-            push_reply_head(text, how.fields, answered_code(awaited), header)
-        }
-        (Direction::Reply, true) => push_reply_head_members(text, answered_code(awaited), header),
+    match direction {
+        Direction::Command => teller.command_head(header),
+        Direction::Reply => teller.reply_head(answered_code(awaited), header),
     }
 }
 
-#[tactic(auto, using(std::proofs::Common::append_assoc))]
-fn push_refused_whole(
-    alloc: Global,
-    text: &mut String,
-    how: Telling,
-    refusal: &Refusal,
-    bytes: &[u8],
-) -> Result<Status, AllocError>
-    ensures { IfOk result (λ status. (status ≡ Refused)
-        × (string_bytes text.new ≡ string_bytes text.old
-        ++ (refusal_told how.json how.fields refusal.now
-        ++ (absent_behind how.json refusal.now (code_number_in bytes.now)
-        ++ library_command how.json how.fields bytes.now (header_in bytes.now))))) }
+fn tell_absent<T: Teller>(teller: &mut T, command: Option<&'static Listed>) -> Pushed
+    ensures { OnOk result (T.told teller.new ≡ T.told teller.old
+        ++ flat_map T.marks (absent_told (option_map (λ c. listed_as c.now) command.entry))) }
 {
-    let status = push_refused_command(text, how, refusal, code_number(bytes))?;
-    push_library_command(alloc, text, how, bytes)?;
-    Ok(status)
+    match command {
+        Some(command) => teller.absent(command.name),
+        None => Ok(()),
+    }
 }
 
-fn push_command(
-    alloc: Global,
-    text: &mut String,
-    how: Telling,
-    bytes: &[u8],
-) -> Result<Status, AllocError>
-    ensures { IfOk result (λ status. (rest : List ℕ)
-        × TellsBuffer how (CommandBytes bytes.now) status rest
-        × (string_bytes text.new ≡ string_bytes text.old ++ rest)) }
+// Tells which command it is that was refused, where its code alone is.
+fn tell_absent_name<T: Teller>(teller: &mut T, refusal: &Refusal, bytes: &[u8]) -> Pushed
+    ensures { OnOk result (T.told teller.new ≡ T.told teller.old
+        ++ flat_map T.marks (absent_told (absent_name refusal.now (code_number_in bytes.now)))) }
+{
+    tell_absent(teller, absent_name(refusal, code_number(bytes)))
+}
+
+fn tell_refused_command<T: Teller>(teller: &mut T, refusal: &Refusal, bytes: &[u8]) -> Pushed
+    ensures { OnOk result (T.told teller.new
+        ≡ T.told teller.old ++ flat_map T.marks (refused_command refusal.now bytes.now)) }
+{
+    teller.refusal(refusal)?;
+    tell_absent_name(teller, refusal, bytes)?;
+    tell_library_command(teller, bytes)
+}
+
+fn tell_command<T: Teller>(teller: &mut T, fields: bool, bytes: &[u8]) -> Result<Status, AllocError>
+    ensures { IfOk result (λ status. (pieces : List Piece)
+        × TellsBuffer fields (CommandBytes bytes.now) status pieces
+        × (T.told teller.new ≡ T.told teller.old ++ flat_map T.marks pieces)) }
 {
     match command_and_areas(bytes) {
         Ok((command, areas)) => {
-            push_command_rest(alloc, text, how, &areas, &command.body)?;
+            tell_command_rest(teller, fields, &areas, &command.body)?;
             Ok(Status::Done)
         }
-        Err(refusal) => push_refused_whole(alloc, text, how, &refusal, bytes),
-    }
-}
-
-fn push_reply_to(
-    alloc: Global,
-    text: &mut String,
-    how: Telling,
-    command: CommandCode,
-    bytes: &[u8],
-) -> Result<Status, AllocError>
-    ensures { IfOk result (λ status. (rest : List ℕ)
-        × TellsBuffer how (ReplyBytes command bytes.now) status rest
-        × (string_bytes text.new ≡ string_bytes text.old ++ rest)) }
-{
-    match response_and_areas(command, bytes) {
-        Ok((response, areas)) => {
-            push_response_rest(alloc, text, how, &areas, &response)?;
-            Ok(Status::Done)
+        Err(refusal) => {
+            tell_refused_command(teller, &refusal, bytes)?;
+            Ok(Status::Refused)
         }
-        Err(refusal) => push_refused(text, how, &refusal),
     }
 }
 
-fn push_sentence(text: &mut String, json: bool, sentence: &str) -> Pushed
-    ensures { OnOk result
-        (string_bytes text.new ≡ string_bytes text.old ++ sentence_text json sentence.now) }
-{
-    if json {
-        write!(text, ",\"fault\":\"{sentence}\"")
-    } else {
-        writeln!(text, "{sentence}")
-    }
-}
-
-// Adds why a reply is not told.
-fn push_untold(text: &mut String, json: bool, sentence: &str) -> Result<Status, AllocError>
+// Tells why a response is refused.
+#[tactic(auto, using(crate::proofs::Pieces::pieces))]
+fn tell_refusal<T: Teller>(teller: &mut T, refusal: &Refusal) -> Result<Status, AllocError>
     ensures { IfOk result (λ status. (status ≡ Refused)
-        × (string_bytes text.new
-        ≡ string_bytes text.old ++ sentence_text json sentence.now)) }
+        × (T.told teller.new
+        ≡ T.told teller.old ++ flat_map T.marks (RefusedWith refusal.now ∷ []))) }
 {
-    push_sentence(text, json, sentence)?;
+    teller.refusal(refusal)?;
     Ok(Status::Refused)
 }
 
-// Adds what is told of a reply to a command with this code, which the profile hasn't.
-fn push_other_reply(
-    alloc: Global,
-    text: &mut String,
-    how: Telling,
+fn tell_reply_to<T: Teller>(
+    teller: &mut T,
+    fields: bool,
+    command: CommandCode,
+    bytes: &[u8],
+) -> Result<Status, AllocError>
+    ensures { IfOk result (λ status. (pieces : List Piece)
+        × TellsBuffer fields (ReplyBytes command bytes.now) status pieces
+        × (T.told teller.new ≡ T.told teller.old ++ flat_map T.marks pieces)) }
+{
+    match response_and_areas(command, bytes) {
+        Ok((response, areas)) => {
+            tell_response_rest(teller, fields, &areas, &response)?;
+            Ok(Status::Done)
+        }
+        Err(refusal) => tell_refusal(teller, &refusal),
+    }
+}
+
+// Tells why a reply is not told.
+#[tactic(auto, using(crate::proofs::Pieces::pieces))]
+fn tell_untold<T: Teller>(teller: &mut T, sentence: &str) -> Result<Status, AllocError>
+    ensures { IfOk result (λ status. (status ≡ Refused)
+        × (T.told teller.new ≡ T.told teller.old ++ flat_map T.marks (Untold sentence.now ∷ []))) }
+{
+    teller.untold(sentence)?;
+    Ok(Status::Refused)
+}
+
+// Tells a reply to a command with this code, which the profile hasn't.
+fn tell_other_reply<T: Teller>(
+    teller: &mut T,
     code: u32,
     bytes: &[u8],
 ) -> Result<Status, AllocError>
     ensures { IfOk result (λ status. (status ≡ Refused)
-        × (string_bytes text.new
-        ≡ string_bytes text.old ++ other_reply how.json how.fields (command_of code) bytes.now)) }
+        × (T.told teller.new
+        ≡ T.told teller.old ++ flat_map T.marks (other_reply (command_of code) bytes.now))) }
 {
     let Some(command) = command_of(code) else {
-        return push_untold(text, how.json, "its command is not known");
+        return tell_untold(teller, "its command is not known");
     };
-    push_library_response(alloc, text, how, command, bytes)?;
+    tell_library_response(teller, command, bytes)?;
     Ok(Status::Refused)
 }
 
-// Adds what stands behind the header.
-fn push_rest(
-    alloc: Global,
-    text: &mut String,
-    how: Telling,
+// Tells what stands behind the header.
+fn tell_rest<T: Teller>(
+    teller: &mut T,
+    fields: bool,
     direction: Direction,
     awaited: Awaited,
     bytes: &[u8],
 ) -> Result<Status, AllocError>
-    ensures { IfOk result (λ status. (rest : List ℕ)
-        × TellsRest direction (record { bytes = bytes.now; awaited = awaited; how = how })
-        status rest
-        × (string_bytes text.new ≡ string_bytes text.old ++ rest)) }
+    ensures { IfOk result (λ status. (pieces : List Piece)
+        × TellsRest direction (record { bytes = bytes.now; awaited = awaited; fields = fields })
+        status pieces
+        × (T.told teller.new ≡ T.told teller.old ++ flat_map T.marks pieces)) }
 {
     match (direction, awaited) {
-        (Direction::Command, _) => push_command(alloc, text, how, bytes),
-        (Direction::Reply, Awaited::Reply(command)) => {
-            push_reply_to(alloc, text, how, command, bytes)
-        }
-        (Direction::Reply, Awaited::Other(code)) => {
-            push_other_reply(alloc, text, how, code, bytes)
-        }
-        (Direction::Reply, Awaited::Unknown) => {
-            push_untold(text, how.json, "its command is not known")
-        }
-        (Direction::Reply, Awaited::Nothing) => {
-            push_untold(text, how.json, "no command is before it")
-        }
+        (Direction::Command, _) => tell_command(teller, fields, bytes),
+        (Direction::Reply, Awaited::Reply(command)) => tell_reply_to(
+            teller, fields, command, bytes,
+        ),
+        (Direction::Reply, Awaited::Other(code)) => tell_other_reply(teller, code, bytes),
+        (Direction::Reply, Awaited::Unknown) => tell_untold(teller, "its command is not known"),
+        (Direction::Reply, Awaited::Nothing) => tell_untold(teller, "no command is before it"),
     }
 }
 
-/// What is told of a frame.
-pub(crate) fn answer_to_frame(
-    alloc: Global,
-    how: Telling,
+/// Tells a frame.
+#[tactic(auto, using(crate::proofs::Pieces::pieces))]
+pub(crate) fn tell_frame<T: Teller>(
+    teller: &mut T,
+    fields: bool,
     direction: Direction,
     awaited: Awaited,
     bytes: &[u8],
-) -> Result<Answer, AllocError>
-    ensures { IfOk result (λ a.
-        TellsFrame direction (record { bytes = bytes.now; awaited = awaited; how = how })
-        a.status (string_bytes a.text)) }
+) -> Result<Status, AllocError>
+    ensures { IfOk result (λ status. (pieces : List Piece)
+        × TellsFrame direction (record { bytes = bytes.now; awaited = awaited; fields = fields })
+        status pieces
+        × (T.told teller.new ≡ T.told teller.old ++ flat_map T.marks pieces)) }
 {
-    let mut text = String::new(alloc);
-    push_head(&mut text, how, direction, awaited, header_in(bytes))?;
-    let status = push_rest(alloc, &mut text, how, direction, awaited, bytes)?;
-    Ok(Answer { status, text })
-}
-
-// Adds the number of a frame, and which way it went.
-fn push_front(text: &mut String, number: u64, direction: Direction) -> Pushed
-    ensures { OnOk result
-        (string_bytes text.new ≡ string_bytes text.old ++ front number direction) }
-{
-    match direction {
-        Direction::Command => write!(text, "{number} > "),
-        Direction::Reply => write!(text, "{number} < "),
-    }
-}
-
-fn kind_of(direction: Direction) -> &'static str
-    ensures { result.now ≡ kind_of direction }
-{
-    match direction {
-        Direction::Command => "command",
-        Direction::Reply => "response",
-    }
-}
-
-#[tactic(auto, unfolding(crate::specs::Capture::frame_object))]
-fn push_object(text: &mut String, number: u64, direction: Direction, members: &str) -> Pushed
-    ensures { OnOk result (string_bytes text.new
-        ≡ string_bytes text.old ++ frame_object number direction members.now) }
-{
-    let kind = kind_of(direction);
-    writeln!(text, "{{\"number\":{number},\"kind\":\"{kind}\"{members}}}")
-}
-
-/// Adds what is told of a frame, with its number and which way it went.
-pub(crate) fn push_numbered(
-    text: &mut String,
-    json: bool,
-    number: u64,
-    direction: Direction,
-    told: &str,
-) -> Pushed
-    ensures { OnOk result
-        (string_bytes text.new ≡ string_bytes text.old ++ numbered json number direction told.now) }
-{
-    if json {
-        return push_object(text, number, direction, told);
-    }
-    push_front(text, number, direction)?;
-    text.push_str(told)?;
-    Ok(())
-}
-
-#[tactic(auto, unfolding(crate::specs::Capture::fault_line))]
-fn push_fault_line(text: &mut String, number: u64, fault: &str) -> Pushed
-    ensures { OnOk result
-        (string_bytes text.new ≡ string_bytes text.old ++ fault_line number fault.now) }
-{
-    writeln!(text, "{number} {fault}")
-}
-
-/// Adds the line or the object of a line that has no frame.
-pub(crate) fn push_fault(text: &mut String, json: bool, number: u64, fault: &str) -> Pushed
-    ensures { OnOk result
-        (string_bytes text.new ≡ string_bytes text.old ++ fault_text json number fault.now) }
-{
-    if json {
-        push_fault_object(text, number, fault)
-    } else {
-        push_fault_line(text, number, fault)
-    }
+    tell_head(teller, direction, awaited, header_in(bytes))?;
+    tell_rest(teller, fields, direction, awaited, bytes)
 }

@@ -1,65 +1,23 @@
 //! The subcommand `show` of a stream of frames.
 
-ghost use Rattle.std.specs.Prelude.{◌≡◌, ◌++◌, ℕ, List, IfOk, OnOk, IsErrOf, string_bytes};
+ghost use Rattle.std.specs.Prelude.{ℕ, List, IfOk, IsErrOf};
 ghost use Rattle.std.specs.Io.KnownBytes.{Appends, Consumes};
 ghost use Rattle.tpm_wire.specs.Sources.{IsWhereItFailed};
 ghost use Rattle.tpm_lines.specs.declared.fault.ToolFault.TheVariants.{InputTooLong, Read};
-ghost use Rattle.tpm_lines.specs.declared.status.Status.TheVariants.{Refused};
-ghost use Rattle.tpm_lines.specs.Faults.{FailsByMemoryOrWrite};
 ghost use Rattle.tpm_lines.specs.InputLines.{CountsRead};
 ghost use Rattle.tpm_show.specs.Capture.{ReadsTooMuchCapture};
-ghost use Rattle.tpm_show.specs.Stream.{stop_line, stop_text, OfRead, TellsStream, TellsWhole};
+ghost use Rattle.tpm_show.specs.Stream.{OfRead, TellsStream, TellsWhole};
 
 use crate::capture::{Capture, MOST_BYTES};
-use crate::frame_json::push_stop_object;
+use crate::remark::Remark;
+use crate::reports::print_remark;
 use crate::telling::Telling;
 use std::alloc::Global;
 use std::io::Write;
-use tpm_lines::answer::write;
 use tpm_lines::fault::ToolFault;
 use tpm_lines::status::Status;
-use tpm_lines::text::Pushed;
 use tpm_stream::{ReadFault, read_frame_into};
 use tpm_wire::{Buffer, Source};
-
-#[tactic(auto, unfolding(crate::specs::Stream::stop_line))]
-fn push_stop_line(text: &mut String, number: u64, fault: &str, at: usize) -> Pushed
-    ensures { OnOk result (string_bytes text.new
-        ≡ string_bytes text.old ++ stop_line number fault.now at) }
-{
-    writeln!(text, "{number} {fault} at {at}")
-}
-
-// Adds the line or the object of a frame that does not come.
-fn push_stop(text: &mut String, json: bool, number: u64, fault: &str, at: usize) -> Pushed
-    ensures { OnOk result (string_bytes text.new
-        ≡ string_bytes text.old ++ stop_text json number fault.now at) }
-{
-    if json {
-        push_stop_object(text, number, fault, at)
-    } else {
-        push_stop_line(text, number, fault, at)
-    }
-}
-
-// Prints the line or the object of a frame that does not come.
-fn print_stop<W: Write>(
-    alloc: Global,
-    json: bool,
-    number: u64,
-    fault: &str,
-    at: usize,
-    out: &mut W,
-) -> Result<Status, ToolFault>
-    ensures ok { IfOk result (λ status. (status ≡ Refused)
-        × Appends (W.contents out.old) (W.contents out.new) (stop_text json number fault.now at)) }
-    ensures err { FailsByMemoryOrWrite result }
-{
-    let mut text = String::new(alloc);
-    push_stop(&mut text, json, number, fault, at)?;
-    write(out, &text)?;
-    Ok(Status::Refused)
-}
 
 /// Prints what `show` prints of each frame of a stream, or what `show --fields` prints, or an object of JSON in a line.
 ///
@@ -107,10 +65,20 @@ pub fn show_stream<R: Source, W: Write>(
             Ok(false) => return Ok(capture.status),
             Err(ReadFault::Device) => return Err(ToolFault::Read),
             Err(ReadFault::EndInside) => {
-                return print_stop(alloc, how.json, capture.number, "cut short", read, out);
+                return print_remark(
+                    alloc,
+                    how.json,
+                    Remark::Stop(capture.number, "cut short", read),
+                    out,
+                );
             }
             Err(ReadFault::Broken(_)) => {
-                return print_stop(alloc, how.json, capture.number, "bad size", read, out);
+                return print_remark(
+                    alloc,
+                    how.json,
+                    Remark::Stop(capture.number, "bad size", read),
+                    out,
+                );
             }
         }
         read += frame.len();

@@ -1,15 +1,8 @@
 //! The commands of the library by their names.
 
-ghost use Rattle.std.specs.Prelude.{◌≡◌, ◌++◌, IfOk, OnOk, map, option_map, string_bytes};
-ghost use Rattle.tpm_lines.specs.declared.status.Status.TheVariants.{Refused};
-ghost use Rattle.tpm_show.specs.Show.{refusal_told};
-ghost use Rattle.tpm_show.specs.CommandNames.{absent_line, absent_member, absent_named, absent_text, absent_behind};
-ghost use Rattle.tpm_show.specs.CommandNames.{command_of, listed_as, listed_in};
+ghost use Rattle.std.specs.Prelude.{◌≡◌, ◌++◌, OnOk, map, option_map, string_bytes};
+ghost use Rattle.tpm_show.specs.CommandNames.{absent_line, absent_name, command_of, listed_as, listed_in};
 
-use crate::telling::Telling;
-use crate::told::push_refused;
-use std::alloc::AllocError;
-use tpm_lines::status::Status;
 use tpm_lines::text::Pushed;
 use tpm_wire::Refusal;
 use tpm_wire::response_code::COMMAND_CODE;
@@ -182,59 +175,20 @@ const UNSUPPORTED: Refusal = Refusal {
     at: 6,
 };
 
+/// Adds the line of a command that isn't in the profile.
 #[tactic(auto, unfolding(crate::specs::CommandNames::absent_line))]
-fn push_absent_line(text: &mut String, name: &str) -> Pushed
+pub(crate) fn push_absent(text: &mut String, name: &str) -> Pushed
     ensures { OnOk result (string_bytes text.new ≡ string_bytes text.old ++ absent_line name.now) }
 {
     writeln!(text, "TPM2_{name} is not in this profile")
 }
 
-#[tactic(auto, unfolding(crate::specs::CommandNames::absent_member))]
-fn push_absent_member(text: &mut String, name: &str) -> Pushed
-    ensures { OnOk result
-        (string_bytes text.new ≡ string_bytes text.old ++ absent_member name.now) }
+/// Which command it is that was refused, where its code alone is.
+pub(crate) fn absent_name(refusal: &Refusal, code: Option<u32>) -> Option<&'static Listed>
+    ensures { option_map (λ c. listed_as c.now) result ≡ absent_name refusal.now code }
 {
-    write!(text, ",\"name\":\"TPM2_{name}\"")
-}
-
-fn push_absent_name(text: &mut String, json: bool, name: &str) -> Pushed
-    ensures { OnOk result
-        (string_bytes text.new ≡ string_bytes text.old ++ absent_named json name.now) }
-{
-    if json {
-        push_absent_member(text, name)
-    } else {
-        push_absent_line(text, name)
+    match code {
+        Some(code) if *refusal == UNSUPPORTED => command_of(code),
+        _ => None,
     }
-}
-
-// Adds that the command with this code isn't in the profile, if it has a name.
-fn push_absent(text: &mut String, json: bool, code: u32) -> Pushed
-    ensures { OnOk result (string_bytes text.new ≡ string_bytes text.old ++ absent_text json code) }
-{
-    match command_of(code) {
-        Some(command) => push_absent_name(text, json, command.name),
-        None => Ok(()),
-    }
-}
-
-/// Adds the line of a refusal or its members, and behind that of a command's code which command it is.
-pub(crate) fn push_refused_command(
-    text: &mut String,
-    how: Telling,
-    refusal: &Refusal,
-    code: Option<u32>,
-) -> Result<Status, AllocError>
-    ensures { IfOk result (λ status. (status ≡ Refused)
-        × (string_bytes text.new ≡ string_bytes text.old
-        ++ (refusal_told how.json how.fields refusal.now
-        ++ absent_behind how.json refusal.now code))) }
-{
-    let status = push_refused(text, how, refusal)?;
-    if *refusal == UNSUPPORTED
-        && let Some(code) = code
-    {
-        push_absent(text, how.json, code)?;
-    }
-    Ok(status)
 }

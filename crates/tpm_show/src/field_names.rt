@@ -1,17 +1,33 @@
 //! The names that Part 2 gives to numbers, by the types of the fields that they stand in.
 
-ghost use Rattle.std.specs.Prelude.{◌≡◌, ◌++◌, map, OnOk, option_map, string_bytes};
+ghost use Rattle.std.specs.Prelude.{◌≡◌, ◌++◌, IfOk, map, option_map, string_bytes};
 ghost use Rattle.tpm_lines.specs.Named.{named_as};
 ghost use Rattle.tpm_show.specs.CommandNames.{listed_as};
-ghost use Rattle.tpm_show.specs.FieldNames.{algorithms, behind_value, command_behind, command_in, is_handle};
-ghost use Rattle.tpm_show.specs.FieldNames.{name_behind, name_of, named_of, names_for, number_in, session_types};
-ghost use Rattle.tpm_show.specs.FieldNames.{startup_types, value_name};
+ghost use Rattle.tpm_show.specs.FieldNames.{algorithms, command_in, command_text, is_handle, name_of, name_text};
+ghost use Rattle.tpm_show.specs.FieldNames.{named_of, names_for, number_in, session_types, startup_types, value_name};
 
 use crate::command_names::{Listed, command_of};
 use crate::handle_names::handle_name;
+use std::alloc::{AllocError, Global};
 use tpm_lines::named::{Named, look_up};
 use tpm_lines::names;
-use tpm_lines::text::Pushed;
+
+/// A name of two parts.
+#[derive(Clone, Copy)]
+pub(crate) struct ValueName {
+    pub(crate) front: &'static str,
+    pub(crate) name: &'static str,
+}
+
+impl ValueName {
+    /// Both parts of it.
+    pub(crate) fn whole(self, alloc: Global) -> Result<String, AllocError>
+        ensures { IfOk result (λ text. string_bytes text ≡ self.front.now ++ self.name.now) }
+    {
+        let ValueName { front, name } = self;
+        format!(in alloc; "{front}{name}")
+    }
+}
 
 // TPM_ALG_ID (Part 2, 6.3)
 const ALGORITHMS: [Named; 39] = names![
@@ -134,61 +150,40 @@ fn command_in(bytes: &[u8]) -> Option<&'static Listed>
     }
 }
 
-#[tactic(auto, unfolding(crate::specs::FieldNames::behind_value))]
-fn push_behind(text: &mut String, json: bool, front: &str, name: &str) -> Pushed
-    ensures { OnOk result (string_bytes text.new
-        ≡ string_bytes text.old ++ behind_value json front.now name.now) }
-{
-    if json {
-        write!(text, ",\"value_name\":\"{front}{name}\"")
-    } else {
-        write!(text, " {front}{name}")
-    }
-}
-
-fn push_name(text: &mut String, json: bool, named: Option<&'static Named>) -> Pushed
-    ensures { OnOk result (string_bytes text.new
-        ≡ string_bytes text.old ++ name_behind json (option_map (λ n. named_as n.now) named.entry)) }
+fn name_text(named: Option<&'static Named>) -> Option<ValueName>
+    ensures { option_map (λ name. name.front.now ++ name.name.now) result
+        ≡ name_text (option_map (λ n. named_as n.now) named.entry) }
 {
     match named {
-        Some(named) => push_behind(text, json, "", named.name),
-        None => Ok(()),
+        Some(named) => Some(ValueName {
+            front: "",
+            name: named.name,
+        }),
+        None => None,
     }
 }
 
-fn push_command(text: &mut String, json: bool, command: Option<&'static Listed>) -> Pushed
-    ensures { OnOk result (string_bytes text.new ≡ string_bytes text.old
-        ++ command_behind json (option_map (λ c. listed_as c.now) command.entry)) }
+fn command_text(command: Option<&'static Listed>) -> Option<ValueName>
+    ensures { option_map (λ name. name.front.now ++ name.name.now) result
+        ≡ command_text (option_map (λ c. listed_as c.now) command.entry) }
 {
     match command {
-        Some(command) => push_behind(text, json, "TPM_CC_", command.name),
-        None => Ok(()),
+        Some(command) => Some(ValueName {
+            front: "TPM_CC_",
+            name: command.name,
+        }),
+        None => None,
     }
 }
 
-fn push_name_of(text: &mut String, json: bool, kind: &str, bytes: &[u8]) -> Pushed
-    ensures { OnOk result (string_bytes text.new
-        ≡ string_bytes text.old ++ name_behind json (name_of kind.now bytes.now)) }
-{
-    push_name(text, json, name_of(kind, bytes))
-}
-
-fn push_command_in(text: &mut String, json: bool, bytes: &[u8]) -> Pushed
-    ensures { OnOk result (string_bytes text.new
-        ≡ string_bytes text.old ++ command_behind json (command_in bytes.now)) }
-{
-    push_command(text, json, command_in(bytes))
-}
-
-/// Adds the name of a number of this type, where Part 2 has one: behind its bytes in a line, or behind the member of
-/// them in an object.
+/// The name of a field of this type and these bytes, where Part 2 has one.
 #[tactic(auto, unfolding(crate::specs::FieldNames::value_name))]
-pub(crate) fn push_value_name(text: &mut String, json: bool, kind: &str, bytes: &[u8]) -> Pushed
-    ensures { OnOk result (string_bytes text.new
-        ≡ string_bytes text.old ++ value_name json kind.now bytes.now) }
+pub(crate) fn value_name(kind: &str, bytes: &[u8]) -> Option<ValueName>
+    ensures { option_map (λ name. name.front.now ++ name.name.now) result
+        ≡ value_name kind.now bytes.now }
 {
     if kind == "TPM_CC" {
-        return push_command_in(text, json, bytes);
+        return command_text(command_in(bytes));
     }
-    push_name_of(text, json, kind, bytes)
+    name_text(name_of(kind, bytes))
 }

@@ -1,180 +1,136 @@
-//! A field of a buffer by its name and its type, as a line or as an object of JSON.
+//! The text of a field of a buffer, as a line or as an object of JSON.
 
-ghost use Rattle.std.specs.Prelude.{◌≡◌, ◌++◌, ◌≤◌, ℕ, Bool, List, OnOk, codes, length, string_bytes};
-ghost use Rattle.tpm_wire.specs.Spelling.{spelling};
-ghost use Rattle.tpm_show.specs.FieldText.{field_line, field_members, field_head, field_text, in_object, number_text};
-ghost use Rattle.tpm_show.specs.FieldText.{structure_text};
+ghost use Rattle.std.specs.Prelude.{◌≡◌, ◌++◌, OnOk, codes, option_map, string_bytes};
+ghost use Rattle.tpm_commands.specs.Row.{named};
+ghost use Rattle.tpm_show.specs.FieldNames.{value_name};
+ghost use Rattle.tpm_show.specs.FieldText.{field_line, field_members, number_line, number_object, structure_begins};
+ghost use Rattle.tpm_show.specs.FieldText.{value_behind, value_member};
+ghost use Rattle.tpm_show.specs.Members.{number_member, object_of, text_member};
 
-use crate::field_names::push_value_name;
+use crate::field::Field;
+use crate::field_names::{ValueName, value_name};
+use crate::object::Object;
 use std::alloc::Global;
 use tpm_lines::hexadecimal::shown_bytes;
-use tpm_lines::text::{Pushed, push_comma};
-use tpm_wire::{Buffer, Wire};
+use tpm_lines::text::Pushed;
 
-/// A value of which the parts are told under it.
-pub(crate) trait HasParts: Wire {
-    /// What is told of them.
-    ghost told_parts: { (json : Bool) → Self → List ℕ };
+// ---- a line
 
-    /// Adds what is told of them.
-    fn push_parts(&self, alloc: Global, text: &mut String, json: bool) -> Pushed
-        ensures { OnOk result
-            (string_bytes text.new ≡ string_bytes text.old ++ told_parts json self.now) };
-}
-
-/// A field: how far in its line stands, its number in its list, its name and its type.
-#[derive(Clone, Copy)]
-pub(crate) struct Field(
-    pub(crate) &'static str,
-    pub(crate) usize,
-    pub(crate) &'static str,
-    pub(crate) &'static str,
-);
-
-fn spelled<T: Wire>(value: &T) -> Buffer
-    requires { length (spelling T.layout value.now) ≤ 4096 }
-    ensures { result.items ≡ spelling T.layout value.now }
+fn push_name(text: &mut String, name: Option<ValueName>) -> Pushed
+    ensures { OnOk result (string_bytes text.new ≡ string_bytes text.old
+        ++ value_behind (option_map (λ name. name.front.now ++ name.name.now) name)) }
 {
-    let mut bytes = Buffer::new();
-    value.put(&mut bytes);
-    bytes
-}
-
-// Adds what an object has, and no line.
-fn push_in_object(text: &mut String, json: bool, mark: &str) -> Pushed
-    ensures { OnOk result
-        (string_bytes text.new ≡ string_bytes text.old ++ in_object json mark.now) }
-{
-    if !json {
+    let Some(ValueName { front, name }) = name else {
         return Ok(());
-    }
-    text.push_str(mark)
+    };
+    write!(text, " {front}{name}")
 }
 
-/// Adds what comes behind the parts of a structure.
-pub(crate) fn end_structure(text: &mut String, json: bool) -> Pushed
-    ensures { OnOk result
-        (string_bytes text.new ≡ string_bytes text.old ++ in_object json (codes "]}")) }
-{
-    push_in_object(text, json, "]}")
-}
-
-impl Field {
-    #[tactic(auto, unfolding(crate::specs::FieldText::field_line))]
-    fn push_line(self, alloc: Global, text: &mut String, bytes: &[u8]) -> Pushed
-        ensures { OnOk result (string_bytes text.new
-            ≡ string_bytes text.old ++ field_line self.0.now self.2.now self.3.now bytes.now) }
-    {
-        let Field(indent, _, name, kind) = self;
-        let value = shown_bytes(alloc, bytes)?;
-        write!(text, "{indent}{name} {kind} {value}")?;
-        push_value_name(text, false, kind, bytes)?;
-        text.push_str("\n")
-    }
-
-    #[tactic(auto, unfolding(crate::specs::FieldText::field_members))]
-    fn push_members(self, alloc: Global, text: &mut String, bytes: &[u8]) -> Pushed
-        ensures { OnOk result (string_bytes text.new
-            ≡ string_bytes text.old ++ field_members self.2.now self.3.now bytes.now) }
-    {
-        let Field(_, _, name, kind) = self;
-        let value = hex::encode(alloc, bytes)?;
-        write!(
-            text,
-            "{{\"name\":\"{name}\",\"type\":\"{kind}\",\"value\":\"{value}\""
-        )
-    }
-
-    #[tactic(auto, unfolding(crate::specs::FieldText::field_head))]
-    fn push_head(self, alloc: Global, text: &mut String, json: bool, bytes: &[u8]) -> Pushed
-        ensures { OnOk result (string_bytes text.new ≡ string_bytes text.old
-            ++ field_head json self.0.now self.1 self.2.now self.3.now bytes.now) }
-    {
-        if !json {
-            return self.push_line(alloc, text, bytes);
-        }
-        push_comma(text, self.1)?;
-        self.push_members(alloc, text, bytes)?;
-        push_value_name(text, true, self.3, bytes)
-    }
-
-    /// Adds its line or its object, of these bytes.
-    #[tactic(auto, unfolding(crate::specs::FieldText::field_text))]
-    pub(crate) fn push_bytes(
-        self,
-        alloc: Global,
-        text: &mut String,
-        json: bool,
-        bytes: &[u8],
-    ) -> Pushed
-        ensures { OnOk result (string_bytes text.new ≡ string_bytes text.old
-            ++ field_text json self.0.now self.1 self.2.now self.3.now bytes.now) }
-    {
-        self.push_head(alloc, text, json, bytes)?;
-        push_in_object(text, json, "}")
-    }
-
-    /// Adds its line or its object, of this value.
-    pub(crate) fn push<T: Wire>(
-        self,
-        alloc: Global,
-        text: &mut String,
-        json: bool,
-        value: &T,
-    ) -> Pushed
-        requires { length (spelling T.layout value.now) ≤ 4096 }
-        ensures { OnOk result (string_bytes text.new ≡ string_bytes text.old ++ field_text
-            json self.0.now self.1 self.2.now self.3.now (spelling T.layout value.now)) }
-    {
-        self.push_bytes(alloc, text, json, spelled(value).as_slice())
-    }
-
-    /// Adds what comes before the parts of a structure of these bytes.
-    pub(crate) fn begin(self, alloc: Global, text: &mut String, json: bool, bytes: &[u8]) -> Pushed
-        ensures { OnOk result (string_bytes text.new ≡ string_bytes text.old
-            ++ (field_head json self.0.now self.1 self.2.now self.3.now bytes.now
-            ++ in_object json (codes ",\"fields\":["))) }
-    {
-        self.push_head(alloc, text, json, bytes)?;
-        push_in_object(text, json, ",\"fields\":[")
-    }
-
-    /// Adds its line or its object, of this value, with its parts.
-    #[tactic(auto, using(std::proofs::Common::append_assoc), unfolding(crate::specs::FieldText::structure_text))]
-    pub(crate) fn push_structure<T: HasParts>(
-        self,
-        alloc: Global,
-        text: &mut String,
-        json: bool,
-        value: &T,
-    ) -> Pushed
-        requires { length (spelling T.layout value.now) ≤ 4096 }
-        ensures { OnOk result (string_bytes text.new
-            ≡ string_bytes text.old ++ structure_text json self.0.now self.1 self.2.now self.3.now
-            (spelling T.layout value.now) (T.told_parts json value.now)) }
-    {
-        self.begin(alloc, text, json, spelled(value).as_slice())?;
-        value.push_parts(alloc, text, json)?;
-        end_structure(text, json)
-    }
-}
-
-/// Adds the line, so far in, or the object of a number by its name.
-#[tactic(auto, unfolding(crate::specs::FieldText::number_text))]
-pub(crate) fn push_number(
-    text: &mut String,
-    json: bool,
-    indent: &str,
-    i: usize,
-    name: &str,
-    n: u32,
-) -> Pushed
+fn push_value_name(text: &mut String, kind: &str, bytes: &[u8]) -> Pushed
     ensures { OnOk result (string_bytes text.new
-        ≡ string_bytes text.old ++ number_text json indent.now i name.now n) }
+        ≡ string_bytes text.old ++ value_behind (value_name kind.now bytes.now)) }
 {
-    if !json {
-        return writeln!(text, "{indent}{name} {n}");
+    push_name(text, value_name(kind, bytes))
+}
+
+/// Adds the line of a field of these bytes.
+#[tactic(auto, unfolding(crate::specs::FieldText::field_line))]
+pub(crate) fn push_field(alloc: Global, text: &mut String, field: Field, bytes: &[u8]) -> Pushed
+    ensures { OnOk result (string_bytes text.new ≡ string_bytes text.old
+        ++ field_line field.0.now (named field.1.now field.2.now) bytes.now) }
+{
+    let Field(indent, name, kind) = field;
+    let value = shown_bytes(alloc, bytes)?;
+    write!(text, "{indent}{name} {kind} {value}")?;
+    push_value_name(text, kind, bytes)?;
+    text.push_str("\n")
+}
+
+/// Adds the line, so far in, of a number by its name.
+#[tactic(auto, unfolding(crate::specs::FieldText::number_line))]
+pub(crate) fn push_number(text: &mut String, indent: &str, name: &str, n: u32) -> Pushed
+    ensures { OnOk result (string_bytes text.new
+        ≡ string_bytes text.old ++ number_line indent.now name.now n) }
+{
+    writeln!(text, "{indent}{name} {n}")
+}
+
+// ---- an object
+
+fn tell_known_name(object: &mut Object, name: ValueName) -> Pushed
+    ensures { OnOk result (object.new.writer.tokens ≡ object.old.writer.tokens
+        ++ text_member (codes "value_name") (name.front.now ++ name.name.now)) }
+{
+    let name = name.whole(object.alloc)?;
+    object.text_member("value_name", name.as_str())
+}
+
+fn tell_name(object: &mut Object, name: Option<ValueName>) -> Pushed
+    ensures { OnOk result (object.new.writer.tokens ≡ object.old.writer.tokens
+        ++ value_member (option_map (λ name. name.front.now ++ name.name.now) name)) }
+{
+    match name {
+        Some(name) => tell_known_name(object, name),
+        None => Ok(()),
     }
-    push_comma(text, i)?;
-    write!(text, "{{\"name\":\"{name}\",\"number\":{n}}}")
+}
+
+fn tell_value_name(object: &mut Object, kind: &str, bytes: &[u8]) -> Pushed
+    ensures { OnOk result (object.new.writer.tokens
+        ≡ object.old.writer.tokens ++ value_member (value_name kind.now bytes.now)) }
+{
+    tell_name(object, value_name(kind, bytes))
+}
+
+#[tactic(auto, using(std::proofs::Common::append_assoc), unfolding(crate::specs::FieldText::field_members))]
+fn tell_members(object: &mut Object, field: Field, bytes: &[u8]) -> Pushed
+    ensures { OnOk result (object.new.writer.tokens ≡ object.old.writer.tokens
+        ++ field_members (named field.1.now field.2.now) bytes.now) }
+{
+    let Field(_, name, kind) = field;
+    object.text_member("name", name)?;
+    object.text_member("type", kind)?;
+    object.hex_member("value", bytes)?;
+    tell_value_name(object, kind, bytes)
+}
+
+/// Adds the object of a field of these bytes.
+#[tactic(auto, unfolding(crate::specs::Members::object_of))]
+pub(crate) fn tell_field(object: &mut Object, field: Field, bytes: &[u8]) -> Pushed
+    ensures { OnOk result (object.new.writer.tokens ≡ object.old.writer.tokens
+        ++ object_of (field_members (named field.1.now field.2.now) bytes.now)) }
+{
+    object.writer.begin_object()?;
+    tell_members(object, field, bytes)?;
+    object.writer.end_object()
+}
+
+/// Adds the same, and leaves the list of its parts open.
+#[tactic(auto, unfolding(crate::specs::FieldText::structure_begins))]
+pub(crate) fn tell_structure(object: &mut Object, field: Field, bytes: &[u8]) -> Pushed
+    ensures { OnOk result (object.new.writer.tokens ≡ object.old.writer.tokens
+        ++ structure_begins (named field.1.now field.2.now) bytes.now) }
+{
+    object.writer.begin_object()?;
+    tell_members(object, field, bytes)?;
+    object.open_list("fields")
+}
+
+fn tell_number_members(object: &mut Object, name: &str, n: u32) -> Pushed
+    ensures { OnOk result (object.new.writer.tokens ≡ object.old.writer.tokens
+        ++ (text_member (codes "name") name.now ++ number_member (codes "number") n)) }
+{
+    object.text_member("name", name)?;
+    object.number_member("number", u64::from(n))
+}
+
+/// Adds the object of a number by its name.
+#[tactic(auto, unfolding(crate::specs::Members::object_of))]
+pub(crate) fn tell_number(object: &mut Object, name: &str, n: u32) -> Pushed
+    ensures { OnOk result (object.new.writer.tokens
+        ≡ object.old.writer.tokens ++ number_object name.now n) }
+{
+    object.writer.begin_object()?;
+    tell_number_members(object, name, n)?;
+    object.writer.end_object()
 }

@@ -1,75 +1,65 @@
 //! The parameters of commands and replies by their names and their types.
 
-ghost use Rattle.std.specs.Prelude.{◌≡◌, ◌++◌, OnOk, codes, string_bytes};
+ghost use Rattle.std.specs.Prelude.{◌≡◌, ◌++◌, OnOk, codes, flat_map};
 ghost use Rattle.tpm_wire.specs.Spelling.{spelling};
 ghost use Rattle.tpm_wire.specs.Structures.{sized_bytes};
 ghost use Rattle.tpm_commands.specs.Events.{event_bytes};
-ghost use Rattle.tpm_show.specs.FieldText.{field_text};
 ghost use Rattle.tpm_show.specs.Fields.{command_fields, reply_fields};
+ghost use Rattle.tpm_show.specs.Pieces.{Value, named};
 
-use crate::field_text::Field;
-use std::alloc::{AllocError, Global};
+use crate::field::Field;
+use crate::teller::Teller;
 use tpm_commands::{CommandBody, Event, ReplyBody, StartAuth};
+use tpm_lines::text::Pushed;
 use tpm_types::EncryptedSalt;
 use tpm_wire::{Buffer, Wire, put_bytes};
 
-// Adds the line or the object of an event, which is lent.
+// Tells an event, which is lent.
 #[tactic(auto, unfolding(tpm_wire::specs::Structures::sized_bytes))]
-fn push_event(
-    alloc: Global,
-    text: &mut String,
-    json: bool,
-    event: &Event<'_>,
-) -> Result<(), AllocError>
+fn tell_event<T: Teller>(teller: &mut T, event: &Event<'_>) -> Pushed
     ensures { OnOk result
-        (string_bytes text.new ≡ string_bytes text.old ++ field_text json (codes "  ") 1
-        (codes "eventData") (codes "TPM2B_EVENT") (spelling (sized_bytes event_bytes) event.now)) }
+        (T.told teller.new ≡ T.told teller.old ++ T.marks (Value (codes "  ")
+        (named (codes "eventData") (codes "TPM2B_EVENT"))
+        (spelling (sized_bytes event_bytes) event.now))) }
 {
     let event = event.as_slice();
     let mut bytes = Buffer::new();
     (event.len() as u16).put(&mut bytes);
     put_bytes(&mut bytes, event);
-    Field("  ", 1, "eventData", "TPM2B_EVENT").push_bytes(alloc, text, json, bytes.as_slice())
+    teller.value(Field("  ", "eventData", "TPM2B_EVENT"), bytes.as_slice())
 }
 
-/// Adds a line, or an object of JSON, for each parameter of a command: its name, its type and its
-/// bytes (Part 3, the table of the command), and what stands in it.
+/// Tells each parameter of a command: its name, its type and its bytes (Part 3, the table of the command), and what
+/// stands in it.
 #[tactic(auto, unfolding(tpm_types::specs::Constants::startup_type, tpm_types::specs::Constants::session_type, tpm_types::specs::Tpm2b::encrypted_salt, tpm_commands::specs::Parameters::startup, tpm_commands::specs::Parameters::nv_define_space, tpm_commands::specs::Parameters::pcr_event, tpm_commands::specs::Parameters::nv_read, tpm_commands::specs::Parameters::flush_context, tpm_commands::specs::Parameters::policy_command_code, tpm_commands::specs::Parameters::policy_or, tpm_commands::specs::Parameters::start_auth_session, tpm_commands::specs::Parameters::pcr_read, tpm_commands::specs::Parameters::policy_pcr, tpm_commands::specs::Parameters::pcr_extend))]
-pub(crate) fn push_command_fields(
-    alloc: Global,
-    text: &mut String,
-    json: bool,
-    body: &CommandBody<'_>,
-) -> Result<(), AllocError>
+pub(crate) fn tell_command_fields<T: Teller>(teller: &mut T, body: &CommandBody<'_>) -> Pushed
     ensures { OnOk result
-        (string_bytes text.new ≡ string_bytes text.old ++ command_fields json body.now) }
+        (T.told teller.new ≡ T.told teller.old ++ flat_map T.marks (command_fields body.now)) }
 {
     match body {
         CommandBody::NvDefineSpace { auth, public } => {
             prove!(auth.len() + public.len() <= 4096);
-            Field("  ", 1, "auth", "TPM2B_AUTH").push(alloc, text, json, auth)?;
-            Field("  ", 2, "publicInfo", "TPM2B_NV_PUBLIC").push_structure(
-                alloc, text, json, public,
-            )
+            Field("  ", "auth", "TPM2B_AUTH").tell(teller, auth)?;
+            Field("  ", "publicInfo", "TPM2B_NV_PUBLIC").tell_structure(teller, public)
         }
-        CommandBody::PcrEvent { event, .. } => push_event(alloc, text, json, event),
+        CommandBody::PcrEvent { event, .. } => tell_event(teller, event),
         CommandBody::Startup(startup_type) => {
-            Field("  ", 1, "startupType", "TPM_SU").push(alloc, text, json, startup_type)
+            Field("  ", "startupType", "TPM_SU").tell(teller, startup_type)
         }
         CommandBody::NvRead { size, offset, .. } => {
-            Field("  ", 1, "size", "UINT16").push(alloc, text, json, size)?;
-            Field("  ", 2, "offset", "UINT16").push(alloc, text, json, offset)
+            Field("  ", "size", "UINT16").tell(teller, size)?;
+            Field("  ", "offset", "UINT16").tell(teller, offset)
         }
         CommandBody::FlushContext(session) => {
             prove!(session.len() <= 4096);
-            Field("  ", 1, "flushHandle", "TPMI_DH_CONTEXT").push(alloc, text, json, session)
+            Field("  ", "flushHandle", "TPMI_DH_CONTEXT").tell(teller, session)
         }
         CommandBody::PolicyCommandCode { code, .. } => {
-            Field("  ", 1, "code", "TPM_CC").push(alloc, text, json, code)
+            Field("  ", "code", "TPM_CC").tell(teller, code)
         }
         CommandBody::PolicyOr { digests, .. } => {
             prove!(digests.len() <= 4096);
-            Field("  ", 1, "pHashList", "TPML_DIGEST").push_structure(alloc, text, json, digests)
+            Field("  ", "pHashList", "TPML_DIGEST").tell_structure(teller, digests)
         }
         CommandBody::StartAuthSession(start) => {
             let StartAuth {
@@ -80,24 +70,18 @@ pub(crate) fn push_command_fields(
                 ..
             } = start;
             prove!(nonce_caller.len() + symmetric.len() + auth_hash.len() <= 4096);
-            Field("  ", 1, "nonceCaller", "TPM2B_NONCE").push(alloc, text, json, nonce_caller)?;
-            Field("  ", 2, "encryptedSalt", "TPM2B_ENCRYPTED_SECRET").push(
-                alloc,
-                text,
-                json,
+            Field("  ", "nonceCaller", "TPM2B_NONCE").tell(teller, nonce_caller)?;
+            Field("  ", "encryptedSalt", "TPM2B_ENCRYPTED_SECRET").tell(
+                teller,
                 &EncryptedSalt::Empty,
             )?;
-            Field("  ", 3, "sessionType", "TPM_SE").push(alloc, text, json, session_type)?;
-            Field("  ", 4, "symmetric", "TPMT_SYM_DEF").push_structure(
-                alloc, text, json, symmetric,
-            )?;
-            Field("  ", 5, "authHash", "TPMI_ALG_HASH").push(alloc, text, json, auth_hash)
+            Field("  ", "sessionType", "TPM_SE").tell(teller, session_type)?;
+            Field("  ", "symmetric", "TPMT_SYM_DEF").tell_structure(teller, symmetric)?;
+            Field("  ", "authHash", "TPMI_ALG_HASH").tell(teller, auth_hash)
         }
         CommandBody::PcrRead(selections) => {
             prove!(selections.len() <= 4096);
-            Field("  ", 1, "pcrSelectionIn", "TPML_PCR_SELECTION").push_structure(
-                alloc, text, json, selections,
-            )
+            Field("  ", "pcrSelectionIn", "TPML_PCR_SELECTION").tell_structure(teller, selections)
         }
         CommandBody::PolicyPcr {
             pcr_digest,
@@ -105,16 +89,12 @@ pub(crate) fn push_command_fields(
             ..
         } => {
             prove!(pcr_digest.len() + selections.len() <= 4096);
-            Field("  ", 1, "pcrDigest", "TPM2B_DIGEST").push(alloc, text, json, pcr_digest)?;
-            Field("  ", 2, "pcrs", "TPML_PCR_SELECTION").push_structure(
-                alloc, text, json, selections,
-            )
+            Field("  ", "pcrDigest", "TPM2B_DIGEST").tell(teller, pcr_digest)?;
+            Field("  ", "pcrs", "TPML_PCR_SELECTION").tell_structure(teller, selections)
         }
         CommandBody::PcrExtend { digests, .. } => {
             prove!(digests.len() <= 4096);
-            Field("  ", 1, "digests", "TPML_DIGEST_VALUES").push_structure(
-                alloc, text, json, digests,
-            )
+            Field("  ", "digests", "TPML_DIGEST_VALUES").tell_structure(teller, digests)
         }
         CommandBody::NvUndefineSpace { .. }
         | CommandBody::NvIncrement { .. }
@@ -126,39 +106,30 @@ pub(crate) fn push_command_fields(
     }
 }
 
-/// Adds a line, or an object of JSON, for each parameter of a reply: its name, its type and its
-/// bytes (Part 3, the response table of the command), and what stands in it.
+/// Tells each parameter of a reply: its name, its type and its bytes (Part 3, the response table of the command), and
+/// what stands in it.
 #[tactic(auto, unfolding(tpm_commands::specs::Replies::pcr_event_reply, tpm_commands::specs::Replies::nv_read_reply, tpm_commands::specs::Replies::nv_read_public_reply, tpm_commands::specs::Replies::start_auth_session_reply, tpm_commands::specs::Replies::pcr_read_reply, tpm_commands::specs::Replies::policy_get_digest_reply))]
-pub(crate) fn push_reply_fields(
-    alloc: Global,
-    text: &mut String,
-    json: bool,
-    body: &ReplyBody,
-) -> Result<(), AllocError>
+pub(crate) fn tell_reply_fields<T: Teller>(teller: &mut T, body: &ReplyBody) -> Pushed
     ensures { OnOk result
-        (string_bytes text.new ≡ string_bytes text.old ++ reply_fields json body.now) }
+        (T.told teller.new ≡ T.told teller.old ++ flat_map T.marks (reply_fields body.now)) }
 {
     match body {
         ReplyBody::PcrEvent(digests) => {
             prove!(digests.len() <= 4096);
-            Field("  ", 1, "digests", "TPML_DIGEST_VALUES").push_structure(
-                alloc, text, json, digests,
-            )
+            Field("  ", "digests", "TPML_DIGEST_VALUES").tell_structure(teller, digests)
         }
         ReplyBody::NvRead(data) => {
             prove!(data.len() <= 4096);
-            Field("  ", 1, "data", "TPM2B_MAX_NV_BUFFER").push(alloc, text, json, data)
+            Field("  ", "data", "TPM2B_MAX_NV_BUFFER").tell(teller, data)
         }
         ReplyBody::NvReadPublic { public, name } => {
             prove!(public.len() + name.len() <= 4096);
-            Field("  ", 1, "nvPublic", "TPM2B_NV_PUBLIC").push_structure(
-                alloc, text, json, public,
-            )?;
-            Field("  ", 2, "nvName", "TPM2B_NAME").push(alloc, text, json, name)
+            Field("  ", "nvPublic", "TPM2B_NV_PUBLIC").tell_structure(teller, public)?;
+            Field("  ", "nvName", "TPM2B_NAME").tell(teller, name)
         }
         ReplyBody::StartAuthSession(reply) => {
             prove!(reply.nonce_tpm.len() <= 4096);
-            Field("  ", 1, "nonceTPM", "TPM2B_NONCE").push(alloc, text, json, &reply.nonce_tpm)
+            Field("  ", "nonceTPM", "TPM2B_NONCE").tell(teller, &reply.nonce_tpm)
         }
         ReplyBody::PcrRead {
             update_counter,
@@ -166,15 +137,15 @@ pub(crate) fn push_reply_fields(
             digests,
         } => {
             prove!(selections.len() + digests.len() <= 4096);
-            Field("  ", 1, "pcrUpdateCounter", "UINT32").push(alloc, text, json, update_counter)?;
-            Field("  ", 2, "pcrSelectionOut", "TPML_PCR_SELECTION").push_structure(
-                alloc, text, json, selections,
+            Field("  ", "pcrUpdateCounter", "UINT32").tell(teller, update_counter)?;
+            Field("  ", "pcrSelectionOut", "TPML_PCR_SELECTION").tell_structure(
+                teller, selections,
             )?;
-            Field("  ", 3, "pcrValues", "TPML_DIGEST").push_structure(alloc, text, json, digests)
+            Field("  ", "pcrValues", "TPML_DIGEST").tell_structure(teller, digests)
         }
         ReplyBody::PolicyGetDigest(digest) => {
             prove!(digest.len() <= 4096);
-            Field("  ", 1, "policyDigest", "TPM2B_DIGEST").push(alloc, text, json, digest)
+            Field("  ", "policyDigest", "TPM2B_DIGEST").tell(teller, digest)
         }
         ReplyBody::NvUndefineSpace
         | ReplyBody::NvDefineSpace

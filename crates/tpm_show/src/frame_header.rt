@@ -1,10 +1,11 @@
 //! The header of a frame, whatever a profile has of it.
 
-ghost use Rattle.std.specs.Prelude.{◌≡◌, ◌++◌, OnOk, Some, option_map, string_bytes};
+ghost use Rattle.std.specs.Prelude.{◌≡◌, ◌++◌, IfOk, OnOk, Some, codes, option_map, string_bytes};
 ghost use Rattle.tpm_wire.specs.Buffers.{Takes};
 ghost use Rattle.tpm_lines.specs.Named.{named_as, named_in};
 ghost use Rattle.tpm_show.specs.Meanings.{meaning_as};
-ghost use Rattle.tpm_show.specs.Headers.{frame_header, header_in, tag_names, tag_behind, tag_member, name_behind};
+ghost use Rattle.tpm_show.specs.Members.{name_member, number_member, text_member};
+ghost use Rattle.tpm_show.specs.Headers.{frame_header, header_in, tag_names, tag_behind, name_behind};
 ghost use Rattle.tpm_show.specs.Headers.{command_name, code_name, code_behind, code_name_member, size_and_tag};
 ghost use Rattle.tpm_show.specs.Headers.{command_head, answered, reply_head, size_and_tag_members, command_member};
 ghost use Rattle.tpm_show.specs.Headers.{command_head_members, answered_member, reply_head_members};
@@ -12,7 +13,10 @@ ghost use Rattle.tpm_show.specs.Explain.{meaning_of};
 
 use crate::command_names::command_of;
 use crate::explained::{code_meaning, push_subject};
+use crate::hex_digits::{eight_digits, four_digits, three_digits};
 use crate::meaning::Meaning;
+use crate::object::Object;
+use std::alloc::{AllocError, Global};
 use tpm_lines::named::{Named, look_up};
 use tpm_lines::names;
 use tpm_lines::text::Pushed;
@@ -178,99 +182,99 @@ pub(crate) fn push_reply_head(
 
 // ---- in an object
 
-fn push_tag_member(text: &mut String, named: Option<&'static Named>) -> Pushed
-    ensures { OnOk result (string_bytes text.new
-        ≡ string_bytes text.old ++ tag_member (option_map (λ n. named_as n.now) named.entry)) }
+// The name of a command of the library, or the number of any other.
+fn command_name(alloc: Global, code: u32) -> Result<String, AllocError>
+    ensures { IfOk result (λ name. string_bytes name ≡ command_name code) }
 {
-    let Some(named) = named else {
-        return Ok(());
-    };
-    let name = named.name;
-    write!(text, ",\"tag_name\":\"{name}\"")
+    let mut name = String::new(alloc);
+    push_command_name(&mut name, code)?;
+    Ok(name)
 }
 
-fn push_known_code(text: &mut String, member: &str, code: u32, meaning: &Meaning) -> Pushed
-    ensures { OnOk result (string_bytes text.new ≡ string_bytes text.old
+fn tell_known_code(object: &mut Object, member: &str, code: u32, meaning: &Meaning) -> Pushed
+    ensures { OnOk result (object.new.writer.tokens ≡ object.old.writer.tokens
         ++ code_name_member member.now (Some (meaning_as meaning.now)) code) }
 {
-    write!(text, ",\"{member}\":\"")?;
-    push_meaning_name(text, code, meaning)?;
-    text.push_str("\"")?;
-    Ok(())
+    let mut name = String::new(object.alloc);
+    push_meaning_name(&mut name, code, meaning)?;
+    object.text_member(member, name.as_str())
 }
 
 /// Adds the name of a response code under this member, where it has one.
-pub(crate) fn push_code_name_member(text: &mut String, member: &str, code: u32) -> Pushed
-    ensures { OnOk result (string_bytes text.new
-        ≡ string_bytes text.old ++ code_name_member member.now (meaning_of code) code) }
+pub(crate) fn tell_code_name(object: &mut Object, member: &str, code: u32) -> Pushed
+    ensures { OnOk result (object.new.writer.tokens
+        ≡ object.old.writer.tokens ++ code_name_member member.now (meaning_of code) code) }
 {
     let Some(meaning) = code_meaning(code) else {
         return Ok(());
     };
-    push_known_code(text, member, code, meaning)
+    tell_known_code(object, member, code, meaning)
 }
 
-fn push_tag_name_member(text: &mut String, tag: u16) -> Pushed
-    ensures { OnOk result
-        (string_bytes text.new ≡ string_bytes text.old ++ tag_member (named_in tag_names tag)) }
+fn tell_tag_name(object: &mut Object, tag: u16) -> Pushed
+    ensures { OnOk result (object.new.writer.tokens ≡ object.old.writer.tokens
+        ++ name_member (codes "tag_name") (named_in tag_names tag)) }
 {
-    push_tag_member(text, look_up(&TAG_NAMES, tag as u32))
+    object.name_member("tag_name", look_up(&TAG_NAMES, tag as u32))
 }
 
-#[tactic(auto, using(tpm_lines::proofs::Padded::padded), unfolding(crate::specs::Headers::size_and_tag_members))]
-fn push_size_and_tag_members(text: &mut String, header: &FrameHeader) -> Pushed
-    ensures { OnOk result
-        (string_bytes text.new ≡ string_bytes text.old ++ size_and_tag_members header.now) }
+#[tactic(auto, unfolding(crate::specs::Headers::size_and_tag_members))]
+fn tell_size_and_tag(object: &mut Object, header: &FrameHeader) -> Pushed
+    ensures { OnOk result (object.new.writer.tokens
+        ≡ object.old.writer.tokens ++ size_and_tag_members header.now) }
 {
     let FrameHeader { tag, size, .. } = *header;
-    write!(text, ",\"size\":{size},\"tag\":\"{tag:04x}\"")?;
-    push_tag_name_member(text, tag)
+    let digits = four_digits(object.alloc, tag)?;
+    object.number_member("size", u64::from(size))?;
+    object.text_member("tag", digits.as_str())?;
+    tell_tag_name(object, tag)
 }
 
-fn push_command_member(text: &mut String, code: u32) -> Pushed
-    ensures { OnOk result (string_bytes text.new ≡ string_bytes text.old ++ command_member code) }
+fn tell_command_member(object: &mut Object, code: u32) -> Pushed
+    ensures { OnOk result (object.new.writer.tokens
+        ≡ object.old.writer.tokens ++ command_member code) }
 {
-    text.push_str(",\"command\":\"")?;
-    push_command_name(text, code)?;
-    text.push_str("\"")?;
-    Ok(())
+    let name = command_name(object.alloc, code)?;
+    object.text_member("command", name.as_str())
 }
 
 /// Adds the members of a command's header.
-#[tactic(auto, using(tpm_lines::proofs::Padded::padded), unfolding(crate::specs::Headers::command_head_members))]
-pub(crate) fn push_command_head_members(text: &mut String, header: &FrameHeader) -> Pushed
-    ensures { OnOk result
-        (string_bytes text.new ≡ string_bytes text.old ++ command_head_members header.now) }
+#[tactic(auto, unfolding(crate::specs::Headers::command_head_members))]
+pub(crate) fn tell_command_head(object: &mut Object, header: &FrameHeader) -> Pushed
+    ensures { OnOk result (object.new.writer.tokens
+        ≡ object.old.writer.tokens ++ command_head_members header.now) }
 {
     let code = header.code;
-    push_command_member(text, code)?;
-    push_size_and_tag_members(text, header)?;
-    write!(text, ",\"command_code\":\"{code:08x}\"")
+    let digits = eight_digits(object.alloc, code)?;
+    tell_command_member(object, code)?;
+    tell_size_and_tag(object, header)?;
+    object.text_member("command_code", digits.as_str())
 }
 
-fn push_answered_member(text: &mut String, command: Option<u32>) -> Pushed
-    ensures { OnOk result
-        (string_bytes text.new ≡ string_bytes text.old ++ answered_member command) }
+fn tell_answered(object: &mut Object, command: Option<u32>) -> Pushed
+    ensures { OnOk result (object.new.writer.tokens
+        ≡ object.old.writer.tokens ++ answered_member command) }
 {
     match command {
-        Some(code) => push_command_member(text, code),
+        Some(code) => tell_command_member(object, code),
         None => Ok(()),
     }
 }
 
 /// Adds the members of the header of a reply to this command.
-#[tactic(auto, using(tpm_lines::proofs::Padded::padded), unfolding(crate::specs::Headers::reply_head_members))]
-pub(crate) fn push_reply_head_members(
-    text: &mut String,
+#[tactic(auto, unfolding(crate::specs::Headers::reply_head_members))]
+pub(crate) fn tell_reply_head(
+    object: &mut Object,
     command: Option<u32>,
     header: &FrameHeader,
 ) -> Pushed
-    ensures { OnOk result
-        (string_bytes text.new ≡ string_bytes text.old ++ reply_head_members command header.now) }
+    ensures { OnOk result (object.new.writer.tokens
+        ≡ object.old.writer.tokens ++ reply_head_members command header.now) }
 {
-    push_answered_member(text, command)?;
-    push_size_and_tag_members(text, header)?;
     let code = header.code;
-    write!(text, ",\"code\":\"{code:03x}\"")?;
-    push_code_name_member(text, "code_name", code)
+    let digits = three_digits(object.alloc, code)?;
+    tell_answered(object, command)?;
+    tell_size_and_tag(object, header)?;
+    object.text_member("code", digits.as_str())?;
+    tell_code_name(object, "code_name", code)
 }

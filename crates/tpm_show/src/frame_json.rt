@@ -1,107 +1,96 @@
-//! The frames of a capture as objects of JSON.
+//! The object of JSON of a frame.
 
-ghost use Rattle.std.specs.Prelude.{◌≡◌, ◌++◌, ℕ, List, true, OnOk, string_bytes};
-ghost use Rattle.tpm_show.specs.Fields.{command_fields, reply_fields};
-ghost use Rattle.tpm_show.specs.FrameJson.{fault_object, fields_member, refusal_members, refused_code};
-ghost use Rattle.tpm_show.specs.FrameJson.{refused_members, stop_object};
+ghost use Rattle.std.specs.Prelude.{◌≡◌, ◌++◌, OnOk, codes};
+ghost use Rattle.tpm_show.specs.FrameJson.{refusal_members};
 
-use crate::fields::{push_command_fields, push_reply_fields};
-use crate::frame_header::push_code_name_member;
-use std::alloc::Global;
-use tpm_commands::{CommandBody, ReplyBody};
+use crate::field::Field;
+use crate::field_text::{tell_field, tell_number, tell_structure};
+use crate::frame_header::{FrameHeader, tell_code_name, tell_command_head, tell_reply_head};
+use crate::handle_names::tell_handles;
+use crate::hex_digits::three_digits;
+use crate::object::Object;
+use crate::sessions::{Session, tell_session};
+use crate::teller::Teller;
 use tpm_lines::text::Pushed;
 use tpm_wire::Refusal;
 
-// ---- refusals and faults
-
-fn push_refused_code(text: &mut String, code: u32) -> Pushed
-    ensures { OnOk result (string_bytes text.new ≡ string_bytes text.old ++ refused_code code) }
-{
-    write!(text, ",\"refused\":\"{code:03x}\"")
-}
-
-fn push_refused_members(text: &mut String, code: u32) -> Pushed
-    ensures { OnOk result (string_bytes text.new ≡ string_bytes text.old ++ refused_members code) }
-{
-    push_refused_code(text, code)?;
-    push_code_name_member(text, "fault", code)
-}
-
-/// Adds the members of a refusal.
 #[tactic(auto, unfolding(crate::specs::FrameJson::refusal_members))]
-pub(crate) fn push_refusal_members(text: &mut String, refusal: &Refusal) -> Pushed
-    ensures { OnOk result
-        (string_bytes text.new ≡ string_bytes text.old ++ refusal_members refusal.now) }
+fn tell_refusal(object: &mut Object, refusal: &Refusal) -> Pushed
+    ensures { OnOk result (object.new.writer.tokens
+        ≡ object.old.writer.tokens ++ refusal_members refusal.now) }
 {
     let Refusal { code, at } = *refusal;
-    push_refused_members(text, code)?;
-    write!(text, ",\"at\":{at}")
+    let digits = three_digits(object.alloc, code)?;
+    object.text_member("refused", digits.as_str())?;
+    tell_code_name(object, "fault", code)?;
+    object.number_member("at", at as u64)
 }
 
-/// Adds the object of a line that has no frame.
-#[tactic(auto, unfolding(crate::specs::FrameJson::fault_object))]
-pub(crate) fn push_fault_object(text: &mut String, number: u64, fault: &str) -> Pushed
-    ensures { OnOk result
-        (string_bytes text.new ≡ string_bytes text.old ++ fault_object number fault.now) }
-{
-    writeln!(text, "{{\"number\":{number},\"fault\":\"{fault}\"}}")
-}
+impl Teller for Object {
+    ghost use Rattle.json.specs.Token.{Token};
+    ghost use Rattle.tpm_show.specs.FrameJson.{tokens_of};
 
-/// Adds the object of a frame that does not come, behind so many bytes.
-#[tactic(auto, unfolding(crate::specs::FrameJson::stop_object))]
-pub(crate) fn push_stop_object(text: &mut String, number: u64, fault: &str, at: usize) -> Pushed
-    ensures { OnOk result
-        (string_bytes text.new ≡ string_bytes text.old ++ stop_object number fault.now at) }
-{
-    writeln!(
-        text,
-        "{{\"number\":{number},\"fault\":\"{fault}\",\"at\":{at}}}"
-    )
-}
+    ghost Mark = { Token };
 
-// ---- what stands behind the header
+    ghost told = { λ object. object.writer.tokens };
 
-/// The body of a command or of a reply, whose parameters are told by their names.
-pub(crate) trait HasFields {
-    /// Their objects.
-    ghost objects: { Self → List ℕ };
+    ghost marks = { tokens_of };
 
-    /// Adds their objects.
-    fn push_objects(&self, alloc: Global, text: &mut String) -> Pushed
-        ensures { OnOk result (string_bytes text.new ≡ string_bytes text.old ++ objects self.now) };
-}
-
-impl HasFields for CommandBody<'_> {
-    ghost objects = { λ body. command_fields true body };
-
-    fn push_objects(&self, alloc: Global, text: &mut String) -> Pushed {
-        push_command_fields(alloc, text, true, self)
+    fn command_head(&mut self, header: &FrameHeader) -> Pushed {
+        tell_command_head(self, header)
     }
-}
 
-impl HasFields for ReplyBody {
-    ghost objects = { λ body. reply_fields true body };
-
-    fn push_objects(&self, alloc: Global, text: &mut String) -> Pushed {
-        push_reply_fields(alloc, text, true, self)
+    fn reply_head(&mut self, command: Option<u32>, header: &FrameHeader) -> Pushed {
+        tell_reply_head(self, command, header)
     }
-}
 
-/// Adds the objects of the parameters, where they are told by their names.
-pub(crate) fn push_fields_member<B: HasFields>(
-    alloc: Global,
-    text: &mut String,
-    fields: bool,
-    body: &B,
-) -> Pushed
-    ensures { OnOk result (string_bytes text.new
-        ≡ string_bytes text.old ++ fields_member fields (B.objects body.now)) }
-{
-    if !fields {
-        return Ok(());
+    fn handles(&mut self, handles: &[u32]) -> Pushed {
+        tell_handles(self, handles)
     }
-    text.push_str(",\"fields\":[")?;
-    body.push_objects(alloc, text)?;
-    text.push_str("]")?;
-    Ok(())
+
+    fn begin_list(&mut self, name: &str) -> Pushed {
+        self.open_list(name)
+    }
+
+    fn end_list(&mut self) -> Pushed {
+        self.writer.end_array()
+    }
+
+    fn session(&mut self, _number: usize, session: &Session<'_>) -> Pushed {
+        tell_session(self, session)
+    }
+
+    fn parameters(&mut self, bytes: &[u8]) -> Pushed {
+        self.hex_member("parameters", bytes)
+    }
+
+    fn value(&mut self, field: Field, bytes: &[u8]) -> Pushed {
+        tell_field(self, field, bytes)
+    }
+
+    fn begin_structure(&mut self, field: Field, bytes: &[u8]) -> Pushed {
+        tell_structure(self, field, bytes)
+    }
+
+    fn end_structure(&mut self) -> Pushed {
+        self.writer.end_array()?;
+        self.writer.end_object()
+    }
+
+    fn number(&mut self, _indent: &str, name: &str, n: u32) -> Pushed {
+        tell_number(self, name, n)
+    }
+
+    fn refusal(&mut self, refusal: &Refusal) -> Pushed {
+        tell_refusal(self, refusal)
+    }
+
+    fn absent(&mut self, name: &str) -> Pushed {
+        let name = format!(in self.alloc; "TPM2_{name}")?;
+        self.text_member("name", name.as_str())
+    }
+
+    fn untold(&mut self, sentence: &str) -> Pushed {
+        self.text_member("fault", sentence)
+    }
 }

@@ -1,16 +1,18 @@
 //! Handles by the names that Part 2 gives them, in lines or in lists of JSON.
 
-ghost use Rattle.std.specs.Prelude.{◌≡◌, ◌++◌, OnOk, option_map, string_bytes};
+ghost use Rattle.std.specs.Prelude.{◌≡◌, ◌++◌, [], ◌∷◌, OnOk, codes, map, option_map, string_bytes};
 ghost use Rattle.tpm_lines.specs.Named.{named_as};
-ghost use Rattle.tpm_lines.specs.Text.{lines_from};
-ghost use Rattle.tpm_show.specs.HandleNames.{handle_behind, handle_line, handle_named, handle_number, handle_text};
-ghost use Rattle.tpm_show.specs.HandleNames.{handles_members, name_or_null, names_member, numbers_member};
+ghost use Rattle.tpm_show.specs.HandleNames.{handle_behind, handle_line, handle_lines, handle_name, handle_named};
+ghost use Rattle.tpm_show.specs.HandleNames.{handle_number, handles_members, name_or_null};
 ghost use Rattle.tpm_show.specs.Headers.{name_behind};
+ghost use Rattle.tpm_show.specs.Members.{list_begins, list_member};
 
 use crate::frame_header::push_name_behind;
+use crate::hex_digits::eight_digits;
+use crate::object::Object;
 use tpm_lines::named::{Named, look_up};
 use tpm_lines::names;
-use tpm_lines::text::{Pushed, push_comma};
+use tpm_lines::text::Pushed;
 
 // Permanent handles, TPM_RH (Part 2, 7.4).
 const PERMANENT: [Named; 32] = names![
@@ -71,16 +73,7 @@ pub(crate) fn handle_name(handle: u32) -> Option<&'static Named>
     }
 }
 
-/// How a handle is told.
-#[derive(Clone, Copy, Debug, PartialEq, Eq)]
-pub(crate) enum HandleAs {
-    /// In a line, and there with its name or without.
-    Line(bool),
-    /// As an entry of a list of numbers.
-    Number,
-    /// As an entry of a list of names.
-    Name,
-}
+// ---- in lines
 
 fn push_handle_name(text: &mut String, handle: u32) -> Pushed
     ensures { OnOk result (string_bytes text.new
@@ -110,86 +103,89 @@ fn push_handle_line(text: &mut String, names: bool, i: usize, handle: u32) -> Pu
     text.push_str("\n")
 }
 
-#[tactic(auto, using(tpm_lines::proofs::Padded::padded), unfolding(crate::specs::HandleNames::handle_number))]
-fn push_handle_number(text: &mut String, handle: u32) -> Pushed
-    ensures { OnOk result (string_bytes text.new ≡ string_bytes text.old ++ handle_number handle) }
-{
-    write!(text, "\"{handle:08x}\"")
-}
-
-fn push_name_or_null(text: &mut String, named: Option<&'static Named>) -> Pushed
+/// Adds the line of each handle.
+pub(crate) fn push_handles(text: &mut String, names: bool, handles: &[u32]) -> Pushed
     ensures { OnOk result (string_bytes text.new
-        ≡ string_bytes text.old ++ name_or_null (option_map (λ n. named_as n.now) named.entry)) }
-{
-    let Some(named) = named else {
-        return text.push_str("null");
-    };
-    let name = named.name;
-    write!(text, "\"{name}\"")
-}
-
-fn push_handle_name_entry(text: &mut String, handle: u32) -> Pushed
-    ensures { OnOk result (string_bytes text.new
-        ≡ string_bytes text.old ++ name_or_null (handle_named handle)) }
-{
-    push_name_or_null(text, handle_name(handle))
-}
-
-fn push_handle(text: &mut String, how: HandleAs, i: usize, handle: u32) -> Pushed
-    ensures { OnOk result
-        (string_bytes text.new ≡ string_bytes text.old ++ handle_text how i handle) }
-{
-    match how {
-        HandleAs::Line(names) => push_handle_line(text, names, i, handle),
-        HandleAs::Number => {
-            push_comma(text, i)?;
-            push_handle_number(text, handle)
-        }
-        HandleAs::Name => {
-            push_comma(text, i)?;
-            push_handle_name_entry(text, handle)
-        }
-    }
-}
-
-/// Adds what is told of each handle.
-pub(crate) fn push_handles(text: &mut String, how: HandleAs, handles: &[u32]) -> Pushed
-    ensures { OnOk result (string_bytes text.new
-        ≡ string_bytes text.old ++ lines_from (handle_text how) 1 handles.now) }
+        ≡ string_bytes text.old ++ handle_lines names handles.now) }
 {
     for (before, handle) in handles.iter().enumerate() {
-        push_handle(text, how, before + 1, *handle)?;
+        push_handle_line(text, names, before + 1, *handle)?;
     }
     Ok(())
 }
 
-#[tactic(auto, unfolding(crate::specs::HandleNames::numbers_member))]
-fn push_numbers_member(text: &mut String, handles: &[u32]) -> Pushed
-    ensures { OnOk result
-        (string_bytes text.new ≡ string_bytes text.old ++ numbers_member handles.now) }
+// ---- in an object
+
+fn tell_handle_number(object: &mut Object, handle: u32) -> Pushed
+    ensures { OnOk result (object.new.writer.tokens
+        ≡ object.old.writer.tokens ++ handle_number handle ∷ []) }
 {
-    text.push_str(",\"handles\":[")?;
-    push_handles(text, HandleAs::Number, handles)?;
-    text.push_str("]")?;
+    let digits = eight_digits(object.alloc, handle)?;
+    object.writer.string(digits.as_str())
+}
+
+fn tell_numbers(object: &mut Object, handles: &[u32]) -> Pushed
+    ensures { OnOk result (object.new.writer.tokens
+        ≡ object.old.writer.tokens ++ map handle_number handles.now) }
+{
+    for handle in handles {
+        tell_handle_number(object, *handle)?;
+    }
     Ok(())
 }
 
-#[tactic(auto, unfolding(crate::specs::HandleNames::names_member))]
-fn push_names_member(text: &mut String, handles: &[u32]) -> Pushed
-    ensures { OnOk result
-        (string_bytes text.new ≡ string_bytes text.old ++ names_member handles.now) }
+fn tell_name_or_null(object: &mut Object, named: Option<&'static Named>) -> Pushed
+    ensures { OnOk result (object.new.writer.tokens ≡ object.old.writer.tokens
+        ++ name_or_null (option_map (λ n. named_as n.now) named.entry) ∷ []) }
 {
-    text.push_str(",\"handle_names\":[")?;
-    push_handles(text, HandleAs::Name, handles)?;
-    text.push_str("]")?;
+    match named {
+        Some(named) => object.writer.string(named.name),
+        None => object.writer.null(),
+    }
+}
+
+fn tell_handle_name(object: &mut Object, handle: u32) -> Pushed
+    ensures { OnOk result (object.new.writer.tokens
+        ≡ object.old.writer.tokens ++ handle_name handle ∷ []) }
+{
+    tell_name_or_null(object, handle_name(handle))
+}
+
+fn tell_names(object: &mut Object, handles: &[u32]) -> Pushed
+    ensures { OnOk result (object.new.writer.tokens
+        ≡ object.old.writer.tokens ++ map handle_name handles.now) }
+{
+    for handle in handles {
+        tell_handle_name(object, *handle)?;
+    }
     Ok(())
 }
 
-/// Adds the handles and their names as members of an object of JSON.
-pub(crate) fn push_handles_members(text: &mut String, handles: &[u32]) -> Pushed
-    ensures { OnOk result
-        (string_bytes text.new ≡ string_bytes text.old ++ handles_members handles.now) }
+#[tactic(auto, unfolding(crate::specs::Members::list_member))]
+fn tell_numbers_member(object: &mut Object, handles: &[u32]) -> Pushed
+    ensures { OnOk result (object.new.writer.tokens ≡ object.old.writer.tokens
+        ++ list_member (codes "handles") (map handle_number handles.now)) }
 {
-    push_numbers_member(text, handles)?;
-    push_names_member(text, handles)
+    object.open_list("handles")?;
+    tell_numbers(object, handles)?;
+    object.writer.end_array()
+}
+
+#[tactic(auto, unfolding(crate::specs::Members::list_member))]
+fn tell_names_member(object: &mut Object, handles: &[u32]) -> Pushed
+    ensures { OnOk result (object.new.writer.tokens ≡ object.old.writer.tokens
+        ++ list_member (codes "handle_names") (map handle_name handles.now)) }
+{
+    object.open_list("handle_names")?;
+    tell_names(object, handles)?;
+    object.writer.end_array()
+}
+
+/// Adds the handles and their names as members.
+pub(crate) fn tell_handles(object: &mut Object, handles: &[u32]) -> Pushed
+    ensures { OnOk result (object.new.writer.tokens
+        ≡ object.old.writer.tokens ++ handles_members handles.now) }
+{
+    tell_numbers_member(object, handles)?;
+    tell_names_member(object, handles)
 }

@@ -1,6 +1,6 @@
 //! What stands behind the header of a frame, by how many handles a command of the library or its response has.
 
-ghost use Rattle.std.specs.Prelude.{◌≡◌, ◌++◌, ◌<◌, ◌^◌, IfSome, OnOk, Some, length, option_map, string_bytes};
+ghost use Rattle.std.specs.Prelude.{◌≡◌, ◌++◌, ◌<◌, ◌^◌, IfSome, OnOk, Some, flat_map, length, option_map};
 ghost use Rattle.tpm_wire.specs.Buffers.{Takes, TakesAs, TakesNumbered};
 ghost use Rattle.tpm_wire.specs.Reading.{read_all};
 ghost use Rattle.tpm_buffer.specs.Commands.{authorization_size};
@@ -14,10 +14,9 @@ ghost use Rattle.tpm_show.specs.Library.{response_areas, response_areas_read, li
 use crate::command_names::{Listed, command_of};
 use crate::frame_header::{FrameHeader, header_in};
 use crate::sessions::{HasSessions, Session};
-use crate::telling::Telling;
-use crate::told::{push_areas, push_reply_areas};
+use crate::teller::Teller;
+use crate::told::{tell_areas, tell_reply_areas};
 use arrayvec::ArrayVec;
-use std::alloc::Global;
 use std::marker::Model;
 use tpm_buffer::{NO_SESSIONS, SESSIONS};
 use tpm_lines::text::Pushed;
@@ -168,62 +167,37 @@ fn read_command_areas(rest: &[u8], handles: u8, tag: u16) -> Result<CommandAreas
     Ok(areas)
 }
 
-fn push_command_areas(
-    alloc: Global,
-    text: &mut String,
-    how: Telling,
-    handles: u8,
-    tag: u16,
-    rest: &[u8],
-) -> Pushed
+fn tell_command_areas<T: Teller>(teller: &mut T, handles: u8, tag: u16, rest: &[u8]) -> Pushed
     requires { length rest.now < 2 ^ 32 }
-    ensures { OnOk result (string_bytes text.new ≡ string_bytes text.old
-        ++ command_areas_read how.json how.fields (read_all (command_areas handles tag) rest.now)) }
+    ensures { OnOk result (T.told teller.new ≡ T.told teller.old
+        ++ flat_map T.marks (command_areas_read (read_all (command_areas handles tag) rest.now))) }
 {
     match read_command_areas(rest, handles, tag) {
-        Ok(areas) => push_areas(
-            alloc,
-            text,
-            how,
-            areas.handles.as_slice(),
-            &areas,
-            areas.params,
-        ),
+        Ok(areas) => tell_areas(teller, areas.handles.as_slice(), &areas, areas.params),
         Err(_) => Ok(()),
     }
 }
 
-fn push_command_of(
-    alloc: Global,
-    text: &mut String,
-    how: Telling,
-    bytes: &[u8],
-    header: &FrameHeader,
-) -> Pushed
-    ensures { OnOk result (string_bytes text.new
-        ≡ string_bytes text.old ++ library_command how.json how.fields bytes.now (Some header.now)) }
+fn tell_command_of<T: Teller>(teller: &mut T, bytes: &[u8], header: &FrameHeader) -> Pushed
+    ensures { OnOk result (T.told teller.new
+        ≡ T.told teller.old ++ flat_map T.marks (library_command bytes.now (Some header.now))) }
 {
     let Some(command) = command_of(header.code) else {
         return Ok(());
     };
     match behind_whole(bytes, header) {
-        Some(rest) => { push_command_areas(alloc, text, how, command.handles, header.tag, rest) }
+        Some(rest) => { tell_command_areas(teller, command.handles, header.tag, rest) }
         None => Ok(()),
     }
 }
 
-/// Adds the areas of a command of the library, where its handles and its sessions are there.
-pub(crate) fn push_library_command(
-    alloc: Global,
-    text: &mut String,
-    how: Telling,
-    bytes: &[u8],
-) -> Pushed
-    ensures { OnOk result (string_bytes text.new
-        ≡ string_bytes text.old ++ library_command how.json how.fields bytes.now (header_in bytes.now)) }
+/// Tells the areas of a command of the library, where its handles and its sessions are there.
+pub(crate) fn tell_library_command<T: Teller>(teller: &mut T, bytes: &[u8]) -> Pushed
+    ensures { OnOk result (T.told teller.new
+        ≡ T.told teller.old ++ flat_map T.marks (library_command bytes.now (header_in bytes.now))) }
 {
     match header_in(bytes) {
-        Some(header) => push_command_of(alloc, text, how, bytes, &header),
+        Some(header) => tell_command_of(teller, bytes, &header),
         None => Ok(()),
     }
 }
@@ -342,66 +316,46 @@ fn read_response_areas(rest: &[u8], handles: u8, tag: u16) -> Result<ResponseAre
     Ok(areas)
 }
 
-fn push_response_areas(
-    alloc: Global,
-    text: &mut String,
-    how: Telling,
-    handles: u8,
-    tag: u16,
-    rest: &[u8],
-) -> Pushed
+fn tell_response_areas<T: Teller>(teller: &mut T, handles: u8, tag: u16, rest: &[u8]) -> Pushed
     requires { length rest.now < 2 ^ 32 }
-    ensures { OnOk result (string_bytes text.new ≡ string_bytes text.old
-        ++ response_areas_read how.json how.fields (read_all (response_areas handles tag) rest.now)) }
+    ensures { OnOk result (T.told teller.new ≡ T.told teller.old
+        ++ flat_map T.marks (response_areas_read (read_all (response_areas handles tag) rest.now))) }
 {
     match read_response_areas(rest, handles, tag) {
-        Ok(areas) => push_reply_areas(
-            alloc,
-            text,
-            how,
-            areas.handles.as_slice(),
-            areas.params,
-            &areas,
-        ),
+        Ok(areas) => tell_reply_areas(teller, areas.handles.as_slice(), areas.params, &areas),
         Err(_) => Ok(()),
     }
 }
 
-fn push_response_of(
-    alloc: Global,
-    text: &mut String,
-    how: Telling,
+fn tell_response_of<T: Teller>(
+    teller: &mut T,
     command: &Listed,
     bytes: &[u8],
     header: &FrameHeader,
 ) -> Pushed
-    ensures { OnOk result (string_bytes text.new ≡ string_bytes text.old
-        ++ library_response how.json how.fields (listed_as command.now) bytes.now (Some header.now)) }
+    ensures { OnOk result (T.told teller.new ≡ T.told teller.old
+        ++ flat_map T.marks (library_response (listed_as command.now) bytes.now (Some header.now))) }
 {
     if header.code != 0 {
         return Ok(());
     }
     match behind_whole(bytes, header) {
-        Some(rest) => {
-            push_response_areas(alloc, text, how, command.reply_handles, header.tag, rest)
-        }
+        Some(rest) => { tell_response_areas(teller, command.reply_handles, header.tag, rest) }
         None => Ok(()),
     }
 }
 
-/// Adds the areas of a response that is to this command of the library, where they are there.
-pub(crate) fn push_library_response(
-    alloc: Global,
-    text: &mut String,
-    how: Telling,
+/// Tells the areas of a response that is to this command of the library, where they are there.
+pub(crate) fn tell_library_response<T: Teller>(
+    teller: &mut T,
     command: &Listed,
     bytes: &[u8],
 ) -> Pushed
-    ensures { OnOk result (string_bytes text.new ≡ string_bytes text.old
-        ++ library_response how.json how.fields (listed_as command.now) bytes.now (header_in bytes.now)) }
+    ensures { OnOk result (T.told teller.new ≡ T.told teller.old
+        ++ flat_map T.marks (library_response (listed_as command.now) bytes.now (header_in bytes.now))) }
 {
     match header_in(bytes) {
-        Some(header) => push_response_of(alloc, text, how, command, bytes, &header),
+        Some(header) => tell_response_of(teller, command, bytes, &header),
         None => Ok(()),
     }
 }

@@ -3,18 +3,17 @@
 ghost use Rattle.std.specs.Prelude.{◌≡◌, ◌++◌, ◌+◌, ◌^◌, ◌<◌, ℕ, List, IfOk, OnOk, string_bytes};
 ghost use Rattle.std.specs.Io.KnownBytes.{Appends};
 ghost use Rattle.tpm_pcap.specs.Entries.{entry_as, entries_as};
-ghost use Rattle.tpm_lines.specs.declared.status.Status.TheVariants.{Refused};
 ghost use Rattle.tpm_lines.specs.Faults.{FailsByMemoryOrWrite};
 ghost use Rattle.tpm_lines.specs.InputLines.{AddedTo};
 ghost use Rattle.tpm_show.specs.Capture.{start};
-ghost use Rattle.tpm_show.specs.Packets.{awaited_past, link_line, link_object, link_text, no_capture_text};
-ghost use Rattle.tpm_show.specs.Packets.{packet_line, packet_object, packet_text, reason_text};
-ghost use Rattle.tpm_show.specs.Packets.{TellsEntries, TellsPackets};
+ghost use Rattle.tpm_show.specs.Packets.{awaited_past, reason_text, TellsEntries, TellsPackets};
 ghost use Rattle.tpm_show.specs.PacketsTold.{TellsOne};
 
 use crate::capture::Capture;
 use crate::capture_frames::Awaited;
 use crate::capture_lines::Direction;
+use crate::remark::Remark;
+use crate::reports::{print_remark, push_remark};
 use crate::telling::Telling;
 use std::alloc::Global;
 use std::io::Write;
@@ -38,34 +37,6 @@ fn reason_text(reason: Reason) -> &'static str
         Reason::OutOfOrder => "not told, out of order",
         Reason::NoMessage => "not told, no message begins where one should",
         Reason::Unfinished => "a message before it did not come whole",
-    }
-}
-
-#[tactic(auto, unfolding(crate::specs::Packets::packet_line))]
-fn push_packet_line(text: &mut String, packet: u64, reason: &str) -> Pushed
-    ensures { OnOk result
-        (string_bytes text.new ≡ string_bytes text.old ++ packet_line packet reason.now) }
-{
-    writeln!(text, "packet {packet}: {reason}")
-}
-
-#[tactic(auto, unfolding(crate::specs::Packets::packet_object))]
-fn push_packet_object(text: &mut String, packet: u64, reason: &str) -> Pushed
-    ensures { OnOk result
-        (string_bytes text.new ≡ string_bytes text.old ++ packet_object packet reason.now) }
-{
-    writeln!(text, "{{\"packet\":{packet},\"fault\":\"{reason}\"}}")
-}
-
-// Adds the line or the object of a packet that is not told.
-fn push_packet(text: &mut String, json: bool, packet: u64, reason: Reason) -> Pushed
-    ensures { OnOk result (string_bytes text.new
-        ≡ string_bytes text.old ++ packet_text json packet (reason_text reason)) }
-{
-    if json {
-        push_packet_object(text, packet, reason_text(reason))
-    } else {
-        push_packet_line(text, packet, reason_text(reason))
     }
 }
 
@@ -98,7 +69,8 @@ fn tell_entry(alloc: Global, capture: &mut Capture, entry: &Entry, text: &mut St
             capture.tell_frame(alloc, Some(Direction::Reply), bytes.as_slice(), text)
         }
         Entry::Untold(packet, reason) => {
-            push_packet(text, capture.how.json, *packet, *reason)?;
+            let remark = Remark::Packet(*packet, reason_text(*reason));
+            push_remark(alloc, text, capture.how.json, remark)?;
             capture.awaited = awaited_past(*reason, capture.awaited);
             capture.status = Status::Refused;
             Ok(())
@@ -144,70 +116,6 @@ fn print_entries<W: Write>(
 
 // ---- a file
 
-fn push_no_capture(text: &mut String, json: bool) -> Pushed
-    ensures { OnOk result (string_bytes text.new ≡ string_bytes text.old ++ no_capture_text json) }
-{
-    text.push_str(if json {
-        "{\"fault\":\"no capture of libpcap\",\"at\":0}\n"
-    } else {
-        "no capture of libpcap at 0\n"
-    })
-}
-
-#[tactic(auto, unfolding(crate::specs::Packets::link_line))]
-fn push_link_line(text: &mut String, number: u32) -> Pushed
-    ensures { OnOk result (string_bytes text.new ≡ string_bytes text.old ++ link_line number) }
-{
-    writeln!(text, "link type {number} is not known at 20")
-}
-
-#[tactic(auto, unfolding(crate::specs::Packets::link_object))]
-fn push_link_object(text: &mut String, number: u32) -> Pushed
-    ensures { OnOk result (string_bytes text.new ≡ string_bytes text.old ++ link_object number) }
-{
-    writeln!(
-        text,
-        "{{\"fault\":\"link type {number} is not known\",\"at\":20}}"
-    )
-}
-
-fn push_link(text: &mut String, json: bool, number: u32) -> Pushed
-    ensures { OnOk result (string_bytes text.new ≡ string_bytes text.old ++ link_text json number) }
-{
-    if json {
-        push_link_object(text, number)
-    } else {
-        push_link_line(text, number)
-    }
-}
-
-fn print_no_capture<W: Write>(alloc: Global, json: bool, out: &mut W) -> Result<Status, ToolFault>
-    ensures ok { IfOk result (λ status. (status ≡ Refused)
-        × Appends (W.contents out.old) (W.contents out.new) (no_capture_text json)) }
-    ensures err { FailsByMemoryOrWrite result }
-{
-    let mut text = String::new(alloc);
-    push_no_capture(&mut text, json)?;
-    write(out, &text)?;
-    Ok(Status::Refused)
-}
-
-fn print_link<W: Write>(
-    alloc: Global,
-    json: bool,
-    number: u32,
-    out: &mut W,
-) -> Result<Status, ToolFault>
-    ensures ok { IfOk result (λ status. (status ≡ Refused)
-        × Appends (W.contents out.old) (W.contents out.new) (link_text json number)) }
-    ensures err { FailsByMemoryOrWrite result }
-{
-    let mut text = String::new(alloc);
-    push_link(&mut text, json, number)?;
-    write(out, &text)?;
-    Ok(Status::Refused)
-}
-
 /// Prints what `show` prints of each frame that went over a TPM simulator's port, or what `show --fields` prints, or an
 /// object of JSON in a line.
 ///
@@ -241,8 +149,10 @@ pub fn show_packets<W: Write>(
     ensures err { FailsByMemoryOrWrite result }
 {
     match traffic_in(alloc, file)? {
-        Traffic::NoCapture => print_no_capture(alloc, how.json, out),
-        Traffic::OtherLink(number) => print_link(alloc, how.json, number, out),
+        Traffic::NoCapture => print_remark(alloc, how.json, Remark::NoCapture, out),
+        Traffic::OtherLink(number) => {
+            print_remark(alloc, how.json, Remark::OtherLink(number), out)
+        },
         Traffic::Entries(entries) => print_entries(alloc, how, entries.as_slice(), out),
     }
 }

@@ -1,17 +1,19 @@
 //! The parts of structures by the names that Part 2 gives them.
 
-ghost use Rattle.std.specs.Prelude.{◌≡◌, ◌++◌, ℕ, Bool, List, OnOk, codes, string_bytes};
+ghost use Rattle.std.specs.Prelude.{◌≡◌, ◌++◌, ◌<◌, List, OnOk, codes, flat_map, map};
 ghost use Rattle.std.specs.Int.{bytes_high_first};
+ghost use Rattle.std.specs.List.{AllByRecursion};
 ghost use Rattle.tpm_types.specs.Tpma.{nv_type};
-ghost use Rattle.tpm_lines.specs.Text.{lines_from};
-ghost use Rattle.tpm_show.specs.FieldText.{field_text, structure_text};
-ghost use Rattle.tpm_show.specs.Parts.{attribute_parts, digest_entry, digest_value_entry, digest_value_members};
-ghost use Rattle.tpm_show.specs.Parts.{public_parts, register_parts, selection_entry, selection_members};
-ghost use Rattle.tpm_show.specs.Parts.{set_attributes, symmetric_parts};
+ghost use Rattle.tpm_lines.specs.Named.{named_as};
+ghost use Rattle.tpm_show.specs.Bits.{bits_set};
+ghost use Rattle.tpm_show.specs.Parts.{attribute_parts, attributes_set, digest_entry, digest_value_entry};
+ghost use Rattle.tpm_show.specs.Parts.{digest_value_members, public_parts, register_parts, selection_entry};
+ghost use Rattle.tpm_show.specs.Parts.{selection_members, set_attribute, symmetric_parts};
+ghost use Rattle.tpm_show.specs.Pieces.{Piece, Value, named, structure_told};
 
-use crate::bits::{BitsAs, push_bits_of};
-use crate::field_text::{Field, HasParts, end_structure, push_number};
-use std::alloc::Global;
+use crate::bits::is_set;
+use crate::field::{Field, HasParts};
+use crate::teller::Teller;
 use tpm_lines::named::Named;
 use tpm_lines::names;
 use tpm_lines::text::Pushed;
@@ -47,12 +49,26 @@ const ATTRIBUTES: [Named; 21] = names![
     31 "TPMA_NV_READ_STCLEAR",
 ];
 
-// Adds an entry for each bit that is set.
-fn push_bits(text: &mut String, json: bool, attrs: u32) -> Pushed
-    ensures { OnOk result
-        (string_bytes text.new ≡ string_bytes text.old ++ set_attributes json attrs) }
+// Tells each bit of the table that is set.
+fn tell_bits<T: Teller>(teller: &mut T, table: &'static [Named], attrs: u32) -> Pushed
+    requires { AllByRecursion (λ bit. bit.number < 32) table.now }
+    ensures { OnOk result (T.told teller.new ≡ T.told teller.old
+        ++ flat_map T.marks (map set_attribute (bits_set (map named_as table.now) attrs))) }
 {
-    push_bits_of(text, json, BitsAs::Numbers, 2, &ATTRIBUTES, attrs)
+    for bit in table {
+        if is_set(attrs, bit.number) {
+            teller.number("      ", bit.name, 1)?;
+        }
+    }
+    Ok(())
+}
+
+#[tactic(auto, unfolding(crate::specs::Parts::attributes_set))]
+fn tell_attributes<T: Teller>(teller: &mut T, attrs: u32) -> Pushed
+    ensures { OnOk result (T.told teller.new
+        ≡ T.told teller.old ++ flat_map T.marks (map set_attribute (attributes_set attrs))) }
+{
+    tell_bits(teller, &ATTRIBUTES, attrs)
 }
 
 // The field TPM_NT.
@@ -62,14 +78,15 @@ fn kind(attrs: u32) -> u32
     attrs >> 4 & 15
 }
 
-/// An entry for the field TPM_NT, and one for each bit that is set.
+/// The field TPM_NT, and each bit that is set.
 impl HasParts for NvAttrs {
     ghost told_parts = { attribute_parts };
 
-    fn push_parts(&self, _alloc: Global, text: &mut String, json: bool) -> Pushed {
+    #[tactic(auto, using(crate::proofs::Pieces::pieces), unfolding(crate::specs::Parts::attribute_parts))]
+    fn tell_parts<T: Teller>(&self, teller: &mut T) -> Pushed {
         let attrs = self.number();
-        push_number(text, json, "      ", 1, "TPM_NT", kind(attrs))?;
-        push_bits(text, json, attrs)
+        teller.number("      ", "TPM_NT", kind(attrs))?;
+        tell_attributes(teller, attrs)
     }
 }
 
@@ -79,39 +96,39 @@ impl HasParts for NvAttrs {
 impl HasParts for NvPublic {
     ghost told_parts = { public_parts };
 
-    #[tactic(auto, unfolding(tpm_types::specs::Tpms::nv_public_area))]
-    fn push_parts(&self, alloc: Global, text: &mut String, json: bool) -> Pushed {
+    #[tactic(auto, using(crate::proofs::Pieces::pieces), unfolding(tpm_types::specs::Tpms::nv_public_area))]
+    fn tell_parts<T: Teller>(&self, teller: &mut T) -> Pushed {
         prove!(self.index.len() + self.alg.len() + self.attrs.len() + self.policy.len() <= 4096);
-        Field("    ", 1, "nvIndex", "TPMI_RH_NV_INDEX").push(alloc, text, json, &self.index)?;
-        Field("    ", 2, "nameAlg", "TPMI_ALG_HASH").push(alloc, text, json, &self.alg)?;
-        Field("    ", 3, "attributes", "TPMA_NV").push_structure(alloc, text, json, &self.attrs)?;
-        Field("    ", 4, "authPolicy", "TPM2B_DIGEST").push(alloc, text, json, &self.policy)?;
-        Field("    ", 5, "dataSize", "UINT16").push(alloc, text, json, &self.data_size)
+        Field("    ", "nvIndex", "TPMI_RH_NV_INDEX").tell(teller, &self.index)?;
+        Field("    ", "nameAlg", "TPMI_ALG_HASH").tell(teller, &self.alg)?;
+        Field("    ", "attributes", "TPMA_NV").tell_structure(teller, &self.attrs)?;
+        Field("    ", "authPolicy", "TPM2B_DIGEST").tell(teller, &self.policy)?;
+        Field("    ", "dataSize", "UINT16").tell(teller, &self.data_size)
     }
 }
 
 // ---- lists
 
-/// An entry of a list, which is told by its number.
+/// An entry of a list.
 trait Entry {
     /// What is told of it.
-    ghost told_entry: { (json : Bool) → ℕ → Self → List ℕ };
+    ghost told_entry: { Self → List Piece };
 
-    /// Adds what is told of it.
-    fn push_entry(&self, alloc: Global, text: &mut String, json: bool, i: usize) -> Pushed
-        ensures { OnOk result
-            (string_bytes text.new ≡ string_bytes text.old ++ told_entry json i self.now) };
+    /// Tells it.
+    fn tell_entry<T: Teller>(&self, teller: &mut T) -> Pushed
+        ensures { OnOk result (T.told teller.new
+            ≡ T.told teller.old ++ flat_map T.marks (told_entry self.now)) };
 }
 
 /// The entries.
-impl<T: Wire + Default + Duplicate + Drop + Entry, const LEAST: usize, const MOST: usize> HasParts
-    for Counted<T, LEAST, MOST> {
-    ghost told_parts = { λ json entries. lines_from (T.told_entry json) 1 entries };
+impl<E: Wire + Default + Duplicate + Drop + Entry, const LEAST: usize, const MOST: usize> HasParts
+    for Counted<E, LEAST, MOST> {
+    ghost told_parts = { λ entries. flat_map E.told_entry entries };
 
-    fn push_parts(&self, alloc: Global, text: &mut String, json: bool) -> Pushed {
+    fn tell_parts<T: Teller>(&self, teller: &mut T) -> Pushed {
         let entries = self.as_slice();
-        for (before, entry) in entries.iter().enumerate() {
-            entry.push_entry(alloc, text, json, before + 1)?;
+        for entry in entries {
+            entry.tell_entry(teller)?;
         }
         Ok(())
     }
@@ -119,30 +136,30 @@ impl<T: Wire + Default + Duplicate + Drop + Entry, const LEAST: usize, const MOS
 
 // ---- TPML_PCR_SELECTION (Part 2, 10.9.7)
 
-// Adds an entry for each register that is selected.
-fn push_registers(text: &mut String, json: bool, selection: &Selection) -> Pushed
-    ensures { OnOk result (string_bytes text.new
-        ≡ string_bytes text.old ++ register_parts json selection.now.select) }
+// Tells each register that is selected.
+#[tactic(auto, unfolding(crate::specs::Parts::selected_registers))]
+fn tell_registers<T: Teller>(teller: &mut T, selection: &Selection) -> Pushed
+    ensures { OnOk result (T.told teller.new
+        ≡ T.told teller.old ++ flat_map T.marks (register_parts selection.now.select)) }
 {
-    let mut i = 1;
     for number in 0..24 {
         if selection.is_selected(register(number)) {
-            push_number(text, json, "        ", i, "PCR", number)?;
-            i += 1;
+            teller.number("        ", "PCR", number)?;
         }
     }
     Ok(())
 }
 
-#[tactic(auto, unfolding(crate::specs::FieldText::structure_text))]
-fn push_select(alloc: Global, text: &mut String, json: bool, selection: &Selection) -> Pushed
-    ensures { OnOk result (string_bytes text.new
-        ≡ string_bytes text.old ++ structure_text json (codes "      ") 3 (codes "pcrSelect")
-        (codes "BYTE") selection.now.select (register_parts json selection.now.select)) }
+#[tactic(auto, using(crate::proofs::Pieces::pieces))]
+fn tell_select<T: Teller>(teller: &mut T, selection: &Selection) -> Pushed
+    ensures { OnOk result (T.told teller.new ≡ T.told teller.old
+        ++ flat_map T.marks (structure_told (codes "      ")
+        (named (codes "pcrSelect") (codes "BYTE"))
+        selection.now.select (register_parts selection.now.select))) }
 {
-    Field("      ", 3, "pcrSelect", "BYTE").begin(alloc, text, json, &selection.select)?;
-    push_registers(text, json, selection)?;
-    end_structure(text, json)
+    teller.begin_structure(Field("      ", "pcrSelect", "BYTE"), &selection.select)?;
+    tell_registers(teller, selection)?;
+    teller.end_structure()
 }
 
 /// The members.
@@ -150,22 +167,20 @@ impl HasParts for Selection {
     ghost told_parts = { selection_members };
 
     #[tactic(auto, unfolding(tpm_types::specs::Tpms::selection))]
-    fn push_parts(&self, alloc: Global, text: &mut String, json: bool) -> Pushed {
+    fn tell_parts<T: Teller>(&self, teller: &mut T) -> Pushed {
         prove!(self.hash.len() <= 4096);
-        Field("      ", 1, "hash", "TPMI_ALG_HASH").push(alloc, text, json, &self.hash)?;
-        Field("      ", 2, "sizeofSelect", "UINT8").push(alloc, text, json, &(SELECT_BYTES as u8))?;
-        push_select(alloc, text, json, self)
+        Field("      ", "hash", "TPMI_ALG_HASH").tell(teller, &self.hash)?;
+        Field("      ", "sizeofSelect", "UINT8").tell(teller, &(SELECT_BYTES as u8))?;
+        tell_select(teller, self)
     }
 }
 
 impl Entry for Selection {
     ghost told_entry = { selection_entry };
 
-    fn push_entry(&self, alloc: Global, text: &mut String, json: bool, i: usize) -> Pushed {
+    fn tell_entry<T: Teller>(&self, teller: &mut T) -> Pushed {
         prove!(self.len() <= 4096);
-        Field("    ", i, "pcrSelections", "TPMS_PCR_SELECTION").push_structure(
-            alloc, text, json, self,
-        )
+        Field("    ", "pcrSelections", "TPMS_PCR_SELECTION").tell_structure(teller, self)
     }
 }
 
@@ -174,9 +189,9 @@ impl Entry for Selection {
 impl Entry for Digest {
     ghost told_entry = { digest_entry };
 
-    fn push_entry(&self, alloc: Global, text: &mut String, json: bool, i: usize) -> Pushed {
+    fn tell_entry<T: Teller>(&self, teller: &mut T) -> Pushed {
         prove!(self.len() <= 4096);
-        Field("    ", i, "digests", "TPM2B_DIGEST").push(alloc, text, json, self)
+        Field("    ", "digests", "TPM2B_DIGEST").tell(teller, self)
     }
 }
 
@@ -187,20 +202,20 @@ impl HasParts for HashedDigest {
     ghost told_parts = { digest_value_members };
 
     #[tactic(auto, unfolding(tpm_types::specs::Tpmt::digest_value))]
-    fn push_parts(&self, alloc: Global, text: &mut String, json: bool) -> Pushed {
+    fn tell_parts<T: Teller>(&self, teller: &mut T) -> Pushed {
         let hash = self.hash();
         prove!(hash.len() <= 4096);
-        Field("      ", 1, "hashAlg", "TPMI_ALG_HASH").push(alloc, text, json, &hash)?;
-        Field("      ", 2, "digest", "TPMU_HA").push_bytes(alloc, text, json, self.digest())
+        Field("      ", "hashAlg", "TPMI_ALG_HASH").tell(teller, &hash)?;
+        teller.value(Field("      ", "digest", "TPMU_HA"), self.digest())
     }
 }
 
 impl Entry for HashedDigest {
     ghost told_entry = { digest_value_entry };
 
-    fn push_entry(&self, alloc: Global, text: &mut String, json: bool, i: usize) -> Pushed {
+    fn tell_entry<T: Teller>(&self, teller: &mut T) -> Pushed {
         prove!(self.len() <= 4096);
-        Field("    ", i, "digests", "TPMT_HA").push_structure(alloc, text, json, self)
+        Field("    ", "digests", "TPMT_HA").tell_structure(teller, self)
     }
 }
 
@@ -215,11 +230,12 @@ const NULL: u16 = 0x0010;
 
 const CFB: u16 = 0x0043;
 
-fn push_algorithm(alloc: Global, text: &mut String, json: bool, n: u16) -> Pushed
-    ensures { OnOk result (string_bytes text.new ≡ string_bytes text.old ++ field_text json
-        (codes "    ") 1 (codes "algorithm") (codes "TPMI_ALG_SYM") (bytes_high_first 2 n)) }
+fn tell_algorithm<T: Teller>(teller: &mut T, n: u16) -> Pushed
+    ensures { OnOk result (T.told teller.new ≡ T.told teller.old
+        ++ T.marks (Value (codes "    ") (named (codes "algorithm") (codes "TPMI_ALG_SYM"))
+        (bytes_high_first 2 n))) }
 {
-    Field("    ", 1, "algorithm", "TPMI_ALG_SYM").push(alloc, text, json, &n)
+    Field("    ", "algorithm", "TPMI_ALG_SYM").tell(teller, &n)
 }
 
 /// The members, as far as the algorithm has them.
@@ -227,19 +243,19 @@ impl HasParts for SymDef {
     ghost told_parts = { symmetric_parts };
 
     #[tactic(auto, unfolding(tpm_types::specs::Tpmt::sym_def, tpm_types::specs::Tpmt::algorithm, tpm_types::specs::Tpmt::mode))]
-    fn push_parts(&self, alloc: Global, text: &mut String, json: bool) -> Pushed {
+    fn tell_parts<T: Teller>(&self, teller: &mut T) -> Pushed {
         match self {
-            SymDef::Null => push_algorithm(alloc, text, json, NULL),
+            SymDef::Null => tell_algorithm(teller, NULL),
             SymDef::Aes(bits) => {
                 prove!(bits.len() <= 4096);
-                push_algorithm(alloc, text, json, AES)?;
-                Field("    ", 2, "keyBits", "TPMU_SYM_KEY_BITS").push(alloc, text, json, bits)?;
-                Field("    ", 3, "mode", "TPMU_SYM_MODE").push(alloc, text, json, &CFB)
+                tell_algorithm(teller, AES)?;
+                Field("    ", "keyBits", "TPMU_SYM_KEY_BITS").tell(teller, bits)?;
+                Field("    ", "mode", "TPMU_SYM_MODE").tell(teller, &CFB)
             }
             SymDef::Xor(alg) => {
                 prove!(alg.len() <= 4096);
-                push_algorithm(alloc, text, json, XOR)?;
-                Field("    ", 2, "keyBits", "TPMU_SYM_KEY_BITS").push(alloc, text, json, alg)
+                tell_algorithm(teller, XOR)?;
+                Field("    ", "keyBits", "TPMU_SYM_KEY_BITS").tell(teller, alg)
             }
         }
     }

@@ -1,16 +1,13 @@
-//! The program's lines of a response.
+//! The first line of a response, and its handle.
 
 ghost use Rattle.std.specs.Prelude.{◌≡◌, ◌++◌, OnOk, string_bytes};
-ghost use Rattle.tpm_show.specs.HandleNames.{handle_lines, handles_members};
 ghost use Rattle.tpm_show.specs.Headers.{code_named};
+ghost use Rattle.tpm_show.specs.Pieces.{Handles};
 ghost use Rattle.tpm_show.specs.ReplyText.{handles_of, reply_code_line, reply_code_words, reply_line};
-ghost use Rattle.tpm_show.specs.Show.{named_fields};
 
-use crate::fields::push_reply_fields;
 use crate::frame_header::push_code_name;
-use crate::handle_names::{HandleAs, push_handles, push_handles_members};
-use std::alloc::Global;
-use tpm_commands::{CommandCode, ReplyBody};
+use crate::teller::Teller;
+use tpm_commands::CommandCode;
 use tpm_lines::text::Pushed;
 
 fn push_code_words(text: &mut String, code: u32) -> Pushed
@@ -48,40 +45,13 @@ pub(crate) fn push_name(text: &mut String, command: CommandCode, size: usize) ->
     writeln!(text, "reply {name} size {size}")
 }
 
-/// Adds the line of a reply's handle, where it has one.
-pub(crate) fn push_first_handle(text: &mut String, names: bool, handle: Option<u32>) -> Pushed
-    ensures { OnOk result (string_bytes text.new
-        ≡ string_bytes text.old ++ handle_lines names (handles_of handle)) }
+/// Tells a reply's handle, where it has one.
+pub(crate) fn tell_first_handle<T: Teller>(teller: &mut T, handle: Option<u32>) -> Pushed
+    ensures { OnOk result (T.told teller.new
+        ≡ T.told teller.old ++ T.marks (Handles (handles_of handle))) }
 {
     match handle {
-        Some(handle) => push_handles(text, HandleAs::Line(names), &[handle]),
-        None => Ok(()),
+        Some(handle) => teller.handles(&[handle]),
+        None => teller.handles(&[]),
     }
-}
-
-/// Adds the members of a reply's handle.
-pub(crate) fn push_handle_members(text: &mut String, handle: Option<u32>) -> Pushed
-    ensures { OnOk result
-        (string_bytes text.new ≡ string_bytes text.old ++ handles_members (handles_of handle)) }
-{
-    match handle {
-        Some(handle) => push_handles_members(text, &[handle]),
-        None => push_handles_members(text, &[]),
-    }
-}
-
-/// Adds the lines of a reply's parameters by their names, where these are asked for.
-pub(crate) fn push_named_fields(
-    alloc: Global,
-    text: &mut String,
-    fields: bool,
-    body: &ReplyBody,
-) -> Pushed
-    ensures { OnOk result
-        (string_bytes text.new ≡ string_bytes text.old ++ named_fields fields body.now) }
-{
-    if !fields {
-        return Ok(());
-    }
-    push_reply_fields(alloc, text, false, body)
 }

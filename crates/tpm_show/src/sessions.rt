@@ -1,23 +1,30 @@
 //! The sessions of a command or of a reply, as lines or as objects of JSON.
 
-ghost use Rattle.std.specs.Prelude.{◌≡◌, ◌++◌, List, OnOk, length, option_map, slice_get, string_bytes};
+ghost use Rattle.std.specs.Prelude.{◌≡◌, ◌++◌, ◌<◌, ◌≤◌, List, OnOk, codes, flat_map, length, map, slice_get};
+ghost use Rattle.std.specs.Prelude.{string_bytes};
+ghost use Rattle.std.specs.List.{AllByRecursion};
 ghost use Rattle.tpm_lines.specs.Named.{named_as};
 ghost use Rattle.tpm_lines.specs.Text.{lines_from};
+ghost use Rattle.tpm_show.specs.Bits.{bits_set};
 ghost use Rattle.tpm_show.specs.HandleNames.{handle_named};
-ghost use Rattle.tpm_show.specs.Sessions.{ShownSession, attributes_behind, attributes_in_line};
-ghost use Rattle.tpm_show.specs.Sessions.{attributes_in_object, attributes_number, handle_in_line, handle_in_object};
-ghost use Rattle.tpm_show.specs.Sessions.{handle_members, object_front, session_line, session_name, session_object};
-ghost use Rattle.tpm_show.specs.Sessions.{attributes_word, session_text, sessions_member, set_names};
+ghost use Rattle.tpm_show.specs.Members.{hex_member, list_begins, list_member, name_member, object_of, text_member};
+ghost use Rattle.tpm_show.specs.Pieces.{sessions_from, sessions_told};
+ghost use Rattle.tpm_show.specs.Sessions.{ShownSession, attributes_behind, attributes_in_line, attributes_set};
+ghost use Rattle.tpm_show.specs.Sessions.{attributes_members, attributes_word, bit_name, handle_in_line};
+ghost use Rattle.tpm_show.specs.Sessions.{handle_in_object, name_behind_number, session_line, session_members};
 
-use crate::bits::{BitsAs, push_bits_of};
+use crate::bits::is_set;
 use crate::handle_names::{handle_name, push_handle_behind};
+use crate::hex_digits::{eight_digits, two_digits};
+use crate::object::Object;
+use crate::teller::Teller;
 use std::alloc::Global;
 use std::marker::Model;
 use tpm_buffer::{Areas, ReplyAreas};
 use tpm_lines::hexadecimal::shown_bytes;
 use tpm_lines::named::Named;
 use tpm_lines::names;
-use tpm_lines::text::{Pushed, push_comma};
+use tpm_lines::text::Pushed;
 use tpm_types::{Auth, AuthReply};
 
 // The bits of TPMA_SESSION (Part 2, 8.4) by their numbers.
@@ -144,22 +151,43 @@ impl HasSessions for ReplyAreas<'_> {
     }
 }
 
-// ---- attributes
+// ---- a line
 
-// Adds the names of the bits that are set.
-#[tactic(auto, unfolding(crate::specs::Sessions::set_names))]
-fn push_set_names(text: &mut String, json: bool, attributes: u8) -> Pushed
-    ensures { OnOk result
-        (string_bytes text.new ≡ string_bytes text.old ++ set_names json attributes) }
+#[tactic(auto, unfolding(crate::specs::Sessions::name_behind_number))]
+fn push_name_behind_number(text: &mut String, i: usize, bit: &Named) -> Pushed
+    ensures { OnOk result (string_bytes text.new
+        ≡ string_bytes text.old ++ name_behind_number i (named_as bit.now)) }
 {
-    push_bits_of(
-        text,
-        json,
-        BitsAs::Names,
-        1,
-        &ATTRIBUTES,
-        u32::from(attributes),
-    )
+    let name = bit.name;
+    if i == 1 {
+        return write!(text, " {name}");
+    }
+    write!(text, ",{name}")
+}
+
+// Adds the names of the bits of the table that are set.
+fn push_set_names(text: &mut String, table: &'static [Named], attributes: u8) -> Pushed
+    requires within { AllByRecursion (λ bit. bit.number < 32) table.now }
+    requires few { length table.now ≤ 32 }
+    ensures { OnOk result (string_bytes text.new ≡ string_bytes text.old
+        ++ lines_from name_behind_number 1 (bits_set (map named_as table.now) attributes)) }
+{
+    let mut i = 1;
+    for bit in table {
+        if is_set(u32::from(attributes), bit.number) {
+            push_name_behind_number(text, i, bit)?;
+            i += 1;
+        }
+    }
+    Ok(())
+}
+
+#[tactic(auto, unfolding(crate::specs::Sessions::attributes_set))]
+fn push_attribute_names(text: &mut String, attributes: u8) -> Pushed
+    ensures { OnOk result (string_bytes text.new ≡ string_bytes text.old
+        ++ lines_from name_behind_number 1 (attributes_set attributes)) }
+{
+    push_set_names(text, &ATTRIBUTES, attributes)
 }
 
 fn push_attributes_behind(text: &mut String, names: bool, attributes: u8) -> Pushed
@@ -169,10 +197,8 @@ fn push_attributes_behind(text: &mut String, names: bool, attributes: u8) -> Pus
     if !names {
         return Ok(());
     }
-    push_set_names(text, false, attributes)
+    push_attribute_names(text, attributes)
 }
-
-// ---- a line
 
 #[tactic(auto, using(tpm_lines::proofs::Padded::padded))]
 fn push_handle_in_line(text: &mut String, names: bool, handle: Option<u32>) -> Pushed
@@ -202,8 +228,9 @@ fn push_attributes_in_line(text: &mut String, names: bool, attributes: u8) -> Pu
     push_attributes_behind(text, names, attributes)
 }
 
+/// Adds the line of a session.
 #[tactic(auto, unfolding(crate::specs::Sessions::session_line))]
-fn push_session_line(
+pub(crate) fn push_session_line(
     alloc: Global,
     text: &mut String,
     names: bool,
@@ -224,132 +251,110 @@ fn push_session_line(
 
 // ---- an object
 
-fn push_session_name(text: &mut String, named: Option<&'static Named>) -> Pushed
-    ensures { OnOk result (string_bytes text.new
-        ≡ string_bytes text.old ++ session_name (option_map (λ n. named_as n.now) named.entry)) }
+fn tell_handle_name(object: &mut Object, handle: u32) -> Pushed
+    ensures { OnOk result (object.new.writer.tokens ≡ object.old.writer.tokens
+        ++ name_member (codes "session_name") (handle_named handle)) }
 {
-    let Some(named) = named else {
-        return Ok(());
-    };
-    let name = named.name;
-    write!(text, ",\"session_name\":\"{name}\"")
+    object.name_member("session_name", handle_name(handle))
 }
 
-fn push_handle_name(text: &mut String, handle: u32) -> Pushed
-    ensures { OnOk result (string_bytes text.new
-        ≡ string_bytes text.old ++ session_name (handle_named handle)) }
-{
-    push_session_name(text, handle_name(handle))
-}
-
-#[tactic(auto, using(tpm_lines::proofs::Padded::padded), unfolding(crate::specs::Sessions::handle_members))]
-fn push_handle_members(text: &mut String, handle: u32) -> Pushed
-    ensures { OnOk result
-        (string_bytes text.new ≡ string_bytes text.old ++ handle_members handle) }
-{
-    write!(text, "\"session\":\"{handle:08x}\"")?;
-    push_handle_name(text, handle)
-}
-
-fn push_handle_in_object(text: &mut String, handle: Option<u32>) -> Pushed
-    ensures { OnOk result
-        (string_bytes text.new ≡ string_bytes text.old ++ handle_in_object handle) }
+fn tell_handle(object: &mut Object, handle: Option<u32>) -> Pushed
+    ensures { OnOk result (object.new.writer.tokens
+        ≡ object.old.writer.tokens ++ handle_in_object handle) }
 {
     let Some(handle) = handle else {
         return Ok(());
     };
-    push_handle_members(text, handle)?;
-    text.push_str(",")
+    let digits = eight_digits(object.alloc, handle)?;
+    object.text_member("session", digits.as_str())?;
+    tell_handle_name(object, handle)
 }
 
-fn push_object_front(text: &mut String, i: usize, handle: Option<u32>) -> Pushed
-    ensures { OnOk result
-        (string_bytes text.new ≡ string_bytes text.old ++ object_front i handle) }
+// Adds the names of the bits of the table that are set.
+fn tell_set_names(object: &mut Object, table: &'static [Named], attributes: u8) -> Pushed
+    requires { AllByRecursion (λ bit. bit.number < 32) table.now }
+    ensures { OnOk result (object.new.writer.tokens ≡ object.old.writer.tokens
+        ++ map bit_name (bits_set (map named_as table.now) attributes)) }
 {
-    push_comma(text, i)?;
-    text.push_str("{")?;
-    push_handle_in_object(text, handle)
-}
-
-fn push_attributes_number(text: &mut String, attributes: u8) -> Pushed
-    ensures { OnOk result
-        (string_bytes text.new ≡ string_bytes text.old ++ attributes_number attributes) }
-{
-    write!(text, "\"attributes\":\"{attributes:02x}\"")
-}
-
-fn push_attributes_in_object(text: &mut String, attributes: u8) -> Pushed
-    ensures { OnOk result
-        (string_bytes text.new ≡ string_bytes text.old ++ attributes_in_object attributes) }
-{
-    push_attributes_number(text, attributes)?;
-    text.push_str(",\"attribute_names\":[")?;
-    push_set_names(text, true, attributes)
-}
-
-#[tactic(auto, unfolding(crate::specs::Sessions::session_object))]
-fn push_session_object(alloc: Global, text: &mut String, i: usize, session: &Session<'_>) -> Pushed
-    ensures { OnOk result
-        (string_bytes text.new ≡ string_bytes text.old ++ session_object i session.now) }
-{
-    push_object_front(text, i, session.handle)?;
-    let nonce = hex::encode(alloc, session.nonce)?;
-    write!(text, "\"nonce\":\"{nonce}\",")?;
-    push_attributes_in_object(text, session.attributes)?;
-    let hmac = hex::encode(alloc, session.hmac)?;
-    write!(text, "],\"hmac\":\"{hmac}\"}}")
-}
-
-// ---- all of them
-
-fn push_session(
-    alloc: Global,
-    text: &mut String,
-    json: bool,
-    names: bool,
-    i: usize,
-    session: &Session<'_>,
-) -> Pushed
-    ensures { OnOk result (string_bytes text.new
-        ≡ string_bytes text.old ++ session_text json names i session.now) }
-{
-    if json {
-        push_session_object(alloc, text, i, session)
-    } else {
-        push_session_line(alloc, text, names, i, session)
-    }
-}
-
-/// Adds a line for each session, or an object for each, with commas between them.
-pub(crate) fn push_sessions<A: HasSessions>(
-    alloc: Global,
-    text: &mut String,
-    json: bool,
-    names: bool,
-    areas: &A,
-) -> Pushed
-    ensures { OnOk result (string_bytes text.new
-        ≡ string_bytes text.old ++ lines_from (session_text json names) 1 (A.sessions areas.now)) }
-{
-    for before in 0..areas.session_count() {
-        if let Some(session) = areas.session(before) {
-            push_session(alloc, text, json, names, before + 1, &session)?;
+    for bit in table {
+        if is_set(u32::from(attributes), bit.number) {
+            object.writer.string(bit.name)?;
         }
     }
     Ok(())
 }
 
-/// Adds the sessions as a member of an object of JSON.
-#[tactic(auto, unfolding(crate::specs::Sessions::sessions_member))]
-pub(crate) fn push_sessions_member<A: HasSessions>(
-    alloc: Global,
-    text: &mut String,
-    areas: &A,
-) -> Pushed
-    ensures { OnOk result
-        (string_bytes text.new ≡ string_bytes text.old ++ sessions_member (A.sessions areas.now)) }
+#[tactic(auto, unfolding(crate::specs::Sessions::attributes_set))]
+fn tell_each_name(object: &mut Object, attributes: u8) -> Pushed
+    ensures { OnOk result (object.new.writer.tokens
+        ≡ object.old.writer.tokens ++ map bit_name (attributes_set attributes)) }
 {
-    text.push_str(",\"sessions\":[")?;
-    push_sessions(alloc, text, true, true, areas)?;
-    text.push_str("]")
+    tell_set_names(object, &ATTRIBUTES, attributes)
+}
+
+#[tactic(auto, unfolding(crate::specs::Members::list_member))]
+fn tell_attribute_names(object: &mut Object, attributes: u8) -> Pushed
+    ensures { OnOk result (object.new.writer.tokens ≡ object.old.writer.tokens
+        ++ list_member (codes "attribute_names") (map bit_name (attributes_set attributes))) }
+{
+    object.open_list("attribute_names")?;
+    tell_each_name(object, attributes)?;
+    object.writer.end_array()
+}
+
+#[tactic(auto, unfolding(crate::specs::Sessions::attributes_members))]
+fn tell_attributes(object: &mut Object, attributes: u8) -> Pushed
+    ensures { OnOk result (object.new.writer.tokens
+        ≡ object.old.writer.tokens ++ attributes_members attributes) }
+{
+    let digits = two_digits(object.alloc, attributes)?;
+    object.text_member("attributes", digits.as_str())?;
+    tell_attribute_names(object, attributes)
+}
+
+#[tactic(auto, unfolding(crate::specs::Sessions::session_members))]
+fn tell_members(object: &mut Object, session: &Session<'_>) -> Pushed
+    ensures { OnOk result (object.new.writer.tokens
+        ≡ object.old.writer.tokens ++ session_members session.now) }
+{
+    tell_handle(object, session.handle)?;
+    object.hex_member("nonce", session.nonce)?;
+    tell_attributes(object, session.attributes)?;
+    object.hex_member("hmac", session.hmac)
+}
+
+/// Adds the object of a session.
+#[tactic(auto, unfolding(crate::specs::Members::object_of))]
+pub(crate) fn tell_session(object: &mut Object, session: &Session<'_>) -> Pushed
+    ensures { OnOk result (object.new.writer.tokens
+        ≡ object.old.writer.tokens ++ object_of (session_members session.now)) }
+{
+    object.writer.begin_object()?;
+    tell_members(object, session)?;
+    object.writer.end_object()
+}
+
+// ---- all of them
+
+// Tells each session, by its number from 1.
+fn tell_each<A: HasSessions, T: Teller>(teller: &mut T, areas: &A) -> Pushed
+    ensures { OnOk result (T.told teller.new ≡ T.told teller.old
+        ++ flat_map T.marks (sessions_from 1 (A.sessions areas.now))) }
+{
+    for before in 0..areas.session_count() {
+        if let Some(session) = areas.session(before) {
+            teller.session(before + 1, &session)?;
+        }
+    }
+    Ok(())
+}
+
+/// Tells the sessions.
+pub(crate) fn tell_sessions<A: HasSessions, T: Teller>(teller: &mut T, areas: &A) -> Pushed
+    ensures { OnOk result (T.told teller.new ≡ T.told teller.old
+        ++ flat_map T.marks (sessions_told (A.sessions areas.now))) }
+{
+    teller.begin_list("sessions")?;
+    tell_each(teller, areas)?;
+    teller.end_list()
 }

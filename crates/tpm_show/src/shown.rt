@@ -15,22 +15,21 @@ use tpm_lines::answer::Answer;
 use tpm_lines::fault::ToolFault;
 use tpm_lines::status::Status;
 
-fn answer(
+fn answer<const FIELDS: bool>(
     alloc: Global,
-    fields: bool,
     reply: Option<CommandCode>,
     hex: &str,
 ) -> Result<Answer, AllocError>
     ensures { IfOk result (λ a.
-        ShowsDecoded fields (option_map (taken_for reply) (buffer_in hex.now))
+        ShowsDecoded FIELDS (option_map (taken_for reply) (buffer_in hex.now))
         a.status (string_bytes a.text)) }
 {
     let Some(bytes) = read_buffer(alloc, hex.as_bytes())? else {
         return Answer::not_hexadecimal(alloc);
     };
     match reply {
-        Some(command) => answer_to_reply(alloc, fields, command, bytes.as_slice()),
-        None => answer_to_command(alloc, fields, bytes.as_slice()),
+        Some(command) => answer_to_reply::<FIELDS>(alloc, command, bytes.as_slice()),
+        None => answer_to_command::<FIELDS>(alloc, bytes.as_slice()),
     }
 }
 
@@ -61,7 +60,7 @@ pub fn show<W: Write>(
         × Appends (W.contents out.old) (W.contents out.new) text) }
     ensures err { FailsByMemoryOrWrite result }
 {
-    answer(alloc, false, reply, hex)?.print(out)
+    answer::<false>(alloc, reply, hex)?.print(out)
 }
 
 /// Prints what `show` prints, and under the line of the parameters a line `  NAME TYPE X` for each of them, by its
@@ -89,5 +88,5 @@ pub fn show_fields<W: Write>(
         × Appends (W.contents out.old) (W.contents out.new) text) }
     ensures err { FailsByMemoryOrWrite result }
 {
-    answer(alloc, true, reply, hex)?.print(out)
+    answer::<true>(alloc, reply, hex)?.print(out)
 }

@@ -49,21 +49,21 @@ pub returns-in-Err-EndInside-clause-ok : goal.returns-in-Err-EndInside-clause-ok
 returns-in-Err-EndInside-clause-ok g c =
     let contents = g.W.Write.contents in
     let is = rw c.in-Err-EndInside.field-0-is at c.in-Err-EndInside.ensures.frame in
-    IfOk-weaker c.print_stop.result _ _ (λ status told.
-    rw told.0 (stream_cut c.args.how _ _ _ c.loop-out.read is.0 c.loop-out.capture _ _
-    (Appends (contents c.args.out.now) (contents c.print_stop.new.out))
-    (joins_appends (contents c.args.out.now) (contents c.loop-out.out) (contents c.print_stop.new.out))
-    c.loop-out.invariant.told is.1 (is.2.0, is.2.1) is.2.2 told.1)) c.print_stop.ensures.ok
+    IfOk-weaker c.print_remark.result _ _ (λ status told.
+    rw told.0 (stream_cut c.args.how _ _ _ c.loop-out.read is.0 told.1 c.loop-out.capture _ _
+    (Appends (contents c.args.out.now) (contents c.print_remark.new.out))
+    (joins_appends (contents c.args.out.now) (contents c.loop-out.out) (contents c.print_remark.new.out))
+    c.loop-out.invariant.told is.1 (is.2.0, is.2.1) is.2.2 told.2 told.3)) c.print_remark.ensures.ok
 
 pub returns-in-Err-Broken-clause-ok : goal.returns-in-Err-Broken-clause-ok
 returns-in-Err-Broken-clause-ok g c =
     let contents = g.W.Write.contents in
     let is = rw c.in-Err-Broken.field-0-is at c.in-Err-Broken.ensures.frame in
-    IfOk-weaker c.print_stop-in-Err-Broken.result _ _ (λ status told.
-    rw told.0 (stream_breaks c.args.how _ _ _ c.loop-out.read is.0 c.loop-out.capture _ _
-    (Appends (contents c.args.out.now) (contents c.print_stop-in-Err-Broken.new.out))
-    (joins_appends (contents c.args.out.now) (contents c.loop-out.out) (contents c.print_stop-in-Err-Broken.new.out))
-    c.loop-out.invariant.told is.1 is.2.0 told.1)) c.print_stop-in-Err-Broken.ensures.ok
+    IfOk-weaker c.print_remark-in-Err-Broken.result _ _ (λ status told.
+    rw told.0 (stream_breaks c.args.how _ _ _ c.loop-out.read is.0 told.1 c.loop-out.capture _ _
+    (Appends (contents c.args.out.now) (contents c.print_remark-in-Err-Broken.new.out))
+    (joins_appends (contents c.args.out.now) (contents c.loop-out.out) (contents c.print_remark-in-Err-Broken.new.out))
+    c.loop-out.invariant.told is.1 is.2.0 told.2 told.3)) c.print_remark-in-Err-Broken.ensures.ok
 
 pub returns-then-read-gt-MOST_BYTES-clause-too_long : goal.returns-then-read-gt-MOST_BYTES-clause-too_long
 returns-then-read-gt-MOST_BYTES-clause-too_long g c = λ _.

@@ -1,10 +1,7 @@
-use Rattle.std.proofs.Common.{arith}
-use Rattle.tpm_show.specs.Sessions.{set_names}
+use Rattle.std.proofs.Common.{◌<◌}
+use Rattle.std.proofs.lemmas.List.Elements.{All-from_recursion}
+use Rattle.tpm_lines.specs.declared.named.Named.{Named}
 use Rattle.tpm_show.proofs.sessions.push_set_names.Goals as goal
 
-pub push_bits_of-requires-clause-within : goal.push_bits_of-requires-clause-within
-push_bits_of-requires-clause-within c = (omega arith, (omega arith, (omega arith, (omega arith, (omega arith, (omega arith, tt))))))
-
-pub returns : goal.returns
-unfolding set_names
-returns c = rw c.from.ensures at c.push_bits_of.ensures
+pub is_set-requires : goal.is_set-requires
+is_set-requires c = All-from_recursion (λ (bit : Named). bit.number < 32) c.args.table.now c.requires.within c.loop-bit.bit-index _ c.loop-bit-test.true

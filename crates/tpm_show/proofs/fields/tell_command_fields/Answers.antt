@@ -1,0 +1,58 @@
+use Rattle.tpm_show.proofs.Pieces.{pieces}
+use Rattle.tpm_commands.specs.Parameters.{startup, nv_define_space, nv_read, flush_context, policy_or}
+use Rattle.tpm_commands.specs.Parameters.{start_auth_session, pcr_read, policy_pcr, pcr_extend}
+use Rattle.tpm_show.proofs.fields.tell_command_fields.Goals as goal
+
+pub returns-in_ok-tell-in-NvDefineSpace : goal.returns-in_ok-tell-in-NvDefineSpace
+unfolding nv_define_space
+returns-in_ok-tell-in-NvDefineSpace g c =
+    let written = simp (c.in_ok-tell-in-NvDefineSpace.ensures) at c.tell_structure.ensures in
+    let joined = simp pieces at written in
+    rw c.in-NvDefineSpace.is (simp pieces joined)
+
+pub returns-in-Startup : goal.returns-in-Startup
+unfolding startup
+returns-in-Startup g c = rw c.in-Startup.is (simp pieces c.tell-in-Startup.ensures)
+
+pub returns-in_ok-tell-in-NvRead : goal.returns-in_ok-tell-in-NvRead
+unfolding nv_read
+returns-in_ok-tell-in-NvRead g c =
+    let written = simp (c.in_ok-tell-in-NvRead.ensures) at c.tell-in-NvRead-2.ensures in
+    let joined = simp pieces at written in
+    rw c.in-NvRead.is (simp pieces joined)
+
+pub returns-in-FlushContext : goal.returns-in-FlushContext
+unfolding flush_context
+returns-in-FlushContext g c = rw c.in-FlushContext.is (simp pieces c.tell-in-FlushContext.ensures)
+
+pub returns-in-PolicyOr : goal.returns-in-PolicyOr
+unfolding policy_or
+returns-in-PolicyOr g c =
+    let joined = simp pieces at c.tell_structure-in-PolicyOr.ensures in
+    rw c.in-PolicyOr.is (simp pieces joined)
+
+pub returns-in_ok-tell_structure-in-StartAuthSession : goal.returns-in_ok-tell_structure-in-StartAuthSession
+unfolding start_auth_session
+returns-in_ok-tell_structure-in-StartAuthSession g c =
+    let written = simp (c.in_ok-tell_structure-in-StartAuthSession.ensures, c.in_ok-tell-in-StartAuthSession-3.ensures, c.in_ok-tell-in-StartAuthSession-2.ensures, c.in_ok-tell-in-StartAuthSession.ensures) at c.tell-in-StartAuthSession-4.ensures in
+    let joined = simp pieces at written in
+    rw c.in-StartAuthSession.is (simp pieces joined)
+
+pub returns-in-PcrRead : goal.returns-in-PcrRead
+unfolding pcr_read
+returns-in-PcrRead g c =
+    let joined = simp pieces at c.tell_structure-in-PcrRead.ensures in
+    rw c.in-PcrRead.is (simp pieces joined)
+
+pub returns-in_ok-tell-in-PolicyPcr : goal.returns-in_ok-tell-in-PolicyPcr
+unfolding policy_pcr
+returns-in_ok-tell-in-PolicyPcr g c =
+    let written = simp (c.in_ok-tell-in-PolicyPcr.ensures) at c.tell_structure-in-PolicyPcr.ensures in
+    let joined = simp pieces at written in
+    rw c.in-PolicyPcr.is (simp pieces joined)
+
+pub returns-in-PcrExtend : goal.returns-in-PcrExtend
+unfolding pcr_extend
+returns-in-PcrExtend g c =
+    let joined = simp pieces at c.tell_structure-in-PcrExtend.ensures in
+    rw c.in-PcrExtend.is (simp pieces joined)

@@ -1,0 +1,10 @@
+use Rattle.std.proofs.Common.{◌≡◌, ◌++◌, Option, codes, subst}
+use Rattle.std.specs.Prelude.{OnOk}
+use Rattle.tpm_lines.specs.Named.{Named}
+use Rattle.tpm_show.specs.Members.{name_member}
+use Rattle.tpm_show.proofs.frame_header.tell_tag_name.Goals as goal
+
+pub returns : goal.returns
+returns c =
+    subst (λ (o : Option Named). OnOk c.name_member.result (c.name_member.new.self.writer.tokens
+    ≡ c.args.object.now.writer.tokens ++ name_member (codes "tag_name") o)) c.look_up.ensures c.name_member.ensures

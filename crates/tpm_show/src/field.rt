@@ -1,0 +1,60 @@
+//! A field of a buffer by its name and its type, and its parts.
+
+ghost use Rattle.std.specs.Prelude.{◌≡◌, ◌++◌, ◌≤◌, List, OnOk, flat_map, length};
+ghost use Rattle.tpm_wire.specs.Spelling.{spelling};
+ghost use Rattle.tpm_show.specs.Pieces.{Piece, Value, named, structure_told};
+
+use crate::teller::Teller;
+use tpm_lines::text::Pushed;
+use tpm_wire::{Buffer, Wire};
+
+/// A value of which the parts are told under it.
+pub(crate) trait HasParts: Wire {
+    /// What is told of them.
+    ghost told_parts: { Self → List Piece };
+
+    /// Tells them.
+    fn tell_parts<T: Teller>(&self, teller: &mut T) -> Pushed
+        ensures { OnOk result (T.told teller.new
+            ≡ T.told teller.old ++ flat_map T.marks (told_parts self.now)) };
+}
+
+/// A field: how far in its line stands, its name and its type.
+#[derive(Clone, Copy)]
+pub(crate) struct Field(
+    pub(crate) &'static str,
+    pub(crate) &'static str,
+    pub(crate) &'static str,
+);
+
+fn spelled<T: Wire>(value: &T) -> Buffer
+    requires { length (spelling T.layout value.now) ≤ 4096 }
+    ensures { result.items ≡ spelling T.layout value.now }
+{
+    let mut bytes = Buffer::new();
+    value.put(&mut bytes);
+    bytes
+}
+
+impl Field {
+    /// Tells it of this value.
+    pub(crate) fn tell<T: Teller, V: Wire>(self, teller: &mut T, value: &V) -> Pushed
+        requires { length (spelling V.layout value.now) ≤ 4096 }
+        ensures { OnOk result (T.told teller.new ≡ T.told teller.old ++ T.marks (Value
+            self.0.now (named self.1.now self.2.now) (spelling V.layout value.now))) }
+    {
+        teller.value(self, spelled(value).as_slice())
+    }
+
+    /// Tells it of this value, with its parts.
+    pub(crate) fn tell_structure<T: Teller, V: HasParts>(self, teller: &mut T, value: &V) -> Pushed
+        requires { length (spelling V.layout value.now) ≤ 4096 }
+        ensures { OnOk result (T.told teller.new ≡ T.told teller.old
+            ++ flat_map T.marks (structure_told self.0.now (named self.1.now self.2.now)
+            (spelling V.layout value.now) (V.told_parts value.now))) }
+    {
+        teller.begin_structure(self, spelled(value).as_slice())?;
+        value.tell_parts(teller)?;
+        teller.end_structure()
+    }
+}

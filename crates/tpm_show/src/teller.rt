@@ -1,0 +1,85 @@
+//! What is told of a frame, a piece at a time.
+
+ghost use Rattle.std.specs.Prelude.{◌≡◌, ◌++◌, List, OnOk};
+ghost use Rattle.tpm_show.specs.Pieces.{Piece, CommandHead, ReplyHead, Handles, ListBegins, ListEnds, NumberedSession};
+ghost use Rattle.tpm_show.specs.Pieces.{Parameters, Value, StructureBegins, StructureEnds, Number, RefusedWith, Absent};
+ghost use Rattle.tpm_show.specs.Pieces.{Untold, named};
+
+use crate::field::Field;
+use crate::frame_header::FrameHeader;
+use crate::sessions::Session;
+use tpm_lines::text::Pushed;
+use tpm_wire::Refusal;
+
+/// Takes what is told of a frame, and makes lines of it, or an object of JSON.
+pub(crate) trait Teller {
+    /// A byte of a line, or a token of an object.
+    ghost Mark: { Type 0 };
+
+    /// What has been told.
+    ghost told: { Self → List Mark };
+
+    /// How a piece is told.
+    ghost marks: { Piece → List Mark };
+
+    /// The header of a command.
+    fn command_head(&mut self, header: &FrameHeader) -> Pushed
+        ensures { OnOk result (told self.new ≡ told self.old ++ marks (CommandHead header.now)) };
+
+    /// The header of a reply to the command of this code.
+    fn reply_head(&mut self, command: Option<u32>, header: &FrameHeader) -> Pushed
+        ensures { OnOk result
+            (told self.new ≡ told self.old ++ marks (ReplyHead command header.now)) };
+
+    /// All handles.
+    fn handles(&mut self, handles: &[u32]) -> Pushed
+        ensures { OnOk result (told self.new ≡ told self.old ++ marks (Handles handles.now)) };
+
+    /// That a list of this name begins.
+    fn begin_list(&mut self, name: &str) -> Pushed
+        ensures { OnOk result (told self.new ≡ told self.old ++ marks (ListBegins name.now)) };
+
+    /// That it ends.
+    fn end_list(&mut self) -> Pushed
+        ensures { OnOk result (told self.new ≡ told self.old ++ marks ListEnds) };
+
+    /// A session by its number, from 1.
+    fn session(&mut self, number: usize, session: &Session<'_>) -> Pushed
+        ensures { OnOk result
+            (told self.new ≡ told self.old ++ marks (NumberedSession number session.now)) };
+
+    /// The parameters as they came.
+    fn parameters(&mut self, bytes: &[u8]) -> Pushed
+        ensures { OnOk result (told self.new ≡ told self.old ++ marks (Parameters bytes.now)) };
+
+    /// A field of these bytes, of which no parts are told.
+    fn value(&mut self, field: Field, bytes: &[u8]) -> Pushed
+        ensures { OnOk result (told self.new ≡ told self.old
+            ++ marks (Value field.0.now (named field.1.now field.2.now) bytes.now)) };
+
+    /// A field of these bytes, of which the parts follow.
+    fn begin_structure(&mut self, field: Field, bytes: &[u8]) -> Pushed
+        ensures { OnOk result (told self.new ≡ told self.old
+            ++ marks (StructureBegins field.0.now (named field.1.now field.2.now) bytes.now)) };
+
+    /// That no more parts of it follow.
+    fn end_structure(&mut self) -> Pushed
+        ensures { OnOk result (told self.new ≡ told self.old ++ marks StructureEnds) };
+
+    /// A number by its name, so far in.
+    fn number(&mut self, indent: &str, name: &str, n: u32) -> Pushed
+        ensures { OnOk result
+            (told self.new ≡ told self.old ++ marks (Number indent.now name.now n)) };
+
+    /// A refusal.
+    fn refusal(&mut self, refusal: &Refusal) -> Pushed
+        ensures { OnOk result (told self.new ≡ told self.old ++ marks (RefusedWith refusal.now)) };
+
+    /// That the profile hasn't the command of this name.
+    fn absent(&mut self, name: &str) -> Pushed
+        ensures { OnOk result (told self.new ≡ told self.old ++ marks (Absent name.now)) };
+
+    /// Why a reply is not told.
+    fn untold(&mut self, sentence: &str) -> Pushed
+        ensures { OnOk result (told self.new ≡ told self.old ++ marks (Untold sentence.now)) };
+}
