@@ -1,5 +1,5 @@
 -- The commands of the library by their names (Part 2, 6.5.2, TPM_CC), and how many handles each has (Part 3).
-use Rattle.std.specs.Prelude.{ℕ, ◌==◌, ◌&&◌, Bool, true, false, List, [], ◌∷◌, ◌++◌, codes, Option, Some, None}
+use Rattle.std.specs.Prelude.{ℕ, ◌==◌, ◌&&◌, List, [], ◌∷◌, ◌++◌, codes, Option, Some, None}
 use Rattle.std.specs.Prelude.{find, if◌then◌else◌}
 use Rattle.tpm_wire.specs.ResponseCodes.{rc_command_code}
 use Rattle.tpm_wire.specs.declared.refusal.Refusal.{Refusal}

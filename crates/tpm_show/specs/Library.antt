@@ -1,6 +1,6 @@
 -- What stands behind the header of a frame, by how many handles a command of the library or its response has (Part 1,
 -- "Command/Response Structure"; Part 3, the tables of each). Its parameters are not judged.
-use Rattle.std.specs.Prelude.{ℕ, ◌*◌, ◌+◌, Bool, true, List, [], length, drop, map, Option, Some, None, ◌==◌, ◌&&◌}
+use Rattle.std.specs.Prelude.{ℕ, ◌*◌, ◌+◌, true, List, [], length, drop, map, Option, Some, None, ◌==◌, ◌&&◌}
 use Rattle.std.specs.Prelude.{false, Result, Ok, Err, nat_le, if◌then◌else◌}
 use Rattle.tpm_wire.specs.declared.refusal.Refusal.{Refusal}
 use Rattle.tpm_wire.specs.Buffers.{Layout, any_number, numbered}

@@ -34,7 +34,12 @@ returns-in-PolicyOr g c =
 pub returns-in_ok-tell_structure-in-StartAuthSession : goal.returns-in_ok-tell_structure-in-StartAuthSession
 unfolding start_auth_session
 returns-in_ok-tell_structure-in-StartAuthSession g c =
-    let written = simp (c.in_ok-tell_structure-in-StartAuthSession.ensures, c.in_ok-tell-in-StartAuthSession-3.ensures, c.in_ok-tell-in-StartAuthSession-2.ensures, c.in_ok-tell-in-StartAuthSession.ensures) at c.tell-in-StartAuthSession-4.ensures in
+    let written = simp (
+      c.in_ok-tell_structure-in-StartAuthSession.ensures,
+      c.in_ok-tell-in-StartAuthSession-3.ensures,
+      c.in_ok-tell-in-StartAuthSession-2.ensures,
+      c.in_ok-tell-in-StartAuthSession.ensures,
+    ) at c.tell-in-StartAuthSession-4.ensures in
     let joined = simp pieces at written in
     rw c.in-StartAuthSession.is (simp pieces joined)
 
