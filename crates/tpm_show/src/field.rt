@@ -2,9 +2,10 @@
 
 ghost use Rattle.std.specs.Prelude.{◌≡◌, ◌++◌, ◌≤◌, List, OnOk, flat_map, length};
 ghost use Rattle.tpm_wire.specs.Spelling.{spelling};
-ghost use Rattle.tpm_show.specs.Pieces.{Piece, Value, named, structure_told};
+ghost use Rattle.tpm_show.specs.Pieces.{Piece, Value, structure_told};
 
 use crate::teller::Teller;
+use std::marker::Model;
 use tpm_lines::text::Pushed;
 use tpm_wire::{Buffer, Wire};
 
@@ -20,12 +21,20 @@ pub(crate) trait HasParts: Wire {
 }
 
 /// A field: how far in its line stands, its name and its type.
-#[derive(Clone, Copy)]
+#[derive(Drop)]
 pub(crate) struct Field(
     pub(crate) &'static str,
     pub(crate) &'static str,
     pub(crate) &'static str,
 );
+
+impl Model for Field {
+    ghost use Rattle.tpm_show.specs.Pieces.{IndentedField, named};
+
+    ghost Value = { IndentedField };
+
+    ghost view = { λ f. record { indent = f.0.now; named = named f.1.now f.2.now } };
+}
 
 fn spelled<T: Wire>(value: &T) -> Buffer
     requires { length (spelling T.layout value.now) ≤ 4096 }
@@ -41,7 +50,7 @@ impl Field {
     pub(crate) fn tell<T: Teller, V: Wire>(self, teller: &mut T, value: &V) -> Pushed
         requires { length (spelling V.layout value.now) ≤ 4096 }
         ensures { OnOk result (T.told teller.new ≡ T.told teller.old ++ T.marks (Value
-            self.0.now (named self.1.now self.2.now) (spelling V.layout value.now))) }
+            self.indent self.named (spelling V.layout value.now))) }
     {
         teller.value(self, spelled(value).as_slice())
     }
@@ -50,7 +59,7 @@ impl Field {
     pub(crate) fn tell_structure<T: Teller, V: HasParts>(self, teller: &mut T, value: &V) -> Pushed
         requires { length (spelling V.layout value.now) ≤ 4096 }
         ensures { OnOk result (T.told teller.new ≡ T.told teller.old
-            ++ flat_map T.marks (structure_told self.0.now (named self.1.now self.2.now)
+            ++ flat_map T.marks (structure_told self.indent self.named
             (spelling V.layout value.now) (V.told_parts value.now))) }
     {
         teller.begin_structure(self, spelled(value).as_slice())?;

@@ -37,7 +37,7 @@ fn push_value_name(text: &mut String, kind: &str, bytes: &[u8]) -> Pushed
 #[tactic(auto, unfolding(crate::specs::FieldText::field_line))]
 pub(crate) fn push_field(alloc: Global, text: &mut String, field: Field, bytes: &[u8]) -> Pushed
     ensures { OnOk result (string_bytes text.new ≡ string_bytes text.old
-        ++ field_line field.0.now (named field.1.now field.2.now) bytes.now) }
+        ++ field_line field.indent field.named bytes.now) }
 {
     let Field(indent, name, kind) = field;
     let value = shown_bytes(alloc, bytes)?;
@@ -83,11 +83,10 @@ fn tell_value_name(object: &mut Object, kind: &str, bytes: &[u8]) -> Pushed
 }
 
 #[tactic(auto, using(std::proofs::Common::append_assoc), unfolding(crate::specs::FieldText::field_members))]
-fn tell_members(object: &mut Object, field: Field, bytes: &[u8]) -> Pushed
+fn tell_members(object: &mut Object, name: &str, kind: &str, bytes: &[u8]) -> Pushed
     ensures { OnOk result (object.new.writer.tokens ≡ object.old.writer.tokens
-        ++ field_members (named field.1.now field.2.now) bytes.now) }
+        ++ field_members (named name.now kind.now) bytes.now) }
 {
-    let Field(_, name, kind) = field;
     object.text_member("name", name)?;
     object.text_member("type", kind)?;
     object.hex_member("value", bytes)?;
@@ -98,10 +97,11 @@ fn tell_members(object: &mut Object, field: Field, bytes: &[u8]) -> Pushed
 #[tactic(auto, unfolding(crate::specs::Members::object_of))]
 pub(crate) fn tell_field(object: &mut Object, field: Field, bytes: &[u8]) -> Pushed
     ensures { OnOk result (object.new.writer.tokens ≡ object.old.writer.tokens
-        ++ object_of (field_members (named field.1.now field.2.now) bytes.now)) }
+        ++ object_of (field_members field.named bytes.now)) }
 {
+    let Field(_, name, kind) = field;
     object.writer.begin_object()?;
-    tell_members(object, field, bytes)?;
+    tell_members(object, name, kind, bytes)?;
     object.writer.end_object()
 }
 
@@ -109,10 +109,11 @@ pub(crate) fn tell_field(object: &mut Object, field: Field, bytes: &[u8]) -> Pus
 #[tactic(auto, unfolding(crate::specs::FieldText::structure_begins))]
 pub(crate) fn tell_structure(object: &mut Object, field: Field, bytes: &[u8]) -> Pushed
     ensures { OnOk result (object.new.writer.tokens ≡ object.old.writer.tokens
-        ++ structure_begins (named field.1.now field.2.now) bytes.now) }
+        ++ structure_begins field.named bytes.now) }
 {
+    let Field(_, name, kind) = field;
     object.writer.begin_object()?;
-    tell_members(object, field, bytes)?;
+    tell_members(object, name, kind, bytes)?;
     object.open_list("fields")
 }
 

@@ -3,7 +3,7 @@
 ghost use Rattle.std.specs.Prelude.{◌≡◌, ◌++◌, List, OnOk};
 ghost use Rattle.tpm_show.specs.Pieces.{Piece, CommandHead, ReplyHead, Handles, ListBegins, ListEnds, NumberedSession};
 ghost use Rattle.tpm_show.specs.Pieces.{Parameters, Value, StructureBegins, StructureEnds, Number, RefusedWith, Absent};
-ghost use Rattle.tpm_show.specs.Pieces.{Untold, named};
+ghost use Rattle.tpm_show.specs.Pieces.{Untold};
 
 use crate::field::Field;
 use crate::frame_header::FrameHeader;
@@ -55,12 +55,12 @@ pub(crate) trait Teller {
     /// A field of these bytes, of which no parts are told.
     fn value(&mut self, field: Field, bytes: &[u8]) -> Pushed
         ensures { OnOk result (told self.new ≡ told self.old
-            ++ marks (Value field.0.now (named field.1.now field.2.now) bytes.now)) };
+            ++ marks (Value field.indent field.named bytes.now)) };
 
     /// A field of these bytes, of which the parts follow.
     fn begin_structure(&mut self, field: Field, bytes: &[u8]) -> Pushed
         ensures { OnOk result (told self.new ≡ told self.old
-            ++ marks (StructureBegins field.0.now (named field.1.now field.2.now) bytes.now)) };
+            ++ marks (StructureBegins field.indent field.named bytes.now)) };
 
     /// That no more parts of it follow.
     fn end_structure(&mut self) -> Pushed

@@ -14,7 +14,7 @@ returns g c =
       head ++ rest.0,
       (rest.0, rest.1, ap (λ (h : Option FrameHeader). head_told c.args.direction c.args.awaited h ++ rest.0) c.header_in.ensures),
       rest.2
-      ∙ ap (λ (m : List T.Mark). m ++ flat_map T.marks rest.0) c.in_ok-tell_head.ensures
-      ∙ append_assoc (told c.args.teller.now) (flat_map T.marks head) (flat_map T.marks rest.0)
-      ∙ ap (λ (m : List T.Mark). told c.args.teller.now ++ m) (sym (flat_map-append T.marks head rest.0)),
+          ∙ ap (λ (m : List T.Mark). m ++ flat_map T.marks rest.0) c.in_ok-tell_head.ensures
+          ∙ append_assoc (told c.args.teller.now) (flat_map T.marks head) (flat_map T.marks rest.0)
+          ∙ ap (λ (m : List T.Mark). told c.args.teller.now ++ m) (sym (flat_map-append T.marks head rest.0)),
     )) c.tell_rest.ensures
