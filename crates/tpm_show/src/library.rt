@@ -319,7 +319,8 @@ fn read_response_areas(rest: &[u8], handles: u8, tag: u16) -> Result<ResponseAre
 fn tell_response_areas<T: Teller>(teller: &mut T, handles: u8, tag: u16, rest: &[u8]) -> Pushed
     requires { length rest.now < 2 ^ 32 }
     ensures { OnOk result (T.told teller.new ≡ T.told teller.old
-        ++ flat_map T.marks (response_areas_read (read_all (response_areas handles tag) rest.now))) }
+        ++ flat_map T.marks
+        (response_areas_read (read_all (response_areas handles tag) rest.now))) }
 {
     match read_response_areas(rest, handles, tag) {
         Ok(areas) => tell_reply_areas(teller, areas.handles.as_slice(), areas.params, &areas),
@@ -334,7 +335,8 @@ fn tell_response_of<T: Teller>(
     header: &FrameHeader,
 ) -> Pushed
     ensures { OnOk result (T.told teller.new ≡ T.told teller.old
-        ++ flat_map T.marks (library_response (listed_as command.now) bytes.now (Some header.now))) }
+        ++ flat_map T.marks
+        (library_response (listed_as command.now) bytes.now (Some header.now))) }
 {
     if header.code != 0 {
         return Ok(());
@@ -352,7 +354,8 @@ pub(crate) fn tell_library_response<T: Teller>(
     bytes: &[u8],
 ) -> Pushed
     ensures { OnOk result (T.told teller.new ≡ T.told teller.old
-        ++ flat_map T.marks (library_response (listed_as command.now) bytes.now (header_in bytes.now))) }
+        ++ flat_map T.marks
+        (library_response (listed_as command.now) bytes.now (header_in bytes.now))) }
 {
     match header_in(bytes) {
         Some(header) => tell_response_of(teller, command, bytes, &header),
