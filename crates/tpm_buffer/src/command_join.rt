@@ -4,6 +4,7 @@ ghost use Rattle.std.specs.Prelude.{◌≡◌, ◌+◌, ◌<◌, ◌≤◌, ◌+
 ghost use Rattle.tpm_buffer.specs.Parts.{authorization_of, joined};
 
 use crate::command_header::tag_for;
+use std::marker::Model;
 use tpm_commands::CommandCode;
 use tpm_wire::{Buffer, put_bytes};
 
@@ -37,10 +38,82 @@ fn put_authorization(out: &mut Buffer, sessions: &[u8])
     }
 }
 
-/// A command's header, and behind it these bytes of its handles, its sessions as they are spelled in the
-/// authorization area, and its parameters; None where they are more than 4,096 bytes. The tag is 0x8001
-/// where there are no sessions' bytes, and else 0x8002, and they stand behind their number. Whether the
-/// bytes spell a command says `decode_command`.
+/// A command by its parts: the bytes of its handles, those of its sessions as they are spelled in the authorization
+/// area, and those of its parameters. Joined they are 4,096 bytes at most. Whether they spell a command says
+/// `decode_command`.
+#[derive(Drop)]
+pub struct UnjoinedCommand<'a> {
+    code: CommandCode,
+    handles: &'a [u8],
+    sessions: &'a [u8],
+    parameters: &'a [u8],
+    // How many bytes they have when they are joined.
+    size: usize,
+}
+
+impl<'a> Model for UnjoinedCommand<'a> {
+    ghost use Rattle.std.specs.Prelude.{◌≡◌, ◌≤◌, ℕ, List, length};
+    ghost use Rattle.tpm_buffer.specs.Parts.{joined};
+
+    ghost Value = { List ℕ };
+
+    ghost view = { λ p. joined p.code p.handles.now p.sessions.now p.parameters.now };
+
+    ghost invariant = { λ p.
+        (p.size ≡ length (joined p.code p.handles.now p.sessions.now p.parameters.now))
+        × (p.size ≤ 4096) };
+}
+
+impl<'a> UnjoinedCommand<'a> {
+    /// These parts; None where they are more than 4,096 bytes with the header.
+    pub fn new(
+        code: CommandCode,
+        handles: &'a [u8],
+        sessions: &'a [u8],
+        parameters: &'a [u8],
+    ) -> Option<Self>
+        ensures { MatchOption result
+            (4096 < length (joined code handles.now sessions.now parameters.now))
+            (λ p. p ≡ joined code handles.now sessions.now parameters.now) }
+    {
+        let size = joined_len(handles, sessions, parameters)?;
+        if size > 4096 {
+            return None;
+        }
+        Some(UnjoinedCommand {
+            code,
+            handles,
+            sessions,
+            parameters,
+            size,
+        })
+    }
+
+    /// How many bytes they have when they are joined.
+    pub fn len(&self) -> usize
+        ensures value { result ≡ length self.now }
+        ensures fits { result ≤ 4096 }
+    {
+        self.size
+    }
+
+    /// Joins them in this buffer, whatever is in it: the header, and behind it the handles, the sessions behind their
+    /// number of bytes, and the parameters. The tag is 0x8001 where there are no sessions' bytes, and else 0x8002
+    /// (Part 1, "Command/Response Structure").
+    pub fn join(&self, out: &mut Buffer)
+        ensures { out.new.items ≡ self.now }
+    {
+        out.clear();
+        put_bytes(out, &tag_for(self.sessions).to_be_bytes());
+        put_bytes(out, &(self.size as u32).to_be_bytes());
+        put_bytes(out, &self.code.number().to_be_bytes());
+        put_bytes(out, self.handles);
+        put_authorization(out, self.sessions);
+        put_bytes(out, self.parameters);
+    }
+}
+
+/// These parts of a command, joined by `UnjoinedCommand::join`; None where they are more than 4,096 bytes.
 pub fn join_command(
     code: CommandCode,
     handles: &[u8],
@@ -52,16 +125,8 @@ pub fn join_command(
         (λ b. (length b.items ≤ 4096)
         × (b.items ≡ joined code handles.now sessions.now parameters.now)) }
 {
-    let size = joined_len(handles, sessions, parameters)?;
-    if size > 4096 {
-        return None;
-    }
+    let parts = UnjoinedCommand::new(code, handles, sessions, parameters)?;
     let mut out = Buffer::new();
-    put_bytes(&mut out, &tag_for(sessions).to_be_bytes());
-    put_bytes(&mut out, &(size as u32).to_be_bytes());
-    put_bytes(&mut out, &code.number().to_be_bytes());
-    put_bytes(&mut out, handles);
-    put_authorization(&mut out, sessions);
-    put_bytes(&mut out, parameters);
+    parts.join(&mut out);
     Some(out)
 }

@@ -120,10 +120,11 @@ fn take_sessions(cursor: &mut Cursor<'_>, bytes: &[u8]) -> Result<ArrayVec<u32, 
     Ok(positions)
 }
 
+/// Reads authorizationSize (Part 1, "Command/Response Structure"). AUTHSIZE at its place where it is less than the 9
+/// bytes that a session has at least, or more than the bytes behind it; INSUFFICIENT where it is cut.
 #[tactic(auto, unfolding(crate::specs::Commands::authorization_size))]
 #[inline(always)]
-fn take_authorization_size(cursor: &mut Cursor<'_>) -> Result<u32, Refusal>
-    requires { cursor.old.number ≡ 0 }
+pub fn take_authorization_size(cursor: &mut Cursor<'_>) -> Result<u32, Refusal>
     ensures reads { Takes authorization_size cursor.old cursor.new result }
     ensures spelled { IfOk result
         (λ x. cursor.old.here.rest ≡ spelling authorization_size x ++ cursor.new.here.rest) }

@@ -18,8 +18,8 @@ pub use command_areas::{Areas, Handled, Headed, header};
 pub use command_decode::{areas, decode_command, one_spelling};
 pub use command_encode::{encode_command, put_command};
 pub use command_header::{NO_SESSIONS, SESSIONS, tag_for};
-pub use command_join::join_command;
-pub use command_sessions::AuthRef;
+pub use command_join::{UnjoinedCommand, join_command};
+pub use command_sessions::{AuthRef, take_authorization_size};
 pub use laws::{
     areas_of_a_response, command_or_fault, fault_before_params, no_prefix, no_response_prefix,
     parameters_in_command, response_or_fault,
@@ -28,4 +28,4 @@ pub use response_areas::{ReplyAreas, reply_areas};
 pub use response_decode::decode_response;
 pub use response_encode::{encode_response, put_code, put_reply, put_reply_params};
 pub use response_header::RSP_COMMAND;
-pub use response_sessions::ReplyRef;
+pub use response_sessions::{ReplyRef, take_parameter_size};

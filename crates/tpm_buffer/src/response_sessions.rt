@@ -62,9 +62,10 @@ impl<'a> ReplyRef<'a> {
     }
 }
 
-/// The size of the parameters, where sessions follow them.
+/// Reads parameterSize, which is there where sessions follow the parameters (Part 1, "Command/Response Structure").
+/// SIZE at its place where it is more than the bytes behind it; INSUFFICIENT where it is cut.
 #[tactic(auto, unfolding(crate::specs::Responses::parameter_size))]
-pub(crate) fn take_parameter_size(cursor: &mut Cursor<'_>) -> Result<u32, Refusal>
+pub fn take_parameter_size(cursor: &mut Cursor<'_>) -> Result<u32, Refusal>
     ensures reads { Takes parameter_size cursor.old cursor.new result }
     ensures spelled { IfOk result
         (λ n. cursor.old.here.rest ≡ spelling parameter_size n ++ cursor.new.here.rest) }

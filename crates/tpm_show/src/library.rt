@@ -1,10 +1,8 @@
 //! What stands behind the header of a frame, by how many handles a command of the library or its response has.
 
 ghost use Rattle.std.specs.Prelude.{◌≡◌, ◌++◌, ◌<◌, ◌^◌, IfSome, OnOk, Some, flat_map, length, option_map};
-ghost use Rattle.tpm_wire.specs.Buffers.{Takes, TakesAs, TakesNumbered};
+ghost use Rattle.tpm_wire.specs.Buffers.{TakesAs, TakesNumbered};
 ghost use Rattle.tpm_wire.specs.Reading.{read_all};
-ghost use Rattle.tpm_buffer.specs.Commands.{authorization_size};
-ghost use Rattle.tpm_buffer.specs.Responses.{parameter_size};
 ghost use Rattle.tpm_show.specs.CommandNames.{listed_as};
 ghost use Rattle.tpm_show.specs.Headers.{header_in};
 ghost use Rattle.tpm_show.specs.Library.{any_handles, behind_whole, command_sessions, sessions_area, command_areas};
@@ -18,11 +16,11 @@ use crate::teller::Teller;
 use crate::told::{tell_areas, tell_reply_areas};
 use arrayvec::ArrayVec;
 use std::marker::Model;
-use tpm_buffer::{NO_SESSIONS, SESSIONS};
+use tpm_buffer::{NO_SESSIONS, SESSIONS, take_authorization_size, take_parameter_size};
 use tpm_lines::text::Pushed;
 use tpm_types::{Auth, AuthReply};
 use tpm_wire::response_code::{AUTHSIZE, SIZE};
-use tpm_wire::{Cursor, Refusal, Wire, read_list, take_rest};
+use tpm_wire::{Cursor, Refusal, read_list, take_rest};
 
 /// The handles of a command or of a response.
 type Handles = ArrayVec<u32, 255>;
@@ -92,18 +90,6 @@ impl HasSessions for CommandAreas<'_> {
         };
         Some(Session::of_command(auth))
     }
-}
-
-#[tactic(auto, unfolding(tpm_buffer::specs::Commands::authorization_size))]
-fn take_authorization_size(cursor: &mut Cursor<'_>) -> Result<u32, Refusal>
-    ensures { Takes authorization_size cursor.old cursor.new result }
-{
-    let refusal = cursor.refusal(AUTHSIZE);
-    let size = u32::take(cursor)?;
-    if size < 9 || size as usize > cursor.left() {
-        return Err(refusal);
-    }
-    Ok(size)
 }
 
 #[tactic(auto, unfolding(crate::specs::Library::command_sessions))]
@@ -240,18 +226,6 @@ impl HasSessions for ResponseAreas<'_> {
         };
         Some(Session::of_reply(auth))
     }
-}
-
-#[tactic(auto, unfolding(tpm_buffer::specs::Responses::parameter_size))]
-fn take_parameter_size(cursor: &mut Cursor<'_>) -> Result<u32, Refusal>
-    ensures { Takes parameter_size cursor.old cursor.new result }
-{
-    let refusal = cursor.refusal(SIZE);
-    let size = u32::take(cursor)?;
-    if size as usize > cursor.left() {
-        return Err(refusal);
-    }
-    Ok(size)
 }
 
 #[tactic(auto, unfolding(crate::specs::Library::response_sessions))]
