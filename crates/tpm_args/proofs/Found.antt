@@ -26,7 +26,7 @@ use Rattle.tpm_args.specs.declared.task.Task.TheVariants.{ExplainKind, Check, Se
 use Rattle.tpm_args.specs.declared.task.Task.{Task}
 use Rattle.tpm_args.specs.declared.stop.Stop.TheVariants.{Help, Usage, Memory}
 use Rattle.tpm_args.specs.declared.stop.Stop.{Stop}
-use Rattle.tpm_args.specs.Program.{program_app}
+use Rattle.tpm_words.specs.Program.{program_app}
 use Rattle.tpm_args.specs.Task.{Asks, AsksNothing, AsksNothingWith, AsksWith, IsCode, IsHash, IsRegister, Replies}
 use Rattle.tpm_args.specs.Task.{is_given, AreSigned, IsIfBytes, IsKind, IsWith, IsWithEither, Requires, IsInput}
 use Rattle.tpm_args.specs.Stop.{IsHelp, IsMemoryOr, Refuses, StopsFor}

@@ -1,3 +1,2 @@
-pub mod Program
 pub mod Task
 pub mod Stop

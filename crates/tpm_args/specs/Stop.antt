@@ -7,7 +7,7 @@ use Rattle.clap.specs.declared.error.kind.ErrorKind.{ErrorKind}
 use Rattle.tpm_args.specs.declared.stop.Stop.TheVariants.{Help, Usage, Memory}
 use Rattle.tpm_args.specs.declared.stop.Stop.{Stop}
 use Rattle.tpm_args.specs.declared.task.Task.{Task}
-use Rattle.tpm_args.specs.Program.{program_app}
+use Rattle.tpm_words.specs.Program.{program_app}
 use Rattle.tpm_args.specs.Task.{AsksNothing, AsksNothingWith, AsksWith}
 
 -- a text that was asked for

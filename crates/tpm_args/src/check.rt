@@ -11,13 +11,13 @@ ghost use Rattle.tpm_args.specs.Task.{IsHash, IsIfBytes, IsWith, IsWithEither, R
 
 use crate::given::is_given;
 use crate::invalid::{invalid_value, not_hexadecimal, wrong_words};
-use crate::program::check_words;
 use crate::stop::Stop;
 use crate::task::{Asked, Task};
 use clap::ArgMatches;
 use std::alloc::Global;
 use tpm_text_values::{is_hexadecimal, selections};
 use tpm_types::{Alg, Selections};
+use tpm_words::check_words;
 
 /// The words of a quote as it was signed.
 #[derive(Drop)]

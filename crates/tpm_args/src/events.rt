@@ -5,10 +5,10 @@ ghost use Rattle.tpm_args.specs.Stop.{IsMemoryOr};
 ghost use Rattle.tpm_args.specs.Task.{IsRegister};
 
 use crate::invalid::invalid_value;
-use crate::program::events_words;
 use crate::stop::Stop;
 use std::alloc::Global;
 use tpm_text_values::decimal;
+use tpm_words::events_words;
 
 /// The register that alone is listed: a number of decimal digits alone, without a sign. A usage
 /// fault where it is none, or not below 2^64.

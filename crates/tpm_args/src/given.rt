@@ -4,7 +4,7 @@ ghost use Rattle.std.specs.Prelude.{◌≡◌, ℕ, List, IfOk, IfErr, MatchOpti
 ghost use Rattle.std.specs.Prelude.{string_bytes};
 ghost use Rattle.clap.specs.Words.{first_value, found_of, kind_of, subcommand_of, subcommand_rows_of};
 ghost use Rattle.clap.specs.declared.error.kind.ErrorKind.TheVariants.{InvalidValue};
-ghost use Rattle.tpm_args.specs.Program.{program_app};
+ghost use Rattle.tpm_words.specs.Program.{program_app};
 ghost use Rattle.tpm_args.specs.Stop.{StopsFor, IsAsked, IsMemoryOr, Refuses};
 ghost use Rattle.tpm_args.specs.Task.{is_given as is_given_by, Asks, AsksNothing, AsksNothingWith, AsksWith};
 
@@ -13,7 +13,6 @@ use crate::events::register;
 use crate::explain::explain_task;
 use crate::invalid::no_command;
 use crate::names::names_help;
-use crate::program::{build_words, program};
 use crate::run::run_task;
 use crate::show::show_task;
 use crate::stop::Stop;
@@ -23,6 +22,7 @@ use clap::{ArgMatches, Error};
 use std::alloc::{AllocError, Global};
 use std::marker::Model;
 use tpm_text_values::command_named;
+use tpm_words::{build_words, program_words};
 
 /// The words of a run.
 #[derive(Drop)]
@@ -66,7 +66,7 @@ impl Words {
         ensures ok { IfOk result (λ t. Asks (subcommand_of program_app self.now) t) }
         ensures err { IfErr result (λ stop. Refuses self.now stop) }
     {
-        let mut program = program(alloc, self.names.as_str())?;
+        let mut program = program_words(alloc, self.names.as_str())?;
         match program.try_get_matches_from_mut(self.given.as_slice()) {
             Ok(matches) => match asked(alloc, &matches)? {
                 Some(task) => Ok(task),
@@ -164,7 +164,7 @@ fn not_text(alloc: Global) -> Result<Error, AllocError>
     ensures { IfOk result (λ e. kind_of e ≡ InvalidValue) }
 {
     let message = "invalid UTF-8 was detected in one or more arguments";
-    program(alloc, "")?.error(ErrorKind::InvalidValue, message)
+    program_words(alloc, "")?.error(ErrorKind::InvalidValue, message)
 }
 
 /// The fault of words that are not text, of which no more can be read.

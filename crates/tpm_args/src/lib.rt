@@ -7,7 +7,6 @@ mod explain;
 mod given;
 mod invalid;
 mod names;
-mod program;
 mod run;
 mod show;
 mod stop;

@@ -8,13 +8,13 @@ ghost use Rattle.tpm_args.specs.Stop.{IsMemoryOr};
 ghost use Rattle.tpm_args.specs.Task.{AsksNothingWith, AsksWith};
 
 use crate::invalid::{invalid_value, not_hexadecimal};
-use crate::program::run_words;
 use crate::stop::Stop;
 use crate::task::Task;
 use clap::ArgMatches;
 use std::alloc::{AllocError, Global};
 use tpm_text_values::{OwnerFault, decimal, owner_value};
 use tpm_types::{AuthValue, DIGEST_BYTES};
+use tpm_words::run_words;
 
 /// The task of the words of `run`.
 pub(crate) fn run_task<'a>(alloc: Global, words: &ArgMatches<'a>) -> Result<Task<'a>, Stop>

@@ -7,12 +7,12 @@ ghost use Rattle.tpm_args.specs.Task.{AsksNothingWith, AsksWith};
 
 use crate::given::is_given;
 use crate::invalid::{no_command, wrong_words};
-use crate::program::show_words;
 use crate::stop::Stop;
 use crate::task::{Asked, Task};
 use clap::ArgMatches;
 use std::alloc::Global;
 use tpm_text_values::command_named;
+use tpm_words::show_words;
 
 // Packets, in this file. None where another of a buffer and three files is given, and where they are to be read as a
 // response or as a stream.

@@ -11,7 +11,7 @@ use Rattle.tpm_lines.specs.Status.{status_number}
 use Rattle.tpm_args.specs.declared.stop.Stop.TheVariants.{Help, Usage, Memory}
 use Rattle.tpm_args.specs.declared.stop.Stop.{Stop}
 use Rattle.tpm_args.specs.declared.task.Task.{Task}
-use Rattle.tpm_args.specs.Program.{program_app}
+use Rattle.tpm_words.specs.Program.{program_app}
 use Rattle.tpm_args.specs.Stop.{Refuses, StopsFor}
 use Rattle.tpm_args.specs.Task.{Asks}
 use Rattle.tpm_program.specs.declared.ended.Ended.{Ended}

@@ -4,7 +4,7 @@ use Rattle.std.specs.Option.{MatchOption}
 use Rattle.clap.specs.Takes.{takes}
 use Rattle.clap.specs.Simple.{App, subcommand_rows_of}
 use Rattle.tpm_args.specs.declared.task.Task.{Task}
-use Rattle.tpm_args.specs.Program.{program_app}
+use Rattle.tpm_words.specs.Program.{program_app}
 use Rattle.tpm_args.specs.Task.{Asks, AsksNothing}
 use Rattle.tpm_args.proofs.Found.{met_is, memory_or, refuses, stops}
 use Rattle.tpm_args.proofs.given.Words.task.Goals as goal

@@ -1,10 +1,10 @@
 use Rattle.std.proofs.lemmas.Result.{IfOk-weaker}
 use Rattle.clap.specs.Built.{AddsSubcommand}
 use Rattle.clap.specs.Simple.{App, with_subcommand}
-use Rattle.tpm_args.specs.Program.{show_app, build_app, run_app, explain_app, check_app, events_app, above_subcommands}
-use Rattle.tpm_args.specs.Program.{program_app, IsApp}
-use Rattle.tpm_args.proofs.Adds.{adds}
-use Rattle.tpm_args.proofs.program.program.Goals as goal
+use Rattle.tpm_words.specs.Program.{show_app, build_app, run_app, explain_app, check_app, events_app, above_subcommands}
+use Rattle.tpm_words.specs.Program.{program_app, IsApp}
+use Rattle.tpm_words.proofs.Adds.{adds}
+use Rattle.tpm_words.proofs.program.program_words.Goals as goal
 
 pub returns : goal.returns
 returns c =

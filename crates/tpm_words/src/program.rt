@@ -2,10 +2,10 @@
 
 ghost use Rattle.std.specs.Prelude.{◌≡◌, IfOk, false};
 ghost use Rattle.clap.specs.Words.{rule_of};
-ghost use Rattle.tpm_args.specs.Program.{required_rule, flag_rule, option_rule, buffer_app};
-ghost use Rattle.tpm_args.specs.Program.{show_app, build_app, run_app, explain_app, log_app, compare_app, signed_app};
-ghost use Rattle.tpm_args.specs.Program.{check_app, events_app, above_subcommands, program_app, IsApp, optional_rule};
-ghost use Rattle.tpm_args.specs.Program.{capture_app, named_app};
+ghost use Rattle.tpm_words.specs.Program.{required_rule, flag_rule, option_rule, buffer_app};
+ghost use Rattle.tpm_words.specs.Program.{show_app, build_app, run_app, explain_app, log_app, compare_app, signed_app};
+ghost use Rattle.tpm_words.specs.Program.{check_app, events_app, above_subcommands, program_app, IsApp, optional_rule};
+ghost use Rattle.tpm_words.specs.Program.{capture_app, named_app};
 
 use clap::{Arg, ArgAction, Command};
 use std::alloc::{AllocError, Global};
@@ -111,8 +111,8 @@ fn capture_words<'a>(alloc: Global, names: &'a str) -> Result<Command<'a>, Alloc
     }
 }
 
-/// The subcommand `show`, with the names of the commands.
-pub(crate) fn show_words<'a>(alloc: Global, names: &'a str) -> Result<Command<'a>, AllocError>
+/// The subcommand `show`, whose help ends in this text on the names of commands. An error is want of memory.
+pub fn show_words<'a>(alloc: Global, names: &'a str) -> Result<Command<'a>, AllocError>
     ensures { IfOk result (λ c. IsApp show_app c) }
 {
     with_words! { alloc, capture_words(alloc, names)?;
@@ -133,8 +133,8 @@ fn named_words<'a>(alloc: Global, names: &'a str) -> Result<Command<'a>, AllocEr
         .arg(required(alloc, "NAME", "The command's name"))
 }
 
-/// The subcommand `build`, with the names of the commands.
-pub(crate) fn build_words<'a>(alloc: Global, names: &'a str) -> Result<Command<'a>, AllocError>
+/// The subcommand `build`, whose help ends in this text on the names of commands. An error is want of memory.
+pub fn build_words<'a>(alloc: Global, names: &'a str) -> Result<Command<'a>, AllocError>
     ensures { IfOk result (λ c. IsApp build_app c) }
 {
     with_words! { alloc, named_words(alloc, names)?;
@@ -144,8 +144,8 @@ pub(crate) fn build_words<'a>(alloc: Global, names: &'a str) -> Result<Command<'
     }
 }
 
-/// The subcommand `run`.
-pub(crate) fn run_words<'a>(alloc: Global) -> Result<Command<'a>, AllocError>
+/// The subcommand `run`. An error is want of memory.
+pub fn run_words<'a>(alloc: Global) -> Result<Command<'a>, AllocError>
     ensures { IfOk result (λ c. IsApp run_app c) }
 {
     with_words! { alloc, Command::new(alloc, "run")
@@ -156,8 +156,8 @@ pub(crate) fn run_words<'a>(alloc: Global) -> Result<Command<'a>, AllocError>
     }
 }
 
-/// The subcommand `explain`.
-pub(crate) fn explain_words<'a>(alloc: Global) -> Result<Command<'a>, AllocError>
+/// The subcommand `explain`. An error is want of memory.
+pub fn explain_words<'a>(alloc: Global) -> Result<Command<'a>, AllocError>
     ensures { IfOk result (λ c. IsApp explain_app c) }
 {
     let about = "Prints what a response code says, or the kind of a log's fault";
@@ -210,8 +210,8 @@ fn signed_words<'a>(alloc: Global) -> Result<Command<'a>, AllocError>
     }
 }
 
-/// The subcommand `check`.
-pub(crate) fn check_words<'a>(alloc: Global) -> Result<Command<'a>, AllocError>
+/// The subcommand `check`. An error is want of memory.
+pub fn check_words<'a>(alloc: Global) -> Result<Command<'a>, AllocError>
     ensures { IfOk result (λ c. IsApp check_app c) }
 {
     with_words! { alloc, signed_words(alloc)?;
@@ -222,8 +222,8 @@ pub(crate) fn check_words<'a>(alloc: Global) -> Result<Command<'a>, AllocError>
     }
 }
 
-/// The subcommand `events`.
-pub(crate) fn events_words<'a>(alloc: Global) -> Result<Command<'a>, AllocError>
+/// The subcommand `events`. An error is want of memory.
+pub fn events_words<'a>(alloc: Global) -> Result<Command<'a>, AllocError>
     ensures { IfOk result (λ c. IsApp events_app c) }
 {
     let about = "Prints the records of an event log, a line each";
@@ -250,8 +250,9 @@ fn above_subcommands<'a>(alloc: Global) -> Result<Command<'a>, AllocError>
     )
 }
 
-/// The program, with the names of the commands.
-pub(crate) fn program<'a>(alloc: Global, names: &'a str) -> Result<Command<'a>, AllocError>
+/// The program with all its subcommands, of which two have this text on the names of commands in their help. An error
+/// is want of memory.
+pub fn program_words<'a>(alloc: Global, names: &'a str) -> Result<Command<'a>, AllocError>
     ensures { IfOk result (λ c. IsApp program_app c) }
 {
     above_subcommands(alloc)?

@@ -4,7 +4,7 @@ use Rattle.clap.specs.Built.{AddsSubcommand}
 use Rattle.clap.specs.Simple.{App, shape_of, with_subcommand}
 use Rattle.clap.specs.declared.builder.command.Command.TheViews.{out-Command}
 use Rattle.clap.specs.declared.builder.command.Command.{Command}
-use Rattle.tpm_args.specs.Program.{IsApp}
+use Rattle.tpm_words.specs.Program.{IsApp}
 
 pub adds : (old sub new : Command) (words added : App)
     → IsApp words old → IsApp added sub → AddsSubcommand old sub new → IsApp (with_subcommand words added.top) new
