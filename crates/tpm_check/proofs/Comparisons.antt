@@ -244,7 +244,7 @@ module _ (found : Bor InCode) where
       outcome (bytes ++ more) None (at.text ++ at.last) (stops_whatever list_line Compares (first_of found) bytes at more)
 
   reads_list : (old new : Option (List ℕ)) (bytes text : List ℕ) (left : Option Comparing)
-      → ReadsLines most_bytes (GoesOn list_line Compares (first_of found)) old new bytes
+      → ReadsLines most_bytes (GoesOn list_line Compares (first_of found)) (record { old = old; new = new; bytes = bytes })
       → IsWhole list_line Compares new (record { first = first_of found; bytes = bytes; left = left; text = text })
       → ReadsList (told found.now) old new bytes
   reads_list old new bytes text left f whole = record {
@@ -266,7 +266,7 @@ module _ (found : Bor InCode) where
   }
 
   pub answers : (old new a c : Option (List ℕ)) (bytes text : List ℕ) (left : Option Comparing)
-      → ReadsLines most_bytes (GoesOn list_line Compares (first_of found)) old new bytes
+      → ReadsLines most_bytes (GoesOn list_line Compares (first_of found)) (record { old = old; new = new; bytes = bytes })
       → IsWhole list_line Compares new (record { first = first_of found; bytes = bytes; left = left; text = text })
       → Appends a c text → Concludes (told found.now) old new a c (option_map (λ (k : Comparing). k.status) left)
   answers old new a c bytes text left f whole added =

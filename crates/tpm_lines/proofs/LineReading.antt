@@ -401,7 +401,7 @@ keeps_none (Some xs) (Some ys) keeps = sym keeps
 -- what was read before, which is taken, and the last bytes
 pub reads_lines : (most : ℕ) (Goes : List ℕ → Type 0) (old mid new : Option (List ℕ)) (read count : ℕ) (before bytes all : List ℕ) → Goes before
     → Consumes old mid before → read ≡ length before → Consumes mid new bytes → count ≡ length bytes → count ≤ most_piece → read + count ≤ most
-    → all ≡ before ++ bytes → ReadsLines most Goes old new all
+    → all ≡ before ++ bytes → ReadsLines most Goes (record { old = old; new = new; bytes = all })
 reads_lines most Goes old mid new read count before bytes all goes consumed is more counted few le are = record {
   read = rw are (consumes_both old mid new before bytes consumed more);
   before = before;

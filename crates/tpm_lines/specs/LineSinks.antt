@@ -119,12 +119,18 @@ IsWhole limits Takes coming r = TakesAll Takes r × (IsAtEnd coming ⊎ Stops li
 
 -- ---- what is read
 
+-- bytes that were read of a source, and what it told to be to come before and after
+pub record Consumed : Type 0 where
+  pub old : Option (List ℕ)
+  pub new : Option (List ℕ)
+  pub bytes : List ℕ
+
 -- No more than so many bytes were read, and up to the last of them, which came in one read, it goes on.
-pub record ReadsLines (most : ℕ) (Goes : List ℕ → Type 0) (old new : Option (List ℕ)) (bytes : List ℕ) : Type 0 where
-  pub read : Consumes old new bytes
+pub record ReadsLines (most : ℕ) (Goes : List ℕ → Type 0) (c : Consumed) : Type 0 where
+  pub read : Consumes c.old c.new c.bytes
   pub before : List ℕ
   pub last : List ℕ
-  pub are : bytes ≡ before ++ last
+  pub are : c.bytes ≡ before ++ last
   pub goes : Goes before
   pub piece : length last ≤ most_piece
   pub most_read : length before + length last ≤ most

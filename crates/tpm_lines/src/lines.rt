@@ -241,15 +241,21 @@ pub fn take_lines<R: Source, W: Write, S: LineSink + Drop>(
     ensures failures { CountsRead (R.failed input.old) (R.failed input.new) result }
     ensures stop { IsErrOf result Read → IsWhereItFailed (R.stopped input.new) }
     ensures further { (IsErrOf result InputTooLong → ⊥) → (bytes : List ℕ)
-        × ReadsLines most (GoesOn S.limits S.takes sink)
-        (R.coming input.old) (R.coming input.new) bytes }
+        × ReadsLines most (GoesOn S.limits S.takes sink) (record {
+          old = R.coming input.old;
+          new = R.coming input.new;
+          bytes = bytes;
+        }) }
     ensures answered { IsErrOf result Read → (bytes : List ℕ)
         × (goes : GoesOn S.limits S.takes sink bytes)
         × Consumes (R.coming input.old) (R.coming input.new) bytes
         × Appends (W.contents out.old) (W.contents out.new) goes.text }
     ensures ok { IfOk result (λ left. (bytes text : List ℕ)
-        × ReadsLines most (GoesOn S.limits S.takes sink)
-        (R.coming input.old) (R.coming input.new) bytes
+        × ReadsLines most (GoesOn S.limits S.takes sink) (record {
+          old = R.coming input.old;
+          new = R.coming input.new;
+          bytes = bytes;
+        })
         × IsWhole S.limits S.takes (R.coming input.new)
         (record { first = sink; bytes = bytes; left = left; text = text })
         × Appends (W.contents out.old) (W.contents out.new) text) }

@@ -175,7 +175,8 @@ module _ (first : Run) where
 
   -- ---- the input
 
-  pub no_further : (old new : Option (List ℕ)) (bytes : List ℕ) → ReadsLines most_bytes (GoesOn digits Runs first) old new bytes → ReadsNoFurther old new
+  pub no_further : (old new : Option (List ℕ)) (bytes : List ℕ)
+      → ReadsLines most_bytes (GoesOn digits Runs first) (record { old = old; new = new; bytes = bytes }) → ReadsNoFurther old new
   no_further old new bytes f = record {
     before = f.before;
     last = f.last;
@@ -232,7 +233,8 @@ module _ (first : Run) where
       ∙ ap (λ (l : Line). map line_of (lines_of at.lines) ++ l ∷ map line_of stop.1) stop.3.0)
       ∙ script_from-cut 1 1 (map line_of (lines_of at.lines)) (map line_of stop.1)
 
-  pub reads_script : (old new : Option (List ℕ)) (r : Reading Run) → r.first ≡ first → ReadsLines most_bytes (GoesOn digits Runs first) old new r.bytes
+  pub reads_script : (old new : Option (List ℕ)) (r : Reading Run) → r.first ≡ first
+      → ReadsLines most_bytes (GoesOn digits Runs first) (record { old = old; new = new; bytes = r.bytes })
       → IsWhole digits Runs new r → ReadsScript old new r.bytes
   reads_script old new r is f whole = record {
     read = f.read;

@@ -140,7 +140,7 @@ module _ (how : Telling) (first : Capture) (starts : place first ≡ start how) 
 
   -- All lines are told, up to the end of the input.
   pub answers : (old new : Option (List ℕ)) (bytes text : List ℕ) (left : Option Capture)
-      → ReadsLines most_bytes (GoesOn capture_line TellsStep first) old new bytes
+      → ReadsLines most_bytes (GoesOn capture_line TellsStep first) (record { old = old; new = new; bytes = bytes })
       → IsWhole capture_line TellsStep new (record { first = first; bytes = bytes; left = left; text = text })
       → (capture : Capture) × (left ≡ Some capture) × ReadsAll old new bytes × TellsCapture how bytes capture.status text
   answers old new bytes text left f whole =
