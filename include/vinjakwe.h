@@ -619,6 +619,7 @@ uint32_t tpm_policy_auth_value(struct tpm_policy *policy);
 #define TPM_RC_SYMMETRIC             ((uint32_t)0x096)
 #define TPM_RC_INSUFFICIENT          ((uint32_t)0x09A)
 #define TPM_RC_POLICY_FAIL           ((uint32_t)0x09D)
+#define TPM_RC_INTEGRITY             ((uint32_t)0x09F)
 #define TPM_RC_RESERVED_BITS         ((uint32_t)0x0A1)
 #define TPM_RC_BAD_AUTH              ((uint32_t)0x0A2)
 #define TPM_RC_POLICY_CC             ((uint32_t)0x0A4)

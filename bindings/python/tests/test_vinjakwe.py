@@ -253,10 +253,11 @@ class Devices(unittest.TestCase):
         for again in v.Device.restore(b"owner", kept), v.Device.restore(b"owner", bytearray(kept)):
             self.assertEqual((again.greatest, again.counters, again.keep()), (41, (counter,), kept))
             self.assertEqual(again.session_hash(0x03000000), None)
-        for other, code, at in (kept[:-1] + bytes([kept[-1] ^ 1]), 0x09F, len(kept) - 32), (b"", 0x09A, 0):
+        changed = kept[:-1] + bytes([kept[-1] ^ 1])
+        for other, code, name, at in (changed, 0x09F, "TPM_RC_INTEGRITY", len(kept) - 32), (b"", 0x09A, "TPM_RC_INSUFFICIENT", 0):
             with self.assertRaises(v.Refusal) as found:
                 v.Device.restore(b"owner", other)
-            self.assertEqual((found.exception.code, found.exception.at), (code, at))
+            self.assertEqual((found.exception.code, found.exception.name, found.exception.at), (code, name, at))
         self.assertRaises(v.Refusal, v.Device.restore, bytes(49), kept)
 
     def test_a_nonce_of_another_length_is_refused(self):

@@ -8,7 +8,7 @@ use Rattle.tpm_wire.specs.Layout.{either}
 use Rattle.tpm_wire.specs.Spelling.{spelling}
 use Rattle.tpm_wire.specs.Structures.{counted}
 use Rattle.tpm_wire.specs.Buffers.{Layout, number_in, any_number}
-use Rattle.tpm_wire.specs.ResponseCodes.{rc_attributes, rc_nv_defined, rc_nv_range, rc_size, rc_value}
+use Rattle.tpm_wire.specs.ResponseCodes.{rc_attributes, rc_integrity, rc_nv_defined, rc_nv_range, rc_size, rc_value}
 use Rattle.tpm_types.specs.declared.alg.Alg.TheVariants.{Sha256}
 use Rattle.tpm_types.specs.declared.tpms.NvPublic.{NvPublic}
 use Rattle.tpm_types.specs.Alg.{digest_len}
@@ -122,10 +122,6 @@ kept_contents =
     field (λ nv. nv.counters) (counted 0 most_counters kept_counter) (λ counters.
     field (λ _. tt) (judged (check_counters greatest counters)) (λ _.
     done (record { counters = counters; greatest = greatest }))))))
-
--- TPM_RC_INTEGRITY (Part 2, 6.6.3): the digest is not that of the bytes before it
-abbrev pub rc_integrity : ℕ
-rc_integrity = 0x09F
 
 -- the SHA-256 digest of the contents' bytes
 abbrev pub kept_digest : NvMemory → List ℕ

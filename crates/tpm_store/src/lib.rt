@@ -7,5 +7,5 @@ mod kept;
 mod registers;
 
 pub use counters::{By, COUNTER_BYTES, Counter, Counters, MOST_COUNTERS};
-pub use kept::{INTEGRITY, KEPT_BYTES};
+pub use kept::KEPT_BYTES;
 pub use registers::{Locality, Registers, event_digests};

@@ -100,6 +100,9 @@ rc_insufficient = 0x09A
 abbrev pub rc_policy_fail : ℕ
 rc_policy_fail = 0x09D
 
+abbrev pub rc_integrity : ℕ
+rc_integrity = 0x09F
+
 -- a reserved bit that is set
 abbrev pub rc_reserved_bits : ℕ
 rc_reserved_bits = 0x0A1

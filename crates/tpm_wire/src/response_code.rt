@@ -91,6 +91,9 @@ pub const INSUFFICIENT: u32 = 0x09A;
 /// TPM_RC_POLICY_FAIL: the policy isn't met. The session's number is added.
 pub const POLICY_FAIL: u32 = 0x09D;
 
+/// TPM_RC_INTEGRITY: a digest is not that of the bytes before it.
+pub const INTEGRITY: u32 = 0x09F;
+
 /// TPM_RC_RESERVED_BITS: a reserved bit is set. A number is added.
 pub const RESERVED_BITS: u32 = 0x0A1;
 
