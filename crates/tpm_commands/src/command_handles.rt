@@ -137,7 +137,8 @@ impl CommandCode {
 // ---- a handle by its number, or where the command cannot have it one of its kind,
 // which is never met on handles that were read
 
-pub(crate) fn register_in(handle: u32) -> PcrIndex
+/// The register of this handle, or register 0 for a handle of none (Part 2, 9.7).
+pub fn register_in(handle: u32) -> PcrIndex
     ensures { result ≡ the_register handle }
 {
     match PcrIndex::from_number(handle) {
@@ -146,7 +147,8 @@ pub(crate) fn register_in(handle: u32) -> PcrIndex
     }
 }
 
-pub(crate) fn index_in(handle: u32) -> NvIndex
+/// The NV index of this handle, or 0x01000000 for a handle of none (Part 2, 9.24).
+pub fn index_in(handle: u32) -> NvIndex
     ensures { result ≡ the_index handle }
 {
     match NvIndex::from_number(handle).or(NvIndex::from_number(0x01000000)) {
@@ -155,7 +157,8 @@ pub(crate) fn index_in(handle: u32) -> NvIndex
     }
 }
 
-pub(crate) fn policy_in(handle: u32) -> PolicyHandle
+/// The policy session of this handle, or 0x03000000 for a handle of none (Part 2, 9.10).
+pub fn policy_in(handle: u32) -> PolicyHandle
     ensures { result ≡ the_policy handle }
 {
     match PolicyHandle::from_number(handle).or(PolicyHandle::from_number(0x03000000)) {
@@ -164,7 +167,8 @@ pub(crate) fn policy_in(handle: u32) -> PolicyHandle
     }
 }
 
-pub(crate) fn pcr_or_null_in(handle: u32) -> PcrOrNull
+/// The register of this handle, or TPM_RH_NULL for a handle of none (Part 2, 9.7).
+pub fn pcr_or_null_in(handle: u32) -> PcrOrNull
     ensures { result ≡ the_pcr_or_null handle }
 {
     match PcrOrNull::from_number(handle) {
@@ -173,7 +177,9 @@ pub(crate) fn pcr_or_null_in(handle: u32) -> PcrOrNull
     }
 }
 
-pub(crate) fn nv_auth_in(handle: u32) -> NvAuthHandle
+/// Who authorizes a command on an index by this handle, the owner or an index; the owner for a handle of neither (Part
+/// 2, 9.22).
+pub fn nv_auth_in(handle: u32) -> NvAuthHandle
     ensures { result ≡ the_nv_auth handle }
 {
     match NvAuthHandle::from_number(handle) {
@@ -182,7 +188,9 @@ pub(crate) fn nv_auth_in(handle: u32) -> NvAuthHandle
     }
 }
 
-pub(crate) fn bind_in(handle: u32) -> BindHandle
+/// What a session is bound to by this handle, the owner or TPM_RH_NULL; TPM_RH_NULL for a handle of neither (Part 2,
+/// 9.6).
+pub fn bind_in(handle: u32) -> BindHandle
     ensures { result ≡ the_bind handle }
 {
     match BindHandle::from_number(handle) {
@@ -191,7 +199,8 @@ pub(crate) fn bind_in(handle: u32) -> BindHandle
     }
 }
 
-pub(crate) fn first(handles: &[u32]) -> u32
+/// The first of the handles, or 0 where there is none.
+pub fn first_handle(handles: &[u32]) -> u32
     ensures { result ≡ first_of handles.now }
 {
     match handles {
@@ -200,7 +209,8 @@ pub(crate) fn first(handles: &[u32]) -> u32
     }
 }
 
-pub(crate) fn second(handles: &[u32]) -> u32
+/// The second of the handles, or 0 where there is none.
+pub fn second_handle(handles: &[u32]) -> u32
     ensures { result ≡ second_of handles.now }
 {
     match handles {

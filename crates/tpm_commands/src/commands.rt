@@ -21,8 +21,8 @@ mod startup;
 use crate::code::CommandCode;
 use crate::command::{CommandBody, StartAuth};
 use crate::command_handles::{
-    HandleKind, bind_in, first, index_in, nv_auth_in, pcr_or_null_in, policy_in, register_in,
-    second,
+    HandleKind, bind_in, first_handle, index_in, nv_auth_in, pcr_or_null_in, policy_in,
+    register_in, second_handle,
 };
 use crate::command_parameters::Params;
 use crate::response::ReplyBody;
@@ -314,21 +314,21 @@ impl<'a> CommandBody<'a> {
         ensures body { OnOk result (self.new ≡ body_from handles.now (params_of self.new)) }
     {
         match self {
-            CommandBody::NvUndefineSpace { index } => *index = index_in(second(handles)),
+            CommandBody::NvUndefineSpace { index } => *index = index_in(second_handle(handles)),
             CommandBody::NvDefineSpace { auth, public } => {
                 nv::read_nv_define_space(cursor, auth, public)?
             }
             CommandBody::NvIncrement { by, index } => {
-                *by = nv_auth_in(first(handles));
-                *index = index_in(second(handles));
+                *by = nv_auth_in(first_handle(handles));
+                *index = index_in(second_handle(handles));
             }
             CommandBody::PcrEvent { .. } => {
                 *self = CommandBody::PcrEvent {
-                    register: pcr_or_null_in(first(handles)),
+                    register: pcr_or_null_in(first_handle(handles)),
                     event: pcr::take_pcr_event(cursor)?,
                 }
             }
-            CommandBody::PcrReset { register } => *register = register_in(first(handles)),
+            CommandBody::PcrReset { register } => *register = register_in(first_handle(handles)),
             CommandBody::Startup(startup_type) => startup::read_startup(cursor, startup_type)?,
             CommandBody::NvRead {
                 by,
@@ -336,23 +336,23 @@ impl<'a> CommandBody<'a> {
                 size,
                 offset,
             } => {
-                *by = nv_auth_in(first(handles));
-                *index = index_in(second(handles));
+                *by = nv_auth_in(first_handle(handles));
+                *index = index_in(second_handle(handles));
                 nv::read_nv_read(cursor, size, offset)?
             }
             CommandBody::FlushContext(session) => context::read_flush_context(cursor, session)?,
-            CommandBody::NvReadPublic { index } => *index = index_in(first(handles)),
-            CommandBody::PolicyAuthValue { session } => *session = policy_in(first(handles)),
+            CommandBody::NvReadPublic { index } => *index = index_in(first_handle(handles)),
+            CommandBody::PolicyAuthValue { session } => *session = policy_in(first_handle(handles)),
             CommandBody::PolicyCommandCode { session, code } => {
-                *session = policy_in(first(handles));
+                *session = policy_in(first_handle(handles));
                 policy::read_policy_command_code(cursor, code)?
             }
             CommandBody::PolicyOr { session, digests } => {
-                *session = policy_in(first(handles));
+                *session = policy_in(first_handle(handles));
                 policy::read_policy_or(cursor, digests)?
             }
             CommandBody::StartAuthSession(start) => {
-                start.bind = bind_in(second(handles));
+                start.bind = bind_in(second_handle(handles));
                 session::read_start_auth_session(
                     cursor,
                     &mut start.nonce_caller,
@@ -367,15 +367,15 @@ impl<'a> CommandBody<'a> {
                 pcr_digest,
                 selections,
             } => {
-                *session = policy_in(first(handles));
+                *session = policy_in(first_handle(handles));
                 policy::read_policy_pcr(cursor, pcr_digest, selections)?
             }
-            CommandBody::PolicyRestart { session } => *session = policy_in(first(handles)),
+            CommandBody::PolicyRestart { session } => *session = policy_in(first_handle(handles)),
             CommandBody::PcrExtend { register, digests } => {
-                *register = pcr_or_null_in(first(handles));
+                *register = pcr_or_null_in(first_handle(handles));
                 pcr::read_pcr_extend(cursor, digests)?
             }
-            CommandBody::PolicyGetDigest { session } => *session = policy_in(first(handles)),
+            CommandBody::PolicyGetDigest { session } => *session = policy_in(first_handle(handles)),
         }
         Ok(())
     }

@@ -9,9 +9,9 @@ ghost use Rattle.tpm_device.specs.Stands.{holds, sessions_checked, entity_at};
 ghost use Rattle.tpm_device.specs.Stands.{Authorizes, IsAuthorization, IsFound};
 
 use crate::device::Device;
-use crate::handles::first;
 use arrayvec::ArrayVec;
 use tpm_buffer::{Areas, AuthRef};
+use tpm_commands::first_handle;
 use tpm_session::{Authority, Entity};
 use tpm_types::{Name, NvIndex, PcrIndex, RH_OWNER, name_of_handle};
 
@@ -80,7 +80,7 @@ impl Device {
         Ok(Authorization {
             session,
             by,
-            entity: EntityHandle::of(first(areas.handles())),
+            entity: EntityHandle::of(first_handle(areas.handles())),
         })
     }
 
@@ -151,7 +151,7 @@ impl Device {
             areas.code(),
             names,
             areas.params(),
-            self.registers.counter(),
+            self.registers.update_counter(),
         )
     }
 

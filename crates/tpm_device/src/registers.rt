@@ -105,7 +105,7 @@ impl Device {
             Ok body.new ≡ action (holds self.now) (bodies.PcrRead selections.now) n }
     {
         *body = ReplyBody::PcrRead {
-            update_counter: self.registers.counter(),
+            update_counter: self.registers.update_counter(),
             selections: Selections::default(),
             digests: Digests::default(),
         };

@@ -236,7 +236,8 @@ impl Sessions {
         Ok(())
     }
 
-    /// TPM2_PolicyAuthValue: the entity's authorization value is part of the key (Part 3, 23.17). REFERENCE_H0.
+    /// TPM2_PolicyAuthValue: the entity's authorization value is part of the key (Part 3, 23.17). REFERENCE_H0 where
+    /// the session is not loaded.
     pub fn policy_auth_value(&mut self, session: PolicyHandle) -> Result<(), u32>
         ensures answer { result ≡ for_policy (loaded self.old session) (λ _. Ok tt) }
         ensures asserted { OnOk result (
@@ -328,14 +329,15 @@ impl Sessions {
             return Err(REFERENCE_H0);
         };
         let composite = registers.composite(held.hash(), selections);
-        let update_counter = registers.counter();
+        let update_counter = registers.update_counter();
         held.check_registers(&composite, update_counter, pcr_digest)?;
         let asserted = held.registers_asserted(selections, &composite, update_counter, pcr_digest);
         self.assert(session, &asserted);
         Ok(())
     }
 
-    /// TPM2_PolicyGetDigest: the policy digest of what the session asserts (Part 3, 23.19). REFERENCE_H0.
+    /// TPM2_PolicyGetDigest: the policy digest of what the session asserts (Part 3, 23.19). REFERENCE_H0 where the
+    /// session is not loaded.
     pub fn policy_digest(&self, session: PolicyHandle) -> Result<Digest, u32>
         ensures answer { result ≡ for_policy (loaded self.now session) (λ s. Ok s.policy.digest) }
         ensures digest { IfOk result (λ digest.

@@ -321,7 +321,7 @@ impl Registers {
     }
 
     /// The update counter.
-    pub fn counter(&self) -> u32
+    pub fn update_counter(&self) -> u32
         ensures { result ≡ self.now.update_counter }
     {
         self.updates

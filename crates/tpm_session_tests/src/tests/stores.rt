@@ -57,7 +57,7 @@ fn an_event_is_hashed_and_extended_in_each_bank(rt: HostRuntime) {
         3d458cfe55cc03ea1f443f1562beec8df51c75e14a9fcf9a7234a13f198e7969
         518923b0f955d08da077c96aaba522b9decede61c599cea6c41889cfbea4ae4d50529d96fe4d1afdafb65e7f95bf23c4",
     );
-    assert!(rt; registers.counter() == 1);
+    assert!(rt; registers.update_counter() == 1);
 }
 
 // The value of the second bank is the SHA-256 of 64 zero bytes.
@@ -70,7 +70,7 @@ fn a_digest_leaves_the_other_banks_and_the_other_registers(rt: HostRuntime) {
         registers.extend(register(&rt, 0), &one),
         registers.extend(register(&rt, 17), &one),
     ];
-    assert!(rt; (extended, registers.counter()) == ([Ok(()), Err(0x907)], 1));
+    assert!(rt; (extended, registers.update_counter()) == ([Ok(()), Err(0x907)], 1));
     is(
         &rt,
         values(&registers, register(&rt, 0)).as_slice(),
@@ -89,7 +89,7 @@ fn a_register_that_may_be_reset_alone_is(rt: HostRuntime) {
         registers.reset(register(&rt, 0)),
         registers.reset(register(&rt, 16)),
     ];
-    assert!(rt; (reset, registers.counter()) == ([Err(0x907), Ok(())], 1));
+    assert!(rt; (reset, registers.update_counter()) == ([Err(0x907), Ok(())], 1));
 }
 
 #[test]

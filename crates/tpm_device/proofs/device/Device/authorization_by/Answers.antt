@@ -12,7 +12,7 @@ returns c =
       others = split.0;
       auths = split.1;
       by = c.in_ok-by.ensures.found;
-      entity = λ p. c.of.ensures p ∙ ap (entity_of p) (c.first.ensures ∙ ap first c.handles.ensures);
+      entity = λ p. c.of.ensures p ∙ ap (entity_of p) (c.first_handle.ensures ∙ ap first c.handles.ensures);
     }
 
 pub returns-in_err-by : goal.returns-in_err-by

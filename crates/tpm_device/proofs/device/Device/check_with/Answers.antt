@@ -12,5 +12,5 @@ returns c =
     let x = c.args.areas.now in
     let own = c.requires.own in
     c.authorize_by.ensures own.others own.by (c.auth_count.ensures.value ∙ ap (λ (auths : List Auth). length auths) own.auths)
-    ∙ checked_by p x c.args.by.now.session own.others (entity_in c.entity-entity.result) c.code.result c.args.names.now c.params.result.now c.counter.result
-    own.auths (c.entity-entity.ensures ∙ own.entity p) c.code.ensures c.params.ensures.value c.counter.ensures c.requires.names
+    ∙ checked_by p x c.args.by.now.session own.others (entity_in c.entity-entity.result) c.code.result c.args.names.now c.params.result.now
+    c.update_counter.result own.auths (c.entity-entity.ensures ∙ own.entity p) c.code.ensures c.params.ensures.value c.update_counter.ensures c.requires.names

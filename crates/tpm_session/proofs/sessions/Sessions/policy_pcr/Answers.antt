@@ -12,7 +12,8 @@ returns-clause-asserted c = λ o h command reply nonce same auths are at.
     let now = c.args.registers.now in
     let selections = c.args.selections.now in
     let asserted = c.registers_asserted-asserted.ensures now
-    (c.composite-composite.ensures ∙ ap (λ (alg : Alg). composite alg (value_in now.banks) selections) c.hash.ensures) c.counter-update_counter.ensures in
+    (c.composite-composite.ensures ∙ ap (λ (alg : Alg). composite alg (value_in now.banks) selections) c.hash.ensures)
+    c.update_counter-update_counter.ensures in
     asserts_registers o h command reply nonce c.args.session c.args.pcr_digest.now selections now c.in-Some.held.now _ _
     (c.assert.ensures ∙ ap (λ (a : Assertion). with_slot (slot_of c.args.session) (option_map (asserting a)) c.args.self.now) asserted)
     (sym c.in-Some.ensures) same auths are at
