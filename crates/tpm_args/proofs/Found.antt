@@ -1,5 +1,5 @@
 -- What was found in the words, by the getters and by the matches.
-use Rattle.std.proofs.Common.{◌≡◌, ℕ, ap, sym, subst, refl, ◌∙◌, Bool, true, false, Bor, inl, inr, codes, List, map}
+use Rattle.std.proofs.Common.{◌≡◌, ℕ, ap, sym, subst, refl, ◌∙◌, Bool, true, false, inl, inr, codes, List, map}
 use Rattle.std.proofs.Common.{Option, Some, None, option_map, unwrap_or, ◌||◌}
 use Rattle.std.specs.Prelude.{Box, Result, Ok, Err, MatchResult, is_some}
 use Rattle.std.specs.Box.{box_value}

@@ -1,6 +1,7 @@
 //! The words of the subcommand `check`.
 
-ghost use Rattle.std.specs.Prelude.{◌≡◌, ◌||◌, true, List, Option, MatchResult, codes, is_some, option_map};
+ghost use Rattle.std.specs.Prelude.{◌≡◌, ◌||◌, true, List, Option, MatchOption, MatchResult, codes};
+ghost use Rattle.std.specs.Prelude.{is_some, option_map};
 ghost use Rattle.clap.specs.Words.{first_value, found_of};
 ghost use Rattle.tpm_types.specs.declared.alg.Alg.{Alg as AlgValue};
 ghost use Rattle.tpm_types.specs.declared.tpms.Selection.{Selection as SelectionValue};
@@ -195,16 +196,22 @@ fn required(alloc: Global, list: Option<&str>) -> Result<Option<Selections>, Sto
     }
 }
 
+// The hash of this name.
+fn hash_named(text: &str) -> Option<Alg>
+    ensures { MatchOption result
+        ((hash : AlgValue) → IsHash text.now hash → ⊥) (λ hash. IsHash text.now hash) }
+{
+    Alg::ALL.iter().copied().find(|hash| hash.name() == text)
+}
+
 // The hash of this name. A usage fault where none has it.
 fn hash(alloc: Global, text: &str) -> Result<Alg, Stop>
     ensures { MatchResult result (λ hash. IsHash text.now hash)
         (IsMemoryOr ((hash : AlgValue) → IsHash text.now hash → ⊥)) }
 {
-    match text {
-        "sha1" => Ok(Alg::Sha1),
-        "sha256" => Ok(Alg::Sha256),
-        "sha384" => Ok(Alg::Sha384),
-        _ => {
+    match hash_named(text) {
+        Some(hash) => Ok(hash),
+        None => {
             let reason = "it is none of sha1, sha256 and sha384";
             Err(invalid_value(alloc, check_words(alloc), text, "--hash <NAME>", reason))
         }
