@@ -39,7 +39,7 @@ impl Model for Words {
 }
 
 impl Words {
-    /// These words, of which the first is the program's name.
+    /// These words, of which the first is the program's name. AllocError where a request for memory is refused.
     pub fn new(alloc: Global, given: Vec<String>) -> Result<Self, AllocError>
         ensures { IfOk result (λ w. w ≡ map string_bytes given.items) }
     {
@@ -51,17 +51,21 @@ impl Words {
 
     /// What they ask for.
     ///
-    /// Where the words are those of a subcommand they are refused only for a value: a name that no
-    /// command has; of `run` an owner value that is not hexadecimal or has too many bytes, or a
-    /// number that is other than decimal digits or above 2^64 - 1, and likewise of `events`; of
-    /// `explain` a number above 2^32 - 1 or other digits than those of its radix, where it is no name
-    /// of a kind; of `check` a hash other than `sha1`, `sha256` and `sha384`, a nonce that is not
-    /// hexadecimal, a list of no registers, a word whose quote is not given (the nonce and the list
-    /// want `--attest`, the hash one of `--quote` and `--attest`), `--secure-boot` beside `--registers`
-    /// or `--quote`, or `--any-state` without `--secure-boot`;
-    /// and of `show` where they have more than one of a buffer, a capture, packets and NV memory, or
-    /// none, a capture with `--reply`, a buffer with `--binary` or `--json`, packets with `--reply` or
-    /// `--binary`, or NV memory with any of these.
+    /// The error is `Help` where they ask for help or for the version, `Memory` where a request for memory is refused,
+    /// and else `Usage`. Where the words are those of a subcommand they are refused only for one of these:
+    ///
+    /// - `show`: more than one of a buffer, a capture, packets and NV memory, or none; a name of `--reply` that no
+    ///   command has; a capture with `--reply`, a buffer with `--binary` or `--json`, packets with `--reply` or
+    ///   `--binary`, or NV memory with any other option.
+    /// - `build`: a name that no command has.
+    /// - `run`: an owner value that is not hexadecimal or has more than 48 bytes; a number that is other than decimal
+    ///   digits or above 2^64 - 1.
+    /// - `explain`: a number above 2^32 - 1 or other digits than those of its radix, where it is no name of a kind or
+    ///   `--decimal` is given.
+    /// - `check`: a hash other than `sha1`, `sha256` and `sha384`; a nonce that is not hexadecimal; a list of no
+    ///   registers; a word whose quote is not given (the nonce and the list want `--attest`, the hash one of `--quote`
+    ///   and `--attest`); `--secure-boot` beside `--registers` or `--quote`; `--any-state` without `--secure-boot`.
+    /// - `events`: a register's number that is other than decimal digits or above 2^64 - 1.
     pub fn task(&self, alloc: Global) -> Result<Task<'_>, Stop>
         ensures ok { IfOk result (λ t. Asks (subcommand_of program_app self.now) t) }
         ensures err { IfErr result (λ stop. Refuses self.now stop) }

@@ -156,7 +156,7 @@ pub extern "C" fn tpm_bench_both_ends(times: u32) -> u32
     times
 }
 
-// The caller after the command, or none where its reply is not opened.
+// Extends register 16 in the session and opens the reply: the caller after it, or none where it isn't opened.
 fn both_ends(
     device: &mut Device,
     caller: Caller,

@@ -140,8 +140,8 @@ impl<'a> Handled<'a> {
         self.handles.as_slice()
     }
 
-    /// Reads the sessions, or answers the authorization area's first fault: INSUFFICIENT, AUTHSIZE, or one of a
-    /// session with the session's number. The parameters are not judged.
+    /// Reads the sessions, or answers the authorization area's first fault: INSUFFICIENT; AUTHSIZE; or INSUFFICIENT,
+    /// VALUE, SIZE or RESERVED_BITS of a session, with its number. The parameters are not judged.
     #[inline(always)]
     pub fn areas(self) -> Result<Areas<'a>, Refusal>
         ensures decodes { HasAreas self.entry result }

@@ -98,7 +98,8 @@ pub fn areas(bytes: &[u8]) -> Result<Areas<'_>, Refusal>
     any_areas(bytes)
 }
 
-/// The command that the bytes spell, all of them, or the response code and the position of their first fault.
+/// The command that the bytes spell, all of them, or the response code and the position of their first fault: those of
+/// `areas`, then those of `decode_params`, further on by the bytes before the parameters.
 pub fn decode_command(bytes: &[u8]) -> Result<Command<'_>, Refusal>
     ensures ok { (c : CommandOf) → (result ≡ Ok c) ↔ Spells command c bytes.now }
     ensures err { (e : RefusalOf) → (result ≡ Err e) ↔ Fault command bytes.now e }

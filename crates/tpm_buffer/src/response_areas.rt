@@ -221,7 +221,9 @@ fn read_areas(code: CommandCode, bytes: &[u8]) -> Result<ReplyAreas<'_>, Refusal
 }
 
 /// The code, the handle and the sessions of the response to a command with this code, and the parameters as they
-/// came, or the first fault beside the parameters.
+/// came, or the first fault beside the parameters: INSUFFICIENT; BAD_TAG; COMMAND_SIZE; VALUE of a code that doesn't go
+/// with its tag; INSUFFICIENT or VALUE of handle 1; SIZE of a parameterSize above what is left, or of bytes left over;
+/// INSUFFICIENT, SIZE or RESERVED_BITS of a session, with its number.
 pub fn reply_areas(code: CommandCode, bytes: &[u8]) -> Result<ReplyAreas<'_>, Refusal>
     ensures ok { (c : ReplyCut) → (result ≡ Ok c) ↔ Spells (reply_cut code) c bytes.now }
     ensures err { (e : RefusalOf) → (result ≡ Err e) ↔ Fault (reply_cut code) bytes.now e }

@@ -207,7 +207,8 @@ fn any_response() -> Response
 }
 
 /// The response to a command with this code that the bytes spell, all of them, or the response code and the position
-/// of their first fault.
+/// of their first fault: those of `reply_areas`, and in the parameters those of `read_reply_params`, or SIZE where
+/// parameterSize has more bytes than they take.
 pub fn decode_response(code: CommandCode, bytes: &[u8]) -> Result<Response, Refusal>
     ensures ok { (r : ResponseOf) → (result ≡ Ok r) ↔ Spells (response code) r bytes.now }
     ensures err { (e : RefusalOf) → (result ≡ Err e) ↔ Fault (response code) bytes.now e }

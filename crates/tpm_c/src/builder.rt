@@ -69,9 +69,9 @@ fn judged_len(len: usize) -> usize
     }
 }
 
-// Joins the parts, and copies into `out` what begins at this place, as many bytes as it has. The answer is the code, and
-// how many bytes are before the parameters; or the first fault before them. It is out of line, so that the joined bytes
-// are off the stack when the parameters are judged. The parts are joined as often as their bytes are looked at.
+// Joins the parts, and copies into `out` what begins at this place, as many bytes as it has. The answer is the code,
+// and how many bytes are before the parameters; or the first fault before them. It is out of line, so that the joined
+// bytes are off the stack when the parameters are judged: the parts are joined as often as their bytes are looked at.
 #[inline(never)]
 fn look(
     parts: &UnjoinedCommand<'_>,

@@ -134,6 +134,7 @@ fn do_fit(count: usize, first: &[u8], second: &[u8], nonce: &[u8]) -> bool
         && nonce.len() <= DIGEST_BYTES
 }
 
+// The Name that these bytes are, which is not too long.
 fn name(bytes: &[u8]) -> Name
     requires { length bytes.now ≤ name_bytes }
     ensures { result ≡ bytes.now }
@@ -144,6 +145,7 @@ fn name(bytes: &[u8]) -> Name
     }
 }
 
+// The nonce that these bytes are, which is not too long.
 fn nonce_of(bytes: &[u8]) -> Nonce
     requires { length bytes.now ≤ digest_bytes }
     ensures { result ≡ bytes.now }

@@ -36,7 +36,7 @@ use Rattle.tpm_device.specs.declared.authorization.EntityHandle.{EntityHandle}
 use Rattle.tpm_device.specs.declared.authorization.EntityHandle.TheVariants as handles
 use Rattle.tpm_device.specs.declared.device.Device.{Device}
 
--- the slots where no session is loaded
+-- three slots, none with a session
 abbrev pub none_loaded : List (Option Session)
 none_loaded = None ∷ None ∷ None ∷ []
 

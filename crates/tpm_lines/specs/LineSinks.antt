@@ -125,7 +125,7 @@ pub record Consumed : Type 0 where
   pub new : Option (List ℕ)
   pub bytes : List ℕ
 
--- No more than so many bytes were read, and up to the last of them, which came in one read, it goes on.
+-- No more than so many bytes were read. Before the last of them, which came in one read, no line had ended the reading.
 pub record ReadsLines (most : ℕ) (Goes : List ℕ → Type 0) (c : Consumed) : Type 0 where
   pub read : Consumes c.old c.new c.bytes
   pub before : List ℕ
@@ -135,7 +135,7 @@ pub record ReadsLines (most : ℕ) (Goes : List ℕ → Type 0) (c : Consumed) :
   pub piece : length last ≤ most_piece
   pub most_read : length before + length last ≤ most
 
--- One byte more was read than there may be, and up to it it goes on.
+-- One byte more was read than there may be, and before that byte no line had ended the reading.
 pub record ReadsOneMore (most : ℕ) (Goes : List ℕ → Type 0) (old new : Option (List ℕ)) : Type 0 where
   pub bytes : List ℕ
   pub more : List ℕ

@@ -44,7 +44,7 @@ impl Answer {
         }
     }
 
-    /// The line of a refusal.
+    /// The line `refused XXX at N`, with the status `Refused`. AllocError where a request for memory is refused.
     pub fn refusal(alloc: Global, refusal: &Refusal) -> Result<Self, AllocError>
         ensures { IfOk result (λ a. (a.status ≡ Refused)
             × (string_bytes a.text ≡ refusal_line refusal.now)) }
@@ -54,7 +54,7 @@ impl Answer {
         Ok(Answer::refused(text))
     }
 
-    /// This text, line feeds and all, with this status.
+    /// This text, line feeds and all, with this status. AllocError where a request for memory is refused.
     pub fn of(alloc: Global, status: Status, text: &str) -> Result<Self, AllocError>
         ensures { IfOk result (λ a. (a.status ≡ status) × (string_bytes a.text ≡ text.now)) }
     {
@@ -62,7 +62,7 @@ impl Answer {
         Ok(Answer { status, text })
     }
 
-    /// That a text is not hexadecimal.
+    /// The line `not hexadecimal`, with the status `Refused`. AllocError where a request for memory is refused.
     pub fn not_hexadecimal(alloc: Global) -> Result<Self, AllocError>
         ensures { IfOk result (λ a. (a.status ≡ Refused)
             × (string_bytes a.text ≡ not_hexadecimal_line)) }
@@ -70,7 +70,8 @@ impl Answer {
         Answer::of(alloc, Status::Refused, "not hexadecimal\n")
     }
 
-    /// Writes the text, and answers the status.
+    /// Writes the text, and answers the status. Where the writer fails the answer is `Write`, and what was written
+    /// before is then left open.
     pub fn print<W: Write>(&self, out: &mut W) -> Result<Status, ToolFault>
         ensures ok { IfOk result (λ status. (status ≡ self.now.status)
             × Appends (W.contents out.old) (W.contents out.new) (string_bytes self.now.text)) }
@@ -81,7 +82,8 @@ impl Answer {
     }
 }
 
-/// Writes a text. No memory is asked for.
+/// Writes a text. Where the writer fails the answer is `Write`, and what was written before is then left open. No
+/// memory is asked for.
 pub fn write<W: Write>(out: &mut W, text: &String) -> Result<(), ToolFault>
     ensures ok { OnOk result (Appends (W.contents out.old) (W.contents out.new)
         (string_bytes text.now)) }

@@ -9,7 +9,8 @@ use hex::FromHexError;
 use std::alloc::{AllocError, Global};
 use std::convert::AsSlice;
 
-/// The bytes of hexadecimal digits, or `None` for any other text.
+/// The bytes of hexadecimal digits, two to a byte and in either case, or `None` for any other text. AllocError where a
+/// request for memory is refused.
 pub fn decoded<T: AsSlice<u8> + Drop>(alloc: Global, text: T) -> Result<Option<Vec<u8>>, AllocError>
     ensures { IfOk result (λ bytes. option_map (λ v. v.items) bytes ≡ bytes_in (T.items text)) }
 {
@@ -20,7 +21,8 @@ pub fn decoded<T: AsSlice<u8> + Drop>(alloc: Global, text: T) -> Result<Option<V
     }
 }
 
-/// Bytes in hexadecimal, or `-` for none.
+/// Bytes in lower-case hexadecimal digits, two to a byte, or `-` for none. AllocError where a request for memory is
+/// refused.
 pub fn shown_bytes(alloc: Global, bytes: &[u8]) -> Result<String, AllocError>
     ensures { IfOk result (λ text. string_bytes text ≡ bytes_text bytes.now) }
 {
@@ -30,7 +32,9 @@ pub fn shown_bytes(alloc: Global, bytes: &[u8]) -> Result<String, AllocError>
     hex::encode(alloc, bytes)
 }
 
-/// Adds bytes in hexadecimal.
+/// Adds bytes in lower-case hexadecimal digits, two to a byte.
+///
+/// Where a request for memory is refused what was added is left open.
 pub fn push_hex(alloc: Global, text: &mut String, bytes: &[u8]) -> Pushed
     ensures { OnOk result (string_bytes text.new
         ≡ string_bytes text.old ++ encode_lower bytes.now) }
@@ -39,7 +43,10 @@ pub fn push_hex(alloc: Global, text: &mut String, bytes: &[u8]) -> Pushed
     write!(text, "{bytes}")
 }
 
-/// Adds bytes in hexadecimal as a member of an object of JSON, behind another.
+/// Adds bytes in lower-case hexadecimal digits under a name, as a member of an object of JSON behind another. The name
+/// isn't escaped.
+///
+/// Where a request for memory is refused what was added is left open.
 #[tactic(auto, unfolding(crate::specs::Text::hex_member))]
 pub fn push_hex_member(alloc: Global, text: &mut String, name: &str, bytes: &[u8]) -> Pushed
     ensures { OnOk result (string_bytes text.new

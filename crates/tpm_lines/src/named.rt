@@ -18,7 +18,7 @@ macro_rules! names {
     };
 }
 
-/// What the table has of this number.
+/// What the table has of this number, or none where it has nothing.
 pub fn look_up(table: &'static [Named], number: u32) -> Option<&'static Named>
     ensures { option_map (λ n. named_as n.now) result ≡ named_in (map named_as table.now) number }
 {

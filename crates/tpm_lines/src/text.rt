@@ -7,10 +7,12 @@ use crate::hexadecimal::shown_bytes;
 use std::alloc::{AllocError, Global};
 use tpm_wire::Refusal;
 
-/// What adding to a text answers.
+/// What adding to a text answers: AllocError where a request for memory is refused.
 pub type Pushed = Result<(), AllocError>;
 
 /// Adds what stands before the entry of a list with this number, from 1: a comma, where it isn't the first.
+///
+/// Where a request for memory is refused what was added is left open.
 pub fn push_comma(text: &mut String, i: usize) -> Pushed
     ensures { OnOk result (string_bytes text.new ≡ string_bytes text.old ++ comma i) }
 {
@@ -20,7 +22,10 @@ pub fn push_comma(text: &mut String, i: usize) -> Pushed
     text.push_str(",")
 }
 
-/// Adds the line of a refusal.
+/// Adds the line of a refusal: `refused XXX at N`, its code in three hexadecimal digits or more, and how many bytes
+/// precede the fault.
+///
+/// Where a request for memory is refused what was added is left open.
 #[tactic(auto, using(crate::proofs::Padded::padded), unfolding(crate::specs::Text::refusal_line))]
 pub fn push_refusal(text: &mut String, refusal: &Refusal) -> Pushed
     ensures { OnOk result (string_bytes text.new
@@ -31,6 +36,8 @@ pub fn push_refusal(text: &mut String, refusal: &Refusal) -> Pushed
 }
 
 /// Adds a line of bytes in lower-case hexadecimal digits, two to a byte, and of no bytes `-`.
+///
+/// Where a request for memory is refused what was added is left open.
 #[tactic(auto, unfolding(crate::specs::Text::bytes_line))]
 pub fn push_bytes(alloc: Global, text: &mut String, bytes: &[u8]) -> Pushed
     ensures { OnOk result (string_bytes text.new ≡ string_bytes text.old ++ bytes_line bytes.now) }
@@ -40,6 +47,8 @@ pub fn push_bytes(alloc: Global, text: &mut String, bytes: &[u8]) -> Pushed
 }
 
 /// Adds the line of the parameters: `parameters`, and their bytes in lower-case hexadecimal digits, or `-`.
+///
+/// Where a request for memory is refused what was added is left open.
 #[tactic(auto, unfolding(crate::specs::Text::parameters_line))]
 pub fn push_parameters(alloc: Global, text: &mut String, bytes: &[u8]) -> Pushed
     ensures { OnOk result (string_bytes text.new

@@ -212,7 +212,8 @@ fn savefile_traffic(alloc: Global, file: &[u8]) -> Result<Traffic, AllocError>
 ///
 /// The numbers of a file of libpcap are in either order, and its times in microseconds or nanoseconds. Its packets are
 /// of IPv4 or IPv6 (RFC 791, RFC 8200) over Ethernet, over Linux's cooked links, over a loopback or over nothing. Those
-/// of other protocols and ports are passed over, and so are headers of IPv6 between its own and TCP's.
+/// of other protocols and ports are passed over. A packet of IPv6 with another header than a fragment's between its own
+/// and TCP's, a frame with a VLAN tag or a malformed TCP header is passed over too, and is not named.
 ///
 /// A file of pcapng begins with a Section Header Block, whose Byte-Order Magic is in either order. Of its blocks those
 /// count that begin a section, describe an interface, or have a packet, Enhanced or Simple. Others are passed over. The
@@ -226,8 +227,9 @@ fn savefile_traffic(alloc: Global, file: &[u8]) -> Result<Traffic, AllocError>
 /// bytes. One of swtpm is a frame alone, and begins with its tag. One connection is told at a time: where a segment of
 /// another comes, that one begins.
 ///
-/// Each packet of the port that is not told is named with its reason, and so are those that are too short to tell their
-/// port, and fragments. The segments behind it are told on, from the next message that begins with one.
+/// Each other packet of the port that is not told is named with its reason, and so are those of which too few bytes
+/// were captured to tell their port, and fragments of TCP. The segments behind it are told on, from the next message
+/// that begins with one.
 ///
 /// Where the file ends in a packet or a block, or a block is malformed, the next packet is named, and is the last. A
 /// block is malformed where its length is below 12 or no multiple of four, or isn't repeated at its end. So is one in

@@ -125,7 +125,7 @@ pub(crate) fn front(bytes: &[u8], most: usize) -> &[u8]
     }
 }
 
-/// What is behind so many bytes, if anything.
+/// All but the first `count` bytes; none where there are fewer.
 pub(crate) fn behind(bytes: &[u8], count: usize) -> &[u8]
     ensures { result.now ≡ drop count bytes.now }
 {

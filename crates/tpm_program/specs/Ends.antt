@@ -39,14 +39,17 @@ Prints s text = Appends s.out s.out-behind text × (s.errors-behind ≡ s.errors
 abbrev pub Tells : Streams → (told : Bool) → List ℕ → Type 0
 Tells s told text = told ≡ true → Appends s.errors s.errors-behind text
 
+-- the line of standard error that tells a fault
 abbrev pub fault_line : Fault → List ℕ
 fault_line fault = fault_text fault ++ codes "\n"
 
 -- ---- words that ask for a task
 
+-- These words ask for this task.
 abbrev pub AskFor : List Text → Task → Type 0
 AskFor words task = Asks (subcommand_of program_app words) task
 
+-- The task has an answer, which is on standard output, with its status; or it fails, and the status is 3.
 abbrev pub EndsFor : Offered → Task → Streams → Ended → Type 0
 EndsFor offered task s ended =
     ((status : Status) × (text : List ℕ) × Performs offered task status text
@@ -55,6 +58,8 @@ EndsFor offered task s ended =
 
 -- ---- words that ask for none
 
+-- Help is on standard output, and the status is 0, or 3 where it isn't written; a usage fault is on standard error, and
+-- the status is 2; and where memory is wanted it is 3.
 abbrev pub EndsBy : Stop → Streams → Ended → Type 0
 EndsBy (Help text) s ended = ((ended.status ≡ 0) × Prints s (string_bytes text))
     ⊎ ((ended.status ≡ 3) × Tells s ended.told (fault_line (Tool faults.Write)))
@@ -64,6 +69,7 @@ EndsBy Memory s ended =
 
 -- ---- any words
 
+-- A run with these words ends as the task does that they ask for, or by why they are refused.
 abbrev pub Ends : Offered → List Text → Streams → Ended → Type 0
 Ends offered words s ended =
     ((task : Task) × AskFor words task × EndsFor offered task s ended)

@@ -19,6 +19,7 @@ use Rattle.tpm_program.specs.Performs.{is_coming}
 
 -- ---- files
 
+-- the path, where there is one
 abbrev pub path_if : Option (Bor (List ℕ)) → List (List ℕ)
 path_if None = []
 path_if (Some path) = path.now ∷ []
@@ -59,6 +60,7 @@ IsUnreadOf offered (file ∷ files) path cause =
 
 -- ---- standard input
 
+-- The task reads standard input.
 abbrev pub ReadsInput : Task → Type 0
 ReadsInput (ShowCapture None binary fields json) = Unit {0}
 ReadsInput (Run owner greatest) = Unit {0}
@@ -66,6 +68,7 @@ ReadsInput _ = ⊥
 
 -- ---- more than is taken
 
+-- The capture, the script or the list of registers has more bytes than are taken.
 abbrev pub IsTooLong : Offered → Task → Type 0
 IsTooLong offered (ShowCapture file binary fields json) =
     OfPlace offered file (λ capture. (rest : Option (List ℕ)) × ReadsTooMuchCapture capture rest)
@@ -78,6 +81,8 @@ IsTooLong offered _ = ⊥
 
 -- ---- each task
 
+-- A file of the task is not read, a read of standard input failed, an input is too long, memory is wanted, or the
+-- answer isn't written.
 abbrev pub Fails : Offered → Task → Fault → Type 0
 Fails offered task (File path cause) = IsUnreadOf offered (files_of task) path.now cause
 Fails offered task (Tool Read) = ReadsInput task
@@ -92,6 +97,7 @@ abbrev pub IsNotOpened : Offered → (path : List ℕ) → Fault → Type 0
 IsNotOpened offered path (File at cause) = (at.now ≡ path) × offered.opens path (Err cause)
 IsNotOpened offered path (Tool fault) = ⊥
 
+-- There is a path, and the file at it is not opened.
 abbrev pub IsNotOpenedIf : Offered → (path : Option (Bor (List ℕ))) → Fault → Type 0
 IsNotOpenedIf offered None fault = ⊥
 IsNotOpenedIf offered (Some path) fault = IsNotOpened offered path.now fault
@@ -120,6 +126,7 @@ IsNotReadOr offered path (Tool Memory) = Unit {0}
 IsNotReadOr offered path (Tool Write) = Unit {0}
 IsNotReadOr offered path (Tool _) = ⊥
 
+-- There is a path, and the file at it is not opened or not read, or memory is wanted, or the answer isn't written.
 abbrev pub FailsAtIf : Offered → (path : Option (Bor (List ℕ))) → Fault → Type 0
 FailsAtIf offered None fault = ⊥
 FailsAtIf offered (Some path) fault = FailsAt offered path.now fault

@@ -14,7 +14,7 @@ pub trait Inputs {
     /// What is known of them.
     ghost offers: { Self → Offered };
 
-    /// The file at a path, opened for reading.
+    /// The file at a path, opened for reading, or why it is not opened.
     fn open(&self, path: &str) -> Result<Self::Source, Cause>
         ensures opened { (offers self.now).opens path.now (coming_of Self.Source.coming result) }
         ensures fresh { IfOk result (λ source. Self.Source.failed source ≡ 0) };

@@ -149,9 +149,9 @@ impl LineSink for Run {
 /// printed likewise. `power` cycles the device's power and is printed itself. The empty line is
 /// skipped, and so is one that begins with `#`. The nonce of the k-th command, from 1, is the number k
 /// in sixteen bytes, most significant first, four times. Any other line, and one of more than 8,192
-/// digits or characters, ends the script: `line N: not hexadecimal` is printed, where N counts every
-/// line from 1, and the status is `Refused`; a command that the device refuses is no reason for that.
-/// A line ends with a line feed alone, and the last may do without.
+/// bytes, a comment among them, ends the script: `line N: not hexadecimal` is printed, where N counts
+/// every line from 1, and the status is `Refused`; a command that the device refuses is no reason for
+/// that. A line ends with a line feed alone, and the last may do without.
 ///
 /// What a read gave is answered before the next read, and no more than one line and one piece is held.
 /// So whatever is answered, what was read behind the end of a refused line came in one read of at most

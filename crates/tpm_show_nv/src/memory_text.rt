@@ -49,6 +49,7 @@ fn push_hash(text: &mut String, hash: Alg) -> Pushed
     write!(text, " hash {hash}")
 }
 
+// Adds TPMA_NV (Part 2, 13.4) in eight hexadecimal digits.
 #[tactic(auto, unfolding(crate::specs::MemoryText::attributes_text))]
 fn push_attributes(text: &mut String, attributes: u32) -> Pushed
     ensures { OnOk result (string_bytes text.new

@@ -342,7 +342,7 @@ impl Counters {
         Ok(())
     }
 
-    /// Undefines an index, else HANDLE (Part 3, 31.4).
+    /// Undefines an index (Part 3, 31.4). HANDLE where it is not defined.
     pub fn undefine(&mut self, index: NvIndex) -> Result<(), u32>
         ensures answer { result ≡ check_undefine (counter_in self.old.counters index) }
         ensures undefined { OnOk result (self.new ≡ nv_by (bodies.NvUndefineSpace index) self.old) }

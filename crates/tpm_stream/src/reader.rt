@@ -44,6 +44,9 @@ impl From<Refusal> for ReadFault {
 /// The next frame of the input, or none at its end. No byte behind the frame is read, and where there is no frame the
 /// bytes that were read are lost. A failed read isn't tried again, and none comes behind one that met the end.
 ///
+/// The error is `Device` where a read failed, `EndInside` where the input ends in a frame, and `Broken` where a frame
+/// states a size outside of 10 to 4,096.
+///
 /// Each read that isn't the last gives at least one byte, so that there are at most 4,096.
 pub fn read_frame<R: Source>(source: &mut R) -> Result<Option<Buffer>, ReadFault>
     ensures failures { CountsDevice (R.failed source.old) (R.failed source.new) result }

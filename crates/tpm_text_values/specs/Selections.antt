@@ -34,7 +34,7 @@ name_in part = before_first (λ b. b == 58) part
 abbrev pub registers_in : List ℕ → List ℕ
 registers_in part = after_first (λ b. b == 58) part
 
--- the name of a bank, a colon, and registers of the bank
+-- The name of a bank, a colon, and registers of the bank: without a colon the registers are empty, which is no list.
 abbrev pub is_part : List ℕ → Bool
 is_part part = list_any (λ bank. bytes_eq (name_in part) (alg_name bank)) all_algs && are_registers (registers_in part)
 

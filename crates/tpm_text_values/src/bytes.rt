@@ -9,7 +9,7 @@ use std::alloc::{AllocError, Global};
 /// Whether a text is hexadecimal: two digits to a byte, in either letter case, and nothing else. No
 /// digits are no bytes.
 ///
-/// Memory is asked for all bytes of the text.
+/// Memory is asked for all bytes of the text: AllocError where that request is refused.
 pub fn is_hexadecimal(alloc: Global, text: &str) -> Result<bool, AllocError>
     ensures { IfOk result (λ is. is ≡ is_some (bytes_in text.now)) }
 {

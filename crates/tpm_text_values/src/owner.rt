@@ -21,8 +21,9 @@ pub enum OwnerFault {
 /// The owner's authorization value (TPM2B_AUTH; Part 2, 10.4.5) whose bytes these hexadecimal
 /// digits are, in either letter case; no digits are the empty value.
 ///
-/// A text that is not hexadecimal is refused as such whatever its length. Memory is asked for all
-/// bytes of the text, before they are counted.
+/// A text that is not hexadecimal is `NotHexadecimal` whatever its length, and a value of more than 48
+/// bytes is `TooLong`. Memory is asked for all bytes of the text, before they are counted:
+/// `OutOfMemory` where that request is refused.
 pub fn owner_value(alloc: Global, text: &str) -> Result<AuthValue, OwnerFault>
     ensures { MatchResult result
         (λ value. IsOwner text.now value) (λ fault. IsOwnerFault text.now fault) }

@@ -86,7 +86,7 @@ fn part_names(part: &str, bank: Alg, register: u32) -> bool
     }
 }
 
-// Whether a part of the text is the name of a bank and registers.
+// Whether a part of the text is the name of a bank, a colon and registers.
 fn is_part(part: &str) -> bool
     ensures { result ≡ is_part_of part.now }
 {

@@ -46,7 +46,8 @@ impl<'a, const N: usize> Lent<'a, N> {
         self.bytes
     }
 
-    /// The bytes that begin here: their number, at most `N`, else SIZE, and the bytes.
+    /// The bytes that begin here: their number in two bytes, at most `N`, else SIZE, and the bytes. INSUFFICIENT where
+    /// fewer are left in the area.
     #[tactic(auto, unfolding(tpm_wire::specs::Structures::sized_bytes))]
     pub fn take(cursor: &mut Cursor<'a>) -> Result<Self, Refusal>
         ensures reads { Takes (sized_bytes N) cursor.old cursor.new result }

@@ -10,7 +10,7 @@ abbrev pub CountsFailures : {X E : Type 0} → ℕ → ℕ → Result X E → Ty
 CountsFailures old new (Ok x) = new ≡ old
 CountsFailures old new (Err e) = new ≡ one_more old
 
--- The last read of a source is the one that failed, and none came behind it.
+-- The source says that its last read failed.
 abbrev pub IsWhereItFailed : Bool → Type 0
 IsWhereItFailed stopped = stopped ≡ true
 

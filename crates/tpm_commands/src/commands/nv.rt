@@ -164,8 +164,8 @@ pub(crate) const NV_READ: Row = Row {
     needs_authorization: true,
 };
 
-/// Reads the size and the offset of TPM2_NV_Read in the place of others, or answers their first fault. What stands
-/// there then is not said.
+/// Reads the size and the offset of TPM2_NV_Read in the place of others, or answers their first fault: INSUFFICIENT
+/// with the parameter's number. What stands there then is not said.
 #[tactic(auto, unfolding(crate::specs::Parameters::nv_read))]
 pub fn read_nv_read(
     cursor: &mut Cursor<'_>,

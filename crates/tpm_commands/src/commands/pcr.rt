@@ -26,8 +26,8 @@ pub(crate) const PCR_EXTEND: Row = Row {
     needs_authorization: true,
 };
 
-/// Reads the digests of TPM2_PCR_Extend in the place of others, or answers their first fault. What stands there then is
-/// not said.
+/// Reads the digests of TPM2_PCR_Extend in the place of others, or answers their first fault: INSUFFICIENT, SIZE or
+/// HASH with the parameter's number. What stands there then is not said.
 #[tactic(auto, unfolding(crate::specs::Parameters::pcr_extend))]
 pub fn read_pcr_extend(cursor: &mut Cursor<'_>, digests: &mut DigestValues) -> Result<(), Refusal>
     ensures reads { TakesNumbered (λ _. params.PcrExtend digests.new) pcr_extend

@@ -20,8 +20,8 @@ pub(crate) const STARTUP: Row = Row {
     needs_authorization: false,
 };
 
-/// Reads the start-up type of TPM2_Startup in the place of another, or answers its first fault. What stands there then
-/// is not said.
+/// Reads the start-up type of TPM2_Startup in the place of another, or answers its first fault: INSUFFICIENT or VALUE
+/// with the parameter's number. What stands there then is not said.
 #[tactic(auto, unfolding(crate::specs::Parameters::startup))]
 pub fn read_startup(cursor: &mut Cursor<'_>, startup_type: &mut StartupType) -> Result<(), Refusal>
     ensures reads { TakesNumbered (λ _. params.Startup startup_type.new) startup
