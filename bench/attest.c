@@ -1,6 +1,6 @@
-// Quotes checked a second by tpm_log_check_attest: each thread has a log and a quote of its own, decodes the quote, replays the log and
-// compares. And how much of its stack a thread takes for it. The words: the quote, the nonce and the TPML_PCR_SELECTION that is
-// required in hexadecimal, and logs.
+// Quotes checked a second by tpm_log_check_attest: each thread has a log and a quote of its own, decodes the quote,
+// replays the log and compares. And how much of its stack a thread takes for it. The words: the quote, the nonce and
+// the TPML_PCR_SELECTION that is required in hexadecimal, and logs.
 #define _GNU_SOURCE
 #include <pthread.h>
 #include <stdint.h>
@@ -75,8 +75,8 @@ static pthread_barrier_t begin;
 
 static uint32_t check_once(const struct checker *c) {
     struct tpm_attest_fault fault;
-    return tpm_log_check_attest(c->log.at, c->log.len, c->quote.at, c->quote.len, TPM_ALG_SHA256, c->nonce.at, c->nonce.len,
-                                c->required.at, c->required.len, &fault);
+    return tpm_log_check_attest(c->log.at, c->log.len, c->quote.at, c->quote.len, TPM_ALG_SHA256, c->nonce.at,
+                                c->nonce.len, c->required.at, c->required.len, &fault);
 }
 
 static void *check_for_a_time(void *argument) {
@@ -124,8 +124,10 @@ static size_t depth(struct checker *checker) {
     size_t at = 0;
     want(stack != MAP_FAILED, "out of memory");
     memset(stack, PAINT, STACK);
-    want(pthread_attr_init(&attributes) == 0 && pthread_attr_setstack(&attributes, stack, STACK) == 0, "no stack for a thread");
-    want(pthread_create(&thread, &attributes, check_alone, checker) == 0 && pthread_join(thread, NULL) == 0, "no thread");
+    want(pthread_attr_init(&attributes) == 0 && pthread_attr_setstack(&attributes, stack, STACK) == 0,
+         "no stack for a thread");
+    want(pthread_create(&thread, &attributes, check_alone, checker) == 0 && pthread_join(thread, NULL) == 0,
+         "no thread");
     while (at < STACK && stack[at] == PAINT)
         at++;
     pthread_attr_destroy(&attributes);
@@ -137,9 +139,13 @@ int main(int argc, char **argv) {
     static const unsigned counts[] = {1, 2, 4};
     enum { COUNTS = sizeof counts / sizeof counts[0] };
     want(argc > 4, "the words are a quote, a nonce, a selection, and logs");
-    struct checker first = {.quote = read_file(argv[1]), .nonce = read_hex(argv[2]), .required = read_hex(argv[3]), .seconds = ROUND_SECONDS};
+    struct checker first = {.quote = read_file(argv[1]),
+                            .nonce = read_hex(argv[2]),
+                            .required = read_hex(argv[3]),
+                            .seconds = ROUND_SECONDS};
 
-    printf("| log, bytes | 1 thread, quotes a second | 2 threads | 4 threads | a quote by 1 thread, µs | MB a second by 1 thread |\n|---|---|---|---|---|---|\n");
+    printf("| log, bytes | 1 thread, quotes a second | 2 threads | 4 threads | a quote by 1 thread, µs | MB a second "
+           "by 1 thread |\n|---|---|---|---|---|---|\n");
     for (int k = 4; k < argc; k++) {
         struct checker checkers[THREADS];
         double most[COUNTS] = {0};
@@ -155,7 +161,8 @@ int main(int argc, char **argv) {
                 double found = rate(checkers, counts[i]);
                 most[i] = found > most[i] ? found : most[i];
             }
-        printf("| %zu | %.0f | %.0f | %.0f | %.1f | %.0f |\n", first.log.len, most[0], most[1], most[2], 1e6 / most[0], most[0] * (double)first.log.len / 1e6);
+        printf("| %zu | %.0f | %.0f | %.0f | %.1f | %.0f |\n", first.log.len, most[0], most[1], most[2], 1e6 / most[0],
+               most[0] * (double)first.log.len / 1e6);
         for (unsigned i = 0; i < THREADS; i++)
             free(checkers[i].log.at), free(checkers[i].quote.at);
     }
@@ -166,7 +173,8 @@ int main(int argc, char **argv) {
     struct checker idle = first;
     idle.seconds = 0;
     size_t without = depth(&idle);
-    size_t buffers = first.log.len + first.quote.len + first.nonce.len + first.required.len + sizeof(struct tpm_attest_fault);
+    size_t buffers =
+        first.log.len + first.quote.len + first.nonce.len + first.required.len + sizeof(struct tpm_attest_fault);
     printf("\n| a thread | bytes |\n|---|---|\n");
     printf("| the stack of a check | %zu |\n", whole - without);
     printf("| its buffers: the log, the quote, the nonce, the selection and the fault | %zu |\n", buffers);

@@ -7,14 +7,17 @@
 // ---- the library (crates/tpm_bench; a slice is a pointer and a length)
 
 size_t tpm_bench_hash(uint16_t alg, const uint8_t *message, size_t message_len, uint8_t *out, size_t out_len);
-size_t tpm_bench_hmac(uint16_t alg, const uint8_t *key, size_t key_len, const uint8_t *text, size_t text_len, uint8_t *out, size_t out_len);
+size_t tpm_bench_hmac(uint16_t alg, const uint8_t *key, size_t key_len, const uint8_t *text, size_t text_len,
+                      uint8_t *out, size_t out_len);
 uint32_t tpm_bench_same(const uint8_t *a, size_t a_len, const uint8_t *b, size_t b_len, uint32_t times);
-uint32_t tpm_bench_session_hashes(const uint8_t *key, size_t key_len, const uint8_t *message, size_t message_len, const uint8_t *text, size_t text_len, uint32_t times);
+uint32_t tpm_bench_session_hashes(const uint8_t *key, size_t key_len, const uint8_t *message, size_t message_len,
+                                  const uint8_t *text, size_t text_len, uint32_t times);
 uint32_t tpm_bench_decode_command(const uint8_t *bytes, size_t len);
 uint32_t tpm_bench_decode_pcr_read_reply(const uint8_t *bytes, size_t len);
 size_t tpm_bench_encode_command(const uint8_t *bytes, size_t len, uint32_t times, uint8_t *out, size_t out_len);
 size_t tpm_bench_push_frames(const uint8_t *stream, size_t len, size_t most, uint8_t *out, size_t out_len);
-size_t tpm_bench_execute(const uint8_t *prepare, size_t prepare_len, const uint8_t *first, size_t first_len, const uint8_t *second, size_t second_len, uint32_t times, uint8_t *out, size_t out_len);
+size_t tpm_bench_execute(const uint8_t *prepare, size_t prepare_len, const uint8_t *first, size_t first_len,
+                         const uint8_t *second, size_t second_len, uint32_t times, uint8_t *out, size_t out_len);
 size_t tpm_bench_start(const uint8_t *startup, size_t len, uint32_t times, uint8_t *out, size_t out_len);
 uint32_t tpm_bench_authorize(const uint8_t *bytes, size_t len, uint32_t times);
 uint32_t tpm_bench_seal(uint32_t times);
@@ -46,7 +49,8 @@ static void make_stream(void) {
         size_t size = i % 100 == 99 ? 4096 : frame_sizes[i % SIZES];
         uint8_t *frame = stream + stream_len;
         want(stream_len + size <= sizeof stream, "the length of the stream");
-        frame[0] = 0x80, frame[1] = 0x01, frame[2] = 0, frame[3] = 0, frame[4] = (uint8_t)(size >> 8), frame[5] = (uint8_t)size;
+        frame[0] = 0x80, frame[1] = 0x01, frame[2] = 0, frame[3] = 0, frame[4] = (uint8_t)(size >> 8),
+        frame[5] = (uint8_t)size;
         for (size_t k = 6; k < size; k++)
             frame[k] = (uint8_t)(i + k);
         stream_len += size;
@@ -65,14 +69,16 @@ static void make_ready(void) {
     make_stream();
 }
 
-// ---- work: each function does it once, and answers how many bytes it wrote to out. Its argument is how many bytes of the
-// message are worked on, which buffer, or how many bytes a piece of the stream has.
+// ---- work: each function does it once, and answers how many bytes it wrote to out. Its argument is how many bytes of
+// the message are worked on, which buffer, or how many bytes a piece of the stream has.
 
 static size_t hash_sha1(size_t len, uint8_t *out) { return tpm_bench_hash(SHA1_ALG, message, len, out, OUT); }
 static size_t hash_sha256(size_t len, uint8_t *out) { return tpm_bench_hash(SHA256_ALG, message, len, out, OUT); }
 static size_t hash_sha384(size_t len, uint8_t *out) { return tpm_bench_hash(SHA384_ALG, message, len, out, OUT); }
 static size_t hmac_sha1(size_t len, uint8_t *out) { return tpm_bench_hmac(SHA1_ALG, key, KEY, message, len, out, OUT); }
-static size_t hmac_sha256(size_t len, uint8_t *out) { return tpm_bench_hmac(SHA256_ALG, key, KEY, message, len, out, OUT); }
+static size_t hmac_sha256(size_t len, uint8_t *out) {
+    return tpm_bench_hmac(SHA256_ALG, key, KEY, message, len, out, OUT);
+}
 
 static size_t libcrypto_sha1(size_t len, uint8_t *out) {
     SHA_CTX hash;
@@ -81,12 +87,15 @@ static size_t libcrypto_sha1(size_t len, uint8_t *out) {
 
 static size_t libcrypto_sha384(size_t len, uint8_t *out) {
     SHA512_CTX hash;
-    return SHA384_Init(&hash) && SHA384_Update(&hash, message, len) && SHA384_Final(out, &hash) ? SHA384_DIGEST_LENGTH : 0;
+    return SHA384_Init(&hash) && SHA384_Update(&hash, message, len) && SHA384_Final(out, &hash) ? SHA384_DIGEST_LENGTH
+                                                                                                : 0;
 }
 
 static size_t libcrypto_hmac(const EVP_MD *md, size_t len, uint8_t *out) {
     unsigned written = 0;
-    return HMAC_Init_ex(macs, key, KEY, md, NULL) && HMAC_Update(macs, message, len) && HMAC_Final(macs, out, &written) ? written : 0;
+    return HMAC_Init_ex(macs, key, KEY, md, NULL) && HMAC_Update(macs, message, len) && HMAC_Final(macs, out, &written)
+               ? written
+               : 0;
 }
 
 static size_t libcrypto_hmac_sha1(size_t len, uint8_t *out) { return libcrypto_hmac(EVP_sha1(), len, out); }
@@ -107,8 +116,8 @@ static size_t encode_command(size_t which, uint8_t *out) {
     return tpm_bench_encode_command(buffers[which].bytes, buffers[which].len, TIMES, out, OUT);
 }
 
-// What a framer cannot do without, in C: the size of a frame is read, and not checked; pieces are copied into a room, and each frame
-// out of it.
+// What a framer cannot do without, in C: the size of a frame is read, and not checked; pieces are copied into a room,
+// and each frame out of it.
 static size_t stated(const uint8_t *frame) { return (size_t)frame[4] << 8 | frame[5]; }
 
 static size_t push_in_c(size_t most, uint8_t *out) {
@@ -156,9 +165,15 @@ static size_t read_in_c(size_t most, uint8_t *out) {
     return written;
 }
 
-static size_t push_frames(size_t most, uint8_t *out) { return tpm_bench_push_frames(stream, stream_len, most, out, OUT); }
-static size_t read_frames(size_t most, uint8_t *out) { return tpm_bench_read_frames(stream, stream_len, most, out, OUT); }
-static size_t read_frames_into(size_t most, uint8_t *out) { return tpm_bench_read_frames_into(stream, stream_len, most, out, OUT); }
+static size_t push_frames(size_t most, uint8_t *out) {
+    return tpm_bench_push_frames(stream, stream_len, most, out, OUT);
+}
+static size_t read_frames(size_t most, uint8_t *out) {
+    return tpm_bench_read_frames(stream, stream_len, most, out, OUT);
+}
+static size_t read_frames_into(size_t most, uint8_t *out) {
+    return tpm_bench_read_frames_into(stream, stream_len, most, out, OUT);
+}
 
 // The answer has the response code in its seventh to tenth byte.
 static size_t execute(size_t which, uint8_t *out) {
@@ -185,7 +200,8 @@ static size_t decode_through_c(size_t which, uint8_t *out) {
     return tpm_command_decode(buffers[which].bytes, buffers[which].len, &refusal) == TPM_DONE;
 }
 
-// ---- the caller's end of a session for C, bound to the owner, and a device. The nonces are the same each time, as in crates/tpm_bench.
+// ---- the caller's end of a session for C, bound to the owner, and a device. The nonces are the same each time, as in
+// crates/tpm_bench.
 
 static max_align_t bound_room[1024], caller_room[64];
 static uint8_t sealed[TPM_BUFFER_BYTES], opened[TPM_BUFFER_BYTES];
@@ -207,7 +223,8 @@ static void hold_session(void) {
     transmit_through_c(startup, sizeof startup);
     transmit_through_c(start->bytes, start->len);
     tpm_caller_init(bound_caller());
-    want(tpm_caller_start(bound_caller(), start->bytes, start->len, opened, opened_len, none, 0) == 1, "a session for C");
+    want(tpm_caller_start(bound_caller(), start->bytes, start->len, opened, opened_len, none, 0) == 1,
+         "a session for C");
 }
 
 static size_t seal_once(void) {
@@ -215,8 +232,8 @@ static size_t seal_once(void) {
     static uint8_t nonce[NONCE];
     const struct buffer *plain = &buffers[PCR_EXTEND_PLAIN];
     nonce[0] = 0xC1;
-    return tpm_caller_seal(bound_caller(), plain->bytes, plain->len, register_16, 4, register_16, 0, none, 0, nonce, NONCE, 1, sealed,
-                           sizeof sealed);
+    return tpm_caller_seal(bound_caller(), plain->bytes, plain->len, register_16, 4, register_16, 0, none, 0, nonce,
+                           NONCE, 1, sealed, sizeof sealed);
 }
 
 static size_t seal_through_c(size_t argument, uint8_t *out) {
@@ -260,14 +277,16 @@ static size_t kept_len;
 
 static struct tpm_device *eight_counters(void) {
     static const uint8_t startup[] = {0x80, 0x01, 0, 0, 0, 12, 0, 0, 0x01, 0x44, 0, 0}, nonce[TPM_NONCE_BYTES];
-    static uint8_t define[] = {0x80, 0x02, 0,    0, 0, 45, 0, 0, 0x01, 0x2A, 0x40, 0,    0, 1, 0,    0, 0, 9, 0x40, 0, 0, 9, 0,
-                               0,    0,    0,    0, 0, 0,  0, 14, 1,   0x80, 0,    0,    0, 0x0B, 2, 2, 0, 0x12, 0, 0, 0, 8};
-    static uint8_t increment[] = {0x80, 0x02, 0, 0, 0, 31, 0, 0, 0x01, 0x34, 0x40, 0, 0, 1, 1, 0x80, 0, 0, 0, 0, 0, 9, 0x40, 0, 0, 9, 0, 0, 0, 0, 0};
+    static uint8_t define[] = {0x80, 0x02, 0, 0, 0, 45, 0, 0, 0x01, 0x2A, 0x40, 0, 0, 1, 0, 0, 0, 9, 0x40, 0, 0, 9, 0,
+                               0, 0, 0, 0, 0, 0, 0, 14, 1, 0x80, 0, 0, 0, 0x0B, 2, 2, 0, 0x12, 0, 0, 0, 8};
+    static uint8_t increment[] = {0x80, 0x02, 0, 0, 0, 31, 0, 0, 0x01, 0x34, 0x40, 0, 0, 1, 1, 0x80, 0, 0, 0, 0, 0, 9,
+                                  0x40, 0, 0, 9, 0, 0, 0, 0, 0};
     struct tpm_device *device = (struct tpm_device *)kept_room;
     uint8_t out[TPM_BUFFER_BYTES];
     if (kept_len > 0)
         return device;
-    want(tpm_device_size() <= sizeof kept_room && tpm_device_align() <= _Alignof(max_align_t), "the room of a kept device");
+    want(tpm_device_size() <= sizeof kept_room && tpm_device_align() <= _Alignof(max_align_t),
+         "the room of a kept device");
     want(tpm_device_init(device, nonce, 0, 0) == 1, "a device to keep");
     is_done(out, tpm_device_execute(device, startup, sizeof startup, nonce, out, sizeof out));
     for (uint8_t i = 0; i < 8; i++) {
@@ -320,7 +339,8 @@ static size_t hashes_of_extend_all(size_t argument, uint8_t *out) {
 
 // What PCR_Event hashes, by the library: the event for each bank, and then as PCR_Extend.
 static size_t hashes_of_event(size_t argument, uint8_t *out) {
-    return hash_sha1(EVENT, out) + hash_sha256(EVENT, out) + hash_sha384(EVENT, out) + hashes_of_extend_all(argument, out);
+    return hash_sha1(EVENT, out) + hash_sha256(EVENT, out) + hash_sha384(EVENT, out) +
+           hashes_of_extend_all(argument, out);
 }
 
 // It answers that it was authorized each time.
@@ -332,7 +352,8 @@ static size_t authorize(size_t which, uint8_t *out) {
 // What the check of that session hashes, by the library: cpHash, and the HMAC without a key.
 static size_t hashes_of_authorize(size_t argument, uint8_t *out) {
     (void)argument;
-    return tpm_bench_hash(SHA256_ALG, cp_hashed, CP_HASHED, out, OUT) + tpm_bench_hmac(SHA256_ALG, key, 0, mac_text, MAC_TEXT, out, OUT);
+    return tpm_bench_hash(SHA256_ALG, cp_hashed, CP_HASHED, out, OUT) +
+           tpm_bench_hmac(SHA256_ALG, key, 0, mac_text, MAC_TEXT, out, OUT);
 }
 
 // The caller's end of a session, and both ends: each answers that it was done each time.
@@ -351,8 +372,8 @@ static size_t both_ends(size_t argument, uint8_t *out) {
     return tpm_bench_both_ends(TIMES) == TIMES;
 }
 
-// What sealing and opening hash, by the library, under a key that is hashed once: cpHash and the HMAC, and the HMAC alone, since rpHash
-// of a reply without parameters is known. The device hashes the same, and extends besides.
+// What sealing and opening hash, by the library, under a key that is hashed once: cpHash and the HMAC, and the HMAC
+// alone, since rpHash of a reply without parameters is known. The device hashes the same, and extends besides.
 static size_t hashes_of_seal(size_t argument, uint8_t *out) {
     (void)argument, (void)out;
     return tpm_bench_session_hashes(key, KEY, cp_hashed, CP_HASHED, mac_text + 32, MAC_TEXT - 32, TIMES);
@@ -364,7 +385,8 @@ static size_t hashes_of_open(size_t argument, uint8_t *out) {
 }
 
 static size_t hashes_of_both_ends(size_t argument, uint8_t *out) {
-    size_t len = hashes_of_seal(argument, out) + hashes_of_seal(argument, out) + hashes_of_open(argument, out) + hashes_of_open(argument, out);
+    size_t len = hashes_of_seal(argument, out) + hashes_of_seal(argument, out) + hashes_of_open(argument, out) +
+                 hashes_of_open(argument, out);
     for (int i = 0; i < TIMES; i++)
         len += hashes_of_extend(argument, out);
     return len;
@@ -487,7 +509,8 @@ static void print_same(size_t len) {
         least = least == 0 || ns < least ? ns : least;
         most = ns > most ? ns : most;
     }
-    printf("same of %zu bytes: %.1f to %.1f ns, which differ by %.1f %%\n", len, least, most, 100 * (most - least) / least);
+    printf("same of %zu bytes: %.1f to %.1f ns, which differ by %.1f %%\n", len, least, most,
+           100 * (most - least) / least);
 }
 
 int main(int argc, char **argv) {

@@ -7,7 +7,10 @@ struct buffer {
     uint8_t bytes[4096];
 };
 
-enum { PCR_EXTEND, PCR_EXTEND_PLAIN, PCR_EXTEND_SIGNED, PCR_EXTEND_ALL, PCR_EVENT, PCR_READ, NV_READ, START_AUTH_SESSION, PCR_READ_REPLY, BUFFERS };
+enum {
+    PCR_EXTEND, PCR_EXTEND_PLAIN, PCR_EXTEND_SIGNED, PCR_EXTEND_ALL, PCR_EVENT, PCR_READ, NV_READ, START_AUTH_SESSION,
+    PCR_READ_REPLY, BUFFERS
+};
 static struct buffer buffers[BUFFERS];
 
 static void add(struct buffer *buffer, const char *hex) {
@@ -34,8 +37,14 @@ static void add_two_digests(struct buffer *b) {
     fill(b, 32);
 }
 
-// What an HMAC session of SHA-256 makes of them without a key: cpHash, nonceCaller, nonceTPM, sessionAttributes, and the HMAC.
-enum { EXTEND_PARAMETERS = 4 + 2 + 20 + 2 + 32, CP_HASHED = 4 + 4 + EXTEND_PARAMETERS, NONCE = 32, MAC_TEXT = 32 + NONCE + NONCE + 1 };
+// What an HMAC session of SHA-256 makes of them without a key: cpHash, nonceCaller, nonceTPM, sessionAttributes, and
+// the HMAC.
+enum {
+    EXTEND_PARAMETERS = 4 + 2 + 20 + 2 + 32,
+    CP_HASHED = 4 + 4 + EXTEND_PARAMETERS,
+    NONCE = 32,
+    MAC_TEXT = 32 + NONCE + NONCE + 1
+};
 static uint8_t cp_hashed[CP_HASHED], mac_text[MAC_TEXT];
 
 static void add_session(struct buffer *b) {
@@ -52,7 +61,8 @@ static void add_session(struct buffer *b) {
     memcpy(b->bytes + b->len, mac_text + 32, NONCE);
     b->len += NONCE;
     add(b, "01 0020");
-    want(HMAC(EVP_sha256(), "", 0, mac_text, MAC_TEXT, b->bytes + b->len, &written) != NULL && written == 32, "the HMAC");
+    want(HMAC(EVP_sha256(), "", 0, mac_text, MAC_TEXT, b->bytes + b->len, &written) != NULL && written == 32,
+         "the HMAC");
     b->len += written;
 }
 

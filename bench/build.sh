@@ -1,5 +1,6 @@
-# What the scripts beside this one share, which read it at the top of the repository, with their own name in $name. A script's word
-# `--build` builds what it measures, and stops; so that a later run, on a machine with nothing else at work, measures alone.
+# What the scripts beside this one share, which read it at the top of the repository, with their own name in $name. A
+# script's word `--build` builds what it measures, and stops; so that a later run, on a machine with nothing else at
+# work, measures alone.
 
 cc=${CC:-cc}
 out=bench/out
@@ -21,16 +22,18 @@ need() {
 
 # need_header HEADER PACKAGE
 need_header() {
-    echo "#include <$1>" | "$cc" -E - >/dev/null 2>&1 || missing "there is no header $1: install it, as by apt-get install $2"
+    echo "#include <$1>" | "$cc" -E - >/dev/null 2>&1 ||
+        missing "there is no header $1: install it, as by apt-get install $2"
 }
 
 need_compiler() {
-    command -v "$cc" >/dev/null 2>&1 || missing "there is no C compiler ($cc): install one, as by apt-get install gcc, or name one in CC"
+    command -v "$cc" >/dev/null 2>&1 ||
+        missing "there is no C compiler ($cc): install one, as by apt-get install gcc, or name one in CC"
     need_header openssl/evp.h libssl-dev
 }
 
-# need_program: $program, tpmtool, is built for $processor, and no source is newer. For another one than the default it is built anew
-# from what is proved, and stands in $kept.
+# need_program: $program, tpmtool, is built for $processor, and no source is newer. For another one than the default it
+# is built anew from what is proved, and stands in $kept.
 need_program() {
     plain_program=crates/tpmtool/out/tpmtool program=crates/tpmtool/out/tpmtool
     [ "$build_alone" = no ] || ./tpmtool --build || missing "the program isn't built"
@@ -49,8 +52,8 @@ need_program() {
     trap - EXIT HUP INT TERM
 }
 
-# archive CRATE: the static library of this crate for $processor, in $kept. It is proved and built where there is none or a source is
-# newer.
+# archive CRATE: the static library of this crate for $processor, in $kept. It is proved and built where there is none
+# or a source is newer.
 archive() {
     kept=$out/$processor
     built=$kept/lib$1.a
@@ -64,9 +67,11 @@ archive() {
     if [ -f "$built" ] && [ -z "$(find crates.txt $folders -newer "$built" | head -n 1)" ]; then
         return
     fi
-    command -v rt >/dev/null 2>&1 || missing "there is no rt, the command of the Rattle kit, which builds the library: put it on PATH"
+    command -v rt >/dev/null 2>&1 ||
+        missing "there is no rt, the command of the Rattle kit, which builds the library: put it on PATH"
     mkdir -p "$kept" && : >"$kept/start"
-    (cd "crates/$1" && rt lib --cpu="$processor") >"$kept/$1.log" 2>&1 || missing "the library $1 isn't built: see $kept/$1.log"
+    (cd "crates/$1" && rt lib --cpu="$processor") >"$kept/$1.log" 2>&1 ||
+        missing "the library $1 isn't built: see $kept/$1.log"
     touch -r "$kept/start" "crates/$1/out/lib$1.a" && mv "crates/$1/out/lib$1.a" "$built"
 }
 
@@ -74,11 +79,12 @@ archive() {
 compile() {
     source=$1
     shift
-    "$cc" -O2 -Wall -Wextra -Wno-missing-field-initializers -Iinclude -o "$kept/$source" "bench/$source.c" "$@" || missing "$kept/$source isn't built"
+    "$cc" -O2 -Wall -Wextra -Wno-missing-field-initializers -Iinclude -o "$kept/$source" "bench/$source.c" "$@" ||
+        missing "$kept/$source isn't built"
 }
 
-# stop_if_built: ends the script here where it was asked to build alone. libcrypto does without the processor's SHA instructions from
-# here on, as the library does: so a unit is the same work on every machine.
+# stop_if_built: ends the script here where it was asked to build alone. libcrypto does without the processor's SHA
+# instructions from here on, as the library does: so a unit is the same work on every machine.
 stop_if_built() {
     [ "$build_alone" = no ] || exit 0
     plain=${OPENSSL_ia32cap-:~0x20000000}

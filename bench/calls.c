@@ -1,5 +1,5 @@
-// Calls a second from C, as calls.py, calls.go and calls.rs make them: a command that is decoded and cut, and a log that is compared with
-// a quote. The words: the log, the quote, and the nonce in hexadecimal.
+// Calls a second from C, as calls.py, calls.go and calls.rs make them: a command that is decoded and cut, and a log
+// that is compared with a quote. The words: the log, the quote, and the nonce in hexadecimal.
 #include <stdint.h>
 #include <stdio.h>
 #include <stdlib.h>
@@ -12,7 +12,8 @@ enum { ROUNDS = 5, MOST = 1 << 20 };
 static const double ROUND_SECONDS = 0.2;
 
 // PCR_Extend of a digest by SHA-1 and one by SHA-256, in an HMAC session.
-static uint8_t command[151] = {0x80, 2, 0, 0, 0, 151, 0, 0, 1, 0x82, 0, 0, 0, 16, 0, 0, 0, 0x49, 2, 0, 0, 0, 0, 32, [56] = 1, 0, 32, [94] = 2, 0, 4, [117] = 0, 0x0B};
+static uint8_t command[151] = {0x80, 2, 0, 0, 0, 151, 0, 0, 1, 0x82, 0, 0, 0, 16, 0, 0, 0, 0x49, 2, 0, 0, 0, 0, 32,
+                               [56] = 1, 0, 32, [94] = 2, 0, 4, [117] = 0, 0x0B};
 // TPML_PCR_SELECTION: sha256:0,7
 static const uint8_t required[] = {0, 0, 0, 1, 0, 0x0B, 3, 0x81, 0, 0};
 static uint8_t log_bytes[MOST], quote[MOST], nonce[64];
@@ -37,12 +38,14 @@ static void decode(void) {
     struct tpm_command_areas areas;
     struct tpm_refusal refusal;
     want(tpm_command_decode(command, sizeof command, &refusal) == TPM_DONE, "the command is refused");
-    want(tpm_command_cut(command, sizeof command, &areas, &refusal) == TPM_DONE && areas.session_count == 1, "the command is not cut");
+    want(tpm_command_cut(command, sizeof command, &areas, &refusal) == TPM_DONE && areas.session_count == 1,
+         "the command is not cut");
 }
 
 static void check(void) {
     struct tpm_attest_fault fault;
-    want(tpm_log_check_attest(log_bytes, log_len, quote, quote_len, TPM_ALG_SHA256, nonce, nonce_len, required, sizeof required, &fault) == TPM_ATTEST_MATCHES,
+    want(tpm_log_check_attest(log_bytes, log_len, quote, quote_len, TPM_ALG_SHA256, nonce, nonce_len, required,
+                              sizeof required, &fault) == TPM_ATTEST_MATCHES,
          "the quote does not match the log");
 }
 

@@ -48,8 +48,8 @@ func printRate(name string, call func()) {
 
 func main() {
 	zeros := strings.Repeat("00", 32)
-	command := bytesOf("80020000009700000182" + "00000010" + "00000049" + "02000000" + "0020" + zeros + "01" + "0020" + zeros +
-		"00000002" + "0004" + zeros[:40] + "000b" + zeros)
+	command := bytesOf("80020000009700000182" + "00000010" + "00000049" + "02000000" + "0020" + zeros + "01" +
+		"0020" + zeros + "00000002" + "0004" + zeros[:40] + "000b" + zeros)
 	required := bytesOf("00000001000b03810000") // TPML_PCR_SELECTION: sha256:0,7
 	log, quote, nonce := read(os.Args[1]), read(os.Args[2]), bytesOf(os.Args[3])
 	printRate("decode", func() {
@@ -58,7 +58,8 @@ func main() {
 		}
 	})
 	printRate("check", func() {
-		if verdict, _, err := vinjakwe.Check(log, quote, nonce, required, vinjakwe.SHA256); err != nil || verdict != vinjakwe.Matches {
+		verdict, _, err := vinjakwe.Check(log, quote, nonce, required, vinjakwe.SHA256)
+		if err != nil || verdict != vinjakwe.Matches {
 			panic("the quote does not match the log")
 		}
 	})

@@ -5,8 +5,8 @@ import time
 import vinjakwe
 
 ROUNDS, ROUND_SECONDS = 5, 0.2
-COMMAND = bytes.fromhex("80020000009700000182" "00000010" "00000049" "02000000" "0020" + 32 * "00" + "01" "0020" + 32 * "00"
-                        + "00000002" "0004" + 20 * "00" + "000b" + 32 * "00")
+COMMAND = bytes.fromhex("80020000009700000182" "00000010" "00000049" "02000000" "0020" + 32 * "00"
+                        + "01" "0020" + 32 * "00" + "00000002" "0004" + 20 * "00" + "000b" + 32 * "00")
 REQUIRED = bytes.fromhex("00000001000b03810000")  # TPML_PCR_SELECTION: sha256:0,7
 LOG, QUOTE = (open(name, "rb").read() for name in sys.argv[1:3])
 NONCE = bytes.fromhex(sys.argv[3])

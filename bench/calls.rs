@@ -36,7 +36,10 @@ fn main() {
     let nonce = bytes_of(&words[3]);
     let zeros = "00".repeat(32);
     let short = "00".repeat(20);
-    let command = bytes_of(&format!("80020000009700000182000000100000004902000000{0:}{zeros}010020{zeros}000000020004{short}000b{zeros}", "0020"));
+    let command = bytes_of(&format!(
+        "80020000009700000182000000100000004902000000{0:}{zeros}010020{zeros}000000020004{short}000b{zeros}",
+        "0020"
+    ));
     let required = [0, 0, 0, 1, 0, 0x0b, 3, 0x81, 0, 0]; // TPML_PCR_SELECTION: sha256:0,7
     print_rate("decode", &|| {
         let command = Command::decode(black_box(&command)).expect("a command");

@@ -1,6 +1,6 @@
-// Commands that a device executes, each with what makes the device ready for it, and with the hashes that it needs. bench.c, which has
-// the buffers, the work and the rows, includes it. For another command: a name in the list, its bytes and hashes in make_runs, and a
-// row.
+// Commands that a device executes, each with what makes the device ready for it, and with the hashes that it needs.
+// bench.c, which has the buffers, the work and the rows, includes it. For another command: a name in the list, its
+// bytes and hashes in make_runs, and a row.
 
 // A hash of so many bytes, or an HMAC of a text of so many under the empty key.
 struct hashed {
@@ -17,18 +17,20 @@ struct run {
 };
 
 enum {
-    RESET, RESET_SESSION, EVENT_SESSION, EXTEND_SESSION, START_FLUSH, POLICY_PCR, POLICY_OR, POLICY_COMMAND_CODE, POLICY_AUTH_VALUE,
-    POLICY_RESTART, POLICY_GET_DIGEST, DEFINE, DEFINE_SESSION, UNDEFINE, UNDEFINE_SESSION, INCREMENT, INCREMENT_SESSION, READ, READ_SESSION,
-    READ_PUBLIC, RUNS
+    RESET, RESET_SESSION, EVENT_SESSION, EXTEND_SESSION, START_FLUSH, POLICY_PCR, POLICY_OR, POLICY_COMMAND_CODE,
+    POLICY_AUTH_VALUE, POLICY_RESTART, POLICY_GET_DIGEST, DEFINE, DEFINE_SESSION, UNDEFINE, UNDEFINE_SESSION, INCREMENT,
+    INCREMENT_SESSION, READ, READ_SESSION, READ_PUBLIC, RUNS
 };
 static struct run runs[RUNS];
 
 // How a command is authorized: not at all, by the empty password, or by the HMAC of a session whose nonceTPM is zeros.
 enum authorization { NONE, PASSWORD, SESSION };
 
-static const char HMAC_SESSION[] = "8001 0000003B 00000176 40000007 40000007 0020"; // and 32 bytes, no salt, HMAC, SHA-256
+// Behind it come 32 bytes, no salt, HMAC and SHA-256.
+static const char HMAC_SESSION[] = "8001 0000003B 00000176 40000007 40000007 0020";
 static const char OWNER[] = "40000001", INDEX[] = "01800001", REGISTER[] = "00000010";
-// TPM2B_NV_PUBLIC of a counter of SHA-256 that its authValue and the owner may write and read, and that area with WRITTEN set.
+// TPM2B_NV_PUBLIC of a counter of SHA-256 that its authValue and the owner may write and read, and that area with
+// WRITTEN set.
 static const char PUBLIC[] = "000E 01800001 000B 00060016 0000 0008", WRITTEN[] = "01800001 000B 20060016 0000 0008";
 static const size_t PUBLIC_AREA = 14, NAME = 2 + 32, HANDLE = 4;
 
@@ -68,7 +70,8 @@ static void add_index_name(struct buffer *names, const char *area) {
 }
 
 // Adds a command with these handles, Names and parameters.
-static void add_named(struct buffer *b, const char *code, const char *handles, enum authorization by, const struct buffer *names, const char *params) {
+static void add_named(struct buffer *b, const char *code, const char *handles, enum authorization by,
+                      const struct buffer *names, const char *params) {
     size_t start = b->len;
     add(b, by == NONE ? "8001 00000000" : "8002 00000000");
     add(b, code);
@@ -90,7 +93,8 @@ static void add_named(struct buffer *b, const char *code, const char *handles, e
         memcpy(b->bytes + b->len, text + 32, NONCE);
         b->len += NONCE;
         add(b, "01 0020");
-        want(HMAC(EVP_sha256(), "", 0, text, MAC_TEXT, b->bytes + b->len, &written) != NULL && written == 32, "the HMAC");
+        want(HMAC(EVP_sha256(), "", 0, text, MAC_TEXT, b->bytes + b->len, &written) != NULL && written == 32,
+             "the HMAC");
         b->len += written;
     }
     add(b, params);
@@ -98,7 +102,8 @@ static void add_named(struct buffer *b, const char *code, const char *handles, e
 }
 
 // A command whose handles are their own Names.
-static void add_command(struct buffer *b, const char *code, const char *handles, enum authorization by, const char *params) {
+static void add_command(struct buffer *b, const char *code, const char *handles, enum authorization by,
+                        const char *params) {
     struct buffer names = {0};
     add(&names, handles);
     add_named(b, code, handles, by, &names, params);
@@ -111,7 +116,8 @@ static void define(struct buffer *b, enum authorization by) {
 }
 
 // A command of the counter, which authorizes it, or which the owner undefines.
-static void of_index(struct run *run, const char *code, const char *first, enum authorization by, const char *params, size_t params_len, size_t reply_params) {
+static void of_index(struct run *run, const char *code, const char *first, enum authorization by, const char *params,
+                     size_t params_len, size_t reply_params) {
     struct buffer names = {0};
     char handles[32];
     const char *area = first == OWNER ? PUBLIC + 5 : WRITTEN; // the area behind its size
@@ -142,7 +148,8 @@ static void of_policy(struct run *run, const char *type, const char *code, const
     add_command(&run->first, code, "03000000", NONE, params);
 }
 
-static void of_register(struct run *run, const char *code, enum authorization by, const char *params, size_t params_len, size_t reply_params) {
+static void of_register(struct run *run, const char *code, enum authorization by, const char *params, size_t params_len,
+                        size_t reply_params) {
     if (by == SESSION) {
         start_session(&run->prepare, "00");
         session_hashes(run, HANDLE, params_len, reply_params);
@@ -155,8 +162,10 @@ static void hashes_of_an_extend(struct run *run) {
     hashes(run, SHA256_ALG, 2 * SHA256_DIGEST_LENGTH);
 }
 
-static const char TWO_DIGESTS[] = "00000002 0004 0102030405060708090A0B0C0D0E0F1011121314 000B 0102030405060708090A0B0C0D0E0F100102030405060708090A0B0C0D0E0F10";
-static const char TWO_POLICIES[] = "00000002 0020 0102030405060708090A0B0C0D0E0F100102030405060708090A0B0C0D0E0F10 0020 0102030405060708090A0B0C0D0E0F100102030405060708090A0B0C0D0E0F10";
+static const char TWO_DIGESTS[] = "00000002 0004 0102030405060708090A0B0C0D0E0F1011121314 000B "
+                                  "0102030405060708090A0B0C0D0E0F100102030405060708090A0B0C0D0E0F10";
+static const char TWO_POLICIES[] = "00000002 0020 0102030405060708090A0B0C0D0E0F100102030405060708090A0B0C0D0E0F10 "
+                                   "0020 0102030405060708090A0B0C0D0E0F100102030405060708090A0B0C0D0E0F10";
 
 static void make_runs(void) {
     const size_t digest = SHA256_DIGEST_LENGTH, event_reply = 4 + 3 * 2 + 20 + 32 + 48;
@@ -175,8 +184,9 @@ static void make_runs(void) {
     add_command(&runs[START_FLUSH].second, "00000165", "", NONE, "02000000");
 
     of_policy(&runs[POLICY_PCR], "01", "0000017F", "0000 00000001 000B 03 010000");
-    hashes(&runs[POLICY_PCR], SHA256_ALG, digest);                   // of the registers' values
-    hashes(&runs[POLICY_PCR], SHA256_ALG, digest + 4 + 10 + digest); // the policy digest, the code, the selection, and that
+    // Of the registers' values; and of the policy digest, the code, the selection, and that.
+    hashes(&runs[POLICY_PCR], SHA256_ALG, digest);
+    hashes(&runs[POLICY_PCR], SHA256_ALG, digest + 4 + 10 + digest);
     of_policy(&runs[POLICY_OR], "03", "00000171", TWO_POLICIES);     // in a trial, which takes any digests
     hashes(&runs[POLICY_OR], SHA256_ALG, digest + 4 + 2 * digest);
     of_policy(&runs[POLICY_COMMAND_CODE], "01", "0000016C", "00000134");
@@ -214,7 +224,8 @@ static size_t is_done(const uint8_t *answer, size_t len) {
 
 static size_t execute_run(size_t which, uint8_t *out) {
     const struct run *r = &runs[which];
-    return is_done(out, tpm_bench_execute(r->prepare.bytes, r->prepare.len, r->first.bytes, r->first.len, r->second.bytes, r->second.len, TIMES, out, OUT));
+    return is_done(out, tpm_bench_execute(r->prepare.bytes, r->prepare.len, r->first.bytes, r->first.len,
+                                          r->second.bytes, r->second.len, TIMES, out, OUT));
 }
 
 static size_t start_device(size_t argument, uint8_t *out) {
@@ -229,7 +240,8 @@ static size_t hashes_of_run(size_t which, uint8_t *out) {
     size_t len = 0;
     for (size_t i = 0; i < runs[which].count; i++) {
         const struct hashed *h = &runs[which].hashes[i];
-        len += h->is_mac ? tpm_bench_hmac(h->alg, key, 0, message, h->len, out, OUT) : tpm_bench_hash(h->alg, message, h->len, out, OUT);
+        len += h->is_mac ? tpm_bench_hmac(h->alg, key, 0, message, h->len, out, OUT)
+                         : tpm_bench_hash(h->alg, message, h->len, out, OUT);
     }
     return len;
 }

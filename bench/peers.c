@@ -1,5 +1,5 @@
-// Times the library beside libtpms, libtss2-esys, libtss2-sys and libtss2-mu, in one process: both ends of a session, a device alone, and
-// commands that are decoded and encoded. Beside each peer's row stands the library's own.
+// Times the library beside libtpms, libtss2-esys, libtss2-sys and libtss2-mu, in one process: both ends of a session, a
+// device alone, and commands that are decoded and encoded. Beside each peer's row stands the library's own.
 #include "timing.h"
 
 #include <libtpms/tpm_error.h>
@@ -37,7 +37,8 @@ static void transmit_libtpms(const uint8_t *command, size_t len) {
     static unsigned char *bytes;
     static uint32_t room;
     uint32_t count = 0;
-    want(TPMLIB_Process(&bytes, &count, &room, (unsigned char *)command, (uint32_t)len) == TPM_SUCCESS, "libtpms answers nothing");
+    want(TPMLIB_Process(&bytes, &count, &room, (unsigned char *)command, (uint32_t)len) == TPM_SUCCESS,
+         "libtpms answers nothing");
     reply = bytes, reply_len = count;
 }
 
@@ -71,17 +72,21 @@ static TPM_RESULT store_store(const unsigned char *data, uint32_t len, uint32_t 
     return TPM_SUCCESS;
 }
 
-static TPM_RESULT store_delete(uint32_t tpm, const char *name, TPM_BOOL must) { return (void)tpm, (void)name, (void)must, TPM_SUCCESS; }
+static TPM_RESULT store_delete(uint32_t tpm, const char *name, TPM_BOOL must) {
+    return (void)tpm, (void)name, (void)must, TPM_SUCCESS;
+}
 static TPM_RESULT locality(TPM_MODIFIER_INDICATOR *at, uint32_t tpm) { return (void)tpm, *at = 0, TPM_SUCCESS; }
 static TPM_RESULT presence(TPM_BOOL *is, uint32_t tpm) { return (void)tpm, *is = 0, TPM_SUCCESS; }
 
 static void start_devices(void) {
-    static struct libtpms_callbacks callbacks = {sizeof callbacks, store_init, store_load, store_store, store_delete, store_init, locality, presence};
+    static struct libtpms_callbacks callbacks = {sizeof callbacks, store_init, store_load, store_store,
+                                                 store_delete,     store_init, locality,   presence};
     static const uint8_t startup[] = {0x80, 0x01, 0, 0, 0, 12, 0, 0, 0x01, 0x44, 0, 0};
     want(tpm_device_size() <= sizeof our_room && tpm_device_align() <= _Alignof(max_align_t), "the room of a device");
     want(tpm_device_init((struct tpm_device *)our_room, our_nonce, 0, 0) == 1, "a device");
-    want(TPMLIB_ChooseTPMVersion(TPMLIB_TPM_VERSION_2) == TPM_SUCCESS && TPMLIB_RegisterCallbacks(&callbacks) == TPM_SUCCESS &&
-             TPMLIB_MainInit() == TPM_SUCCESS, "libtpms does not start");
+    want(TPMLIB_ChooseTPMVersion(TPMLIB_TPM_VERSION_2) == TPM_SUCCESS &&
+             TPMLIB_RegisterCallbacks(&callbacks) == TPM_SUCCESS && TPMLIB_MainInit() == TPM_SUCCESS,
+         "libtpms does not start");
     for (int i = 0; i < DEVICES; i++) {
         transmit[i](startup, sizeof startup);
         want(was_done(), "TPM2_Startup");
@@ -98,18 +103,20 @@ static struct tpm_caller *caller(size_t device) { return (struct tpm_caller *)ca
 static void start_here(size_t device) {
     static const uint8_t none[1];
     const struct buffer *command = &buffers[START_AUTH_SESSION];
-    want(tpm_caller_size() <= sizeof caller_room[device] && tpm_caller_align() <= _Alignof(max_align_t), "the room of a caller");
+    want(tpm_caller_size() <= sizeof caller_room[device] && tpm_caller_align() <= _Alignof(max_align_t),
+         "the room of a caller");
     tpm_caller_init(caller(device));
     transmit[device](command->bytes, command->len);
-    want(tpm_caller_start(caller(device), command->bytes, command->len, reply, reply_len, none, 0) == 1, "the library's session");
+    want(tpm_caller_start(caller(device), command->bytes, command->len, reply, reply_len, none, 0) == 1,
+         "the library's session");
 }
 
 static size_t extend_by_us(size_t device, uint8_t *out) {
     static const uint8_t register_16[] = {0, 0, 0, 16};
     caller_nonce[0]++;
     const struct buffer *plain = &buffers[PCR_EXTEND_PLAIN];
-    size_t len = tpm_caller_seal(caller(device), plain->bytes, plain->len, register_16, 4, register_16, 0, register_16, 0,
-                                 (const uint8_t *)caller_nonce, NONCE, 1, out, TPM_BUFFER_BYTES);
+    size_t len = tpm_caller_seal(caller(device), plain->bytes, plain->len, register_16, 4, register_16, 0, register_16,
+                                 0, (const uint8_t *)caller_nonce, NONCE, 1, out, TPM_BUFFER_BYTES);
     transmit[device](out, len);
     return tpm_caller_open(caller(device), reply, reply_len) == TPM_CALLER_OPENED;
 }
@@ -147,7 +154,8 @@ static void key_hashes(struct session *s, const uint8_t *hmac_key, size_t len) {
 }
 
 // The HMAC of a hash, the newer nonce, the older one and the attributes.
-static void session_mac(const struct session *s, const uint8_t *hash, const uint8_t *newer, const uint8_t *older, const uint8_t *attributes, uint8_t *mac) {
+static void session_mac(const struct session *s, const uint8_t *hash, const uint8_t *newer, const uint8_t *older,
+                        const uint8_t *attributes, uint8_t *mac) {
     SHA256_CTX inner = s->inner, outer = s->outer;
     SHA256_Update(&inner, hash, SHA256_DIGEST_LENGTH);
     SHA256_Update(&inner, newer, NONCE);
@@ -226,22 +234,25 @@ static TSS2_RC tcti_receive(TSS2_TCTI_CONTEXT *context, size_t *len, uint8_t *re
 }
 
 static TSS2_TCTI_CONTEXT *tcti_of(size_t device) {
-    tctis[device] = (struct tcti){{.magic = 1, .version = 1, .transmit = tcti_transmit, .receive = tcti_receive}, device};
+    tctis[device] =
+        (struct tcti){{.magic = 1, .version = 1, .transmit = tcti_transmit, .receive = tcti_receive}, device};
     return (TSS2_TCTI_CONTEXT *)&tctis[device];
 }
 
 static void start_esys(size_t device) {
     TPMT_SYM_DEF none = {.algorithm = TPM2_ALG_NULL};
     want(Esys_Initialize(&esys[device], tcti_of(device), NULL) == TSS2_RC_SUCCESS, "libtss2-esys does not start");
-    want(Esys_StartAuthSession(esys[device], ESYS_TR_NONE, ESYS_TR_RH_OWNER, ESYS_TR_NONE, ESYS_TR_NONE, ESYS_TR_NONE, NULL, TPM2_SE_HMAC, &none,
-                               TPM2_ALG_SHA256, &esys_session[device]) == TSS2_RC_SUCCESS &&
-             Esys_TRSess_SetAttributes(esys[device], esys_session[device], TPMA_SESSION_CONTINUESESSION, 0xFF) == TSS2_RC_SUCCESS,
+    want(Esys_StartAuthSession(esys[device], ESYS_TR_NONE, ESYS_TR_RH_OWNER, ESYS_TR_NONE, ESYS_TR_NONE, ESYS_TR_NONE,
+                               NULL, TPM2_SE_HMAC, &none, TPM2_ALG_SHA256, &esys_session[device]) == TSS2_RC_SUCCESS &&
+             Esys_TRSess_SetAttributes(esys[device], esys_session[device], TPMA_SESSION_CONTINUESESSION, 0xFF) ==
+                 TSS2_RC_SUCCESS,
          "a session of libtss2-esys");
 }
 
 static size_t extend_by_esys(size_t device, uint8_t *out) {
     (void)out;
-    return Esys_PCR_Extend(esys[device], ESYS_TR_PCR16, esys_session[device], ESYS_TR_NONE, ESYS_TR_NONE, &two_digests) == TSS2_RC_SUCCESS;
+    return Esys_PCR_Extend(esys[device], ESYS_TR_PCR16, esys_session[device], ESYS_TR_NONE, ESYS_TR_NONE,
+                           &two_digests) == TSS2_RC_SUCCESS;
 }
 
 // ---- a device alone
@@ -364,7 +375,8 @@ static TSS2_RC prepare(size_t which) {
     TSS2L_SYS_AUTH_COMMAND auths = {.count = 1};
     TSS2_RC rc;
     if (which == START_AUTH_SESSION)
-        return Tss2_Sys_StartAuthSession_Prepare(sys, c->handles[0], c->handles[1], &c->nonce, &c->salt, c->type, &c->symmetric, c->hash);
+        return Tss2_Sys_StartAuthSession_Prepare(sys, c->handles[0], c->handles[1], &c->nonce, &c->salt, c->type,
+                                                 &c->symmetric, c->hash);
     if (which == PCR_EXTEND)
         rc = Tss2_Sys_PCR_Extend_Prepare(sys, c->handles[0], &c->digests);
     else
@@ -396,7 +408,8 @@ static void start_sys(void) {
     TSS2_ABI_VERSION version = TSS2_ABI_VERSION_CURRENT;
     size_t size = Tss2_Sys_GetContextSize(0);
     want((sys = realloc(sys, size)) != NULL, "out of memory");
-    want(Tss2_Sys_Initialize(sys, size, (TSS2_TCTI_CONTEXT *)&tcti, &version) == TSS2_RC_SUCCESS, "libtss2-sys does not start");
+    want(Tss2_Sys_Initialize(sys, size, (TSS2_TCTI_CONTEXT *)&tcti, &version) == TSS2_RC_SUCCESS,
+         "libtss2-sys does not start");
 }
 
 static size_t decode_here(size_t which, uint8_t *out) {
@@ -422,20 +435,25 @@ static void check_spellings(void) {
     for (size_t i = 0; i < sizeof kinds / sizeof kinds[0]; i++) {
         const struct buffer *b = &buffers[kinds[i]];
         want(unmarshal(kinds[i], &commands[kinds[i]]) == TSS2_RC_SUCCESS, "libtss2-mu decodes another command");
-        want(marshal(kinds[i], out) == b->len && memcmp(out, b->bytes, b->len) == 0, "libtss2-mu encodes another command");
+        want(marshal(kinds[i], out) == b->len && memcmp(out, b->bytes, b->len) == 0,
+             "libtss2-mu encodes another command");
         start_sys();
-        want(prepare(kinds[i]) == TSS2_RC_SUCCESS && Tss2_Sys_ExecuteAsync(sys) == TSS2_RC_SUCCESS, "libtss2-sys sends no command");
+        want(prepare(kinds[i]) == TSS2_RC_SUCCESS && Tss2_Sys_ExecuteAsync(sys) == TSS2_RC_SUCCESS,
+             "libtss2-sys sends no command");
         want(sent_len == b->len && memcmp(sent, b->bytes, b->len) == 0, "libtss2-sys encodes another command");
     }
 }
 
-// Behind as many extends by the three callers both devices have the same registers; the counter of updates before them may differ.
+// Behind as many extends by the three callers both devices have the same registers; the counter of updates before them
+// may differ.
 static void check_registers(void) {
-    static const uint8_t read[] = {0x80, 1, 0, 0, 0, 26, 0, 0, 1, 0x7E, 0, 0, 0, 2, 0, 4, 3, 0, 0, 1, 0, 0x0B, 3, 0, 0, 1};
+    static const uint8_t read[] = {0x80, 1, 0, 0, 0, 26, 0, 0, 1, 0x7E, 0, 0, 0, 2, 0, 4, 3, 0, 0, 1, 0, 0x0B, 3, 0,
+                                   0, 1};
     static uint8_t out[OUT], first[TPM_BUFFER_BYTES];
     size_t len = 0;
     for (size_t device = 0; device < DEVICES; device++) {
-        want(extend_by_us(device, out) && extend_by_libcrypto(device, out) && extend_by_esys(device, out), "a reply is not opened");
+        want(extend_by_us(device, out) && extend_by_libcrypto(device, out) && extend_by_esys(device, out),
+             "a reply is not opened");
         transmit[device](read, sizeof read);
         want(was_done() && reply_len > 14 && (device == 0 || reply_len == len), "PCR_Read");
         want(device == 0 || memcmp(first + 14, reply + 14, len - 14) == 0, "the devices have other registers");

@@ -1,6 +1,6 @@
-// What bench.c and peers.c share: rows with work on one side or on both, how they are timed, and how they are printed. Where a row has
-// work on both sides, both have to give the same bytes, unless it says otherwise. Of libcrypto the plain functions are taken, which
-// look nothing up and so cost least, though later interfaces are recommended.
+// What bench.c and peers.c share: rows with work on one side or on both, how they are timed, and how they are printed.
+// Where a row has work on both sides, both have to give the same bytes, unless it says otherwise. Of libcrypto the
+// plain functions are taken, which look nothing up and so cost least, though later interfaces are recommended.
 #define OPENSSL_SUPPRESS_DEPRECATED
 #include <openssl/crypto.h>
 #include <openssl/evp.h>
@@ -46,7 +46,8 @@ struct row {
 
 static size_t libcrypto_sha256(size_t len, uint8_t *out) {
     SHA256_CTX hash;
-    return SHA256_Init(&hash) && SHA256_Update(&hash, message, len) && SHA256_Final(out, &hash) ? SHA256_DIGEST_LENGTH : 0;
+    return SHA256_Init(&hash) && SHA256_Update(&hash, message, len) && SHA256_Final(out, &hash) ? SHA256_DIGEST_LENGTH
+                                                                                                : 0;
 }
 
 // What the ratios are to: SHA-256 of 64 bytes by libcrypto.
@@ -54,7 +55,8 @@ static struct timed unit = {libcrypto_sha256, 0, 0, 0};
 
 // ---- timing
 
-// Other work on the machine only adds time, so the least of many rounds is taken, and the rounds of all rows take turns.
+// Other work on the machine only adds time, so the least of many rounds is taken, and the rounds of all rows take
+// turns.
 enum { ROUNDS = 100 };
 static const double ROUND_NS = 1e6;
 

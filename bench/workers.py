@@ -1,4 +1,5 @@
-"""Checks a second from Python by 1, 2 and 4 threads and processes at once, in rows of Markdown: the log and the quote of calls.py."""
+"""Checks a second from Python by 1, 2 and 4 threads and processes at once, in rows of Markdown: the log and the quote
+of calls.py."""
 import sys
 import time
 from concurrent.futures import ProcessPoolExecutor, ThreadPoolExecutor

@@ -1,8 +1,8 @@
 """Compares include/vinjakwe.h with the sources that it declares, both ways.
 
 It reads the structures, the functions and the numbers of tpm_c, and the numbers of Part 2 where the other crates have
-them, and says what only one side has. What a C compiler knows better, the types of functions and the places and sizes of
-fields, it writes as a program of C, which only a header that agrees lets compile.
+them, and says what only one side has. What a C compiler knows better, the types of functions and the places and sizes
+of fields, it writes as a program of C, which only a header that agrees lets compile.
 """
 
 import re

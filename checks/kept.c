@@ -1,13 +1,15 @@
 /* A device that is kept, through C.
  *
- *     kept rows            of each line `OWNER KEPT` in hexadecimal (`-` for no bytes): what the device that is made of them has, whose
- *                          bytes are then written again, the same; or the refusal, which leaves the room as it was
- *     kept images N SEED   N of the images on standard input (`OWNER KEPT` a line), each changed at random: refused, or equal to what
- *                          they spell; half of them with the digest that they should have, so that more than the digest is judged
- *     kept answers N SEED  after each of N random commands the device is put away and made again, and answers the next hundred
- *                          commands as the device does whose power was cycled
- *     kept changes N SEED  of each of N random commands it is said whether it changed NV memory, which it did exactly where the
- *                          bytes that are kept before it and behind it differ
+ *     kept rows            of each line `OWNER KEPT` in hexadecimal (`-` for no bytes): what the device that is made of
+ *                          them has, whose bytes are then written again, the same; or the refusal, which leaves the
+ *                          room as it was
+ *     kept images N SEED   N of the images on standard input (`OWNER KEPT` a line), each changed at random: refused, or
+ *                          equal to what they spell; half of them with the digest that they should have, so that more
+ *                          than the digest is judged
+ *     kept answers N SEED  after each of N random commands the device is put away and made again, and answers the next
+ *                          hundred commands as the device does whose power was cycled
+ *     kept changes N SEED  of each of N random commands it is said whether it changed NV memory, which it did exactly
+ *                          where the bytes that are kept before it and behind it differ
  *
  * Its status is 0 where all is as it should be, and otherwise 1, with a line that says what is not. */
 #include "random.h"
@@ -105,7 +107,8 @@ static void tell(const struct tpm_device *device) {
     if (tpm_device_counter(device, count, &counter) != TPM_NO_COUNTER)
         wrong("a counter more is told");
     for (uint32_t slot = 0; slot < 3; slot++)
-        if (tpm_device_session_hash(device, 0x02000000 + slot) != 0 || tpm_device_session_hash(device, 0x03000000 + slot) != 0)
+        if (tpm_device_session_hash(device, 0x02000000 + slot) != 0 ||
+            tpm_device_session_hash(device, 0x03000000 + slot) != 0)
             wrong("a device that was made again has a session");
 }
 
@@ -114,7 +117,8 @@ static int rows(void) {
     while (next_image(&image)) {
         struct tpm_device *device = room();
         struct tpm_refusal refusal = {7, 7};
-        uint32_t answer = tpm_device_restore(device, image.owner, image.owner_len, image.kept, image.kept_len, &refusal);
+        uint32_t answer =
+            tpm_device_restore(device, image.owner, image.owner_len, image.kept, image.kept_len, &refusal);
         if (answer == TPM_DONE) {
             if (refusal.code != 7 || refusal.at != 7)
                 wrong("a refusal is told where there is none");
@@ -309,7 +313,8 @@ static int answers(unsigned long count, uint64_t seed) {
         size_t one = tpm_device_keep(first, kept, sizeof kept), two = tpm_device_keep(second, again, sizeof again);
         if (one != two || memcmp(kept, again, one) != 0)
             wrong("the two devices keep different bytes");
-        if (tpm_device_counters(first) != tpm_device_counters(second) || tpm_device_greatest(first) != tpm_device_greatest(second))
+        if (tpm_device_counters(first) != tpm_device_counters(second) ||
+            tpm_device_greatest(first) != tpm_device_greatest(second))
             wrong("the two devices have different counters");
         for (uint32_t slot = 0; slot < 3; slot++)
             changed += tpm_device_session_hash(first, 0x02000000 + slot) != 0;

@@ -62,10 +62,12 @@ eight = [
     Counter(0x01800001, attributes=0x02040014, auth=b"a"),
     Counter(0x01800002, attributes=0x02060016, auth=b"secret", value=7),
     Counter(0x01800003, attributes=0x02080018, hash=0x0004, policy=bytes(range(20))),
-    Counter(0x01800004, attributes=0x020A001A, hash=0x000C, policy=bytes(range(48)), auth=bytes(range(1, 49)), value=42),
+    Counter(0x01800004, attributes=0x020A001A, hash=0x000C, policy=bytes(range(48)), auth=bytes(range(1, 49)),
+            value=42),
     Counter(0x01FFFFFF, attributes=0x00080018, policy=bytes(32), value=1),
     Counter(0x01000000, attributes=0x00020012, hash=0x0004, auth=b"\x00\x01", value=40),
-    Counter(0x01C00000, attributes=0x020E001E, hash=0x000C, policy=bytes(48), auth=bytes(47) + b"\x01", value=2**64 - 1),
+    Counter(0x01C00000, attributes=0x020E001E, hash=0x000C, policy=bytes(48), auth=bytes(47) + b"\x01",
+            value=2**64 - 1),
 ]
 largest = [
     Counter(0x01800000 + i, attributes=0x020E001E, hash=0x000C, policy=bytes(48), auth=b"\xff" * 48, value=i + 1)

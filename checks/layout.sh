@@ -1,7 +1,7 @@
 #!/bin/sh
-# No line is too long to be read: 120 characters at most in sources, definitions, tests and scripts, 160 in proofs. Left
-# alone are rows of bytes, runs of 40 hexadecimal digits, strings of 40 characters, and the attributes of tactics, which
-# the formatter joins.
+# No line is too long to be read: 120 characters at most in sources, definitions, tests, scripts and programs, 160 in
+# proofs. Left alone are rows of bytes, runs of 40 hexadecimal digits, strings of 40 characters, and the attributes of
+# tactics, which the formatter joins. So is the header, whose lines stay as they were published.
 
 . "$(dirname "$0")/shared.sh"
 
@@ -22,5 +22,11 @@ find crates -name out -prune -o -name proofs -prune -o \( -name '*.rt' -o -name 
 short "sources, definitions and tests" 120
 find crates -name out -prune -o -path '*/proofs/*.antt' -print >"$room/files"
 short "proofs" 160
-ls checks/*.sh test tpmtool install emulator/run >"$room/files"
+{
+    find checks bench -maxdepth 1 -type f \( -name '*.sh' -o ! -name '*.*' \) -print
+    ls test tpmtool install emulator/run setup/_tpmtool
+} >"$room/files"
 short "scripts" 120
+find bench bindings checks emulator examples -name out -prune -o -name target -prune -o \
+    -type f \( -name '*.[ch]' -o -name '*.py' -o -name '*.go' -o -name '*.rs' \) -print >"$room/files"
+short "programs in C, Python, Go and Rust" 120

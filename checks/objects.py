@@ -1,10 +1,11 @@
-"""Frames of the tables, changed at random, through `show --json`: each line is one object by Python's own reader of JSON, and says
-what is cut from the frame here.
+"""Frames of the tables, changed at random, through `show --json`: each line is one object by Python's own reader of
+JSON, and says what is cut from the frame here.
 
     python3 checks/objects.py [FRAMES [SEED]]
 
-From the top of the repository, over the program that was built. Without words these are 50,000 frames and the seed 1. They are
-told as a capture, with parameters by their names and without, and as a stream, which ends inside a frame and with a bad size.
+From the top of the repository, over the program that was built. Without words these are 50,000 frames and the seed 1.
+They are told as a capture, with parameters by their names and without, and as a stream, which ends inside a frame and
+with a bad size.
 """
 import json
 import random
@@ -64,7 +65,10 @@ COMMANDS = {
     0x20000000: ("Vendor_TCG_Test", 0, 0),
 }
 # Those of the profile.
-PROFILE = {0x122, 0x12A, 0x134, 0x13C, 0x13D, 0x144, 0x14E, 0x165, 0x169, 0x16B, 0x16C, 0x171, 0x176, 0x17E, 0x17F, 0x180, 0x182, 0x189}
+PROFILE = {
+    0x122, 0x12A, 0x134, 0x13C, 0x13D, 0x144, 0x14E, 0x165, 0x169, 0x16B, 0x16C, 0x171, 0x176, 0x17E, 0x17F, 0x180,
+    0x182, 0x189,
+}
 CODES = {COMMANDS[code][0]: code for code in sorted(PROFILE)}
 NOTHING, UNKNOWN = "no command is before it", "its command is not known"
 # Part 2: the tags of commands and responses.
@@ -72,24 +76,28 @@ TAGS = {0x00C4: "TPM_ST_RSP_COMMAND", 0x8000: "TPM_ST_NULL", 0x8001: "TPM_ST_NO_
 # Part 2: the types of one size, and the sizes of digests.
 SIZES = {"UINT16": 2, "UINT32": 4, "TPM_SU": 2, "TPM_SE": 1, "TPM_CC": 4, "TPMI_DH_CONTEXT": 4, "TPMI_ALG_HASH": 2}
 DIGESTS = {0x0004: 20, 0x000B: 32, 0x000C: 48}
-# What has numbers for its parts: the registers of a selection's octets, and of an index's attributes the field TPM_NT and each bit set.
+# What has numbers for its parts: the registers of a selection's octets, and of an index's attributes the field TPM_NT
+# and each bit set.
 NUMBERS = {
     "BYTE": lambda number, octets: [i for i in range(8 * len(octets)) if octets[i // 8] >> i % 8 & 1],
     "TPMA_NV": lambda number, octets: [number >> 4 & 15] + [1] * bin(number & ~0xF0).count("1"),
 }
 # Part 2, 7.4 and 7.2: permanent handles, and kinds of handles by their first byte.
 PERMANENT = {
-    0: "SRK", 1: "OWNER", 2: "REVOKE", 3: "TRANSPORT", 4: "OPERATOR", 5: "ADMIN", 6: "EK", 7: "NULL", 8: "UNASSIGNED", 10: "LOCKOUT",
-    11: "ENDORSEMENT", 12: "PLATFORM", 13: "PLATFORM_NV", 0x10: "AUTH_00", 0x10F: "AUTH_FF", **{0x110 + i: f"ACT_{i:X}" for i in range(16)},
+    0: "SRK", 1: "OWNER", 2: "REVOKE", 3: "TRANSPORT", 4: "OPERATOR", 5: "ADMIN", 6: "EK", 7: "NULL", 8: "UNASSIGNED",
+    10: "LOCKOUT", 11: "ENDORSEMENT", 12: "PLATFORM", 13: "PLATFORM_NV", 0x10: "AUTH_00", 0x10F: "AUTH_FF",
+    **{0x110 + i: f"ACT_{i:X}" for i in range(16)},
 }
 KINDS = {
-    0x00: "PCR", 0x01: "NV_INDEX", 0x02: "HMAC_SESSION", 0x03: "POLICY_SESSION", 0x40: "PERMANENT", 0x80: "TRANSIENT", 0x81: "PERSISTENT",
-    0x90: "AC",
+    0x00: "PCR", 0x01: "NV_INDEX", 0x02: "HMAC_SESSION", 0x03: "POLICY_SESSION", 0x40: "PERMANENT", 0x80: "TRANSIENT",
+    0x81: "PERSISTENT", 0x90: "AC",
 }
 # Part 2, 8.4: the bits of a session's attributes, of which two are reserved.
 ATTRIBUTES = ("continueSession", "auditExclusive", "auditReset", None, None, "decrypt", "encrypt", "audit")
 # The names that Part 2 gives to numbers (6.3, 6.10, 6.11), by the types of the fields that they stand in.
-ALGORITHMS = {0x0004: "SHA1", 0x0006: "AES", 0x000A: "XOR", 0x000B: "SHA256", 0x000C: "SHA384", 0x0010: "NULL", 0x0043: "CFB"}
+ALGORITHMS = {
+    0x0004: "SHA1", 0x0006: "AES", 0x000A: "XOR", 0x000B: "SHA256", 0x000C: "SHA384", 0x0010: "NULL", 0x0043: "CFB",
+}
 ALGORITHMS = {number: "TPM_ALG_" + name for number, name in ALGORITHMS.items()}
 VALUE_NAMES = {
     "TPMI_ALG_HASH": ALGORITHMS,
@@ -202,7 +210,8 @@ class Frames:
             if how == 0:
                 yield dice.choice(("", "# " + digits, " \t#", "\r")), None, False
             elif how == 1:
-                digits = dice.choice((digits[1:], digits + "g", digits + '"', "\\" + digits, digits + "\x00", "\x7f", "caf\u00e9"))
+                digits = dice.choice((digits[1:], digits + "g", digits + '"', "\\" + digits, digits + "\x00", "\x7f",
+                                      "caf\u00e9"))
             elif how == 2:
                 digits = " ".join(digits[i:i + 8] for i in range(0, len(digits), 8)) + "\r"
             elif how == 3:
@@ -243,7 +252,8 @@ def session(data, at, names):
     attributes, at = take(data, at, 1)
     hmac, at = sized(data, at)
     attribute_names = [name for bit, name in enumerate(ATTRIBUTES) if name and attributes[0] >> bit & 1]
-    return dict(names, nonce=nonce.hex(), attributes=attributes.hex(), attribute_names=attribute_names, hmac=hmac.hex()), at
+    return dict(names, nonce=nonce.hex(), attributes=attributes.hex(), attribute_names=attribute_names,
+                hmac=hmac.hex()), at
 
 
 def handles(data, at, count):
@@ -281,7 +291,8 @@ def name_of(code):
 
 
 def header(mark, awaited, data, found):
-    """The members of the header, which fewer than ten bytes haven't. Of the name of a response's code only its form is known here."""
+    """The members of the header, which fewer than ten bytes haven't. Of the name of a response's code only its form is
+    known here."""
     if len(data) < 10:
         return {}
     tag, size, code = struct.unpack_from(">HII", data)
@@ -342,7 +353,8 @@ def may_be_told(sessions):
 
 
 def behind(mark, awaited, data):
-    """What is told by the library's table of a frame that the profile refuses, or has not; none where it isn't there."""
+    """What is told by the library's table of a frame that the profile refuses, or has not; none where it isn't
+    there."""
     if len(data) < 10:
         return {}
     tag, size, code = struct.unpack_from(">HII", data)
@@ -434,16 +446,21 @@ def value_name(kind, value):
 
 
 def check_field(field):
-    """The bytes of a field, which may have a list of its parts: fields, whose bytes are its own behind a size or a count, or numbers."""
-    want(isinstance(field, dict) and set(field) - {"fields", "value_name"} == {"name", "type", "value"}, f"the members of a field: {field}")
-    want(all(isinstance(field[key], str) and field[key] for key in ("name", "type")), f"a field's name and type: {field}")
+    """The bytes of a field, which may have a list of its parts: fields, whose bytes are its own behind a size or a
+    count, or numbers."""
+    want(isinstance(field, dict) and set(field) - {"fields", "value_name"} == {"name", "type", "value"},
+         f"the members of a field: {field}")
+    want(all(isinstance(field[key], str) and field[key] for key in ("name", "type")),
+         f"a field's name and type: {field}")
     value = hexadecimal(field["value"])
     want(field.get("value_name") == value_name(field["type"], field["value"]), f"the name of a value: {field}")
     parts = field.get("fields")
     want(parts is None or isinstance(parts, list), "fields that are no list")
     if parts is not None and field["type"] in NUMBERS:
-        want(all(set(part) == {"name", "number"} and type(part["number"]) is int and part["name"] for part in parts), f"the parts of {field}")
-        want([part["number"] for part in parts] == NUMBERS[field["type"]](int.from_bytes(value, "big"), value), f"the parts of {field}")
+        want(all(set(part) == {"name", "number"} and type(part["number"]) is int and part["name"] for part in parts),
+             f"the parts of {field}")
+        want([part["number"] for part in parts] == NUMBERS[field["type"]](int.from_bytes(value, "big"), value),
+             f"the parts of {field}")
     elif parts is not None:
         joined = b"".join(map(check_field, parts))
         want(joined in (value, value[2:], value[4:]), f"the parts of {field}")
@@ -451,7 +468,8 @@ def check_field(field):
 
 
 def same(found, wanted):
-    want(list(map(type, found.values())) == [type(wanted.get(key)) for key in found] and found == wanted, f"it is to say {wanted}")
+    want(list(map(type, found.values())) == [type(wanted.get(key)) for key in found] and found == wanted,
+         f"it is to say {wanted}")
 
 
 class Teller:
@@ -478,7 +496,8 @@ class Teller:
         if not mark:
             mark = "<" if self.awaited != NOTHING and (len(data) == 10 or code == 0) else ">"
         awaited, self.awaited = self.awaited, NOTHING
-        head = {"number": self.number, "kind": "command" if mark == ">" else "response", **header(mark, awaited, data, found)}
+        head = {"number": self.number, "kind": "command" if mark == ">" else "response",
+                **header(mark, awaited, data, found)}
         if mark == ">":
             self.awaited = UNKNOWN if code is None else code
         elif awaited in (NOTHING, UNKNOWN) or awaited not in COMMANDS:
@@ -513,7 +532,8 @@ class Teller:
 
 def told(words, path, compare, teller):
     """The program over the file, each of whose lines is compared."""
-    run = subprocess.Popen([PROGRAM, "show", "--json", *words, "--file", path], stdin=subprocess.DEVNULL, stdout=subprocess.PIPE, stderr=subprocess.PIPE)
+    run = subprocess.Popen([PROGRAM, "show", "--json", *words, "--file", path], stdin=subprocess.DEVNULL,
+                           stdout=subprocess.PIPE, stderr=subprocess.PIPE)
     line = b""
 
     def following():
@@ -533,7 +553,8 @@ def told(words, path, compare, teller):
     bad = teller.tally.get("refused", 0) + teller.tally.get("fault", 0)
     if errors or status != (1 if bad else 0):
         sys.exit(f"show --json {' '.join(words)}: status {status}: {errors!r}")
-    print(f"{' '.join(['--json', *words])}: {teller.number} objects:", ", ".join(f"{count} {kind}" for kind, count in sorted(teller.tally.items())))
+    tally = ", ".join(f"{count} {kind}" for kind, count in sorted(teller.tally.items()))
+    print(f"{' '.join(['--json', *words])}: {teller.number} objects:", tally)
 
 
 def main(count=50_000, seed=1):
@@ -564,10 +585,12 @@ def main(count=50_000, seed=1):
             capture.write(data)
         capture.write(b"\x80")
         capture.flush()
-        told(["--binary"], capture.name, lambda following, teller: compare_stream(following, teller, "cut short"), Teller(False))
+        told(["--binary"], capture.name, lambda following, teller: compare_stream(following, teller, "cut short"),
+             Teller(False))
         capture.write(b"\x01\x00\x00\x00\x09")
         capture.flush()
-        told(["--binary", "--fields"], capture.name, lambda following, teller: compare_stream(following, teller, "bad size"), Teller(True))
+        told(["--binary", "--fields"], capture.name,
+             lambda following, teller: compare_stream(following, teller, "bad size"), Teller(True))
 
 
 if __name__ == "__main__":

@@ -1,5 +1,5 @@
-"""Captures of a network for the cases of `show --pcap`, by Python's struct, as tcpdump writes them (pcap-savefile(5)) and as
-Wireshark does (draft-ietf-opsawg-pcapng).
+"""Captures of a network for the cases of `show --pcap`, by Python's struct, as tcpdump writes them (pcap-savefile(5))
+and as Wireshark does (draft-ietf-opsawg-pcapng).
 
     python3 checks/packets.py FOLDER
 
@@ -105,11 +105,13 @@ FILES = {
     "pieces": savefile(101, [to(1, STARTUP[:1]), to(2, STARTUP[1:]), back(1, DONE[:7]), back(8, DONE[7:] + EIGHT)]),
     "two": savefile(101, [to(1, STARTUP), back(1, DONE, 40001), to(1, STARTUP, 40001), back(11, DONE, 40001)]),
     "again": savefile(101, [to(1, STARTUP), to(1, STARTUP), back(1, DONE)]),
-    "lost": savefile(101, [to(1, STARTUP), back(1, DONE), to(25, STARTUP), back(21, DONE), to(37, STARTUP), back(31, DONE)]),
+    "lost": savefile(101, [to(1, STARTUP), back(1, DONE), to(25, STARTUP), back(21, DONE), to(37, STARTUP),
+                           back(31, DONE)]),
     "cut": savefile(101, [to(1, STARTUP), back(1, EIGHT), back(21, DONE)], captured=55),
     "fragment": savefile(101, [to(1, STARTUP, fragment=0x2000), back(1, DONE)]),
     "no_message": savefile(101, [to(1, b"GET / HTTP/1.1\r\n"), back(1, DONE)]),
-    "unfinished": savefile(101, [to(1, STARTUP[:5]), to(1, STARTUP, 40001), back(1, DONE, 40001), to(13, b"\x80", 40001)]),
+    "unfinished": savefile(101, [to(1, STARTUP[:5]), to(1, STARTUP, 40001), back(1, DONE, 40001),
+                                 to(13, b"\x80", 40001)]),
     "others": savefile(101, [ip(True, 0, struct.pack(">HH", 40000, 22) + bytes(16)), to(1, b""), to(1, STARTUP)]),
     "empty": savefile(101, []),
     "short": [next(savefile(101, []))[:23]],

@@ -1,10 +1,12 @@
 /* A program of examples/ on a stack of its own, painted so that it is seen how far down the program came.
  *
- *     painted BYTES    runs it on so many bytes of stack, and says on standard error how many of them were never written to
+ *     painted BYTES    runs it on so many bytes of stack, and says on standard error how many of them were never
+ *                      written to
  *
- * The program is linked to this one, its `main` or `_start` compiled as `example`, and its `printf` as `told`: what it prints is formatted
- * on the stack of this program, since a C library's printing is no part of what is measured. It runs in a process of its own, which may
- * end as it likes. Below its stack are pages that nothing may touch, more than a function can step over.
+ * The program is linked to this one, its `main` or `_start` compiled as `example`, and its `printf` as `told`: what it
+ * prints is formatted on the stack of this program, since a C library's printing is no part of what is measured. It
+ * runs in a process of its own, which may end as it likes. Below its stack are pages that nothing may touch, more than
+ * a function can step over.
  *
  * Its status is 0 where the program ended with 0 and left a part of its stack untouched. */
 #define _GNU_SOURCE
@@ -85,6 +87,7 @@ int main(int argc, char **argv) {
     if (WIFSIGNALED(status))
         fprintf(stderr, "painted: %zu bytes of stack: signal %d\n", bytes, WTERMSIG(status));
     else
-        fprintf(stderr, "painted: %zu bytes of stack: %zu untouched, status %d\n", bytes, untouched, WEXITSTATUS(status));
+        fprintf(stderr, "painted: %zu bytes of stack: %zu untouched, status %d\n", bytes, untouched,
+                WEXITSTATUS(status));
     return !WIFEXITED(status) || WEXITSTATUS(status) != 0 || untouched == 0;
 }

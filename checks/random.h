@@ -1,5 +1,5 @@
-/* What the programs beside this one share: random numbers that a seed repeats, bytes changed by them, numbers as a TPM writes them,
- * and a SHA-256 of their own. */
+/* What the programs beside this one share: random numbers that a seed repeats, bytes changed by them, numbers as a TPM
+ * writes them, and a SHA-256 of their own. */
 #ifndef RANDOM_H
 #define RANDOM_H
 
@@ -29,13 +29,14 @@ static size_t below(size_t n) {
     return (size_t)(number() >> 11) % n;
 }
 
-/* ---- SHA-256 (FIPS 180-4, section 6.2). Its constants are the first bits of the fractions of the roots of primes (4.2.2 and 5.3.3),
- * which are computed. */
+/* ---- SHA-256 (FIPS 180-4, section 6.2). Its constants are the first bits of the fractions of the roots of primes
+ * (4.2.2 and 5.3.3), which are computed. */
 
 __extension__ typedef unsigned __int128 wide;
 
 static uint32_t root_bits(unsigned prime, int cube) {
-    /* The greatest root whose power is at most prime * 2^(32 * degree), bit by bit; its low 32 bits are those of the fraction. */
+    /* The greatest root whose power is at most prime * 2^(32 * degree), bit by bit; its low 32 bits are those of the
+     * fraction. */
     uint64_t root = 0;
     for (int bit = 36; bit >= 0; bit--) {
         wide r = root | (uint64_t)1 << bit, power = r * r;
@@ -70,13 +71,16 @@ static void sha256(const uint8_t *bytes, size_t len, uint8_t *digest) {
         for (size_t i = 0; at + 64 >= len + 9 && i < 8; i++)
             block[56 + i] = (uint8_t)((uint64_t)len * 8 >> 8 * (7 - i));
         for (size_t i = 0; i < 64; i++)
-            w[i] = i < 16 ? (uint32_t)block[4 * i] << 24 | (uint32_t)block[4 * i + 1] << 16 | (uint32_t)block[4 * i + 2] << 8 | block[4 * i + 3]
+            w[i] = i < 16 ? (uint32_t)block[4 * i] << 24 | (uint32_t)block[4 * i + 1] << 16 |
+                                (uint32_t)block[4 * i + 2] << 8 | block[4 * i + 3]
                           : w[i - 16] + (rotate(w[i - 15], 7) ^ rotate(w[i - 15], 18) ^ w[i - 15] >> 3) + w[i - 7] +
                                 (rotate(w[i - 2], 17) ^ rotate(w[i - 2], 19) ^ w[i - 2] >> 10);
         memcpy(v, h, sizeof v);
         for (size_t i = 0; i < 64; i++) {
-            uint32_t one = v[7] + (rotate(v[4], 6) ^ rotate(v[4], 11) ^ rotate(v[4], 25)) + ((v[4] & v[5]) ^ (~v[4] & v[6])) + added[i] + w[i];
-            uint32_t two = (rotate(v[0], 2) ^ rotate(v[0], 13) ^ rotate(v[0], 22)) + ((v[0] & v[1]) ^ (v[0] & v[2]) ^ (v[1] & v[2]));
+            uint32_t one = v[7] + (rotate(v[4], 6) ^ rotate(v[4], 11) ^ rotate(v[4], 25)) +
+                           ((v[4] & v[5]) ^ (~v[4] & v[6])) + added[i] + w[i];
+            uint32_t two = (rotate(v[0], 2) ^ rotate(v[0], 13) ^ rotate(v[0], 22)) +
+                           ((v[0] & v[1]) ^ (v[0] & v[2]) ^ (v[1] & v[2]));
             memmove(v + 1, v, 7 * sizeof *v);
             v[4] += one;
             v[0] = one + two;

@@ -1,5 +1,6 @@
-/* One comparison of what a device, a caller or a verifier was sent with what it computes, where the two differ in one byte: valgrind
- * counts the instructions of the call around it. The words are the call, the byte, a log and a quote as it was signed by SHA-256.
+/* One comparison of what a device, a caller or a verifier was sent with what it computes, where the two differ in one
+ * byte: valgrind counts the instructions of the call around it. The words are the call, the byte, a log and a quote as
+ * it was signed by SHA-256.
  */
 #include "vinjakwe.h"
 
@@ -20,8 +21,10 @@ static const uint8_t owner_name[] = {0x40, 0, 0, 1};
 static const uint8_t index_name[] = {1, 0x80, 0, 1};
 static const uint8_t startup[] = {0x80, 1, 0, 0, 0, 12, 0, 0, 1, 0x44, 0, 0};
 static const uint8_t start[] = {0x80, 1, 0, 0, 0, 43, 0, 0, 1, 0x76, 0x40, 0, 0, 7, 0x40, 0, 0, 7, 0, NONCE_BYTES,
-                                1, 2, 3, 4, 5, 6, 7, 8, 9, 10, 11, 12, 13, 14, 15, 16, 0, 0, TPM_SE_HMAC, 0, TPM_ALG_NULL, 0, TPM_ALG_SHA256};
-static const uint8_t define[] = {0x80, 1, 0, 0, 0, 32, 0, 0, 1, 0x2A, 0x40, 0, 0, 1, 0, 0, 0, 14, 1, 0x80, 0, 1, 0, 0x0B, 2, 2, 0, 0x12, 0, 0, 0, 8};
+                                1, 2, 3, 4, 5, 6, 7, 8, 9, 10, 11, 12, 13, 14, 15, 16, 0, 0,
+                                TPM_SE_HMAC, 0, TPM_ALG_NULL, 0, TPM_ALG_SHA256};
+static const uint8_t define[] = {0x80, 1, 0, 0, 0, 32, 0, 0, 1, 0x2A, 0x40, 0, 0, 1, 0, 0, 0, 14, 1, 0x80, 0, 1, 0,
+                                 0x0B, 2, 2, 0, 0x12, 0, 0, 0, 8};
 static const uint8_t undefine[] = {0x80, 1, 0, 0, 0, 18, 0, 0, 1, 0x22, 0x40, 0, 0, 1, 1, 0x80, 0, 1};
 
 static void want(int holds, const char *what) {
@@ -54,8 +57,9 @@ static void begin(void) {
 /* The owner defines a counter; the answer is how many bytes the sealed command has, whose last are its parameters. */
 static size_t seal(const uint8_t *command, size_t len) {
     static const uint8_t nonce[NONCE_BYTES] = {9};
-    size_t sealed_len = tpm_caller_seal(caller, command, len, owner_name, sizeof owner_name, index_name, sizeof index_name, owner,
-                                        sizeof owner - 1, nonce, sizeof nonce, 1, sealed, sizeof sealed);
+    size_t sealed_len =
+        tpm_caller_seal(caller, command, len, owner_name, sizeof owner_name, index_name, sizeof index_name, owner,
+                        sizeof owner - 1, nonce, sizeof nonce, 1, sealed, sizeof sealed);
     want(sealed_len > 0, "nothing is sealed");
     return sealed_len;
 }
@@ -66,7 +70,8 @@ static void command_mac(size_t at) {
     size_t len = seal(define, sizeof define);
     sealed[len - 14 - 4 - 32 + at] ^= 1;
     transmit(sealed, len);
-    want(code() == (TPM_RC_AUTH_FAIL | TPM_RC_S | TPM_RC_1) || code() == (TPM_RC_BAD_AUTH | TPM_RC_S | TPM_RC_1), "the HMAC is taken");
+    want(code() == (TPM_RC_AUTH_FAIL | TPM_RC_S | TPM_RC_1) || code() == (TPM_RC_BAD_AUTH | TPM_RC_S | TPM_RC_1),
+         "the HMAC is taken");
 }
 
 /* The HMAC of a reply, its last bytes. */
@@ -91,7 +96,8 @@ static void password(size_t at) {
     memcpy(command + sizeof undefine + sizeof area, owner, sizeof owner - 1);
     command[sizeof undefine + sizeof area + at] ^= 1;
     transmit(command, sizeof command);
-    want(code() == (TPM_RC_AUTH_FAIL | TPM_RC_S | TPM_RC_1) || code() == (TPM_RC_BAD_AUTH | TPM_RC_S | TPM_RC_1), "the password is taken");
+    want(code() == (TPM_RC_AUTH_FAIL | TPM_RC_S | TPM_RC_1) || code() == (TPM_RC_BAD_AUTH | TPM_RC_S | TPM_RC_1),
+         "the password is taken");
 }
 
 static size_t read_file(const char *path, uint8_t *bytes, size_t most) {
@@ -116,12 +122,13 @@ static void verified(const char *call, size_t at, const char *log_path, const ch
         uint8_t nonce[64] = {0};
         memcpy(nonce, quote + view.nonce.at, view.nonce.len);
         nonce[at] ^= 1;
-        want(tpm_log_check_attest(log_bytes, log_len, quote, len, TPM_ALG_SHA256, nonce, view.nonce.len, nonce, 0, &fault) == TPM_ATTEST_NONCE,
+        want(tpm_log_check_attest(log_bytes, log_len, quote, len, TPM_ALG_SHA256, nonce, view.nonce.len, nonce, 0,
+                                  &fault) == TPM_ATTEST_NONCE,
              "the nonce is taken");
     } else {
         quote[view.digest.at + at] ^= 1;
-        want(tpm_log_check_quote(log_bytes, log_len, quote + view.selections.at, len - view.selections.at, TPM_ALG_SHA256, &place) ==
-                 TPM_QUOTE_DIFFERS,
+        want(tpm_log_check_quote(log_bytes, log_len, quote + view.selections.at, len - view.selections.at,
+                                 TPM_ALG_SHA256, &place) == TPM_QUOTE_DIFFERS,
              "the digest is taken");
     }
 }

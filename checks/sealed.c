@@ -1,12 +1,12 @@
 /* Commands sealed and replies opened through C, beside a caller that is written here by Part 1 alone.
  *
- *     sealed N SEED    N commands on registers and counters, each with random parameters, Names, nonces and room for what is sealed, in
- *                      HMAC sessions that are bound or not and in policy sessions, over one device. What is sealed has the bytes that
- *                      are computed here. The reply is opened, and before that cut and changed at random: each time with the answer
- *                      that Part 1 gives
+ *     sealed N SEED    N commands on registers and counters, each with random parameters, Names, nonces and room for
+ *                      what is sealed, in HMAC sessions that are bound or not and in policy sessions, over one device.
+ *                      What is sealed has the bytes that are computed here. The reply is opened, and before that cut
+ *                      and changed at random: each time with the answer that Part 1 gives
  *
- * Its status is 0 where all is as it should be, and then it says how often there was which answer; otherwise 1, with a line that says
- * what is not. */
+ * Its status is 0 where all is as it should be, and then it says how often there was which answer; otherwise 1, with a
+ * line that says what is not. */
 #include "random.h"
 
 #define GUARD 0xA5
@@ -88,7 +88,8 @@ static struct {
 } held;
 
 /* How often there was what. */
-static unsigned long sealed_commands, not_sealed, answered[TPM_CALLER_NOT_WAITING + 1], given_up, ended, lost, by_policy;
+static unsigned long sealed_commands, not_sealed, answered[TPM_CALLER_NOT_WAITING + 1], given_up, ended, lost,
+    by_policy;
 
 struct nonce {
     const uint8_t *at;
@@ -155,7 +156,8 @@ static void start(void) {
     to = put(put(to, TPM_RH_NULL, 4), is_bound ? TPM_RH_OWNER : TPM_RH_NULL, 4);
     to = put_bytes(put(to, nonce_len, 2), nonce.at, nonce_len);
     send_plain(put(put(put(put(to, 0, 2), is_policy, 1), TPM_ALG_NULL, 2), TPM_ALG_SHA256, 2), TPM_CC_StartAuthSession);
-    struct bytes sent = copied(command, command_len), came = copied(reply, reply_len), auth = copied((const uint8_t *)OWNER, strlen(OWNER));
+    struct bytes sent = copied(command, command_len), came = copied(reply, reply_len),
+                 auth = copied((const uint8_t *)OWNER, strlen(OWNER));
     uint32_t answer = tpm_caller_start(caller, sent.at, sent.len, came.at, came.len, auth.at, auth.len);
     if (answer != (uint32_t)is_done())
         wrong("a session is held where none is started, or is not where one is");
@@ -184,8 +186,9 @@ static const uint16_t hashes[] = {TPM_ALG_SHA1, TPM_ALG_SHA256, TPM_ALG_SHA384};
 static const size_t lengths[] = {20, 32, 48};
 
 static int is_authorized(uint32_t code) {
-    return code == TPM_CC_PCR_Extend || code == TPM_CC_PCR_Event || code == TPM_CC_PCR_Reset || code == TPM_CC_NV_DefineSpace ||
-           code == TPM_CC_NV_UndefineSpace || code == TPM_CC_NV_Increment || code == TPM_CC_NV_Read;
+    return code == TPM_CC_PCR_Extend || code == TPM_CC_PCR_Event || code == TPM_CC_PCR_Reset ||
+           code == TPM_CC_NV_DefineSpace || code == TPM_CC_NV_UndefineSpace || code == TPM_CC_NV_Increment ||
+           code == TPM_CC_NV_Read;
 }
 
 /* How many handles such a command has. */
@@ -199,7 +202,8 @@ static uint8_t *put_random(uint8_t *to, size_t len) {
     return to;
 }
 
-/* The policy of the counter that a policy session may increment: TPM2_PolicyCommandCode of TPM2_NV_Increment (Part 3, 23.11). */
+/* The policy of the counter that a policy session may increment: TPM2_PolicyCommandCode of TPM2_NV_Increment
+ * (Part 3, 23.11). */
 static uint8_t *put_policy(uint8_t *to) {
     uint8_t text[DIGEST + 8] = {0};
     put(put(text + DIGEST, TPM_CC_PolicyCommandCode, 4), TPM_CC_NV_Increment, 4);
@@ -286,7 +290,8 @@ static void random_command(void) {
 
 /* ---- sealing */
 
-/* The Name of an entity (Part 1, "Names"): of an index what TPM2_NV_ReadPublic answers last, which is 34 bytes; of another its handle. */
+/* The Name of an entity (Part 1, "Names"): of an index what TPM2_NV_ReadPublic answers last, which is 34 bytes; of
+ * another its handle. */
 static struct bytes name_of(uint32_t handle) {
     uint8_t asked[14];
     if (handle >> 24 == 1) {
@@ -298,8 +303,8 @@ static struct bytes name_of(uint32_t handle) {
     return copied(asked, 4);
 }
 
-/* What follows the session key in the key of the HMAC: the authorization value of what the first handle names, or nothing where a session
- * is bound to it, or where a policy does not ask for it. */
+/* What follows the session key in the key of the HMAC: the authorization value of what the first handle names, or
+ * nothing where a session is bound to it, or where a policy does not ask for it. */
 static struct bytes auth_for(uint32_t handle) {
     if (held.handle >> 24 == 3)
         return block(0);
@@ -308,7 +313,8 @@ static struct bytes auth_for(uint32_t handle) {
     return handle >> 24 == 1 ? auth_of(handle) : block(0);
 }
 
-/* The bytes that are to be sent: the command, with the session as its authorization (Part 1, "Session-Based Authorizations"). */
+/* The bytes that are to be sent: the command, with the session as its authorization (Part 1, "Session-Based
+ * Authorizations"). */
 static struct bytes sealing(const struct bytes *names, size_t handles) {
     static uint8_t sealed[2 * TPM_BUFFER_BYTES], hashed[TPM_BUFFER_BYTES + 4 * MOST_NAME];
     const uint8_t *parameters = command + 10 + 4 * handles;
@@ -334,7 +340,8 @@ static void assert_policy(void) {
     uint8_t asked[18];
     put(put(put(put(asked, 0x8001, 2), 14, 4), TPM_CC_PolicyRestart, 4), held.handle, 4);
     transmit(asked, 14);
-    put(put(put(put(put(asked, 0x8001, 2), 18, 4), TPM_CC_PolicyCommandCode, 4), held.handle, 4), TPM_CC_NV_Increment, 4);
+    put(put(put(put(put(asked, 0x8001, 2), 18, 4), TPM_CC_PolicyCommandCode, 4), held.handle, 4), TPM_CC_NV_Increment,
+        4);
     transmit(asked, 18);
 }
 
@@ -350,7 +357,8 @@ static void seal(void) {
     uint32_t code = command_len < 10 ? 0 : number_at(command + 6, 4);
     int may = tpm_command_decode(plain.at, plain.len, &refusal) == TPM_DONE && is_authorized(code);
     size_t handles = may ? handles_of(code) : 1;
-    uint32_t first = may ? number_at(command + 10, 4) : TPM_RH_OWNER, second = may && handles == 2 ? number_at(command + 14, 4) : first;
+    uint32_t first = may ? number_at(command + 10, 4) : TPM_RH_OWNER,
+             second = may && handles == 2 ? number_at(command + 14, 4) : first;
     struct bytes names[2] = {name_of(first), name_of(second)};
     struct bytes auth = auth_for(first), nonce = random_bytes(below(16) ? below(MOST_NONCE + 1) : below(64));
     struct bytes room = block((below(16) ? TPM_BUFFER_BYTES : below(TPM_BUFFER_BYTES)) + MARGIN);
@@ -367,10 +375,10 @@ static void seal(void) {
     size_t room_len = room.len - MARGIN;
     uint32_t keep = below(8) != 0;
     memset(room.at, GUARD, room.len);
-    may = may && held.phase == FREE && room_len >= TPM_BUFFER_BYTES && nonce.len <= MOST_NONCE && names[0].len <= MOST_NAME &&
-          (handles == 1 || names[1].len <= MOST_NAME);
-    size_t count = tpm_caller_seal(caller, plain.at, plain.len, names[0].at, names[0].len, names[1].at, names[1].len, auth.at,
-                                   auth.len, nonce.at, nonce.len, keep, room.at, room_len);
+    may = may && held.phase == FREE && room_len >= TPM_BUFFER_BYTES && nonce.len <= MOST_NONCE &&
+          names[0].len <= MOST_NAME && (handles == 1 || names[1].len <= MOST_NAME);
+    size_t count = tpm_caller_seal(caller, plain.at, plain.len, names[0].at, names[0].len, names[1].at, names[1].len,
+                                   auth.at, auth.len, nonce.at, nonce.len, keep, room.at, room_len);
     if ((count != 0) != may)
         wrong(may ? "a command is not sealed" : "a command is sealed that can't be");
     for (size_t i = count; i < room.len; i++)
@@ -426,7 +434,8 @@ static uint32_t opening(const struct bytes *came, const uint8_t **nonce) {
     uint8_t *to = put_bytes(put(put(hashed, 0, 4), held.code, 4), came->at + 14, len);
     session_mac((struct bytes){hashed, (size_t)(to - hashed)}, (struct nonce){*nonce, nonce_len},
                 (struct nonce){held.nonce_caller, held.nonce_caller_len}, came->at[behind], mac);
-    return mac_len == DIGEST && memcmp(came->at + behind + 3, mac, DIGEST) == 0 ? TPM_CALLER_OPENED : TPM_CALLER_WRONG_MAC;
+    return mac_len == DIGEST && memcmp(came->at + behind + 3, mac, DIGEST) == 0 ? TPM_CALLER_OPENED
+                                                                                : TPM_CALLER_WRONG_MAC;
 }
 
 static void open_reply(const uint8_t *bytes, size_t len) {
@@ -459,8 +468,8 @@ static void give_up(const uint8_t *bytes, size_t len) {
     free(came.at);
 }
 
-/* Another reply in the place of the one that is awaited: bytes are changed, or where that is right it has no session, a session twice, or
- * a nonce that is shorter by a byte. */
+/* Another reply in the place of the one that is awaited: bytes are changed, or where that is right it has no session, a
+ * session twice, or a nonce that is shorter by a byte. */
 static size_t make_other(uint8_t *other) {
     size_t len = awaited_len, at = len < 16 ? len : 14 + number_at(awaited + 10, 4), session = len - at;
     memcpy(other, awaited, len);
@@ -529,9 +538,9 @@ int main(int argc, char **argv) {
     }
     printf("sealed %lu, not sealed %lu\n", sealed_commands, not_sealed);
     printf("opened %lu, by a policy %lu, the last of a session %lu\n", answered[TPM_CALLER_OPENED], by_policy, ended);
-    printf("refused %lu, a code %lu, not expected %lu, a wrong HMAC %lu, not awaited %lu\n", answered[TPM_CALLER_REFUSED],
-           answered[TPM_CALLER_CODE], answered[TPM_CALLER_NOT_EXPECTED], answered[TPM_CALLER_WRONG_MAC],
-           answered[TPM_CALLER_NOT_WAITING]);
+    printf("refused %lu, a code %lu, not expected %lu, a wrong HMAC %lu, not awaited %lu\n",
+           answered[TPM_CALLER_REFUSED], answered[TPM_CALLER_CODE], answered[TPM_CALLER_NOT_EXPECTED],
+           answered[TPM_CALLER_WRONG_MAC], answered[TPM_CALLER_NOT_WAITING]);
     printf("given up %lu, lost %lu\n", given_up, lost);
     for (size_t i = 0; count >= 10000 && i < sizeof answered / sizeof *answered; i++)
         if (answered[i] == 0)

@@ -1,25 +1,25 @@
-"""Frames as tshark tells them beside `show --json`: the same sizes, codes, names of commands, handles and sessions. Those of the
-packets that tshark reads are told as those of lines.
+"""Frames as tshark tells them beside `show --json`: the same sizes, codes, names of commands, handles and sessions.
+Those of the packets that tshark reads are told as those of lines.
 
     python3 checks/tshark.py [CAPTURE]
 
-From the top of the repository, over the program that was built. Without words the frames are a command and a response of each
-command of the library, with sessions and without. They are written as packets between a caller and port 2321.
+From the top of the repository, over the program that was built. Without words the frames are a command and a response
+of each command of the library, with sessions and without. They are written as packets between a caller and port 2321.
 """
 import json
 import re
 import struct
 import subprocess
 import sys
-import tempfile
 import xml.etree.ElementTree as xml
+from tempfile import NamedTemporaryFile
 
 sys.dont_write_bytecode = True
 
 from objects import COMMANDS, PROGRAM
 
-# Of these tshark has another number of handles than Part 3: nvIndex is none there, flushHandle is one, and of the last two it
-# knows none.
+# Of these tshark has another number of handles than Part 3: nvIndex is none there, flushHandle is one, and of the last
+# two it knows none.
 OTHERS = {"NV_Read", "FlushContext", "ECC_Encrypt", "ECC_Decrypt"}
 PASSWORD = bytes.fromhex("40000009 0000 01 0002 abcd")
 HMAC = bytes.fromhex("02000001 0010") + bytes(range(16)) + bytes.fromhex("61 0020") + bytes(range(32))
@@ -55,7 +55,8 @@ def packets(frames):
     sent = {">": 1, "<": 1}
     for number, (mark, data) in enumerate(frames):
         ports, ends = ((40000, 2321), "7f0000017f000002") if mark == ">" else ((2321, 40000), "7f0000027f000001")
-        tcp = struct.pack(">HHIIBBHHH", *ports, sent[mark], sent["<" if mark == ">" else ">"], 0x50, 0x18, 65535, 0, 0) + data
+        tcp = struct.pack(">HHIIBBHHH", *ports, sent[mark], sent["<" if mark == ">" else ">"],
+                          0x50, 0x18, 65535, 0, 0) + data
         head = struct.pack(">BBHHHBBH", 0x45, 0, 20 + len(tcp), number & 0xFFFF, 0, 64, 6, 0) + bytes.fromhex(ends)
         yield struct.pack("<IIII", number, 0, len(head) + len(tcp), len(head) + len(tcp)) + head + tcp
         sent[mark] += len(data)
@@ -66,7 +67,8 @@ def by_tshark(path):
     words = ["tshark", "-r", path, "-T", "pdml", "-d", "tcp.port==2321,tpm", "-o", "tcp.desegment_tcp_streams:FALSE"]
     told = xml.fromstring(subprocess.run(words, check=True, capture_output=True).stdout)
     for packet in told.iter("packet"):
-        fields = [field for proto in packet.iter("proto") if proto.get("name") == "tpm" for field in proto.iter("field")]
+        fields = [field for proto in packet.iter("proto") if proto.get("name") == "tpm"
+                  for field in proto.iter("field")]
         one = {}
         for field in fields:
             name, shown, value = field.get("name"), field.get("showname") or "", field.get("value")
@@ -79,9 +81,11 @@ def by_tshark(path):
             elif name == "tpm.resp.rc":
                 one["code"] = f"{int(value, 16):03x}"
             elif name == "tpm.req.hndl":
-                one["handles"] = [inner.get("value") for inner in field.iter("field") if inner.get("name").startswith("tpm.handle")]
+                one["handles"] = [inner.get("value") for inner in field.iter("field")
+                                  if inner.get("name").startswith("tpm.handle")]
             elif name == "tpm.req.auth":
-                for key, inner in (("sessions", "tpm.handle.TPMI_SH_AUTH_SESSION"), ("nonces", "tpm.auth_nonce"), ("hmacs", "tpm.session_auth")):
+                for key, inner in (("sessions", "tpm.handle.TPMI_SH_AUTH_SESSION"), ("nonces", "tpm.auth_nonce"),
+                                   ("hmacs", "tpm.session_auth")):
                     found = [it.get("value") or "" for it in field.iter("field") if it.get("name") == inner]
                     if found:
                         one[key] = found
@@ -117,7 +121,7 @@ def differ(one, other):
 
 def main(capture=None):
     frames = list(read(capture) if capture else made())
-    with tempfile.NamedTemporaryFile(suffix=".pcap") as file, tempfile.NamedTemporaryFile("w", suffix=".frames") as text:
+    with NamedTemporaryFile(suffix=".pcap") as file, NamedTemporaryFile("w", suffix=".frames") as text:
         for packet in packets(frames):
             file.write(packet)
         file.flush()
@@ -133,7 +137,8 @@ def main(capture=None):
         for what in differ(one, other):
             wrong += 1
             print(f"{number + 1}: tshark has {what}: {json.dumps(other)[:300]}")
-    kinds = {key: sum(key in one for one in theirs) for key in ("command_code", "name", "code", "handles", "sessions", "nonces")}
+    kinds = {key: sum(key in one for one in theirs)
+             for key in ("command_code", "name", "code", "handles", "sessions", "nonces")}
     if wrong or not all(kinds.values()):
         sys.exit(f"{wrong} differ of {len(frames)} frames; tshark tells {kinds}")
     print(f"{len(frames)} frames as tshark tells them: {kinds}")

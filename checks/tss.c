@@ -1,5 +1,6 @@
-/* What tpm2-tss' integration tests ask of a TPM, by its libraries (libtss2-sys, libtss2-esys), over the TCTI that the first word names;
- * a line for each test, with its result. The tests go by the names that they have there, and are those that the profile can answer.
+/* What tpm2-tss' integration tests ask of a TPM, by its libraries (libtss2-sys, libtss2-esys), over the TCTI that the
+ * first word names; a line for each test, with its result. The tests go by the names that they have there, and are
+ * those that the profile can answer.
  *
  *     tss TCTI [TEST ..]          ok TEST, or: failed TEST, where, and the response code
  */
@@ -63,7 +64,8 @@ static int sys_initialize(void) {
     TSS2_SYS_CONTEXT *made = calloc(1, size);
     TSS2_TCTI_CONTEXT_COMMON_V1 empty = {0};
     TSS2_RC said[] = {Tss2_Sys_Initialize(NULL, 10, tcti, &version), Tss2_Sys_Initialize(made, 10, NULL, &version),
-        Tss2_Sys_Initialize(made, 10, tcti, &version), Tss2_Sys_Initialize(made, size, (TSS2_TCTI_CONTEXT *)&empty, &version)};
+                      Tss2_Sys_Initialize(made, 10, tcti, &version),
+                      Tss2_Sys_Initialize(made, size, (TSS2_TCTI_CONTEXT *)&empty, &version)};
     free(made);
     IS(said[0] == TSS2_SYS_RC_BAD_REFERENCE && said[1] == TSS2_SYS_RC_BAD_REFERENCE);
     IS(said[2] == TSS2_SYS_RC_INSUFFICIENT_CONTEXT && said[3] == TSS2_SYS_RC_BAD_TCTI_STRUCTURE);
@@ -96,7 +98,8 @@ static int sys_tpm_properties(void) {
     TPMS_CAPABILITY_DATA found;
     TPMI_YES_NO more;
     DOES(Tss2_Sys_GetCapability(sys, NULL, TPM2_CAP_TPM_PROPERTIES, TPM2_PT_MANUFACTURER, 1, &more, &found, NULL));
-    IS(found.capability == TPM2_CAP_TPM_PROPERTIES && found.data.tpmProperties.tpmProperty[0].property == TPM2_PT_MANUFACTURER);
+    IS(found.capability == TPM2_CAP_TPM_PROPERTIES &&
+       found.data.tpmProperties.tpmProperty[0].property == TPM2_PT_MANUFACTURER);
     DOES(Tss2_Sys_GetCapability(sys, NULL, TPM2_CAP_TPM_PROPERTIES, TPM2_PT_REVISION, 1, &more, &found, NULL));
     IS(found.data.tpmProperties.count == 1 && found.data.tpmProperties.tpmProperty[0].property == TPM2_PT_REVISION);
     return 1;
@@ -129,8 +132,8 @@ static int sys_start_auth_session(void) {
     for (size_t i = 0; i < 3; i++) {
         TPM2_SE kind = (TPM2_SE[]){TPM2_SE_POLICY, TPM2_SE_TRIAL, TPM2_SE_HMAC}[i];
         from_tpm.size = sizeof from_tpm.buffer;
-        DOES(Tss2_Sys_StartAuthSession(sys, TPM2_RH_NULL, TPM2_RH_NULL, NULL, &nonce, &salt, kind, &none, TPM2_ALG_SHA256,
-            &handles[i], &from_tpm, NULL));
+        DOES(Tss2_Sys_StartAuthSession(sys, TPM2_RH_NULL, TPM2_RH_NULL, NULL, &nonce, &salt, kind, &none,
+                                       TPM2_ALG_SHA256, &handles[i], &from_tpm, NULL));
     }
     for (size_t i = 0; i < 3; i++)
         DOES(Tss2_Sys_FlushContext(sys, handles[i]));
@@ -210,8 +213,8 @@ static TPM2B_NV_PUBLIC counter_public(void) {
     TPM2B_NV_PUBLIC it = {0};
     it.nvPublic.nvIndex = TPM2_NV_INDEX_FIRST;
     it.nvPublic.nameAlg = TPM2_ALG_SHA256;
-    it.nvPublic.attributes = TPMA_NV_OWNERWRITE | TPMA_NV_AUTHWRITE | TPMA_NV_WRITE_STCLEAR | TPM2_NT_COUNTER << TPMA_NV_TPM2_NT_SHIFT |
-        TPMA_NV_AUTHREAD | TPMA_NV_OWNERREAD;
+    it.nvPublic.attributes = TPMA_NV_OWNERWRITE | TPMA_NV_AUTHWRITE | TPMA_NV_WRITE_STCLEAR |
+                             TPM2_NT_COUNTER << TPMA_NV_TPM2_NT_SHIFT | TPMA_NV_AUTHREAD | TPMA_NV_OWNERREAD;
     it.nvPublic.dataSize = 8;
     return it;
 }
@@ -230,7 +233,8 @@ static int has_its_name(ESYS_TR object) {
     return 1;
 }
 
-/* A counter is defined, incremented, read and undefined, by this session and with an authorization value of so many bytes. */
+/* A counter is defined, incremented, read and undefined, by this session and with an authorization value of so many
+ * bytes. */
 static int counts(ESYS_TR session, UINT16 auth_size) {
     TPM2B_AUTH auth = {.size = auth_size};
     TPM2B_NV_PUBLIC public = counter_public();

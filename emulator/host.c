@@ -243,8 +243,8 @@ static bool list_handles(struct entries *list, struct machine *machine, uint32_t
     return true;
 }
 
-/* TPMS_TAGGED_PCR_SELECT: which registers are extended, and which are reset, from locality 0; the value is a selection of
- * three bytes behind its size. */
+/* TPMS_TAGGED_PCR_SELECT: which registers are extended, and which are reset, from locality 0; the value is a selection
+ * of three bytes behind its size. */
 static void list_register_properties(struct entries *list) {
     add(list, 1, 0x03FFFF81);
     add(list, 2, 0x03000081);

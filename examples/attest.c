@@ -1,12 +1,13 @@
-/* A quote as it was signed, as `tpm2_quote -m` writes it, beside the log of the machine: what it says, and whether it is the one that
- * was asked for. Its signature is verified before, by other means.
+/* A quote as it was signed, as `tpm2_quote -m` writes it, beside the log of the machine: what it says, and whether it
+ * is the one that was asked for. Its signature is verified before, by other means.
  *
  *     attest LOG QUOTE sha1|sha256|sha384 NONCE_HEX REQUIRED
  *     attest --changed COUNT LOG QUOTE sha1|sha256|sha384 NONCE_HEX REQUIRED
  *
- * REQUIRED is as tpm2-tools write selections, like sha256:0,1,2+sha1:7 or sha256:all, and - where nothing is required. The status is 0
- * where the quote is the one that was asked for. With --changed the quote is changed at random so often, and what is answered of it is
- * looked at: each part that is told lies in its bytes, and a changed quote is refused or has another verdict or other parts. */
+ * REQUIRED is as tpm2-tools write selections, like sha256:0,1,2+sha1:7 or sha256:all, and - where nothing is required.
+ * The status is 0 where the quote is the one that was asked for. With --changed the quote is changed at random so
+ * often, and what is answered of it is looked at: each part that is told lies in its bytes, and a changed quote is
+ * refused or has another verdict or other parts. */
 #include "vinjakwe.h"
 
 #include <stdio.h>
@@ -16,7 +17,9 @@
 static uint8_t log_bytes[1 << 20], quote[TPM_BUFFER_BYTES], nonce[TPM_BUFFER_BYTES], required[64];
 static size_t log_len, quote_len, nonce_len, required_len;
 
-static const char *const kinds[] = {"Done", "Truncated", "TooLong", "NotCryptoAgile", "BadHeader", "DuplicateAlgorithm", "WrongDigestSize", "UnknownAlgorithm", "RepeatedDigest", "BadRegister", "BadLocality", "LateLocality"};
+static const char *const kinds[] = {"Done", "Truncated", "TooLong", "NotCryptoAgile", "BadHeader",
+                                    "DuplicateAlgorithm", "WrongDigestSize", "UnknownAlgorithm", "RepeatedDigest",
+                                    "BadRegister", "BadLocality", "LateLocality"};
 
 static const struct bank {
     const char *name;
@@ -137,12 +140,16 @@ static void print_verdict(uint32_t said, const struct tpm_attest_fault *fault) {
     switch (said) {
     case TPM_ATTEST_MATCHES: printf("matches\n"); break;
     case TPM_ATTEST_DIFFERS: printf("digest differs\n"); break;
-    case TPM_ATTEST_REFUSED: printf("quote refused %04lx at %lu\n", (unsigned long)fault->code, (unsigned long)fault->at); break;
+    case TPM_ATTEST_REFUSED:
+        printf("quote refused %04lx at %lu\n", (unsigned long)fault->code, (unsigned long)fault->at);
+        break;
     case TPM_ATTEST_NO_BANK: printf("no bank\n"); break;
     case TPM_ATTEST_NONCE: printf("nonce differs\n"); break;
     case TPM_ATTEST_LACKS: printf("selection lacks %s %lu\n", bank_name(fault->hash), (unsigned long)fault->pcr); break;
     case TPM_ATTEST_EMPTY: printf("selection is empty\n"); break;
-    case TPM_ATTEST_REQUIREMENT: printf("requirement refused %04lx at %lu\n", (unsigned long)fault->code, (unsigned long)fault->at); break;
+    case TPM_ATTEST_REQUIREMENT:
+        printf("requirement refused %04lx at %lu\n", (unsigned long)fault->code, (unsigned long)fault->at);
+        break;
     default: printf("log %s at %lu\n", kinds[said], (unsigned long)fault->at);
     }
 }
@@ -197,18 +204,23 @@ static int try_changed(unsigned long count, uint16_t hash) {
         uint32_t decoded = tpm_attest_decode(bytes, len, &view, &refusal);
         uint32_t said = check(bytes, len, hash, &fault);
         int same = len == quote_len && memcmp(bytes, quote, len) == 0;
-        int whole = decoded == TPM_DONE && lies_in(view.signer, len) && lies_in(view.nonce, len) && lies_in(view.selections, len) &&
-                    lies_in(view.digest, len) && view.digest.at + view.digest.len == len;
-        int refused = decoded == TPM_REFUSED && refusal.at <= len && said == TPM_ATTEST_REFUSED && fault.code == refusal.code && fault.at == refusal.at;
-        if ((!whole && !refused) || (whole && said == TPM_ATTEST_REFUSED) || (same && said != TPM_ATTEST_MATCHES) || said > TPM_ATTEST_REQUIREMENT) {
-            printf("a changed quote of %lu bytes has the answers %lu and %lu\n", (unsigned long)len, (unsigned long)decoded, (unsigned long)said);
+        int whole = decoded == TPM_DONE && lies_in(view.signer, len) && lies_in(view.nonce, len) &&
+                    lies_in(view.selections, len) && lies_in(view.digest, len) &&
+                    view.digest.at + view.digest.len == len;
+        int refused = decoded == TPM_REFUSED && refusal.at <= len && said == TPM_ATTEST_REFUSED &&
+                      fault.code == refusal.code && fault.at == refusal.at;
+        if ((!whole && !refused) || (whole && said == TPM_ATTEST_REFUSED) || (same && said != TPM_ATTEST_MATCHES) ||
+            said > TPM_ATTEST_REQUIREMENT) {
+            printf("a changed quote of %lu bytes has the answers %lu and %lu\n", (unsigned long)len,
+                   (unsigned long)decoded, (unsigned long)said);
             return 1;
         }
         answers[said]++;
         free(bytes);
     }
-    fprintf(stderr, "matches %lu, differs %lu, refused %lu, nonce %lu, lacks %lu, empty %lu\n", answers[TPM_ATTEST_MATCHES], answers[TPM_ATTEST_DIFFERS],
-            answers[TPM_ATTEST_REFUSED], answers[TPM_ATTEST_NONCE], answers[TPM_ATTEST_LACKS], answers[TPM_ATTEST_EMPTY]);
+    fprintf(stderr, "matches %lu, differs %lu, refused %lu, nonce %lu, lacks %lu, empty %lu\n",
+            answers[TPM_ATTEST_MATCHES], answers[TPM_ATTEST_DIFFERS], answers[TPM_ATTEST_REFUSED],
+            answers[TPM_ATTEST_NONCE], answers[TPM_ATTEST_LACKS], answers[TPM_ATTEST_EMPTY]);
     return 0;
 }
 

@@ -1,16 +1,17 @@
-/* A device behind a stream: commands come one after the other on standard input, and their responses go to standard output, as the
- * end of a bridge between a socket and a process. The nonces are from /dev/urandom. With the word `power` in place of `stream` the
- * five bytes `power` between two commands cycle the power, and nothing is answered to them: no command begins like that. An end of
- * input inside a command is a fault, which comes after the answers to the commands before it.
+/* A device behind a stream: commands come one after the other on standard input, and their responses go to standard
+ * output, as the end of a bridge between a socket and a process. The nonces are from /dev/urandom. With the word
+ * `power` in place of `stream` the five bytes `power` between two commands cycle the power, and nothing is answered to
+ * them: no command begins like that. An end of input inside a command is a fault, which comes after the answers to the
+ * commands before it.
  *
- * With the word `script` it reads a script as `tpmtool run` does: a command a line in hexadecimal, or `power`, which cycles the
- * power. Its nonces are then those of `tpmtool run`: each the number of the command, in 16 bytes, four times over. They repeat at
- * each run, which is fit for tests alone.
+ * With the word `script` it reads a script as `tpmtool run` does: a command a line in hexadecimal, or `power`, which
+ * cycles the power. Its nonces are then those of `tpmtool run`: each the number of the command, in 16 bytes, four times
+ * over. They repeat at each run, which is fit for tests alone.
  *
  *     device [stream|power|script [OWNER_HEX [GREATEST]]]
  *
- * Its status is 0 where all was answered, 1 for a line of a script that is not hexadecimal, 2 for words that it does not know, and 3
- * for a fault of reading or writing, or a stream that is broken or ends inside a command.
+ * Its status is 0 where all was answered, 1 for a line of a script that is not hexadecimal, 2 for words that it does
+ * not know, and 3 for a fault of reading or writing, or a stream that is broken or ends inside a command.
  */
 #include "vinjakwe.h"
 
@@ -35,8 +36,8 @@ static int usage(const char *what) {
     return 2;
 }
 
-/* Writes the bytes of hexadecimal text, at most `most`, and says how many they are in `count`. It answers 0 where the text has another
- * character, an odd number of them or more bytes. */
+/* Writes the bytes of hexadecimal text, at most `most`, and says how many they are in `count`. It answers 0 where the
+ * text has another character, an odd number of them or more bytes. */
 static int bytes_of(const char *text, uint8_t *bytes, size_t most, size_t *count) {
     size_t len = strlen(text);
     unsigned byte;

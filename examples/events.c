@@ -3,10 +3,12 @@
  *     events             REGISTER TYPE AT+LENGTH HASH:AT+LENGTH[*] ..
  *     events bytes       REGISTER TYPE DATA HASH:DIGEST[*] ..
  *     events variables   REGISTER TYPE GUID NAME VALUE, where each lies, of the records whose data are a variable
- *     events texts       REGISTER NAME [text TEXT], the type by its name where it has one, and the data where they are text
+ *     events texts       REGISTER NAME [text TEXT], the type by its name where it has one, and the data where they are
+ *                        text
  *
- * A type and the numbers of the hashes are hexadecimal; first come the event's data, or where they are, and then each digest. A
- * star says that the digest is the hash of the data: firmware measures some events by the hash of something else, as of a program.
+ * A type and the numbers of the hashes are hexadecimal; first come the event's data, or where they are, and then each
+ * digest. A star says that the digest is the hash of the data: firmware measures some events by the hash of something
+ * else, as of a program.
  */
 #include "vinjakwe.h"
 
@@ -18,7 +20,9 @@
 
 static uint8_t bytes[LOG_BYTES + 1];
 
-static const char *const kinds[] = {"Done", "Truncated", "TooLong", "NotCryptoAgile", "BadHeader", "DuplicateAlgorithm", "WrongDigestSize", "UnknownAlgorithm", "RepeatedDigest", "BadRegister", "BadLocality", "LateLocality"};
+static const char *const kinds[] = {"Done", "Truncated", "TooLong", "NotCryptoAgile", "BadHeader",
+                                    "DuplicateAlgorithm", "WrongDigestSize", "UnknownAlgorithm", "RepeatedDigest",
+                                    "BadRegister", "BadLocality", "LateLocality"};
 
 static void print_part(struct tpm_part part, int whole) {
     if (!whole)

@@ -1,8 +1,10 @@
-/* A log of a measured boot from standard input: the registers that it gives, as `tpmtool check` prints them, or the log's fault.
+/* A log of a measured boot from standard input: the registers that it gives, as `tpmtool check` prints them, or the
+ * log's fault.
  *
- * The log may have any size: it is replayed in pieces as they are read, of 65,536 bytes or of the number that is given, and none of
- * it is kept. With the word `whole` it is read as a whole first, as far as a log can go; so it is with the information of a quote in
- * hexadecimal, of which it says what the quote says of the registers, by its digest under this hash.
+ * The log may have any size: it is replayed in pieces as they are read, of 65,536 bytes or of the number that is given,
+ * and none of it is kept. With the word `whole` it is read as a whole first, as far as a log can go; so it is with the
+ * information of a quote in hexadecimal, of which it says what the quote says of the registers, by its digest under
+ * this hash.
  *
  *     log [whole | PIECE_BYTES | QUOTE_HEX sha1|sha256|sha384]
  */
@@ -19,7 +21,9 @@
 static uint8_t bytes[LOG_BYTES + 1], registers[TPM_REGISTERS_BYTES], quote[TPM_BUFFER_BYTES];
 static uint64_t replay_room[1024];
 
-static const char *const kinds[] = {"Done", "Truncated", "TooLong", "NotCryptoAgile", "BadHeader", "DuplicateAlgorithm", "WrongDigestSize", "UnknownAlgorithm", "RepeatedDigest", "BadRegister", "BadLocality", "LateLocality"};
+static const char *const kinds[] = {"Done", "Truncated", "TooLong", "NotCryptoAgile", "BadHeader",
+                                    "DuplicateAlgorithm", "WrongDigestSize", "UnknownAlgorithm", "RepeatedDigest",
+                                    "BadRegister", "BadLocality", "LateLocality"};
 
 static const struct bank {
     const char *name;
@@ -109,7 +113,9 @@ int main(int argc, char **argv) {
         char *end = "";
         size_t size = argc == 2 ? (size_t)strtoul(argv[1], &end, 10) : PIECE_BYTES;
         if (argc > 3 || *end != '\0' || size == 0 || size > sizeof bytes) {
-            fprintf(stderr, "usage: log [whole | PIECE_BYTES | QUOTE_HEX sha1|sha256|sha384], where a piece has 1 to %lu bytes\n",
+            fprintf(stderr,
+                    "usage: log [whole | PIECE_BYTES | QUOTE_HEX sha1|sha256|sha384], where a piece has 1 to "
+                    "%lu bytes\n",
                     (unsigned long)sizeof bytes);
             return 2;
         }

@@ -1,5 +1,6 @@
-/* The digest of a policy in each hash, without a device: that the registers 0 and 7 of SHA-256 are zeros and the command is
- * NV_Increment, or that the authorization value is known. An index that is defined with such a digest asks for that policy.
+/* The digest of a policy in each hash, without a device: that the registers 0 and 7 of SHA-256 are zeros and the
+ * command is NV_Increment, or that the authorization value is known. An index that is defined with such a digest asks
+ * for that policy.
  */
 #include "vinjakwe.h"
 
@@ -18,7 +19,8 @@ static const struct hash {
 } hashes[] = {
     {"sha1", TPM_ALG_SHA1, 20, "c8d7d0ef0eedfa82d2ea1aa592845b9a6d4b02b7"},
     {"sha256", TPM_ALG_SHA256, 32, "f5a5fd42d16a20302798ef6ed309979b43003d2320d9f0e8ea9831a92759fb4b"},
-    {"sha384", TPM_ALG_SHA384, 48, "c516aa8d3b457c636c6826937099c0d23a13f2c3701a388b3c8fe4bc2073281b0c4462610369884c4ababa8e97b6debe"},
+    {"sha384", TPM_ALG_SHA384, 48,
+     "c516aa8d3b457c636c6826937099c0d23a13f2c3701a388b3c8fe4bc2073281b0c4462610369884c4ababa8e97b6debe"},
 };
 
 static void print(const char *name, const struct tpm_policy *policy, size_t size) {
@@ -28,8 +30,8 @@ static void print(const char *name, const struct tpm_policy *policy, size_t size
     printf("\n");
 }
 
-static uint32_t either(struct tpm_policy *policy, const struct tpm_policy *first, const struct tpm_policy *second, size_t size,
-                       struct tpm_refusal *refusal) {
+static uint32_t either(struct tpm_policy *policy, const struct tpm_policy *first, const struct tpm_policy *second,
+                       size_t size, struct tpm_refusal *refusal) {
     uint8_t digests[4 + 2 * (2 + TPM_POLICY_BYTES)] = {0, 0, 0, 2};
     size_t len = 4;
     for (int i = 0; i < 2; i++) {
@@ -72,7 +74,8 @@ int main(void) {
     printf("refused");
     printf(" %lu", (unsigned long)tpm_policy_start(&policy, TPM_ALG_NULL));
     tpm_policy_start(&policy, TPM_ALG_SHA256);
-    printf(" %lu", (unsigned long)tpm_policy_pcr(&policy, selected, sizeof selected, selected, sizeof selected, &refusal));
+    printf(" %lu",
+           (unsigned long)tpm_policy_pcr(&policy, selected, sizeof selected, selected, sizeof selected, &refusal));
     printf(" %lu", (unsigned long)tpm_policy_or(&policy, one, sizeof one, &refusal));
     printf(" with %lx at %lu", (unsigned long)refusal.code, (unsigned long)refusal.at);
     printf(" %lu", (unsigned long)tpm_policy_or(&policy, long_list, sizeof long_list, &refusal));

@@ -2,9 +2,9 @@
  *
  *     secure_boot sha1|sha256|sha384 ..
  *
- * For each there is a line `secure-boot BANK STATE`. Behind a state come `dma-protection disabled` where it was, and where the records
- * of PK, KEK, db, dbx and of each authority are. Otherwise the state is `unknown`, with the first fault and its place. The status is 0
- * where it was on in each of them.
+ * For each there is a line `secure-boot BANK STATE`. Behind a state come `dma-protection disabled` where it was, and
+ * where the records of PK, KEK, db, dbx and of each authority are. Otherwise the state is `unknown`, with the first
+ * fault and its place. The status is 0 where it was on in each of them.
  */
 #include "vinjakwe.h"
 
@@ -17,9 +17,12 @@
 
 static uint8_t bytes[LOG_BYTES + 1];
 
-static const char *const log_kinds[] = {"Done", "Truncated", "TooLong", "NotCryptoAgile", "BadHeader", "DuplicateAlgorithm", "WrongDigestSize", "UnknownAlgorithm", "RepeatedDigest", "BadRegister", "BadLocality", "LateLocality"};
+static const char *const log_kinds[] = {"Done", "Truncated", "TooLong", "NotCryptoAgile", "BadHeader",
+                                        "DuplicateAlgorithm", "WrongDigestSize", "UnknownAlgorithm", "RepeatedDigest",
+                                        "BadRegister", "BadLocality", "LateLocality"};
 
-static const char *const kinds[] = {"NotMeasured", "OtherType", "NoVariable", "Twice", "OtherValue", "Debugger", "BadSeparator", "NoSeparator", "Late", "NoKey", "NoAuthority"};
+static const char *const kinds[] = {"NotMeasured", "OtherType", "NoVariable", "Twice", "OtherValue", "Debugger",
+                                    "BadSeparator", "NoSeparator", "Late", "NoKey", "NoAuthority"};
 
 static const char *const states[] = {"on", "off", "unset"};
 
@@ -66,7 +69,8 @@ static int tell(const char *bank, size_t len) {
     else if (said < TPM_SECURE_BOOT_NO_BANK)
         printf("log %s at %lu\n", log_kinds[said], (unsigned long)at);
     else if (said >= TPM_SECURE_BOOT_NOT_MEASURED)
-        printf("secure-boot %s unknown %s at %lu\n", bank, kinds[said - TPM_SECURE_BOOT_NOT_MEASURED], (unsigned long)at);
+        printf("secure-boot %s unknown %s at %lu\n", bank, kinds[said - TPM_SECURE_BOOT_NOT_MEASURED],
+               (unsigned long)at);
     else {
         printf("secure-boot %s %s\n", bank, states[said - TPM_SECURE_BOOT_ON]);
         print_found(&view, authorities, count);

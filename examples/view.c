@@ -1,12 +1,12 @@
-/* What commands and responses say, by the places of their parts, and commands joined from theirs. It reads lines of standard input,
- * and prints of each what `tpmtool show` or `tpmtool build` prints:
+/* What commands and responses say, by the places of their parts, and commands joined from theirs. It reads lines of
+ * standard input, and prints of each what `tpmtool show` or `tpmtool build` prints:
  *
  *     command HEX
  *     reply NAME HEX
  *     build NAME HANDLES SESSIONS PARAMETERS
  *
- * NAME is the command's name in Part 3, and HEX and the parts are hexadecimal, or `-` for no bytes. With the word `first` it prints
- * the first line of each alone, and with `room N` commands are joined in a room of so many bytes.
+ * NAME is the command's name in Part 3, and HEX and the parts are hexadecimal, or `-` for no bytes. With the word
+ * `first` it prints the first line of each alone, and with `room N` commands are joined in a room of so many bytes.
  *
  *     view [first | room N]
  */
@@ -149,9 +149,10 @@ static void build(const char *name, const char *handles, const char *sessions, c
     static uint8_t out[TPM_BUFFER_BYTES];
     struct tpm_refusal refusal;
     size_t len;
-    size_t handles_len = bytes_of(handles, bytes[0]), sessions_len = bytes_of(sessions, bytes[1]), parameters_len = bytes_of(parameters, bytes[2]);
-    uint32_t answer = tpm_command_build(code_of(name), bytes[0], handles_len, bytes[1], sessions_len, bytes[2], parameters_len, out, room,
-                                        &len, &refusal);
+    size_t handles_len = bytes_of(handles, bytes[0]), sessions_len = bytes_of(sessions, bytes[1]),
+           parameters_len = bytes_of(parameters, bytes[2]);
+    uint32_t answer = tpm_command_build(code_of(name), bytes[0], handles_len, bytes[1], sessions_len, bytes[2],
+                                        parameters_len, out, room, &len, &refusal);
     if (answer != TPM_DONE) {
         print_answer(answer, &refusal);
         return;

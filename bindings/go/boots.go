@@ -7,8 +7,9 @@ import "C"
 
 import "fmt"
 
-// BootFault says why the records of register 7 tell nothing of Secure Boot: the kind of the first fault, as "NotMeasured", and how many
-// bytes of the log precede the record that has it, or how many there are, where something is missing at the end.
+// BootFault says why the records of register 7 tell nothing of Secure Boot: the kind of the first fault, as
+// "NotMeasured", and how many bytes of the log precede the record that has it, or how many there are, where something
+// is missing at the end.
 type BootFault struct {
 	Kind string
 	At   uint32
@@ -46,8 +47,8 @@ func (s BootState) String() string {
 	return fmt.Sprintf("BootState(%d)", uint32(s))
 }
 
-// A Boot is what a log tells of Secure Boot: its state, whether DMA protection was disabled, and how many bytes of the log precede the
-// records of PK, KEK, db and dbx, or 0 where one was not measured, and of each authority.
+// A Boot is what a log tells of Secure Boot: its state, whether DMA protection was disabled, and how many bytes of the
+// log precede the records of PK, KEK, db and dbx, or 0 where one was not measured, and of each authority.
 type Boot struct {
 	State                 BootState
 	DMAProtectionDisabled bool
@@ -55,17 +56,17 @@ type Boot struct {
 	Authorities           []uint32
 }
 
-// SecureBoot says whether Secure Boot was on, by the records of register 7 in the bank of this hash (PC Client Platform Firmware
-// Profile, "PCR[7]"). Otherwise the error is a *LogFault, a *BootFault for the first fault of what the records tell, or ErrNoBank. It is
-// as true as register 7, for which Check asks a quote.
+// SecureBoot says whether Secure Boot was on, by the records of register 7 in the bank of this hash (PC Client Platform
+// Firmware Profile, "PCR[7]"). Otherwise the error is a *LogFault, a *BootFault for the first fault of what the records
+// tell, or ErrNoBank. It is as true as register 7, for which Check asks a quote.
 func SecureBoot(log []byte, hash Hash) (*Boot, error) {
 	var view C.struct_tpm_secure_boot
 	var count C.size_t
 	var at C.uint32_t
 	places := make([]uint32, 16)
 	for {
-		said := C.tpm_log_secure_boot(place(log), size(log), C.uint16_t(hash), &view, (*C.uint32_t)(&places[0]), C.size_t(len(places)),
-			&count, &at)
+		said := C.tpm_log_secure_boot(place(log), size(log), C.uint16_t(hash), &view, (*C.uint32_t)(&places[0]),
+			C.size_t(len(places)), &count, &at)
 		switch said {
 		case C.TPM_SECURE_BOOT_NO_ROOM:
 			places = make([]uint32, count)

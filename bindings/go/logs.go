@@ -109,16 +109,17 @@ func ReplayFrom(log io.Reader) (*Registers, error) {
 	}
 }
 
-// A Digest of a record: its hash, its bytes, and whether it is that hash of the event's data, which is told of SHA-1, SHA-256 and
-// SHA-384.
+// A Digest of a record: its hash, its bytes, and whether it is that hash of the event's data, which is told of SHA-1,
+// SHA-256 and SHA-384.
 type Digest struct {
 	Hash   Hash
 	Bytes  []byte
 	Hashed bool
 }
 
-// An Event is a record of a log: its place among them from 1 on, its register, its type, its digests and the event's data, which are
-// lent from the log. A digest that is not a hash of the data is not wrong: firmware measures some events by something else.
+// An Event is a record of a log: its place among them from 1 on, its register, its type, its digests and the event's
+// data, which are lent from the log. A digest that is not a hash of the data is not wrong: firmware measures some
+// events by something else.
 type Event struct {
 	Number   int
 	Register uint32
@@ -127,7 +128,8 @@ type Event struct {
 	Data     []byte
 }
 
-// EventTypeName is the name of a type of records, as "EV_SEPARATOR", or "" where the PC Client Platform Firmware Profile names none.
+// EventTypeName is the name of a type of records, as "EV_SEPARATOR", or "" where the PC Client Platform Firmware
+// Profile names none.
 func EventTypeName(kind uint32) string {
 	var name [C.TPM_EVENT_TYPE_BYTES]byte
 	return string(name[:C.tpm_event_type_name(C.uint32_t(kind), place(name[:]), size(name[:]))])
@@ -136,9 +138,9 @@ func EventTypeName(kind uint32) string {
 // TypeName is the name of the record's type, as "EV_SEPARATOR", or "" where the profile names none.
 func (e Event) TypeName() string { return EventTypeName(e.Type) }
 
-// Text is the one that the event's data are, without a zero that ends it: printable ASCII of EV_POST_CODE, EV_ACTION, EV_IPL and
-// EV_EFI_ACTION, or UTF-16 of EV_S_CRTM_VERSION, in which a unit that is none is U+FFFD. It is false where they are no text, or the type
-// is another.
+// Text is the one that the event's data are, without a zero that ends it: printable ASCII of EV_POST_CODE, EV_ACTION,
+// EV_IPL and EV_EFI_ACTION, or UTF-16 of EV_S_CRTM_VERSION, in which a unit that is none is U+FFFD. It is false where
+// they are no text, or the type is another.
 func (e Event) Text() (text string, is bool) {
 	var it C.struct_tpm_part
 	switch C.tpm_log_text(C.uint32_t(e.Type), place(e.Data), size(e.Data), &it) {
@@ -159,16 +161,17 @@ func wide(bytes []byte) string {
 	return string(utf16.Decode(units))
 }
 
-// A Variable of the firmware: its vendor's GUID as it lies in memory, its name, in which a unit that is no UTF-16 is U+FFFD, and its
-// value, which is lent from the event's data.
+// A Variable of the firmware: its vendor's GUID as it lies in memory, its name, in which a unit that is no UTF-16 is
+// U+FFFD, and its value, which is lent from the event's data.
 type Variable struct {
 	GUID  [16]byte
 	Name  string
 	Value []byte
 }
 
-// Variable is the one that the event's data are, all of them (UEFI_VARIABLE_DATA; PC Client Platform Firmware Profile, "Event Types"),
-// and false where they are none, or the type is another than EV_EFI_VARIABLE_DRIVER_CONFIG, _BOOT, _BOOT2 and _AUTHORITY.
+// Variable is the one that the event's data are, all of them (UEFI_VARIABLE_DATA; PC Client Platform Firmware Profile,
+// "Event Types"), and false where they are none, or the type is another than EV_EFI_VARIABLE_DRIVER_CONFIG, _BOOT,
+// _BOOT2 and _AUTHORITY.
 func (e Event) Variable() (found Variable, is bool) {
 	var it C.struct_tpm_variable
 	if C.tpm_log_variable(C.uint32_t(e.Type), place(e.Data), size(e.Data), &it) != C.TPM_VARIABLE {
@@ -201,7 +204,12 @@ func (e *Events) Next() bool {
 		return false
 	}
 	e.place = from
-	e.event = Event{Number: e.event.Number + 1, Register: uint32(it.pcr), Type: uint32(it._type), Data: part(e.log, it.data)}
+	e.event = Event{
+		Number:   e.event.Number + 1,
+		Register: uint32(it.pcr),
+		Type:     uint32(it._type),
+		Data:     part(e.log, it.data),
+	}
 	for _, found := range it.digests[:it.digest_count] {
 		e.event.Digests = append(e.event.Digests, Digest{Hash(found.hash), part(e.log, found.digest), found.hashed != 0})
 	}
@@ -254,8 +262,8 @@ func (s Selected) String() string { return fmt.Sprintf("%v %d", s.Bank, s.Regist
 // How each TPMS_ATTEST begins: TPM_GENERATED_VALUE (Part 2, 6.2).
 var generated = []byte("\xffTCG")
 
-// CheckQuote says whether the digest of a TPMS_QUOTE_INFO is that of a log's registers. Otherwise the error is a *LogFault, a *Refusal,
-// whose code is 0, since it is not told, ErrNoBank, or ErrAttest for a whole TPMS_ATTEST.
+// CheckQuote says whether the digest of a TPMS_QUOTE_INFO is that of a log's registers. Otherwise the error is a
+// *LogFault, a *Refusal, whose code is 0, since it is not told, ErrNoBank, or ErrAttest for a whole TPMS_ATTEST.
 func CheckQuote(log, quote []byte, hash Hash) (bool, error) {
 	var fault C.struct_tpm_attest_fault
 	answer := C.tpm_log_check_quote(place(log), size(log), place(quote), size(quote), C.uint16_t(hash), &fault.at)
@@ -266,13 +274,14 @@ func CheckQuote(log, quote []byte, hash Hash) (bool, error) {
 	return verdict == Matches, err
 }
 
-// Check compares a log with a TPMS_ATTEST of a quote, whose signature has to be verified elsewhere: its nonce, the registers of the
-// TPML_PCR_SELECTION `require`, which Selection makes of a text and of which there may be no bytes, and the digest under this hash. The quote is good where the verdict is
-// Matches and the error nil. Otherwise the error is a *LogFault, a *Refusal of the quote's bytes, ErrNoBank, or ErrRequirement.
+// Check compares a log with a TPMS_ATTEST of a quote, whose signature has to be verified elsewhere: its nonce, the
+// registers of the TPML_PCR_SELECTION `require`, which Selection makes of a text and of which there may be no bytes,
+// and the digest under this hash. The quote is good where the verdict is Matches and the error nil. Otherwise the error
+// is a *LogFault, a *Refusal of the quote's bytes, ErrNoBank, or ErrRequirement.
 func Check(log, attest, nonce, require []byte, hash Hash) (Verdict, Selected, error) {
 	var fault C.struct_tpm_attest_fault
-	answer := C.tpm_log_check_attest(place(log), size(log), place(attest), size(attest), C.uint16_t(hash), place(nonce), size(nonce),
-		place(require), size(require), &fault)
+	answer := C.tpm_log_check_attest(place(log), size(log), place(attest), size(attest), C.uint16_t(hash),
+		place(nonce), size(nonce), place(require), size(require), &fault)
 	return said(answer, &fault)
 }
 

@@ -45,7 +45,8 @@ func init() {
 	}
 }
 
-// CodeName is the name of a response code in Part 2, 6.6.3, with the handle, session or parameter that it tells, or its number.
+// CodeName is the name of a response code in Part 2, 6.6.3, with the handle, session or parameter that it tells, or its
+// number.
 func CodeName(code uint32) string {
 	base, number := code, code>>8&15
 	if code&0x80 != 0 {

@@ -30,7 +30,8 @@ func registersOf(list string) (bits uint32, known bool) {
 	return bits, true
 }
 
-// Selection is the TPML_PCR_SELECTION of registers as tpm2-tools list them, "sha1:7+sha256:0,1,2" or "sha256:all", or ErrList.
+// Selection is the TPML_PCR_SELECTION of registers as tpm2-tools list them, "sha1:7+sha256:0,1,2" or "sha256:all", or
+// ErrList.
 func Selection(text string) ([]byte, error) {
 	bits := map[Hash]uint32{}
 	for _, part := range strings.Split(text, "+") {
@@ -61,9 +62,9 @@ type SelectedBank struct {
 	Registers []int
 }
 
-// An Attest is a quote as it was signed, a TPMS_ATTEST, by its parts, which are lent from the bytes that were decoded: who signed, the
-// nonce, the clock in milliseconds, how often the TPM was reset and restarted, whether the clock is safe, the firmware's version, and
-// the registers. Info is its TPMS_QUOTE_INFO whole, and Digest the digest in it.
+// An Attest is a quote as it was signed, a TPMS_ATTEST, by its parts, which are lent from the bytes that were decoded:
+// who signed, the nonce, the clock in milliseconds, how often the TPM was reset and restarted, whether the clock is
+// safe, the firmware's version, and the registers. Info is its TPMS_QUOTE_INFO whole, and Digest the digest in it.
 type Attest struct {
 	Signer, Nonce    []byte
 	Clock            uint64
@@ -99,8 +100,8 @@ func DecodeAttest(bytes []byte) (*Attest, error) {
 	return attest, nil
 }
 
-// A Policy is the digest of a policy in a hash, without a device (Part 1, "Enhanced Authorization"; Part 3, 23). Where a call gives an
-// error, nothing changes. NewPolicy makes one.
+// A Policy is the digest of a policy in a hash, without a device (Part 1, "Enhanced Authorization"; Part 3, 23). Where
+// a call gives an error, nothing changes. NewPolicy makes one.
 type Policy struct {
 	policy C.struct_tpm_policy
 	size   int
@@ -130,8 +131,8 @@ func (p *Policy) String() string { return fmt.Sprintf("%v %x", Hash(p.policy.has
 // Restart is TPM2_PolicyRestart: nothing is asserted any more.
 func (p *Policy) Restart() { C.tpm_policy_restart(&p.policy) }
 
-// PCR is TPM2_PolicyPCR: the registers of a TPML_PCR_SELECTION have values with this digest. The error is a *Refusal of the selection,
-// or ErrDigest.
+// PCR is TPM2_PolicyPCR: the registers of a TPML_PCR_SELECTION have values with this digest. The error is a *Refusal of
+// the selection, or ErrDigest.
 func (p *Policy) PCR(selection, digest []byte) error {
 	var refusal C.struct_tpm_refusal
 	answer := C.tpm_policy_pcr(&p.policy, place(selection), size(selection), place(digest), size(digest), &refusal)

@@ -3,7 +3,8 @@ package vinjakwe
 /*
 #include "vinjakwe.h"
 
-// The states have their first bytes here: Go's collector does not look at pointers to a type that has none, and would free the room.
+// The states have their first bytes here: Go's collector does not look at pointers to a type that has none, and would
+// free the room.
 struct tpm_framer { uint64_t first; };
 struct tpm_device { uint64_t first; };
 struct tpm_caller { uint64_t first; };
@@ -41,7 +42,8 @@ func NewFramer() *Framer {
 	return &Framer{framer: framer}
 }
 
-// Push gives the buffers that end in this piece, and ErrBroken, now and from now on, behind the first bytes of one that has no size.
+// Push gives the buffers that end in this piece, and ErrBroken, now and from now on, behind the first bytes of one that
+// has no size.
 func (f *Framer) Push(piece []byte) (frames [][]byte, err error) {
 	for {
 		var status C.uint32_t
@@ -79,12 +81,13 @@ func NewDevice(owner []byte, greatest uint64) (*Device, error) {
 	return &Device{device}, nil
 }
 
-// RestoreDevice makes a device of this owner and of the bytes that Keep gave: it stands where a power cycle leaves the one that gave
-// them. The error is a *Refusal of other bytes, or of an owner's value of more than 48 bytes.
+// RestoreDevice makes a device of this owner and of the bytes that Keep gave: it stands where a power cycle leaves the
+// one that gave them. The error is a *Refusal of other bytes, or of an owner's value of more than 48 bytes.
 func RestoreDevice(owner, kept []byte) (*Device, error) {
 	var refusal C.struct_tpm_refusal
 	device := (*C.struct_tpm_device)(room(C.tpm_device_size(), C.tpm_device_align()))
-	if err := judged(C.tpm_device_restore(device, place(owner), size(owner), place(kept), size(kept), &refusal), &refusal); err != nil {
+	answer := C.tpm_device_restore(device, place(owner), size(owner), place(kept), size(kept), &refusal)
+	if err := judged(answer, &refusal); err != nil {
 		return nil, err
 	}
 	return &Device{device}, nil
@@ -96,8 +99,8 @@ func (d *Device) Keep() []byte {
 	return out[:C.tpm_device_keep(d.device, place(out), size(out))]
 }
 
-// ChangesNV says whether the device that answered this command with this response has changed its NV memory: a host then keeps it
-// before it hands out the response.
+// ChangesNV says whether the device that answered this command with this response has changed its NV memory: a host
+// then keeps it before it hands out the response.
 func ChangesNV(command, response []byte) bool {
 	return C.tpm_device_changes_nv(place(command), size(command), place(response), size(response)) != 0
 }
@@ -105,8 +108,9 @@ func ChangesNV(command, response []byte) bool {
 // Greatest is the greatest value that any counter of the device has had.
 func (d *Device) Greatest() uint64 { return uint64(C.tpm_device_greatest(d.device)) }
 
-// A Counter is an NV counter that is defined: its index, the hash of its Name, its attributes as they are now, its policy, which may be
-// empty, whether it has an authorization value, and its value, which is 0 where it was not incremented.
+// A Counter is an NV counter that is defined: its index, the hash of its Name, its attributes as they are now, its
+// policy, which may be empty, whether it has an authorization value, and its value, which is 0 where it was not
+// incremented.
 type Counter struct {
 	Index      uint32
 	Hash       Hash
@@ -123,7 +127,8 @@ func (d *Device) Counters() []Counter {
 		var it C.struct_tpm_counter
 		C.tpm_device_counter(d.device, C.size_t(which), &it)
 		policy := C.GoBytes(unsafe.Pointer(&it.policy), C.int(it.policy_len))
-		found[which] = Counter{uint32(it.index), Hash(it.hash), uint32(it.attributes), policy, it.has_auth != 0, uint64(it.value)}
+		found[which] = Counter{uint32(it.index), Hash(it.hash), uint32(it.attributes), policy, it.has_auth != 0,
+			uint64(it.value)}
 	}
 	return found
 }
@@ -157,18 +162,20 @@ func NewCaller() *Caller {
 
 // Start holds the session that a TPM2_StartAuthSession and its reply make, or gives ErrNoSession.
 func (c *Caller) Start(command, reply, bindAuth []byte) error {
-	held := C.tpm_caller_start(c.caller, place(command), size(command), place(reply), size(reply), place(bindAuth), size(bindAuth))
+	held := C.tpm_caller_start(c.caller, place(command), size(command), place(reply), size(reply),
+		place(bindAuth), size(bindAuth))
 	return unless(held != 0, ErrNoSession)
 }
 
-// Seal gives the command with the session, which then waits for the reply, or ErrNotSealed. The nonce is fresh and random.
+// Seal gives the command with the session, which then waits for the reply, or ErrNotSealed. The nonce is fresh and
+// random.
 func (c *Caller) Seal(command, first, second, auth, nonce []byte, keep bool) ([]byte, error) {
 	out, kept := make([]byte, BufferBytes), C.uint32_t(0)
 	if keep {
 		kept = 1
 	}
-	count := C.tpm_caller_seal(c.caller, place(command), size(command), place(first), size(first), place(second), size(second),
-		place(auth), size(auth), place(nonce), size(nonce), kept, place(out), size(out))
+	count := C.tpm_caller_seal(c.caller, place(command), size(command), place(first), size(first),
+		place(second), size(second), place(auth), size(auth), place(nonce), size(nonce), kept, place(out), size(out))
 	return out[:count], unless(count != 0, ErrNotSealed)
 }
 

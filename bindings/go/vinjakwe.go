@@ -1,6 +1,6 @@
-// Package vinjakwe judges commands and responses of a TPM 2.0, logs of a measured boot, and quotes, by the installed library of
-// that name, which pkg-config finds. Bytes are lent to the library for a call and no longer; nothing wants to be closed, and
-// nothing that has a state is to be used by two goroutines at once.
+// Package vinjakwe judges commands and responses of a TPM 2.0, logs of a measured boot, and quotes, by the installed
+// library of that name, which pkg-config finds. Bytes are lent to the library for a call and no longer; nothing wants
+// to be closed, and nothing that has a state is to be used by two goroutines at once.
 package vinjakwe
 
 /*
@@ -55,10 +55,11 @@ var (
 	ErrBroken      = errors.New("no buffer has the size that was stated")
 	ErrTooLong     = errors.New("a value is too long")
 	ErrNonce       = errors.New("a nonce has 64 bytes")
-	ErrNotSealed   = errors.New("no session is free, or the command needs no authorization, or a Name or the nonce is too long")
-	ErrNoSession   = errors.New("the bytes start no session")
-	ErrNotOpened   = errors.New("the reply is not that of the sealed command")
-	ErrNotGivenUp  = errors.New("the bytes are no refusal, or no command waits")
+	ErrNotSealed   = errors.New("no session is free, or the command needs no authorization, " +
+		"or a Name or the nonce is too long")
+	ErrNoSession  = errors.New("the bytes start no session")
+	ErrNotOpened  = errors.New("the reply is not that of the sealed command")
+	ErrNotGivenUp = errors.New("the bytes are no refusal, or no command waits")
 )
 
 var nothing [1]byte
@@ -89,8 +90,8 @@ func judged(answer C.uint32_t, refusal *C.struct_tpm_refusal) error {
 	return ErrTooLong
 }
 
-// A Session of a command or of a response lends its nonce and its HMAC or password from the bytes that were decoded. That of a
-// response has no handle.
+// A Session of a command or of a response lends its nonce and its HMAC or password from the bytes that were decoded.
+// That of a response has no handle.
 type Session struct {
 	Handle     uint32
 	Nonce      []byte
@@ -137,7 +138,8 @@ func DecodeCommand(bytes []byte) (*Command, error) {
 	return command, nil
 }
 
-// DecodeResponse gives the response that all the bytes spell to the command of this number, or a *Refusal, or ErrNoCommand.
+// DecodeResponse gives the response that all the bytes spell to the command of this number, or a *Refusal, or
+// ErrNoCommand.
 func DecodeResponse(command uint32, bytes []byte) (*Response, error) {
 	var areas C.struct_tpm_response_areas
 	var refusal C.struct_tpm_refusal
@@ -159,7 +161,8 @@ func DecodeResponse(command uint32, bytes []byte) (*Response, error) {
 	return response, nil
 }
 
-// BuildCommand joins the command of this number from the bytes of its parts, or gives the *Refusal of what they spell, or ErrNoCommand.
+// BuildCommand joins the command of this number from the bytes of its parts, or gives the *Refusal of what they spell,
+// or ErrNoCommand.
 func BuildCommand(command uint32, handles, sessions, parameters []byte) ([]byte, error) {
 	var count C.size_t
 	var refusal C.struct_tpm_refusal

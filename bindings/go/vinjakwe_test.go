@@ -69,7 +69,8 @@ func TestRegistersOfALog(t *testing.T) {
 
 func TestFaultOfALogThatIsCut(t *testing.T) {
 	var fault *LogFault
-	if _, err := Replay(read(t, "logs/cut_by_a_byte.log")); !errors.As(err, &fault) || *fault != (LogFault{"Truncated", 211}) {
+	if _, err := Replay(read(t, "logs/cut_by_a_byte.log")); !errors.As(err, &fault) ||
+		*fault != (LogFault{"Truncated", 211}) {
 		t.Error(err)
 	}
 }
@@ -127,7 +128,8 @@ func TestNamesAndTextsOfEachLogWithAList(t *testing.T) {
 	}
 }
 
-// boots gives what the lists beside the logs say of Secure Boot: the lines of each bank, without what the variables hold.
+// boots gives what the lists beside the logs say of Secure Boot: the lines of each bank, without what the variables
+// hold.
 func boots(t *testing.T) map[string]map[string][]string {
 	t.Helper()
 	files, err := filepath.Glob(checks + "logs/*.secure")
@@ -187,7 +189,8 @@ func TestSecureBootOfEachLogWithAList(t *testing.T) {
 
 func TestSecureBootOfOtherLogs(t *testing.T) {
 	var fault *LogFault
-	if _, err := SecureBoot(read(t, "logs/cut_by_a_byte.log"), SHA256); !errors.As(err, &fault) || *fault != (LogFault{"Truncated", 211}) {
+	if _, err := SecureBoot(read(t, "logs/cut_by_a_byte.log"), SHA256); !errors.As(err, &fault) ||
+		*fault != (LogFault{"Truncated", 211}) {
 		t.Error(err)
 	}
 	if _, err := SecureBoot(nil, 5); !errors.Is(err, ErrNoBank) {
@@ -200,7 +203,8 @@ func TestSecureBootOfOtherLogs(t *testing.T) {
 	}
 	last := log[it.Authorities[len(it.Authorities)-1]:]
 	more, err := SecureBoot(append(log, bytes.Repeat(last, 40)...), SHA256)
-	if err != nil || len(more.Authorities) != len(it.Authorities)+40 || more.Authorities[len(it.Authorities)] != uint32(len(log)) {
+	if err != nil || len(more.Authorities) != len(it.Authorities)+40 ||
+		more.Authorities[len(it.Authorities)] != uint32(len(log)) {
 		t.Error(more, err)
 	}
 }
@@ -308,7 +312,8 @@ func TestADeviceIsMadeAgainOfWhatItKept(t *testing.T) {
 	if len(counters) != 1 || again.Greatest() != 41 || !bytes.Equal(again.Keep(), kept) {
 		t.Fatal(counters, again.Greatest())
 	}
-	if it := counters[0]; it.Index != 0x01800001 || it.Hash != SHA256 || it.Attributes != 0x22020012 || len(it.Policy) != 0 || !it.HasAuth || it.Value != 41 {
+	if it := counters[0]; it.Index != 0x01800001 || it.Hash != SHA256 || it.Attributes != 0x22020012 ||
+		len(it.Policy) != 0 || !it.HasAuth || it.Value != 41 {
 		t.Error(it)
 	}
 	if device.SessionHash(0x03000000) != SHA256 || again.SessionHash(0x03000000) != 0 {
@@ -316,10 +321,12 @@ func TestADeviceIsMadeAgainOfWhatItKept(t *testing.T) {
 	}
 	kept[len(kept)-1] ^= 1
 	var refusal *Refusal
-	if _, err := RestoreDevice([]byte("owner"), kept); !errors.As(err, &refusal) || refusal.Code != 0x09F || int(refusal.At) != len(kept)-32 {
+	if _, err := RestoreDevice([]byte("owner"), kept); !errors.As(err, &refusal) || refusal.Code != 0x09F ||
+		int(refusal.At) != len(kept)-32 {
 		t.Error(err)
 	}
-	if _, err := RestoreDevice([]byte("owner"), nil); !errors.As(err, &refusal) || refusal.Code != 0x09A || refusal.At != 0 {
+	if _, err := RestoreDevice([]byte("owner"), nil); !errors.As(err, &refusal) || refusal.Code != 0x09A ||
+		refusal.At != 0 {
 		t.Error(err)
 	}
 }
@@ -331,7 +338,8 @@ func TestADeviceStartsOnce(t *testing.T) {
 	}
 	startup, _ := hex.DecodeString("80010000000c000001440000")
 	for _, wanted := range []string{"80010000000a00000000", "80010000000a00000100"} {
-		if reply, err := device.Execute(startup, make([]byte, NonceBytes)); err != nil || hex.EncodeToString(reply) != wanted {
+		if reply, err := device.Execute(startup, make([]byte, NonceBytes)); err != nil ||
+			hex.EncodeToString(reply) != wanted {
 			t.Errorf("%x %v", reply, err)
 		}
 	}

@@ -1,4 +1,5 @@
-"""Builds the package. Where VINJAKWE_LIBRARY names the library's file, a wheel holds it; nothing is written beside the sources."""
+"""Builds the package. Where VINJAKWE_LIBRARY names the library's file, a wheel holds it; nothing is written beside the
+sources."""
 import os
 import shutil
 import tempfile

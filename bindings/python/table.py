@@ -43,7 +43,8 @@ def registers(log):
 
 def events(log):
     for it in vinjakwe.events(log):
-        digests = (f" {vinjakwe.HASHES.get(name, name):04x}:{text(value)}{'*' if name in it.hashed else ''}" for name, value in it.digests.items())
+        digests = (f" {vinjakwe.HASHES.get(name, name):04x}:{text(value)}{'*' if name in it.hashed else ''}"
+                   for name, value in it.digests.items())
         yield f"{it.register} {it.type:08x} {text(it.data)}{''.join(digests)}"
 
 
@@ -138,7 +139,8 @@ class Answers:
         elif verb == "boot":
             yield from boot(whole(words[0]), words[1])
         elif verb == "quote":
-            yield "quote " + ("matches" if vinjakwe.check_quote(whole(words[0]), unhex(words[1]), words[2]) else "differs")
+            matches = vinjakwe.check_quote(whole(words[0]), unhex(words[1]), words[2])
+            yield "quote " + ("matches" if matches else "differs")
         elif verb == "attest":
             yield from attest(whole(words[0]), *words[1:])
         elif verb == "frames":

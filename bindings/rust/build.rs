@@ -1,5 +1,5 @@
-//! Tells the linker where the library is: in the folder that VINJAKWE_LIB names, or where pkg-config says, or where it looks itself.
-//! Of the header beside the library, or of the repository's, it makes the declarations of the module `c`.
+//! Tells the linker where the library is: in the folder that VINJAKWE_LIB names, or where pkg-config says, or where it
+//! looks itself. Of the header beside the library, or of the repository's, it makes the declarations of the module `c`.
 use std::path::{Path, PathBuf};
 use std::process::Command;
 use std::{env, fs};
@@ -15,13 +15,19 @@ fn type_of(name: &str) -> String {
     match name {
         "size_t" => "usize".into(),
         "void" => "()".into(),
-        _ => name.strip_prefix("uint").and_then(|it| it.strip_suffix("_t")).map_or(name.into(), |bits| format!("u{bits}")),
+        _ => name
+            .strip_prefix("uint")
+            .and_then(|it| it.strip_suffix("_t"))
+            .map_or(name.into(), |bits| format!("u{bits}")),
     }
 }
 
 /// A field or a parameter as `uint32_t handles[2]` or `const uint8_t *bytes`.
 fn variable(text: &str) -> String {
-    let words: Vec<&str> = text.split([' ', '\n', '*', '[', ']']).filter(|it| !matches!(*it, "" | "const" | "struct")).collect();
+    let words: Vec<&str> = text
+        .split([' ', '\n', '*', '[', ']'])
+        .filter(|it| !matches!(*it, "" | "const" | "struct"))
+        .collect();
     let kind = match words[..] {
         [kind, _, count] => format!("[{}; {count}]", type_of(kind)),
         _ if text.contains("const ") => format!("*const {}", type_of(words[0])),
@@ -40,7 +46,11 @@ fn constant(line: &str) -> Option<String> {
 
 /// A structure by its name and the text between its braces.
 fn structure(name: &str, body: &str) -> String {
-    let fields: String = body.lines().filter_map(|it| it.trim().strip_suffix(';')).map(|it| format!("pub {}, ", variable(it))).collect();
+    let fields: String = body
+        .lines()
+        .filter_map(|it| it.trim().strip_suffix(';'))
+        .map(|it| format!("pub {}, ", variable(it)))
+        .collect();
     // Zeros are numbers, and a structure of the header has nothing else.
     let zeros = format!("impl Default for {name} {{ fn default() -> Self {{ unsafe {{ core::mem::zeroed() }} }} }}");
     format!("#[repr(C)] #[derive(Clone, Copy)] pub struct {name} {{ {fields}}}\n{zeros}\n")

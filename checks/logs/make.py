@@ -163,7 +163,8 @@ def halves():
 
 
 def measured():
-    """What is measured of an event's data: all, a variable's value, the text behind GRUB's prefix, or all but a byte."""
+    """What is measured of an event's data: all, a variable's value, the text behind GRUB's prefix, or all but a
+    byte."""
     log = Log(THREE)
     order = variable("BootOrder", b"\1\0\0\0")
     log.record(1, VARIABLE_BOOT, order, b"\1\0\0\0").record(1, VARIABLE_BOOT2, order)
@@ -174,7 +175,8 @@ def measured():
     log.record(8, IPL, b"grub_cmd: " + text, text).record(8, IPL, b"grub_cmd: \0", b"")
     # a prefix of another type, one that is none, and one that is cut
     log.record(8, OLDER_ACTION, b"grub_cmd: " + text, text).record(8, IPL, b"grub_cmd:" + text, text)
-    log.record(8, IPL, b"grub_cm", b"").record(8, IPL, b"MokList\0", b"MokList").record(9, IPL, b"/vmlinuz\0", b"kernel")
+    log.record(8, IPL, b"grub_cm", b"").record(8, IPL, b"MokList\0", b"MokList")
+    log.record(9, IPL, b"/vmlinuz\0", b"kernel")
     # digests of two parts, of one bank alone, and none
     log.record(1, VARIABLE_BOOT, order, {0x0004: order, 0x000B: b"\1\0\0\0", 0x000C: b"something else"})
     log.record(8, IPL, b"grub_cmd: " + text, text, algorithms=[0x000B]).record(8, IPL, b"", algorithms=[])
@@ -231,11 +233,14 @@ def images():
     image(node(1, 4, guid), node(3, 10, other + b"\1\xff"), node(4, 3, guid + b"\0"))
     image(acpi(0x0A03, 0), pci(2, 0), NEXT, acpi(0x0A03, 1), NEXT, NEXT, boot)
     image(file("\x1b[2J\n\x7f\x9b\u202e\"\\/"), file("\ud83d"), file("\U0001f512"), file("a\0b"), node(4, 4, b"a\0"))
-    image(node(3, 99, b"\1\2"), node(5, 1, bytes(5)), node(0, 0), node(255, 255, b"\xff"), node(0x7F, 2), node(0x7F, 1, b"\0"))
+    image(node(3, 99, b"\1\2"), node(5, 1, bytes(5)), node(0, 0), node(255, 255, b"\xff"), node(0x7F, 2),
+          node(0x7F, 1, b"\0"))
     # of other sizes than these nodes have, and of other subtypes
     image(node(1, 1, b"\0"), node(1, 1, bytes(3)), node(1, 4, bytes(15)), node(1, 2, bytes(2)), node(2, 1, bytes(7)))
-    image(node(2, 1, bytes(12)), node(2, 2, bytes(8)), node(3, 10, bytes(15)), node(3, 1, bytes(16)), node(4, 1, bytes(37)))
-    image(node(4, 3, bytes(15)), node(4, 6, bytes(15)), node(4, 7, bytes(17)), node(4, 4, b"abc"), node(4, 4), node(4, 5))
+    image(node(2, 1, bytes(12)), node(2, 2, bytes(8)), node(3, 10, bytes(15)), node(3, 1, bytes(16)),
+          node(4, 1, bytes(37)))
+    image(node(4, 3, bytes(15)), node(4, 6, bytes(15)), node(4, 7, bytes(17)), node(4, 4, b"abc"), node(4, 4),
+          node(4, 5))
     image()
     image(end=b"")
     log.record(2, GPT, loaded(boot + END))
@@ -277,9 +282,12 @@ def messages():
     image(node(3, 23, struct.pack("<I", 1) + bytes.fromhex("0025385b71b14b37")), node(3, 23, b"\xff" * 4 + bytes(8)))
     # networks
     image(node(3, 11, bytes.fromhex("525400123456") + bytes(26) + b"\1"), v4(17, 0), v6(6, 1))
-    image(node(3, 11, bytes(range(0xE0, 0x100)) + b"\x20"), node(3, 11, bytes(32) + b"\0"), node(3, 11, bytes(32) + b"\2"))
-    image(v4(6, 1, there + here), v4(1, 2, bytes(4) + b"\xff" * 4), v6(17, 0, b"\x40" + far), v6(0xFFFF, 2, b"\0" + bytes(16)))
-    image(v6(58, 3), node(3, 24, b"https://boot.example/a%20b?c=d"), node(3, 24), node(3, 24, b"\x1b[2J \"\\\x7f\x9b\n"))
+    image(node(3, 11, bytes(range(0xE0, 0x100)) + b"\x20"), node(3, 11, bytes(32) + b"\0"),
+          node(3, 11, bytes(32) + b"\2"))
+    image(v4(6, 1, there + here), v4(1, 2, bytes(4) + b"\xff" * 4), v6(17, 0, b"\x40" + far),
+          v6(0xFFFF, 2, b"\0" + bytes(16)))
+    image(v6(58, 3), node(3, 24, b"https://boot.example/a%20b?c=d"), node(3, 24),
+          node(3, 24, b"\x1b[2J \"\\\x7f\x9b\n"))
     # media
     image(node(4, 2, struct.pack("<IQQ", 1, 0x1A5, 0x4000)), node(4, 2, b"\xff" * 20))
     image(node(4, 8, struct.pack("<IQQ", 0xFFFFFFFF, 0x3A90, 0x1CB8F)), node(4, 8, bytes(4) + b"\xff" * 16))
@@ -288,7 +296,8 @@ def messages():
         image(*(node(3, subtype, bytes(size + more)) for size in sizes for more in (-1, 1)))
     image(*(node(4, subtype, bytes(20 + more)) for subtype in (2, 8) for more in (-1, 1)))
     # the numbers of the subtypes in another type
-    image(*(node(kind, subtype, bytes(size)) for kind in (1, 2, 5) for subtype, size in ((2, 4), (5, 2), (18, 6), (24, 3))))
+    image(*(node(kind, subtype, bytes(size))
+            for kind in (1, 2, 5) for subtype, size in ((2, 4), (5, 2), (18, 6), (24, 3))))
     return log
 
 
@@ -317,7 +326,8 @@ def firmware_parts():
     part(BLOB2, b"name", 1, 2, length=3)
     part(BLOB2, b"name", 1, 2, length=5)
     part(CRTM_CONTENTS, b"name", 1, 2, length=5)
-    log.record(0, POST_CODE, b"ACPI DATA in all").record(0, POST_CODE, b"ACPI DATA").record(0, CRTM_CONTENTS, b"contents")
+    log.record(0, POST_CODE, b"ACPI DATA in all").record(0, POST_CODE, b"ACPI DATA")
+    log.record(0, CRTM_CONTENTS, b"contents")
     log.record(0, BLOB + 0x100, bytes(16))
     return log
 
@@ -438,17 +448,20 @@ def devices():
 
     def block(value, specification=1, kind=1, size=None, whole=None):
         """A measurement block of DSP0274, whose sizes may be wrong."""
-        measured = struct.pack("<BH", kind, len(value) if size is None else size) + value if specification % 2 else value
+        measured = (struct.pack("<BH", kind, len(value) if size is None else size) + value
+                    if specification % 2 else value)
         return struct.pack("<BBH", 1, specification, len(measured) if whole is None else whole) + measured
 
     def first(block, context=context, kind=FIRMWARE, more=0, version=1, signature=b"SPDM Device Sec\0", type_=1):
         data = struct.pack("<II", 1, type_) + block + context
         log.record(2, kind, signature + struct.pack("<HH", version, 20 + len(data) + more) + data)
 
-    def second(header, path=path, context=context, kind=FIRMWARE, more=0, version=2, header_size=None, path_size=None, **of_head):
+    def second(header, path=path, context=context, kind=FIRMWARE, more=0, version=2, header_size=None, path_size=None,
+               **of_head):
         head = dict(state=0, type_=1, header_type=0, uid=0x0123456789ABCDEF) | of_head
         sizes = len(header) if header_size is None else header_size, len(path) if path_size is None else path_size
-        data = struct.pack("<IIIQQ", head["type_"], head["header_type"], sizes[0], head["uid"], sizes[1]) + path + header + context
+        data = (struct.pack("<IIIQQ", head["type_"], head["header_type"], sizes[0], head["uid"], sizes[1])
+                + path + header + context)
         numbers = struct.pack("<HBBI", version, head["state"], 0, 24 + len(data) + more)
         log.record(2, kind, b"SPDM Device Sec2" + numbers + data)
 
@@ -478,9 +491,11 @@ def devices():
     second(b"", path_size=2**64 - 1)
     second(b"header", path=path[:-1])
     second(b"header", path=pci(0, 0))
-    log.record(2, FIRMWARE, b"SPDM Device Sec2\2\0" + bytes(33)).record(2, CONFIG, b"SPDM Device Sec\0\1").record(2, CONFIG, b"")
+    log.record(2, FIRMWARE, b"SPDM Device Sec2\2\0" + bytes(33)).record(2, CONFIG, b"SPDM Device Sec\0\1")
+    log.record(2, CONFIG, b"")
     # as EV_EFI_VARIABLE_DRIVER_CONFIG and EV_EFI_VARIABLE_AUTHORITY have them
-    log.record(6, POLICY, variable("devdb", b"lists")).record(6, DEVICE_AUTHORITY, variable("devdb", b"\1" * 16 + b"owned"))
+    log.record(6, POLICY, variable("devdb", b"lists"))
+    log.record(6, DEVICE_AUTHORITY, variable("devdb", b"\1" * 16 + b"owned"))
     log.record(6, POLICY, b"devdb").record(6, DEVICE_AUTHORITY, variable("devdb", b"lists") + b"\0")
     return log
 
@@ -503,8 +518,10 @@ def boot_variables():
     held("BootOrder", struct.pack("<H", 0xABCD), kind=VARIABLE_BOOT2)
     held("BootOrder", b"")
     option("Boot0001", "ubuntu", disk + file("\\EFI\\ubuntu\\shimx64.efi") + END)
-    option("Boot0000", "UEFI QEMU DVD-ROM", acpi(0x0A03, 0) + pci(0x1F, 2) + END, bytes.fromhex("4eac0881119f594d850ee21a522c59b2"))
-    option("Boot001A", 'a "name" \\ of\x1b\u202e\U0001f512', file("a b") + END, attributes=2**32 - 1, kind=VARIABLE_BOOT2)
+    option("Boot0000", "UEFI QEMU DVD-ROM", acpi(0x0A03, 0) + pci(0x1F, 2) + END,
+           bytes.fromhex("4eac0881119f594d850ee21a522c59b2"))
+    option("Boot001A", 'a "name" \\ of\x1b\u202e\U0001f512', file("a b") + END, attributes=2**32 - 1,
+           kind=VARIABLE_BOOT2)
     option("BootFFFF", "", b"", attributes=0)
     option("Boot0002", "half \ud83d", file("\ud83d") + END, b"\0")
     option("Boot0003", "several", pci(2, 0) + NEXT + pci(3, 0) + END, kind=VARIABLE)
@@ -531,7 +548,8 @@ def accepted():
     Log(THREE).write("header_alone")
     firmware(Log(FOUR, class_=1)).write("four_algorithms")
     firmware(Log(FOUR, vendor=bytes(range(255))).locality(3)).write("locality_three")
-    Log(THREE).locality(4).record(0, HCRTM, b"HCRTM", b"measured by hardware").record(0, SEPARATOR, bytes(4)).write("locality_four")
+    log = Log(THREE).locality(4).record(0, HCRTM, b"HCRTM", b"measured by hardware").record(0, SEPARATOR, bytes(4))
+    log.write("locality_four")
     # an event of 17 bytes with another name is none of locality
     Log(THREE).zeros(0, b"StartupLocalitz\0\x03").zeros(1, b"StartupLocality\0\x03").locality(0).write("locality_zero")
 
@@ -553,7 +571,8 @@ def accepted():
 
     # each type of a record that has a name, and two that have none
     log = Log([0x000B])
-    for kind in (*range(0x13), *range(0x80000000, 0x8000000E), 0x80000010, *range(0x800000E0, 0x800000E6), 0x13, 0xA0000001):
+    for kind in (*range(0x13), *range(0x80000000, 0x8000000E), 0x80000010, *range(0x800000E0, 0x800000E6),
+                 0x13, 0xA0000001):
         log.record(16, kind, struct.pack("<I", kind))
     log.write("every_type")
 

@@ -10,7 +10,8 @@ import (
 // attest prints what is said of a quote: attest LOG ATTEST NONCE REQUIRE HASH.
 func attest(words []string) {
 	names := map[vinjakwe.Hash]string{vinjakwe.SHA1: "sha1", vinjakwe.SHA256: "sha256", vinjakwe.SHA384: "sha384"}
-	verdict, lacks, err := vinjakwe.Check(read(words[1]), unhex(words[2]), unhex(words[3]), unhex(words[4]), hashes[words[5]])
+	verdict, lacks, err := vinjakwe.Check(read(words[1]), unhex(words[2]), unhex(words[3]), unhex(words[4]),
+		hashes[words[5]])
 	switch {
 	case errors.Is(err, vinjakwe.ErrRequirement):
 		fmt.Fprintln(out, "requirement refused")

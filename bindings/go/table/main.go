@@ -63,7 +63,8 @@ func command(bytes []byte) {
 		fmt.Fprintf(out, "handle %d %08x\n", i+1, handle)
 	}
 	for i, s := range it.Sessions {
-		fmt.Fprintf(out, "session %d %08x nonce %s attributes %02x hmac %s\n", i+1, s.Handle, text(s.Nonce), s.Attributes, text(s.HMAC))
+		fmt.Fprintf(out, "session %d %08x nonce %s attributes %02x hmac %s\n", i+1, s.Handle, text(s.Nonce),
+			s.Attributes, text(s.HMAC))
 	}
 	fmt.Fprintf(out, "parameters %s\n", text(it.Parameters))
 }

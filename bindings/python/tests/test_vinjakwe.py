@@ -1,4 +1,5 @@
-"""What the package answers, beside hashlib and the logs and quotes of the repository: `python -m unittest` in bindings/python."""
+"""What the package answers, beside hashlib and the logs and quotes of the repository: `python -m unittest` in
+bindings/python."""
 import copy
 import hashlib
 import json
@@ -25,7 +26,8 @@ def registers_of(path):
 def quotes():
     for line in (CHECKS / "quotes" / "cases.txt").read_text().splitlines():
         name, log, hash, nonce, selected = line.split()
-        yield (CHECKS / "quotes" / log).read_bytes(), (CHECKS / "quotes" / f"{name}.msg").read_bytes(), bytes.fromhex(nonce), selected, hash
+        log, quote = (CHECKS / "quotes" / log).read_bytes(), (CHECKS / "quotes" / f"{name}.msg").read_bytes()
+        yield log, quote, bytes.fromhex(nonce), selected, hash
 
 
 class Logs(unittest.TestCase):
@@ -75,7 +77,8 @@ class Variables(unittest.TestCase):
             log = path.read_bytes()
             wanted = [[log[at:at + size] for at, size in parts] for parts in listed]
             told = [it for it in map(v.variable, v.events(path)) if it]
-            self.assertEqual([[it.vendor.bytes_le, it.name.encode("utf-16-le", "surrogatepass"), it.value] for it in told], wanted)
+            found = [[it.vendor.bytes_le, it.name.encode("utf-16-le", "surrogatepass"), it.value] for it in told]
+            self.assertEqual(found, wanted)
 
     def test_the_key_that_secure_boot_tells(self):
         log = LOG.with_name("secure_on.log")
@@ -111,7 +114,8 @@ class Texts(unittest.TestCase):
 
 
 def boots():
-    """What the lists beside the logs say of Secure Boot: of each bank its state or fault, and its lines by name and place."""
+    """What the lists beside the logs say of Secure Boot: of each bank its state or fault, and its lines by name and
+    place."""
     for path in sorted((CHECKS / "logs").glob("*.secure")):
         found = {}
         for line in path.read_text().splitlines():
@@ -134,7 +138,8 @@ class SecureBoots(unittest.TestCase):
                 found = v.secure_boot(path.read_bytes(), bank)
                 self.assertEqual((found.state.name.lower(), bool(found)), (said[0], said[0] == "on"))
                 self.assertEqual(found.dma_protection_disabled, ["dma-protection", "disabled"] in lines)
-                places = [(name, int(at)) for name, word, at, *_ in (line for line in lines if line[0] != "dma-protection")]
+                placed = (line for line in lines if line[0] != "dma-protection")
+                places = [(name, int(at)) for name, word, at, *_ in placed]
                 named = [(name, at) for name, at in zip(("PK", "KEK", "db", "dbx"), found[2:6]) if at is not None]
                 self.assertEqual(named + [("authority", at) for at in found.authorities], places)
 
@@ -148,7 +153,8 @@ class SecureBoots(unittest.TestCase):
         log = LOG.with_name("secure_on.log").read_bytes()
         last = v.secure_boot(log).authorities[-1]
         found = v.secure_boot(log + 40 * log[last:])
-        self.assertEqual(found.authorities[2:], tuple(range(len(log), len(log) + 40 * len(log[last:]), len(log[last:]))))
+        size = len(log[last:])
+        self.assertEqual(found.authorities[2:], tuple(range(len(log), len(log) + 40 * size, size)))
 
 
 class Quotes(unittest.TestCase):
@@ -222,7 +228,8 @@ class Policies(unittest.TestCase):
         policy = v.Policy()
         policy.auth_value()
         before = policy.digest
-        for call in (lambda: policy.pcr(b"\0", bytes(32)), lambda: policy.pcr("sha256:0", bytes(31)), lambda: policy.any_of([before])):
+        for call in (lambda: policy.pcr(b"\0", bytes(32)), lambda: policy.pcr("sha256:0", bytes(31)),
+                     lambda: policy.any_of([before])):
             self.assertRaises(ValueError, call)
             self.assertEqual(policy.digest, before)
         self.assertRaises(ValueError, v.Policy, "md5")
@@ -254,7 +261,8 @@ class Devices(unittest.TestCase):
             self.assertEqual((again.greatest, again.counters, again.keep()), (41, (counter,), kept))
             self.assertEqual(again.session_hash(0x03000000), None)
         changed = kept[:-1] + bytes([kept[-1] ^ 1])
-        for other, code, name, at in (changed, 0x09F, "TPM_RC_INTEGRITY", len(kept) - 32), (b"", 0x09A, "TPM_RC_INSUFFICIENT", 0):
+        for other, code, name, at in ((changed, 0x09F, "TPM_RC_INTEGRITY", len(kept) - 32),
+                                      (b"", 0x09A, "TPM_RC_INSUFFICIENT", 0)):
             with self.assertRaises(v.Refusal) as found:
                 v.Device.restore(b"owner", other)
             self.assertEqual((found.exception.code, found.exception.name, found.exception.at), (code, name, at))

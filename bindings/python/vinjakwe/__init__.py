@@ -1,8 +1,9 @@
 """Commands and responses of a TPM 2.0, logs of a measured boot, and quotes, judged by the library vinjakwe.
 
-Bytes are anything with the buffer protocol, and are lent to the library without a copy. A call over logs or quotes lets other
-threads run where all that it is lent are `bytes`, which nobody can change. Every other call holds the interpreter's lock until it
-returns, so that no other thread changes its bytes or its state meanwhile. A map of a file has to be left alone by other processes.
+Bytes are anything with the buffer protocol, and are lent to the library without a copy. A call over logs or quotes lets
+other threads run where all that it is lent are `bytes`, which nobody can change. Every other call holds the
+interpreter's lock until it returns, so that no other thread changes its bytes or its state meanwhile. A map of a file
+has to be left alone by other processes.
 """
 from __future__ import annotations
 
@@ -24,16 +25,17 @@ if TYPE_CHECKING:
     Selected = Union[Buffer, str]
 
 __all__ = [
-    "Attest", "BrokenStream", "BUFFER_BYTES", "Caller", "CODES", "COMMANDS", "Command", "Counter", "Device", "Event", "Framer", "HASHES", "Kind",
-    "LibraryError", "LogFault", "NONCE_BYTES", "OWNER_BYTES", "Policy", "Refusal", "Registers", "Response", "SecureBoot", "SecureBootFault",
-    "SecureBootState", "Session", "Variable", "Verdict",
-    "build_command", "changes_nv", "check", "check_quote", "code_name", "decode_attest", "decode_command", "decode_response", "event_type_name",
-    "events", "replay", "secure_boot", "selection", "text", "variable",
+    "Attest", "BrokenStream", "BUFFER_BYTES", "Caller", "CODES", "COMMANDS", "Command", "Counter", "Device", "Event",
+    "Framer", "HASHES", "Kind", "LibraryError", "LogFault", "NONCE_BYTES", "OWNER_BYTES", "Policy", "Refusal",
+    "Registers", "Response", "SecureBoot", "SecureBootFault", "SecureBootState", "Session", "Variable", "Verdict",
+    "build_command", "changes_nv", "check", "check_quote", "code_name", "decode_attest", "decode_command",
+    "decode_response", "event_type_name", "events", "replay", "secure_boot", "selection", "text", "variable",
 ]
 __version__ = "0.1.0"
 
 # As in vinjakwe.h, with which a test compares them.
-BUFFER_BYTES, OWNER_BYTES, NONCE_BYTES, REGISTERS_BYTES, DEVICE_KEPT_BYTES, EVENT_TYPE_BYTES = 4096, 48, 64, 2400, 1026, 32
+BUFFER_BYTES, OWNER_BYTES, NONCE_BYTES = 4096, 48, 64
+REGISTERS_BYTES, DEVICE_KEPT_BYTES, EVENT_TYPE_BYTES = 2400, 1026, 32
 HASHES = {"sha1": 0x0004, "sha256": 0x000B, "sha384": 0x000C}
 COMMANDS = {
     "NV_UndefineSpace": 0x122, "NV_DefineSpace": 0x12A, "NV_Increment": 0x134, "PCR_Event": 0x13C, "PCR_Reset": 0x13D,
@@ -50,10 +52,11 @@ CODES = {
     "SYMMETRIC": 0x096, "INSUFFICIENT": 0x09A, "POLICY_FAIL": 0x09D, "INTEGRITY": 0x09F, "RESERVED_BITS": 0x0A1,
     "BAD_AUTH": 0x0A2, "POLICY_CC": 0x0A4,
 }
-LOG_FAULTS = ("DONE", "TRUNCATED", "TOO_LONG", "NOT_CRYPTO_AGILE", "BAD_HEADER", "DUPLICATE_ALGORITHM", "WRONG_DIGEST_SIZE",
-              "UNKNOWN_ALGORITHM", "REPEATED_DIGEST", "BAD_REGISTER", "BAD_LOCALITY", "LATE_LOCALITY")
-SECURE_BOOT_FAULTS = ("NOT_MEASURED", "OTHER_TYPE", "NO_VARIABLE", "TWICE", "OTHER_VALUE", "DEBUGGER", "BAD_SEPARATOR", "NO_SEPARATOR",
-                      "LATE", "NO_KEY", "NO_AUTHORITY")
+LOG_FAULTS = ("DONE", "TRUNCATED", "TOO_LONG", "NOT_CRYPTO_AGILE", "BAD_HEADER", "DUPLICATE_ALGORITHM",
+              "WRONG_DIGEST_SIZE", "UNKNOWN_ALGORITHM", "REPEATED_DIGEST", "BAD_REGISTER", "BAD_LOCALITY",
+              "LATE_LOCALITY")
+SECURE_BOOT_FAULTS = ("NOT_MEASURED", "OTHER_TYPE", "NO_VARIABLE", "TWICE", "OTHER_VALUE", "DEBUGGER", "BAD_SEPARATOR",
+                      "NO_SEPARATOR", "LATE", "NO_KEY", "NO_AUTHORITY")
 _DONE, _REFUSED, _NO_ROOM, _NO_COMMAND = range(4)
 _FRAMER_MORE, _FRAMER_READY, _FRAMER_BROKEN = range(3)
 _EVENT, _VARIABLE, _TEXT, _TEXT_UTF16, _CALLER_OPENED = 32, 33, 34, 35, 0
@@ -71,7 +74,8 @@ class LibraryError(ImportError):
 
 
 def code_name(code: int) -> str:
-    """The name of a response code in Part 2, 6.6.3, with the handle, session or parameter that it tells, or its number."""
+    """The name of a response code in Part 2, 6.6.3, with the handle, session or parameter that it tells, or its
+    number."""
     if not code & 0x80:
         return "TPM_RC_" + _CODE_NAMES[code] if code in _CODE_NAMES else f"{code:#x}"
     base, number = code & 0xBF, code >> 8 & 15
@@ -105,8 +109,9 @@ class LogFault(ValueError):
 
 
 class SecureBootFault(ValueError):
-    """The records of register 7 tell nothing of Secure Boot: the kind of the first fault, as `NotMeasured`, and how many bytes of the log
-    precede the record that has it, or how many there are, where something is missing at the end."""
+    """The records of register 7 tell nothing of Secure Boot: the kind of the first fault, as `NotMeasured`, and how
+    many bytes of the log precede the record that has it, or how many there are, where something is missing at the
+    end."""
 
     def __init__(self, kind: int, at: int) -> None:
         name = SECURE_BOOT_FAULTS[kind - _SECURE_BOOT_NOT_MEASURED]
@@ -119,7 +124,8 @@ class SecureBootFault(ValueError):
 
 
 class BrokenStream(ValueError):
-    """A stream has a buffer whose size field is none of 10 to 4,096. `frames`: the buffers that the same piece ended before it."""
+    """A stream has a buffer whose size field is none of 10 to 4,096. `frames`: the buffers that the same piece ended
+    before it."""
 
     def __init__(self, frames: list[bytes]) -> None:
         super().__init__("no buffer has the size that was stated")
@@ -164,7 +170,8 @@ class _LogDigest(Structure):
 
 
 class _LogEvent(Structure):
-    _fields_ = [("pcr", c_uint32), ("type", c_uint32), ("digest_count", c_size_t), ("digests", _LogDigest * 8), ("data", _Part)]
+    _fields_ = [("pcr", c_uint32), ("type", c_uint32), ("digest_count", c_size_t), ("digests", _LogDigest * 8),
+                ("data", _Part)]
 
 
 class _Variable(Structure):
@@ -172,12 +179,14 @@ class _Variable(Structure):
 
 
 class _SecureBoot(Structure):
-    _fields_ = [("dma_protection_disabled", c_uint32), ("pk", c_uint32), ("kek", c_uint32), ("db", c_uint32), ("dbx", c_uint32)]
+    _fields_ = [("dma_protection_disabled", c_uint32), ("pk", c_uint32), ("kek", c_uint32), ("db", c_uint32),
+                ("dbx", c_uint32)]
 
 
 class _Attest(Structure):
-    _fields_ = [("signer", _Part), ("nonce", _Part), ("clock", c_uint64), ("reset_count", c_uint32), ("restart_count", c_uint32),
-                ("safe", c_uint8), ("firmware_version", c_uint64), ("selections", _Part), ("digest", _Part)]
+    _fields_ = [("signer", _Part), ("nonce", _Part), ("clock", c_uint64), ("reset_count", c_uint32),
+                ("restart_count", c_uint32), ("safe", c_uint8), ("firmware_version", c_uint64), ("selections", _Part),
+                ("digest", _Part)]
 
 
 class _AttestFault(Structure):
@@ -185,8 +194,8 @@ class _AttestFault(Structure):
 
 
 class _Counter(Structure):
-    _fields_ = [("index", c_uint32), ("hash", c_uint16), ("attributes", c_uint32), ("value", c_uint64), ("policy_len", c_size_t),
-                ("policy", c_uint8 * 48), ("has_auth", c_uint32)]
+    _fields_ = [("index", c_uint32), ("hash", c_uint16), ("attributes", c_uint32), ("value", c_uint64),
+                ("policy_len", c_size_t), ("policy", c_uint8 * 48), ("has_auth", c_uint32)]
 
 
 class _Policy(Structure):
@@ -194,9 +203,12 @@ class _Policy(Structure):
 
 
 def _file_name() -> str:
-    """The library's file: the one that is named, or that lies in the package (as in a wheel), or that the system finds."""
+    """The library's file: the one that is named, or that lies in the package (as in a wheel), or that the system
+    finds."""
     within = Path(__file__).with_name("libvinjakwe.so.0")
-    return os.environ.get("VINJAKWE_LIBRARY") or (str(within) if within.exists() else find_library("vinjakwe")) or "libvinjakwe.so.0"
+    return (os.environ.get("VINJAKWE_LIBRARY")
+            or (str(within) if within.exists() else find_library("vinjakwe"))
+            or "libvinjakwe.so.0")
 
 
 def _load() -> tuple[ctypes.PyDLL, ctypes.CDLL]:
@@ -205,7 +217,8 @@ def _load() -> tuple[ctypes.PyDLL, ctypes.CDLL]:
     try:
         library, unlocked = ctypes.PyDLL(name), ctypes.CDLL(name)
     except OSError as error:
-        raise LibraryError(f"the library vinjakwe is not found ({error}): install it, or name its file in VINJAKWE_LIBRARY") from None
+        raise LibraryError(f"the library vinjakwe is not found ({error}): install it, "
+                           "or name its file in VINJAKWE_LIBRARY") from None
     try:
         found = ctypes.string_at(ctypes.addressof(ctypes.c_char.in_dll(library, "vinjakwe_version"))).decode()
     except ValueError:
@@ -214,7 +227,8 @@ def _load() -> tuple[ctypes.PyDLL, ctypes.CDLL]:
         raise LibraryError(f"{name} has version {found}, and this package is for {__version__}")
     p, size, number, refusal, count = c_void_p, c_size_t, c_uint32, POINTER(_Refusal), POINTER(c_uint32)
     states = ("device", "framer", "log_replay", "caller")
-    rooms: list[tuple[str, Any, list[Any]]] = [(f"{state}_{what}", size, []) for state in states for what in ("size", "align")]
+    rooms: list[tuple[str, Any, list[Any]]] = [
+        (f"{state}_{what}", size, []) for state in states for what in ("size", "align")]
     for function, result, words in rooms + [
         ("device_init", number, [p, p, size, c_uint64]), ("device_power_cycle", None, [p]),
         ("device_execute", size, [p, p, size, p, p, size]), ("device_keep", size, [p, p, size]),
@@ -223,7 +237,8 @@ def _load() -> tuple[ctypes.PyDLL, ctypes.CDLL]:
         ("device_counter", number, [p, size, POINTER(_Counter)]), ("device_changes_nv", number, [p, size, p, size]),
         ("framer_init", None, [p]), ("framer_push", size, [p, p, size, count]), ("framer_frame", size, [p, p, size]),
         ("framer_next", None, [p]),
-        ("command_cut", number, [p, size, POINTER(_CommandAreas), refusal]), ("command_decode", number, [p, size, refusal]),
+        ("command_cut", number, [p, size, POINTER(_CommandAreas), refusal]),
+        ("command_decode", number, [p, size, refusal]),
         ("response_cut", number, [number, p, size, POINTER(_ResponseAreas), refusal]),
         ("response_decode", number, [number, p, size, refusal]),
         ("command_build", number, [number, p, size, p, size, p, size, p, size, POINTER(size), refusal]),
@@ -239,8 +254,9 @@ def _load() -> tuple[ctypes.PyDLL, ctypes.CDLL]:
         ("caller_init", None, [p]), ("caller_start", number, [p, p, size, p, size, p, size]),
         ("caller_seal", size, [p, p, size, p, size, p, size, p, size, p, size, number, p, size]),
         ("caller_open", number, [p, p, size]), ("caller_give_up", number, [p, p, size]),
-        ("policy_start", number, [p, c_uint16]), ("policy_restart", number, [p]), ("policy_pcr", number, [p, p, size, p, size, refusal]),
-        ("policy_or", number, [p, p, size, refusal]), ("policy_command_code", number, [p, number]), ("policy_auth_value", number, [p]),
+        ("policy_start", number, [p, c_uint16]), ("policy_restart", number, [p]),
+        ("policy_pcr", number, [p, p, size, p, size, refusal]), ("policy_or", number, [p, p, size, refusal]),
+        ("policy_command_code", number, [p, number]), ("policy_auth_value", number, [p]),
     ]:
         for it in library, unlocked:
             call = getattr(it, "tpm_" + function)
@@ -265,7 +281,8 @@ _nothing = ctypes.create_string_buffer(1)
 
 
 def _lend(call: Callable[..., int], *words: Any) -> int:
-    """Calls the function with these words, where a tuple of one object lends its bytes, as their address and their number."""
+    """Calls the function with these words, where a tuple of one object lends its bytes, as their address and their
+    number."""
     views: list[_View] = []
     given: list[Any] = []
     try:
@@ -374,7 +391,8 @@ def decode_command(data: Buffer) -> Command:
     _judge(_library.tpm_command_cut, (data,), byref(it))
     with memoryview(data).cast("B") as view:
         handles = tuple(it.handles[:it.handle_count])
-        return Command(it.code, _COMMAND_NAMES[it.code], it.size, handles, _sessions(view, it), _part(view, it.parameters))
+        return Command(it.code, _COMMAND_NAMES[it.code], it.size, handles, _sessions(view, it),
+                       _part(view, it.parameters))
 
 
 def decode_response(command: str | int, data: Buffer) -> Response:
@@ -383,13 +401,15 @@ def decode_response(command: str | int, data: Buffer) -> Response:
     _judge(_library.tpm_response_decode, number, (data,))
     _judge(_library.tpm_response_cut, number, (data,), byref(it))
     with memoryview(data).cast("B") as view:
-        return Response(it.code, it.handle if it.handle_count else None, _part(view, it.parameters), _sessions(view, it))
+        return Response(it.code, it.handle if it.handle_count else None, _part(view, it.parameters),
+                        _sessions(view, it))
 
 
 def build_command(command: str | int, handles: Buffer = b"", sessions: Buffer = b"", parameters: Buffer = b"") -> bytes:
     """The command of this name or number, joined from the bytes of its parts. Raises Refusal where they spell none."""
     out, count = (c_uint8 * BUFFER_BYTES)(), c_size_t()
-    _judge(_library.tpm_command_build, _number(command), (handles,), (sessions,), (parameters,), out, BUFFER_BYTES, byref(count))
+    _judge(_library.tpm_command_build, _number(command), (handles,), (sessions,), (parameters,), out, BUFFER_BYTES,
+           byref(count))
     return bytes(out[:count.value])
 
 
@@ -431,8 +451,8 @@ def _whole(log: Log) -> Buffer:
 
 
 def replay(log: Log) -> Registers:
-    """The 24 registers of each bank, by the hash's name, after a log: its bytes, its path, or a file that is read to its end, of which
-    65,536 bytes are held at once. Raises LogFault."""
+    """The 24 registers of each bank, by the hash's name, after a log: its bytes, its path, or a file that is read to
+    its end, of which 65,536 bytes are held at once. Raises LogFault."""
     out, at = (c_uint8 * REGISTERS_BYTES)(), c_uint32()
     if isinstance(log, (str, os.PathLike)):
         with open(log, "rb") as file:
@@ -456,8 +476,9 @@ def _replay_file(read: Callable[[int], bytes], out: ctypes.Array[c_uint8], at: c
 
 
 class Event(NamedTuple):
-    """A record of a log: its place among them from 1 on, its register, its type, the digests and the event's data. A hash is told by its
-    name in HASHES, or else by its number. `hashed`: those whose digest is that hash of the data; another is not wrong."""
+    """A record of a log: its place among them from 1 on, its register, its type, the digests and the event's data. A
+    hash is told by its name in HASHES, or else by its number. `hashed`: those whose digest is that hash of the data;
+    another is not wrong."""
 
     number: int
     register: int
@@ -468,8 +489,8 @@ class Event(NamedTuple):
 
 
 def events(log: Log) -> Iterator[Event]:
-    """The records of a log, one by one: of its bytes, its path, or a file that is read to its end. Raises LogFault behind those before
-    the fault."""
+    """The records of a log, one by one: of its bytes, its path, or a file that is read to its end. Raises LogFault
+    behind those before the fault."""
     place, event, at, number, whole = _LogPlace(), _LogEvent(), c_uint32(), 0, _whole(log)
     while (said := _lend(_library.tpm_log_event, (whole,), byref(place), byref(event), byref(at))) == _EVENT:
         number += 1
@@ -482,7 +503,8 @@ def events(log: Log) -> Iterator[Event]:
 
 
 def event_type_name(type: int) -> str | None:
-    """The name of a type of records, as `EV_SEPARATOR`, or None where the PC Client Platform Firmware Profile names none."""
+    """The name of a type of records, as `EV_SEPARATOR`, or None where the PC Client Platform Firmware Profile names
+    none."""
     if not 0 <= type < 1 << 32:
         return None
     out = (c_uint8 * EVENT_TYPE_BYTES)()
@@ -491,9 +513,9 @@ def event_type_name(type: int) -> str | None:
 
 
 def text(event: Event) -> str | None:
-    """The text that the data of a record are, without a zero that ends it: printable ASCII of EV_POST_CODE, EV_ACTION, EV_IPL and
-    EV_EFI_ACTION, or UTF-16 of EV_S_CRTM_VERSION, of which units that are no UTF-16 stay as they are. None where they are no text, or
-    the type is another."""
+    """The text that the data of a record are, without a zero that ends it: printable ASCII of EV_POST_CODE, EV_ACTION,
+    EV_IPL and EV_EFI_ACTION, or UTF-16 of EV_S_CRTM_VERSION, of which units that are no UTF-16 stay as they are. None
+    where they are no text, or the type is another."""
     view = _Part()
     said = _lend(_library.tpm_log_text, event.type, (event.data,), byref(view))
     if said not in (_TEXT, _TEXT_UTF16):
@@ -503,7 +525,8 @@ def text(event: Event) -> str | None:
 
 
 class Variable(NamedTuple):
-    """A variable of the firmware: its vendor, its name and its value. Units of the name that are no UTF-16 stay as they are."""
+    """A variable of the firmware: its vendor, its name and its value. Units of the name that are no UTF-16 stay as they
+    are."""
 
     vendor: uuid.UUID
     name: str
@@ -511,8 +534,9 @@ class Variable(NamedTuple):
 
 
 def variable(event: Event) -> Variable | None:
-    """The variable that the data of a record are, all of them (UEFI_VARIABLE_DATA; PC Client Platform Firmware Profile, "Event Types"), or
-    None where they are none, or the type is another than EV_EFI_VARIABLE_DRIVER_CONFIG, _BOOT, _BOOT2 and _AUTHORITY."""
+    """The variable that the data of a record are, all of them (UEFI_VARIABLE_DATA; PC Client Platform Firmware Profile,
+    "Event Types"), or None where they are none, or the type is another than EV_EFI_VARIABLE_DRIVER_CONFIG, _BOOT,
+    _BOOT2 and _AUTHORITY."""
     view = _Variable()
     if _lend(_library.tpm_log_variable, event.type, (event.data,), byref(view)) != _VARIABLE:
         return None
@@ -522,14 +546,16 @@ def variable(event: Event) -> Variable | None:
 
 
 class SecureBootState(enum.Enum):
-    """SecureBoot was 1, and PK, KEK, db and an authority are there; it was 0; or it had no byte, or was not measured."""
+    """SecureBoot was 1, and PK, KEK, db and an authority are there; it was 0; or it had no byte, or was not
+    measured."""
 
     ON, OFF, UNSET = 48, 49, 50
 
 
 class SecureBoot(NamedTuple):
-    """What a log tells of Secure Boot: its state, whether DMA protection was disabled, and how many bytes of the log precede the records
-    of PK, KEK, db and dbx, or None where one was not measured, and of each authority. It is true where the state is ON."""
+    """What a log tells of Secure Boot: its state, whether DMA protection was disabled, and how many bytes of the log
+    precede the records of PK, KEK, db and dbx, or None where one was not measured, and of each authority. It is true
+    where the state is ON."""
 
     state: SecureBootState
     dma_protection_disabled: bool
@@ -544,21 +570,23 @@ class SecureBoot(NamedTuple):
 
 
 def secure_boot(log: Log, bank: str = "sha256") -> SecureBoot:
-    """Whether Secure Boot was on, by the records of register 7 in the bank of this hash (PC Client Platform Firmware Profile, "PCR[7]").
-    The log is given by its bytes, its path, or a file that is read to its end. Raises LogFault, SecureBootFault for the first fault of
-    what the records tell, and ValueError for another hash. It is as true as register 7, for which `check` asks a quote."""
+    """Whether Secure Boot was on, by the records of register 7 in the bank of this hash (PC Client Platform Firmware
+    Profile, "PCR[7]"). The log is given by its bytes, its path, or a file that is read to its end. Raises LogFault,
+    SecureBootFault for the first fault of what the records tell, and ValueError for another hash. It is as true as
+    register 7, for which `check` asks a quote."""
     view, count, at, whole, room = _SecureBoot(), c_size_t(), c_uint32(), _whole(log), 16
     while True:
         places = (c_uint32 * room)()
-        answer = _lend_long("tpm_log_secure_boot", (whole,), _hash(bank), byref(view), places, room, byref(count), byref(at))
+        answer = _lend_long("tpm_log_secure_boot", (whole,), _hash(bank), byref(view), places, room, byref(count),
+                            byref(at))
         if answer != _SECURE_BOOT_NO_ROOM:
             break
         room = count.value
     _raise_fault(answer, at.value)
     if answer >= _SECURE_BOOT_NOT_MEASURED:
         raise SecureBootFault(answer, at.value)
-    return SecureBoot(SecureBootState(answer), view.dma_protection_disabled != 0, view.pk or None, view.kek or None, view.db or None,
-                      view.dbx or None, tuple(places[:count.value]))
+    return SecureBoot(SecureBootState(answer), view.dma_protection_disabled != 0, view.pk or None, view.kek or None,
+                      view.db or None, view.dbx or None, tuple(places[:count.value]))
 
 
 # How each TPMS_ATTEST begins: TPM_GENERATED_VALUE (Part 2, 6.2).
@@ -566,13 +594,14 @@ _GENERATED = b"\xffTCG"
 
 
 def check_quote(log: Log, quote: Buffer, hash: str = "sha256") -> bool:
-    """Whether the digest of a quote's TPMS_QUOTE_INFO is that of a log's registers. The log is given by its bytes, its path, or a file
-    that is read to its end. Raises LogFault, Refusal (whose code is not told: 0), and ValueError for a whole TPMS_ATTEST, which is for
-    `check`."""
+    """Whether the digest of a quote's TPMS_QUOTE_INFO is that of a log's registers. The log is given by its bytes, its
+    path, or a file that is read to its end. Raises LogFault, Refusal (whose code is not told: 0), and ValueError for a
+    whole TPMS_ATTEST, which is for `check`."""
     at = c_uint32()
     answer = _lend_long("tpm_log_check_quote", (_whole(log),), (quote,), _hash(hash), byref(at))
     if answer == _ATTEST_REFUSED and bytes(memoryview(quote).cast("B")[:4]) == _GENERATED:
-        raise ValueError("this is a whole TPMS_ATTEST, which check() takes; its TPMS_QUOTE_INFO is decode_attest(..).info")
+        raise ValueError("this is a whole TPMS_ATTEST, which check() takes; "
+                         "its TPMS_QUOTE_INFO is decode_attest(..).info")
     _raise_fault(answer, at.value)
     return Kind(answer) is Kind.MATCHES
 
@@ -581,7 +610,8 @@ _REGISTER = re.compile("0*(1[0-9]|2[0-3]|[0-9])")
 
 
 def selection(text: str) -> bytes:
-    """The TPML_PCR_SELECTION of registers as tpm2-tools list them: `sha1:7+sha256:0,1,2`, or `sha256:all`. Raises ValueError."""
+    """The TPML_PCR_SELECTION of registers as tpm2-tools list them: `sha1:7+sha256:0,1,2`, or `sha256:all`. Raises
+    ValueError."""
     bits = dict.fromkeys(HASHES, 0)
     for part in text.split("+"):
         name, _, listed = part.partition(":")
@@ -599,7 +629,8 @@ def _selected(list: Selected) -> Buffer:
 
 
 class Attest(NamedTuple):
-    """A quote as it was signed, a TPMS_ATTEST: the registers that each entry of its selection has, and its TPMS_QUOTE_INFO whole."""
+    """A quote as it was signed, a TPMS_ATTEST: the registers that each entry of its selection has, and its
+    TPMS_QUOTE_INFO whole."""
 
     signer: bytes
     nonce: bytes
@@ -619,10 +650,11 @@ def decode_attest(data: Buffer) -> Attest:
     with memoryview(data).cast("B") as view:
         listed = _part(view, it.selections)[4:]
         entries = [listed[at:at + 6] for at in range(0, len(listed), 6)]
-        selections = tuple((_HASH_NAMES[int.from_bytes(entry[:2], "big")], tuple(i for i in range(24) if entry[3 + i // 8] >> i % 8 & 1))
+        selections = tuple((_HASH_NAMES[int.from_bytes(entry[:2], "big")],
+                            tuple(i for i in range(24) if entry[3 + i // 8] >> i % 8 & 1))
                            for entry in entries)
-        return Attest(_part(view, it.signer), _part(view, it.nonce), it.clock, it.reset_count, it.restart_count, it.safe != 0,
-                      it.firmware_version, selections, bytes(view[it.selections.at:]))
+        return Attest(_part(view, it.signer), _part(view, it.nonce), it.clock, it.reset_count, it.restart_count,
+                      it.safe != 0, it.firmware_version, selections, bytes(view[it.selections.at:]))
 
 
 class Kind(enum.Enum):
@@ -630,8 +662,9 @@ class Kind(enum.Enum):
 
 
 class Verdict(NamedTuple):
-    """What is said of a signed quote: it matches, or the first that fails: another nonce, a required register that is not selected (its
-    bank and number are there), another digest, or no register is selected. It is true where the quote matches."""
+    """What is said of a signed quote: it matches, or the first that fails: another nonce, a required register that is
+    not selected (its bank and number are there), another digest, or no register is selected. It is true where the quote
+    matches."""
 
     kind: Kind
     hash: str | None = None
@@ -642,12 +675,13 @@ class Verdict(NamedTuple):
 
 
 def check(log: Log, attest: Buffer, nonce: Buffer, require: Selected = b"", hash: str = "sha256") -> Verdict:
-    """Compares a log with a TPMS_ATTEST of a quote, whose signature has to be verified elsewhere: its nonce, the registers that are
-    required, and the digest under this hash. The log is given by its bytes, its path, or a file that is read to its end; `require` is a
-    TPML_PCR_SELECTION or a list as `sha256:0,7`. Raises LogFault, and Refusal for bytes that spell no quote; ValueError where `require`
-    is no selection."""
+    """Compares a log with a TPMS_ATTEST of a quote, whose signature has to be verified elsewhere: its nonce, the
+    registers that are required, and the digest under this hash. The log is given by its bytes, its path, or a file that
+    is read to its end; `require` is a TPML_PCR_SELECTION or a list as `sha256:0,7`. Raises LogFault, and Refusal for
+    bytes that spell no quote; ValueError where `require` is no selection."""
     fault, listed = _AttestFault(), _selected(require)
-    answer = _lend_long("tpm_log_check_attest", (_whole(log),), (attest,), _hash(hash), (nonce,), (listed,), byref(fault))
+    answer = _lend_long("tpm_log_check_attest", (_whole(log),), (attest,), _hash(hash), (nonce,), (listed,),
+                        byref(fault))
     _raise_fault(answer, fault.at, fault.code)
     if answer == _ATTEST_REQUIREMENT:
         raise ValueError("require: " + str(Refusal(fault.code, fault.at)))
@@ -656,8 +690,8 @@ def check(log: Log, attest: Buffer, nonce: Buffer, require: Selected = b"", hash
 
 
 class Policy:
-    """The digest of a policy in a hash, without a device (Part 1, "Enhanced Authorization"; Part 3, 23). A policy that asserts nothing
-    has zeros. A call that raises changes nothing."""
+    """The digest of a policy in a hash, without a device (Part 1, "Enhanced Authorization"; Part 3, 23). A policy that
+    asserts nothing has zeros. A call that raises changes nothing."""
 
     def __init__(self, hash: str = "sha256") -> None:
         self._policy, self._size = _Policy(), _DIGESTS[hash][1] if hash in HASHES else 0
@@ -673,7 +707,8 @@ class Policy:
 
     def _assert(self, name: str, *words: Any) -> None:
         refusal = _Refusal()
-        answer = _lend(getattr(_library, "tpm_policy_" + name), byref(self._policy), *words, *[byref(refusal)] * (name in ("pcr", "or")))
+        answer = _lend(getattr(_library, "tpm_policy_" + name), byref(self._policy), *words,
+                       *[byref(refusal)] * (name in ("pcr", "or")))
         if answer == _REFUSED:
             raise Refusal(refusal.code, refusal.at)
         if answer == _POLICY_NO_DIGEST:
@@ -684,8 +719,8 @@ class Policy:
         self._assert("restart")
 
     def pcr(self, selected: Selected, digest: Buffer) -> None:
-        """TPM2_PolicyPCR: the selected registers, as `sha256:0,7`, have values with this digest. Raises Refusal where `selected` is no
-        selection, ValueError where the digest has another length than the policy's."""
+        """TPM2_PolicyPCR: the selected registers, as `sha256:0,7`, have values with this digest. Raises Refusal where
+        `selected` is no selection, ValueError where the digest has another length than the policy's."""
         self._assert("pcr", (_selected(selected),), (digest,))
 
     def any_of(self, digests: Iterable[bytes]) -> None:
@@ -704,7 +739,8 @@ class Policy:
 
 
 class Counter(NamedTuple):
-    """An NV counter that is defined: its hash by its name in HASHES, its attributes as they are now, and its value where it has one."""
+    """An NV counter that is defined: its hash by its name in HASHES, its attributes as they are now, and its value
+    where it has one."""
 
     index: int  # type: ignore[assignment]  # the field stands in the place of a tuple's method
     hash: str
@@ -726,7 +762,8 @@ class Device:
 
     @classmethod
     def restore(cls, owner: Buffer, kept: Buffer) -> Device:
-        """A device of the owner's value and of what `keep` gave, where a power cycle leaves the one that gave it. Raises Refusal."""
+        """A device of the owner's value and of what `keep` gave, where a power cycle leaves the one that gave it.
+        Raises Refusal."""
         device, refusal = cls.__new__(cls), _Refusal()
         device._room = _room("device")
         if _lend(_library.tpm_device_restore, device._room, (owner,), (kept,), byref(refusal)) != _DONE:
@@ -749,8 +786,8 @@ class Device:
         found = [_Counter() for _ in range(_library.tpm_device_counters(self._room))]
         for which, it in enumerate(found):
             _library.tpm_device_counter(self._room, which, byref(it))
-        return tuple(Counter(it.index, _HASH_NAMES[it.hash], it.attributes, bytes(it.policy[:it.policy_len]), bool(it.has_auth),
-                             it.value or None) for it in found)
+        return tuple(Counter(it.index, _HASH_NAMES[it.hash], it.attributes, bytes(it.policy[:it.policy_len]),
+                             bool(it.has_auth), it.value or None) for it in found)
 
     def session_hash(self, session: int) -> str | None:
         """The name in HASHES of the hash of the session of this handle, where it is loaded."""
@@ -760,21 +797,25 @@ class Device:
         _library.tpm_device_power_cycle(self._room)
 
     def execute(self, command: Buffer, nonce: Buffer | None = None) -> bytes:
-        """The response to these bytes. `nonce`: 64 fresh random bytes, which are taken from the system if none are given."""
+        """The response to these bytes. `nonce`: 64 fresh random bytes, which are taken from the system if none are
+        given."""
         nonce, out = os.urandom(NONCE_BYTES) if nonce is None else bytes(nonce), (c_uint8 * BUFFER_BYTES)()
         if len(nonce) != NONCE_BYTES:
             raise ValueError(f"a nonce has {NONCE_BYTES} bytes")
-        count = _lend(_library.tpm_device_execute, self._room, (command,), (c_uint8 * NONCE_BYTES)(*nonce), out, BUFFER_BYTES)
+        count = _lend(_library.tpm_device_execute, self._room, (command,), (c_uint8 * NONCE_BYTES)(*nonce), out,
+                      BUFFER_BYTES)
         return bytes(out[:count])
 
 
 def changes_nv(command: Buffer, response: Buffer) -> bool:
-    """Whether the device that answered this command so has changed its NV memory: a host then keeps it before it hands out the response."""
+    """Whether the device that answered this command so has changed its NV memory: a host then keeps it before it hands
+    out the response."""
     return bool(_lend(_library.tpm_device_changes_nv, (command,), (response,)))
 
 
 class Caller:
-    """The other end of a session. Each call is false, or raises ValueError, where it does not apply, and then nothing changes."""
+    """The other end of a session. Each call is false, or raises ValueError, where it does not apply, and then nothing
+    changes."""
 
     def __init__(self) -> None:
         self._room = _room("caller")
@@ -783,13 +824,14 @@ class Caller:
     def start(self, command: Buffer, reply: Buffer, bind_auth: Buffer = b"") -> bool:
         return bool(_lend(_library.tpm_caller_start, self._room, (command,), (reply,), (bind_auth,)))
 
-    def seal(self, command: Buffer, first: Buffer, second: Buffer = b"", auth: Buffer = b"", nonce: Buffer | None = None,
-             keep: bool = True) -> bytes:
+    def seal(self, command: Buffer, first: Buffer, second: Buffer = b"", auth: Buffer = b"",
+             nonce: Buffer | None = None, keep: bool = True) -> bytes:
         out, nonce = (c_uint8 * BUFFER_BYTES)(), os.urandom(16) if nonce is None else nonce
-        count = _lend(_library.tpm_caller_seal, self._room, (command,), (first,), (second,), (auth,), (nonce,), int(keep),
-                      out, BUFFER_BYTES)
+        count = _lend(_library.tpm_caller_seal, self._room, (command,), (first,), (second,), (auth,), (nonce,),
+                      int(keep), out, BUFFER_BYTES)
         if not count:
-            raise ValueError("no session is free, or the command needs no authorization, or a Name or the nonce is too long")
+            raise ValueError("no session is free, or the command needs no authorization, "
+                             "or a Name or the nonce is too long")
         return bytes(out[:count])
 
     def open(self, reply: Buffer) -> bool:

@@ -1,6 +1,6 @@
-"""python -m vinjakwe check LOG [--attest FILE [--nonce HEX] [--require LIST] [--hash NAME]]: a log's registers, or what a quote as it
-was signed says and what is said of it beside the log, as tpmtool prints them. The status is 0, or 1 for a mismatch, a refusal or a
-fault."""
+"""python -m vinjakwe check LOG [--attest FILE [--nonce HEX] [--require LIST] [--hash NAME]]: a log's registers, or what
+a quote as it was signed says and what is said of it beside the log, as tpmtool prints them. The status is 0, or 1 for a
+mismatch, a refusal or a fault."""
 from __future__ import annotations
 
 import argparse

@@ -1,11 +1,13 @@
-//! The sizes and places that the crate has of the header, and the kinds of a log's faults, for a test that compares them.
+//! The sizes and places that the crate has of the header, and the kinds of a log's faults, for a test that compares
+//! them.
 use std::mem::{offset_of, size_of};
 use vinjakwe::c::*;
 
 macro_rules! tell {
     ($name:ident, $($field:ident),*) => {
         println!("{} {}", stringify!($name), size_of::<$name>());
-        $(println!("{}.{} {}", stringify!($name), stringify!($field).trim_start_matches("r#"), offset_of!($name, $field));)*
+        $(println!("{}.{} {}", stringify!($name), stringify!($field).trim_start_matches("r#"),
+            offset_of!($name, $field));)*
     };
 }
 

@@ -35,7 +35,8 @@ fn command(out: &mut impl Write, names: &BTreeMap<u32, String>, bytes: &[u8]) ->
         writeln!(out, "handle {} {handle:08x}", i + 1)?;
     }
     for (i, s) in it.sessions.iter().enumerate() {
-        writeln!(out, "session {} {:08x} nonce {} attributes {:02x} hmac {}", i + 1, s.handle, text(s.nonce), s.attributes, text(s.hmac))?;
+        writeln!(out, "session {} {:08x} nonce {} attributes {:02x} hmac {}", i + 1, s.handle, text(s.nonce),
+            s.attributes, text(s.hmac))?;
     }
     writeln!(out, "parameters {}", text(it.parameters))
 }
@@ -54,7 +55,8 @@ fn reply(out: &mut impl Write, name: &str, code: u32, bytes: &[u8]) -> std::io::
     }
     writeln!(out, "parameters {}", text(it.parameters))?;
     for (i, s) in it.sessions.iter().enumerate() {
-        writeln!(out, "session {} nonce {} attributes {:02x} hmac {}", i + 1, text(s.nonce), s.attributes, text(s.hmac))?;
+        writeln!(out, "session {} nonce {} attributes {:02x} hmac {}", i + 1, text(s.nonce), s.attributes,
+            text(s.hmac))?;
     }
     Ok(())
 }
@@ -117,7 +119,9 @@ fn tell_boot(out: &mut impl Write, log: &[u8], name: &str) -> std::io::Result<()
     }
     let it = match secure_boot(log, bank(name), &mut room) {
         Ok(it) => it,
-        Err(Fault::SecureBoot(fault)) => return writeln!(out, "secure-boot {name} unknown {} at {}", fault.kind, fault.at),
+        Err(Fault::SecureBoot(fault)) => {
+            return writeln!(out, "secure-boot {name} unknown {} at {}", fault.kind, fault.at);
+        }
         Err(fault) => return writeln!(out, "{fault}"),
     };
     writeln!(out, "secure-boot {name} {}", it.state)?;
@@ -198,10 +202,18 @@ fn main() -> std::io::Result<()> {
                 Ok(matches) => writeln!(out, "quote {}", if matches { "matches" } else { "differs" })?,
                 Err(fault) => writeln!(out, "{fault}")?,
             },
-            "attest" => match check(&std::fs::read(words[1])?, &unhex(words[2]), &unhex(words[3]), &unhex(words[4]), bank(words[5])) {
+            "attest" => match check(
+                &std::fs::read(words[1])?,
+                &unhex(words[2]),
+                &unhex(words[3]),
+                &unhex(words[4]),
+                bank(words[5]),
+            ) {
                 Ok(Verdict::Matches) => writeln!(out, "matches")?,
                 Ok(Verdict::Nonce) => writeln!(out, "nonce differs")?,
-                Ok(Verdict::Lacks(bank, register)) => writeln!(out, "lacks {} {register}", format!("{bank:?}").to_lowercase())?,
+                Ok(Verdict::Lacks(bank, register)) => {
+                    writeln!(out, "lacks {} {register}", format!("{bank:?}").to_lowercase())?
+                }
                 Ok(Verdict::Empty) => writeln!(out, "selects nothing")?,
                 Ok(Verdict::Differs) => writeln!(out, "digest differs")?,
                 Err(Fault::Requirement(_)) => writeln!(out, "requirement refused")?,

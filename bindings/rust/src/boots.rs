@@ -23,8 +23,8 @@ impl fmt::Display for SecureBootState {
     }
 }
 
-/// The kind of the first fault of what the records of register 7 tell of Secure Boot, as `NotMeasured`, and how many bytes of the log
-/// precede the record that has it, or how many there are, where something is missing at the end.
+/// The kind of the first fault of what the records of register 7 tell of Secure Boot, as `NotMeasured`, and how many
+/// bytes of the log precede the record that has it, or how many there are, where something is missing at the end.
 #[derive(Clone, Copy, Debug, PartialEq, Eq)]
 pub struct SecureBootFault {
     /// The kind, one of SECURE_BOOT_FAULTS.
@@ -40,8 +40,8 @@ impl fmt::Display for SecureBootFault {
 }
 
 /// The kinds of these faults, by their numbers in the header from TPM_SECURE_BOOT_NOT_MEASURED on.
-pub const SECURE_BOOT_FAULTS: [&str; 11] = ["NotMeasured", "OtherType", "NoVariable", "Twice", "OtherValue", "Debugger", "BadSeparator",
-    "NoSeparator", "Late", "NoKey", "NoAuthority"];
+pub const SECURE_BOOT_FAULTS: [&str; 11] = ["NotMeasured", "OtherType", "NoVariable", "Twice", "OtherValue", "Debugger",
+    "BadSeparator", "NoSeparator", "Late", "NoKey", "NoAuthority"];
 
 /// What a log tells of Secure Boot. A place is how many bytes of the log precede a record.
 #[derive(Clone, Copy, Debug, PartialEq, Eq)]
@@ -62,14 +62,16 @@ pub struct SecureBoot<'a> {
     pub authorities: &'a [u32],
 }
 
-/// Whether Secure Boot was on, by the records of register 7 in this bank (PC Client Platform Firmware Profile, "PCR\[7\]"). The places
-/// of the authorities are written to `room`. A fault is the log's, `Fault::SecureBoot` for the first of what the records tell, or
-/// `Fault::Room` with the number of authorities where there is less room. It is as true as register 7, for which `check` asks a quote.
+/// Whether Secure Boot was on, by the records of register 7 in this bank (PC Client Platform Firmware Profile,
+/// "PCR\[7\]"). The places of the authorities are written to `room`. A fault is the log's, `Fault::SecureBoot` for the
+/// first of what the records tell, or `Fault::Room` with the number of authorities where there is less room. It is as
+/// true as register 7, for which `check` asks a quote.
 pub fn secure_boot<'a>(log: &[u8], bank: Bank, room: &'a mut [u32]) -> Result<SecureBoot<'a>, Fault> {
     let (mut view, mut count, mut at) = (c::tpm_secure_boot::default(), 0, 0);
     // SAFETY: the log is there for the call, and what is written is there and lies nowhere else.
     let said = unsafe {
-        c::tpm_log_secure_boot(log.as_ptr(), log.len(), bank as u16, &mut view, room.as_mut_ptr(), room.len(), &mut count, &mut at)
+        c::tpm_log_secure_boot(log.as_ptr(), log.len(), bank as u16, &mut view, room.as_mut_ptr(), room.len(),
+            &mut count, &mut at)
     };
     let state = state(said, count, at)?;
     let place = |at: u32| (at != 0).then_some(at);

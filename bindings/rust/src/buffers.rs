@@ -94,13 +94,20 @@ impl<'a> Response<'a> {
     }
 }
 
-/// Joins the command of this number from the bytes of its parts at the beginning of `out`, and gives them, or the first fault.
-pub fn build_command<'o>(command: u32, handles: &[u8], sessions: &[u8], parameters: &[u8], out: &'o mut [u8]) -> Result<&'o [u8], Fault> {
+/// Joins the command of this number from the bytes of its parts at the beginning of `out`, and gives them, or the first
+/// fault.
+pub fn build_command<'o>(
+    command: u32,
+    handles: &[u8],
+    sessions: &[u8],
+    parameters: &[u8],
+    out: &'o mut [u8],
+) -> Result<&'o [u8], Fault> {
     let (mut count, mut refusal) = (0, c::tpm_refusal::default());
     // SAFETY: all are there for the call, and what is written lies nowhere else.
     let answer = unsafe {
-        c::tpm_command_build(command, handles.as_ptr(), handles.len(), sessions.as_ptr(), sessions.len(), parameters.as_ptr(),
-            parameters.len(), out.as_mut_ptr(), out.len(), &mut count, &mut refusal)
+        c::tpm_command_build(command, handles.as_ptr(), handles.len(), sessions.as_ptr(), sessions.len(),
+            parameters.as_ptr(), parameters.len(), out.as_mut_ptr(), out.len(), &mut count, &mut refusal)
     };
     judged(answer, refusal)?;
     out.get(..count).ok_or(Fault::Length)

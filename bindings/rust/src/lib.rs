@@ -1,5 +1,5 @@
-//! Commands and responses of a TPM 2.0, logs of a measured boot, and quotes, judged by the installed library vinjakwe. Views borrow
-//! from the bytes that were decoded; nothing is allocated, and nothing uses the standard library.
+//! Commands and responses of a TPM 2.0, logs of a measured boot, and quotes, judged by the installed library vinjakwe.
+//! Views borrow from the bytes that were decoded; nothing is allocated, and nothing uses the standard library.
 #![no_std]
 #![warn(missing_docs)]
 
@@ -17,7 +17,10 @@ use core::fmt;
 
 pub use boots::{secure_boot, SecureBoot, SecureBootFault, SecureBootState, SECURE_BOOT_FAULTS};
 pub use buffers::{build_command, Command, List, Response, Session};
-pub use logs::{check, check_quote, events, replay, Bank, Digest, Event, Events, Registers, Replay, Text, TypeName, Variable, Verdict};
+pub use logs::{
+    check, check_quote, events, replay, Bank, Digest, Event, Events, Registers, Replay, Text, TypeName, Variable,
+    Verdict,
+};
 pub use quotes::{Attest, Policy, Selection};
 pub use states::{changes_nv, Caller, Counter, Device, Framer, Place, Room};
 
@@ -39,7 +42,8 @@ pub fn check_version() -> Result<(), Fault> {
     if found.strip_suffix(&[0]) == Some(VERSION.as_bytes()) { Ok(()) } else { Err(Fault::Version) }
 }
 
-/// The TPM's response code (Part 2, 6.6.3), which is 0 where it is not told, and how many bytes are before the first fault.
+/// The TPM's response code (Part 2, 6.6.3), which is 0 where it is not told, and how many bytes are before the first
+/// fault.
 #[derive(Clone, Copy, Debug, PartialEq, Eq)]
 pub struct Refusal {
     /// The code.

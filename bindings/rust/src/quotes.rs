@@ -92,8 +92,8 @@ impl<'a> Attest<'a> {
     }
 }
 
-/// The digest of a policy in a hash, without a device (Part 1, "Enhanced Authorization"; Part 3, 23). Where a call gives a fault,
-/// nothing changes.
+/// The digest of a policy in a hash, without a device (Part 1, "Enhanced Authorization"; Part 3, 23). Where a call
+/// gives a fault, nothing changes.
 #[derive(Clone, Copy)]
 pub struct Policy {
     policy: c::tpm_policy,
@@ -120,12 +120,14 @@ impl Policy {
         unsafe { c::tpm_policy_restart(&mut self.policy) };
     }
 
-    /// TPM2_PolicyPCR: the registers of a TPML_PCR_SELECTION have values with this digest; or Length of a digest of another hash.
+    /// TPM2_PolicyPCR: the registers of a TPML_PCR_SELECTION have values with this digest; or Length of a digest of
+    /// another hash.
     pub fn pcr(&mut self, selection: &[u8], digest: &[u8]) -> Result<(), Fault> {
         let mut refusal = c::tpm_refusal::default();
         // SAFETY: all are there for the call, and what is written lies nowhere else.
         let answer = unsafe {
-            c::tpm_policy_pcr(&mut self.policy, selection.as_ptr(), selection.len(), digest.as_ptr(), digest.len(), &mut refusal)
+            c::tpm_policy_pcr(&mut self.policy, selection.as_ptr(), selection.len(), digest.as_ptr(), digest.len(),
+                &mut refusal)
         };
         judged(answer, refusal)
     }

@@ -4,7 +4,8 @@ use crate::{c, Bank, Fault, Refusal, BUFFER_BYTES, DEVICE_KEPT_BYTES, NONCE_BYTE
 use alloc::boxed::Box;
 use core::mem::{align_of, size_of};
 
-/// Room for one of the library's states, a device, a framer, a replay or a caller, which lies where it is until that is dropped.
+/// Room for one of the library's states, a device, a framer, a replay or a caller, which lies where it is until that is
+/// dropped.
 #[repr(C, align(16))]
 pub struct Room([u8; 8192]);
 
@@ -21,8 +22,8 @@ mod sealed {
     pub trait Sealed {}
 }
 
-/// Where a state lies: a `Room` that is borrowed, or with the feature `alloc` a boxed one, which the state then owns. Neither is moved
-/// with what holds it.
+/// Where a state lies: a `Room` that is borrowed, or with the feature `alloc` a boxed one, which the state then owns.
+/// Neither is moved with what holds it.
 pub trait Place: sealed::Sealed {
     #[doc(hidden)]
     fn place(&mut self) -> *mut u8;
@@ -65,8 +66,8 @@ impl<P: Place> Framer<P> {
         }
     }
 
-    /// Takes bytes of the piece up to the end of the present buffer, and gives how many, and whether a buffer is held; or Broken, now
-    /// and from now on.
+    /// Takes bytes of the piece up to the end of the present buffer, and gives how many, and whether a buffer is held;
+    /// or Broken, now and from now on.
     pub fn push(&mut self, piece: &[u8]) -> Result<(usize, bool), Fault> {
         let mut status = 0;
         // SAFETY: a framer lies there, and the piece is there for the call.
@@ -107,8 +108,8 @@ impl Counter {
     }
 }
 
-/// Whether the device that answered this command with this response has changed its NV memory: a host then keeps it before it
-/// hands out the response.
+/// Whether the device that answered this command with this response has changed its NV memory: a host then keeps it
+/// before it hands out the response.
 pub fn changes_nv(command: &[u8], response: &[u8]) -> bool {
     // SAFETY: the bytes are there for the call.
     unsafe { c::tpm_device_changes_nv(command.as_ptr(), command.len(), response.as_ptr(), response.len()) != 0 }
@@ -131,8 +132,8 @@ impl Device<Box<Room>> {
 }
 
 impl<P: Place> Device<P> {
-    /// A device of this owner, which is not started, and of which no counter has had a greater value; or Length, of an owner's value
-    /// of more than 48 bytes.
+    /// A device of this owner, which is not started, and of which no counter has had a greater value; or Length, of an
+    /// owner's value of more than 48 bytes.
     pub fn new(mut room: P, owner: &[u8], greatest: u64) -> Result<Self, Fault> {
         // SAFETY: as for a framer, and the owner's value is there for the call.
         unsafe {
@@ -142,7 +143,8 @@ impl<P: Place> Device<P> {
         }
     }
 
-    /// A device of this owner and of the bytes that `keep` gave, where a power cycle leaves the one that gave them; or Refused.
+    /// A device of this owner and of the bytes that `keep` gave, where a power cycle leaves the one that gave them; or
+    /// Refused.
     pub fn restore(mut room: P, owner: &[u8], kept: &[u8]) -> Result<Self, Fault> {
         let mut refusal = c::tpm_refusal::default();
         // SAFETY: as for a new one.
@@ -150,7 +152,11 @@ impl<P: Place> Device<P> {
             let place = room.fit(c::tpm_device_size(), c::tpm_device_align())?;
             c::tpm_device_restore(place, owner.as_ptr(), owner.len(), kept.as_ptr(), kept.len(), &mut refusal)
         };
-        if answer == c::TPM_DONE { Ok(Device(room)) } else { Err(Fault::Refused(Refusal { code: refusal.code, at: refusal.at })) }
+        if answer == c::TPM_DONE {
+            Ok(Device(room))
+        } else {
+            Err(Fault::Refused(Refusal { code: refusal.code, at: refusal.at }))
+        }
     }
 
     /// The bytes of NV memory, which hold authorization values.
@@ -195,10 +201,16 @@ impl<P: Place> Device<P> {
     }
 
     /// The response to these bytes. The nonce is fresh and random.
-    pub fn execute<'o>(&mut self, command: &[u8], nonce: &[u8; NONCE_BYTES], out: &'o mut [u8; BUFFER_BYTES]) -> &'o [u8] {
+    pub fn execute<'o>(
+        &mut self,
+        command: &[u8],
+        nonce: &[u8; NONCE_BYTES],
+        out: &'o mut [u8; BUFFER_BYTES],
+    ) -> &'o [u8] {
         // SAFETY: a device lies there, and all are there for the call.
         let count = unsafe {
-            c::tpm_device_execute(self.0.place(), command.as_ptr(), command.len(), nonce.as_ptr(), out.as_mut_ptr(), out.len())
+            c::tpm_device_execute(self.0.place(), command.as_ptr(), command.len(), nonce.as_ptr(),
+                out.as_mut_ptr(), out.len())
         };
         out.get(..count).unwrap_or(&[])
     }
@@ -225,19 +237,21 @@ impl<P: Place> Caller<P> {
     pub fn start(&mut self, command: &[u8], reply: &[u8], bind_auth: &[u8]) -> Result<(), Fault> {
         // SAFETY: a caller lies there, and all are there for the call.
         applies(0 != unsafe {
-            c::tpm_caller_start(self.0.place(), command.as_ptr(), command.len(), reply.as_ptr(), reply.len(), bind_auth.as_ptr(),
-                bind_auth.len())
+            c::tpm_caller_start(self.0.place(), command.as_ptr(), command.len(), reply.as_ptr(), reply.len(),
+                bind_auth.as_ptr(), bind_auth.len())
         })
     }
 
-    /// The command with the session, which then waits for the reply. `names` are those of its handles; the nonce is fresh and random.
+    /// The command with the session, which then waits for the reply. `names` are those of its handles; the nonce is
+    /// fresh and random.
     pub fn seal<'o>(&mut self, command: &[u8], names: [&[u8]; 2], auth: &[u8], nonce: &[u8], keep: bool,
         out: &'o mut [u8; BUFFER_BYTES]) -> Result<&'o [u8], Fault> {
         let [first, second] = names;
         // SAFETY: the same.
         let count = unsafe {
-            c::tpm_caller_seal(self.0.place(), command.as_ptr(), command.len(), first.as_ptr(), first.len(), second.as_ptr(),
-                second.len(), auth.as_ptr(), auth.len(), nonce.as_ptr(), nonce.len(), keep.into(), out.as_mut_ptr(), out.len())
+            c::tpm_caller_seal(self.0.place(), command.as_ptr(), command.len(), first.as_ptr(), first.len(),
+                second.as_ptr(), second.len(), auth.as_ptr(), auth.len(), nonce.as_ptr(), nonce.len(), keep.into(),
+                out.as_mut_ptr(), out.len())
         };
         out.get(..count).filter(|sealed| !sealed.is_empty()).ok_or(Fault::Session)
     }

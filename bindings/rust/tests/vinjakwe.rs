@@ -2,8 +2,8 @@
 use std::fmt::Write;
 use std::fs;
 use vinjakwe::{
-    changes_nv, check, check_quote, check_version, events, replay, secure_boot, Attest, Bank, Device, Fault, LogFault, Policy, Replay, Room,
-    Selection, Verdict, BUFFER_BYTES, DEVICE_KEPT_BYTES, NONCE_BYTES,
+    changes_nv, check, check_quote, check_version, events, replay, secure_boot, Attest, Bank, Device, Fault, LogFault,
+    Policy, Replay, Room, Selection, Verdict, BUFFER_BYTES, DEVICE_KEPT_BYTES, NONCE_BYTES,
 };
 
 fn read(name: &str) -> Vec<u8> {
@@ -61,7 +61,10 @@ fn variables_of_a_log() {
 #[test]
 fn names_and_texts_of_each_log_with_a_list() {
     let logs = format!("{}/../../checks/logs", env!("CARGO_MANIFEST_DIR"));
-    let lists = fs::read_dir(logs).unwrap().map(|it| it.unwrap().path()).filter(|it| it.extension().is_some_and(|it| it == "events"));
+    let lists = fs::read_dir(logs)
+        .unwrap()
+        .map(|it| it.unwrap().path())
+        .filter(|it| it.extension().is_some_and(|it| it == "events"));
     let lists = lists.filter(|it| !it.ends_with("tags.events"));
     let mut count = 0;
     for list in lists {
@@ -101,7 +104,10 @@ fn boot_lines(log: &[u8], bank: Bank) -> String {
 #[test]
 fn secure_boot_of_each_log_with_a_list() {
     let logs = format!("{}/../../checks/logs", env!("CARGO_MANIFEST_DIR"));
-    let lists = fs::read_dir(logs).unwrap().map(|it| it.unwrap().path()).filter(|it| it.extension().is_some_and(|it| it == "secure"));
+    let lists = fs::read_dir(logs)
+        .unwrap()
+        .map(|it| it.unwrap().path())
+        .filter(|it| it.extension().is_some_and(|it| it == "secure"));
     let mut count = 0;
     for list in lists {
         let log = fs::read(list.with_extension("log")).unwrap();
@@ -129,7 +135,8 @@ fn secure_boot_of_other_logs() {
 fn each_quote_matches_its_log() {
     for line in String::from_utf8(read("quotes/cases.txt")).unwrap().lines() {
         let [quote, log, hash, nonce, selected] = line.split(' ').collect::<Vec<_>>()[..] else { panic!("{line}") };
-        let (quote, log, mut nonce) = (read(&format!("quotes/{quote}.msg")), read(&format!("quotes/{log}")), unhex(nonce));
+        let (quote, log) = (read(&format!("quotes/{quote}.msg")), read(&format!("quotes/{log}")));
+        let mut nonce = unhex(nonce);
         let bank = Bank::ALL.into_iter().find(|it| it.name() == hash).unwrap();
         let require = Selection::of(selected).unwrap();
         assert_eq!(check(&log, &quote, &nonce, require.as_bytes(), bank), Ok(Verdict::Matches));
@@ -189,7 +196,10 @@ fn a_device_is_made_again_of_what_it_kept() {
     let mut device = Device::new(&mut room, b"owner", 40).unwrap();
     for (command, changes) in [
         ("80010000000c000001440000", false),
-        ("8002000000330000012a400000010000000e4000000900000000056f776e6572000161000e01800001000b0202001200000008", true),
+        (
+            "8002000000330000012a400000010000000e4000000900000000056f776e6572000161000e01800001000b0202001200000008",
+            true,
+        ),
         ("8002000000240000013440000001018000010000000e4000000900000000056f776e6572", true),
         ("80010000002b0000017640000007400000070010000000000000000000000000000000000000010010000b", false),
     ] {
