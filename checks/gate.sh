@@ -1,5 +1,6 @@
 #!/bin/sh
-# The gate: every proof from nothing, the must-fail edits, each test and each program's stored run.
+# The gate: every proof from nothing, the must-fail edits, each test and each program's stored run. It passes where an
+# edit no longer fits its file; this fails then, since nothing was tried.
 
 . "$(dirname "$0")/shared.sh"
 
@@ -12,3 +13,7 @@ done
 
 rt ci 2>&1 | tee "$room/gate"
 count "$(tail -n 1 "$room/gate")" "the gate"
+
+name="each must-fail edit is tried"
+bad=$(grep ': BAD EDIT: ' "$room/gate")
+if [ -z "$bad" ]; then pass "$name"; else fail "$name" "$bad"; fi
