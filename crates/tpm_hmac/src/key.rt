@@ -1,7 +1,7 @@
 //! A key that is hashed once for many HMACs (RFC 2104, section 4).
 #![tactic(auto, using(crate::proofs::Kept::changed))]
 
-ghost use Rattle.std.specs.Prelude.{◌≡◌, ℕ, List, ◌++◌, length, take};
+ghost use Rattle.std.specs.Prelude.{◌≡◌, ◌↔◌, ℕ, List, ◌++◌, length, take, IsTrue};
 ghost use Rattle.std.specs.List.{flat_map};
 ghost use Rattle.tpm_types.specs.Alg.{digest_len, block_len};
 ghost use Rattle.tpm_types.specs.declared.alg.Alg.TheVariants as algs;
@@ -11,6 +11,7 @@ ghost use Rattle.sha1.specs.Sha1.{Holds, sha1};
 ghost use Rattle.sha2.specs.Hashers.{Holds256};
 ghost use Rattle.sha2.specs.Sha256.{sha256};
 
+use crate::bytes::same;
 use crate::hashing::digest_of;
 use crate::mac::{INNER_PAD, OUTER_PAD, hmac, key_block, xored};
 use sha2::Digest as _;
@@ -25,7 +26,7 @@ pub(crate) enum Kept {
     Sha256(sha2::Sha256, sha2::Sha256),
 }
 
-/// A session's key, for HMACs by the session's hash. It is hashed once, where it is made, for SHA-1
+/// A key, for HMACs by a session's hash. It is hashed once, where it is made, for SHA-1
 /// and SHA-256; the empty key is hashed where `keep` says so, and one for SHA-384 for each HMAC,
 /// since its states would take twice the room (RFC 2104, section 4).
 #[derive(Drop)]
@@ -138,6 +139,13 @@ impl SessionKey {
         if let Kept::Nothing = self.kept {
             self.kept = states_of(self.hash, self.bytes.as_slice());
         }
+    }
+
+    /// Whether it is the key of these bytes, for HMACs by this hash. It takes as long wherever the bytes differ.
+    pub fn is_of(&self, hash: Alg, bytes: &[u8]) -> bool
+        ensures { IsTrue result ↔ (self.now ≡ record { hash = hash; bytes = bytes.now }) }
+    {
+        self.hash == hash && same(self.bytes.as_slice(), bytes)
     }
 
     /// The hash.

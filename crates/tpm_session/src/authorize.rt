@@ -263,7 +263,7 @@ impl Sessions {
         let by = self.authorizer(by)?;
         check_session(&by, auth, count)?;
         check_entity(&by, entity, command, counter)?;
-        check_evidence(&by, auth, entity, command, names, params)
+        check_evidence(&by, self.hashed(), auth, entity, command, names, params)
     }
 
     /// The session of the reply to a command that this authorized, before it rolls: a password is
@@ -292,7 +292,9 @@ impl Sessions {
         ensures unloaded { IsErr (with_session self.now by) → result ≡ no_reply }
     {
         match self.authorizer(by) {
-            Ok(Authorizer::Loaded(session)) => session.reply(auth, entity, command, params, nonce),
+            Ok(Authorizer::Loaded(session)) => {
+                session.reply(self.hashed(), auth, entity, command, params, nonce)
+            }
             Ok(Authorizer::Password) => password_reply(),
             Err(_) => no_reply(),
         }

@@ -4,7 +4,7 @@
 ghost use Rattle.std.specs.Prelude.{◌≡◌, ℕ, List, [], ◌∷◌, ◌&&◌, bytes_eq};
 ghost use Rattle.tpm_commands.specs.Codes.{code_number};
 ghost use Rattle.tpm_hmac.specs.Hmac.{hmac};
-ghost use Rattle.tpm_hmac.specs.Sessions.{cp_hash as cp_hash_of};
+ghost use Rattle.tpm_hmac.specs.Sessions.{whole_key, mac_text, cp_hash as cp_hash_of};
 ghost use Rattle.tpm_model.specs.Authorization.{follows, key_for, is_empty, command_text, is_signed as is_signed_of};
 ghost use Rattle.tpm_model.specs.Authorization.{failure as failure_of, Evidence, evidence_by};
 ghost use Rattle.tpm_model.specs.Authorization.{check_evidence as evidence_checked, nonce_next, reply_auths};
@@ -16,8 +16,8 @@ use crate::entity::Entity;
 use crate::session::{NONCE_BYTES, Session};
 use tpm_buffer::AuthRef;
 use tpm_commands::CommandCode;
-use tpm_hmac::{cp_hash, rp_hash, same, trim};
-use tpm_types::{AuthReply, AuthValue, Name, Nonce, SessionAttrs, SessionType};
+use tpm_hmac::{SessionKey, command_mac, cp_hash, rp_hash, same, trim};
+use tpm_types::{AuthReply, AuthValue, Digest, Name, Nonce, SessionAttrs, SessionType};
 use tpm_wire::response_code::{AUTH_FAIL, BAD_AUTH, of_session};
 
 impl Session {
@@ -44,7 +44,7 @@ impl Session {
         ensures { result ≡
             (is_empty self.now.key && is_empty (follows self.now (entity_in entity.now))) }
     {
-        self.key.bytes().is_empty() && self.follows(entity).is_empty()
+        self.key.as_slice().is_empty() && self.follows(entity).is_empty()
     }
 
     // Whether an empty HMAC is none: the command has no other, and there is no key.
@@ -56,10 +56,40 @@ impl Session {
         self.has_no_key(entity) && auth.hmac().is_empty()
     }
 
+    // The MAC of a command or of a response under the session key and what follows it, by the key that was hashed where
+    // that is the session's (Part 1, "HMAC Computation").
+    fn mac(
+        &self,
+        hashed: &SessionKey,
+        follows: &[u8],
+        p_hash: &[u8],
+        newer: &[u8],
+        older: &[u8],
+        attrs: SessionAttrs,
+    ) -> Digest
+        ensures { result ≡
+            hmac self.now.hash (whole_key self.now.key follows.now)
+            (mac_text p_hash.now newer.now older.now attrs) }
+    {
+        if hashed.is_of(self.hash, self.key.as_slice()) {
+            return hashed.session_mac(follows, p_hash, newer, older, attrs);
+        }
+        command_mac(
+            self.hash,
+            self.key.as_slice(),
+            follows,
+            p_hash,
+            newer,
+            older,
+            attrs,
+        )
+    }
+
     // Whether the command has this HMAC of the session, whole: that of its code, Names and
     // parameters, under the session key and what follows it.
     fn has_mac(
         &self,
+        hashed: &SessionKey,
         auth: &AuthRef<'_>,
         entity: &Entity<'_>,
         command: CommandCode,
@@ -72,7 +102,8 @@ impl Session {
             (cp_hash_of self.now.hash (code_number command) names.now params.now) auth.now))) }
     {
         let p_hash = cp_hash(self.hash(), command, names, params);
-        let mac = self.key.session_mac(
+        let mac = self.mac(
+            hashed,
             self.follows(entity),
             p_hash.as_slice(),
             auth.nonce(),
@@ -85,6 +116,7 @@ impl Session {
     // Whether the command is authorized by the session's HMAC, or needs none.
     fn is_signed(
         &self,
+        hashed: &SessionKey,
         auth: &AuthRef<'_>,
         entity: &Entity<'_>,
         command: CommandCode,
@@ -95,7 +127,7 @@ impl Session {
             is_signed_of (signed_by self.now (entity_in entity.now)
             (cp_hash_of self.now.hash (code_number command) names.now params.now) auth.now) }
     {
-        self.needs_none(entity, auth) || self.has_mac(auth, entity, command, names, params)
+        self.needs_none(entity, auth) || self.has_mac(hashed, auth, entity, command, names, params)
     }
 
     // Its next nonce: the first of these bytes.
@@ -112,6 +144,7 @@ impl Session {
     // The HMAC of a reply that has this nonce, or none.
     fn reply_mac(
         &self,
+        hashed: &SessionKey,
         auth: &AuthRef<'_>,
         entity: &Entity<'_>,
         command: CommandCode,
@@ -125,7 +158,8 @@ impl Session {
             return AuthValue::default();
         }
         let p_hash = rp_hash(self.hash(), command, params);
-        self.key.session_mac(
+        self.mac(
+            hashed,
             self.follows(entity),
             p_hash.as_slice(),
             nonce,
@@ -137,6 +171,7 @@ impl Session {
     // Its part of the reply to the command that it authorized.
     pub(crate) fn reply(
         &self,
+        hashed: &SessionKey,
         auth: &AuthRef<'_>,
         entity: &Entity<'_>,
         command: CommandCode,
@@ -148,7 +183,7 @@ impl Session {
             command params.now nonce.now ≡ result ∷ [] }
     {
         let nonce = self.next_nonce(nonce);
-        let hmac = self.reply_mac(auth, entity, command, params, nonce.as_slice());
+        let hmac = self.reply_mac(hashed, auth, entity, command, params, nonce.as_slice());
         AuthReply {
             nonce,
             attrs: auth.attrs(),
@@ -197,6 +232,7 @@ fn failure(entity: &Entity<'_>) -> u32
 /// AUTH_FAIL or BAD_AUTH unless the command has the password, or the session's HMAC.
 pub(crate) fn check_evidence(
     by: &Authorizer<'_>,
+    hashed: &SessionKey,
     auth: &AuthRef<'_>,
     entity: &Entity<'_>,
     command: CommandCode,
@@ -210,7 +246,9 @@ pub(crate) fn check_evidence(
 {
     let is_right = match by {
         Authorizer::Password => same(trim(auth.hmac()), entity.auth_value()),
-        Authorizer::Loaded(session) => session.is_signed(auth, entity, command, names, params),
+        Authorizer::Loaded(session) => {
+            session.is_signed(hashed, auth, entity, command, names, params)
+        }
     };
     if is_right {
         Ok(())

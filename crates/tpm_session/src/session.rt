@@ -29,9 +29,10 @@ pub const NONCE_BYTES: usize = 64;
 #[derive(Drop)]
 pub struct Session {
     pub(crate) session_type: SessionType,
-    pub(crate) key: SessionKey,
-    pub(crate) nonce: Nonce,
+    pub(crate) hash: Alg,
     pub(crate) is_bound: bool,
+    pub(crate) key: Digest,
+    pub(crate) nonce: Nonce,
     pub(crate) policy: Policy,
 }
 
@@ -43,8 +44,8 @@ impl Model for Session {
 
     ghost view = { λ s. record {
       session_type = s.session_type;
-      hash = s.key.hash;
-      key = s.key.bytes;
+      hash = s.hash;
+      key = s.key;
       nonce = s.nonce;
       nonce_length = length s.nonce;
       is_bound = s.is_bound;
@@ -57,14 +58,14 @@ impl Session {
     pub fn hash(&self) -> Alg
         ensures { result ≡ self.now.hash }
     {
-        self.key.hash()
+        self.hash
     }
 
     /// sessionKey: as long as a digest where the session is bound, else empty.
     pub fn key(&self) -> &[u8]
         ensures { result.now ≡ self.now.key }
     {
-        self.key.bytes()
+        self.key.as_slice()
     }
 
     /// nonceTPM: the session's part of the nonces of its next command.
@@ -84,8 +85,14 @@ impl Session {
         }
     }
 
-    // A session that is started with these bytes for its nonce, bound to an entity with this authorization value.
-    pub(crate) fn started(start: &StartAuth, bind_auth: &[u8], nonce: &[u8; NONCE_BYTES]) -> Self
+    // A session that is started with these bytes for its nonce, bound to an entity with this authorization value. Its
+    // key is hashed, where it has one.
+    pub(crate) fn started(
+        start: &StartAuth,
+        bind_auth: &[u8],
+        nonce: &[u8; NONCE_BYTES],
+        hashed: &mut SessionKey,
+    ) -> Self
         requires { length start.now.nonce_caller ≤ 48 }
         ensures { (o : Origin) →
             (start.now.bind ≡ binds.Owner → trim_of bind_auth.now ≡ trim_of o.owner) →
@@ -101,13 +108,18 @@ impl Session {
             ),
             BindHandle::Null => Digest::default(),
         };
-        Session {
+        let session = Session {
             session_type: start.session_type,
-            key: SessionKey::new(start.auth_hash, key),
-            nonce,
+            hash: start.auth_hash,
             is_bound: start.bind == BindHandle::Owner,
+            key,
+            nonce,
             policy: Policy::new(start.auth_hash),
+        };
+        if session.is_bound {
+            session.hash_key(hashed);
         }
+        session
     }
 
     /// Whether it is a trial, in which a policy digest is computed and nothing is checked.
@@ -203,26 +215,36 @@ impl Session {
     pub(crate) fn assert(&mut self, assertion: &Assertion<'_>)
         ensures { self.new ≡ asserting (as_assertion assertion.now) self.old }
     {
-        self.policy.assert(self.key.hash(), assertion);
+        self.policy.assert(self.hash, assertion);
     }
 
     // Nothing is asserted any more.
     pub(crate) fn restart(&mut self)
         ensures { self.new ≡ restarted self.old }
     {
-        self.policy = Policy::new(self.key.hash());
+        self.policy = Policy::new(self.hash);
     }
 
-    // The next nonce, and nothing asserted any more. A session that goes on has its key hashed by now.
-    pub(crate) fn roll(&mut self, nonce: &[u8; NONCE_BYTES])
+    // The next nonce, and nothing asserted any more. The key of an HMAC session is hashed for its next command.
+    pub(crate) fn roll(&mut self, nonce: &[u8; NONCE_BYTES], hashed: &mut SessionKey)
         ensures { self.new ≡ rolled nonce.now self.old }
     {
         let len = self.nonce.as_slice().len();
         self.nonce.set(&nonce[..len]);
         if self.session_type == SessionType::Hmac {
-            self.key.keep();
+            self.hash_key(hashed);
         }
         self.restart();
+    }
+
+    // Makes it the session's key, hashed.
+    fn hash_key(&self, hashed: &mut SessionKey)
+        ensures { hashed.new ≡ record { hash = self.now.hash; bytes = self.now.key } }
+    {
+        if !hashed.is_of(self.hash, self.key.as_slice()) {
+            *hashed = SessionKey::new(self.hash, self.key.duplicate());
+        }
+        hashed.keep();
     }
 }
 

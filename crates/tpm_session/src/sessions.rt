@@ -28,8 +28,9 @@ use crate::policy::Assertion;
 use crate::session::{NONCE_BYTES, Session, first_of};
 use std::marker::Model;
 use tpm_commands::{StartAuth, StartReply};
+use tpm_hmac::SessionKey;
 use tpm_store::Registers;
-use tpm_types::{Digest, OrDigests, PolicyHandle, Selections, SessionHandle, SessionType};
+use tpm_types::{Alg, Digest, OrDigests, PolicyHandle, Selections, SessionHandle, SessionType};
 use tpm_wire::Duplicate;
 use tpm_wire::response_code::{HANDLE, REFERENCE_H0, SESSION_MEMORY, SIZE, of_parameter};
 
@@ -51,6 +52,8 @@ const LEAST_NONCE: usize = 16;
 #[derive(Drop)]
 pub struct Sessions {
     slots: [Option<Session>; SLOTS],
+    // The key of the session that was started or used last, hashed, so that its next command need not do it.
+    hashed: SessionKey,
 }
 
 impl Model for Sessions {
@@ -105,6 +108,7 @@ impl Sessions {
     {
         Sessions {
             slots: [None, None, None],
+            hashed: no_key(),
         }
     }
 
@@ -115,6 +119,7 @@ impl Sessions {
         free(&mut self.slots[0]);
         free(&mut self.slots[1]);
         free(&mut self.slots[2]);
+        self.hashed = no_key();
     }
 
     /// The session of this handle, where it is loaded: a session of the handle's kind is in its slot.
@@ -125,6 +130,11 @@ impl Sessions {
             Some(found) if found.has_handle(session) => Some(found),
             _ => None,
         }
+    }
+
+    // A key that is hashed, which may be any.
+    pub(crate) fn hashed(&self) -> &SessionKey {
+        &self.hashed
     }
 
     // The session in this slot, where there is one.
@@ -166,7 +176,7 @@ impl Sessions {
         let Some(slot) = lowest_free(&self.slots) else {
             return Err(SESSION_MEMORY);
         };
-        self.slots[slot] = Some(Session::started(start, bind_auth, nonce));
+        self.slots[slot] = Some(Session::started(start, bind_auth, nonce, &mut self.hashed));
         Ok(StartReply {
             session: handle_for(start.session_type, slot),
             nonce_tpm: first_of(start, nonce),
@@ -205,7 +215,9 @@ impl Sessions {
             self.new ≡ sessions_at o (Accepted c r nonce.now ∷ h) }
     {
         match by {
-            Authority::Slot(slot) if slot < SLOTS => roll(&mut self.slots[slot], nonce, keep),
+            Authority::Slot(slot) if slot < SLOTS => {
+                roll(&mut self.slots[slot], nonce, keep, &mut self.hashed)
+            }
             Authority::Slot(_) | Authority::Password => {}
         }
     }
@@ -400,6 +412,11 @@ fn restart(slot: &mut Option<Session>)
     }
 }
 
+// The key that is hashed before there is a session: the empty one.
+fn no_key() -> SessionKey {
+    SessionKey::new(Alg::default(), Digest::default())
+}
+
 // The slot is free. One that is free already is left as it is, and not written from end to end.
 fn free(slot: &mut Option<Session>)
     ensures { slot.new ≡ None }
@@ -410,12 +427,17 @@ fn free(slot: &mut Option<Session>)
 }
 
 // After a command of the slot's session: the session goes on, or the slot is free.
-fn roll(slot: &mut Option<Session>, nonce: &[u8; NONCE_BYTES], keep: bool)
+fn roll(
+    slot: &mut Option<Session>,
+    nonce: &[u8; NONCE_BYTES],
+    keep: bool,
+    hashed: &mut SessionKey,
+)
     ensures { slot.new ≡ after_command nonce.now keep slot.old }
 {
     if keep {
         if let Some(session) = slot {
-            session.roll(nonce);
+            session.roll(nonce, hashed);
         }
     } else {
         *slot = None;
