@@ -18,13 +18,12 @@ use tpm_buffer::{Areas, header};
 use tpm_commands::{CommandCode, Params, ReplyBody};
 use tpm_session::Sessions;
 use tpm_store::{Counters, Registers};
-use tpm_types::AuthValue;
-use tpm_wire::Duplicate;
+use tpm_types::{AuthValue, DIGEST_BYTES, Packed};
 
 /// A device of this profile.
 #[derive(Drop)]
 pub struct Device {
-    pub(crate) owner: AuthValue,
+    pub(crate) owner: Packed<DIGEST_BYTES>,
     pub(crate) started: bool,
     pub(crate) registers: Registers,
     pub(crate) sessions: Sessions,
@@ -59,7 +58,7 @@ impl Device {
         ensures { Stands (new_origin owner.now greatest) [] result }
     {
         Device {
-            owner: owner.duplicate(),
+            owner: Packed::new(owner.as_slice()),
             started: false,
             registers: Registers::new(),
             sessions: no_sessions(),

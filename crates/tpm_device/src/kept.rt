@@ -18,8 +18,8 @@ use crate::device::{Device, no_sessions};
 use tpm_buffer::header;
 use tpm_commands::CommandCode;
 use tpm_store::{Counter, Counters, KEPT_BYTES, Registers};
-use tpm_types::{Alg, AuthValue, SessionHandle};
-use tpm_wire::{Buffer, Duplicate, Refusal, Wire};
+use tpm_types::{Alg, AuthValue, Packed, SessionHandle};
+use tpm_wire::{Buffer, Refusal, Wire};
 
 // The command changes NV memory where it is done (Part 3, 31.3, 31.4 and 31.8).
 fn writes_nv(code: CommandCode) -> bool
@@ -115,7 +115,7 @@ impl Device {
             Stands o (PowerCycle ∷ h) result }
     {
         Device {
-            owner: owner.duplicate(),
+            owner: Packed::new(owner.as_slice()),
             started: false,
             registers: Registers::new(),
             sessions: no_sessions(),

@@ -15,7 +15,8 @@ use std::marker::Model;
 use tpm_commands::CommandCode;
 use tpm_hmac::hash;
 use tpm_types::{
-    Alg, BANKS, DIGEST_BYTES, Digest, MOST_DIGESTS, OrDigests, SELECT_BYTES, Selection, Selections,
+    Alg, BANKS, DIGEST_BYTES, Digest, MOST_DIGESTS, OrDigests, Packed, SELECT_BYTES, Selection,
+    Selections,
 };
 
 // How many parts the text of TPM2_PolicyOR has at most: zeros, the command's code, and the digests.
@@ -30,7 +31,7 @@ const SELECTIONS_BYTES: usize = 4 + BANKS * SELECTION_BYTES;
 /// What a policy session holds of its assertions.
 #[derive(Drop)]
 pub(crate) struct Policy {
-    pub(crate) digest: Digest,
+    pub(crate) digest: Packed<DIGEST_BYTES>,
     pub(crate) code: Option<u32>,
     pub(crate) update_counter: Option<u32>,
     pub(crate) auth_value: bool,
@@ -73,7 +74,7 @@ impl Policy {
         ensures { result ≡ policy_of alg [] }
     {
         Policy {
-            digest: empty_policy(alg),
+            digest: Packed::new(empty_policy(alg).as_slice()),
             code: None,
             update_counter: None,
             auth_value: false,
@@ -84,7 +85,8 @@ impl Policy {
     pub(crate) fn assert(&mut self, alg: Alg, assertion: &Assertion<'_>)
         ensures { self.new ≡ policy_after alg (as_assertion assertion.now) self.old }
     {
-        self.digest = extend_policy(alg, assertion, self.digest.as_slice());
+        let digest = extend_policy(alg, assertion, self.digest.as_slice());
+        self.digest.set(digest.as_slice());
         match assertion {
             Assertion::Pcr { update_counter, .. } => {
                 self.update_counter = update_counter.or(self.update_counter)

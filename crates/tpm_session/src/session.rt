@@ -17,9 +17,9 @@ use std::marker::Model;
 use tpm_commands::StartAuth;
 use tpm_hmac::{SessionKey, session_key};
 use tpm_types::{
-    Alg, BindHandle, Digest, Nonce, OrDigests, Selections, SessionHandle, SessionType,
+    Alg, BindHandle, DIGEST_BYTES, Digest, Nonce, OrDigests, Packed, Selections, SessionHandle,
+    SessionType,
 };
-use tpm_wire::Duplicate;
 use tpm_wire::response_code::{PCR_CHANGED, VALUE, of_parameter};
 
 /// How many bytes are handed in for a nonce.
@@ -31,8 +31,8 @@ pub struct Session {
     pub(crate) session_type: SessionType,
     pub(crate) hash: Alg,
     pub(crate) is_bound: bool,
-    pub(crate) key: Digest,
-    pub(crate) nonce: Nonce,
+    pub(crate) key: Packed<DIGEST_BYTES>,
+    pub(crate) nonce: Packed<DIGEST_BYTES>,
     pub(crate) policy: Policy,
 }
 
@@ -112,8 +112,8 @@ impl Session {
             session_type: start.session_type,
             hash: start.auth_hash,
             is_bound: start.bind == BindHandle::Owner,
-            key,
-            nonce,
+            key: Packed::new(key.as_slice()),
+            nonce: Packed::new(nonce.as_slice()),
             policy: Policy::new(start.auth_hash),
         };
         if session.is_bound {
@@ -208,7 +208,7 @@ impl Session {
     pub(crate) fn policy_digest(&self) -> Digest
         ensures { result ≡ self.now.policy.digest }
     {
-        self.policy.digest.duplicate()
+        digest_of(&self.policy.digest)
     }
 
     // This is asserted too.
@@ -242,9 +242,19 @@ impl Session {
         ensures { hashed.new ≡ record { hash = self.now.hash; bytes = self.now.key } }
     {
         if !hashed.is_of(self.hash, self.key.as_slice()) {
-            *hashed = SessionKey::new(self.hash, self.key.duplicate());
+            *hashed = SessionKey::new(self.hash, digest_of(&self.key));
         }
         hashed.keep();
+    }
+}
+
+// The digest, as one that is sent.
+fn digest_of(packed: &Packed<DIGEST_BYTES>) -> Digest
+    ensures { result ≡ packed.now }
+{
+    match Digest::new(packed.as_slice()) {
+        Some(digest) => digest,
+        None => unreachable!(),
     }
 }
 

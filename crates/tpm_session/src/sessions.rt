@@ -427,12 +427,7 @@ fn free(slot: &mut Option<Session>)
 }
 
 // After a command of the slot's session: the session goes on, or the slot is free.
-fn roll(
-    slot: &mut Option<Session>,
-    nonce: &[u8; NONCE_BYTES],
-    keep: bool,
-    hashed: &mut SessionKey,
-)
+fn roll(slot: &mut Option<Session>, nonce: &[u8; NONCE_BYTES], keep: bool, hashed: &mut SessionKey)
     ensures { slot.new ≡ after_command nonce.now keep slot.old }
 {
     if keep {

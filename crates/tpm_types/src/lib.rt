@@ -9,6 +9,7 @@ mod handles;
 mod laws;
 mod lent;
 mod limits;
+mod packed;
 mod tpm2b;
 mod tpma;
 mod tpml;
@@ -27,6 +28,7 @@ pub use handles::{
 pub use laws::{same_limits, same_lists};
 pub use lent::Lent;
 pub use limits::{BANKS, BLOCK_BYTES, DIGEST_BYTES, NAME_BYTES, PUBLIC_BYTES};
+pub use packed::Packed;
 pub use tpm2b::{AuthValue, Digest, EncryptedSalt, Name, Nonce, name_of_handle};
 pub use tpma::{NvAttrs, SessionAttrs};
 pub use tpml::{DigestValues, Digests, MOST_DIGESTS, OrDigests, Selections};
