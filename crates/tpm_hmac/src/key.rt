@@ -16,7 +16,7 @@ use crate::hashing::digest_of;
 use crate::mac::{INNER_PAD, OUTER_PAD, hmac, key_block, xored};
 use sha2::Digest as _;
 use std::marker::Model;
-use tpm_types::{Alg, BLOCK_BYTES, Digest};
+use tpm_types::{Alg, BLOCK_BYTES, DIGEST_BYTES, Digest, Packed};
 
 /// What is kept of a key: the hashers that have taken in its block, changed for the inner and for the outer hash.
 #[derive(Drop)]
@@ -32,7 +32,7 @@ pub(crate) enum Kept {
 #[derive(Drop)]
 pub struct SessionKey {
     hash: Alg,
-    bytes: Digest,
+    bytes: Packed<DIGEST_BYTES>,
     kept: Kept,
 }
 
@@ -129,7 +129,11 @@ impl SessionKey {
         } else {
             states_of(hash, bytes.as_slice())
         };
-        SessionKey { hash, bytes, kept }
+        SessionKey {
+            hash,
+            bytes: Packed::new(bytes.as_slice()),
+            kept,
+        }
     }
 
     /// Hashes the key now, where that was not done.

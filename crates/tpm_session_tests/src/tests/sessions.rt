@@ -113,6 +113,6 @@ fn bound_session_has_a_key_of_the_trimmed_value(rt: HostRuntime) {
 
 // Three sessions, all of them in place.
 #[test]
-fn sessions_take_808_bytes(rt: HostRuntime) {
-    assert!(rt; size_of::<Sessions>() == 808);
+fn sessions_take_800_bytes(rt: HostRuntime) {
+    assert!(rt; size_of::<Sessions>() == 800);
 }
