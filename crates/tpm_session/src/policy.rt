@@ -32,9 +32,9 @@ const SELECTIONS_BYTES: usize = 4 + BANKS * SELECTION_BYTES;
 #[derive(Drop)]
 pub(crate) struct Policy {
     pub(crate) digest: Packed<DIGEST_BYTES>,
+    pub(crate) auth_value: bool,
     pub(crate) code: Option<u32>,
     pub(crate) update_counter: Option<u32>,
-    pub(crate) auth_value: bool,
 }
 
 impl Model for Policy {
