@@ -8,9 +8,9 @@ use Rattle.tpm_device.specs.declared.device.Device.{Device}
 pub returns-clause-stands : goal.returns-clause-stands
 returns-clause-stands c o h bytes read same kept =
     let d : Device = record {
-      owner = c.duplicate.result;
+      owner = c.new.result;
       started = false;
-      registers = c.new.result;
+      registers = c.new-2.result;
       sessions = c.no_sessions.result;
       counters = c.args.counters;
     } in
