@@ -59,7 +59,7 @@ impl Device {
             EntityHandle::Null => Entity::Null,
             EntityHandle::Owner => Entity::Owner(self.owner.as_slice()),
             EntityHandle::Index(index) => match self.counters.definition(index) {
-                Some((public, auth)) => Entity::Index(public, auth),
+                Some(definition) => Entity::Index(definition),
                 None => Entity::Null,
             },
         }

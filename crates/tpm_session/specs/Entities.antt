@@ -21,7 +21,7 @@ abbrev pub entity_in : Entity → model.Entity
 entity_in entities.Register = model.Entity.Register
 entity_in entities.Null = model.Entity.Null
 entity_in (entities.Owner auth) = model.Entity.Owner auth.now
-entity_in (entities.Index public auth) = model.Entity.Index public.now auth.now
+entity_in (entities.Index index) = model.Entity.Index index.now.public index.now.auth
 
 abbrev pub access_in : Access → authorization.Access
 access_in accesses.Writes = authorization.Access.Writes

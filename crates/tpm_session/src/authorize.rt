@@ -77,10 +77,10 @@ fn check_auth(entity: &Entity<'_>, command: CommandCode) -> Result<(), u32>
     ensures { result ≡ auth_checked (entity_in entity.now) command }
 {
     match entity {
-        Entity::Index(public, _) if !Access::of(command).allows_auth(public.attrs) => Err(
+        Entity::Index(index) if !Access::of(command).allows_auth(index.attrs()) => Err(
             AUTH_UNAVAILABLE,
         ),
-        Entity::Register | Entity::Null | Entity::Owner(_) | Entity::Index(_, _) => Ok(()),
+        Entity::Register | Entity::Null | Entity::Owner(_) | Entity::Index(_) => Ok(()),
     }
 }
 
@@ -89,8 +89,8 @@ fn check_policy_allowed(entity: &Entity<'_>, command: CommandCode) -> Result<(),
     ensures { result ≡ allowed_checked (entity_in entity.now) command }
 {
     match entity {
-        Entity::Index(public, _) if Access::of(command).allows_policy(public.attrs) => Ok(()),
-        Entity::Register | Entity::Null | Entity::Owner(_) | Entity::Index(_, _) => {
+        Entity::Index(index) if Access::of(command).allows_policy(index.attrs()) => Ok(()),
+        Entity::Register | Entity::Null | Entity::Owner(_) | Entity::Index(_) => {
             Err(AUTH_UNAVAILABLE)
         }
     }
@@ -102,9 +102,8 @@ impl Session {
         ensures { result ≡ has_policy (entity_in entity.now) self.now }
     {
         match entity {
-            Entity::Index(public, _) => {
-                same(self.policy.digest.as_slice(), public.policy.as_slice())
-                    && self.hash() == public.alg
+            Entity::Index(index) => {
+                same(self.policy.digest.as_slice(), index.policy()) && self.hash() == index.alg()
             }
             Entity::Register | Entity::Null | Entity::Owner(_) => false,
         }

@@ -5,7 +5,7 @@ ghost use Rattle.tpm_model.specs.Entities.{auth_value, is_owner_entity};
 ghost use Rattle.tpm_session.specs.Entities.{entity_in};
 
 use tpm_hmac::trim;
-use tpm_types::NvPublic;
+use tpm_store::Definition;
 
 /// What the first handle of a command names, whose authorization the command needs. Authorization
 /// values may have trailing zeros, which are no part of them (Part 1, "Authorization Values").
@@ -18,7 +18,7 @@ pub enum Entity<'a> {
     /// The owner, with this authorization value.
     Owner(&'a [u8]),
     /// An NV index, with its public area as it is now, and its authorization value.
-    Index(&'a NvPublic, &'a [u8]),
+    Index(&'a Definition),
 }
 
 impl<'a> Entity<'a> {
@@ -34,7 +34,8 @@ impl<'a> Entity<'a> {
     {
         match self {
             Entity::Register | Entity::Null => &[],
-            Entity::Owner(auth) | Entity::Index(_, auth) => trim(auth),
+            Entity::Owner(auth) => trim(auth),
+            Entity::Index(index) => trim(index.auth()),
         }
     }
 }

@@ -223,8 +223,8 @@ fn failure(entity: &Entity<'_>) -> u32
     ensures { result ≡ failure_of (entity_in entity.now) }
 {
     match entity {
-        Entity::Index(public, _) if !public.attrs.no_da() => AUTH_FAIL + of_session(1),
-        Entity::Register | Entity::Null | Entity::Owner(_) | Entity::Index(_, _) => BAD_AUTH
+        Entity::Index(index) if !index.attrs().no_da() => AUTH_FAIL + of_session(1),
+        Entity::Register | Entity::Null | Entity::Owner(_) | Entity::Index(_) => BAD_AUTH
             + of_session(1),
     }
 }

@@ -93,7 +93,7 @@ fn push_counter(alloc: Global, text: &mut String, i: usize, counter: &Counter) -
     ensures { OnOk result (string_bytes text.new
         ≡ string_bytes text.old ++ counter_line i counter.now) }
 {
-    push_public(alloc, text, i, counter.public())?;
+    push_public(alloc, text, i, &counter.public())?;
     push_rest(alloc, text, counter.has_auth(), counter.value())
 }
 

@@ -3,10 +3,14 @@ use Rattle.std.proofs.Common.{◌≡◌, ℕ, ◌+◌, ◌<◌, List, [], ◌∷
 use Rattle.std.proofs.Common.{None, true, false, sym, refl, ap, ◌∙◌, arith}
 use Rattle.std.proofs.lemmas.Option.{same_Some}
 use Rattle.std.proofs.lemmas.List.{get_or_at, set_at, take_more, drop_more, take-append-drop, length-take-le}
-use Rattle.std.specs.Prelude.{◌^◌, nat_le, if◌then◌else◌}
+use Rattle.std.specs.Prelude.{◌^◌, nat_le, Bool, if◌then◌else◌}
+use Rattle.tpm_types.specs.declared.handle_sets.NvAuthHandle.{NvAuthHandle}
+use Rattle.tpm_types.specs.Tpma.{owner_writes}
 use Rattle.tpm_model.specs.Counters.{Counter, has_index, counter_in, next_value, written, incremented, with_increment}
 use Rattle.tpm_model.specs.Counters.{NvMemory}
+use Rattle.tpm_model.specs.Actions.{may}
 use Rattle.tpm_model.proofs.Kept.{or_others, found_after}
+use Rattle.tpm_store.specs.Definitions.{Definition, definition_of}
 use Rattle.tpm_store.specs.Places.{IsPlace}
 
 split_at : (xs : List Counter) (k : ℕ) (d : Counter) → k < length xs → xs ≡ take k xs ++ get_or xs k d ∷ drop (k + 1) xs
@@ -57,6 +61,12 @@ pub entry_found : (i k : ℕ) (one two items : List Counter) (r e : Counter) →
 entry_found i k one two items r e first second p at is =
     ap (λ (l : List Counter). counter_in l i) (sym first) ∙ found_at i k one p
     ∙ ap Some (sym (is ∙ at ∙ ap (λ (l : List Counter). get_or l k r) (second ∙ sym first) ∙ at_place i k one p r))
+
+-- whether who authorizes may increment it, by its definition
+pub may_writes : (by : NvAuthHandle) (i attrs : ℕ) (c : Counter) (d : Definition) (write b : Bool) → b ≡ may by write i → write ≡ owner_writes attrs
+    → attrs ≡ d.public.attrs → d ≡ definition_of c → may by (owner_writes c.public.attrs) i ≡ b
+may_writes by i attrs c d write b allowed owner is defined =
+    sym (allowed ∙ ap (λ (b : Bool). may by b i) (owner ∙ ap owner_writes (is ∙ ap (λ (x : Definition). x.public.attrs) defined)))
 
 -- what an increment gives
 pub raised_to : (greatest : ℕ) (value : Option ℕ) (v : ℕ)

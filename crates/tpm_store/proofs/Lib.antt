@@ -5,3 +5,4 @@ pub mod Choice
 pub mod Entries
 pub mod Found
 pub mod Memory
+pub mod KeptValues

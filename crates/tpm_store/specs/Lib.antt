@@ -2,3 +2,4 @@ pub mod Banks
 pub mod Select
 pub mod Answers
 pub mod Places
+pub mod Definitions

@@ -2,12 +2,8 @@
 
 ghost use Rattle.std.specs.Prelude.{◌≡◌, ℕ, ◌^◌, ◌<◌, ◌≤◌, nat_le, set, List, [], ◌++◌, length, slice_index_or, Some};
 ghost use Rattle.std.specs.Prelude.{None, not, option_map, IfSome, IfNone, OnOk, OnErr, if◌then◌else◌};
-ghost use Rattle.tpm_wire.specs.Spelling.{spelling};
 ghost use Rattle.tpm_types.specs.Limits.{digest_bytes};
-ghost use Rattle.tpm_types.specs.Tpms.{nv_public_area};
-ghost use Rattle.tpm_types.specs.declared.tpms.NvPublic.{NvPublic as Public};
 ghost use Rattle.tpm_commands.specs.declared.command.CommandBody.TheVariants as bodies;
-ghost use Rattle.tpm_hmac.specs.Hashes.{digest as digest_of};
 ghost use Rattle.tpm_model.specs.Counters.{has_index, counter_in, next_value, written, nv_by};
 ghost use Rattle.tpm_model.specs.Entities.{nv_name};
 ghost use Rattle.tpm_model.specs.Actions.{is_definable, check_define, may as may_by, increment as increment_of};
@@ -16,19 +12,19 @@ ghost use Rattle.tpm_model.specs.Authorization.{is_empty};
 ghost use Rattle.tpm_model.specs.Kept.{IsKept};
 ghost use Rattle.tpm_model.specs.Counters as model;
 ghost use Rattle.tpm_store.specs.Answers.{check_undefine};
+ghost use Rattle.tpm_store.specs.Definitions.{definition_of, value_in};
 ghost use Rattle.tpm_store.specs.Places.{IsPlace};
 
+use crate::definition::{COUNTER_BYTES, Definition};
 use arrayvec::ArrayVec;
 use std::marker::Model;
-use tpm_hmac::{hash, trim};
-use tpm_types::{
-    Alg, AuthValue, Digest, NAME_BYTES, Name, NvAttrs, NvAuthHandle, NvIndex, NvPublic,
-};
+use tpm_hmac::trim;
+use tpm_types::{Alg, Digest, Name, NvAttrs, NvAuthHandle, NvIndex, NvPublic};
+use tpm_wire::Bounded;
 use tpm_wire::response_code::{
     ATTRIBUTES, HANDLE, NV_AUTHORIZATION, NV_DEFINED, NV_RANGE, NV_SPACE, NV_UNINITIALIZED, SIZE,
     of_parameter,
 };
-use tpm_wire::{Bounded, Duplicate};
 
 /// Who authorizes a command on an index: the owner, or an index itself.
 pub type By = NvAuthHandle;
@@ -36,35 +32,34 @@ pub type By = NvAuthHandle;
 /// How many counters there is room for.
 pub const MOST_COUNTERS: usize = 8;
 
-/// How many bytes the value of a counter has.
-pub const COUNTER_BYTES: usize = 8;
-
 /// A counter that its owner reads and writes.
 const BLANK_ATTRS: u32 = 0x0002_0012;
 
 /// An index that is defined.
 #[derive(Drop)]
 pub struct Counter {
-    // Its public area as it is now: WRITTEN is set from the first increment on.
-    pub(crate) public: NvPublic,
-    // Without trailing zeros.
-    pub(crate) auth: AuthValue,
-    // Its value, where it was incremented.
-    pub(crate) value: Option<u64>,
+    pub(crate) definition: Definition,
+    // Its value, most significant byte first: zeros before the first increment.
+    value: [u8; COUNTER_BYTES],
 }
 
 impl Model for Counter {
+    ghost use Rattle.tpm_store.specs.Definitions.{value_in};
     ghost use Rattle.tpm_model.specs.Counters as model;
     ghost use Rattle.tpm_model.specs.Kept.{IsKept};
 
     ghost Value = { model.Counter };
 
-    ghost view = { λ c. record { public = c.public; auth = c.auth; value = c.value } };
+    ghost view = { λ c. record {
+      public = c.definition.public;
+      auth = c.definition.auth;
+      value = value_in c.value;
+    } };
 
     ghost invariant = { λ c. IsKept (record {
-      public = c.public;
-      auth = c.auth;
-      value = c.value;
+      public = c.definition.public;
+      auth = c.definition.auth;
+      value = value_in c.value;
     }) };
 }
 
@@ -75,37 +70,53 @@ impl Default for Counter {
             NvIndex::from_number(0x0180_0000),
             NvAttrs::from_number(BLANK_ATTRS),
         ) {
-            (Some(index), Some(attrs)) => Counter {
-                public: NvPublic {
+            (Some(index), Some(attrs)) => {
+                let public = NvPublic {
                     index,
                     alg: Alg::default(),
                     attrs,
                     policy: Digest::default(),
                     data_size: COUNTER_BYTES as u16,
-                },
-                auth: AuthValue::default(),
-                value: None,
-            },
+                };
+                Counter::defined(&public, &[])
+            }
             _ => unreachable!(),
         }
+    }
+}
+
+// The bytes of a value, zeros for none.
+fn bytes_of(value: Option<u64>) -> [u8; COUNTER_BYTES]
+    requires { IfSome value (λ v. 0 < v) }
+    ensures { value_in result ≡ value }
+{
+    match value {
+        None => [0; COUNTER_BYTES],
+        Some(value) => value.to_be_bytes(),
     }
 }
 
 impl Counter {
     // A counter of an index that was just defined, with an authorization value without trailing zeros.
     fn defined(public: &NvPublic, auth: &[u8]) -> Self
+        requires size { public.now.data_size ≡ 8 }
         requires short { length auth.now ≤ digest_bytes }
         requires kept { IsKept (record { public = public.now; auth = auth.now; value = None }) }
         ensures { result ≡ record { public = public.now; auth = auth.now; value = None } }
     {
-        let auth = match AuthValue::new(auth) {
-            Some(auth) => auth,
-            None => unreachable!(),
-        };
+        Counter::kept(public, auth, None)
+    }
+
+    // The same with a value, where it was incremented.
+    pub(crate) fn kept(public: &NvPublic, auth: &[u8], value: Option<u64>) -> Self
+        requires size { public.now.data_size ≡ 8 }
+        requires short { length auth.now ≤ digest_bytes }
+        requires kept { IsKept (record { public = public.now; auth = auth.now; value = value }) }
+        ensures { result ≡ record { public = public.now; auth = auth.now; value = value } }
+    {
         Counter {
-            public: copied(public),
-            auth,
-            value: None,
+            definition: Definition::new(public, auth),
+            value: bytes_of(value),
         }
     }
 
@@ -113,58 +124,38 @@ impl Counter {
     fn has_index(&self, index: NvIndex) -> bool
         ensures { result ≡ has_index index self.now }
     {
-        self.public.index == index
+        self.definition.index() == index
     }
 
-    // The hash of its public area, TPMS_NV_PUBLIC (Part 2, 13.5). The area is hashed field by field, and not made.
-    fn area_digest(&self) -> Digest
-        ensures { result ≡
-            digest_of self.now.public.alg (spelling nv_public_area self.now.public) }
+    /// What it was defined with, its public area as it is now.
+    pub fn definition(&self) -> &Definition
+        ensures { result.now ≡ definition_of self.now }
     {
-        let public = &self.public;
-        let policy = public.policy.as_slice();
-        hash(
-            public.alg,
-            &[
-                &public.index.number().to_be_bytes(),
-                &public.alg.number().to_be_bytes(),
-                &public.attrs.number().to_be_bytes(),
-                &(policy.len() as u16).to_be_bytes(),
-                policy,
-                &public.data_size.to_be_bytes(),
-            ],
-        )
-    }
-
-    // Its Name: the number of its hash, and the hash of its public area.
-    fn name(&self) -> Name
-        ensures { result ≡ nv_name self.now.public }
-    {
-        joined(
-            &self.public.alg.number().to_be_bytes(),
-            self.area_digest().as_slice(),
-        )
+        &self.definition
     }
 
     /// Its public area as it is now: WRITTEN is set from the first increment on.
-    pub fn public(&self) -> &NvPublic
-        ensures { result.now ≡ self.now.public }
+    pub fn public(&self) -> NvPublic
+        ensures { result ≡ self.now.public }
     {
-        &self.public
+        self.definition.public()
     }
 
     /// Whether it has an authorization value that is not empty.
     pub fn has_auth(&self) -> bool
         ensures { result ≡ not (is_empty self.now.auth) }
     {
-        !self.auth.as_slice().is_empty()
+        !self.definition.auth().is_empty()
     }
 
     /// Its value, where it was incremented since its definition.
     pub fn value(&self) -> Option<u64>
         ensures { result ≡ self.now.value }
     {
-        self.value
+        match u64::from_be_bytes(self.value) {
+            0 => None,
+            value => Some(value),
+        }
     }
 
     // Gives it a value.
@@ -177,34 +168,8 @@ impl Counter {
               value = Some value;
             } }
     {
-        self.public.attrs = self.public.attrs.with_written();
-        self.value = Some(value);
-    }
-}
-
-fn copied(public: &NvPublic) -> NvPublic
-    ensures { result ≡ public.now }
-{
-    NvPublic {
-        index: public.index,
-        alg: public.alg,
-        attrs: public.attrs,
-        policy: public.policy.duplicate(),
-        data_size: public.data_size,
-    }
-}
-
-// The Name of a hash's number and a digest under it.
-fn joined(alg: &[u8; 2], digest: &[u8]) -> Name
-    requires { length digest.now ≤ digest_bytes }
-    ensures { result ≡ alg.now ++ digest.now }
-{
-    let mut bytes: ArrayVec<u8, NAME_BYTES> = ArrayVec::new();
-    let _ = bytes.try_extend_from_slice(alg);
-    let _ = bytes.try_extend_from_slice(digest);
-    match Name::new(bytes.as_slice()) {
-        Some(name) => name,
-        None => unreachable!(),
+        self.definition.write();
+        self.value = value.to_be_bytes();
     }
 }
 
@@ -361,7 +326,7 @@ impl Counters {
     {
         match entry(self.counters.as_slice(), index) {
             None => None,
-            Some(counter) => Some(copied(&counter.public)),
+            Some(counter) => Some(counter.public()),
         }
     }
 
@@ -371,7 +336,7 @@ impl Counters {
     {
         match entry(self.counters.as_slice(), index) {
             None => None,
-            Some(counter) => Some(counter.name()),
+            Some(counter) => Some(counter.definition().name()),
         }
     }
 
@@ -382,20 +347,18 @@ impl Counters {
     {
         match entry(self.counters.as_slice(), index) {
             None => None,
-            Some(counter) => Some(counter.auth.as_slice()),
+            Some(counter) => Some(counter.definition().auth()),
         }
     }
 
-    /// The public area and the authorization value of an index, where it is defined: both lent, the value
-    /// without trailing zeros.
-    pub fn definition(&self, index: NvIndex) -> Option<(&NvPublic, &[u8])>
-        ensures { option_map {U = Public × List ℕ} (λ d. (d.0.now, d.1.now)) result
-            ≡ option_map {U = Public × List ℕ} (λ c. (c.public, c.auth))
-            (counter_in self.now.counters index) }
+    /// The public area as it is now and the authorization value of an index, where it is defined.
+    pub fn definition(&self, index: NvIndex) -> Option<&Definition>
+        ensures { option_map (λ d. d.now) result
+            ≡ option_map definition_of (counter_in self.now.counters index) }
     {
         match entry(self.counters.as_slice(), index) {
             None => None,
-            Some(counter) => Some((&counter.public, counter.auth.as_slice())),
+            Some(counter) => Some(counter.definition()),
         }
     }
 
@@ -414,10 +377,10 @@ impl Counters {
             return Err(HANDLE);
         };
         let counter = &self.counters.as_slice()[k];
-        if !may(by, counter.public.attrs.owner_writes(), index) {
+        if !may(by, counter.definition().attrs().owner_writes(), index) {
             return Err(NV_AUTHORIZATION);
         }
-        let Some(value) = raised(counter.value, self.greatest) else {
+        let Some(value) = raised(counter.value(), self.greatest) else {
             return Err(NV_RANGE);
         };
         write(self.counters.as_mut_slice(), k, value);
@@ -440,10 +403,10 @@ impl Counters {
         let Some(counter) = entry(self.counters.as_slice(), index) else {
             return Err(HANDLE);
         };
-        if !may(by, counter.public.attrs.owner_reads(), index) {
+        if !may(by, counter.definition().attrs().owner_reads(), index) {
             return Err(NV_AUTHORIZATION);
         }
-        let Some(value) = counter.value else {
+        let Some(value) = counter.value() else {
             return Err(NV_UNINITIALIZED);
         };
         let size = size as usize;

@@ -24,7 +24,7 @@ fn entity<'a>(bench: &'a Bench, text: &str) -> Entity<'a> {
     match (text, &bench.index) {
         ("owner", _) => Entity::Owner(OWNER),
         ("register", _) => Entity::Register,
-        ("index", Some(public)) => Entity::Index(public, bench.auth.as_slice()),
+        ("index", Some(index)) => Entity::Index(index),
         _ => Entity::Null,
     }
 }

@@ -30,18 +30,17 @@ use crate::tests::texts::{bytes, number};
 use std::process::Abort;
 use std::test::*;
 use tpm_session::Sessions;
-use tpm_store::Registers;
+use tpm_store::{COUNTER_BYTES, Definition, Registers};
 use tpm_testing::word;
-use tpm_types::NvPublic;
-use tpm_wire::{Buffer, Cursor, Wire};
+use tpm_types::{DIGEST_BYTES, NvPublic};
+use tpm_wire::{Cursor, Wire};
 
-/// Sessions, registers, and an index with its authorization value.
+/// Sessions, registers, and what an index is defined with.
 #[derive(Drop)]
 pub struct Bench {
     pub sessions: Sessions,
     pub registers: Registers,
-    pub index: Option<NvPublic>,
-    pub auth: Buffer,
+    pub index: Option<Definition>,
 }
 
 impl Bench {
@@ -51,7 +50,6 @@ impl Bench {
             sessions: Sessions::new(),
             registers: Registers::new(),
             index: None,
-            auth: Buffer::new(),
         }
     }
 
@@ -69,6 +67,17 @@ impl Bench {
 /// Goes through a script.
 pub fn run(rt: &impl Abort, script: &str) {
     Bench::new().goes_through(rt, script);
+}
+
+// What an index is defined with, by its TPM2B_NV_PUBLIC and its authorization value; none where it is not that of a
+// counter.
+fn definition(public: &[u8], auth: &[u8]) -> Option<Definition> {
+    match NvPublic::take(&mut Cursor::new(public)) {
+        Ok(public) if public.data_size as usize == COUNTER_BYTES && auth.len() <= DIGEST_BYTES => {
+            Some(Definition::new(&public, auth))
+        }
+        _ => None,
+    }
 }
 
 // Does what the line says, and answers whether all of it is so.
@@ -92,9 +101,9 @@ fn step(rt: &impl Abort, bench: &mut Bench, line: &str) -> bool {
         "kept" => rolls(&mut bench.sessions, session(rt, rest), true),
         "ended" => rolls(&mut bench.sessions, session(rt, rest), false),
         "index" => {
-            bench.auth = bytes(rt, word(&mut rest));
+            let auth = bytes(rt, word(&mut rest));
             let public = bytes(rt, rest);
-            bench.index = NvPublic::take(&mut Cursor::new(public.as_slice())).ok();
+            bench.index = definition(public.as_slice(), auth.as_slice());
             bench.index.is_some()
         }
         asked => is_so(rt, bench, asked, rest),

@@ -3,7 +3,7 @@
 use crate::tests::texts::bytes;
 use std::process::Abort;
 use std::test::*;
-use tpm_store::{By, Counters, Locality, Registers};
+use tpm_store::{By, Counter, Counters, Locality, Registers};
 use tpm_types::{
     Alg, Digest, DigestValues, HashedDigest, NvAttrs, NvIndex, NvPublic, PcrIndex, Selection,
     Selections,
@@ -217,4 +217,10 @@ fn name_changes_with_the_first_increment(rt: HostRuntime) {
     }
     let public = counters.public(one).expect(&rt, "a counter");
     assert!(rt; public.attrs.number() == 0x2206_0016);
+}
+
+// Its public area is kept without what all have in common, and each digest with its length in one byte.
+#[test]
+fn a_counter_takes_116_bytes(rt: HostRuntime) {
+    assert!(rt; size_of::<Counter>() == 116);
 }

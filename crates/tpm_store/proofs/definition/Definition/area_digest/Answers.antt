@@ -1,11 +1,13 @@
 use Rattle.std.proofs.Common.{ap, ◌∙◌}
+use Rattle.tpm_types.specs.declared.tpms.NvPublic.{NvPublic}
 use Rattle.tpm_hmac.specs.Hashes.{digest}
 use Rattle.tpm_store.proofs.Memory.{area_is}
-use Rattle.tpm_store.proofs.counters.Counter.area_digest.Goals as goal
+use Rattle.tpm_store.proofs.definition.Definition.area_digest.Goals as goal
 
 pub returns : goal.returns
 returns c =
-    let p = c.self.inside.public in
+    let d = c.self.inside in
+    let p : NvPublic = record { index = d.index; alg = d.alg; attrs = d.attrs; policy = d.policy; data_size = 8 } in
     rw (← c.self.view_is) (c.hash.ensures.value ∙ ap (digest p.alg)
     (area_is p c.to_be_bytes.result c.to_be_bytes-2.result c.to_be_bytes-3.result c.to_be_bytes-4.result c.as_slice-policy.result.now
     c.to_be_bytes-5.result
