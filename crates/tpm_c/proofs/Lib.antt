@@ -12,6 +12,7 @@ pub mod Quoting
 pub mod Replies
 pub mod Restoring
 pub mod Sealing
+pub mod Starting
 pub mod Steps
 pub mod Telling
 pub mod Varying

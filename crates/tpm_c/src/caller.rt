@@ -21,10 +21,13 @@ ghost use Rattle.tpm_c.specs.Callers.{are_short, do_fit, is_set, seal_of, sealin
 
 use crate::out::BUFFER_BYTES;
 use arrayvec::ArrayVec;
-use tpm_buffer::{decode_command, decode_response};
+use tpm_buffer::{areas, decode_response};
 use tpm_caller::{Caller, CallerFault, Pending, Plain};
-use tpm_commands::{Command, CommandBody, CommandCode, ReplyBody, Response, StartAuth, StartReply};
-use tpm_types::{DIGEST_BYTES, NAME_BYTES, Name, Nonce};
+use tpm_commands::{
+    CommandCode, ReplyBody, Response, StartAuth, StartReply, bind_in, decode_start_into,
+    second_handle,
+};
+use tpm_types::{Alg, DIGEST_BYTES, NAME_BYTES, Name, Nonce, SessionType, SymDef};
 
 /// Nothing is waited for.
 const NOT_WAITING: u32 = 5;
@@ -55,16 +58,27 @@ pub unsafe extern "C" fn tpm_caller_init(place: *mut u8)
     std::ptr::write(place as *mut Held, nothing());
 }
 
-// It is out of line, as is what decodes the reply: so their room is free again before the key is made.
+// The parameters of this command alone are read, and no command of any code is decoded. It is out of line, as is what
+// decodes the reply: so their room is free again before the key is made.
 #[inline(never)]
 fn request_in(command: &[u8]) -> Option<StartAuth>
     ensures { result ≡ request_in (read_all command_layout command.now) }
 {
-    match decode_command(command) {
-        Ok(Command { body, .. }) => match body {
-            CommandBody::StartAuthSession(request) => Some(request),
-            _ => None,
-        },
+    let Ok(areas) = areas(command) else {
+        return None;
+    };
+    if areas.code() != CommandCode::StartAuthSession {
+        return None;
+    }
+    let mut request = StartAuth {
+        bind: bind_in(second_handle(areas.handles())),
+        nonce_caller: Nonce::default(),
+        session_type: SessionType::Hmac,
+        symmetric: SymDef::Null,
+        auth_hash: Alg::default(),
+    };
+    match decode_start_into(areas.params(), &mut request) {
+        Ok(()) => Some(request),
         Err(_) => None,
     }
 }

@@ -1,2 +1,3 @@
 pub mod Short
 pub mod EachCommand
+pub mod WholeParams

@@ -5,9 +5,13 @@ ghost use Rattle.tpm_wire.specs.Spelling.{spelling};
 ghost use Rattle.tpm_wire.specs.Path.{Decodes};
 ghost use Rattle.tpm_wire.specs.Reading.{read_all};
 ghost use Rattle.tpm_wire.specs.Buffers.{TakesNumbered};
+ghost use Rattle.tpm_commands.specs.declared.code.CommandCode.TheVariants as codes;
+ghost use Rattle.tpm_commands.specs.declared.command_parameters.Params.TheVariants as params;
 ghost use Rattle.tpm_commands.specs.Parameters.{parameters, params_code, placed};
 
 use crate::code::CommandCode;
+use crate::command::StartAuth;
+use crate::commands::read_start_auth_session;
 use crate::lent::Event;
 use tpm_types::{
     Alg, AuthValue, Digest, DigestValues, Nonce, NvPublic, OrDigests, Selections, SessionHandle,
@@ -99,5 +103,25 @@ pub fn decode_params_into<'a>(
 {
     let mut cursor = Cursor::of_whole(bytes);
     read_params(&mut cursor, code, params)?;
+    cursor.end_of_whole(bytes)
+}
+
+/// As `decode_params_into` of TPM2_StartAuthSession (Part 3, 11.1), in the place of what another session is started
+/// with. What it is bound to stays, and which parameters are there after a fault is not said.
+pub fn decode_start_into(bytes: &[u8], start: &mut StartAuth) -> Result<(), Refusal>
+    ensures reads { placed
+        (params.StartAuthSession start.new.nonce_caller start.new.session_type
+        start.new.symmetric start.new.auth_hash) result
+        ≡ read_all (parameters codes.StartAuthSession) bytes.now }
+    ensures bind { start.new.bind ≡ start.old.bind }
+{
+    let mut cursor = Cursor::of_whole(bytes);
+    read_start_auth_session(
+        &mut cursor,
+        &mut start.nonce_caller,
+        &mut start.session_type,
+        &mut start.symmetric,
+        &mut start.auth_hash,
+    )?;
     cursor.end_of_whole(bytes)
 }

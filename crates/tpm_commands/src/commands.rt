@@ -29,6 +29,7 @@ use crate::response::ReplyBody;
 use arrayvec::ArrayVec;
 pub use nv::read_nv_read;
 pub use pcr::read_pcr_extend;
+pub(crate) use session::read_start_auth_session;
 pub use startup::read_startup;
 use tpm_types::{
     Alg, AuthValue, BindHandle, Digest, DigestValues, Nonce, NvAuthHandle, PcrIndex, PcrOrNull,

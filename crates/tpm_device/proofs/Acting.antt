@@ -4,7 +4,6 @@ use Rattle.std.specs.Prelude.{IfOk, OnOk, OnErr}
 use Rattle.arrayvec.specs.ArrayVec.{ArrayVec}
 use Rattle.tpm_wire.specs.declared.refusal.Refusal.{Refusal}
 use Rattle.tpm_wire.specs.Reading.{read_all}
-use Rattle.tpm_wire.specs.Buffers.{Layout}
 use Rattle.tpm_commands.specs.declared.code.CommandCode.{CommandCode}
 use Rattle.tpm_commands.specs.declared.code.CommandCode.TheVariants as codes
 use Rattle.tpm_commands.specs.declared.command.CommandBody.{CommandBody}
@@ -120,9 +119,3 @@ starting_needs_none code is needs = let no : false ≡ true = sym (ap needs_auth
 
 pub asserting_needs_none : (code : CommandCode) → code ≡ codes.PolicyPcr → needs_authorization code ≡ true → ⊥
 asserting_needs_none code is needs = let no : false ≡ true = sym (ap needs_authorization is) ∙ needs in cc
-
--- What is read of the parameters is read of those that were handed in.
-pub read_as : {A : Type 0} (l : CommandCode → Layout A) {code k : CommandCode} {bytes given : List ℕ} {r : Result A Refusal} → k ≡ code → given ≡ bytes
-    → read_all (l k) given ≡ r → read_all (l code) bytes ≡ r
-read_as {A} l {code} {k} {bytes} {given} {r} is same reads =
-    subst (λ (bs : List ℕ). read_all (l code) bs ≡ r) same (subst (λ (c : CommandCode). read_all (l c) given ≡ r) is reads)

@@ -17,10 +17,10 @@ ghost use Rattle.tpm_device.specs.Stands.{holds, IsAuthorization, MayBePerformed
 use crate::authorization::Authorization;
 use crate::device::Device;
 use crate::handles::bind;
-use crate::reading::read_params;
 use crate::response::ResponseBuffer;
 use tpm_buffer::Areas;
-use tpm_commands::{Params, ReplyBody, StartAuth, StartReply};
+use tpm_commands::{ReplyBody, StartAuth, StartReply, decode_start_into};
+use tpm_types::{Alg, Nonce, SessionType, SymDef};
 
 // What a session is to be started with, or the code of the parameters' first fault.
 #[inline(never)]
@@ -33,24 +33,16 @@ fn start_in(areas: &Areas<'_>) -> Result<StartAuth, u32>
         × (read_all (parameters codes.StartAuthSession) areas.now.params ≡ Err fault)
         × (fault.code ≡ code)) }
 {
-    let mut params = Params::PolicyRestart;
-    match read_params(areas, &mut params) {
-        Ok(()) => match params {
-            Params::StartAuthSession {
-                nonce_caller,
-                session_type,
-                symmetric,
-                auth_hash,
-            } => Ok(StartAuth {
-                bind: bind(areas.handles()),
-                nonce_caller,
-                session_type,
-                symmetric,
-                auth_hash,
-            }),
-            _ => unreachable!(),
-        },
-        Err(code) => Err(code),
+    let mut start = StartAuth {
+        bind: bind(areas.handles()),
+        nonce_caller: Nonce::default(),
+        session_type: SessionType::Hmac,
+        symmetric: SymDef::Null,
+        auth_hash: Alg::default(),
+    };
+    match decode_start_into(areas.params(), &mut start) {
+        Ok(()) => Ok(start),
+        Err(refusal) => Err(refusal.code),
     }
 }
 

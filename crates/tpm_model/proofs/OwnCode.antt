@@ -36,7 +36,7 @@ ends P mark (field get l f) h x p e =
     ends P mark (f a.0.0) a.0.1 x (p a.0.0) a.2
 ends P mark _ h x p e = absurd p
 
-params_are : (code : CommandCode) (bytes : List ℕ) (p : Params) → read_all (parameters code) bytes ≡ Ok p → params_code p ≡ code
+pub params_are : (code : CommandCode) (bytes : List ℕ) (p : Params) → read_all (parameters code) bytes ≡ Ok p → params_code p ≡ code
 params_are code bytes p e =
     let whole = from_start (read 0 (parameters code) (at_start bytes)) p e in
     ends (λ q. params_code q ≡ code) 0 (parameters code) (at_start bytes) (p, whole.0) (own_params code) whole.1

@@ -4,7 +4,10 @@ use crate::tests::checks::{bytes, put, put_number};
 use std::process::Abort;
 use std::test::*;
 use tpm_buffer::{AuthRef, ReplyRef, areas, header, reply_areas};
-use tpm_commands::{CommandCode, Params, decode_params, decode_params_into};
+use tpm_commands::{
+    CommandCode, Params, StartAuth, decode_params, decode_params_into, decode_start_into,
+};
+use tpm_types::{Alg, BindHandle, Nonce, SessionType, SymDef};
 use tpm_wire::{Buffer, Refusal};
 
 // NV_Read of the index 01800001 by the owner, with a password of one byte.
@@ -109,4 +112,39 @@ fn parameters_alone(rt: HostRuntime) {
     // Places are counted from the first byte of the parameters.
     let fault = decode_params(CommandCode::NvRead, &[0, 8]).err();
     assert!(&rt; fault == Some(Refusal { code: 0x2DA, at: 2 }));
+}
+
+// What a session that is bound to the owner is started with, by the parameters alone, or their fault.
+fn start(rt: &impl Abort, text: &str) -> Result<StartAuth, Refusal> {
+    let mut start = StartAuth {
+        bind: BindHandle::Owner,
+        nonce_caller: Nonce::default(),
+        session_type: SessionType::Hmac,
+        symmetric: SymDef::Null,
+        auth_hash: Alg::Sha1,
+    };
+    decode_start_into(bytes(rt, text).as_slice(), &mut start)?;
+    Ok(start)
+}
+
+#[test]
+fn parameters_of_a_start_alone(rt: HostRuntime) {
+    let read = start(&rt, "0002 a1a2 0000 01 0010 000b")
+        .ok()
+        .expect(&rt, "parameters");
+    assert!(&rt; read.bind == BindHandle::Owner);
+    assert!(&rt; read.nonce_caller.as_slice() == [0xA1, 0xA2].as_slice());
+    assert!(&rt; read.session_type == SessionType::Policy && read.symmetric == SymDef::Null);
+    assert!(&rt; read.auth_hash == Alg::Sha256);
+    // The last byte of authHash is not there, or there is one more.
+    let fault = start(&rt, "0002 a1a2 0000 01 0010 00").err();
+    assert!(&rt; fault == Some(Refusal { code: 0x5DA, at: 9 }));
+    let fault = start(&rt, "0002 a1a2 0000 01 0010 000b 00").err();
+    assert!(&rt;
+        fault
+            == Some(Refusal {
+                code: 0x095,
+                at: 11
+            })
+    );
 }

@@ -1,27 +1,30 @@
-use Rattle.std.proofs.Common.{◌≡◌, Ok, sym, ap, ◌∙◌, rules}
+use Rattle.std.proofs.Common.{◌≡◌, ℕ, List, sym, ap, ◌∙◌, rules}
 use Rattle.tpm_wire.specs.Reading.{read_all}
-use Rattle.tpm_commands.specs.declared.command.CommandBody.TheVariants as bodies
-use Rattle.tpm_buffer.specs.Commands.{command}
-use Rattle.tpm_c.specs.Callers.{request_of, request_in}
-use Rattle.tpm_c.proofs.Decoding.{is_read, is_refused, no_request}
+use Rattle.tpm_commands.specs.declared.code.CommandCode.TheVariants as codes
+use Rattle.tpm_commands.specs.Handles.{second}
+use Rattle.tpm_commands.specs.Parameters.{parameters}
+use Rattle.tpm_buffer.specs.Commands.{bind_in}
+use Rattle.tpm_c.proofs.Starting.{no_areas, no_params, other_command, request_is}
 use Rattle.tpm_c.proofs.caller.request_in.Goals as goal
 
-pub returns-in-StartAuthSession : goal.returns-in-StartAuthSession
-returns-in-StartAuthSession c =
-    let bytes = c.args.command.now in
-    let read : read_all command bytes ≡ Ok c.in-Ok.field-0 =
-    is_read command bytes c.in-Ok.field-0 ((c.decode_command.ensures.ok c.in-Ok.field-0).0 c.in-Ok.is) in
-    let body : c.in-Ok.field-0.body ≡ bodies.StartAuthSession c.in-StartAuthSession.request = search rules in
-    sym (ap request_in read ∙ ap request_of body)
-
 pub returns-in_default : goal.returns-in_default
-returns-in_default c =
-    let bytes = c.args.command.now in
-    let read : read_all command bytes ≡ Ok c.in-Ok.field-0 =
-    is_read command bytes c.in-Ok.field-0 ((c.decode_command.ensures.ok c.in-Ok.field-0).0 c.in-Ok.is) in
-    no_request c.in-Ok.field-0.body c.in_default.not-StartAuthSession ∙ sym (ap request_in read)
+returns-in_default c = no_areas c.args.command.now c.in_default.field-0 ((c.areas.ensures.err c.in_default.field-0).0 c.in_default.is)
+
+pub returns-then-ne : goal.returns-then-ne
+returns-then-ne c =
+    let x = c.in-Ok.areas in
+    other_command c.args.command.now x ((c.areas.ensures.ok x).0 c.in-Ok.is) (λ same. let k : ⊥ = search rules in k)
+
+pub returns-in-Ok-decode_start_into : goal.returns-in-Ok-decode_start_into
+returns-in-Ok-decode_start_into c =
+    let x = c.in-Ok.areas in
+    request_is c.args.command.now x c.params.result.now c.decode_start_into.new.start ((c.areas.ensures.ok x).0 c.in-Ok.is)
+    (search rules) c.params.ensures.value (sym c.in-Ok-decode_start_into.ensures.reads)
+    (c.decode_start_into.ensures.bind ∙ c.bind_in.ensures ∙ ap bind_in c.second_handle.ensures
+    ∙ ap (λ (hs : List ℕ). bind_in (second hs)) c.handles.ensures)
 
 pub returns-in-Err : goal.returns-in-Err
 returns-in-Err c =
-    let bytes = c.args.command.now in
-    sym (ap request_in (is_refused command bytes c.in-Err.field-0 ((c.decode_command.ensures.err c.in-Err.field-0).0 c.in-Err.is)))
+    let x = c.in-Ok.areas in
+    no_params c.args.command.now x c.params.result.now c.in-Err.field-0 ((c.areas.ensures.ok x).0 c.in-Ok.is)
+    (search rules) c.params.ensures.value (sym c.in-Err.ensures.reads)

@@ -1,0 +1,52 @@
+-- Parameters that were read in their place, all of the bytes, are what the bytes are read as.
+use Rattle.std.proofs.Common.{◌≡◌, Bool, true, false, cond, eqb, leb, List, ℕ, length, take, Result, Ok, Err, refl, sym}
+use Rattle.std.proofs.Common.{ap, ◌∙◌, arith}
+use Rattle.std.specs.Prelude.{◌&&◌}
+use Rattle.tpm_wire.specs.declared.refusal.Refusal.{Refusal}
+use Rattle.tpm_wire.specs.Token.{Here, at_start}
+use Rattle.tpm_wire.specs.Reading.{read, read_all}
+use Rattle.tpm_wire.specs.Path.{Decodes}
+use Rattle.tpm_wire.specs.Buffers.{Place}
+use Rattle.tpm_wire.specs.WholeValues.{ended, left_over}
+use Rattle.tpm_wire.proofs.Alone.{whole_read, whole_refused, whole_is, whole_decodes}
+use Rattle.tpm_commands.specs.declared.code.CommandCode.{CommandCode}
+use Rattle.tpm_commands.specs.declared.command_parameters.Params.{Params}
+use Rattle.tpm_commands.specs.Parameters.{parameters, placed}
+use Rattle.tpm_commands.proofs.EachCommand.{of_parameters}
+
+abbrev begin : List ℕ → Place
+begin bytes = record { here = at_start (take 4096 bytes); number = 0 }
+
+-- parameters that were read in their place end where nothing does
+ends_in_place : (p : Params) (bytes : List ℕ) (h : Here)
+    → placed p (ended {A = Unit {0}} bytes (tt, h)) ≡ ended bytes (p, h)
+ends_in_place p bytes h = go (eqb (length h.rest) 0 && leb (length bytes) 4096)
+  where
+    go : (b : Bool) → placed p (cond b (Ok (tt {0})) (Err (left_over h))) ≡ cond b (Ok p) (Err (left_over h))
+    go true = refl
+    go false = refl
+
+pub all_read : (code : CommandCode) (bytes : List ℕ) (old : Place) (p : Params) (h : Here) (r : Result (Unit {0}) Refusal)
+    → old ≡ begin bytes → read 0 (parameters code) old.here ≡ Ok (p, h)
+    → r ≡ ended {A = Unit {0}} bytes (tt, h) → placed p r ≡ read_all (parameters code) bytes
+all_read code bytes old p h r begins is ends =
+    let from : read 0 (parameters code) (at_start (take 4096 bytes)) ≡ Ok (p, h) =
+    ap (λ (q : Place). read 0 (parameters code) q.here) (sym begins) ∙ is in
+    ap (placed p) ends
+    ∙ ends_in_place p bytes h
+    ∙ whole_read (parameters code) bytes (begin bytes) p h (ended bytes (p, h)) refl from refl
+    ∙ whole_is 1100 (parameters code) (of_parameters code) (omega arith) bytes
+
+pub refused : (code : CommandCode) (bytes : List ℕ) (old : Place) (e : Refusal)
+    → old ≡ begin bytes → read 0 (parameters code) old.here ≡ Err e → Err e ≡ read_all (parameters code) bytes
+refused code bytes old e begins is =
+    let from : read 0 (parameters code) (at_start (take 4096 bytes)) ≡ Err e =
+    ap (λ (q : Place). read 0 (parameters code) q.here) (sym begins) ∙ is in
+    whole_refused (parameters code) bytes (begin bytes) e refl from
+    ∙ whole_is 1100 (parameters code) (of_parameters code) (omega arith) bytes
+
+pub judged : (code : CommandCode) (bytes : List ℕ) (o : Result Params Refusal) → o ≡ read_all (parameters code) bytes
+    → Decodes (parameters code) (λ p. p) bytes o
+judged code bytes o is =
+    whole_decodes 1100 (parameters code) (of_parameters code) (omega arith) bytes o
+    (is ∙ sym (whole_is 1100 (parameters code) (of_parameters code) (omega arith) bytes))
