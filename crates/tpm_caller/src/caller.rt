@@ -209,6 +209,7 @@ impl Caller {
 
     // The MAC of a command or of a response under this key. Where it is the session
     // key alone, what is kept of that is used.
+    #[inline(never)]
     pub(crate) fn mac(
         &self,
         key: &[u8],

@@ -12,8 +12,8 @@ ghost use Rattle.sha2.specs.Hashers.{Holds256};
 ghost use Rattle.sha2.specs.Sha256.{sha256};
 
 use crate::bytes::same;
-use crate::hashing::digest_of;
-use crate::mac::{INNER_PAD, OUTER_PAD, hmac, key_block, xored};
+use crate::hashing::{Hasher, finish_sha1, finish_sha256};
+use crate::mac::{INNER_PAD, OUTER_PAD, hmac, key_block, keyed};
 use sha2::Digest as _;
 use std::marker::Model;
 use tpm_types::{Alg, BLOCK_BYTES, DIGEST_BYTES, Digest, Packed};
@@ -46,35 +46,21 @@ impl Model for SessionKey {
     ghost invariant = { λ k. keys.IsKept k.hash k.bytes k.kept };
 }
 
-// A hasher that has taken in the block, changed by the pad.
-fn begun_sha1(block: &[u8; BLOCK_BYTES], pad: u8) -> sha1::Sha1
-    ensures { Holds result (xored_bytes pad (take (block_len algs.Sha1) block.now)) }
-{
-    let mut hasher = sha1::Sha1::new();
-    hasher.update(&xored(block, pad)[..Alg::Sha1.block_len()]);
-    hasher
-}
-
-fn begun_sha256(block: &[u8; BLOCK_BYTES], pad: u8) -> sha2::Sha256
-    ensures { Holds256 result (xored_bytes pad (take (block_len algs.Sha256) block.now)) }
-{
-    let mut hasher = sha2::Sha256::new();
-    hasher.update(&xored(block, pad)[..Alg::Sha256.block_len()]);
-    hasher
-}
-
 #[inline(never)]
 fn states_of(hash: Alg, key: &[u8]) -> Kept
     ensures { IsKept hash key.now result }
 {
+    if hash == Alg::Sha384 {
+        return Kept::Nothing;
+    }
     let block = key_block(hash, key, &[]);
-    match hash {
-        Alg::Sha1 => Kept::Sha1(begun_sha1(&block, INNER_PAD), begun_sha1(&block, OUTER_PAD)),
-        Alg::Sha256 => Kept::Sha256(
-            begun_sha256(&block, INNER_PAD),
-            begun_sha256(&block, OUTER_PAD),
-        ),
-        Alg::Sha384 => Kept::Nothing,
+    match (
+        keyed(hash, &block, INNER_PAD),
+        keyed(hash, &block, OUTER_PAD),
+    ) {
+        (Hasher::Sha1(inner), Hasher::Sha1(outer)) => Kept::Sha1(inner, outer),
+        (Hasher::Sha256(inner), Hasher::Sha256(outer)) => Kept::Sha256(inner, outer),
+        _ => Kept::Nothing,
     }
 }
 
@@ -96,7 +82,7 @@ fn mac_sha1(inner: &sha1::Sha1, outer: &sha1::Sha1, parts: &[&[u8]]) -> Digest
         unreachable!()
     };
     behind.update(&hasher.finalize());
-    digest_of(&behind.finalize())
+    finish_sha1(behind)
 }
 
 #[inline(never)]
@@ -116,7 +102,7 @@ fn mac_sha256(inner: &sha2::Sha256, outer: &sha2::Sha256, parts: &[&[u8]]) -> Di
         unreachable!()
     };
     behind.update(&hasher.finalize());
-    digest_of(&behind.finalize())
+    finish_sha256(behind)
 }
 
 impl SessionKey {

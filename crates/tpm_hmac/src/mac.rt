@@ -9,7 +9,7 @@ ghost use Rattle.tpm_hmac.specs.Hmac.{filled, block_key, xored as xored_bytes, h
 ghost use Rattle.tpm_hmac.specs.Hashers.{Holding, MacHolds};
 
 use crate::bytes::put;
-use crate::hashing::Hasher;
+use crate::hashing::{Hasher, hash_of_two};
 use tpm_types::{Alg, BLOCK_BYTES, Digest};
 
 // The bytes that the key's block is changed by, for the inner and for the outer hash.
@@ -40,14 +40,12 @@ fn fill(front: &[u8], back: &[u8]) -> [u8; BLOCK_BYTES]
 
 // The key, of which both parts are one, as a block.
 #[tactic(auto, unfolding(crate::specs::Hmac::block_key))]
+#[inline(never)]
 pub(crate) fn key_block(alg: Alg, front: &[u8], back: &[u8]) -> [u8; BLOCK_BYTES]
     ensures { take (block_len alg) result ≡ block_key alg (front.now ++ back.now) }
 {
     if front.len() + back.len() > alg.block_len() {
-        let mut hasher = Hasher::new(alg);
-        hasher.update(front);
-        hasher.update(back);
-        fill(hasher.finish().as_slice(), &[])
+        fill(hash_of_two(alg, front, back).as_slice(), &[])
     } else {
         fill(front, back)
     }
@@ -55,7 +53,8 @@ pub(crate) fn key_block(alg: Alg, front: &[u8], back: &[u8]) -> [u8; BLOCK_BYTES
 
 // A hasher that has taken in the key's block, changed by the pad.
 #[tactic(auto, using(crate::proofs::Kept::changed))]
-fn keyed(alg: Alg, block: &[u8; BLOCK_BYTES], pad: u8) -> Hasher
+#[inline(never)]
+pub(crate) fn keyed(alg: Alg, block: &[u8; BLOCK_BYTES], pad: u8) -> Hasher
     ensures { Holding alg result (xored_bytes pad (take (block_len alg) block.now)) }
 {
     let mut hasher = Hasher::new(alg);
@@ -72,6 +71,7 @@ pub(crate) struct Mac {
 
 impl Mac {
     /// The HMAC of the empty text, under both parts of the key, joined.
+    #[inline(never)]
     pub(crate) fn new(alg: Alg, front: &[u8], back: &[u8]) -> Self
         ensures { MacHolds alg (front.now ++ back.now) result [] }
     {
@@ -99,6 +99,7 @@ impl Mac {
     }
 
     #[tactic(auto, unfolding(crate::specs::Hmac::hmac))]
+    #[inline(never)]
     pub(crate) fn finish(self) -> Digest
         ensures { (a : Alg) (k m : List ℕ) → MacHolds a k self m → result ≡ hmac_of a k m }
     {

@@ -10,7 +10,7 @@ ghost use Rattle.tpm_hmac.specs.Sessions.{session_key as session_key_of, whole_k
 ghost use Rattle.tpm_hmac.specs.Sessions.{rp_hash as rp_hash_of};
 
 use crate::bytes::trim;
-use crate::hashing::{Hasher, digest_of, hash};
+use crate::hashing::{Hasher, digest_of, hash, hash_of_two};
 use crate::kdf::kdfa;
 use crate::key::SessionKey;
 use crate::known::known_rp_hash;
@@ -37,12 +37,6 @@ pub fn session_key(alg: Alg, auth_value: &[u8], nonce_tpm: &[u8], nonce_caller: 
 }
 
 // The hash of the parts, joined. They live equally long, as those of one list do.
-fn hash_of_two<'a>(alg: Alg, first: &'a [u8], second: &'a [u8]) -> Digest
-    ensures { result ≡ digest alg (first.now ++ second.now) }
-{
-    hash(alg, &[first, second])
-}
-
 fn hash_of_three<'a>(alg: Alg, first: &'a [u8], second: &'a [u8], third: &'a [u8]) -> Digest
     ensures { result ≡ digest alg (first.now ++ (second.now ++ third.now)) }
 {
