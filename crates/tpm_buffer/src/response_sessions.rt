@@ -81,9 +81,9 @@ pub fn take_parameter_size(cursor: &mut Cursor<'_>) -> Result<u32, Refusal>
     Ok(size)
 }
 
-/// The session that begins here.
+/// The session that begins here. It is out of line, since both cuts and both of what they lend read one so.
 #[tactic(auto, unfolding(tpm_types::specs::Tpms::auth_response))]
-#[inline(always)]
+#[inline(never)]
 pub(crate) fn take_session<'a>(cursor: &mut Cursor<'a>) -> Result<ReplyRef<'a>, Refusal>
     ensures reads { Takes auth_response cursor.old cursor.new result }
     ensures spelled { IfOk result
