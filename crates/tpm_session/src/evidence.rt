@@ -58,6 +58,7 @@ impl Session {
 
     // The MAC of a command or of a response under the session key and what follows it, by the key that was hashed where
     // that is the session's (Part 1, "HMAC Computation").
+    #[inline(never)]
     fn mac(
         &self,
         hashed: &SessionKey,
