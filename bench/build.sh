@@ -29,6 +29,9 @@ need_header() {
 need_compiler() {
     command -v "$cc" >/dev/null 2>&1 ||
         missing "there is no C compiler ($cc): install one, as by apt-get install gcc, or name one in CC"
+}
+
+need_libcrypto() {
     need_header openssl/evp.h libssl-dev
 }
 

@@ -426,6 +426,51 @@ on_small_stacks() {
         on_painted session "$2" -Dmain=example -Dprintf=told
 }
 
+# rooms: a device, a framer, a log's replay and a caller take as many bytes as docs/USING.md says.
+rooms() {
+    cat >"$room/rooms.c" <<'PROGRAM'
+#include "vinjakwe.h"
+#include <stdio.h>
+
+int main(void) {
+    printf("A device takes %zu bytes, a framer %zu, a log's replay in pieces %zu and a caller %zu\n", tpm_device_size(),
+           tpm_framer_size(), tpm_log_replay_size(), tpm_caller_size());
+    return 0;
+}
+PROGRAM
+    "$compiler" -std=c99 -O2 -Wall -Wextra -Werror -Iinclude -o "$room/rooms" "$room/rooms.c" "$archive" || return 1
+    sed 's/\([0-9]\),\([0-9]\)/\1\2/g' docs/USING.md | grep -q -F "$("$room/rooms")" || { "$room/rooms" && return 1; }
+}
+
+# in_flash: what firmware takes of the archive by LLVM: at most 40 KB to decode, 110 for a device, and 60 for a caller,
+# a log or a quote.
+in_flash() {
+    CC="$compiler" bench/flash "$archive" >"$room/flash" || return 1
+    awk -F '|' '
+        { gsub(/[ ,]/, "", $3); most = 0 }
+        $2 ~ /tpm_command_decode/ { most = 40 }
+        $2 ~ /tpm_device_init/ { most = 110 }
+        $2 ~ /tpm_(caller|log)_/ { most = 60 }
+        most { rows++ }
+        most && $3 > 1024 * most { print; wrong = 1 }
+        END { exit wrong || rows != 6 }
+    ' "$room/flash"
+}
+
+# on_stack: no call takes more than 6 KB of stack by LLVM, or 8 of a log, nor more than 12 by the toolchain's compiler.
+on_stack() {
+    CC="$compiler" bench/stack crates/tpm_c/out/llvm/libtpm_c.a crates/tpm_c/out/rattle/libtpm_c.a >"$room/stack" ||
+        return 1
+    awk -F '|' '
+        $2 ~ /tpm_/ {
+            gsub(/[ ,]/, "")
+            rows++
+            if ($3 > 1024 * ($2 ~ /tpm_log_/ ? 8 : 6) || $4 > 1024 * 12) { print; wrong = 1 }
+        }
+        END { exit wrong || !rows }
+    ' "$room/stack"
+}
+
 # readme: the lines of C in README.md print what it says.
 readme() {
     {
@@ -562,6 +607,8 @@ else
     holds "a device that is kept answers through C as one whose power was cycled" "$room/kept" answers 1000 "${SEED:-1}"
     holds "a change of NV memory is told through C exactly where the kept bytes differ" \
         "$room/kept" changes 100000 "${SEED:-1}"
+    holds "a device, a framer, a log's replay and a caller take the bytes that docs/USING.md says" rooms
+    holds "what firmware takes of the library for C has room in its flash" in_flash
     same_calls
     name="the archive needs memcpy, memmove and memset alone"
     others=$(undefined | tr ' ' '\n' | grep -v -x -e memcpy -e memmove -e memset -e '' | tr '\n' ' ')
@@ -573,6 +620,11 @@ else
         if built rattle; then
             holds "a C program without a C library gives the bytes of tpmtool" freestanding
             on_small_stacks rattle $rattle_stack
+            if command -v python3 >/dev/null 2>&1; then
+                holds "each call through C has room on a small stack" on_stack
+            else
+                skip "each call through C has room on a small stack" "there is no python3"
+            fi
         else
             fail "a C program without a C library" "the archive isn't built: $(tail -n 3 "$room/lib")"
         fi
