@@ -25,7 +25,6 @@ use tpm_types::{Alg, Nonce, SessionType, SymDef};
 // What a session is to be started with, or the code of the parameters' first fault.
 #[inline(never)]
 fn start_in(areas: &Areas<'_>) -> Result<StartAuth, u32>
-    requires { areas.now.header.code ≡ codes.StartAuthSession }
     ensures read { IfOk result (λ start. (params : ParamsOf)
         × (read_all (parameters codes.StartAuthSession) areas.now.params ≡ Ok params)
         × (body_from areas.now.handles params ≡ bodies.StartAuthSession start)) }

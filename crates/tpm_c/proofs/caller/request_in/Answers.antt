@@ -1,8 +1,5 @@
-use Rattle.std.proofs.Common.{◌≡◌, ℕ, List, sym, ap, ◌∙◌, rules}
-use Rattle.tpm_wire.specs.Reading.{read_all}
-use Rattle.tpm_commands.specs.declared.code.CommandCode.TheVariants as codes
+use Rattle.std.proofs.Common.{ℕ, List, sym, ap, ◌∙◌, rules}
 use Rattle.tpm_commands.specs.Handles.{second}
-use Rattle.tpm_commands.specs.Parameters.{parameters}
 use Rattle.tpm_buffer.specs.Commands.{bind_in}
 use Rattle.tpm_c.proofs.Starting.{no_areas, no_params, other_command, request_is}
 use Rattle.tpm_c.proofs.caller.request_in.Goals as goal
