@@ -72,7 +72,7 @@ pub fn run(rt: &impl Abort, script: &str) {
 // What an index is defined with, by its TPM2B_NV_PUBLIC and its authorization value; none where it is not that of a
 // counter.
 fn definition(public: &[u8], auth: &[u8]) -> Option<Definition> {
-    match NvPublic::take(&mut Cursor::new(public)) {
+    match NvPublic::take(&mut Cursor::of_whole(public)) {
         Ok(public) if public.data_size as usize == COUNTER_BYTES && auth.len() <= DIGEST_BYTES => {
             Some(Definition::new(&public, auth))
         }
