@@ -57,7 +57,7 @@ impl Session {
     }
 
     // The MAC of a command or of a response under the session key and what follows it, by the key that was hashed where
-    // that is the session's (Part 1, "HMAC Computation").
+    // that is the session's and nothing follows it (Part 1, "HMAC Computation").
     #[inline(never)]
     fn mac(
         &self,
@@ -72,7 +72,7 @@ impl Session {
             hmac self.now.hash (whole_key self.now.key follows.now)
             (mac_text p_hash.now newer.now older.now attrs) }
     {
-        if hashed.is_of(self.hash, self.key.as_slice()) {
+        if follows.is_empty() && hashed.is_of(self.hash, self.key.as_slice()) {
             return hashed.session_mac(follows, p_hash, newer, older, attrs);
         }
         command_mac(

@@ -145,6 +145,14 @@ fn read_selected(bytes: &[u8], selection: &Selection, values: &mut Digests) -> S
     }
 }
 
+// No values yet. It is out of line, where they are made in their place; in line they are made elsewhere and copied.
+#[inline(never)]
+fn no_parts<'a>() -> ArrayVec<&'a [u8], MOST_SELECTED>
+    ensures { result.items ≡ [] }
+{
+    ArrayVec::new()
+}
+
 // Appends the values of the selected registers, rising.
 fn lend_selected<'a>(
     bytes: &'a [u8],
@@ -313,7 +321,7 @@ impl Registers {
     pub fn composite(&self, alg: Alg, selections: &Selections) -> Digest
         ensures { result ≡ composite_of alg (value_in self.now.banks) selections.now }
     {
-        let mut parts: ArrayVec<&[u8], MOST_SELECTED> = ArrayVec::new();
+        let mut parts = no_parts();
         for selection in selections.as_slice() {
             lend_selected(&self.bytes, selection, &mut parts);
         }
