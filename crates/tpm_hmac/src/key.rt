@@ -82,7 +82,7 @@ fn mac_sha1(inner: &sha1::Sha1, outer: &sha1::Sha1, parts: &[&[u8]]) -> Digest
         unreachable!()
     };
     behind.update(&hasher.finalize());
-    finish_sha1(behind)
+    finish_sha1(&behind)
 }
 
 #[inline(never)]
@@ -102,7 +102,7 @@ fn mac_sha256(inner: &sha2::Sha256, outer: &sha2::Sha256, parts: &[&[u8]]) -> Di
         unreachable!()
     };
     behind.update(&hasher.finalize());
-    finish_sha256(behind)
+    finish_sha256(&behind)
 }
 
 impl SessionKey {

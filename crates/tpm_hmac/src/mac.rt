@@ -98,14 +98,14 @@ impl Mac {
         self.inner.update_all(parts);
     }
 
+    /// The HMAC of the text. It takes in nothing more; that it is not moved here spares the stack two hashers.
     #[tactic(auto, unfolding(crate::specs::Hmac::hmac))]
     #[inline(never)]
-    pub(crate) fn finish(self) -> Digest
-        ensures { (a : Alg) (k m : List ℕ) → MacHolds a k self m → result ≡ hmac_of a k m }
+    pub(crate) fn finish(&mut self) -> Digest
+        ensures { (a : Alg) (k m : List ℕ) → MacHolds a k self.old m → result ≡ hmac_of a k m }
     {
-        let mut outer = self.outer;
-        outer.update(self.inner.finish().as_slice());
-        outer.finish()
+        self.outer.update(self.inner.digest().as_slice());
+        self.outer.digest()
     }
 }
 

@@ -53,7 +53,7 @@ fn hash_of_names(alg: Alg, number: &[u8], names: &[Name], params: &[u8]) -> Dige
     hasher.update(number);
     hasher.update_names(names);
     hasher.update(params);
-    hasher.finish()
+    hasher.digest()
 }
 
 /// cpHash of a command: the hash of its code, the Name of each of its handles, in their order, and
