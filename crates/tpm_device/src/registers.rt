@@ -69,17 +69,12 @@ impl Device {
         ensures sessions { self.new.sessions ≡ self.old.sessions }
         ensures refused { OnErr result (self.new ≡ self.old) }
     {
-        match register {
-            PcrOrNull::Pcr(register) => {
-                let digests = self.registers.event(register, event.as_slice())?;
-                *body = ReplyBody::PcrEvent(digests);
-                Ok(())
-            }
-            PcrOrNull::Null => {
-                *body = ReplyBody::PcrEvent(event_digests(event.as_slice()));
-                Ok(())
-            }
-        }
+        let digests = match register {
+            PcrOrNull::Pcr(register) => self.registers.event(register, event.as_slice())?,
+            PcrOrNull::Null => event_digests(event.as_slice()),
+        };
+        *body = ReplyBody::PcrEvent(digests);
+        Ok(())
     }
 
     // TPM2_PCR_Reset (Part 3, 22.8).
