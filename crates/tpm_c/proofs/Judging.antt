@@ -2,7 +2,7 @@
 use Rattle.std.proofs.Common.{◌≡◌, ◌≤◌, ◌<◌, ℕ, ◌+◌, ◌-◌, false, eqb, leb, List, [], ◌∷◌, ◌++◌, length}
 use Rattle.std.proofs.Common.{take, drop, Result, Ok, Err, refl, sym, ap, subst, ◌∙◌, arith, inl, inr}
 use Rattle.std.proofs.lemmas.Bool.{cases_Bool, leb-true, leb-false, ne_eqb}
-use Rattle.std.proofs.lemmas.List.{append_assoc, length-append, length-drop, length-take-le, take_all, take-append-drop, drop_at}
+use Rattle.std.proofs.lemmas.List.{append_assoc, length-append, length-take-le, take_all, take-append-drop, drop_at}
 use Rattle.std.specs.Prelude.{IfOk, IfErr}
 use Rattle.tpm_wire.specs.declared.refusal.Refusal.{Refusal}
 use Rattle.tpm_wire.specs.ResponseCodes.{rc_size}
@@ -157,10 +157,3 @@ pub fault_behind : (bytes : List ℕ) (code : CommandCode) (at : ℕ) (params : 
 fault_behind bytes code at params e f are bad =
     is_refused bytes f.0 code (drop at bytes) at e f.1 (sym f.2) (sym f.4) (sym f.3)
     (first_fault code (drop at bytes) e (subst (λ (l : List ℕ). Fault (parameters code) l e) are bad))
-
-pub window_is : (old bytes new : List ℕ) (k at len : ℕ) → new ≡ take (length old) (drop at bytes) → length old ≡ k
-    → ((l : List ℕ) → length l ≡ len - at → take k l ≡ take 1101 l) → len ≡ length bytes → new ≡ take 1101 (drop at bytes)
-window_is old bytes new k at len is long first all =
-    is
-    ∙ ap (λ (n : ℕ). take n (drop at bytes)) long
-    ∙ first (drop at bytes) (length-drop at bytes ∙ ap (λ (n : ℕ). n - at) (sym all))

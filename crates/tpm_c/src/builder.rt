@@ -95,6 +95,25 @@ fn look(
     }
 }
 
+// Whether these are the first parameters of a command with this code, as many as are judged, which begin at this place.
+#[inline(never)]
+fn judge_at(code: CommandCode, at: u32, params: &[u8]) -> Result<(), Refusal>
+    requires near { at ≤ 4096 }
+    requires few { length params.now ≤ 1101 }
+    ensures spells { IfOk result (λ _. (bytes : List ℕ) → HasFront bytes code at
+        → params.now ≡ take 1101 (drop at bytes) → (c : Command) × Spells command_layout c bytes) }
+    ensures fault { IfErr result (λ e. (bytes : List ℕ) → HasFront bytes code at
+        → params.now ≡ take 1101 (drop at bytes) → Fault command_layout bytes e) }
+{
+    match judge_params(code, params) {
+        Ok(()) => Ok(()),
+        Err(fault) => Err(Refusal {
+            code: fault.code,
+            at: at + fault.at,
+        }),
+    }
+}
+
 // Whether the parameters, which begin at this place, are those of a command with this code.
 #[inline(never)]
 fn judge_behind(parts: &UnjoinedCommand<'_>, code: CommandCode, at: u32) -> Result<(), Refusal>
@@ -106,21 +125,18 @@ fn judge_behind(parts: &UnjoinedCommand<'_>, code: CommandCode, at: u32) -> Resu
     let mut window = [0; JUDGED_BYTES];
     let params = &mut window[..judged_len(parts.len() - at as usize)];
     let _ = look(parts, at as usize, params);
-    match judge_params(code, params) {
-        Ok(()) => Ok(()),
-        Err(fault) => Err(Refusal {
-            code: fault.code,
-            at: at + fault.at,
-        }),
-    }
+    judge_at(code, at, params)
 }
 
-// Whether the joined parts spell a command, or their fault.
+// Whether the joined parts spell a command, or their fault. Where there are no parameters, they are not looked at again.
 fn judge(parts: &UnjoinedCommand<'_>) -> Result<(), Refusal>
     ensures spells { IfOk result (λ _. (c : Command) × Spells command_layout c parts.now) }
     ensures fault { IfErr result (λ e. Fault command_layout parts.now e) }
 {
     let (code, at) = look(parts, parts.len(), &mut [])?;
+    if parts.len() == at as usize {
+        return judge_at(code, at, &[]);
+    }
     judge_behind(parts, code, at)
 }
 

@@ -11,7 +11,7 @@ ghost use Rattle.tpm_c.specs.CommandViews.{session_view, behind as behind_of, fi
 ghost use Rattle.tpm_c.specs.CommandViews.{session_views, command_view, ViewsCommand, JudgesCommand};
 
 use crate::part::{DONE, NO_PART, TpmPart, TpmRefusal, refuse};
-use tpm_buffer::{Areas, AuthRef, areas};
+use tpm_buffer::{Areas, AuthRef, areas, decode_command};
 use tpm_commands::{CommandCode, Params, decode_params_into};
 use tpm_wire::Refusal;
 
@@ -73,19 +73,15 @@ pub extern "C" fn tpm_command_decode(bytes: &[u8], refusal: &mut TpmRefusal) -> 
     }
 }
 
-// Whether the bytes spell a command, or their fault. The parameters are judged alone, and no command is made.
+// Whether the bytes spell a command, or their fault. It is out of line, so that the command is off the stack again.
 #[inline(never)]
 fn judge(bytes: &[u8]) -> Result<(), Refusal>
     ensures spells { IfOk result (λ _. (c : Command) × Spells command c bytes.now) }
     ensures fault { IfErr result (λ e. Fault command bytes.now e) }
 {
-    let areas = areas(bytes)?;
-    match judge_params(areas.code(), areas.params()) {
-        Ok(()) => Ok(()),
-        Err(fault) => Err(Refusal {
-            code: fault.code,
-            at: areas.params_at() + fault.at,
-        }),
+    match decode_command(bytes) {
+        Ok(_) => Ok(()),
+        Err(fault) => Err(fault),
     }
 }
 
