@@ -128,7 +128,7 @@ fn judge_behind(parts: &UnjoinedCommand<'_>, code: CommandCode, at: u32) -> Resu
     judge_at(code, at, params)
 }
 
-// Whether the joined parts spell a command, or their fault. Where there are no parameters, they are not looked at again.
+// Whether the joined parts spell a command, or their fault. Where there are no parameters, nothing is joined again.
 fn judge(parts: &UnjoinedCommand<'_>) -> Result<(), Refusal>
     ensures spells { IfOk result (λ _. (c : Command) × Spells command_layout c parts.now) }
     ensures fault { IfErr result (λ e. Fault command_layout parts.now e) }
