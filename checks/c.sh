@@ -452,7 +452,7 @@ in_flash() {
         $2 ~ /tpm_device_init/ { most = 110 }
         $2 ~ /tpm_(caller|log)_/ { most = 60 }
         most { rows++ }
-        most && $3 > 1024 * most { print; wrong = 1 }
+        most && $3 + 0 > 1024 * most { print; wrong = 1 }
         END { exit wrong || rows != 6 }
     ' "$room/flash"
 }
