@@ -6,7 +6,7 @@ use Rattle.clap.specs.Words.{Row, Text, first_of}
 use Rattle.tpm_types.specs.declared.alg.Alg.{Alg}
 use Rattle.tpm_types.specs.Alg.{alg_name}
 use Rattle.tpm_types.specs.declared.tpms.Selection.{Selection}
-use Rattle.tpm_commands.specs.declared.code.CommandCode.{CommandCode}
+use Rattle.tpm_types.specs.declared.command_code.CommandCode.{CommandCode}
 use Rattle.tpm_text_values.specs.Names.{command_of_name, is_kind}
 use Rattle.tpm_text_values.specs.Numbers.{IsDecimal, IsHexadecimal, IsShortDecimal}
 use Rattle.tpm_text_values.specs.Owner.{IsOwner, bytes_in}

@@ -1,7 +1,7 @@
 //! The names of the commands, in a text.
 
 use std::alloc::{AllocError, Global};
-use tpm_commands::CommandCode;
+use tpm_types::CommandCode;
 
 /// The names of all commands, in the order of their numbers, with a comma between them.
 pub(crate) fn command_names(alloc: Global) -> Result<String, AllocError> {

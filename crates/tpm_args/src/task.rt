@@ -1,8 +1,7 @@
 //! What the words ask for.
 
 use crate::stop::Stop;
-use tpm_commands::CommandCode;
-use tpm_types::{Alg, AuthValue, Selections};
+use tpm_types::{Alg, AuthValue, CommandCode, Selections};
 
 /// What the words of a subcommand ask for, if anything.
 pub(crate) type Asked<'a> = Result<Option<Task<'a>>, Stop>;

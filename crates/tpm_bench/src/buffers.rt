@@ -3,7 +3,7 @@
 ghost use Rattle.std.specs.Prelude.{◌≡◌, ◌≤◌, ◌⊎◌, length, take};
 ghost use Rattle.tpm_wire.specs.Path.{Spells, Fault};
 ghost use Rattle.tpm_wire.specs.declared.refusal.Refusal.{Refusal as RefusalOf};
-ghost use Rattle.tpm_commands.specs.declared.code.CommandCode.TheVariants as codes;
+ghost use Rattle.tpm_types.specs.declared.command_code.CommandCode.TheVariants as codes;
 ghost use Rattle.tpm_commands.specs.declared.command.Command.{Command as CommandOf};
 ghost use Rattle.tpm_commands.specs.declared.response.Response.{Response as ResponseOf};
 ghost use Rattle.tpm_buffer.specs.Commands.{command as command_layout};
@@ -11,7 +11,8 @@ ghost use Rattle.tpm_buffer.specs.Responses.{response as response_layout};
 
 use crate::out::append;
 use tpm_buffer::{decode_command, decode_response, encode_command};
-use tpm_commands::{Command, CommandCode};
+use tpm_types::CommandCode;
+use tpm_commands::Command;
 
 /// Decodes the command, and answers 0, or the code of its fault.
 #[unsafe(no_mangle)]

@@ -5,10 +5,10 @@ use Rattle.std.proofs.lemmas.Bool.{or_cases, eqb-true, ne_eqb}
 use Rattle.std.proofs.lemmas.List.{length-append, append-nil}
 use Rattle.tpm_wire.specs.Spelling.{spelling}
 use Rattle.tpm_types.specs.declared.tpms.Auth.{Auth}
-use Rattle.tpm_commands.specs.declared.code.CommandCode.{CommandCode}
+use Rattle.tpm_types.specs.declared.command_code.CommandCode.{CommandCode}
 use Rattle.tpm_commands.specs.declared.command.Header.{Header}
 use Rattle.tpm_commands.specs.declared.command_parameters.Params.{Params}
-use Rattle.tpm_commands.specs.Codes.{command_code}
+use Rattle.tpm_types.specs.CommandCodes.{command_code}
 use Rattle.tpm_commands.specs.Handles.{AreAdmitted, handle_kinds, handles}
 use Rattle.tpm_commands.specs.Parameters.{params_code, parameters}
 use Rattle.tpm_commands.proofs.EachCommand.{handles_again, params_again}

@@ -13,11 +13,11 @@ use Rattle.tpm_wire.specs.ResponseCodes.{rc_size}
 use Rattle.tpm_wire.proofs.Agreement.{ok_is, bind_ok}
 use Rattle.tpm_wire.proofs.Buffers.{buffer_sound, buffer_roomy}
 use Rattle.tpm_wire.proofs.Whole.{spells_read, read_spells}
-use Rattle.tpm_commands.specs.declared.code.CommandCode.{CommandCode}
+use Rattle.tpm_types.specs.declared.command_code.CommandCode.{CommandCode}
 use Rattle.tpm_commands.specs.declared.response.ReplyBody.{ReplyBody}
 use Rattle.tpm_commands.specs.declared.response.Response.{Response}
 use Rattle.tpm_commands.specs.Replies.{reply_handles, reply_parameters, parameters_of_reply}
-use Rattle.tpm_commands.proofs.Short.{ok, err}
+use Rattle.tpm_types.proofs.Short.{ok, err}
 use Rattle.tpm_commands.proofs.EachCommand.{ends_read, AreRead, are_read, IsBodyOf, bodies}
 use Rattle.tpm_commands.specs.declared.response.Response.TheVariants as responses
 use Rattle.tpm_buffer.specs.Responses.{response_front, response_code, parameter_size, reply_sessions, with_sessions}

@@ -14,7 +14,7 @@ use Rattle.tpm_wire.proofs.Agreement.{ok_is, bind_ok, test_end, unless_ok, ends_
 use Rattle.tpm_wire.proofs.Buffers.{buffer_sound}
 use Rattle.tpm_wire.proofs.Whole.{reads_its_path}
 use Rattle.tpm_wire.proofs.Elsewhere.{read_later, later}
-use Rattle.tpm_commands.proofs.Short.{ok}
+use Rattle.tpm_types.proofs.Short.{ok}
 use Rattle.tpm_buffer.specs.ResponseAreas.{IsPlaceIn}
 
 token_mark : {A : Type 0} (o : Option ℕ) (p : Result A ℕ) (n m k : ℕ) (h : Here) (x : A × Here)

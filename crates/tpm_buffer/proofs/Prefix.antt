@@ -11,11 +11,11 @@ use Rattle.tpm_wire.specs.Path.{Spells}
 use Rattle.tpm_wire.proofs.Buffers.{buffer_sound}
 use Rattle.tpm_wire.proofs.Agreement.{bind_ok, number_ok}
 use Rattle.tpm_wire.proofs.Whole.{spells_read}
-use Rattle.tpm_commands.specs.declared.code.CommandCode.{CommandCode}
+use Rattle.tpm_types.specs.declared.command_code.CommandCode.{CommandCode}
 use Rattle.tpm_commands.specs.declared.command.Command.{Command}
 use Rattle.tpm_commands.specs.declared.command.Header.{Header}
 use Rattle.tpm_commands.specs.declared.response.Response.{Response}
-use Rattle.tpm_commands.specs.Codes.{command_code}
+use Rattle.tpm_types.specs.CommandCodes.{command_code}
 use Rattle.tpm_buffer.specs.Commands.{is_tag, tag, command_size, header, rest_of, command}
 use Rattle.tpm_buffer.specs.Responses.{is_response_tag, response_tag, response_front, response_code, behind_code}
 use Rattle.tpm_buffer.specs.Responses.{response}

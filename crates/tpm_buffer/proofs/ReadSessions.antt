@@ -8,7 +8,7 @@ use Rattle.tpm_wire.specs.Reading.{read}
 use Rattle.tpm_wire.specs.Spelling.{spelling, joined_all}
 use Rattle.tpm_types.specs.declared.tpms.AuthReply.{AuthReply}
 use Rattle.tpm_types.specs.Tpms.{auth_response}
-use Rattle.tpm_commands.proofs.Short.{ok}
+use Rattle.tpm_types.proofs.Short.{ok}
 use Rattle.tpm_buffer.specs.Responses.{further_sessions, reply_sessions}
 use Rattle.tpm_buffer.specs.ResponseAreas.{IsPlaceIn, IsSession, session_of, session_at, place_behind}
 use Rattle.tpm_buffer.proofs.Places.{alone}

@@ -9,7 +9,7 @@ use Rattle.tpm_types.specs.Tpms.{auth_command}
 use Rattle.tpm_buffer.specs.ResponseAreas.{IsPlaceIn}
 use Rattle.tpm_buffer.specs.CommandAreas.{LiesIn, session_of, session_at, IsSession}
 use Rattle.tpm_buffer.proofs.Places.{alone, here_is, read_past}
-use Rattle.tpm_commands.proofs.Short.{of_session, ok}
+use Rattle.tpm_types.proofs.Short.{of_session, ok}
 
 -- ---- places in an area
 

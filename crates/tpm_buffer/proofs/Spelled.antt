@@ -16,10 +16,10 @@ use Rattle.tpm_types.specs.declared.tpms.Auth.{Auth}
 use Rattle.tpm_types.specs.Tpma.{session_attrs}
 use Rattle.tpm_types.specs.Handles.{auth_session}
 use Rattle.tpm_types.specs.Tpms.{auth_command}
-use Rattle.tpm_commands.specs.declared.code.CommandCode.{CommandCode}
+use Rattle.tpm_types.specs.declared.command_code.CommandCode.{CommandCode}
 use Rattle.tpm_commands.specs.declared.command.Command.{Command}
 use Rattle.tpm_commands.specs.declared.command.CommandBody.{CommandBody}
-use Rattle.tpm_commands.specs.Codes.{code_of, code_number, command_code}
+use Rattle.tpm_types.specs.CommandCodes.{code_of, code_number, command_code}
 use Rattle.tpm_commands.specs.Handles.{handles}
 use Rattle.tpm_commands.specs.Parameters.{parameters}
 use Rattle.tpm_buffer.specs.Commands.{sessions, authorization_size, authorization, tag, tag_of, command_size, code_for}

@@ -16,7 +16,7 @@ use Rattle.tpm_commands.specs.declared.command.Command.{Command}
 use Rattle.tpm_commands.specs.declared.command_parameters.Params.{Params}
 use Rattle.tpm_commands.specs.Handles.{handles}
 use Rattle.tpm_commands.specs.Parameters.{parameters}
-use Rattle.tpm_commands.proofs.Short.{ok, err}
+use Rattle.tpm_types.proofs.Short.{ok, err}
 use Rattle.tpm_buffer.proofs.Places.{here_is}
 use Rattle.tpm_buffer.specs.Commands.{header, authorization, body_from, with_auths, front, Checked, before_params}
 use Rattle.tpm_buffer.specs.Commands.{command}

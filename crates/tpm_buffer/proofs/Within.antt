@@ -12,7 +12,7 @@ use Rattle.tpm_wire.proofs.Agreement.{ok_is, err_is, ends_same}
 use Rattle.tpm_wire.proofs.Whole.{reads_its_path}
 use Rattle.tpm_wire.proofs.Cuts.{cut_decodes}
 use Rattle.tpm_commands.specs.Handles.{handles}
-use Rattle.tpm_commands.proofs.Short.{ok, err}
+use Rattle.tpm_types.proofs.Short.{ok, err}
 use Rattle.tpm_buffer.specs.Commands.{authorization, Checked, before_params}
 use Rattle.tpm_buffer.specs.CommandAreas.{HeaderCut, HandlesCut, Cut, IsHandled, HasHandles, checked, params_here}
 use Rattle.tpm_buffer.specs.CommandAreas.{areas_view, HasCut, IsAreas, HasAreas}

@@ -7,11 +7,11 @@ use Rattle.tpm_wire.specs.ResponseCodes.{rc_bad_tag, rc_command_size, rc_authsiz
 use Rattle.tpm_wire.specs.Spelling.{spelling}
 use Rattle.tpm_types.specs.declared.tpms.Auth.{Auth}
 use Rattle.tpm_types.specs.Tpms.{auth_command}
-use Rattle.tpm_commands.specs.declared.code.CommandCode.{CommandCode}
+use Rattle.tpm_types.specs.declared.command_code.CommandCode.{CommandCode}
 use Rattle.tpm_commands.specs.declared.command.Command.{Command}
 use Rattle.tpm_commands.specs.declared.command.CommandBody.{CommandBody}
 use Rattle.tpm_commands.specs.declared.command.Header.{Header}
-use Rattle.tpm_commands.specs.Codes.{command_code}
+use Rattle.tpm_types.specs.CommandCodes.{command_code}
 use Rattle.tpm_commands.specs.Handles.{handles}
 use Rattle.tpm_commands.specs.Parameters.{parameters}
 pub use Rattle.tpm_commands.specs.Table.{register_in, index_in, policy_in, pcr_or_null_in, nv_auth_in, bind_in}

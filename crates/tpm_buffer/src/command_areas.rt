@@ -14,8 +14,8 @@ use crate::command_header::{long_fault, take_header};
 use crate::command_sessions::{AuthRef, read_authorization, session_at, take_authorization};
 use arrayvec::ArrayVec;
 use std::marker::Model;
-use tpm_commands::{CommandCode, Header, take_handles};
-use tpm_types::Auth;
+use tpm_commands::{Header, take_handles};
+use tpm_types::{Auth, CommandCode};
 use tpm_wire::{Cursor, Refusal};
 
 /// A command whose header was read.

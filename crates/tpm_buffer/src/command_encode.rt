@@ -113,7 +113,7 @@ fn put_rest(tag: u16, command: &Command<'_>, out: &mut Buffer)
     command.body.put_params(out);
 }
 
-#[tactic(auto, unfolding(crate::specs::Commands::command, crate::specs::Commands::header, crate::specs::Commands::tag, crate::specs::Commands::command_size, tpm_commands::specs::Codes::command_code))]
+#[tactic(auto, unfolding(crate::specs::Commands::command, crate::specs::Commands::header, crate::specs::Commands::tag, crate::specs::Commands::command_size, tpm_types::specs::CommandCodes::command_code))]
 fn put_whole(tag: u16, len: usize, command: &Command<'_>, out: &mut Buffer)
     requires empty { length out.old.items ≡ 0 }
     requires tag { tag ≡ tag_of command.now }

@@ -5,11 +5,12 @@ ghost use Rattle.tpm_wire.specs.Spelling.{spelling};
 ghost use Rattle.tpm_wire.specs.Token.{at_start};
 ghost use Rattle.tpm_wire.specs.Reading.{read};
 ghost use Rattle.tpm_wire.specs.Buffers.{Takes, TakesNumbered};
-ghost use Rattle.tpm_commands.specs.Codes.{command_code};
+ghost use Rattle.tpm_types.specs.CommandCodes.{command_code};
 ghost use Rattle.tpm_buffer.specs.Commands.{is_tag, tag, command_size, header};
 ghost use Rattle.tpm_buffer.specs.Parts.{tag_for};
 
-use tpm_commands::{CommandCode, Header};
+use tpm_commands::Header;
+use tpm_types::CommandCode;
 use tpm_wire::response_code::{BAD_TAG, COMMAND_CODE, COMMAND_SIZE};
 use tpm_wire::{Cursor, Refusal, Wire};
 
@@ -63,7 +64,7 @@ pub(crate) fn take_size(cursor: &mut Cursor<'_>) -> Result<u32, Refusal>
     Ok(size)
 }
 
-#[tactic(auto, unfolding(tpm_commands::specs::Codes::command_code))]
+#[tactic(auto, unfolding(tpm_types::specs::CommandCodes::command_code))]
 #[inline(always)]
 fn take_code(cursor: &mut Cursor<'_>) -> Result<CommandCode, Refusal>
     ensures reads { Takes command_code cursor.old cursor.new result }

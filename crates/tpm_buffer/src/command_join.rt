@@ -5,7 +5,7 @@ ghost use Rattle.tpm_buffer.specs.Parts.{authorization_of, joined};
 
 use crate::command_header::tag_for;
 use std::marker::Model;
-use tpm_commands::CommandCode;
+use tpm_types::CommandCode;
 use tpm_wire::{Buffer, put_bytes};
 
 // How many bytes the joined parts have, or None where a number can't say it.

@@ -5,7 +5,7 @@ ghost use Rattle.tpm_wire.specs.declared.refusal.Refusal.{Refusal};
 ghost use Rattle.tpm_wire.specs.Layout.{cut};
 ghost use Rattle.tpm_wire.specs.Buffers.{later_refusal};
 ghost use Rattle.tpm_wire.specs.Path.{ExactlyOne, Fault, Spells};
-ghost use Rattle.tpm_commands.specs.declared.code.CommandCode.{CommandCode};
+ghost use Rattle.tpm_types.specs.declared.command_code.CommandCode.{CommandCode};
 ghost use Rattle.tpm_commands.specs.declared.command.Command.{Command};
 ghost use Rattle.tpm_commands.specs.declared.response.Response.{Response};
 ghost use Rattle.tpm_commands.specs.declared.command_parameters.Params.{Params};

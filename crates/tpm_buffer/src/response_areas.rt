@@ -16,8 +16,8 @@ use crate::response_header::{long_fault, take_code, take_front};
 use crate::response_sessions::{ReplyRef, session_at, take_parameter_size, take_sessions};
 use arrayvec::ArrayVec;
 use std::marker::Model;
-use tpm_commands::{CommandCode, take_reply_handle};
-use tpm_types::SessionHandle;
+use tpm_commands::take_reply_handle;
+use tpm_types::{CommandCode, SessionHandle};
 use tpm_wire::response_code::SIZE;
 use tpm_wire::{Cursor, Refusal};
 

@@ -17,10 +17,8 @@ use crate::command_header::SESSIONS;
 use crate::response_header::{long_fault, take_code, take_front};
 use crate::response_sessions::{read_sessions, take_parameter_size};
 use arrayvec::ArrayVec;
-use tpm_commands::{
-    CommandCode, ErrorCode, ReplyBody, Response, read_reply_params, take_reply_handle,
-};
-use tpm_types::{AuthReply, Digests, Selections, SessionHandle};
+use tpm_commands::{ErrorCode, ReplyBody, Response, read_reply_params, take_reply_handle};
+use tpm_types::{AuthReply, CommandCode, Digests, Selections, SessionHandle};
 use tpm_wire::response_code::SIZE;
 use tpm_wire::{Cursor, Refusal};
 

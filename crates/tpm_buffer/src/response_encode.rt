@@ -5,7 +5,7 @@ ghost use Rattle.std.specs.Int.{bytes_high_first};
 ghost use Rattle.tpm_wire.specs.Spelling.{spelling, Fits};
 ghost use Rattle.tpm_wire.specs.Path.{Spells};
 ghost use Rattle.tpm_commands.specs.Limits.{most_params};
-ghost use Rattle.tpm_commands.specs.declared.code.CommandCode.{CommandCode as CodeOf};
+ghost use Rattle.tpm_types.specs.declared.command_code.CommandCode.{CommandCode as CodeOf};
 ghost use Rattle.tpm_commands.specs.Replies.{code_for_reply, parameters_of_reply};
 ghost use Rattle.tpm_commands.specs.declared.response.Response.TheVariants as responses;
 ghost use Rattle.tpm_buffer.specs.Responses.{code_tag, reply_sessions, reply_tag, reply_behind, reply};

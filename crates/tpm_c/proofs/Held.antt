@@ -10,7 +10,7 @@ use Rattle.tpm_types.specs.Tpma.{session_attrs}
 use Rattle.tpm_types.specs.Tpms.{auth_command}
 use Rattle.tpm_commands.specs.declared.command_handles.HandleKind.{HandleKind}
 use Rattle.tpm_commands.specs.declared.command.Header.{Header}
-use Rattle.tpm_commands.specs.Codes.{command_code}
+use Rattle.tpm_types.specs.CommandCodes.{command_code}
 use Rattle.tpm_commands.specs.Handles.{handles, handles_from, handle_kinds, others}
 use Rattle.tpm_buffer.specs.Commands.{header, tag, command_size, authorization, authorization_size, sessions}
 use Rattle.tpm_buffer.specs.CommandAreas.{Cut, IsSpelledBy}

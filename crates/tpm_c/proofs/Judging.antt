@@ -15,13 +15,13 @@ use Rattle.tpm_wire.specs.Path.{Next, IsPath, after, start, Spells, Fault, Decod
 use Rattle.tpm_wire.proofs.Buffers.{buffer_sound}
 use Rattle.tpm_wire.proofs.Longer.{TakesAtMost}
 use Rattle.tpm_wire.proofs.Whole.{spells_read, read_spells, fault_read, read_fault}
-use Rattle.tpm_commands.specs.declared.code.CommandCode.{CommandCode}
+use Rattle.tpm_types.specs.declared.command_code.CommandCode.{CommandCode}
 use Rattle.tpm_commands.specs.declared.command.Command.{Command}
 use Rattle.tpm_commands.specs.declared.command_parameters.Params.{Params}
 use Rattle.tpm_commands.specs.Handles.{handles}
 use Rattle.tpm_commands.specs.Parameters.{parameters, placed}
 use Rattle.tpm_commands.proofs.EachCommand.{of_parameters}
-use Rattle.tpm_commands.proofs.Short.{ok, err}
+use Rattle.tpm_types.proofs.Short.{ok, err}
 use Rattle.tpm_buffer.specs.Commands.{header, authorization, body_from, with_auths, command}
 use Rattle.tpm_buffer.specs.CommandAreas.{Cut, HasCut, checked, IsSpelledBy}
 use Rattle.tpm_buffer.proofs.Staged.{of_parts, of_params}

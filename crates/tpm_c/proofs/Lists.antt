@@ -4,7 +4,7 @@ use Rattle.tpm_types.specs.Limits.{digest_bytes, banks}
 use Rattle.tpm_types.specs.Tpms.{selection}
 use Rattle.tpm_types.specs.Tpm2b.{digest}
 use Rattle.tpm_types.specs.Tpml.{most_digests, selections, or_digests}
-use Rattle.tpm_commands.proofs.Short.{of_selection}
+use Rattle.tpm_types.proofs.Short.{of_selection}
 
 pub of_selections : TakesAtMost 22 selections
 of_selections = at_most_counted 0 banks 6 selection of_selection

@@ -8,11 +8,11 @@ use Rattle.tpm_wire.specs.Reading.{read_all}
 use Rattle.tpm_wire.proofs.Buffers.{buffer_sound}
 use Rattle.tpm_wire.proofs.Whole.{read_spells, read_fault}
 use Rattle.tpm_types.specs.declared.handle_sets.BindHandle.{BindHandle}
-use Rattle.tpm_commands.specs.declared.code.CommandCode.{CommandCode}
+use Rattle.tpm_types.specs.declared.command_code.CommandCode.{CommandCode}
 use Rattle.tpm_commands.specs.declared.command.Command.{Command}
 use Rattle.tpm_commands.specs.declared.command.StartAuth.{StartAuth}
 use Rattle.tpm_commands.specs.declared.command_parameters.Params.{Params}
-use Rattle.tpm_commands.specs.declared.code.CommandCode.TheVariants as codes
+use Rattle.tpm_types.specs.declared.command_code.CommandCode.TheVariants as codes
 use Rattle.tpm_commands.specs.declared.command_parameters.Params.TheVariants as params
 use Rattle.tpm_commands.specs.Handles.{second}
 use Rattle.tpm_commands.specs.Parameters.{parameters}

@@ -11,7 +11,7 @@ use Rattle.tpm_types.specs.declared.attest.Attest.{Attest}
 use Rattle.tpm_types.specs.Alg.{alg_number}
 use Rattle.tpm_types.specs.Tpml.{selections}
 use Rattle.tpm_types.specs.Attest.{yes_no_number, attest}
-use Rattle.tpm_model.specs.Registers.{Registers, value_in}
+use Rattle.tpm_pcr.specs.Registers.{Registers, value_in}
 use Rattle.tpm_log.specs.declared.fault.LogFault.{LogFault}
 use Rattle.tpm_quote.specs.declared.attest.AttestFault.{AttestFault}
 use Rattle.tpm_quote.specs.Attests.{SelectsNone, IsJudged}

@@ -7,7 +7,7 @@ use denote.RawPtr.{Ptr, lies_at}
 use Rattle.tpm_wire.specs.declared.refusal.Refusal.{Refusal}
 use Rattle.tpm_wire.specs.Reading.{read_all}
 use Rattle.tpm_types.specs.Limits.{digest_bytes, name_bytes}
-use Rattle.tpm_commands.specs.declared.code.CommandCode.TheVariants as codes
+use Rattle.tpm_types.specs.declared.command_code.CommandCode.TheVariants as codes
 use Rattle.tpm_commands.specs.declared.command.Command.{Command}
 use Rattle.tpm_commands.specs.declared.command.CommandBody.{CommandBody}
 use Rattle.tpm_commands.specs.declared.command.StartAuth.{StartAuth}

@@ -4,7 +4,7 @@ use Rattle.tpm_wire.specs.Layout.{cut}
 use Rattle.tpm_wire.specs.Path.{Spells, Fault}
 use Rattle.tpm_types.specs.declared.tpms.Auth.{Auth}
 use Rattle.tpm_commands.specs.declared.command.Command.{Command}
-use Rattle.tpm_commands.specs.Codes.{code_number}
+use Rattle.tpm_types.specs.CommandCodes.{code_number}
 use Rattle.tpm_commands.specs.Handles.{first, second, handle_kinds}
 use Rattle.tpm_buffer.specs.Commands.{before_params, command}
 use Rattle.tpm_buffer.specs.CommandAreas.{Cut, HasCut}

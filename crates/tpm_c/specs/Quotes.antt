@@ -5,7 +5,7 @@ use Rattle.tpm_wire.specs.Path.{Spells, Fault}
 use Rattle.tpm_types.specs.declared.alg.Alg.{Alg}
 use Rattle.tpm_types.specs.declared.attest.QuoteInfo.{QuoteInfo}
 use Rattle.tpm_types.specs.Attest.{quote_info}
-use Rattle.tpm_model.specs.Registers.{Registers, composite, value_in}
+use Rattle.tpm_pcr.specs.Registers.{Registers, composite, value_in}
 use Rattle.tpm_log.specs.declared.fault.LogFault.{LogFault}
 use Rattle.tpm_c.specs.Calls.{Call}
 use Rattle.tpm_c.specs.Logs.{IsFault}

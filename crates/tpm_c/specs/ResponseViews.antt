@@ -2,9 +2,9 @@
 use Rattle.std.specs.Prelude.{◌≡◌, ◌⊎◌, ℕ, zero, suc, ◌+◌, List, [], ◌∷◌, length, Option, Some, None, slice_get}
 use Rattle.tpm_wire.specs.Path.{Spells, Fault}
 use Rattle.tpm_types.specs.declared.tpms.AuthReply.{AuthReply}
-use Rattle.tpm_commands.specs.declared.code.CommandCode.{CommandCode}
+use Rattle.tpm_types.specs.declared.command_code.CommandCode.{CommandCode}
 use Rattle.tpm_commands.specs.declared.response.Response.{Response}
-use Rattle.tpm_commands.specs.Codes.{code_of}
+use Rattle.tpm_types.specs.CommandCodes.{code_of}
 use Rattle.tpm_buffer.specs.Responses.{ReplyCut, reply_cut, response}
 use Rattle.tpm_buffer.specs.ResponseAreas.{handle_of, place_of_params}
 use Rattle.tpm_c.specs.declared.part.TpmRefusal.{TpmRefusal}

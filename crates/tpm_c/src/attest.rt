@@ -2,7 +2,7 @@
 
 ghost use Rattle.std.specs.Prelude.{◌≡◌, Ok};
 ghost use Rattle.tpm_types.specs.Alg.{alg_of};
-ghost use Rattle.tpm_model.specs.Registers.{value_in};
+ghost use Rattle.tpm_pcr.specs.Registers.{value_in};
 ghost use Rattle.tpm_log.specs.Changes.{AreAfter};
 ghost use Rattle.tpm_log.specs.Replays.{Replays};
 ghost use Rattle.tpm_c.specs.Logs.{kind_number as kind_number_of};
@@ -15,7 +15,7 @@ use crate::part::{DONE, TpmPart, TpmRefusal, refuse};
 use crate::quote::{DIFFERS, NO_BANK, REFUSED};
 use tpm_log::{LogFault, replay_into};
 use tpm_quote::{AttestFault, check_attest, decode_attest, selects_none};
-use tpm_store::Registers;
+use tpm_pcr::Registers;
 use tpm_types::{Alg, Attest, Selections};
 use tpm_wire::{Refusal, Wire, take_whole};
 

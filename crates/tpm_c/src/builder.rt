@@ -11,7 +11,7 @@ use crate::command::judge_params;
 use crate::out::BUFFER_BYTES;
 use crate::part::{DONE, NO_COMMAND, NO_ROOM, TpmRefusal, refuse};
 use tpm_buffer::{UnjoinedCommand, areas};
-use tpm_commands::CommandCode;
+use tpm_types::CommandCode;
 use tpm_wire::response_code::COMMAND_SIZE;
 use tpm_wire::{Buffer, Refusal};
 

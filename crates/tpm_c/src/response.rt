@@ -6,7 +6,7 @@ ghost use Rattle.tpm_c.specs.ResponseViews.{number_of, response_view, ViewsRespo
 
 use crate::part::{DONE, NO_COMMAND, NO_PART, TpmPart, TpmRefusal, refuse};
 use tpm_buffer::{ReplyAreas, ReplyRef, decode_response, reply_areas};
-use tpm_commands::CommandCode;
+use tpm_types::CommandCode;
 
 /// A session of a response: its nonce and its HMAC lie in the response.
 #[repr(C)]

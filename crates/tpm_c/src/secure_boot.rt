@@ -3,18 +3,16 @@
 ghost use Rattle.std.specs.Prelude.{◌≡◌, map, option_map};
 ghost use Rattle.tpm_types.specs.Alg.{alg_of};
 ghost use Rattle.tpm_log.specs.Events.{shown};
-ghost use Rattle.tpm_log.specs.SecureBoot.{sayings};
-ghost use Rattle.tpm_log.specs.Found.{held};
+ghost use Rattle.tpm_secure_boot.specs.SecureBoot.{sayings};
+ghost use Rattle.tpm_secure_boot.specs.Found.{held};
 ghost use Rattle.tpm_log.specs.Authorities.{authority_places};
 ghost use Rattle.tpm_c.specs.SecureBoots.{state_number, fault_number, place_of, found_view};
 ghost use Rattle.tpm_c.specs.SecureBoots.{IsBootSaid, IsBootIn, IsBootChecked};
 
 use crate::log::tell;
 use crate::quote::NO_BANK;
-use tpm_log::{
-    Log, SecureBoot, SecureBootFault, SecureBootFaultKind, SecureBootState, SecurityVariable,
-    secure_boot,
-};
+use tpm_secure_boot::{SecureBoot, SecureBootFault, SecureBootFaultKind, SecureBootState, SecurityVariable, secure_boot};
+use tpm_log::Log;
 use tpm_types::Alg;
 
 /// There are more authorities than the room has places.
@@ -160,7 +158,7 @@ fn boot_in(
 }
 
 /// Tells whether Secure Boot was on, by the records of register 7 in the bank of this hash
-/// (`tpm_log::secure_boot`): 48 on, 49 off, 50 where SecureBoot has no byte or was not measured.
+/// (`tpm_secure_boot::secure_boot`): 48 on, 49 off, 50 where SecureBoot has no byte or was not measured.
 /// `view` then has the rest, and `authorities` at its beginning how many bytes of the log precede
 /// each authority, as many as `count` says. Where it has less room 51 is answered, and `count`
 /// alone is written. Otherwise the first of these is answered: 18 for a hash that has no bank; the

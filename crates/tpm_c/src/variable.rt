@@ -1,11 +1,11 @@
 //! The variable that the data of a record are (PC Client Platform Firmware Profile, "UEFI_VARIABLE_DATA").
 
-ghost use Rattle.tpm_log.specs.EventData.{variable_of};
+ghost use Rattle.tpm_event_data.specs.EventData.{variable_of};
 ghost use Rattle.tpm_c.specs.Variables.{IsVariableTold};
 
 use crate::part::TpmPart;
 use arrayvec::ArrayVec;
-use tpm_log::Event;
+use tpm_event_data::Event;
 
 /// A variable was told.
 const VARIABLE: u32 = 33;

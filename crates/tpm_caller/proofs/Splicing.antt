@@ -10,7 +10,7 @@ use Rattle.tpm_types.specs.Handles.{auth_session}
 use Rattle.tpm_types.specs.Tpma.{session_attrs}
 use Rattle.tpm_types.specs.Tpms.{auth_command}
 use Rattle.tpm_commands.specs.declared.command.CommandBody.{CommandBody}
-use Rattle.tpm_commands.specs.Codes.{command_code, code_number}
+use Rattle.tpm_types.specs.CommandCodes.{command_code, code_number}
 use Rattle.tpm_buffer.specs.Commands.{tag, command_size, header, sessions, authorization_size, authorization, code_for}
 use Rattle.tpm_buffer.specs.Commands.{with_auths, command}
 use Rattle.tpm_buffer.specs.Parts.{behind_header, joined}

@@ -5,7 +5,7 @@ ghost use Rattle.std.specs.Int.{to_be_bytes, w8, w16, w32};
 ghost use Rattle.tpm_types.specs.declared.tpms.Auth.{Auth as AuthOf};
 ghost use Rattle.tpm_types.specs.Alg.{digest_len};
 ghost use Rattle.tpm_types.specs.Limits.{block_bytes, digest_bytes};
-ghost use Rattle.tpm_commands.specs.Codes.{code_number};
+ghost use Rattle.tpm_types.specs.CommandCodes.{code_number};
 ghost use Rattle.tpm_commands.specs.declared.command.CommandBody.{CommandBody as CommandBodyOf};
 ghost use Rattle.tpm_commands.specs.Handles.{needs_authorization};
 ghost use Rattle.tpm_wire.specs.Spelling.{spelling, Fits};
@@ -25,12 +25,9 @@ use crate::waiting::Waiting;
 use arrayvec::ArrayVec;
 use std::marker::Model;
 use tpm_buffer::{SESSIONS, put_command};
-use tpm_commands::{Command, CommandBody, CommandCode, StartAuth, StartReply};
+use tpm_commands::{Command, CommandBody, StartAuth, StartReply};
 use tpm_hmac::{SessionKey, command_mac, cp_hash, hash, same, session_key, trim};
-use tpm_types::{
-    Alg, Auth, AuthSession, AuthValue, BLOCK_BYTES, BindHandle, DIGEST_BYTES, Digest, Name, Nonce,
-    SessionAttrs, SessionHandle,
-};
+use tpm_types::{Alg, Auth, AuthSession, AuthValue, BLOCK_BYTES, BindHandle, CommandCode, DIGEST_BYTES, Digest, Name, Nonce, SessionAttrs, SessionHandle};
 use tpm_wire::{Bounded, Buffer, Duplicate};
 
 // How many bytes are before the HMAC of a session, beside the handles and the nonce: the header, authorizationSize,

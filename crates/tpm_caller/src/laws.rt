@@ -25,7 +25,8 @@ ghost use Rattle.tpm_model.specs.Callers.{WrongMac, Opened, opened, given_up};
 ghost use Rattle.tpm_model.specs.Runs.Event.{Given};
 ghost use Rattle.tpm_model.specs.Runs.{Event, after};
 ghost use Rattle.tpm_model.specs.Premises.{IsAccepted, NoncesDiffer, nonce_bytes, most_nonce, IsReady, rolled};
-ghost use Rattle.tpm_model.specs.Premises.{opened_as, IsAmong, Opening, IsOfCallers};
+ghost use Rattle.tpm_model.specs.Premises.{opened_as, Opening, IsOfCallers};
+ghost use Rattle.tpm_hmac.specs.Among.{IsAmong};
 ghost use Rattle.tpm_caller.specs.Sent.{with_hmac_key, sent};
 ghost use Rattle.tpm_caller.specs.Opens.{IsOpened, IsNotExpected, HasWrongMac, IsGivenUp};
 

@@ -15,9 +15,9 @@ use crate::caller::Caller;
 use crate::waiting::CallerFault;
 use std::marker::Model;
 use tpm_buffer::{NO_SESSIONS, RSP_COMMAND, decode_response, reply_areas};
-use tpm_commands::{CommandCode, Response};
+use tpm_commands::Response;
 use tpm_hmac::{rp_hash, same};
-use tpm_types::{BLOCK_BYTES, Nonce};
+use tpm_types::{BLOCK_BYTES, CommandCode, Nonce};
 use tpm_wire::Bounded;
 use tpm_wire::response_code::BAD_TAG;
 

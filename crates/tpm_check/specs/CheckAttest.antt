@@ -13,7 +13,7 @@ use Rattle.tpm_types.specs.declared.attest.ClockInfo.{ClockInfo}
 use Rattle.tpm_types.specs.declared.attest.Attest.{Attest}
 use Rattle.tpm_types.specs.Attest.{attest}
 use Rattle.tpm_types.specs.Tpms.{is_selected}
-use Rattle.tpm_model.specs.Registers.{composite}
+use Rattle.tpm_pcr.specs.Registers.{composite}
 use Rattle.tpm_quote.specs.declared.attest.NotSelected.{NotSelected}
 use Rattle.tpm_quote.specs.Attests.{first_not_selected, registers_of}
 use Rattle.tpm_lines.specs.declared.status.Status.TheVariants.{Done, Refused}

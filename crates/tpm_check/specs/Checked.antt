@@ -1,7 +1,7 @@
 -- What `check` prints of a log, with all that it is compared with (this profile).
 use Rattle.std.specs.Prelude.{◌≡◌, ℕ, List, [], ◌++◌, Option, Some, None, option_map, Result, Ok, Err}
 use Rattle.std.specs.Prelude.{MatchOption}
-use Rattle.tpm_model.specs.Registers.{Registers, value_in}
+use Rattle.tpm_pcr.specs.Registers.{Registers, value_in}
 use Rattle.tpm_log.specs.declared.fault.LogFault.{LogFault}
 use Rattle.tpm_log.specs.Takes.{IsOfBytes}
 use Rattle.tpm_lines.specs.declared.status.Status.TheVariants.{Done, Refused}

@@ -2,10 +2,10 @@
 use Rattle.std.specs.Prelude.{◌≡◌, ◌⊎◌, List, ℕ, [], ◌∷◌, ◌++◌, codes}
 use Rattle.tpm_log.specs.declared.fault.LogFaultKind.{LogFaultKind}
 use Rattle.tpm_log.specs.declared.fault.LogFaultKind.TheVariants as logs
-use Rattle.tpm_log.specs.declared.verdict.SecureBootFaultKind.{SecureBootFaultKind}
-use Rattle.tpm_log.specs.declared.verdict.SecureBootFaultKind.TheVariants as boots
-use Rattle.tpm_log.specs.declared.signatures.SignatureFaultKind.{SignatureFaultKind}
-use Rattle.tpm_log.specs.declared.signatures.SignatureFaultKind.TheVariants as lists
+use Rattle.tpm_secure_boot.specs.declared.verdict.SecureBootFaultKind.{SecureBootFaultKind}
+use Rattle.tpm_secure_boot.specs.declared.verdict.SecureBootFaultKind.TheVariants as boots
+use Rattle.tpm_event_data.specs.declared.signatures.SignatureFaultKind.{SignatureFaultKind}
+use Rattle.tpm_event_data.specs.declared.signatures.SignatureFaultKind.TheVariants as lists
 use Rattle.tpm_lines.specs.declared.status.Status.TheVariants.{Done, Refused}
 use Rattle.tpm_lines.specs.declared.status.Status.{Status}
 use Rattle.tpm_lines.specs.Text.{line}

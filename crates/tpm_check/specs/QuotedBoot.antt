@@ -6,7 +6,7 @@ use Rattle.tpm_types.specs.declared.alg.Alg.{Alg}
 use Rattle.tpm_types.specs.declared.tpms.Selection.{Selection}
 use Rattle.tpm_types.specs.declared.attest.Attest.{Attest}
 use Rattle.tpm_types.specs.Attest.{attest}
-use Rattle.tpm_model.specs.Registers.{Registers, value_in}
+use Rattle.tpm_pcr.specs.Registers.{Registers, value_in}
 use Rattle.tpm_log.specs.declared.algorithm_size.AlgorithmSize.{AlgorithmSize}
 use Rattle.tpm_log.specs.Changes.{AreAfter}
 use Rattle.tpm_log.specs.Events.{shown}

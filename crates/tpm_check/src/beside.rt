@@ -1,6 +1,6 @@
 //! Registers that a log gave, and how they are told.
 
-use tpm_store::Registers;
+use tpm_pcr::Registers;
 
 /// Registers that a log gave, and whether what is said of them is told as objects of JSON in place of lines.
 #[derive(Drop)]

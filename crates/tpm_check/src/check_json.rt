@@ -2,7 +2,7 @@
 
 ghost use Rattle.std.specs.Prelude.{◌≡◌, ◌<◌, ◌++◌, IfOk, OnOk, map, string_bytes};
 ghost use Rattle.tpm_types.specs.Alg.{all_algs};
-ghost use Rattle.tpm_model.specs.Registers.{value_in};
+ghost use Rattle.tpm_pcr.specs.Registers.{value_in};
 ghost use Rattle.tpm_lines.specs.declared.status.Status.TheVariants.{Refused};
 ghost use Rattle.tpm_check.specs.Told.{told};
 ghost use Rattle.tpm_check.specs.CheckJson.{bank_begin, bank_member, not_hexadecimal_text};
@@ -17,7 +17,7 @@ use std::alloc::{AllocError, Global};
 use tpm_lines::answer::Answer;
 use tpm_lines::status::Status;
 use tpm_lines::text::{Pushed, push_comma};
-use tpm_store::Registers;
+use tpm_pcr::Registers;
 use tpm_types::{Alg, REGISTERS, register};
 use tpm_wire::Refusal;
 

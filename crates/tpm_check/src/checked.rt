@@ -2,7 +2,7 @@
 
 ghost use Rattle.std.specs.Prelude.{◌≡◌, ◌++◌, ℕ, List, Some, None, IfOk, IsErrOf, Result};
 ghost use Rattle.std.specs.Io.KnownBytes.{Appends};
-ghost use Rattle.tpm_model.specs.Registers.{Registers as RegistersValue};
+ghost use Rattle.tpm_pcr.specs.Registers.{Registers as RegistersValue};
 ghost use Rattle.tpm_lines.specs.declared.status.Status.TheVariants.{Done, Refused};
 ghost use Rattle.tpm_lines.specs.declared.fault.ToolFault.TheVariants.{InputTooLong, Read};
 ghost use Rattle.tpm_lines.specs.Faults.{FailsByMemoryOrWrite};

@@ -2,7 +2,7 @@
 
 ghost use Rattle.std.specs.Prelude.{◌≡◌, ◌++◌, false, IfOk, OnOk, option_map, string_bytes};
 ghost use Rattle.std.specs.Str.{bytes_eq};
-ghost use Rattle.tpm_model.specs.Registers.{composite};
+ghost use Rattle.tpm_pcr.specs.Registers.{composite};
 ghost use Rattle.tpm_quote.specs.Attests.{registers_of};
 ghost use Rattle.tpm_check.specs.CheckAttest.{Adds, attest_told, close_text, lacks_line, lacks_text};
 ghost use Rattle.tpm_check.specs.CheckAttest.{on_nonce, on_missing, on_registers, printed, said, whether};

@@ -3,8 +3,8 @@
 ghost use Rattle.std.specs.Prelude.{◌≡◌, ◌++◌, ℕ, List, IfOk, MatchOption, OnOk, string_bytes};
 ghost use Rattle.std.specs.Io.KnownBytes.{Appends};
 ghost use Rattle.tpm_log.specs.declared.fault.LogFaultKind.{LogFaultKind as LogFaultKindValue};
-ghost use Rattle.tpm_log.specs.declared.verdict.SecureBootFaultKind.{SecureBootFaultKind as BootFaultKindValue};
-ghost use Rattle.tpm_log.specs.declared.signatures.SignatureFaultKind.{SignatureFaultKind as ListFaultKindValue};
+ghost use Rattle.tpm_secure_boot.specs.declared.verdict.SecureBootFaultKind.{SecureBootFaultKind as BootFaultKindValue};
+ghost use Rattle.tpm_event_data.specs.declared.signatures.SignatureFaultKind.{SignatureFaultKind as ListFaultKindValue};
 ghost use Rattle.tpm_lines.specs.declared.status.Status.TheVariants.{Done};
 ghost use Rattle.tpm_lines.specs.Faults.{FailsByMemoryOrWrite};
 ghost use Rattle.tpm_events.specs.LogFaults.{kind_name};
@@ -18,7 +18,9 @@ use tpm_lines::answer::Answer;
 use tpm_lines::fault::ToolFault;
 use tpm_lines::status::Status;
 use tpm_lines::text::Pushed;
-use tpm_log::{LogFaultKind, SecureBootFaultKind, SignatureFaultKind};
+use tpm_event_data::SignatureFaultKind;
+use tpm_secure_boot::SecureBootFaultKind;
+use tpm_log::LogFaultKind;
 
 // The kind of a log's fault that has this name.
 fn log_kind(name: &str) -> Option<LogFaultKind>

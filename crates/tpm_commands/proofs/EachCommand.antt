@@ -26,7 +26,7 @@ use Rattle.tpm_types.specs.Tpm2b.{digest, salt_of, salt_size, encrypted_salt}
 use Rattle.tpm_types.specs.Tpml.{most_digests}
 use Rattle.tpm_types.specs.Tpms.{selection, nv_public_area, nv_public}
 use Rattle.tpm_types.specs.Tpmt.{digest_value}
-use Rattle.tpm_commands.specs.declared.code.CommandCode.{CommandCode}
+use Rattle.tpm_types.specs.declared.command_code.CommandCode.{CommandCode}
 use Rattle.tpm_commands.specs.declared.command_handles.HandleKind.{HandleKind}
 use Rattle.tpm_commands.specs.declared.command_parameters.Params.{Params}
 use Rattle.tpm_commands.specs.declared.response.ReplyBody.{ReplyBody}
@@ -40,8 +40,8 @@ use Rattle.tpm_commands.specs.Table.{body_from, handles_of, params_of}
 use Rattle.tpm_commands.specs.Replies.{code_for_reply, session_handle, session_in, reply_handles, reply_handles_of}
 use Rattle.tpm_commands.specs.Replies.{reply_parameters, pcr_event_reply, nv_read_reply, nv_read_public_reply}
 use Rattle.tpm_commands.specs.Replies.{start_auth_session_reply, pcr_read_reply, policy_get_digest_reply}
-use Rattle.tpm_commands.proofs.Short.{ok, next, only, of_hash, of_selection, of_digest_value, of_sym_def}
-use Rattle.tpm_commands.specs.declared.code.CommandCode.TheVariants as codes
+use Rattle.tpm_types.proofs.Short.{ok, next, only, of_hash, of_selection, of_digest_value, of_sym_def}
+use Rattle.tpm_types.specs.declared.command_code.CommandCode.TheVariants as codes
 use Rattle.tpm_commands.specs.declared.command_handles.HandleKind.TheVariants as kinds
 use Rattle.tpm_commands.specs.declared.command_parameters.Params.TheVariants as params
 

@@ -1,3 +1,2 @@
-pub mod Short
 pub mod EachCommand
 pub mod WholeParams

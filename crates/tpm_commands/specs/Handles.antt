@@ -8,7 +8,7 @@ use Rattle.tpm_types.specs.HandleSets.{pcr_or_null_of, nv_auth_of, bind_of}
 use Rattle.tpm_commands.specs.declared.command_handles.HandleKind.TheVariants.{Pcr, PcrOrNull, Owner, Null, OwnerOrNull}
 use Rattle.tpm_commands.specs.declared.command_handles.HandleKind.TheVariants.{Index, OwnerOrIndex, Policy}
 use Rattle.tpm_commands.specs.declared.command_handles.HandleKind.{HandleKind}
-use Rattle.tpm_commands.specs.declared.code.CommandCode.{CommandCode}
+use Rattle.tpm_types.specs.declared.command_code.CommandCode.{CommandCode}
 use Rattle.tpm_commands.specs.Table.{row}
 pub use Rattle.tpm_commands.specs.Row.{first, others, second}
 

@@ -1,7 +1,6 @@
 pub mod Row
 pub mod Limits
 pub mod Table
-pub mod Codes
 pub mod Handles
 pub mod Parameters
 pub mod Commands

@@ -2,10 +2,10 @@
 use Rattle.std.specs.Prelude.{◌≡◌, ℕ, List, [], ◌∷◌, Option, Some, None}
 use Rattle.tpm_wire.specs.Buffers.{Layout}
 use Rattle.tpm_wire.specs.Layout.Form.{done}
-use Rattle.tpm_commands.specs.declared.code.CommandCode.{CommandCode}
+use Rattle.tpm_types.specs.declared.command_code.CommandCode.{CommandCode}
 use Rattle.tpm_commands.specs.declared.response.ReplyBody.{ReplyBody}
 use Rattle.tpm_commands.specs.Table.{row}
-use Rattle.tpm_commands.specs.declared.code.CommandCode.TheVariants as codes
+use Rattle.tpm_types.specs.declared.command_code.CommandCode.TheVariants as codes
 use Rattle.tpm_commands.specs.declared.response.ReplyBody.TheVariants as replies
 unfoldable pub use Rattle.tpm_commands.specs.Commands.Session.{session_handle, start_auth_session_reply}
 pub use Rattle.tpm_commands.specs.Commands.Session.{session_in}

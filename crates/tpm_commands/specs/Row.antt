@@ -13,12 +13,10 @@ pub record Field : Type 0 where
 abbrev pub named : List ℕ → List ℕ → Field
 named name type = record { name = name; type = type }
 
--- TPM_CC (Part 2, 6.5.2); the name in Part 3 without its TPM2_; what the handles may be; whether the first needs
+-- What the handles may be; whether the first needs
 -- authorization; the parameters, and those of the reply with these handles; and how Part 3 names either, where a plus
 -- behind a type, as of TPMT_SYM_DEF+, is no part of its name
 pub record Row : Type 1 where
-  pub number : ℕ
-  pub name : List ℕ
   pub handles : List HandleKind
   pub authorized : Bool
   pub parameters : Layout Params

@@ -9,7 +9,7 @@ use Rattle.tpm_types.specs.HandleSets.{bind_of}
 use Rattle.tpm_types.specs.declared.handle_sets.PcrOrNull.TheVariants as pcrs
 use Rattle.tpm_types.specs.declared.handle_sets.NvAuthHandle.TheVariants as nv
 use Rattle.tpm_types.specs.declared.handle_sets.BindHandle.TheVariants as binds
-use Rattle.tpm_commands.specs.declared.code.CommandCode.{CommandCode}
+use Rattle.tpm_types.specs.declared.command_code.CommandCode.{CommandCode}
 use Rattle.tpm_commands.specs.declared.command.CommandBody.{CommandBody}
 use Rattle.tpm_commands.specs.declared.command_parameters.Params.{Params}
 use Rattle.tpm_commands.specs.declared.response.ReplyBody.{ReplyBody}
@@ -22,18 +22,10 @@ use Rattle.tpm_commands.specs.Commands.Policy.{policy_pcr_row, policy_get_digest
 use Rattle.tpm_commands.specs.Commands.Context.{flush_context_row}
 use Rattle.tpm_commands.specs.Commands.Nv.{nv_undefine_space_row, nv_define_space_row, nv_increment_row, nv_read_row}
 use Rattle.tpm_commands.specs.Commands.Nv.{nv_read_public_row}
-use Rattle.tpm_commands.specs.declared.code.CommandCode.TheVariants as codes
+use Rattle.tpm_types.specs.declared.command_code.CommandCode.TheVariants as codes
 use Rattle.tpm_commands.specs.declared.command.CommandBody.TheVariants as bodies
 use Rattle.tpm_commands.specs.declared.command_parameters.Params.TheVariants as params
 use Rattle.tpm_commands.specs.declared.response.ReplyBody.TheVariants as replies
-
--- in the order of their numbers
-abbrev pub all_commands : List CommandCode
-all_commands =
-    codes.NvUndefineSpace ∷ codes.NvDefineSpace ∷ codes.NvIncrement ∷ codes.PcrEvent ∷ codes.PcrReset
-    ∷ codes.Startup ∷ codes.NvRead ∷ codes.FlushContext ∷ codes.NvReadPublic ∷ codes.PolicyAuthValue
-    ∷ codes.PolicyCommandCode ∷ codes.PolicyOr ∷ codes.StartAuthSession ∷ codes.PcrRead ∷ codes.PolicyPcr
-    ∷ codes.PolicyRestart ∷ codes.PcrExtend ∷ codes.PolicyGetDigest ∷ []
 
 abbrev pub row : CommandCode → Row
 row codes.NvUndefineSpace = nv_undefine_space_row

@@ -1,12 +1,11 @@
 //! A command as a value.
 
-use crate::code::CommandCode;
 use crate::lent::Event;
 use arrayvec::ArrayVec;
 use tpm_types::{
-    Alg, Auth, AuthValue, BindHandle, Digest, DigestValues, Nonce, NvAuthHandle, NvIndex, NvPublic,
-    OrDigests, PcrIndex, PcrOrNull, PolicyHandle, Selections, SessionHandle, SessionType,
-    StartupType, SymDef,
+    Alg, Auth, AuthValue, BindHandle, CommandCode, Digest, DigestValues, Nonce, NvAuthHandle,
+    NvIndex, NvPublic, OrDigests, PcrIndex, PcrOrNull, PolicyHandle, Selections, SessionHandle,
+    SessionType, StartupType, SymDef,
 };
 
 /// What a command does, with its handles and parameters: the command of that name in Part 3. An event is lent, as

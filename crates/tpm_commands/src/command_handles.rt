@@ -8,13 +8,14 @@ ghost use Rattle.tpm_commands.specs.Table.{register_in as the_register, index_in
 ghost use Rattle.tpm_commands.specs.Table.{pcr_or_null_in as the_pcr_or_null, nv_auth_in as the_nv_auth};
 ghost use Rattle.tpm_commands.specs.Table.{bind_in as the_bind};
 ghost use Rattle.tpm_commands.specs.Handles.{first as first_of, second as second_of, admits as is_admitted};
-ghost use Rattle.tpm_commands.specs.Handles.{handle_kinds, needs_authorization as does_need, handles as handles_layout};
+ghost use Rattle.tpm_commands.specs.Handles.{handle_kinds as handle_kinds_of, needs_authorization as does_need, handles as handles_layout};
 ghost use Rattle.tpm_commands.specs.Handles.{handles_from, AreAdmitted};
 
-use crate::code::CommandCode;
+use crate::commands::row_of;
 use arrayvec::ArrayVec;
 use tpm_types::{
-    BindHandle, NvAuthHandle, NvIndex, PcrIndex, PcrOrNull, PolicyHandle, RH_NULL, RH_OWNER,
+    BindHandle, CommandCode, NvAuthHandle, NvIndex, PcrIndex, PcrOrNull, PolicyHandle, RH_NULL,
+    RH_OWNER,
 };
 use tpm_wire::response_code::{VALUE, of_handle};
 use tpm_wire::{Cursor, Refusal, Wire};
@@ -105,33 +106,31 @@ pub fn take_handles(cursor: &mut Cursor<'_>, code: CommandCode) -> Result<ArrayV
     ensures spelled { IfOk result
         (λ x. cursor.old.here.rest
         ≡ spelling (handles_layout code) x.items ++ cursor.new.here.rest) }
-    ensures admitted { IfOk result (λ x. AreAdmitted (handle_kinds code) x.items) }
+    ensures admitted { IfOk result (λ x. AreAdmitted (handle_kinds_of code) x.items) }
 {
-    take_kinds(cursor, code.handle_kinds())
+    take_kinds(cursor, handle_kinds(code))
 }
 
-impl CommandCode {
-    fn handle_kinds(self) -> &'static [HandleKind]
-        ensures value { result.now ≡ handle_kinds self }
-        ensures few { length result.now ≤ 2 }
-    {
-        self.row().handles
-    }
+fn handle_kinds(code: CommandCode) -> &'static [HandleKind]
+    ensures value { result.now ≡ handle_kinds_of code }
+    ensures few { length result.now ≤ 2 }
+{
+    row_of(code).handles
+}
 
-    /// How many handles the command has, 0 to 2.
-    pub fn handles(self) -> usize
-        ensures value { result ≡ length (handle_kinds self) }
-        ensures fits { result ≤ 2 }
-    {
-        self.handle_kinds().len()
-    }
+/// How many handles a command has, 0 to 2.
+pub fn handle_count(code: CommandCode) -> usize
+    ensures value { result ≡ length (handle_kinds_of code) }
+    ensures fits { result ≤ 2 }
+{
+    handle_kinds(code).len()
+}
 
-    /// Whether its first handle needs authorization.
-    pub fn needs_authorization(self) -> bool
-        ensures { result ≡ does_need self }
-    {
-        self.row().needs_authorization
-    }
+/// Whether a command's first handle needs authorization.
+pub fn needs_authorization(code: CommandCode) -> bool
+    ensures { result ≡ does_need code }
+{
+    row_of(code).needs_authorization
 }
 
 // ---- a handle by its number, or where the command cannot have it one of its kind,

@@ -5,17 +5,16 @@ ghost use Rattle.tpm_wire.specs.Spelling.{spelling};
 ghost use Rattle.tpm_wire.specs.Path.{Decodes};
 ghost use Rattle.tpm_wire.specs.Reading.{read_all};
 ghost use Rattle.tpm_wire.specs.Buffers.{TakesNumbered};
-ghost use Rattle.tpm_commands.specs.declared.code.CommandCode.TheVariants as codes;
+ghost use Rattle.tpm_types.specs.declared.command_code.CommandCode.TheVariants as codes;
 ghost use Rattle.tpm_commands.specs.declared.command_parameters.Params.TheVariants as params;
 ghost use Rattle.tpm_commands.specs.Parameters.{parameters, params_code, placed};
 
-use crate::code::CommandCode;
 use crate::command::StartAuth;
 use crate::commands::read_start_auth_session;
 use crate::lent::Event;
 use tpm_types::{
-    Alg, AuthValue, Digest, DigestValues, Nonce, NvPublic, OrDigests, Selections, SessionHandle,
-    SessionType, StartupType, SymDef,
+    Alg, AuthValue, CommandCode, Digest, DigestValues, Nonce, NvPublic, OrDigests, Selections,
+    SessionHandle, SessionType, StartupType, SymDef,
 };
 use tpm_wire::{Cursor, Refusal};
 

@@ -4,7 +4,6 @@ ghost use Rattle.std.specs.Prelude.{◌≡◌, ◌≤◌, ◌+◌, ◌*◌, ◌+
 ghost use Rattle.tpm_wire.specs.Spelling.{spelling, Fits};
 ghost use Rattle.tpm_wire.specs.Buffers.{TakesNumbered};
 ghost use Rattle.tpm_commands.specs.Limits.{most_params};
-ghost use Rattle.tpm_commands.specs.Codes.{code_name};
 ghost use Rattle.tpm_commands.specs.Handles.{handle_kinds, needs_authorization as does_need, handles as handles_layout};
 ghost use Rattle.tpm_commands.specs.Parameters.{params_code, parameters};
 ghost use Rattle.tpm_commands.specs.Table.{body_from, params_of, code_for, handles_of};
@@ -18,7 +17,6 @@ mod policy;
 mod session;
 mod startup;
 
-use crate::code::CommandCode;
 use crate::command::{CommandBody, StartAuth};
 use crate::command_handles::{
     HandleKind, bind_in, first_handle, index_in, nv_auth_in, pcr_or_null_in, policy_in,
@@ -32,8 +30,8 @@ pub use pcr::read_pcr_extend;
 pub(crate) use session::read_start_auth_session;
 pub use startup::read_startup;
 use tpm_types::{
-    Alg, AuthValue, BindHandle, Digest, DigestValues, Nonce, NvAuthHandle, PcrIndex, PcrOrNull,
-    RH_NULL, RH_OWNER, Selections, SessionHandle, SessionType, StartupType, SymDef,
+    Alg, AuthValue, BindHandle, CommandCode, Digest, DigestValues, Nonce, NvAuthHandle, PcrIndex,
+    PcrOrNull, RH_NULL, RH_OWNER, Selections, SessionHandle, SessionType, StartupType, SymDef,
 };
 use tpm_wire::{Buffer, Cursor, Refusal, Wire};
 
@@ -42,43 +40,38 @@ use tpm_wire::{Buffer, Cursor, Refusal, Wire};
 /// What the table says of one command (Part 3, the command table of each).
 #[derive(Clone, Copy)]
 pub(crate) struct Row {
-    /// Its name in Part 3, without the leading `TPM2_`.
-    pub(crate) name: &'static str,
     /// What its handles may be.
     pub(crate) handles: &'static [HandleKind],
     /// Whether its first handle needs authorization.
     pub(crate) needs_authorization: bool,
 }
 
-impl CommandCode {
-    /// Its row in the table.
-    #[inline(always)]
-    pub(crate) fn row(self) -> Row
-        ensures name { result.name.now ≡ code_name self }
-        ensures handles { result.handles.now ≡ handle_kinds self }
-        ensures few { length result.handles.now ≤ 2 }
-        ensures needs_authorization { result.needs_authorization ≡ does_need self }
-    {
-        match self {
-            CommandCode::NvUndefineSpace => nv::NV_UNDEFINE_SPACE,
-            CommandCode::NvDefineSpace => nv::NV_DEFINE_SPACE,
-            CommandCode::NvIncrement => nv::NV_INCREMENT,
-            CommandCode::PcrEvent => pcr::PCR_EVENT,
-            CommandCode::PcrReset => pcr::PCR_RESET,
-            CommandCode::Startup => startup::STARTUP,
-            CommandCode::NvRead => nv::NV_READ,
-            CommandCode::FlushContext => context::FLUSH_CONTEXT,
-            CommandCode::NvReadPublic => nv::NV_READ_PUBLIC,
-            CommandCode::PolicyAuthValue => policy::POLICY_AUTH_VALUE,
-            CommandCode::PolicyCommandCode => policy::POLICY_COMMAND_CODE,
-            CommandCode::PolicyOr => policy::POLICY_OR,
-            CommandCode::StartAuthSession => session::START_AUTH_SESSION,
-            CommandCode::PcrRead => pcr::PCR_READ,
-            CommandCode::PolicyPcr => policy::POLICY_PCR,
-            CommandCode::PolicyRestart => session::POLICY_RESTART,
-            CommandCode::PcrExtend => pcr::PCR_EXTEND,
-            CommandCode::PolicyGetDigest => policy::POLICY_GET_DIGEST,
-        }
+/// A command's row in the table.
+#[inline(always)]
+pub(crate) fn row_of(code: CommandCode) -> Row
+    ensures handles { result.handles.now ≡ handle_kinds code }
+    ensures few { length result.handles.now ≤ 2 }
+    ensures needs_authorization { result.needs_authorization ≡ does_need code }
+{
+    match code {
+        CommandCode::NvUndefineSpace => nv::NV_UNDEFINE_SPACE,
+        CommandCode::NvDefineSpace => nv::NV_DEFINE_SPACE,
+        CommandCode::NvIncrement => nv::NV_INCREMENT,
+        CommandCode::PcrEvent => pcr::PCR_EVENT,
+        CommandCode::PcrReset => pcr::PCR_RESET,
+        CommandCode::Startup => startup::STARTUP,
+        CommandCode::NvRead => nv::NV_READ,
+        CommandCode::FlushContext => context::FLUSH_CONTEXT,
+        CommandCode::NvReadPublic => nv::NV_READ_PUBLIC,
+        CommandCode::PolicyAuthValue => policy::POLICY_AUTH_VALUE,
+        CommandCode::PolicyCommandCode => policy::POLICY_COMMAND_CODE,
+        CommandCode::PolicyOr => policy::POLICY_OR,
+        CommandCode::StartAuthSession => session::START_AUTH_SESSION,
+        CommandCode::PcrRead => pcr::PCR_READ,
+        CommandCode::PolicyPcr => policy::POLICY_PCR,
+        CommandCode::PolicyRestart => session::POLICY_RESTART,
+        CommandCode::PcrExtend => pcr::PCR_EXTEND,
+        CommandCode::PolicyGetDigest => policy::POLICY_GET_DIGEST,
     }
 }
 

@@ -2,7 +2,6 @@
 //! parameters and replies are read and written.
 #![tactic(auto)]
 
-mod code;
 mod command;
 mod command_handles;
 mod command_parameters;
@@ -10,11 +9,10 @@ mod commands;
 mod lent;
 mod response;
 
-pub use code::CommandCode;
 pub use command::{Command, CommandBody, Header, StartAuth};
 pub use command_handles::{
-    bind_in, first_handle, index_in, nv_auth_in, pcr_or_null_in, policy_in, register_in,
-    second_handle, take_handles,
+    bind_in, first_handle, handle_count, index_in, needs_authorization, nv_auth_in, pcr_or_null_in,
+    policy_in, register_in, second_handle, take_handles,
 };
 pub use command_parameters::{Params, decode_params, decode_params_into, decode_start_into};
 pub use commands::{

@@ -10,11 +10,11 @@ use Rattle.tpm_wire.proofs.Agreement.{bind_ok}
 use Rattle.tpm_wire.proofs.Longer.{in_set}
 use Rattle.tpm_types.specs.declared.tpms.Auth.{Auth}
 use Rattle.tpm_types.specs.Handles.{is_owner, rs_pw}
-use Rattle.tpm_commands.specs.declared.code.CommandCode.{CommandCode}
+use Rattle.tpm_types.specs.declared.command_code.CommandCode.{CommandCode}
 use Rattle.tpm_commands.specs.declared.command_handles.HandleKind.TheVariants.{Owner, Index}
 use Rattle.tpm_commands.specs.declared.command_handles.HandleKind.{HandleKind}
 use Rattle.tpm_commands.specs.Handles.{admits, first, handles, handles_from}
-use Rattle.tpm_commands.specs.declared.code.CommandCode.TheVariants as codes
+use Rattle.tpm_types.specs.declared.command_code.CommandCode.TheVariants as codes
 use Rattle.tpm_buffer.specs.CommandAreas.{Cut}
 use Rattle.tpm_model.specs.Sessions.{Session, loaded}
 use Rattle.tpm_model.specs.Present.{Present}

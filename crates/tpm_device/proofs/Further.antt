@@ -11,7 +11,8 @@ use Rattle.tpm_commands.specs.declared.command.CommandBody.TheVariants as bodies
 use Rattle.tpm_buffer.specs.Commands.{code_for, with_auths}
 use Rattle.tpm_buffer.specs.Responses.{Reply}
 use Rattle.tpm_model.specs.Steps.{History, Accepted, Origin, starts, started as started_of}
-use Rattle.tpm_model.specs.Registers.{Registers, changes, changes_by, registers_after}
+use Rattle.tpm_pcr.specs.Registers.{Registers, registers_after}
+use Rattle.tpm_model.specs.Changes.{changes, changes_by}
 use Rattle.tpm_model.specs.Sessions.{Session, sessions_at}
 use Rattle.tpm_model.specs.Counters.{NvMemory, nv_by, nv_memory}
 use Rattle.tpm_model.specs.Present.{Present}

@@ -9,7 +9,7 @@ use Rattle.tpm_wire.specs.Reading.{read, read_all, ◌>>=◌}
 use Rattle.tpm_wire.specs.Spelling.{spelling}
 use Rattle.tpm_types.specs.declared.tpms.AuthReply.{AuthReply}
 use Rattle.tpm_types.specs.Handles.{is_owner}
-use Rattle.tpm_commands.specs.declared.code.CommandCode.{CommandCode}
+use Rattle.tpm_types.specs.declared.command_code.CommandCode.{CommandCode}
 use Rattle.tpm_commands.specs.declared.command.CommandBody.{CommandBody}
 use Rattle.tpm_commands.specs.declared.command.Header.{Header}
 use Rattle.tpm_commands.specs.declared.command_parameters.Params.{Params}

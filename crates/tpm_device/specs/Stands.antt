@@ -7,7 +7,7 @@ use Rattle.tpm_wire.specs.Spelling.{spelling}
 use Rattle.tpm_types.specs.declared.tpms.Auth.{Auth}
 use Rattle.tpm_types.specs.declared.tpms.AuthReply.{AuthReply}
 use Rattle.tpm_types.specs.Handles.{is_owner}
-use Rattle.tpm_commands.specs.declared.code.CommandCode.{CommandCode}
+use Rattle.tpm_types.specs.declared.command_code.CommandCode.{CommandCode}
 use Rattle.tpm_commands.specs.declared.command.CommandBody.{CommandBody}
 use Rattle.tpm_commands.specs.declared.command_parameters.Params.{Params}
 use Rattle.tpm_commands.specs.declared.response.ReplyBody.{ReplyBody}
@@ -15,7 +15,7 @@ use Rattle.tpm_commands.specs.Handles.{first, needs_authorization}
 use Rattle.tpm_commands.specs.Parameters.{parameters, params_code}
 use Rattle.tpm_commands.specs.Table.{row}
 use Rattle.tpm_commands.specs.Replies.{code_for_reply}
-use Rattle.tpm_commands.specs.declared.code.CommandCode.TheVariants as codes
+use Rattle.tpm_types.specs.declared.command_code.CommandCode.TheVariants as codes
 use Rattle.tpm_commands.specs.declared.response.ReplyBody.TheVariants as replies
 use Rattle.tpm_buffer.specs.CommandAreas.{Cut}
 use Rattle.tpm_buffer.specs.Commands.{body_from, code_for, with_auths}

@@ -5,12 +5,12 @@
 
 ghost use Rattle.std.specs.Prelude.{◌≡◌, ◌≤◌, length, Ok, IfSome};
 ghost use Rattle.tpm_wire.specs.Reading.{read_all};
-ghost use Rattle.tpm_commands.specs.declared.code.CommandCode.TheVariants as codes;
+ghost use Rattle.tpm_types.specs.declared.command_code.CommandCode.TheVariants as codes;
 ghost use Rattle.tpm_commands.specs.declared.command_parameters.Params.TheVariants as of_command;
 ghost use Rattle.tpm_commands.specs.Parameters.{parameters, params_code};
 
-use tpm_commands::{CommandCode, Params, read_nv_read, read_startup};
-use tpm_types::StartupType;
+use tpm_commands::{Params, read_nv_read, read_startup};
+use tpm_types::{CommandCode, StartupType};
 use tpm_wire::Cursor;
 
 // The parameter of TPM2_Startup, where the bytes spell it.

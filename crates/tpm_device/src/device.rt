@@ -15,10 +15,11 @@ use crate::checks::{check_started, check_tag};
 use crate::reading::read_params;
 use crate::response::{RESPONSE_BYTES, ResponseBuffer, put_refusal};
 use tpm_buffer::{Areas, header};
-use tpm_commands::{CommandCode, Params, ReplyBody};
+use tpm_commands::{Params, ReplyBody};
 use tpm_session::Sessions;
-use tpm_store::{Counters, Registers};
-use tpm_types::{AuthValue, DIGEST_BYTES, Packed};
+use tpm_pcr::Registers;
+use tpm_store::Counters;
+use tpm_types::{AuthValue, CommandCode, DIGEST_BYTES, Packed};
 
 /// A device of this profile.
 #[derive(Drop)]

@@ -16,9 +16,9 @@ ghost use Rattle.tpm_device.specs.Stands.{holds, Stands};
 
 use crate::device::{Device, no_sessions};
 use tpm_buffer::header;
-use tpm_commands::CommandCode;
-use tpm_store::{Counter, Counters, KEPT_BYTES, Registers};
-use tpm_types::{Alg, AuthValue, Packed, SessionHandle};
+use tpm_pcr::Registers;
+use tpm_store::{Counter, Counters, KEPT_BYTES};
+use tpm_types::{Alg, AuthValue, CommandCode, Packed, SessionHandle};
 use tpm_wire::{Buffer, Refusal, Wire};
 
 // The command changes NV memory where it is done (Part 3, 31.3, 31.4 and 31.8).

@@ -8,7 +8,7 @@ ghost use Rattle.tpm_device.specs.Stands.{holds, acted, step_of, Steps};
 
 use crate::device::Device;
 use tpm_commands::{Event, ReplyBody};
-use tpm_store::event_digests;
+use tpm_pcr::event_digests;
 use tpm_types::{DigestValues, Digests, PcrIndex, PcrOrNull, Selections, StartupType};
 use tpm_wire::response_code::{VALUE, of_parameter};
 

@@ -4,9 +4,9 @@ use crate::print_bytes;
 use arrayvec::ArrayVec;
 use std::io;
 use tpm_buffer::{decode_command, decode_response, encode_command};
-use tpm_commands::{Command, CommandBody, CommandCode, Response};
+use tpm_commands::{Command, CommandBody, Response};
 use tpm_stream::{Framer, Status};
-use tpm_types::StartupType;
+use tpm_types::{CommandCode, StartupType};
 
 /// A command is a value; its bytes are its only spelling.
 pub fn build(rt: &impl Print) -> io::Result<()> {

@@ -3,7 +3,7 @@
 use std::alloc::{AllocError, Global};
 use std::io;
 use std::io::ErrorKind;
-use tpm_commands::CommandCode;
+use tpm_types::CommandCode;
 
 /// A buffer.
 #[derive(Drop)]

@@ -4,9 +4,8 @@ use crate::changes::change;
 use crate::corpus::Entry;
 use crate::dice::Dice;
 use tpm_buffer::{decode_command, decode_response, encode_command, encode_response, header};
-use tpm_commands::CommandCode;
 use tpm_device::Device;
-use tpm_types::AuthValue;
+use tpm_types::{AuthValue, CommandCode};
 use tpm_wire::Buffer;
 
 /// What is wrong.

@@ -5,3 +5,4 @@ pub mod Differences
 pub mod KdfaBlocks
 pub mod Kept
 pub mod Joined
+pub mod Among

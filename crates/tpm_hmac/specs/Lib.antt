@@ -3,3 +3,4 @@ pub mod Hmac
 pub mod Sessions
 pub mod Hashers
 pub mod Keys
+pub mod Among

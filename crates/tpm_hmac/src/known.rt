@@ -1,11 +1,10 @@
 //! rpHash of the replies that have no parameters, where a session can authorize their command.
 
 ghost use Rattle.std.specs.Prelude.{◌≡◌, [], IfSome};
-ghost use Rattle.tpm_commands.specs.Codes.{code_number};
+ghost use Rattle.tpm_types.specs.CommandCodes.{code_number};
 ghost use Rattle.tpm_hmac.specs.Sessions.{rp_hash};
 
-use tpm_commands::CommandCode;
-use tpm_types::Alg;
+use tpm_types::{Alg, CommandCode};
 
 // The hash of eight bytes, the response code 0 and the command code (Part 1, "Response Parameter Hash (rpHash)").
 const NV_UNDEFINE_SPACE_SHA1: [u8; 20] = [

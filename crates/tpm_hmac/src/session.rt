@@ -3,7 +3,7 @@
 ghost use Rattle.std.specs.Prelude.{◌≡◌, Some, ◌++◌, length};
 ghost use Rattle.std.specs.List.{flat_map};
 ghost use Rattle.tpm_types.specs.Alg.{digest_len};
-ghost use Rattle.tpm_commands.specs.Codes.{code_number};
+ghost use Rattle.tpm_types.specs.CommandCodes.{code_number};
 ghost use Rattle.tpm_hmac.specs.Hashes.{digest};
 ghost use Rattle.tpm_hmac.specs.Hmac.{hmac as hmac_of};
 ghost use Rattle.tpm_hmac.specs.Sessions.{session_key as session_key_of, whole_key, mac_text, cp_hash as cp_hash_of};
@@ -15,8 +15,7 @@ use crate::kdf::kdfa;
 use crate::key::SessionKey;
 use crate::known::known_rp_hash;
 use crate::mac::Mac;
-use tpm_commands::CommandCode;
-use tpm_types::{Alg, DIGEST_BYTES, Digest, Name, SessionAttrs};
+use tpm_types::{Alg, CommandCode, DIGEST_BYTES, Digest, Name, SessionAttrs};
 
 // The label of the key of a session that is bound.
 const BOUND: &[u8; 3] = b"ATH";

@@ -22,7 +22,7 @@ use Rattle.tpm_types.specs.Tpm2b.{digest}
 use Rattle.tpm_types.specs.Tpml.{most_digests}
 use Rattle.tpm_types.specs.Tpmt.{digest_value}
 use Rattle.tpm_types.specs.declared.handle_sets.PcrOrNull.TheVariants as registers
-use Rattle.tpm_commands.specs.declared.code.CommandCode.{CommandCode}
+use Rattle.tpm_types.specs.declared.command_code.CommandCode.{CommandCode}
 use Rattle.tpm_commands.specs.declared.command.CommandBody.{CommandBody}
 use Rattle.tpm_commands.specs.declared.command.StartAuth.{StartAuth}
 use Rattle.tpm_commands.specs.declared.response.ReplyBody.{ReplyBody}
@@ -31,7 +31,7 @@ use Rattle.tpm_commands.specs.Parameters.{policy_command_code, policy_or, start_
 use Rattle.tpm_commands.specs.Parameters.{pcr_extend, pcr_event, params_code}
 use Rattle.tpm_commands.specs.Events.{event_bytes}
 use Rattle.tpm_commands.specs.Replies.{code_for_reply}
-use Rattle.tpm_commands.specs.declared.code.CommandCode.TheVariants as codes
+use Rattle.tpm_types.specs.declared.command_code.CommandCode.TheVariants as codes
 use Rattle.tpm_commands.specs.declared.command.CommandBody.TheVariants as bodies
 use Rattle.tpm_buffer.specs.Commands.{code_for}
 use Rattle.tpm_hmac.specs.Sessions.{trim}
@@ -39,7 +39,8 @@ use Rattle.tpm_model.specs.Present.{Present}
 use Rattle.tpm_model.specs.Authorization.{refuse, is_empty, differs}
 use Rattle.tpm_model.specs.Sessions.{Session, is_trial, loaded, free_slot}
 use Rattle.tpm_model.specs.Counters.{Counter, counter_in, next_value}
-use Rattle.tpm_model.specs.Actions.{check_startup, check_extend, start_session, check_policy_pcr, is_definable}
+use Rattle.tpm_model.specs.Actions.{check_startup, start_session, check_policy_pcr, is_definable}
+use Rattle.tpm_pcr.specs.Answers.{check_extend}
 use Rattle.tpm_model.specs.Actions.{most_counters, counter_size, check_define, defined_counter, may, increment}
 use Rattle.tpm_model.specs.Actions.{read_counter, then_reply, action, policy_session}
 use Rattle.tpm_model.proofs.Nonzero.{IsCoded, coded_in, coded_number, coded_sized_bytes, coded_counted, IsAnswered}

@@ -15,13 +15,15 @@ use Rattle.tpm_model.specs.Present.{present}
 use Rattle.tpm_model.specs.Answers.{presented, next}
 use Rattle.tpm_model.specs.Runs.Event.{Given, Cycled}
 use Rattle.tpm_model.specs.Runs.{Event, happens, after}
-use Rattle.tpm_model.specs.Premises.{IsAccepted, HasSessionMac, nonces, IsAmong, AreApart, NoncesDiffer}
+use Rattle.tpm_model.specs.Premises.{IsAccepted, HasSessionMac, nonces, AreApart, NoncesDiffer}
+use Rattle.tpm_hmac.specs.Among.{IsAmong}
 use Rattle.tpm_model.specs.Premises.{Keyed, keyed, text_checked, texts_checked, AreFree}
 use Rattle.tpm_model.specs.Lives.{Life, executed, origin_behind, Execution, executions_of, executions}
 use Rattle.tpm_model.specs.Lives.{kept_executions, WasAccepted, Increments, value_after, NoncesDifferOver, texts_over}
 use Rattle.tpm_model.specs.Lives.{NoCollisionOver}
 use Rattle.tpm_model.proofs.Fair.{fair_after}
-use Rattle.tpm_model.proofs.Nonces.{among_front, among_later, apart_across, apart_behind, apart_front, fresh, nonces-append}
+use Rattle.tpm_hmac.proofs.Among.{among_front, among_later}
+use Rattle.tpm_model.proofs.Nonces.{apart_across, apart_behind, apart_front, fresh, nonces-append}
 use Rattle.tpm_model.proofs.Replay.{among_here, used, Used, alike, twice_as}
 use Rattle.tpm_model.proofs.Rising.{IsKept, HoldsOf, kept_along, IsFloor, floor, floor_here, IsBelow, below, value_below}
 use Rattle.tpm_model.proofs.Rising.{greatest_at, given_by}

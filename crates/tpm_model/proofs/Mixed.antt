@@ -23,11 +23,11 @@ use Rattle.tpm_types.specs.Handles.{rs_pw, is_session}
 use Rattle.tpm_types.specs.Tpma.{session_attrs, audits_or_encrypts}
 use Rattle.tpm_types.specs.Tpms.{auth_response}
 use Rattle.tpm_types.proofs.Algs.{digest_most}
-use Rattle.tpm_commands.specs.declared.code.CommandCode.{CommandCode}
+use Rattle.tpm_types.specs.declared.command_code.CommandCode.{CommandCode}
 use Rattle.tpm_commands.specs.declared.command.Command.{Command}
 use Rattle.tpm_commands.specs.declared.response.ReplyBody.{ReplyBody}
 use Rattle.tpm_commands.specs.declared.response.Response.{Response}
-use Rattle.tpm_commands.specs.Codes.{code_number}
+use Rattle.tpm_types.specs.CommandCodes.{code_number}
 use Rattle.tpm_commands.specs.Handles.{first, needs_authorization}
 use Rattle.tpm_commands.specs.Replies.{code_for_reply, reply_handles, reply_handles_of}
 use Rattle.tpm_commands.specs.declared.response.Response.TheVariants as responses
@@ -53,14 +53,16 @@ use Rattle.tpm_model.specs.Callers.{NotExpected, WrongMac, Opened, awaited_text,
 use Rattle.tpm_model.specs.Callers.{opened_response, opened}
 use Rattle.tpm_model.specs.Runs.Event.{Given, Cycled}
 use Rattle.tpm_model.specs.Runs.{Event, after}
-use Rattle.tpm_model.specs.Premises.{IsAccepted, HasSessionMac, NoncesDiffer, most_nonce, Keyed, mac_of, IsAmong}
+use Rattle.tpm_model.specs.Premises.{IsAccepted, HasSessionMac, NoncesDiffer, most_nonce, Keyed, mac_of}
+use Rattle.tpm_hmac.specs.Among.{IsAmong}
 use Rattle.tpm_model.specs.Premises.{texts_checked, NoCollision, IsSealedBy, AreSealed, IsOther, SealsDiffer}
 use Rattle.tpm_model.specs.Premises.{keyed_reply, text_by, text_replied, texts_replied, Opening, keyed_awaited}
 use Rattle.tpm_model.specs.Premises.{text_awaited, text_opened, texts_opened, NoCollisionWith, IsOfCallers}
 use Rattle.tpm_model.proofs.Accepted.{Passed, passed, ok_is}
 use Rattle.tpm_model.proofs.Spelled.{was_read, spelled_by}
 use Rattle.tpm_model.proofs.Slots.{held}
-use Rattle.tpm_model.proofs.Nonces.{among_later, has_length}
+use Rattle.tpm_hmac.proofs.Among.{among_later}
+use Rattle.tpm_model.proofs.Nonces.{has_length}
 use Rattle.tpm_model.proofs.Replay.{refused_not, cut_front, twice_as}
 use Rattle.tpm_model.proofs.Sealing.{loaded_handle, hmac_some}
 use Rattle.tpm_model.proofs.Replies.{own_reply}

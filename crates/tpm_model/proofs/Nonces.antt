@@ -23,9 +23,11 @@ use Rattle.tpm_model.specs.Actions.{action}
 use Rattle.tpm_model.specs.Answers.{next}
 use Rattle.tpm_model.specs.Runs.Event.{Given, Cycled}
 use Rattle.tpm_model.specs.Runs.{Event, after}
-use Rattle.tpm_model.specs.Premises.{nonces, IsAmong, IsApart, AreApart, least_nonce, most_nonce}
+use Rattle.tpm_model.specs.Premises.{nonces, IsApart, AreApart, least_nonce, most_nonce}
+use Rattle.tpm_hmac.specs.Among.{IsAmong}
 use Rattle.tpm_model.proofs.Accepted.{along, after_next}
 use Rattle.tpm_model.proofs.Slots.{Held}
+use Rattle.tpm_hmac.proofs.Among.{among_later}
 
 -- ---- lists of nonces
 
@@ -38,15 +40,6 @@ apart_from : (n : List ℕ) (ns : List (List ℕ)) (m : List ℕ) → IsApart n 
 apart_from n [] m a i = absurd i
 apart_from n (k ∷ ns) m a (inl e) = λ s. a.0 (s ∙ ap (take least_nonce) e)
 apart_from n (k ∷ ns) m a (inr i) = apart_from n ns m a.1 i
-
-pub among_later : {A : Type 0} (m : A) (xs ys : List A) → IsAmong m ys → IsAmong m (xs ++ ys)
-among_later m [] ys i = i
-among_later m (x ∷ xs) ys i = inr (among_later m xs ys i)
-
-pub among_front : {A : Type 0} (m : A) (xs ys : List A) → IsAmong m xs → IsAmong m (xs ++ ys)
-among_front m [] ys i = absurd i
-among_front m (x ∷ xs) ys (inl e) = inl e
-among_front m (x ∷ xs) ys (inr i) = inr (among_front m xs ys i)
 
 -- a nonce before and a nonce after
 pub apart_across : (xs ys : List (List ℕ)) (n m : List ℕ) → AreApart (xs ++ ys) → IsAmong n xs → IsAmong m ys → take least_nonce n ≢ take least_nonce m

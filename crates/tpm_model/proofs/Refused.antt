@@ -12,11 +12,11 @@ use Rattle.tpm_types.specs.declared.tpms.Auth.{Auth}
 use Rattle.tpm_types.specs.Handles.{rs_pw, is_policy, is_nv_index}
 use Rattle.tpm_types.specs.Tpma.{no_da, audits_or_encrypts}
 use Rattle.tpm_commands.specs.declared.command_handles.HandleKind.{HandleKind}
-use Rattle.tpm_commands.specs.declared.code.CommandCode.{CommandCode}
-use Rattle.tpm_commands.specs.Codes.{code_number}
+use Rattle.tpm_types.specs.declared.command_code.CommandCode.{CommandCode}
+use Rattle.tpm_types.specs.CommandCodes.{code_number}
 use Rattle.tpm_commands.specs.Handles.{admits, first, handle_kinds, handles_from, handles, needs_authorization}
 use Rattle.tpm_commands.specs.Parameters.{parameters}
-use Rattle.tpm_commands.specs.declared.code.CommandCode.TheVariants as codes
+use Rattle.tpm_types.specs.declared.command_code.CommandCode.TheVariants as codes
 use Rattle.tpm_buffer.specs.Commands.{header, authorization, body_from}
 use Rattle.tpm_model.specs.Sessions.{Session, is_hmac, loaded}
 use Rattle.tpm_model.specs.Present.{Present}

@@ -15,9 +15,9 @@ use Rattle.tpm_wire.proofs.Buffers.{buffer_sound}
 use Rattle.tpm_wire.proofs.Whole.{exactly_one}
 use Rattle.tpm_types.specs.declared.tpms.Auth.{Auth}
 use Rattle.tpm_types.specs.Handles.{rs_pw, is_session}
-use Rattle.tpm_commands.specs.declared.code.CommandCode.{CommandCode}
+use Rattle.tpm_types.specs.declared.command_code.CommandCode.{CommandCode}
 use Rattle.tpm_commands.specs.declared.command.Command.{Command}
-use Rattle.tpm_commands.specs.Codes.{code_number}
+use Rattle.tpm_types.specs.CommandCodes.{code_number}
 use Rattle.tpm_commands.specs.Handles.{first}
 use Rattle.tpm_buffer.specs.Commands.{command}
 use Rattle.tpm_hmac.specs.Hashes.{digest}
@@ -35,13 +35,15 @@ use Rattle.tpm_model.specs.Authorization.{Evidence, ByMac}
 use Rattle.tpm_model.specs.Answers.{Presented, presented, Done, outcome, next}
 use Rattle.tpm_model.specs.Runs.Event.{Given, Cycled}
 use Rattle.tpm_model.specs.Runs.{Event, after}
-use Rattle.tpm_model.specs.Premises.{IsAccepted, HasSessionMac, nonces, IsAmong, AreApart, NoncesDiffer, least_nonce}
+use Rattle.tpm_model.specs.Premises.{IsAccepted, HasSessionMac, nonces, AreApart, NoncesDiffer, least_nonce}
+use Rattle.tpm_hmac.specs.Among.{IsAmong}
 use Rattle.tpm_model.specs.Premises.{Keyed, keyed, mac_of, text_in, text_checked, texts_checked, NoCollision}
 use Rattle.tpm_model.proofs.Accepted.{Passed, passed, ok_is, next_is}
 use Rattle.tpm_model.proofs.Runs.{after-append}
 use Rattle.tpm_model.proofs.Spelled.{was_read, spelled_by}
 use Rattle.tpm_model.proofs.Slots.{held}
-use Rattle.tpm_model.proofs.Nonces.{among_later, has_length, fresh, apart_across, apart_front, nonces-append}
+use Rattle.tpm_hmac.proofs.Among.{among_later}
+use Rattle.tpm_model.proofs.Nonces.{has_length, fresh, apart_across, apart_front, nonces-append}
 
 -- ---- what the checks of a session let through
 

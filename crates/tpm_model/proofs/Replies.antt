@@ -36,7 +36,7 @@ use Rattle.tpm_buffer.specs.Responses.{further_sessions, response, done_with}
 use Rattle.tpm_buffer.proofs.Answered.{fits_sessions, fits_behind, done_spelled}
 use Rattle.tpm_hmac.specs.Hashes.{digest}
 use Rattle.tpm_hmac.proofs.DigestLengths.{length-digest}
-use Rattle.tpm_model.specs.Registers.{event_digests}
+use Rattle.tpm_pcr.specs.Registers.{event_digests}
 use Rattle.tpm_model.specs.Counters.{Counter, counter_in}
 use Rattle.tpm_model.specs.Present.{Present}
 use Rattle.tpm_model.specs.Authorization.{refuse}

@@ -12,7 +12,7 @@ use Rattle.tpm_wire.proofs.Whole.{exactly_one, spells_read}
 use Rattle.tpm_types.specs.declared.tpms.AuthReply.{AuthReply}
 use Rattle.tpm_types.specs.Tpma.{is_session_attrs}
 use Rattle.tpm_types.proofs.Algs.{digest_most}
-use Rattle.tpm_commands.specs.declared.code.CommandCode.{CommandCode}
+use Rattle.tpm_types.specs.declared.command_code.CommandCode.{CommandCode}
 use Rattle.tpm_commands.specs.declared.command.Command.{Command}
 use Rattle.tpm_commands.specs.declared.response.ReplyBody.{ReplyBody}
 use Rattle.tpm_commands.specs.Handles.{needs_authorization}
@@ -20,7 +20,7 @@ use Rattle.tpm_buffer.specs.Commands.{command, code_for}
 use Rattle.tpm_buffer.specs.Responses.{Reply, response, done_with}
 use Rattle.tpm_buffer.proofs.Answered.{code_text, code_spelled}
 use Rattle.tpm_commands.specs.declared.response.Response.TheVariants as responses
-use Rattle.tpm_commands.specs.declared.code.CommandCode.TheVariants as codes
+use Rattle.tpm_types.specs.declared.command_code.CommandCode.TheVariants as codes
 use Rattle.tpm_hmac.specs.Hmac.{hmac}
 use Rattle.tpm_hmac.proofs.DigestLengths.{length-hmac}
 use Rattle.tpm_model.specs.Steps.{History, Origin}

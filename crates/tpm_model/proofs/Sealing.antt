@@ -15,9 +15,9 @@ use Rattle.tpm_wire.proofs.Buffers.{buffer_sound, buffer_roomy}
 use Rattle.tpm_wire.proofs.Again.{again, read_again}
 use Rattle.tpm_wire.proofs.Whole.{read_spells}
 use Rattle.tpm_commands.specs.declared.command.Command.{Command}
-use Rattle.tpm_commands.specs.declared.code.CommandCode.{CommandCode}
+use Rattle.tpm_types.specs.declared.command_code.CommandCode.{CommandCode}
 use Rattle.tpm_commands.specs.Handles.{handles, needs_authorization, first}
-use Rattle.tpm_commands.specs.Codes.{code_number}
+use Rattle.tpm_types.specs.CommandCodes.{code_number}
 use Rattle.tpm_buffer.specs.Commands.{header, authorization, Checked, before_params, command, code_for, handles_of}
 use Rattle.tpm_buffer.specs.Commands.{header_of, rest_of}
 use Rattle.tpm_types.specs.declared.tpms.Auth.{Auth}

@@ -4,17 +4,15 @@ use Rattle.std.specs.Prelude.{ℕ, ◌+◌, ◌^◌, Bool, false, not, ◌&&◌,
 use Rattle.std.specs.Prelude.{length, take, drop, Option, is_some, is_none, Result, Ok, Err, ok_or, if◌then◌else◌}
 use Rattle.std.specs.Int.{w64, to_be_bytes}
 use Rattle.tpm_wire.specs.Reading.{◌>>=◌}
-use Rattle.tpm_wire.specs.ResponseCodes.{rc_attributes, rc_handle, rc_locality, rc_nv_authorization, rc_nv_defined}
+use Rattle.tpm_wire.specs.ResponseCodes.{rc_attributes, rc_handle, rc_nv_authorization, rc_nv_defined}
 use Rattle.tpm_wire.specs.ResponseCodes.{rc_nv_range, rc_nv_space, rc_nv_uninitialized, rc_pcr_changed, rc_reference_h0}
 use Rattle.tpm_wire.specs.ResponseCodes.{rc_session_memory, rc_size, rc_value, of_parameter}
 use Rattle.tpm_types.specs.declared.constants.StartupType.TheVariants.{Clear, State}
 use Rattle.tpm_types.specs.declared.constants.StartupType.{StartupType}
-use Rattle.tpm_types.specs.declared.handle_sets.PcrOrNull.{PcrOrNull}
 use Rattle.tpm_types.specs.declared.handle_sets.NvAuthHandle.{NvAuthHandle}
 use Rattle.tpm_types.specs.declared.tpms.NvPublic.{NvPublic}
 use Rattle.tpm_types.specs.Alg.{digest_len}
 use Rattle.tpm_types.specs.Tpma.{is_counter, is_undefinable, is_writable, is_readable, owner_writes, owner_reads}
-use Rattle.tpm_types.specs.declared.handle_sets.PcrOrNull.TheVariants as registers
 use Rattle.tpm_types.specs.declared.handle_sets.NvAuthHandle.TheVariants as nv
 use Rattle.tpm_commands.specs.declared.command.CommandBody.{CommandBody}
 use Rattle.tpm_commands.specs.declared.command.StartAuth.{StartAuth}
@@ -22,12 +20,13 @@ use Rattle.tpm_commands.specs.declared.response.ReplyBody.{ReplyBody}
 use Rattle.tpm_commands.specs.declared.command.CommandBody.TheVariants as bodies
 use Rattle.tpm_commands.specs.declared.response.ReplyBody.TheVariants as replies
 use Rattle.tpm_hmac.specs.Sessions.{trim}
-use Rattle.tpm_model.specs.Registers.{event_digests, is_dynamic, value_in, composite, values_read, selections_read}
+use Rattle.tpm_pcr.specs.Registers.{event_digests, value_in, composite, values_read, selections_read}
 use Rattle.tpm_model.specs.Sessions.{Session, is_trial, handle_for, nonce_from, loaded, free_slot}
 use Rattle.tpm_model.specs.Counters.{Counter, counter_in, next_value}
 use Rattle.tpm_model.specs.Entities.{nv_name}
 use Rattle.tpm_model.specs.Authorization.{refuse, is_empty, differs}
 use Rattle.tpm_model.specs.Present.{Present}
+use Rattle.tpm_pcr.specs.Answers.{check_extend, check_reset}
 
 -- ---- start and registers
 
@@ -35,15 +34,6 @@ use Rattle.tpm_model.specs.Present.{Present}
 abbrev pub check_startup : StartupType → Result (Unit {0}) ℕ
 check_startup Clear = Ok tt
 check_startup State = Err (rc_value + of_parameter 1)
-
--- The registers of dynamic launch are extended from another locality alone.
-abbrev pub check_extend : PcrOrNull → Result (Unit {0}) ℕ
-check_extend (registers.Pcr q) = refuse (is_dynamic q) rc_locality
-check_extend registers.Null = Ok tt
-
--- The debug and the application register are reset from any locality.
-abbrev pub check_reset : ℕ → Result (Unit {0}) ℕ
-check_reset q = refuse (not (q == 16 || q == 23)) rc_locality
 
 -- ---- sessions
 

@@ -9,13 +9,13 @@ use Rattle.tpm_wire.specs.ResponseCodes.{rc_auth_context, rc_auth_missing, rc_ha
 use Rattle.tpm_wire.specs.ResponseCodes.{of_handle}
 use Rattle.tpm_types.specs.declared.tpms.Auth.{Auth}
 use Rattle.tpm_types.specs.Handles.{is_nv_index, is_policy}
-use Rattle.tpm_commands.specs.declared.code.CommandCode.{CommandCode}
+use Rattle.tpm_types.specs.declared.command_code.CommandCode.{CommandCode}
 use Rattle.tpm_commands.specs.declared.command.Command.{Command}
 use Rattle.tpm_commands.specs.declared.response.ReplyBody.{ReplyBody}
 use Rattle.tpm_commands.specs.Handles.{first, handles, needs_authorization}
 use Rattle.tpm_commands.specs.Parameters.{parameters}
 use Rattle.tpm_commands.specs.Replies.{parameters_of_reply}
-use Rattle.tpm_commands.specs.declared.code.CommandCode.TheVariants as codes
+use Rattle.tpm_types.specs.declared.command_code.CommandCode.TheVariants as codes
 use Rattle.tpm_commands.specs.declared.response.Response.TheVariants as responses
 use Rattle.tpm_buffer.specs.Commands.{header, authorization, body_from, with_auths, code_for}
 use Rattle.tpm_buffer.specs.Responses.{Reply, response, done_with}

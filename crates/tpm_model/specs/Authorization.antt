@@ -11,9 +11,9 @@ use Rattle.tpm_types.specs.declared.tpms.AuthReply.{AuthReply}
 use Rattle.tpm_types.specs.Alg.{alg_number}
 use Rattle.tpm_types.specs.Handles.{rs_pw}
 use Rattle.tpm_types.specs.Tpma.{audits_or_encrypts, auth_writes, auth_reads, policy_writes, policy_reads, no_da}
-use Rattle.tpm_commands.specs.declared.code.CommandCode.{CommandCode}
-use Rattle.tpm_commands.specs.Codes.{code_number}
-use Rattle.tpm_commands.specs.declared.code.CommandCode.TheVariants as codes
+use Rattle.tpm_types.specs.declared.command_code.CommandCode.{CommandCode}
+use Rattle.tpm_types.specs.CommandCodes.{code_number}
+use Rattle.tpm_types.specs.declared.command_code.CommandCode.TheVariants as codes
 use Rattle.tpm_hmac.specs.Hmac.{hmac}
 use Rattle.tpm_hmac.specs.Sessions.AuthValueRule.{ByHmac, ByPolicy}
 use Rattle.tpm_hmac.specs.Sessions.{trim, AuthValueRule, included_auth_value, whole_key, cp_hash, rp_hash, mac_text}

@@ -3,7 +3,8 @@ use Prim.Native.String.{String}
 use Rattle.std.specs.Prelude.{◌≡◌, ℕ, ◌+◌, ◌-◌, ◌*◌, ◌^◌, not, nat_le, ◌==◌, List, [], ◌∷◌, ◌++◌, length, replicate}
 use Rattle.std.specs.Prelude.{filter, flat_map, codes, Some, if◌then◌else◌}
 use Rattle.tpm_model.specs.Steps.{History, Origin, new_origin}
-use Rattle.tpm_model.specs.Registers.{changes, update_counter}
+use Rattle.tpm_model.specs.Changes.{changes}
+use Rattle.tpm_pcr.specs.Registers.{update_counter}
 use Rattle.tpm_model.specs.Counters.{value_at}
 use Rattle.tpm_model.specs.Answers.{answer}
 use Rattle.tpm_model.specs.Runs.Event.{Given, Cycled}

@@ -17,7 +17,7 @@ use Rattle.tpm_types.specs.Tpma.{any_set, is_counter, is_readable, is_writable, 
 use Rattle.tpm_types.specs.Tpms.{nv_public}
 use Rattle.tpm_hmac.specs.Hashes.{digest}
 use Rattle.tpm_hmac.specs.Sessions.{trim}
-use Rattle.tpm_model.specs.Registers.{registers_after}
+use Rattle.tpm_pcr.specs.Registers.{registers_after}
 use Rattle.tpm_model.specs.Sessions.{slots}
 use Rattle.tpm_model.specs.Counters.{Counter, counter_in, NvMemory}
 use Rattle.tpm_model.specs.Authorization.{refuse, is_empty}

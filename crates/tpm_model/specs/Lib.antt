@@ -1,6 +1,6 @@
 pub mod NvMemory
 pub mod Steps
-pub mod Registers
+pub mod Changes
 pub mod Policies
 pub mod Sessions
 pub mod Counters

@@ -1,9 +1,9 @@
 -- What of a command and its answer tells that NV memory was changed (Part 1, "NV Memory").
 use Rattle.std.specs.Prelude.{ℕ, Bool, true, false, ◌&&◌, ◌==◌, nat_le, List, length, Result, Ok, Err}
 use Rattle.tpm_wire.specs.Token.{Here, at_start}
-use Rattle.tpm_commands.specs.declared.code.CommandCode.{CommandCode}
+use Rattle.tpm_types.specs.declared.command_code.CommandCode.{CommandCode}
 use Rattle.tpm_commands.specs.declared.command.Header.{Header}
-use Rattle.tpm_commands.specs.declared.code.CommandCode.TheVariants as codes
+use Rattle.tpm_types.specs.declared.command_code.CommandCode.TheVariants as codes
 use Rattle.tpm_buffer.specs.Commands.{header}
 use Rattle.tpm_model.specs.Answers.{by_grammar}
 use Rattle.tpm_model.specs.Premises.{code_in}

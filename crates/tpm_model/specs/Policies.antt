@@ -5,11 +5,11 @@ use Rattle.tpm_wire.specs.Spelling.{spelling}
 use Rattle.tpm_types.specs.declared.alg.Alg.{Alg}
 use Rattle.tpm_types.specs.declared.tpms.Selection.{Selection}
 use Rattle.tpm_types.specs.Tpml.{selections}
-use Rattle.tpm_commands.specs.declared.code.CommandCode.{CommandCode}
-use Rattle.tpm_commands.specs.Codes.{code_number}
-use Rattle.tpm_commands.specs.declared.code.CommandCode.TheVariants as codes
+use Rattle.tpm_types.specs.declared.command_code.CommandCode.{CommandCode}
+use Rattle.tpm_types.specs.CommandCodes.{code_number}
+use Rattle.tpm_types.specs.declared.command_code.CommandCode.TheVariants as codes
 use Rattle.tpm_hmac.specs.Hashes.{digest}
-use Rattle.tpm_model.specs.Registers.{zeros}
+use Rattle.tpm_pcr.specs.Registers.{zeros}
 
 -- what a policy command asserts
 pub data Assertion : Type 0 where

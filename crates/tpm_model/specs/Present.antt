@@ -1,7 +1,8 @@
 -- What the checks look at.
 use Rattle.std.specs.Prelude.{ℕ, Bool, List, Option}
 use Rattle.tpm_model.specs.Steps.{History, Origin, started}
-use Rattle.tpm_model.specs.Registers.{Registers, changes, registers_after}
+use Rattle.tpm_pcr.specs.Registers.{Registers, registers_after}
+use Rattle.tpm_model.specs.Changes.{changes}
 use Rattle.tpm_model.specs.Sessions.{Session, sessions_at}
 use Rattle.tpm_model.specs.Counters.{NvMemory, nv_memory}
 

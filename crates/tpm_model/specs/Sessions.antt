@@ -18,7 +18,8 @@ use Rattle.tpm_commands.specs.declared.command.CommandBody.TheVariants as bodies
 use Rattle.tpm_commands.specs.declared.response.ReplyBody.TheVariants as replies
 use Rattle.tpm_hmac.specs.Sessions.{session_key}
 use Rattle.tpm_model.specs.Steps.{History, PowerCycle, Accepted, Origin}
-use Rattle.tpm_model.specs.Registers.{changes, Registers, registers_after, value_in, composite}
+use Rattle.tpm_model.specs.Changes.{changes}
+use Rattle.tpm_pcr.specs.Registers.{Registers, registers_after, value_in, composite}
 use Rattle.tpm_model.specs.Policies.Assertion.{PcrAsserted, OrAsserted, CodeAsserted, AuthValueAsserted}
 use Rattle.tpm_model.specs.Policies.{Assertion, Policy, policy_of}
 

@@ -11,7 +11,7 @@ ghost use Rattle.tpm_types.specs.Handles.{is_session};
 ghost use Rattle.tpm_commands.specs.declared.command.CommandBody.TheVariants.{NvIncrement};
 ghost use Rattle.tpm_commands.specs.declared.command.StartAuth.{StartAuth};
 ghost use Rattle.tpm_commands.specs.declared.response.StartReply.{StartReply};
-ghost use Rattle.tpm_commands.specs.declared.code.CommandCode.{CommandCode};
+ghost use Rattle.tpm_types.specs.declared.command_code.CommandCode.{CommandCode};
 ghost use Rattle.tpm_commands.specs.Handles.{handles, needs_authorization};
 ghost use Rattle.tpm_commands.specs.Parameters.{parameters};
 ghost use Rattle.tpm_commands.specs.declared.command.CommandBody.TheVariants as bodies;
@@ -38,7 +38,8 @@ ghost use Rattle.tpm_model.specs.Lives.{value_after, NoncesDifferOver, NoCollisi
 ghost use Rattle.tpm_model.specs.Examples.{Examples};
 ghost use Rattle.tpm_model.specs.Premises.{IsByGrammar, IsWholeByGrammar, code_in, IsAccepted, HasSessionMac};
 ghost use Rattle.tpm_model.specs.Premises.{NoncesDiffer, NoCollision, nonce_bytes, most_nonce, IsReady, rolled};
-ghost use Rattle.tpm_model.specs.Premises.{opened_as, IsAmong, Opening, IsOfCallers};
+ghost use Rattle.tpm_model.specs.Premises.{opened_as, Opening, IsOfCallers};
+ghost use Rattle.tpm_hmac.specs.Among.{IsAmong};
 
 /// A command is cut where its layout says: what the checks by the grammar let through is what the bytes spell,
 /// and what they refuse is refused with the code of the first fault.

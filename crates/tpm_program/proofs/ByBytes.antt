@@ -1,6 +1,6 @@
 -- What is said of a list by its source is said of the bytes that are to come of it.
 use Rattle.std.proofs.Common.{ℕ, List, Option, Some, None, option_map, Result, Ok, Err, ap}
-use Rattle.tpm_model.specs.Registers.{Registers, value_in}
+use Rattle.tpm_pcr.specs.Registers.{Registers, value_in}
 use Rattle.tpm_log.specs.declared.fault.LogFault.{LogFault}
 use Rattle.tpm_lines.specs.declared.status.Status.{Status}
 use Rattle.tpm_check.specs.Compare.{Beside, beside}

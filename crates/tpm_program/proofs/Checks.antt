@@ -3,7 +3,7 @@ use Rattle.std.proofs.Common.{◌≡◌, ◌⊎◌, inl, inr, Bool, ℕ, zero, s
 use Rattle.std.specs.Borrow.{Bor}
 use Rattle.tpm_types.specs.declared.alg.Alg.{Alg}
 use Rattle.tpm_types.specs.declared.tpms.Selection.{Selection}
-use Rattle.tpm_model.specs.Registers.{Registers}
+use Rattle.tpm_pcr.specs.Registers.{Registers}
 use Rattle.tpm_log.specs.declared.fault.LogFault.{LogFault}
 use Rattle.tpm_log.specs.Changes.{AreAfter}
 use Rattle.tpm_log.specs.Replays.{LogSource, ReadsFrom, ReplaysFrom}

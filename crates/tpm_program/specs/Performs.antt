@@ -2,7 +2,7 @@
 use Rattle.std.specs.Prelude.{◌≡◌, ℕ, Bool, true, false, List, [], Option, Some, None, option_map, Result}
 use Rattle.std.specs.Borrow.{Bor}
 use Rattle.tpm_types.specs.declared.tpms.Selection.{Selection}
-use Rattle.tpm_model.specs.Registers.{Registers}
+use Rattle.tpm_pcr.specs.Registers.{Registers}
 use Rattle.tpm_model.specs.Steps.{Origin, new_origin}
 use Rattle.tpm_log.specs.declared.fault.LogFault.{LogFault}
 use Rattle.tpm_log.specs.Changes.{AreAfter}

@@ -11,7 +11,8 @@ use Rattle.tpm_commands.specs.declared.command.CommandBody.TheVariants as bodies
 use Rattle.tpm_buffer.specs.Responses.{Reply}
 use Rattle.tpm_types.specs.declared.tpms.Selection.{Selection}
 use Rattle.tpm_model.specs.Steps.{Origin, History, Accepted}
-use Rattle.tpm_model.specs.Registers.{Registers, registers_after, changes}
+use Rattle.tpm_pcr.specs.Registers.{Registers, registers_after}
+use Rattle.tpm_model.specs.Changes.{changes}
 use Rattle.tpm_model.specs.Policies.Assertion.{PcrAsserted, OrAsserted, CodeAsserted, AuthValueAsserted}
 use Rattle.tpm_model.specs.Policies.{Assertion, policy_digest}
 use Rattle.tpm_model.specs.Sessions.{Session, Start, slot_of, begun, clears, asserted_by, pcr_assertion, pcr_asserted}

@@ -6,8 +6,8 @@ use Rattle.std.specs.Prelude.{if◌then◌else◌}
 use Rattle.tpm_wire.specs.Reading.{◌>>=◌}
 use Rattle.tpm_types.specs.declared.tpms.Auth.{Auth}
 use Rattle.tpm_types.specs.declared.tpms.AuthReply.{AuthReply}
-use Rattle.tpm_commands.specs.declared.code.CommandCode.{CommandCode}
-use Rattle.tpm_commands.specs.Codes.{code_number}
+use Rattle.tpm_types.specs.declared.command_code.CommandCode.{CommandCode}
+use Rattle.tpm_types.specs.CommandCodes.{code_number}
 use Rattle.tpm_hmac.specs.Sessions.AuthValueRule.{ByHmac, ByPolicy}
 use Rattle.tpm_hmac.specs.Sessions.{included_auth_value, whole_key, cp_hash}
 use Rattle.tpm_model.specs.Sessions.{Session, is_hmac, loaded, session_in, slot_of, if_of_kind, is_handle_of}

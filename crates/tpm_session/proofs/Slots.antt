@@ -15,7 +15,8 @@ use Rattle.tpm_commands.specs.declared.response.ReplyBody.TheVariants as replies
 use Rattle.tpm_buffer.specs.Responses.{Reply}
 use Rattle.tpm_buffer.specs.Commands.{code_for}
 use Rattle.tpm_model.specs.Steps.{Origin, History, Accepted}
-use Rattle.tpm_model.specs.Registers.{Registers, registers_after, changes}
+use Rattle.tpm_pcr.specs.Registers.{Registers, registers_after}
+use Rattle.tpm_model.specs.Changes.{changes}
 use Rattle.tpm_model.specs.Policies.{Assertion}
 use Rattle.tpm_model.specs.Sessions.{Session, Start, slot_of, begun, clears, asserted_by, is_hmac, if_of_kind, loaded, session_in}
 use Rattle.tpm_model.specs.Sessions.{session_at, sessions_at, as_session, last_nonce, assertions_of, lives, start_of}

@@ -2,7 +2,7 @@
 use Rattle.std.specs.Prelude.{◌≡◌, ℕ, ◌==◌, true, false, List, [], Option, IsSome, Result, Ok, Err, if◌then◌else◌}
 use Rattle.tpm_types.specs.declared.tpms.Auth.{Auth}
 use Rattle.tpm_types.specs.declared.tpms.AuthReply.{AuthReply}
-use Rattle.tpm_commands.specs.declared.code.CommandCode.{CommandCode}
+use Rattle.tpm_types.specs.declared.command_code.CommandCode.{CommandCode}
 use Rattle.tpm_hmac.specs.Hmac.{hmac}
 use Rattle.tpm_types.specs.Handles.{rs_pw}
 use Rattle.tpm_model.specs.Sessions.{Session, loaded, session_in, slot_of}

@@ -4,8 +4,7 @@ ghost use Rattle.std.specs.Prelude.{◌≡◌};
 ghost use Rattle.tpm_model.specs.Authorization.{access_of as access_by, allows_auth, allows_policy};
 ghost use Rattle.tpm_session.specs.Entities.{access_in};
 
-use tpm_commands::CommandCode;
-use tpm_types::NvAttrs;
+use tpm_types::{CommandCode, NvAttrs};
 
 /// What a command does to the index that authorizes it.
 #[derive(Clone, Copy)]

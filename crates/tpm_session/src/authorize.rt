@@ -20,9 +20,8 @@ use crate::policy::differs;
 use crate::session::{NONCE_BYTES, Session};
 use crate::sessions::{Sessions, slot_of};
 use tpm_buffer::AuthRef;
-use tpm_commands::CommandCode;
 use tpm_hmac::same;
-use tpm_types::{AuthReply, Name, RS_PW, SessionHandle, SessionType};
+use tpm_types::{AuthReply, CommandCode, Name, RS_PW, SessionHandle, SessionType};
 use tpm_wire::response_code::{
     ATTRIBUTES, AUTH_UNAVAILABLE, NONCE, PCR_CHANGED, POLICY_CC, POLICY_FAIL, REFERENCE_S0,
     of_session,

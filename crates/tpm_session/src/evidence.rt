@@ -2,7 +2,7 @@
 //! (Part 1, "HMAC Computation" and "Password Authorizations").
 
 ghost use Rattle.std.specs.Prelude.{◌≡◌, ℕ, List, [], ◌∷◌, ◌&&◌, bytes_eq};
-ghost use Rattle.tpm_commands.specs.Codes.{code_number};
+ghost use Rattle.tpm_types.specs.CommandCodes.{code_number};
 ghost use Rattle.tpm_hmac.specs.Hmac.{hmac};
 ghost use Rattle.tpm_hmac.specs.Sessions.{whole_key, mac_text, cp_hash as cp_hash_of};
 ghost use Rattle.tpm_model.specs.Authorization.{follows, key_for, is_empty, command_text, is_signed as is_signed_of};
@@ -15,9 +15,10 @@ use crate::authorize::Authorizer;
 use crate::entity::Entity;
 use crate::session::{NONCE_BYTES, Session};
 use tpm_buffer::AuthRef;
-use tpm_commands::CommandCode;
 use tpm_hmac::{SessionKey, command_mac, cp_hash, rp_hash, same, trim};
-use tpm_types::{AuthReply, AuthValue, Digest, Name, Nonce, SessionAttrs, SessionType};
+use tpm_types::{
+    AuthReply, AuthValue, CommandCode, Digest, Name, Nonce, SessionAttrs, SessionType,
+};
 use tpm_wire::response_code::{AUTH_FAIL, BAD_AUTH, of_session};
 
 impl Session {

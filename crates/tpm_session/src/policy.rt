@@ -12,11 +12,10 @@ ghost use Rattle.tpm_session.specs.Policies.{as_assertion, policy_after};
 
 use arrayvec::ArrayVec;
 use std::marker::Model;
-use tpm_commands::CommandCode;
 use tpm_hmac::hash;
 use tpm_types::{
-    Alg, BANKS, DIGEST_BYTES, Digest, MOST_DIGESTS, OrDigests, Packed, SELECT_BYTES, Selection,
-    Selections,
+    Alg, BANKS, CommandCode, DIGEST_BYTES, Digest, MOST_DIGESTS, OrDigests, Packed, SELECT_BYTES,
+    Selection, Selections,
 };
 
 // How many parts the text of TPM2_PolicyOR has at most: zeros, the command's code, and the digests.

@@ -5,7 +5,7 @@ ghost use Rattle.tpm_types.specs.Handles.{kind_of};
 ghost use Rattle.tpm_types.specs.declared.handle_sets.BindHandle.TheVariants as binds;
 ghost use Rattle.tpm_hmac.specs.Sessions.{trim as trim_of};
 ghost use Rattle.tpm_model.specs.Steps.{Origin};
-ghost use Rattle.tpm_model.specs.Registers.{Registers, value_in, composite as composite_of};
+ghost use Rattle.tpm_pcr.specs.Registers.{Registers, value_in, composite as composite_of};
 ghost use Rattle.tpm_model.specs.Sessions.{is_handle_of, is_trial as is_trial_type, pcr_assertion, nonce_from};
 ghost use Rattle.tpm_model.specs.Sessions.{as_session};
 ghost use Rattle.tpm_model.specs.Actions.{check_policy_pcr, check_policy_or, check_policy_code};

@@ -14,7 +14,8 @@ ghost use Rattle.tpm_model.specs.Sessions.{session_in, sessions_at, assertions_o
 ghost use Rattle.tpm_model.specs.Actions.{check_flush, start_session, check_policy_pcr, check_policy_or};
 ghost use Rattle.tpm_model.specs.Actions.{check_policy_code};
 ghost use Rattle.tpm_model.specs.Policies.{policy_digest as digest_of};
-ghost use Rattle.tpm_model.specs.Registers.{value_in, composite as composite_of, registers_after, changes};
+ghost use Rattle.tpm_pcr.specs.Registers.{value_in, composite as composite_of, registers_after};
+ghost use Rattle.tpm_model.specs.Changes.{changes};
 ghost use Rattle.tpm_model.specs.Sessions as model;
 ghost use Rattle.tpm_types.specs.declared.tpms.Auth.{Auth};
 ghost use Rattle.tpm_types.specs.Tpma.{continues};
@@ -29,7 +30,7 @@ use crate::session::{NONCE_BYTES, Session, first_of};
 use std::marker::Model;
 use tpm_commands::{StartAuth, StartReply};
 use tpm_hmac::SessionKey;
-use tpm_store::Registers;
+use tpm_pcr::Registers;
 use tpm_types::{Alg, Digest, OrDigests, PolicyHandle, Selections, SessionHandle, SessionType};
 use tpm_wire::Duplicate;
 use tpm_wire::response_code::{HANDLE, REFERENCE_H0, SESSION_MEMORY, SIZE, of_parameter};

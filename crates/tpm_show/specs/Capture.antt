@@ -4,10 +4,10 @@ use Rattle.std.specs.Prelude.{map, codes, Option, Some, None, option_map, if◌t
 use Rattle.std.specs.Io.KnownBytes.{Consumes, IsAtEnd}
 use Rattle.tpm_wire.specs.declared.refusal.Refusal.{Refusal}
 use Rattle.tpm_wire.specs.Path.{Spells, Fault}
-use Rattle.tpm_commands.specs.declared.code.CommandCode.{CommandCode}
+use Rattle.tpm_types.specs.declared.command_code.CommandCode.{CommandCode}
 use Rattle.tpm_commands.specs.declared.command.Command.{Command as CommandOf}
 use Rattle.tpm_commands.specs.declared.response.Response.{Response}
-use Rattle.tpm_commands.specs.Codes.{code_number, code_of}
+use Rattle.tpm_types.specs.CommandCodes.{code_number, code_of}
 use Rattle.tpm_buffer.specs.Commands.{command}
 use Rattle.tpm_buffer.specs.CommandAreas.{Cut, HasCut}
 use Rattle.tpm_buffer.specs.Responses.{ReplyCut, reply_cut, response}

@@ -1,8 +1,8 @@
 -- The program's lines of a response (this profile).
 use Rattle.std.specs.Prelude.{ℕ, Bool, List, [], ◌∷◌, ◌++◌, codes, Option, Some, None}
 use Rattle.std.specs.Fmt.{decimal}
-use Rattle.tpm_commands.specs.declared.code.CommandCode.{CommandCode}
-use Rattle.tpm_commands.specs.Codes.{code_name}
+use Rattle.tpm_types.specs.declared.command_code.CommandCode.{CommandCode}
+use Rattle.tpm_types.specs.CommandCodes.{code_name}
 use Rattle.tpm_lines.specs.Text.{line, hexadecimal}
 use Rattle.tpm_show.specs.Headers.{code_named}
 

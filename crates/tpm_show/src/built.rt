@@ -9,7 +9,7 @@ ghost use Rattle.tpm_show.specs.Build.{Builds, BuildsBuffer, BuildsBytes, part_o
 use std::alloc::{AllocError, Global};
 use std::io::Write;
 use tpm_buffer::{decode_command, join_command};
-use tpm_commands::CommandCode;
+use tpm_types::CommandCode;
 use tpm_lines::answer::Answer;
 use tpm_lines::fault::ToolFault;
 use tpm_lines::hexadecimal::decoded;

@@ -16,7 +16,7 @@ use crate::library::{tell_library_command, tell_library_response};
 use crate::teller::Teller;
 use crate::told::{command_and_areas, response_and_areas, tell_command_rest, tell_response_rest};
 use std::alloc::AllocError;
-use tpm_commands::CommandCode;
+use tpm_types::CommandCode;
 use tpm_lines::status::Status;
 use tpm_lines::text::Pushed;
 use tpm_wire::Refusal;

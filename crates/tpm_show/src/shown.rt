@@ -10,7 +10,7 @@ use crate::digits::read_buffer;
 use crate::told::{answer_to_command, answer_to_reply};
 use std::alloc::{AllocError, Global};
 use std::io::Write;
-use tpm_commands::CommandCode;
+use tpm_types::CommandCode;
 use tpm_lines::answer::Answer;
 use tpm_lines::fault::ToolFault;
 use tpm_lines::status::Status;

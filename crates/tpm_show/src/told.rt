@@ -23,7 +23,8 @@ use tpm_buffer::{
     Areas, ReplyAreas, areas, areas_of_a_response, decode_command, decode_response,
     fault_before_params, reply_areas,
 };
-use tpm_commands::{Command, CommandBody, CommandCode, ReplyBody, Response};
+use tpm_types::CommandCode;
+use tpm_commands::{Command, CommandBody, ReplyBody, Response};
 use tpm_lines::answer::Answer;
 use tpm_lines::text::Pushed;
 use tpm_wire::Refusal;

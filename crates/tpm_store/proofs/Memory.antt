@@ -30,7 +30,7 @@ use Rattle.tpm_types.specs.Alg.{alg_number, hash}
 use Rattle.tpm_types.specs.Handles.{nv_index}
 use Rattle.tpm_types.specs.Tpma.{is_written, nv_attrs}
 use Rattle.tpm_types.specs.Tpms.{nv_public, nv_public_area}
-use Rattle.tpm_commands.proofs.Short.{and, last}
+use Rattle.tpm_types.proofs.Short.{and, last}
 use Rattle.tpm_hmac.proofs.DigestLengths.{length-digest}
 use Rattle.tpm_model.specs.Counters.{Counter, NvMemory}
 use Rattle.tpm_model.specs.Actions.{most_counters}

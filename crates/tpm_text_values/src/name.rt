@@ -3,7 +3,7 @@
 ghost use Rattle.std.specs.Prelude.{◌≡◌};
 ghost use Rattle.tpm_text_values.specs.Names.{command_of_name, same_word, word_in, is_kind as is_kind_of};
 
-use tpm_commands::CommandCode;
+use tpm_types::CommandCode;
 
 /// The command of the profile with this name (Part 2, 6.5.2), in any letter case, with `TPM2_` before
 /// it or not; none where no command has the name.

@@ -1,1 +1,2 @@
 pub mod Algs
+pub mod Short

@@ -4,6 +4,7 @@ pub mod Tpma
 pub mod Handles
 pub mod HandleSets
 pub mod Constants
+pub mod CommandCodes
 pub mod Tpm2b
 pub mod Tpms
 pub mod Tpml

@@ -3,6 +3,7 @@
 
 mod alg;
 mod attest;
+mod command_code;
 mod constants;
 mod handle_sets;
 mod handles;
@@ -18,6 +19,7 @@ mod tpmt;
 
 pub use alg::Alg;
 pub use attest::{Attest, ClockInfo, DATA_BYTES, QuoteInfo};
+pub use command_code::CommandCode;
 pub use constants::{KeyBits, SessionType, StartupType};
 pub use handle_sets::{BindHandle, NvAuthHandle, PcrOrNull};
 pub use handles::{

@@ -4,10 +4,8 @@ use crate::tests::checks::{bytes, put, put_number};
 use std::process::Abort;
 use std::test::*;
 use tpm_buffer::{AuthRef, ReplyRef, areas, header, reply_areas};
-use tpm_commands::{
-    CommandCode, Params, StartAuth, decode_params, decode_params_into, decode_start_into,
-};
-use tpm_types::{Alg, BindHandle, Nonce, SessionType, SymDef};
+use tpm_commands::{Params, StartAuth, decode_params, decode_params_into, decode_start_into};
+use tpm_types::{Alg, BindHandle, CommandCode, Nonce, SessionType, SymDef};
 use tpm_wire::{Buffer, Refusal};
 
 // NV_Read of the index 01800001 by the owner, with a password of one byte.

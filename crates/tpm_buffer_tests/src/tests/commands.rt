@@ -4,8 +4,8 @@ use crate::tests::checks::{bytes, put, put_number};
 use std::process::Abort;
 use std::test::*;
 use tpm_buffer::{decode_command, encode_command};
-use tpm_commands::{CommandBody, CommandCode};
-use tpm_types::SymDef;
+use tpm_commands::{CommandBody, handle_count, needs_authorization};
+use tpm_types::{CommandCode, SymDef};
 use tpm_wire::Buffer;
 
 // The number of each command, how many handles it has, and whether it needs authorization.
@@ -37,7 +37,7 @@ fn each_command_has_its_handles_and_authorization(rt: HostRuntime) {
             put(
                 &rt,
                 &mut all,
-                &[code.handles() as u8, code.needs_authorization() as u8],
+                &[handle_count(code) as u8, needs_authorization(code) as u8],
             );
         }
     }

@@ -4,7 +4,8 @@ use crate::tests::checks::{bytes, put, put_number};
 use std::process::Abort;
 use std::test::*;
 use tpm_buffer::{decode_response, encode_response};
-use tpm_commands::{CommandCode, ReplyBody, Response};
+use tpm_types::CommandCode;
+use tpm_commands::{ReplyBody, Response};
 use tpm_wire::Buffer;
 
 // Values of a reply, one after the other and without their sizes, of those replies that have several of one kind.

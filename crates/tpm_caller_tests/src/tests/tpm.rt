@@ -6,9 +6,9 @@ use std::process::Abort;
 use std::test::*;
 use tpm_buffer::{decode_response, encode_command};
 use tpm_caller::Caller;
-use tpm_commands::{Command, CommandBody, CommandCode, ReplyBody, Response, StartAuth};
+use tpm_commands::{Command, CommandBody, ReplyBody, Response, StartAuth};
 use tpm_device::{Device, ResponseBuffer};
-use tpm_types::{Alg, AuthValue, BindHandle, SessionType, SymDef};
+use tpm_types::{Alg, AuthValue, BindHandle, CommandCode, SessionType, SymDef};
 
 const STARTUP: &str = "80010000000c000001440000";
 

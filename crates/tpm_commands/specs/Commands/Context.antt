@@ -22,8 +22,6 @@ flush_context =
 
 abbrev pub flush_context_row : Row
 flush_context_row = record {
-  number = 0x165;
-  name = codes "FlushContext";
   handles = [];
   authorized = false;
   parameters = flush_context;

@@ -36,8 +36,6 @@ nv_define_space =
 
 abbrev pub nv_define_space_row : Row
 nv_define_space_row = record {
-  number = 0x12A;
-  name = codes "NV_DefineSpace";
   handles = Owner ∷ [];
   authorized = true;
   parameters = nv_define_space;
@@ -53,8 +51,6 @@ nv_define_space_row = record {
 
 abbrev pub nv_undefine_space_row : Row
 nv_undefine_space_row = record {
-  number = 0x122;
-  name = codes "NV_UndefineSpace";
   handles = Owner ∷ Index ∷ [];
   authorized = true;
   parameters = done params.NvUndefineSpace;
@@ -81,8 +77,6 @@ nv_read_public_reply =
 
 abbrev pub nv_read_public_row : Row
 nv_read_public_row = record {
-  number = 0x169;
-  name = codes "NV_ReadPublic";
   handles = Index ∷ [];
   authorized = false;
   parameters = done params.NvReadPublic;
@@ -98,8 +92,6 @@ nv_read_public_row = record {
 
 abbrev pub nv_increment_row : Row
 nv_increment_row = record {
-  number = 0x134;
-  name = codes "NV_Increment";
   handles = OwnerOrIndex ∷ Index ∷ [];
   authorized = true;
   parameters = done params.NvIncrement;
@@ -135,8 +127,6 @@ nv_read_reply =
 
 abbrev pub nv_read_row : Row
 nv_read_row = record {
-  number = 0x14E;
-  name = codes "NV_Read";
   handles = OwnerOrIndex ∷ Index ∷ [];
   authorized = true;
   parameters = nv_read;

@@ -28,8 +28,6 @@ pcr_extend =
 
 abbrev pub pcr_extend_row : Row
 pcr_extend_row = record {
-  number = 0x182;
-  name = codes "PCR_Extend";
   handles = PcrOrNull ∷ [];
   authorized = true;
   parameters = pcr_extend;
@@ -60,8 +58,6 @@ pcr_event_reply =
 
 abbrev pub pcr_event_row : Row
 pcr_event_row = record {
-  number = 0x13C;
-  name = codes "PCR_Event";
   handles = PcrOrNull ∷ [];
   authorized = true;
   parameters = pcr_event;
@@ -102,8 +98,6 @@ pcr_read_reply =
 
 abbrev pub pcr_read_row : Row
 pcr_read_row = record {
-  number = 0x17E;
-  name = codes "PCR_Read";
   handles = [];
   authorized = false;
   parameters = pcr_read;
@@ -120,8 +114,6 @@ pcr_read_row = record {
 
 abbrev pub pcr_reset_row : Row
 pcr_reset_row = record {
-  number = 0x13D;
-  name = codes "PCR_Reset";
   handles = Pcr ∷ [];
   authorized = true;
   parameters = done params.PcrReset;

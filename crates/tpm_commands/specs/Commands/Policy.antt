@@ -26,8 +26,6 @@ policy_or =
 
 abbrev pub policy_or_row : Row
 policy_or_row = record {
-  number = 0x171;
-  name = codes "PolicyOR";
   handles = Policy ∷ [];
   authorized = false;
   parameters = policy_or;
@@ -54,8 +52,6 @@ policy_pcr =
 
 abbrev pub policy_pcr_row : Row
 policy_pcr_row = record {
-  number = 0x17F;
-  name = codes "PolicyPCR";
   handles = Policy ∷ [];
   authorized = false;
   parameters = policy_pcr;
@@ -80,8 +76,6 @@ policy_command_code =
 
 abbrev pub policy_command_code_row : Row
 policy_command_code_row = record {
-  number = 0x16C;
-  name = codes "PolicyCommandCode";
   handles = Policy ∷ [];
   authorized = false;
   parameters = policy_command_code;
@@ -94,8 +88,6 @@ policy_command_code_row = record {
 
 abbrev pub policy_auth_value_row : Row
 policy_auth_value_row = record {
-  number = 0x16B;
-  name = codes "PolicyAuthValue";
   handles = Policy ∷ [];
   authorized = false;
   parameters = done params.PolicyAuthValue;
@@ -117,8 +109,6 @@ policy_get_digest_reply =
 
 abbrev pub policy_get_digest_row : Row
 policy_get_digest_row = record {
-  number = 0x189;
-  name = codes "PolicyGetDigest";
   handles = Policy ∷ [];
   authorized = false;
   parameters = done params.PolicyGetDigest;

@@ -77,8 +77,6 @@ start_auth_session_names =
 
 abbrev pub start_auth_session_row : Row
 start_auth_session_row = record {
-  number = 0x176;
-  name = codes "StartAuthSession";
   handles = Null ∷ OwnerOrNull ∷ [];
   authorized = false;
   parameters = start_auth_session;
@@ -91,8 +89,6 @@ start_auth_session_row = record {
 
 abbrev pub policy_restart_row : Row
 policy_restart_row = record {
-  number = 0x180;
-  name = codes "PolicyRestart";
   handles = Policy ∷ [];
   authorized = false;
   parameters = done params.PolicyRestart;

@@ -24,8 +24,6 @@ startup =
 
 abbrev pub startup_row : Row
 startup_row = record {
-  number = 0x144;
-  name = codes "Startup";
   handles = [];
   authorized = false;
   parameters = startup;

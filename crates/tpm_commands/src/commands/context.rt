@@ -15,7 +15,6 @@ use tpm_wire::{Buffer, Cursor, Refusal, Wire};
 // ---- TPM2_FlushContext (28.4), whose handle is a parameter
 
 pub(crate) const FLUSH_CONTEXT: Row = Row {
-    name: "FlushContext",
     handles: &[],
     needs_authorization: false,
 };

@@ -4,7 +4,7 @@ ghost use Rattle.std.specs.Prelude.{◌≡◌, ◌≤◌, ◌+◌, ◌++◌, len
 ghost use Rattle.tpm_wire.specs.Spelling.{spelling, Fits};
 ghost use Rattle.tpm_wire.specs.Buffers.{TakesNumbered};
 ghost use Rattle.tpm_commands.specs.Limits.{most_params};
-ghost use Rattle.tpm_commands.specs.declared.code.CommandCode.TheVariants as codes;
+ghost use Rattle.tpm_types.specs.declared.command_code.CommandCode.TheVariants as codes;
 ghost use Rattle.tpm_commands.specs.declared.command_parameters.Params.TheVariants as params;
 ghost use Rattle.tpm_commands.specs.declared.response.ReplyBody.TheVariants as replies;
 ghost use Rattle.tpm_commands.specs.Parameters.{nv_define_space, nv_read};
@@ -20,7 +20,6 @@ use tpm_wire::{Buffer, Cursor, Refusal, Wire};
 // ---- TPM2_NV_DefineSpace (31.3)
 
 pub(crate) const NV_DEFINE_SPACE: Row = Row {
-    name: "NV_DefineSpace",
     handles: &[HandleKind::Owner],
     needs_authorization: true,
 };
@@ -88,7 +87,6 @@ pub(crate) fn put_nv_define_space(auth: &AuthValue, public: &NvPublic, out: &mut
 // ---- TPM2_NV_UndefineSpace (31.4)
 
 pub(crate) const NV_UNDEFINE_SPACE: Row = Row {
-    name: "NV_UndefineSpace",
     handles: &[HandleKind::Owner, HandleKind::Index],
     needs_authorization: true,
 };
@@ -96,7 +94,6 @@ pub(crate) const NV_UNDEFINE_SPACE: Row = Row {
 // ---- TPM2_NV_ReadPublic (31.6)
 
 pub(crate) const NV_READ_PUBLIC: Row = Row {
-    name: "NV_ReadPublic",
     handles: &[HandleKind::Index],
     needs_authorization: false,
 };
@@ -151,7 +148,6 @@ pub(crate) fn put_nv_read_public_reply(public: &NvPublic, name: &Name, out: &mut
 // ---- TPM2_NV_Increment (31.8)
 
 pub(crate) const NV_INCREMENT: Row = Row {
-    name: "NV_Increment",
     handles: &[HandleKind::OwnerOrIndex, HandleKind::Index],
     needs_authorization: true,
 };
@@ -159,7 +155,6 @@ pub(crate) const NV_INCREMENT: Row = Row {
 // ---- TPM2_NV_Read (31.13)
 
 pub(crate) const NV_READ: Row = Row {
-    name: "NV_Read",
     handles: &[HandleKind::OwnerOrIndex, HandleKind::Index],
     needs_authorization: true,
 };

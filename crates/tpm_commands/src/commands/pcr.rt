@@ -4,7 +4,7 @@ ghost use Rattle.std.specs.Prelude.{◌≡◌, ◌≤◌, ◌+◌, ◌++◌, len
 ghost use Rattle.tpm_wire.specs.Spelling.{spelling, Fits};
 ghost use Rattle.tpm_wire.specs.Buffers.{TakesNumbered};
 ghost use Rattle.tpm_commands.specs.Limits.{most_params};
-ghost use Rattle.tpm_commands.specs.declared.code.CommandCode.TheVariants as codes;
+ghost use Rattle.tpm_types.specs.declared.command_code.CommandCode.TheVariants as codes;
 ghost use Rattle.tpm_commands.specs.declared.command_parameters.Params.TheVariants as params;
 ghost use Rattle.tpm_commands.specs.declared.response.ReplyBody.TheVariants as replies;
 ghost use Rattle.tpm_commands.specs.Parameters.{pcr_event, pcr_read, pcr_extend};
@@ -21,7 +21,6 @@ use tpm_wire::{Buffer, Cursor, Refusal, Wire};
 // ---- TPM2_PCR_Extend (22.2)
 
 pub(crate) const PCR_EXTEND: Row = Row {
-    name: "PCR_Extend",
     handles: &[HandleKind::PcrOrNull],
     needs_authorization: true,
 };
@@ -64,7 +63,6 @@ pub(crate) fn put_pcr_extend(digests: &DigestValues, out: &mut Buffer)
 // ---- TPM2_PCR_Event (22.3)
 
 pub(crate) const PCR_EVENT: Row = Row {
-    name: "PCR_Event",
     handles: &[HandleKind::PcrOrNull],
     needs_authorization: true,
 };
@@ -150,7 +148,6 @@ pub(crate) fn put_pcr_event_reply(digests: &DigestValues, out: &mut Buffer)
 // ---- TPM2_PCR_Read (22.4)
 
 pub(crate) const PCR_READ: Row = Row {
-    name: "PCR_Read",
     handles: &[],
     needs_authorization: false,
 };
@@ -279,7 +276,6 @@ pub(crate) fn put_pcr_read_reply(
 // ---- TPM2_PCR_Reset (22.8)
 
 pub(crate) const PCR_RESET: Row = Row {
-    name: "PCR_Reset",
     handles: &[HandleKind::Pcr],
     needs_authorization: true,
 };

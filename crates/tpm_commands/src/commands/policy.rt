@@ -4,7 +4,7 @@ ghost use Rattle.std.specs.Prelude.{◌≡◌, ◌≤◌, ◌+◌, ◌++◌, len
 ghost use Rattle.tpm_wire.specs.Spelling.{spelling, Fits};
 ghost use Rattle.tpm_wire.specs.Buffers.{TakesNumbered};
 ghost use Rattle.tpm_commands.specs.Limits.{most_params};
-ghost use Rattle.tpm_commands.specs.declared.code.CommandCode.TheVariants as codes;
+ghost use Rattle.tpm_types.specs.declared.command_code.CommandCode.TheVariants as codes;
 ghost use Rattle.tpm_commands.specs.declared.command_parameters.Params.TheVariants as params;
 ghost use Rattle.tpm_commands.specs.declared.response.ReplyBody.TheVariants as replies;
 ghost use Rattle.tpm_commands.specs.Parameters.{policy_command_code, policy_or, policy_pcr};
@@ -20,7 +20,6 @@ use tpm_wire::{Buffer, Cursor, Refusal, Wire};
 // ---- TPM2_PolicyOR (23.6)
 
 pub(crate) const POLICY_OR: Row = Row {
-    name: "PolicyOR",
     handles: &[HandleKind::Policy],
     needs_authorization: false,
 };
@@ -72,7 +71,6 @@ pub(crate) fn put_policy_or(digests: &OrDigests, out: &mut Buffer)
 // ---- TPM2_PolicyPCR (23.7)
 
 pub(crate) const POLICY_PCR: Row = Row {
-    name: "PolicyPCR",
     handles: &[HandleKind::Policy],
     needs_authorization: false,
 };
@@ -126,7 +124,6 @@ pub(crate) fn put_policy_pcr(pcr_digest: &Digest, selections: &Selections, out: 
 // ---- TPM2_PolicyCommandCode (23.11)
 
 pub(crate) const POLICY_COMMAND_CODE: Row = Row {
-    name: "PolicyCommandCode",
     handles: &[HandleKind::Policy],
     needs_authorization: false,
 };
@@ -173,7 +170,6 @@ pub(crate) fn put_policy_command_code(code: u32, out: &mut Buffer)
 // ---- TPM2_PolicyAuthValue (23.17)
 
 pub(crate) const POLICY_AUTH_VALUE: Row = Row {
-    name: "PolicyAuthValue",
     handles: &[HandleKind::Policy],
     needs_authorization: false,
 };
@@ -181,7 +177,6 @@ pub(crate) const POLICY_AUTH_VALUE: Row = Row {
 // ---- TPM2_PolicyGetDigest (23.19)
 
 pub(crate) const POLICY_GET_DIGEST: Row = Row {
-    name: "PolicyGetDigest",
     handles: &[HandleKind::Policy],
     needs_authorization: false,
 };

@@ -4,7 +4,7 @@ ghost use Rattle.std.specs.Prelude.{◌≡◌, ◌≤◌, ◌+◌, ◌∷◌, �
 ghost use Rattle.tpm_wire.specs.Spelling.{spelling, Fits};
 ghost use Rattle.tpm_wire.specs.Buffers.{TakesNumbered};
 ghost use Rattle.tpm_commands.specs.Limits.{most_params};
-ghost use Rattle.tpm_commands.specs.declared.code.CommandCode.TheVariants as codes;
+ghost use Rattle.tpm_types.specs.declared.command_code.CommandCode.TheVariants as codes;
 ghost use Rattle.tpm_commands.specs.declared.command_parameters.Params.TheVariants as params;
 ghost use Rattle.tpm_commands.specs.declared.response.ReplyBody.TheVariants as replies;
 ghost use Rattle.tpm_commands.specs.Parameters.{start_auth_session};
@@ -21,7 +21,6 @@ use tpm_wire::{Buffer, Cursor, Refusal, Wire};
 // ---- TPM2_StartAuthSession (11.1)
 
 pub(crate) const START_AUTH_SESSION: Row = Row {
-    name: "StartAuthSession",
     handles: &[HandleKind::Null, HandleKind::OwnerOrNull],
     needs_authorization: false,
 };
@@ -173,7 +172,6 @@ pub(crate) fn put_start_auth_session_reply(reply: &StartReply, out: &mut Buffer)
 // ---- TPM2_PolicyRestart (11.2)
 
 pub(crate) const POLICY_RESTART: Row = Row {
-    name: "PolicyRestart",
     handles: &[HandleKind::Policy],
     needs_authorization: false,
 };

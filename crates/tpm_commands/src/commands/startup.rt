@@ -15,7 +15,6 @@ use tpm_wire::{Buffer, Cursor, Refusal, Wire};
 // ---- TPM2_Startup (9.3)
 
 pub(crate) const STARTUP: Row = Row {
-    name: "Startup",
     handles: &[],
     needs_authorization: false,
 };

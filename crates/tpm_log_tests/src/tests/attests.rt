@@ -5,14 +5,14 @@ use crate::tests::logs::bytes_of;
 use arrayvec::ArrayVec;
 use std::process::Abort;
 use std::test::*;
-use tpm_log::laws::boot_to_quote;
+use tpm_boot_laws::boot_to_quote;
 use tpm_log::replay;
 use tpm_quote::laws::attest_or_fault;
 use tpm_quote::{
     AttestFault, NotSelected, check_attest, decode_attest, first_not_selected, nonce_matches,
     selects_none,
 };
-use tpm_store::Registers;
+use tpm_pcr::Registers;
 use tpm_types::{Alg, Attest, ClockInfo, Lent, PcrIndex, Selection, Selections};
 use tpm_wire::response_code::{INSUFFICIENT, SIZE, VALUE};
 use tpm_wire::{Buffer, Refusal};

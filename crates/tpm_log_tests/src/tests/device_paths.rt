@@ -4,10 +4,7 @@ use crate::tests::logs::bytes_of;
 use arrayvec::ArrayVec;
 use std::process::Abort;
 use std::test::*;
-use tpm_log::{
-    DevicePathFault, DevicePathFaultKind, Event, ImageLoadFault, ImageLoadFaultKind, device_path,
-    image_load,
-};
+use tpm_event_data::{DevicePathFault, DevicePathFaultKind, Event, ImageLoadFault, ImageLoadFaultKind, device_path, image_load};
 
 // The address 0x7E5D3000, the length 0x123000, the link-time address 0x180000000, and how long a path is.
 const NUMBERS: &str = "00305d7e00000000003012000000000000000080010000003000000000000000";

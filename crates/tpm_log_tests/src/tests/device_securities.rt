@@ -4,9 +4,7 @@ use crate::tests::logs::bytes_of;
 use arrayvec::ArrayVec;
 use std::process::Abort;
 use std::test::*;
-use tpm_log::{
-    DeviceEvidence, DeviceMeasurement, DeviceSecurity, Event, EventDataFault, EventDataFaultKind,
-};
+use tpm_event_data::{DeviceEvidence, DeviceMeasurement, DeviceSecurity, Event, EventDataFault, EventDataFaultKind};
 
 // Version 1, of a device of PCI whose hash is 2: the block of the index 3, of DMTF, whose value of the type 1 has 8
 // bytes.

@@ -5,7 +5,7 @@ use crate::tests::logs::bytes_of;
 use arrayvec::ArrayVec;
 use std::process::Abort;
 use std::test::*;
-use tpm_log::{Event, EventDataFault, EventDataFaultKind, Variable, load_option};
+use tpm_event_data::{Event, EventDataFault, EventDataFaultKind, Variable, load_option};
 
 // An EFI system partition of the blocks 2048 to 1050623, and one of Linux whose name has 36 units.
 const TABLE: &str =

@@ -4,7 +4,7 @@ use crate::tests::logs::{HEADER, WORKED, bytes_of};
 use std::process::Abort;
 use std::test::*;
 use tpm_log::{LogFault, LogFaultKind, LogReplay, replay_into};
-use tpm_store::Registers;
+use tpm_pcr::Registers;
 use tpm_types::{Alg, PcrIndex};
 
 // What is answered to a log that is fed in pieces of so many bytes, and to nothing behind each.

@@ -5,7 +5,7 @@ use std::process::Abort;
 use std::test::*;
 use tpm_log::replay;
 use tpm_quote::{check_quote, decode_quote};
-use tpm_store::Registers;
+use tpm_pcr::Registers;
 use tpm_types::{Alg, QuoteInfo, Selection};
 use tpm_wire::Refusal;
 use tpm_wire::response_code::{HASH, INSUFFICIENT, SIZE, VALUE};

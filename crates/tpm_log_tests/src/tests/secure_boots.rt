@@ -5,10 +5,8 @@ use crate::tests::logs::{bytes_of, parsed};
 use arrayvec::ArrayVec;
 use std::process::Abort;
 use std::test::*;
-use tpm_log::laws::secure_boot_of_the_register;
-use tpm_log::{
-    SecureBootFault, SecureBootFaultKind, SecureBootState, SecurityVariable, secure_boot,
-};
+use tpm_secure_boot::laws::secure_boot_of_the_register;
+use tpm_secure_boot::{SecureBootFault, SecureBootFaultKind, SecureBootState, SecurityVariable, secure_boot};
 use tpm_types::Alg;
 
 // A header that lists SHA-256.

@@ -6,7 +6,7 @@ use std::test::*;
 use tpm_buffer::decode_command;
 use tpm_commands::CommandBody;
 use tpm_session::{Authority, NONCE_BYTES, Sessions};
-use tpm_store::Registers;
+use tpm_pcr::Registers;
 use tpm_testing::word;
 use tpm_types::{PcrOrNull, PolicyHandle, SessionHandle};
 

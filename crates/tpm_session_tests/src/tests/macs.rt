@@ -3,10 +3,9 @@
 use crate::tests::texts::{alg, bytes, number};
 use std::process::Abort;
 use std::test::*;
-use tpm_commands::CommandCode;
 use tpm_hmac::{SessionKey, command_mac, cp_hash, response_mac, rp_hash};
 use tpm_testing::word;
-use tpm_types::{Alg, Digest, Name, SessionAttrs};
+use tpm_types::{Alg, CommandCode, Digest, Name, SessionAttrs};
 
 // A command or a response a line: its hash, the session key, the authorization value, the code, the
 // Names of the handles (two at most, joined by `+`), the parameters, cpHash or rpHash, the newer

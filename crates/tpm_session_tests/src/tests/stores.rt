@@ -3,7 +3,8 @@
 use crate::tests::texts::bytes;
 use std::process::Abort;
 use std::test::*;
-use tpm_store::{By, Counter, Counters, Locality, Registers};
+use tpm_pcr::{Locality, Registers};
+use tpm_store::{By, Counter, Counters};
 use tpm_types::{
     Alg, Digest, DigestValues, HashedDigest, NvAttrs, NvIndex, NvPublic, PcrIndex, Selection,
     Selections,

@@ -6,7 +6,6 @@ use std::io;
 use std::io::{ErrorKind, Write};
 use std::test::Fail;
 use tpm_check::check_log;
-use tpm_commands::CommandCode;
 use tpm_device::Device;
 use tpm_events::list_events;
 use tpm_lines::answer::not_hexadecimal;
@@ -15,7 +14,7 @@ use tpm_lines::status::Status;
 use tpm_script::run_script;
 use tpm_show::{Telling, build, show, show_fields, show_lines, show_stream};
 use tpm_show_nv::show_nv;
-use tpm_types::AuthValue;
+use tpm_types::{AuthValue, CommandCode};
 use tpm_wire::SliceSource;
 
 const AS_LINES: Telling = Telling {

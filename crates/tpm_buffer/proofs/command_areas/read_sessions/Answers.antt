@@ -1,6 +1,6 @@
 use Rattle.std.proofs.Common.{refl, ap, ◌∙◌, arith}
 use Rattle.tpm_wire.specs.Token.{Here}
-use Rattle.tpm_commands.proofs.Short.{ok}
+use Rattle.tpm_types.proofs.Short.{ok}
 use Rattle.tpm_buffer.specs.Commands.{authorization}
 use Rattle.tpm_buffer.specs.CommandAreas.{sessions_at}
 use Rattle.tpm_buffer.proofs.Places.{stands_behind}

@@ -1,5 +1,5 @@
 use Rattle.std.proofs.Common.{length, refl, subst}
-use Rattle.tpm_log.specs.EventData.{VariableData}
+use Rattle.tpm_event_data.specs.EventData.{VariableData}
 use Rattle.tpm_c.specs.Variables.{variable_view, IsVariableTold}
 use Rattle.tpm_c.proofs.Varying.{views}
 use Rattle.tpm_c.proofs.variable.tpm_log_variable.Goals as goal

@@ -1,5 +1,5 @@
 use Rattle.std.proofs.Common.{◌≡◌, List, ℕ, ◌++◌, ap, sym, ◌∙◌, append_assoc, rules, string_bytes}
-use Rattle.tpm_model.specs.Registers.{value_in}
+use Rattle.tpm_pcr.specs.Registers.{value_in}
 use Rattle.tpm_check.specs.CheckJson.{value_entries, value_entry}
 use Rattle.tpm_check.proofs.JsonLists.{values-more}
 use Rattle.tpm_check.proofs.check_json.push_values.Goals as goal

@@ -1,5 +1,5 @@
 use Rattle.std.proofs.Common.{◌≡◌, ◌++◌, string_bytes}
-use Rattle.tpm_model.specs.Registers.{value_in}
+use Rattle.tpm_pcr.specs.Registers.{value_in}
 use Rattle.tpm_check.specs.CheckJson.{value_entries}
 use Rattle.tpm_check.proofs.check_json.push_values.Given as goal
 

@@ -2,7 +2,7 @@ use Rattle.std.proofs.Common.{◌≡◌, ◌<◌, ◌+◌, List, ℕ, ◌++◌, 
 use Rattle.std.proofs.lemmas.List.{flat_map_more, take_more}
 use Rattle.tpm_types.specs.declared.alg.Alg.{Alg}
 use Rattle.tpm_types.specs.Alg.{all_algs}
-use Rattle.tpm_model.specs.Registers.{value_in}
+use Rattle.tpm_pcr.specs.Registers.{value_in}
 use Rattle.tpm_check.specs.Compare.{bank_lines}
 use Rattle.tpm_check.proofs.register_text.push_registers.Goals as goal
 

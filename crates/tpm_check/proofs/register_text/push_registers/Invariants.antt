@@ -1,6 +1,6 @@
 use Rattle.std.proofs.Common.{◌≡◌, ◌++◌, take, flat_map, string_bytes}
 use Rattle.tpm_types.specs.Alg.{all_algs}
-use Rattle.tpm_model.specs.Registers.{value_in}
+use Rattle.tpm_pcr.specs.Registers.{value_in}
 use Rattle.tpm_check.specs.Compare.{bank_lines}
 use Rattle.tpm_check.proofs.register_text.push_registers.Given as goal
 

@@ -1,5 +1,6 @@
 use Rattle.std.proofs.Common.{◌≡◌, ◌≤◌, ◌+◌, ◌++◌, map, string_bytes}
-use Rattle.tpm_log.specs.Events.{records_size, shown}
+use Rattle.tpm_event_data.specs.Events.{records_size}
+use Rattle.tpm_log.specs.Events.{shown}
 use Rattle.tpm_check.specs.SecureBootLines.{authorities_from, authorities_in}
 use Rattle.tpm_check.proofs.told_secure_boot.push_authorities.Given as goal
 

@@ -1,7 +1,8 @@
 use Rattle.std.proofs.Common.{◌≡◌, [], ◌∷◌, Some, None, refl, sym, ap, ◌∙◌, subst}
 use Rattle.std.specs.Prelude.{if◌then◌else◌, option_map}
 use Rattle.tpm_model.specs.Steps.{History, Accepted}
-use Rattle.tpm_model.specs.Registers.{changes, registers_after}
+use Rattle.tpm_model.specs.Changes.{changes}
+use Rattle.tpm_pcr.specs.Registers.{registers_after}
 use Rattle.tpm_model.specs.Policies.{policy_of}
 use Rattle.tpm_model.specs.Sessions.{Session, slot_of, lives, begins, authorizes, start_of, last_nonce, asserted_by}
 use Rattle.tpm_model.specs.Sessions.{assertions_of, as_session, session_at}

@@ -2,9 +2,9 @@ use Rattle.std.proofs.Common.{◌≡◌, ℕ, List, ◌∷◌, ◌∙◌, ap, sy
 use Rattle.std.proofs.lemmas.List.Folds.{flat_map-map}
 use Rattle.std.proofs.lemmas.List.{take_all}
 use Rattle.std.specs.Prelude.{flat_map}
-use Rattle.tpm_commands.specs.declared.code.CommandCode.TheVariants as codes
+use Rattle.tpm_types.specs.declared.command_code.CommandCode.TheVariants as codes
 use Rattle.tpm_hmac.specs.Hashes.{digest}
-use Rattle.tpm_model.specs.Registers.{zeros}
+use Rattle.tpm_pcr.specs.Registers.{zeros}
 use Rattle.tpm_model.specs.Policies.{code_bytes}
 use Rattle.tpm_session.proofs.policy.after_choice.Goals as goal
 

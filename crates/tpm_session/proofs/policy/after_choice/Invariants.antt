@@ -1,6 +1,6 @@
 use Rattle.std.specs.Prelude.{◌≡◌, ◌+◌, ◌∷◌, length, map, take}
-use Rattle.tpm_commands.specs.declared.code.CommandCode.TheVariants as codes
-use Rattle.tpm_model.specs.Registers.{zeros}
+use Rattle.tpm_types.specs.declared.command_code.CommandCode.TheVariants as codes
+use Rattle.tpm_pcr.specs.Registers.{zeros}
 use Rattle.tpm_model.specs.Policies.{code_bytes}
 use Rattle.tpm_session.proofs.policy.after_choice.Given as goal
 

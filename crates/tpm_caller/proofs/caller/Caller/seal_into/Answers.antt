@@ -1,5 +1,5 @@
 use Rattle.std.proofs.Common.{ℕ, List, ap, ◌∙◌}
-use Rattle.tpm_commands.specs.declared.code.CommandCode.{CommandCode}
+use Rattle.tpm_types.specs.declared.command_code.CommandCode.{CommandCode}
 use Rattle.tpm_buffer.specs.Commands.{code_for}
 use Rattle.tpm_model.specs.Callers.{Seal, seal_key}
 use Rattle.tpm_caller.specs.Sent.{Sent, hmac_key}

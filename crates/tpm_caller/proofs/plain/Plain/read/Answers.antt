@@ -1,5 +1,5 @@
 use Rattle.std.proofs.Common.{◌∙◌, length, sym, ap}
-use Rattle.tpm_commands.specs.declared.code.CommandCode.{CommandCode}
+use Rattle.tpm_types.specs.declared.command_code.CommandCode.{CommandCode}
 use Rattle.tpm_commands.specs.Handles.{handle_kinds}
 use Rattle.tpm_buffer.specs.CommandAreas.{HasCut}
 use Rattle.tpm_caller.proofs.PlainParts.{no_areas, no_params, has_params, not_needed, handles_lie, read_as}

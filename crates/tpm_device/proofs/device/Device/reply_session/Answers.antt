@@ -1,5 +1,5 @@
 use Rattle.std.proofs.Common.{List, Option, sym, ap, ◌∙◌}
-use Rattle.tpm_commands.specs.declared.code.CommandCode.{CommandCode}
+use Rattle.tpm_types.specs.declared.command_code.CommandCode.{CommandCode}
 use Rattle.tpm_model.specs.Sessions.{Session}
 use Rattle.tpm_model.specs.Entities.{auth_value, is_owner_entity}
 use Rattle.tpm_model.specs.Authorization.{reply_auths}

@@ -1,6 +1,6 @@
 use Rattle.std.proofs.Common.{◌∙◌, ap, sym, option_map}
 use Rattle.tpm_types.specs.declared.alg.Alg.{Alg}
-use Rattle.tpm_model.specs.Registers.{value_in, composite}
+use Rattle.tpm_pcr.specs.Registers.{value_in, composite}
 use Rattle.tpm_model.specs.Policies.{Assertion}
 use Rattle.tpm_model.specs.Sessions.{slot_of}
 use Rattle.tpm_session.specs.Policies.{asserting, with_slot}

@@ -1,0 +1,4 @@
+pub mod Sending
+pub mod Accepting
+pub mod Folding
+pub mod Booting

@@ -1,0 +1,5 @@
+pub mod Places
+pub mod Values
+pub mod Stands
+pub mod Choice
+pub mod Entries

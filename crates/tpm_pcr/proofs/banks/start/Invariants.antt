@@ -1,0 +1,6 @@
+use Rattle.tpm_pcr.specs.Banks.{Holds}
+use Rattle.tpm_pcr.proofs.Values.{starting}
+use Rattle.tpm_pcr.proofs.banks.start.Given as goal
+
+abbrev pub invariant-loop-register : goal.invariant-loop-register
+invariant-loop-register l = Holds l.bytes (starting l.register)

@@ -1,0 +1,4 @@
+pub mod SecureBoot
+pub mod Found
+pub mod Telling
+pub mod Vouching
