@@ -95,7 +95,7 @@ def crate_numbers():
         | only(constants("tpm_c", "log", "TPM_"), "TPM_REGISTERS_BYTES")
         | only(constants("tpm_c", "kept", "TPM_"), "TPM_NO_COUNTER")
         | {
-            "TPM_DEVICE_KEPT_BYTES": constants("tpm_store", "kept")["KEPT_BYTES"],
+            "TPM_DEVICE_KEPT_BYTES": constants("tpm_nv", "kept")["KEPT_BYTES"],
             "TPM_OWNER_BYTES": digest,
             "TPM_NONCE_BYTES": nonce,
             "TPM_POLICY_BYTES": array_len("tpm_c", "policy", "u8"),

@@ -18,8 +18,8 @@ use Rattle.clap.specs.declared.error.kind.ErrorKind.{ErrorKind}
 use Rattle.clap.specs.Takes.{takes}
 use Rattle.clap.proofs.OnLiterals.{clap_on_literals}
 use Rattle.clap.proofs.WalkLemmas.{first_value-rows}
-use Rattle.tpm_text_values.specs.Numbers.{IsDecimal}
-use Rattle.tpm_text_values.specs.Owner.{IsOwner}
+use Rattle.tpm_args.specs.Numbers.{IsDecimal}
+use Rattle.tpm_args.specs.Owner.{IsOwner}
 use Rattle.tpm_args.specs.declared.check.SignedWords.{SignedWords}
 use Rattle.tpm_args.specs.declared.task.Task.TheVariants.{Show, ShowCapture, ShowPackets, ShowNv, Build, Run, Explain}
 use Rattle.tpm_args.specs.declared.task.Task.TheVariants.{ExplainKind, Check, SecureBoot, Events}

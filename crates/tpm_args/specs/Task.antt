@@ -7,10 +7,10 @@ use Rattle.tpm_types.specs.declared.alg.Alg.{Alg}
 use Rattle.tpm_types.specs.Alg.{alg_name}
 use Rattle.tpm_types.specs.declared.tpms.Selection.{Selection}
 use Rattle.tpm_types.specs.declared.command_code.CommandCode.{CommandCode}
-use Rattle.tpm_text_values.specs.Names.{command_of_name, is_kind}
-use Rattle.tpm_text_values.specs.Numbers.{IsDecimal, IsHexadecimal, IsShortDecimal}
-use Rattle.tpm_text_values.specs.Owner.{IsOwner, bytes_in}
-use Rattle.tpm_text_values.specs.Selections.{AreSelections}
+use Rattle.tpm_args.specs.Names.{command_of_name, is_kind}
+use Rattle.tpm_args.specs.Numbers.{IsDecimal, IsHexadecimal, IsShortDecimal}
+use Rattle.tpm_args.specs.Owner.{IsOwner, bytes_in}
+use Rattle.tpm_args.specs.Selections.{AreSelections}
 use Rattle.tpm_args.specs.declared.check.SignedWords.{SignedWords}
 use Rattle.tpm_args.specs.declared.task.Task.TheVariants.{Show, ShowCapture, ShowPackets, ShowNv, Build, Run, Explain}
 use Rattle.tpm_args.specs.declared.task.Task.TheVariants.{ExplainKind, Check, SecureBoot, Events}

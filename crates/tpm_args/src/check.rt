@@ -16,7 +16,8 @@ use crate::stop::Stop;
 use crate::task::{Asked, Task};
 use clap::ArgMatches;
 use std::alloc::Global;
-use tpm_text_values::{is_hexadecimal, selections};
+use crate::bytes::is_hexadecimal;
+use crate::selection::selections;
 use tpm_types::{Alg, Selections};
 use tpm_words::check_words;
 

@@ -2,7 +2,7 @@
 
 ghost use Rattle.std.specs.Prelude.{◌≡◌, ℕ, List, Some, MatchOption, codes};
 ghost use Rattle.clap.specs.Words.{first_value, found_of};
-ghost use Rattle.tpm_text_values.specs.Numbers.{IsHexadecimal};
+ghost use Rattle.tpm_args.specs.Numbers.{IsHexadecimal};
 ghost use Rattle.tpm_args.specs.Stop.{IsAsked, IsMemoryOr};
 ghost use Rattle.tpm_args.specs.Task.{digits_in, AsksNothingWith, AsksWith, IsCode, IsKind};
 
@@ -12,7 +12,8 @@ use crate::stop::Stop;
 use crate::task::{Asked, Task};
 use clap::ArgMatches;
 use std::alloc::Global;
-use tpm_text_values::{hexadecimal, is_kind, short_decimal};
+use crate::name::is_kind;
+use crate::number::{hexadecimal, short_decimal};
 use tpm_words::explain_words;
 
 /// The task of the words of `explain`. A usage fault where the word is no number of the radix below 2^32, and in

@@ -21,7 +21,7 @@ use clap::error::ErrorKind;
 use clap::{ArgMatches, Error};
 use std::alloc::{AllocError, Global};
 use std::marker::Model;
-use tpm_text_values::command_named;
+use crate::name::command_named;
 use tpm_words::{build_words, program_words};
 
 /// The words of a run.

@@ -1,13 +1,19 @@
-//! The words that follow the program's name: what they ask for, or the text of usage or help.
+//! The words that follow the program's name: what they ask for, or the text of usage or help; and values by their
+//! text: an owner's authorization value, bytes, numbers, names of commands, and registers of banks.
 #![tactic(auto)]
 
+mod bytes;
 mod check;
 mod events;
 mod explain;
 mod given;
 mod invalid;
+mod name;
 mod names;
+mod number;
+mod owner;
 mod run;
+mod selection;
 mod show;
 mod stop;
 mod task;

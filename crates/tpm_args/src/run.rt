@@ -2,8 +2,8 @@
 
 ghost use Rattle.std.specs.Prelude.{ℕ, List, MatchResult, codes};
 ghost use Rattle.clap.specs.Words.{first_value, found_of};
-ghost use Rattle.tpm_text_values.specs.Numbers.{IsDecimal};
-ghost use Rattle.tpm_text_values.specs.Owner.{IsOwner};
+ghost use Rattle.tpm_args.specs.Numbers.{IsDecimal};
+ghost use Rattle.tpm_args.specs.Owner.{IsOwner};
 ghost use Rattle.tpm_args.specs.Stop.{IsMemoryOr};
 ghost use Rattle.tpm_args.specs.Task.{AsksNothingWith, AsksWith};
 
@@ -12,7 +12,8 @@ use crate::stop::Stop;
 use crate::task::Task;
 use clap::ArgMatches;
 use std::alloc::{AllocError, Global};
-use tpm_text_values::{OwnerFault, decimal, owner_value};
+use crate::number::decimal;
+use crate::owner::{OwnerFault, owner_value};
 use tpm_types::{AuthValue, DIGEST_BYTES};
 use tpm_words::run_words;
 

@@ -11,7 +11,7 @@ use crate::stop::Stop;
 use crate::task::{Asked, Task};
 use clap::ArgMatches;
 use std::alloc::Global;
-use tpm_text_values::command_named;
+use crate::name::command_named;
 use tpm_words::show_words;
 
 // Packets, in this file. None where another of a buffer and three files is given, and where they are to be read as a

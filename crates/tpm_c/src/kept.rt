@@ -15,7 +15,7 @@ use crate::device::tpm_device_init;
 use crate::out::put;
 use crate::part::{DONE, REFUSED, TpmRefusal, refuse};
 use tpm_device::{Device, changes_nv};
-use tpm_store::{Counter, Counters};
+use tpm_nv::{Counter, Counters};
 use tpm_types::{Alg, DIGEST_BYTES, SessionHandle};
 use tpm_wire::response_code::SIZE;
 use tpm_wire::{Buffer, Refusal};

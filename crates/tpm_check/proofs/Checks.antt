@@ -8,14 +8,14 @@ use Rattle.tpm_log.specs.Records.{LogRecord}
 use Rattle.tpm_log.specs.Replays.{ReplaysFrom, OnDevice}
 use Rattle.tpm_log.specs.Takes.{IsOfBytes}
 use Rattle.tpm_log.specs.declared.fault.LogFaultKind.TheVariants as kinds
-use Rattle.tpm_lines.specs.declared.fault.ToolFault.TheVariants.{Read, InputTooLong}
-use Rattle.tpm_lines.specs.declared.fault.ToolFault.{ToolFault}
-use Rattle.tpm_lines.specs.declared.status.Status.TheVariants.{Refused}
-use Rattle.tpm_lines.specs.declared.status.Status.{Status}
-use Rattle.tpm_lines.specs.Status.{both}
-use Rattle.tpm_lines.specs.Faults.{FailsByMemoryOrWrite}
-use Rattle.tpm_lines.specs.InputLines.{CountsRead}
-use Rattle.tpm_lines.specs.Text.{bytes_in}
+use Rattle.tpm_output.specs.declared.fault.ToolFault.TheVariants.{Read, InputTooLong}
+use Rattle.tpm_output.specs.declared.fault.ToolFault.{ToolFault}
+use Rattle.tpm_output.specs.declared.status.Status.TheVariants.{Refused}
+use Rattle.tpm_output.specs.declared.status.Status.{Status}
+use Rattle.tpm_output.specs.Status.{both}
+use Rattle.tpm_output.specs.Faults.{FailsByMemoryOrWrite}
+use Rattle.tpm_output.specs.InputLines.{CountsRead}
+use Rattle.tpm_output.specs.Text.{bytes_in}
 use Rattle.tpm_check.specs.declared.checked.Compared.{Compared}
 use Rattle.tpm_check.specs.Compare.{Beside, comparison}
 use Rattle.tpm_check.specs.Check.{ChecksQuote, CountsList, CountsReads, FailsLast, IsSame}

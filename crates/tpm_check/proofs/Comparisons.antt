@@ -22,14 +22,14 @@ use Rattle.tpm_check.specs.Compare.{comparison_from, comparison, status_if, most
 use Rattle.tpm_check.specs.Compare.{ReadsList, ReadsTooMuchList}
 use Rattle.tpm_check.specs.Comparing.{Compares, line_behind, line_text, list_line, stated_behind, stated_text, status_behind}
 use Rattle.tpm_check.specs.Told.{told}
-use Rattle.tpm_lines.specs.declared.status.Status.TheVariants.{Done, Refused}
-use Rattle.tpm_lines.specs.declared.status.Status.{Status}
-use Rattle.tpm_lines.specs.InputLines.{lines_of, most_bytes}
-use Rattle.tpm_lines.specs.LineSinks.{GoesOn, IsWhole, OnTrue, ReadsLines, ReadsOneMore, LineStep, LinesEnd, LinesStart}
-use Rattle.tpm_lines.specs.LineSinks.{StopsAt, TakesAll, TakesFrom, TakesKept, kept, some_if}
-use Rattle.tpm_lines.specs.Status.{both}
-use Rattle.tpm_lines.proofs.LineReading.{stops_whatever}
-use Rattle.tpm_lines.proofs.Tables.{position-map}
+use Rattle.tpm_output.specs.declared.status.Status.TheVariants.{Done, Refused}
+use Rattle.tpm_output.specs.declared.status.Status.{Status}
+use Rattle.tpm_output.specs.InputLines.{lines_of, most_bytes}
+use Rattle.tpm_output.specs.LineSinks.{GoesOn, IsWhole, OnTrue, ReadsLines, ReadsOneMore, LineStep, LinesEnd, LinesStart}
+use Rattle.tpm_output.specs.LineSinks.{StopsAt, TakesAll, TakesFrom, TakesKept, kept, some_if}
+use Rattle.tpm_output.specs.Status.{both}
+use Rattle.tpm_output.proofs.LineReading.{stops_whatever}
+use Rattle.tpm_output.proofs.Tables.{position-map}
 
 -- ---- registers
 

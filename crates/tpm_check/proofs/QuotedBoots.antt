@@ -8,8 +8,8 @@ use Rattle.tpm_log.specs.Changes.{AreAfter}
 use Rattle.tpm_log.specs.Events.{shown}
 use Rattle.tpm_log.specs.Records.{LogRecord, log}
 use Rattle.tpm_log.specs.Replays.{Replays}
-use Rattle.tpm_lines.specs.declared.status.Status.{Status}
-use Rattle.tpm_lines.specs.Status.{both}
+use Rattle.tpm_output.specs.declared.status.Status.{Status}
+use Rattle.tpm_output.specs.Status.{both}
 use Rattle.tpm_check.specs.Compare.{beside}
 use Rattle.tpm_check.specs.CheckAttest.{Adds, ChecksGiven, Verdict, printed}
 use Rattle.tpm_check.specs.CheckJson.{ok_text}

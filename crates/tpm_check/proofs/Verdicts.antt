@@ -3,10 +3,10 @@ use Rattle.std.proofs.Common.{◌≡◌, ℕ, ◌+◌, Bor, List, [], ◌++◌, 
 use Rattle.std.proofs.lemmas.List.{append-nil}
 use Rattle.std.specs.Prelude.{suc}
 use Rattle.tpm_types.specs.Tpms.{is_selected}
-use Rattle.tpm_lines.specs.declared.status.Status.TheVariants.{Done, Refused}
-use Rattle.tpm_lines.specs.declared.status.Status.{Status}
-use Rattle.tpm_lines.specs.Status.{both}
-use Rattle.tpm_lines.specs.Text.{bytes_in}
+use Rattle.tpm_output.specs.declared.status.Status.TheVariants.{Done, Refused}
+use Rattle.tpm_output.specs.declared.status.Status.{Status}
+use Rattle.tpm_output.specs.Status.{both}
+use Rattle.tpm_output.specs.Text.{bytes_in}
 use Rattle.tpm_check.specs.Compare.{Beside}
 use Rattle.tpm_check.specs.Check.{ChecksQuote}
 use Rattle.tpm_check.specs.CheckAttest.{register_word, register_words, ChecksGiven, Quoted, Verdict, printed}

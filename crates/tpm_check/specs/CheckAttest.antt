@@ -16,10 +16,10 @@ use Rattle.tpm_types.specs.Tpms.{is_selected}
 use Rattle.tpm_pcr.specs.Registers.{composite}
 use Rattle.tpm_quote.specs.declared.attest.NotSelected.{NotSelected}
 use Rattle.tpm_quote.specs.Attests.{first_not_selected, registers_of}
-use Rattle.tpm_lines.specs.declared.status.Status.TheVariants.{Done, Refused}
-use Rattle.tpm_lines.specs.declared.status.Status.{Status}
-use Rattle.tpm_lines.specs.Status.{both}
-use Rattle.tpm_lines.specs.Text.{bytes_in, bytes_text, hexadecimal, line}
+use Rattle.tpm_output.specs.declared.status.Status.TheVariants.{Done, Refused}
+use Rattle.tpm_output.specs.declared.status.Status.{Status}
+use Rattle.tpm_output.specs.Status.{both}
+use Rattle.tpm_output.specs.Text.{bytes_in, bytes_text, hexadecimal, line}
 use Rattle.tpm_check.specs.CheckJson.{attest_member, lacks_member, not_hexadecimal_text, refusal_text}
 use Rattle.tpm_events.specs.Members.{text_member}
 use Rattle.tpm_check.specs.Compare.{Beside}

@@ -4,10 +4,10 @@ use Rattle.std.specs.Prelude.{MatchOption}
 use Rattle.tpm_pcr.specs.Registers.{Registers, value_in}
 use Rattle.tpm_log.specs.declared.fault.LogFault.{LogFault}
 use Rattle.tpm_log.specs.Takes.{IsOfBytes}
-use Rattle.tpm_lines.specs.declared.status.Status.TheVariants.{Done, Refused}
-use Rattle.tpm_lines.specs.declared.status.Status.{Status}
-use Rattle.tpm_lines.specs.Status.{both}
-use Rattle.tpm_lines.specs.Text.{bytes_in}
+use Rattle.tpm_output.specs.declared.status.Status.TheVariants.{Done, Refused}
+use Rattle.tpm_output.specs.declared.status.Status.{Status}
+use Rattle.tpm_output.specs.Status.{both}
+use Rattle.tpm_output.specs.Text.{bytes_in}
 use Rattle.tpm_check.specs.Compare.{Beside, Comparison, beside, comparison}
 use Rattle.tpm_check.specs.CheckJson.{ok_text, registers_told}
 use Rattle.tpm_events.specs.LogFaults.{fault_text}

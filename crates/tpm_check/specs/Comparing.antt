@@ -7,9 +7,9 @@ use Rattle.tpm_check.specs.Compare.{Beside, Stated, ListLine, States, Heads, Pas
 use Rattle.tpm_check.specs.Compare.{is_value, compared_text, not_a_register_text, most_line}
 use Rattle.tpm_check.specs.Told.{told}
 use Rattle.tpm_check.specs.declared.list_lines.Line.TheVariants as listed
-use Rattle.tpm_lines.specs.declared.status.Status.TheVariants.{Refused}
-use Rattle.tpm_lines.specs.declared.status.Status.{Status}
-use Rattle.tpm_lines.specs.LineSinks.{Limits, LineStep}
+use Rattle.tpm_output.specs.declared.status.Status.TheVariants.{Refused}
+use Rattle.tpm_output.specs.declared.status.Status.{Status}
+use Rattle.tpm_output.specs.LineSinks.{Limits, LineStep}
 
 -- what was read of a line
 abbrev pub stated_as : RustStated → Stated

@@ -6,9 +6,9 @@ use Rattle.tpm_secure_boot.specs.declared.verdict.SecureBootFaultKind.{SecureBoo
 use Rattle.tpm_secure_boot.specs.declared.verdict.SecureBootFaultKind.TheVariants as boots
 use Rattle.tpm_event_data.specs.declared.signatures.SignatureFaultKind.{SignatureFaultKind}
 use Rattle.tpm_event_data.specs.declared.signatures.SignatureFaultKind.TheVariants as lists
-use Rattle.tpm_lines.specs.declared.status.Status.TheVariants.{Done, Refused}
-use Rattle.tpm_lines.specs.declared.status.Status.{Status}
-use Rattle.tpm_lines.specs.Text.{line}
+use Rattle.tpm_output.specs.declared.status.Status.TheVariants.{Done, Refused}
+use Rattle.tpm_output.specs.declared.status.Status.{Status}
+use Rattle.tpm_output.specs.Text.{line}
 use Rattle.tpm_events.specs.LogFaults.{kind_name}
 use Rattle.tpm_check.specs.SecureBootLines.{fault_name}
 use Rattle.tpm_events.specs.SignatureEntries.{kind_name as list_kind_name}

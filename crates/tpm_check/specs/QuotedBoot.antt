@@ -12,7 +12,7 @@ use Rattle.tpm_log.specs.Changes.{AreAfter}
 use Rattle.tpm_log.specs.Events.{shown}
 use Rattle.tpm_log.specs.Records.{LogRecord, log}
 use Rattle.tpm_log.specs.Replays.{Replays}
-use Rattle.tpm_lines.specs.declared.status.Status.{Status}
+use Rattle.tpm_output.specs.declared.status.Status.{Status}
 use Rattle.tpm_check.specs.declared.told_secure_boot.Asking.{Asking}
 use Rattle.tpm_check.specs.Compare.{beside}
 use Rattle.tpm_check.specs.CheckAttest.{ChecksGiven, Quoted, Says, Verdict, behind, printed}

@@ -3,9 +3,9 @@
 ghost use Rattle.std.specs.Prelude.{◌≡◌, ◌++◌, ℕ, List, IfOk, OnOk, IsErrOf, string_bytes};
 ghost use Rattle.std.specs.Io.KnownBytes.{Appends};
 ghost use Rattle.tpm_wire.specs.Sources.{IsWhereItFailed};
-ghost use Rattle.tpm_lines.specs.declared.fault.ToolFault.TheVariants.{InputTooLong, Read};
-ghost use Rattle.tpm_lines.specs.InputLines.{AddedTo, CountsRead};
-ghost use Rattle.tpm_lines.specs.LineSinks.{some_if};
+ghost use Rattle.tpm_output.specs.declared.fault.ToolFault.TheVariants.{InputTooLong, Read};
+ghost use Rattle.tpm_output.specs.InputLines.{AddedTo, CountsRead};
+ghost use Rattle.tpm_output.specs.LineSinks.{some_if};
 ghost use Rattle.tpm_check.specs.Compare.{comparison, compared_text, is_value, line_under, ReadsList, ReadsTooMuchList};
 ghost use Rattle.tpm_check.specs.Comparing.{line_behind, line_text, stated_as, stated_behind, stated_text};
 ghost use Rattle.tpm_check.specs.Comparing.{status_behind};
@@ -17,10 +17,10 @@ use crate::register_text::{push_compared, push_not_a_register};
 use crate::stated::Stated;
 use std::alloc::{AllocError, Global};
 use std::io::Write;
-use tpm_lines::fault::ToolFault;
-use tpm_lines::lines::{LineSink, take_lines};
-use tpm_lines::status::Status;
-use tpm_lines::text::Pushed;
+use tpm_output::fault::ToolFault;
+use tpm_output::lines::{LineSink, take_lines};
+use tpm_output::status::Status;
+use tpm_output::text::Pushed;
 use tpm_wire::Source;
 
 /// How many bytes a list has at most.

@@ -8,8 +8,8 @@ ghost use Rattle.tpm_hmac.specs.Hashes.{digest};
 use std::alloc::Global;
 use std::marker::Model;
 use tpm_hmac::hash;
-use tpm_lines::hexadecimal::push_hex;
-use tpm_lines::text::Pushed;
+use tpm_output::hexadecimal::push_hex;
+use tpm_output::text::Pushed;
 use tpm_types::{Alg, Digest};
 
 // A content and its digest by SHA-256.

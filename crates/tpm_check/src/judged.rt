@@ -16,10 +16,10 @@ use crate::signed_text::push_attest;
 use std::alloc::{AllocError, Global};
 use std::marker::Model;
 use tpm_events::members::push_text_member;
-use tpm_lines::answer::Answer;
-use tpm_lines::hexadecimal::decoded;
-use tpm_lines::status::Status;
-use tpm_lines::text::Pushed;
+use tpm_output::answer::Answer;
+use tpm_output::hexadecimal::decoded;
+use tpm_output::status::Status;
+use tpm_output::text::Pushed;
 use tpm_quote::{
     NotSelected, check_quote, decode_attest, first_not_selected, nonce_matches, selects_none,
 };

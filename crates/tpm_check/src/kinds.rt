@@ -5,8 +5,8 @@ ghost use Rattle.std.specs.Io.KnownBytes.{Appends};
 ghost use Rattle.tpm_log.specs.declared.fault.LogFaultKind.{LogFaultKind as LogFaultKindValue};
 ghost use Rattle.tpm_secure_boot.specs.declared.verdict.SecureBootFaultKind.{SecureBootFaultKind as BootFaultKindValue};
 ghost use Rattle.tpm_event_data.specs.declared.signatures.SignatureFaultKind.{SignatureFaultKind as ListFaultKindValue};
-ghost use Rattle.tpm_lines.specs.declared.status.Status.TheVariants.{Done};
-ghost use Rattle.tpm_lines.specs.Faults.{FailsByMemoryOrWrite};
+ghost use Rattle.tpm_output.specs.declared.status.Status.TheVariants.{Done};
+ghost use Rattle.tpm_output.specs.Faults.{FailsByMemoryOrWrite};
 ghost use Rattle.tpm_events.specs.LogFaults.{kind_name};
 ghost use Rattle.tpm_check.specs.SecureBootLines.{fault_name};
 ghost use Rattle.tpm_events.specs.SignatureEntries.{kind_name as list_kind_name};
@@ -14,10 +14,10 @@ ghost use Rattle.tpm_check.specs.Kinds.{boot_words, kind_line, list_words, log_w
 
 use std::alloc::{AllocError, Global};
 use std::io::Write;
-use tpm_lines::answer::Answer;
-use tpm_lines::fault::ToolFault;
-use tpm_lines::status::Status;
-use tpm_lines::text::Pushed;
+use tpm_output::answer::Answer;
+use tpm_output::fault::ToolFault;
+use tpm_output::status::Status;
+use tpm_output::text::Pushed;
 use tpm_event_data::SignatureFaultKind;
 use tpm_secure_boot::SecureBootFaultKind;
 use tpm_log::LogFaultKind;

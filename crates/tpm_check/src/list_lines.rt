@@ -1,7 +1,7 @@
 //! The lines of a list of registers.
 
 ghost use Rattle.std.specs.Prelude.{◌≡◌, ◌≤◌, true, IfOk, length, option_map};
-ghost use Rattle.tpm_lines.specs.Text.{bytes_in};
+ghost use Rattle.tpm_output.specs.Text.{bytes_in};
 ghost use Rattle.tpm_types.specs.Alg.{alg_name};
 ghost use Rattle.tpm_check.specs.Compare.{heading_line, bank_headed, other_headed, heading_in, is_numbered};
 ghost use Rattle.tpm_check.specs.Compare.{number_in, numbered_under, stating, line_under};
@@ -9,7 +9,7 @@ ghost use Rattle.tpm_check.specs.Comparing.{line_as, stated_as};
 
 use crate::stated::{Stated, cut, read_stated, read_value, register_named};
 use std::alloc::{AllocError, Global};
-use tpm_lines::hexadecimal::decoded;
+use tpm_output::hexadecimal::decoded;
 use tpm_types::{Alg, PcrIndex};
 
 /// How many bytes a line has at most: those of a line of SHA-512 that `tpm2_pcrread` prints.

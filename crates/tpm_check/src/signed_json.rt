@@ -3,7 +3,7 @@
 ghost use Rattle.std.specs.Prelude.{◌≡◌, ◌<◌, ◌++◌, ◌||◌, [], IfOk, OnOk, codes, if◌then◌else◌, map};
 ghost use Rattle.std.specs.Prelude.{string_bytes};
 ghost use Rattle.tpm_types.specs.Tpms.{is_selected};
-ghost use Rattle.tpm_lines.specs.Text.{hexadecimal};
+ghost use Rattle.tpm_output.specs.Text.{hexadecimal};
 ghost use Rattle.tpm_check.specs.CheckJson.{attest_member, clock_members, lacks_member, lacks_words};
 ghost use Rattle.tpm_check.specs.CheckJson.{register_entries, register_entry, selection_begin};
 ghost use Rattle.tpm_check.specs.CheckJson.{selection_member, selection_object};
@@ -14,8 +14,8 @@ ghost use Rattle.tpm_events.specs.EventText.{commas};
 use crate::register_text::truth;
 use std::alloc::{AllocError, Global};
 use tpm_events::members::push_number_member;
-use tpm_lines::hexadecimal::{push_hex, push_hex_member};
-use tpm_lines::text::Pushed;
+use tpm_output::hexadecimal::{push_hex, push_hex_member};
+use tpm_output::text::Pushed;
 use tpm_quote::NotSelected;
 use tpm_types::{Attest, ClockInfo, REGISTERS, Selection, register};
 
@@ -41,7 +41,7 @@ fn push_clock(text: &mut String, clock: &ClockInfo) -> Pushed
     text.push_str(truth(clock.safe))
 }
 
-#[tactic(auto, using(tpm_lines::proofs::Padded::padded), unfolding(tpm_events::specs::Members::text_member))]
+#[tactic(auto, using(tpm_output::proofs::Padded::padded), unfolding(tpm_events::specs::Members::text_member))]
 fn push_firmware(text: &mut String, version: u64) -> Pushed
     ensures { OnOk result (string_bytes text.new
         ≡ string_bytes text.old ++ text_member (codes "firmware") (hexadecimal 16 version)) }

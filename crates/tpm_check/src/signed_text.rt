@@ -7,8 +7,8 @@ ghost use Rattle.tpm_check.specs.CheckAttest.{number_line, register_word, regist
 ghost use Rattle.tpm_check.specs.CheckAttest.{signer_line};
 
 use std::alloc::Global;
-use tpm_lines::hexadecimal::shown_bytes;
-use tpm_lines::text::Pushed;
+use tpm_output::hexadecimal::shown_bytes;
+use tpm_output::text::Pushed;
 use tpm_types::{Attest, ClockInfo, REGISTERS, Selection, register};
 
 #[tactic(auto, unfolding(crate::specs::CheckAttest::signer_line))]

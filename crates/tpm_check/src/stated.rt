@@ -1,13 +1,13 @@
 //! Lines that state a register as its line is printed.
 
 ghost use Rattle.std.specs.Prelude.{◌≡◌, ◌<◌, IfOk, IfSome, Some, position, option_map};
-ghost use Rattle.tpm_lines.specs.Text.{bytes_in};
+ghost use Rattle.tpm_output.specs.Text.{bytes_in};
 ghost use Rattle.tpm_check.specs.Compare.{is_space, first_word, behind_word, bank_named, register_named, stated_of};
 ghost use Rattle.tpm_check.specs.Compare.{stated_in};
 ghost use Rattle.tpm_check.specs.Comparing.{stated_as};
 
 use std::alloc::{AllocError, Global};
-use tpm_lines::hexadecimal::decoded;
+use tpm_output::hexadecimal::decoded;
 use tpm_types::{Alg, PcrIndex};
 
 const REGISTERS: [&str; 24] = [

@@ -18,7 +18,7 @@ use tpm_buffer::{Areas, header};
 use tpm_commands::{Params, ReplyBody};
 use tpm_session::Sessions;
 use tpm_pcr::Registers;
-use tpm_store::Counters;
+use tpm_nv::Counters;
 use tpm_types::{AuthValue, CommandCode, DIGEST_BYTES, Packed};
 
 /// A device of this profile.
@@ -271,7 +271,7 @@ impl Device {
     /// (tpm_buffer's codes), then REFERENCE_H0 for a policy session that is not loaded and HANDLE
     /// for an index that is not defined; AUTH_CONTEXT and AUTH_MISSING; the authorization area; the
     /// sessions (tpm_session's codes, in the order of `authorize`); the parameters; and the
-    /// refusals of the command's action, those of tpm_store and tpm_session, and VALUE for a start
+    /// refusals of the command's action, those of tpm_nv and tpm_session, and VALUE for a start
     /// from a saved state (Part 1, "Command Processing"; the order is this profile's).
     pub fn execute(&mut self, bytes: &[u8], nonce: &[u8; 64]) -> ResponseBuffer
         ensures answer { (o : Origin) (h : History) →

@@ -17,7 +17,7 @@ ghost use Rattle.tpm_device.specs.Stands.{holds, Stands};
 use crate::device::{Device, no_sessions};
 use tpm_buffer::header;
 use tpm_pcr::Registers;
-use tpm_store::{Counter, Counters, KEPT_BYTES};
+use tpm_nv::{Counter, Counters, KEPT_BYTES};
 use tpm_types::{Alg, AuthValue, CommandCode, Packed, SessionHandle};
 use tpm_wire::{Buffer, Refusal, Wire};
 

@@ -7,7 +7,7 @@ ghost use Rattle.tpm_device.specs.Stands.{holds, acted, step_of, Steps};
 
 use crate::device::Device;
 use tpm_commands::{NvData, ReplyBody};
-use tpm_store::By;
+use tpm_nv::By;
 use tpm_types::{AuthValue, NvIndex, NvPublic};
 use tpm_wire::response_code::HANDLE;
 

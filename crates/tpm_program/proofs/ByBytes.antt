@@ -2,7 +2,7 @@
 use Rattle.std.proofs.Common.{ℕ, List, Option, Some, None, option_map, Result, Ok, Err, ap}
 use Rattle.tpm_pcr.specs.Registers.{Registers, value_in}
 use Rattle.tpm_log.specs.declared.fault.LogFault.{LogFault}
-use Rattle.tpm_lines.specs.declared.status.Status.{Status}
+use Rattle.tpm_output.specs.declared.status.Status.{Status}
 use Rattle.tpm_check.specs.Compare.{Beside, beside}
 use Rattle.tpm_check.specs.Check.{ReadsIfList, ReadsTooMuchIfList}
 use Rattle.tpm_check.specs.Checked.{ChecksLog}

@@ -7,9 +7,9 @@ use Rattle.tpm_pcr.specs.Registers.{Registers}
 use Rattle.tpm_log.specs.declared.fault.LogFault.{LogFault}
 use Rattle.tpm_log.specs.Changes.{AreAfter}
 use Rattle.tpm_log.specs.Replays.{LogSource, ReadsFrom, ReplaysFrom}
-use Rattle.tpm_lines.specs.declared.fault.ToolFault.TheVariants.{Memory, Read, Write, InputTooLong}
-use Rattle.tpm_lines.specs.declared.fault.ToolFault.{ToolFault}
-use Rattle.tpm_lines.specs.declared.status.Status.{Status}
+use Rattle.tpm_output.specs.declared.fault.ToolFault.TheVariants.{Memory, Read, Write, InputTooLong}
+use Rattle.tpm_output.specs.declared.fault.ToolFault.{ToolFault}
+use Rattle.tpm_output.specs.declared.status.Status.{Status}
 use Rattle.tpm_args.specs.declared.task.Task.TheVariants.{Check, SecureBoot}
 use Rattle.tpm_check.specs.Check.{ReadsTooMuchIfList}
 use Rattle.tpm_check.specs.Checked.{ChecksLog}

@@ -5,8 +5,8 @@ use Rattle.std.specs.Fmt.{digits}
 use Rattle.std.specs.List.{flat_map}
 use Rattle.std.specs.declared.io.ErrorKind.TheVariants.{NotFound, PermissionDenied, IsADirectory}
 use Rattle.std.specs.declared.io.ErrorKind.{ErrorKind}
-use Rattle.tpm_lines.specs.declared.fault.ToolFault.TheVariants.{Memory, Read, Write, InputTooLong}
-use Rattle.tpm_lines.specs.declared.fault.ToolFault.{ToolFault}
+use Rattle.tpm_output.specs.declared.fault.ToolFault.TheVariants.{Memory, Read, Write, InputTooLong}
+use Rattle.tpm_output.specs.declared.fault.ToolFault.{ToolFault}
 use Rattle.tpm_program.specs.declared.cause.Cause.TheVariants.{Missing, Denied, Directory, Other}
 use Rattle.tpm_program.specs.declared.cause.Cause.{Cause}
 use Rattle.tpm_program.specs.declared.fault.Fault.TheVariants.{File, Tool}

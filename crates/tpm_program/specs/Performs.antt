@@ -7,7 +7,7 @@ use Rattle.tpm_model.specs.Steps.{Origin, new_origin}
 use Rattle.tpm_log.specs.declared.fault.LogFault.{LogFault}
 use Rattle.tpm_log.specs.Changes.{AreAfter}
 use Rattle.tpm_log.specs.Replays.{LogSource, ReadsFrom, ReplaysFrom}
-use Rattle.tpm_lines.specs.declared.status.Status.{Status}
+use Rattle.tpm_output.specs.declared.status.Status.{Status}
 use Rattle.tpm_show.specs.declared.telling.Telling.{Telling}
 use Rattle.tpm_show.specs.Build.{Builds}
 use Rattle.tpm_show.specs.Capture.{ReadsAll, TellsCapture}
@@ -15,7 +15,7 @@ use Rattle.tpm_show.specs.Explain.{explain_status, explanation}
 use Rattle.tpm_show.specs.Packets.{TellsPackets}
 use Rattle.tpm_show.specs.Show.{Shows, ShowsFields}
 use Rattle.tpm_show.specs.Stream.{OfRead, TellsStream}
-use Rattle.tpm_show_nv.specs.ShowNv.{ShowsNv}
+use Rattle.tpm_script.specs.ShowNv.{ShowsNv}
 use Rattle.tpm_check.specs.CheckAttest.{Quoted}
 use Rattle.tpm_check.specs.Checked.{ChecksLog}
 use Rattle.tpm_check.specs.declared.checked.Compared.{Compared}

@@ -7,7 +7,7 @@ ghost use Rattle.tpm_program.specs.FaultText.{cause_text, tool_text};
 use crate::cause::Cause;
 use crate::shown_path::ShownPath;
 use std::fmt::{self, Display, Formatter, Write};
-use tpm_lines::fault::ToolFault;
+use tpm_output::fault::ToolFault;
 
 /// What keeps the program from its answer, as it is printed on standard error, with the control characters of a path
 /// escaped.

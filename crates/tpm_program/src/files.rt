@@ -7,7 +7,7 @@ ghost use Rattle.tpm_program.specs.Fails.{IsNotOpened, IsNotOpenedIf, IsOfReadin
 use crate::cause::Cause;
 use crate::fault::Fault;
 use crate::inputs::Inputs;
-use tpm_lines::fault::ToolFault;
+use tpm_output::fault::ToolFault;
 
 /// The file at a path, opened for reading.
 pub(crate) fn opened<'a, I: Inputs>(inputs: &I, path: &'a str) -> Result<I::Source, Fault<'a>>

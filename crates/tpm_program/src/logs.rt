@@ -19,7 +19,7 @@ use std::alloc::Global;
 use std::io::Write;
 use tpm_check::{Asking, Compared, Signed, check_log, check_secure_boot, tell_secure_boot};
 use tpm_events::{Listing, list_events, read_attest};
-use tpm_lines::status::Status;
+use tpm_output::status::Status;
 use tpm_types::{Alg, Selections};
 use tpm_wire::Source;
 

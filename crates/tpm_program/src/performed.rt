@@ -14,7 +14,7 @@ use std::io::Write;
 use tpm_args::Task;
 use tpm_check::{Asking, explain_kind};
 use tpm_events::Listing;
-use tpm_lines::status::Status;
+use tpm_output::status::Status;
 use tpm_show::{Telling, build, explain, show, show_fields};
 
 /// Performs a task: prints what it asks for, and answers whether all was done.

@@ -12,7 +12,7 @@ use crate::performed::perform;
 use std::alloc::Global;
 use std::io::{ErrorKind, Write};
 use tpm_args::{Stop, Task, Words, words_not_text};
-use tpm_lines::fault::ToolFault;
+use tpm_output::fault::ToolFault;
 
 /// The status of words at fault.
 const USAGE: u8 = 2;

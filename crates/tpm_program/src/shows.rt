@@ -2,7 +2,7 @@
 
 ghost use Rattle.std.specs.Prelude.{ℕ, List, Option, None, Some, IfOk, IfErr, IsErrOf};
 ghost use Rattle.std.specs.Io.KnownBytes.{Appends};
-ghost use Rattle.tpm_lines.specs.declared.fault.ToolFault.TheVariants.{InputTooLong};
+ghost use Rattle.tpm_output.specs.declared.fault.ToolFault.TheVariants.{InputTooLong};
 ghost use Rattle.tpm_show.specs.Capture.{ReadsTooMuchCapture};
 ghost use Rattle.tpm_args.specs.declared.task.Task.TheVariants.{Run, ShowCapture, ShowNv, ShowPackets};
 ghost use Rattle.tpm_program.specs.Performs.{Performs, TellsFrames, form_of};
@@ -15,11 +15,11 @@ use std::alloc::Global;
 use std::io::Write;
 use tpm_device::Device;
 use tpm_events::read_up_to;
-use tpm_lines::fault::ToolFault;
-use tpm_lines::status::Status;
+use tpm_output::fault::ToolFault;
+use tpm_output::status::Status;
 use tpm_script::run_script;
 use tpm_show::{Telling, show_lines, show_packets, show_stream};
-use tpm_show_nv::{MOST_READ, show_nv};
+use tpm_script::{MOST_READ, show_nv};
 use tpm_types::AuthValue;
 use tpm_wire::Source;
 

@@ -13,7 +13,7 @@ use Rattle.tpm_model.specs.Premises.{code_in, HasSessionMac, least_nonce, nonces
 use Rattle.tpm_model.specs.Premises.{NoCollision}
 use Rattle.tpm_model.proofs.Replay.{twice}
 use Rattle.tpm_device.proofs.Ran.{accepted}
-use Rattle.tpm_lines.specs.InputLines.{onto_first, lines_of, most_bytes}
+use Rattle.tpm_output.specs.InputLines.{onto_first, lines_of, most_bytes}
 use Rattle.tpm_script.specs.Script.{Line, Command, NotHexadecimal, line_of, nonce_of, events_from, script}
 
 -- A nonce begins with its number.

@@ -14,13 +14,13 @@ use Rattle.tpm_script.specs.Script.{AreAnswered, IsRefusedIn, IsRefusedLine, IsU
 use Rattle.tpm_script.specs.Script.{script, events_text, refused_text, script_text, status_for, ReadsNoFurther}
 use Rattle.tpm_script.specs.Script.{ReadsScript, ReadsTooMuch, most_digits}
 use Rattle.tpm_script.specs.Progress.{Runs, RunsTo, StandsAt, digits, next_command}
-use Rattle.tpm_lines.specs.declared.status.Status.TheVariants.{Done, Refused}
-use Rattle.tpm_lines.specs.declared.status.Status.{Status}
-use Rattle.tpm_lines.specs.Text.{bytes_line, line}
-use Rattle.tpm_lines.specs.InputLines.{lines_of, most_bytes}
-use Rattle.tpm_lines.proofs.InputLines.{ended_line, lines_of-append}
-use Rattle.tpm_lines.specs.LineSinks.{GoesOn, IsWhole, OnTrue, Reading, ReadsLines, ReadsOneMore, LineStep, LinesEnd}
-use Rattle.tpm_lines.specs.LineSinks.{LinesStart, StopsAt, TakesAll, TakesFrom, TakesKept, kept, some_if}
+use Rattle.tpm_output.specs.declared.status.Status.TheVariants.{Done, Refused}
+use Rattle.tpm_output.specs.declared.status.Status.{Status}
+use Rattle.tpm_output.specs.Text.{bytes_line, line}
+use Rattle.tpm_output.specs.InputLines.{lines_of, most_bytes}
+use Rattle.tpm_output.proofs.InputLines.{ended_line, lines_of-append}
+use Rattle.tpm_output.specs.LineSinks.{GoesOn, IsWhole, OnTrue, Reading, ReadsLines, ReadsOneMore, LineStep, LinesEnd}
+use Rattle.tpm_output.specs.LineSinks.{LinesStart, StopsAt, TakesAll, TakesFrom, TakesKept, kept, some_if}
 
 -- ---- the script of some lines
 

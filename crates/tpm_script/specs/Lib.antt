@@ -1,2 +1,4 @@
 pub mod Script
 pub mod Progress
+pub mod MemoryText
+pub mod ShowNv

@@ -9,7 +9,7 @@ use Rattle.tpm_script.specs.declared.script.Run.{Run}
 use Rattle.tpm_script.specs.Script.{Line, Blank, Power, Command, NotHexadecimal, Script, events_from, line_of}
 use Rattle.tpm_script.specs.Script.{most_digits, refused_line, script_text}
 use Rattle.tpm_script.specs.declared.lines.Line.TheVariants as rust
-use Rattle.tpm_lines.specs.LineSinks.{Limits, LineStep}
+use Rattle.tpm_output.specs.LineSinks.{Limits, LineStep}
 
 -- what was read of a line
 abbrev pub read_as : RustLine → Line

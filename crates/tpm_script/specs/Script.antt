@@ -8,10 +8,10 @@ use Rattle.std.specs.List.{AllByRecursion}
 use Rattle.std.specs.Io.KnownBytes.{Consumes, IsAtEnd}
 use Rattle.tpm_model.specs.Steps.{History, Origin}
 use Rattle.tpm_model.specs.Runs.{Event, Given, Cycled, run}
-use Rattle.tpm_lines.specs.declared.status.Status.TheVariants.{Done, Refused}
-use Rattle.tpm_lines.specs.declared.status.Status.{Status}
-use Rattle.tpm_lines.specs.Text.{bytes_in, bytes_line, line}
-use Rattle.tpm_lines.specs.InputLines.{lines_of, HasNoFeed, AreEnded, most_bytes, most_piece}
+use Rattle.tpm_output.specs.declared.status.Status.TheVariants.{Done, Refused}
+use Rattle.tpm_output.specs.declared.status.Status.{Status}
+use Rattle.tpm_output.specs.Text.{bytes_in, bytes_line, line}
+use Rattle.tpm_output.specs.InputLines.{lines_of, HasNoFeed, AreEnded, most_bytes, most_piece}
 
 -- ---- what a line asks for
 

@@ -6,7 +6,7 @@ ghost use Rattle.tpm_model.specs.Answers.{answer};
 ghost use Rattle.tpm_model.specs.Runs.Event.{Given};
 ghost use Rattle.tpm_model.specs.Runs.{Event, after};
 ghost use Rattle.tpm_model.specs.Premises.{code_in, HasSessionMac, NoncesDiffer, NoCollision};
-ghost use Rattle.tpm_lines.specs.InputLines.{most_bytes};
+ghost use Rattle.tpm_output.specs.InputLines.{most_bytes};
 ghost use Rattle.tpm_script.specs.Script.{script};
 
 /// The nonces of a script, of at most 16,777,216 bytes, differ pairwise in their first 16 bytes. So there is no

@@ -5,7 +5,7 @@ ghost use Rattle.tpm_script.specs.Script.{is_skipped, line_of, nonce_of};
 ghost use Rattle.tpm_script.specs.Progress.{read_as};
 
 use std::alloc::{AllocError, Global};
-use tpm_lines::hexadecimal::decoded;
+use tpm_output::hexadecimal::decoded;
 
 /// How many digits a line has at most: those of a buffer of 4,096 bytes.
 pub(crate) const MOST_DIGITS: usize = 8192;

@@ -7,9 +7,9 @@ ghost use Rattle.tpm_model.specs.Steps.{History, Origin};
 ghost use Rattle.tpm_model.specs.Runs.{Given, Cycled};
 ghost use Rattle.tpm_device.specs.Stands.{Stands};
 ghost use Rattle.tpm_wire.specs.Sources.{IsWhereItFailed};
-ghost use Rattle.tpm_lines.specs.declared.fault.ToolFault.TheVariants.{InputTooLong, Read};
-ghost use Rattle.tpm_lines.specs.InputLines.{AddedTo, CountsRead};
-ghost use Rattle.tpm_lines.specs.LineSinks.{OnTrue, some_if};
+ghost use Rattle.tpm_output.specs.declared.fault.ToolFault.TheVariants.{InputTooLong, Read};
+ghost use Rattle.tpm_output.specs.InputLines.{AddedTo, CountsRead};
+ghost use Rattle.tpm_output.specs.LineSinks.{OnTrue, some_if};
 ghost use Rattle.tpm_script.specs.Script.{AreAnswered, nonce_of, refused_line, script, script_text, status_for};
 ghost use Rattle.tpm_script.specs.Script.{ReadsNoFurther, ReadsScript, ReadsTooMuch};
 ghost use Rattle.tpm_script.specs.Progress.{GoesThrough, Runs};
@@ -18,10 +18,10 @@ use crate::lines::{Line, MOST_DIGITS, nonce, read_line};
 use std::alloc::{AllocError, Global};
 use std::io::Write;
 use tpm_device::Device;
-use tpm_lines::fault::ToolFault;
-use tpm_lines::lines::{LineSink, take_lines};
-use tpm_lines::status::Status;
-use tpm_lines::text::{Pushed, push_bytes};
+use tpm_output::fault::ToolFault;
+use tpm_output::lines::{LineSink, take_lines};
+use tpm_output::status::Status;
+use tpm_output::text::{Pushed, push_bytes};
 use tpm_wire::Source;
 
 /// How many bytes a script has at most.

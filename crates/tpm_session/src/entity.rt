@@ -5,7 +5,7 @@ ghost use Rattle.tpm_model.specs.Entities.{auth_value, is_owner_entity};
 ghost use Rattle.tpm_session.specs.Entities.{entity_in};
 
 use tpm_hmac::trim;
-use tpm_store::Definition;
+use tpm_nv::Definition;
 
 /// What the first handle of a command names, whose authorization the command needs. Authorization
 /// values may have trailing zeros, which are no part of them (Part 1, "Authorization Values").

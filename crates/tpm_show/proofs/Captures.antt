@@ -3,11 +3,11 @@ use Rattle.std.proofs.Common.{◌≡◌, ℕ, ◌+◌, ◌<◌, ◌≤◌, List,
 use Rattle.std.proofs.Common.{refl, sym, ap, subst, ◌∙◌, inl, inr, arith, append_assoc, length-take-le}
 use Rattle.std.proofs.lemmas.Bool.{cases_lt, lt-ltb}
 use Rattle.std.proofs.lemmas.List.{append-nil, take_all}
-use Rattle.tpm_lines.specs.declared.status.Status.TheVariants.{Done, Refused}
-use Rattle.tpm_lines.specs.declared.status.Status.{Status}
-use Rattle.tpm_lines.specs.InputLines.{lines_of}
-use Rattle.tpm_lines.specs.LineSinks.{GoesOn, IsWhole, ReadsLines, TakesAll, TakesFrom, TakesKept}
-use Rattle.tpm_lines.specs.Status.{both}
+use Rattle.tpm_output.specs.declared.status.Status.TheVariants.{Done, Refused}
+use Rattle.tpm_output.specs.declared.status.Status.{Status}
+use Rattle.tpm_output.specs.InputLines.{lines_of}
+use Rattle.tpm_output.specs.LineSinks.{GoesOn, IsWhole, ReadsLines, TakesAll, TakesFrom, TakesKept}
+use Rattle.tpm_output.specs.Status.{both}
 use Rattle.tpm_show.specs.declared.telling.Telling.{Telling}
 use Rattle.tpm_show.specs.declared.capture.Capture.{Capture}
 use Rattle.tpm_show.specs.Capture.{Line, CapturePlace, start, behind, told_in, line_of, most_line, most_bytes, without_blanks}

@@ -10,10 +10,10 @@ use Rattle.tpm_stream.specs.Frames.{IsFrame, IsBroken, BeginsNoFrame}
 use Rattle.tpm_stream.proofs.Filled.{consumes_both}
 use Rattle.tpm_stream.proofs.Framed.{stated_more}
 use Rattle.tpm_stream.proofs.Streamed.{broken_begins}
-use Rattle.tpm_lines.specs.declared.status.Status.TheVariants.{Done, Refused}
-use Rattle.tpm_lines.specs.declared.status.Status.{Status}
-use Rattle.tpm_lines.specs.Status.{both}
-use Rattle.tpm_lines.proofs.Joins.{Joins}
+use Rattle.tpm_output.specs.declared.status.Status.TheVariants.{Done, Refused}
+use Rattle.tpm_output.specs.declared.status.Status.{Status}
+use Rattle.tpm_output.specs.Status.{both}
+use Rattle.tpm_output.proofs.Joins.{Joins}
 use Rattle.tpm_show.specs.declared.telling.Telling.{Telling}
 use Rattle.tpm_show.specs.declared.capture.Capture.{Capture}
 use Rattle.tpm_show.specs.Capture.{Frame, CapturePlace, start, behind, most_bytes}

@@ -8,9 +8,9 @@ use Rattle.tpm_types.specs.declared.command_code.CommandCode.{CommandCode}
 use Rattle.tpm_commands.specs.declared.command.Command.{Command}
 use Rattle.tpm_buffer.specs.Commands.{command}
 use Rattle.tpm_buffer.specs.Parts.{joined}
-use Rattle.tpm_lines.specs.declared.status.Status.TheVariants.{Done, Refused}
-use Rattle.tpm_lines.specs.declared.status.Status.{Status}
-use Rattle.tpm_lines.specs.Text.{bytes_in, bytes_line, refusal_line, not_hexadecimal_line}
+use Rattle.tpm_output.specs.declared.status.Status.TheVariants.{Done, Refused}
+use Rattle.tpm_output.specs.declared.status.Status.{Status}
+use Rattle.tpm_output.specs.Text.{bytes_in, bytes_line, refusal_line, not_hexadecimal_line}
 
 -- ---- what is printed
 

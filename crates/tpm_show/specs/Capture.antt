@@ -11,11 +11,11 @@ use Rattle.tpm_types.specs.CommandCodes.{code_number, code_of}
 use Rattle.tpm_buffer.specs.Commands.{command}
 use Rattle.tpm_buffer.specs.CommandAreas.{Cut, HasCut}
 use Rattle.tpm_buffer.specs.Responses.{ReplyCut, reply_cut, response}
-use Rattle.tpm_lines.specs.declared.status.Status.TheVariants.{Done, Refused}
-use Rattle.tpm_lines.specs.declared.status.Status.{Status}
-use Rattle.tpm_lines.specs.Status.{both}
-use Rattle.tpm_lines.specs.Text.{bytes_in}
-use Rattle.tpm_lines.specs.InputLines.{lines_of, AreEnded, HasNoFeed}
+use Rattle.tpm_output.specs.declared.status.Status.TheVariants.{Done, Refused}
+use Rattle.tpm_output.specs.declared.status.Status.{Status}
+use Rattle.tpm_output.specs.Status.{both}
+use Rattle.tpm_output.specs.Text.{bytes_in}
+use Rattle.tpm_output.specs.InputLines.{lines_of, AreEnded, HasNoFeed}
 pub use Rattle.tpm_show.specs.Digits.{is_blank, without_blanks, without_prefix}
 use Rattle.tpm_show.specs.declared.capture_lines.Direction.TheVariants.{Command, Reply}
 use Rattle.tpm_show.specs.declared.capture_lines.Direction.{Direction}

@@ -3,7 +3,7 @@ use Rattle.std.specs.Prelude.{ℕ, ◌==◌, ◌&&◌, List, [], ◌∷◌, ◌+
 use Rattle.std.specs.Prelude.{find, if◌then◌else◌}
 use Rattle.tpm_wire.specs.ResponseCodes.{rc_command_code}
 use Rattle.tpm_wire.specs.declared.refusal.Refusal.{Refusal}
-use Rattle.tpm_lines.specs.Text.{line}
+use Rattle.tpm_output.specs.Text.{line}
 use Rattle.tpm_show.specs.declared.command_names.Listed.{Listed as RustListed}
 
 -- a command's number, its name without TPM_CC_, and how many handles it and its response have

@@ -1,7 +1,7 @@
 -- Buffers in hexadecimal as people write them: with blanks between the digits, and `0x` before them (this profile).
 use Rattle.std.specs.Prelude.{ℕ, ◌==◌, ◌||◌, Bool, not, List, take, drop, filter, codes, Option, if◌then◌else◌}
 use Rattle.std.specs.Str.{bytes_eq}
-use Rattle.tpm_lines.specs.Text.{bytes_in}
+use Rattle.tpm_output.specs.Text.{bytes_in}
 
 -- a space, a tab or a carriage return
 abbrev pub is_blank : ℕ → Bool

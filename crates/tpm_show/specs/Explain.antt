@@ -7,9 +7,9 @@ use Rattle.tpm_show.specs.declared.layers.Codes.TheVariants.{Base, BaseOrTpm, Tp
 use Rattle.tpm_show.specs.declared.layers.Codes.{Codes}
 use Rattle.tpm_show.specs.Layers.{codes_of, layer_of, base_of}
 use Rattle.tpm_show.specs.Meanings.{Meaning, means, meaning_in}
-use Rattle.tpm_lines.specs.declared.status.Status.TheVariants.{Done, Refused}
-use Rattle.tpm_lines.specs.declared.status.Status.{Status}
-use Rattle.tpm_lines.specs.Text.{line}
+use Rattle.tpm_output.specs.declared.status.Status.TheVariants.{Done, Refused}
+use Rattle.tpm_output.specs.declared.status.Status.{Status}
+use Rattle.tpm_output.specs.Text.{line}
 
 -- ---- the codes (Part 2, 6.6.3)
 

@@ -4,7 +4,7 @@ use Rattle.std.specs.Prelude.{ℕ, List, [], ◌∷◌, ◌++◌, codes as text,
 use Rattle.std.specs.Fmt.{decimal}
 use Rattle.json.specs.Token.{Token, begin_object}
 use Rattle.tpm_commands.specs.Row.{Field}
-use Rattle.tpm_lines.specs.Text.{line, bytes_text}
+use Rattle.tpm_output.specs.Text.{line, bytes_text}
 use Rattle.tpm_show.specs.FieldNames.{value_name}
 use Rattle.tpm_show.specs.Members.{hex_member, list_begins, number_member, object_of, text_member}
 

@@ -3,7 +3,7 @@ use Rattle.std.specs.Prelude.{ℕ, List, [], ◌∷◌, ◌++◌, Option, Some, 
 use Rattle.std.specs.Fmt.{decimal}
 use Rattle.hex.specs.Hex.{encode_lower}
 use Rattle.json.specs.Token.{Token, begin_object, end_object, begin_array, end_array, key, string, number}
-use Rattle.tpm_lines.specs.Named.{Named}
+use Rattle.tpm_output.specs.Named.{Named}
 
 abbrev pub text_member : (name text : List ℕ) → List Token
 text_member name text = key name ∷ string text ∷ []

@@ -1,8 +1,8 @@
 -- How far what went over a port has been told.
 use Rattle.std.specs.Prelude.{◌≡◌, ℕ, ◌+◌, ◌≤◌, List, [], ◌∷◌, length}
 use Rattle.tpm_pcap.specs.Entries.{Entry}
-use Rattle.tpm_lines.specs.declared.status.Status.{Status}
-use Rattle.tpm_lines.specs.Status.{both}
+use Rattle.tpm_output.specs.declared.status.Status.{Status}
+use Rattle.tpm_output.specs.Status.{both}
 use Rattle.tpm_show.specs.declared.capture.Capture.{Capture}
 use Rattle.tpm_show.specs.Capture.{CapturePlace}
 use Rattle.tpm_show.specs.Capturing.{place}

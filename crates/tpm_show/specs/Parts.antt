@@ -10,7 +10,7 @@ use Rattle.tpm_types.specs.Tpm2b.{digest}
 use Rattle.tpm_types.specs.Tpma.{nv_type}
 use Rattle.tpm_types.specs.Tpms.{selection, is_selected, nv_public_area}
 use Rattle.tpm_types.specs.Tpmt.{digest_value, sym_def}
-use Rattle.tpm_lines.specs.Named.{Named, named as numbered}
+use Rattle.tpm_output.specs.Named.{Named, named as numbered}
 use Rattle.tpm_show.specs.Bits.{bits_set}
 use Rattle.tpm_show.specs.Pieces.{Field, Piece, Number, Value, fields_from, named, parts, structure_told}
 

@@ -15,9 +15,9 @@ use Rattle.tpm_buffer.specs.Commands.{command}
 use Rattle.tpm_buffer.specs.CommandAreas.{Cut, HasCut}
 use Rattle.tpm_buffer.specs.ResponseAreas.{handle_of}
 use Rattle.tpm_buffer.specs.Responses.{ReplyCut, reply_cut, response}
-use Rattle.tpm_lines.specs.declared.status.Status.TheVariants.{Done, Refused}
-use Rattle.tpm_lines.specs.declared.status.Status.{Status}
-use Rattle.tpm_lines.specs.Text.{line, not_hexadecimal_line}
+use Rattle.tpm_output.specs.declared.status.Status.TheVariants.{Done, Refused}
+use Rattle.tpm_output.specs.declared.status.Status.{Status}
+use Rattle.tpm_output.specs.Text.{line, not_hexadecimal_line}
 use Rattle.tpm_show.specs.Digits.{buffer_in}
 use Rattle.tpm_show.specs.ReplyText.{handles_of, reply_line, reply_code_line}
 use Rattle.tpm_show.specs.Fields.{command_fields, reply_fields}

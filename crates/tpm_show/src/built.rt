@@ -2,7 +2,7 @@
 
 ghost use Rattle.std.specs.Prelude.{◌≡◌, ℕ, List, IfOk, option_map, string_bytes};
 ghost use Rattle.std.specs.Io.KnownBytes.{Appends};
-ghost use Rattle.tpm_lines.specs.Faults.{FailsByMemoryOrWrite};
+ghost use Rattle.tpm_output.specs.Faults.{FailsByMemoryOrWrite};
 ghost use Rattle.tpm_buffer.specs.Parts.{joined};
 ghost use Rattle.tpm_show.specs.Build.{Builds, BuildsBuffer, BuildsBytes, part_of};
 
@@ -10,11 +10,11 @@ use std::alloc::{AllocError, Global};
 use std::io::Write;
 use tpm_buffer::{decode_command, join_command};
 use tpm_types::CommandCode;
-use tpm_lines::answer::Answer;
-use tpm_lines::fault::ToolFault;
-use tpm_lines::hexadecimal::decoded;
-use tpm_lines::status::Status;
-use tpm_lines::text::push_bytes;
+use tpm_output::answer::Answer;
+use tpm_output::fault::ToolFault;
+use tpm_output::hexadecimal::decoded;
+use tpm_output::status::Status;
+use tpm_output::text::push_bytes;
 use tpm_wire::Refusal;
 use tpm_wire::response_code::COMMAND_SIZE;
 

@@ -4,10 +4,10 @@ ghost use Rattle.std.specs.Prelude.{◌≡◌, ◌+◌, ◌^◌, ◌<◌, ◌≤
 ghost use Rattle.std.specs.Prelude.{string_bytes};
 ghost use Rattle.std.specs.Io.KnownBytes.{Appends, Consumes};
 ghost use Rattle.tpm_wire.specs.Sources.{IsWhereItFailed};
-ghost use Rattle.tpm_lines.specs.declared.fault.ToolFault.TheVariants.{InputTooLong, Read};
-ghost use Rattle.tpm_lines.specs.declared.status.Status.TheVariants.{Done, Refused};
-ghost use Rattle.tpm_lines.specs.Faults.{FailsByMemoryOrWrite};
-ghost use Rattle.tpm_lines.specs.InputLines.{AddedTo, CountsRead};
+ghost use Rattle.tpm_output.specs.declared.fault.ToolFault.TheVariants.{InputTooLong, Read};
+ghost use Rattle.tpm_output.specs.declared.status.Status.TheVariants.{Done, Refused};
+ghost use Rattle.tpm_output.specs.Faults.{FailsByMemoryOrWrite};
+ghost use Rattle.tpm_output.specs.InputLines.{AddedTo, CountsRead};
 ghost use Rattle.tpm_show.specs.declared.capture_frames.Awaited.TheVariants.{Unknown};
 ghost use Rattle.tpm_show.specs.Capture.{Frame, frame_at, start, TellsCapture, TellsFrame, ReadsAll};
 ghost use Rattle.tpm_show.specs.Capture.{ReadsTooMuchCapture, TellsEnded};
@@ -27,11 +27,11 @@ use crate::reports::push_remark;
 use crate::telling::Telling;
 use std::alloc::{AllocError, Global};
 use std::io::Write;
-use tpm_lines::answer::write;
-use tpm_lines::fault::ToolFault;
-use tpm_lines::lines::{LineSink, take_lines};
-use tpm_lines::status::Status;
-use tpm_lines::text::Pushed;
+use tpm_output::answer::write;
+use tpm_output::fault::ToolFault;
+use tpm_output::lines::{LineSink, take_lines};
+use tpm_output::status::Status;
+use tpm_output::text::Pushed;
 use tpm_wire::Source;
 
 /// How many bytes a capture has at most, which is more than any has.

@@ -6,7 +6,7 @@ ghost use Rattle.tpm_show.specs.Capture.{head_told, is_response, other_reply, re
 ghost use Rattle.tpm_show.specs.Capture.{TellsBuffer, TellsRest, TellsFrame};
 ghost use Rattle.tpm_show.specs.CommandNames.{absent_name, command_of, listed_as};
 ghost use Rattle.tpm_show.specs.Pieces.{Piece, RefusedWith, Untold};
-ghost use Rattle.tpm_lines.specs.declared.status.Status.TheVariants.{Refused};
+ghost use Rattle.tpm_output.specs.declared.status.Status.TheVariants.{Refused};
 ghost use Rattle.tpm_show.specs.Show.{CommandBytes, ReplyBytes};
 
 use crate::capture_lines::Direction;
@@ -17,8 +17,8 @@ use crate::teller::Teller;
 use crate::told::{command_and_areas, response_and_areas, tell_command_rest, tell_response_rest};
 use std::alloc::AllocError;
 use tpm_types::CommandCode;
-use tpm_lines::status::Status;
-use tpm_lines::text::Pushed;
+use tpm_output::status::Status;
+use tpm_output::text::Pushed;
 use tpm_wire::Refusal;
 
 /// Which reply may come next.

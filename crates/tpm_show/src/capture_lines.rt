@@ -4,11 +4,11 @@ ghost use Rattle.std.specs.Prelude.{◌≡◌, IfOk};
 ghost use Rattle.tpm_show.specs.Capture.{told_in, frame_of};
 ghost use Rattle.tpm_show.specs.Digits.{without_prefix};
 ghost use Rattle.tpm_show.specs.Capturing.{read_as};
-ghost use Rattle.tpm_lines.specs.Text.{bytes_in};
+ghost use Rattle.tpm_output.specs.Text.{bytes_in};
 
 use crate::digits::without_prefix;
 use std::alloc::{AllocError, Global};
-use tpm_lines::hexadecimal::decoded;
+use tpm_output::hexadecimal::decoded;
 
 /// How many bytes a line has at most beside its blanks: a mark, `0x`, and the digits of a buffer of 4,096 bytes.
 pub(crate) const MOST_LINE: usize = 8195;

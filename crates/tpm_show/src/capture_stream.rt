@@ -3,8 +3,8 @@
 ghost use Rattle.std.specs.Prelude.{ℕ, List, IfOk, IsErrOf};
 ghost use Rattle.std.specs.Io.KnownBytes.{Appends, Consumes};
 ghost use Rattle.tpm_wire.specs.Sources.{IsWhereItFailed};
-ghost use Rattle.tpm_lines.specs.declared.fault.ToolFault.TheVariants.{InputTooLong, Read};
-ghost use Rattle.tpm_lines.specs.InputLines.{CountsRead};
+ghost use Rattle.tpm_output.specs.declared.fault.ToolFault.TheVariants.{InputTooLong, Read};
+ghost use Rattle.tpm_output.specs.InputLines.{CountsRead};
 ghost use Rattle.tpm_show.specs.Capture.{ReadsTooMuchCapture};
 ghost use Rattle.tpm_show.specs.Stream.{OfRead, TellsStream, TellsWhole};
 
@@ -14,8 +14,8 @@ use crate::reports::print_remark;
 use crate::telling::Telling;
 use std::alloc::Global;
 use std::io::Write;
-use tpm_lines::fault::ToolFault;
-use tpm_lines::status::Status;
+use tpm_output::fault::ToolFault;
+use tpm_output::status::Status;
 use tpm_stream::{ReadFault, read_frame_into};
 use tpm_wire::{Buffer, Source};
 

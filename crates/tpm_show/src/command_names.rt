@@ -3,7 +3,7 @@
 ghost use Rattle.std.specs.Prelude.{◌≡◌, ◌++◌, OnOk, map, option_map, string_bytes};
 ghost use Rattle.tpm_show.specs.CommandNames.{absent_line, absent_name, command_of, listed_as, listed_in};
 
-use tpm_lines::text::Pushed;
+use tpm_output::text::Pushed;
 use tpm_wire::Refusal;
 use tpm_wire::response_code::COMMAND_CODE;
 

@@ -4,7 +4,7 @@ ghost use Rattle.std.specs.Prelude.{◌≡◌, IfOk, option_map};
 ghost use Rattle.tpm_show.specs.Digits.{buffer_in, is_blank, without_blanks, without_prefix};
 
 use std::alloc::{AllocError, Global};
-use tpm_lines::hexadecimal::decoded;
+use tpm_output::hexadecimal::decoded;
 
 /// Whether a byte counts for nothing: a space, a tab or a carriage return.
 pub(crate) fn is_blank(byte: u8) -> bool

@@ -2,8 +2,8 @@
 
 ghost use Rattle.std.specs.Prelude.{◌≡◌, ◌++◌, IfOk, OnOk, option_map, string_bytes};
 ghost use Rattle.std.specs.Io.KnownBytes.{Appends};
-ghost use Rattle.tpm_lines.specs.Faults.{FailsByMemoryOrWrite};
-ghost use Rattle.tpm_lines.specs.declared.status.Status.TheVariants.{Done, Refused};
+ghost use Rattle.tpm_output.specs.Faults.{FailsByMemoryOrWrite};
+ghost use Rattle.tpm_output.specs.declared.status.Status.TheVariants.{Done, Refused};
 ghost use Rattle.tpm_show.specs.Explain.{meaning_of, meaning_line, base_line, layer_line, subject_of, subject_number};
 ghost use Rattle.tpm_show.specs.Explain.{subject_text, unknown_line, line_among, line_or_unknown, status_of_line};
 ghost use Rattle.tpm_show.specs.Explain.{explanation, explain_status};
@@ -13,10 +13,10 @@ use crate::layers::{Codes, base_meaning, codes_of, layer_of};
 use crate::meaning::{Meaning, look_up, meanings};
 use std::alloc::{AllocError, Global};
 use std::io::Write;
-use tpm_lines::answer::Answer;
-use tpm_lines::fault::ToolFault;
-use tpm_lines::status::Status;
-use tpm_lines::text::Pushed;
+use tpm_output::answer::Answer;
+use tpm_output::fault::ToolFault;
+use tpm_output::status::Status;
+use tpm_output::text::Pushed;
 
 /// Set in a code with the number of a handle, session or parameter (Part 2, 6.6.2).
 const FORMAT_ONE: u32 = 0x80;

@@ -6,7 +6,7 @@ ghost use Rattle.tpm_show.specs.Pieces.{Piece, Value, structure_told};
 
 use crate::teller::Teller;
 use std::marker::Model;
-use tpm_lines::text::Pushed;
+use tpm_output::text::Pushed;
 use tpm_wire::{Buffer, Wire};
 
 /// A value of which the parts are told under it.

@@ -1,7 +1,7 @@
 //! The names that Part 2 gives to numbers, by the types of the fields that they stand in.
 
 ghost use Rattle.std.specs.Prelude.{◌≡◌, ◌++◌, IfOk, map, option_map, string_bytes};
-ghost use Rattle.tpm_lines.specs.Named.{named_as};
+ghost use Rattle.tpm_output.specs.Named.{named_as};
 ghost use Rattle.tpm_show.specs.CommandNames.{listed_as};
 ghost use Rattle.tpm_show.specs.FieldNames.{algorithms, command_in, command_text, is_handle, name_of, name_text};
 ghost use Rattle.tpm_show.specs.FieldNames.{named_of, names_for, number_in, session_types, startup_types, value_name};
@@ -9,8 +9,8 @@ ghost use Rattle.tpm_show.specs.FieldNames.{named_of, names_for, number_in, sess
 use crate::command_names::{Listed, command_of};
 use crate::handle_names::handle_name;
 use std::alloc::{AllocError, Global};
-use tpm_lines::named::{Named, look_up};
-use tpm_lines::names;
+use tpm_output::named::{Named, look_up};
+use tpm_output::names;
 
 /// A name of two parts.
 #[derive(Clone, Copy)]

@@ -11,8 +11,8 @@ use crate::field::Field;
 use crate::field_names::{ValueName, value_name};
 use crate::object::Object;
 use std::alloc::Global;
-use tpm_lines::hexadecimal::shown_bytes;
-use tpm_lines::text::Pushed;
+use tpm_output::hexadecimal::shown_bytes;
+use tpm_output::text::Pushed;
 
 // ---- a line
 

@@ -10,7 +10,7 @@ ghost use Rattle.tpm_show.specs.Pieces.{Value, named};
 use crate::field::Field;
 use crate::teller::Teller;
 use tpm_commands::{CommandBody, Event, ReplyBody, StartAuth};
-use tpm_lines::text::Pushed;
+use tpm_output::text::Pushed;
 use tpm_types::EncryptedSalt;
 use tpm_wire::{Buffer, Wire, put_bytes};
 

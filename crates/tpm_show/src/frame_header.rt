@@ -2,7 +2,7 @@
 
 ghost use Rattle.std.specs.Prelude.{◌≡◌, ◌++◌, IfOk, OnOk, Some, codes, option_map, string_bytes};
 ghost use Rattle.tpm_wire.specs.Buffers.{Takes};
-ghost use Rattle.tpm_lines.specs.Named.{named_as, named_in};
+ghost use Rattle.tpm_output.specs.Named.{named_as, named_in};
 ghost use Rattle.tpm_show.specs.Meanings.{meaning_as};
 ghost use Rattle.tpm_show.specs.Members.{name_member, number_member, text_member};
 ghost use Rattle.tpm_show.specs.Headers.{frame_header, header_in, tag_names, tag_behind, name_behind};
@@ -17,9 +17,9 @@ use crate::hex_digits::{eight_digits, four_digits, three_digits};
 use crate::meaning::Meaning;
 use crate::object::Object;
 use std::alloc::{AllocError, Global};
-use tpm_lines::named::{Named, look_up};
-use tpm_lines::names;
-use tpm_lines::text::Pushed;
+use tpm_output::named::{Named, look_up};
+use tpm_output::names;
+use tpm_output::text::Pushed;
 use tpm_wire::{Cursor, Refusal, Wire};
 
 /// The first ten bytes of a frame (Part 1, "Command/Response Structure").
@@ -94,7 +94,7 @@ fn push_tag_name(text: &mut String, names: bool, tag: u16) -> Pushed
     push_known_tag(text, tag)
 }
 
-#[tactic(auto, using(tpm_lines::proofs::Padded::padded), unfolding(crate::specs::Headers::command_name))]
+#[tactic(auto, using(tpm_output::proofs::Padded::padded), unfolding(crate::specs::Headers::command_name))]
 fn push_command_name(text: &mut String, code: u32) -> Pushed
     ensures { OnOk result (string_bytes text.new ≡ string_bytes text.old ++ command_name code) }
 {
@@ -127,7 +127,7 @@ pub(crate) fn push_code_name(text: &mut String, code: u32) -> Pushed
     push_meaning_name(text, code, meaning)
 }
 
-#[tactic(auto, using(tpm_lines::proofs::Padded::padded), unfolding(crate::specs::Headers::size_and_tag))]
+#[tactic(auto, using(tpm_output::proofs::Padded::padded), unfolding(crate::specs::Headers::size_and_tag))]
 fn push_size_and_tag(text: &mut String, names: bool, header: &FrameHeader) -> Pushed
     ensures { OnOk result
         (string_bytes text.new ≡ string_bytes text.old ++ size_and_tag names header.now) }
@@ -161,7 +161,7 @@ fn push_answered(text: &mut String, command: Option<u32>) -> Pushed
 }
 
 /// Adds the line of the header of a reply to this command.
-#[tactic(auto, using(tpm_lines::proofs::Padded::padded), unfolding(crate::specs::Headers::reply_head))]
+#[tactic(auto, using(tpm_output::proofs::Padded::padded), unfolding(crate::specs::Headers::reply_head))]
 pub(crate) fn push_reply_head(
     text: &mut String,
     names: bool,

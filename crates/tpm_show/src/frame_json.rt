@@ -11,7 +11,7 @@ use crate::hex_digits::three_digits;
 use crate::object::Object;
 use crate::sessions::{Session, tell_session};
 use crate::teller::Teller;
-use tpm_lines::text::Pushed;
+use tpm_output::text::Pushed;
 use tpm_wire::Refusal;
 
 #[tactic(auto, unfolding(crate::specs::FrameJson::refusal_members))]

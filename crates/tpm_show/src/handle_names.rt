@@ -1,7 +1,7 @@
 //! Handles by the names that Part 2 gives them, in lines or in lists of JSON.
 
 ghost use Rattle.std.specs.Prelude.{◌≡◌, ◌++◌, [], ◌∷◌, OnOk, codes, map, option_map, string_bytes};
-ghost use Rattle.tpm_lines.specs.Named.{named_as};
+ghost use Rattle.tpm_output.specs.Named.{named_as};
 ghost use Rattle.tpm_show.specs.HandleNames.{handle_behind, handle_line, handle_lines, handle_name, handle_named};
 ghost use Rattle.tpm_show.specs.HandleNames.{handle_number, handles_members, name_or_null};
 ghost use Rattle.tpm_show.specs.Headers.{name_behind};
@@ -10,9 +10,9 @@ ghost use Rattle.tpm_show.specs.Members.{list_begins, list_member};
 use crate::frame_header::push_name_behind;
 use crate::hex_digits::eight_digits;
 use crate::object::Object;
-use tpm_lines::named::{Named, look_up};
-use tpm_lines::names;
-use tpm_lines::text::Pushed;
+use tpm_output::named::{Named, look_up};
+use tpm_output::names;
+use tpm_output::text::Pushed;
 
 // Permanent handles, TPM_RH (Part 2, 7.4).
 const PERMANENT: [Named; 32] = names![
@@ -93,7 +93,7 @@ pub(crate) fn push_handle_behind(text: &mut String, names: bool, handle: u32) ->
     push_handle_name(text, handle)
 }
 
-#[tactic(auto, using(tpm_lines::proofs::Padded::padded), unfolding(crate::specs::HandleNames::handle_line))]
+#[tactic(auto, using(tpm_output::proofs::Padded::padded), unfolding(crate::specs::HandleNames::handle_line))]
 fn push_handle_line(text: &mut String, names: bool, i: usize, handle: u32) -> Pushed
     ensures { OnOk result
         (string_bytes text.new ≡ string_bytes text.old ++ handle_line names i handle) }

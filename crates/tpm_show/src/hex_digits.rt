@@ -1,12 +1,12 @@
 //! Numbers in hexadecimal digits, at least so many of them.
 
 ghost use Rattle.std.specs.Prelude.{◌≡◌, IfOk, string_bytes};
-ghost use Rattle.tpm_lines.specs.Text.{hexadecimal};
+ghost use Rattle.tpm_output.specs.Text.{hexadecimal};
 
 use std::alloc::{AllocError, Global};
 
 /// Two digits at least.
-#[tactic(auto, using(tpm_lines::proofs::Padded::padded))]
+#[tactic(auto, using(tpm_output::proofs::Padded::padded))]
 pub(crate) fn two_digits(alloc: Global, n: u8) -> Result<String, AllocError>
     ensures { IfOk result (λ digits. string_bytes digits ≡ hexadecimal 2 n) }
 {
@@ -14,7 +14,7 @@ pub(crate) fn two_digits(alloc: Global, n: u8) -> Result<String, AllocError>
 }
 
 /// Three digits at least.
-#[tactic(auto, using(tpm_lines::proofs::Padded::padded))]
+#[tactic(auto, using(tpm_output::proofs::Padded::padded))]
 pub(crate) fn three_digits(alloc: Global, n: u32) -> Result<String, AllocError>
     ensures { IfOk result (λ digits. string_bytes digits ≡ hexadecimal 3 n) }
 {
@@ -22,7 +22,7 @@ pub(crate) fn three_digits(alloc: Global, n: u32) -> Result<String, AllocError>
 }
 
 /// Four digits at least.
-#[tactic(auto, using(tpm_lines::proofs::Padded::padded))]
+#[tactic(auto, using(tpm_output::proofs::Padded::padded))]
 pub(crate) fn four_digits(alloc: Global, n: u16) -> Result<String, AllocError>
     ensures { IfOk result (λ digits. string_bytes digits ≡ hexadecimal 4 n) }
 {
@@ -30,7 +30,7 @@ pub(crate) fn four_digits(alloc: Global, n: u16) -> Result<String, AllocError>
 }
 
 /// Eight digits.
-#[tactic(auto, using(tpm_lines::proofs::Padded::padded))]
+#[tactic(auto, using(tpm_output::proofs::Padded::padded))]
 pub(crate) fn eight_digits(alloc: Global, n: u32) -> Result<String, AllocError>
     ensures { IfOk result (λ digits. string_bytes digits ≡ hexadecimal 8 n) }
 {

@@ -17,7 +17,7 @@ use crate::told::{tell_areas, tell_reply_areas};
 use arrayvec::ArrayVec;
 use std::marker::Model;
 use tpm_buffer::{NO_SESSIONS, SESSIONS, take_authorization_size, take_parameter_size};
-use tpm_lines::text::Pushed;
+use tpm_output::text::Pushed;
 use tpm_types::{Auth, AuthReply};
 use tpm_wire::response_code::{AUTHSIZE, SIZE};
 use tpm_wire::{Cursor, Refusal, read_list, take_rest};

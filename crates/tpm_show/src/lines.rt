@@ -11,7 +11,7 @@ use crate::handle_names::push_handles;
 use crate::sessions::{Session, push_session_line};
 use crate::teller::Teller;
 use std::alloc::Global;
-use tpm_lines::text::{Pushed, push_parameters, push_refusal};
+use tpm_output::text::{Pushed, push_parameters, push_refusal};
 use tpm_wire::Refusal;
 
 /// Lines that are told, with the names of numbers behind these or without.

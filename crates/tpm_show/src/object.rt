@@ -2,14 +2,14 @@
 
 ghost use Rattle.std.specs.Prelude.{◌≡◌, ◌++◌, [], ◌∷◌, ℕ, List, IfOk, OnOk, option_map, string_bytes};
 ghost use Rattle.json.specs.Token.{begin_object, end_object};
-ghost use Rattle.tpm_lines.specs.Named.{named_as};
+ghost use Rattle.tpm_output.specs.Named.{named_as};
 ghost use Rattle.tpm_show.specs.Members.{hex_member, list_begins, name_member, number_member, text_member};
 ghost use Rattle.tpm_show.specs.Reports.{IsObjectLine};
 
 use json::Writer;
 use std::alloc::{AllocError, Global};
-use tpm_lines::named::Named;
-use tpm_lines::text::Pushed;
+use tpm_output::named::Named;
+use tpm_output::text::Pushed;
 
 /// An object that has begun.
 #[derive(Drop)]

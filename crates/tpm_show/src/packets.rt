@@ -3,8 +3,8 @@
 ghost use Rattle.std.specs.Prelude.{◌≡◌, ◌++◌, ◌+◌, ◌^◌, ◌<◌, ℕ, List, IfOk, OnOk, string_bytes};
 ghost use Rattle.std.specs.Io.KnownBytes.{Appends};
 ghost use Rattle.tpm_pcap.specs.Entries.{entry_as, entries_as};
-ghost use Rattle.tpm_lines.specs.Faults.{FailsByMemoryOrWrite};
-ghost use Rattle.tpm_lines.specs.InputLines.{AddedTo};
+ghost use Rattle.tpm_output.specs.Faults.{FailsByMemoryOrWrite};
+ghost use Rattle.tpm_output.specs.InputLines.{AddedTo};
 ghost use Rattle.tpm_show.specs.Capture.{start};
 ghost use Rattle.tpm_show.specs.Packets.{awaited_past, reason_text, TellsEntries, TellsPackets};
 ghost use Rattle.tpm_show.specs.PacketsTold.{TellsOne};
@@ -17,10 +17,10 @@ use crate::reports::{print_remark, push_remark};
 use crate::telling::Telling;
 use std::alloc::Global;
 use std::io::Write;
-use tpm_lines::answer::write;
-use tpm_lines::fault::ToolFault;
-use tpm_lines::status::Status;
-use tpm_lines::text::Pushed;
+use tpm_output::answer::write;
+use tpm_output::fault::ToolFault;
+use tpm_output::status::Status;
+use tpm_output::text::Pushed;
 use tpm_pcap::{Entry, Reason, Traffic, traffic_in};
 
 // ---- a packet that is not told

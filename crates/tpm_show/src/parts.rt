@@ -4,7 +4,7 @@ ghost use Rattle.std.specs.Prelude.{◌≡◌, ◌++◌, ◌<◌, List, OnOk, co
 ghost use Rattle.std.specs.Int.{bytes_high_first};
 ghost use Rattle.std.specs.List.{AllByRecursion};
 ghost use Rattle.tpm_types.specs.Tpma.{nv_type};
-ghost use Rattle.tpm_lines.specs.Named.{named_as};
+ghost use Rattle.tpm_output.specs.Named.{named_as};
 ghost use Rattle.tpm_show.specs.Bits.{bits_set};
 ghost use Rattle.tpm_show.specs.Parts.{attribute_parts, attributes_set, digest_entry, digest_value_entry};
 ghost use Rattle.tpm_show.specs.Parts.{digest_value_members, public_parts, register_parts, selection_entry};
@@ -14,9 +14,9 @@ ghost use Rattle.tpm_show.specs.Pieces.{Piece, Value, named, structure_told};
 use crate::bits::is_set;
 use crate::field::{Field, HasParts};
 use crate::teller::Teller;
-use tpm_lines::named::Named;
-use tpm_lines::names;
-use tpm_lines::text::Pushed;
+use tpm_output::named::Named;
+use tpm_output::names;
+use tpm_output::text::Pushed;
 use tpm_types::{
     Digest, HashedDigest, NvAttrs, NvPublic, SELECT_BYTES, Selection, SymDef, register,
 };

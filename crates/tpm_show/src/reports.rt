@@ -2,8 +2,8 @@
 
 ghost use Rattle.std.specs.Prelude.{◌≡◌, ◌++◌, ℕ, List, IfOk, OnOk, codes, string_bytes};
 ghost use Rattle.std.specs.Io.KnownBytes.{Appends};
-ghost use Rattle.tpm_lines.specs.declared.status.Status.TheVariants.{Refused};
-ghost use Rattle.tpm_lines.specs.Faults.{FailsByMemoryOrWrite};
+ghost use Rattle.tpm_output.specs.declared.status.Status.TheVariants.{Refused};
+ghost use Rattle.tpm_output.specs.Faults.{FailsByMemoryOrWrite};
 ghost use Rattle.tpm_show.specs.Members.{number_member, object_of, text_member};
 ghost use Rattle.tpm_show.specs.Remarks.{report_of};
 ghost use Rattle.tpm_show.specs.Reports.{IsObjectLine, IsReport, at_member, fault_member, link_fault};
@@ -12,10 +12,10 @@ use crate::object::Object;
 use crate::remark::Remark;
 use std::alloc::{AllocError, Global};
 use std::io::Write;
-use tpm_lines::answer::write;
-use tpm_lines::fault::ToolFault;
-use tpm_lines::status::Status;
-use tpm_lines::text::Pushed;
+use tpm_output::answer::write;
+use tpm_output::fault::ToolFault;
+use tpm_output::status::Status;
+use tpm_output::text::Pushed;
 
 // ---- a line
 

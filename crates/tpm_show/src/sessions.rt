@@ -3,8 +3,8 @@
 ghost use Rattle.std.specs.Prelude.{◌≡◌, ◌++◌, ◌<◌, ◌≤◌, List, OnOk, codes, flat_map, length, map, slice_get};
 ghost use Rattle.std.specs.Prelude.{string_bytes};
 ghost use Rattle.std.specs.List.{AllByRecursion};
-ghost use Rattle.tpm_lines.specs.Named.{named_as};
-ghost use Rattle.tpm_lines.specs.Text.{lines_from};
+ghost use Rattle.tpm_output.specs.Named.{named_as};
+ghost use Rattle.tpm_output.specs.Text.{lines_from};
 ghost use Rattle.tpm_show.specs.Bits.{bits_set};
 ghost use Rattle.tpm_show.specs.HandleNames.{handle_named};
 ghost use Rattle.tpm_show.specs.Members.{hex_member, list_begins, list_member, name_member, object_of, text_member};
@@ -21,10 +21,10 @@ use crate::teller::Teller;
 use std::alloc::Global;
 use std::marker::Model;
 use tpm_buffer::{Areas, ReplyAreas};
-use tpm_lines::hexadecimal::shown_bytes;
-use tpm_lines::named::Named;
-use tpm_lines::names;
-use tpm_lines::text::Pushed;
+use tpm_output::hexadecimal::shown_bytes;
+use tpm_output::named::Named;
+use tpm_output::names;
+use tpm_output::text::Pushed;
 use tpm_types::{Auth, AuthReply};
 
 // The bits of TPMA_SESSION (Part 2, 8.4) by their numbers.
@@ -200,7 +200,7 @@ fn push_attributes_behind(text: &mut String, names: bool, attributes: u8) -> Pus
     push_attribute_names(text, attributes)
 }
 
-#[tactic(auto, using(tpm_lines::proofs::Padded::padded))]
+#[tactic(auto, using(tpm_output::proofs::Padded::padded))]
 fn push_handle_in_line(text: &mut String, names: bool, handle: Option<u32>) -> Pushed
     ensures { OnOk result
         (string_bytes text.new ≡ string_bytes text.old ++ handle_in_line names handle) }

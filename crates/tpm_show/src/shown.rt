@@ -2,7 +2,7 @@
 
 ghost use Rattle.std.specs.Prelude.{ℕ, List, IfOk, option_map, string_bytes};
 ghost use Rattle.std.specs.Io.KnownBytes.{Appends};
-ghost use Rattle.tpm_lines.specs.Faults.{FailsByMemoryOrWrite};
+ghost use Rattle.tpm_output.specs.Faults.{FailsByMemoryOrWrite};
 ghost use Rattle.tpm_show.specs.Digits.{buffer_in};
 ghost use Rattle.tpm_show.specs.Show.{Shows, ShowsDecoded, ShowsFields, taken_for};
 
@@ -11,9 +11,9 @@ use crate::told::{answer_to_command, answer_to_reply};
 use std::alloc::{AllocError, Global};
 use std::io::Write;
 use tpm_types::CommandCode;
-use tpm_lines::answer::Answer;
-use tpm_lines::fault::ToolFault;
-use tpm_lines::status::Status;
+use tpm_output::answer::Answer;
+use tpm_output::fault::ToolFault;
+use tpm_output::status::Status;
 
 fn answer<const FIELDS: bool>(
     alloc: Global,

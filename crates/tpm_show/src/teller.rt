@@ -8,7 +8,7 @@ ghost use Rattle.tpm_show.specs.Pieces.{Untold};
 use crate::field::Field;
 use crate::frame_header::FrameHeader;
 use crate::sessions::Session;
-use tpm_lines::text::Pushed;
+use tpm_output::text::Pushed;
 use tpm_wire::Refusal;
 
 /// Takes what is told of a frame, and makes lines of it, or an object of JSON.

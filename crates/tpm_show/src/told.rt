@@ -5,7 +5,7 @@ ghost use Rattle.tpm_wire.specs.Path.{Fault, Spells};
 ghost use Rattle.tpm_buffer.specs.Commands.{command};
 ghost use Rattle.tpm_buffer.specs.CommandAreas.{HasCut};
 ghost use Rattle.tpm_buffer.specs.Responses.{reply_cut, response};
-ghost use Rattle.tpm_lines.specs.declared.status.Status.TheVariants.{Refused};
+ghost use Rattle.tpm_output.specs.declared.status.Status.TheVariants.{Refused};
 ghost use Rattle.tpm_show.specs.Fields.{command_fields, reply_fields};
 ghost use Rattle.tpm_show.specs.FrameLines.{refused_line};
 ghost use Rattle.tpm_show.specs.Pieces.{fields_told};
@@ -25,8 +25,8 @@ use tpm_buffer::{
 };
 use tpm_types::CommandCode;
 use tpm_commands::{Command, CommandBody, ReplyBody, Response};
-use tpm_lines::answer::Answer;
-use tpm_lines::text::Pushed;
+use tpm_output::answer::Answer;
+use tpm_output::text::Pushed;
 use tpm_wire::Refusal;
 
 // The lines of a refusal.

@@ -4,7 +4,7 @@
 use crate::tests::texts::{bytes, number};
 use std::process::Abort;
 use std::test::*;
-use tpm_store::{By, Counters, KEPT_BYTES};
+use tpm_nv::{By, Counters, KEPT_BYTES};
 use tpm_testing::word;
 use tpm_types::{Alg, Digest, NvAttrs, NvIndex, NvPublic};
 use tpm_wire::response_code::INTEGRITY;

@@ -31,7 +31,7 @@ use std::process::Abort;
 use std::test::*;
 use tpm_session::Sessions;
 use tpm_pcr::Registers;
-use tpm_store::{COUNTER_BYTES, Definition};
+use tpm_nv::{COUNTER_BYTES, Definition};
 use tpm_testing::word;
 use tpm_types::{DIGEST_BYTES, NvPublic};
 use tpm_wire::{Cursor, Wire};

@@ -4,7 +4,7 @@ use crate::tests::texts::bytes;
 use std::process::Abort;
 use std::test::*;
 use tpm_pcr::{Locality, Registers};
-use tpm_store::{By, Counter, Counters};
+use tpm_nv::{By, Counter, Counters};
 use tpm_types::{
     Alg, Digest, DigestValues, HashedDigest, NvAttrs, NvIndex, NvPublic, PcrIndex, Selection,
     Selections,

@@ -1,6 +1,6 @@
 use Rattle.std.proofs.Common.{append_assoc}
 use Rattle.tpm_check.specs.CheckJson.{refusal_object}
-use Rattle.tpm_lines.proofs.Padded.{padded_integral-zeros}
+use Rattle.tpm_output.proofs.Padded.{padded_integral-zeros}
 use Rattle.tpm_check.proofs.check_json.push_refusal_object.Goals as goal
 
 pub returns : goal.returns

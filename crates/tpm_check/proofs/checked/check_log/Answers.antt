@@ -3,8 +3,8 @@ use Rattle.std.proofs.lemmas.Result.{IfOk-weaker}
 use Rattle.tpm_log.specs.declared.fault.LogFaultKind.TheVariants as kinds
 use Rattle.tpm_log.specs.Changes.{AreAfter}
 use Rattle.tpm_log.specs.Takes.{IsOfBytes}
-use Rattle.tpm_lines.specs.declared.status.Status.TheVariants.{Refused}
-use Rattle.tpm_lines.specs.declared.status.Status.{Status}
+use Rattle.tpm_output.specs.declared.status.Status.TheVariants.{Refused}
+use Rattle.tpm_output.specs.declared.status.Status.{Status}
 use Rattle.tpm_check.specs.CheckJson.{ok_text}
 use Rattle.tpm_events.specs.LogFaults.{fault_text}
 use Rattle.tpm_check.proofs.Checks.{by_list, not_too_long, counts_alone, counts_stated, counts_log, not_read, log_last}

@@ -1,5 +1,5 @@
 use Rattle.std.proofs.Common.{◌++◌, Some}
-use Rattle.tpm_lines.proofs.Joins.{joins_appends}
+use Rattle.tpm_output.proofs.Joins.{joins_appends}
 use Rattle.tpm_check.specs.CheckAttest.{printed}
 use Rattle.tpm_check.specs.Told.{told}
 use Rattle.tpm_check.proofs.Verdicts.{with_list, with_status}

@@ -3,7 +3,7 @@ use Rattle.tpm_check.specs.Told.{told}
 use Rattle.tpm_check.specs.Compare.{comparison}
 use Rattle.tpm_check.specs.CheckAttest.{printed}
 use Rattle.tpm_check.proofs.Checks.{stated_none, stated_alone, stated_quoted}
-use Rattle.tpm_lines.proofs.Joins.{joins_appends}
+use Rattle.tpm_output.proofs.Joins.{joins_appends}
 use Rattle.tpm_check.proofs.checked.print_compared.Goals as goal
 
 pub returns-clause-ok : goal.returns-clause-ok

@@ -1,6 +1,6 @@
 use Rattle.std.proofs.Common.{◌++◌, Some}
 use Rattle.std.proofs.lemmas.Result.{IfOk-weaker}
-use Rattle.tpm_lines.proofs.Joins.{joins_appends}
+use Rattle.tpm_output.proofs.Joins.{joins_appends}
 use Rattle.tpm_check.specs.CheckJson.{ok_text}
 use Rattle.tpm_check.specs.Told.{told}
 use Rattle.tpm_check.proofs.Verdicts.{to_end}

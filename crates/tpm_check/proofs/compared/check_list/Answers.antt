@@ -1,6 +1,6 @@
 use Rattle.std.proofs.Common.{rules}
 use Rattle.std.specs.Prelude.{IsErrOf}
-use Rattle.tpm_lines.specs.declared.fault.ToolFault.TheVariants.{InputTooLong}
+use Rattle.tpm_output.specs.declared.fault.ToolFault.TheVariants.{InputTooLong}
 use Rattle.tpm_check.proofs.Comparisons.{answers, reads_too_much}
 use Rattle.tpm_check.proofs.compared.check_list.Goals as goal
 

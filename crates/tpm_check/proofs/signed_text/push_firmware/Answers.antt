@@ -1,6 +1,6 @@
 use Rattle.std.proofs.Common.{append_assoc}
 use Rattle.tpm_check.specs.CheckAttest.{firmware_line}
-use Rattle.tpm_lines.proofs.Padded.{padded_integral-zeros}
+use Rattle.tpm_output.proofs.Padded.{padded_integral-zeros}
 use Rattle.tpm_check.proofs.signed_text.push_firmware.Goals as goal
 
 pub returns : goal.returns

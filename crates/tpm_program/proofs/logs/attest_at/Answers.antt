@@ -1,5 +1,5 @@
 use Rattle.std.proofs.Common.{Err, ap}
-use Rattle.tpm_lines.specs.declared.fault.ToolFault.{ToolFault}
+use Rattle.tpm_output.specs.declared.fault.ToolFault.{ToolFault}
 use Rattle.tpm_program.proofs.Checks.{at_reading}
 use Rattle.tpm_program.proofs.logs.attest_at.Goals as goal
 

@@ -1,5 +1,5 @@
 use Rattle.std.proofs.Common.{ℕ, List, Err, ap, option_map, subst}
-use Rattle.tpm_lines.specs.declared.fault.ToolFault.{ToolFault}
+use Rattle.tpm_output.specs.declared.fault.ToolFault.{ToolFault}
 use Rattle.tpm_check.specs.Check.{list_before}
 use Rattle.tpm_program.specs.Fails.{IsOfReading, read_last}
 use Rattle.tpm_program.proofs.ByBytes.{too_much_by_bytes}

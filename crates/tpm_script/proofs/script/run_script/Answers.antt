@@ -1,8 +1,8 @@
 use Rattle.std.proofs.Common.{ℕ, List, Some, refl, subst, rules}
 use Rattle.std.specs.Prelude.{IsErrOf}
 use Rattle.std.specs.Io.KnownBytes.{Appends}
-use Rattle.tpm_lines.specs.declared.fault.ToolFault.TheVariants.{InputTooLong, Read}
-use Rattle.tpm_lines.specs.LineSinks.{Reading}
+use Rattle.tpm_output.specs.declared.fault.ToolFault.TheVariants.{InputTooLong, Read}
+use Rattle.tpm_output.specs.LineSinks.{Reading}
 use Rattle.tpm_script.specs.declared.script.Run.{Run}
 use Rattle.tpm_script.specs.Progress.{StandsAt}
 use Rattle.tpm_script.proofs.Scripts.{answered, no_further, outcome, reads_script, too_much}

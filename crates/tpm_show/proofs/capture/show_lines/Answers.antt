@@ -1,6 +1,6 @@
 use Rattle.std.proofs.Common.{◌≡◌, sym, subst, ◌∙◌, rules}
 use Rattle.std.specs.Prelude.{IsErrOf}
-use Rattle.tpm_lines.specs.declared.fault.ToolFault.TheVariants.{Read}
+use Rattle.tpm_output.specs.declared.fault.ToolFault.TheVariants.{Read}
 use Rattle.tpm_show.specs.declared.capture.Capture.{Capture}
 use Rattle.tpm_show.specs.Capture.{TellsCapture}
 use Rattle.tpm_show.proofs.Captures.{answers, not_none, told_ended}

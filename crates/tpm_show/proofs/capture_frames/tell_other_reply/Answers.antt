@@ -1,7 +1,7 @@
 use Rattle.std.proofs.Common.{◌≡◌, ◌++◌, Option, flat_map, subst}
 use Rattle.std.specs.Prelude.{IfOk}
-use Rattle.tpm_lines.specs.declared.status.Status.TheVariants.{Refused}
-use Rattle.tpm_lines.specs.declared.status.Status.{Status}
+use Rattle.tpm_output.specs.declared.status.Status.TheVariants.{Refused}
+use Rattle.tpm_output.specs.declared.status.Status.{Status}
 use Rattle.tpm_show.specs.Capture.{other_reply}
 use Rattle.tpm_show.specs.CommandNames.{Listed}
 use Rattle.tpm_show.proofs.capture_frames.tell_other_reply.Goals as goal

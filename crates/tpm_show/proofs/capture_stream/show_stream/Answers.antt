@@ -3,7 +3,7 @@ use Rattle.std.proofs.lemmas.Result.{IfOk-weaker}
 use Rattle.std.specs.List.{concat}
 use Rattle.std.specs.Io.KnownBytes.{Appends}
 use Rattle.tpm_stream.proofs.Filled.{consumes_both, consumes_none}
-use Rattle.tpm_lines.proofs.Joins.{joins_appends}
+use Rattle.tpm_output.proofs.Joins.{joins_appends}
 use Rattle.tpm_show.proofs.Streams.{appends_nothing, streams_none, streams_more, stream_ends, stream_cut, stream_breaks}
 use Rattle.tpm_show.proofs.capture_stream.show_stream.Goals as goal
 

@@ -3,7 +3,7 @@ use Rattle.std.proofs.lemmas.Iterator.Search.{find_from_yields_List}
 use Rattle.std.proofs.lemmas.Iterator.{YieldsList-from_slice}
 use Rattle.tpm_show.specs.declared.command_names.Listed.{Listed}
 use Rattle.tpm_show.specs.CommandNames.{listed_as, listed_in}
-use Rattle.tpm_lines.proofs.Tables.{found_as}
+use Rattle.tpm_output.proofs.Tables.{found_as}
 use Rattle.tpm_show.proofs.command_names.look_up.Goals as goal
 
 found : (table : List Listed) (n : ℕ) (o : Option (Bor Listed)) → option_map (λ c. c.now) o ≡ find (λ c. c.number == n) table

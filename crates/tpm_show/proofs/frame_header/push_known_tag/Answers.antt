@@ -1,6 +1,6 @@
 use Rattle.std.proofs.Common.{◌≡◌, ◌++◌, Option, subst, string_bytes}
 use Rattle.std.specs.Prelude.{OnOk}
-use Rattle.tpm_lines.specs.Named.{Named}
+use Rattle.tpm_output.specs.Named.{Named}
 use Rattle.tpm_show.specs.Headers.{name_behind}
 use Rattle.tpm_show.proofs.frame_header.push_known_tag.Goals as goal
 

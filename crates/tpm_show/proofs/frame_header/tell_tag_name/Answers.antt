@@ -1,6 +1,6 @@
 use Rattle.std.proofs.Common.{◌≡◌, ◌++◌, Option, codes, subst}
 use Rattle.std.specs.Prelude.{OnOk}
-use Rattle.tpm_lines.specs.Named.{Named}
+use Rattle.tpm_output.specs.Named.{Named}
 use Rattle.tpm_show.specs.Members.{name_member}
 use Rattle.tpm_show.proofs.frame_header.tell_tag_name.Goals as goal
 

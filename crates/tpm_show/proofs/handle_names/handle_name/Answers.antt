@@ -1,7 +1,7 @@
 use Rattle.std.proofs.Common.{Option, ap, ◌∙◌}
 use Rattle.std.specs.Option.{option_or}
 use Rattle.tpm_types.specs.Handles.{kind_of}
-use Rattle.tpm_lines.specs.Named.{Named, named_in}
+use Rattle.tpm_output.specs.Named.{Named, named_in}
 use Rattle.tpm_show.specs.HandleNames.{handle_kinds, handle_named}
 use Rattle.tpm_show.proofs.handle_names.handle_name.Goals as goal
 

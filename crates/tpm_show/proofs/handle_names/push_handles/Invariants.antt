@@ -1,5 +1,5 @@
 use Rattle.std.proofs.Common.{◌≡◌, ◌++◌, ◌+◌, string_bytes, drop}
-use Rattle.tpm_lines.specs.Text.{lines_from}
+use Rattle.tpm_output.specs.Text.{lines_from}
 use Rattle.tpm_show.specs.HandleNames.{handle_line}
 use Rattle.tpm_show.proofs.handle_names.push_handles.Given as goal
 

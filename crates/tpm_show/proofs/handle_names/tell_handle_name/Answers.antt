@@ -1,6 +1,6 @@
 use Rattle.std.proofs.Common.{◌≡◌, ◌++◌, [], ◌∷◌, Option, subst}
 use Rattle.std.specs.Prelude.{OnOk}
-use Rattle.tpm_lines.specs.Named.{Named}
+use Rattle.tpm_output.specs.Named.{Named}
 use Rattle.tpm_show.specs.HandleNames.{name_or_null}
 use Rattle.tpm_show.proofs.handle_names.tell_handle_name.Goals as goal
 

@@ -1,5 +1,5 @@
 use Rattle.std.proofs.Common.{append_assoc}
-use Rattle.tpm_lines.proofs.Padded.{padded_integral-zeros}
+use Rattle.tpm_output.proofs.Padded.{padded_integral-zeros}
 use Rattle.tpm_show.specs.FrameLines.{refusal_words}
 use Rattle.tpm_show.proofs.lines.push_refusal_words.Goals as goal
 

@@ -3,7 +3,7 @@ use Rattle.std.proofs.lemmas.Iterator.Search.{find_from_yields_List}
 use Rattle.std.proofs.lemmas.Iterator.{YieldsList-from_slice}
 use Rattle.tpm_show.specs.declared.meaning.Meaning.{Meaning}
 use Rattle.tpm_show.specs.Meanings.{meaning_as, meaning_in}
-use Rattle.tpm_lines.proofs.Tables.{found_as}
+use Rattle.tpm_output.proofs.Tables.{found_as}
 use Rattle.tpm_show.proofs.meaning.look_up.Goals as goal
 
 found : (table : List Meaning) (n : ℕ) (o : Option (Bor Meaning)) → option_map (λ m. m.now) o ≡ find (λ m. m.number == n) table

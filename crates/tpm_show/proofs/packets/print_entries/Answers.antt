@@ -3,7 +3,7 @@ use Rattle.std.proofs.lemmas.List.{map-append, take_more}
 use Rattle.std.specs.Io.KnownBytes.{Appends}
 use Rattle.tpm_pcap.specs.declared.entry.Entry.{Entry}
 use Rattle.tpm_pcap.specs.Entries.{entry_as, entries_as}
-use Rattle.tpm_lines.proofs.Joins.{joins_appends}
+use Rattle.tpm_output.proofs.Joins.{joins_appends}
 use Rattle.tpm_show.proofs.EntriesTold.{many_more}
 use Rattle.tpm_show.proofs.packets.print_entries.Goals as goal
 

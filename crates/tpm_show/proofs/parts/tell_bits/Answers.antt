@@ -1,6 +1,6 @@
 use Rattle.std.proofs.Common.{◌<◌}
 use Rattle.std.proofs.lemmas.List.Elements.{All-from_recursion}
-use Rattle.tpm_lines.specs.declared.named.Named.{Named}
+use Rattle.tpm_output.specs.declared.named.Named.{Named}
 use Rattle.tpm_show.proofs.parts.tell_bits.Goals as goal
 
 pub is_set-requires : goal.is_set-requires

@@ -1,5 +1,5 @@
 use Rattle.std.proofs.Common.{◌≡◌, ◌++◌, flat_map, map, drop}
-use Rattle.tpm_lines.specs.Named.{named_as}
+use Rattle.tpm_output.specs.Named.{named_as}
 use Rattle.tpm_show.specs.Bits.{bits_set}
 use Rattle.tpm_show.specs.Parts.{set_attribute}
 use Rattle.tpm_show.proofs.parts.tell_bits.Given as goal

@@ -1,4 +1,4 @@
-use Rattle.tpm_lines.proofs.Padded.{padded_integral-zeros}
+use Rattle.tpm_output.proofs.Padded.{padded_integral-zeros}
 use Rattle.tpm_show.specs.ReplyText.{reply_code_words}
 use Rattle.tpm_show.proofs.reply_text.push_code_words.Goals as goal
 

@@ -1,5 +1,5 @@
 use Rattle.tpm_show.specs.Sessions.{attributes_word}
-use Rattle.tpm_lines.proofs.Padded.{padded_integral-zeros}
+use Rattle.tpm_output.proofs.Padded.{padded_integral-zeros}
 use Rattle.tpm_show.proofs.sessions.push_attributes_word.Goals as goal
 
 pub returns : goal.returns

@@ -1,6 +1,6 @@
 use Rattle.std.proofs.Common.{◌≡◌, ◌++◌, ◌+◌, ◌≤◌, map, string_bytes, drop}
-use Rattle.tpm_lines.specs.Named.{named_as}
-use Rattle.tpm_lines.specs.Text.{lines_from}
+use Rattle.tpm_output.specs.Named.{named_as}
+use Rattle.tpm_output.specs.Text.{lines_from}
 use Rattle.tpm_show.specs.Bits.{bits_set}
 use Rattle.tpm_show.specs.Sessions.{name_behind_number}
 use Rattle.tpm_show.proofs.sessions.push_set_names.Given as goal

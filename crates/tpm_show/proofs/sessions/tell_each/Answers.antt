@@ -1,5 +1,5 @@
 use Rattle.std.proofs.Common.{◌∙◌, sym, arith}
-use Rattle.tpm_lines.proofs.Listed.{is_within}
+use Rattle.tpm_output.proofs.Listed.{is_within}
 use Rattle.tpm_show.proofs.Pieces.{sessions_further}
 use Rattle.tpm_show.proofs.sessions.tell_each.Goals.{in-Some+in_ok-session, in_default}
 use Rattle.tpm_show.proofs.sessions.tell_each.Goals as goal

@@ -1,5 +1,5 @@
 use Rattle.std.proofs.Common.{◌≡◌, ◌++◌, map, drop}
-use Rattle.tpm_lines.specs.Named.{named_as}
+use Rattle.tpm_output.specs.Named.{named_as}
 use Rattle.tpm_show.specs.Bits.{bits_set}
 use Rattle.tpm_show.specs.Sessions.{bit_name}
 use Rattle.tpm_show.proofs.sessions.tell_set_names.Given as goal

@@ -1,6 +1,6 @@
 use Rattle.std.proofs.Common.{refl}
 use Rattle.std.proofs.lemmas.Result.{IfOk-weaker}
-use Rattle.tpm_lines.specs.LineSinks.{some_if}
+use Rattle.tpm_output.specs.LineSinks.{some_if}
 use Rattle.tpm_check.specs.Compare.{line_under}
 use Rattle.tpm_check.specs.Comparing.{line_text}
 use Rattle.tpm_check.specs.Told.{told}

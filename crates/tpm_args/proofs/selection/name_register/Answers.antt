@@ -1,0 +1,13 @@
+use Rattle.std.proofs.Common.{rules, tests, lit<, ◌&&◌, ◌==◌}
+use Rattle.std.proofs.lemmas.Iterator.Search.{any_from_yields_List}
+use Rattle.std.proofs.lemmas.Iterator.Splits.{YieldsList-from_str_split}
+use Rattle.std.specs.Str.Parse.{digits_value}
+use Rattle.tpm_args.specs.Selections.{is_numeral}
+use Rattle.tpm_args.proofs.selection.name_register.Goals as goal
+
+pub returns-else-eq : goal.returns-else-eq
+returns-else-eq c =
+    let any = any_from_yields_List (λ t. is_numeral t && (digits_value 10 t == c.args.register)) _ _ c.any.result c.any.ensures.ran
+    (YieldsList-from_str_split 44 c.args.text.now (lit< tt) c.split.ensures.text c.split.ensures.has_more c.split.ensures.pattern)
+    (λ x b q k. search (rules, tests)) in
+    search (rules, any)

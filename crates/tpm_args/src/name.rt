@@ -1,0 +1,44 @@
+//! Names.
+
+ghost use Rattle.std.specs.Prelude.{◌≡◌};
+ghost use Rattle.tpm_args.specs.Names.{command_of_name, same_word, word_in, is_kind as is_kind_of};
+
+use tpm_types::CommandCode;
+
+/// The command of the profile with this name (Part 2, 6.5.2), in any letter case, with `TPM2_` before
+/// it or not; none where no command has the name.
+pub fn command_named(name: &str) -> Option<CommandCode>
+    ensures { result ≡ command_of_name name.now }
+{
+    let word = word_in(name.as_bytes());
+    CommandCode::ALL
+        .iter()
+        .copied()
+        .find(|code| same_word(code.name().as_bytes(), word))
+}
+
+/// Whether a text begins as the kind of a fault does: with a capital letter of ASCII.
+pub fn is_kind(text: &str) -> bool
+    ensures { result ≡ is_kind_of text.now }
+{
+    match text.as_bytes() {
+        [first, ..] => first.is_ascii_uppercase(),
+        [] => false,
+    }
+}
+
+// What stands behind `TPM2_`, or all where the name doesn't begin with it.
+fn word_in(name: &[u8]) -> &[u8]
+    ensures { result.now ≡ word_in name.now }
+{
+    match name {
+        [t, p, m, two, line, word @ ..] if same_word(&[*t, *p, *m, *two, *line], b"TPM2_") => word,
+        _ => name,
+    }
+}
+
+fn same_word(word: &[u8], other: &[u8]) -> bool
+    ensures { result ≡ same_word word.now other.now }
+{
+    word.eq_ignore_ascii_case(other)
+}

@@ -1,2 +1,0 @@
-pub mod MemoryText
-pub mod ShowNv

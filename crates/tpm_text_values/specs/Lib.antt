@@ -1,4 +1,0 @@
-pub mod Names
-pub mod Numbers
-pub mod Owner
-pub mod Selections
