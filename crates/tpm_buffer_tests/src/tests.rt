@@ -1,7 +1,7 @@
 //! Commands, responses and frames.
 
-mod areas;
-mod checks;
-mod commands;
-mod frames;
-mod responses;
+mod buffer_areas;
+mod buffer_checks;
+mod buffer_responses;
+mod commands_values;
+mod stream_frames;

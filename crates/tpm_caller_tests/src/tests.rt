@@ -1,9 +1,9 @@
 //! Callers alone, and with a device.
 
-mod both_ends;
-mod commands;
-mod kept;
-mod plain;
-mod replies;
-mod sessions;
-mod tpm;
+mod caller_both_ends;
+mod caller_commands;
+mod caller_plain;
+mod caller_replies;
+mod caller_sessions;
+mod caller_tpm;
+mod device_kept;

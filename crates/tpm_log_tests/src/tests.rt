@@ -1,13 +1,13 @@
 //! Logs, quotes, event data, and what logs tell of Secure Boot.
 
-mod attests;
-mod device_paths;
-mod device_securities;
-mod event_data;
-mod event_parts;
-mod logs;
-mod pieces;
-mod quotes;
-mod secure_boots;
-mod signatures;
-mod sources;
+mod event_data_device_paths;
+mod event_data_device_securities;
+mod event_data_measured;
+mod event_data_parts;
+mod event_data_signatures;
+mod log_parsed;
+mod log_pieces;
+mod log_sources;
+mod quote_attests;
+mod quote_quotes;
+mod secure_boot_verdicts;

@@ -1,11 +1,11 @@
 //! Captures, scripts, logs and lists, by readers and writers that fail or give little.
 
-mod captures;
-mod device;
-mod events;
-mod faults;
-mod laws;
-mod logs;
-mod nonces;
-mod reads;
-mod scripts;
+mod check_logs;
+mod device_buffers;
+mod device_nonces;
+mod events_records;
+mod output_faults;
+mod output_reads;
+mod script_laws;
+mod script_scripts;
+mod show_captures;

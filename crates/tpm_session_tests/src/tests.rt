@@ -1,12 +1,12 @@
 //! Hashes and MACs, stores, sessions, policies and authorization.
 
-mod authorize;
-mod calls;
-mod hashes;
-mod kept;
-mod macs;
-mod policies;
-mod scripts;
-mod sessions;
-mod stores;
-mod texts;
+mod hmac_hashes;
+mod hmac_macs;
+mod nv_kept;
+mod pcr_and_nv_values;
+mod session_authorize;
+mod session_calls;
+mod session_policies;
+mod session_scripts;
+mod session_slots;
+mod session_texts;

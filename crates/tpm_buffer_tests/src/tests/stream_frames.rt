@@ -1,0 +1,249 @@
+//! Frames of pieces, and of readers.
+
+use crate::tests::buffer_checks::bytes;
+use std::process::Abort;
+use std::test::*;
+use tpm_stream::{Framer, ReadFault, Status, read_frame, read_frame_into};
+use tpm_testing::Pieces;
+use tpm_wire::{Buffer, Reads, Refusal, SliceSource, Source};
+
+/// PCR_Read of register 0 in SHA-256, of 20 bytes.
+const READ: &str = "8001 00000014 0000017e 00000001 000b 03 010000";
+
+const BAD_SIZE: Refusal = Refusal { code: 0x142, at: 2 };
+
+// What comes of a framer: a piece, how many of its bytes are taken, and the status; the frame that is held; `next`; and
+// `new` for another framer. A frame comes byte by byte; no byte behind it is taken; the size is judged with its last
+// byte; the tag is not looked at; part of a frame wants more.
+const STEPS: &str = "\
+new
+80 -> 1 more
+01 -> 1 more
+00 -> 1 more
+00 -> 1 more
+00 -> 1 more
+14 -> 1 more
+00 -> 1 more
+00 -> 1 more
+01 -> 1 more
+7e -> 1 more
+00 -> 1 more
+00 -> 1 more
+00 -> 1 more
+01 -> 1 more
+00 -> 1 more
+0b -> 1 more
+03 -> 1 more
+01 -> 1 more
+00 -> 1 more
+frame -> -
+00 -> 1 ready
+frame -> 8001 00000014 0000017e 00000001 000b 03 010000
+new
+8001 00000014 0000017e 00000001 000b 03 010000 eeeeee -> 20 ready
+eeeeee -> 0 ready
+frame -> 8001 00000014 0000017e 00000001 000b 03 010000
+next
+frame -> -
+eeeeee -> 3 more
+next
+- -> 0 more
+000000 -> 3 broken
+new
+8001 ffffff -> 5 more
+8001 00000014 0000017e 00000001 000b 03 010000 -> 1 broken
+new
+0000 0000000a 00000000 -> 10 ready
+next
+8003 0000000c 00000144 0000 8001 00000014 0000017e 00000001 000b 03 010000 -> 12 ready
+frame -> 8003 0000000c 00000144 0000
+next
+8001 00000014 0000017e 00000001 000b 03 010000 -> 20 ready
+frame -> 8001 00000014 0000017e 00000001 000b 03 010000
+new
+8001 000000 -> 5 more
+frame -> -
+new
+8001 0000000a 000001 -> 9 more
+frame -> -";
+
+// Beginnings with a size outside of the bounds.
+const BROKEN: [&str; 4] = [
+    "8001 00000009",
+    "8001 00001001",
+    "0000 00000000",
+    "ffff ffffffff",
+];
+
+// What comes of a framer behind each of them.
+const BEHIND: &str = "\
+8001 00000014 0000017e 00000001 000b 03 010000 -> 0 broken
+frame -> -
+next
+- -> 0 broken
+next
+80 -> 0 broken
+next
+8001 00000014 0000017e 00000001 000b 03 010000 -> 0 broken";
+
+fn status(text: &str) -> Status {
+    match text {
+        "more" => Status::More,
+        "ready" => Status::Ready,
+        _ => Status::Broken(BAD_SIZE),
+    }
+}
+
+// Whether the line comes true.
+fn step(rt: &impl Abort, framer: &mut Framer, line: &str) -> bool {
+    match line.split_once(" -> ") {
+        Some(("frame", wanted)) => { framer.frame().unwrap_or(&[]) == bytes(rt, wanted).as_slice() }
+        Some((piece, wanted)) => {
+            let (taken, said) = wanted.split_once(' ').unwrap_or(("", ""));
+            let (count, answer) = framer.push(bytes(rt, piece).as_slice());
+            taken.parse() == Ok(count) && answer == status(said)
+        }
+        None => {
+            if line == "new" {
+                *framer = Framer::new();
+            }
+            framer.next();
+            true
+        }
+    }
+}
+
+fn takes_steps(rt: &impl Abort, framer: &mut Framer, steps: &str) {
+    for line in steps.lines() {
+        assert!(rt; step(rt, framer, line), "{line}");
+    }
+}
+
+#[test]
+fn frames_come_in_pieces(rt: HostRuntime) {
+    takes_steps(&rt, &mut Framer::new(), STEPS);
+}
+
+#[test]
+fn a_bad_size_breaks_the_framer_for_ever(rt: HostRuntime) {
+    for text in BROKEN {
+        let mut framer = Framer::new();
+        let pushed = framer.push(bytes(&rt, text).as_slice());
+        assert!(&rt; pushed == (6, Status::Broken(BAD_SIZE)), "{text}");
+        takes_steps(&rt, &mut framer, BEHIND);
+    }
+}
+
+#[test]
+fn the_greatest_size_is_framed(rt: HostRuntime) {
+    let mut most = [0; 4097];
+    most[4] = 0x10;
+    let mut framer = Framer::new();
+    assert!(&rt; framer.push(&most[..4095]) == (4095, Status::More));
+    assert!(&rt; framer.push(&most[4095..]) == (1, Status::Ready));
+    assert!(&rt; framer.frame().unwrap_or(&[]) == &most[..4096]);
+}
+
+/// The next frame of the source is this one, and none where it is empty; or the fault.
+fn gives<R: Source>(rt: &impl Abort, source: &mut R, wanted: Result<&[u8], ReadFault>) {
+    let given = match (read_frame(source), wanted) {
+        (Ok(Some(read)), Ok(frame)) => read.as_slice() == frame,
+        (Ok(None), Ok(frame)) => frame.is_empty(),
+        (Err(fault), Err(wanted)) => fault == wanted,
+        _ => false,
+    };
+    assert!(rt; given);
+}
+
+/// The same of these bytes: from a source that tells them, from one that gives one byte a read, and from a reader.
+fn all_give(rt: &impl Abort, bytes: &[u8], wanted: Result<&[u8], ReadFault>) {
+    gives(rt, &mut SliceSource::new(bytes), wanted);
+    gives(rt, &mut Pieces::new(bytes, 1), wanted);
+    gives(rt, &mut Reads::new(bytes), wanted);
+}
+
+#[test]
+fn frames_are_read(rt: HostRuntime) {
+    let whole = bytes(&rt, READ);
+    // An end is none before the first byte, and inside after it.
+    all_give(&rt, &[], Ok(&[]));
+    for k in 1..whole.len() {
+        all_give(&rt, &whole.as_slice()[..k], Err(ReadFault::EndInside));
+    }
+    all_give(&rt, whole.as_slice(), Ok(whole.as_slice()));
+    // A bad size is refused.
+    for text in ["8001 00000009", "8001 00001001", "8001 00000009 01"] {
+        let fault = Err(ReadFault::Broken(BAD_SIZE));
+        all_give(&rt, bytes(&rt, text).as_slice(), fault);
+    }
+    // One after the other: Startup with the tag 8003, and then PCR_Read.
+    let startup = bytes(&rt, "8003 0000000c 00000144 0000");
+    let both = bytes(
+        &rt,
+        "8003 0000000c 00000144 0000 8001 00000014 0000017e 00000001 000b 03 010000",
+    );
+    let mut source = SliceSource::new(both.as_slice());
+    gives(&rt, &mut source, Ok(startup.as_slice()));
+    gives(&rt, &mut source, Ok(whole.as_slice()));
+    gives(&rt, &mut source, Ok(&[]));
+}
+
+// The longer frame comes first, so that nothing of it may be left; and where there is none the buffer is empty.
+#[test]
+fn frames_are_read_into_one_buffer(rt: HostRuntime) {
+    let longer = bytes(&rt, READ);
+    let shorter = bytes(&rt, "8003 0000000c 00000144 0000");
+    let all = bytes(
+        &rt,
+        "8001 00000014 0000017e 00000001 000b 03 010000 8003 0000000c 00000144 0000 8001 0000000c 0000",
+    );
+    let mut source = SliceSource::new(all.as_slice());
+    let mut frame = Buffer::new();
+    let first = read_frame_into(&mut source, &mut frame);
+    assert!(&rt; first == Ok(true) && frame.as_slice() == longer.as_slice());
+    let second = read_frame_into(&mut source, &mut frame);
+    assert!(&rt; second == Ok(true) && frame.as_slice() == shorter.as_slice());
+    let third = read_frame_into(&mut source, &mut frame);
+    assert!(&rt; third == Err(ReadFault::EndInside) && frame.is_empty());
+    let last = read_frame_into(&mut source, &mut frame);
+    assert!(&rt; last == Ok(false) && frame.is_empty());
+}
+
+// What comes first of a source that gives one byte a read, and how often it is read.
+fn reads(rt: &impl Abort, source: Pieces<'_>, wanted: Result<&[u8], ReadFault>, reads: usize) {
+    let mut source = source;
+    gives(rt, &mut source, wanted);
+    assert!(rt; source.reads == reads);
+}
+
+#[test]
+fn no_read_is_tried_again(rt: HostRuntime) {
+    let whole = bytes(&rt, READ);
+    let frame = whole.as_slice();
+    for k in 1..21 {
+        reads(&rt, Pieces::failing(frame, 1, k), Err(ReadFault::Device), k);
+    }
+    reads(&rt, Pieces::failing(frame, 1, 21), Ok(frame), 20);
+    // No bytes are the end, though more would come.
+    reads(&rt, Pieces::pausing(frame, 1, 1), Ok(&[]), 1);
+    for k in 2..21 {
+        reads(
+            &rt,
+            Pieces::pausing(frame, 1, k),
+            Err(ReadFault::EndInside),
+            k,
+        );
+    }
+    reads(&rt, Pieces::pausing(frame, 1, 21), Ok(frame), 20);
+}
+
+#[test]
+fn there_are_as_many_reads_as_bytes_at_most(rt: HostRuntime) {
+    let mut most = [0; 4100];
+    most[4] = 0x10;
+    reads(&rt, Pieces::new(&most, 1), Ok(&most[..4096]), 4096);
+    // A bad size is refused after six, whatever follows.
+    let fault = ReadFault::Broken(BAD_SIZE);
+    reads(&rt, Pieces::new(&[0x00; 100], 1), Err(fault), 6);
+    reads(&rt, Pieces::new(&[0xFF; 100], 1), Err(fault), 6);
+}

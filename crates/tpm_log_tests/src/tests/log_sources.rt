@@ -1,0 +1,168 @@
+//! Readers of a log: in pieces, that fail, and that never end.
+
+ghost use Rattle.std.specs.Prelude.{None};
+
+use crate::tests::log_parsed::{HEADER, WORKED, bytes_of};
+use std::process::Abort;
+use std::test::*;
+use tpm_log::{LogFault, LogFaultKind, replay_from};
+use tpm_testing::Pieces;
+use tpm_types::{Alg, PcrIndex};
+use tpm_wire::{ReadFailed, SliceSource, Source};
+
+// What register 7 of SHA-1 is behind the worked log.
+const SEPARATED: &str = "b2a83b0ebf2f8374299a5b2bdfc31ea955ad7236";
+
+fn is_replayed(rt: &impl Abort, reader: &mut Pieces<'_>) {
+    let value = bytes_of(SEPARATED);
+    let register = PcrIndex::from_number(7).expect(rt, "a register");
+    match replay_from(reader) {
+        Ok(registers) => assert!(rt;
+            registers.read(Alg::Sha1, register).as_slice() == value.as_slice()
+        ),
+        Err(fault) => panic!(rt; "{fault:?}"),
+    }
+}
+
+fn has_fault(rt: &impl Abort, reader: &mut Pieces<'_>, kind: LogFaultKind, at: u32) {
+    match replay_from(reader) {
+        Ok(_) => panic!(rt; "{kind:?} at {at}"),
+        Err(fault) => assert_eq!(rt; fault, LogFault { kind, at }),
+    }
+}
+
+#[test]
+fn a_log_is_the_same_in_any_pieces(rt: HostRuntime) {
+    let log = bytes_of(WORKED);
+    for most in [1, 7, 64, 215] {
+        is_replayed(&rt, &mut Pieces::new(log.as_slice(), most));
+        // without its last byte
+        let cut = &log.as_slice()[..log.len().saturating_sub(1)];
+        has_fault(
+            &rt,
+            &mut Pieces::new(cut, most),
+            LogFaultKind::Truncated,
+            211,
+        );
+    }
+    has_fault(&rt, &mut Pieces::new(&[], 1), LogFaultKind::Truncated, 0);
+}
+
+// Never registers, and never another fault; and no read is tried again.
+#[test]
+fn a_read_that_fails_is_answered(rt: HostRuntime) {
+    let log = bytes_of(WORKED);
+    for k in 1..log.len().saturating_add(2) {
+        let mut reader = Pieces::failing(log.as_slice(), 1, k);
+        let given = k.saturating_sub(1) as u32;
+        has_fault(&rt, &mut reader, LogFaultKind::Device, given);
+        assert_eq!(rt; reader.reads, k);
+    }
+    let mut reader = Pieces::failing(log.as_slice(), 1, log.len().saturating_add(2));
+    is_replayed(&rt, &mut reader);
+}
+
+// It is taken for the end, and no read comes behind it.
+#[test]
+fn a_read_that_gives_no_bytes_is_the_last(rt: HostRuntime) {
+    let log = bytes_of(WORKED);
+    for k in 1..5 {
+        let mut reader = Pieces::pausing(log.as_slice(), 32, k);
+        match replay_from(&mut reader) {
+            Ok(_) => panic!(rt; "{k}"),
+            Err(fault) => assert_eq!(rt; fault.kind, LogFaultKind::Truncated),
+        }
+        assert_eq!(rt; reader.reads, k);
+    }
+}
+
+#[test]
+fn a_reader_that_never_ends_is_refused(rt: HostRuntime) {
+    has_fault(
+        &rt,
+        &mut Pieces::before_zeros(&[], 4096),
+        LogFaultKind::NotCryptoAgile,
+        4,
+    );
+    // Behind the header zeros are records of 16 bytes, at register 0 and of type 0.
+    let header = bytes_of(HEADER);
+    has_fault(
+        &rt,
+        &mut Pieces::before_zeros(header.as_slice(), 4096),
+        LogFaultKind::TooLong,
+        16_777_209,
+    );
+}
+
+// The record of an event of 4 MiB up to its event, behind a header of three algorithms; and a separator.
+const FRONT: &str =
+    "000000000300000000000000000000000000000000000000000000002900000053706563204944204576656e74303300000000000002000203000000040014000b0020000c00300000050000000d000000030000000400077c791119e055e7a0ae5e507089a3f9114836f50b00a117210941a0b00dcb2d8577e680d84b6fa0eaf760d2afc654c953b9859d54fa0c005511f2c17b5c7562000acf25d84e9b93d3477a1bb4ba74ea05287fbd775d2d79ba91f1911a279f9ead2969538627654e00004000";
+
+const SEPARATOR: &str =
+    "05000000040000000300000004009069ca78e7450a285173431b3e52c5c25299e4730b00df3f619804a92fdb4057192dc43dd748ea778adc52bc498ce80524c014b811190c00394341b7182cd227c5c6b07ef8000cdfd86136c4292b8e576573ad7ed9ae41019f5818b4b971c9effc60e1ad9f1289f00400000000000000";
+
+// Makes the bytes of an event, which count from 0 to 250 again and again, between a front and a back.
+#[derive(Drop)]
+struct Large<'a> {
+    front: SliceSource<'a>,
+    made: u32,
+    size: u32,
+    back: SliceSource<'a>,
+}
+
+impl Source for Large<'_> {
+    ghost coming = { λ _. None };
+
+    ghost failed = { λ _. 0 };
+
+    fn read(&mut self, room: &mut [u8]) -> Result<usize, ReadFailed> {
+        let given = self.front.read(room)?;
+        if given > 0 {
+            return Ok(given);
+        }
+        if self.made >= self.size {
+            return self.back.read(room);
+        }
+        let count = room.len().min((self.size - self.made) as usize);
+        for byte in &mut room[..count] {
+            *byte = (self.made % 251) as u8;
+            self.made = self.made.saturating_add(1);
+        }
+        Ok(count)
+    }
+
+    fn failures(&self) -> u64 {
+        0
+    }
+}
+
+#[test]
+fn an_event_of_4_mib_is_stepped_over(rt: HostRuntime) {
+    let front = bytes_of(FRONT);
+    let back = bytes_of(SEPARATOR);
+    let mut source = Large {
+        front: SliceSource::new(front.as_slice()),
+        made: 0,
+        size: 4_194_304,
+        back: SliceSource::new(back.as_slice()),
+    };
+    let registers = match replay_from(&mut source) {
+        Ok(registers) => registers,
+        Err(fault) => panic!(rt; "{fault:?}"),
+    };
+    let register = PcrIndex::from_number(5).expect(&rt, "a register");
+    for (alg, value) in [
+        (Alg::Sha1, "9401dfc2f702ed0388fc14c68a5108d35ac7d600"),
+        (
+            Alg::Sha256,
+            "cf4bd6f9d7676c4539e7685760c67ece0ec7598e0f616e32ed1f9abdfcde7906",
+        ),
+        (
+            Alg::Sha384,
+            "1ca531a3038b1a039832a7bb93d87ef28a623b55bdaadf36facb08a3e42eb32a3504050df4bb650b2671570ae4771106",
+        ),
+    ] {
+        let value = bytes_of(value);
+        assert!(rt; registers.read(alg, register).as_slice() == value.as_slice());
+    }
+}
