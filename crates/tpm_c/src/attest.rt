@@ -14,8 +14,8 @@ use crate::log::kind_number;
 use crate::part::{DONE, TpmPart, TpmRefusal, refuse};
 use crate::quote::{DIFFERS, NO_BANK, REFUSED};
 use tpm_log::{LogFault, replay_into};
-use tpm_quote::{AttestFault, check_attest, decode_attest, selects_none};
 use tpm_pcr::Registers;
+use tpm_quote::{AttestFault, check_attest, decode_attest, selects_none};
 use tpm_types::{Alg, Attest, Selections};
 use tpm_wire::{Refusal, Wire, take_whole};
 

@@ -23,7 +23,10 @@ use crate::out::BUFFER_BYTES;
 use arrayvec::ArrayVec;
 use tpm_buffer::{areas, decode_response};
 use tpm_caller::{Caller, CallerFault, Pending, Plain};
-use tpm_commands::{ReplyBody, Response, StartAuth, StartReply, bind_in, decode_start_into, handle_count, second_handle};
+use tpm_commands::{
+    CommandTable, ReplyBody, Response, StartAuth, StartReply, bind_in, decode_start_into,
+    second_handle,
+};
 use tpm_types::{Alg, CommandCode, DIGEST_BYTES, NAME_BYTES, Name, Nonce, SessionType, SymDef};
 
 /// Nothing is waited for.
@@ -207,7 +210,7 @@ fn sealed(
           keep = keep;
         }))) out.old out.new result }
 {
-    let names = names(handle_count(plain.code()), first, second);
+    let names = names(plain.code().handles(), first, second);
     caller.seal_plain(plain, names.as_slice(), auth, nonce_of(nonce), keep, out)
 }
 
@@ -237,7 +240,7 @@ fn seal(
     let Some(plain) = Plain::read(command) else {
         return 0;
     };
-    if !do_fit(handle_count(plain.code()), first, second, nonce) {
+    if !do_fit(plain.code().handles(), first, second, nonce) {
         return 0;
     }
     match std::mem::replace(held, Held::Spent) {

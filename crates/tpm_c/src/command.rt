@@ -12,8 +12,8 @@ ghost use Rattle.tpm_c.specs.CommandViews.{session_views, command_view, ViewsCom
 
 use crate::part::{DONE, NO_PART, TpmPart, TpmRefusal, refuse};
 use tpm_buffer::{Areas, AuthRef, areas, decode_command};
+use tpm_commands::{CommandTable, Params, decode_params_into};
 use tpm_types::CommandCode;
-use tpm_commands::{Params, decode_params_into, handle_count};
 use tpm_wire::Refusal;
 
 /// A session of a command: its nonce and its HMAC, or password, lie in the command.
@@ -138,7 +138,7 @@ fn first_place(areas: &Areas<'_>) -> usize
     ensures value { result ≡ first_place_of areas.now }
     ensures near { result ≤ 22 }
 {
-    14 + 4 * handle_count(areas.code())
+    14 + 4 * areas.code().handles()
 }
 
 // What a session says that begins at this place, and the place behind it.

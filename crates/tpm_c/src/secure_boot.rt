@@ -11,8 +11,11 @@ ghost use Rattle.tpm_c.specs.SecureBoots.{IsBootSaid, IsBootIn, IsBootChecked};
 
 use crate::log::tell;
 use crate::quote::NO_BANK;
-use tpm_secure_boot::{SecureBoot, SecureBootFault, SecureBootFaultKind, SecureBootState, SecurityVariable, secure_boot};
 use tpm_log::Log;
+use tpm_secure_boot::{
+    SecureBoot, SecureBootFault, SecureBootFaultKind, SecureBootState, SecurityVariable,
+    secure_boot,
+};
 use tpm_types::Alg;
 
 /// There are more authorities than the room has places.

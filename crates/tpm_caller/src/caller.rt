@@ -27,7 +27,10 @@ use std::marker::Model;
 use tpm_buffer::{SESSIONS, put_command};
 use tpm_commands::{Command, CommandBody, StartAuth, StartReply};
 use tpm_hmac::{SessionKey, command_mac, cp_hash, hash, same, session_key, trim};
-use tpm_types::{Alg, Auth, AuthSession, AuthValue, BLOCK_BYTES, BindHandle, CommandCode, DIGEST_BYTES, Digest, Name, Nonce, SessionAttrs, SessionHandle};
+use tpm_types::{
+    Alg, Auth, AuthSession, AuthValue, BLOCK_BYTES, BindHandle, CommandCode, DIGEST_BYTES, Digest,
+    Name, Nonce, SessionAttrs, SessionHandle,
+};
 use tpm_wire::{Bounded, Buffer, Duplicate};
 
 // How many bytes are before the HMAC of a session, beside the handles and the nonce: the header, authorizationSize,

@@ -11,7 +11,7 @@ ghost use Rattle.tpm_caller.specs.Plain.{body_in, parts_in, AreParams};
 
 use std::marker::Model;
 use tpm_buffer::areas;
-use tpm_commands::{CommandBody, handle_count, needs_authorization};
+use tpm_commands::{CommandBody, CommandTable};
 use tpm_types::{CommandCode, StartupType};
 use tpm_wire::response_code::SIZE;
 use tpm_wire::{Cursor, Refusal};
@@ -104,12 +104,12 @@ impl<'a> Plain<'a> {
         };
         let code = areas.code();
         let params = areas.params();
-        if !are_params(code, params) || !needs_authorization(code) {
+        if !are_params(code, params) || !code.needs_authorization() {
             return None;
         }
         Some(Plain {
             code,
-            handles: handles_in(bytes, handle_count(code)),
+            handles: handles_in(bytes, code.handles()),
             params,
         })
     }

@@ -118,19 +118,28 @@ fn handle_kinds(code: CommandCode) -> &'static [HandleKind]
     row_of(code).handles
 }
 
-/// How many handles a command has, 0 to 2.
-pub fn handle_count(code: CommandCode) -> usize
-    ensures value { result ≡ length (handle_kinds_of code) }
-    ensures fits { result ≤ 2 }
-{
-    handle_kinds(code).len()
+/// What the table of commands says of a command (Part 3, the command table of each).
+pub trait CommandTable {
+    /// How many handles the command has, 0 to 2.
+    fn handles(self) -> usize;
+
+    /// Whether the command's first handle needs authorization.
+    fn needs_authorization(self) -> bool;
 }
 
-/// Whether a command's first handle needs authorization.
-pub fn needs_authorization(code: CommandCode) -> bool
-    ensures { result ≡ does_need code }
-{
-    row_of(code).needs_authorization
+impl CommandTable for CommandCode {
+    fn handles(self) -> usize
+        ensures value { result ≡ length (handle_kinds_of self) }
+        ensures fits { result ≤ 2 }
+    {
+        handle_kinds(self).len()
+    }
+
+    fn needs_authorization(self) -> bool
+        ensures { result ≡ does_need self }
+    {
+        row_of(self).needs_authorization
+    }
 }
 
 // ---- a handle by its number, or where the command cannot have it one of its kind,

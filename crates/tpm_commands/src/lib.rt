@@ -11,8 +11,8 @@ mod response;
 
 pub use command::{Command, CommandBody, Header, StartAuth};
 pub use command_handles::{
-    bind_in, first_handle, handle_count, index_in, needs_authorization, nv_auth_in, pcr_or_null_in,
-    policy_in, register_in, second_handle, take_handles,
+    CommandTable, bind_in, first_handle, index_in, nv_auth_in, pcr_or_null_in, policy_in,
+    register_in, second_handle, take_handles,
 };
 pub use command_parameters::{Params, decode_params, decode_params_into, decode_start_into};
 pub use commands::{

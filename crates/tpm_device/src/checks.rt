@@ -8,7 +8,7 @@ ghost use Rattle.tpm_device.specs.Stands.{holds};
 
 use crate::device::Device;
 use tpm_buffer::{NO_SESSIONS, SESSIONS};
-use tpm_commands::needs_authorization;
+use tpm_commands::CommandTable;
 use tpm_types::{CommandCode, NvIndex, PolicyHandle, SessionHandle};
 use tpm_wire::response_code::{
     AUTH_CONTEXT, AUTH_MISSING, HANDLE, INITIALIZE, REFERENCE_H0, of_handle,
@@ -29,7 +29,7 @@ pub(crate) fn check_started(started: bool, code: CommandCode) -> Result<(), u32>
 pub(crate) fn check_tag(code: CommandCode, tag: u16) -> Result<(), u32>
     ensures { result ≡ tag_of code tag }
 {
-    if needs_authorization(code) {
+    if code.needs_authorization() {
         if tag == NO_SESSIONS {
             return Err(AUTH_MISSING);
         }

@@ -16,9 +16,9 @@ use crate::reading::read_params;
 use crate::response::{RESPONSE_BYTES, ResponseBuffer, put_refusal};
 use tpm_buffer::{Areas, header};
 use tpm_commands::{Params, ReplyBody};
-use tpm_session::Sessions;
-use tpm_pcr::Registers;
 use tpm_nv::Counters;
+use tpm_pcr::Registers;
+use tpm_session::Sessions;
 use tpm_types::{AuthValue, CommandCode, DIGEST_BYTES, Packed};
 
 /// A device of this profile.

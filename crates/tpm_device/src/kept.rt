@@ -16,8 +16,8 @@ ghost use Rattle.tpm_device.specs.Stands.{holds, Stands};
 
 use crate::device::{Device, no_sessions};
 use tpm_buffer::header;
-use tpm_pcr::Registers;
 use tpm_nv::{Counter, Counters, KEPT_BYTES};
+use tpm_pcr::Registers;
 use tpm_types::{Alg, AuthValue, CommandCode, Packed, SessionHandle};
 use tpm_wire::{Buffer, Refusal, Wire};
 

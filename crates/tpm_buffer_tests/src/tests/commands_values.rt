@@ -4,7 +4,7 @@ use crate::tests::buffer_checks::{bytes, put, put_number};
 use std::process::Abort;
 use std::test::*;
 use tpm_buffer::{decode_command, encode_command};
-use tpm_commands::{CommandBody, handle_count, needs_authorization};
+use tpm_commands::{CommandBody, CommandTable};
 use tpm_types::{CommandCode, SymDef};
 use tpm_wire::Buffer;
 
@@ -37,7 +37,7 @@ fn each_command_has_its_handles_and_authorization(rt: HostRuntime) {
             put(
                 &rt,
                 &mut all,
-                &[handle_count(code) as u8, needs_authorization(code) as u8],
+                &[code.handles() as u8, code.needs_authorization() as u8],
             );
         }
     }
