@@ -10,14 +10,14 @@ ghost use Rattle.tpm_args.specs.declared.check.SignedWords.{SignedWords as Signe
 ghost use Rattle.tpm_args.specs.Task.{is_given as is_given_by, AreSigned};
 ghost use Rattle.tpm_args.specs.Task.{IsHash, IsIfBytes, IsWith, IsWithEither, Requires};
 
+use crate::bytes::is_hexadecimal;
 use crate::given::is_given;
 use crate::invalid::{invalid_value, not_hexadecimal, wrong_words};
+use crate::selection::selections;
 use crate::stop::Stop;
 use crate::task::{Asked, Task};
 use clap::ArgMatches;
 use std::alloc::Global;
-use crate::bytes::is_hexadecimal;
-use crate::selection::selections;
 use tpm_types::{Alg, Selections};
 use tpm_words::check_words;
 

@@ -5,9 +5,9 @@ ghost use Rattle.tpm_args.specs.Stop.{IsMemoryOr};
 ghost use Rattle.tpm_args.specs.Task.{IsRegister};
 
 use crate::invalid::invalid_value;
+use crate::number::decimal;
 use crate::stop::Stop;
 use std::alloc::Global;
-use crate::number::decimal;
 use tpm_words::events_words;
 
 /// The register that alone is listed: a number of decimal digits alone, without a sign. A usage

@@ -8,12 +8,12 @@ ghost use Rattle.tpm_args.specs.Task.{digits_in, AsksNothingWith, AsksWith, IsCo
 
 use crate::given::is_given;
 use crate::invalid::invalid_value;
+use crate::name::is_kind;
+use crate::number::{hexadecimal, short_decimal};
 use crate::stop::Stop;
 use crate::task::{Asked, Task};
 use clap::ArgMatches;
 use std::alloc::Global;
-use crate::name::is_kind;
-use crate::number::{hexadecimal, short_decimal};
 use tpm_words::explain_words;
 
 /// The task of the words of `explain`. A usage fault where the word is no number of the radix below 2^32, and in

@@ -12,6 +12,7 @@ use crate::check::check_task;
 use crate::events::register;
 use crate::explain::explain_task;
 use crate::invalid::no_command;
+use crate::name::command_named;
 use crate::names::names_help;
 use crate::run::run_task;
 use crate::show::show_task;
@@ -21,7 +22,6 @@ use clap::error::ErrorKind;
 use clap::{ArgMatches, Error};
 use std::alloc::{AllocError, Global};
 use std::marker::Model;
-use crate::name::command_named;
 use tpm_words::{build_words, program_words};
 
 /// The words of a run.

@@ -8,12 +8,12 @@ ghost use Rattle.tpm_args.specs.Stop.{IsMemoryOr};
 ghost use Rattle.tpm_args.specs.Task.{AsksNothingWith, AsksWith};
 
 use crate::invalid::{invalid_value, not_hexadecimal};
+use crate::number::decimal;
+use crate::owner::{OwnerFault, owner_value};
 use crate::stop::Stop;
 use crate::task::Task;
 use clap::ArgMatches;
 use std::alloc::{AllocError, Global};
-use crate::number::decimal;
-use crate::owner::{OwnerFault, owner_value};
 use tpm_types::{AuthValue, DIGEST_BYTES};
 use tpm_words::run_words;
 

@@ -7,11 +7,11 @@ ghost use Rattle.tpm_args.specs.Task.{AsksNothingWith, AsksWith};
 
 use crate::given::is_given;
 use crate::invalid::{no_command, wrong_words};
+use crate::name::command_named;
 use crate::stop::Stop;
 use crate::task::{Asked, Task};
 use clap::ArgMatches;
 use std::alloc::Global;
-use crate::name::command_named;
 use tpm_words::show_words;
 
 // Packets, in this file. None where another of a buffer and three files is given, and where they are to be read as a

@@ -11,8 +11,8 @@ ghost use Rattle.tpm_buffer.specs.Responses.{response as response_layout};
 
 use crate::out::append;
 use tpm_buffer::{decode_command, decode_response, encode_command};
-use tpm_types::CommandCode;
 use tpm_commands::Command;
+use tpm_types::CommandCode;
 
 /// Decodes the command, and answers 0, or the code of its fault.
 #[unsafe(no_mangle)]

@@ -7,7 +7,10 @@ use tpm_buffer::{decode_response, encode_command};
 use tpm_caller::{Caller, CallerFault, Pending};
 use tpm_commands::{Command, CommandBody, ReplyBody, Response, StartAuth};
 use tpm_device::{Device, ResponseBuffer};
-use tpm_types::{Alg, AuthValue, BindHandle, CommandCode, DigestValues, HashedDigest, Nonce, PcrIndex, PcrOrNull, SessionType, SymDef, name_of_handle};
+use tpm_types::{
+    Alg, AuthValue, BindHandle, CommandCode, DigestValues, HashedDigest, Nonce, PcrIndex,
+    PcrOrNull, SessionType, SymDef, name_of_handle,
+};
 use tpm_wire::Buffer;
 
 // TPM2_Startup with TPM_SU_CLEAR.

@@ -29,10 +29,10 @@ use crate::quoted::answer_to_quote;
 use std::alloc::Global;
 use std::io::Write;
 use tpm_events::faults::print_fault;
+use tpm_log::{LogFault, LogFaultKind, replay_from};
 use tpm_output::answer::write;
 use tpm_output::fault::ToolFault;
 use tpm_output::status::Status;
-use tpm_log::{LogFault, LogFaultKind, replay_from};
 use tpm_types::Alg;
 use tpm_wire::Source;
 

@@ -14,13 +14,13 @@ ghost use Rattle.tpm_check.specs.Kinds.{boot_words, kind_line, list_words, log_w
 
 use std::alloc::{AllocError, Global};
 use std::io::Write;
+use tpm_event_data::SignatureFaultKind;
+use tpm_log::LogFaultKind;
 use tpm_output::answer::Answer;
 use tpm_output::fault::ToolFault;
 use tpm_output::status::Status;
 use tpm_output::text::Pushed;
-use tpm_event_data::SignatureFaultKind;
 use tpm_secure_boot::SecureBootFaultKind;
-use tpm_log::LogFaultKind;
 
 // The kind of a log's fault that has this name.
 fn log_kind(name: &str) -> Option<LogFaultKind>

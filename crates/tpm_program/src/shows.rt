@@ -17,9 +17,8 @@ use tpm_device::Device;
 use tpm_events::read_up_to;
 use tpm_output::fault::ToolFault;
 use tpm_output::status::Status;
-use tpm_script::run_script;
+use tpm_script::{MOST_READ, run_script, show_nv};
 use tpm_show::{Telling, show_lines, show_packets, show_stream};
-use tpm_script::{MOST_READ, show_nv};
 use tpm_types::AuthValue;
 use tpm_wire::Source;
 

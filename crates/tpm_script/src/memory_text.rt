@@ -6,9 +6,9 @@ ghost use Rattle.tpm_script.specs.MemoryText.{attributes_text, counter_line, gre
 ghost use Rattle.tpm_script.specs.MemoryText.{memory_text, policy_text, public_text, rest_line, value_text, yes_or_no};
 
 use std::alloc::{AllocError, Global};
+use tpm_nv::{Counter, Counters};
 use tpm_output::hexadecimal::shown_bytes;
 use tpm_output::text::Pushed;
-use tpm_nv::{Counter, Counters};
 use tpm_types::{Alg, NvPublic};
 
 fn yes_no(whether: bool) -> &'static str

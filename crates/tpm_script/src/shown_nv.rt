@@ -8,10 +8,10 @@ ghost use Rattle.tpm_script.specs.ShowNv.{ShowsNv};
 use crate::memory_text::push_memory;
 use std::alloc::{AllocError, Global};
 use std::io::Write;
+use tpm_nv::{Counters, KEPT_BYTES};
 use tpm_output::answer::Answer;
 use tpm_output::fault::ToolFault;
 use tpm_output::status::Status;
-use tpm_nv::{Counters, KEPT_BYTES};
 
 /// How many bytes of a file are wanted at most: one more than any NV memory takes.
 pub const MOST_READ: usize = KEPT_BYTES + 1;

@@ -9,12 +9,12 @@ ghost use Rattle.tpm_show.specs.Build.{Builds, BuildsBuffer, BuildsBytes, part_o
 use std::alloc::{AllocError, Global};
 use std::io::Write;
 use tpm_buffer::{decode_command, join_command};
-use tpm_types::CommandCode;
 use tpm_output::answer::Answer;
 use tpm_output::fault::ToolFault;
 use tpm_output::hexadecimal::decoded;
 use tpm_output::status::Status;
 use tpm_output::text::push_bytes;
+use tpm_types::CommandCode;
 use tpm_wire::Refusal;
 use tpm_wire::response_code::COMMAND_SIZE;
 

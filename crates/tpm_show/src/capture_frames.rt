@@ -16,9 +16,9 @@ use crate::library::{tell_library_command, tell_library_response};
 use crate::teller::Teller;
 use crate::told::{command_and_areas, response_and_areas, tell_command_rest, tell_response_rest};
 use std::alloc::AllocError;
-use tpm_types::CommandCode;
 use tpm_output::status::Status;
 use tpm_output::text::Pushed;
+use tpm_types::CommandCode;
 use tpm_wire::Refusal;
 
 /// Which reply may come next.

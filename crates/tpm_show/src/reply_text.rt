@@ -7,8 +7,8 @@ ghost use Rattle.tpm_show.specs.ReplyText.{handles_of, reply_code_line, reply_co
 
 use crate::frame_header::push_code_name;
 use crate::teller::Teller;
-use tpm_types::CommandCode;
 use tpm_output::text::Pushed;
+use tpm_types::CommandCode;
 
 fn push_code_words(text: &mut String, code: u32) -> Pushed
     ensures { OnOk result (string_bytes text.new ≡ string_bytes text.old ++ reply_code_words code) }

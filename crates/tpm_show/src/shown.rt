@@ -10,10 +10,10 @@ use crate::digits::read_buffer;
 use crate::told::{answer_to_command, answer_to_reply};
 use std::alloc::{AllocError, Global};
 use std::io::Write;
-use tpm_types::CommandCode;
 use tpm_output::answer::Answer;
 use tpm_output::fault::ToolFault;
 use tpm_output::status::Status;
+use tpm_types::CommandCode;
 
 fn answer<const FIELDS: bool>(
     alloc: Global,

@@ -23,10 +23,10 @@ use tpm_buffer::{
     Areas, ReplyAreas, areas, areas_of_a_response, decode_command, decode_response,
     fault_before_params, reply_areas,
 };
-use tpm_types::CommandCode;
 use tpm_commands::{Command, CommandBody, ReplyBody, Response};
 use tpm_output::answer::Answer;
 use tpm_output::text::Pushed;
+use tpm_types::CommandCode;
 use tpm_wire::Refusal;
 
 // The lines of a refusal.
