@@ -10,18 +10,15 @@ cp tpmtool "$wrapper/tpmtool"
 printf 'low:\ntpmtool: low\n' >"$wrapper/crates.txt"
 cat >"$wrapper/bin/rt" <<'END'
 #!/bin/sh
-# all: proofs; run: a build, and the program with a word; lib: an archive; try: the program, and then what `rt try` says
+# check: a proof; run: a build, and the program with a word; lib: an archive; try: the program, and then what `rt try` says
 # of it.
 echo "$PWD $*" >>"$CALLS"
 case $1 in
-all)
-    echo "== low
-what a proof of low says
-logic=proved functions=1
-== tpmtool"
+check)
+    echo "what a proof of ${PWD##*/} says"
     [ -z "$UNPROVED" ] || exit 1
     sleep 1
-    echo logic=proved functions=2
+    echo logic=proved functions=1
     ;;
 run)
     echo "what a build says"
