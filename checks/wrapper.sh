@@ -108,7 +108,7 @@ wrapped show 'a  b' '' '*'
 wants '<show>' '<a  b>' '<>' '<*>'
 says "a try answers where nothing is built, and takes no input that the program does not read" 3 0 1
 complains "one line says that a try proves nothing, and another what the program complains of" \
-    "tpmtool: this answer takes about a minute, and is not proved here: ./tpmtool --build proves and builds the program" \
+    "tpmtool: this answer takes a minute or two, and is not proved here: ./tpmtool --build proves and builds the program" \
     complaint
 [ ! -e "$wrapper/crates/tpmtool/out" ] || fail "a try leaves the crate as it was" "$(ls "$wrapper/crates/tpmtool/out")"
 holds "a try is given 20 minutes" grep -q "^$wrapper/crates/tpmtool try --seconds 1200 " "$wrapper/calls"
