@@ -1,5 +1,5 @@
 -- The program's subcommands and their words, as clap reads them (this profile).
-use Rattle.std.specs.Prelude.{◌≡◌, true, false, Some, codes}
+use Rattle.std.specs.Prelude.{◌≡◌, true, false, List, [], ◌∷◌, Some, codes}
 use Rattle.clap.specs.declared.builder.action.ArgAction.TheVariants.{SetTrue}
 use Rattle.clap.specs.declared.builder.command.Command.TheViews.{out-Command}
 use Rattle.clap.specs.declared.builder.command.Command.{Command}
@@ -21,63 +21,47 @@ flag_rule name = record (new_rule name) { long = Some name; action = Some SetTru
 abbrev pub option_rule : Text → Rule
 option_rule name = record (new_rule name) { long = Some name; value_names = 1 }
 
--- show [--reply NAME] [--fields]
-abbrev pub buffer_app : App
-buffer_app =
-    with_rule (with_rule (new_app (codes "show")) (option_rule (codes "reply"))) (flag_rule (codes "fields"))
-
--- show [--reply NAME] [--fields] [--file FILE] [--binary] [--json]
-abbrev pub capture_app : App
-capture_app = with_rule (with_rule (with_rule buffer_app (option_rule (codes "file")))
-    (flag_rule (codes "binary"))) (flag_rule (codes "json"))
+-- words that come behind those of a command
+abbrev pub with_rules : App → List Rule → App
+with_rules app [] = app
+with_rules app (rule ∷ rules) = with_rules (with_rule app rule) rules
 
 -- show [--reply NAME] [--fields] [--file FILE] [--binary] [--json] [--pcap FILE] [--nv FILE] [HEX]
 abbrev pub show_app : App
-show_app = with_rule (with_rule (with_rule capture_app (option_rule (codes "pcap")))
-    (option_rule (codes "nv"))) (optional_rule (codes "HEX"))
-
--- build NAME
-abbrev pub named_app : App
-named_app = with_rule (new_app (codes "build")) (required_rule (codes "NAME"))
+show_app = with_rules (new_app (codes "show"))
+    (option_rule (codes "reply") ∷ flag_rule (codes "fields") ∷ option_rule (codes "file") ∷ flag_rule (codes "binary")
+    ∷ flag_rule (codes "json") ∷ option_rule (codes "pcap") ∷ option_rule (codes "nv") ∷ optional_rule (codes "HEX")
+    ∷ [])
 
 -- build NAME HANDLES SESSIONS PARAMETERS
 abbrev pub build_app : App
-build_app = with_rule (with_rule (with_rule named_app (required_rule (codes "HANDLES")))
-    (required_rule (codes "SESSIONS"))) (required_rule (codes "PARAMETERS"))
+build_app = with_rules (new_app (codes "build"))
+    (required_rule (codes "NAME") ∷ required_rule (codes "HANDLES") ∷ required_rule (codes "SESSIONS")
+    ∷ required_rule (codes "PARAMETERS") ∷ [])
 
 -- run [--owner HEX] [--greatest N]
 abbrev pub run_app : App
-run_app = with_rule (with_rule (new_app (codes "run")) (option_rule (codes "owner"))) (option_rule (codes "greatest"))
+run_app = with_rules (new_app (codes "run")) (option_rule (codes "owner") ∷ option_rule (codes "greatest") ∷ [])
 
 -- explain [--decimal] CODE
 abbrev pub explain_app : App
 explain_app =
-    with_rule (with_rule (new_app (codes "explain")) (flag_rule (codes "decimal"))) (required_rule (codes "CODE"))
+    with_rules (new_app (codes "explain")) (flag_rule (codes "decimal") ∷ required_rule (codes "CODE") ∷ [])
 
--- a subcommand on an event log, as check LOG, without its options
-abbrev pub log_app : Text → App
-log_app name = with_rule (new_app name) (required_rule (codes "LOG"))
-
--- check LOG [--registers FILE] [--quote HEX]
-abbrev pub compare_app : App
-compare_app =
-    with_rule (with_rule (log_app (codes "check")) (option_rule (codes "registers"))) (option_rule (codes "quote"))
-
--- check LOG [--registers FILE] [--quote HEX] [--attest FILE] [--nonce HEX] [--require LIST]
-abbrev pub signed_app : App
-signed_app = with_rule (with_rule (with_rule compare_app (option_rule (codes "attest")))
-    (option_rule (codes "nonce"))) (option_rule (codes "require"))
-
--- the same with [--hash NAME] [--secure-boot] [--any-state] [--json]
+-- check LOG [--registers FILE] [--quote HEX] [--attest FILE] [--nonce HEX] [--require LIST] [--hash NAME]
+-- [--secure-boot] [--any-state] [--json]
 abbrev pub check_app : App
-check_app = with_rule (with_rule (with_rule (with_rule signed_app (option_rule (codes "hash")))
-    (flag_rule (codes "secure-boot"))) (flag_rule (codes "any-state"))) (flag_rule (codes "json"))
+check_app = with_rules (new_app (codes "check"))
+    (required_rule (codes "LOG") ∷ option_rule (codes "registers") ∷ option_rule (codes "quote")
+    ∷ option_rule (codes "attest") ∷ option_rule (codes "nonce") ∷ option_rule (codes "require")
+    ∷ option_rule (codes "hash") ∷ flag_rule (codes "secure-boot") ∷ flag_rule (codes "any-state")
+    ∷ flag_rule (codes "json") ∷ [])
 
 -- events LOG [--register N] [--places] [--digests] [--json]
 abbrev pub events_app : App
-events_app = with_rule (with_rule (with_rule (with_rule (log_app (codes "events"))
-    (option_rule (codes "register"))) (flag_rule (codes "places"))) (flag_rule (codes "digests")))
-    (flag_rule (codes "json"))
+events_app = with_rules (new_app (codes "events"))
+    (required_rule (codes "LOG") ∷ option_rule (codes "register") ∷ flag_rule (codes "places")
+    ∷ flag_rule (codes "digests") ∷ flag_rule (codes "json") ∷ [])
 
 -- one of the subcommands, or a version
 abbrev pub above_subcommands : App
@@ -91,6 +75,10 @@ program_app = with_subcommand
     (with_subcommand (with_subcommand (with_subcommand (with_subcommand (with_subcommand above_subcommands
     show_app.top) build_app.top) run_app.top) explain_app.top) check_app.top) events_app.top
 
+-- A command has no words that it shares with its subcommands.
+abbrev pub IsLocal : Command → Type 0
+IsLocal c = (out-Command c).has_globals ≡ false
+
 -- A command has these words, and none that it shares with its subcommands.
 abbrev pub IsApp : App → Command → Type 0
-IsApp words c = (app_of c ≡ words) × ((out-Command c).has_globals ≡ false)
+IsApp words c = (app_of c ≡ words) × IsLocal c

@@ -2,6 +2,7 @@
 #![tactic(auto)]
 
 mod program;
+mod word;
 
 pub use program::{
     build_words, check_words, events_words, explain_words, program_words, run_words, show_words,
