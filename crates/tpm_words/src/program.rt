@@ -1,7 +1,7 @@
 //! The program's subcommands and their words.
 
 ghost use Rattle.std.specs.Prelude.{◌≡◌, IfOk};
-ghost use Rattle.clap.specs.Words.{new_app};
+ghost use Rattle.clap.specs.Words.{App, new_app, with_subcommand as with_subcommand_of};
 ghost use Rattle.tpm_words.specs.Program.{show_app, build_app, run_app, explain_app, check_app, events_app};
 ghost use Rattle.tpm_words.specs.Program.{above_subcommands, program_app, IsApp};
 
@@ -267,11 +267,21 @@ fn above_subcommands<'a>(alloc: Global) -> Result<Command<'a>, AllocError>
 pub fn program_words<'a>(alloc: Global, names: &'a str) -> Result<Command<'a>, AllocError>
     ensures { IfOk result (λ c. IsApp program_app c) }
 {
-    above_subcommands(alloc)?
-        .subcommand(show_words(alloc, names)?)?
-        .subcommand(build_words(alloc, names)?)?
-        .subcommand(run_words(alloc)?)?
-        .subcommand(explain_words(alloc)?)?
-        .subcommand(check_words(alloc)?)?
-        .subcommand(events_words(alloc)?)
+    let program = with_subcommand(above_subcommands(alloc)?, show_words(alloc, names))?;
+    let program = with_subcommand(program, build_words(alloc, names))?;
+    let program = with_subcommand(program, run_words(alloc))?;
+    let program = with_subcommand(program, explain_words(alloc))?;
+    let program = with_subcommand(program, check_words(alloc))?;
+    with_subcommand(program, events_words(alloc))
+}
+
+// The program with one more subcommand, where there was memory for that.
+fn with_subcommand<'a>(
+    program: Command<'a>,
+    added: Result<Command<'a>, AllocError>,
+) -> Result<Command<'a>, AllocError>
+    ensures { (words more : App) → IsApp words program.entry → IfOk added.entry (λ c. IsApp more c)
+        → IfOk result (λ c. IsApp (with_subcommand_of words more.top) c) }
+{
+    program.subcommand(added?)
 }
