@@ -100,7 +100,9 @@ def crate_numbers():
             "TPM_NONCE_BYTES": nonce,
             "TPM_POLICY_BYTES": array_len("tpm_c", "policy", "u8"),
             "TPM_RECORD_DIGESTS": array_len("tpm_c", "log_event", "TpmLogDigest"),
-            "TPM_EVENT_TYPE_BYTES": max(map(len, re.findall(r'"(EV_\w+)"\),', source("tpm_event_data", "event_types")))),
+            "TPM_EVENT_TYPE_BYTES": max(
+                map(len, re.findall(r'"(EV_\w+)"\),', source("tpm_event_data", "event_types")))
+            ),
         }
         | arms("tpm_types", "alg", "Alg", "TPM_ALG_")
         | only(constants("tpm_types", "tpmt", "TPM_ALG_"), "TPM_ALG_AES", "TPM_ALG_XOR", "TPM_ALG_NULL", "TPM_ALG_CFB")

@@ -10,8 +10,8 @@ cp tpmtool "$wrapper/tpmtool"
 printf 'low:\ntpmtool: low\n' >"$wrapper/crates.txt"
 cat >"$wrapper/bin/rt" <<'END'
 #!/bin/sh
-# check: a proof; run: a build, and the program with a word; lib: an archive; try: the program, and then what `rt try` says
-# of it.
+# check: a proof; run: a build, and the program with a word; lib: an archive; try: the program, and then what `rt try`
+# says of it.
 echo "$PWD $*" >>"$CALLS"
 case $1 in
 check)

@@ -8,7 +8,8 @@ ghost use Rattle.tpm_commands.specs.Table.{register_in as the_register, index_in
 ghost use Rattle.tpm_commands.specs.Table.{pcr_or_null_in as the_pcr_or_null, nv_auth_in as the_nv_auth};
 ghost use Rattle.tpm_commands.specs.Table.{bind_in as the_bind};
 ghost use Rattle.tpm_commands.specs.Handles.{first as first_of, second as second_of, admits as is_admitted};
-ghost use Rattle.tpm_commands.specs.Handles.{handle_kinds as handle_kinds_of, needs_authorization as does_need, handles as handles_layout};
+ghost use Rattle.tpm_commands.specs.Handles.{handle_kinds as handle_kinds_of, needs_authorization as does_need};
+ghost use Rattle.tpm_commands.specs.Handles.{handles as handles_layout};
 ghost use Rattle.tpm_commands.specs.Handles.{handles_from, AreAdmitted};
 
 use crate::commands::row_of;
