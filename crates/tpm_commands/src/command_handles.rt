@@ -1,6 +1,6 @@
 //! What the handles of a command may be, and their reading.
 
-ghost use Rattle.std.specs.Prelude.{◌≡◌, true, ◌+◌, ◌≤◌, ◌*◌, length, ◌++◌, IfOk};
+ghost use Rattle.std.specs.Prelude.{◌≡◌, true, ◌+◌, ◌≤◌, ◌*◌, ◌∷◌, [], length, ◌++◌, IfOk};
 ghost use Rattle.tpm_wire.specs.Spelling.{spelling};
 ghost use Rattle.tpm_wire.specs.Buffers.{TakesNumbered, number_in, numbered};
 ghost use Rattle.tpm_wire.specs.ResponseCodes.{rc_value, of_handle as the_number};
@@ -73,6 +73,66 @@ impl HandleKind {
     }
 }
 
+/// The list of one handle.
+#[inline(always)]
+pub(crate) fn one_handle(number: u32) -> ArrayVec<u32, 2>
+    ensures { result.items ≡ number ∷ [] }
+{
+    let mut numbers = ArrayVec::new();
+    numbers.push(number);
+    numbers
+}
+
+/// The list of two handles.
+#[inline(always)]
+pub(crate) fn two_handles(first: u32, second: u32) -> ArrayVec<u32, 2>
+    ensures { result.items ≡ first ∷ second ∷ [] }
+{
+    let mut numbers = one_handle(first);
+    numbers.push(second);
+    numbers
+}
+
+// The handle of a command that has one.
+#[inline(always)]
+fn take_one(
+    cursor: &mut Cursor<'_>,
+    kinds: &[HandleKind],
+    only: HandleKind,
+) -> Result<ArrayVec<u32, 2>, Refusal>
+    requires { kinds.now ≡ only ∷ [] }
+    ensures reads { TakesNumbered (λ v. v.items) (handles_from 1 kinds.now)
+        cursor.old cursor.new result }
+    ensures spelled { IfOk result
+        (λ x. cursor.old.here.rest
+        ≡ spelling (handles_from 1 kinds.now) x.items ++ cursor.new.here.rest) }
+    ensures admitted { IfOk result (λ x. AreAdmitted kinds.now x.items) }
+{
+    let number = only.take(cursor, 1)?;
+    Ok(one_handle(number))
+}
+
+// The handles of a command that has two.
+#[inline(always)]
+fn take_two(
+    cursor: &mut Cursor<'_>,
+    kinds: &[HandleKind],
+    one: HandleKind,
+    two: HandleKind,
+) -> Result<ArrayVec<u32, 2>, Refusal>
+    requires { kinds.now ≡ one ∷ two ∷ [] }
+    ensures reads { TakesNumbered (λ v. v.items) (handles_from 1 kinds.now)
+        cursor.old cursor.new result }
+    ensures spelled { IfOk result
+        (λ x. cursor.old.here.rest
+        ≡ spelling (handles_from 1 kinds.now) x.items ++ cursor.new.here.rest) }
+    ensures admitted { IfOk result (λ x. AreAdmitted kinds.now x.items) }
+{
+    let first = one.take(cursor, 1)?;
+    let second = two.take(cursor, 2)?;
+    Ok(two_handles(first, second))
+}
+
 #[inline(always)]
 fn take_kinds(cursor: &mut Cursor<'_>, kinds: &[HandleKind]) -> Result<ArrayVec<u32, 2>, Refusal>
     requires { length kinds.now ≤ 2 }
@@ -83,18 +143,10 @@ fn take_kinds(cursor: &mut Cursor<'_>, kinds: &[HandleKind]) -> Result<ArrayVec<
         ≡ spelling (handles_from 1 kinds.now) x.items ++ cursor.new.here.rest) }
     ensures admitted { IfOk result (λ x. AreAdmitted kinds.now x.items) }
 {
-    let mut list = ArrayVec::new();
     match kinds {
-        [] => Ok(list),
-        [only] => {
-            list.push(only.take(cursor, 1)?);
-            Ok(list)
-        }
-        [one, two, ..] => {
-            list.push(one.take(cursor, 1)?);
-            list.push(two.take(cursor, 2)?);
-            Ok(list)
-        }
+        [] => Ok(ArrayVec::new()),
+        [only] => take_one(cursor, kinds, *only),
+        [one, two, ..] => take_two(cursor, kinds, *one, *two),
     }
 }
 

@@ -19,8 +19,8 @@ mod startup;
 
 use crate::command::{CommandBody, StartAuth};
 use crate::command_handles::{
-    HandleKind, bind_in, first_handle, index_in, nv_auth_in, pcr_or_null_in, policy_in,
-    register_in, second_handle,
+    HandleKind, bind_in, first_handle, index_in, nv_auth_in, one_handle, pcr_or_null_in, policy_in,
+    register_in, second_handle, two_handles,
 };
 use crate::command_parameters::Params;
 use crate::response::ReplyBody;
@@ -111,38 +111,25 @@ impl CommandBody<'_> {
             → Fits left (handles_layout (code_for self.now)) (handles_of self.now) }
         ensures whole { body_from (handles_of self.now) (params_of self.now) ≡ self.now }
     {
-        let mut numbers = ArrayVec::new();
         match self {
-            CommandBody::NvUndefineSpace { index } => {
-                numbers.push(RH_OWNER);
-                numbers.push(index.number());
-            }
-            CommandBody::NvDefineSpace { .. } => numbers.push(RH_OWNER),
-            CommandBody::NvIncrement { by, index } => {
-                numbers.push(by.number());
-                numbers.push(index.number());
-            }
-            CommandBody::PcrEvent { register, .. } => numbers.push(register.number()),
-            CommandBody::PcrReset { register } => numbers.push(register.number()),
-            CommandBody::NvRead { by, index, .. } => {
-                numbers.push(by.number());
-                numbers.push(index.number());
-            }
-            CommandBody::NvReadPublic { index } => numbers.push(index.number()),
-            CommandBody::PolicyAuthValue { session } => numbers.push(session.number()),
-            CommandBody::PolicyCommandCode { session, .. } => numbers.push(session.number()),
-            CommandBody::PolicyOr { session, .. } => numbers.push(session.number()),
-            CommandBody::StartAuthSession(start) => {
-                numbers.push(RH_NULL);
-                numbers.push(start.bind.number());
-            }
-            CommandBody::PolicyPcr { session, .. } => numbers.push(session.number()),
-            CommandBody::PolicyRestart { session } => numbers.push(session.number()),
-            CommandBody::PcrExtend { register, .. } => numbers.push(register.number()),
-            CommandBody::PolicyGetDigest { session } => numbers.push(session.number()),
-            CommandBody::Startup(_) | CommandBody::FlushContext(_) | CommandBody::PcrRead(_) => {}
+            CommandBody::NvUndefineSpace { index } => two_handles(RH_OWNER, index.number()),
+            CommandBody::NvDefineSpace { .. } => one_handle(RH_OWNER),
+            CommandBody::NvIncrement { by, index } => two_handles(by.number(), index.number()),
+            CommandBody::PcrEvent { register, .. } => one_handle(register.number()),
+            CommandBody::PcrReset { register } => one_handle(register.number()),
+            CommandBody::NvRead { by, index, .. } => two_handles(by.number(), index.number()),
+            CommandBody::NvReadPublic { index } => one_handle(index.number()),
+            CommandBody::PolicyAuthValue { session } => one_handle(session.number()),
+            CommandBody::PolicyCommandCode { session, .. } => one_handle(session.number()),
+            CommandBody::PolicyOr { session, .. } => one_handle(session.number()),
+            CommandBody::StartAuthSession(start) => two_handles(RH_NULL, start.bind.number()),
+            CommandBody::PolicyPcr { session, .. } => one_handle(session.number()),
+            CommandBody::PolicyRestart { session } => one_handle(session.number()),
+            CommandBody::PcrExtend { register, .. } => one_handle(register.number()),
+            CommandBody::PolicyGetDigest { session } => one_handle(session.number()),
+            CommandBody::Startup(_) | CommandBody::FlushContext(_) | CommandBody::PcrRead(_) =>
+                ArrayVec::new(),
         }
-        numbers
     }
 
     /// How many bytes its parameters have, 0 to 3,500.
@@ -307,71 +294,106 @@ impl<'a> CommandBody<'a> {
         ensures code { OnOk result (params_code (params_of self.new) ≡ code_for self.old) }
         ensures body { OnOk result (self.new ≡ body_from handles.now (params_of self.new)) }
     {
+        let first = first_handle(handles);
+        let second = second_handle(handles);
         match self {
-            CommandBody::NvUndefineSpace { index } => *index = index_in(second_handle(handles)),
-            CommandBody::NvDefineSpace { auth, public } => {
-                nv::read_nv_define_space(cursor, auth, public)?
+            CommandBody::NvUndefineSpace { .. } => {
+                *self = CommandBody::NvUndefineSpace {
+                    index: index_in(second),
+                };
+                Ok(())
             }
-            CommandBody::NvIncrement { by, index } => {
-                *by = nv_auth_in(first_handle(handles));
-                *index = index_in(second_handle(handles));
+            CommandBody::NvDefineSpace { auth, public } => nv::read_nv_define_space(
+                cursor, auth, public,
+            ),
+            CommandBody::NvIncrement { .. } => {
+                *self = CommandBody::NvIncrement {
+                    by: nv_auth_in(first),
+                    index: index_in(second),
+                };
+                Ok(())
             }
             CommandBody::PcrEvent { .. } => {
                 *self = CommandBody::PcrEvent {
-                    register: pcr_or_null_in(first_handle(handles)),
+                    register: pcr_or_null_in(first),
                     event: pcr::take_pcr_event(cursor)?,
-                }
+                };
+                Ok(())
             }
-            CommandBody::PcrReset { register } => *register = register_in(first_handle(handles)),
-            CommandBody::Startup(startup_type) => startup::read_startup(cursor, startup_type)?,
+            CommandBody::PcrReset { .. } => {
+                *self = CommandBody::PcrReset {
+                    register: register_in(first),
+                };
+                Ok(())
+            }
+            CommandBody::Startup(startup_type) => startup::read_startup(cursor, startup_type),
             CommandBody::NvRead {
                 by,
                 index,
                 size,
                 offset,
             } => {
-                *by = nv_auth_in(first_handle(handles));
-                *index = index_in(second_handle(handles));
-                nv::read_nv_read(cursor, size, offset)?
+                *by = nv_auth_in(first);
+                *index = index_in(second);
+                nv::read_nv_read(cursor, size, offset)
             }
-            CommandBody::FlushContext(session) => context::read_flush_context(cursor, session)?,
-            CommandBody::NvReadPublic { index } => *index = index_in(first_handle(handles)),
-            CommandBody::PolicyAuthValue { session } => *session = policy_in(first_handle(handles)),
+            CommandBody::FlushContext(session) => context::read_flush_context(cursor, session),
+            CommandBody::NvReadPublic { .. } => {
+                *self = CommandBody::NvReadPublic {
+                    index: index_in(first),
+                };
+                Ok(())
+            }
+            CommandBody::PolicyAuthValue { .. } => {
+                *self = CommandBody::PolicyAuthValue {
+                    session: policy_in(first),
+                };
+                Ok(())
+            }
             CommandBody::PolicyCommandCode { session, code } => {
-                *session = policy_in(first_handle(handles));
-                policy::read_policy_command_code(cursor, code)?
+                *session = policy_in(first);
+                policy::read_policy_command_code(cursor, code)
             }
             CommandBody::PolicyOr { session, digests } => {
-                *session = policy_in(first_handle(handles));
-                policy::read_policy_or(cursor, digests)?
+                *session = policy_in(first);
+                policy::read_policy_or(cursor, digests)
             }
             CommandBody::StartAuthSession(start) => {
-                start.bind = bind_in(second_handle(handles));
+                start.bind = bind_in(second);
                 session::read_start_auth_session(
                     cursor,
                     &mut start.nonce_caller,
                     &mut start.session_type,
                     &mut start.symmetric,
                     &mut start.auth_hash,
-                )?
+                )
             }
-            CommandBody::PcrRead(selections) => pcr::read_pcr_read(cursor, selections)?,
+            CommandBody::PcrRead(selections) => pcr::read_pcr_read(cursor, selections),
             CommandBody::PolicyPcr {
                 session,
                 pcr_digest,
                 selections,
             } => {
-                *session = policy_in(first_handle(handles));
-                policy::read_policy_pcr(cursor, pcr_digest, selections)?
+                *session = policy_in(first);
+                policy::read_policy_pcr(cursor, pcr_digest, selections)
             }
-            CommandBody::PolicyRestart { session } => *session = policy_in(first_handle(handles)),
+            CommandBody::PolicyRestart { .. } => {
+                *self = CommandBody::PolicyRestart {
+                    session: policy_in(first),
+                };
+                Ok(())
+            }
             CommandBody::PcrExtend { register, digests } => {
-                *register = pcr_or_null_in(first_handle(handles));
-                pcr::read_pcr_extend(cursor, digests)?
+                *register = pcr_or_null_in(first);
+                pcr::read_pcr_extend(cursor, digests)
             }
-            CommandBody::PolicyGetDigest { session } => *session = policy_in(first_handle(handles)),
+            CommandBody::PolicyGetDigest { .. } => {
+                *self = CommandBody::PolicyGetDigest {
+                    session: policy_in(first),
+                };
+                Ok(())
+            }
         }
-        Ok(())
     }
 }
 
