@@ -1,9 +1,7 @@
 pub mod Finding
 pub mod Resting
 pub mod SameBoot
-pub mod Peeling
+pub mod Texts
 pub mod Saying
 pub mod OneDigest
-pub mod Extending
 pub mod Vouching
-pub mod ValueLengths

@@ -14,6 +14,7 @@ use tpm_quote::{
     selects_none,
 };
 use tpm_types::{Alg, Attest, ClockInfo, Lent, PcrIndex, Selection, Selections};
+use tpm_vouched::laws::records_of_the_quote;
 use tpm_wire::response_code::{INSUFFICIENT, SIZE, VALUE};
 use tpm_wire::{Buffer, Refusal};
 
@@ -334,6 +335,7 @@ fn a_quote_of_the_registers_after_its_log_is_the_one_that_was_asked_for(rt: Host
     let last = changed(RSA_SHA1, END - 1, 0x8e);
     assert!(rt; answer(&rt, last.as_slice(), &ovmf, Alg::Sha1, SENT, &measured) == differs);
     boot_to_quote();
+    records_of_the_quote();
 }
 
 #[test]

@@ -1,0 +1,5 @@
+//! What the value of a register vouches for, and a quote of it: which digests extended it, in which order, and which
+//! texts were measured.
+#![tactic(auto)]
+
+pub mod laws;
