@@ -1,33 +1,38 @@
 -- What holds over the lives of a device.
-use Rattle.std.proofs.Common.{◌≡◌, ℕ, ◌<◌, List, [], ◌∷◌, ◌++◌, length, Option, Some, None, true, refl, sym}
+use Rattle.std.proofs.Common.{◌≡◌, ℕ, ◌<◌, List, [], ◌∷◌, ◌++◌, length, Option, Some, None, Ok, true, refl, sym}
 use Rattle.std.proofs.Common.{ap, ◌∙◌, subst, arith, inl, inr, append_assoc}
 use Rattle.std.specs.Prelude.{◌⊎◌, flat_map}
 use Rattle.tpm_wire.specs.Path.{Spells}
 use Rattle.tpm_types.specs.declared.tpms.Auth.{Auth}
 use Rattle.tpm_types.specs.Handles.{is_session}
 use Rattle.tpm_commands.specs.declared.command.Command.{Command}
-use Rattle.tpm_buffer.specs.Commands.{command}
+use Rattle.tpm_commands.specs.Handles.{needs_authorization}
+use Rattle.tpm_buffer.specs.Commands.{command, code_for}
 use Rattle.tpm_model.specs.Steps.{History, PowerCycle, Origin}
 use Rattle.tpm_model.specs.Sessions.{slot_of, last_nonce}
 use Rattle.tpm_model.specs.Counters.{next_value, nv_memory, value_at}
 use Rattle.tpm_model.specs.Kept.{IsFair}
 use Rattle.tpm_model.specs.Present.{present}
-use Rattle.tpm_model.specs.Answers.{presented, next}
+use Rattle.tpm_model.specs.Answers.{presented, outcome, next}
+use Rattle.tpm_model.specs.Callers.{Seal, seal_key, seal_text, seal_auth, sealed_command, waiting, Opened, opened}
 use Rattle.tpm_model.specs.Runs.Event.{Given, Cycled}
 use Rattle.tpm_model.specs.Runs.{Event, happens, after}
 use Rattle.tpm_model.specs.Premises.{IsAccepted, HasSessionMac, nonces, AreApart, NoncesDiffer}
 use Rattle.tpm_hmac.specs.Among.{IsAmong}
-use Rattle.tpm_model.specs.Premises.{Keyed, keyed, text_checked, texts_checked, AreFree}
+use Rattle.tpm_model.specs.Premises.{Keyed, keyed, text_checked, texts_checked, AreFree, text_replied, texts_replied}
+use Rattle.tpm_model.specs.Premises.{Opening, texts_opened}
 use Rattle.tpm_model.specs.Lives.{Life, executed, origin_behind, Execution, executions_of, executions}
-use Rattle.tpm_model.specs.Lives.{kept_executions, WasAccepted, Increments, value_after, NoncesDifferOver, texts_over}
-use Rattle.tpm_model.specs.Lives.{NoCollisionOver}
+use Rattle.tpm_model.specs.Lives.{kept_executions, reply_to, WasAccepted, Increments, value_after, NoncesDifferOver, texts_over}
+use Rattle.tpm_model.specs.Lives.{NoCollisionOver, IsOfCallersOver}
 use Rattle.tpm_model.proofs.Fair.{fair_after}
 use Rattle.tpm_hmac.proofs.Among.{among_front, among_later}
+use Rattle.tpm_model.proofs.Mixed.{among_reply, fewer, own}
 use Rattle.tpm_model.proofs.Nonces.{apart_across, apart_behind, apart_front, fresh, nonces-append}
 use Rattle.tpm_model.proofs.Replay.{among_here, used, Used, alike, twice_as}
 use Rattle.tpm_model.proofs.Rising.{IsKept, HoldsOf, kept_along, IsFloor, floor, floor_here, IsBelow, below, value_below}
 use Rattle.tpm_model.proofs.Rising.{greatest_at, given_by}
 use Rattle.tpm_model.proofs.Runs.{after-append}
+use Rattle.tpm_model.proofs.Sealing.{hmac_some}
 use Rattle.tpm_model.proofs.Slots.{held}
 
 -- ---- the place of an execution
@@ -167,7 +172,7 @@ more_than_none o ls xs ys x i e none more =
 
 -- ---- replays
 
--- an execution in one of the lives: the nonces before it in its life, and its text, are among those of the lives
+-- an execution in one of the lives: the nonces before it in its life, and its texts, are among those of the lives
 record InLives (o : Origin) (ls : List Life) (x : Execution) : Type 0 where
   origin : Origin
   before : List Event
@@ -175,7 +180,10 @@ record InLives (o : Origin) (ls : List Life) (x : Execution) : Type 0 where
   nonce : List ℕ
   is : x ≡ record { origin = origin; history = after origin [] before; bytes = bytes; nonce = nonce }
   nonces_are : (n : List ℕ) → IsAmong n (nonces before) → IsAmong n (nonces (flat_map executed ls))
-  texts_are : (t : Keyed) → text_checked (presented (present origin (after origin [] before)) bytes) ≡ t ∷ [] → IsAmong t (texts_over o ls)
+  texts_are : (t : Keyed) → text_checked (presented (present origin (after origin [] before)) bytes) ≡ t ∷ [] → IsAmong t (texts_over texts_checked o ls)
+  replies_are : (t : Keyed)
+      → text_replied (presented (present origin (after origin [] before)) bytes) (outcome (present origin (after origin [] before)) bytes nonce) nonce ≡ t ∷ []
+      → IsAmong t (texts_over texts_replied o ls)
 
 -- the nonces before a place
 nonces_before : (es fs gs : List Event) (bytes n m : List ℕ) → es ≡ fs ++ Given bytes n ∷ gs → IsAmong m (nonces fs) → IsAmong m (nonces es)
@@ -187,6 +195,11 @@ nonces_before es fs gs bytes n m e i =
 text_at : (o : Origin) (es fs gs : List Event) (bytes n : List ℕ) (t : Keyed) → es ≡ fs ++ Given bytes n ∷ gs
     → text_checked (presented (present o (after o [] fs)) bytes) ≡ t ∷ [] → IsAmong t (texts_checked o [] es)
 text_at o es fs gs bytes n t e is = subst (λ (l : List Event). IsAmong t (texts_checked o [] l)) (sym e) (among_here o [] fs gs bytes n t is)
+
+-- the text of the reply there
+reply_at : (o : Origin) (es fs gs : List Event) (bytes n : List ℕ) (t : Keyed) → es ≡ fs ++ Given bytes n ∷ gs
+    → text_replied (presented (present o (after o [] fs)) bytes) (outcome (present o (after o [] fs)) bytes n) n ≡ t ∷ [] → IsAmong t (texts_replied o [] es)
+reply_at o es fs gs bytes n t e is = subst (λ (l : List Event). IsAmong t (texts_replied o [] l)) (sym e) (among_reply o [] fs gs bytes n t is)
 
 place_over : (o : Origin) (ls : List Life) (xs ys : List Execution) (x : Execution) → executions o ls ≡ xs ++ x ∷ ys → InLives o ls x
 place_over o [] xs ys x e = absurd (nothing xs ys x e)
@@ -205,7 +218,10 @@ place_over o (l ∷ ls) xs ys x e =
             is = p.is;
             nonces_are = λ n i. subst (IsAmong n) (sym (nonces-append es others))
                 (among_front n (nonces es) (nonces others) (nonces_before es p.before p.behind p.bytes p.nonce n p.events i));
-            texts_are = λ t i. among_front t (texts_checked o [] es) (texts_over later ls) (text_at o es p.before p.behind p.bytes p.nonce t p.events i);
+            texts_are = λ t i. among_front t (texts_checked o [] es) (texts_over texts_checked later ls)
+                (text_at o es p.before p.behind p.bytes p.nonce t p.events i);
+            replies_are = λ t i. among_front t (texts_replied o [] es) (texts_over texts_replied later ls)
+                (reply_at o es p.before p.behind p.bytes p.nonce t p.events i);
           }
       | inr c ↦
           let p = place_over later ls c.0 ys x c.1 in
@@ -216,7 +232,8 @@ place_over o (l ∷ ls) xs ys x e =
             nonce = p.nonce;
             is = p.is;
             nonces_are = λ n i. subst (IsAmong n) (sym (nonces-append es others)) (among_later n (nonces es) (nonces others) (p.nonces_are n i));
-            texts_are = λ t i. among_later t (texts_checked o [] es) (texts_over later ls) (p.texts_are t i);
+            texts_are = λ t i. among_later t (texts_checked o [] es) (texts_over texts_checked later ls) (p.texts_are t i);
+            replies_are = λ t i. among_later t (texts_replied o [] es) (texts_over texts_replied later ls) (p.replies_are t i);
           }
     ]
 
@@ -281,12 +298,12 @@ twice_by o (l ∷ ls) xs ys zs x y c a e differ free two first second =
                 twice_as o p.before r.before r.behind p.bytes r.bytes p.nonce r.nonce c a
                 (subst NoncesDiffer all (apart_front (nonces es) (nonces others) apart))
                 (subst (λ (m : List Event). AreFree (texts_checked o [] m)) all
-                (λ u v i j. free u v (among_front u texts (texts_over later ls) i) (among_front v texts (texts_over later ls) j)))
+                (λ u v i j. free u v (among_front u texts (texts_over texts_checked later ls) i) (among_front v texts (texts_over texts_checked later ls) j)))
                 (subst (λ (z : Execution). Spells command c z.bytes) p.is two.first) (subst (λ (z : Execution). Spells command c z.bytes) r.is two.second)
                 two.one two.is two.some accepted (subst (λ (z : History). IsAccepted o z r.bytes r.nonce) (sym there) again)
             | inr q ↦
                 let r = place_over later ls q.0 zs y q.1 in
-                across o r.origin p.before r.before p.bytes r.bytes p.nonce r.nonce c a (nonces es) (nonces others) (texts_over o (l ∷ ls))
+                across o r.origin p.before r.before p.bytes r.bytes p.nonce r.nonce c a (nonces es) (nonces others) (texts_over texts_checked o (l ∷ ls))
                 (record {
                   first = subst (λ (z : Execution). Spells command c z.bytes) p.is two.first;
                   second = subst (λ (z : Execution). Spells command c z.bytes) r.is two.second;
@@ -296,13 +313,14 @@ twice_by o (l ∷ ls) xs ys zs x y c a e differ free two first second =
                 })
                 apart free
                 (λ n i. nonces_before es p.before p.behind p.bytes p.nonce n p.events i) r.nonces_are
-                (λ t i. among_front t texts (texts_over later ls) (text_at o es p.before p.behind p.bytes p.nonce t p.events i))
-                (λ t i. among_later t texts (texts_over later ls) (r.texts_are t i))
+                (λ t i. among_front t texts (texts_over texts_checked later ls) (text_at o es p.before p.behind p.bytes p.nonce t p.events i))
+                (λ t i. among_later t texts (texts_over texts_checked later ls) (r.texts_are t i))
                 accepted (subst WasAccepted r.is second)
           ]
       | inr k ↦
           twice_by later ls k.0 ys zs x y c a k.1 (apart_behind (nonces es) (nonces others) apart)
-          (λ u v i j. free u v (among_later u texts (texts_over later ls) i) (among_later v texts (texts_over later ls) j)) two first second
+          (λ u v i j. free u v (among_later u texts (texts_over texts_checked later ls) i) (among_later v texts (texts_over texts_checked later ls) j))
+          two first second
     ]
 
 pub twice_over : (o : Origin) (ls : List Life) (xs ys zs : List Execution) (x y : Execution) → executions o ls ≡ xs ++ x ∷ ys ++ y ∷ zs
@@ -310,3 +328,63 @@ pub twice_over : (o : Origin) (ls : List Life) (xs ys zs : List Execution) (x y 
 twice_over o ls xs ys zs x y e differ free (c, a, spells, one, is, some) same first second =
     twice_by o ls xs ys zs x y c a (e ∙ append_assoc xs (x ∷ ys) (y ∷ zs)) differ free
     (record { first = spells; second = subst (Spells command c) same spells; one = one; is = is; some = some }) first second
+
+-- ---- replies
+
+-- what stands before an element of a list, and behind it
+parted : {A : Type 0} (x : A) (l : List A) → IsAmong x l → (xs : List A) × (ys : List A) × (l ≡ xs ++ x ∷ ys)
+parted x [] i = absurd i
+parted x (y ∷ l) (inl e) = ([], l, ap (λ z. z ∷ l) (sym e))
+parted x (y ∷ l) (inr i) =
+    let p = parted x l i in
+    (y ∷ p.0, p.1, ap (λ m. y ∷ m) p.2)
+
+among_parted : {A : Type 0} (x : A) (l xs ys : List A) → l ≡ xs ++ x ∷ ys → IsAmong x l
+among_parted x l xs ys e = subst (IsAmong x) (sym e) (among_later x xs (x ∷ ys) (inl refl))
+
+-- A reply that is opened was that of an accepted buffer, its own, which is one of a session.
+own_over : (o : Origin) (ls : List Life) (seals : List Seal) (openings : List Opening) (x : Execution) (s : Seal) (w : Opened)
+    → IsOfCallersOver o seals openings ls → IsAmong x (executions o ls) → IsAmong s seals → needs_authorization (code_for s.body) ≡ true
+    → IsAmong (record { seal = s; bytes = reply_to x }) openings → opened (waiting s) (reply_to x) ≡ Ok w
+    → WasAccepted x × Spells command (sealed_command s) x.bytes × (is_session s.caller.handle ≡ true)
+own_over o ls seals openings x s w callers among given needs tried is =
+    let parts = parted x (executions o ls) among in
+    let p = place_over o ls parts.0 parts.1 x parts.2 in
+    subst
+    (λ (z : Execution). IsAmong z (executions o ls) → IsAmong (record { seal = s; bytes = reply_to z }) openings → opened (waiting s) (reply_to z) ≡ Ok w
+    → WasAccepted z × Spells command (sealed_command s) z.bytes × (is_session s.caller.handle ≡ true))
+    (sym p.is)
+    (λ here also opens.
+    let r = own p.origin seals openings (texts_over texts_checked o ls) (texts_over texts_replied o ls) p.before p.bytes p.nonce s (record {
+      sealed = callers.sealed (record { origin = p.origin; history = after p.origin [] p.before; bytes = p.bytes; nonce = p.nonce }) here;
+      differ = callers.differ;
+      free = callers.no_collision;
+      given = given;
+      answers = p.replies_are;
+      tried = also;
+    }) needs w opens in
+    (r.0, r.1.0, r.1.1))
+    among tried is
+
+pub own_reply_over : (o : Origin) (ls : List Life) (seals : List Seal) (openings : List Opening) (x : Execution) (s : Seal) (w : Opened)
+    → IsOfCallersOver o seals openings ls → IsAmong x (executions o ls) → IsAmong s seals → needs_authorization (code_for s.body) ≡ true
+    → IsAmong (record { seal = s; bytes = reply_to x }) openings → opened (waiting s) (reply_to x) ≡ Ok w
+    → WasAccepted x × Spells command (sealed_command s) x.bytes
+own_reply_over o ls seals openings x s w callers among given needs tried is =
+    let r = own_over o ls seals openings x s w callers among given needs tried is in
+    (r.0, r.1)
+
+pub one_reply_over : (o : Origin) (ls : List Life) (seals : List Seal) (openings : List Opening) (xs ys zs : List Execution) (x y : Execution) (s : Seal)
+    (w v : Opened)
+    → executions o ls ≡ xs ++ x ∷ ys ++ y ∷ zs → NoncesDifferOver ls → IsOfCallersOver o seals openings ls → IsAmong s seals
+    → needs_authorization (code_for s.body) ≡ true
+    → IsAmong (record { seal = s; bytes = reply_to x }) openings → IsAmong (record { seal = s; bytes = reply_to y }) openings
+    → opened (waiting s) (reply_to x) ≡ Ok w → opened (waiting s) (reply_to y) ≡ Ok v → ⊥
+one_reply_over o ls seals openings xs ys zs x y s w v e differ callers given needs tried also is both =
+    let from = e ∙ append_assoc xs (x ∷ ys) (y ∷ zs) in
+    let all = executions o ls in
+    let a = own_over o ls seals openings x s w callers (among_parted x all xs (ys ++ y ∷ zs) from) given needs tried is in
+    let b = own_over o ls seals openings y s v callers (among_parted y all (xs ++ x ∷ ys) zs e) given needs also both in
+    twice_by o ls xs ys zs x y (sealed_command s) (seal_auth s) from differ
+    (fewer (texts_over texts_checked o ls) (texts_over texts_replied o ls ++ texts_opened openings) callers.no_collision)
+    (record { first = a.1; second = b.1; one = refl; is = a.2; some = hmac_some s.caller.hash (seal_key s) (seal_text s) }) a.0 b.0

@@ -55,13 +55,13 @@ use Rattle.tpm_model.specs.Runs.Event.{Given, Cycled}
 use Rattle.tpm_model.specs.Runs.{Event, after}
 use Rattle.tpm_model.specs.Premises.{IsAccepted, HasSessionMac, NoncesDiffer, most_nonce, Keyed, mac_of}
 use Rattle.tpm_hmac.specs.Among.{IsAmong}
-use Rattle.tpm_model.specs.Premises.{texts_checked, NoCollision, IsSealedBy, AreSealed, IsOther, SealsDiffer}
+use Rattle.tpm_model.specs.Premises.{texts_checked, AreFree, IsSealedBy, AreSealed, IsOther, SealsDiffer}
 use Rattle.tpm_model.specs.Premises.{keyed_reply, text_by, text_replied, texts_replied, Opening, keyed_awaited}
-use Rattle.tpm_model.specs.Premises.{text_awaited, text_opened, texts_opened, NoCollisionWith, IsOfCallers}
+use Rattle.tpm_model.specs.Premises.{text_awaited, text_opened, texts_opened, IsOfCallers}
 use Rattle.tpm_model.proofs.Accepted.{Passed, passed, ok_is}
 use Rattle.tpm_model.proofs.Spelled.{was_read, spelled_by}
 use Rattle.tpm_model.proofs.Slots.{held}
-use Rattle.tpm_hmac.proofs.Among.{among_later}
+use Rattle.tpm_hmac.proofs.Among.{among_front, among_later}
 use Rattle.tpm_model.proofs.Nonces.{has_length}
 use Rattle.tpm_model.proofs.Replay.{refused_not, cut_front, twice_as}
 use Rattle.tpm_model.proofs.Sealing.{loaded_handle, hmac_some}
@@ -188,12 +188,7 @@ no_reply_tag c r = refl
 
 -- ---- lists
 
-among_left : {A : Type 0} (x : A) (xs ys : List A) → IsAmong x xs → IsAmong x (xs ++ ys)
-among_left x [] ys i = absurd i
-among_left x (y ∷ xs) ys (inl e) = inl e
-among_left x (y ∷ xs) ys (inr i) = inr (among_left x xs ys i)
-
-among_reply : (o : Origin) (h : History) (es fs : List Event) (bytes n : List ℕ) (x : Keyed)
+pub among_reply : (o : Origin) (h : History) (es fs : List Event) (bytes n : List ℕ) (x : Keyed)
     → text_replied (presented (present o (after o h es)) bytes) (outcome (present o (after o h es)) bytes n) n ≡ x ∷ []
     → IsAmong x (texts_replied o h (es ++ Given bytes n ∷ fs))
 among_reply o h [] fs bytes n x e = subst (λ xs. IsAmong x (xs ++ texts_replied o (next o h bytes n) fs)) (sym e) (inl refl)
@@ -307,7 +302,8 @@ mac_there e y c signs =
     let same : bytes_eq y.auth.hmac mac ≡ true = ap (λ b. if b then true else bytes_eq y.auth.hmac mac) (sym signs) ∙ refused_not (is_signed y) (failure e) c in
     subst (λ (m : List ℕ). 0 < length m) (sym ((bytes_eq-Decides y.auth.hmac mac).0 same)) (hmac_some y.session.hash y.key (command_text y))
 
-module _ (o : Origin) (seals : List Seal) (xs : List Opening) (es fs : List Event) (bytes n : List ℕ) (s : Seal) where
+-- a buffer of a run, beside all texts that are checked, and those of all replies: of this run alone, or of others too
+module _ (o : Origin) (seals : List Seal) (xs : List Opening) (checked replied : List Keyed) (es : List Event) (bytes n : List ℕ) (s : Seal) where
   abbrev pub before : History
   before = after o [] es
 
@@ -315,14 +311,17 @@ module _ (o : Origin) (seals : List Seal) (xs : List Opening) (es fs : List Even
   abbrev Own : Type 0
   Own = Spells command (sealed_command s) bytes × (is_session s.caller.handle ≡ true)
 
-  -- the premises on the run
-  pub record OfRun : Type 0 where
-    pub run : IsOfCallers o seals xs (es ++ Given bytes n ∷ fs)
+  -- the premises on it
+  pub record OfCallers : Type 0 where
+    pub sealed : IsAccepted o before bytes n → HasSessionMac bytes → IsSealedBy seals bytes
+    pub differ : SealsDiffer seals
+    pub free : AreFree (checked ++ (replied ++ texts_opened xs))
     pub given : IsAmong s seals
+    pub answers : (k : Keyed) → text_replied (presented (present o before) bytes) (outcome (present o before) bytes n) n ≡ k ∷ [] → IsAmong k replied
     pub tried : IsAmong (record { seal = s; bytes = answer o before bytes n }) xs
 
-  by_mac : (d : Done) (g : OfRun) (t : OpenedStep o before bytes n s d) (done : Passed (present o before) bytes n d) (y : Signed) → done.x.auths ≡ y.auth ∷ []
-      → done.x.evidence ≡ ByMac y
+  by_mac : (d : Done) (g : OfCallers) (t : OpenedStep o before bytes n s d) (done : Passed (present o before) bytes n d) (y : Signed)
+      → done.x.auths ≡ y.auth ∷ [] → done.x.evidence ≡ ByMac y
       → loaded (sessions_at o before) y.auth.session ≡ Some y.session → length (nonce_next y.session n) ≤ most_nonce → needs_none y ≡ false → Own
   by_mac d g t done y one evidence is few signs =
       let p = present o before in
@@ -343,33 +342,29 @@ module _ (o : Origin) (seals : List Seal) (xs : List Opening) (es fs : List Even
       let text : text_replied (presented p bytes) (outcome p bytes n) n ≡ k ∷ [] =
       ap (λ z. text_replied z (outcome p bytes n) n) done.asked ∙ ap (λ z. text_replied (Ok x) z n) t.is ∙ ap (λ z. text_by z x.code params n) evidence
       ∙ ap (λ b. if b then [] else k ∷ []) signs in
-      let checked = texts_checked o [] (es ++ Given bytes n ∷ fs) in
-      let replied = texts_replied o [] (es ++ Given bytes n ∷ fs) in
-      let among_k = among_later k checked (replied ++ texts_opened xs) (among_left k replied (texts_opened xs) (among_reply o [] es fs bytes n k text)) in
+      let among_k = among_later k checked (replied ++ texts_opened xs) (among_front k replied (texts_opened xs) (g.answers k text)) in
       let among_q =
       among_later q checked (replied ++ texts_opened xs)
       (among_later q replied (texts_opened xs) (among_opened (record { seal = s; bytes = answer o before bytes n }) xs q g.tried t.opening.text)) in
       let macs : mac_of q ≡ mac_of k = sym t.opening.mac ∙ read_it.1 in
-      let texts = g.run.no_collision q k among_q among_k macs in
+      let texts = g.free q k among_q among_k macs in
       let nonce : s.nonce ≡ y.auth.nonce =
       one_caller q k (to_be_bytes w32 0 ++ (to_be_bytes w32 (code_number w.code) ++ reply_params t.opening.body))
       (to_be_bytes w32 0 ++ (to_be_bytes w32 (code_number x.code) ++ params))
       t.opening.auth.nonce (nonce_next y.session n) s.nonce y.auth.nonce t.opening.auth.attrs y.auth.attrs macs texts refl refl read_it.0 in
       let there = mac_there x.entity y (ap (check_evidence x.entity) (sym evidence) ∙ done.evidence) signs in
       let spelled = spelled_by p bytes n d done in
-      let seal =
-      sealed_here o seals [] es fs bytes n g.run.sealed (d, t.is)
-      (d.command, y.auth, spelled, done.auths ∙ one, loaded_handle p.sessions y.auth.session y.session is, there) in
+      let seal = g.sealed (d, t.is) (d.command, y.auth, spelled, done.auths ∙ one, loaded_handle p.sessions y.auth.session y.session is, there) in
       let same : d.command ≡ sealed_command seal.0 =
       (exactly_one buffer buffer_sound command bytes).one_value d.command (sealed_command seal.0) spelled seal.2 in
       let auth : y.auth ≡ seal_auth seal.0 = head_is y.auth (seal_auth seal.0) [] (sym (done.auths ∙ one) ∙ ap (λ (c : Command). c.auths.items) same) in
-      let its = same_seal seals s seal.0 g.run.differ g.given seal.1 (nonce ∙ ap (λ (b : Auth). b.nonce) auth) in
+      let its = same_seal seals s seal.0 g.differ g.given seal.1 (nonce ∙ ap (λ (b : Auth). b.nonce) auth) in
       let session = loaded_handle p.sessions y.auth.session y.session is in (
         subst (λ (z : Seal). Spells command (sealed_command z) bytes) (sym its) seal.2,
         subst (λ (z : Seal). is_session z.caller.handle ≡ true) (sym its) (ap (λ (b : Auth). is_session b.session) (sym auth) ∙ session),
       )
 
-  by_signed : (d : Done) (g : OfRun) (t : OpenedStep o before bytes n s d) (done : Passed (present o before) bytes n d) (y : Signed)
+  by_signed : (d : Done) (g : OfCallers) (t : OpenedStep o before bytes n s d) (done : Passed (present o before) bytes n d) (y : Signed)
       → done.x.auths ≡ y.auth ∷ []
       → done.x.evidence ≡ ByMac y
       → loaded (sessions_at o before) y.auth.session ≡ Some y.session → Own
@@ -395,7 +390,7 @@ module _ (o : Origin) (seals : List Seal) (xs : List Opening) (es fs : List Even
         | false ↦ λ signs. by_mac d g t done y one evidence is few signs
       ] refl
 
-  own_step : (d : Done) → OfRun → OpenedStep o before bytes n s d → Own
+  own_step : (d : Done) → OfCallers → OpenedStep o before bytes n s d → Own
   own_step d g t =
       let p = present o before in
       let done = passed p bytes n d t.is in
@@ -413,7 +408,7 @@ module _ (o : Origin) (seals : List Seal) (xs : List Opening) (es fs : List Even
       ]
 
   -- A reply that is opened was that of an accepted buffer, its own.
-  pub own : OfRun → needs_authorization (code_for s.body) ≡ true → (w : Opened) → opened (waiting s) (answer o before bytes n) ≡ Ok w
+  pub own : OfCallers → needs_authorization (code_for s.body) ≡ true → (w : Opened) → opened (waiting s) (answer o before bytes n) ≡ Ok w
       → IsAccepted o before bytes n × Own
   own g needs w is =
       let r = read_all (response (code_for s.body)) (answer o before bytes n) in
@@ -429,17 +424,31 @@ module _ (o : Origin) (seals : List Seal) (xs : List Opening) (es fs : List Even
 
 -- ---- the laws
 
+pub fewer : (checked others : List Keyed) → AreFree (checked ++ others) → AreFree checked
+fewer checked others free x y i j = free x y (among_front x checked others i) (among_front y checked others j)
+
+own_in_run : (o : Origin) (seals : List Seal) (xs : List Opening) (es fs : List Event) (bytes n : List ℕ) (s : Seal) (w : Opened)
+    → IsOfCallers o seals xs (es ++ Given bytes n ∷ fs) → IsAmong s seals → needs_authorization (code_for s.body) ≡ true
+    → IsAmong (record { seal = s; bytes = answer o (after o [] es) bytes n }) xs → opened (waiting s) (answer o (after o [] es) bytes n) ≡ Ok w
+    → IsAccepted o (after o [] es) bytes n × Spells command (sealed_command s) bytes × (is_session s.caller.handle ≡ true)
+own_in_run o seals xs es fs bytes n s w run given needs tried is =
+    let all = es ++ Given bytes n ∷ fs in
+    let r = own o seals xs (texts_checked o [] all) (texts_replied o [] all) es bytes n s (record {
+      sealed = sealed_here o seals [] es fs bytes n run.sealed;
+      differ = run.differ;
+      free = run.no_collision;
+      given = given;
+      answers = among_reply o [] es fs bytes n;
+      tried = tried;
+    }) needs w is in
+    (r.0, r.1.0, r.1.1)
+
 pub own_reply_alone : (o : Origin) (seals : List Seal) (xs : List Opening) (es fs : List Event) (bytes n : List ℕ) (s : Seal) (w : Opened)
     → IsOfCallers o seals xs (es ++ Given bytes n ∷ fs) → IsAmong s seals → needs_authorization (code_for s.body) ≡ true
     → IsAmong (record { seal = s; bytes = answer o (after o [] es) bytes n }) xs → opened (waiting s) (answer o (after o [] es) bytes n) ≡ Ok w
     → IsAccepted o (after o [] es) bytes n × Spells command (sealed_command s) bytes
 own_reply_alone o seals xs es fs bytes n s w run given needs tried is =
-    let r = own o seals xs es fs bytes n s (record { run = run; given = given; tried = tried }) needs w is in (r.0, r.1.0)
-
-fewer : (o : Origin) (es : List Event) (xs : List Opening) → NoCollisionWith o es xs → NoCollision o es
-fewer o es xs free x y i j =
-    let others = texts_replied o [] es ++ texts_opened xs in
-    free x y (among_left x (texts_checked o [] es) others i) (among_left y (texts_checked o [] es) others j)
+    let r = own_in_run o seals xs es fs bytes n s w run given needs tried is in (r.0, r.1)
 
 pub one_reply_alone : (o : Origin) (seals : List Seal) (xs : List Opening) (es fs gs : List Event) (bytes other n m : List ℕ) (s : Seal) (w v : Opened)
     → NoncesDiffer (es ++ Given bytes n ∷ fs ++ Given other m ∷ gs) → IsOfCallers o seals xs (es ++ Given bytes n ∷ fs ++ Given other m ∷ gs) → IsAmong s seals
@@ -448,9 +457,11 @@ pub one_reply_alone : (o : Origin) (seals : List Seal) (xs : List Opening) (es f
     → IsAmong (record { seal = s; bytes = answer o (after o [] (es ++ Given bytes n ∷ fs)) other m }) xs
     → opened (waiting s) (answer o (after o [] es) bytes n) ≡ Ok w → opened (waiting s) (answer o (after o [] (es ++ Given bytes n ∷ fs)) other m) ≡ Ok v → ⊥
 one_reply_alone o seals xs es fs gs bytes other n m s w v nonces run given needs tried also is both =
+    let all = es ++ Given bytes n ∷ fs ++ Given other m ∷ gs in
     let first_run = subst (IsOfCallers o seals xs) (append_assoc es (Given bytes n ∷ fs) (Given other m ∷ gs)) run in
-    let a = own o seals xs es (fs ++ Given other m ∷ gs) bytes n s (record { run = first_run; given = given; tried = tried }) needs w is in
-    let b = own o seals xs (es ++ Given bytes n ∷ fs) gs other m s (record { run = run; given = given; tried = also }) needs v both in
-    twice_as o es fs gs bytes other n m (sealed_command s) (seal_auth s) nonces (fewer o (es ++ Given bytes n ∷ fs ++ Given other m ∷ gs) xs run.no_collision)
-    a.1.0 b.1.0 refl a.1.1
+    let a = own_in_run o seals xs es (fs ++ Given other m ∷ gs) bytes n s w first_run given needs tried is in
+    let b = own_in_run o seals xs (es ++ Given bytes n ∷ fs) gs other m s v run given needs also both in
+    twice_as o es fs gs bytes other n m (sealed_command s) (seal_auth s) nonces
+    (fewer (texts_checked o [] all) (texts_replied o [] all ++ texts_opened xs) run.no_collision)
+    a.1 b.1 refl a.2
     (hmac_some s.caller.hash (seal_key s) (seal_text s)) a.0 b.0

@@ -6,10 +6,13 @@ use Rattle.tpm_commands.specs.declared.command.CommandBody.TheVariants.{NvIncrem
 use Rattle.tpm_model.specs.Steps.{History, PowerCycle, Origin}
 use Rattle.tpm_model.specs.Counters.{nv_memory, value_at}
 use Rattle.tpm_model.specs.Present.{present}
-use Rattle.tpm_model.specs.Answers.{Done, outcome, next}
+use Rattle.tpm_model.specs.Answers.{Done, outcome, answer, next}
+use Rattle.tpm_model.specs.Callers.{Seal}
 use Rattle.tpm_model.specs.Runs.Event.{Given, Cycled}
 use Rattle.tpm_model.specs.Runs.{Event, after}
-use Rattle.tpm_model.specs.Premises.{IsAccepted, NoncesDiffer, Keyed, texts_checked, AreFree}
+use Rattle.tpm_model.specs.Premises.{IsAccepted, HasSessionMac, NoncesDiffer, Keyed, texts_checked, AreFree}
+use Rattle.tpm_model.specs.Premises.{IsSealedBy, SealsDiffer, texts_replied, Opening, texts_opened}
+use Rattle.tpm_hmac.specs.Among.{IsAmong}
 
 -- A run of a device, until it loses its power. Each response that was handed out is to one of the kept events, and the
 -- next life begins from the NV memory after them. The lost events were executed behind them, and their responses were
@@ -55,6 +58,10 @@ executions = executions_in executed
 abbrev pub kept_executions : Origin → List Life → List Execution
 kept_executions = executions_in (λ life. life.kept)
 
+-- what it is answered with
+abbrev pub reply_to : Execution → List ℕ
+reply_to x = answer x.origin x.history x.bytes x.nonce
+
 -- It is answered with code 0.
 abbrev pub WasAccepted : Execution → Type 0
 WasAccepted x = IsAccepted x.origin x.history x.bytes x.nonce
@@ -74,11 +81,28 @@ value_after x = value_at x.origin (next x.origin x.history x.bytes x.nonce)
 abbrev pub NoncesDifferOver : List Life → Type 0
 NoncesDifferOver lives = NoncesDiffer (flat_map executed lives)
 
--- the texts whose HMACs are checked in all lives
-abbrev pub texts_over : Origin → List Life → List Keyed
-texts_over o [] = []
-texts_over o (life ∷ lives) = texts_checked o [] (executed life) ++ texts_over (origin_behind o life) lives
+-- the texts of all lives, by those of a run
+abbrev pub texts_over : (Origin → History → List Event → List Keyed) → Origin → List Life → List Keyed
+texts_over texts o [] = []
+texts_over texts o (life ∷ lives) = texts o [] (executed life) ++ texts_over texts (origin_behind o life) lives
 
--- No two different ones have the same HMAC.
+-- No two different texts whose HMACs are checked in all lives have the same HMAC.
 abbrev pub NoCollisionOver : Origin → List Life → Type 0
-NoCollisionOver o lives = AreFree (texts_over o lives)
+NoCollisionOver o lives = AreFree (texts_over texts_checked o lives)
+
+-- ---- callers and lives
+
+-- Each buffer that is accepted in one of the lives, and whose session is an HMAC or policy session with a nonempty
+-- HMAC, is sealed by one of these.
+abbrev pub AreSealedOver : Origin → List Seal → List Life → Type 0
+AreSealedOver o seals lives =
+    (x : Execution) → IsAmong x (executions o lives) → WasAccepted x → HasSessionMac x.bytes → IsSealedBy seals x.bytes
+
+-- A device's lives from this origin: their accepted commands with session HMACs are sealed by callers, the nonceCallers
+-- are pairwise different, and no two different texts have the same HMAC, of those that are checked in all lives, those
+-- of all replies, and those that opening checks.
+pub record IsOfCallersOver (o : Origin) (seals : List Seal) (xs : List Opening) (lives : List Life) : Type 0 where
+  pub sealed : AreSealedOver o seals lives
+  pub differ : SealsDiffer seals
+  pub no_collision : AreFree
+      (texts_over texts_checked o lives ++ (texts_over texts_replied o lives ++ texts_opened xs))

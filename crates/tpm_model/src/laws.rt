@@ -34,7 +34,7 @@ ghost use Rattle.tpm_model.specs.Callers.{given_up};
 ghost use Rattle.tpm_model.specs.Runs.Event.{Given, Cycled};
 ghost use Rattle.tpm_model.specs.Runs.{Event, after, run};
 ghost use Rattle.tpm_model.specs.Lives.{Life, Execution, executions, kept_executions, WasAccepted, Increments};
-ghost use Rattle.tpm_model.specs.Lives.{value_after, NoncesDifferOver, NoCollisionOver};
+ghost use Rattle.tpm_model.specs.Lives.{value_after, reply_to, NoncesDifferOver, NoCollisionOver, IsOfCallersOver};
 ghost use Rattle.tpm_model.specs.Examples.{Examples};
 ghost use Rattle.tpm_model.specs.Premises.{IsByGrammar, IsWholeByGrammar, code_in, IsAccepted, HasSessionMac};
 ghost use Rattle.tpm_model.specs.Premises.{NoncesDiffer, NoCollision, nonce_bytes, most_nonce, IsReady, rolled};
@@ -266,5 +266,33 @@ pub fn no_mixed_replies()
         openings →
         opened (waiting s) (answer o (after o [] es) bytes n) ≡ Ok w →
         opened (waiting s) (answer o (after o [] (es ++ Given bytes n ∷ fs)) other m) ≡ Ok v →
+        ⊥ }
+{}
+
+/// No mixed replies over a device's lives: where the commands with session HMACs that are accepted in all lives are
+/// sealed by callers, with nonceCallers that differ pairwise, and no two different texts have the same HMAC, a reply of
+/// any life that a Waiting opens is the reply to its own buffer, also where the power took what came of it. Where the
+/// nonces handed in over all lives differ pairwise in their first 16 bytes, there is one such reply in all of them.
+pub fn no_mixed_replies_over_lives()
+    ensures own { (o : Origin) (lives : List Life) (seals : List Seal) (openings : List Opening) →
+        (x : Execution) (s : Seal) (w : Opened) →
+        IsOfCallersOver o seals openings lives →
+        IsAmong x (executions o lives) →
+        IsAmong s seals →
+        needs_authorization (code_for s.body) ≡ true →
+        IsAmong (record { seal = s; bytes = reply_to x }) openings →
+        opened (waiting s) (reply_to x) ≡ Ok w →
+        WasAccepted x × Spells command (sealed_command s) x.bytes }
+    ensures once { (o : Origin) (lives : List Life) (seals : List Seal) (openings : List Opening) →
+        (xs ys zs : List Execution) (x y : Execution) (s : Seal) (w v : Opened) →
+        executions o lives ≡ xs ++ x ∷ ys ++ y ∷ zs →
+        NoncesDifferOver lives →
+        IsOfCallersOver o seals openings lives →
+        IsAmong s seals →
+        needs_authorization (code_for s.body) ≡ true →
+        IsAmong (record { seal = s; bytes = reply_to x }) openings →
+        IsAmong (record { seal = s; bytes = reply_to y }) openings →
+        opened (waiting s) (reply_to x) ≡ Ok w →
+        opened (waiting s) (reply_to y) ≡ Ok v →
         ⊥ }
 {}

@@ -8,7 +8,7 @@ mod laws;
 
 pub use laws::{
     accepted_is_spelled, cut_by_the_grammar, done_with_code_zero, in_step, no_counter_goes_back,
-    no_counter_goes_back_over_lives, no_mixed_replies, no_replay, no_replay_over_lives,
-    nv_changes_are_told, nv_memory_stays_fair, policy_starts_again, refused_with_a_code,
-    restored_is_cycled, worked_examples,
+    no_counter_goes_back_over_lives, no_mixed_replies, no_mixed_replies_over_lives, no_replay,
+    no_replay_over_lives, nv_changes_are_told, nv_memory_stays_fair, policy_starts_again,
+    refused_with_a_code, restored_is_cycled, worked_examples,
 };

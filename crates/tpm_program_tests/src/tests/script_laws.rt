@@ -16,6 +16,7 @@ fn the_laws_return(_rt: HostRuntime) {
     tpm_model::refused_with_a_code();
     tpm_model::in_step();
     tpm_model::no_mixed_replies();
+    tpm_model::no_mixed_replies_over_lives();
     tpm_model::nv_memory_stays_fair();
     tpm_model::restored_is_cycled();
     tpm_device::answers_are_the_run();
