@@ -24,6 +24,8 @@ ghost use Rattle.tpm_model.specs.Callers.{started_with, Seal, sealed_command, Wa
 ghost use Rattle.tpm_model.specs.Callers.{WrongMac, Opened, opened, given_up};
 ghost use Rattle.tpm_model.specs.Runs.Event.{Given};
 ghost use Rattle.tpm_model.specs.Runs.{Event, after};
+ghost use Rattle.tpm_model.specs.Lives.{Life, Execution, executions, reply_to, WasAccepted, NoncesDifferOver};
+ghost use Rattle.tpm_model.specs.Lives.{IsOfCallersOver};
 ghost use Rattle.tpm_model.specs.Premises.{IsAccepted, NoncesDiffer, nonce_bytes, most_nonce, IsReady, rolled};
 ghost use Rattle.tpm_model.specs.Premises.{opened_as, Opening, IsOfCallers};
 ghost use Rattle.tpm_hmac.specs.Among.{IsAmong};
@@ -115,5 +117,29 @@ pub fn no_mixed_replies()
         }) openings →
         opened (sent s).waiting (answer o (after o [] es) bytes n) ≡ Ok w →
         opened (sent s).waiting (answer o (after o [] (es ++ Given bytes n ∷ fs)) other m) ≡ Ok v →
+        ⊥ }
+{}
+
+/// No mixed replies over a device's lives, each of which begins from the NV memory that the one before has kept: where
+/// the commands with session HMACs that are accepted in all of them are sealed by callers, with nonceCallers that
+/// differ pairwise, and no two different texts have the same HMAC, a reply of any life that a `Waiting` opens is the
+/// reply to its own buffer. Where the device's nonces differ in their first 16 bytes, there is one such reply in all.
+pub fn no_mixed_replies_over_lives()
+    ensures own { (o : Origin) (lives : List Life) (seals : List Seal) (openings : List Opening)
+        (x : Execution) (s : Seal) (w : Opened) →
+        IsOfCallersOver o seals openings lives → IsAmong x (executions o lives) →
+        IsAmong s seals → needs_authorization (code_for s.body) ≡ true →
+        IsAmong (record { seal = s; bytes = reply_to x }) openings →
+        opened (sent s).waiting (reply_to x) ≡ Ok w →
+        WasAccepted x × Spells command (sealed_command s) x.bytes }
+    ensures once { (o : Origin) (lives : List Life) (seals : List Seal) (openings : List Opening)
+        (xs ys zs : List Execution) (x y : Execution) (s : Seal) (w v : Opened) →
+        executions o lives ≡ xs ++ x ∷ ys ++ y ∷ zs → NoncesDifferOver lives →
+        IsOfCallersOver o seals openings lives →
+        IsAmong s seals → needs_authorization (code_for s.body) ≡ true →
+        IsAmong (record { seal = s; bytes = reply_to x }) openings →
+        IsAmong (record { seal = s; bytes = reply_to y }) openings →
+        opened (sent s).waiting (reply_to x) ≡ Ok w →
+        opened (sent s).waiting (reply_to y) ≡ Ok v →
         ⊥ }
 {}
