@@ -1,7 +1,7 @@
 -- What was found in the words, by the getters and by the matches.
-use Rattle.std.proofs.Common.{◌≡◌, ℕ, ap, sym, subst, refl, ◌∙◌, Bool, true, false, inl, inr, codes, List, map}
+use Rattle.std.proofs.Common.{◌≡◌, ℕ, ap, sym, subst, refl, ◌∙◌, Bool, true, false, inl, inr, codes, List, [], map, ◌⊎◌}
 use Rattle.std.proofs.Common.{Option, Some, None, option_map, unwrap_or, ◌||◌}
-use Rattle.std.specs.Prelude.{Box, Result, Ok, Err, MatchResult, is_some}
+use Rattle.std.specs.Prelude.{Box, Result, Ok, Err, IfOk, IfErr, MatchResult, is_some}
 use Rattle.std.specs.Box.{box_value}
 use Rattle.std.specs.Option.{MatchOption}
 use Rattle.std.specs.Str.{bytes_eq}
@@ -15,6 +15,8 @@ use Rattle.clap.specs.declared.parser.matches.SubCommand.{SubCommand}
 use Rattle.clap.specs.declared.builder.command.Command.{Command}
 use Rattle.clap.specs.declared.error.kind.ErrorKind.TheVariants.{OutOfMemory}
 use Rattle.clap.specs.declared.error.kind.ErrorKind.{ErrorKind}
+use Rattle.clap.specs.Faults.{fault_of, is_simple_and_free}
+use Rattle.clap.specs.Kinds.{IsAmong, Kinds}
 use Rattle.clap.specs.Takes.{takes}
 use Rattle.clap.proofs.OnLiterals.{clap_on_literals}
 use Rattle.clap.proofs.WalkLemmas.{first_value-rows}
@@ -265,10 +267,36 @@ met_is bytes m program texts all words same has are is =
 
 -- ---- words that are refused
 
-pub refuses : (words : List Text) (stop : Stop) → IsMemoryOr (AsksNothing (subcommand_of program_app words)) stop → Refuses words stop
-refuses words (Help text) h = absurd h
-refuses words (Usage text) h = λ _. h
-refuses words Memory h = tt
+-- clap says which kinds of error the program's words may have
+pub simple_and_free : is_simple_and_free program_app ≡ true
+unfolding clap_on_literals
+simple_and_free = refl
+
+-- those that it says of these texts
+pub faults_are : {S : Type 0} (bytes : S → Text) (program : Command)
+    (texts all : List S) (words : List Text) → app_of program ≡ program_app → texts ≡ all → map bytes all ≡ words
+    → fault_of (app_of program) (map bytes texts) ≡ fault_of program_app words
+faults_are bytes program texts all words same are is =
+    ap (λ (a : App). fault_of a (map bytes texts)) same ∙ ap (fault_of program_app) (ap (map bytes) are ∙ is)
+
+-- clap finds no fault in the words
+refuses : (words : List Text) (stop : Stop) → fault_of program_app words ≡ []
+    → IsMemoryOr (AsksNothing (subcommand_of program_app words)) stop → Refuses words stop
+refuses words (Help text) none h = absurd h
+refuses words (Usage text) none h = ((λ _. h), inr (none, h))
+refuses words Memory none h = tt
+
+-- the task or its want, by what clap met in the words
+pub task_asked : (met asked : Option (Text × List Row)) (r : Result Task Stop) → met ≡ asked
+    → MatchResult r (λ t. Asks met t) (λ stop. IsMemoryOr (AsksNothing met) stop) → IfOk r (λ t. Asks asked t)
+task_asked met asked (Ok t) same h = subst (λ (o : Option (Text × List Row)). Asks o t) same h
+task_asked met asked (Err stop) same h = tt
+
+pub task_refused : (met : Option (Text × List Row)) (words : List Text) (r : Result Task Stop)
+    → met ≡ subcommand_of program_app words → fault_of program_app words ≡ []
+    → MatchResult r (λ t. Asks met t) (λ stop. IsMemoryOr (AsksNothing met) stop) → IfErr r (λ stop. Refuses words stop)
+task_refused met words (Ok t) same none h = tt
+task_refused met words (Err stop) same none h = refuses words stop none (memory_or stop (subst AsksNothing same) h)
 
 is_false : (b : Bool) → (b ≡ true → ⊥) → b ≡ false
 is_false true f = absurd (f refl)
@@ -278,11 +306,19 @@ is_no_help : (kind : ErrorKind) → IsHelp kind → kind ≡ OutOfMemory → ⊥
 is_no_help kind (inl h) e = let z : ⊥ = cc in z
 is_no_help kind (inr h) e = let z : ⊥ = cc in z
 
+among : (kind : ErrorKind) (kinds : Kinds) → (kind ≡ OutOfMemory → ⊥) → (kind ≡ OutOfMemory) ⊎ IsAmong kind kinds → IsAmong kind kinds
+among kind kinds other (inl memory) = absurd (other memory)
+among kind kinds other (inr one) = one
+
+-- clap refuses the words
 pub stops : (words : List Text) (kind : ErrorKind) (stop : Stop) → (takes program_app words ≡ true → kind ≡ OutOfMemory)
-    → StopsFor kind stop → Refuses words stop
-stops words kind (Help text) passes h = is_false (takes program_app words) (λ taken. is_no_help kind h (passes taken))
-stops words kind (Usage text) passes h = λ taken. absurd (h.2 (passes taken))
-stops words kind Memory passes h = tt
+    → (kind ≡ OutOfMemory) ⊎ IsAmong kind (fault_of program_app words) → StopsFor kind stop → Refuses words stop
+stops words kind (Help text) passes fails h =
+    let other = is_no_help kind h in
+    (is_false (takes program_app words) (λ taken. other (passes taken)), (kind, among kind (fault_of program_app words) other fails, h))
+stops words kind (Usage text) passes fails h =
+    ((λ taken. absurd (h.2 (passes taken))), inl (kind, among kind (fault_of program_app words) h.2 fails, h))
+stops words kind Memory passes fails h = tt
 
 -- ---- a register
 

@@ -1,6 +1,6 @@
 -- What the words ask for, by what clap finds in them.
-use Rattle.std.specs.Prelude.{◌≡◌, ℕ, List, take, drop, Option, Some, None, codes, option_and_then, option_map, is_some}
-use Rattle.std.specs.Prelude.{Bool, true, false, unwrap_or, if◌then◌else◌, IsSomeAnd, ◌≢◌}
+use Rattle.std.specs.Prelude.{◌≡◌, ℕ, List, [], ◌∷◌, take, drop, Option, Some, None, codes, option_and_then, option_map}
+use Rattle.std.specs.Prelude.{Bool, true, false, unwrap_or, if◌then◌else◌, IsSomeAnd, ◌≢◌, is_some}
 use Rattle.std.specs.Str.{bytes_eq}
 use Rattle.clap.specs.Words.{Row, Text, first_of}
 use Rattle.tpm_types.specs.declared.alg.Alg.{Alg}
@@ -93,6 +93,11 @@ abbrev pub IsInput : (word file : Option Text) → Type 0
 IsInput (Some text) None = text ≡ codes "-"
 IsInput None (Some path) = Unit {0}
 IsInput _ _ = ⊥
+
+-- None of these words is given.
+abbrev pub HasNone : (Text → Option Text) → (names : List Text) → Type 0
+HasNone value [] = Unit {0}
+HasNone value (name ∷ names) = (value name ≡ None) × HasNone value names
 
 -- a subcommand of this name, with these values of its words by their names, asks for the task
 abbrev pub AsksWith : Text → (Text → Option Text) → Task → Type 0

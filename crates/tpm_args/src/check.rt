@@ -12,14 +12,13 @@ ghost use Rattle.tpm_args.specs.Task.{IsHash, IsIfBytes, IsWith, IsWithEither, R
 
 use crate::bytes::is_hexadecimal;
 use crate::given::is_given;
-use crate::invalid::{invalid_value, not_hexadecimal, wrong_words};
+use crate::invalid::{Subcommand, invalid_value, not_hexadecimal, wrong_words};
 use crate::selection::selections;
 use crate::stop::Stop;
 use crate::task::{Asked, Task};
 use clap::ArgMatches;
 use std::alloc::Global;
 use tpm_types::{Alg, Selections};
-use tpm_words::check_words;
 
 /// The words of a quote as it was signed.
 #[derive(Drop)]
@@ -44,7 +43,7 @@ pub(crate) fn check_task<'a>(alloc: Global, words: &ArgMatches<'a>) -> Asked<'a>
     if is_given(words, "any-state") {
         return Err(wrong_words(
             alloc,
-            check_words(alloc),
+            Subcommand::Check,
             "--any-state goes with --secure-boot",
         ));
     }
@@ -71,7 +70,7 @@ fn secure_boot_task<'a>(alloc: Global, words: &ArgMatches<'a>) -> Asked<'a>
 {
     if is_beside_others(words) {
         let reason = "--secure-boot goes with neither --registers nor --quote";
-        return Err(wrong_words(alloc, check_words(alloc), reason));
+        return Err(wrong_words(alloc, Subcommand::Check, reason));
     }
     let Some(log) = words.get_str("LOG") else {
         return Ok(None);
@@ -137,7 +136,7 @@ fn with_attest(
     match (given, attest) {
         (Some(text), None) => {
             let reason = "no --attest is given";
-            Err(invalid_value(alloc, check_words(alloc), text, word, reason))
+            Err(invalid_value(alloc, Subcommand::Check, text, word, reason))
         }
         _ => Ok(()),
     }
@@ -154,7 +153,7 @@ fn check_nonce(alloc: Global, nonce: Option<&str>) -> Result<(), Stop>
     if is_hexadecimal(alloc, text)? {
         return Ok(());
     }
-    Err(not_hexadecimal(alloc, check_words(alloc), text, "--nonce <HEX>"))
+    Err(not_hexadecimal(alloc, Subcommand::Check, text, "--nonce <HEX>"))
 }
 
 // A usage fault where a hash is given without a quote.
@@ -172,7 +171,7 @@ fn with_quote(
     match (name, quote, attest) {
         (Some(text), None, None) => {
             let reason = "no --quote or --attest is given";
-            Err(invalid_value(alloc, check_words(alloc), text, "--hash <NAME>", reason))
+            Err(invalid_value(alloc, Subcommand::Check, text, "--hash <NAME>", reason))
         }
         _ => Ok(()),
     }
@@ -192,7 +191,7 @@ fn required(alloc: Global, list: Option<&str>) -> Result<Option<Selections>, Sto
         Some(required) => Ok(Some(required)),
         None => {
             let reason = "it is no list of registers, as sha1:7+sha256:0,1,2 or sha256:all";
-            Err(invalid_value(alloc, check_words(alloc), text, "--require <LIST>", reason))
+            Err(invalid_value(alloc, Subcommand::Check, text, "--require <LIST>", reason))
         }
     }
 }
@@ -214,7 +213,7 @@ fn hash(alloc: Global, text: &str) -> Result<Alg, Stop>
         Some(hash) => Ok(hash),
         None => {
             let reason = "it is none of sha1, sha256 and sha384";
-            Err(invalid_value(alloc, check_words(alloc), text, "--hash <NAME>", reason))
+            Err(invalid_value(alloc, Subcommand::Check, text, "--hash <NAME>", reason))
         }
     }
 }

@@ -4,11 +4,10 @@ ghost use Rattle.std.specs.Prelude.{ℕ, Option, MatchResult, option_map};
 ghost use Rattle.tpm_args.specs.Stop.{IsMemoryOr};
 ghost use Rattle.tpm_args.specs.Task.{IsRegister};
 
-use crate::invalid::invalid_value;
+use crate::invalid::{Subcommand, invalid_value};
 use crate::number::decimal;
 use crate::stop::Stop;
 use std::alloc::Global;
-use tpm_words::events_words;
 
 /// The register that alone is listed: a number of decimal digits alone, without a sign. A usage
 /// fault where it is none, or not below 2^64.
@@ -25,5 +24,5 @@ pub(crate) fn register(alloc: Global, text: Option<&str>) -> Result<Option<u64>,
         return Ok(Some(register));
     }
     let reason = "it is no decimal number up to 18446744073709551615";
-    Err(invalid_value(alloc, events_words(alloc), text, "--register <N>", reason))
+    Err(invalid_value(alloc, Subcommand::Events, text, "--register <N>", reason))
 }

@@ -7,14 +7,13 @@ ghost use Rattle.tpm_args.specs.Stop.{IsAsked, IsMemoryOr};
 ghost use Rattle.tpm_args.specs.Task.{digits_in, AsksNothingWith, AsksWith, IsCode, IsKind};
 
 use crate::given::is_given;
-use crate::invalid::invalid_value;
+use crate::invalid::{Subcommand, invalid_value};
 use crate::name::is_kind;
 use crate::number::{hexadecimal, short_decimal};
 use crate::stop::Stop;
 use crate::task::{Asked, Task};
 use clap::ArgMatches;
 use std::alloc::Global;
-use tpm_words::explain_words;
 
 /// The task of the words of `explain`. A usage fault where the word is no number of the radix below 2^32, and in
 /// hexadecimal no name of a kind either.
@@ -92,5 +91,5 @@ fn no_code(alloc: Global, words: &ArgMatches<'_>) -> Stop
     } else {
         "it is no hexadecimal number up to ffffffff"
     };
-    invalid_value(alloc, explain_words(alloc), text, "<CODE>", reason)
+    invalid_value(alloc, Subcommand::Explain, text, "<CODE>", reason)
 }

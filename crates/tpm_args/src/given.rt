@@ -11,7 +11,7 @@ ghost use Rattle.tpm_args.specs.Task.{is_given as is_given_by, Asks, AsksNothing
 use crate::check::check_task;
 use crate::events::register;
 use crate::explain::explain_task;
-use crate::invalid::no_command;
+use crate::invalid::{Subcommand, no_command};
 use crate::name::command_named;
 use crate::names::names_help;
 use crate::run::run_task;
@@ -19,10 +19,10 @@ use crate::show::show_task;
 use crate::stop::Stop;
 use crate::task::{Asked, Task};
 use clap::error::ErrorKind;
-use clap::{ArgMatches, Error};
+use clap::{ArgMatches, Command, Error};
 use std::alloc::{AllocError, Global};
 use std::marker::Model;
-use tpm_words::{build_words, program_words};
+use tpm_words::program_words;
 
 /// The words of a run.
 #[derive(Drop)]
@@ -72,17 +72,40 @@ impl Words {
     {
         let mut program = program_words(alloc, self.names.as_str())?;
         match program.try_get_matches_from_mut(self.given.as_slice()) {
-            Ok(matches) => match asked(alloc, &matches)? {
-                Some(task) => Ok(task),
-                None => {
-                    let mut usage = program.render_usage()?;
-                    usage.push_str("\n")?;
-                    Err(Stop::Usage(usage))
-                }
-            },
+            Ok(matches) => asked_or_usage(alloc, &mut program, &matches),
             Err(error) => Err(Stop::of(alloc, &error)),
         }
     }
+}
+
+// The task of the words that clap takes. Where they ask for none it is a usage fault.
+fn asked_or_usage<'a>(
+    alloc: Global,
+    program: &mut Command<'_>,
+    matches: &ArgMatches<'a>,
+) -> Result<Task<'a>, Stop>
+    ensures { MatchResult result (λ t. Asks (subcommand_rows_of matches.now) t)
+        (λ stop. IsMemoryOr (AsksNothing (subcommand_rows_of matches.now)) stop) }
+{
+    match asked(alloc, matches)? {
+        Some(task) => Ok(task),
+        None => Err(usage(program)),
+    }
+}
+
+fn usage(program: &mut Command<'_>) -> Stop
+    ensures { IsMemoryOr (Unit {0}) result }
+{
+    match usage_line(program) {
+        Ok(text) => Stop::Usage(text),
+        Err(AllocError) => Stop::Memory,
+    }
+}
+
+fn usage_line(program: &mut Command<'_>) -> Result<String, AllocError> {
+    let mut text = program.render_usage()?;
+    text.push_str("\n")?;
+    Ok(text)
 }
 
 /// Whether the flag of this name is given.
@@ -116,7 +139,7 @@ fn build_asked<'a>(alloc: Global, words: &ArgMatches<'a>) -> Asked<'a>
         Some(task) => Ok(Some(task)),
         None => {
             let name = words.get_str("NAME").unwrap_or("");
-            Err(no_command(alloc, build_words(alloc, ""), name, "<NAME>"))
+            Err(no_command(alloc, Subcommand::Build, name, "<NAME>"))
         }
     }
 }
@@ -144,7 +167,7 @@ fn asked_of<'a>(alloc: Global, name: &str, words: &ArgMatches<'a>) -> Asked<'a>
     match name {
         "show" => show_task(alloc, words),
         "build" => build_asked(alloc, words),
-        "run" => Ok(Some(run_task(alloc, words)?)),
+        "run" => run_task(alloc, words),
         "explain" => explain_task(alloc, words),
         "check" => check_task(alloc, words),
         "events" => events_task(alloc, words),

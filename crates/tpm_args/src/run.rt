@@ -1,30 +1,26 @@
 //! The words of the subcommand `run`.
 
 ghost use Rattle.std.specs.Prelude.{ℕ, List, MatchResult, codes};
-ghost use Rattle.clap.specs.Words.{first_value, found_of};
 ghost use Rattle.tpm_args.specs.Numbers.{IsDecimal};
 ghost use Rattle.tpm_args.specs.Owner.{IsOwner};
-ghost use Rattle.tpm_args.specs.Stop.{IsMemoryOr};
-ghost use Rattle.tpm_args.specs.Task.{AsksNothingWith, AsksWith};
+ghost use Rattle.tpm_args.specs.Stop.{IsAsked, IsMemoryOr};
 
-use crate::invalid::{invalid_value, not_hexadecimal};
+use crate::invalid::{Subcommand, invalid_value, not_hexadecimal};
 use crate::number::decimal;
 use crate::owner::{OwnerFault, owner_value};
 use crate::stop::Stop;
-use crate::task::Task;
+use crate::task::{Asked, Task};
 use clap::ArgMatches;
 use std::alloc::{AllocError, Global};
 use tpm_types::{AuthValue, DIGEST_BYTES};
-use tpm_words::run_words;
 
 /// The task of the words of `run`.
-pub(crate) fn run_task<'a>(alloc: Global, words: &ArgMatches<'a>) -> Result<Task<'a>, Stop>
-    ensures { MatchResult result (λ t. AsksWith (codes "run") (first_value (found_of words.now)) t)
-        (IsMemoryOr (AsksNothingWith (codes "run") (first_value (found_of words.now)))) }
+pub(crate) fn run_task<'a>(alloc: Global, words: &ArgMatches<'a>) -> Asked<'a>
+    ensures { IsAsked (codes "run") words.now result }
 {
     let owner = owner(alloc, words.get_str("owner").unwrap_or(""))?;
     let greatest = greatest(alloc, words.get_str("greatest").unwrap_or("0"))?;
-    Ok(Task::Run { owner, greatest })
+    Ok(Some(Task::Run { owner, greatest }))
 }
 
 // The value that hexadecimal digits are. A usage fault where the text is not hexadecimal, or has too many bytes.
@@ -36,7 +32,7 @@ fn owner(alloc: Global, text: &str) -> Result<AuthValue, Stop>
         Ok(owner) => Ok(owner),
         Err(OwnerFault::NotHexadecimal) => Err(not_hexadecimal(
             alloc,
-            run_words(alloc),
+            Subcommand::Run,
             text,
             "--owner <HEX>",
         )),
@@ -54,7 +50,7 @@ fn greatest(alloc: Global, text: &str) -> Result<u64, Stop>
         return Ok(greatest);
     }
     let reason = "it is no decimal number up to 18446744073709551615";
-    Err(invalid_value(alloc, run_words(alloc), text, "--greatest <N>", reason))
+    Err(invalid_value(alloc, Subcommand::Run, text, "--greatest <N>", reason))
 }
 
 fn too_long(alloc: Global, text: &str) -> Stop
@@ -63,7 +59,7 @@ fn too_long(alloc: Global, text: &str) -> Stop
     match format!(in alloc; "it has more than {DIGEST_BYTES} bytes") {
         Ok(reason) => invalid_value(
             alloc,
-            run_words(alloc),
+            Subcommand::Run,
             text,
             "--owner <HEX>",
             reason.as_str(),

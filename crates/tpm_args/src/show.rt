@@ -1,18 +1,17 @@
 //! The words of the subcommand `show`.
 
-ghost use Rattle.std.specs.Prelude.{◌≡◌, MatchOption, None, Some, codes};
+ghost use Rattle.std.specs.Prelude.{◌≡◌, ◌≢◌, [], ◌∷◌, MatchOption, None, Some, codes, option_map};
 ghost use Rattle.clap.specs.Words.{first_value, found_of};
 ghost use Rattle.tpm_args.specs.Stop.{IsAsked, IsMemoryOr};
-ghost use Rattle.tpm_args.specs.Task.{AsksNothingWith, AsksWith};
+ghost use Rattle.tpm_args.specs.Task.{AsksNothingWith, AsksWith, HasNone, IsInput};
 
 use crate::given::is_given;
-use crate::invalid::{no_command, wrong_words};
+use crate::invalid::{Subcommand, no_command, wrong_words};
 use crate::name::command_named;
 use crate::stop::Stop;
 use crate::task::{Asked, Task};
 use clap::ArgMatches;
 use std::alloc::Global;
-use tpm_words::show_words;
 
 // Packets, in this file. None where another of a buffer and three files is given, and where they are to be read as a
 // response or as a stream.
@@ -36,41 +35,76 @@ fn shown_packets<'a>(words: &ArgMatches<'a>, file: &'a str) -> Option<Task<'a>>
     })
 }
 
+// A buffer. None where no command has the name of the response's, and where it is to be read as a stream or printed as
+// JSON.
+fn shown_buffer<'a>(words: &ArgMatches<'a>, hex: &'a str) -> Option<Task<'a>>
+    requires digits { (first_value (found_of words.now) (codes "HEX") ≡ Some hex.now) × (hex.now ≢ codes "-") }
+    requires alone { HasNone (first_value (found_of words.now)) (codes "file" ∷ codes "nv" ∷ codes "pcap" ∷ []) }
+    ensures { MatchOption result (AsksNothingWith (codes "show") (first_value (found_of words.now)))
+        (λ t. AsksWith (codes "show") (first_value (found_of words.now)) t) }
+{
+    if is_given(words, "binary") || is_given(words, "json") {
+        return None;
+    }
+    let reply = match words.get_str("reply") {
+        Some(name) => Some(command_named(name)?),
+        None => None,
+    };
+    Some(Task::Show {
+        reply,
+        fields: is_given(words, "fields"),
+        hex,
+    })
+}
+
+// A capture in a file, or on standard input. None where it is to be read as a response.
+fn shown_capture<'a>(words: &ArgMatches<'a>, file: Option<&'a str>) -> Option<Task<'a>>
+    requires input { (first_value (found_of words.now) (codes "file") ≡ option_map (λ f. f.now) file)
+        × IsInput (first_value (found_of words.now) (codes "HEX")) (first_value (found_of words.now) (codes "file")) }
+    requires alone { HasNone (first_value (found_of words.now)) (codes "nv" ∷ codes "pcap" ∷ []) }
+    ensures { MatchOption result (AsksNothingWith (codes "show") (first_value (found_of words.now)))
+        (λ t. AsksWith (codes "show") (first_value (found_of words.now)) t) }
+{
+    if words.get_str("reply").is_some() {
+        return None;
+    }
+    Some(Task::ShowCapture {
+        file,
+        binary: is_given(words, "binary"),
+        fields: is_given(words, "fields"),
+        json: is_given(words, "json"),
+    })
+}
+
+// Kept NV memory. None where it is to be told by another option.
+fn shown_memory<'a>(words: &ArgMatches<'a>, file: &'a str) -> Option<Task<'a>>
+    requires file { first_value (found_of words.now) (codes "nv") ≡ Some file.now }
+    requires alone { HasNone (first_value (found_of words.now)) (codes "HEX" ∷ codes "file" ∷ codes "pcap" ∷ []) }
+    ensures { MatchOption result (AsksNothingWith (codes "show") (first_value (found_of words.now)))
+        (λ t. AsksWith (codes "show") (first_value (found_of words.now)) t) }
+{
+    if words.get_str("reply").is_some()
+        || is_given(words, "fields")
+        || is_given(words, "binary")
+        || is_given(words, "json")
+    {
+        return None;
+    }
+    Some(Task::ShowNv { file })
+}
+
 // A buffer, a capture or kept NV memory, where no packets are given. None where they have more than one of a buffer and
-// two files, or none, where a capture is to be read as a response, where no command has the name of the response's,
-// where a buffer is to be read as a stream or printed as JSON, and where NV memory is to be told by another option.
+// two files, or none.
 fn shown_without<'a>(words: &ArgMatches<'a>) -> Option<Task<'a>>
     requires { first_value (found_of words.now) (codes "pcap") ≡ None }
     ensures { MatchOption result (AsksNothingWith (codes "show") (first_value (found_of words.now)))
         (λ t. AsksWith (codes "show") (first_value (found_of words.now)) t) }
 {
-    let fields = is_given(words, "fields");
-    let binary = is_given(words, "binary");
-    let json = is_given(words, "json");
-    let reply = words.get_str("reply");
     let file = words.get_str("file");
     match (words.get_str("HEX"), file, words.get_str("nv")) {
-        (Some("-"), None, None) | (None, Some(_), None) => {
-            if reply.is_some() {
-                return None;
-            }
-            Some(Task::ShowCapture {
-                file,
-                binary,
-                fields,
-                json,
-            })
-        }
-        (Some(hex), None, None) if !binary && !json => {
-            let reply = match reply {
-                Some(name) => Some(command_named(name)?),
-                None => None,
-            };
-            Some(Task::Show { reply, fields, hex })
-        }
-        (None, None, Some(file)) if reply.is_none() && !fields && !binary && !json => {
-            Some(Task::ShowNv { file })
-        }
+        (Some("-"), None, None) | (None, Some(_), None) => shown_capture(words, file),
+        (Some(hex), None, None) => shown_buffer(words, hex),
+        (None, None, Some(file)) => shown_memory(words, file),
         _ => None,
     }
 }
@@ -88,33 +122,43 @@ fn shown<'a>(words: &ArgMatches<'a>) -> Option<Task<'a>>
 
 // Why they ask for nothing.
 fn fault(words: &ArgMatches<'_>) -> &'static str {
-    match (
-        words.get_str("HEX"),
-        words.get_str("file"),
-        words.get_str("pcap"),
-        words.get_str("nv"),
-    ) {
-        (None, None, None, None) =>
-            "one of HEX, -, --file <FILE>, --pcap <FILE> and --nv <FILE> is wanted",
-        (None, None, Some(_), None) => "--pcap <FILE> goes with --fields and --json alone",
-        (None, None, None, Some(_)) => "--nv <FILE> goes with no other option",
-        (Some("-"), None, None, None) | (None, Some(_), None, None) => {
+    match (words.get_str("pcap"), words.get_str("nv")) {
+        (None, None) => buffer_fault(words),
+        (Some(_), None) if has_neither(words) =>
+            "--pcap <FILE> goes with --fields and --json alone",
+        (None, Some(_)) if has_neither(words) => "--nv <FILE> goes with no other option",
+        _ => ONE_WANTED,
+    }
+}
+
+const ONE_WANTED: &str =
+    "only one of HEX, -, --file <FILE>, --pcap <FILE> and --nv <FILE> is wanted";
+
+// The same of a buffer or a capture.
+fn buffer_fault(words: &ArgMatches<'_>) -> &'static str {
+    match (words.get_str("HEX"), words.get_str("file")) {
+        (None, None) => "one of HEX, -, --file <FILE>, --pcap <FILE> and --nv <FILE> is wanted",
+        (Some("-"), None) | (None, Some(_)) => {
             "--reply <NAME> goes with HEX alone, since a capture tells replies by its marks"
         }
-        (Some(_), None, None, None) => "--binary and --json want a capture: - or --file <FILE>",
-        _ => "only one of HEX, -, --file <FILE>, --pcap <FILE> and --nv <FILE> is wanted",
+        (Some(_), None) => "--binary and --json want a capture: - or --file <FILE>",
+        _ => ONE_WANTED,
     }
+}
+
+// Whether they have neither a buffer nor a capture.
+fn has_neither(words: &ArgMatches<'_>) -> bool {
+    words.get_str("HEX").is_none() && words.get_str("file").is_none()
 }
 
 fn not_shown(alloc: Global, words: &ArgMatches<'_>) -> Stop
     ensures { IsMemoryOr (Unit {0}) result }
 {
-    let show = show_words(alloc, "");
     match words.get_str("reply") {
         Some(name) if command_named(name).is_none() => {
-            no_command(alloc, show, name, "--reply <NAME>")
+            no_command(alloc, Subcommand::Show, name, "--reply <NAME>")
         }
-        _ => wrong_words(alloc, show, fault(words)),
+        _ => wrong_words(alloc, Subcommand::Show, fault(words)),
     }
 }
 
