@@ -163,6 +163,8 @@ const EXPLAIN: [Word<'static>; 2] = [
     ),
 ];
 
+const LOG: Word<'static> = Word::Required("LOG", "The event log, a file, or - for standard input");
+
 /// The subcommand `check`. An error is want of memory.
 pub fn check_words<'a>(alloc: Global) -> Result<Command<'a>, AllocError>
     ensures { IfOk result (λ c. IsApp check_app c) }
@@ -176,7 +178,7 @@ pub fn check_words<'a>(alloc: Global) -> Result<Command<'a>, AllocError>
 }
 
 const CHECK: [Word<'static>; 10] = [
-    Word::Required("LOG", "The event log, a file, or - for standard input"),
+    LOG,
     Word::Option(
         "registers",
         "FILE",
@@ -234,7 +236,7 @@ pub fn events_words<'a>(alloc: Global) -> Result<Command<'a>, AllocError>
 }
 
 const EVENTS: [Word<'static>; 5] = [
-    Word::Required("LOG", "The event log, a file, or - for standard input"),
+    LOG,
     Word::Option("register", "N", "Prints the records of this register alone"),
     Word::Flag(
         "places",
