@@ -1,6 +1,7 @@
 -- What contracts see of a command that is read in steps.
 use Rattle.std.specs.Prelude.{◌≡◌, ◌≢◌, ℕ, ◌+◌, ◌<◌, ◌≤◌, true, List, [], ◌++◌, length, drop, map, Result, Ok, Err}
 use Rattle.tpm_wire.specs.declared.refusal.Refusal.{Refusal}
+use Rattle.tpm_wire.specs.ResponseCodes.{rc_authsize}
 use Rattle.tpm_wire.specs.Spelling.{spelling}
 use Rattle.tpm_wire.specs.Token.{Here, at_start}
 use Rattle.tpm_wire.specs.Layout.{cut}
@@ -104,6 +105,11 @@ pub record IsSession (bytes : List ℕ) (n : ℕ) : Type 0 where
 
 abbrev pub sessions_at : List ℕ → List ℕ → List Auth
 sessions_at bytes ns = map (session_at bytes) ns
+
+-- The authorization area ends at the old place, and what comes after it is next.
+abbrev pub LeavesAuthorization : Here → Here → Here → Result (Unit {0}) Refusal → Type 0
+LeavesAuthorization behind old new (Ok x) = (length old.rest ≡ 0) × (new ≡ behind)
+LeavesAuthorization behind old new (Err e) = (0 < length old.rest) × (e ≡ record { code = rc_authsize; at = old.at })
 
 -- ---- bytes that are spelled by what was read of them
 

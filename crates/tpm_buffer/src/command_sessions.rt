@@ -11,6 +11,7 @@ ghost use Rattle.tpm_wire.specs.Buffers.{Takes, TakesNumbered};
 ghost use Rattle.tpm_buffer.specs.Commands.{sessions, authorization_size, authorization};
 ghost use Rattle.tpm_buffer.specs.ResponseAreas.{IsPlaceIn};
 ghost use Rattle.tpm_buffer.specs.CommandAreas.{LiesIn, IsSession, session_at as the_session_at, sessions_at};
+ghost use Rattle.tpm_buffer.specs.CommandAreas.{LeavesAuthorization};
 
 use crate::command_header::SESSIONS;
 use crate::response_sessions::{self, ReplyRef};
@@ -18,7 +19,7 @@ use arrayvec::ArrayVec;
 use std::marker::Model;
 use tpm_types::{Auth, AuthSession, SessionAttrs};
 use tpm_wire::response_code::{AUTHSIZE, of_session};
-use tpm_wire::{Cursor, Refusal, Wire};
+use tpm_wire::{Cursor, Outer, Refusal, Wire};
 
 /// A session of a command, lent from its bytes: TPMS_AUTH_COMMAND (Part 2, 10.13.2).
 #[derive(Drop)]
@@ -138,6 +139,18 @@ pub fn take_authorization_size(cursor: &mut Cursor<'_>) -> Result<u32, Refusal>
     Ok(size)
 }
 
+// Goes on behind the authorization area, or answers AUTHSIZE at the first byte that is left in it.
+#[inline(always)]
+fn leave_authorization<'a>(cursor: &mut Cursor<'a>, behind: Outer<'a>) -> Result<(), Refusal>
+    ensures { LeavesAuthorization behind.entry cursor.old.here cursor.new.here result }
+{
+    cursor.number(0);
+    match cursor.left() {
+        0 => cursor.leave(behind),
+        _ => Err(cursor.refusal(AUTHSIZE)),
+    }
+}
+
 /// The positions of the sessions of a command with this tag.
 #[tactic(auto, unfolding(crate::specs::Commands::authorization))]
 #[inline(never)]
@@ -163,11 +176,7 @@ pub(crate) fn take_authorization(
     let size = take_authorization_size(cursor)? as usize;
     let outer = cursor.enter(size)?;
     let positions = take_sessions(cursor, bytes)?;
-    cursor.number(0);
-    if cursor.left() > 0 {
-        return Err(cursor.refusal(AUTHSIZE));
-    }
-    cursor.leave(outer)?;
+    leave_authorization(cursor, outer)?;
     Ok(positions)
 }
 
@@ -225,9 +234,5 @@ pub(crate) fn read_authorization(
     let size = take_authorization_size(cursor)? as usize;
     let behind = cursor.enter(size)?;
     read_sessions(cursor, auths)?;
-    cursor.number(0);
-    match cursor.left() {
-        0 => cursor.leave(behind),
-        _ => Err(cursor.refusal(AUTHSIZE)),
-    }
+    leave_authorization(cursor, behind)
 }
