@@ -1,5 +1,7 @@
 //! Tells the linker where the library is: in the folder that VINJAKWE_LIB names, or where pkg-config says, or where it
-//! looks itself. Of the header beside the library, or of the repository's, it makes the declarations of the module `c`.
+//! looks itself. This crate's tests and examples find the shared library there when they run, too. Of the crates that
+//! depend on it the build scripts are told of the folder, in DEP_VINJAKWE_LIB. Of the header beside the library, or of
+//! the repository's, it makes the declarations of the module `c`.
 use std::path::{Path, PathBuf};
 use std::process::Command;
 use std::{env, fs};
@@ -85,11 +87,13 @@ fn declarations(header: &str) -> String {
 fn main() {
     println!("cargo:rerun-if-env-changed=VINJAKWE_LIB");
     let library = env::var_os("VINJAKWE_LIB").map(PathBuf::from).or_else(from_pkg_config);
-    if let Some(folder) = &library {
-        println!("cargo:rustc-link-search=native={}", folder.display());
-    }
     let kind = if env::var_os("CARGO_FEATURE_STATIC").is_some() { "static" } else { "dylib" };
     println!("cargo:rustc-link-lib={kind}=vinjakwe");
+    if let Some(folder) = library.as_deref().map(Path::display) {
+        println!("cargo:rustc-link-search=native={folder}");
+        println!("cargo:rustc-link-arg=-Wl,-rpath,{folder}");
+        println!("cargo:lib={folder}");
+    }
     let installed = library.map(|it| it.join("../include/vinjakwe.h")).filter(|it| it.exists());
     let header = installed.unwrap_or_else(|| "../../include/vinjakwe.h".into());
     println!("cargo:rerun-if-changed={}", header.display());
