@@ -51,14 +51,15 @@ func main() {
 	command := bytesOf("80020000009700000182" + "00000010" + "00000049" + "02000000" + "0020" + zeros + "01" +
 		"0020" + zeros + "00000002" + "0004" + zeros[:40] + "000b" + zeros)
 	required := bytesOf("00000001000b03810000") // TPML_PCR_SELECTION: sha256:0,7
-	log, quote, nonce := read(os.Args[1]), read(os.Args[2]), bytesOf(os.Args[3])
+	log, quote := read(os.Args[1]), read(os.Args[2])
+	expected := vinjakwe.Expected{Nonce: bytesOf(os.Args[3]), Selection: required, Hash: vinjakwe.SHA256}
 	printRate("decode", func() {
 		if decoded, err := vinjakwe.DecodeCommand(command); err != nil || len(decoded.Sessions) != 1 {
 			panic("the command is refused")
 		}
 	})
 	printRate("check", func() {
-		verdict, _, err := vinjakwe.Check(log, quote, nonce, required, vinjakwe.SHA256)
+		verdict, _, err := vinjakwe.Check(log, quote, expected)
 		if err != nil || verdict != vinjakwe.Matches {
 			panic("the quote does not match the log")
 		}

@@ -8,9 +8,10 @@
 #     texts FILE                                          as examples/events.c, which checks/c.sh compares
 #     boot FILE BANK                                      as examples/secure_boot.c, which checks/c.sh compares
 #     quote FILE HEX HASH                                 as examples/log.c
-#     attest LOG HEX NONCE REQUIRE HASH                   a quote as it was signed
+#     attest LOG HEX NONCE REQUIRE HASH                   a quote as it was signed; `any` nonce, or `any` registers
 #     frames SIZE HEX                                     a stream in pieces of so many bytes
-#     device OWNER, execute HEX, power                    a script, by its nonces
+#     device OWNER, execute HEX, power                    a script, by its nonces, of a new device
+#     start, seal, open, give-up                          what a new caller does beside it: checks/callers.txt
 #     zeros SIZE HEX                                      as command and as log: HEX, and zeros up to this size
 
 . "$(dirname "$0")/shared.sh"
@@ -63,9 +64,16 @@ ask_quotes() {
         list=$(selection "$selected")
         {
             echo "attest $log $bytes $nonce $list $hash"
+            echo "attest $log $bytes $nonce any $hash"
+            echo "attest $log $bytes any $list $hash"
+            echo "attest $log $bytes any any $hash"
             echo "attest $log $bytes $nonce - $hash"
+            echo "attest $log $bytes $nonce 00000000 $hash"
+            echo "attest $log $bytes $nonce 00000001000b03000000 $hash"
             echo "attest $log $bytes ${nonce}00 $list $hash"
             echo "attest $log $bytes - $list $hash"
+            echo "attest $log $bytes - any $hash"
+            echo "attest $log ${bytes#??} any $list $hash"
             echo "attest $log $bytes $nonce $(selection sha384:9) $hash"
             echo "attest $log $bytes $nonce 000000 $hash"
             echo "attest $log fe${bytes#??} $nonce $list $hash"
@@ -75,7 +83,8 @@ ask_quotes() {
         # No log extends the registers that this quote selects, so that each gives its digest.
         other='digest differs'
         [ "$quote" != not-measured ] || other=matches
-        printf '%s\n' matches matches 'nonce differs' 'nonce differs' 'lacks sha384 9' \
+        printf '%s\n' matches matches matches matches 'nothing to compare' 'nothing to compare' 'nothing to compare' \
+            'nonce differs' 'nothing to compare' 'nothing to compare' 'refused 084 at 0' 'lacks sha384 9' \
             'requirement refused' 'refused 084 at 0' "$other" 'log Truncated at 211' >>"$table.wanted"
     done <checks/quotes/cases.txt
 }
@@ -128,6 +137,12 @@ ROWS
         echo "quote checks/logs/worked.log $words" >>"$table"
         "$room/c_log" $words <checks/logs/worked.log >>"$table.wanted"
     done
+    # SHA-256 of no bytes: such a quote says nothing of a log.
+    nothing=0020e3b0c44298fc1c149afbf4c8996fb92427ae41e4649b934ca495991b7852b855
+    for selected in 00000000 00000001000b03000000; do
+        echo "quote checks/logs/worked.log $selected$nothing sha256" >>"$table"
+        echo "quote selects nothing" >>"$table.wanted"
+    done
     for size in 1 5 12 100; do
         echo "frames $size 80010000000c00000144000080010000000a000000008001" >>"$table"
         printf 'frame %s\n' 80010000000c000001440000 80010000000a00000000 >>"$table.wanted"
@@ -139,6 +154,8 @@ ROWS
     write_hundred
     sed '/^power$/!s/^/execute /' "$room/in" >>"$table"
     "$program" run --owner 6f776e6572 <"$room/in" >>"$table.wanted" || return 1
+    sed -n '/^#/d; s/ -> .*//; /./p' checks/callers.txt >>"$table"
+    sed -n '/^#/d; s/.* -> //p' checks/callers.txt >>"$table.wanted"
     echo "zeros 4294967308 80010000000c000001440000" >>"$table"
     printf '%s\n' 'refused 142 at 2' 'log NotCryptoAgile at 0' >>"$table.wanted"
     ! [ -d checks/quotes ] || ask_quotes
@@ -271,6 +288,9 @@ refuses(ValueError, v.Device, b"1" * 49)
 refuses(ValueError, v.Device, b"", 1 << 64)
 refuses(ValueError, v.Device().execute, b"", b"")
 refuses(ValueError, v.check_quote, b"", b"", "md5")
+refuses(TypeError, v.check, b"", b"", b"1")
+refuses(TypeError, v.check, b"", b"", None, "sha256:0")
+refuses((TypeError, AttributeError), v.check, b"", b"", b"1", None)
 refuses(ValueError, v.Caller().seal, b"", b"")
 assert not v.Caller().start(b"", b"") and not v.Caller().open(b"") and not v.Caller().give_up(b"")
 assert v.code_name(0x9A2) == "TPM_RC_BAD_AUTH for session 1" and v.code_name(0x1C4) == "TPM_RC_VALUE for parameter 1"
@@ -289,7 +309,8 @@ END
 
 # python_tests, go_tests, rust_tests: what a user runs in the folder of a binding.
 python_tests() {
-    (cd bindings/python && in_place python3 -m unittest discover -s tests)
+    (cd bindings/python && in_place python3 -m unittest) >"$room/out" 2>&1 || { cat "$room/out" && return 1; }
+    ! grep '^Ran 0 tests' "$room/out"
 }
 
 go_tests() {
@@ -395,7 +416,7 @@ numbers() {
     sed -n 's/^TPM_CC_\([A-Za-z_]*\) /\1=/p' "$room/layout"
 }
 
-# example FILE: the block of code in a README.
+# example FILE WORDS: the blocks of code in a README that begin with these words.
 example() {
     awk -v fence="^\`\`\`$2\$" '$0 ~ fence { inside = 1; next } /^```$/ { inside = 0 } inside' "$1"
 }
@@ -417,6 +438,7 @@ go_example() {
 
 rust_example() {
     mkdir -p "$room/example_rust/src" && example bindings/rust/README.md rust >"$room/example_rust/src/main.rs"
+    example bindings/rust/README.md 'rust build.rs' >"$room/example_rust/build.rs"
     cat >"$room/example_rust/Cargo.toml" <<END
 [package]
 name = "example"
@@ -427,7 +449,7 @@ edition = "2021"
 vinjakwe = { path = "$PWD/bindings/rust" }
 END
     (cd "$room/example_rust" && in_place cargo build --offline) &&
-        [ "$(in_place "$room/rust/debug/example" $one_quote)" = "$verdict" ]
+        [ "$(env -u LD_LIBRARY_PATH "$room/rust/debug/example" $one_quote)" = "$verdict" ]
 }
 
 one_quote="$PWD/checks/quotes/17-ovmf-secureboot.log $PWD/checks/quotes/ecc-sha256.msg c0ffee0000000000000000000000000000000000"

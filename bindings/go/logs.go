@@ -117,11 +117,12 @@ type Digest struct {
 	Hashed bool
 }
 
-// An Event is a record of a log: its place among them from 1 on, its register, its type, its digests and the event's
-// data, which are lent from the log. A digest that is not a hash of the data is not wrong: firmware measures some
-// events by something else.
+// An Event is a record of a log: its place among them from 1 on, how many bytes of the log precede it, its register,
+// its type, its digests and the event's data, which are lent from the log. A digest that is not a hash of the data is
+// not wrong: firmware measures some events by something else.
 type Event struct {
 	Number   int
+	At       uint32
 	Register uint32
 	Type     uint32
 	Digests  []Digest
@@ -204,13 +205,16 @@ func (e *Events) Next() bool {
 		return false
 	}
 	e.place = from
+	// Before the data are three numbers and their size, and the digests, each behind its hash (TCG_PCR_EVENT2).
 	e.event = Event{
 		Number:   e.event.Number + 1,
+		At:       uint32(it.data.at) - 16,
 		Register: uint32(it.pcr),
 		Type:     uint32(it._type),
 		Data:     part(e.log, it.data),
 	}
 	for _, found := range it.digests[:it.digest_count] {
+		e.event.At -= 2 + uint32(found.digest.len)
 		e.event.Digests = append(e.event.Digests, Digest{Hash(found.hash), part(e.log, found.digest), found.hashed != 0})
 	}
 	return true
@@ -262,26 +266,52 @@ func (s Selected) String() string { return fmt.Sprintf("%v %d", s.Bank, s.Regist
 // How each TPMS_ATTEST begins: TPM_GENERATED_VALUE (Part 2, 6.2).
 var generated = []byte("\xffTCG")
 
-// CheckQuote says whether the digest of a TPMS_QUOTE_INFO is that of a log's registers. Otherwise the error is a
-// *LogFault, a *Refusal, whose code is 0, since it is not told, ErrNoBank, or ErrAttest for a whole TPMS_ATTEST.
-func CheckQuote(log, quote []byte, hash Hash) (bool, error) {
+// CheckQuote compares the digest of a TPMS_QUOTE_INFO with that of a log's registers, and asks for no nonce and no
+// selection, which Check does: the verdict is Matches, Differs or Empty. Otherwise the error is a *LogFault, a
+// *Refusal, whose code is 0, since it is not told, ErrNoBank, or ErrAttest for a whole TPMS_ATTEST.
+func CheckQuote(log, quote []byte, hash Hash) (Verdict, error) {
 	var fault C.struct_tpm_attest_fault
 	answer := C.tpm_log_check_quote(place(log), size(log), place(quote), size(quote), C.uint16_t(hash), &fault.at)
 	if answer == C.TPM_QUOTE_REFUSED && bytes.HasPrefix(quote, generated) {
-		return false, ErrAttest
+		return Differs, ErrAttest
 	}
 	verdict, _, err := said(answer, &fault)
-	return verdict == Matches, err
+	if err == nil && verdict == Matches && !selects(quote) {
+		verdict = Empty
+	}
+	return verdict, err
 }
 
-// Check compares a log with a TPMS_ATTEST of a quote, whose signature has to be verified elsewhere: its nonce, the
-// registers of the TPML_PCR_SELECTION `require`, which Selection makes of a text and of which there may be no bytes,
-// and the digest under this hash. The quote is good where the verdict is Matches and the error nil. Otherwise the error
-// is a *LogFault, a *Refusal of the quote's bytes, ErrNoBank, or ErrRequirement.
-func Check(log, attest, nonce, require []byte, hash Hash) (Verdict, Selected, error) {
+// Expected is what Check compares a quote with: the nonce that was sent, the TPML_PCR_SELECTION of the registers that
+// have to be there, which Selection makes of a text, and the hash of the signature's scheme. Where AnyNonce is true,
+// the quote may be an old one; where AnySelection is true, it may be of any registers.
+type Expected struct {
+	Nonce, Selection       []byte
+	Hash                   Hash
+	AnyNonce, AnySelection bool
+}
+
+// Check compares a log with a TPMS_ATTEST of a quote, whose signature has to be verified elsewhere. The quote is good
+// where the verdict is Matches and the error nil. Otherwise the error is a *LogFault, a *Refusal of the quote's bytes,
+// ErrNoBank, ErrRequirement, or ErrNothing where the nonce has no byte, or the selection no register.
+func Check(log, attest []byte, expected Expected) (Verdict, Selected, error) {
 	var fault C.struct_tpm_attest_fault
-	answer := C.tpm_log_check_attest(place(log), size(log), place(attest), size(attest), C.uint16_t(hash),
-		place(nonce), size(nonce), place(require), size(require), &fault)
+	nonce, selection := expected.Nonce, expected.Selection
+	if expected.AnyNonce {
+		nonce = nil
+		if it, err := DecodeAttest(attest); err == nil {
+			nonce = it.Nonce
+		}
+	}
+	if expected.AnySelection {
+		selection = nil
+	}
+	answer := C.tpm_log_check_attest(place(log), size(log), place(attest), size(attest), C.uint16_t(expected.Hash),
+		place(nonce), size(nonce), place(selection), size(selection), &fault)
+	isNothing := !expected.AnyNonce && len(nonce) == 0 || !expected.AnySelection && !selects(selection)
+	if isNothing && answer != C.TPM_ATTEST_NO_BANK && answer != C.TPM_ATTEST_REQUIREMENT {
+		return Differs, Selected{}, ErrNothing
+	}
 	return said(answer, &fault)
 }
 

@@ -88,16 +88,36 @@ func DecodeAttest(bytes []byte) (*Attest, error) {
 		Restarts: uint32(it.restart_count), Safe: it.safe != 0, Firmware: uint64(it.firmware_version),
 		Digest: part(bytes, it.digest), Info: bytes[it.selections.at:],
 	}
-	for entry := part(bytes, it.selections)[4:]; len(entry) >= 6; entry = entry[6:] {
+	attest.Selections = entries(part(bytes, it.selections))
+	return attest, nil
+}
+
+// entries are those of the TPML_PCR_SELECTION that these bytes begin with, or none where there are too few.
+func entries(spelled []byte) (found []SelectedBank) {
+	if len(spelled) < 4 {
+		return nil
+	}
+	count, entry := binary.BigEndian.Uint32(spelled), spelled[4:]
+	for ; count > 0 && len(entry) >= 6; count, entry = count-1, entry[6:] {
 		selected := SelectedBank{Bank: Hash(binary.BigEndian.Uint16(entry))}
 		for i := 0; i < 24; i++ {
 			if entry[3+i/8]>>(i%8)&1 != 0 {
 				selected.Registers = append(selected.Registers, i)
 			}
 		}
-		attest.Selections = append(attest.Selections, selected)
+		found = append(found, selected)
 	}
-	return attest, nil
+	return found
+}
+
+// selects says whether these entries have a register.
+func selects(spelled []byte) bool {
+	for _, it := range entries(spelled) {
+		if len(it.Registers) > 0 {
+			return true
+		}
+	}
+	return false
 }
 
 // A Policy is the digest of a policy in a hash, without a device (Part 1, "Enhanced Authorization"; Part 3, 23). Where

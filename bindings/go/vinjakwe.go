@@ -50,6 +50,7 @@ var (
 	ErrNoCommand   = errors.New("no command has this number")
 	ErrNoBank      = errors.New("no bank has this hash")
 	ErrRequirement = errors.New("what is required is no TPML_PCR_SELECTION")
+	ErrNothing     = errors.New("the nonce has no byte, or what is required no register, and neither may be any")
 	ErrList        = errors.New("no list of registers, as sha256:0,1,2 or sha256:all")
 	ErrDigest      = errors.New("a digest has another length than those of the policy's hash")
 	ErrBroken      = errors.New("no buffer has the size that was stated")

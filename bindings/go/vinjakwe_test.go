@@ -92,8 +92,8 @@ func TestVariablesOfALog(t *testing.T) {
 	}
 }
 
-// Each list beside a log has a line for a record, whose third word is the type's name and whose eighth may be "text".
-// tags.events is left out, which has text in UTF-16: Text tells none.
+// Each list beside a log has a line for a record, whose third word is the type's name, whose sixth is its place, and
+// whose eighth may be "text". tags.events is left out, which has text in UTF-16: Text tells none.
 func TestNamesAndTextsOfEachLogWithAList(t *testing.T) {
 	lists, err := filepath.Glob(checks + "logs/*.events")
 	if err != nil || len(lists) == 0 {
@@ -119,7 +119,7 @@ func TestNamesAndTextsOfEachLogWithAList(t *testing.T) {
 				found = fmt.Sprintf("%08x", it.Type)
 			}
 			text, is := it.Text()
-			if found != wanted || is != (words[7] == "text") {
+			if found != wanted || fmt.Sprintf("at=%d", it.At) != words[5] || is != (words[7] == "text") {
 				t.Error(name, line, found, text)
 			} else if is && !strings.Contains(words[8], `\`) && text != words[8] {
 				t.Error(name, line, text)
@@ -187,6 +187,24 @@ func TestSecureBootOfEachLogWithAList(t *testing.T) {
 	}
 }
 
+func TestTheRecordsThatSecureBootNames(t *testing.T) {
+	log := read(t, "logs/secure_on.log")
+	boot, err := SecureBoot(log, SHA256)
+	if err != nil {
+		t.Fatal(err)
+	}
+	found, events := map[uint32]string{}, NewEvents(log)
+	for events.Next() {
+		if it, is := events.Event().Variable(); is {
+			found[events.Event().At] = it.Name
+		}
+	}
+	if found[boot.PK] != "PK" || found[boot.KEK] != "KEK" || found[boot.DB] != "db" || found[boot.DBX] != "dbx" ||
+		found[boot.Authorities[0]] != "db" {
+		t.Error(boot, found)
+	}
+}
+
 func TestSecureBootOfOtherLogs(t *testing.T) {
 	var fault *LogFault
 	if _, err := SecureBoot(read(t, "logs/cut_by_a_byte.log"), SHA256); !errors.As(err, &fault) ||
@@ -215,10 +233,12 @@ func TestEachQuoteMatchesItsLog(t *testing.T) {
 		if err != nil {
 			t.Fatal(err)
 		}
-		if verdict, _, err := Check(it.log, it.quote, it.nonce, require, it.hash); verdict != Matches || err != nil {
+		wanted := Expected{Nonce: it.nonce, Selection: require, Hash: it.hash}
+		if verdict, _, err := Check(it.log, it.quote, wanted); verdict != Matches || err != nil {
 			t.Error(verdict, err)
 		}
-		if verdict, _, err := Check(it.log, it.quote, append(it.nonce, 0), require, it.hash); verdict != Nonce || err != nil {
+		wanted.Nonce = append(wanted.Nonce, 0)
+		if verdict, _, err := Check(it.log, it.quote, wanted); verdict != Nonce || err != nil {
 			t.Error(verdict, err)
 		}
 		attest, err := DecodeAttest(it.quote)
@@ -228,12 +248,43 @@ func TestEachQuoteMatchesItsLog(t *testing.T) {
 		if !bytes.Equal(attest.Nonce, it.nonce) {
 			t.Errorf("nonce %x", attest.Nonce)
 		}
-		if matches, err := CheckQuote(it.log, attest.Info, it.hash); !matches || err != nil {
-			t.Error(matches, err)
+		if verdict, err := CheckQuote(it.log, attest.Info, it.hash); verdict != Matches || err != nil {
+			t.Error(verdict, err)
 		}
 		if _, err := CheckQuote(it.log, it.quote, it.hash); !errors.Is(err, ErrAttest) {
 			t.Error(err)
 		}
+	}
+}
+
+func TestNothingComparedIsNoSuccess(t *testing.T) {
+	noRegister, _ := hex.DecodeString("00000001000b03000000")
+	for _, it := range quotes(t) {
+		require, err := Selection(it.selected)
+		if err != nil {
+			t.Fatal(err)
+		}
+		for _, wanted := range []Expected{
+			{Hash: it.hash}, {Nonce: it.nonce, Hash: it.hash}, {Selection: require, Hash: it.hash},
+			{Nonce: it.nonce, Selection: make([]byte, 4), Hash: it.hash},
+			{Nonce: it.nonce, Selection: noRegister, Hash: it.hash},
+		} {
+			if verdict, _, err := Check(it.log, it.quote, wanted); verdict == Matches || !errors.Is(err, ErrNothing) {
+				t.Error(wanted, verdict, err)
+			}
+		}
+		for _, wanted := range []Expected{
+			{AnyNonce: true, Selection: require, Hash: it.hash}, {Nonce: it.nonce, AnySelection: true, Hash: it.hash},
+		} {
+			if verdict, _, err := Check(it.log, it.quote, wanted); verdict != Matches || err != nil {
+				t.Error(wanted, verdict, err)
+			}
+		}
+	}
+	// The digest of no register is SHA-256 of no bytes.
+	empty, _ := hex.DecodeString("000000000020e3b0c44298fc1c149afbf4c8996fb92427ae41e4649b934ca495991b7852b855")
+	if verdict, err := CheckQuote(read(t, "logs/worked.log"), empty, SHA256); verdict != Empty || err != nil {
+		t.Error(verdict, err)
 	}
 }
 

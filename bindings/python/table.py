@@ -90,16 +90,27 @@ def frames(size, stream):
         yield "inside"
 
 
+def said(verdict):
+    return {Kind.MATCHES: "matches", Kind.NONCE: "nonce differs", Kind.LACKS: f"lacks {verdict.hash} {verdict.pcr}",
+            Kind.EMPTY: "selects nothing", Kind.DIFFERS: "digest differs"}[verdict.kind]
+
+
 def attest(log, quote, nonce, require, hash):
+    nonce = vinjakwe.ANY_NONCE if nonce == "any" else unhex(nonce)
+    require = vinjakwe.ANY_SELECTION if require == "any" else unhex(require)
     try:
-        verdict = vinjakwe.check(log, unhex(quote), unhex(nonce), unhex(require), hash)
+        yield said(vinjakwe.check(log, unhex(quote), nonce, require, hash))
     except (Refusal, LogFault):
         raise
     except ValueError as fault:
-        yield "requirement refused" if str(fault).startswith("require: ") else str(fault)
-        return
-    yield {Kind.MATCHES: "matches", Kind.NONCE: "nonce differs", Kind.LACKS: f"lacks {verdict.hash} {verdict.pcr}",
-           Kind.EMPTY: "selects nothing", Kind.DIFFERS: "digest differs"}[verdict.kind]
+        yield "nothing to compare" if "ANY_" in str(fault) else "requirement refused"
+
+
+def sealed(caller, command, first, second, auth, nonce, keep):
+    try:
+        return caller.seal(*map(unhex, (command, first, second, auth, nonce)), keep == "keep").hex()
+    except ValueError:
+        return "not sealed"
 
 
 def whole(name):
@@ -113,7 +124,7 @@ def opened(name):
 
 
 class Answers:
-    number, device = 0, None
+    number, device, caller = 0, None, None
 
     def zeros(self, size, first):
         zeros, first = mmap.mmap(-1, int(size)), unhex(first)
@@ -139,20 +150,28 @@ class Answers:
         elif verb == "boot":
             yield from boot(whole(words[0]), words[1])
         elif verb == "quote":
-            matches = vinjakwe.check_quote(whole(words[0]), unhex(words[1]), words[2])
-            yield "quote " + ("matches" if matches else "differs")
+            verdict = vinjakwe.check_quote(whole(words[0]), unhex(words[1]), words[2])
+            yield "quote " + said(verdict).removeprefix("digest ")
         elif verb == "attest":
             yield from attest(whole(words[0]), *words[1:])
         elif verb == "frames":
             yield from frames(int(words[0]), unhex(words[1]))
         elif verb == "device":
-            self.device = vinjakwe.Device(unhex(words[0]))
+            self.number, self.device, self.caller = 0, vinjakwe.Device(unhex(words[0])), vinjakwe.Caller()
         elif verb == "power":
             self.device.power_cycle()
             yield verb
         elif verb == "execute":
             self.number += 1
             yield self.device.execute(unhex(words[0]), self.number.to_bytes(16, "big") * 4).hex()
+        elif verb == "start":
+            yield "started" if self.caller.start(*map(unhex, words)) else "not started"
+        elif verb == "seal":
+            yield sealed(self.caller, *words)
+        elif verb == "open":
+            yield "opened" if self.caller.open(unhex(*words)) else "not opened"
+        elif verb == "give-up":
+            yield "given up" if self.caller.give_up(unhex(*words)) else "not given up"
         elif verb == "zeros":
             yield from self.zeros(*words)
 

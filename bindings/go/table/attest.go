@@ -9,23 +9,24 @@ import (
 
 // attest prints what is said of a quote: attest LOG ATTEST NONCE REQUIRE HASH.
 func attest(words []string) {
-	names := map[vinjakwe.Hash]string{vinjakwe.SHA1: "sha1", vinjakwe.SHA256: "sha256", vinjakwe.SHA384: "sha384"}
-	verdict, lacks, err := vinjakwe.Check(read(words[1]), unhex(words[2]), unhex(words[3]), unhex(words[4]),
-		hashes[words[5]])
+	expected := vinjakwe.Expected{Hash: hashes[words[5]], AnyNonce: words[3] == "any", AnySelection: words[4] == "any"}
+	if !expected.AnyNonce {
+		expected.Nonce = unhex(words[3])
+	}
+	if !expected.AnySelection {
+		expected.Selection = unhex(words[4])
+	}
+	verdict, lacks, err := vinjakwe.Check(read(words[1]), unhex(words[2]), expected)
 	switch {
+	case errors.Is(err, vinjakwe.ErrNothing):
+		fmt.Fprintln(out, "nothing to compare")
 	case errors.Is(err, vinjakwe.ErrRequirement):
 		fmt.Fprintln(out, "requirement refused")
 	case err != nil:
 		tell(err)
-	case verdict == vinjakwe.Matches:
-		fmt.Fprintln(out, "matches")
-	case verdict == vinjakwe.Nonce:
-		fmt.Fprintln(out, "nonce differs")
 	case verdict == vinjakwe.Lacks:
-		fmt.Fprintf(out, "lacks %s %d\n", names[lacks.Bank], lacks.Register)
-	case verdict == vinjakwe.Empty:
-		fmt.Fprintln(out, "selects nothing")
+		fmt.Fprintln(out, "lacks", lacks)
 	default:
-		fmt.Fprintln(out, "digest differs")
+		fmt.Fprintln(out, verdict)
 	}
 }

@@ -180,6 +180,7 @@ func main() {
 		names[code] = name
 	}
 	var device *vinjakwe.Device
+	var caller *vinjakwe.Caller
 	number := uint64(0)
 	lines := bufio.NewReaderSize(os.Stdin, 1<<20)
 	defer out.Flush()
@@ -217,11 +218,11 @@ func main() {
 		case "boot":
 			boot(words)
 		case "quote":
-			matches, err := vinjakwe.CheckQuote(read(words[1]), unhex(words[2]), hashes[words[3]])
+			verdict, err := vinjakwe.CheckQuote(read(words[1]), unhex(words[2]), hashes[words[3]])
 			if err != nil {
 				tell(err)
 			} else {
-				fmt.Fprintf(out, "quote %s\n", map[bool]string{true: "matches", false: "differs"}[matches])
+				fmt.Fprintln(out, "quote", strings.TrimPrefix(verdict.String(), "digest "))
 			}
 		case "attest":
 			attest(words)
@@ -232,6 +233,9 @@ func main() {
 			if device, err = vinjakwe.NewDevice(unhex(words[1]), 0); err != nil {
 				tell(err)
 			}
+			caller, number = vinjakwe.NewCaller(), 0
+		case "start", "seal", "open", "give-up":
+			session(caller, words)
 		case "power":
 			device.PowerCycle()
 			fmt.Fprintln(out, "power")

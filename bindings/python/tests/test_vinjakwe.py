@@ -87,7 +87,8 @@ class Variables(unittest.TestCase):
 
 
 def said():
-    """What the lists beside the logs say of records: of each log the names of their types, and which data are text.
+    """What the lists beside the logs say of records: of each log the names of their types, their places, and which data
+    are text.
 
     tags.events is left out, which has text in UTF-16: `text` tells none.
     """
@@ -95,16 +96,16 @@ def said():
         if path.stem == "tags":
             continue
         lines = [line.split(" ", 7) for line in path.read_text().splitlines() if not line.startswith("log ")]
-        yield path.with_suffix(".log"), [(line[2], line[7]) for line in lines]
+        yield path.with_suffix(".log"), [(line[2], line[5], line[7]) for line in lines]
 
 
 class Texts(unittest.TestCase):
     def test_each_log_with_a_list(self):
         for path, wanted in said():
             events = list(v.events(path))
-            names = [v.event_type_name(it.type) or f"{it.type:08x}" for it in events]
-            self.assertEqual(names, [name for name, _ in wanted], path)
-            for event, (_, words) in zip(events, wanted):
+            found = [(v.event_type_name(it.type) or f"{it.type:08x}", f"at={it.at}") for it in events]
+            self.assertEqual(found, [(name, place) for name, place, _ in wanted], path)
+            for event, (_, _, words) in zip(events, wanted):
                 told = json.loads(f'"{words[5:]}"') if words.startswith("text ") else None
                 self.assertEqual(v.text(event), told, path)
 
@@ -142,6 +143,14 @@ class SecureBoots(unittest.TestCase):
                 places = [(name, int(at)) for name, word, at, *_ in placed]
                 named = [(name, at) for name, at in zip(("PK", "KEK", "db", "dbx"), found[2:6]) if at is not None]
                 self.assertEqual(named + [("authority", at) for at in found.authorities], places)
+
+    def test_the_records_that_it_names(self):
+        log = LOG.with_name("secure_on.log")
+        found, events = v.secure_boot(log), {it.at: it for it in v.events(log)}
+        names = [v.variable(events[at]).name for at in (found.pk, found.kek, found.db, found.dbx)]
+        self.assertEqual(names, ["PK", "KEK", "db", "dbx"])
+        types = {v.event_type_name(events[at].type) for at in found.authorities}
+        self.assertEqual(types, {"EV_EFI_VARIABLE_AUTHORITY"})
 
     def test_a_log_that_is_none_and_another_hash(self):
         with self.assertRaises(v.LogFault):
@@ -181,6 +190,17 @@ class Quotes(unittest.TestCase):
             verdict = v.check(log, quote, nonce, "sha384:9", hash)
             self.assertEqual(verdict, (v.Kind.LACKS, "sha384", 9))
             self.assertFalse(verdict)
+
+    def test_nothing_compared_is_no_success(self):
+        no_register = bytes.fromhex("00000001000b03000000")
+        for log, quote, nonce, selected, hash in quotes():
+            for words in (b"", selected), (nonce, b""), (nonce, bytes(4)), (nonce, no_register):
+                self.assertRaisesRegex(ValueError, "ANY_", v.check, log, quote, *words, hash)
+            self.assertRaises(TypeError, v.check, log, quote, nonce)
+            self.assertTrue(v.check(log, quote, v.ANY_NONCE, selected, hash))
+            self.assertTrue(v.check(log, quote, nonce, v.ANY_SELECTION, hash))
+        empty = bytes.fromhex("000000000020") + hashlib.sha256().digest()
+        self.assertIs(v.check_quote(LOG, empty).kind, v.Kind.EMPTY)
 
     def test_a_whole_attest_is_not_a_quotes_information(self):
         for log, quote, _, _, hash in quotes():

@@ -16,7 +16,9 @@ from ctypes import POINTER, Structure, byref, c_size_t, c_uint8, c_uint16, c_uin
 from ctypes.util import find_library
 from mmap import mmap
 from pathlib import Path
-from typing import TYPE_CHECKING, Any, BinaryIO, Callable, Dict, Iterable, Iterator, NamedTuple, Tuple, Union
+from typing import (
+    TYPE_CHECKING, Any, BinaryIO, Callable, Dict, Final, Iterable, Iterator, Literal, NamedTuple, Tuple, Union,
+)
 
 if TYPE_CHECKING:
     from _typeshed import ReadableBuffer as Buffer
@@ -25,11 +27,12 @@ if TYPE_CHECKING:
     Selected = Union[Buffer, str]
 
 __all__ = [
-    "Attest", "BrokenStream", "BUFFER_BYTES", "Caller", "CODES", "COMMANDS", "Command", "Counter", "Device", "Event",
-    "Framer", "HASHES", "Kind", "LibraryError", "LogFault", "NONCE_BYTES", "OWNER_BYTES", "Policy", "Refusal",
-    "Registers", "Response", "SecureBoot", "SecureBootFault", "SecureBootState", "Session", "Variable", "Verdict",
-    "build_command", "changes_nv", "check", "check_quote", "code_name", "decode_attest", "decode_command",
-    "decode_response", "event_type_name", "events", "replay", "secure_boot", "selection", "text", "variable",
+    "ANY_NONCE", "ANY_SELECTION", "Attest", "BrokenStream", "BUFFER_BYTES", "Caller", "CODES", "COMMANDS", "Command",
+    "Counter", "Device", "Event", "Framer", "HASHES", "Kind", "LibraryError", "LogFault", "NONCE_BYTES", "OWNER_BYTES",
+    "Policy", "Refusal", "Registers", "Response", "SecureBoot", "SecureBootFault", "SecureBootState", "Session",
+    "Variable", "Verdict", "build_command", "changes_nv", "check", "check_quote", "code_name", "decode_attest",
+    "decode_command", "decode_response", "event_type_name", "events", "replay", "secure_boot", "selection", "text",
+    "variable",
 ]
 __version__ = "0.1.0"
 
@@ -476,11 +479,12 @@ def _replay_file(read: Callable[[int], bytes], out: ctypes.Array[c_uint8], at: c
 
 
 class Event(NamedTuple):
-    """A record of a log: its place among them from 1 on, its register, its type, the digests and the event's data. A
-    hash is told by its name in HASHES, or else by its number. `hashed`: those whose digest is that hash of the data;
-    another is not wrong."""
+    """A record of a log: its place among them from 1 on, how many bytes of the log precede it, its register, its type,
+    the digests and the event's data. A hash is told by its name in HASHES, or else by its number. `hashed`: those whose
+    digest is that hash of the data; another is not wrong."""
 
     number: int
+    at: int
     register: int
     type: int
     digests: dict[str | int, bytes]
@@ -498,7 +502,10 @@ def events(log: Log) -> Iterator[Event]:
         found: list[tuple[str | int, _LogDigest]] = [(_HASH_NAMES.get(it.hash, it.hash), it) for it in listed]
         with memoryview(whole).cast("B") as view:
             digests, data = {name: _part(view, it.digest) for name, it in found}, _part(view, event.data)
-        yield Event(number, event.pcr, event.type, digests, data, tuple(name for name, it in found if it.hashed))
+        # Before the data are three numbers and their size, and the digests, each behind its hash (TCG_PCR_EVENT2).
+        begin = event.data.at - 16 - sum(2 + it.digest.len for it in listed)
+        hashed = tuple(name for name, it in found if it.hashed)
+        yield Event(number, begin, event.pcr, event.type, digests, data, hashed)
     _raise_fault(said, at.value)
 
 
@@ -593,19 +600,6 @@ def secure_boot(log: Log, bank: str = "sha256") -> SecureBoot:
 _GENERATED = b"\xffTCG"
 
 
-def check_quote(log: Log, quote: Buffer, hash: str = "sha256") -> bool:
-    """Whether the digest of a quote's TPMS_QUOTE_INFO is that of a log's registers. The log is given by its bytes, its
-    path, or a file that is read to its end. Raises LogFault, Refusal (whose code is not told: 0), and ValueError for a
-    whole TPMS_ATTEST, which is for `check`."""
-    at = c_uint32()
-    answer = _lend_long("tpm_log_check_quote", (_whole(log),), (quote,), _hash(hash), byref(at))
-    if answer == _ATTEST_REFUSED and bytes(memoryview(quote).cast("B")[:4]) == _GENERATED:
-        raise ValueError("this is a whole TPMS_ATTEST, which check() takes; "
-                         "its TPMS_QUOTE_INFO is decode_attest(..).info")
-    _raise_fault(answer, at.value)
-    return Kind(answer) is Kind.MATCHES
-
-
 _REGISTER = re.compile("0*(1[0-9]|2[0-3]|[0-9])")
 
 
@@ -628,6 +622,18 @@ def _selected(list: Selected) -> Buffer:
     return selection(list) if isinstance(list, str) else list
 
 
+def _entries(list: Buffer) -> tuple[tuple[str, tuple[int, ...]], ...]:
+    """The entries of the TPML_PCR_SELECTION that these bytes begin with: the hash and the registers of each."""
+    spelled = bytes(list)
+    entries = [spelled[at:at + 6] for at in range(4, 4 + 6 * int.from_bytes(spelled[:4], "big"), 6)]
+    return tuple((_HASH_NAMES[int.from_bytes(entry[:2], "big")],
+                  tuple(i for i in range(24) if entry[3 + i // 8] >> i % 8 & 1)) for entry in entries)
+
+
+def _selects(list: Buffer) -> bool:
+    return any(registers for _, registers in _entries(list))
+
+
 class Attest(NamedTuple):
     """A quote as it was signed, a TPMS_ATTEST: the registers that each entry of its selection has, and its
     TPMS_QUOTE_INFO whole."""
@@ -648,13 +654,9 @@ def decode_attest(data: Buffer) -> Attest:
     it = _Attest()
     _judge(_library.tpm_attest_decode, (data,), byref(it))
     with memoryview(data).cast("B") as view:
-        listed = _part(view, it.selections)[4:]
-        entries = [listed[at:at + 6] for at in range(0, len(listed), 6)]
-        selections = tuple((_HASH_NAMES[int.from_bytes(entry[:2], "big")],
-                            tuple(i for i in range(24) if entry[3 + i // 8] >> i % 8 & 1))
-                           for entry in entries)
+        info = bytes(view[it.selections.at:])
         return Attest(_part(view, it.signer), _part(view, it.nonce), it.clock, it.reset_count, it.restart_count,
-                      it.safe != 0, it.firmware_version, selections, bytes(view[it.selections.at:]))
+                      it.safe != 0, it.firmware_version, _entries(info), info)
 
 
 class Kind(enum.Enum):
@@ -662,8 +664,8 @@ class Kind(enum.Enum):
 
 
 class Verdict(NamedTuple):
-    """What is said of a signed quote: it matches, or the first that fails: another nonce, a required register that is
-    not selected (its bank and number are there), another digest, or no register is selected. It is true where the quote
+    """What is said of a quote: it matches, or the first that fails: another nonce, a required register that is not
+    selected (its bank and number are there), another digest, or no register is selected. It is true where the quote
     matches."""
 
     kind: Kind
@@ -674,19 +676,61 @@ class Verdict(NamedTuple):
         return self.kind is Kind.MATCHES
 
 
-def check(log: Log, attest: Buffer, nonce: Buffer, require: Selected = b"", hash: str = "sha256") -> Verdict:
+def check_quote(log: Log, quote: Buffer, hash: str = "sha256") -> Verdict:
+    """Compares the digest of a quote's TPMS_QUOTE_INFO with that of a log's registers, and asks for no nonce and no
+    selection, which `check` does. The log is given by its bytes, its path, or a file that is read to its end. Raises
+    LogFault, Refusal (whose code is not told: 0), and ValueError for a whole TPMS_ATTEST, which is for `check`."""
+    at = c_uint32()
+    answer = _lend_long("tpm_log_check_quote", (_whole(log),), (quote,), _hash(hash), byref(at))
+    if answer == _ATTEST_REFUSED and bytes(memoryview(quote).cast("B")[:4]) == _GENERATED:
+        raise ValueError("this is a whole TPMS_ATTEST, which check() takes; "
+                         "its TPMS_QUOTE_INFO is decode_attest(..).info")
+    _raise_fault(answer, at.value)
+    kind = Kind(answer)
+    return Verdict(Kind.EMPTY if kind is Kind.MATCHES and not _selects(quote) else kind)
+
+
+class _Unasked(enum.Enum):
+    NONCE, SELECTION = "ANY_NONCE", "ANY_SELECTION"
+
+    def __repr__(self) -> str:
+        return self.value
+
+
+ANY_NONCE: Final = _Unasked.NONCE
+"""In the place of a nonce: the quote may have any, and may be an old one."""
+ANY_SELECTION: Final = _Unasked.SELECTION
+"""In the place of a list of registers: the quote may be of any, which whoever made it has chosen."""
+
+
+def check(log: Log, attest: Buffer, nonce: Buffer | Literal[_Unasked.NONCE],
+          require: Selected | Literal[_Unasked.SELECTION], hash: str = "sha256") -> Verdict:
     """Compares a log with a TPMS_ATTEST of a quote, whose signature has to be verified elsewhere: its nonce, the
     registers that are required, and the digest under this hash. The log is given by its bytes, its path, or a file that
-    is read to its end; `require` is a TPML_PCR_SELECTION or a list as `sha256:0,7`. Raises LogFault, and Refusal for
-    bytes that spell no quote; ValueError where `require` is no selection."""
-    fault, listed = _AttestFault(), _selected(require)
-    answer = _lend_long("tpm_log_check_attest", (_whole(log),), (attest,), _hash(hash), (nonce,), (listed,),
-                        byref(fault))
-    _raise_fault(answer, fault.at, fault.code)
+    is read to its end; `nonce` is the one that was sent, or ANY_NONCE; `require` is a TPML_PCR_SELECTION, a list as
+    `sha256:0,7`, or ANY_SELECTION. Raises LogFault, and Refusal for bytes that spell no quote; ValueError where
+    `require` is no selection or has no register, or the nonce has no byte."""
+    fault, whole = _AttestFault(), _whole(log)
+    listed = b"" if require is ANY_SELECTION else _selected(require)
+    sent = _nonce_of(attest) if nonce is ANY_NONCE else nonce
+    answer = _lend_long("tpm_log_check_attest", (whole,), (attest,), _hash(hash), (sent,), (listed,), byref(fault))
     if answer == _ATTEST_REQUIREMENT:
         raise ValueError("require: " + str(Refusal(fault.code, fault.at)))
+    if nonce is not ANY_NONCE and not memoryview(nonce).nbytes:
+        raise ValueError("nonce: it has no byte; ANY_NONCE is for a quote with any")
+    if require is not ANY_SELECTION and not _selects(listed):
+        raise ValueError("require: it has no register; ANY_SELECTION is for a quote of any")
+    _raise_fault(answer, fault.at, fault.code)
     lacks = Kind(answer) is Kind.LACKS
     return Verdict(Kind(answer), _HASH_NAMES[fault.hash] if lacks else None, fault.pcr if lacks else None)
+
+
+def _nonce_of(attest: Buffer) -> bytes:
+    """The nonce of a quote, or none of bytes that spell no quote."""
+    try:
+        return decode_attest(attest).nonce
+    except Refusal:
+        return b""
 
 
 class Policy:

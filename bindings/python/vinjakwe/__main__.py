@@ -8,7 +8,9 @@ import re
 import sys
 from typing import BinaryIO
 
-from . import HASHES, Kind, LogFault, Refusal, check, check_quote, decode_attest, replay, selection
+from . import (
+    ANY_NONCE, ANY_SELECTION, HASHES, Kind, LogFault, Refusal, check, check_quote, decode_attest, replay, selection,
+)
 
 
 def show_registers(log: BinaryIO) -> int:
@@ -34,12 +36,12 @@ def show_quote(log: bytes, data: bytes, nonce: bytes | None, require: bytes | No
     print("selection", *(word for name, registers in quote.selections for word in (name, *registers)))
     fits = [nonce is None or nonce == quote.nonce]
     print("nonce", "not compared" if nonce is None else "matches" if fits[0] else "differs")
-    # The quote's own nonce, so that what is said is of the selection.
-    verdict = check(log, data, quote.nonce, require or b"", hash)
+    # Of the nonce a line is there already: what is said here is of the selection.
+    verdict = check(log, data, ANY_NONCE, ANY_SELECTION if require is None else require, hash)
     fits.append(verdict.kind not in (Kind.LACKS, Kind.EMPTY))
     print("selection", {Kind.LACKS: f"lacks {verdict.hash} {verdict.pcr}", Kind.EMPTY: "empty"}.get(
         verdict.kind, "not compared" if require is None else "covers"))
-    fits.append(check_quote(log, quote.info, hash))
+    fits.append(check_quote(log, quote.info, hash).kind is not Kind.DIFFERS)
     print("quote", "matches" if fits[2] else "differs")
     return 0 if all(fits) else 1
 

@@ -167,6 +167,42 @@ fn frames(out: &mut impl Write, size: usize, stream: &[u8]) -> std::io::Result<(
     if inside { writeln!(out, "inside") } else { Ok(()) }
 }
 
+// What is said of a quote: attest LOG ATTEST NONCE REQUIRED HASH.
+fn attest(out: &mut impl Write, words: &[&str]) -> std::io::Result<()> {
+    let (nonce, required) = (unhex(words[3].trim_start_matches("any")), unhex(words[4].trim_start_matches("any")));
+    let nonce = if words[3] == "any" { Nonce::Any } else { Nonce::Is(&nonce) };
+    let required = if words[4] == "any" { Required::Any } else { Required::Registers(&required) };
+    match check(&std::fs::read(words[1])?, &unhex(words[2]), nonce, required, bank(words[5])) {
+        Ok(verdict) => writeln!(out, "{verdict}"),
+        Err(Fault::Nothing) => writeln!(out, "nothing to compare"),
+        Err(Fault::Requirement(_)) => writeln!(out, "requirement refused"),
+        Err(fault) => writeln!(out, "{fault}"),
+    }
+}
+
+// What a caller does: start COMMAND REPLY BIND_AUTH, seal COMMAND FIRST SECOND AUTH NONCE keep|last, open REPLY, or
+// give-up REPLY.
+fn session<P: Place>(out: &mut impl Write, caller: &mut Caller<P>, words: &[&str]) -> std::io::Result<()> {
+    let given: Vec<Vec<u8>> = words[1..6].iter().map(|it| unhex(it)).collect();
+    let (done, word) = match words[0] {
+        "start" => (caller.start(&given[0], &given[1], &given[2]), "started"),
+        "open" => (caller.open(&given[0]), "opened"),
+        "give-up" => (caller.give_up(&given[0]), "given up"),
+        _ => {
+            let (names, keep, mut sealed) = ([&given[1][..], &given[2]], words[6] == "keep", [0; BUFFER_BYTES]);
+            return match caller.seal(&given[0], names, &given[3], &given[4], keep, &mut sealed) {
+                Ok(sealed) => writeln!(out, "{}", hex(sealed)),
+                Err(_) => writeln!(out, "not sealed"),
+            };
+        }
+    };
+    writeln!(out, "{}{word}", if done.is_ok() { "" } else { "not " })
+}
+
+fn room() -> &'static mut Room {
+    Box::leak(Box::new(Room::new()))
+}
+
 fn main() -> std::io::Result<()> {
     check_version().unwrap();
     let mut names = BTreeMap::new();
@@ -177,7 +213,7 @@ fn main() -> std::io::Result<()> {
         numbers.insert(name.to_string(), number.parse::<u32>().unwrap());
     }
     let out = &mut BufWriter::new(stdout());
-    let (mut room, mut device, mut number) = (Some(Box::new(Room::new())), None, 0u64);
+    let (mut device, mut caller, mut number) = (None, None, 0u64);
     for line in stdin().lock().lines() {
         let line = line?;
         let mut words: Vec<&str> = line.split_whitespace().collect();
@@ -199,31 +235,17 @@ fn main() -> std::io::Result<()> {
             "texts" => tell_texts(out, &std::fs::read(words[1])?)?,
             "boot" => tell_boot(out, &std::fs::read(words[1])?, words[2])?,
             "quote" => match check_quote(&std::fs::read(words[1])?, &unhex(words[2]), bank(words[3])) {
-                Ok(matches) => writeln!(out, "quote {}", if matches { "matches" } else { "differs" })?,
+                Ok(verdict) => writeln!(out, "quote {}", verdict.to_string().trim_start_matches("digest "))?,
                 Err(fault) => writeln!(out, "{fault}")?,
             },
-            "attest" => match check(
-                &std::fs::read(words[1])?,
-                &unhex(words[2]),
-                &unhex(words[3]),
-                &unhex(words[4]),
-                bank(words[5]),
-            ) {
-                Ok(Verdict::Matches) => writeln!(out, "matches")?,
-                Ok(Verdict::Nonce) => writeln!(out, "nonce differs")?,
-                Ok(Verdict::Lacks(bank, register)) => {
-                    writeln!(out, "lacks {} {register}", format!("{bank:?}").to_lowercase())?
-                }
-                Ok(Verdict::Empty) => writeln!(out, "selects nothing")?,
-                Ok(Verdict::Differs) => writeln!(out, "digest differs")?,
-                Err(Fault::Requirement(_)) => writeln!(out, "requirement refused")?,
-                Err(fault) => writeln!(out, "{fault}")?,
-            },
+            "attest" => attest(out, &words)?,
             "frames" => frames(out, words[1].parse().unwrap(), &unhex(words[2]))?,
             "device" => {
-                let place = room.take().map(Box::leak).unwrap();
-                device = Some(Device::new(place, &unhex(words[1]), 0).unwrap());
+                device = Some(Device::new(room(), &unhex(words[1]), 0).unwrap());
+                caller = Some(Caller::new(room()).unwrap());
+                number = 0;
             }
+            "start" | "seal" | "open" | "give-up" => session(out, caller.as_mut().unwrap(), &words)?,
             "power" => {
                 device.as_mut().unwrap().power_cycle();
                 writeln!(out, "power")?;

@@ -18,8 +18,8 @@ use core::fmt;
 pub use boots::{secure_boot, SecureBoot, SecureBootFault, SecureBootState, SECURE_BOOT_FAULTS};
 pub use buffers::{build_command, Command, List, Response, Session};
 pub use logs::{
-    check, check_quote, events, replay, Bank, Digest, Event, Events, Registers, Replay, Text, TypeName, Variable,
-    Verdict,
+    check, check_quote, events, replay, Bank, Digest, Event, Events, Nonce, Registers, Replay, Required, Text, TypeName,
+    Variable, Verdict,
 };
 pub use quotes::{Attest, Policy, Selection};
 pub use states::{changes_nv, Caller, Counter, Device, Framer, Place, Room};
@@ -100,6 +100,8 @@ pub enum Fault {
     Attest,
     /// What is required is no TPML_PCR_SELECTION.
     Requirement(Refusal),
+    /// The nonce has no byte, or what is required no register, and neither is to be any.
+    Nothing,
     /// The call does not apply to what the session has done so far, or to these bytes.
     Session,
     /// A buffer of the stream has no size from 10 to BUFFER_BYTES.
@@ -119,6 +121,7 @@ impl fmt::Display for Fault {
             Fault::Length => f.write_str("the room or a value has another length than is wanted"),
             Fault::NoBank => f.write_str("no bank has this hash"),
             Fault::Requirement(it) => write!(f, "requirement {it}"),
+            Fault::Nothing => f.write_str("the nonce has no byte, or what is required no register"),
             Fault::Session => f.write_str("the session cannot do this"),
             Fault::Broken => f.write_str("no buffer has the size that was stated"),
         }

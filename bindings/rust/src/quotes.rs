@@ -85,7 +85,7 @@ impl<'a> Attest<'a> {
 
     /// The entries of its selection, each a bank and the registers that are selected there, in rising order.
     pub fn selections(&self) -> impl Iterator<Item = (Bank, impl Iterator<Item = usize> + 'a)> + 'a {
-        self.selections.get(4..).unwrap_or(&[]).chunks_exact(6).filter_map(|entry| {
+        entries(self.selections).filter_map(|entry| {
             let bank = Bank::from_number(u16::from_be_bytes([entry[0], entry[1]]))?;
             Some((bank, (0..24).filter(|i| entry[3 + i / 8] >> (i % 8) & 1 != 0)))
         })
@@ -163,6 +163,17 @@ impl fmt::Debug for Policy {
     fn fmt(&self, f: &mut fmt::Formatter<'_>) -> fmt::Result {
         write!(f, "Policy({self})")
     }
+}
+
+/// The entries of the TPML_PCR_SELECTION that these bytes begin with, or none where there are too few.
+fn entries(spelled: &[u8]) -> impl Iterator<Item = &[u8]> {
+    let (count, entries) = spelled.split_first_chunk().unwrap_or((&[0; 4], &[]));
+    entries.chunks_exact(6).take(u32::from_be_bytes(*count) as usize)
+}
+
+/// Whether these entries have a register.
+pub(crate) fn selects(spelled: &[u8]) -> bool {
+    entries(spelled).any(|entry| entry[3..] != [0; 3])
 }
 
 /// Whether these bytes begin as each TPMS_ATTEST does, by TPM_GENERATED_VALUE (Part 2, 6.2).

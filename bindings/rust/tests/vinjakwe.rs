@@ -3,7 +3,7 @@ use std::fmt::Write;
 use std::fs;
 use vinjakwe::{
     changes_nv, check, check_quote, check_version, events, replay, secure_boot, Attest, Bank, Device, Fault, LogFault,
-    Policy, Replay, Room, Selection, Verdict, BUFFER_BYTES, DEVICE_KEPT_BYTES, NONCE_BYTES,
+    Nonce, Policy, Replay, Required, Room, Selection, Verdict, BUFFER_BYTES, DEVICE_KEPT_BYTES, NONCE_BYTES,
 };
 
 fn read(name: &str) -> Vec<u8> {
@@ -56,8 +56,8 @@ fn variables_of_a_log() {
     assert_eq!((found[0].guid.len(), found[0].value), (16, &[1][..]));
 }
 
-// Each list beside a log has a line for a record, whose third word is the type's name and whose eighth may be "text".
-// tags.events is left out, which has text in UTF-16: `text` tells none.
+// Each list beside a log has a line for a record, whose third word is the type's name, whose sixth is its place, and
+// whose eighth may be "text". tags.events is left out, which has text in UTF-16: `text` tells none.
 #[test]
 fn names_and_texts_of_each_log_with_a_list() {
     let logs = format!("{}/../../checks/logs", env!("CARGO_MANIFEST_DIR"));
@@ -73,6 +73,7 @@ fn names_and_texts_of_each_log_with_a_list() {
         for (it, line) in events(&log).map_while(Result::ok).zip(lines) {
             let words: Vec<&str> = line.splitn(9, ' ').collect();
             assert_eq!(it.type_name().map_or(format!("{:08x}", it.kind), |it| it.to_string()), words[2], "{line}");
+            assert_eq!(format!("at={}", it.at), words[5], "{line}");
             let text: Option<String> = it.text().map(|it| it.chars().collect());
             assert_eq!(text.is_some(), words[7] == "text", "{line}");
             assert!(text.map_or(true, |it| words[8].contains('\\') || it == words[8]), "{line}");
@@ -125,6 +126,18 @@ fn secure_boot_of_each_log_with_a_list() {
 }
 
 #[test]
+fn the_records_that_secure_boot_names() {
+    let (log, mut room) = (read("logs/secure_on.log"), [0; 2]);
+    let boot = secure_boot(&log, Bank::Sha256, &mut room).unwrap();
+    let name_at = |at: u32| {
+        let found = events(&log).map(Result::unwrap).find(|it| it.at == at)?;
+        Some(found.variable()?.name_chars().collect::<String>())
+    };
+    let places = [boot.pk, boot.kek, boot.db, boot.dbx, boot.authorities.first().copied()];
+    assert_eq!(places.map(|at| name_at(at.unwrap()).unwrap()), ["PK", "KEK", "db", "dbx", "db"]);
+}
+
+#[test]
 fn secure_boot_of_other_logs() {
     let cut = secure_boot(&read("logs/cut_by_a_byte.log"), Bank::Sha256, &mut []).unwrap_err();
     assert_eq!(cut, Fault::Log(LogFault { kind: "Truncated", at: 211 }));
@@ -139,18 +152,41 @@ fn each_quote_matches_its_log() {
         let mut nonce = unhex(nonce);
         let bank = Bank::ALL.into_iter().find(|it| it.name() == hash).unwrap();
         let require = Selection::of(selected).unwrap();
-        assert_eq!(check(&log, &quote, &nonce, require.as_bytes(), bank), Ok(Verdict::Matches));
+        let required = Required::Registers(require.as_bytes());
+        assert_eq!(check(&log, &quote, Nonce::Is(&nonce), required, bank), Ok(Verdict::Matches));
         let attest = Attest::decode(&quote).unwrap();
         assert_eq!(attest.nonce, nonce);
         let listed: Vec<String> = attest.selections().map(|(bank, registers)| {
             format!("{bank}:{}", registers.map(|it| it.to_string()).collect::<Vec<_>>().join(","))
         }).collect();
         assert_eq!(Selection::of(&listed.join("+")), Some(require));
-        assert_eq!(check_quote(&log, attest.info, bank), Ok(true));
+        assert_eq!(check_quote(&log, attest.info, bank), Ok(Verdict::Matches));
         assert_eq!(check_quote(&log, &quote, bank), Err(Fault::Attest));
         nonce.push(0);
-        assert_eq!(check(&log, &quote, &nonce, require.as_bytes(), bank).unwrap().to_string(), "nonce differs");
+        let verdict = check(&log, &quote, Nonce::Is(&nonce), required, bank).unwrap();
+        assert_eq!(verdict.to_string(), "nonce differs");
     }
+}
+
+#[test]
+fn nothing_compared_is_no_success() {
+    let (no_entry, no_register) = ([0; 4], unhex("00000001000b03000000"));
+    for line in String::from_utf8(read("quotes/cases.txt")).unwrap().lines() {
+        let [quote, log, hash, nonce, selected] = line.split(' ').collect::<Vec<_>>()[..] else { panic!("{line}") };
+        let (quote, log) = (read(&format!("quotes/{quote}.msg")), read(&format!("quotes/{log}")));
+        let (nonce, require) = (unhex(nonce), Selection::of(selected).unwrap());
+        let bank = Bank::ALL.into_iter().find(|it| it.name() == hash).unwrap();
+        let (sent, required) = (Nonce::Is(&nonce), Required::Registers(require.as_bytes()));
+        for listed in [&[][..], &no_entry, &no_register] {
+            assert_eq!(check(&log, &quote, sent, Required::Registers(listed), bank), Err(Fault::Nothing));
+        }
+        assert_eq!(check(&log, &quote, Nonce::Is(&[]), required, bank), Err(Fault::Nothing));
+        assert_eq!(check(&log, &quote, Nonce::Any, required, bank), Ok(Verdict::Matches));
+        assert_eq!(check(&log, &quote, sent, Required::Any, bank), Ok(Verdict::Matches));
+    }
+    // The digest of no register is SHA-256 of no bytes.
+    let empty = unhex("000000000020e3b0c44298fc1c149afbf4c8996fb92427ae41e4649b934ca495991b7852b855");
+    assert_eq!(check_quote(&read("logs/worked.log"), &empty, Bank::Sha256), Ok(Verdict::Empty));
 }
 
 #[test]
