@@ -1,22 +1,17 @@
 -- A quote as it was signed.
-use Rattle.std.proofs.Common.{◌≡◌, ℕ, ◌+◌, Bor, List, [], ◌++◌, cond, Option, Some, None, refl, sym, subst, arith}
+use Rattle.std.proofs.Common.{◌≡◌, ℕ, ◌+◌, Bor, List, [], ◌++◌, Option, Some, None, refl, sym, subst}
 use Rattle.std.proofs.lemmas.List.{append-nil}
-use Rattle.std.specs.Prelude.{suc}
-use Rattle.tpm_types.specs.Tpms.{is_selected}
 use Rattle.tpm_output.specs.declared.status.Status.TheVariants.{Done, Refused}
 use Rattle.tpm_output.specs.declared.status.Status.{Status}
 use Rattle.tpm_output.specs.Status.{both}
 use Rattle.tpm_output.specs.Text.{bytes_in}
 use Rattle.tpm_check.specs.Compare.{Beside}
 use Rattle.tpm_check.specs.Check.{ChecksQuote}
-use Rattle.tpm_check.specs.CheckAttest.{register_word, register_words, ChecksGiven, Quoted, Verdict, printed}
+use Rattle.tpm_check.specs.CheckAttest.{ChecksGiven, Quoted, Verdict, printed}
 use Rattle.tpm_check.specs.CheckJson.{ok_text}
 use Rattle.tpm_check.specs.Checked.{ChecksAll, ChecksBesides, ChecksToEnd, ChecksValues}
 use Rattle.tpm_check.specs.declared.checked.Compared.{Compared}
 use Rattle.tpm_check.proofs.Checks.{by_none, by_some}
-
-pub words-more : (select : List ℕ) (n : ℕ) → register_words select (n + 1) ≡ register_words select n ++ cond (is_selected select n) (register_word n) []
-words-more select n = let e : n + 1 ≡ suc n = omega arith in rw e refl
 
 both-done : (status : Status) → both status Done ≡ status
 both-done Done = refl

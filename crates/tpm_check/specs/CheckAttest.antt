@@ -1,78 +1,29 @@
 -- What `check` prints of a quote as it was signed (this profile).
-use Rattle.std.specs.Prelude.{◌≡◌, ◌⊎◌, ℕ, zero, suc, Bool, true, false, List, [], ◌∷◌, ◌++◌, codes, Option, Some, None}
-use Rattle.std.specs.Prelude.{if◌then◌else◌, MatchOption}
+use Rattle.std.specs.Prelude.{◌≡◌, ◌⊎◌, ℕ, Bool, true, false, List, [], ◌∷◌, ◌++◌, codes, Option, Some, None}
+use Rattle.std.specs.Prelude.{MatchOption}
 use Rattle.std.specs.Str.{bytes_eq}
 use Rattle.std.specs.Fmt.{decimal}
-use Rattle.std.specs.List.{flat_map}
 use Rattle.tpm_wire.specs.declared.refusal.Refusal.{Refusal}
 use Rattle.tpm_wire.specs.Path.{Spells, Fault}
 use Rattle.tpm_types.specs.declared.alg.Alg.{Alg}
 use Rattle.tpm_types.specs.declared.tpms.Selection.{Selection}
 use Rattle.tpm_types.specs.declared.attest.QuoteInfo.{QuoteInfo}
-use Rattle.tpm_types.specs.declared.attest.ClockInfo.{ClockInfo}
 use Rattle.tpm_types.specs.declared.attest.Attest.{Attest}
 use Rattle.tpm_types.specs.Attest.{attest}
-use Rattle.tpm_types.specs.Tpms.{is_selected}
 use Rattle.tpm_pcr.specs.Registers.{composite}
 use Rattle.tpm_quote.specs.declared.attest.NotSelected.{NotSelected}
 use Rattle.tpm_quote.specs.Attests.{first_not_selected, registers_of}
 use Rattle.tpm_output.specs.declared.status.Status.TheVariants.{Done, Refused}
 use Rattle.tpm_output.specs.declared.status.Status.{Status}
 use Rattle.tpm_output.specs.Status.{both}
-use Rattle.tpm_output.specs.Text.{bytes_in, bytes_text, hexadecimal, line}
-use Rattle.tpm_check.specs.CheckJson.{attest_member, lacks_member, not_hexadecimal_text, refusal_text}
-use Rattle.tpm_events.specs.Members.{text_member}
+use Rattle.tpm_output.specs.Text.{bytes_in, line}
+use Rattle.tpm_output.specs.Json.{json_from}
+use Rattle.tpm_output.specs.Lines.{lines_from}
+use Rattle.tpm_check.specs.AttestMarks.{marks_of_attest}
+use Rattle.tpm_check.specs.CheckJson.{lacks_member, not_hexadecimal_text, refusal_text}
+use Rattle.tpm_output.specs.Members.{text_member}
 use Rattle.tpm_check.specs.Compare.{Beside}
 use Rattle.tpm_types.specs.Alg.{alg_name}
-
--- ---- what the quote says: TPMS_ATTEST (Part 2, 10.12)
-
-unfoldable pub signer_line : List ℕ → List ℕ
-signer_line signer = line (codes "signer" ∷ bytes_text signer ∷ [])
-
-unfoldable pub nonce_line : List ℕ → List ℕ
-nonce_line nonce = line (codes "nonce" ∷ bytes_text nonce ∷ [])
-
--- a line of this word and a number in decimal
-unfoldable pub number_line : List ℕ → ℕ → List ℕ
-number_line word n = line (word ∷ decimal n ∷ [])
-
-abbrev pub yes_no_text : Bool → List ℕ
-yes_no_text true = codes "yes"
-yes_no_text false = codes "no"
-
-unfoldable pub safe_line : Bool → List ℕ
-safe_line safe = line (codes "safe" ∷ yes_no_text safe ∷ [])
-
-abbrev pub clock_lines : ClockInfo → List ℕ
-clock_lines c =
-    number_line (codes "clock") c.clock
-    ++ (number_line (codes "resets") c.reset_count
-    ++ (number_line (codes "restarts") c.restart_count ++ safe_line c.safe))
-
-unfoldable pub firmware_line : ℕ → List ℕ
-firmware_line version = line (codes "firmware" ∷ hexadecimal 16 version ∷ [])
-
-unfoldable pub register_word : ℕ → List ℕ
-register_word register = codes " " ++ decimal register
-
--- of the first registers, so many of them, those that are selected
-abbrev pub register_words : (select : List ℕ) → ℕ → List ℕ
-register_words select zero = []
-register_words select (suc n) = register_words select n ++ (if is_selected select n then register_word n else [])
-
--- the bank, and each register of it that is selected
-abbrev pub entry_words : Selection → List ℕ
-entry_words s = codes " " ++ (alg_name s.hash ++ register_words s.select 24)
-
-abbrev pub selection_line : List Selection → List ℕ
-selection_line sels = codes "selection" ++ (flat_map entry_words sels ++ codes "\n")
-
-abbrev pub attest_text : Attest → List ℕ
-attest_text a =
-    signer_line a.signer
-    ++ (nonce_line a.extra_data
-    ++ (clock_lines a.clock_info ++ (firmware_line a.firmware_version ++ selection_line a.quote.selections)))
 
 -- ---- verdicts
 
@@ -128,8 +79,8 @@ behind v w = record { status = both v.status w.status; text = v.text ++ w.text }
 
 -- what the quote says: its lines, or a member of an object
 abbrev pub attest_told : (json : Bool) → Attest → List ℕ
-attest_told false a = attest_text a
-attest_told true a = attest_member a
+attest_told false a = lines_from false (marks_of_attest a)
+attest_told true a = codes "{" ++ json_from false (marks_of_attest a)
 
 -- what closes an object
 abbrev pub close_text : (json : Bool) → List ℕ

@@ -9,7 +9,7 @@ ghost use Rattle.tpm_check.specs.CheckJson.{bank_begin, bank_member, not_hexadec
 ghost use Rattle.tpm_check.specs.CheckJson.{ok_text, quote_text};
 ghost use Rattle.tpm_check.specs.CheckJson.{refusal_object, refusal_text, registers_object, registers_told};
 ghost use Rattle.tpm_check.specs.CheckJson.{value_entries, value_entry};
-ghost use Rattle.tpm_events.specs.EventText.{commas};
+ghost use Rattle.tpm_output.specs.Text.{commas};
 
 use crate::beside::Beside;
 use crate::register_text::push_registers;

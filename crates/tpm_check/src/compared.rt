@@ -18,7 +18,7 @@ use crate::stated::Stated;
 use std::alloc::{AllocError, Global};
 use std::io::Write;
 use tpm_output::fault::ToolFault;
-use tpm_output::lines::{LineSink, take_lines};
+use tpm_output::input_lines::{LineSink, take_lines};
 use tpm_output::status::Status;
 use tpm_output::text::Pushed;
 use tpm_wire::Source;

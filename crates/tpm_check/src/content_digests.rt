@@ -8,8 +8,7 @@ ghost use Rattle.tpm_hmac.specs.Hashes.{digest};
 use std::alloc::Global;
 use std::marker::Model;
 use tpm_hmac::hash;
-use tpm_output::hexadecimal::push_hex;
-use tpm_output::text::Pushed;
+use tpm_output::text::{Pushed, push_hex};
 use tpm_types::{Alg, Digest};
 
 // A content and its digest by SHA-256.
@@ -71,15 +70,15 @@ impl<'a> ContentDigests<'a> {
     }
 
     /// Adds the digest of a content by SHA-256, in hexadecimal. A content is hashed once.
-    pub(crate) fn push(&mut self, alloc: Global, text: &mut String, bytes: &'a [u8]) -> Pushed
+    pub(crate) fn push(&mut self, text: &mut String, bytes: &'a [u8]) -> Pushed
         ensures { OnOk result (string_bytes text.new
             ≡ string_bytes text.old ++ encode_lower (digest Sha256 bytes.now)) }
     {
         if let Some(digest) = self.known(bytes) {
-            return push_hex(alloc, text, digest.as_slice());
+            return push_hex(text, digest.as_slice());
         }
         let sha256 = hash(Alg::Sha256, &[bytes]);
-        push_hex(alloc, text, sha256.as_slice())?;
+        push_hex(text, sha256.as_slice())?;
         self.contents.push(Content { bytes, sha256 })?;
         Ok(())
     }

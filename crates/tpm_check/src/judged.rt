@@ -11,14 +11,15 @@ ghost use Rattle.tpm_check.specs.Told.{told};
 
 use crate::beside::Beside;
 use crate::check_json::{not_hexadecimal_answer, refusal_answer};
-use crate::signed_json::{push_attest_member, push_lacks_member};
-use crate::signed_text::push_attest;
+use crate::lacks::push_lacks_member;
+use crate::signed_told::ToldAttest;
 use std::alloc::{AllocError, Global};
 use std::marker::Model;
-use tpm_events::members::push_text_member;
 use tpm_output::answer::Answer;
 use tpm_output::hexadecimal::decoded;
+use tpm_output::members::push_text_member;
 use tpm_output::status::Status;
+use tpm_output::tell::{push_json, push_lines};
 use tpm_output::text::Pushed;
 use tpm_quote::{
     NotSelected, check_quote, decode_attest, first_not_selected, nonce_matches, selects_none,
@@ -206,9 +207,10 @@ fn push_attest_as(alloc: Global, text: &mut String, json: bool, attest: &Attest<
         ≡ string_bytes text.old ++ attest_told json attest.now) }
 {
     if json {
-        push_attest_member(alloc, text, attest)
+        text.push_str("{")?;
+        push_json(alloc, text, false, &ToldAttest(attest))
     } else {
-        push_attest(alloc, text, attest)
+        push_lines(alloc, text, &ToldAttest(attest))
     }
 }
 

@@ -3,4 +3,12 @@ pub mod Listed
 pub mod InputLines
 pub mod Tables
 pub mod Joins
+pub mod Pushed
 pub mod LineReading
+pub mod Telling
+pub mod Renderings
+mod Characters
+mod Escaped
+mod Passes
+mod Pieces
+pub mod Read

@@ -7,7 +7,7 @@ use Rattle.std.proofs.lemmas.List.Elements.{filter-append}
 use Rattle.std.specs.Prelude.{filter, nat_eq}
 use Rattle.std.specs.Io.KnownBytes.{Consumes, Keeps}
 use Rattle.tpm_stream.proofs.Filled.{consumes_both}
-use Rattle.tpm_output.specs.declared.lines.LineReader.{LineReader}
+use Rattle.tpm_output.specs.declared.input_lines.LineReader.{LineReader}
 use Rattle.tpm_output.specs.InputLines.{lines_of, HasNoFeed, most_piece}
 use Rattle.tpm_output.specs.LineSinks.{GoesOn, Limits, ReadsLines, LineStep, LinesEnd, LinesStart, StopsAt, TakesAll, TakesFrom, kept}
 use Rattle.tpm_output.specs.LineSinks.{some_if}

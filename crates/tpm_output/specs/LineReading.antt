@@ -1,6 +1,6 @@
 -- How far the lines of an input have been taken.
 use Rattle.std.specs.Prelude.{◌≡◌, ℕ, ◌+◌, ◌≤◌, Bool, true, false, List, [], ◌∷◌, ◌++◌, length}
-use Rattle.tpm_output.specs.declared.lines.LineReader.{LineReader}
+use Rattle.tpm_output.specs.declared.input_lines.LineReader.{LineReader}
 use Rattle.tpm_output.specs.InputLines.{lines_of}
 use Rattle.tpm_output.specs.LineSinks.{GoesOn, Limits, OnTrue, LineStep, StopsAt, TakesAll, TakesKept, kept, some_if}
 

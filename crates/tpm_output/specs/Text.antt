@@ -1,10 +1,11 @@
 -- The program's lines (this profile).
-use Rattle.std.specs.Prelude.{ℕ, ◌+◌, ◌-◌, ◌==◌, if◌then◌else◌, false, List, [], ◌∷◌, ◌++◌, length}
-use Rattle.std.specs.Prelude.{replicate, codes, Option, Some, None, Result, Ok, Err}
-use Rattle.std.specs.Fmt.{decimal, digits}
+use Rattle.std.specs.Prelude.{ℕ, ◌+◌, ◌==◌, if◌then◌else◌, List, [], ◌∷◌, ◌++◌}
+use Rattle.std.specs.Prelude.{codes, Option, Some, None, Result, Ok, Err}
+use Rattle.std.specs.Fmt.{decimal}
 use Rattle.hex.specs.Hex.{decode_of, encode_lower}
 use Rattle.hex.specs.declared.error.FromHexError.{FromHexError}
 use Rattle.tpm_wire.specs.declared.refusal.Refusal.{Refusal}
+use Rattle.tpm_output.specs.Numbers.{hexadecimal}
 
 -- words with a space between them, and a line feed
 abbrev pub line : List (List ℕ) → List ℕ
@@ -17,13 +18,15 @@ abbrev pub lines_from : {A : Type 0} → (ℕ → A → List ℕ) → ℕ → Li
 lines_from one i [] = []
 lines_from one i (x ∷ xs) = one i x ++ lines_from one (i + 1) xs
 
+-- words with a comma between them
+abbrev pub commas : List (List ℕ) → List ℕ
+commas [] = []
+commas (word ∷ []) = word
+commas (word ∷ next ∷ words) = word ++ (codes "," ++ commas (next ∷ words))
+
 -- before an entry of a list, counted from 1: a comma, where it isn't the first
 abbrev pub comma : ℕ → List ℕ
 comma i = if i == 1 then [] else codes ","
-
--- a number in hexadecimal digits, lower case, at least so many of them
-abbrev pub hexadecimal : ℕ → ℕ → List ℕ
-hexadecimal least n = replicate (least - length (digits 16 false n)) 48 ++ digits 16 false n
 
 abbrev pub value_of : Result (List ℕ) FromHexError → Option (List ℕ)
 value_of (Ok bytes) = Some bytes
@@ -37,10 +40,6 @@ bytes_in text = value_of (decode_of text)
 abbrev pub bytes_text : List ℕ → List ℕ
 bytes_text [] = codes "-"
 bytes_text (byte ∷ bytes) = encode_lower (byte ∷ bytes)
-
--- behind another member of an object of JSON: bytes in hexadecimal under a name
-unfoldable pub hex_member : List ℕ → List ℕ → List ℕ
-hex_member name bytes = codes ",\"" ++ (name ++ (codes "\":\"" ++ (encode_lower bytes ++ codes "\"")))
 
 unfoldable pub bytes_line : List ℕ → List ℕ
 bytes_line bytes = line (bytes_text bytes ∷ [])

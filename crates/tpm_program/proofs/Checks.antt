@@ -13,7 +13,7 @@ use Rattle.tpm_output.specs.declared.status.Status.{Status}
 use Rattle.tpm_args.specs.declared.task.Task.TheVariants.{Check, SecureBoot}
 use Rattle.tpm_check.specs.Check.{ReadsTooMuchIfList}
 use Rattle.tpm_check.specs.Checked.{ChecksLog}
-use Rattle.tpm_events.specs.Reads.{most_attest}
+use Rattle.tpm_output.specs.Reads.{most_attest}
 use Rattle.tpm_check.specs.declared.checked.Compared.{Compared}
 use Rattle.tpm_program.specs.declared.fault.Fault.TheVariants.{File, Tool}
 use Rattle.tpm_program.specs.declared.fault.Fault.{Fault}

@@ -22,7 +22,7 @@ use Rattle.tpm_check.specs.declared.checked.Compared.{Compared}
 use Rattle.tpm_check.specs.Kinds.{ExplainsKind}
 use Rattle.tpm_events.specs.ListEvents.{ListsEvents, most_read}
 use Rattle.tpm_check.specs.QuotedBoot.{ChecksSecureBoot}
-use Rattle.tpm_events.specs.Reads.{ReadsUpTo, most_attest}
+use Rattle.tpm_output.specs.Reads.{ReadsUpTo, most_attest}
 use Rattle.tpm_check.specs.SecureBootLines.{TellsSecureBoot}
 use Rattle.tpm_script.specs.Script.{ReadsScript, script, script_text, status_for}
 use Rattle.tpm_args.specs.declared.task.Task.TheVariants.{Show, ShowCapture, ShowPackets, ShowNv, Build, Run}

@@ -3,7 +3,7 @@
 ghost use Rattle.std.specs.Prelude.{◌≡◌, ◌⊎◌, ℕ, List, None, Some, IfOk, IfErr, option_map};
 ghost use Rattle.std.specs.Io.KnownBytes.{Appends};
 ghost use Rattle.tpm_events.specs.ListEvents.{most_read};
-ghost use Rattle.tpm_events.specs.Reads.{most_attest};
+ghost use Rattle.tpm_output.specs.Reads.{most_attest};
 ghost use Rattle.tpm_check.specs.Check.{list_before};
 ghost use Rattle.tpm_check.specs.QuotedBoot.{ChecksSecureBoot};
 ghost use Rattle.tpm_check.specs.SecureBootLines.{TellsSecureBoot};
@@ -18,7 +18,8 @@ use crate::inputs::Inputs;
 use std::alloc::Global;
 use std::io::Write;
 use tpm_check::{Asking, Compared, Signed, check_log, check_secure_boot, tell_secure_boot};
-use tpm_events::{Listing, list_events, read_attest};
+use tpm_events::{Listing, list_events};
+use tpm_output::reads::read_attest;
 use tpm_output::status::Status;
 use tpm_types::{Alg, Selections};
 use tpm_wire::Source;

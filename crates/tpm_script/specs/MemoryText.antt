@@ -6,7 +6,8 @@ use Rattle.tpm_types.specs.declared.tpms.NvPublic.{NvPublic}
 use Rattle.tpm_model.specs.Authorization.{is_empty}
 use Rattle.tpm_model.specs.Counters.{Counter, NvMemory}
 use Rattle.tpm_types.specs.Alg.{alg_name}
-use Rattle.tpm_output.specs.Text.{bytes_text, hexadecimal, line, lines_from}
+use Rattle.tpm_output.specs.Text.{bytes_text, line, lines_from}
+use Rattle.tpm_output.specs.Numbers.{hexadecimal}
 
 unfoldable pub greatest_line : ℕ → List ℕ
 greatest_line greatest = line (codes "greatest" ∷ decimal greatest ∷ [])

@@ -19,7 +19,7 @@ use std::alloc::{AllocError, Global};
 use std::io::Write;
 use tpm_device::Device;
 use tpm_output::fault::ToolFault;
-use tpm_output::lines::{LineSink, take_lines};
+use tpm_output::input_lines::{LineSink, take_lines};
 use tpm_output::status::Status;
 use tpm_output::text::{Pushed, push_bytes};
 use tpm_wire::Source;

@@ -2,7 +2,7 @@
 use Rattle.std.specs.Prelude.{List, [], ◌∷◌, ◌++◌, codes, flat_map}
 use Rattle.json.specs.Token.{Token, end_array, end_object}
 use Rattle.tpm_wire.specs.declared.refusal.Refusal.{Refusal}
-use Rattle.tpm_output.specs.Text.{hexadecimal}
+use Rattle.tpm_output.specs.Numbers.{hexadecimal}
 use Rattle.tpm_show.specs.Explain.{meaning_of}
 use Rattle.tpm_show.specs.FieldText.{field_members, number_object, structure_begins}
 use Rattle.tpm_show.specs.HandleNames.{handles_members}

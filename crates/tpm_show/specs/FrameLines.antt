@@ -2,7 +2,8 @@
 use Rattle.std.specs.Prelude.{ℕ, Bool, true, false, List, [], ◌++◌, codes, flat_map}
 use Rattle.std.specs.Fmt.{decimal}
 use Rattle.tpm_wire.specs.declared.refusal.Refusal.{Refusal}
-use Rattle.tpm_output.specs.Text.{hexadecimal, parameters_line, refusal_line}
+use Rattle.tpm_output.specs.Text.{parameters_line, refusal_line}
+use Rattle.tpm_output.specs.Numbers.{hexadecimal}
 use Rattle.tpm_show.specs.CommandNames.{absent_line}
 use Rattle.tpm_show.specs.Explain.{meaning_of}
 use Rattle.tpm_show.specs.FieldText.{field_line, number_line}

@@ -5,7 +5,8 @@ use Rattle.std.specs.Fmt.{decimal}
 use Rattle.json.specs.Token.{Token, null, string}
 use Rattle.tpm_types.specs.Handles.{kind_of}
 use Rattle.tpm_output.specs.Named.{Named, named, named_in}
-use Rattle.tpm_output.specs.Text.{hexadecimal, lines_from}
+use Rattle.tpm_output.specs.Text.{lines_from}
+use Rattle.tpm_output.specs.Numbers.{hexadecimal}
 use Rattle.tpm_show.specs.Headers.{name_behind}
 use Rattle.tpm_show.specs.Members.{list_member}
 

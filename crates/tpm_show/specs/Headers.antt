@@ -10,7 +10,7 @@ use Rattle.tpm_wire.specs.Layout.Form.{field, done}
 use Rattle.tpm_wire.specs.Reading.{read}
 use Rattle.tpm_wire.specs.Buffers.{Layout, any_number}
 use Rattle.tpm_output.specs.Named.{Named, named, named_in}
-use Rattle.tpm_output.specs.Text.{hexadecimal}
+use Rattle.tpm_output.specs.Numbers.{hexadecimal}
 use Rattle.tpm_show.specs.declared.frame_header.FrameHeader.{FrameHeader}
 use Rattle.tpm_show.specs.CommandNames.{Listed, command_of}
 use Rattle.tpm_show.specs.Explain.{meaning_of, subject_text}

@@ -3,7 +3,8 @@ use Rattle.std.specs.Prelude.{ℕ, Bool, List, [], ◌∷◌, ◌++◌, codes, O
 use Rattle.std.specs.Fmt.{decimal}
 use Rattle.tpm_types.specs.declared.command_code.CommandCode.{CommandCode}
 use Rattle.tpm_types.specs.CommandCodes.{code_name}
-use Rattle.tpm_output.specs.Text.{line, hexadecimal}
+use Rattle.tpm_output.specs.Text.{line}
+use Rattle.tpm_output.specs.Numbers.{hexadecimal}
 use Rattle.tpm_show.specs.Headers.{code_named}
 
 unfoldable pub reply_code_words : ℕ → List ℕ

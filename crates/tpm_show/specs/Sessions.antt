@@ -6,7 +6,8 @@ use Rattle.json.specs.Token.{Token, string}
 use Rattle.tpm_types.specs.declared.tpms.Auth.{Auth}
 use Rattle.tpm_types.specs.declared.tpms.AuthReply.{AuthReply}
 use Rattle.tpm_output.specs.Named.{Named, named}
-use Rattle.tpm_output.specs.Text.{bytes_text, hexadecimal, lines_from}
+use Rattle.tpm_output.specs.Text.{bytes_text, lines_from}
+use Rattle.tpm_output.specs.Numbers.{hexadecimal}
 use Rattle.tpm_show.specs.Bits.{bits_set}
 use Rattle.tpm_show.specs.HandleNames.{handle_behind, handle_named}
 use Rattle.tpm_show.specs.Members.{hex_member, list_member, name_member, text_member}

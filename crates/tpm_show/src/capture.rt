@@ -29,7 +29,7 @@ use std::alloc::{AllocError, Global};
 use std::io::Write;
 use tpm_output::answer::write;
 use tpm_output::fault::ToolFault;
-use tpm_output::lines::{LineSink, take_lines};
+use tpm_output::input_lines::{LineSink, take_lines};
 use tpm_output::status::Status;
 use tpm_output::text::Pushed;
 use tpm_wire::Source;

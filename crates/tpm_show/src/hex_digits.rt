@@ -1,7 +1,7 @@
 //! Numbers in hexadecimal digits, at least so many of them.
 
 ghost use Rattle.std.specs.Prelude.{◌≡◌, IfOk, string_bytes};
-ghost use Rattle.tpm_output.specs.Text.{hexadecimal};
+ghost use Rattle.tpm_output.specs.Numbers.{hexadecimal};
 
 use std::alloc::{AllocError, Global};
 

@@ -1,5 +1,5 @@
 use Rattle.tpm_check.specs.CheckJson.{bank_member}
-use Rattle.tpm_events.proofs.Pushed.{third_pushed}
+use Rattle.tpm_output.proofs.Pushed.{third_pushed}
 use Rattle.tpm_check.proofs.check_json.push_bank_member.Goals as goal
 
 pub returns : goal.returns

@@ -1,5 +1,5 @@
 use Rattle.std.proofs.Common.{append_assoc, string_bytes}
-use Rattle.tpm_events.proofs.Pushed.{pushed}
+use Rattle.tpm_output.proofs.Pushed.{pushed}
 use Rattle.tpm_check.proofs.told_secure_boot.push_authorities_member.Goals as goal
 
 pub returns : goal.returns
