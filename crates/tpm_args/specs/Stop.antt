@@ -41,8 +41,8 @@ IsAsked name words asked = MatchResult asked
 abbrev pub FailsWith : List Text → (ErrorKind → Type 0) → Type 0
 FailsWith words IsOf = (kind : ErrorKind) × IsAmong kind (fault_of program_app words) × IsOf kind
 
--- Help is answered only where clap doesn't take the words and its error is of help. A usage fault is answered only where
--- its error is another, or where it finds no fault and the words ask for nothing.
+-- Help is answered only where clap doesn't take the words and its error is of help. A usage fault is answered only
+-- where its error is another, or where it finds no fault and the words ask for nothing.
 abbrev pub Refuses : List Text → Stop → Type 0
 Refuses words (Help text) = (takes program_app words ≡ false) × FailsWith words IsHelp
 Refuses words (Usage text) =

@@ -22,4 +22,5 @@ hex_member name bytes = codes ",\"" ++ (name ++ (codes "\":\"" ++ (encode_lower 
 -- a text in UTF-16 under a name
 unfoldable pub utf16_member : List ℕ → List ℕ → List ℕ
 utf16_member name bytes =
-    codes ",\"" ++ (name ++ (codes "\":\"" ++ (whole_text bytes ++ (codes "\"" ++ units_member (Some name) (Utf16 bytes)))))
+    codes ",\"" ++ (name ++ (codes "\":\""
+    ++ (whole_text bytes ++ (codes "\"" ++ units_member (Some name) (Utf16 bytes)))))

@@ -1,5 +1,6 @@
 -- What a register's value vouches for, and a quote: the digests that extended it, and the texts that were measured.
-use Rattle.std.specs.Prelude.{◌≡◌, ◌≢◌, ◌<◌, ◌⊎◌, ℕ, List, [], ◌∷◌, ◌++◌, length, map, flat_map, filter_map, find, nat_eq}
+use Rattle.std.specs.Prelude.{◌≡◌, ◌≢◌, ◌<◌, ◌⊎◌, ℕ, List, [], ◌∷◌, ◌++◌, length, map, flat_map, filter_map, find}
+use Rattle.std.specs.Prelude.{nat_eq}
 use Rattle.std.specs.Prelude.{Option, Some, None, option_map, if◌then◌else◌, Ok}
 use Rattle.std.specs.Cmp.Lexicographic.{pointwise}
 use Rattle.tpm_wire.specs.Path.{Spells}

@@ -9,7 +9,10 @@ use crate::tests::caller_sessions::{OWNER, bytes, nonce};
 use crate::tests::caller_tpm::{FLUSH, ONCE, TWICE, Tpm};
 use std::process::Abort;
 use std::test::*;
-use tpm_caller::{Caller, CallerFault, Waiting};
+use tpm_caller::{
+    Caller, CallerFault, Waiting, as_many_handles, no_mixed_replies, no_mixed_replies_over_lives,
+    one_key, two_ends_in_step, what_is_opened,
+};
 use tpm_types::BindHandle;
 
 // TPM2_NV_UndefineSpace of the counter, with the owner's password.
@@ -201,4 +204,14 @@ fn an_event_is_measured_once(rt: HostRuntime) {
     );
     kept(&rt, waiting, reply.as_slice());
     tpm.reads(&rt, READ_MEASURED);
+}
+
+#[test]
+fn the_laws_are_called(_rt: HostRuntime) {
+    what_is_opened();
+    as_many_handles();
+    one_key();
+    two_ends_in_step();
+    no_mixed_replies();
+    no_mixed_replies_over_lives();
 }
