@@ -336,12 +336,14 @@ kept() {
         grep -q '^000000000000002f$' "$room/fourth"
 }
 
-# refuses STATUS WORDS..: the emulator with this state ends at once, with this status and such a line.
+# refuses STATUS WORDS..: the emulator with this state ends at once, with this status and such a line, and leaves no
+# lock but another's.
 refuses() {
     wanted=$1
     shift
     timeout 20 "$room/emulator" --stdio --state "$room/state.bad" </dev/null 2>"$room/err"
     [ $? -eq "$wanted" ] && grep -q "$*" "$room/err" || { echo "in place of $*: $(cat "$room/err")" && return 1; }
+    [ ! -e "$room/state.bad.lock" ] || case $* in *holds*) ;; *) echo "behind $* a lock is left" && return 1 ;; esac
 }
 
 # changed AT BYTE: the state with another byte at this place.
@@ -365,6 +367,7 @@ refused_states() {
     { cat "$room/state" && head -c 2000 /dev/zero; } >"$room/state.bad" && refuses 1 "code 095 at byte $size\$" ||
         return 1
     echo 'vinjakwe emulator state 1' >"$room/state.bad" && refuses 1 'code 084 at byte 0$' || return 1
+    rm "$room/state.bad" && mkdir "$room/state.bad" && refuses 3 "can't be read" && rmdir "$room/state.bad" || return 1
     cp "$room/state" "$room/state.bad"
     begin emulator --state "$room/state.bad" || return 1
     refuses 3 'another emulator holds it' || { end && return 1; }
@@ -797,14 +800,16 @@ harmless_channel() {
 
 # ---- the program
 
-# in_the_background: --daemon returns when it listens, its number is in the file, and the file goes with it; a fault is
-# its status.
+# in_the_background: --daemon returns when it listens, its number is in the file, and the file goes with it; it leads a
+# session of its own, which the end of a terminal's does not reach; a fault is its status.
 in_the_background() {
     rm -f "$room/state.back" "$room/pid"
     port=$((port + 8))
     "$room/emulator" --swtpm "$port" --state "$room/state.back" --daemon --pid "$room/pid" >"$room/out" 2>&1 ||
         { cat "$room/out" && return 1; }
     "$room/client" listens "$port" >/dev/null && kill -0 "$(cat "$room/pid")" || return 1
+    leads=$(awk '{ print $6 }' "/proc/$(cat "$room/pid")/stat")
+    [ "$leads" = "$(cat "$room/pid")" ] || { echo "it is in session $leads" && return 1; }
     "$room/emulator" --swtpm $((port + 4)) --state "$room/state.back" --daemon 2>"$room/err"
     [ $? -eq 3 ] && grep -q 'another emulator holds it' "$room/err" || return 1
     "$room/emulator" --swtpm "$port" --daemon 2>/dev/null
@@ -829,6 +834,15 @@ its_words() {
         timeout 20 "$room/emulator" $words </dev/null 2>"$room/err"
         [ $? -eq 2 ] && [ -s "$room/err" ] || { echo "words $words" && return 1; }
     done
+    for word in --swtpm --mssim; do
+        "$room/emulator" --stdio $word </dev/null 2>"$room/err"
+        [ $? -eq 2 ] && grep -q -x "emulator: $word wants a port's number" "$room/err" ||
+            { cat "$room/err" && return 1; }
+    done
+    for word in --listen --unixio --state --record --pid --owner --greatest; do
+        "$room/emulator" --stdio $word </dev/null 2>"$room/err"
+        [ $? -eq 2 ] && grep -q "^emulator: $word wants " "$room/err" || { cat "$room/err" && return 1; }
+    done
 }
 
 # its_device: the owner's value in either kind of digits, and the greatest value, which a file that is there says
@@ -846,7 +860,7 @@ its_device() {
     printf '%s\n' $define $increment $read | xxd -r -p | "$room/emulator" $words | xxd -p | tr -d '\n' |
         grep -q '0008ffffffffffffffff0000010000$' || return 1
     "$room/emulator" $words </dev/null 2>"$room/err"
-    [ $? -eq 2 ] && grep -q 'says the greatest value already' "$room/err"
+    [ $? -eq 2 ] && grep -q 'says the greatest value already' "$room/err" && [ ! -e "$room/state.words.lock" ]
 }
 
 # at_its_address: it listens where it is told, and else at the loopback's first address alone.

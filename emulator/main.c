@@ -85,8 +85,26 @@ static size_t bytes_of(const char *text, uint8_t *bytes, size_t most) {
     return count;
 }
 
-/* Takes a word that has a value behind it, and says whether it is one. */
-static bool take_value(struct words *words, const char *word, const char *value) {
+/* What stands behind a word that has a value; NULL for every other word. */
+static const char *wanted_behind(const char *word) {
+    static const char *const values[][2] = {
+        {"--mssim", "a port's number"},
+        {"--swtpm", "a port's number"},
+        {"--listen", "an address"},
+        {"--unixio", "a socket's path"},
+        {"--state", "a file"},
+        {"--record", "a file"},
+        {"--pid", "a file"},
+        {"--owner", "hexadecimal digits"},
+        {"--greatest", "a number"},
+    };
+    for (size_t i = 0; i < sizeof values / sizeof values[0]; i++)
+        if (strcmp(word, values[i][0]) == 0)
+            return values[i][1];
+    return NULL;
+}
+
+static void take_value(struct words *words, const char *word, const char *value) {
     if (strcmp(word, "--mssim") == 0)
         words->mssim = port_of(word, value);
     else if (strcmp(word, "--swtpm") == 0)
@@ -103,12 +121,10 @@ static bool take_value(struct words *words, const char *word, const char *value)
         words->pid = value;
     else if (strcmp(word, "--owner") == 0)
         words->owner_len = bytes_of(value, words->owner, sizeof words->owner);
-    else if (strcmp(word, "--greatest") == 0) {
+    else {
         words->greatest = number_of(word, value, UINT64_MAX);
         words->has_greatest = true;
-    } else
-        return false;
-    return true;
+    }
 }
 
 static void tell(const char *text) {
@@ -156,23 +172,32 @@ static void take_words(struct words *words, char **given) {
     for (; *given; given++) {
         if (take_word(words, *given))
             continue;
-        if (!given[1] || !take_value(words, given[0], given[1])) {
+        const char *wanted = wanted_behind(*given);
+        if (!wanted) {
             fputs(usage, stderr);
             fail(STATUS_USAGE, "'%s' is not understood", *given);
         }
+        if (!given[1])
+            fail(STATUS_USAGE, "%s wants %s", *given, wanted);
+        take_value(words, given[0], given[1]);
         given++;
     }
     judge_words(words);
 }
 
 /* The device that the file keeps. */
-static void restore_device(struct machine *machine, const struct kept *kept, const struct words *words) {
+static void restore_device(struct machine *machine, struct state *state, const struct kept *kept,
+                           const struct words *words) {
     struct tpm_refusal refusal;
-    if (words->has_greatest)
+    if (words->has_greatest) {
+        state_refuse(state);
         fail(STATUS_USAGE, "%s says the greatest value already", words->state);
-    if (machine_restore(machine, kept->bytes, kept->len, &refusal) != TPM_DONE)
+    }
+    if (machine_restore(machine, kept->bytes, kept->len, &refusal) != TPM_DONE) {
+        state_refuse(state);
         fail(STATUS_REFUSED, "%s was cut or changed: code %03" PRIx32 " at byte %" PRIu32, words->state, refusal.code,
              refusal.at);
+    }
 }
 
 /* A new device, or the one that the file keeps. */
@@ -186,7 +211,7 @@ static void make_device(struct machine *machine, struct state *state, const stru
         return;
     state_hold(state, words->state);
     if (state_read(state, &kept))
-        restore_device(machine, &kept, words);
+        restore_device(machine, state, &kept, words);
     else
         state_write(state, machine->device);
     machine->state = state;

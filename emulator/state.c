@@ -6,6 +6,7 @@
 #include <stdio.h>
 #include <stdlib.h>
 #include <string.h>
+#include <sys/stat.h>
 #include <unistd.h>
 
 static char *joined(const char *first, const char *second) {
@@ -27,35 +28,58 @@ static int open_folder(const char *path) {
     return descriptor;
 }
 
-void state_hold(struct state *state, const char *path) {
+/* Opens the lock and holds it. */
+static void hold_lock(struct state *state) {
     struct flock whole = {.l_type = F_WRLCK, .l_whence = SEEK_SET};
-    char *lock = joined(path, ".lock");
+    state->lock = open(state->lock_path, O_RDWR | O_CREAT | O_CLOEXEC, 0600);
+    if (state->lock < 0)
+        fail(STATUS_FAULT, "%s: %s", state->lock_path, strerror(errno));
+    if (fcntl(state->lock, F_SETLK, &whole) != 0)
+        fail(STATUS_FAULT, "%s: another emulator holds it", state->path);
+}
+
+/* Whether the lock that is held has its name still: another emulator, which held it before, may have removed it. */
+static bool has_its_name(const struct state *state) {
+    struct stat held, named;
+    return fstat(state->lock, &held) == 0 && stat(state->lock_path, &named) == 0 && held.st_dev == named.st_dev &&
+           held.st_ino == named.st_ino;
+}
+
+void state_hold(struct state *state, const char *path) {
     state->path = path;
     state->beside = joined(path, ".new");
+    state->lock_path = joined(path, ".lock");
     state->folder = open_folder(path);
-    state->lock = open(lock, O_RDWR | O_CREAT | O_CLOEXEC, 0600);
-    if (state->lock < 0)
-        fail(STATUS_FAULT, "%s: %s", lock, strerror(errno));
-    if (fcntl(state->lock, F_SETLK, &whole) != 0)
-        fail(STATUS_FAULT, "%s: another emulator holds it", path);
-    free(lock);
+    hold_lock(state);
+    while (!has_its_name(state)) {
+        close(state->lock);
+        hold_lock(state);
+    }
 }
 
 void state_release(struct state *state) {
     close(state->folder);
     close(state->lock);
+    free(state->lock_path);
     free(state->beside);
 }
 
-bool state_read(const struct state *state, struct kept *kept) {
+void state_refuse(struct state *state) {
+    unlink(state->lock_path);
+    state_release(state);
+}
+
+bool state_read(struct state *state, struct kept *kept) {
     FILE *file = fopen(state->path, "rb");
     if (!file && errno == ENOENT)
         return false;
-    if (!file)
-        fail(STATUS_FAULT, "%s: %s", state->path, strerror(errno));
-    kept->len = fread(kept->bytes, 1, sizeof kept->bytes, file);
-    if (ferror(file))
-        fail(STATUS_FAULT, "%s can't be read: %s", state->path, strerror(errno));
+    if (file)
+        kept->len = fread(kept->bytes, 1, sizeof kept->bytes, file);
+    if (!file || ferror(file)) {
+        int number = errno;
+        state_refuse(state);
+        fail(STATUS_FAULT, "%s can't be read: %s", state->path, strerror(number));
+    }
     fclose(file);
     return true;
 }

@@ -11,6 +11,7 @@
 struct state {
     const char *path;
     char *beside; /* what is written first, and then takes the file's name */
+    char *lock_path;
     int folder;
     int lock;
 };
@@ -29,7 +30,10 @@ void state_hold(struct state *state, const char *path);
 void state_release(struct state *state);
 
 /* Reads the file, and says whether it is there. The program ends where it can't be read. */
-bool state_read(const struct state *state, struct kept *kept);
+bool state_read(struct state *state, struct kept *kept);
+
+/* Lets a file go of which no device is made, and leaves no lock beside it. */
+void state_refuse(struct state *state);
 
 /* Writes what the device keeps: once this returns, it outlives the process and the machine. The program ends where it
  * can't be written, so that nobody is told of what is not kept. */
