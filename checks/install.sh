@@ -22,6 +22,17 @@ one_version() {
     grep -q "\"vinjakwe $version\"" "$installed/share/man/man1/tpmtool.1"
 }
 
+# dated: each page of man has a date.
+dated() {
+    ! grep -L '^\.TH [^ ]* 1 "[0-9]\{4\}-[0-9][0-9]-[0-9][0-9]" ' "$installed"/share/man/man1/*.1 | grep .
+}
+
+# explained: the documents and the examples are there.
+explained() {
+    here=$installed/share/doc/vinjakwe
+    diff -r docs "$here/docs" && diff -r examples "$here/examples" && cmp README.md "$here/README.md"
+}
+
 # linked WORD..: a program that is built elsewhere by these words prints the registers of a log, wherever it is run.
 linked() {
     cp examples/log.c "$elsewhere/log.c"
@@ -34,6 +45,12 @@ linked() {
 linked_by_name() {
     PKG_CONFIG_PATH="$installed/lib/pkgconfig" pkg-config --cflags --libs "$1" >"$room/flags" || return 1
     eval "linked $(cat "$room/flags")"
+}
+
+# linked_whole NAME: a program that holds all that it calls, the C library among it, by pkg-config's words.
+linked_whole() {
+    PKG_CONFIG_PATH="$installed/lib/pkgconfig" pkg-config --static --cflags --libs "$1" >"$room/flags" || return 1
+    eval "linked -static $(cat "$room/flags")" && ! ldd "$elsewhere/log"
 }
 
 # archived: the archive has the version too, and a program that holds it needs no shared library.
@@ -137,6 +154,39 @@ END
         diff "$room/wanted" -
 }
 
+# completed_emulator: what bash offers for words of the emulator.
+completed_emulator() {
+    cat >"$room/complete" <<'END'
+. "$1"
+offer() {
+    COMP_WORDS=(vinjakwe-emulator "$@") COMP_CWORD=$#
+    COMPREPLY=()
+    _vinjakwe_emulator
+    echo "${COMPREPLY[*]}"
+}
+offer --s
+offer --swtpm ''
+cd "$2" && offer --stdio --state 'a l'
+END
+    printf '%s\n' '--swtpm --stdio --state --startup' '' 'a log' >"$room/wanted"
+    bash "$room/complete" "$installed/share/bash-completion/completions/vinjakwe-emulator" "$room/offered" |
+        diff "$room/wanted" -
+}
+
+# fish_offers_emulator: the same of fish.
+fish_offers_emulator() {
+    cat >"$room/offer.fish" <<'END'
+source $argv[1]
+cd $argv[2]
+for line in --s '--swtpm ' '--stdio --state a'
+    echo (complete -C "vinjakwe-emulator $line" | cut -f 1 | sort)
+end
+END
+    printf '%s\n' '--startup --state --stdio --swtpm' '' 'a log' >"$room/wanted"
+    LC_ALL=C fish "$room/offer.fish" "$installed/share/fish/vendor_completions.d/vinjakwe-emulator.fish" \
+        "$room/offered" 2>&1 | diff "$room/wanted" -
+}
+
 # emulated: the installed emulator runs outside of the sources, and its page has its words.
 emulated() {
     version=$(awk '$2 == "VINJAKWE_VERSION" { gsub(/"/, ""); print $3 }' "$installed/include/vinjakwe.h")
@@ -147,8 +197,14 @@ emulated() {
             grep -q ' 80 01 00 00 00 0a 00 00 00 00' && [ -s kept ]
     ) || return 1
     sed 's/\\-/-/g' "$installed/share/man/man1/vinjakwe-emulator.1" >"$room/page"
+    cp "$installed/share/bash-completion/completions/vinjakwe-emulator" "$room/bash.words"
+    cp "$installed/share/zsh/site-functions/_vinjakwe-emulator" "$room/zsh.words"
+    awk '/^for/ { for (i = 4; i <= NF; i++) print "--" $i }' \
+        "$installed/share/fish/vendor_completions.d/vinjakwe-emulator.fish" >"$room/fish.words"
     "$installed/bin/vinjakwe-emulator" --help | grep -o -e '--[a-z-]*' | sort -u | while read -r word; do
-        grep -q -e "$word" "$room/page" || { echo "the page lacks $word" && exit 1; }
+        for file in page bash.words zsh.words fish.words; do
+            grep -q -w -e "$word" "$room/$file" || { echo "$file lacks $word" && exit 1; }
+        done
     done
 }
 
@@ -211,12 +267,21 @@ pass "an install"
 holds "the archive that the emulator wants is there" [ -f crates/tpm_c/out/libtpm_c.a ]
 holds "what is installed has one version" one_version
 holds "the page and the completions have the program's words" told
+holds "the pages of man have dates" dated
+holds "the documents and the examples are beside the program" explained
 if [ -z "$compiler" ]; then
     skip "C programs over what is installed" "no C compiler was found"
 else
     holds_by pkg-config "a C program by pkg-config" linked_by_name vinjakwe
     holds_by pkg-config "a C program by pkg-config that holds the archive, which has the version" archived
     holds "a C program over the installed archive" linked -I "$installed/include" "$installed/lib/libvinjakwe.a"
+    name="a C program by pkg-config that holds the C library"
+    echo 'int main(void) { return 0; }' >"$room/empty.c"
+    if "$compiler" -static -o "$room/empty" "$room/empty.c" >"$room/said" 2>&1; then
+        for words in vinjakwe vinjakwe-static; do holds_by pkg-config "$name, $words" linked_whole $words; done
+    else
+        skip "$name" "$compiler has no static C library"
+    fi
     holds_by nm "the names of the shared library" exported
     [ "$(uname -s) $(uname -m)" = "Linux x86_64" ] &&
         holds "a C program over the installed archive without a C library" freestanding_linked
@@ -225,6 +290,10 @@ holds_by man "the page of the program" page tpmtool
 if [ -x "$installed/bin/vinjakwe-emulator" ]; then
     holds "the installed emulator" emulated
     holds_by man "the page of the emulator" page vinjakwe-emulator
+    holds_by bash "the words that bash completes for the emulator" completed_emulator
+    holds_by zsh "the completions of the emulator for zsh are read" \
+        zsh -n "$installed/share/zsh/site-functions/_vinjakwe-emulator"
+    holds_by fish "the words that fish completes for the emulator" fish_offers_emulator
 fi
 holds_by bash "the words that bash completes" completed
 holds_by zsh "the completions for zsh are read" zsh -n "$installed/share/zsh/site-functions/_tpmtool"

@@ -348,7 +348,7 @@ fi
 # ---- ./install, with a compiler of its own
 
 cp install "$wrapper/install"
-cp -R setup include "$wrapper/"
+cp -R setup include docs examples README.md "$wrapper/"
 mkdir -p "$wrapper/crates/tpm_c/src" "$wrapper/emulator"
 cat >"$wrapper/bin/cc" <<'END'
 #!/bin/sh
@@ -412,11 +412,14 @@ by_name() {
         [ "$(cat "$place/lib/libvinjakwe-freestanding.a")" = "archive by rattle" ] &&
         cmp "$place/bin/tpmtool" "$wrapper/crates/tpmtool/out/tpmtool" &&
         cmp "$place/include/vinjakwe.h" include/vinjakwe.h && cmp "$built/libtpm_c.a" "$built/llvm/libtpm_c.a" &&
-        cmp "$place/share/bash-completion/completions/tpmtool" setup/tpmtool.bash &&
-        cmp "$place/share/fish/vendor_completions.d/tpmtool.fish" setup/tpmtool.fish &&
-        cmp "$place/share/zsh/site-functions/_tpmtool" setup/_tpmtool &&
-        cmp "$place/share/man/man1/tpmtool.1" setup/tpmtool.1 &&
-        cmp "$place/share/man/man1/vinjakwe-emulator.1" setup/vinjakwe-emulator.1 &&
+        for name in tpmtool vinjakwe-emulator; do
+            cmp "$place/share/bash-completion/completions/$name" "setup/$name.bash" &&
+                cmp "$place/share/fish/vendor_completions.d/$name.fish" "setup/$name.fish" &&
+                cmp "$place/share/zsh/site-functions/_$name" "setup/_$name" &&
+                cmp "$place/share/man/man1/$name.1" "setup/$name.1" || return 1
+        done && for page in README.md docs examples; do
+            diff -r "$page" "$place/share/doc/vinjakwe/$page" || return 1
+        done &&
         for name in vinjakwe vinjakwe-static; do
             grep -q -x -e "prefix=$place" "$place/lib/pkgconfig/$name.pc" &&
                 grep -q -x -e "Version: $version" "$place/lib/pkgconfig/$name.pc" || return 1
@@ -426,24 +429,28 @@ by_name() {
 rm -rf "$wrapper/crates/tpmtool/out"
 installs installed
 installed "./install builds what is not built" 0 2
-cat >"$wrapper/files" <<END
+{ cat && printf '644 share/doc/vinjakwe/%s\n' README.md docs/*.md examples/*.c; } >"$wrapper/named" <<END
 644 include/vinjakwe.h
 644 lib/libvinjakwe-freestanding.a
 644 lib/libvinjakwe.a
 644 lib/pkgconfig/vinjakwe-static.pc
 644 lib/pkgconfig/vinjakwe.pc
 644 share/bash-completion/completions/tpmtool
+644 share/bash-completion/completions/vinjakwe-emulator
 644 share/fish/vendor_completions.d/tpmtool.fish
+644 share/fish/vendor_completions.d/vinjakwe-emulator.fish
 644 share/man/man1/tpmtool.1
 644 share/man/man1/vinjakwe-emulator.1
 644 share/vinjakwe/installed
 644 share/zsh/site-functions/_tpmtool
+644 share/zsh/site-functions/_vinjakwe-emulator
 755 bin/tpmtool
 755 bin/vinjakwe-emulator
 755 lib/libvinjakwe.so.$version
 lib/libvinjakwe.so -> libvinjakwe.so.$version
 lib/libvinjakwe.so.${version%%.*} -> libvinjakwe.so.$version
 END
+LC_ALL=C sort "$wrapper/named" >"$wrapper/files"
 files >"$wrapper/files.there"
 holds "./install writes these files" diff "$wrapper/files" "$wrapper/files.there"
 holds "./install writes to each file what its name says" by_name
@@ -502,11 +509,80 @@ export UNLINKED=yes
 installs installed
 unset UNLINKED
 installed "./install goes on where nothing can be linked" 0 0
-grep -v -e emulator -e '\.so' "$wrapper/files" >"$wrapper/fewer"
+grep -v -e vinjakwe-emulator -e '\.so' "$wrapper/files" >"$wrapper/fewer"
 files >"$wrapper/files.there"
 holds "./install removes what an earlier one had besides" diff "$wrapper/fewer" "$wrapper/files.there"
 holds "./install says what was not linked, and why" \
     [ "$(grep -c 'cc does not link it: what does not link' "$wrapper/err")" -eq 3 ]
+
+# with WORD..: ./install, with these words of the environment before its own.
+with() {
+    : >"$wrapper/calls"
+    (cd "$wrapper" && env CALLS="$wrapper/calls" PATH="$wrapper/bin:$PATH" TMPDIR="$wrapper/tmp" CC= DESTDIR= "$@") \
+        </dev/null >"$wrapper/out" 2>&1
+}
+
+# given: the compiler and its words are taken as the environment has them.
+given() {
+    with CC='env cc -m64' CFLAGS='-O1 -g' LDFLAGS='-Wl,-z,now -s' ./install installed || return 1
+    [ "$(grep -c '^cc -m64 -O1 -g -I' "$wrapper/calls")" -eq 3 ] &&
+        [ "$(grep -c '^cc .* -Wl,-z,now -s$' "$wrapper/calls")" -eq 2 ]
+}
+holds "./install takes CC of several words, CFLAGS and LDFLAGS" given
+
+# no_compiler: a compiler that is not there is a fault, and nothing is written.
+no_compiler() {
+    with CC='no-such-cc -m64' ./install none
+    [ $? -eq 1 ] && grep -q -x 'install: CC is no-such-cc -m64, and there is no command no-such-cc' "$wrapper/out" &&
+        [ ! -e "$wrapper/none" ]
+}
+holds "./install says that the compiler of CC is not there" no_compiler
+
+# in_libdir LIBDIR: the libraries and the files of pkg-config are in lib64 alone, and all is removed again.
+in_libdir() {
+    with LIBDIR="$1" ./install other && [ ! -e "$wrapper/other/lib" ] || return 1
+    (cd "$wrapper/other" && find lib64 -type f | LC_ALL=C sort && grep -h ^libdir= lib64/pkgconfig/*.pc) \
+        >"$wrapper/found"
+    diff - "$wrapper/found" <<END || return 1
+lib64/libvinjakwe-freestanding.a
+lib64/libvinjakwe.a
+lib64/libvinjakwe.so.$version
+lib64/pkgconfig/vinjakwe-static.pc
+lib64/pkgconfig/vinjakwe.pc
+libdir=\${prefix}/lib64
+libdir=\${prefix}/lib64
+END
+    with ./install --remove other && [ -z "$(ls -A "$wrapper/other")" ]
+}
+holds "./install writes the libraries to LIBDIR" in_libdir lib64
+holds "./install writes the libraries to LIBDIR, a whole path" in_libdir "$wrapper/other/lib64/"
+
+# not_below: a LIBDIR that is not below the folder is a fault.
+not_below() {
+    for libdir in /lib64 ../lib64 lib/../..; do
+        with LIBDIR=$libdir ./install none
+        [ $? -eq 2 ] && grep -q "^install: LIBDIR is $libdir, which is not below " "$wrapper/out" || return 1
+    done
+    [ ! -e "$wrapper/none" ]
+}
+holds "./install refuses a LIBDIR that is elsewhere" not_below
+
+# masked: under a mask that hides all from others each may read what is installed.
+masked() {
+    (umask 077 && with ./install masked) && ! find "$wrapper/masked" -type d ! -perm 755 | grep . || return 1
+    (place=$wrapper/masked && files) | diff "$wrapper/files" -
+}
+holds "./install writes what each may read, under any mask" masked
+
+# at_a_system: the words of pkg-config name a path for the loader, but not where the loader looks by itself.
+at_a_system() {
+    for prefix in /usr /usr/local; do
+        with DESTDIR="$wrapper/staged" ./install $prefix &&
+            ! grep -e rpath "$wrapper/staged$prefix"/lib/pkgconfig/*.pc || return 1
+    done
+    grep -q -x -F -e 'Libs: -L${libdir} -Wl,-rpath,${libdir} -lvinjakwe' "$place/lib/pkgconfig/vinjakwe.pc"
+}
+holds "./install names a path for the loader where it doesn't look by itself alone" at_a_system
 
 # filled: an install on a small disk, and another one where it has no more room. What is there then is as it was.
 cat >"$wrapper/filled" <<'END'
