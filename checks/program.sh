@@ -298,6 +298,17 @@ runs_unread "records that nobody reads" events checks/logs/said.log
 runs_unread "a buffer that nobody reads" show $startup
 runs_unread "help that nobody reads" --help
 
+# The reader may leave in the midst, behind what was written whole.
+name="a capture of which one line is read" wanted=3
+capture 100000 >"$room/in"
+captured 100000 | head -n 1 >"$room/out.wanted"
+: >"$room/err.wanted"
+{
+    "$program" show - <"$room/in" 2>"$room/err"
+    echo $? >"$room/status"
+} | head -n 1 >"$room/out"
+check "$(cat "$room/status")"
+
 if [ -c /dev/full ]; then
     runs_without_output "a full standard output" /dev/full show $startup
 else
@@ -309,6 +320,18 @@ name="a directory as standard input" wanted=3
 echo 'reading failed' >"$room/err.wanted"
 ./tpmtool run >"$room/out" 2>"$room/err" <.
 check $?
+
+# Standard input has the name `-` alone: another log is there.
+mkdir "$room/named"
+here=$PWD
+: >"$room/err.wanted"
+cp checks/logs/fewer_and_in_other_order.registers "$room/out.wanted"
+for path in ./- -- -log stdin; do
+    name="a log whose name is $path, which is no standard input" wanted=0
+    cp checks/logs/fewer_and_in_other_order.log "$room/named/$path"
+    (cd "$room/named" && "$here/$program" check -- "$path") >"$room/out" 2>"$room/err" <checks/logs/worked.log
+    check $?
+done
 
 name="a log that may not be read" wanted=3
 : >"$room/closed.log"
