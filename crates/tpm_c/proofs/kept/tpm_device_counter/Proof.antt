@@ -1,6 +1,6 @@
 -- `tpm_device_counter` meets its contract: the device is lent to `counter`, which leaves it as it was.
 use Rattle.tpm_c.proofs.Steps.{◌≡◌, refl, sym, w32, w64, full_share, named, uint_vals, uint_Tells, mut_Tells, id⊢, ◌$◌}
-use Rattle.tpm_c.proofs.Steps.{!, done, addr, stop, of_opd, and_then, no_more, returns, enter, alloc_all, pass_all}
+use Rattle.tpm_c.proofs.Steps.{ !, done, addr, stop, of_opd, and_then, no_more, returns, enter, alloc_all, pass_all}
 use Rattle.tpm_c.proofs.Steps.{free_all, look_at, through, get, sets, lands_as, uint_Lawful, mut_vals, lies_at}
 use Rattle.tpm_c.proofs.Steps.{triple_of}
 use Rattle.std.proofs.Common.{subst}

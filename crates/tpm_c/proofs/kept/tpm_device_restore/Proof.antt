@@ -9,7 +9,7 @@ use mir.Val.{vbool}
 use base.Fml.{fsep}
 use Rattle.std.proofs.Common.{inl, inr, ap, w8, ◌∙◌}
 use Rattle.tpm_c.proofs.Steps.{◌≡◌, ℕ, Bool, true, false, List, [], ◌∷◌, refl, w32, w64, lit<, sym, full_share, named, vint, ent}
-use Rattle.tpm_c.proofs.Steps.{sep, sem, id⊢, emp, ftrue, flft, fact, fact_i, mono_r, Valss, ‵, raw, ◌⊛◌, some, later, at_ret, ◌$◌, ◌∵◌, !}
+use Rattle.tpm_c.proofs.Steps.{sep, sem, id⊢, emp, ftrue, flft, fact, fact_i, mono_r, Valss, ‵, raw, ◌⊛◌, some, later, at_ret, ◌$◌, ◌∵◌, ! }
 use Rattle.tpm_c.proofs.Steps.{qed, by, move, drop, split, join, nothing, use0, use1, fsplit, fjoin, fpick, fpack, pick, await, rewrite, done}
 use Rattle.tpm_c.proofs.Steps.{stop, of_opd, lit, addr, and_then, no_more, first, branches, skips, exec, returns, returns_within, enter}
 use Rattle.tpm_c.proofs.Steps.{alloc_all, pass_all, free_all, look_at, through, get, sets, lands_as, env, alive, part_at, WpFn, Is, shows}

@@ -1,5 +1,5 @@
 use Rattle.tpm_show.proofs.Pieces.{pieces}
-use Rattle.tpm_commands.specs.Parameters.{startup, nv_define_space, nv_read, flush_context, policy_or}
+use Rattle.tpm_commands.specs.Parameters.{startup, nv_define_space, pcr_event, nv_read, flush_context, policy_or}
 use Rattle.tpm_commands.specs.Parameters.{start_auth_session, pcr_read, policy_pcr, pcr_extend}
 use Rattle.tpm_show.proofs.fields.tell_command_fields.Goals as goal
 
@@ -61,3 +61,7 @@ unfolding pcr_extend
 returns-in-PcrExtend g c =
     let joined = simp pieces at c.tell_structure-in-PcrExtend.ensures in
     rw c.in-PcrExtend.is (simp pieces joined)
+
+pub returns-in-PcrEvent : goal.returns-in-PcrEvent
+unfolding pcr_event
+returns-in-PcrEvent g c = rw c.in-PcrEvent.is (simp pieces c.tell_event.ensures)

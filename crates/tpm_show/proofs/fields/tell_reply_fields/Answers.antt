@@ -1,5 +1,6 @@
 use Rattle.tpm_show.proofs.Pieces.{pieces}
-use Rattle.tpm_commands.specs.Replies.{pcr_event_reply, nv_read_public_reply, pcr_read_reply, policy_get_digest_reply}
+use Rattle.tpm_commands.specs.Replies.{pcr_event_reply, nv_read_reply, nv_read_public_reply, start_auth_session_reply}
+use Rattle.tpm_commands.specs.Replies.{pcr_read_reply, policy_get_digest_reply}
 use Rattle.tpm_show.proofs.fields.tell_reply_fields.Goals as goal
 
 pub returns-in-PcrEvent : goal.returns-in-PcrEvent
@@ -25,3 +26,11 @@ returns-in_ok-tell_structure-in-PcrRead g c =
 pub returns-in-PolicyGetDigest : goal.returns-in-PolicyGetDigest
 unfolding policy_get_digest_reply
 returns-in-PolicyGetDigest g c = rw c.in-PolicyGetDigest.is (simp pieces c.tell-in-PolicyGetDigest.ensures)
+
+pub returns-in-NvRead : goal.returns-in-NvRead
+unfolding nv_read_reply
+returns-in-NvRead g c = rw c.in-NvRead.is (simp pieces c.tell.ensures)
+
+pub returns-in-StartAuthSession : goal.returns-in-StartAuthSession
+unfolding start_auth_session_reply
+returns-in-StartAuthSession g c = rw c.in-StartAuthSession.is (simp pieces c.tell-in-StartAuthSession.ensures)
